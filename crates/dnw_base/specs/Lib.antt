@@ -1,0 +1,5 @@
+pub mod Labels
+pub mod Copies
+pub mod Fault
+pub mod LabelText
+pub mod Decoder

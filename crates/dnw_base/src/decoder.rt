@@ -1,0 +1,140 @@
+//! A cursor over the bytes of a message.
+ghost use Rattle.std.specs.Prelude.{◌≡◌, ℕ, ◌+◌, ◌-◌, ◌≤◌, ◌↔◌, List, length, IsTrue, IsOk, IfOk, IfErr, OnOk, OnErr, slice_get, slice_index, slice_range};
+ghost use Rattle.dnw_base.specs.Decoder.{Decoder, HasLeft, next_bytes, moved};
+
+use crate::error::DecodeError;
+use crate::restrict::Restrict;
+use std::marker::Model;
+
+/// Reads a message from the left. What it lends lives as long as the message.
+///
+/// A contract sees it as the message's bytes and the index of the next one.
+pub struct BinDecoder<'a> {
+    buffer: &'a [u8],
+    index: usize,
+}
+
+impl<'a> Model for BinDecoder<'a> {
+    ghost use Rattle.std.specs.Prelude.{◌≤◌, length};
+    ghost use Rattle.dnw_base.specs.Decoder.{Decoder};
+
+    ghost Value = { Decoder };
+
+    ghost view = { λ d. record { bytes = d.buffer.now; index = d.index } };
+
+    ghost invariant = { λ d. d.index ≤ length d.buffer.now };
+}
+
+impl<'a> BinDecoder<'a> {
+    /// A decoder at the first byte of a message.
+    #[inline(always)]
+    pub fn new(buffer: &'a [u8]) -> Self
+        ensures { result ≡ record { bytes = buffer.now; index = 0 } }
+    {
+        BinDecoder { buffer, index: 0 }
+    }
+
+    /// Reads one byte.
+    #[inline(always)]
+    pub fn pop(&mut self) -> Result<Restrict<u8>, DecodeError>
+        ensures enough { IsOk result ↔ HasLeft self.old 1 }
+        ensures byte { IfOk result (λ byte. slice_get self.old.bytes self.old.index ≡ Some byte) }
+        ensures moved { OnOk result (self.new ≡ moved self.old 1) }
+        ensures error { IfErr result (λ e. e ≡ DecodeError.InsufficientBytes) }
+        ensures same { OnErr result (self.new ≡ self.old) }
+    {
+        if self.index == self.buffer.len() {
+            return Err(DecodeError::InsufficientBytes);
+        }
+        let byte = self.buffer[self.index];
+        self.index += 1;
+        Ok(Restrict::new(byte))
+    }
+
+    /// The number of bytes that are left.
+    #[inline(always)]
+    pub fn len(&self) -> usize
+        ensures { self.now.index + result ≡ length self.now.bytes }
+    {
+        self.buffer.len() - self.index
+    }
+
+    /// Whether no byte is left.
+    #[inline(always)]
+    pub fn is_empty(&self) -> bool
+        ensures { IsTrue result ↔ (self.now.index ≡ length self.now.bytes) }
+    {
+        self.index == self.buffer.len()
+    }
+
+    /// The next byte, which stays the next.
+    #[inline(always)]
+    pub fn peek(&self) -> Option<Restrict<u8>>
+        ensures { result ≡ slice_get self.now.bytes self.now.index }
+    {
+        if self.index == self.buffer.len() {
+            return None;
+        }
+        Some(Restrict::new(self.buffer[self.index]))
+    }
+
+    /// The index of the next byte in the message.
+    #[inline(always)]
+    pub fn index(&self) -> usize
+        ensures index { result ≡ self.now.index }
+        ensures within { result ≤ length self.now.bytes }
+    {
+        self.index
+    }
+
+    /// A decoder of the same message at another index, which has to be within the message.
+    #[inline(always)]
+    pub fn clone(&self, index_at: u16) -> Self
+        requires { index_at ≤ length self.now.bytes }
+        ensures { result ≡ record { bytes = self.now.bytes; index = index_at } }
+    {
+        BinDecoder {
+            buffer: self.buffer,
+            index: index_at as usize,
+        }
+    }
+
+    /// Reads character data: a length octet and that many bytes (RFC 1035, section 3.3).
+    pub fn read_character_data(&mut self) -> Result<Restrict<&'a [u8]>, DecodeError>
+        ensures enough { IsOk result ↔ HasLeft self.old (1 + slice_index self.old.bytes self.old.index) }
+        ensures bytes { IfOk result (λ read. read.now
+            ≡ next_bytes (moved self.old 1) (slice_index self.old.bytes self.old.index)) }
+        ensures moved { OnOk result (self.new ≡ moved self.old (1 + slice_index self.old.bytes self.old.index)) }
+        ensures error { IfErr result (λ e. e ≡ DecodeError.InsufficientBytes) }
+        ensures same { OnErr result (self.new ≡ self.old) }
+    {
+        if self.index == self.buffer.len() {
+            return Err(DecodeError::InsufficientBytes);
+        }
+        let len = self.buffer[self.index] as usize;
+        if self.buffer.len() - self.index <= len {
+            return Err(DecodeError::InsufficientBytes);
+        }
+        let start = self.index + 1;
+        let read = &self.buffer[start..start + len];
+        self.index = start + len;
+        Ok(Restrict::new(read))
+    }
+
+    /// Reads `len` bytes.
+    #[inline(always)]
+    pub fn read_slice(&mut self, len: usize) -> Result<Restrict<&'a [u8]>, DecodeError>
+        ensures enough { IsOk result ↔ HasLeft self.old len }
+        ensures bytes { IfOk result (λ read. read.now ≡ next_bytes self.old len) }
+        ensures moved { OnOk result (self.new ≡ moved self.old len) }
+        ensures error { IfErr result (λ e. e ≡ DecodeError.InsufficientBytes) }
+        ensures same { OnErr result (self.new ≡ self.old) }
+    {
+        if self.buffer.len() - self.index < len {
+            return Err(DecodeError::InsufficientBytes);
+        }
+        let read = &self.buffer[self.index..self.index + len];
+        self.index += len;
+        Ok(Restrict::new(read))
+    }
+}

@@ -1,0 +1,4 @@
+//! Names.
+#![tactic(auto)]
+
+pub mod name;

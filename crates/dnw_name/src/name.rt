@@ -1,0 +1,3 @@
+//! Domain names.
+
+pub mod laws;
