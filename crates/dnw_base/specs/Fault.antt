@@ -54,3 +54,9 @@ RefusesOrRunsOut answer e = Refuses answer e
 abbrev pub NeedsMemory : {A : Type 0} → Result A Fault → Type 0
 NeedsMemory (Ok x) = ⊥
 NeedsMemory (Err fault) = HasOwnText fault
+
+-- the first fault, or what comes of both
+infixl 10 ◌>>=◌
+abbrev pub ◌>>=◌ : {A B : Type 0} → Result A Fault → (A → Result B Fault) → Result B Fault
+(Ok x) >>= f = f x
+(Err fault) >>= f = Err fault

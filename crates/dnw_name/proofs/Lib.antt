@@ -1,0 +1,10 @@
+pub mod Wires
+pub mod EditLemmas
+pub mod Sizes
+pub mod Steps
+pub mod Unique
+pub mod Walks
+pub mod Back
+pub mod Stand
+pub mod Counts
+pub mod Joined

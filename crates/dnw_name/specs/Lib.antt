@@ -1,3 +1,6 @@
 pub mod Names
+pub mod Edits
+pub mod NameText
+pub mod NameInside
 pub mod Reading
 pub mod ReadingLaws

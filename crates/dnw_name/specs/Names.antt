@@ -1,8 +1,9 @@
 -- Names: their value, size, wire form and lower case (RFC 1035, sections 2.3.3, 2.3.4 and 3.1).
-use Rattle.std.specs.Prelude.{ℕ, ◌+◌, ◌≤◌, Bool, List, [], ◌∷◌, ◌++◌, length, map, sum_by}
+use Rattle.std.specs.Prelude.{◌≡◌, ℕ, ◌+◌, ◌≤◌, Bool, List, [], ◌∷◌, ◌++◌, length, map, sum_by}
 use Rattle.std.specs.List.{flat_map, AllByRecursion}
 use Rattle.std.specs.Char.{to_ascii_lowercase}
 use Rattle.dnw_base.specs.Labels.{IsLabel}
+use Rattle.dnw_base.specs.LabelText.{asterisk}
 
 -- A name: whether it is fully qualified, and its labels from the left.
 pub record NameValue : Type 0 where
@@ -31,3 +32,7 @@ wire ls = labels_wire ls ++ 0 ∷ []
 -- A to Z as a to z, and all other bytes as they are
 abbrev pub lower : List (List ℕ) → List (List ℕ)
 lower ls = map (map to_ascii_lowercase) ls
+
+-- the first label is `*` (RFC 4592, section 2.1.1)
+abbrev pub IsWildcard : List (List ℕ) → Type 0
+IsWildcard ls = (rest : List (List ℕ)) × (ls ≡ (asterisk ∷ []) ∷ rest)

@@ -3,7 +3,7 @@
 -- A name is read in segments: the first begins where the name does, and each pointer begins another, which has to
 -- lie before the one that it was reached from. No element of a segment may begin at or behind its limit, which is
 -- the start of that other segment. A pointer's target has to lie before the start of its own segment.
-use Rattle.std.specs.Prelude.{◌≡◌, ℕ, zero, suc, ◌+◌, ◌-◌, ◌*◌, ◌<◌, ◌≤◌, Option, Some, None, List, [], ◌∷◌, length, slice_get, slice_range}
+use Rattle.std.specs.Prelude.{◌≡◌, ℕ, suc, ◌+◌, ◌-◌, ◌*◌, ◌<◌, ◌≤◌, Option, Some, None, List, [], ◌∷◌, length, slice_get, slice_range}
 use Rattle.dnw_base.specs.declared.error.DecodeError.{DecodeError}
 use Rattle.dnw_base.specs.declared.error.DecodeError.TheVariants.{LabelOverlapsWithOther, InsufficientBytes, PointerNotPriorToLabel, DomainNameTooLong, UnrecognizedLabelCode}
 use Rattle.dnw_name.specs.Names.{encoded_size}
@@ -22,18 +22,18 @@ target high low = (high - 192) * 256 + low
 pub data Reads (b : List ℕ) : ℕ → ℕ → Option ℕ → List (List ℕ) → ℕ → ℕ → Type 0 where
   -- a zero octet ends the name
   zero_octet : {p s : ℕ} {limit : Option ℕ}
-    → IsWithin p limit → slice_get b p ≡ Some 0
-    → Reads b p s limit [] (p + 1) 0
+      → IsWithin p limit → slice_get b p ≡ Some 0
+      → Reads b p s limit [] (p + 1) 0
   -- a length octet of 1 to 63, and a label of so many octets
   label : {p s e k : ℕ} {limit : Option ℕ} {ls : List (List ℕ)} (c : ℕ)
-    → IsWithin p limit → slice_get b p ≡ Some c → 1 ≤ c → c ≤ 63 → p + 1 + c ≤ length b
-    → Reads b (p + 1 + c) s limit ls e k
-    → Reads b p s limit (slice_range b (p + 1) (p + 1 + c) ∷ ls) e k
+      → IsWithin p limit → slice_get b p ≡ Some c → 1 ≤ c → c ≤ 63 → p + 1 + c ≤ length b
+      → Reads b (p + 1 + c) s limit ls e k
+      → Reads b p s limit (slice_range b (p + 1) (p + 1 + c) ∷ ls) e k
   -- a pointer of two octets, behind which the name's own octets end; the second may lie behind the limit
   pointer : {p s e k : ℕ} {limit : Option ℕ} {ls : List (List ℕ)} (high low : ℕ)
-    → IsWithin p limit → slice_get b p ≡ Some high → 192 ≤ high → slice_get b (p + 1) ≡ Some low → target high low < s
-    → Reads b (target high low) (target high low) (Some s) ls e k
-    → Reads b p s limit ls (p + 2) (suc k)
+      → IsWithin p limit → slice_get b p ≡ Some high → 192 ≤ high → slice_get b (p + 1) ≡ Some low → target high low < s
+      → Reads b (target high low) (target high low) (Some s) ls e k
+      → Reads b p s limit ls (p + 2) (suc k)
 
 -- A name stands at p: these labels, which fit into a name, its own octets end at e, and k pointers are followed.
 pub record NameAt (b : List ℕ) (p : ℕ) (ls : List (List ℕ)) (e k : ℕ) : Type 0 where
@@ -46,42 +46,42 @@ pub record NameAt (b : List ℕ) (p : ℕ) (ls : List (List ℕ)) (e k : ℕ) : 
 pub data Stops (b : List ℕ) : ℕ → ℕ → Option ℕ → ℕ → DecodeError → ℕ → ℕ → Type 0 where
   -- the segment runs into the one that it was reached from
   overlap : {p s limit n : ℕ}
-    → limit ≤ p
-    → Stops b p s (Some limit) n (LabelOverlapsWithOther s limit) 0 0
+      → limit ≤ p
+      → Stops b p s (Some limit) n (LabelOverlapsWithOther s limit) 0 0
   -- the message ends where an element should begin
   no_octet : {p s n : ℕ} {limit : Option ℕ}
-    → IsWithin p limit → length b ≤ p
-    → Stops b p s limit n InsufficientBytes 0 0
+      → IsWithin p limit → length b ≤ p
+      → Stops b p s limit n InsufficientBytes 0 0
   -- the second octet of a pointer is missing
   half_pointer : {p s n : ℕ} {limit : Option ℕ} (high : ℕ)
-    → IsWithin p limit → slice_get b p ≡ Some high → 192 ≤ high → length b ≤ p + 1
-    → Stops b p s limit n InsufficientBytes 0 0
+      → IsWithin p limit → slice_get b p ≡ Some high → 192 ≤ high → length b ≤ p + 1
+      → Stops b p s limit n InsufficientBytes 0 0
   -- a pointer does not go back behind its own segment
   not_prior : {p s n : ℕ} {limit : Option ℕ} (high low : ℕ)
-    → IsWithin p limit → slice_get b p ≡ Some high → 192 ≤ high → slice_get b (p + 1) ≡ Some low → s ≤ target high low
-    → Stops b p s limit n (PointerNotPriorToLabel p (target high low)) 0 0
+      → IsWithin p limit → slice_get b p ≡ Some high → 192 ≤ high → slice_get b (p + 1) ≡ Some low → s ≤ target high low
+      → Stops b p s limit n (PointerNotPriorToLabel p (target high low)) 0 0
   -- what a pointer leads to goes wrong
   pointer : {p s n k j : ℕ} {limit : Option ℕ} {error : DecodeError} (high low : ℕ)
-    → IsWithin p limit → slice_get b p ≡ Some high → 192 ≤ high → slice_get b (p + 1) ≡ Some low → target high low < s
-    → Stops b (target high low) (target high low) (Some s) n error k j
-    → Stops b p s limit n error (suc k) j
+      → IsWithin p limit → slice_get b p ≡ Some high → 192 ≤ high → slice_get b (p + 1) ≡ Some low → target high low < s
+      → Stops b (target high low) (target high low) (Some s) n error k j
+      → Stops b p s limit n error (suc k) j
   -- the message ends within a label
   cut_label : {p s n : ℕ} {limit : Option ℕ} (c : ℕ)
-    → IsWithin p limit → slice_get b p ≡ Some c → 1 ≤ c → c ≤ 63 → length b < p + 1 + c
-    → Stops b p s limit n InsufficientBytes 0 0
+      → IsWithin p limit → slice_get b p ≡ Some c → 1 ≤ c → c ≤ 63 → length b < p + 1 + c
+      → Stops b p s limit n InsufficientBytes 0 0
   -- a label makes the name too long
   too_long : {p s n : ℕ} {limit : Option ℕ} (c : ℕ)
-    → IsWithin p limit → slice_get b p ≡ Some c → 1 ≤ c → c ≤ 63 → p + 1 + c ≤ length b → 255 < n + 1 + c
-    → Stops b p s limit n (DomainNameTooLong c) 0 1
+      → IsWithin p limit → slice_get b p ≡ Some c → 1 ≤ c → c ≤ 63 → p + 1 + c ≤ length b → 255 < n + 1 + c
+      → Stops b p s limit n (DomainNameTooLong c) 0 1
   -- what follows a label goes wrong
   label : {p s n k j : ℕ} {limit : Option ℕ} {error : DecodeError} (c : ℕ)
-    → IsWithin p limit → slice_get b p ≡ Some c → 1 ≤ c → c ≤ 63 → p + 1 + c ≤ length b → n + 1 + c ≤ 255
-    → Stops b (p + 1 + c) s limit (n + 1 + c) error k j
-    → Stops b p s limit n error k (suc j)
+      → IsWithin p limit → slice_get b p ≡ Some c → 1 ≤ c → c ≤ 63 → p + 1 + c ≤ length b → n + 1 + c ≤ 255
+      → Stops b (p + 1 + c) s limit (n + 1 + c) error k j
+      → Stops b p s limit n error k (suc j)
   -- an octet from 64 to 191 begins no element
   reserved : {p s n : ℕ} {limit : Option ℕ} (c : ℕ)
-    → IsWithin p limit → slice_get b p ≡ Some c → 64 ≤ c → c ≤ 191
-    → Stops b p s limit n (UnrecognizedLabelCode c) 0 0
+      → IsWithin p limit → slice_get b p ≡ Some c → 64 ≤ c → c ≤ 191
+      → Stops b p s limit n (UnrecognizedLabelCode c) 0 0
 
 -- No name stands at p: reading stops with this error, after k pointers and j labels.
 abbrev pub FaultAt : List ℕ → ℕ → DecodeError → ℕ → ℕ → Type 0

@@ -8,7 +8,7 @@ use Rattle.dnw_name.specs.Reading.{Reads, NameAt, FaultAt}
 abbrev pub NameOrFault : Type 0
 NameOrFault = (b : List ℕ) (p : ℕ)
     → ((ls : List (List ℕ)) × (e : ℕ) × (k : ℕ) × NameAt b p ls e k)
-      ⊎ ((error : DecodeError) × (k : ℕ) × (j : ℕ) × FaultAt b p error k j)
+    ⊎ ((error : DecodeError) × (k : ℕ) × (j : ℕ) × FaultAt b p error k j)
 
 -- never both
 abbrev pub NotBoth : Type 0

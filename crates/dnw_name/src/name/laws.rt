@@ -9,26 +9,22 @@ pub fn one_reading()
     ensures not_both { NotBoth }
     ensures one_name { OneName }
     ensures one_fault { OneFault }
-{
-}
+{}
 
 /// An uncompressed form is read back, whatever stands before and behind it.
 pub fn reads_back()
     ensures { ReadsBack }
-{
-}
+{}
 
 /// A reading stands when bytes follow, and when the segment's start or its limit grows.
 pub fn reading_stands()
     ensures before { StandsBefore }
     ensures wider { StandsWider }
-{
-}
+{}
 
 /// Every reading, accepted or refused, takes few steps.
 pub fn few_steps()
     ensures name { NameSteps }
     ensures fault { FaultSteps }
     ensures own { OwnOctets }
-{
-}
+{}

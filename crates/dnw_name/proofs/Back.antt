@@ -1,0 +1,40 @@
+-- An uncompressed form is read back, whatever stands before and behind it.
+use Rattle.std.proofs.Common.{◌≡◌, ℕ, ◌+◌, ◌-◌, Some, None, List, [], ◌∷◌, ◌++◌, length, slice_get, slice_range, refl, subst, ap, sym, ◌∙◌, append_assoc, arith, length-append, drop_at}
+use Rattle.std.specs.List.{AllByRecursion}
+use Rattle.std.proofs.lemmas.List.{take_at}
+use Rattle.dnw_base.specs.Labels.{IsLabel}
+use Rattle.dnw_name.specs.Names.{encoded_size, wire}
+use Rattle.dnw_name.specs.Reading.{Reads, zero_octet, label}
+use Rattle.dnw_name.proofs.Sizes.{octets-cons}
+
+-- the octet at a seam
+pub slice_get-seam : (xs ys : List ℕ) (y p : ℕ) → p ≡ length xs → slice_get (xs ++ (y ∷ ys)) p ≡ Some y
+slice_get-seam [] ys y p p_is = rw p_is refl
+slice_get-seam (x ∷ xs) ys y p p_is = rw p_is (slice_get-seam xs ys y (length xs) refl)
+
+-- the middle of three parts
+pub slice_range-middle : (xs ys zs : List ℕ) (i j : ℕ) → i ≡ length xs → j ≡ i + length ys
+    → slice_range (xs ++ (ys ++ zs)) i j ≡ ys
+slice_range-middle xs ys zs i j i_is j_is =
+    let many : length ys ≡ j - i = omega arith in
+    rw (drop_at xs (ys ++ zs) i (sym i_is)) (take_at ys zs (j - i) many)
+
+-- an uncompressed form in any message is read, in a segment with no limit
+pub Reads-wire : (b before behind : List ℕ) (ls : List (List ℕ)) (p s e : ℕ) → p ≡ length before
+    → e ≡ p + encoded_size ls → b ≡ before ++ (wire ls ++ behind) → AllByRecursion IsLabel ls
+    → Reads b p s None ls e 0
+Reads-wire b before behind [] p s e p_is e_is b_is all =
+    rw (e_is, b_is) (zero_octet tt (slice_get-seam before behind 0 p p_is))
+Reads-wire b before behind (l ∷ ls) p s e p_is e_is b_is all =
+    let start = before ++ (length l ∷ []) in
+    let start_is : p + 1 ≡ length start = omega (arith, length-append before (length l ∷ [])) in
+    let parts : b ≡ start ++ (l ++ (wire ls ++ behind)) = b_is ∙ simp append_assoc in
+    let rest : b ≡ (start ++ l) ++ (wire ls ++ behind) = parts ∙ sym (append_assoc start l (wire ls ++ behind)) in
+    let rest_is : p + 1 + length l ≡ length (start ++ l) = omega (arith, length-append start l) in
+    let total : length b ≡ length (start ++ l) + length (wire ls ++ behind) = ap length rest ∙ length-append (start ++ l) (wire ls ++ behind) in
+    let part : slice_range b (p + 1) (p + 1 + length l) ≡ l = rw parts (slice_range-middle start l (wire ls ++ behind) (p + 1) (p + 1 + length l) start_is refl) in
+    let here : slice_get b p ≡ Some (length l) = rw b_is (slice_get-seam before _ (length l) p p_is) in
+    let end : e ≡ p + 1 + length l + encoded_size ls = omega (arith, octets-cons l ls) in
+    subst (λ x. Reads b p s None (x ∷ ls) e 0)
+    part
+    (label (length l) tt here all.0.not_empty all.0.not_long (omega arith) (Reads-wire b (start ++ l) behind ls (p + 1 + length l) s e rest_is end rest all.1))

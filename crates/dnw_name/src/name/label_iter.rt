@@ -1,0 +1,90 @@
+//! The labels of a name, one after another.
+ghost use Rattle.std.specs.Prelude.{◌≡◌, [], length, MatchOption};
+ghost use Rattle.std.specs.Iterator.{YieldsFirstRef, item_count};
+ghost use Rattle.dnw_name.specs.NameInside.{labels_of, IsWire, SplitsLabel};
+
+use std::marker::Model;
+
+/// Lends the labels of a name from the left, as their bytes.
+///
+/// A contract sees it as the list of the labels that are left.
+#[derive(Drop)]
+pub struct LabelIter<'a> {
+    // The uncompressed form of what is left.
+    rest: &'a [u8],
+}
+
+impl<'a> Model for LabelIter<'a> {
+    ghost use Rattle.std.specs.Prelude.{ℕ, List};
+    ghost use Rattle.dnw_name.specs.NameInside.{labels_of, IsWire};
+
+    ghost Value = { List (List ℕ) };
+
+    ghost view = { λ it. labels_of it.rest.now };
+
+    ghost invariant = { λ it. IsWire it.rest.now };
+}
+
+impl<'a> LabelIter<'a> {
+    #[inline(always)]
+    pub(crate) fn new(wire: &'a [u8]) -> Self
+        requires { IsWire wire.now }
+        ensures { result ≡ labels_of wire.now }
+    {
+        LabelIter { rest: wire }
+    }
+}
+
+impl<'a> Iterator for LabelIter<'a> {
+    type Item = &'a [u8];
+
+    ghost next_gives = { YieldsFirstRef (λ labels. labels) };
+
+    ghost remaining = { item_count (λ labels. labels) };
+
+    fn size_hint(&self) -> (usize, Option<usize>) {
+        let left = count_labels(self.rest);
+        (left, Some(left))
+    }
+
+    #[inline]
+    fn next(&mut self) -> Option<&'a [u8]> {
+        let (label, rest) = split_label(self.rest)?;
+        self.rest = rest;
+        Some(label)
+    }
+}
+
+impl<'a> ExactSizeIterator for LabelIter<'a> {
+    fn len(&self) -> usize {
+        count_labels(self.rest)
+    }
+}
+
+/// How many labels an uncompressed form has.
+fn count_labels(wire: &[u8]) -> usize
+    requires { IsWire wire.now }
+    ensures { result ≡ length (labels_of wire.now) }
+{
+    let mut count = 0;
+    let mut rest = wire;
+    while let Some((_, others)) = split_label(rest) {
+        count += 1;
+        rest = others;
+    }
+    count
+}
+
+/// The first label of an uncompressed form, and the form of the others.
+#[inline(always)]
+fn split_label(wire: &[u8]) -> Option<(&[u8], &[u8])>
+    requires { IsWire wire.now }
+    ensures { MatchOption result (labels_of wire.now ≡ []) (λ split. SplitsLabel wire.now split.0.now split.1.now) }
+{
+    let (len, rest) = wire.split_first()?;
+    let len = *len as usize;
+    if len == 0 {
+        return None;
+    }
+    Some(rest.split_at(len))
+}
