@@ -9,6 +9,7 @@ use std::marker::Model;
 /// Reads a message from the left. What it lends lives as long as the message.
 ///
 /// A contract sees it as the message's bytes and the index of the next one.
+#[derive(Drop)]
 pub struct BinDecoder<'a> {
     buffer: &'a [u8],
     index: usize,

@@ -8,3 +8,7 @@ pub mod Back
 pub mod Stand
 pub mod Counts
 pub mod Joined
+pub mod Going
+pub mod Found
+pub mod Takes
+pub mod Copying

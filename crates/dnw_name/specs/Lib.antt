@@ -4,3 +4,5 @@ pub mod NameText
 pub mod NameInside
 pub mod Reading
 pub mod ReadingLaws
+pub mod Walking
+pub mod NameRefInside

@@ -6,6 +6,7 @@
 use Rattle.std.specs.Prelude.{◌≡◌, ℕ, suc, ◌+◌, ◌-◌, ◌*◌, ◌<◌, ◌≤◌, Option, Some, None, List, [], ◌∷◌, length, slice_get, slice_range}
 use Rattle.dnw_base.specs.declared.error.DecodeError.{DecodeError}
 use Rattle.dnw_base.specs.declared.error.DecodeError.TheVariants.{LabelOverlapsWithOther, InsufficientBytes, PointerNotPriorToLabel, DomainNameTooLong, UnrecognizedLabelCode}
+use Rattle.dnw_base.specs.Decoder.{Decoder}
 use Rattle.dnw_name.specs.Names.{encoded_size}
 
 -- an element may begin here
@@ -86,3 +87,13 @@ pub data Stops (b : List ℕ) : ℕ → ℕ → Option ℕ → ℕ → DecodeErr
 -- No name stands at p: reading stops with this error, after k pointers and j labels.
 abbrev pub FaultAt : List ℕ → ℕ → DecodeError → ℕ → ℕ → Type 0
 FaultAt b p error k j = Stops b p p None 1 error k j
+
+-- The decoder stood at a name, and stands behind the name's own octets now.
+pub record TakesName (before after : Decoder) (ls : List (List ℕ)) (k : ℕ) : Type 0 where
+  pub end : ℕ
+  pub name : NameAt before.bytes before.index ls end k
+  pub moved : after ≡ record { bytes = before.bytes; index = end }
+
+-- The decoder stands where reading a name stops with this error.
+abbrev pub StopsAt : Decoder → DecodeError → ℕ → ℕ → Type 0
+StopsAt before error k j = FaultAt before.bytes before.index error k j

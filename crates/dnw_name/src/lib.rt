@@ -2,3 +2,4 @@
 #![tactic(auto)]
 
 pub mod name;
+mod name_ref;

@@ -1,16 +1,20 @@
 //! Domain names.
-ghost use Rattle.std.specs.Prelude.{◌≡◌, ◌≢◌, ℕ, ◌+◌, ◌-◌, ◌*◌, ◌<◌, ◌≤◌, ◌↔◌, Bool, true, false, ◌==◌, ◌||◌, if◌then◌else◌, List, [], ◌∷◌, ◌++◌, length, map, Some, Ok, Result, IsTrue, IsOk, IfOk, IfErr, OnOk, OnErr, IsErrOf, string_bytes, sum_by};
+ghost use Rattle.std.specs.Prelude.{◌≡◌, ◌≢◌, ℕ, ◌+◌, ◌-◌, ◌*◌, ◌<◌, ◌≤◌, ◌↔◌, Bool, true, false, ◌==◌, ◌||◌, if◌then◌else◌, List, [], ◌∷◌, ◌++◌, length, map, Some, Ok, Result, IsTrue, IsOk, IfOk, IfErr, OnOk, OnErr, IsErrOf, IsOkAnd, string_bytes, sum_by};
 ghost use Rattle.std.specs.List.{AllByRecursion, join_with_byte};
 ghost use Rattle.arrayvec.specs.ArrayString.{array_string_len};
 ghost use Rattle.dnw_base.specs.Fault.{Fault, Refuses, RefusesOrRunsOut, NeedsMemory};
 ghost use Rattle.dnw_base.specs.Labels.{IsLabel};
+ghost use Rattle.dnw_base.specs.Decoder.{Decoder};
+ghost use Rattle.dnw_name.specs.Reading.{TakesName, StopsAt};
 ghost use Rattle.dnw_base.specs.LabelText.{label_text, asterisk, dot};
 ghost use Rattle.dnw_name.specs.Names.{NameValue, AreLabels, encoded_size, IsWildcard, wire};
 ghost use Rattle.dnw_name.specs.Edits.{with_label, with_labels, append_label, append_name, append_domain};
 ghost use Rattle.dnw_name.specs.NameText.{name_text};
 ghost use Rattle.dnw_name.specs.NameInside.{labels_of, IsWire};
 
+use crate::name_ref::{self, ReadSteps};
 use arrayvec::ArrayString;
+use dnw_base::decoder::BinDecoder;
 use dnw_base::error::{DecodeError, ProtoError, ProtoResult};
 use dnw_base::label::{IntoLabel, push_label_text};
 use smallvec::SmallVec;
@@ -79,6 +83,36 @@ impl Name {
         let mut wire = SmallVec::new(alloc);
         wire.push_reserved(0);
         Name { is_fqdn, wire }
+    }
+
+    /// The fully qualified name with this uncompressed form.
+    #[inline(always)]
+    pub(crate) fn from_wire(wire: SmallVec<u8, 255>) -> Self
+        requires form { IsWire wire.items }
+        requires inline { wire.capacity ≡ 255 }
+        ensures { result ≡ record { is_fqdn = true; labels = labels_of wire.items } }
+    {
+        Name {
+            is_fqdn: true,
+            wire,
+        }
+    }
+
+    /// Reads the name at the cursor, and leaves the cursor behind the name's own octets (RFC 1035, section 4.1.4).
+    /// Where it is refused, the cursor stays. It takes no memory.
+    pub fn read(alloc: Global, decoder: &mut BinDecoder<'_>) -> Result<Self, DecodeError>
+        ensures ok { IfOk result (λ name. IsTrue name.is_fqdn × (k : ℕ) × TakesName decoder.old decoder.new name.labels k) }
+        ensures err { IfErr result (λ e. (k : ℕ) × (j : ℕ) × StopsAt decoder.old e k j) }
+        ensures same { OnErr result (decoder.new ≡ decoder.old) }
+
+        // What the definition accepts is accepted, and what it refuses is refused.
+        ensures accepts { (after : Decoder) (ls : List (List ℕ)) (k : ℕ) → TakesName decoder.old after ls k
+            → IsOkAnd result (λ name. name ≡ record { is_fqdn = true; labels = ls }) × (decoder.new ≡ after) }
+        ensures refuses { (error : DecodeError) (k j : ℕ) → StopsAt decoder.old error k j → IsErrOf result error }
+        ensures no_memory { IsErrOf result DecodeError.Memory → ⊥ }
+    {
+        let mut steps = ReadSteps::default();
+        name_ref::read_name(alloc, decoder, &mut steps)
     }
 
     /// Whether this is the root: fully qualified and without labels.

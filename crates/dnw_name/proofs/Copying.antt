@@ -1,0 +1,170 @@
+-- A copy of a name, run by run.
+use Rattle.std.proofs.Common.{◌≡◌, ℕ, ◌+◌, ◌-◌, ◌<◌, ◌≤◌, Option, Some, None, List, [], ◌∷◌, ◌++◌, length, take, drop, get_or, slice_get, slice_range, refl, sym, ap, ◌∙◌, append_assoc, arith, length-append}
+use Rattle.std.proofs.Math.Seq.{take-add}
+use Rattle.std.proofs.lemmas.List.{drop-drop}
+use Rattle.std.proofs.lemmas.List.Edits.{length-between, between_more}
+use Rattle.std.proofs.lemmas.Option.{get_or_from_slice_get, slice_get_within}
+use Rattle.dnw_name.specs.Names.{wire}
+use Rattle.dnw_name.specs.Reading.{target, Reads, zero_octet, label, pointer}
+use Rattle.dnw_name.specs.NameRefInside.{labels_at, StandsAt, Copies}
+use Rattle.dnw_name.proofs.Sizes.{length-label}
+use Rattle.dnw_name.proofs.Wires.{wire-cons, length-wire}
+
+-- a part is its front and the rest
+slice_range-split : (b : List ℕ) (i j k : ℕ) → i ≤ j → j ≤ k → slice_range b i k ≡ slice_range b i j ++ slice_range b j k
+slice_range-split b i j k first second =
+    let whole : k - i ≡ (j - i) + (k - j) = omega arith in
+    let there : i + (j - i) ≡ j = omega arith in
+    let split : take ((j - i) + (k - j)) (drop i b) ≡ slice_range b i j ++ take (k - j) (drop (j - i) (drop i b)) = take-add (j - i) (k - j) (drop i b) in
+    rw whole (split ∙ ap (λ (rest : List ℕ). slice_range b i j ++ take (k - j) rest) (drop-drop (j - i) i b ∙ ap (λ (n : ℕ). drop n b) there))
+
+-- a part of one octet
+slice_range-one : (b : List ℕ) (p c : ℕ) → slice_get b p ≡ Some c → slice_range b p (p + 1) ≡ c ∷ []
+slice_range-one b p c g =
+    let none : p - p ≡ 0 = omega arith in
+    let more : slice_range b p (p + 1) ≡ take (p - p) (drop p b) ++ get_or b p 0 ∷ [] = between_more b p p 0 (omega arith) (slice_get_within b p c g) in
+    more ∙ rw (none, get_or_from_slice_get b p c 0 g) refl
+
+-- an element lies within the message
+pub Reads-inside : {b : List ℕ} {p s e k : ℕ} {limit : Option ℕ} {ls : List (List ℕ)} → Reads b p s limit ls e k → p < length b
+Reads-inside {b} {p} (zero_octet w g) = slice_get_within b p 0 g
+Reads-inside (label c w g one most fit r) = omega arith
+Reads-inside {b} {p} (pointer high low w g least g' prior r) = slice_get_within b p high g
+
+-- at a zero octet the name ends
+Reads-end : {b : List ℕ} {p s e k : ℕ} {limit : Option ℕ} {ls : List (List ℕ)} → Reads b p s limit ls e k → get_or b p 0 ≡ 0
+    → (ls ≡ []) × (slice_get b p ≡ Some 0)
+Reads-end (zero_octet w g) z = (refl, g)
+Reads-end {b} {p} (label c w g one most fit r) z = absurd (omega (arith, get_or_from_slice_get b p c 0 g))
+Reads-end {b} {p} (pointer high low w g least g' prior r) z = absurd (omega (arith, get_or_from_slice_get b p high 0 g))
+
+-- behind a label
+record BehindLabel (b : List ℕ) (p c s : ℕ) (limit : Option ℕ) (ls : List (List ℕ)) (e k : ℕ) : Type 0 where
+  rest : List (List ℕ)
+  there : p + 1 + c ≤ length b
+  form : slice_range b p (p + 1 + c) ++ wire rest ≡ wire ls
+  reads : Reads b (p + 1 + c) s limit rest e k
+
+Reads-label : {b : List ℕ} {p s e k : ℕ} {limit : Option ℕ} {ls : List (List ℕ)} → Reads b p s limit ls e k
+    → (get_or b p 0 ≡ 0 → ⊥) → get_or b p 0 < 192 → BehindLabel b p (get_or b p 0) s limit ls e k
+Reads-label {b} {p} (zero_octet w g) ne less = absurd (ne (get_or_from_slice_get b p 0 0 g))
+Reads-label {b} {p} (label {ls = rest} c w g one most fit r) ne less =
+    let octet = get_or_from_slice_get b p c 0 g in
+    let text : List ℕ = slice_range b (p + 1) (p + 1 + c) in
+    let first : slice_range b p (p + 1 + c) ≡ c ∷ text = slice_range-split b p (p + 1) (p + 1 + c) (omega arith) (omega arith) ∙ ap (λ (front : List ℕ). front ++ text) (slice_range-one b p c g) in
+    rw octet (record {
+      rest = rest;
+      there = fit;
+      form = ap (λ (front : List ℕ). front ++ wire rest) first ∙ ap (λ (n : ℕ). n ∷ (text ++ wire rest)) (sym (length-label b p c fit)) ∙ sym (wire-cons text rest);
+      reads = r;
+    })
+Reads-label {b} {p} (pointer high low w g least g' prior r) ne less = absurd (omega (arith, get_or_from_slice_get b p high 0 g))
+
+-- behind a pointer
+record BehindPointer (b : List ℕ) (p s : ℕ) (ls : List (List ℕ)) : Type 0 where
+  to : ℕ
+  end : ℕ
+  followed : ℕ
+  leads : target (get_or b p 0) (get_or b (p + 1) 0) ≡ to
+  there : p + 1 < length b
+  prior : to < s
+  reads : Reads b to to (Some s) ls end followed
+
+Reads-pointer : {b : List ℕ} {p s e k : ℕ} {limit : Option ℕ} {ls : List (List ℕ)} → Reads b p s limit ls e k
+    → 192 ≤ get_or b p 0 → BehindPointer b p s ls
+Reads-pointer {b} {p} (zero_octet w g) high = absurd (omega (arith, get_or_from_slice_get b p 0 0 g))
+Reads-pointer {b} {p} (label c w g one most fit r) high = absurd (omega (arith, get_or_from_slice_get b p c 0 g))
+Reads-pointer {b} {p} (pointer {e = end} {k = followed} high low w g least g' prior r) marked = record {
+  to = target high low;
+  end = end;
+  followed = followed;
+  leads = rw (get_or_from_slice_get b p high 0 g, get_or_from_slice_get b (p + 1) low 0 g') refl;
+  there = slice_get_within b (p + 1) low g';
+  prior = prior;
+  reads = r;
+}
+
+-- the copy of a name begins
+pub Copies-start : (b : List ℕ) (p end size count pointers : ℕ) → StandsAt b p end size count pointers → Copies b p p p []
+Copies-start b p end size count pointers h =
+    let none : p - p ≡ 0 = omega arith in
+    let fits = h.name.fits in
+    record {
+      labels = labels_at b p;
+      segment = p;
+      limit = None;
+      end = end;
+      pointers = pointers;
+      reads = h.name.reads;
+      order = omega arith;
+      back = omega arith;
+      whole = rw none refl;
+      short = omega (arith, length-wire (labels_at b p));
+    }
+
+module _ {b : List ℕ} {start run p : ℕ} {written : List ℕ} (h : Copies b start run p written) where
+  -- what is to be written fits
+  pub Copies-fits : length written + (p - run) + length (wire h.labels) ≤ 255
+  Copies-fits =
+      let inside = Reads-inside h.reads in
+      let order = h.order in
+      omega (arith, h.short, ap length h.whole, length-append written (slice_range b run p ++ wire h.labels), length-append (slice_range b run p) (wire h.labels), length-between b run p (omega arith))
+
+  -- the last run ends with the zero
+  pub Copies-end : get_or b p 0 ≡ 0 → written ++ slice_range b run (p + 1) ≡ wire (labels_at b start)
+  Copies-end z =
+      let (none, g) = Reads-end h.reads z in
+      let more : slice_range b run (p + 1) ≡ slice_range b run p ++ 0 ∷ [] = slice_range-split b run p (p + 1) h.order (omega arith) ∙ ap (λ (rest : List ℕ). slice_range b run p ++ rest) (slice_range-one b p 0 g) in
+      rw more (rw none at h.whole)
+
+  -- a label is passed
+  pub Copies-label : (get_or b p 0 ≡ 0 → ⊥) → get_or b p 0 < 192
+      → Copies b start run (p + 1 + get_or b p 0) written × (p + 1 + get_or b p 0 ≤ length b)
+  Copies-label ne less =
+      let behind = Reads-label h.reads ne less in
+      let c : ℕ = get_or b p 0 in
+      let order = h.order in
+      let split = slice_range-split b run p (p + 1 + c) order (omega arith) in (
+        record {
+          labels = behind.rest;
+          segment = h.segment;
+          limit = h.limit;
+          end = h.end;
+          pointers = h.pointers;
+          reads = behind.reads;
+          order = omega arith;
+          back = h.back;
+          whole = ap (λ (part : List ℕ). written ++ (part ++ wire behind.rest)) split
+              ∙ ap (λ (part : List ℕ). written ++ part) (append_assoc (slice_range b run p) (slice_range b p (p + 1 + c)) (wire behind.rest) ∙ ap (λ (part : List ℕ). slice_range b run p ++ part) behind.form)
+              ∙ h.whole;
+          short = h.short;
+        },
+        behind.there,
+      )
+
+  -- a pointer is followed, and the run before it is written
+  pub Copies-pointer : (to : ℕ) → target (get_or b p 0) (get_or b (p + 1) 0) ≡ to → 192 ≤ get_or b p 0
+      → Copies b start to to (written ++ slice_range b run p) × (to < run)
+  Copies-pointer to leads marked =
+      let behind = Reads-pointer h.reads marked in
+      let same : behind.to ≡ to = sym behind.leads ∙ leads in
+      let none : to - to ≡ 0 = omega arith in
+      let prior = behind.prior in
+      let back = h.back in (
+        record {
+          labels = h.labels;
+          segment = to;
+          limit = Some h.segment;
+          end = behind.end;
+          pointers = behind.followed;
+          reads = rw same at behind.reads;
+          order = omega arith;
+          back = omega arith;
+          whole = rw none (append_assoc written (slice_range b run p) (wire h.labels) ∙ h.whole);
+          short = h.short;
+        },
+        omega arith,
+      )
+
+  pub Copies-second : 192 ≤ get_or b p 0 → p + 1 < length b
+  Copies-second marked = (Reads-pointer h.reads marked).there

@@ -1,0 +1,60 @@
+-- The labels that a place in a message gives are those that are read there.
+use Rattle.std.proofs.Common.{◌≡◌, ℕ, zero, suc, ◌+◌, ◌<◌, ◌≤◌, Option, Some, None, List, ◌∷◌, length, slice_range, min, Result, Ok, Err, IfOk, IfErr, refl, ap, arith}
+use Rattle.std.proofs.lemmas.Bool.{ne_eqb, le-leb, lt-leb}
+use Rattle.std.proofs.lemmas.Option.{get_or_from_slice_get}
+use Rattle.dnw_base.specs.declared.error.DecodeError.{DecodeError}
+use Rattle.dnw_name.specs.declared.name_ref.walk.Walked.{Walked}
+use Rattle.dnw_name.specs.Names.{encoded_size}
+use Rattle.dnw_name.specs.Reading.{target, Reads, NameAt, FaultAt, zero_octet, label, pointer}
+use Rattle.dnw_name.specs.ReadingLaws.{AreBytes}
+use Rattle.dnw_name.specs.NameRefInside.{labels_in_steps, labels_at, StandsAt}
+use Rattle.dnw_name.proofs.Counts.{Reads-pointers, Reads-labels, labels-octets, Stops-pointers, Stops-labels}
+
+labels_in_steps-Reads : (n : ℕ) (b : List ℕ) (p s e k : ℕ) (limit : Option ℕ) (ls : List (List ℕ))
+    → Reads b p s limit ls e k → length ls + k < n → labels_in_steps n b p ≡ ls
+labels_in_steps-Reads zero b p s e k limit ls r less = absurd (omega arith)
+labels_in_steps-Reads (suc n) b p s e k limit ls (zero_octet w g) less = rw (get_or_from_slice_get b p 0 0 g) refl
+labels_in_steps-Reads (suc n) b p s e k limit ls (label {ls = rest} c w g one most fit r) less =
+    rw (get_or_from_slice_get b p c 0 g, ne_eqb c 0 (λ e. omega arith), le-leb c 63 most)
+    (ap (λ (more : List (List ℕ)). slice_range b (p + 1) (p + 1 + c) ∷ more) (labels_in_steps-Reads n b (p + 1 + c) s e k limit rest r (omega arith)))
+labels_in_steps-Reads (suc n) b p s e k limit ls (pointer {e = end} {k = followed} high low w g least g' prior r) less =
+    rw (get_or_from_slice_get b p high 0 g, ne_eqb high 0 (λ e. omega arith), lt-leb high 63 (omega arith), get_or_from_slice_get b (p + 1) low 0 g')
+    (labels_in_steps-Reads n b (target high low) (target high low) end followed (Some s) ls r (omega arith))
+
+-- the name that is read at p is the one that is found there
+pub labels_at-NameAt : (b : List ℕ) (p : ℕ) (ls : List (List ℕ)) (e k : ℕ) → AreBytes b → NameAt b p ls e k → labels_at b p ≡ ls
+unfolding labels_at
+labels_at-NameAt b p ls e k bytes name =
+    let pointers = Reads-pointers bytes name.reads in
+    let labels = labels-octets ls (Reads-labels name.reads) in
+    let fits = name.fits in
+    labels_in_steps-Reads (p + 128) b p p e k None ls name.reads (omega arith)
+
+-- what a walk has found is what stands there
+pub StandsAt-found : (b : List ℕ) (p e size count k : ℕ) → AreBytes b
+    → ((ls : List (List ℕ)) × NameAt b p ls e k × (size ≡ encoded_size ls) × (count ≡ length ls)) → StandsAt b p e size count k
+StandsAt-found b p e size count k bytes (ls, name, size_is, count_is) =
+    let same = labels_at-NameAt b p ls e k bytes name in
+    record { name = rw same name; size_is = rw same size_is; count_is = rw same count_is }
+
+-- and it took few steps
+pub StandsAt-few : (b : List ℕ) (p e size count k : ℕ) → AreBytes b → StandsAt b p e size count k → (k ≤ min p 16384) × (count ≤ 128)
+StandsAt-few b p e size count k bytes h =
+    let pointers = Reads-pointers bytes h.name.reads in
+    let labels = labels-octets (labels_at b p) (Reads-labels h.name.reads) in
+    let fits = h.name.fits in
+    let count_is = h.count_is in
+    (omega arith, omega arith)
+
+pub FaultAt-few : (b : List ℕ) (p k j : ℕ) (error : DecodeError) → AreBytes b → FaultAt b p error k j → (k ≤ min p 16384) × (j ≤ 128)
+FaultAt-few b p k j error bytes fault =
+    let one : 1 ≤ 255 = omega arith in
+    let pointers = Stops-pointers bytes fault in
+    let labels = Stops-labels one fault in
+    (omega arith, omega arith)
+
+-- whatever a walk answers
+pub Walk-few : (b : List ℕ) (p k j : ℕ) (answer : Result Walked DecodeError) → AreBytes b
+    → IfOk answer (λ (w : Walked). StandsAt b p w.end w.size j k) → IfErr answer (λ e. FaultAt b p e k j) → (k ≤ min p 16384) × (j ≤ 128)
+Walk-few b p k j (Ok w) bytes ok err = StandsAt-few b p w.end w.size j k bytes ok
+Walk-few b p k j (Err e) bytes ok err = FaultAt-few b p k j e bytes err

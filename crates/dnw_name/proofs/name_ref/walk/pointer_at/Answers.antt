@@ -1,0 +1,27 @@
+use Rattle.std.proofs.Common.{◌+◌, ◌<◌, length, get_or, refl, arith}
+use Rattle.std.proofs.lemmas.Option.{slice_get-get_or}
+use Rattle.dnw_name.specs.Reading.{half_pointer, not_prior}
+use Rattle.dnw_name.proofs.name_ref.walk.pointer_at.Goals as goal
+
+pub returns-then-message-position-le1-clause-err : goal.returns-then-message-position-le1-clause-err
+returns-then-message-position-le1-clause-err c n limit w =
+    half_pointer c.args.high w c.requires.octet c.requires.marked (omega arith)
+
+pub returns-then-target-segment-clause-err : goal.returns-then-target-segment-clause-err
+returns-then-target-segment-clause-err c n limit w =
+    let inside : c.args.position + 1 < length c.args.message.now = omega arith in
+    not_prior c.args.high (get_or c.args.message.now (c.args.position + 1) 0) w c.requires.octet c.requires.marked
+    (slice_get-get_or _ _ 0 inside) c.if-target-segment.true
+
+pub returns-clause-ok : goal.returns-clause-ok
+returns-clause-ok c =
+    let inside : c.args.position + 1 < length c.args.message.now = omega arith in
+    record {
+      high = c.args.high;
+      low = get_or c.args.message.now (c.args.position + 1) 0;
+      first = c.requires.octet;
+      marked = c.requires.marked;
+      second = slice_get-get_or _ _ 0 inside;
+      leads = refl;
+      prior = c.if-target-segment.false;
+    }

@@ -1,0 +1,36 @@
+-- How a `NameRef` is kept: the message, and where its name stands. No public clause cites this module.
+use Rattle.std.specs.Prelude.{◌≡◌, ℕ, zero, suc, ◌+◌, ◌≤◌, ◌==◌, nat_le, if◌then◌else◌, Option, List, [], ◌∷◌, ◌++◌, length, slice_index, slice_range}
+use Rattle.dnw_name.specs.Names.{encoded_size, wire}
+use Rattle.dnw_name.specs.Reading.{target, Reads, NameAt}
+
+-- the labels that are read at p in at most n steps
+abbrev pub labels_in_steps : ℕ → List ℕ → ℕ → List (List ℕ)
+labels_in_steps zero b p = []
+labels_in_steps (suc n) b p =
+    if slice_index b p == 0 then []
+    else if nat_le (slice_index b p) 63 then slice_range b (p + 1) (p + 1 + slice_index b p) ∷ labels_in_steps n b (p + 1 + slice_index b p)
+    else labels_in_steps n b (target (slice_index b p) (slice_index b (p + 1)))
+
+-- the labels of the name at p: there are at most 127, and no more pointers than p
+unfoldable pub labels_at : List ℕ → ℕ → List (List ℕ)
+labels_at b p = labels_in_steps (p + 128) b p
+
+-- A name stands at p, takes so many octets in its uncompressed form, and its own octets end at e.
+pub record StandsAt (b : List ℕ) (p e size count pointers : ℕ) : Type 0 where
+  pub name : NameAt b p (labels_at b p) e pointers
+  pub size_is : size ≡ encoded_size (labels_at b p)
+  pub count_is : count ≡ length (labels_at b p)
+
+-- A copy has come to position, with the octets from run on still to be written: what is written, these octets and
+-- the form of the labels that follow make the form of the whole name.
+pub record Copies (b : List ℕ) (start run position : ℕ) (written : List ℕ) : Type 0 where
+  pub labels : List (List ℕ)
+  pub segment : ℕ
+  pub limit : Option ℕ
+  pub end : ℕ
+  pub pointers : ℕ
+  pub reads : Reads b position segment limit labels end pointers
+  pub order : run ≤ position
+  pub back : segment ≤ run
+  pub whole : written ++ (slice_range b run position ++ wire labels) ≡ wire (labels_at b start)
+  pub short : length (wire (labels_at b start)) ≤ 255

@@ -1,0 +1,54 @@
+-- How a walk over a name goes: what it knows between two elements. No public clause cites this module.
+use Rattle.std.specs.Prelude.{◌≡◌, ℕ, ◌+◌, ◌<◌, ◌≤◌, Option, Some, None, List, ◌++◌, length, slice_get, unwrap_or}
+use Rattle.dnw_base.specs.declared.error.DecodeError.{DecodeError}
+use Rattle.dnw_base.specs.declared.error.DecodeError.TheVariants.{LabelOverlapsWithOther}
+use Rattle.dnw_name.specs.declared.name_ref.walk.Element.{Element}
+use Rattle.dnw_name.specs.declared.name_ref.walk.Element.TheVariants.{End, Label, Pointer}
+use Rattle.dnw_name.specs.Names.{encoded_size}
+use Rattle.dnw_name.specs.Reading.{IsWithin, target, Reads, Stops}
+
+-- the label's octets are there
+pub record IsLabelAt (b : List ℕ) (p c : ℕ) : Type 0 where
+  pub octet : slice_get b p ≡ Some c
+  pub some : 1 ≤ c
+  pub few : c ≤ 63
+  pub there : p + 1 + c ≤ length b
+
+-- a pointer leads from there to t, before the start of its segment
+pub record IsPointerAt (b : List ℕ) (p s t : ℕ) : Type 0 where
+  pub high : ℕ
+  pub low : ℕ
+  pub first : slice_get b p ≡ Some high
+  pub marked : 192 ≤ high
+  pub second : slice_get b (p + 1) ≡ Some low
+  pub leads : t ≡ target high low
+  pub prior : t < s
+
+-- the element that stands at p, in a segment that began at s
+abbrev pub IsElement : List ℕ → ℕ → ℕ → Element → Type 0
+IsElement b p s End = slice_get b p ≡ Some 0
+IsElement b p s (Label c) = IsLabelAt b p c
+IsElement b p s (Pointer t) = IsPointerAt b p s t
+
+-- no element stands there, whatever the limit is and whatever was read before
+abbrev pub IsNoElement : List ℕ → ℕ → ℕ → DecodeError → Type 0
+IsNoElement b p s error = (n : ℕ) (limit : Option ℕ) → IsWithin p limit → Stops b p s limit n error 0 0
+
+-- no element may begin at p
+abbrev pub IsOverlap : ℕ → ℕ → Option ℕ → DecodeError → Type 0
+IsOverlap p s None error = ⊥
+IsOverlap p s (Some limit) error = (limit ≤ p) × (error ≡ LabelOverlapsWithOther s limit)
+
+-- A walk from start has come to p, with these counts: whatever reading or fault begins here goes on to one that
+-- began at the start.
+pub record GoesOn (b : List ℕ) (start p s : ℕ) (limit end : Option ℕ) (size pointers labels : ℕ) : Type 0 where
+  pub passed : List (List ℕ)
+  pub passed_size : encoded_size passed ≡ size
+  pub passed_count : length passed ≡ labels
+  pub fits : size ≤ 255
+  pub back : pointers + s ≤ start
+  pub few : labels + labels + 1 ≤ size
+  pub reads : (ls : List (List ℕ)) (e k : ℕ)
+      → Reads b p s limit ls e k → Reads b start start None (passed ++ ls) (unwrap_or end e) (pointers + k)
+  pub stops : (error : DecodeError) (k j : ℕ)
+      → Stops b p s limit size error k j → Stops b start start None 1 error (pointers + k) (labels + j)

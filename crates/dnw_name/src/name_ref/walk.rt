@@ -1,0 +1,179 @@
+//! The walk over a name's elements, which copies nothing (RFC 1035, section 4.1.4).
+ghost use Rattle.std.specs.Prelude.{◌≡◌, ℕ, List, ◌+◌, ◌<◌, ◌≤◌, min, length, slice_get, Some, IfOk, IfErr, OnOk};
+ghost use Rattle.dnw_name.specs.Reading.{IsWithin, NameAt, FaultAt};
+ghost use Rattle.dnw_name.specs.Names.{encoded_size};
+ghost use Rattle.dnw_name.specs.Walking.{IsElement, IsNoElement, IsOverlap};
+ghost use Rattle.dnw_name.specs.NameRefInside.{StandsAt};
+
+use dnw_base::error::DecodeError;
+
+/// How many steps a reading took.
+#[derive(Clone, Copy, Debug, Default, PartialEq, Eq)]
+pub struct ReadSteps {
+    /// The pointers that were followed.
+    pub pointers: usize,
+    /// The labels whose octets were there, also the one that was refused for the name's length.
+    pub labels: usize,
+}
+
+/// What may stand at a position of a name.
+#[derive(Clone, Copy)]
+enum Element {
+    /// The zero octet that ends the name.
+    End,
+    /// A label of so many octets behind its length octet.
+    Label(usize),
+    /// A pointer to this position.
+    Pointer(usize),
+}
+
+/// What a walk to the end of a name has found.
+#[derive(Clone, Copy)]
+pub(crate) struct Walked {
+    /// Where the name's own octets end.
+    pub(crate) end: usize,
+    /// The octets of its uncompressed form.
+    pub(crate) size: usize,
+}
+
+/// Walks over the name that stands at `start`, and counts the pointers followed and the labels found.
+pub(crate) fn walk(
+    message: &[u8],
+    start: usize,
+    steps: &mut ReadSteps,
+) -> Result<Walked, DecodeError>
+    ensures ok { IfOk result (λ walked. StandsAt message.now start walked.end walked.size steps.new.labels steps.new.pointers) }
+    ensures err { IfErr result (λ e. FaultAt message.now start e steps.new.pointers steps.new.labels) }
+    ensures few_pointers { steps.new.pointers ≤ min start 16384 }
+    ensures few_labels { steps.new.labels ≤ 128 }
+{
+    walk_elements(message, start, steps)
+}
+
+fn walk_elements(message: &[u8], start: usize, steps: &mut ReadSteps) -> Result<Walked, DecodeError>
+    ensures ok { IfOk result (λ walked. (ls : List (List ℕ))
+        × NameAt message.now start ls walked.end steps.new.pointers
+        × (walked.size ≡ encoded_size ls) × (steps.new.labels ≡ length ls)) }
+    ensures err { IfErr result (λ e. FaultAt message.now start e steps.new.pointers steps.new.labels) }
+{
+    *steps = ReadSteps {
+        pointers: 0,
+        labels: 0,
+    };
+    let mut position = start;
+    let mut segment = start;
+    let mut limit = None;
+    let mut end = None;
+    let mut size = 1;
+    'elements: loop {
+        check_limit(position, segment, limit)?;
+        match element_at(message, position, segment)? {
+            Element::End => {
+                return Ok(Walked {
+                    end: end.unwrap_or(position + 1),
+                    size,
+                });
+            }
+            Element::Label(len) => {
+                steps.labels += 1;
+                size = size + 1 + len;
+                if size > 255 {
+                    return Err(DecodeError::DomainNameTooLong(len));
+                }
+                position = position + 1 + len;
+            }
+            Element::Pointer(target) => {
+                steps.pointers += 1;
+                end = end.or(Some(position + 2));
+                limit = Some(segment);
+                segment = target;
+                position = target;
+            }
+        }
+    }
+}
+
+/// Whether an element may begin at a position, in a segment that began at `segment`.
+#[inline(always)]
+fn check_limit(position: usize, segment: usize, limit: Option<usize>) -> Result<(), DecodeError>
+    ensures ok { OnOk result (IsWithin position limit) }
+    ensures err { IfErr result (IsOverlap position segment limit) }
+{
+    match limit {
+        Some(limit) if limit <= position => Err(DecodeError::LabelOverlapsWithOther {
+            label: segment,
+            other: limit,
+        }),
+        _ => Ok(()),
+    }
+}
+
+/// The element at a position, in a segment that began at `segment`.
+#[inline(always)]
+fn element_at(message: &[u8], position: usize, segment: usize) -> Result<Element, DecodeError>
+    ensures ok { IfOk result (IsElement message.now position segment) }
+    ensures err { IfErr result (IsNoElement message.now position segment) }
+{
+    if position >= message.len() {
+        return Err(DecodeError::InsufficientBytes);
+    }
+    let octet = message[position];
+    if octet == 0 {
+        return Ok(Element::End);
+    }
+    if octet <= 63 {
+        return label_at(message, position, segment, octet as usize);
+    }
+    if octet >= 192 {
+        return pointer_at(message, position, segment, octet);
+    }
+    Err(DecodeError::UnrecognizedLabelCode(octet))
+}
+
+/// The label of `len` octets, 1 to 63, whose length octet stands at `position`.
+#[inline(always)]
+fn label_at(
+    message: &[u8],
+    position: usize,
+    segment: usize,
+    len: usize,
+) -> Result<Element, DecodeError>
+    requires inside { position < length message.now }
+    requires octet { slice_get message.now position ≡ Some len }
+    requires some { 1 ≤ len }
+    requires few { len ≤ 63 }
+    ensures ok { IfOk result (IsElement message.now position segment) }
+    ensures err { IfErr result (IsNoElement message.now position segment) }
+{
+    if message.len() - position <= len {
+        return Err(DecodeError::InsufficientBytes);
+    }
+    Ok(Element::Label(len))
+}
+
+/// The pointer whose first octet stands at `position`, which has to lead before the start of its segment.
+#[inline(always)]
+fn pointer_at(
+    message: &[u8],
+    position: usize,
+    segment: usize,
+    high: u8,
+) -> Result<Element, DecodeError>
+    requires inside { position < length message.now }
+    requires octet { slice_get message.now position ≡ Some high }
+    requires marked { 192 ≤ high }
+    ensures ok { IfOk result (IsElement message.now position segment) }
+    ensures err { IfErr result (IsNoElement message.now position segment) }
+{
+    if message.len() - position <= 1 {
+        return Err(DecodeError::InsufficientBytes);
+    }
+    let target = (high as usize - 192) * 256 + message[position + 1] as usize;
+    if target >= segment {
+        return Err(DecodeError::PointerNotPriorToLabel {
+            idx: position,
+            ptr: target as u16,
+        });
+    }
+    Ok(Element::Pointer(target))
+}
