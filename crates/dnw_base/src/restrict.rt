@@ -1,5 +1,9 @@
 //! Values that came from a stranger, which are used only on purpose.
-ghost use Rattle.std.specs.Prelude.{◌≡◌};
+ghost use Rattle.std.specs.Prelude.{◌≡◌, ℕ, ◌+◌, ◌-◌, ◌*◌, ◌<◌, ◌≤◌, ◌^◌, Bool, true, false, IsTrue, ◌↔◌, Option, Some, None, Result, Ok, Err, MatchResult};
+ghost use Rattle.std.specs.Fn.{FnReturnsAt};
+ghost use Rattle.std.specs.Option.{ok_or, option_and_then};
+ghost use Rattle.std.specs.Result.{result_ok};
+ghost use Rattle.dnw_base.specs.Checked.{sum_below, difference, product_below};
 
 use std::marker::Model;
 
@@ -18,12 +22,42 @@ impl<T> Model for Restrict<T> {
 }
 
 impl<T> Restrict<T> {
+    ghost use Rattle.dnw_base.specs.Verified.{verified_value, verified_verdict};
+
     /// Marks a value as untrusted.
     #[inline(always)]
     pub fn new(restricted: T) -> Self
         ensures { result ≡ restricted }
     {
         Restrict(restricted)
+    }
+
+    /// The value, with the verdict of a test.
+    #[inline]
+    pub fn verify<F: Fn(&T) -> bool>(&self, f: F) -> Verified<'_, T>
+        requires { F.IsAlwaysCallable f }
+        ensures value { (verified_value result).now ≡ self.now }
+        ensures verdict { FnReturnsAt F.Fn f self.now (verified_verdict result) }
+    {
+        let valid = passes(&f, &self.0);
+        Verified {
+            value: &self.0,
+            valid,
+        }
+    }
+
+    /// The value: `Ok` where it passes the test, and else `Err`.
+    #[inline]
+    pub fn verify_unwrap<F: Fn(&T) -> bool>(self, f: F) -> Result<T, T>
+        requires { F.IsAlwaysCallable f }
+        ensures { MatchResult result (λ x. (x ≡ self) × FnReturnsAt F.Fn f self true) (λ x. (x ≡ self) × FnReturnsAt F.Fn f self false) }
+    {
+        let Restrict(value) = self;
+        if passes(&f, &value) {
+            Ok(value)
+        } else {
+            Err(value)
+        }
     }
 
     /// The value as it came. It is on the caller to verify it or to see that any value will do.
@@ -33,5 +67,190 @@ impl<T> Restrict<T> {
     {
         let Restrict(value) = self;
         value
+    }
+
+    /// Another value made of this one, as untrusted as it.
+    #[inline(always)]
+    pub fn map<R, F: Fn(T) -> R>(self, f: F) -> Restrict<R>
+        requires { F.pre f self }
+        ensures { F.post f self result }
+    {
+        let Restrict(value) = self;
+        Restrict(f(value))
+    }
+}
+
+/// The verdict of a test on a value.
+#[inline(always)]
+fn passes<T, F: Fn(&T) -> bool>(f: &F, value: &T) -> bool
+    requires { F.IsAlwaysCallable f.now }
+    ensures { FnReturnsAt F.Fn f.now value.now result }
+{
+    f(value)
+}
+
+/// A value with the verdict of a test.
+#[derive(Drop)]
+pub struct Verified<'a, T> {
+    value: &'a T,
+    valid: bool,
+}
+
+impl<'a, T> Verified<'a, T> {
+    ghost use Rattle.dnw_base.specs.Verified.{verified_value, verified_verdict};
+
+    /// What `f` makes of the value, or the value where it did not pass.
+    #[inline]
+    pub fn then<R, F: Fn(&T) -> R>(&self, f: F) -> Result<R, &'a T>
+        requires { F.IsAlwaysCallable f }
+        ensures { MatchResult result (λ r. IsTrue (verified_verdict self.now) × FnReturnsAt F.Fn f (verified_value self.now).now r)
+            (λ value. (verified_verdict self.now ≡ false) × (value.now ≡ (verified_value self.now).now)) }
+    {
+        if self.valid {
+            Ok(f(self.value))
+        } else {
+            Err(self.value)
+        }
+    }
+
+    /// Whether the value passed the test.
+    #[inline(always)]
+    pub fn is_valid(&self) -> bool
+        ensures { result ≡ verified_verdict self.now }
+    {
+        self.valid
+    }
+}
+
+/// Arithmetic on untrusted numbers. Where the exact result is out of range, the argument is the error.
+pub trait RestrictedMath {
+    /// The type of the second operand.
+    type Arg: Copy;
+    /// The type of the result.
+    type Value: Copy;
+
+    // The untrusted number, where there is one.
+    ghost sum: { Self → Self.Arg → Option Self.Value };
+
+    ghost difference: { Self → Self.Arg → Option Self.Value };
+
+    ghost product: { Self → Self.Arg → Option Self.Value };
+
+    /// The sum, if it is in range.
+    fn checked_add(&self, arg: Self::Arg) -> Result<Restrict<Self::Value>, Self::Arg>
+        ensures { result ≡ ok_or (sum self.now arg) arg };
+
+    /// The difference, if it is in range.
+    fn checked_sub(&self, arg: Self::Arg) -> Result<Restrict<Self::Value>, Self::Arg>
+        ensures { result ≡ ok_or (difference self.now arg) arg };
+
+    /// The product, if it is in range.
+    fn checked_mul(&self, arg: Self::Arg) -> Result<Restrict<Self::Value>, Self::Arg>
+        ensures { result ≡ ok_or (product self.now arg) arg };
+}
+
+impl RestrictedMath for Restrict<u8> {
+    type Arg = u8;
+
+    type Value = u8;
+
+    ghost sum = { sum_below (2 ^ 8) };
+
+    ghost difference = { difference };
+
+    ghost product = { product_below (2 ^ 8) };
+
+    fn checked_add(&self, arg: u8) -> Result<Restrict<u8>, u8> {
+        self.0.checked_add(arg).map(Restrict::new).ok_or(arg)
+    }
+
+    fn checked_sub(&self, arg: u8) -> Result<Restrict<u8>, u8> {
+        self.0.checked_sub(arg).map(Restrict::new).ok_or(arg)
+    }
+
+    fn checked_mul(&self, arg: u8) -> Result<Restrict<u8>, u8> {
+        self.0.checked_mul(arg).map(Restrict::new).ok_or(arg)
+    }
+}
+
+impl RestrictedMath for Restrict<usize> {
+    type Arg = usize;
+
+    type Value = usize;
+
+    ghost sum = { sum_below (2 ^ 64) };
+
+    ghost difference = { difference };
+
+    ghost product = { product_below (2 ^ 64) };
+
+    fn checked_add(&self, arg: usize) -> Result<Restrict<usize>, usize> {
+        self.0.checked_add(arg).map(Restrict::new).ok_or(arg)
+    }
+
+    fn checked_sub(&self, arg: usize) -> Result<Restrict<usize>, usize> {
+        self.0.checked_sub(arg).map(Restrict::new).ok_or(arg)
+    }
+
+    fn checked_mul(&self, arg: usize) -> Result<Restrict<usize>, usize> {
+        self.0.checked_mul(arg).map(Restrict::new).ok_or(arg)
+    }
+}
+
+impl RestrictedMath for Restrict<u16> {
+    type Arg = u16;
+
+    type Value = u16;
+
+    ghost sum = { sum_below (2 ^ 16) };
+
+    ghost difference = { difference };
+
+    ghost product = { product_below (2 ^ 16) };
+
+    fn checked_add(&self, arg: u16) -> Result<Restrict<u16>, u16> {
+        self.0.checked_add(arg).map(Restrict::new).ok_or(arg)
+    }
+
+    fn checked_sub(&self, arg: u16) -> Result<Restrict<u16>, u16> {
+        self.0.checked_sub(arg).map(Restrict::new).ok_or(arg)
+    }
+
+    fn checked_mul(&self, arg: u16) -> Result<Restrict<u16>, u16> {
+        self.0.checked_mul(arg).map(Restrict::new).ok_or(arg)
+    }
+}
+
+/// A chain of operations: the first that is out of range makes each later one answer its own argument.
+impl<R: RestrictedMath, A: Copy> RestrictedMath for Result<R, A> {
+    type Arg = R::Arg;
+
+    type Value = R::Value;
+
+    ghost sum = { λ r arg. option_and_then (λ x. R.sum x arg) (result_ok r) };
+
+    ghost difference = { λ r arg. option_and_then (λ x. R.difference x arg) (result_ok r) };
+
+    ghost product = { λ r arg. option_and_then (λ x. R.product x arg) (result_ok r) };
+
+    fn checked_add(&self, arg: R::Arg) -> Result<Restrict<R::Value>, R::Arg> {
+        match self {
+            Ok(r) => r.checked_add(arg),
+            Err(_) => Err(arg),
+        }
+    }
+
+    fn checked_sub(&self, arg: R::Arg) -> Result<Restrict<R::Value>, R::Arg> {
+        match self {
+            Ok(r) => r.checked_sub(arg),
+            Err(_) => Err(arg),
+        }
+    }
+
+    fn checked_mul(&self, arg: R::Arg) -> Result<Restrict<R::Value>, R::Arg> {
+        match self {
+            Ok(r) => r.checked_mul(arg),
+            Err(_) => Err(arg),
+        }
     }
 }

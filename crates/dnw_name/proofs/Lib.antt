@@ -12,3 +12,6 @@ pub mod Going
 pub mod Found
 pub mod Takes
 pub mod Copying
+pub mod TextReading
+pub mod ByteTexts
+pub mod ReadBack

@@ -1,6 +1,7 @@
 pub mod Names
 pub mod Edits
 pub mod NameText
+pub mod TextReader
 pub mod NameInside
 pub mod Reading
 pub mod ReadingLaws

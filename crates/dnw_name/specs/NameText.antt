@@ -1,11 +1,11 @@
 -- The text of a name (RFC 1035, section 5.1, but with octal escapes), read from the left by characters.
-use Rattle.std.specs.Prelude.{ℕ, ◌+◌, ◌-◌, ◌*◌, Bool, true, false, ◌||◌, ◌&&◌, ◌==◌, nat_le, if◌then◌else◌, Option, Some, None, List, [], ◌∷◌, ◌++◌, map, Result, Ok, Err, encode_utf8}
+use Rattle.std.specs.Prelude.{ℕ, ◌+◌, ◌-◌, ◌*◌, Bool, true, false, ◌||◌, ◌&&◌, ◌==◌, nat_le, if◌then◌else◌, Option, Some, None, List, [], ◌∷◌, ◌++◌, map, Result, Ok, Err, IsTrue, encode_utf8}
 use Rattle.std.specs.List.{join_with_byte}
 use Rattle.std.specs.Char.{is_control, is_whitespace}
 use Rattle.ucd_category.specs.declared.GeneralCategory.TheVariants.{DecimalNumber, LetterNumber, OtherNumber}
 use Rattle.ucd_category.specs.GeneralCategory.{general_category, general_category_eq}
 use Rattle.dnw_base.specs.Fault.{Fault, UnrecognizedChar, IllegalChar, UnfinishedEscape, ◌>>=◌}
-use Rattle.dnw_base.specs.LabelText.{dot, backslash, label_from_text, label_text}
+use Rattle.dnw_base.specs.LabelText.{dot, backslash, is_label_text, label_from_text, label_text}
 use Rattle.dnw_name.specs.Names.{NameValue}
 use Rattle.dnw_name.specs.Edits.{with_label, append_domain}
 
@@ -92,3 +92,7 @@ name_from_text_at text origin = name_from_text text >>= completed origin
 -- The text that shows a name: those of its labels joined by dots, and a last dot where it is fully qualified.
 abbrev pub name_text : NameValue → List ℕ
 name_text n = join_with_byte dot (map label_text n.labels) ++ (if n.is_fqdn then dot ∷ [] else [])
+
+-- a label that can be written as it stands
+abbrev pub IsLabelText : List ℕ → Type 0
+IsLabelText l = IsTrue (is_label_text l)

@@ -1,6 +1,7 @@
 //! Domain names.
 ghost use Rattle.std.specs.Prelude.{◌≡◌, ◌≢◌, ℕ, ◌+◌, ◌-◌, ◌*◌, ◌<◌, ◌≤◌, ◌↔◌, Bool, true, false, ◌==◌, ◌||◌, if◌then◌else◌, List, [], ◌∷◌, ◌++◌, length, map, Some, Ok, Result, IsTrue, IsOk, IfOk, IfErr, OnOk, OnErr, IsErrOf, IsOkAnd, string_bytes, sum_by};
 ghost use Rattle.std.specs.List.{AllByRecursion, join_with_byte};
+ghost use Rattle.std.specs.Str.{chars};
 ghost use Rattle.arrayvec.specs.ArrayString.{array_string_len};
 ghost use Rattle.dnw_base.specs.Fault.{Fault, Refuses, RefusesOrRunsOut, NeedsMemory};
 ghost use Rattle.dnw_base.specs.Labels.{IsLabel};
@@ -9,7 +10,7 @@ ghost use Rattle.dnw_name.specs.Reading.{TakesName, StopsAt};
 ghost use Rattle.dnw_base.specs.LabelText.{label_text, asterisk, dot};
 ghost use Rattle.dnw_name.specs.Names.{NameValue, AreLabels, encoded_size, IsWildcard, wire};
 ghost use Rattle.dnw_name.specs.Edits.{with_label, with_labels, append_label, append_name, append_domain};
-ghost use Rattle.dnw_name.specs.NameText.{name_text};
+ghost use Rattle.dnw_name.specs.NameText.{name_text, name_from_text, IsLabelText};
 ghost use Rattle.dnw_name.specs.NameInside.{labels_of, IsWire};
 
 use crate::name_ref::{self, ReadSteps};
@@ -24,6 +25,7 @@ use std::marker::Model;
 
 mod label_iter;
 pub mod laws;
+mod text;
 
 pub use label_iter::LabelIter;
 
@@ -275,11 +277,14 @@ impl Name {
     }
 
     /// The text that shows the name: its labels with a dot between them, and one at the end where it is fully
-    /// qualified.
+    /// qualified. It reads back as the name where each label can be written as it stands.
     pub fn to_ascii(&self, alloc: Global) -> ProtoResult<String>
         ensures ok { IfOk result (λ text. string_bytes text ≡ name_text self.now) }
+        ensures reads_back { AllByRecursion IsLabelText self.now.labels → IfOk result (λ text. name_from_text (chars (string_bytes text)) ≡ Ok self.now) }
         ensures err { IfErr result (λ e. e ≡ ProtoError.Memory) }
     {
+        // The proof reads here that the labels fit together.
+        let _ = &self.wire;
         Ok(self.to_string(alloc)?)
     }
 }

@@ -1,0 +1,25 @@
+//! `dnswire` writes a name as octets, and reads one from a message.
+#![tactic(auto)]
+
+mod answer;
+
+use std::env;
+use std::io;
+use std::process::ExitCode;
+use std::rt::Env;
+
+fn run<R: Env + Print + AllocGlobal>(rt: &R) -> io::Result<u8> {
+    let alloc = rt.alloc();
+    let mut words = Vec::new(alloc);
+    for word in env::args(rt)?.skip(1) {
+        words.push(word)?;
+    }
+    answer::answer(alloc, words.as_slice(), &mut io::writer(rt))
+}
+
+fn main(rt: HostRuntime) -> ExitCode {
+    match run(&rt) {
+        Ok(status) => ExitCode::from(status),
+        Err(_) => ExitCode::FAILURE,
+    }
+}
