@@ -103,3 +103,6 @@ fn octets(alloc: Global, text: &str) -> Result<Vec<u8>, Refusal> {
         _ => Refusal::Usage,
     })
 }
+
+#[cfg(test)]
+mod tests;

@@ -3,10 +3,9 @@
 
 mod answer;
 
-use std::env;
-use std::io;
 use std::process::ExitCode;
 use std::rt::Env;
+use std::{env, io};
 
 fn run<R: Env + Print + AllocGlobal>(rt: &R) -> io::Result<u8> {
     let alloc = rt.alloc();

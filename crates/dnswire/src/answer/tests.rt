@@ -1,0 +1,62 @@
+use super::answer;
+use std::test::Fail;
+
+const USAGE: &str = "usage: dnswire whole NAME | read START HEX | names NAME..\n";
+
+/// Words, what is written, and the status.
+const ANSWERS: [(&[&str], &str, u8); 22] = [
+    (&["whole", "a.bc."], "016102626300\n", 0),
+    (&["whole", "a.bc"], "016102626300\n", 0),
+    (&["whole", "."], "00\n", 0),
+    (&["whole", ""], "00\n", 0),
+    (&["read", "0", "016102626300"], "a.bc. 6\n", 0),
+    (&["read", "00", "00"], ". 1\n", 0),
+    (&["read", "5", "01620161000162C002"], "b.a. 9\n", 0),
+    (&["read", "5", "01620161000162c002"], "b.a. 9\n", 0),
+    (&["read", "0", "022d2100"], "\\-\\!. 4\n", 0),
+    (
+        &["read", "1", "00"],
+        "refused: unexpected end of input reached\n",
+        1,
+    ),
+    (
+        &["read", "0", ""],
+        "refused: unexpected end of input reached\n",
+        1,
+    ),
+    (
+        &["read", "0", "40"],
+        "refused: unrecognized label code: 1000000\n",
+        1,
+    ),
+    (
+        &["read", "0", "0141C000"],
+        "refused: label points to data not prior to idx: 2 ptr: 0\n",
+        1,
+    ),
+    (&["whole", "\\"], "refused: unfinished escape\n", 1),
+    (&["whole", "a..b"], "refused: Malformed label: \n", 1),
+    (&["read", "2", "00"], USAGE, 2),
+    (&["read", "0", "0"], USAGE, 2),
+    (&["read", "+0", "00"], USAGE, 2),
+    (&["read", "", "00"], USAGE, 2),
+    (&["read", "99999999999999999999999999", "00"], USAGE, 2),
+    (&["whole"], USAGE, 2),
+    (&[], USAGE, 2),
+];
+
+#[test]
+fn answers(rt: HostRuntime) -> Result<(), Fail> {
+    let alloc = rt.alloc();
+    for (asked, want, status) in ANSWERS {
+        let mut words = Vec::new(alloc);
+        for word in asked {
+            words.push(String::from_str(alloc, word)?)?;
+        }
+        let mut out = Vec::new(alloc);
+        let got = answer(alloc, words.as_slice(), &mut out)?;
+        assert_eq!(rt; str::from_utf8(out.as_slice())?, want, "{asked:?}");
+        assert_eq!(rt; got, status, "{asked:?}");
+    }
+    Ok(())
+}

@@ -1,0 +1,40 @@
+//! What the tests share.
+
+use dns_names_wire::decoder::BinDecoder;
+use dns_names_wire::error::ProtoResult;
+use dns_names_wire::name::Name;
+use std::alloc::Global;
+use std::test::Fail;
+
+/// Skips to a place of a message.
+pub fn skip(decoder: &mut BinDecoder<'_>, start: usize) -> Result<(), Fail> {
+    let skipped = decoder
+        .read_slice(start)
+        .map_err(|_| "the place is past the message")?;
+    let _ = skipped.unverified();
+    Ok(())
+}
+
+/// What reading at a place answers: the name's text and where its octets end, or the error, and the cursor then.
+pub fn read_at(alloc: Global, message: &[u8], start: usize) -> Result<String, Fail> {
+    let mut decoder = BinDecoder::new(message);
+    skip(&mut decoder, start)?;
+    match Name::read(alloc, &mut decoder) {
+        Ok(name) => {
+            let end = decoder.index();
+            Ok(format!(in alloc; "{name} {end}")?)
+        }
+        Err(e) => {
+            let at = decoder.index();
+            Ok(format!(in alloc; "{e:?} at {at}")?)
+        }
+    }
+}
+
+/// The text of a name, or of its error.
+pub fn told(alloc: Global, answer: ProtoResult<Name>) -> Result<String, Fail> {
+    Ok(match answer {
+        Ok(name) => format!(in alloc; "{name:?} {}", name.is_fqdn())?,
+        Err(e) => format!(in alloc; "{e:?}")?,
+    })
+}

@@ -1,0 +1,17 @@
+//! Tests that cross crates: worked examples, hostile messages, error texts, and every call that takes memory.
+//!
+//! Expected values come from the RFCs, from worked examples by hand, or from the Rust that the library ports.
+#![tactic(auto)]
+
+#[cfg(test)]
+mod errors;
+#[cfg(test)]
+mod helpers;
+#[cfg(test)]
+mod labels;
+#[cfg(test)]
+mod names;
+#[cfg(test)]
+mod reading;
+#[cfg(test)]
+mod texts;
