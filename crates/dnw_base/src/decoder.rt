@@ -1,9 +1,11 @@
 //! A cursor over the bytes of a message.
-ghost use Rattle.std.specs.Prelude.{◌≡◌, ℕ, ◌+◌, ◌-◌, ◌≤◌, ◌↔◌, List, length, IsTrue, IsOk, IfOk, IfErr, OnOk, OnErr, slice_get, slice_index, slice_range};
+ghost use Rattle.std.specs.Prelude.{◌≡◌, ℕ, ◌+◌, ◌-◌, ◌≤◌, ◌↔◌, List, length, IsTrue, IsOk, IfOk, IfErr, OnOk, OnErr, IsErrOf, ◌⊎◌, Some, slice_get, slice_index, slice_range};
+ghost use Rattle.std.specs.Int.{w16, w32, from_be_bytes, cast_signed};
 ghost use Rattle.dnw_base.specs.Decoder.{Decoder, HasLeft, next_bytes, moved};
 
 use crate::error::DecodeError;
 use crate::restrict::Restrict;
+use std::alloc::Global;
 use std::marker::Model;
 
 /// Reads a message from the left. What it lends lives as long as the message.
@@ -137,5 +139,103 @@ impl<'a> BinDecoder<'a> {
         let read = &self.buffer[self.index..self.index + len];
         self.index += len;
         Ok(Restrict::new(read))
+    }
+
+    /// Reads `len` bytes into a vector of its own. Where there is no memory the decoder is as before.
+    pub fn read_vec(&mut self, alloc: Global, len: usize) -> Result<Restrict<Vec<u8>>, DecodeError>
+        ensures enough { IsOk result → HasLeft self.old len }
+        ensures bytes { IfOk result (λ read. read.items ≡ next_bytes self.old len) }
+        ensures moved { OnOk result (self.new ≡ moved self.old len) }
+        ensures insufficient { IsErrOf result DecodeError.InsufficientBytes ↔ ¬ (HasLeft self.old len) }
+        ensures error { IfErr result (λ e. (e ≡ DecodeError.InsufficientBytes) ⊎ (e ≡ DecodeError.Memory)) }
+        ensures same { OnErr result (self.new ≡ self.old) }
+    {
+        if len > self.buffer.len() - self.index {
+            return Err(DecodeError::InsufficientBytes);
+        }
+        let end = self.index + len;
+        let read = Vec::from_slice(alloc, &self.buffer[self.index..end])?;
+        self.index = end;
+        Ok(Restrict::new(read))
+    }
+
+    /// What was read from an index on, up to the cursor.
+    pub fn slice_from(&self, index: usize) -> Result<&'a [u8], DecodeError>
+        ensures enough { IsOk result ↔ (index ≤ self.now.index) }
+        ensures bytes { IfOk result (λ read. read.now ≡ slice_range self.now.bytes index self.now.index) }
+        ensures error { IfErr result (λ e. e ≡ DecodeError.InvalidPreviousIndex) }
+    {
+        if index > self.index {
+            return Err(DecodeError::InvalidPreviousIndex);
+        }
+        Ok(&self.buffer[index..self.index])
+    }
+
+    /// Reads one byte, as `pop` does.
+    #[inline(always)]
+    pub fn read_u8(&mut self) -> Result<Restrict<u8>, DecodeError>
+        ensures enough { IsOk result ↔ HasLeft self.old 1 }
+        ensures byte { IfOk result (λ byte. slice_get self.old.bytes self.old.index ≡ Some byte) }
+        ensures moved { OnOk result (self.new ≡ moved self.old 1) }
+        ensures error { IfErr result (λ e. e ≡ DecodeError.InsufficientBytes) }
+        ensures same { OnErr result (self.new ≡ self.old) }
+    {
+        self.pop()
+    }
+
+    /// Reads a number of two bytes, the high one first (RFC 1035, section 2.3.2).
+    #[inline(always)]
+    pub fn read_u16(&mut self) -> Result<Restrict<u16>, DecodeError>
+        ensures enough { IsOk result ↔ HasLeft self.old 2 }
+        ensures number { IfOk result (λ n. n ≡ from_be_bytes w16 (next_bytes self.old 2)) }
+        ensures moved { OnOk result (self.new ≡ moved self.old 2) }
+        ensures error { IfErr result (λ e. e ≡ DecodeError.InsufficientBytes) }
+        ensures same { OnErr result (self.new ≡ self.old) }
+    {
+        let bytes = self.read_array::<2>()?;
+        Ok(Restrict::new(u16::from_be_bytes(bytes)))
+    }
+
+    /// Reads a signed number of four bytes, the highest first.
+    #[inline(always)]
+    pub fn read_i32(&mut self) -> Result<Restrict<i32>, DecodeError>
+        ensures enough { IsOk result ↔ HasLeft self.old 4 }
+        ensures number { IfOk result (λ n. n ≡ cast_signed w32 (from_be_bytes w32 (next_bytes self.old 4))) }
+        ensures moved { OnOk result (self.new ≡ moved self.old 4) }
+        ensures error { IfErr result (λ e. e ≡ DecodeError.InsufficientBytes) }
+        ensures same { OnErr result (self.new ≡ self.old) }
+    {
+        let bytes = self.read_array::<4>()?;
+        Ok(Restrict::new(u32::from_be_bytes(bytes).cast_signed()))
+    }
+
+    /// Reads a number of four bytes, the highest first.
+    #[inline(always)]
+    pub fn read_u32(&mut self) -> Result<Restrict<u32>, DecodeError>
+        ensures enough { IsOk result ↔ HasLeft self.old 4 }
+        ensures number { IfOk result (λ n. n ≡ from_be_bytes w32 (next_bytes self.old 4)) }
+        ensures moved { OnOk result (self.new ≡ moved self.old 4) }
+        ensures error { IfErr result (λ e. e ≡ DecodeError.InsufficientBytes) }
+        ensures same { OnErr result (self.new ≡ self.old) }
+    {
+        let bytes = self.read_array::<4>()?;
+        Ok(Restrict::new(u32::from_be_bytes(bytes)))
+    }
+
+    /// Reads `N` bytes.
+    #[inline(always)]
+    fn read_array<const N: usize>(&mut self) -> Result<[u8; N], DecodeError>
+        ensures enough { IsOk result ↔ HasLeft self.old N }
+        ensures bytes { IfOk result (λ read. read ≡ next_bytes self.old N) }
+        ensures moved { OnOk result (self.new ≡ moved self.old N) }
+        ensures error { IfErr result (λ e. e ≡ DecodeError.InsufficientBytes) }
+        ensures same { OnErr result (self.new ≡ self.old) }
+    {
+        if self.buffer.len() - self.index < N {
+            return Err(DecodeError::InsufficientBytes);
+        }
+        let read = &self.buffer[self.index..self.index + N];
+        self.index += N;
+        Ok(*read.first_chunk::<N>().unwrap())
     }
 }

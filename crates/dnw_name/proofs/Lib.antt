@@ -14,4 +14,5 @@ pub mod Takes
 pub mod Copying
 pub mod TextReading
 pub mod ByteTexts
+pub mod Qualified
 pub mod ReadBack

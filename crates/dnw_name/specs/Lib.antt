@@ -5,5 +5,6 @@ pub mod TextReader
 pub mod NameInside
 pub mod Reading
 pub mod ReadingLaws
+pub mod Decodable
 pub mod Walking
 pub mod NameRefInside

@@ -1,5 +1,6 @@
 //! Names.
 #![tactic(auto)]
 
+pub mod binary;
 pub mod name;
 mod name_ref;
