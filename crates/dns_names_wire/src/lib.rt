@@ -3,6 +3,11 @@
 //! Each module shows what users of this layer call. What its contracts speak of stands in the crates below.
 #![tactic(auto)]
 
+/// What is read from messages.
+pub mod binary {
+    pub use dnw_name::binary::BinDecodable;
+}
+
 /// A cursor over the bytes of a message.
 pub mod decoder {
     pub use dnw_base::decoder::BinDecoder;
@@ -25,5 +30,5 @@ pub mod name {
 
 /// Values that came from a stranger.
 pub mod restrict {
-    pub use dnw_base::restrict::Restrict;
+    pub use dnw_base::restrict::{Restrict, RestrictedMath, Verified};
 }

@@ -4,6 +4,8 @@
 #![tactic(auto)]
 
 #[cfg(test)]
+mod decoding;
+#[cfg(test)]
 mod errors;
 #[cfg(test)]
 mod helpers;
