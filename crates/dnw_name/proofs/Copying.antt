@@ -4,11 +4,13 @@ use Rattle.std.proofs.Math.Seq.{take-add}
 use Rattle.std.proofs.lemmas.List.{drop-drop}
 use Rattle.std.proofs.lemmas.List.Edits.{length-between, between_more}
 use Rattle.std.proofs.lemmas.Option.{get_or_from_slice_get, slice_get_within}
-use Rattle.dnw_name.specs.Names.{wire}
+use Rattle.dnw_name.specs.Names.{label_wire, wire}
 use Rattle.dnw_name.specs.Reading.{target, Reads, zero_octet, label, pointer}
 use Rattle.dnw_name.specs.NameRefInside.{labels_at, StandsAt, Copies}
 use Rattle.dnw_name.proofs.Sizes.{length-label}
 use Rattle.dnw_name.proofs.Wires.{wire-cons, length-wire}
+use Rattle.dnw_name.proofs.Counts.{Reads-own}
+use Rattle.dnw_name.proofs.Behind.{Reads-inside, Reads-end, BehindLabel, Reads-label, Reads-pointer}
 
 -- a part is its front and the rest
 slice_range-split : (b : List ℕ) (i j k : ℕ) → i ≤ j → j ≤ k → slice_range b i k ≡ slice_range b i j ++ slice_range b j k
@@ -25,64 +27,46 @@ slice_range-one b p c g =
     let more : slice_range b p (p + 1) ≡ take (p - p) (drop p b) ++ get_or b p 0 ∷ [] = between_more b p p 0 (omega arith) (slice_get_within b p c g) in
     more ∙ rw (none, get_or_from_slice_get b p c 0 g) refl
 
--- an element lies within the message
-pub Reads-inside : {b : List ℕ} {p s e k : ℕ} {limit : Option ℕ} {ls : List (List ℕ)} → Reads b p s limit ls e k → p < length b
-Reads-inside {b} {p} (zero_octet w g) = slice_get_within b p 0 g
-Reads-inside (label c w g one most fit r) = omega arith
-Reads-inside {b} {p} (pointer high low w g least g' prior r) = slice_get_within b p high g
-
--- at a zero octet the name ends
-Reads-end : {b : List ℕ} {p s e k : ℕ} {limit : Option ℕ} {ls : List (List ℕ)} → Reads b p s limit ls e k → get_or b p 0 ≡ 0
-    → (ls ≡ []) × (slice_get b p ≡ Some 0)
-Reads-end (zero_octet w g) z = (refl, g)
-Reads-end {b} {p} (label c w g one most fit r) z = absurd (omega (arith, get_or_from_slice_get b p c 0 g))
-Reads-end {b} {p} (pointer high low w g least g' prior r) z = absurd (omega (arith, get_or_from_slice_get b p high 0 g))
-
--- behind a label
-record BehindLabel (b : List ℕ) (p c s : ℕ) (limit : Option ℕ) (ls : List (List ℕ)) (e k : ℕ) : Type 0 where
-  rest : List (List ℕ)
-  there : p + 1 + c ≤ length b
-  form : slice_range b p (p + 1 + c) ++ wire rest ≡ wire ls
-  reads : Reads b (p + 1 + c) s limit rest e k
-
-Reads-label : {b : List ℕ} {p s e k : ℕ} {limit : Option ℕ} {ls : List (List ℕ)} → Reads b p s limit ls e k
-    → (get_or b p 0 ≡ 0 → ⊥) → get_or b p 0 < 192 → BehindLabel b p (get_or b p 0) s limit ls e k
-Reads-label {b} {p} (zero_octet w g) ne less = absurd (ne (get_or_from_slice_get b p 0 0 g))
-Reads-label {b} {p} (label {ls = rest} c w g one most fit r) ne less =
-    let octet = get_or_from_slice_get b p c 0 g in
+-- a label's own octets are its form
+label-octets : (b : List ℕ) (p c : ℕ) → slice_get b p ≡ Some c → p + 1 + c ≤ length b
+    → slice_range b p (p + 1 + c) ≡ label_wire (slice_range b (p + 1) (p + 1 + c))
+label-octets b p c g fit =
     let text : List ℕ = slice_range b (p + 1) (p + 1 + c) in
-    let first : slice_range b p (p + 1 + c) ≡ c ∷ text = slice_range-split b p (p + 1) (p + 1 + c) (omega arith) (omega arith) ∙ ap (λ (front : List ℕ). front ++ text) (slice_range-one b p c g) in
-    rw octet (record {
-      rest = rest;
-      there = fit;
-      form = ap (λ (front : List ℕ). front ++ wire rest) first ∙ ap (λ (n : ℕ). n ∷ (text ++ wire rest)) (sym (length-label b p c fit)) ∙ sym (wire-cons text rest);
-      reads = r;
-    })
-Reads-label {b} {p} (pointer high low w g least g' prior r) ne less = absurd (omega (arith, get_or_from_slice_get b p high 0 g))
+    slice_range-split b p (p + 1) (p + 1 + c) (omega arith) (omega arith) ∙ ap (λ (front : List ℕ). front ++ text) (slice_range-one b p c g)
+    ∙ ap (λ (n : ℕ). n ∷ text) (sym (length-label b p c fit))
 
--- behind a pointer
-record BehindPointer (b : List ℕ) (p s : ℕ) (ls : List (List ℕ)) : Type 0 where
-  to : ℕ
-  end : ℕ
-  followed : ℕ
-  leads : target (get_or b p 0) (get_or b (p + 1) 0) ≡ to
-  there : p + 1 < length b
-  prior : to < s
-  reads : Reads b to to (Some s) ls end followed
+-- before the form of what follows they are the form of both
+label-form : {b : List ℕ} {p c s e k : ℕ} {limit : Option ℕ} {ls : List (List ℕ)} → (h : BehindLabel b p c s limit ls e k)
+    → slice_range b p (p + 1 + c) ++ wire h.rest ≡ wire ls
+label-form {b} {p} {c} h =
+    ap (λ (front : List ℕ). front ++ wire h.rest) (label-octets b p c h.octet h.there)
+    ∙ sym (wire-cons (slice_range b (p + 1) (p + 1 + c)) h.rest) ∙ ap wire (sym h.labels)
 
-Reads-pointer : {b : List ℕ} {p s e k : ℕ} {limit : Option ℕ} {ls : List (List ℕ)} → Reads b p s limit ls e k
-    → 192 ≤ get_or b p 0 → BehindPointer b p s ls
-Reads-pointer {b} {p} (zero_octet w g) high = absurd (omega (arith, get_or_from_slice_get b p 0 0 g))
-Reads-pointer {b} {p} (label c w g one most fit r) high = absurd (omega (arith, get_or_from_slice_get b p c 0 g))
-Reads-pointer {b} {p} (pointer {e = end} {k = followed} high low w g least g' prior r) marked = record {
-  to = target high low;
-  end = end;
-  followed = followed;
-  leads = rw (get_or_from_slice_get b p high 0 g, get_or_from_slice_get b (p + 1) low 0 g') refl;
-  there = slice_get_within b (p + 1) low g';
-  prior = prior;
-  reads = r;
-}
+-- where no pointer is followed, a name's own octets are its uncompressed form
+Reads-plain : {b : List ℕ} {p s e k : ℕ} {limit : Option ℕ} {ls : List (List ℕ)} → Reads b p s limit ls e k → k ≡ 0
+    → slice_range b p e ≡ wire ls
+Reads-plain {b} {p} (zero_octet w g) none = slice_range-one b p 0 g
+Reads-plain {b} {p} (label {e = end} {ls = rest} c w g one most fit r) none =
+    let (behind, _) = Reads-own r in
+    let text : List ℕ = slice_range b (p + 1) (p + 1 + c) in
+    slice_range-split b p (p + 1 + c) end (omega arith) (omega arith)
+    ∙ ap (λ (more : List ℕ). slice_range b p (p + 1 + c) ++ more) (Reads-plain r none)
+    ∙ ap (λ (front : List ℕ). front ++ wire rest) (label-octets b p c g fit) ∙ sym (wire-cons text rest)
+Reads-plain (pointer high low w g least g' prior r) none = absurd (omega arith)
+
+-- such a name stands in one piece
+pub record InOnePiece (b : List ℕ) (p e : ℕ) : Type 0 where
+  pub order : p ≤ e
+  pub inside : e ≤ length b
+  pub form : slice_range b p e ≡ wire (labels_at b p)
+  pub short : length (slice_range b p e) ≤ 255
+
+pub StandsAt-plain : {b : List ℕ} {p e size count k : ℕ} → StandsAt b p e size count k → k ≡ 0 → InOnePiece b p e
+StandsAt-plain {b} {p} h none =
+    let (behind, inside) = Reads-own h.name.reads in
+    let form = Reads-plain h.name.reads none in
+    let fits = h.name.fits in
+    record { order = omega arith; inside = inside; form = form; short = omega (arith, ap length form, length-wire (labels_at b p)) }
 
 -- the copy of a name begins
 pub Copies-start : (b : List ℕ) (p end size count pointers : ℕ) → StandsAt b p end size count pointers → Copies b p p p []
@@ -103,6 +87,10 @@ Copies-start b p end size count pointers h =
     }
 
 module _ {b : List ℕ} {start run p : ℕ} {written : List ℕ} (h : Copies b start run p written) where
+  -- the run that is still to be written
+  pub Copies-run : length (slice_range b run p) ≡ p - run
+  Copies-run = let inside = Reads-inside h.reads in length-between b run p (omega arith)
+
   -- what is to be written fits
   pub Copies-fits : length written + (p - run) + length (wire h.labels) ≤ 255
   Copies-fits =
@@ -135,7 +123,7 @@ module _ {b : List ℕ} {start run p : ℕ} {written : List ℕ} (h : Copies b s
           order = omega arith;
           back = h.back;
           whole = ap (λ (part : List ℕ). written ++ (part ++ wire behind.rest)) split
-              ∙ ap (λ (part : List ℕ). written ++ part) (append_assoc (slice_range b run p) (slice_range b p (p + 1 + c)) (wire behind.rest) ∙ ap (λ (part : List ℕ). slice_range b run p ++ part) behind.form)
+              ∙ ap (λ (part : List ℕ). written ++ part) (append_assoc (slice_range b run p) (slice_range b p (p + 1 + c)) (wire behind.rest) ∙ ap (λ (part : List ℕ). slice_range b run p ++ part) (label-form behind))
               ∙ h.whole;
           short = h.short;
         },
@@ -143,11 +131,11 @@ module _ {b : List ℕ} {start run p : ℕ} {written : List ℕ} (h : Copies b s
       )
 
   -- a pointer is followed, and the run before it is written
-  pub Copies-pointer : (to : ℕ) → target (get_or b p 0) (get_or b (p + 1) 0) ≡ to → 192 ≤ get_or b p 0
+  pub Copies-pointer : (to : ℕ) → to ≡ target (get_or b p 0) (get_or b (p + 1) 0) → 192 ≤ get_or b p 0
       → Copies b start to to (written ++ slice_range b run p) × (to < run)
   Copies-pointer to leads marked =
       let behind = Reads-pointer h.reads marked in
-      let same : behind.to ≡ to = sym behind.leads ∙ leads in
+      let same : behind.to ≡ to = sym (leads ∙ behind.leads) in
       let none : to - to ≡ 0 = omega arith in
       let prior = behind.prior in
       let back = h.back in (

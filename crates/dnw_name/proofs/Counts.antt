@@ -14,7 +14,13 @@ target-below : (b : List ℕ) (p high low : ℕ) → AreBytes b → slice_get b 
 target-below b p high low bytes g g' =
     omega (arith, bytes p, bytes (p + 1), get_or_from_slice_get b p high 0 g, get_or_from_slice_get b (p + 1) low 0 g')
 
--- each pointer leads before the start of its segment; explicit: that all are bytes, and the reading
+-- each pointer leads before the start of its segment; explicit: the reading
+pub Reads-back : {b : List ℕ} {p s e k : ℕ} {limit : Option ℕ} {ls : List (List ℕ)} → Reads b p s limit ls e k → k ≤ s
+Reads-back (zero_octet w g) = omega arith
+Reads-back (label c w g one most fit r) = Reads-back r
+Reads-back (pointer high low w g least g' prior r) = omega (arith, Reads-back r)
+
+-- and in bytes to one of the first 16384 octets; explicit: that all are bytes, and the reading
 pub Reads-pointers : {b : List ℕ} {p s e k : ℕ} {limit : Option ℕ} {ls : List (List ℕ)} → AreBytes b
     → Reads b p s limit ls e k → (k ≤ s) × (k ≤ 16384)
 Reads-pointers bytes (zero_octet w g) = (omega arith, omega arith)

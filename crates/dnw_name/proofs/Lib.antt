@@ -11,8 +11,12 @@ pub mod Joined
 pub mod Going
 pub mod Found
 pub mod Takes
+pub mod Behind
 pub mod Copying
+pub mod Lending
+pub mod Comparing
 pub mod TextReading
 pub mod ByteTexts
 pub mod Qualified
+pub mod LowerWires
 pub mod ReadBack

@@ -1,6 +1,6 @@
 -- What stands in a message as a value of a type: numbers with the high octet first (RFC 1035, section 2.3.2), names
 -- by the reading relation.
-use Rattle.std.specs.Prelude.{◌≡◌, ℕ, ℤ, Bool, true, IsTrue}
+use Rattle.std.specs.Prelude.{◌≡◌, ℕ, ℤ, true}
 use Rattle.std.specs.Int.{w16, w32, from_be_bytes, cast_signed}
 use Rattle.dnw_base.specs.Decoder.{Decoder, HasLeft, next_bytes, moved}
 use Rattle.dnw_base.specs.declared.error.DecodeError.{DecodeError}

@@ -1,5 +1,5 @@
 -- How a `NameRef` is kept: the message, and where its name stands. No public clause cites this module.
-use Rattle.std.specs.Prelude.{◌≡◌, ℕ, zero, suc, ◌+◌, ◌≤◌, ◌==◌, nat_le, if◌then◌else◌, Option, List, [], ◌∷◌, ◌++◌, length, slice_index, slice_range}
+use Rattle.std.specs.Prelude.{◌≡◌, ℕ, zero, suc, ◌+◌, ◌<◌, ◌≤◌, ◌==◌, nat_le, if◌then◌else◌, Option, List, [], ◌∷◌, ◌++◌, length, slice_index, slice_range}
 use Rattle.dnw_name.specs.Names.{encoded_size, wire}
 use Rattle.dnw_name.specs.Reading.{target, Reads, NameAt}
 
@@ -34,3 +34,24 @@ pub record Copies (b : List ℕ) (start run position : ℕ) (written : List ℕ)
   pub back : segment ≤ run
   pub whole : written ++ (slice_range b run position ++ wire labels) ≡ wire (labels_at b start)
   pub short : length (wire (labels_at b start)) ≤ 255
+
+-- Labels are read at p, in a segment that began there or before.
+pub record MoreAt (b : List ℕ) (p : ℕ) : Type 0 where
+  pub segment : ℕ
+  pub limit : Option ℕ
+  pub end : ℕ
+  pub pointers : ℕ
+  pub reads : Reads b p segment limit (labels_at b p) end pointers
+  pub back : segment ≤ p
+  pub few : length (labels_at b p) ≤ 127
+
+-- Pointers lead from p to t, where a label or the end of the name stands.
+pub record LeadsTo (b : List ℕ) (p t : ℕ) : Type 0 where
+  pub more : MoreAt b t
+  pub same : labels_at b t ≡ labels_at b p
+  pub last : slice_index b t < 192
+
+-- So many labels are left to be read at p.
+pub record IsLeftAt (b : List ℕ) (p left : ℕ) : Type 0 where
+  pub more : MoreAt b p
+  pub counted : left ≡ length (labels_at b p)

@@ -1,6 +1,6 @@
-//! Names.
+//! Names, and names that stand in a message.
 #![tactic(auto)]
 
 pub mod binary;
 pub mod name;
-mod name_ref;
+pub mod name_ref;

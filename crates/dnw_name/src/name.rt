@@ -1,5 +1,5 @@
 //! Domain names.
-ghost use Rattle.std.specs.Prelude.{◌≡◌, ◌≢◌, ℕ, ◌+◌, ◌-◌, ◌*◌, ◌<◌, ◌≤◌, ◌↔◌, Bool, true, false, ◌==◌, ◌||◌, if◌then◌else◌, List, [], ◌∷◌, ◌++◌, length, map, Some, Ok, Result, IsTrue, IsOk, IfOk, IfErr, OnOk, OnErr, IsErrOf, IsOkAnd, string_bytes, sum_by};
+ghost use Rattle.std.specs.Prelude.{◌≡◌, ◌≢◌, ℕ, ◌+◌, ◌-◌, ◌*◌, ◌<◌, ◌≤◌, ◌↔◌, Bool, true, false, ◌==◌, ◌||◌, if◌then◌else◌, List, [], ◌∷◌, ◌++◌, length, map, min, Some, Ok, Result, IsTrue, IsOk, IfOk, IfErr, OnOk, OnErr, IsErrOf, IsOkAnd, string_bytes, sum_by};
 ghost use Rattle.std.specs.List.{AllByRecursion, join_with_byte};
 ghost use Rattle.std.specs.Str.{chars};
 ghost use Rattle.arrayvec.specs.ArrayString.{array_string_len};
@@ -8,12 +8,12 @@ ghost use Rattle.dnw_base.specs.Labels.{IsLabel};
 ghost use Rattle.dnw_base.specs.Decoder.{Decoder};
 ghost use Rattle.dnw_name.specs.Reading.{TakesName, StopsAt};
 ghost use Rattle.dnw_base.specs.LabelText.{label_text, asterisk, dot};
-ghost use Rattle.dnw_name.specs.Names.{NameValue, AreLabels, encoded_size, IsWildcard, wire};
+ghost use Rattle.dnw_name.specs.Names.{NameValue, AreLabels, encoded_size, IsWildcard, lower, wire};
 ghost use Rattle.dnw_name.specs.Edits.{with_label, with_labels, append_label, append_name, append_domain};
 ghost use Rattle.dnw_name.specs.NameText.{name_text, name_from_text, IsLabelText};
 ghost use Rattle.dnw_name.specs.NameInside.{labels_of, IsWire};
 
-use crate::name_ref::{self, ReadSteps};
+use crate::name_ref::{NameRef, ReadSteps};
 use arrayvec::ArrayString;
 use dnw_base::decoder::BinDecoder;
 use dnw_base::error::{DecodeError, ProtoError, ProtoResult};
@@ -114,7 +114,32 @@ impl Name {
         ensures no_memory { IsErrOf result DecodeError.Memory → ⊥ }
     {
         let mut steps = ReadSteps::default();
-        name_ref::read_name(alloc, decoder, &mut steps)
+        Name::read_counted(alloc, decoder, &mut steps)
+    }
+
+    /// Reads as `read` does, and tells how many steps it took, also where it is refused.
+    pub fn read_counted(
+        alloc: Global,
+        decoder: &mut BinDecoder<'_>,
+        steps: &mut ReadSteps,
+    ) -> Result<Self, DecodeError>
+        ensures ok { IfOk result (λ name. IsTrue name.is_fqdn × TakesName decoder.old decoder.new name.labels steps.new.pointers
+            × (steps.new.labels ≡ length name.labels)) }
+        ensures err { IfErr result (λ e. StopsAt decoder.old e steps.new.pointers steps.new.labels) }
+        ensures same { OnErr result (decoder.new ≡ decoder.old) }
+
+        // What the definition accepts is accepted, and what it refuses is refused.
+        ensures accepts { (after : Decoder) (ls : List (List ℕ)) (k : ℕ) → TakesName decoder.old after ls k
+            → IsOkAnd result (λ name. name ≡ record { is_fqdn = true; labels = ls }) × (decoder.new ≡ after) }
+        ensures refuses { (error : DecodeError) (k j : ℕ) → StopsAt decoder.old error k j → IsErrOf result error }
+        ensures no_memory { IsErrOf result DecodeError.Memory → ⊥ }
+
+        // Every reading takes few steps.
+        ensures few_pointers { steps.new.pointers ≤ min decoder.old.index 16384 }
+        ensures few_labels { steps.new.labels ≤ 128 }
+    {
+        let name = NameRef::read_counted(decoder, steps)?;
+        Ok(name.copied(alloc))
     }
 
     /// Whether this is the root: fully qualified and without labels.
@@ -144,6 +169,31 @@ impl Name {
         ensures { self.new ≡ record { is_fqdn = val; labels = self.old.labels } }
     {
         self.is_fqdn = val;
+    }
+
+    /// The name with its ASCII letters in lower case (RFC 4343). It takes no memory.
+    pub fn to_lowercase(&self) -> Self
+        ensures { result ≡ record { is_fqdn = self.now.is_fqdn; labels = lower self.now.labels } }
+    {
+        Name {
+            is_fqdn: self.is_fqdn,
+            wire: self.lower_wire(),
+        }
+    }
+
+    /// The uncompressed form in lower case.
+    fn lower_wire(&self) -> SmallVec<u8, 255>
+        ensures form { result.items ≡ wire (lower self.now.labels) }
+        ensures labels { AreLabels (lower self.now.labels) }
+        ensures inline { result.capacity ≡ 255 }
+    {
+        let mut lowered = SmallVec::from_slice(
+            *self.wire.allocator(),
+            self.wire.as_slice(),
+        ).unwrap();
+        // Length octets are no letters.
+        lowered.as_mut_slice().make_ascii_lowercase();
+        lowered
     }
 
     /// The labels from the left, as their bytes.
@@ -255,14 +305,6 @@ impl Name {
         ensures { result.now ≡ wire self.now.labels }
     {
         self.wire.as_slice()
-    }
-
-    /// The uncompressed form as a vector of its own.
-    pub fn to_bytes(&self, alloc: Global) -> ProtoResult<Vec<u8>>
-        ensures ok { IfOk result (λ bytes. bytes.items ≡ wire self.now.labels) }
-        ensures err { IfErr result (λ e. e ≡ ProtoError.Memory) }
-    {
-        Ok(Vec::from_slice(alloc, self.wire.as_slice())?)
     }
 
     /// The same name once more. It takes no memory.

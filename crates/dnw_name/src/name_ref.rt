@@ -1,7 +1,8 @@
 //! Names that stand in a message, and are walked without copying.
-ghost use Rattle.std.specs.Prelude.{◌≡◌, ℕ, List, ◌+◌, ◌≤◌, true, min, length, Ok, IsTrue, IfOk, IfErr, OnErr, IsErrOf, IsOkAnd};
+ghost use Rattle.std.specs.Prelude.{◌≡◌, ℕ, List, ◌+◌, ◌≤◌, ◌↔◌, true, min, [], length, Ok, IsTrue, IfOk, IfErr, OnErr, IsErrOf, IsOkAnd};
 ghost use Rattle.dnw_base.specs.Decoder.{Decoder};
 ghost use Rattle.dnw_name.specs.Reading.{TakesName, StopsAt};
+ghost use Rattle.dnw_name.specs.Names.{AreLabels, IsZoneOf, encoded_size, lower, wire};
 ghost use Rattle.dnw_name.specs.NameRefInside.{labels_at, StandsAt};
 
 use crate::name::Name;
@@ -11,9 +12,12 @@ use smallvec::SmallVec;
 use std::alloc::Global;
 use std::marker::Model;
 
+mod compare;
 mod copy;
+mod ref_labels;
 mod walk;
 
+pub use ref_labels::RefLabels;
 pub use walk::ReadSteps;
 
 /// A name that stands in a message. It lends its labels from the message and takes no memory.
@@ -31,6 +35,7 @@ pub struct NameRef<'a> {
 
 impl<'a> Model for NameRef<'a> {
     ghost use Rattle.std.specs.Prelude.{List, ℕ};
+    ghost use Rattle.dnw_name.specs.Names.{AreLabels, IsZoneOf, encoded_size, lower, wire};
     ghost use Rattle.dnw_name.specs.NameRefInside.{labels_at, StandsAt};
 
     ghost Value = { List (List ℕ) };
@@ -90,6 +95,57 @@ impl<'a> NameRef<'a> {
         })
     }
 
+    /// The labels from the left, lent from the message.
+    #[inline(always)]
+    pub fn labels(&self) -> RefLabels<'a>
+        ensures { result ≡ self.now }
+    {
+        RefLabels::new(self.message, self.start, self.labels)
+    }
+
+    /// The number of all labels, also of a `*` in the first place.
+    #[inline(always)]
+    pub fn num_labels(&self) -> u8
+        ensures { result ≡ length self.now }
+    {
+        self.labels as u8
+    }
+
+    /// The octets of the uncompressed form.
+    #[inline(always)]
+    pub fn encoded_len(&self) -> usize
+        ensures size { result ≡ encoded_size self.now }
+        ensures labels { AreLabels self.now }
+    {
+        self.size
+    }
+
+    /// Whether this is the root: it has no labels.
+    #[inline(always)]
+    pub fn is_root(&self) -> bool
+        ensures { IsTrue result ↔ (self.now ≡ []) }
+    {
+        self.labels == 0
+    }
+
+    /// Whether `other` has the same labels, without regard to ASCII case (RFC 4343). Whether `other` is fully
+    /// qualified makes no difference.
+    pub fn eq_name(&self, other: &Name) -> bool
+        ensures { IsTrue result ↔ (lower self.now ≡ lower other.now.labels) }
+    {
+        self.encoded_len() == other.encoded_len() && compare::eq_labels(self.labels(), other.iter())
+    }
+
+    /// Whether the name lies in the zone: the last labels are those of `zone`, without regard to ASCII case
+    /// (RFC 1034, section 4.2, and RFC 4343).
+    pub fn zone_of(&self, zone: &Name) -> bool
+        ensures { IsTrue result ↔ IsZoneOf zone.now.labels self.now }
+    {
+        let zone_labels = zone.iter();
+        let last = compare::last_labels(self.labels(), zone_labels.len());
+        compare::eq_labels(last, zone_labels)
+    }
+
     /// The name as one of its own, fully qualified. It takes no memory.
     pub fn to_name(&self, alloc: Global) -> ProtoResult<Name>
         ensures { result ≡ Ok (record { is_fqdn = true; labels = self.now }) }
@@ -97,34 +153,30 @@ impl<'a> NameRef<'a> {
         Ok(self.copied(alloc))
     }
 
-    fn copied(&self, alloc: Global) -> Name
+    /// The name as one of its own, as `to_name`.
+    #[inline(always)]
+    pub(crate) fn copied(&self, alloc: Global) -> Name
         ensures { result ≡ record { is_fqdn = true; labels = self.now } }
     {
         let mut wire = SmallVec::new(alloc);
-        copy::copy_runs(&mut wire, self.message, self.start);
+        self.write_form(&mut wire);
         Name::from_wire(wire)
     }
-}
 
-/// Reads the name at the cursor into one of its own.
-pub(crate) fn read_name(
-    alloc: Global,
-    decoder: &mut BinDecoder<'_>,
-    steps: &mut ReadSteps,
-) -> Result<Name, DecodeError>
-    ensures ok { IfOk result (λ name. IsTrue name.is_fqdn × TakesName decoder.old decoder.new name.labels steps.new.pointers
-        × (steps.new.labels ≡ length name.labels)) }
-    ensures err { IfErr result (λ e. StopsAt decoder.old e steps.new.pointers steps.new.labels) }
-    ensures same { OnErr result (decoder.new ≡ decoder.old) }
-    ensures accepts { (after : Decoder) (ls : List (List ℕ)) (k : ℕ) → TakesName decoder.old after ls k
-        → IsOkAnd result (λ name. name ≡ record { is_fqdn = true; labels = ls }) × (decoder.new ≡ after) }
-    ensures refuses { (error : DecodeError) (k j : ℕ) → StopsAt decoder.old error k j → IsErrOf result error }
-    ensures few_pointers { steps.new.pointers ≤ min decoder.old.index 16384 }
-    ensures few_labels { steps.new.labels ≤ 128 }
-{
-    match NameRef::read_counted(decoder, steps) {
-        Ok(name) => Ok(name.copied(alloc)),
-        Err(e) => Err(e),
+    /// Writes the uncompressed form: in one piece where the name follows no pointer.
+    fn write_form(&self, out: &mut SmallVec<u8, 255>)
+        requires inline { out.old.capacity ≡ 255 }
+        requires empty { out.old.items ≡ [] }
+        ensures form { out.new.items ≡ wire self.now }
+        ensures labels { AreLabels self.now }
+        ensures inline { out.new.capacity ≡ 255 }
+    {
+        if self.pointers == 0 {
+            out.extend_from_slice(&self.message[self.start..self.end])
+                .unwrap();
+        } else {
+            copy::copy_runs(out, self.message, self.start);
+        }
     }
 }
 

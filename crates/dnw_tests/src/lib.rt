@@ -6,6 +6,8 @@
 #[cfg(test)]
 mod decoding;
 #[cfg(test)]
+mod encoding;
+#[cfg(test)]
 mod errors;
 #[cfg(test)]
 mod helpers;

@@ -1,6 +1,7 @@
 //! Names by their calls, and their uncompressed form.
 
 use crate::helpers::told;
+use dns_names_wire::binary::BinEncodable;
 use dns_names_wire::label::Label;
 use dns_names_wire::name::Name;
 use std::alloc::Global;

@@ -3,6 +3,7 @@ ghost use Rattle.std.specs.Prelude.{◌≡◌, ℕ, []};
 ghost use Rattle.dnw_name.specs.Names.{wire};
 ghost use Rattle.dnw_name.specs.NameRefInside.{labels_at, StandsAt};
 
+use crate::name_ref::walk;
 use smallvec::SmallVec;
 
 /// Writes the uncompressed form of the name that stands at `start`: each run of octets between two pointers in one
@@ -26,7 +27,7 @@ pub(crate) fn copy_runs(out: &mut SmallVec<u8, 255>, message: &[u8], start: usiz
             position = position + 1 + octet as usize;
         } else {
             out.extend_from_slice(&message[run..position]).unwrap();
-            run = (octet as usize - 192) * 256 + message[position + 1] as usize;
+            run = walk::pointer_target(octet, message[position + 1]);
             position = run;
         }
     }

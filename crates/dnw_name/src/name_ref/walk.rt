@@ -1,6 +1,6 @@
 //! The walk over a name's elements, which copies nothing (RFC 1035, section 4.1.4).
 ghost use Rattle.std.specs.Prelude.{◌≡◌, ℕ, List, ◌+◌, ◌<◌, ◌≤◌, min, length, slice_get, Some, IfOk, IfErr, OnOk};
-ghost use Rattle.dnw_name.specs.Reading.{IsWithin, NameAt, FaultAt};
+ghost use Rattle.dnw_name.specs.Reading.{IsWithin, NameAt, FaultAt, target};
 ghost use Rattle.dnw_name.specs.Names.{encoded_size};
 ghost use Rattle.dnw_name.specs.Walking.{IsElement, IsNoElement, IsOverlap};
 ghost use Rattle.dnw_name.specs.NameRefInside.{StandsAt};
@@ -168,7 +168,7 @@ fn pointer_at(
     if message.len() - position <= 1 {
         return Err(DecodeError::InsufficientBytes);
     }
-    let target = (high as usize - 192) * 256 + message[position + 1] as usize;
+    let target = pointer_target(high, message[position + 1]);
     if target >= segment {
         return Err(DecodeError::PointerNotPriorToLabel {
             idx: position,
@@ -176,4 +176,13 @@ fn pointer_at(
         });
     }
     Ok(Element::Pointer(target))
+}
+
+/// Where the pointer of these two octets leads: their low 14 bits.
+#[inline(always)]
+pub(crate) fn pointer_target(high: u8, low: u8) -> usize
+    requires { 192 ≤ high }
+    ensures { result ≡ target high low }
+{
+    (high as usize - 192) * 256 + low as usize
 }

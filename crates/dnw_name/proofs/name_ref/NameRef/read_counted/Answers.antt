@@ -1,12 +1,12 @@
 -- What the walk has found is what the decoder takes, and the definition allows no other answer.
-use Rattle.std.proofs.Common.{◌<◌, ◌≤◌, length, refl, ap, arith}
+use Rattle.std.proofs.Common.{length, refl, ap, arith}
 use Rattle.std.proofs.lemmas.Result.{err_from_is_err_and}
 use Rattle.dnw_name.specs.Reading.{StopsAt, TakesName}
 use Rattle.dnw_name.specs.NameRefInside.{labels_at}
 use Rattle.dnw_name.proofs.Counts.{Reads-own}
 use Rattle.dnw_name.proofs.Takes.{TakesName-unique, TakesName-not-StopsAt, StopsAt-unique, TakesName-moved}
 use Rattle.dnw_name.proofs.name_ref.NameRef.read_counted.Goals as goal
-use Rattle.dnw_name.proofs.name_ref.NameRef.read_counted.Goals.{After-from_residual, After-struct_known-1, After-unwrap-own}
+use Rattle.dnw_name.proofs.name_ref.NameRef.read_counted.Goals.{After-from_residual, After-unwrap-own}
 
 -- the fault, at the decoder
 fault : (c : After-from_residual) → StopsAt c.args.decoder.now c.in_err-walked.field-0.0 c.walk.new.steps.pointers c.walk.new.steps.labels
@@ -27,15 +27,12 @@ pub returns-in_err-walked-clause-few_labels : goal.returns-in_err-walked-clause-
 returns-in_err-walked-clause-few_labels c = c.walk.ensures.few_labels
 
 -- the name's own octets lie behind the start, within the message
-own : (c : After-struct_known-1) → (c.index-start.result < c.in_ok-walked.walked.end) × (c.in_ok-walked.walked.end ≤ length c.message_of-message.result.now)
-own c = Reads-own c.in_ok-walked.ensures.ok.name.reads
-
 pub overflow_sub-walked : goal.overflow_sub-walked
-overflow_sub-walked c = let h = own c in omega arith
+overflow_sub-walked c = let (behind, inside) = Reads-own c.in_ok-walked.ensures.ok.name.reads in omega arith
 
 pub unwrap-own-requires : goal.unwrap-own-requires
 unwrap-own-requires c =
-    let h = own (goal.at.unwrap-own-requires c).After-struct_known-1 in
+    let (behind, inside) = Reads-own c.in_ok-walked.ensures.ok.name.reads in
     c.read_slice.ensures.enough.1 (omega (arith, ap length c.message_of-message.ensures, c.index-start.ensures.index))
 
 pub invariant_of-result : goal.invariant_of-result

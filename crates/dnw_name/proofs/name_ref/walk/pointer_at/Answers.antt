@@ -1,4 +1,4 @@
-use Rattle.std.proofs.Common.{◌+◌, ◌<◌, length, get_or, refl, arith}
+use Rattle.std.proofs.Common.{◌+◌, ◌<◌, length, get_or, arith}
 use Rattle.std.proofs.lemmas.Option.{slice_get-get_or}
 use Rattle.dnw_name.specs.Reading.{half_pointer, not_prior}
 use Rattle.dnw_name.proofs.name_ref.walk.pointer_at.Goals as goal
@@ -10,8 +10,10 @@ returns-then-message-position-le1-clause-err c n limit w =
 pub returns-then-target-segment-clause-err : goal.returns-then-target-segment-clause-err
 returns-then-target-segment-clause-err c n limit w =
     let inside : c.args.position + 1 < length c.args.message.now = omega arith in
-    not_prior c.args.high (get_or c.args.message.now (c.args.position + 1) 0) w c.requires.octet c.requires.marked
-    (slice_get-get_or _ _ 0 inside) c.if-target-segment.true
+    let leads = c.pointer_target-target.ensures in
+    rw leads
+    (not_prior c.args.high (get_or c.args.message.now (c.args.position + 1) 0) w c.requires.octet c.requires.marked
+    (slice_get-get_or _ _ 0 inside) (rw leads at c.if-target-segment.true))
 
 pub returns-clause-ok : goal.returns-clause-ok
 returns-clause-ok c =
@@ -22,6 +24,6 @@ returns-clause-ok c =
       first = c.requires.octet;
       marked = c.requires.marked;
       second = slice_get-get_or _ _ 0 inside;
-      leads = refl;
+      leads = c.pointer_target-target.ensures;
       prior = c.if-target-segment.false;
     }

@@ -11,7 +11,7 @@ bytes c i = omega (arith, c.type_inv.message i)
 
 pub returns-clause-ok : goal.returns-clause-ok
 returns-clause-ok c =
-    IfOk-weaker _ _ _ (λ w found. StandsAt-found _ _ _ _ _ _ (bytes c) found) c.walk_elements.ensures.ok
+    IfOk-weaker _ _ _ (λ w found. StandsAt-found _ _ _ _ _ _ found) c.walk_elements.ensures.ok
 
 few : (c : After-walk_elements) → (c.walk_elements.new.steps.pointers ≤ min c.args.start 16384) × (c.walk_elements.new.steps.labels ≤ 128)
 few c = Walk-few _ _ _ _ c.walk_elements.result (bytes c) (returns-clause-ok c) c.walk_elements.ensures.err

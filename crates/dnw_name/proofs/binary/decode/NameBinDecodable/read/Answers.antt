@@ -1,4 +1,3 @@
-use Rattle.std.proofs.Common.{rules, ◌≡◌}
 use Rattle.dnw_name.proofs.Qualified.{by-labels}
 use Rattle.dnw_name.proofs.binary.decode.NameBinDecodable.read.Goals as goal
 

@@ -1,0 +1,4 @@
+mod CandidateLists
+pub mod Places
+pub mod Items
+pub mod Bounds

@@ -1,0 +1,126 @@
+-- A write keeps the frame of `emit`.
+use Rattle.std.proofs.Common.{◌≡◌, ℕ, ◌+◌, ◌≤◌, List, [], ◌∷◌, ◌++◌, length, take, drop, Ok, Err, refl, sym, ap, ◌∙◌, subst, arith, rules, tests, Bool, true, false, cond, nat_lt}
+use Rattle.std.proofs.lemmas.List.{length-append, length-drop, length-take, take-append-le, take-take}
+use Rattle.std.proofs.Math.Seq.{take-length}
+use Rattle.dnw_base.specs.declared.error.ProtoError.{ProtoError}
+use Rattle.dnw_base.specs.declared.error.ProtoError.TheVariants.{CharacterDataTooLong, MaxBufferSizeExceeded, Memory}
+use Rattle.dnw_encoder.specs.Encoder.{Encoder, Candidate, Writes, WritesText, written, candidates_before}
+use Rattle.dnw_encoder.specs.Emitting.{Answer, Emits, Frame, InTurn}
+
+pub take-all : (o : ℕ) (b : List ℕ) → o ≡ length b → take o b ≡ b
+take-all o b e = rw e (take-length b)
+
+front-written : (o : ℕ) (b d : List ℕ) → o ≡ length b → take o (take o b ++ (d ++ drop (o + length d) b)) ≡ b
+front-written o b d e =
+    let all = take-all o b e in
+    let le : o ≤ length (take o b) = omega (arith, e, ap length all) in
+    take-append-le o (take o b) (d ++ drop (o + length d) b) le ∙ (ap (take o) all ∙ all)
+
+length-written : (o : ℕ) (b d : List ℕ) → o ≡ length b → o + length d ≡ length (take o b ++ (d ++ drop (o + length d) b))
+length-written o b d e =
+    omega (arith, e, ap length (take-all o b e), length-append (take o b) (d ++ drop (o + length d) b), length-append d (drop (o + length d) b), length-drop (o + length d) b)
+
+frame-written : (v : Encoder) (d : List ℕ) → v.offset ≡ length v.bytes → Frame v (Ok tt) (written v d)
+frame-written v d e =
+    record {
+      bytes = front-written v.offset v.bytes d e;
+      candidates = refl;
+      encoding = refl;
+      canonical = refl;
+      max_size = refl;
+      candidate_limit = refl;
+      name_limit = refl;
+      ends = length-written v.offset v.bytes d e;
+    }
+
+frame-same : (v : Encoder) (error : ProtoError) → v.offset ≡ length v.bytes → Frame v (Err error) v
+frame-same v error e =
+    record {
+      bytes = take-all v.offset v.bytes e;
+      candidates = refl;
+      encoding = refl;
+      canonical = refl;
+      max_size = refl;
+      candidate_limit = refl;
+      name_limit = refl;
+      ends = tt;
+    }
+
+frame-unchanged : (v : Encoder) → v.offset ≡ length v.bytes → Frame v (Ok tt) v
+frame-unchanged v e =
+    record {
+      bytes = take-all v.offset v.bytes e;
+      candidates = refl;
+      encoding = refl;
+      canonical = refl;
+      max_size = refl;
+      candidate_limit = refl;
+      name_limit = refl;
+      ends = e;
+    }
+
+pub frame : (v : Encoder) (d : List ℕ) (answer : Answer) (w : Encoder) → v.offset ≡ length v.bytes → Writes v d answer w → Frame v answer w
+frame v d (Ok tt) w e h = let P : Encoder → Type 0 = λ x. Frame v (Ok tt) x in subst P (sym h.1) (frame-written v d e)
+frame v d (Err Memory) w e h = let P : Encoder → Type 0 = λ x. Frame v (Err Memory) x in subst P (sym h.2) (frame-same v Memory e)
+frame v d (Err (MaxBufferSizeExceeded size)) w e h =
+    let P : Encoder → Type 0 = λ x. Frame v (Err (MaxBufferSizeExceeded size)) x in
+    subst P (sym h.2) (frame-same v (MaxBufferSizeExceeded size) e)
+frame v d (Err error) w e h = absurd h
+
+-- a refused write changes nothing
+pub refused-same : (v : Encoder) (d : List ℕ) (error : ProtoError) (w : Encoder) → Writes v d (Err error) w → w ≡ v
+refused-same v d Memory w h = h.2
+refused-same v d (MaxBufferSizeExceeded size) w h = h.2
+refused-same v d error w h = absurd h
+
+-- ---- one frame behind another
+
+no_less : (n p q : ℕ) → p ≤ q → nat_lt n q ≡ false → nat_lt n p ≡ false
+no_less n p q le e = search (rules, tests)
+
+-- what stands before the nearer of two places is among what stands before the farther
+candidates_before-twice : (p q : ℕ) (cs : List Candidate) → p ≤ q → candidates_before p (candidates_before q cs) ≡ candidates_before p cs
+candidates_before-twice p q [] le = refl
+candidates_before-twice p q (c ∷ cs) le =
+    let others = candidates_before q cs in
+    let rest = candidates_before-twice p q cs le in
+    let M : Bool → Type 0 = λ b. nat_lt c.0 q ≡ b → candidates_before p (cond b (c ∷ others) others) ≡ candidates_before p (c ∷ cs) in
+    let cases : (b : Bool) → M b = λ b. elim b as M [
+      | true ↦ λ e. ap (λ (zs : List Candidate). cond (nat_lt c.0 p) (c ∷ zs) zs) rest
+      | false ↦ λ e. rest ∙ sym (ap (λ (b : Bool). cond b (c ∷ candidates_before p cs) (candidates_before p cs)) (no_less c.0 p q le e))
+    ] in
+    cases (nat_lt c.0 q) refl
+
+pub frames-follow : (v m w : Encoder) (answer : Answer) → v.offset ≡ length v.bytes → Frame v (Ok tt) m → Frame m answer w → Frame v answer w
+frames-follow v m w answer e f g =
+    let le : v.offset ≤ m.offset = omega (arith, e, f.ends, ap length f.bytes, length-take v.offset m.bytes) in
+    record {
+      bytes = sym (take-take v.offset m.offset w.bytes le) ∙ (ap (take v.offset) g.bytes ∙ f.bytes);
+      candidates = sym (candidates_before-twice v.offset m.offset w.candidates le)
+          ∙ (ap (candidates_before v.offset) g.candidates ∙ (candidates_before-twice v.offset m.offset m.candidates le ∙ f.candidates));
+      encoding = g.encoding ∙ f.encoding;
+      canonical = g.canonical ∙ f.canonical;
+      max_size = g.max_size ∙ f.max_size;
+      candidate_limit = g.candidate_limit ∙ f.candidate_limit;
+      name_limit = g.name_limit ∙ f.name_limit;
+      ends = g.ends;
+    }
+
+-- items in turn
+pub frame-in_turn : {X : Type 0} (emits : Emits X)
+    → ((x : X) (v : Encoder) (answer : Answer) (w : Encoder) → v.offset ≡ length v.bytes → emits x v answer w → Frame v answer w)
+    → (v w : Encoder) (xs : List X) → v.offset ≡ length v.bytes → InTurn emits v xs w → Frame v (Ok tt) w
+frame-in_turn emits keeps v w [] e h =
+    let P : Encoder → Type 0 = λ x. Frame v (Ok tt) x in
+    subst P (sym h) (frame-unchanged v e)
+frame-in_turn emits keeps v w (x ∷ xs) e h =
+    let first = keeps x v (Ok tt) h.0 e h.1 in
+    frames-follow v h.0 w (Ok tt) e first (frame-in_turn emits keeps h.0 w xs first.ends h.2)
+
+-- character data
+pub frame-text : (v : Encoder) (d : List ℕ) (answer : Answer) (w : Encoder) → v.offset ≡ length v.bytes → WritesText v d answer w → Frame v answer w
+frame-text v d (Ok tt) w e h = frame v (length d ∷ d) (Ok tt) w e h.1
+frame-text v d (Err (CharacterDataTooLong max len)) w e h =
+    let P : Encoder → Type 0 = λ x. Frame v (Err (CharacterDataTooLong max len)) x in
+    subst P (sym h.3) (frame-same v (CharacterDataTooLong max len) e)
+frame-text v d (Err error) w e h = frame v (length d ∷ d) (Err error) w e h.1

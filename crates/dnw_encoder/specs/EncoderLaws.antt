@@ -1,0 +1,51 @@
+-- What follows from the definitions of writing. Each is the clause of a public function, and so proved.
+use Rattle.std.specs.Prelude.{◌≡◌, ℕ, ◌+◌, ◌≤◌, max, List, [], length, Ok}
+use Rattle.dnw_name.specs.Names.{NameValue, AreLabels}
+use Rattle.dnw_name.specs.Reading.{NameAt, TakesName}
+use Rattle.dnw_encoder.specs.Encoder.{Encoder, HasRoom, Holds, Writes, fresh, filled, reserved}
+use Rattle.dnw_encoder.specs.Emitting.{Answer, Emits, EmitsName, Frame, InTurn, in_mode}
+
+-- the buffer is no longer than it was, or than the maximum
+abbrev pub StaysBounded : Encoder → Encoder → Type 0
+StaysBounded v w = length w.bytes ≤ max (length v.bytes) v.max_size
+
+-- No accepted write leaves a buffer longer than the greater of its old length and the maximum, and the offset stays
+-- within the buffer.
+abbrev pub WritesStayBounded : Type 0
+WritesStayBounded = (v w : Encoder) (bytes : List ℕ) → v.offset ≤ length v.bytes → Writes v bytes (Ok tt) w
+    → StaysBounded v w × (w.offset ≤ length w.bytes)
+
+-- nor does a place that is kept
+abbrev pub PlacesStayBounded : Type 0
+PlacesStayBounded = (v : Encoder) (n : ℕ) → v.offset ≤ length v.bytes → HasRoom v n
+    → StaysBounded v (reserved v n) × (v.offset + n ≡ length (reserved v n).bytes)
+
+-- A place that is filled leaves the buffer as long as it was.
+abbrev pub FillsStayBounded : Type 0
+FillsStayBounded = (v : Encoder) (place : ℕ) (bytes : List ℕ) → v.offset ≤ length v.bytes → Holds v place (length bytes)
+    → length (filled v place bytes).bytes ≡ length v.bytes
+
+-- Nor do items in turn, where none of them does.
+abbrev pub ItemsStayBounded : {X : Type 0} → Emits X → Type 0
+ItemsStayBounded {X} emits =
+    ((x : X) (v w : Encoder) → v.offset ≡ length v.bytes → emits x v (Ok tt) w → StaysBounded v w)
+    → (v w : Encoder) (xs : List X) → v.offset ≡ length v.bytes → InTurn emits v xs w → StaysBounded v w
+
+-- Items in turn keep the frame of `emit`.
+abbrev pub ItemsKeepFrame : {X : Type 0} → Emits X → Type 0
+ItemsKeepFrame {X} emits = (v w : Encoder) (xs : List X) → v.offset ≡ length v.bytes → InTurn emits v xs w → Frame v (Ok tt) w
+
+-- So does what follows an accepted part.
+abbrev pub FramesFollow : Type 0
+FramesFollow = (v m w : Encoder) (answer : Answer) → v.offset ≡ length v.bytes
+    → Frame v (Ok tt) m → Frame m answer w → Frame v answer w
+
+-- An accepted name is read at its start at once, with its labels as they were written.
+abbrev pub NameIsRead : Type 0
+NameIsRead = (name : NameValue) (v w : Encoder) → AreLabels name.labels → v.offset ≤ length v.bytes → EmitsName name v (Ok tt) w
+    → NameAt w.bytes v.offset (in_mode v.encoding name.labels) w.offset 0
+
+-- The bytes of a name are read as a name with its labels, byte for byte, and to their end.
+abbrev pub NameComesBack : Type 0
+NameComesBack = (name : NameValue) (w : Encoder) → AreLabels name.labels → EmitsName name (fresh [] 0) (Ok tt) w
+    → TakesName (record { bytes = w.bytes; index = 0 }) (record { bytes = w.bytes; index = length w.bytes }) name.labels 0

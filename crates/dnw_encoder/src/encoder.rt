@@ -1,0 +1,353 @@
+//! Writing messages of a bounded size.
+ghost use Rattle.std.specs.Prelude.{◌≡◌, ℕ, ◌+◌, ◌%◌, ◌<◌, ◌≤◌, ◌↔◌, Bool, ◌==◌, List, [], ◌∷◌, ◌++◌, length, slice_range, IsTrue, IfSome, OnOk, IfErr, vec_len};
+ghost use Rattle.std.specs.Int.{w16, w32, to_be_bytes};
+ghost use Rattle.std.specs.Int.{cast_unsigned as unsigned};
+ghost use Rattle.dnw_encoder.specs.Encoder.{fresh, trimmed, HasRoom, Writes, WritesText, Stores, Finds};
+
+use dnw_base::error::{ProtoError, ProtoResult};
+
+mod candidates;
+mod items;
+pub mod laws;
+mod modal;
+mod modes;
+mod place;
+
+use candidates::Candidates;
+pub use modal::ModalEncoder;
+pub use modes::{NameEncoding, RDataEncoding};
+pub use place::Place;
+
+/// The size that an encoder begins with (RFC 1035, section 4.2.2).
+const MAX_SIZE: u16 = 65535;
+
+/// How many candidates an encoder keeps where nothing else is said.
+const CANDIDATE_LIMIT: usize = 64;
+
+/// How many names an encoder compresses where nothing else is said.
+const NAME_LIMIT: usize = 120;
+
+/// Where candidates end to be stored: a pointer has 14 bits (RFC 1035, section 4.1.4).
+const POINTER_LIMIT: usize = 0x3FFF;
+
+/// Writes a message into a buffer, up to a maximum size. A call that is refused changes nothing.
+///
+/// A contract sees it as an encoder value: the buffer's bytes, where the next one is written, the maximum, and how
+/// names are written. The parameter stands for what the encoder owns; write `BinEncoder<'a>`.
+pub struct BinEncoder<'a, C = Candidates> {
+    buffer: &'a mut Vec<u8>,
+    offset: usize,
+    max_size: u16,
+    encoding: NameEncoding,
+    canonical: bool,
+    candidates: C,
+    names: usize,
+    candidate_limit: usize,
+    name_limit: usize,
+    ghost within: { offset ≤ vec_len buffer.now },
+}
+
+impl<C: Drop> Drop for BinEncoder<'_, C> {
+    fn drop(self)
+        ensures { self.exit.0.now.items ≡ self.entry.buffer.now.items }
+    {
+        let BinEncoder {
+            buffer: _,
+            offset: _,
+            max_size: _,
+            encoding: _,
+            canonical: _,
+            candidates: _,
+            names: _,
+            candidate_limit: _,
+            name_limit: _,
+        } = self;
+    }
+}
+
+impl<'a> BinEncoder<'a> {
+    ghost use Rattle.dnw_encoder.specs.EncoderValue.{value, lender};
+
+    /// An encoder that writes from the buffer's first byte on. It takes no memory.
+    pub fn new(buf: &'a mut Vec<u8>) -> Self
+        ensures value { value result ≡ fresh buf.old.items 0 }
+        ensures lender { lender result ≡ buf.entry.ghost_name }
+    {
+        BinEncoder::with_offset(buf, 0)
+    }
+
+    /// An encoder that writes from the offset on, which has to be within the buffer. It takes no memory.
+    pub fn with_offset(buf: &'a mut Vec<u8>, offset: u32) -> Self
+        requires { offset ≤ vec_len buf.old }
+        ensures value { value result ≡ fresh buf.old.items offset }
+        ensures lender { lender result ≡ buf.entry.ghost_name }
+    {
+        let alloc = *buf.allocator();
+        BinEncoder {
+            buffer: buf,
+            offset: offset as usize,
+            max_size: MAX_SIZE,
+            encoding: NameEncoding::Compressed,
+            canonical: false,
+            candidates: Candidates::new(alloc),
+            names: 0,
+            candidate_limit: CANDIDATE_LIMIT,
+            name_limit: NAME_LIMIT,
+        }
+    }
+
+    /// The same encoder with other limits on the candidates that it keeps and on the names that it counts.
+    /// Candidates above the new limit stay.
+    pub fn with_limits(mut self, candidates: usize, names: usize) -> Self
+        ensures value { value result ≡ record (value self.entry) { candidate_limit = candidates; name_limit = names } }
+        ensures lender { lender result ≡ lender self.entry }
+    {
+        self.candidate_limit = candidates;
+        self.name_limit = names;
+        self
+    }
+
+    /// Sets the size that no write goes past.
+    pub fn set_max_size(&mut self, max: u16)
+        ensures value { value self.new ≡ record (value self.old) { max_size = max } }
+        ensures lender { lender self.new ≡ lender self.old }
+    {
+        self.max_size = max;
+    }
+
+    /// The bytes of the buffer.
+    pub fn into_bytes(self) -> &'a Vec<u8>
+        ensures { result.now.items ≡ (value self.entry).bytes }
+    {
+        let BinEncoder {
+            buffer,
+            offset: _,
+            max_size: _,
+            encoding: _,
+            canonical: _,
+            candidates: _,
+            names: _,
+            candidate_limit: _,
+            name_limit: _,
+        } = self;
+        buffer
+    }
+
+    /// The number of bytes in the buffer.
+    #[inline(always)]
+    pub fn len(&self) -> usize
+        ensures { result ≡ length (value self.now).bytes }
+    {
+        self.buffer.len()
+    }
+
+    /// Whether the buffer has no bytes.
+    #[inline(always)]
+    pub fn is_empty(&self) -> bool
+        ensures { IsTrue result ↔ ((value self.now).bytes ≡ []) }
+    {
+        self.buffer.is_empty()
+    }
+
+    /// Where the next byte is written.
+    #[inline(always)]
+    pub fn offset(&self) -> usize
+        ensures offset { result ≡ (value self.now).offset }
+        ensures within { result ≤ length (value self.now).bytes }
+    {
+        self.offset
+    }
+
+    /// Sets where the next byte is written, which has to be within the buffer.
+    #[inline(always)]
+    pub fn set_offset(&mut self, offset: usize)
+        requires { offset ≤ length (value self.old).bytes }
+        ensures value { value self.new ≡ record (value self.old) { offset = offset } }
+        ensures lender { lender self.new ≡ lender self.old }
+    {
+        self.offset = offset;
+    }
+
+    /// Whether record data is to be written in canonical form (RFC 4034, section 6.2).
+    pub fn set_canonical_form(&mut self, canonical_form: bool)
+        ensures value { value self.new ≡ record (value self.old) { canonical = canonical_form } }
+        ensures lender { lender self.new ≡ lender self.old }
+    {
+        self.canonical = canonical_form;
+    }
+
+    /// Whether record data is written in canonical form.
+    pub fn is_canonical_form(&self) -> bool
+        ensures { result ≡ (value self.now).canonical }
+    {
+        self.canonical
+    }
+
+    /// Sets how names are written.
+    pub fn set_name_encoding(&mut self, name_encoding: NameEncoding)
+        ensures value { value self.new ≡ record (value self.old) { encoding = name_encoding } }
+        ensures lender { lender self.new ≡ lender self.old }
+    {
+        self.encoding = name_encoding;
+    }
+
+    /// How names are written.
+    pub fn name_encoding(&self) -> NameEncoding
+        ensures { result ≡ (value self.now).encoding }
+    {
+        self.encoding
+    }
+
+    /// Cuts the bytes and the candidates from the offset on.
+    pub fn trim(&mut self)
+        ensures value { value self.new ≡ trimmed (value self.old) }
+        ensures lender { lender self.new ≡ lender self.old }
+    {
+        self.buffer.truncate(self.offset);
+        self.candidates.trim(self.offset);
+    }
+
+    /// The bytes from `start` to `end`.
+    pub fn slice_of(&self, start: usize, end: usize) -> &[u8]
+        requires written { start < (value self.now).offset }
+        requires order { start ≤ end }
+        requires within { end ≤ length (value self.now).bytes }
+        ensures { result.now ≡ slice_range (value self.now).bytes start end }
+    {
+        let bytes: &[u8] = self.buffer;
+        &bytes[start..end]
+    }
+
+    /// Remembers the labels that stand from `start` to `end` as a candidate for compression, where one more is
+    /// allowed and pointers reach as far as the offset.
+    pub fn store_label_pointer(&mut self, start: usize, end: usize) -> ProtoResult<()>
+        requires written { start < (value self.old).offset }
+        requires order { start ≤ end }
+        requires within { end ≤ length (value self.old).bytes }
+        requires reached { end ≤ 65535 }
+        ensures stores { Stores (value self.old) (start, slice_range (value self.old).bytes start end) result (value self.new) }
+        ensures lender { lender self.new ≡ lender self.old }
+    {
+        if self.offset >= POINTER_LIMIT || self.candidates.len() >= self.candidate_limit {
+            return Ok(());
+        }
+        self.candidates
+            .push(start as u16, &self.buffer[start..end])?;
+        Ok(())
+    }
+
+    /// Where the first candidate stands that has the same labels as stand from `start` to `end`.
+    pub fn get_label_pointer(&self, start: usize, end: usize) -> Option<u16>
+        requires written { start < (value self.now).offset }
+        requires order { start ≤ end }
+        requires within { end ≤ length (value self.now).bytes }
+        requires reached { end ≤ 65535 }
+        ensures finds { Finds (slice_range (value self.now).bytes start end) (value self.now).candidates result }
+        ensures reached { IfSome result (λ place. place < 16383) }
+    {
+        self.candidates.find(self.slice_of(start, end))
+    }
+
+    /// Writes one byte.
+    pub fn emit(&mut self, b: u8) -> ProtoResult<()>
+        ensures writes { Writes (value self.old) (b ∷ []) result (value self.new) }
+        ensures lender { lender self.new ≡ lender self.old }
+    {
+        self.emit_vec(&[b])
+    }
+
+    /// Writes one byte, as `emit`.
+    pub fn emit_u8(&mut self, number: u8) -> ProtoResult<()>
+        ensures writes { Writes (value self.old) (number ∷ []) result (value self.new) }
+        ensures lender { lender self.new ≡ lender self.old }
+    {
+        self.emit(number)
+    }
+
+    /// Writes a number in network byte order.
+    pub fn emit_u16(&mut self, number: u16) -> ProtoResult<()>
+        ensures writes { Writes (value self.old) (to_be_bytes w16 number) result (value self.new) }
+        ensures lender { lender self.new ≡ lender self.old }
+    {
+        self.emit_vec(&u16::to_be_bytes(number))
+    }
+
+    /// Writes a number in network byte order, as its two's complement.
+    pub fn emit_i32(&mut self, number: i32) -> ProtoResult<()>
+        ensures writes { Writes (value self.old) (to_be_bytes w32 (unsigned w32 number)) result (value self.new) }
+        ensures lender { lender self.new ≡ lender self.old }
+    {
+        self.emit_vec(&i32::to_be_bytes(number))
+    }
+
+    /// Writes a number in network byte order.
+    pub fn emit_u32(&mut self, number: u32) -> ProtoResult<()>
+        ensures writes { Writes (value self.old) (to_be_bytes w32 number) result (value self.new) }
+        ensures lender { lender self.new ≡ lender self.old }
+    {
+        self.emit_vec(&u32::to_be_bytes(number))
+    }
+
+    /// Writes bytes.
+    pub fn emit_vec(&mut self, bytes: &[u8]) -> ProtoResult<()>
+        ensures writes { Writes (value self.old) bytes.now result (value self.new) }
+        ensures lender { lender self.new ≡ lender self.old }
+    {
+        self.test_room(bytes.len())?;
+        let end = self.offset + bytes.len();
+        let len = self.buffer.len();
+        if self.offset == len {
+            self.buffer.extend_from_slice(bytes)?;
+        } else {
+            if end > len {
+                self.buffer.resize(end, 0)?;
+            }
+            self.buffer[self.offset..end].copy_from_slice(bytes);
+        }
+        self.offset = end;
+        Ok(())
+    }
+
+    /// Writes character data: a length octet, and at most 255 bytes (RFC 1035, section 3.3).
+    pub fn emit_character_data(&mut self, char_data: &[u8]) -> ProtoResult<()>
+        ensures writes { WritesText (value self.old) char_data.now result (value self.new) }
+        ensures lender { lender self.new ≡ lender self.old }
+    {
+        if char_data.len() > 255 {
+            return Err(ProtoError::CharacterDataTooLong {
+                max: 255,
+                len: char_data.len(),
+            });
+        }
+        self.emit_character_data_unrestricted(char_data)
+    }
+
+    /// Writes the low eight bits of the length of some bytes, and these bytes.
+    pub fn emit_character_data_unrestricted(&mut self, char_data: &[u8]) -> ProtoResult<()>
+        ensures writes { Writes (value self.old) (length char_data.now % 256 ∷ char_data.now) result (value self.new) }
+        ensures lender { lender self.new ≡ lender self.old }
+    {
+        self.test_room(1 + char_data.len())?;
+        let end = self.offset + 1 + char_data.len();
+        if end > self.buffer.len() {
+            self.buffer.resize(end, 0)?;
+        }
+        self.buffer[self.offset] = (char_data.len() % 256) as u8;
+        self.buffer[self.offset + 1..end].copy_from_slice(char_data);
+        self.offset = end;
+        Ok(())
+    }
+
+    /// Refuses where `len` more bytes are not allowed.
+    #[inline(always)]
+    fn test_room(&self, len: usize) -> ProtoResult<()>
+        ensures ok { OnOk result (HasRoom (value self.now) len) }
+        ensures err { IfErr result (λ e. ((value self.now).max_size < (value self.now).offset + len) × (e ≡ ProtoError.MaxBufferSizeExceeded (value self.now).max_size)) }
+    {
+        let max = self.max_size as usize;
+        if len > max || self.offset > max - len {
+            return Err(ProtoError::MaxBufferSizeExceeded(max));
+        }
+        Ok(())
+    }
+}

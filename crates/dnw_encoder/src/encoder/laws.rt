@@ -1,0 +1,30 @@
+//! What follows from the definitions of writing, for whoever rests a proof on them.
+//!
+//! The functions do nothing: each is there for its clause.
+ghost use Rattle.dnw_encoder.specs.EncoderLaws.{WritesStayBounded, PlacesStayBounded, FillsStayBounded, ItemsStayBounded, ItemsKeepFrame, FramesFollow, NameIsRead, NameComesBack};
+
+use crate::binary::BinEncodable;
+
+/// No accepted write, place or filling leaves a buffer longer than the greater of its old length and the maximum.
+pub fn writes_stay_bounded()
+    ensures writes { WritesStayBounded }
+    ensures places { PlacesStayBounded }
+    ensures fills { FillsStayBounded }
+{}
+
+/// Nor do items in turn, where none of them does.
+pub fn items_stay_bounded<E: BinEncodable>()
+    ensures { ItemsStayBounded E.emits }
+{}
+
+/// Items in turn, and parts in turn, keep the frame of `emit`.
+pub fn frames_follow<E: BinEncodable>()
+    ensures items { ItemsKeepFrame E.emits }
+    ensures parts { FramesFollow }
+{}
+
+/// A name that was written is read back.
+pub fn names_come_back()
+    ensures at_once { NameIsRead }
+    ensures alone { NameComesBack }
+{}

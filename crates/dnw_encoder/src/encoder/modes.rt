@@ -1,0 +1,25 @@
+//! How names are written.
+
+/// How names are written.
+#[derive(Clone, Copy)]
+pub enum NameEncoding {
+    /// Compressed (RFC 1035, section 4.1.4), and in the case that they have.
+    Compressed,
+    /// Whole, and in the case that they have.
+    Uncompressed,
+    /// Whole, and in lower case (RFC 4034, section 6.2).
+    UncompressedLowercase,
+}
+
+/// How names within record data are written.
+#[derive(Clone, Copy)]
+pub enum RDataEncoding {
+    /// Of a record type that RFC 1035, section 3.3 defines: as other names, but in canonical form whole and in lower
+    /// case.
+    StandardRecord,
+    /// Of a later record type whose canonical form has lower case (RFC 4034, section 6.2): always whole, and in
+    /// canonical form in lower case.
+    Canonical,
+    /// Of any other record type (RFC 3597, section 4): always whole, and in the case that they have.
+    Other,
+}
