@@ -1,6 +1,4 @@
 //! The bounded encoder by worked examples.
-ghost use Rattle.std.specs.Prelude.{◌≡◌, length};
-ghost use Rattle.dnw_encoder.specs.EncoderValue.{value, lender};
 
 #[cfg(test)]
 mod tests {
@@ -8,39 +6,59 @@ mod tests {
     use dns_names_wire::binary::BinEncodable;
     use dns_names_wire::encoder::{BinEncoder, NameEncoding, Place, RDataEncoding};
     use dns_names_wire::name::Name;
+    use std::alloc::{AllocError, Global};
 
-    /// An item of a test: a byte, and a text of so many bytes as character data.
+    /// An item of a test: a byte, and a text behind it as character data.
     #[derive(Drop)]
     struct TestItem {
         byte: u8,
-        len: usize,
+        text: Vec<u8>,
     }
 
     impl BinEncodable for TestItem {
-        ghost use Rattle.std.specs.Prelude.{replicate, min};
         ghost use Rattle.dnw_tests.specs.TestItems.{WritesBoth, keeps_frame};
 
-        ghost emits = { λ item. WritesBoth item.byte (replicate (min item.len 256) 0) };
+        ghost emits = { λ item. WritesBoth item.byte item.text.items };
 
-        ghost keeps_frame = { λ item. keeps_frame item.byte (replicate (min item.len 256) 0) };
+        ghost keeps_frame = { λ item. keeps_frame item.byte item.text.items };
 
         fn emit(&self, encoder: &mut BinEncoder<'_>) -> ProtoResult<()> {
-            let zeros = [0u8; 256];
             encoder.emit_u8(self.byte)?;
-            encoder.emit_character_data(&zeros[..self.len.min(256)])
+            encoder.emit_character_data(self.text.as_slice())
         }
+    }
+
+    /// An item with a text of `len` zeros, 256 at most.
+    fn item(alloc: Global, byte: u8, len: usize) -> Result<TestItem, AllocError> {
+        let zeros = [0u8; 256];
+        let text = Vec::from_slice(alloc, &zeros[..len.min(256)])?;
+        Ok(TestItem { byte, text })
     }
 
     #[test]
     fn a_refused_item_is_undone_whatever_the_error(rt: HostRuntime) {
-        let mut bytes = Vec::new(rt.alloc());
+        let alloc = rt.alloc();
+        let mut bytes = Vec::new(alloc);
         let mut encoder = BinEncoder::new(&mut bytes);
-        let items = [TestItem { byte: 1, len: 0 }, TestItem { byte: 7, len: 256 }, TestItem { byte: 1, len: 0 }];
+        let items = [
+            item(alloc, 1, 0).expect(&rt, "memory"),
+            item(alloc, 7, 256).expect(&rt, "memory"),
+            item(alloc, 1, 0).expect(&rt, "memory"),
+        ];
         let refused = encoder.emit_all(items.iter());
-        assert!(rt; matches!(refused, Err(ProtoError::CharacterDataTooLong { max: 255, len: 256 })));
+        assert!(rt;
+            matches!(
+                refused,
+                Err(ProtoError::CharacterDataTooLong { max: 255, len: 256 })
+            )
+        );
         assert_eq!(rt; encoder.len(), 2);
         encoder.set_max_size(5);
-        let items = [TestItem { byte: 1, len: 0 }, TestItem { byte: 9, len: 2 }, TestItem { byte: 1, len: 0 }];
+        let items = [
+            item(alloc, 1, 0).expect(&rt, "memory"),
+            item(alloc, 9, 2).expect(&rt, "memory"),
+            item(alloc, 1, 0).expect(&rt, "memory"),
+        ];
         let refused = encoder.emit_all(items.iter());
         assert!(rt; matches!(refused, Err(ProtoError::NotAllRecordsWritten { count: 1 })));
         assert_eq!(rt; encoder.offset(), 4);
@@ -143,14 +161,6 @@ mod tests {
         assert_eq!(rt; bytes.as_slice(), [0, 1, 0, 2].as_slice());
     }
 
-    /// Writes numbers behind references to references, and tells how many there were.
-    fn count_all_refs<'e>(encoder: &mut BinEncoder<'_>, numbers: &'e [&'e u16]) -> Option<usize>
-        requires { (value encoder.old).offset ≡ length (value encoder.old).bytes }
-        ensures { lender encoder.new ≡ lender encoder.old }
-    {
-        encoder.emit_all_refs(numbers.iter()).ok()
-    }
-
     #[test]
     fn a_list_leaves_what_stands_behind_a_refused_item(rt: HostRuntime) {
         let mut bytes = Vec::new(rt.alloc());
@@ -166,9 +176,10 @@ mod tests {
         );
         assert_eq!(rt; iter.next(), Some(&3));
         encoder.set_max_size(100);
-        assert_eq!(rt; count_all_refs(&mut encoder, &[&7, &8]), Some(2));
+        let more = [7u16, 7];
+        assert!(rt; matches!(encoder.emit_all_refs(more.iter()), Ok(2)));
         drop(encoder);
-        assert_eq!(rt; bytes.as_slice(), [0, 1, 0, 7, 0, 8].as_slice());
+        assert_eq!(rt; bytes.as_slice(), [0, 1, 0, 7, 0, 7].as_slice());
     }
 
     #[test]
