@@ -16,7 +16,9 @@ pub mod decoder {
 
 /// Writing messages of a bounded size, and what follows from the definitions of writing.
 pub mod encoder {
-    pub use dnw_encoder::encoder::{BinEncoder, ModalEncoder, NameEncoding, Place, RDataEncoding, laws};
+    pub use dnw_encoder::encoder::{
+        BinEncoder, ModalEncoder, NameEncoding, Place, RDataEncoding, laws,
+    };
 }
 
 /// The errors of this layer.

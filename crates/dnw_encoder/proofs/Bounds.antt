@@ -11,7 +11,7 @@ use Rattle.dnw_encoder.specs.declared.encoder.modes.NameEncoding.TheVariants.{Co
 use Rattle.dnw_name.specs.Names.{AreLabels, encoded_size, wire, lower}
 use Rattle.dnw_encoder.specs.Encoder.{Encoder, fresh, reserved}
 use Rattle.dnw_encoder.specs.Emitting.{Answer, Emits, Frame, in_mode}
-use Rattle.dnw_encoder.specs.EncoderLaws.{StaysBounded, WritesStayBounded, PlacesStayBounded, FillsStayBounded, ItemsStayBounded, NameIsRead, NameComesBack}
+use Rattle.dnw_encoder.specs.EncoderLaws.{StaysBounded, WritesStayBounded, PlacesStayBounded, FillsStayBounded, FillsTakeNoMemory, ItemsStayBounded, NameIsRead, NameComesBack}
 use Rattle.dnw_name.proofs.Wires.{length-wire, encoded_size-cons}
 use Rattle.dnw_encoder.proofs.Places.{length-over}
 use Rattle.dnw_name.proofs.Back.{Reads-wire}
@@ -40,6 +40,9 @@ places_stay_bounded v n within room =
 
 pub fills_stay_bounded : FillsStayBounded
 fills_stay_bounded v place bytes within holds = length-over place v.bytes bytes (omega arith)
+
+pub fills_take_no_memory : FillsTakeNoMemory
+fills_take_no_memory v w place bytes within holds h = omega (arith, h.1)
 
 pub items_stay_bounded : {X : Type 0} (emits : Emits X)
     → ((x : X) (v : Encoder) (answer : Answer) (w : Encoder) → v.offset ≡ length v.bytes → emits x v answer w → Frame v answer w)

@@ -1,8 +1,9 @@
 -- What follows from the definitions of writing. Each is the clause of a public function, and so proved.
-use Rattle.std.specs.Prelude.{◌≡◌, ℕ, ◌+◌, ◌≤◌, max, List, [], length, Ok}
+use Rattle.std.specs.Prelude.{◌≡◌, ℕ, ◌+◌, ◌≤◌, max, List, [], length, Ok, Err}
+use Rattle.dnw_base.specs.declared.error.ProtoError.TheVariants.{Memory}
 use Rattle.dnw_name.specs.Names.{NameValue, AreLabels}
 use Rattle.dnw_name.specs.Reading.{NameAt, TakesName}
-use Rattle.dnw_encoder.specs.Encoder.{Encoder, HasRoom, Holds, Writes, fresh, filled, reserved}
+use Rattle.dnw_encoder.specs.Encoder.{Encoder, HasRoom, Holds, Writes, fresh, filled, reserved, moved_to}
 use Rattle.dnw_encoder.specs.Emitting.{Answer, Emits, EmitsName, Frame, InTurn, in_mode}
 
 -- the buffer is no longer than it was, or than the maximum
@@ -30,6 +31,11 @@ abbrev pub ItemsStayBounded : {X : Type 0} → Emits X → Type 0
 ItemsStayBounded {X} emits =
     ((x : X) (v w : Encoder) → v.offset ≡ length v.bytes → emits x v (Ok tt) w → StaysBounded v w)
     → (v w : Encoder) (xs : List X) → v.offset ≡ length v.bytes → InTurn emits v xs w → StaysBounded v w
+
+-- Bytes that are written over a place take no memory, since as many stand there.
+abbrev pub FillsTakeNoMemory : Type 0
+FillsTakeNoMemory = (v w : Encoder) (place : ℕ) (bytes : List ℕ) → v.offset ≤ length v.bytes → Holds v place (length bytes)
+    → Writes (moved_to v place) bytes (Err Memory) w → ⊥
 
 -- Items in turn keep the frame of `emit`.
 abbrev pub ItemsKeepFrame : {X : Type 0} → Emits X → Type 0

@@ -1,8 +1,12 @@
 -- What a contract sees of a `BinEncoder`.
-use Rattle.std.specs.Prelude.{List}
+use Rattle.std.specs.Prelude.{ℕ, List}
 use Rattle.std.specs.Borrow.{GName}
 use Rattle.dnw_encoder.specs.declared.encoder.BinEncoder.{BinEncoder}
 use Rattle.dnw_encoder.specs.Encoder.{Encoder, Candidate}
+
+-- the bytes of the buffer, whatever else the encoder owns
+abbrev pub buffer_bytes : {C : Type 0} → BinEncoder C → List ℕ
+buffer_bytes e = e.buffer.now.items
 
 -- the encoder as a value
 abbrev pub value : BinEncoder (List Candidate) → Encoder

@@ -48,8 +48,11 @@ pub struct BinEncoder<'a, C = Candidates> {
 }
 
 impl<C: Drop> Drop for BinEncoder<'_, C> {
+    ghost use Rattle.dnw_encoder.specs.EncoderValue.{buffer_bytes};
+
+    // The buffer is left as it was.
     fn drop(self)
-        ensures { self.exit.0.now.items ≡ self.entry.buffer.now.items }
+        ensures { self.exit.0.now.items ≡ buffer_bytes self.entry }
     {
         let BinEncoder {
             buffer: _,

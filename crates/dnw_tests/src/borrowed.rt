@@ -51,7 +51,11 @@ fn told(
 
 /// Messages in hexadecimal, a place in each, and what reading there answers, with pointers and labels.
 const COUNTED: [(&str, usize, &str); 11] = [
-    ("02726102726202726300c003c006017ac000", 0, "ra.rb.rc. 10 0 3"),
+    (
+        "02726102726202726300c003c006017ac000",
+        0,
+        "ra.rb.rc. 10 0 3",
+    ),
     ("02726102726202726300c003c006017ac000", 10, "rb.rc. 12 1 2"),
     ("02726102726202726300c003c006017ac000", 12, "rc. 14 1 1"),
     (

@@ -38,11 +38,16 @@ fn character_data_and_what_follows(rt: HostRuntime) -> Result<(), Fail> {
     assert_eq!(rt; decoder.index(), 4);
     assert!(rt; is_cut(decoder.read_u16()));
     assert_eq!(rt; decoder.index(), 4);
-    assert_eq!(rt; decoder.slice_from(1).map_err(|_| "a slice")?, b"abc".as_slice());
-    assert!(rt; matches!(
-        decoder.slice_from(5),
-        Err(DecodeError::InvalidPreviousIndex)
-    ));
+    assert_eq!(rt;
+        decoder.slice_from(1).map_err(|_| "a slice")?,
+        b"abc".as_slice()
+    );
+    assert!(rt;
+        matches!(
+            decoder.slice_from(5),
+            Err(DecodeError::InvalidPreviousIndex)
+        )
+    );
     assert!(rt; matches!(character_data(&message), Ok(b"abc")));
     assert!(rt; is_cut(character_data(&[5, 0x61])));
     Ok(())
@@ -115,9 +120,15 @@ fn verdicts(rt: HostRuntime) -> Result<(), Fail> {
 fn untrusted_arithmetic(rt: HostRuntime) -> Result<(), Fail> {
     let full = Restrict::new(255u8).checked_add(1);
     assert!(rt; matches!(full, Err(1)));
-    let sum = Restrict::new(3u8).checked_sub(1).checked_mul(8).checked_add(7);
+    let sum = Restrict::new(3u8)
+        .checked_sub(1)
+        .checked_mul(8)
+        .checked_add(7);
     assert!(rt; matches!(sum.map(Restrict::unverified), Ok(23)));
-    let none = Restrict::new(0u8).checked_sub(1).checked_mul(8).checked_add(2);
+    let none = Restrict::new(0u8)
+        .checked_sub(1)
+        .checked_mul(8)
+        .checked_add(2);
     assert!(rt; matches!(none, Err(2)));
     Ok(())
 }

@@ -2,9 +2,9 @@
 
 #[cfg(test)]
 mod tests {
-    use dns_names_wire::error::{ProtoError, ProtoResult};
     use dns_names_wire::binary::BinEncodable;
     use dns_names_wire::encoder::{BinEncoder, NameEncoding, Place, RDataEncoding};
+    use dns_names_wire::error::{ProtoError, ProtoResult};
     use dns_names_wire::name::Name;
     use std::alloc::{AllocError, Global};
 

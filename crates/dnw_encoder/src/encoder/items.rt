@@ -22,7 +22,9 @@ impl<'a> BinEncoder<'a> {
     ghost use Rattle.dnw_encoder.specs.EncoderValue.{value, lender};
 
     /// Writes the items in turn, and tells how many there were. The first one that is refused is undone, whatever the
-    /// error, and the items behind it stay in the iterator.
+    /// error, and the items behind it stay in the iterator. The items may be values or references.
+    ///
+    /// The offset has to be the buffer's end, and the iterator has to end.
     pub fn emit_iter<I: Iterator<Item = E>, E: BinEncodable + Drop>(
         &mut self,
         iter: &mut I,

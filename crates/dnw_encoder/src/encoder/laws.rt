@@ -1,7 +1,7 @@
 //! What follows from the definitions of writing, for whoever rests a proof on them.
 //!
 //! The functions do nothing: each is there for its clause.
-ghost use Rattle.dnw_encoder.specs.EncoderLaws.{WritesStayBounded, PlacesStayBounded, FillsStayBounded, ItemsStayBounded, ItemsKeepFrame, FramesFollow, NameIsRead, NameComesBack};
+ghost use Rattle.dnw_encoder.specs.EncoderLaws.{WritesStayBounded, PlacesStayBounded, FillsStayBounded, FillsTakeNoMemory, ItemsStayBounded, ItemsKeepFrame, FramesFollow, NameIsRead, NameComesBack};
 
 use crate::binary::BinEncodable;
 
@@ -15,6 +15,11 @@ pub fn writes_stay_bounded()
 /// Nor do items in turn, where none of them does.
 pub fn items_stay_bounded<E: BinEncodable>()
     ensures { ItemsStayBounded E.emits }
+{}
+
+/// Filling a place takes no memory.
+pub fn fills_take_no_memory()
+    ensures { FillsTakeNoMemory }
 {}
 
 /// Items in turn, and parts in turn, keep the frame of `emit`.

@@ -3,6 +3,6 @@ use Rattle.dnw_name.proofs.binary.decode.NameBinDecodable.from_bytes.Goals as go
 
 pub returns-clause-accepts : goal.returns-clause-accepts
 returns-clause-accepts c x after h =
-  let (fqdn, k, takes) = h in
-  let (ok, _) = c.read.ensures.accepts after x.labels k (rw c.new-decoder.ensures takes) in
-  rw (by-labels x fqdn) at ok
+    let (fqdn, k, takes) = h in
+    let (ok, _) = c.read.ensures.accepts after x.labels k (rw c.new-decoder.ensures takes) in
+    rw (by-labels x fqdn) at ok
