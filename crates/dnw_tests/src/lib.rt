@@ -20,4 +20,6 @@ mod names;
 #[cfg(test)]
 mod reading;
 #[cfg(test)]
+mod readme;
+#[cfg(test)]
 mod texts;
