@@ -1,6 +1,7 @@
 //! The labels of a name, one after another.
-ghost use Rattle.std.specs.Prelude.{◌≡◌, [], length, MatchOption};
-ghost use Rattle.std.specs.Iterator.{YieldsFirstRef, item_count};
+ghost use Rattle.std.specs.Prelude.{◌≡◌, [], length, Some, IfSome, MatchOption};
+ghost use Rattle.std.specs.Iterator.{UpTo, YieldsFirstRef, at_most, item_count};
+ghost use Rattle.std.specs.Iterator.SizeHint.{IsWithinCount};
 ghost use Rattle.dnw_name.specs.NameInside.{labels_of, IsWire, SplitsLabel};
 
 use std::marker::Model;
@@ -42,7 +43,11 @@ impl<'a> Iterator for LabelIter<'a> {
 
     ghost remaining = { item_count (λ labels. labels) };
 
-    fn size_hint(&self) -> (usize, Option<usize>) {
+    fn size_hint(&self) -> (usize, Option<usize>)
+        ensures lower { IsWithinCount result.0 (at_most (length self.now)) }
+        ensures upper { IfSome result.1 (UpTo (at_most (length self.now))) }
+        ensures exact { result ≡ (length self.now, Some (length self.now)) }
+    {
         let left = count_labels(self.rest);
         (left, Some(left))
     }
