@@ -1,4 +1,5 @@
 use super::answer;
+use std::alloc::Global;
 use std::test::Fail;
 
 const USAGE: &str = "usage: dnswire whole NAME | read START HEX | names NAME..\n";
@@ -45,18 +46,25 @@ const ANSWERS: [(&[&str], &str, u8); 22] = [
     (&[], USAGE, 2),
 ];
 
+/// What is written for some words, and the status.
+fn told(alloc: Global, asked: &[&str]) -> Result<(String, u8), Fail> {
+    let mut words = Vec::new(alloc);
+    for word in asked {
+        words.push(String::from_str(alloc, word)?)?;
+    }
+    let mut out = Vec::new(alloc);
+    let status = answer(alloc, words.as_slice(), &mut out)?;
+    let text = String::from_str(alloc, str::from_utf8(out.as_slice())?)?;
+    Ok((text, status))
+}
+
 #[test]
 fn answers(rt: HostRuntime) -> Result<(), Fail> {
     let alloc = rt.alloc();
     for (asked, want, status) in ANSWERS {
-        let mut words = Vec::new(alloc);
-        for word in asked {
-            words.push(String::from_str(alloc, word)?)?;
-        }
-        let mut out = Vec::new(alloc);
-        let got = answer(alloc, words.as_slice(), &mut out)?;
-        assert_eq!(rt; str::from_utf8(out.as_slice())?, want, "{asked:?}");
-        assert_eq!(rt; got, status, "{asked:?}");
+        let (text, got) = told(alloc, asked)?;
+        assert_eq!(rt; text.as_str(), want);
+        assert_eq!(rt; got, status, "{text}");
     }
     Ok(())
 }
