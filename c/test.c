@@ -1,0 +1,260 @@
+/* Each function of dns_names_wire.h on good and on bad input. It says nothing where all is well, and exits by 1 at
+   the first answer that is not the expected one. What is expected stands in RFC 1035 or in the header. */
+#include "dns_names_wire.h"
+
+#include <stdio.h>
+#include <stdlib.h>
+#include <string.h>
+
+#define EXPECT(fact)                                                                    \
+    do {                                                                                \
+        if (!(fact)) {                                                                  \
+            fprintf(stderr, "test.c:%d: not so: %s\n", __LINE__, #fact);                \
+            exit(1);                                                                    \
+        }                                                                               \
+    } while (0)
+
+#define BYTES(text) ((const uint8_t *)(text)), (sizeof(text) - 1)
+
+static uint8_t buffer[1200];
+
+/* The buffer holds these bytes, and what stood behind them. */
+static bool holds(const char *bytes, size_t len)
+{
+    return memcmp(buffer, bytes, len) == 0 && buffer[len] == 0xAA;
+}
+
+static bool untouched(void)
+{
+    for (size_t i = 0; i < sizeof buffer; i++)
+        if (buffer[i] != 0xAA)
+            return false;
+    return true;
+}
+
+static void clear(void)
+{
+    memset(buffer, 0xAA, sizeof buffer);
+}
+
+/* The names of RFC 1035, section 4.1.4: F.ISI.ARPA at 20, FOO.F.ISI.ARPA at 40, ARPA at 64, the root at 92. */
+static uint8_t message[93];
+
+static void make_message(void)
+{
+    memset(message, 0xFF, sizeof message);
+    memcpy(message + 20, "\001F\003ISI\004ARPA\000", 12);
+    memcpy(message + 40, "\003FOO\300\024", 6);
+    memcpy(message + 64, "\300\032", 2);
+    message[92] = 0;
+}
+
+static uint32_t read_form(size_t start, size_t size, struct dnw_read_name *read)
+{
+    clear();
+    return dnw_name_read(message, sizeof message, start, buffer, size, read);
+}
+
+static void reads_forms(void)
+{
+    struct dnw_read_name read = {7, 7};
+    EXPECT(read_form(20, DNW_FORM_SIZE, &read) == DNW_DONE);
+    EXPECT(read.len == 12 && read.end == 32 && holds("\001F\003ISI\004ARPA\000", 12));
+    EXPECT(read_form(40, DNW_FORM_SIZE, &read) == DNW_DONE);
+    EXPECT(read.len == 16 && read.end == 46 && holds("\003FOO\001F\003ISI\004ARPA\000", 16));
+    EXPECT(read_form(64, 6, &read) == DNW_DONE);
+    EXPECT(read.len == 6 && read.end == 66 && holds("\004ARPA\000", 6));
+    EXPECT(read_form(92, 1, &read) == DNW_DONE);
+    EXPECT(read.len == 1 && read.end == 93 && holds("\000", 1));
+}
+
+static uint32_t read_bytes(const uint8_t *bytes, size_t len, size_t start)
+{
+    struct dnw_read_name read = {7, 9};
+    clear();
+    uint32_t answer = dnw_name_read(bytes, len, start, buffer, sizeof buffer, &read);
+    if (answer != DNW_DONE)
+        EXPECT(untouched() && read.len == 7 && read.end == 9);
+    return answer;
+}
+
+static void refuses_forms(void)
+{
+    struct dnw_read_name read = {7, 9};
+    EXPECT(read_form(40, 15, &read) == DNW_NO_ROOM);
+    EXPECT(untouched() && read.len == 7 && read.end == 9);
+    EXPECT(read_bytes(BYTES(""), 0) == DNW_MESSAGE_CUT);
+    EXPECT(read_bytes(BYTES("\000"), 2) == DNW_MESSAGE_CUT);
+    EXPECT(read_bytes(BYTES("\000"), SIZE_MAX) == DNW_MESSAGE_CUT);
+    EXPECT(read_bytes(BYTES("\005abc"), 0) == DNW_MESSAGE_CUT);
+    EXPECT(read_bytes(BYTES("\300\000"), 0) == DNW_POINTER_NOT_BACK);
+    EXPECT(read_bytes(BYTES("\001a\300\000"), 2) == DNW_SEGMENTS_OVERLAP);
+    EXPECT(read_bytes(BYTES("\100"), 0) == DNW_RESERVED_OCTET);
+    uint8_t labels[260];
+    for (size_t i = 0; i < sizeof labels; i += 2) {
+        labels[i] = 1;
+        labels[i + 1] = 'a';
+    }
+    EXPECT(read_bytes(labels, sizeof labels, 0) == DNW_NAME_TOO_LONG);
+    labels[254] = 0;
+    EXPECT(read_bytes(labels, 255, 0) == DNW_DONE);
+}
+
+static void reads_texts(void)
+{
+    struct dnw_read_name read = {7, 9};
+    clear();
+    EXPECT(dnw_name_read_text(message, sizeof message, 40, buffer, sizeof buffer, &read) == DNW_DONE);
+    EXPECT(read.len == 15 && read.end == 46 && holds("FOO.F.ISI.ARPA.", 15));
+    clear();
+    EXPECT(dnw_name_read_text(message, sizeof message, 92, buffer, sizeof buffer, &read) == DNW_DONE);
+    EXPECT(read.len == 1 && read.end == 93 && holds(".", 1));
+    clear();
+    read.len = 7;
+    read.end = 9;
+    EXPECT(dnw_name_read_text(message, sizeof message, 40, buffer, 14, &read) == DNW_NO_ROOM);
+    EXPECT(dnw_name_read_text(message, sizeof message, 0, buffer, sizeof buffer, &read) == DNW_POINTER_NOT_BACK);
+    EXPECT(untouched() && read.len == 7 && read.end == 9);
+}
+
+static uint32_t parse(const uint8_t *text, size_t len, size_t size, struct dnw_parsed_name *parsed)
+{
+    clear();
+    uint32_t answer = dnw_name_parse(text, len, buffer, size, parsed);
+    if (answer != DNW_DONE)
+        EXPECT(untouched());
+    return answer;
+}
+
+static void parses(void)
+{
+    struct dnw_parsed_name parsed = {7, false};
+    EXPECT(parse(BYTES("a.bc."), sizeof buffer, &parsed) == DNW_DONE);
+    EXPECT(parsed.len == 6 && parsed.is_fqdn && holds("\001a\002bc\000", 6));
+    EXPECT(parse(BYTES("a.bc"), 6, &parsed) == DNW_DONE);
+    EXPECT(parsed.len == 6 && !parsed.is_fqdn && holds("\001a\002bc\000", 6));
+    EXPECT(parse(BYTES("."), 1, &parsed) == DNW_DONE && parsed.len == 1 && parsed.is_fqdn);
+    EXPECT(parse(BYTES(""), 1, &parsed) == DNW_DONE && parsed.len == 1 && !parsed.is_fqdn);
+    EXPECT(parse(BYTES("a.bc"), 5, &parsed) == DNW_NO_ROOM);
+    EXPECT(parse(BYTES("a..b"), sizeof buffer, &parsed) == DNW_BAD_TEXT);
+    EXPECT(parse(BYTES("a b"), sizeof buffer, &parsed) == DNW_BAD_TEXT);
+    EXPECT(parse(BYTES("\\"), sizeof buffer, &parsed) == DNW_BAD_TEXT);
+    EXPECT(parse(BYTES("\377"), sizeof buffer, &parsed) == DNW_NOT_UTF8);
+    uint8_t text[256];
+    memset(text, 'a', sizeof text);
+    EXPECT(parse(text, 63, sizeof buffer, &parsed) == DNW_DONE && parsed.len == 65);
+    EXPECT(parse(text, 64, sizeof buffer, &parsed) == DNW_LABEL_TOO_LONG);
+    text[63] = text[127] = text[191] = '.';
+    EXPECT(parse(text, 253, sizeof buffer, &parsed) == DNW_DONE && parsed.len == 255);
+    EXPECT(parse(text, 254, sizeof buffer, &parsed) == DNW_NAME_TOO_LONG);
+    EXPECT(parsed.len == 255);
+}
+
+static void prints(void)
+{
+    size_t len = 7;
+    clear();
+    EXPECT(dnw_name_print(BYTES("\001a\002bc\000"), true, buffer, sizeof buffer, &len) == DNW_DONE);
+    EXPECT(len == 5 && holds("a.bc.", 5));
+    clear();
+    EXPECT(dnw_name_print(BYTES("\001a\002bc\000"), false, buffer, 4, &len) == DNW_DONE);
+    EXPECT(len == 4 && holds("a.bc", 4));
+    clear();
+    len = 7;
+    EXPECT(dnw_name_print(BYTES("\001a\002bc\000"), true, buffer, 4, &len) == DNW_NO_ROOM);
+    EXPECT(dnw_name_print(BYTES("\001a\000\000"), true, buffer, sizeof buffer, &len) == DNW_BYTES_LEFT);
+    EXPECT(dnw_name_print(BYTES("\001a"), true, buffer, sizeof buffer, &len) == DNW_MESSAGE_CUT);
+    EXPECT(dnw_name_print(BYTES(""), true, buffer, sizeof buffer, &len) == DNW_MESSAGE_CUT);
+    EXPECT(untouched() && len == 7);
+    /* the longest text: 250 bytes in four labels, each shown by four characters */
+    uint8_t form[255];
+    memset(form, 0x80, sizeof form);
+    form[0] = form[64] = form[128] = 63;
+    form[192] = 61;
+    form[254] = 0;
+    EXPECT(dnw_name_print(form, sizeof form, true, buffer, DNW_TEXT_SIZE - 1, &len) == DNW_NO_ROOM);
+    EXPECT(dnw_name_print(form, sizeof form, true, buffer, DNW_TEXT_SIZE, &len) == DNW_DONE);
+    EXPECT(len == DNW_TEXT_SIZE && memcmp(buffer, "\\200", 4) == 0 && buffer[len - 1] == '.');
+}
+
+/* Whatever is written is read back, name by name, and takes no more room than the list. */
+static void writes(void)
+{
+    static const char list[] = "\003www\002de\000\004mail\002de\000\000\003www\002de\000";
+    struct dnw_written_names written = {7, 9};
+    clear();
+    EXPECT(dnw_names_write(BYTES(list), 512, buffer, sizeof buffer, &written) == DNW_DONE);
+    EXPECT(written.count == 4 && written.len <= sizeof list - 1 && memcmp(buffer, list, 8) == 0);
+    uint8_t form[DNW_FORM_SIZE];
+    size_t at = 0, in_list = 0;
+    for (size_t i = 0; i < written.count; i++) {
+        struct dnw_read_name read;
+        EXPECT(dnw_name_read(buffer, written.len, at, form, sizeof form, &read) == DNW_DONE);
+        EXPECT(memcmp(form, list + in_list, read.len) == 0);
+        at = read.end;
+        in_list += read.len;
+    }
+    EXPECT(at == written.len && in_list == sizeof list - 1);
+    clear();
+    EXPECT(dnw_names_write(BYTES(""), 0, buffer, sizeof buffer, &written) == DNW_DONE);
+    EXPECT(written.len == 0 && written.count == 0 && untouched());
+}
+
+static void refuses_to_write(void)
+{
+    struct dnw_written_names written = {7, 9};
+    clear();
+    EXPECT(dnw_names_write(BYTES("\003www\000"), 4, buffer, sizeof buffer, &written) == DNW_MESSAGE_TOO_LONG);
+    EXPECT(dnw_names_write(BYTES("\003www\000"), 5, buffer, 4, &written) == DNW_NO_ROOM);
+    EXPECT(dnw_names_write(BYTES("\003www\000\003ww"), 512, buffer, sizeof buffer, &written) == DNW_MESSAGE_CUT);
+    EXPECT(untouched() && written.len == 7 && written.count == 9);
+    EXPECT(dnw_names_write(BYTES("\003www\000"), 5, buffer, 5, &written) == DNW_DONE);
+    EXPECT(written.len == 5 && written.count == 1 && holds("\003www\000", 5));
+}
+
+static void tells_failures(void)
+{
+    clear();
+    EXPECT(dnw_error_text(DNW_NO_MEMORY, buffer, 12) == 13 && untouched());
+    EXPECT(dnw_error_text(DNW_NO_MEMORY, buffer, 13) == 13 && holds("out of memory", 13));
+    for (uint32_t i = 0; i <= DNW_OTHER; i++) {
+        size_t len = dnw_error_text(i, buffer, sizeof buffer);
+        EXPECT(0 < len && len <= 64);
+    }
+    EXPECT(dnw_error_text(DNW_OTHER + 1, buffer, sizeof buffer) == 0);
+    EXPECT(dnw_error_text(UINT32_MAX, buffer, sizeof buffer) == 0);
+}
+
+static void counts(void)
+{
+    static const uint32_t starts[] = {20, 40, 64, 92};
+    static const uint32_t refused[] = {0, 94};
+    /* the ends, and the lengths of the forms */
+    uint64_t sum = (32 + 46 + 66 + 93) + 65536 * (uint64_t)(12 + 16 + 6 + 1);
+    EXPECT(dnw_read_names(message, sizeof message, starts, 4, 0) == 0);
+    EXPECT(dnw_read_names(message, sizeof message, starts, 4, 3) == 3 * sum);
+    EXPECT(dnw_read_names(message, sizeof message, refused, 2, 1) == (uint64_t)1 << 41);
+    EXPECT(dnw_parse_names(BYTES("a.bc.\n.\n"), 2) == 14);
+    EXPECT(dnw_parse_names(BYTES("a..\na\n"), 1) == ((uint64_t)1 << 40) + 3);
+    EXPECT(dnw_parse_names(BYTES("\377"), 1) == 0);
+    EXPECT(dnw_to_ascii(BYTES("\001a\002bc\000\000"), 2) == 12);
+    EXPECT(dnw_to_ascii(BYTES("\001a"), 2) == 0);
+    EXPECT(dnw_emit_names(BYTES("\001a\002bc\000\000"), 2) == 14);
+    EXPECT(dnw_emit_names(BYTES("\001a"), 2) == 0);
+    EXPECT(dnw_emit_names(BYTES("\001a\000"), 0) == 0);
+}
+
+int main(void)
+{
+    make_message();
+    reads_forms();
+    refuses_forms();
+    reads_texts();
+    parses();
+    prints();
+    writes();
+    refuses_to_write();
+    tells_failures();
+    counts();
+    return 0;
+}
