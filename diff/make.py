@@ -1,0 +1,335 @@
+#!/usr/bin/env python3
+"""Makes the list of the Rust's answers: requests by a generator with a fixed seed, answers by an oracle, a program
+over hickory-proto 0.26.3 that answers requests line by line.
+
+    make.py ORACLE    writes the lists beside itself
+
+README.md tells their format. What is asked: readings at each place of messages that are valid, cut, changed in a
+byte or hostile; scripts of an encoder without refusals; the texts of names, both ways.
+"""
+import os
+import re
+import subprocess
+import sys
+
+HOSTS = "www mail smtp ns1 ns2 api cdn static img db auth login _sip _tcp _443 git ci x a *".split()
+ZONES = "example.com example.net Example.ORG hickory-dns.org bbc.co.uk in-addr.arpa a.b de".split()
+
+
+class Random:
+    """A linear congruential generator (Knuth's MMIX)."""
+
+    def __init__(self, seed):
+        self.state = seed
+
+    def below(self, n):
+        self.state = (self.state * 6364136223846793005 + 1442695040888963407) % 2**64
+        return (self.state >> 33) % n
+
+    def pick(self, items):
+        return items[self.below(len(items))]
+
+
+class Oracle:
+    def __init__(self, path):
+        self.path = path
+
+    def ask(self, requests):
+        """The answers to the requests, in their order."""
+        said = subprocess.run([self.path], input="\n".join(requests) + "\n", capture_output=True, text=True, check=True)
+        answers = said.stdout.split("\n")[:-1]
+        assert len(answers) == len(requests), (len(answers), len(requests))
+        return answers
+
+
+def hexed(data):
+    return data.hex() or "-"
+
+
+def labels_of(wire):
+    out, i = [], 0
+    while wire[i]:
+        out.append(wire[i + 1 : i + 1 + wire[i]])
+        i += 1 + wire[i]
+    return out
+
+
+def wire_of(labels):
+    return b"".join(bytes([len(l)]) + l for l in labels) + b"\0"
+
+
+def oracle_name(flag, labels):
+    return f"{flag} " + (",".join(l.hex() for l in labels) or "-")
+
+
+# ---- errors
+
+DECODE = [
+    (r"InsufficientBytes", "c"),
+    (r"PointerNotPriorToLabel \{ idx: (\d+), ptr: (\d+) \}", r"p\1.\2"),
+    (r"LabelOverlapsWithOther \{ label: (\d+), other: (\d+) \}", r"o\1.\2"),
+    (r"UnrecognizedLabelCode\((\d+)\)", r"x\1"),
+    (r"DomainNameTooLong\((\d+)\)", r"n\1"),
+    (r"LabelBytesTooLong\((\d+)\)", r"b\1"),
+]
+MSG = [("Malformed label: ", "m"), ("unrecognized char: ", "u"), ("illegal char: ", "i")]
+
+
+def decode_code(debug):
+    for pattern, code in DECODE:
+        if m := re.fullmatch(pattern, debug):
+            return m.expand(code)
+    sys.exit(f"an error without a code: {debug}")
+
+
+def proto_code(debug, display):
+    """The oracle escapes control characters, so the rest of a text is told only where nothing may be escaped."""
+    if m := re.fullmatch(r"Decode\((.*)\)", debug):
+        return decode_code(m.group(1))
+    for prefix, code in MSG:
+        if debug.startswith("Msg(") and display.startswith(prefix):
+            return f"{code}:{display[len(prefix):].encode().hex()}" if "\\" not in display else code
+    sys.exit(f"an error without a code: {debug}")
+
+
+# ---- messages
+
+def name(r):
+    labels = [r.pick(HOSTS).encode() for _ in range(r.below(3))] + r.pick(ZONES).encode().split(b".")
+    if r.below(12) == 0:
+        labels.insert(0, bytes(r.below(256) for _ in range(1 + r.below(6))))
+    return labels if r.below(20) else []
+
+
+def valid_message(r):
+    """Names and a few other bytes; the names share suffixes by pointers."""
+    out, known = bytearray(r.below(256) for _ in range(r.below(4))), {}
+    for _ in range(1 + r.below(4)):
+        labels = name(r)
+        while labels and (key := tuple(labels)) not in known:
+            known[key] = len(out)
+            out += bytes([len(labels[0])]) + labels[0]
+            labels = labels[1:]
+        out += (0xC000 | known[tuple(labels)]).to_bytes(2, "big") if labels else b"\0"
+        out += bytes(r.below(256) for _ in range(r.below(4)))
+    return bytes(out)
+
+
+def changed(r, message):
+    out = bytearray(message)
+    for _ in range(1 + r.below(2)):
+        out[r.below(len(out))] = r.pick([0, 1, 2, 5, 63, 64, 128, 191, 192, 193, 255, r.below(256)])
+    return bytes(out)
+
+
+def hostile(r):
+    """Bytes that are mostly small lengths, pointers near the start, and reserved octets."""
+    out = bytearray()
+    size = 4 + r.below(24)
+    while len(out) < size:
+        out += r.pick([b"\0", b"\1a", b"\2", b"\1", bytes([0xC0, r.below(size)]), bytes([0xC0, r.below(size)]),
+                       bytes([0xC0 + r.below(64)]), bytes([r.below(256)]), bytes([64 + r.below(128)])])
+    return bytes(out)
+
+
+def chain(pointers):
+    """A root, and pointers each to the one before."""
+    out, last = bytearray(b"\0"), 0
+    for _ in range(pointers):
+        last, at = len(out), last
+        out += (0xC000 | at).to_bytes(2, "big")
+    return bytes(out)
+
+
+def deep(labels):
+    """Labels of one byte, each behind the last one by a pointer."""
+    out, last = bytearray(b"\1a\0"), 0
+    for _ in range(labels - 1):
+        last, at = len(out), last
+        out += b"\1a" + (0xC000 | at).to_bytes(2, "big")
+    return bytes(out)
+
+
+def long_names():
+    """Names at the limit of 255 octets and just past it, whole and by a pointer."""
+    for last in (60, 61, 62, 63):
+        labels = [b"x" * 63] * 3 + [b"y" * last]
+        yield wire_of(labels)
+        yield wire_of(labels[1:]) + bytes([63]) + labels[0] + b"\xc0\0"
+    for count in (126, 127, 128):
+        yield b"\1a" * count + b"\0"
+
+
+def short_messages():
+    alphabet = [0, 1, 2, 0x61, 0x40, 0xC0, 0xC1]
+    layer = [b""]
+    for _ in range(4):
+        layer = [m + bytes([b]) for m in layer for b in alphabet]
+        yield from layer
+
+
+def messages(r):
+    yield b""
+    yield from short_messages()
+    for _ in range(550):
+        message = valid_message(r)
+        yield message
+        if len(message) > 1:
+            yield message[: 1 + r.below(len(message) - 1)]
+            yield changed(r, message)
+    for _ in range(1300):
+        yield hostile(r)
+    yield from (chain(n) for n in (1, 2, 3, 30, 120))
+    yield from (deep(n) for n in (2, 126, 127, 128))
+    yield from long_names()
+
+
+def readings(oracle, r):
+    everything = list(dict.fromkeys(messages(r)))
+    asked = [(m, start) for m in everything for start in range(len(m) + 1)]
+    said = oracle.ask([f"read {start} {hexed(m)}" for m, start in asked])
+    cursors = oracle.ask([f"read-cursor {start} {hexed(m)}" for m, start in asked])
+    answers = {}
+    for (m, start), answer, cursor in zip(asked, said, cursors):
+        answers.setdefault(m, []).append(reading(m, start, answer, cursor))
+    for m, told in answers.items():
+        yield f"r {hexed(m)} " + " ".join(told)
+
+
+def reading(message, start, answer, cursor):
+    if answer.startswith("err "):
+        moved = int(cursor.split()[1])
+        code = decode_code(answer[4:].split("\t")[0])
+        return code if moved == start else f"{code}@{moved}"
+    _, flag, labels, end = answer.split()
+    assert flag == "1" and cursor == f"ok {end}", (answer, cursor)
+    wire = wire_of([bytes.fromhex(l) for l in labels.split(",")] if labels != "-" else [])
+    return end if message[start : int(end)] == wire else f"{end}:{wire.hex()}"
+
+
+# ---- texts
+
+def text(r):
+    kind = r.below(8)
+    if kind < 3:
+        out = ".".join([r.pick(HOSTS) for _ in range(r.below(3))] + [r.pick(ZONES)]) + r.pick([".", ""])
+    elif kind < 6:
+        out = "".join(r.pick(["a", "B", "z", "0", "7", "9", "-", "_", "*", ".", ".", "\\", "\\", "\\.", "\\101", "\\052",
+                              "\\200", "\\377", " ", "\t", "!", "@", "~", "\x7f", "\0"]) for _ in range(r.below(9)))
+    elif kind < 7:
+        out = "".join(r.pick(["a", ".", "\\", "é", "ß", "ሴ", "\u00a0", "\u2003", "\u0085", "٠", "½", "Ⅷ", "五", "𝟘", "😀",
+                              "\\1", "\\12", "\\777", "8", "\u200b", "\u00ad"]) for _ in range(1 + r.below(6)))
+    else:
+        out = ".".join(r.pick("abc*-_") * r.pick([1, 2, 61, 62, 63, 64, 65]) for _ in range(1 + r.below(5)))
+    return out
+
+
+def texts(oracle, r):
+    asked = ["", ".", "\\", "a\\", "a.b\\.", "\\\U0001246f"]
+    asked += sorted({text(r) for _ in range(22000)} - set(asked))
+    for t, answer in zip(asked, oracle.ask([f"text {hexed(t.encode())}" for t in asked])):
+        yield f"t {hexed(t.encode())} " + parsed(t, answer)
+
+
+def parsed(asked, answer):
+    if answer.startswith("err "):
+        return "!" + proto_code(*answer[4:].split("\t"))
+    _, flag, _, shown = answer.split()
+    shown = bytes.fromhex(shown.replace("-", "")).decode()
+    return flag + ("=" if shown == asked else shown)
+
+
+def prints(oracle, r):
+    asked = [(0, []), (1, [])]
+    for _ in range(5000):
+        labels = name(r)
+        for _ in range(r.below(3)):
+            labels.append(bytes(r.pick([0, 42, 45, 46, 92, 95, 127, 128, 255, r.below(256)]) for _ in range(1 + r.below(5))))
+        asked.append((r.below(2), labels))
+    for (flag, labels), answer in zip(asked, oracle.ask(["to_ascii " + oracle_name(f, l) for f, l in asked])):
+        shown = bytes.fromhex(answer.split()[1].replace("-", "")).decode()
+        yield f"p {flag} {wire_of(labels).hex()} {shown}".rstrip()
+
+
+# ---- scripts
+
+def script(r, compressed):
+    """Steps in the list's words, and the same in the oracle's."""
+    ours, theirs, places = [], [], 0
+    if not compressed:
+        ours, theirs = ["mU"], ["enc:U"]
+    for _ in range(1 + r.below(9)):
+        kind = r.below(20)
+        labels = name(r)
+        wire = wire_of(labels).hex()
+        spelled = "n:1:" + (",".join(l.hex() for l in labels) or "-")
+        if kind < 11:
+            ours, theirs = ours + ["n" + wire], theirs + [spelled]
+        elif kind < 13:
+            rdata = r.pick("SCO")
+            ours, theirs = ours + [rdata + wire], theirs + [f"rdata:{rdata}", spelled, "end"]
+        elif kind == 13:
+            mode = r.pick("CUL" if compressed else "UL")
+            ours, theirs = ours + ["m" + mode], theirs + ["enc:" + mode]
+        elif kind == 14:
+            ours, theirs = ours + ["k"], theirs + ["place"]
+            places += 1
+        elif kind == 15 and places:
+            number = r.below(65536)
+            places -= 1
+            # places are filled from the last one kept to the first: theirs are counted from 0
+            ours, theirs = ours + [f"f{number}"], theirs + [f"fill:{{{len(ours)}}}:{number}"]
+        elif kind == 16:
+            number = r.below(2**31) * 2 + r.below(2)
+            ours, theirs = ours + [f"w{number}"], theirs + [f"u32:{number}"]
+        elif kind == 17:
+            number = r.below(65536)
+            ours, theirs = ours + [f"h{number}"], theirs + [f"u16:{number}"]
+        elif kind == 18:
+            data = bytes(r.below(256) for _ in range(1 + r.below(6)))
+            word = r.pick(["v", "s"])
+            ours, theirs = ours + [word + data.hex()], theirs + [("vec:" if word == "v" else "char:") + data.hex()]
+        else:
+            on = r.below(2)
+            ours, theirs = ours + [f"c{on}"], theirs + [f"canon:{on}"]
+    return ours, numbered(theirs)
+
+
+def numbered(steps):
+    """The fills with the number of the last place that is kept and not filled yet."""
+    kept, count, out = [], 0, []
+    for step in steps:
+        if step == "place":
+            kept.append(count)
+            count += 1
+        if step.startswith("fill:"):
+            step = f"fill:{kept.pop()}:" + step.rsplit(":", 1)[1]
+        out.append(step)
+    return out
+
+
+def scripts(oracle, r, compressed, count):
+    asked = [script(r, compressed) for _ in range(count)]
+    for (ours, _), answer in zip(asked, oracle.ask(["emit " + " ".join(theirs) for _, theirs in asked])):
+        steps, written = answer.split(" | ")
+        assert "err" not in steps and "noplace" not in steps, answer
+        yield "e " + " ".join(ours) + " = " + written.split()[0]
+
+
+def main():
+    oracle = Oracle(sys.argv[1])
+    lists = {
+        "readings": readings(oracle, Random(1)),
+        "texts": texts(oracle, Random(2)),
+        "prints": prints(oracle, Random(3)),
+        "scripts_whole": scripts(oracle, Random(4), False, 1500),
+        "scripts_compressed": scripts(oracle, Random(5), True, 5000),
+    }
+    for name_of_list, lines in lists.items():
+        with open(os.path.join(os.path.dirname(__file__), name_of_list + ".txt"), "w") as out:
+            print("# Answers of hickory-proto 0.26.3, by diff/make.py. README.md tells the format.", file=out)
+            for line in lines:
+                print(line, file=out)
+
+
+main()
