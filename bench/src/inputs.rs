@@ -1,0 +1,140 @@
+//! What is measured: the same inputs in every run, from a generator with a fixed seed.
+
+#[derive(Clone, Copy)]
+pub enum Kind {
+    Read,
+    Emit,
+    Parse,
+    Print,
+}
+
+pub struct Task {
+    pub name: &'static str,
+    pub what: &'static str,
+    pub kind: Kind,
+    pub bytes: Vec<u8>,
+    pub starts: Vec<u32>,
+    /// How many names are read, written, parsed or printed each time.
+    pub operations: u64,
+    /// How often the task is done where its instructions are counted.
+    pub few: u64,
+}
+
+/// A linear congruential generator.
+struct Random(u64);
+
+impl Random {
+    fn below(&mut self, n: usize) -> usize {
+        self.0 = self.0.wrapping_mul(6364136223846793005).wrapping_add(1442695040888963407);
+        (self.0 >> 33) as usize % n
+    }
+
+    fn pick(&mut self, words: &str) -> String {
+        let words: Vec<&str> = words.split(' ').collect();
+        words[self.below(words.len())].to_string()
+    }
+}
+
+/// A host of some zone, one in five in capitals.
+fn text(random: &mut Random) -> String {
+    let mut text = random.pick("www mail smtp ns1 ns2 api cdn static img db auth vpn _sip._tcp _443._tcp autodiscover");
+    if random.below(3) == 0 {
+        text += &random.below(100).to_string();
+    }
+    if random.below(2) == 0 {
+        text += ".";
+        text += &random.pick("eu us-east-1 ap-south internal prod staging k8s dc2");
+    }
+    text += ".";
+    text += &random.pick("example.com example.net alibabadns.com hickory-dns.org cloudfront.net bbc.co.uk in-addr.arpa");
+    text += ".";
+    if random.below(5) == 0 {
+        text.make_ascii_uppercase();
+    }
+    text
+}
+
+/// A name's uncompressed form.
+fn form(text: &str) -> Vec<u8> {
+    let mut form = vec![];
+    for label in text.split_terminator('.') {
+        form.push(label.len() as u8);
+        form.extend(label.bytes());
+    }
+    form.push(0);
+    form
+}
+
+fn texts(count: usize, seed: u64) -> Vec<String> {
+    let mut random = Random(seed);
+    (0..count).map(|_| text(&mut random)).collect()
+}
+
+fn forms(texts: &[String]) -> Vec<u8> {
+    texts.iter().flat_map(|text| form(text)).collect()
+}
+
+/// A response of records whose names share their suffixes by pointers, and where these names start.
+fn message() -> (Vec<u8>, Vec<u32>) {
+    let (mut bytes, mut starts, mut known) = (vec![0u8; 12], vec![], Vec::<(Vec<u8>, usize)>::new());
+    for text in texts(20, 1) {
+        starts.push(bytes.len() as u32);
+        let mut rest = form(&text);
+        while rest[0] != 0 {
+            if let Some((_, place)) = known.iter().find(|(suffix, _)| *suffix == rest) {
+                bytes.extend((0xC000 | *place as u16).to_be_bytes());
+                break;
+            }
+            known.push((rest.clone(), bytes.len()));
+            let label = rest[0] as usize + 1;
+            bytes.extend(rest.drain(..label));
+        }
+        if rest[0] == 0 {
+            bytes.push(0);
+        }
+        bytes.extend([0, 1, 0, 1, 0, 0, 1, 44, 0, 4, 192, 0, 2, 1]);
+    }
+    (bytes, starts)
+}
+
+/// A root behind as many pointers, each to the one before.
+fn chain(pointers: usize) -> (Vec<u8>, Vec<u32>) {
+    let (mut bytes, mut last) = (vec![0u8], 0);
+    for _ in 0..pointers {
+        let place = last as u16;
+        last = bytes.len();
+        bytes.extend((0xC000 | place).to_be_bytes());
+    }
+    (bytes, vec![last as u32])
+}
+
+/// 127 labels of a byte, each but the first before a pointer to the label before.
+fn deep() -> (Vec<u8>, Vec<u32>) {
+    let (mut bytes, mut last) = (b"\x01a\0".to_vec(), 0);
+    for _ in 1..127 {
+        let place = last as u16;
+        last = bytes.len();
+        bytes.extend(b"\x01a");
+        bytes.extend((0xC000 | place).to_be_bytes());
+    }
+    (bytes, vec![last as u32])
+}
+
+pub fn tasks() -> Vec<Task> {
+    let mut tasks = vec![];
+    let mut add = |name, what, kind, (bytes, starts): (Vec<u8>, Vec<u32>), operations, few| {
+        tasks.push(Task { name, what, kind, bytes, starts, operations, few })
+    };
+    add("read-plain", "a name of four labels, whole", Kind::Read, (form("mail.eu.example.com."), vec![0]), 1, 2000);
+    add("read-message", "20 names of a compressed message", Kind::Read, message(), 20, 100);
+    add("read-chain", "a root behind 7999 pointers", Kind::Read, chain(7999), 1, 5);
+    add("read-deep", "127 labels over 126 pointers", Kind::Read, deep(), 1, 100);
+    add("emit-1", "a name of four labels into a new message", Kind::Emit, (form("mail.eu.example.com."), vec![]), 1, 2000);
+    add("emit-20", "20 names into a new message", Kind::Emit, (forms(&texts(20, 2)), vec![]), 20, 50);
+    add("emit-100", "100 names into a new message", Kind::Emit, (forms(&texts(100, 3)), vec![]), 100, 20);
+    let thousand = texts(1000, 4);
+    let lines = thousand.join("\n") + "\n";
+    add("parse", "1000 texts of names", Kind::Parse, (lines.into_bytes(), vec![]), 1000, 5);
+    add("print", "1000 names", Kind::Print, (forms(&thousand), vec![]), 1000, 5);
+    tasks
+}

@@ -1,0 +1,74 @@
+//! trust-dns-proto 0.22, by the same rules.
+use crate::inputs::{Kind, Task};
+use std::hint::black_box;
+use trust_dns_proto::rr::Name;
+use trust_dns_proto::serialize::binary::{BinDecodable, BinDecoder, BinEncodable, BinEncoder};
+
+const REFUSED: u64 = 1 << 40;
+
+pub fn run(task: &Task, count: u64) -> u64 {
+    match task.kind {
+        Kind::Read => repeat(count, || read_each(black_box(&task.bytes), &task.starts)),
+        Kind::Emit => {
+            let names = names_of(&task.bytes);
+            repeat(count, || emit_each(black_box(&names)))
+        }
+        Kind::Parse => {
+            let texts: Vec<&str> = std::str::from_utf8(&task.bytes).expect("UTF-8").lines().collect();
+            repeat(count, || sum(black_box(&texts), |t| Name::from_ascii(t).map_or(REFUSED, |n| encoded(&n))))
+        }
+        Kind::Print => {
+            let names = names_of(&task.bytes);
+            repeat(count, || sum(black_box(&names), |n| black_box(n.to_ascii()).len() as u64))
+        }
+    }
+}
+
+fn repeat(count: u64, once: impl Fn() -> u64) -> u64 {
+    (0..count).fold(0, |all, _| all.wrapping_add(once()))
+}
+
+fn sum<T>(items: &[T], value: impl Fn(&T) -> u64) -> u64 {
+    items.iter().fold(0, |all, item| all.wrapping_add(value(item)))
+}
+
+fn read_each(message: &[u8], starts: &[u32]) -> u64 {
+    sum(starts, |start| {
+        let mut decoder = BinDecoder::new(message);
+        decoder.read_slice(*start as usize).expect("a place of the message");
+        match Name::read(&mut decoder) {
+            Ok(name) => decoder.index() as u64 + 65536 * encoded(black_box(&name)),
+            Err(_) => REFUSED,
+        }
+    })
+}
+
+fn emit_each(names: &[Name]) -> u64 {
+    let mut message = Vec::new();
+    let mut encoder = BinEncoder::new(&mut message);
+    let refused = sum_mut(names, |name| if name.emit(&mut encoder).is_err() { REFUSED } else { 0 });
+    drop(encoder);
+    refused + black_box(&message).len() as u64
+}
+
+fn sum_mut<T>(items: &[T], mut value: impl FnMut(&T) -> u64) -> u64 {
+    items.iter().fold(0, |all, item| all.wrapping_add(value(item)))
+}
+
+fn names_of(list: &[u8]) -> Vec<Name> {
+    let mut decoder = BinDecoder::new(list);
+    let mut names = vec![];
+    while !decoder.is_empty() {
+        names.push(Name::read(&mut decoder).expect("a name"));
+    }
+    names
+}
+
+/// The octets of a name's uncompressed form.
+fn encoded(name: &Name) -> u64 {
+    if name.is_root() {
+        1
+    } else {
+        name.len() as u64 + 1
+    }
+}
