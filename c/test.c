@@ -16,6 +16,24 @@
 
 #define BYTES(text) ((const uint8_t *)(text)), (sizeof(text) - 1)
 
+/* While there is no memory, malloc and realloc give none: the linker puts these in their place. */
+static bool no_memory;
+
+void *__real_malloc(size_t size);
+void *__real_realloc(void *block, size_t size);
+void *__wrap_malloc(size_t size);
+void *__wrap_realloc(void *block, size_t size);
+
+void *__wrap_malloc(size_t size)
+{
+    return no_memory ? NULL : __real_malloc(size);
+}
+
+void *__wrap_realloc(void *block, size_t size)
+{
+    return no_memory ? NULL : __real_realloc(block, size);
+}
+
 static uint8_t buffer[1200];
 
 /* The buffer holds these bytes, and what stood behind them. */
@@ -225,6 +243,27 @@ static void tells_failures(void)
     EXPECT(dnw_error_text(UINT32_MAX, buffer, sizeof buffer) == 0);
 }
 
+/* Without memory, what needs none answers as ever, and what needs some says so and writes nothing. */
+static void lacks_memory(void)
+{
+    struct dnw_read_name read = {7, 9};
+    struct dnw_parsed_name parsed = {7, false};
+    struct dnw_written_names written = {7, 9};
+    size_t len = 7;
+    no_memory = true;
+    EXPECT(read_form(40, DNW_FORM_SIZE, &read) == DNW_DONE && read.len == 16);
+    EXPECT(read_bytes(BYTES("\100"), 0) == DNW_RESERVED_OCTET);
+    EXPECT(parse(BYTES("a.bc."), sizeof buffer, &parsed) == DNW_DONE && parsed.len == 6);
+    EXPECT(parse(BYTES("\\"), sizeof buffer, &parsed) == DNW_BAD_TEXT);
+    EXPECT(parse(BYTES("a..b"), sizeof buffer, &parsed) == DNW_NO_MEMORY);
+    clear();
+    EXPECT(dnw_name_read_text(message, sizeof message, 40, buffer, sizeof buffer, &read) == DNW_NO_MEMORY);
+    EXPECT(dnw_name_print(BYTES("\001a\000"), true, buffer, sizeof buffer, &len) == DNW_NO_MEMORY);
+    EXPECT(dnw_names_write(BYTES("\003www\000"), 512, buffer, sizeof buffer, &written) == DNW_NO_MEMORY);
+    EXPECT(untouched() && read.len == 16 && parsed.len == 6 && len == 7 && written.len == 7 && written.count == 9);
+    no_memory = false;
+}
+
 static void counts(void)
 {
     static const uint32_t starts[] = {20, 40, 64, 92};
@@ -255,6 +294,7 @@ int main(void)
     writes();
     refuses_to_write();
     tells_failures();
+    lacks_memory();
     counts();
     return 0;
 }

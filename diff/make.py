@@ -13,6 +13,7 @@ import subprocess
 import sys
 
 HOSTS = "www mail smtp ns1 ns2 api cdn static img db auth login _sip _tcp _443 git ci x a *".split()
+TELLING = [0, 42, 45, 46, 92, 95, 127, 128, 255]
 ZONES = "example.com example.net Example.ORG hickory-dns.org bbc.co.uk in-addr.arpa a.b de".split()
 
 
@@ -244,9 +245,10 @@ def prints(oracle, r):
     for _ in range(5000):
         labels = name(r)
         for _ in range(r.below(3)):
-            labels.append(bytes(r.pick([0, 42, 45, 46, 92, 95, 127, 128, 255, r.below(256)]) for _ in range(1 + r.below(5))))
+            labels.append(bytes(r.pick(TELLING + [r.below(256)]) for _ in range(1 + r.below(5))))
         asked.append((r.below(2), labels))
-    for (flag, labels), answer in zip(asked, oracle.ask(["to_ascii " + oracle_name(f, l) for f, l in asked])):
+    said = oracle.ask(["to_ascii " + oracle_name(flag, labels) for flag, labels in asked])
+    for (flag, labels), answer in zip(asked, said):
         shown = bytes.fromhex(answer.split()[1].replace("-", "")).decode()
         yield f"p {flag} {wire_of(labels).hex()} {shown}".rstrip()
 
@@ -260,14 +262,12 @@ def script(r, compressed):
         ours, theirs = ["mU"], ["enc:U"]
     for _ in range(1 + r.below(9)):
         kind = r.below(20)
-        labels = name(r)
-        wire = wire_of(labels).hex()
-        spelled = "n:1:" + (",".join(l.hex() for l in labels) or "-")
+        mine, spelled = step_of(name(r))
         if kind < 11:
-            ours, theirs = ours + ["n" + wire], theirs + [spelled]
+            ours, theirs = ours + [mine], theirs + [spelled]
         elif kind < 13:
             rdata = r.pick("SCO")
-            ours, theirs = ours + [rdata + wire], theirs + [f"rdata:{rdata}", spelled, "end"]
+            ours, theirs = ours + [rdata + mine[1:]], theirs + [f"rdata:{rdata}", spelled, "end"]
         elif kind == 13:
             mode = r.pick("CUL" if compressed else "UL")
             ours, theirs = ours + ["m" + mode], theirs + ["enc:" + mode]
@@ -288,11 +288,30 @@ def script(r, compressed):
         elif kind == 18:
             data = bytes(r.below(256) for _ in range(1 + r.below(6)))
             word = r.pick(["v", "s"])
-            ours, theirs = ours + [word + data.hex()], theirs + [("vec:" if word == "v" else "char:") + data.hex()]
+            spelled = "vec:" if word == "v" else "char:"
+            ours, theirs = ours + [word + data.hex()], theirs + [spelled + data.hex()]
         else:
             on = r.below(2)
             ours, theirs = ours + [f"c{on}"], theirs + [f"canon:{on}"]
     return ours, numbered(theirs)
+
+
+def step_of(labels):
+    """A name's step in both words."""
+    return "n" + wire_of(labels).hex(), "n:1:" + (",".join(l.hex() for l in labels) or "-")
+
+
+def long_script(r):
+    """More names than an encoder compresses, and more suffixes than it remembers."""
+    steps = [step_of(name(r)) for _ in range(110 + r.below(50))]
+    return [ours for ours, _ in steps], [theirs for _, theirs in steps]
+
+
+def far_script(r):
+    """Names before, at and behind the place that pointers reach to."""
+    gap = 16300 + r.below(80)
+    steps = [step_of(name(r)) for _ in range(3)] + [(f"z{gap}", f"zeros:{gap}")] + [step_of(name(r)) for _ in range(9)]
+    return [ours for ours, _ in steps], [theirs for _, theirs in steps]
 
 
 def numbered(steps):
@@ -310,6 +329,8 @@ def numbered(steps):
 
 def scripts(oracle, r, compressed, count):
     asked = [script(r, compressed) for _ in range(count)]
+    if compressed:
+        asked += [long_script(r) for _ in range(40)] + [far_script(r) for _ in range(6)]
     for (ours, _), answer in zip(asked, oracle.ask(["emit " + " ".join(theirs) for _, theirs in asked])):
         steps, written = answer.split(" | ")
         assert "err" not in steps and "noplace" not in steps, answer

@@ -35,6 +35,8 @@ impl Random {
     }
 }
 
+const ZONES: &str = "example.com example.net alibabadns.com hickory-dns.org cloudfront.net bbc.co.uk in-addr.arpa";
+
 /// A host of some zone, one in five in capitals.
 fn text(random: &mut Random) -> String {
     let mut text = random.pick("www mail smtp ns1 ns2 api cdn static img db auth vpn _sip._tcp _443._tcp autodiscover");
@@ -46,7 +48,7 @@ fn text(random: &mut Random) -> String {
         text += &random.pick("eu us-east-1 ap-south internal prod staging k8s dc2");
     }
     text += ".";
-    text += &random.pick("example.com example.net alibabadns.com hickory-dns.org cloudfront.net bbc.co.uk in-addr.arpa");
+    text += &random.pick(ZONES);
     text += ".";
     if random.below(5) == 0 {
         text.make_ascii_uppercase();
@@ -129,7 +131,8 @@ pub fn tasks() -> Vec<Task> {
     add("read-message", "20 names of a compressed message", Kind::Read, message(), 20, 100);
     add("read-chain", "a root behind 7999 pointers", Kind::Read, chain(7999), 1, 5);
     add("read-deep", "127 labels over 126 pointers", Kind::Read, deep(), 1, 100);
-    add("emit-1", "a name of four labels into a new message", Kind::Emit, (form("mail.eu.example.com."), vec![]), 1, 2000);
+    let one = form("mail.eu.example.com.");
+    add("emit-1", "a name of four labels into a new message", Kind::Emit, (one, vec![]), 1, 2000);
     add("emit-20", "20 names into a new message", Kind::Emit, (forms(&texts(20, 2)), vec![]), 20, 50);
     add("emit-100", "100 names into a new message", Kind::Emit, (forms(&texts(100, 3)), vec![]), 100, 20);
     let thousand = texts(1000, 4);

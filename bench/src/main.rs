@@ -52,7 +52,8 @@ fn measure(task: &Task) {
     for (i, (name, _)) in CONTENDERS.iter().enumerate() {
         let (median, least) = summary(times[i].clone());
         let (ratio, least_ratio) = (median / others_median, least / others_least);
-        println!("    {name:<16}{median:>12.2} ns ({least:.2})   x{ratio:.2} (x{least_ratio:.2})   checksum {}", sums[i]);
+        print!("    {name:<16}{median:>12.2} ns ({least:.2})   x{ratio:.2} (x{least_ratio:.2})");
+        println!("   checksum {}", sums[i]);
     }
     if sums[0] != sums[1] {
         println!("    the checksums differ: not the same work");

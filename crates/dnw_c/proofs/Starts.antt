@@ -15,13 +15,15 @@ takes-at d first message start ls e k begins is name =
     rw there (record { end = e; name = name; moved = refl })
 
 -- a name has octets of its own
-pub takes-onward : {d after : Decoder} {ls : List (List ℕ)} {k : ℕ} → TakesName d after ls k → d.index < after.index
+pub takes-onward : {d after : Decoder} {ls : List (List ℕ)} {k : ℕ} → TakesName d after ls k
+    → d.index < after.index
 takes-onward {d} takes =
     let (further, inside) = Reads-own takes.name.reads in
     rw takes.moved further
 
 -- which lie within the message
-pub takes-within : {d after : Decoder} {ls : List (List ℕ)} {k : ℕ} → TakesName d after ls k → after.index ≤ length after.bytes
+pub takes-within : {d after : Decoder} {ls : List (List ℕ)} {k : ℕ} → TakesName d after ls k
+    → after.index ≤ length after.bytes
 takes-within {d} takes =
     let (further, inside) = Reads-own takes.name.reads in
     rw takes.moved inside

@@ -1,14 +1,28 @@
 -- What the functions for C leave in the caller's buffers.
-use Rattle.std.specs.Prelude.{◌≡◌, ℕ, ◌⊎◌, ◌+◌, List, ◌++◌, length, drop, Ok}
+use Rattle.std.specs.Prelude.{◌≡◌, ◌<◌, ℕ, ◌⊎◌, ◌+◌, List, [], ◌++◌, length, drop, Ok, Err}
 use Rattle.dnw_base.specs.Decoder.{Decoder}
 use Rattle.dnw_name.specs.Names.{NameValue}
+use Rattle.dnw_base.specs.declared.error.DecodeError.{DecodeError}
+use Rattle.dnw_base.specs.declared.error.ProtoError.{ProtoError}
 use Rattle.dnw_name.specs.Decodable.{TakesNameValue}
-use Rattle.dnw_encoder.specs.Encoder.{Encoder}
+use Rattle.dnw_name.specs.Reading.{StopsAt}
+use Rattle.dnw_encoder.specs.Encoder.{Encoder, fresh}
 use Rattle.dnw_encoder.specs.Emitting.{EmitsName}
+use Rattle.dnw_c.specs.Failures.{number, of_decode, of_proto}
+use Rattle.dnw_c.specs.declared.failure.Failure.{Failure}
+use Rattle.dnw_c.specs.declared.failure.Failure.TheVariants.{NoRoom}
 
 -- these bytes at the front of the buffer, and the others as they were
 abbrev pub put : List ℕ → List ℕ → List ℕ
 put buffer bytes = bytes ++ drop (length bytes) buffer
+
+-- a decoder at the first byte of a list
+abbrev pub at_first : List ℕ → Decoder
+at_first list = record { bytes = list; index = 0 }
+
+-- a new encoder of a message of that size at most
+abbrev pub limited_to : ℕ → Encoder
+limited_to max_size = record (fresh [] 0) { max_size = max_size }
 
 -- Names are read in turn up to the end of their list, and each is written behind the one before.
 pub data WritesNames : Decoder → Encoder → ℕ → Encoder → Type 0 where
@@ -16,6 +30,27 @@ pub data WritesNames : Decoder → Encoder → ℕ → Encoder → Type 0 where
   more : (d next : Decoder) (name : NameValue) (v m w : Encoder) (count : ℕ)
       → TakesNameValue d name next → EmitsName name v (Ok tt) m → WritesNames next m count w
       → WritesNames d v (count + 1) w
+
+-- The next name of a list is refused: it cannot be read, or it cannot be written.
+pub data Refuses (d : Decoder) (v : Encoder) : Failure → Type 0 where
+  unread : (error : DecodeError) (k j : ℕ) → StopsAt d error k j → Refuses d v (of_decode error)
+  unwritten : (name : NameValue) (next : Decoder) (w : Encoder) (error : ProtoError)
+      → TakesNameValue d name next → EmitsName name v (Err error) w → Refuses d v (of_proto error)
+
+-- Names are read and written in turn up to one that is refused.
+pub data StopsWriting : Decoder → Encoder → Failure → Type 0 where
+  here : (d : Decoder) (v : Encoder) (failure : Failure)
+      → d.index < length d.bytes → Refuses d v failure → StopsWriting d v failure
+  later : (d next : Decoder) (name : NameValue) (v m : Encoder) (failure : Failure)
+      → TakesNameValue d name next → EmitsName name v (Ok tt) m → StopsWriting next m failure
+      → StopsWriting d v failure
+
+-- A list is not written into a buffer of that size: a name is refused, or the message is longer than the buffer.
+pub data FailsToWrite (list : List ℕ) (max_size size : ℕ) : ℕ → Type 0 where
+  refused : (failure : Failure) → StopsWriting (at_first list) (limited_to max_size) failure
+      → FailsToWrite list max_size size (number failure)
+  no_room : (count : ℕ) (w : Encoder) → WritesNames (at_first list) (limited_to max_size) count w
+      → size < length w.bytes → FailsToWrite list max_size size (number NoRoom)
 
 -- one of three numbers
 abbrev pub IsAmong : ℕ → ℕ → ℕ → ℕ → Type 0

@@ -1,12 +1,14 @@
 -- The numbers by which C is told why a call answers nothing.
 use Rattle.std.specs.Prelude.{ℕ}
 use Rattle.dnw_base.specs.declared.error.DecodeError.{DecodeError}
-use Rattle.dnw_base.specs.declared.error.DecodeError.TheVariants.{InsufficientBytes, PointerNotPriorToLabel, UnrecognizedLabelCode, LabelOverlapsWithOther, DomainNameTooLong, LabelBytesTooLong, Memory}
+use Rattle.dnw_base.specs.declared.error.DecodeError.TheVariants.{InsufficientBytes, PointerNotPriorToLabel, UnrecognizedLabelCode, Memory}
+use Rattle.dnw_base.specs.declared.error.DecodeError.TheVariants.{LabelOverlapsWithOther, DomainNameTooLong, LabelBytesTooLong}
 use Rattle.dnw_base.specs.declared.error.ProtoError.{ProtoError}
 use Rattle.dnw_base.specs.declared.error.ProtoError.TheVariants.{Decode, Message, Msg, MaxBufferSizeExceeded, Memory as ProtoMemory}
 use Rattle.dnw_base.specs.Fault.{Fault, LabelTooLong as TextLabelTooLong, NameTooLong as TextNameTooLong}
 use Rattle.dnw_c.specs.declared.failure.Failure.{Failure}
-use Rattle.dnw_c.specs.declared.failure.Failure.TheVariants.{NoMemory, NoRoom, MessageCut, PointerNotBack, ReservedOctet, SegmentsOverlap, NameTooLong, LabelTooLong, BadText, NotUtf8, BytesLeft, MessageTooLong, Other}
+use Rattle.dnw_c.specs.declared.failure.Failure.TheVariants.{NoMemory, NoRoom, MessageCut, PointerNotBack, ReservedOctet, SegmentsOverlap}
+use Rattle.dnw_c.specs.declared.failure.Failure.TheVariants.{NameTooLong, LabelTooLong, BadText, NotUtf8, BytesLeft, MessageTooLong, Other}
 
 abbrev pub number : Failure → ℕ
 number NoMemory = 1

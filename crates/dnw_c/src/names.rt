@@ -1,5 +1,6 @@
 //! Names read, written, parsed and printed.
-ghost use Rattle.std.specs.Prelude.{◌≡◌, ◌≢◌, ℕ, ◌<◌, ◌≤◌, true, List, [], length, Ok, Err, IfOk, IfErr, IsErrOf, IsErrAnd, OnOk, OnErr};
+ghost use Rattle.std.specs.Prelude.{◌≡◌, ◌≢◌, ℕ, ◌<◌, ◌≤◌, true, List, [], length, Ok, Err, IsUtf8};
+ghost use Rattle.std.specs.Prelude.{IfOk, IfErr, IsErrOf, IsErrAnd, OnOk, OnErr};
 ghost use Rattle.std.specs.Str.{chars};
 ghost use Rattle.dnw_base.specs.declared.error.DecodeError.{DecodeError};
 ghost use Rattle.dnw_base.specs.Fault.{Fault};
@@ -7,12 +8,12 @@ ghost use Rattle.dnw_name.specs.Names.{NameValue, wire};
 ghost use Rattle.dnw_name.specs.NameText.{name_text, name_from_text};
 ghost use Rattle.dnw_name.specs.Reading.{NameAt, FaultAt};
 ghost use Rattle.dnw_name.specs.Decodable.{TakesNameValue};
-ghost use Rattle.dnw_encoder.specs.Encoder.{Encoder, fresh};
+ghost use Rattle.dnw_encoder.specs.Encoder.{Encoder};
 ghost use Rattle.dnw_encoder.specs.EncoderValue.{value, lender};
 ghost use Rattle.dnw_encoder.specs.Emitting.{EmitsName};
-ghost use Rattle.dnw_c.specs.Answers.{put, IsAmong, WritesNames};
+ghost use Rattle.dnw_c.specs.Answers.{put, at_first, limited_to, IsAmong, WritesNames, Refuses, StopsWriting, FailsToWrite};
 ghost use Rattle.dnw_c.specs.Failures.{number, of_decode, of_fault};
-ghost use Rattle.dnw_c.specs.declared.failure.Failure.TheVariants.{NoMemory, NoRoom, NotUtf8, BytesLeft, MessageTooLong};
+ghost use Rattle.dnw_c.specs.declared.failure.Failure.TheVariants.{NoMemory, NoRoom, NotUtf8};
 
 use crate::failure::{Failure, of_decode, of_proto, text_of};
 use dns_names_wire::binary::BinEncodable;
@@ -59,9 +60,10 @@ pub extern "C" fn dnw_name_read(
     ensures ok { result ≡ 0 → (ls : List (List ℕ)) × (k : ℕ) × NameAt message.now start ls read.new.end k
         × (form.new ≡ put form.old (wire ls)) × (read.new.len ≡ length (wire ls)) }
     ensures same { result ≢ 0 → (form.new ≡ form.old) × (read.new ≡ read.old) }
-    ensures accepts { (ls : List (List ℕ)) (e k : ℕ) → NameAt message.now start ls e k → length (wire ls) ≤ length form.old
-        → result ≡ 0 }
-    ensures refuses { (error : DecodeError) (k j : ℕ) → FaultAt message.now start error k j → result ≡ number (of_decode error) }
+    ensures accepts { (ls : List (List ℕ)) (e k : ℕ) → NameAt message.now start ls e k
+        → length (wire ls) ≤ length form.old → result ≡ 0 }
+    ensures refuses { (error : DecodeError) (k j : ℕ) → FaultAt message.now start error k j
+        → result ≡ number (of_decode error) }
 {
     match name_at(alloc, message, start) {
         Ok((name, end)) => match put(form, name.as_wire()) {
@@ -84,10 +86,12 @@ pub extern "C" fn dnw_name_read_text(
     text: &mut [u8],
     read: &mut ReadName,
 ) -> u32
-    ensures ok { result ≡ 0 → (name : NameValue) × (k : ℕ) × NameAt message.now start name.labels read.new.end k
-        × (text.new ≡ put text.old (name_text name)) × (read.new.len ≡ length (name_text name)) }
+    ensures ok { result ≡ 0 → (ls : List (List ℕ)) × (k : ℕ) × NameAt message.now start ls read.new.end k
+        × (text.new ≡ put text.old (name_text (record { is_fqdn = true; labels = ls })))
+        × (read.new.len ≡ length (name_text (record { is_fqdn = true; labels = ls }))) }
     ensures same { result ≢ 0 → (text.new ≡ text.old) × (read.new ≡ read.old) }
-    ensures refuses { (error : DecodeError) (k j : ℕ) → FaultAt message.now start error k j → result ≡ number (of_decode error) }
+    ensures refuses { (error : DecodeError) (k j : ℕ) → FaultAt message.now start error k j
+        → result ≡ number (of_decode error) }
 {
     match name_at(alloc, message, start) {
         Ok((name, end)) => match put_text(alloc, text, &name) {
@@ -113,6 +117,9 @@ pub extern "C" fn dnw_name_parse(
         × (form.new ≡ put form.old (wire name.labels))
         × (parsed.new ≡ record { len = length (wire name.labels); is_fqdn = name.is_fqdn }) }
     ensures same { result ≢ 0 → (form.new ≡ form.old) × (parsed.new ≡ parsed.old) }
+    // Want of memory refuses no text that is one.
+    ensures accepts { (name : NameValue) → IsUtf8 text.now → name_from_text (chars text.now) ≡ Ok name
+        → length (wire name.labels) ≤ length form.old → result ≡ 0 }
     ensures refuses { (fault : Fault) → name_from_text (chars text.now) ≡ Err fault
         → IsAmong result (number (of_fault fault)) (number NoMemory) (number NotUtf8) }
 {
@@ -144,7 +151,8 @@ pub extern "C" fn dnw_name_print(
         × (text.new ≡ put text.old (name_text (record { is_fqdn = is_fqdn; labels = ls })))
         × (len.new ≡ length (name_text (record { is_fqdn = is_fqdn; labels = ls }))) }
     ensures same { result ≢ 0 → (text.new ≡ text.old) × (len.new ≡ len.old) }
-    ensures refuses { (error : DecodeError) (k j : ℕ) → FaultAt form.now 0 error k j → result ≡ number (of_decode error) }
+    ensures refuses { (error : DecodeError) (k j : ℕ) → FaultAt form.now 0 error k j
+        → result ≡ number (of_decode error) }
 {
     match name_at(alloc, form, 0) {
         Ok((mut name, end)) => {
@@ -174,9 +182,9 @@ pub extern "C" fn dnw_names_write(
     out: &mut [u8],
     written: &mut WrittenNames,
 ) -> u32
-    ensures ok { result ≡ 0 → (w : Encoder) × WritesNames (record { bytes = names.now; index = 0 })
-        (record (fresh [] 0) { max_size = max_size }) written.new.count w
+    ensures ok { result ≡ 0 → (w : Encoder) × WritesNames (at_first names.now) (limited_to max_size) written.new.count w
         × (out.new ≡ put out.old w.bytes) × (written.new.len ≡ length w.bytes) }
+    ensures err { result ≢ 0 → FailsToWrite names.now max_size (length out.old) result }
     ensures same { result ≢ 0 → (out.new ≡ out.old) × (written.new ≡ written.old) }
 {
     match write_all(alloc, names, max_size) {
@@ -221,8 +229,11 @@ fn name_at(alloc: Global, message: &[u8], start: usize) -> Result<(Name, usize),
 /// The name that a text writes.
 fn parse(alloc: Global, text: &[u8]) -> Result<Name, Failure>
     ensures ok { IfOk result (λ name. name_from_text (chars text.now) ≡ Ok name) }
+    ensures accepts { (name : NameValue) → IsUtf8 text.now → name_from_text (chars text.now) ≡ Ok name
+        → result ≡ Ok name }
     ensures err { (fault : Fault) → name_from_text (chars text.now) ≡ Err fault
-        → IsErrAnd result (λ failure. IsAmong (number failure) (number (of_fault fault)) (number NoMemory) (number NotUtf8)) }
+        → IsErrAnd result (λ failure.
+        IsAmong (number failure) (number (of_fault fault)) (number NoMemory) (number NotUtf8)) }
 {
     let Ok(chars) = str::from_utf8(text) else {
         return Err(Failure::NotUtf8);
@@ -235,8 +246,9 @@ fn parse(alloc: Global, text: &[u8]) -> Result<Name, Failure>
 
 /// The bytes of a message of a list's names, and how many there are.
 fn write_all(alloc: Global, names: &[u8], max_size: u16) -> Result<(Vec<u8>, usize), Failure>
-    ensures ok { IfOk result (λ r. (w : Encoder) × WritesNames (record { bytes = names.now; index = 0 })
-        (record (fresh [] 0) { max_size = max_size }) r.1 w × (r.0.items ≡ w.bytes)) }
+    ensures ok { IfOk result (λ r. (w : Encoder) × WritesNames (at_first names.now) (limited_to max_size) r.1 w
+        × (r.0.items ≡ w.bytes)) }
+    ensures err { IfErr result (StopsWriting (at_first names.now) (limited_to max_size)) }
 {
     let mut bytes = Vec::new(alloc);
     let mut encoder = BinEncoder::new(&mut bytes);
@@ -248,7 +260,9 @@ fn write_all(alloc: Global, names: &[u8], max_size: u16) -> Result<(Vec<u8>, usi
 
 /// Writes the names of a list, and tells how many there are.
 fn write_names(alloc: Global, names: &[u8], encoder: &mut BinEncoder<'_>) -> Result<usize, Failure>
-    ensures ok { IfOk result (λ count. WritesNames (record { bytes = names.now; index = 0 }) (value encoder.old) count (value encoder.new)) }
+    ensures ok { IfOk result (λ count.
+        WritesNames (at_first names.now) (value encoder.old) count (value encoder.new)) }
+    ensures err { IfErr result (StopsWriting (at_first names.now) (value encoder.old)) }
     ensures lender { lender encoder.new ≡ lender encoder.old }
 {
     let mut decoder = BinDecoder::new(names);
@@ -268,6 +282,7 @@ fn write_next(
 ) -> Result<(), Failure>
     ensures ok { OnOk result ((name : NameValue) × TakesNameValue decoder.old name decoder.new
         × EmitsName name (value encoder.old) (Ok tt) (value encoder.new)) }
+    ensures err { IfErr result (Refuses decoder.old (value encoder.old)) }
     ensures onward { OnOk result (decoder.old.index < decoder.new.index) }
     ensures within { OnOk result (decoder.new.index ≤ length decoder.new.bytes) }
     ensures bytes { decoder.new.bytes ≡ decoder.old.bytes }
@@ -297,7 +312,8 @@ fn put(buffer: &mut [u8], bytes: &[u8]) -> Result<usize, Failure>
 
 /// Puts the text of a name.
 fn put_text(alloc: Global, buffer: &mut [u8], name: &Name) -> Result<usize, Failure>
-    ensures ok { IfOk result (λ len. (len ≡ length (name_text name.now)) × (buffer.new ≡ put buffer.old (name_text name.now))) }
+    ensures ok { IfOk result (λ len. (len ≡ length (name_text name.now))
+        × (buffer.new ≡ put buffer.old (name_text name.now))) }
     ensures same { OnErr result (buffer.new ≡ buffer.old) }
 {
     match name.to_ascii(alloc) {

@@ -55,6 +55,7 @@ fn apply(
         b'O' => emit_in_rdata(alloc, rest, RDataEncoding::Other, encoder),
         b'h' => encoder.emit_u16((number(rest)? % 65536) as u16),
         b'w' => encoder.emit_u32(number(rest)?),
+        b'z' => emit_zeros(alloc, rest, encoder),
         b'v' => encoder.emit_vec(octets(alloc, rest)?.as_slice()),
         b's' => encoder.emit_character_data(octets(alloc, rest)?.as_slice()),
         b'k' => {
@@ -89,6 +90,12 @@ fn emit_in_rdata(
     let name = name(alloc, form)?;
     let mut guard = encoder.with_rdata_behavior(kind);
     name.emit(&mut guard)
+}
+
+/// Writes as many zero bytes.
+fn emit_zeros(alloc: Global, text: &str, encoder: &mut BinEncoder<'_>) -> ProtoResult<()> {
+    let zeros = vec![in alloc; 0u8; number(text)? as usize]?;
+    encoder.emit_vec(zeros.as_slice())
 }
 
 /// Fills the last place that was kept and is not filled yet.
