@@ -1,5 +1,5 @@
 -- The numbers by which C is told why a call answers nothing.
-use Rattle.std.specs.Prelude.{ℕ}
+use Rattle.std.specs.Prelude.{ℕ, List, codes}
 use Rattle.dnw_base.specs.declared.error.DecodeError.{DecodeError}
 use Rattle.dnw_base.specs.declared.error.DecodeError.TheVariants.{InsufficientBytes, PointerNotPriorToLabel, UnrecognizedLabelCode, Memory}
 use Rattle.dnw_base.specs.declared.error.DecodeError.TheVariants.{LabelOverlapsWithOther, DomainNameTooLong, LabelBytesTooLong}
@@ -24,6 +24,22 @@ number NotUtf8 = 10
 number BytesLeft = 11
 number MessageTooLong = 12
 number Other = 13
+
+-- what it is, for people
+abbrev pub failure_text : Failure → List ℕ
+failure_text NoMemory = codes "out of memory"
+failure_text NoRoom = codes "the buffer for the answer is too short"
+failure_text MessageCut = codes "the message ends within the name"
+failure_text PointerNotBack = codes "a compression pointer does not lead back"
+failure_text ReservedOctet = codes "an octet from 64 to 191 begins no label"
+failure_text SegmentsOverlap = codes "a name runs into the name that leads to it"
+failure_text NameTooLong = codes "a name of more than 255 octets"
+failure_text LabelTooLong = codes "a label of more than 63 octets"
+failure_text BadText = codes "a label, a character or an escape of the text is not allowed"
+failure_text NotUtf8 = codes "the text is no UTF-8"
+failure_text BytesLeft = codes "bytes follow behind the name"
+failure_text MessageTooLong = codes "the message would be longer than its maximum"
+failure_text Other = codes "another failure"
 
 -- why a name of a message is refused
 abbrev pub of_decode : DecodeError → Failure

@@ -1,6 +1,7 @@
 //! Why a call answers nothing.
-ghost use Rattle.std.specs.Prelude.{◌≡◌, ◌≤◌, length};
-ghost use Rattle.dnw_c.specs.Failures.{number, of_decode, of_proto};
+ghost use Rattle.std.specs.Prelude.{◌≡◌, ◌≢◌, ◌≤◌, length, IfSome, IfNone};
+ghost use Rattle.dnw_c.specs.declared.failure.Failure.{Failure};
+ghost use Rattle.dnw_c.specs.Failures.{number, failure_text, of_decode, of_proto};
 
 use dns_names_wire::error::{DecodeError, ProtoError};
 
@@ -42,6 +43,52 @@ impl Failure {
     {
         self as u32
     }
+
+    /// The failure that a number stands for.
+    pub fn from_number(code: u32) -> Option<Self>
+        ensures some { IfSome result (λ failure. number failure ≡ code) }
+        ensures none { IfNone result ((failure : Failure) → number failure ≢ code) }
+    {
+        let failure = match code {
+            1 => Failure::NoMemory,
+            2 => Failure::NoRoom,
+            3 => Failure::MessageCut,
+            4 => Failure::PointerNotBack,
+            5 => Failure::ReservedOctet,
+            6 => Failure::SegmentsOverlap,
+            7 => Failure::NameTooLong,
+            8 => Failure::LabelTooLong,
+            9 => Failure::BadText,
+            10 => Failure::NotUtf8,
+            11 => Failure::BytesLeft,
+            12 => Failure::MessageTooLong,
+            13 => Failure::Other,
+            _ => return None,
+        };
+        Some(failure)
+    }
+
+    /// What it is, for people.
+    pub fn text(self) -> &'static str
+        ensures text { result.now ≡ failure_text self }
+        ensures few { length result.now ≤ 64 }
+    {
+        match self {
+            Failure::NoMemory => "out of memory",
+            Failure::NoRoom => "the buffer for the answer is too short",
+            Failure::MessageCut => "the message ends within the name",
+            Failure::PointerNotBack => "a compression pointer does not lead back",
+            Failure::ReservedOctet => "an octet from 64 to 191 begins no label",
+            Failure::SegmentsOverlap => "a name runs into the name that leads to it",
+            Failure::NameTooLong => "a name of more than 255 octets",
+            Failure::LabelTooLong => "a label of more than 63 octets",
+            Failure::BadText => "a label, a character or an escape of the text is not allowed",
+            Failure::NotUtf8 => "the text is no UTF-8",
+            Failure::BytesLeft => "bytes follow behind the name",
+            Failure::MessageTooLong => "the message would be longer than its maximum",
+            Failure::Other => "another failure",
+        }
+    }
 }
 
 /// Why a name of a message is refused.
@@ -74,25 +121,13 @@ pub fn of_proto(error: &ProtoError) -> Failure
 }
 
 /// What stands for a number, for people; empty where no failure has it.
-pub fn text_of(number: u32) -> &'static str
-    ensures known { 1 ≤ number → number ≤ 13 → 1 ≤ length result.now }
+pub fn text_of(code: u32) -> &'static str
+    ensures known { (failure : Failure) → code ≡ number failure → result.now ≡ failure_text failure }
     ensures few { length result.now ≤ 64 }
 {
-    match number {
-        0 => "done",
-        1 => "out of memory",
-        2 => "the buffer for the answer is too short",
-        3 => "the message ends within the name",
-        4 => "a compression pointer does not lead back",
-        5 => "an octet from 64 to 191 begins no label",
-        6 => "a name runs into the name that leads to it",
-        7 => "a name of more than 255 octets",
-        8 => "a label of more than 63 octets",
-        9 => "a label, a character or an escape of the text is not allowed",
-        10 => "the text is no UTF-8",
-        11 => "bytes follow behind the name",
-        12 => "the message would be longer than its maximum",
-        13 => "another failure",
-        _ => "",
+    match Failure::from_number(code) {
+        Some(failure) => failure.text(),
+        None if code == 0 => "done",
+        None => "",
     }
 }

@@ -1,5 +1,5 @@
 //! Names read, written, parsed and printed.
-ghost use Rattle.std.specs.Prelude.{◌≡◌, ◌≢◌, ℕ, ◌<◌, ◌≤◌, true, List, [], length, Ok, Err, IsUtf8};
+ghost use Rattle.std.specs.Prelude.{◌≡◌, ◌≢◌, ◌⊎◌, ℕ, ◌<◌, ◌≤◌, true, List, [], length, Ok, Err, IsUtf8};
 ghost use Rattle.std.specs.Prelude.{IfOk, IfErr, IsErrOf, IsErrAnd, OnOk, OnErr};
 ghost use Rattle.std.specs.Str.{chars};
 ghost use Rattle.dnw_base.specs.declared.error.DecodeError.{DecodeError};
@@ -12,8 +12,9 @@ ghost use Rattle.dnw_encoder.specs.Encoder.{Encoder};
 ghost use Rattle.dnw_encoder.specs.EncoderValue.{value, lender};
 ghost use Rattle.dnw_encoder.specs.Emitting.{EmitsName};
 ghost use Rattle.dnw_c.specs.Answers.{put, at_first, limited_to, IsAmong, WritesNames, Refuses, StopsWriting, FailsToWrite};
-ghost use Rattle.dnw_c.specs.Failures.{number, of_decode, of_fault};
-ghost use Rattle.dnw_c.specs.declared.failure.Failure.TheVariants.{NoMemory, NoRoom, NotUtf8};
+ghost use Rattle.dnw_c.specs.Failures.{number, failure_text, of_decode, of_fault};
+ghost use Rattle.dnw_c.specs.declared.failure.Failure.{Failure};
+ghost use Rattle.dnw_c.specs.declared.failure.Failure.TheVariants.{NoMemory, NoRoom, NotUtf8, BytesLeft};
 
 use crate::failure::{Failure, of_decode, of_proto, text_of};
 use dns_names_wire::binary::BinEncodable;
@@ -90,6 +91,9 @@ pub extern "C" fn dnw_name_read_text(
         × (text.new ≡ put text.old (name_text (record { is_fqdn = true; labels = ls })))
         × (read.new.len ≡ length (name_text (record { is_fqdn = true; labels = ls }))) }
     ensures same { result ≢ 0 → (text.new ≡ text.old) × (read.new ≡ read.old) }
+    ensures accepts { (ls : List (List ℕ)) (e k : ℕ) → NameAt message.now start ls e k
+        → length (name_text (record { is_fqdn = true; labels = ls })) ≤ length text.old
+        → (result ≡ 0) ⊎ (result ≡ number NoMemory) }
     ensures refuses { (error : DecodeError) (k j : ℕ) → FaultAt message.now start error k j
         → result ≡ number (of_decode error) }
 {
@@ -151,6 +155,11 @@ pub extern "C" fn dnw_name_print(
         × (text.new ≡ put text.old (name_text (record { is_fqdn = is_fqdn; labels = ls })))
         × (len.new ≡ length (name_text (record { is_fqdn = is_fqdn; labels = ls }))) }
     ensures same { result ≢ 0 → (text.new ≡ text.old) × (len.new ≡ len.old) }
+    ensures accepts { (ls : List (List ℕ)) (k : ℕ) → NameAt form.now 0 ls (length form.now) k
+        → length (name_text (record { is_fqdn = is_fqdn; labels = ls })) ≤ length text.old
+        → (result ≡ 0) ⊎ (result ≡ number NoMemory) }
+    ensures left { (ls : List (List ℕ)) (e k : ℕ) → NameAt form.now 0 ls e k → e ≢ length form.now
+        → result ≡ number BytesLeft }
     ensures refuses { (error : DecodeError) (k j : ℕ) → FaultAt form.now 0 error k j
         → result ≡ number (of_decode error) }
 {
@@ -201,12 +210,14 @@ pub extern "C" fn dnw_names_write(
 
 /// Puts the text that tells a number, and tells its length.
 #[unsafe(no_mangle)]
-pub extern "C" fn dnw_error_text(number: u32, text: &mut [u8]) -> usize
+pub extern "C" fn dnw_error_text(code: u32, text: &mut [u8]) -> usize
+    ensures known { (failure : Failure) → code ≡ number failure → result ≡ length (failure_text failure) }
+    ensures fits { (failure : Failure) → code ≡ number failure → length (failure_text failure) ≤ length text.old
+        → text.new ≡ put text.old (failure_text failure) }
     ensures short { length text.old < result → text.new ≡ text.old }
-    ensures known { 1 ≤ number → number ≤ 13 → 1 ≤ result }
     ensures few { result ≤ 64 }
 {
-    let told = text_of(number).as_bytes();
+    let told = text_of(code).as_bytes();
     let _ = put(text, told);
     told.len()
 }
@@ -314,6 +325,8 @@ fn put(buffer: &mut [u8], bytes: &[u8]) -> Result<usize, Failure>
 fn put_text(alloc: Global, buffer: &mut [u8], name: &Name) -> Result<usize, Failure>
     ensures ok { IfOk result (λ len. (len ≡ length (name_text name.now))
         × (buffer.new ≡ put buffer.old (name_text name.now))) }
+    ensures err { IfErr result (λ failure. (failure ≡ NoMemory)
+        ⊎ ((failure ≡ NoRoom) × (length buffer.old < length (name_text name.now)))) }
     ensures same { OnErr result (buffer.new ≡ buffer.old) }
 {
     match name.to_ascii(alloc) {

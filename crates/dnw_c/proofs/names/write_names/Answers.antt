@@ -32,7 +32,7 @@ pub returns-in_err-write_next-clause-err : goal.returns-in_err-write_next-clause
 returns-in_err-write_next-clause-err c =
     let p = err_from_is_err_and c.from_residual.result c.from_residual.ensures.1 in
     let left : c.list.decoder.index ≢ length c.list.decoder.bytes = λ same.
-        let empty = c.is_empty.ensures.1 same in
-        let full = c.list-test.true in
-        cc (empty, full) in
+    let empty = c.is_empty.ensures.1 same in
+    let full = c.list-test.true in
+    cc (empty, full) in
     rw (p.1, p.2) (written_no_more c.list.invariant left c.in_err-write_next.ensures.err)
