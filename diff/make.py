@@ -13,6 +13,8 @@ import subprocess
 import sys
 
 HOSTS = "www mail smtp ns1 ns2 api cdn static img db auth login _sip _tcp _443 git ci x a *".split()
+PIECES = ["a", "B", "z", "0", "7", "9", "-", "_", "*", ".", ".", "\\", "\\", "\\.", "\\101", "\\052", "\\200", "\\377",
+          " ", "\t", "!", "@", "~", "\x7f", "\0"]
 TELLING = [0, 42, 45, 46, 92, 95, 127, 128, 255]
 ZONES = "example.com example.net Example.ORG hickory-dns.org bbc.co.uk in-addr.arpa a.b de".split()
 
@@ -215,8 +217,7 @@ def text(r):
     if kind < 3:
         out = ".".join([r.pick(HOSTS) for _ in range(r.below(3))] + [r.pick(ZONES)]) + r.pick([".", ""])
     elif kind < 6:
-        out = "".join(r.pick(["a", "B", "z", "0", "7", "9", "-", "_", "*", ".", ".", "\\", "\\", "\\.", "\\101", "\\052",
-                              "\\200", "\\377", " ", "\t", "!", "@", "~", "\x7f", "\0"]) for _ in range(r.below(9)))
+        out = "".join(r.pick(PIECES) for _ in range(r.below(9)))
     elif kind < 7:
         out = "".join(r.pick(["a", ".", "\\", "é", "ß", "ሴ", "\u00a0", "\u2003", "\u0085", "٠", "½", "Ⅷ", "五", "𝟘", "😀",
                               "\\1", "\\12", "\\777", "8", "\u200b", "\u00ad"]) for _ in range(1 + r.below(6)))

@@ -10,13 +10,14 @@ use Rattle.dnw_c.specs.Answers.{at_first, WritesNames, none, more, Refuses, Stop
 use Rattle.dnw_c.specs.declared.failure.Failure.{Failure}
 
 -- So many names are read up to the decoder d, and written into v: what is left, from here, gives the whole.
-pub record HasWritten (names : List ℕ) (first : Encoder) (loan : GName) (d : Decoder) (v : Encoder) (lent : GName) (count : ℕ)
-    : Type 0 where
+pub record HasWritten (names : List ℕ) (first : Encoder) (loan : GName) (d : Decoder) (v : Encoder) (lent : GName)
+    (count : ℕ) : Type 0 where
   pub same_list : d.bytes ≡ names
   pub few : count ≤ d.index
   pub within : d.index ≤ length d.bytes
   pub same_loan : lent ≡ loan
-  pub goes_on : (others : ℕ) (w : Encoder) → WritesNames d v others w → WritesNames (at_first names) first (count + others) w
+  pub goes_on : (others : ℕ) (w : Encoder)
+      → WritesNames d v others w → WritesNames (at_first names) first (count + others) w
   pub stops_on : (failure : Failure) → StopsWriting d v failure → StopsWriting (at_first names) first failure
 
 -- one more name
@@ -25,21 +26,23 @@ pub written_more : {names : List ℕ} {first v m : Encoder} {loan lent lent' : G
     → HasWritten names first loan d v lent count → TakesNameValue d name next → EmitsName name v (Ok tt) m
     → d.index < next.index → next.index ≤ length next.bytes → next.bytes ≡ d.bytes → lent' ≡ lent
     → HasWritten names first loan next m lent' (count + 1)
-written_more {names} {first} {v} {m} {d = d} {next = next} {count = count} {name = name} h takes emits onward within bytes lender = record {
-  same_list = bytes ∙ h.same_list;
-  few = let few = h.few in omega arith;
-  within = within;
-  same_loan = lender ∙ h.same_loan;
-  goes_on = λ others w rest.
-      let whole = h.goes_on (others + 1) w (more d next name v m w others takes emits rest) in
-      let P : ℕ → Type 0 = λ n. WritesNames (at_first names) first n w in
-      let same : count + (others + 1) ≡ count + 1 + others = omega arith in
-      subst P same whole;
-  stops_on = λ failure stops. h.stops_on failure (later d next name v m failure takes emits stops);
-}
+written_more {names} {first} {v} {m} {d = d} {next = next} {count = count} {name = name}
+    h takes emits onward within bytes lender = record {
+      same_list = bytes ∙ h.same_list;
+      few = let few = h.few in omega arith;
+      within = within;
+      same_loan = lender ∙ h.same_loan;
+      goes_on = λ others w rest.
+          let whole = h.goes_on (others + 1) w (more d next name v m w others takes emits rest) in
+          let P : ℕ → Type 0 = λ n. WritesNames (at_first names) first n w in
+          let same : count + (others + 1) ≡ count + 1 + others = omega arith in
+          subst P same whole;
+      stops_on = λ failure stops. h.stops_on failure (later d next name v m failure takes emits stops);
+    }
 
 -- a name that is left is refused
-pub written_no_more : {names : List ℕ} {first v : Encoder} {loan lent : GName} {d : Decoder} {count : ℕ} {failure : Failure}
+pub written_no_more : {names : List ℕ} {first v : Encoder} {loan lent : GName} {d : Decoder} {count : ℕ}
+    {failure : Failure}
     → HasWritten names first loan d v lent count → d.index ≢ length d.bytes → Refuses d v failure
     → StopsWriting (at_first names) first failure
 written_no_more {v = v} {d = d} {failure = failure} h left refuses =

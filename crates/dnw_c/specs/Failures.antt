@@ -1,14 +1,19 @@
 -- The numbers by which C is told why a call answers nothing.
 use Rattle.std.specs.Prelude.{ℕ, List, codes}
 use Rattle.dnw_base.specs.declared.error.DecodeError.{DecodeError}
-use Rattle.dnw_base.specs.declared.error.DecodeError.TheVariants.{InsufficientBytes, PointerNotPriorToLabel, UnrecognizedLabelCode, Memory}
-use Rattle.dnw_base.specs.declared.error.DecodeError.TheVariants.{LabelOverlapsWithOther, DomainNameTooLong, LabelBytesTooLong}
+use Rattle.dnw_base.specs.declared.error.DecodeError.TheVariants.{InsufficientBytes, PointerNotPriorToLabel}
+use Rattle.dnw_base.specs.declared.error.DecodeError.TheVariants.{UnrecognizedLabelCode, Memory}
+use Rattle.dnw_base.specs.declared.error.DecodeError.TheVariants.{LabelOverlapsWithOther}
+use Rattle.dnw_base.specs.declared.error.DecodeError.TheVariants.{DomainNameTooLong, LabelBytesTooLong}
 use Rattle.dnw_base.specs.declared.error.ProtoError.{ProtoError}
-use Rattle.dnw_base.specs.declared.error.ProtoError.TheVariants.{Decode, Message, Msg, MaxBufferSizeExceeded, Memory as ProtoMemory}
+use Rattle.dnw_base.specs.declared.error.ProtoError.TheVariants.{Decode, Message}
+use Rattle.dnw_base.specs.declared.error.ProtoError.TheVariants.{Msg, MaxBufferSizeExceeded, Memory as ProtoMemory}
 use Rattle.dnw_base.specs.Fault.{Fault, LabelTooLong as TextLabelTooLong, NameTooLong as TextNameTooLong}
 use Rattle.dnw_c.specs.declared.failure.Failure.{Failure}
-use Rattle.dnw_c.specs.declared.failure.Failure.TheVariants.{NoMemory, NoRoom, MessageCut, PointerNotBack, ReservedOctet, SegmentsOverlap}
-use Rattle.dnw_c.specs.declared.failure.Failure.TheVariants.{NameTooLong, LabelTooLong, BadText, NotUtf8, BytesLeft, MessageTooLong, Other}
+use Rattle.dnw_c.specs.declared.failure.Failure.TheVariants.{NoMemory, NoRoom, MessageCut}
+use Rattle.dnw_c.specs.declared.failure.Failure.TheVariants.{PointerNotBack, ReservedOctet, SegmentsOverlap}
+use Rattle.dnw_c.specs.declared.failure.Failure.TheVariants.{NameTooLong, LabelTooLong, BadText}
+use Rattle.dnw_c.specs.declared.failure.Failure.TheVariants.{NotUtf8, BytesLeft, MessageTooLong, Other}
 
 abbrev pub number : Failure → ℕ
 number NoMemory = 1

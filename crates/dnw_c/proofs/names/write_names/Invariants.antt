@@ -5,8 +5,8 @@ use Rattle.dnw_c.proofs.names.write_names.Given as goal
 
 abbrev pub invariant-list : goal.invariant-list
 invariant-list l =
-    HasWritten l.names (value l.initial.encoder) (lender l.initial.encoder) l.decoder (value l.encoder) (lender l.encoder)
-    l.count
+    HasWritten l.names (value l.initial.encoder) (lender l.initial.encoder)
+    l.decoder (value l.encoder) (lender l.encoder) l.count
 
 abbrev pub decreases-list : goal.decreases-list
 decreases-list l = length l.names - l.decoder.index
