@@ -1,5 +1,5 @@
 -- A write keeps the frame of `emit`.
-use Rattle.std.proofs.Common.{◌≡◌, ℕ, ◌+◌, ◌≤◌, List, [], ◌∷◌, ◌++◌, length, take, drop, Ok, Err, refl, sym, ap, ◌∙◌, subst, arith, rules, tests, Bool, true, false, cond, nat_lt}
+use Rattle.std.proofs.Common.{◌≡◌, ℕ, ◌+◌, ◌≤◌, List, [], ◌∷◌, ◌++◌, length, take, drop, Ok, Err, OnOk, refl, sym, ap, ◌∙◌, subst, arith, rules, tests, Bool, true, false, cond, nat_lt}
 use Rattle.std.proofs.lemmas.List.{length-append, length-drop, length-take, take-append-le, take-take}
 use Rattle.std.proofs.Math.Seq.{take-length}
 use Rattle.dnw_base.specs.declared.error.ProtoError.{ProtoError}
@@ -20,51 +20,37 @@ length-written : (o : ℕ) (b d : List ℕ) → o ≡ length b → o + length d 
 length-written o b d e =
     omega (arith, e, ap length (take-all o b e), length-append (take o b) (d ++ drop (o + length d) b), length-append d (drop (o + length d) b), length-drop (o + length d) b)
 
+on-ok : (answer : Answer) {P : Type 0} → P → OnOk answer P
+on-ok (Ok done) p = p
+on-ok (Err error) p = tt
+
+-- Where bytes and offset alone are new, behind what stood before, the frame is kept.
+frame-moved : (v : Encoder) (answer : Answer) (b : List ℕ) (o : ℕ) → take v.offset b ≡ v.bytes → o ≡ length b
+    → Frame v answer (record v { bytes = b; offset = o })
+frame-moved v answer b o front end =
+    record {
+      bytes = front;
+      candidates = refl;
+      encoding = refl;
+      canonical = refl;
+      max_size = refl;
+      candidate_limit = refl;
+      name_limit = refl;
+      ends = on-ok answer end;
+    }
+
 frame-written : (v : Encoder) (d : List ℕ) → v.offset ≡ length v.bytes → Frame v (Ok tt) (written v d)
-frame-written v d e =
-    record {
-      bytes = front-written v.offset v.bytes d e;
-      candidates = refl;
-      encoding = refl;
-      canonical = refl;
-      max_size = refl;
-      candidate_limit = refl;
-      name_limit = refl;
-      ends = length-written v.offset v.bytes d e;
-    }
+frame-written v d e = frame-moved v (Ok tt) _ _ (front-written v.offset v.bytes d e) (length-written v.offset v.bytes d e)
 
-frame-same : (v : Encoder) (error : ProtoError) → v.offset ≡ length v.bytes → Frame v (Err error) v
-frame-same v error e =
-    record {
-      bytes = take-all v.offset v.bytes e;
-      candidates = refl;
-      encoding = refl;
-      canonical = refl;
-      max_size = refl;
-      candidate_limit = refl;
-      name_limit = refl;
-      ends = tt;
-    }
-
-frame-unchanged : (v : Encoder) → v.offset ≡ length v.bytes → Frame v (Ok tt) v
-frame-unchanged v e =
-    record {
-      bytes = take-all v.offset v.bytes e;
-      candidates = refl;
-      encoding = refl;
-      canonical = refl;
-      max_size = refl;
-      candidate_limit = refl;
-      name_limit = refl;
-      ends = e;
-    }
+frame-same : (v : Encoder) (answer : Answer) → v.offset ≡ length v.bytes → Frame v answer v
+frame-same v answer e = frame-moved v answer v.bytes v.offset (take-all v.offset v.bytes e) e
 
 pub frame : (v : Encoder) (d : List ℕ) (answer : Answer) (w : Encoder) → v.offset ≡ length v.bytes → Writes v d answer w → Frame v answer w
 frame v d (Ok tt) w e h = let P : Encoder → Type 0 = λ x. Frame v (Ok tt) x in subst P (sym h.1) (frame-written v d e)
-frame v d (Err Memory) w e h = let P : Encoder → Type 0 = λ x. Frame v (Err Memory) x in subst P (sym h.2) (frame-same v Memory e)
+frame v d (Err Memory) w e h = let P : Encoder → Type 0 = λ x. Frame v (Err Memory) x in subst P (sym h.2) (frame-same v (Err Memory) e)
 frame v d (Err (MaxBufferSizeExceeded size)) w e h =
     let P : Encoder → Type 0 = λ x. Frame v (Err (MaxBufferSizeExceeded size)) x in
-    subst P (sym h.2) (frame-same v (MaxBufferSizeExceeded size) e)
+    subst P (sym h.2) (frame-same v (Err (MaxBufferSizeExceeded size)) e)
 frame v d (Err error) w e h = absurd h
 
 -- a refused write changes nothing
@@ -112,7 +98,7 @@ pub frame-in_turn : {X : Type 0} (emits : Emits X)
     → (v w : Encoder) (xs : List X) → v.offset ≡ length v.bytes → InTurn emits v xs w → Frame v (Ok tt) w
 frame-in_turn emits keeps v w [] e h =
     let P : Encoder → Type 0 = λ x. Frame v (Ok tt) x in
-    subst P (sym h) (frame-unchanged v e)
+    subst P (sym h) (frame-same v (Ok tt) e)
 frame-in_turn emits keeps v w (x ∷ xs) e h =
     let first = keeps x v (Ok tt) h.0 e h.1 in
     frames-follow v h.0 w (Ok tt) e first (frame-in_turn emits keeps h.0 w xs first.ends h.2)
@@ -122,5 +108,5 @@ pub frame-text : (v : Encoder) (d : List ℕ) (answer : Answer) (w : Encoder) �
 frame-text v d (Ok tt) w e h = frame v (length d ∷ d) (Ok tt) w e h.1
 frame-text v d (Err (CharacterDataTooLong max len)) w e h =
     let P : Encoder → Type 0 = λ x. Frame v (Err (CharacterDataTooLong max len)) x in
-    subst P (sym h.3) (frame-same v (CharacterDataTooLong max len) e)
+    subst P (sym h.3) (frame-same v (Err (CharacterDataTooLong max len)) e)
 frame-text v d (Err error) w e h = frame v (length d ∷ d) (Err error) w e h.1

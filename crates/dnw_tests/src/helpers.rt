@@ -7,7 +7,7 @@ use std::alloc::Global;
 use std::test::Fail;
 
 /// Skips to a place of a message.
-pub fn skip(decoder: &mut BinDecoder<'_>, start: usize) -> Result<(), Fail> {
+pub(crate) fn skip(decoder: &mut BinDecoder<'_>, start: usize) -> Result<(), Fail> {
     let skipped = decoder
         .read_slice(start)
         .map_err(|_| "the place is past the message")?;
@@ -16,7 +16,7 @@ pub fn skip(decoder: &mut BinDecoder<'_>, start: usize) -> Result<(), Fail> {
 }
 
 /// What reading at a place answers: the name's text and where its octets end, or the error, and the cursor then.
-pub fn read_at(alloc: Global, message: &[u8], start: usize) -> Result<String, Fail> {
+pub(crate) fn read_at(alloc: Global, message: &[u8], start: usize) -> Result<String, Fail> {
     let mut decoder = BinDecoder::new(message);
     skip(&mut decoder, start)?;
     match Name::read(alloc, &mut decoder) {
@@ -32,7 +32,7 @@ pub fn read_at(alloc: Global, message: &[u8], start: usize) -> Result<String, Fa
 }
 
 /// The text of a name, or of its error.
-pub fn told(alloc: Global, answer: ProtoResult<Name>) -> Result<String, Fail> {
+pub(crate) fn told(alloc: Global, answer: ProtoResult<Name>) -> Result<String, Fail> {
     Ok(match answer {
         Ok(name) => format!(in alloc; "{name:?} {}", name.is_fqdn())?,
         Err(e) => format!(in alloc; "{e:?}")?,

@@ -1,0 +1,40 @@
+//! `growth SCENARIO..` runs scenarios on the encoder and on names, and prints what stands after each call.
+//!
+//! The program's words and lines take no memory. So each growth that `rt try --fail-alloc N` counts is one that the
+//! library asks for, and `.ci/growth` refuses every one of them in turn.
+#![tactic(auto)]
+
+mod scenario_run;
+mod scenarios;
+mod show;
+mod step;
+
+use std::io;
+use std::process::ExitCode;
+use std::rt::Env;
+
+/// The longest word that may name a scenario.
+const LONGEST: usize = 32;
+
+/// Runs the scenarios that the words name, or all of them for the word `all`, and tells the exit status: 2 where a
+/// word names none.
+fn run<R: Env + Print + AllocGlobal>(rt: &R) -> io::Result<u8> {
+    let mut out = io::writer(rt);
+    for i in 1..usize::MAX {
+        let mut word = [0u8; LONGEST];
+        let Ok(len) = rt.arg(i, &mut word) else {
+            break;
+        };
+        if !scenario_run::run_named(rt.alloc(), &word[..len], &mut out)? {
+            return Ok(2);
+        }
+    }
+    Ok(0)
+}
+
+fn main(rt: HostRuntime) -> ExitCode {
+    match run(&rt) {
+        Ok(status) => ExitCode::from(status),
+        Err(_) => ExitCode::FAILURE,
+    }
+}

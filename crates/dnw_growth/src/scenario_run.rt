@@ -1,0 +1,42 @@
+//! Scenarios are run.
+
+use crate::scenarios::{SCENARIOS, Scenario};
+use crate::show::{show_bytes, show_call, show_encoder};
+use crate::step::take;
+use dns_names_wire::encoder::BinEncoder;
+use std::alloc::Global;
+use std::io;
+use std::io::Write;
+
+/// Runs the scenario of this name, or under the name `all` each one behind a line with its name. Tells whether there
+/// is one.
+pub fn run_named<W: Write>(alloc: Global, name: &[u8], out: &mut W) -> io::Result<bool> {
+    let all = name == b"all".as_slice();
+    let mut found = all;
+    for scenario in SCENARIOS {
+        if all {
+            writeln!(out, "== {}", scenario.name)?;
+            run_scenario(alloc, scenario, out)?;
+        } else if name == scenario.name.as_bytes() {
+            found = true;
+            run_scenario(alloc, scenario, out)?;
+        }
+    }
+    Ok(found)
+}
+
+/// Makes each call on an encoder over no bytes, and in the end shows the buffer that the encoder leaves.
+fn run_scenario<W: Write>(alloc: Global, scenario: &Scenario, out: &mut W) -> io::Result<()> {
+    let mut bytes = Vec::new(alloc);
+    let mut encoder = BinEncoder::new(&mut bytes);
+    let mut place = None;
+    for step in scenario.steps {
+        let answer = take(alloc, *step, &mut encoder, &mut place);
+        show_call(out, *step, &answer)?;
+        show_encoder(out, &mut encoder, scenario.watched)?;
+    }
+    drop(encoder);
+    write!(out, "left: ")?;
+    show_bytes(out, bytes.as_slice())?;
+    writeln!(out, "")
+}
