@@ -45,3 +45,6 @@ pub mod name_ref {
 pub mod restrict {
     pub use dnw_base::restrict::{Restrict, RestrictedMath, Verified};
 }
+
+/// Scripts: messages written step by step.
+pub mod script;

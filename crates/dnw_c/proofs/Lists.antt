@@ -5,7 +5,7 @@ use Rattle.dnw_base.specs.Decoder.{Decoder}
 use Rattle.dnw_name.specs.Names.{NameValue}
 use Rattle.dnw_name.specs.Decodable.{TakesNameValue}
 use Rattle.dnw_encoder.specs.Encoder.{Encoder}
-use Rattle.dnw_encoder.specs.Emitting.{EmitsName}
+use Rattle.dnw_encoder.specs.EmittedName.{EmitsName}
 use Rattle.dnw_c.specs.Answers.{at_first, WritesNames, none, more, Refuses, StopsWriting, here, later}
 use Rattle.dnw_c.specs.declared.failure.Failure.{Failure}
 

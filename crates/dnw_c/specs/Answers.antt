@@ -7,7 +7,7 @@ use Rattle.dnw_base.specs.declared.error.ProtoError.{ProtoError}
 use Rattle.dnw_name.specs.Decodable.{TakesNameValue}
 use Rattle.dnw_name.specs.Reading.{StopsAt}
 use Rattle.dnw_encoder.specs.Encoder.{Encoder, fresh}
-use Rattle.dnw_encoder.specs.Emitting.{EmitsName}
+use Rattle.dnw_encoder.specs.EmittedName.{EmitsName}
 use Rattle.dnw_c.specs.Failures.{number, of_decode, of_proto}
 use Rattle.dnw_c.specs.declared.failure.Failure.{Failure}
 use Rattle.dnw_c.specs.declared.failure.Failure.TheVariants.{NoRoom}

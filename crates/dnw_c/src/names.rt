@@ -10,7 +10,7 @@ ghost use Rattle.dnw_name.specs.Reading.{NameAt, FaultAt};
 ghost use Rattle.dnw_name.specs.Decodable.{TakesNameValue};
 ghost use Rattle.dnw_encoder.specs.Encoder.{Encoder};
 ghost use Rattle.dnw_encoder.specs.EncoderValue.{value, lender};
-ghost use Rattle.dnw_encoder.specs.Emitting.{EmitsName};
+ghost use Rattle.dnw_encoder.specs.EmittedName.{EmitsName};
 ghost use Rattle.dnw_c.specs.Answers.{put, at_first, limited_to, IsAmong};
 ghost use Rattle.dnw_c.specs.Answers.{WritesNames, Refuses, StopsWriting, FailsToWrite};
 ghost use Rattle.dnw_c.specs.Failures.{number, failure_text, of_decode, of_fault};

@@ -1,4 +1,7 @@
-mod CandidateLists
+pub mod CandidateLists
 pub mod Places
 pub mod Items
 pub mod Bounds
+pub mod Suffixes
+pub mod Emission
+pub mod NameBack

@@ -3,10 +3,7 @@ use Rattle.std.specs.Prelude.{◌≡◌, ℕ, List, [], ◌∷◌, length, take,
 use Rattle.std.specs.Iterator.{YieldsThen}
 use Rattle.dnw_base.specs.declared.error.ProtoError.{ProtoError}
 use Rattle.dnw_base.specs.declared.error.ProtoError.TheVariants.{MaxBufferSizeExceeded, NotAllRecordsWritten}
-use Rattle.dnw_encoder.specs.declared.encoder.modes.NameEncoding.{NameEncoding}
-use Rattle.dnw_encoder.specs.declared.encoder.modes.NameEncoding.TheVariants.{UncompressedLowercase}
-use Rattle.dnw_encoder.specs.Encoder.{Encoder, Writes, written, filled, moved_to, candidates_before}
-use Rattle.dnw_name.specs.Names.{NameValue, wire, lower}
+use Rattle.dnw_encoder.specs.Encoder.{Encoder, written, filled, moved_to, candidates_before}
 
 -- what a call of `emit` answers
 abbrev pub Answer : Type 0
@@ -27,15 +24,6 @@ pub record Frame (v : Encoder) (answer : Answer) (w : Encoder) : Type 0 where
   pub candidate_limit : w.candidate_limit ≡ v.candidate_limit
   pub name_limit : w.name_limit ≡ v.name_limit
   pub ends : OnOk answer (w.offset ≡ length w.bytes)
-
--- the labels as a mode writes them
-abbrev pub in_mode : NameEncoding → List (List ℕ) → List (List ℕ)
-in_mode UncompressedLowercase ls = lower ls
-in_mode mode ls = ls
-
--- A name was written whole.
-abbrev pub EmitsName : Emits NameValue
-EmitsName name v answer w = Writes v (wire (in_mode v.encoding name.labels)) answer w
 
 -- ---- places
 

@@ -24,13 +24,14 @@ on-ok : (answer : Answer) {P : Type 0} → P → OnOk answer P
 on-ok (Ok done) p = p
 on-ok (Err error) p = tt
 
--- Where bytes and offset alone are new, behind what stood before, the frame is kept.
-frame-moved : (v : Encoder) (answer : Answer) (b : List ℕ) (o : ℕ) → take v.offset b ≡ v.bytes → o ≡ length b
-    → Frame v answer (record v { bytes = b; offset = o })
-frame-moved v answer b o front end =
+-- Where what is new stands behind what stood before, the frame is kept.
+pub frame-moved : (v : Encoder) (answer : Answer) (b : List ℕ) (o : ℕ) (cs : List Candidate) (names : ℕ) → take v.offset b ≡ v.bytes
+    → candidates_before v.offset cs ≡ candidates_before v.offset v.candidates → o ≡ length b
+    → Frame v answer (record v { bytes = b; offset = o; candidates = cs; names = names })
+frame-moved v answer b o cs names front kept end =
     record {
       bytes = front;
-      candidates = refl;
+      candidates = kept;
       encoding = refl;
       canonical = refl;
       max_size = refl;
@@ -39,11 +40,11 @@ frame-moved v answer b o front end =
       ends = on-ok answer end;
     }
 
-frame-written : (v : Encoder) (d : List ℕ) → v.offset ≡ length v.bytes → Frame v (Ok tt) (written v d)
-frame-written v d e = frame-moved v (Ok tt) _ _ (front-written v.offset v.bytes d e) (length-written v.offset v.bytes d e)
+pub frame-written : (v : Encoder) (d : List ℕ) → v.offset ≡ length v.bytes → Frame v (Ok tt) (written v d)
+frame-written v d e = frame-moved v (Ok tt) _ _ v.candidates v.names (front-written v.offset v.bytes d e) refl (length-written v.offset v.bytes d e)
 
-frame-same : (v : Encoder) (answer : Answer) → v.offset ≡ length v.bytes → Frame v answer v
-frame-same v answer e = frame-moved v answer v.bytes v.offset (take-all v.offset v.bytes e) e
+pub frame-same : (v : Encoder) (answer : Answer) → v.offset ≡ length v.bytes → Frame v answer v
+frame-same v answer e = frame-moved v answer v.bytes v.offset v.candidates v.names (take-all v.offset v.bytes e) refl e
 
 pub frame : (v : Encoder) (d : List ℕ) (answer : Answer) (w : Encoder) → v.offset ≡ length v.bytes → Writes v d answer w → Frame v answer w
 frame v d (Ok tt) w e h = let P : Encoder → Type 0 = λ x. Frame v (Ok tt) x in subst P (sym h.1) (frame-written v d e)
@@ -65,7 +66,7 @@ no_less : (n p q : ℕ) → p ≤ q → nat_lt n q ≡ false → nat_lt n p ≡ 
 no_less n p q le e = search (rules, tests)
 
 -- what stands before the nearer of two places is among what stands before the farther
-candidates_before-twice : (p q : ℕ) (cs : List Candidate) → p ≤ q → candidates_before p (candidates_before q cs) ≡ candidates_before p cs
+pub candidates_before-twice : (p q : ℕ) (cs : List Candidate) → p ≤ q → candidates_before p (candidates_before q cs) ≡ candidates_before p cs
 candidates_before-twice p q [] le = refl
 candidates_before-twice p q (c ∷ cs) le =
     let others = candidates_before q cs in

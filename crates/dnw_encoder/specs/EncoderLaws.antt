@@ -1,10 +1,11 @@
 -- What follows from the definitions of writing. Each is the clause of a public function, and so proved.
-use Rattle.std.specs.Prelude.{◌≡◌, ℕ, ◌+◌, ◌≤◌, max, List, [], length, Ok, Err}
+use Rattle.std.specs.Prelude.{◌≡◌, ℕ, ◌+◌, ◌≤◌, max, List, [], ◌++◌, length, Ok, Err}
 use Rattle.dnw_base.specs.declared.error.ProtoError.TheVariants.{Memory}
-use Rattle.dnw_name.specs.Names.{NameValue, AreLabels}
+use Rattle.dnw_name.specs.Names.{NameValue, AreLabels, encoded_size, labels_wire}
 use Rattle.dnw_name.specs.Reading.{NameAt, TakesName}
 use Rattle.dnw_encoder.specs.Encoder.{Encoder, HasRoom, Holds, Writes, fresh, filled, reserved, moved_to}
-use Rattle.dnw_encoder.specs.Emitting.{Answer, Emits, EmitsName, Frame, InTurn, in_mode}
+use Rattle.dnw_encoder.specs.Emitting.{Answer, Emits, Frame, InTurn}
+use Rattle.dnw_encoder.specs.EmittedName.{EmitsName, Points, in_mode, pointer_to}
 
 -- the buffer is no longer than it was, or than the maximum
 abbrev pub StaysBounded : Encoder → Encoder → Type 0
@@ -48,10 +49,24 @@ FramesFollow = (v m w : Encoder) (answer : Answer) → v.offset ≡ length v.byt
 
 -- An accepted name is read at its start at once, with its labels as they were written.
 abbrev pub NameIsRead : Type 0
-NameIsRead = (name : NameValue) (v w : Encoder) → AreLabels name.labels → v.offset ≤ length v.bytes → EmitsName name v (Ok tt) w
-    → NameAt w.bytes v.offset (in_mode v.encoding name.labels) w.offset 0
+NameIsRead = (name : NameValue) (v w : Encoder) → v.offset ≤ length v.bytes → EmitsName name v (Ok tt) w
+    → (pointers : ℕ) × NameAt w.bytes v.offset (in_mode v.encoding name.labels) w.offset pointers
+
+-- It leaves the buffer no longer than it was, or than the maximum, and the offset within it.
+abbrev pub NamesStayBounded : Type 0
+NamesStayBounded = (name : NameValue) (v w : Encoder) → v.offset ≤ length v.bytes → EmitsName name v (Ok tt) w
+    → StaysBounded v w × (w.offset ≤ length w.bytes)
+
+-- It takes no more bytes than its uncompressed form.
+abbrev pub NamesTakeNoMore : Type 0
+NamesTakeNoMore = (name : NameValue) (v w : Encoder) → EmitsName name v (Ok tt) w → w.offset ≤ v.offset + encoded_size name.labels
+
+-- A pointer saves a byte at least.
+abbrev pub PointersSave : Type 0
+PointersSave = (v : Encoder) (labels front back : List (List ℕ)) (place : ℕ) → AreLabels labels → Points v labels front back place
+    → length (labels_wire front ++ pointer_to place) + 1 ≤ encoded_size labels
 
 -- The bytes of a name are read as a name with its labels, byte for byte, and to their end.
 abbrev pub NameComesBack : Type 0
-NameComesBack = (name : NameValue) (w : Encoder) → AreLabels name.labels → EmitsName name (fresh [] 0) (Ok tt) w
+NameComesBack = (name : NameValue) (w : Encoder) → EmitsName name (fresh [] 0) (Ok tt) w
     → TakesName (record { bytes = w.bytes; index = 0 }) (record { bytes = w.bytes; index = length w.bytes }) name.labels 0

@@ -1,6 +1,9 @@
 pub mod Encoder
 pub mod EncoderValue
 pub mod Emitting
+pub mod EmittedName
+pub mod Sharing
 pub mod EmittingLaws
+pub mod NameFrames
 pub mod Guards
 pub mod EncoderLaws

@@ -11,6 +11,7 @@ mod items;
 pub mod laws;
 mod modal;
 mod modes;
+mod names;
 mod place;
 
 use candidates::Candidates;

@@ -3,7 +3,7 @@ use Rattle.std.proofs.Common.{◌≡◌, ℕ, ◌+◌, ◌-◌, Some, None, List
 use Rattle.std.specs.List.{AllByRecursion}
 use Rattle.std.proofs.lemmas.List.{take_at}
 use Rattle.dnw_base.specs.Labels.{IsLabel}
-use Rattle.dnw_name.specs.Names.{encoded_size, wire}
+use Rattle.dnw_name.specs.Names.{encoded_size, labels_wire, wire}
 use Rattle.dnw_name.specs.Reading.{Reads, zero_octet, label}
 use Rattle.dnw_name.proofs.Sizes.{octets-cons}
 
@@ -38,3 +38,24 @@ Reads-wire b before behind (l ∷ ls) p s e p_is e_is b_is all =
     subst (λ x. Reads b p s None (x ∷ ls) e 0)
     part
     (label (length l) tt here all.0.not_empty all.0.not_long (omega arith) (Reads-wire b (start ++ l) behind ls (p + 1 + length l) s e rest_is end rest all.1))
+
+-- labels that are written in a row are read, and what is read behind them follows
+pub Reads-front : (b before behind : List ℕ) (front back : List (List ℕ)) (p q s e k : ℕ) → p ≡ length before
+    → q ≡ p + length (labels_wire front) → b ≡ before ++ (labels_wire front ++ behind) → AllByRecursion IsLabel front
+    → Reads b q s None back e k → Reads b p s None (front ++ back) e k
+Reads-front b before behind [] back p q s e k p_is q_is b_is all r =
+    let same : q ≡ p = omega arith in
+    subst (λ n. Reads b n s None back e k) same r
+Reads-front b before behind (l ∷ front) back p q s e k p_is q_is b_is all r =
+    let start = before ++ (length l ∷ []) in
+    let start_is : p + 1 ≡ length start = omega (arith, length-append before (length l ∷ [])) in
+    let parts : b ≡ start ++ (l ++ (labels_wire front ++ behind)) = b_is ∙ simp append_assoc in
+    let rest : b ≡ (start ++ l) ++ (labels_wire front ++ behind) = parts ∙ sym (append_assoc start l (labels_wire front ++ behind)) in
+    let rest_is : p + 1 + length l ≡ length (start ++ l) = omega (arith, length-append start l) in
+    let total : length b ≡ length (start ++ l) + length (labels_wire front ++ behind) = ap length rest ∙ length-append (start ++ l) (labels_wire front ++ behind) in
+    let part : slice_range b (p + 1) (p + 1 + length l) ≡ l = rw parts (slice_range-middle start l (labels_wire front ++ behind) (p + 1) (p + 1 + length l) start_is refl) in
+    let here : slice_get b p ≡ Some (length l) = rw b_is (slice_get-seam before _ (length l) p p_is) in
+    let next : q ≡ p + 1 + length l + length (labels_wire front) = omega (arith, q_is, length-append l (labels_wire front)) in
+    subst (λ x. Reads b p s None (x ∷ (front ++ back)) e k)
+    part
+    (label (length l) tt here all.0.not_empty all.0.not_long (omega arith) (Reads-front b (start ++ l) behind front back (p + 1 + length l) q s e k rest_is next rest all.1 r))

@@ -1,5 +1,5 @@
 -- A reading stands when bytes follow, and when its segment's start or its limit grows.
-use Rattle.std.proofs.Common.{◌≡◌, ℕ, zero, suc, ◌+◌, ◌-◌, ◌≤◌, Option, Some, None, List, [], ◌∷◌, ◌++◌, length, drop, slice_get, slice_range, refl, subst, arith, length-append, length-drop}
+use Rattle.std.proofs.Common.{◌≡◌, ℕ, zero, suc, ◌+◌, ◌-◌, ◌<◌, ◌≤◌, Option, Some, None, List, [], ◌∷◌, ◌++◌, length, drop, slice_get, slice_range, refl, subst, arith, length-append, length-drop}
 use Rattle.std.proofs.lemmas.List.{take-append-le, drop-append-le}
 use Rattle.dnw_name.specs.Reading.{IsWithin, target, Reads, zero_octet, label, pointer}
 use Rattle.dnw_name.specs.ReadingLaws.{IsNoTighter}
@@ -43,3 +43,20 @@ Reads-wider {p} {limit} t wider larger h (label c w g one most fit r) =
     label c (IsWithin-wider p limit wider h w) g one most fit (Reads-wider t wider larger h r)
 Reads-wider {p} {limit} t wider larger h (pointer high low w g least g' prior r) =
     pointer high low (IsWithin-wider p limit wider h w) g least g' (omega arith) (Reads-wider (target high low) (Some t) (omega arith) larger r)
+
+-- an octet stands within the message
+pub slice_get-below : (b : List ℕ) (p c : ℕ) → slice_get b p ≡ Some c → p < length b
+slice_get-below [] p c g = absurd cc
+slice_get-below (x ∷ b) zero c g = omega arith
+slice_get-below (x ∷ b) (suc p) c g = let less = slice_get-below b p c g in omega (arith, less)
+
+-- a reading of a whole message stands within what follows, limited to that message; explicit: what follows, the reading
+pub Reads-limited : {b : List ℕ} {p s e k : ℕ} {ls : List (List ℕ)} (more : List ℕ)
+    → Reads b p s None ls e k → Reads (b ++ more) p s (Some (length b)) ls e k
+Reads-limited {b} {p} more (zero_octet w g) = zero_octet (slice_get-below b p 0 g) (slice_get-append b more p 0 g)
+Reads-limited {b} {p} {s} {e} {k} more (label {ls = rest} c w g one most fit r) =
+    subst (λ l. Reads (b ++ more) p s (Some (length b)) (l ∷ rest) e k)
+    (slice_range-append b more (p + 1) (p + 1 + c) (omega arith) fit)
+    (label c (slice_get-below b p c g) (slice_get-append b more p c g) one most (omega (arith, length-append b more)) (Reads-limited more r))
+Reads-limited {b} {p} more (pointer high low w g least g' prior r) =
+    pointer high low (slice_get-below b p high g) (slice_get-append b more p high g) least (slice_get-append b more (p + 1) low g') prior (Reads-append more r)

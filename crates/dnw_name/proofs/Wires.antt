@@ -43,7 +43,7 @@ labels_wire_push [] l = append-nil (label_wire l)
 labels_wire_push (m ∷ ls) l = ap (λ (bytes : List ℕ). label_wire m ++ bytes) (labels_wire_push ls l) ∙ sym (append_assoc (label_wire m) (labels_wire ls) (label_wire l))
 
 -- all but the closing zero
-front_of : (ls : List (List ℕ)) (bytes : List ℕ) → bytes ≡ wire ls → take (length bytes - 1) bytes ≡ labels_wire ls
+pub front_of : (ls : List (List ℕ)) (bytes : List ℕ) → bytes ≡ wire ls → take (length bytes - 1) bytes ≡ labels_wire ls
 front_of ls bytes e =
     rw e (take_at (labels_wire ls) (0 ∷ []) _ (omega (arith, length-append (labels_wire ls) (0 ∷ []))))
 

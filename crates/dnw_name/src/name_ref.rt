@@ -1,11 +1,11 @@
 //! Names that stand in a message, and are walked without copying.
 ghost use Rattle.std.specs.Prelude.{◌≡◌, ℕ, List, ◌+◌, ◌≤◌, ◌↔◌, true, min, [], length, Ok, IsTrue, IfOk, IfErr, OnErr, IsErrOf, IsOkAnd};
 ghost use Rattle.dnw_base.specs.Decoder.{Decoder};
-ghost use Rattle.dnw_name.specs.Reading.{TakesName, StopsAt};
+ghost use Rattle.dnw_name.specs.Reading.{NameAt, TakesName, StopsAt};
 ghost use Rattle.dnw_name.specs.Names.{AreLabels, IsZoneOf, encoded_size, lower, wire};
 ghost use Rattle.dnw_name.specs.NameRefInside.{labels_at, StandsAt};
 
-use crate::name::Name;
+use crate::name::{LabelIter, Name};
 use dnw_base::decoder::BinDecoder;
 use dnw_base::error::{DecodeError, ProtoResult};
 use smallvec::SmallVec;
@@ -93,6 +93,17 @@ impl<'a> NameRef<'a> {
             labels: steps.labels,
             pointers: steps.pointers,
         })
+    }
+
+    /// Whether these labels, byte for byte, are read as a name at `start`.
+    pub fn stands_at(message: &'a [u8], start: usize, labels: LabelIter<'_>) -> bool
+        ensures { IsTrue result ↔ ((e : ℕ) × (k : ℕ) × NameAt message.now start labels.entry e k) }
+    {
+        let mut steps = ReadSteps::default();
+        if let Err(_) = walk::walk(message, start, &mut steps) {
+            return false;
+        }
+        compare::same_labels(RefLabels::new(message, start, steps.labels), labels)
     }
 
     /// The labels from the left, lent from the message.

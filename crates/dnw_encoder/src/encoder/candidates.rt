@@ -1,8 +1,14 @@
 //! What an encoder remembers of the names that it wrote.
-ghost use Rattle.std.specs.Prelude.{◌≡◌, ℕ, ◌<◌, List, [], ◌∷◌, ◌++◌, length, IfSome, OnOk, OnErr};
+ghost use Rattle.std.specs.Prelude.{◌≡◌, ◌≢◌, ℕ, ◌+◌, ◌<◌, ◌↔◌, List, [], ◌∷◌, ◌++◌, length, take, IfSome, IsTrue, OnOk, OnErr};
 ghost use Rattle.std.specs.List.{AllByRecursion};
 ghost use Rattle.dnw_encoder.specs.Encoder.{candidates_before, Finds};
+ghost use Rattle.dnw_encoder.specs.EmittedName.{suffixes};
+ghost use Rattle.dnw_encoder.specs.Sharing.{FindsUsable};
+ghost use Rattle.dnw_name.specs.Names.{labels_wire};
 
+use dnw_name::name::LabelIter;
+use dnw_name::name_ref::NameRef;
+use smallvec::SmallVec;
 use std::alloc::{AllocError, Global};
 use std::marker::Model;
 
@@ -13,7 +19,7 @@ use std::marker::Model;
 struct Candidate {
     // A pointer reaches no further than 0x3FFF.
     start: u16,
-    labels: Vec<u8>,
+    labels: SmallVec<u8, 32>,
 }
 
 impl Model for Candidate {
@@ -24,6 +30,16 @@ impl Model for Candidate {
     ghost view = { λ c. (c.start, c.labels.items) };
 
     ghost invariant = { λ c. c.start < 16383 };
+}
+
+impl Candidate {
+    /// Whether these are its labels' bytes.
+    #[inline(always)]
+    fn is(&self, labels: &[u8]) -> bool
+        ensures { IsTrue result ↔ (self.now.1 ≡ labels.now) }
+    {
+        self.labels.as_slice() == labels
+    }
 }
 
 /// The candidates of an encoder, in the order in which they were stored.
@@ -65,7 +81,7 @@ impl Candidates {
         ensures ok { OnOk result (self.new ≡ self.old ++ (start, labels.now) ∷ []) }
         ensures err { OnErr result (self.new ≡ self.old) }
     {
-        let labels = Vec::from_slice(*self.items.allocator(), labels)?;
+        let labels = SmallVec::from_slice(*self.items.allocator(), labels)?;
         self.items.push(Candidate { start, labels })?;
         Ok(())
     }
@@ -76,11 +92,80 @@ impl Candidates {
         ensures reached { IfSome result (λ place. place < 16383) }
     {
         for candidate in &self.items {
-            if candidate.labels.as_slice() == labels {
+            if candidate.is(labels) {
                 return Some(candidate.start);
             }
         }
         None
+    }
+
+    /// The place of the first one that is usable for the labels in this message.
+    pub(crate) fn find_usable(&self, message: &[u8], labels: LabelIter<'_>) -> Option<u16>
+        ensures finds { FindsUsable message.now labels.entry self.now result }
+        ensures reached { IfSome result (λ place. place < 16383) }
+    {
+        let wire = labels.as_wire();
+        let bytes = &wire[..wire.len() - 1];
+        for held in &self.items {
+            if held.is(bytes) && NameRef::stands_at(message, held.start as usize, labels.clone()) {
+                return Some(held.start);
+            }
+        }
+        None
+    }
+
+    /// Adds the first suffixes of labels that stand at `start`, the longest first: at most so many. Where memory for
+    /// one of them is refused, none is added.
+    pub(crate) fn push_suffixes(
+        &mut self,
+        start: usize,
+        labels: LabelIter<'_>,
+        most: usize,
+    ) -> Result<(), AllocError>
+        requires reached { start + length (labels_wire labels) < 16383 }
+        ensures ok { OnOk result (self.new ≡ self.old ++ take most (suffixes start labels.entry)) }
+        ensures err { OnErr result (self.new ≡ self.old) }
+        ensures needed { OnErr result (take most (suffixes start labels.entry) ≢ []) }
+    {
+        let held = self.items.len();
+        let answer = self.push_each(start, labels, most);
+        if answer.is_err() {
+            self.truncate(held);
+        }
+        answer
+    }
+
+    /// Adds suffixes as `push_suffixes`. Where memory for one of them is refused, those before it stay.
+    fn push_each(
+        &mut self,
+        start: usize,
+        mut labels: LabelIter<'_>,
+        most: usize,
+    ) -> Result<(), AllocError>
+        requires reached { start + length (labels_wire labels) < 16383 }
+        ensures ok { OnOk result (self.new ≡ self.old ++ take most (suffixes start labels.entry)) }
+        ensures err { OnErr result ((more : List (ℕ × List ℕ)) × (self.new ≡ self.old ++ more)) }
+        ensures needed { OnErr result (take most (suffixes start labels.entry) ≢ []) }
+    {
+        let mut start = start;
+        let mut left = most;
+        'suffixes: while left > 0 {
+            let wire = labels.as_wire();
+            let Some(label) = labels.next() else {
+                return Ok(());
+            };
+            self.push(start as u16, &wire[..wire.len() - 1])?;
+            start = start + 1 + label.len();
+            left -= 1;
+        }
+        Ok(())
+    }
+
+    /// Keeps the first ones, so many.
+    pub(crate) fn truncate(&mut self, len: usize)
+        ensures { self.new ≡ take len self.old }
+    {
+        self.items.truncate(len);
     }
 
     /// Drops those that stand at `place` or behind it.

@@ -1,7 +1,7 @@
 //! What follows from the definitions of writing, for whoever rests a proof on them.
 //!
 //! The functions do nothing: each is there for its clause.
-ghost use Rattle.dnw_encoder.specs.EncoderLaws.{WritesStayBounded, PlacesStayBounded, FillsStayBounded, FillsTakeNoMemory, ItemsStayBounded, ItemsKeepFrame, FramesFollow, NameIsRead, NameComesBack};
+ghost use Rattle.dnw_encoder.specs.EncoderLaws.{WritesStayBounded, PlacesStayBounded, FillsStayBounded, FillsTakeNoMemory, ItemsStayBounded, ItemsKeepFrame, FramesFollow, NameIsRead, NameComesBack, NamesStayBounded, NamesTakeNoMore, PointersSave};
 
 use crate::binary::BinEncodable;
 
@@ -32,4 +32,12 @@ pub fn frames_follow<E: BinEncodable>()
 pub fn names_come_back()
     ensures at_once { NameIsRead }
     ensures alone { NameComesBack }
+{}
+
+/// A name that is written keeps within the maximum, and takes no more bytes than its uncompressed form; a pointer saves
+/// a byte at least.
+pub fn names_stay_bounded()
+    ensures bounded { NamesStayBounded }
+    ensures no_more { NamesTakeNoMore }
+    ensures saves { PointersSave }
 {}

@@ -3,6 +3,7 @@ ghost use Rattle.std.specs.Prelude.{◌≡◌, [], length, Some, IfSome, MatchOp
 ghost use Rattle.std.specs.Iterator.{UpTo, YieldsFirstRef, at_most, item_count};
 ghost use Rattle.std.specs.Iterator.SizeHint.{IsWithinCount};
 ghost use Rattle.dnw_name.specs.NameInside.{labels_of, IsWire, SplitsLabel};
+ghost use Rattle.dnw_name.specs.Names.{AreLabels, wire};
 
 use std::marker::Model;
 
@@ -33,6 +34,23 @@ impl<'a> LabelIter<'a> {
         ensures { result ≡ labels_of wire.now }
     {
         LabelIter { rest: wire }
+    }
+
+    /// The uncompressed form of the labels that are left, with its closing zero (RFC 1035, section 3.1).
+    #[inline(always)]
+    pub fn as_wire(&self) -> &'a [u8]
+        ensures form { result.now ≡ wire self.now }
+        ensures labels { AreLabels self.now }
+    {
+        self.rest
+    }
+
+    /// The same labels once more.
+    #[inline(always)]
+    pub fn clone(&self) -> Self
+        ensures { result ≡ self.now }
+    {
+        LabelIter { rest: self.rest }
     }
 }
 

@@ -21,6 +21,21 @@ pub(crate) fn eq_labels(mut ours: RefLabels<'_>, mut theirs: LabelIter<'_>) -> b
     theirs.next().is_none()
 }
 
+/// Whether the labels are the same byte for byte, one by one.
+pub(crate) fn same_labels(mut ours: RefLabels<'_>, mut theirs: LabelIter<'_>) -> bool
+    ensures { IsTrue result ↔ (ours.entry ≡ theirs.entry) }
+{
+    'labels: while let Some(label) = ours.next() {
+        let Some(other) = theirs.next() else {
+            return false;
+        };
+        if label != other {
+            return false;
+        }
+    }
+    theirs.len() == 0
+}
+
 fn eq_label(a: &[u8], b: &[u8]) -> bool
     ensures { IsTrue result ↔ (map to_ascii_lowercase a.now ≡ map to_ascii_lowercase b.now) }
 {

@@ -1,5 +1,8 @@
-use Rattle.dnw_encoder.proofs.Bounds.{name_is_read, name_comes_back}
+use Rattle.dnw_encoder.proofs.NameBack.{name_is_read, name_comes_back}
 use Rattle.dnw_encoder.proofs.encoder.laws.names_come_back.Goals as goal
 
-pub returns : goal.returns
-returns c = record { at_once = name_is_read; alone = name_comes_back }
+pub returns-clause-at_once : goal.returns-clause-at_once
+returns-clause-at_once c = name_is_read
+
+pub returns-clause-alone : goal.returns-clause-alone
+returns-clause-alone c = name_comes_back

@@ -1,0 +1,17 @@
+pub mod PartLists
+pub mod ItemLists
+pub mod Placing
+pub mod RunningOn
+pub mod Agreeing
+pub mod Spelling
+pub mod Keeping
+pub mod Naming
+pub mod Standing
+pub mod Stepping
+pub mod Running
+pub mod Outcomes
+pub mod Sizes
+pub mod Answering
+pub mod Shortening
+pub mod Endings
+pub mod ShortestNames

@@ -1,0 +1,27 @@
+-- One step more has run.
+use Rattle.std.proofs.Common.{◌+◌, ◌∙◌, map, take, sym, subst, arith}
+use Rattle.dnw_encoder.specs.EncoderValue.{value}
+use Rattle.dns_names_wire.specs.Script.{action}
+use Rattle.dns_names_wire.proofs.RunningOn.{HasRun, has_run_holds, has_run_more}
+use Rattle.dns_names_wire.proofs.script.running.run_steps.Goals as goal
+
+pub run_step-reply-requires-clause-holds : goal.run_step-reply-requires-clause-holds
+run_step-reply-requires-clause-holds c =
+    has_run_holds (value c.args.encoder.now) (value c.loop-step.encoder) _ c.loop-step.replies.items c.loop-step.places.items c.loop-step.invariant.0
+
+pub loop-step-preserved : goal.loop-step-preserved
+loop-step-preserved c =
+    let (has, few, room, count, space, lent) = c.loop-step.invariant in
+    let v = value c.args.encoder.now in
+    let w = value c.run_step-reply.new.encoder in
+    let next = has_run_more v (value c.loop-step.encoder) w c.args.steps.now c.loop-step.step-index c.step-item.result c.loop-step.replies.items
+    c.loop-step.places.items c.run_step-reply.new.places.items c.run_step-reply.result c.loop-step-test.true c.step-item.is has
+    c.run_step-reply.ensures.runs c.run_step-reply.ensures.tracks in (
+      subst (λ rs. HasRun v (map action (take (c.loop-step.step-index + 1) c.args.steps.now)) rs w c.run_step-reply.new.places.items)
+          (sym c.push_reserved.ensures.items) next,
+      omega (arith, few, c.run_step-reply.ensures.few),
+      omega (arith, room, c.run_step-reply.ensures.room),
+      omega (arith, count, c.push_reserved.ensures.len),
+      omega (arith, space, c.push_reserved.ensures.capacity),
+      c.run_step-reply.ensures.lender ∙ lent,
+    )

@@ -1,0 +1,60 @@
+-- Writing an item keeps the frame of `emit`.
+use Rattle.std.proofs.Common.{◌≡◌, ◌∷◌, List, [], length, Option, Some, None, Ok, Err, inl, inr, refl, sym, subst}
+use Rattle.std.specs.Int.{w16, w32, to_be_bytes, cast_unsigned}
+use Rattle.dnw_encoder.specs.declared.encoder.modes.NameEncoding.{NameEncoding}
+use Rattle.dnw_encoder.specs.Encoder.{Encoder}
+use Rattle.dnw_encoder.specs.Emitting.{Answer, Frame}
+use Rattle.dnw_encoder.specs.EmittingLaws.{frame, frame-same, frame-text, frames-follow}
+use Rattle.dnw_encoder.specs.NameFrames.{frame-name}
+use Rattle.dns_names_wire.specs.declared.script.Part.{Part}
+use Rattle.dns_names_wire.specs.declared.script.Part.TheVariants.{Name, U8, U16, I32, U32, Bytes, Text}
+use Rattle.dns_names_wire.specs.declared.script.Item.{Item}
+use Rattle.dns_names_wire.specs.Script.{EmitsPart, EmitsParts, EmitsScriptItem, in_encoding}
+
+pub frame-part : (part : Part) (v : Encoder) (answer : Answer) (w : Encoder) → v.offset ≡ length v.bytes → EmitsPart part v answer w → Frame v answer w
+frame-part (Name name) v answer w e h = frame-name name v answer w e h
+frame-part (U8 number) v answer w e h = frame v (number ∷ []) answer w e h
+frame-part (U16 number) v answer w e h = frame v (to_be_bytes w16 number) answer w e h
+frame-part (I32 number) v answer w e h = frame v (to_be_bytes w32 (cast_unsigned w32 number)) answer w e h
+frame-part (U32 number) v answer w e h = frame v (to_be_bytes w32 number) answer w e h
+frame-part (Bytes bytes) v answer w e h = frame v bytes.items answer w e h
+frame-part (Text text) v answer w e h = frame-text v text.items answer w e h
+
+pub frame-parts : (parts : List Part) (v : Encoder) (answer : Answer) (w : Encoder) → v.offset ≡ length v.bytes → EmitsParts parts v answer w → Frame v answer w
+frame-parts [] v (Ok tt) w e h = let P : Encoder → Type 0 = λ x. Frame v (Ok tt) x in subst P (sym h) (frame-same v (Ok tt) e)
+frame-parts [] v (Err error) w e h = absurd h
+frame-parts (part ∷ parts) v (Ok tt) w e h =
+    let first = frame-part part v (Ok tt) h.0 e h.1 in
+    frames-follow v h.0 w (Ok tt) e first (frame-parts parts h.0 (Ok tt) w first.ends h.2)
+frame-parts (part ∷ parts) v (Err error) w e h =
+    elim h [
+      | inl r ↦ frame-part part v (Err error) w e r
+      | inr r ↦
+          let first = frame-part part v (Ok tt) r.0 e r.1 in
+          frames-follow v r.0 w (Err error) e first (frame-parts parts r.0 (Err error) w first.ends r.2)
+    ]
+
+-- the mode makes no difference to the frame but for itself
+frame-in_mode : (v : Encoder) (mode : NameEncoding) (answer : Answer) (u : Encoder) → Frame (record v { encoding = mode }) answer u
+    → Frame v answer (record u { encoding = v.encoding })
+frame-in_mode v mode answer u f =
+    record {
+      bytes = f.bytes;
+      candidates = f.candidates;
+      encoding = refl;
+      canonical = f.canonical;
+      max_size = f.max_size;
+      candidate_limit = f.candidate_limit;
+      name_limit = f.name_limit;
+      ends = f.ends;
+    }
+
+framed : (item : Item) (mode : Option NameEncoding) (v : Encoder) (answer : Answer) (u : Encoder) → v.offset ≡ length v.bytes
+    → EmitsParts item.parts.items (in_encoding mode v) answer u → Frame v answer (record u { encoding = v.encoding })
+framed item None v answer u e h = frame-in_mode v v.encoding answer u (frame-parts item.parts.items v answer u e h)
+framed item (Some mode) v answer u e h = frame-in_mode v mode answer u (frame-parts item.parts.items (record v { encoding = mode }) answer u e h)
+
+pub frame-item : (item : Item) (v : Encoder) (answer : Answer) (w : Encoder) → v.offset ≡ length v.bytes → EmitsScriptItem item v answer w → Frame v answer w
+frame-item item v answer w e h =
+    let P : Encoder → Type 0 = λ x. Frame v answer x in
+    subst P (sym h.2) (framed item item.encoding v answer h.0 e h.1)

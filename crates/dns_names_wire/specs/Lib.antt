@@ -1,0 +1,8 @@
+pub mod Script
+pub mod Pieces
+pub mod Replies
+pub mod Runs
+pub mod ItemFrames
+pub mod Running
+pub mod Finished
+pub mod ScriptLaws

@@ -1,0 +1,106 @@
+-- What a script writes, as steps and replies alone tell it, and what it is for it to stand in a message.
+use Rattle.std.specs.Prelude.{◌≡◌, ℕ, zero, suc, ◌+◌, ◌≤◌, Bool, true, false, ◌==◌, if◌then◌else◌, List, [], ◌∷◌, ◌++◌, length, map, take, slice_range, Option, Some, None}
+use Rattle.std.specs.List.{flat_map}
+use Rattle.std.specs.Int.{w16, w32, to_be_bytes, cast_unsigned}
+use Rattle.dnw_encoder.specs.declared.encoder.modes.NameEncoding.{NameEncoding}
+use Rattle.dnw_encoder.specs.declared.encoder.modes.NameEncoding.TheVariants.{Compressed}
+use Rattle.dnw_encoder.specs.EmittedName.{in_mode, is_compressed}
+use Rattle.dnw_name.specs.Names.{encoded_size}
+use Rattle.dnw_name.specs.Reading.{NameAt}
+use Rattle.dns_names_wire.specs.declared.script.Part.{Part}
+use Rattle.dns_names_wire.specs.declared.script.Part.TheVariants.{Name, U8, U16, I32, U32, Bytes, Text}
+use Rattle.dns_names_wire.specs.declared.script.Item.{Item}
+use Rattle.dns_names_wire.specs.declared.script.Reply.{Reply}
+use Rattle.dns_names_wire.specs.declared.script.Reply.TheVariants.{Done, Refused, Items}
+use Rattle.dns_names_wire.specs.Script.{Action, write, set_max, set_encoding, reserve, fill, write_items}
+
+-- ---- pieces
+
+-- A piece of a message: a name that a mode wrote, other bytes, or a place with its number and what fills it.
+pub data Piece : Type 0 where
+  name_piece : NameEncoding → List (List ℕ) → Piece
+  bytes_piece : List ℕ → Piece
+  place_piece : ℕ → ℕ → Piece
+
+-- A name is read there, as its mode writes it, and takes no more bytes than its uncompressed form, and in a mode
+-- without compression just as many. Other bytes stand there as they are.
+abbrev pub PieceAt : List ℕ → Piece → ℕ → ℕ → Type 0
+PieceAt b (name_piece mode labels) p e =
+    (pointers : ℕ) × NameAt b p (in_mode mode labels) e pointers × (e ≤ p + encoded_size labels)
+    × (is_compressed mode ≡ false → e ≡ p + encoded_size labels)
+PieceAt b (bytes_piece bytes) p e = (slice_range b p e ≡ bytes) × (e ≡ p + length bytes) × (e ≤ length b)
+PieceAt b (place_piece number value) p e = (slice_range b p e ≡ to_be_bytes w16 value) × (e ≡ p + 2) × (e ≤ length b)
+
+-- the pieces stand from p to q, one behind the other
+abbrev pub Spells : List ℕ → List Piece → ℕ → ℕ → Type 0
+Spells b [] p q = p ≡ q
+Spells b (piece ∷ pieces) p q = (e : ℕ) × PieceAt b piece p e × Spells b pieces e q
+
+-- ---- the account of a script
+
+-- a place that was kept: where it ends, and whether it may still be filled
+pub record Slot : Type 0 where
+  pub end : ℕ
+  pub is_open : Bool
+
+-- what steps and replies tell: the length of the buffer, the maximum and the mode in force, the pieces, the places
+pub record Account : Type 0 where
+  pub len : ℕ
+  pub max : ℕ
+  pub mode : NameEncoding
+  pub pieces : List Piece
+  pub places : List Slot
+
+abbrev pub opening : ℕ → Account
+opening len = record { len = len; max = 65535; mode = Compressed; pieces = []; places = [] }
+
+abbrev pub with_piece : Account → Piece → ℕ → Account
+with_piece a piece len = record a { len = len; pieces = a.pieces ++ piece ∷ [] }
+
+abbrev pub part_piece : NameEncoding → Part → Piece
+part_piece mode (Name name) = name_piece mode name.labels
+part_piece mode (U8 number) = bytes_piece (number ∷ [])
+part_piece mode (U16 number) = bytes_piece (to_be_bytes w16 number)
+part_piece mode (I32 number) = bytes_piece (to_be_bytes w32 (cast_unsigned w32 number))
+part_piece mode (U32 number) = bytes_piece (to_be_bytes w32 number)
+part_piece mode (Bytes bytes) = bytes_piece bytes.items
+part_piece mode (Text text) = bytes_piece (length text.items ∷ text.items)
+
+abbrev pub mode_or : Option NameEncoding → NameEncoding → NameEncoding
+mode_or None mode = mode
+mode_or (Some own) mode = own
+
+abbrev pub item_pieces : NameEncoding → Item → List Piece
+item_pieces mode item = map (part_piece (mode_or item.encoding mode)) item.parts.items
+
+-- the place of this number, with this value
+abbrev pub filled_with : ℕ → ℕ → Piece → Piece
+filled_with number value (place_piece n old) = place_piece n (if n == number then value else old)
+filled_with number value piece = piece
+
+-- the places, the one of this number spent
+abbrev pub spent : ℕ → List Slot → List Slot
+spent number [] = []
+spent zero (slot ∷ slots) = record { end = slot.end; is_open = false } ∷ slots
+spent (suc number) (slot ∷ slots) = slot ∷ spent number slots
+
+-- One more step was answered.
+abbrev pub after : Account → Action → Reply → Account
+after a (write p) (Done len) = with_piece a (part_piece a.mode p) len
+after a (set_max size) (Done len) = record a { max = size }
+after a (set_encoding mode) (Done len) = record a { mode = mode }
+after a reserve (Done len) = record a {
+  len = len;
+  pieces = a.pieces ++ place_piece (length a.places) 0 ∷ [];
+  places = a.places ++ (record { end = len; is_open = true }) ∷ [];
+}
+after a (fill place value) (Done len) = record a { pieces = map (filled_with place value) a.pieces; places = spent place a.places }
+after a (fill place value) (Refused error len) = record a { places = spent place a.places }
+after a (write_items items) (Items count error len) = record a { len = len; pieces = a.pieces ++ flat_map (item_pieces a.mode) (take count items) }
+after a action reply = a
+
+-- what the steps and replies tell, from an account on
+abbrev pub told : Account → List Action → List Reply → Account
+told a [] replies = a
+told a (action ∷ actions) [] = a
+told a (action ∷ actions) (reply ∷ replies) = told (after a action reply) actions replies

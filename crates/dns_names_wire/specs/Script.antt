@@ -1,0 +1,77 @@
+-- What a script is made of, and what its parts and items write.
+use Rattle.std.specs.Prelude.{◌≡◌, ℕ, ◌+◌, ◌∷◌, List, [], length, Option, Some, None, Ok, Err, ◌⊎◌, sum_by}
+use Rattle.std.specs.Int.{w16, w32, to_be_bytes, cast_unsigned}
+use Rattle.dnw_encoder.specs.declared.encoder.modes.NameEncoding.{NameEncoding}
+use Rattle.dnw_encoder.specs.Encoder.{Encoder, Writes, WritesText}
+use Rattle.dnw_encoder.specs.Emitting.{Emits}
+use Rattle.dnw_encoder.specs.EmittedName.{EmitsName}
+use Rattle.dnw_name.specs.Names.{encoded_size}
+use Rattle.dns_names_wire.specs.declared.script.Part.{Part}
+use Rattle.dns_names_wire.specs.declared.script.Part.TheVariants.{Name, U8, U16, I32, U32, Bytes, Text}
+use Rattle.dns_names_wire.specs.declared.script.Item.{Item}
+use Rattle.dns_names_wire.specs.declared.script.Step.{Step}
+use Rattle.dns_names_wire.specs.declared.script.Step.TheVariants as step
+
+-- What a step asks for: seven of its kinds are a part.
+pub data Action : Type 0 where
+  write : Part → Action
+  set_max : ℕ → Action
+  set_encoding : NameEncoding → Action
+  reserve : Action
+  fill : ℕ → ℕ → Action
+  write_items : List Item → Action
+
+abbrev pub action : Step → Action
+action (step.Name name) = write (Name name)
+action (step.U8 number) = write (U8 number)
+action (step.U16 number) = write (U16 number)
+action (step.I32 number) = write (I32 number)
+action (step.U32 number) = write (U32 number)
+action (step.Bytes bytes) = write (Bytes bytes)
+action (step.Text text) = write (Text text)
+action (step.Max size) = set_max size
+action (step.Encoding mode) = set_encoding mode
+action step.Reserve = reserve
+action (step.Fill place value) = fill place value
+action (step.Items items) = write_items items.items
+
+abbrev pub EmitsPart : Emits Part
+EmitsPart (Name name) v answer w = EmitsName name v answer w
+EmitsPart (U8 number) v answer w = Writes v (number ∷ []) answer w
+EmitsPart (U16 number) v answer w = Writes v (to_be_bytes w16 number) answer w
+EmitsPart (I32 number) v answer w = Writes v (to_be_bytes w32 (cast_unsigned w32 number)) answer w
+EmitsPart (U32 number) v answer w = Writes v (to_be_bytes w32 number) answer w
+EmitsPart (Bytes bytes) v answer w = Writes v bytes.items answer w
+EmitsPart (Text text) v answer w = WritesText v text.items answer w
+
+-- The parts were written in turn, up to the first refused one.
+abbrev pub EmitsParts : Emits (List Part)
+EmitsParts [] v (Ok done) w = w ≡ v
+EmitsParts [] v (Err error) w = ⊥
+EmitsParts (part ∷ parts) v (Ok done) w = (m : Encoder) × EmitsPart part v (Ok tt) m × EmitsParts parts m (Ok tt) w
+EmitsParts (part ∷ parts) v (Err error) w =
+    EmitsPart part v (Err error) w ⊎ ((m : Encoder) × EmitsPart part v (Ok tt) m × EmitsParts parts m (Err error) w)
+
+abbrev pub in_encoding : Option NameEncoding → Encoder → Encoder
+in_encoding None v = v
+in_encoding (Some mode) v = record v { encoding = mode }
+
+-- An item's parts were written in its mode, and the former mode put back.
+abbrev pub EmitsScriptItem : Emits Item
+EmitsScriptItem item v answer w =
+    (u : Encoder) × EmitsParts item.parts.items (in_encoding item.encoding v) answer u × (w ≡ record u { encoding = v.encoding })
+
+-- ---- sizes
+
+-- the bytes of a part with its name whole
+abbrev pub part_size : Part → ℕ
+part_size (Name name) = encoded_size name.labels
+part_size (U8 number) = 1
+part_size (U16 number) = 2
+part_size (I32 number) = 4
+part_size (U32 number) = 4
+part_size (Bytes bytes) = length bytes.items
+part_size (Text text) = length text.items + 1
+
+abbrev pub item_size : Item → ℕ
+item_size item = sum_by part_size item.parts.items

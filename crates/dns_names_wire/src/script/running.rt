@@ -1,0 +1,230 @@
+//! Running a script.
+ghost use Rattle.std.specs.Prelude.{◌≡◌, ℕ, ◌+◌, ◌<◌, ◌≤◌, ◌^◌, List, [], length, map, IfOk, IfErr, OnErr, vec_len};
+ghost use Rattle.std.specs.Vec.{vec_capacity};
+ghost use Rattle.std.specs.List.{AllByRecursion};
+ghost use Rattle.dnw_base.specs.declared.error.ProtoError.{ProtoError};
+ghost use Rattle.dnw_encoder.specs.declared.encoder.modes.NameEncoding.{NameEncoding};
+ghost use Rattle.dnw_encoder.specs.Encoder.{TakesRoom, reserved};
+ghost use Rattle.dnw_encoder.specs.EncoderValue.{value, lender};
+ghost use Rattle.dns_names_wire.specs.Script.{action};
+ghost use Rattle.dns_names_wire.specs.Pieces.{Account, after, opening};
+ghost use Rattle.dns_names_wire.specs.Finished.{Finished, Shortest};
+ghost use Rattle.dns_names_wire.specs.Replies.{AnswersAll};
+ghost use Rattle.dns_names_wire.specs.Runs.{Run, Runs, RunsStep, RunsItems, Tells};
+ghost use Rattle.dns_names_wire.specs.Running.{FillsKept, HoldsPlace, KeepsPlace, Tracks, kept_at, reply_to, without};
+
+use super::{Item, Reply, Step};
+use dnw_base::error::ProtoResult;
+use dnw_encoder::binary::BinEncodable;
+use dnw_encoder::encoder::{BinEncoder, Place};
+use std::alloc::Global;
+
+/// The places of a run, in the order in which they were kept: none where it is spent.
+type Places = Vec<Option<Place<u16>>>;
+
+/// Writes the steps behind what the buffer has, whose length has to fit 32 bits, and answers each of them; behind one
+/// that is refused the others go on. It asks for the replies' memory first: where that is refused, nothing is written.
+pub fn run(alloc: Global, buf: &mut Vec<u8>, steps: &[Step]) -> ProtoResult<Vec<Reply>>
+    requires { length buf.old.items < 2 ^ 32 }
+    ensures replies { IfOk result (λ replies. AnswersAll (opening (length buf.old.items)) (map action steps.now) replies.items) }
+    ensures finished { IfOk result (λ replies. Finished buf.old.items (map action steps.now) replies.items buf.new.items) }
+    ensures shortest { IfOk result (λ replies. Shortest (length buf.old.items) 64 120 (map action steps.now) replies.items) }
+    ensures runs { IfOk result (λ replies. Run buf.old.items 64 120 (map action steps.now) replies.items buf.new.items) }
+    ensures err { IfErr result (λ e. e ≡ ProtoError.Memory) }
+    ensures same { OnErr result (buf.new.items ≡ buf.old.items) }
+{
+    run_limited(alloc, buf, steps, 64, 120)
+}
+
+/// Writes the steps as `run` does, with other limits on the candidates that are kept and on the names that are counted.
+pub fn run_limited(
+    alloc: Global,
+    buf: &mut Vec<u8>,
+    steps: &[Step],
+    candidates: usize,
+    names: usize,
+) -> ProtoResult<Vec<Reply>>
+    requires { length buf.old.items < 2 ^ 32 }
+    ensures replies { IfOk result (λ replies. AnswersAll (opening (length buf.old.items)) (map action steps.now) replies.items) }
+    ensures finished { IfOk result (λ replies. Finished buf.old.items (map action steps.now) replies.items buf.new.items) }
+    ensures shortest { IfOk result (λ replies. Shortest (length buf.old.items) candidates names (map action steps.now) replies.items) }
+    ensures runs { IfOk result (λ replies. Run buf.old.items candidates names (map action steps.now) replies.items buf.new.items) }
+    ensures err { IfErr result (λ e. e ≡ ProtoError.Memory) }
+    ensures same { OnErr result (buf.new.items ≡ buf.old.items) }
+{
+    run_all(alloc, buf, steps, candidates, names)
+}
+
+/// Runs the steps with these limits.
+fn run_all(
+    alloc: Global,
+    buf: &mut Vec<u8>,
+    steps: &[Step],
+    candidates: usize,
+    names: usize,
+) -> ProtoResult<Vec<Reply>>
+    requires { length buf.old.items < 2 ^ 32 }
+    ensures runs { IfOk result (λ replies. Run buf.old.items candidates names (map action steps.now) replies.items buf.new.items) }
+    ensures err { IfErr result (λ e. e ≡ ProtoError.Memory) }
+    ensures same { OnErr result (buf.new.items ≡ buf.old.items) }
+{
+    let mut replies = Vec::with_capacity(alloc, steps.len())?;
+    let mut places = Vec::with_capacity(alloc, steps.len())?;
+    let end = buf.len() as u32;
+    let mut encoder = BinEncoder::with_offset(buf, end).with_limits(candidates, names);
+    run_steps(&mut encoder, steps, &mut places, &mut replies);
+    drop(encoder);
+    Ok(replies)
+}
+
+/// Writes the steps, and adds a reply for each.
+fn run_steps(
+    encoder: &mut BinEncoder<'_>,
+    steps: &[Step],
+    places: &mut Places,
+    replies: &mut Vec<Reply>,
+)
+    requires at_end { (value encoder.old).offset ≡ length (value encoder.old).bytes }
+    requires whole { (value encoder.old).max_size ≡ 65535 }
+    requires compressed { (value encoder.old).encoding ≡ NameEncoding.Compressed }
+    requires no_places { places.old.items ≡ [] }
+    requires no_replies { replies.old.items ≡ [] }
+    requires room_for_places { length steps.now ≤ vec_capacity places.old }
+    requires room_for_replies { length steps.now ≤ vec_capacity replies.old }
+    ensures runs { Runs (opening (length (value encoder.old).bytes)) (value encoder.old) (map action steps.now) replies.new.items (value encoder.new) }
+    ensures lender { lender encoder.new ≡ lender encoder.old }
+{
+    for step in steps {
+        let reply = run_step(encoder, step, places);
+        replies.push_reserved(reply);
+    }
+}
+
+/// Does one step.
+fn run_step(encoder: &mut BinEncoder<'_>, step: &Step, places: &mut Places) -> Reply
+    requires at_end { (value encoder.old).offset ≡ length (value encoder.old).bytes }
+    requires holds { AllByRecursion (HoldsPlace (value encoder.old)) places.old.items }
+    requires room { vec_len places.old < vec_capacity places.old }
+    ensures runs { (a : Account) → Tracks places.old.items a.places → RunsStep a (value encoder.old) (action step.now) result (value encoder.new) }
+    ensures tracks { (a : Account) → Tracks places.old.items a.places → Tracks places.new.items (after a (action step.now) result).places }
+    ensures few { vec_len places.new ≤ vec_len places.old + 1 }
+    ensures room { vec_capacity places.new ≡ vec_capacity places.old }
+    ensures lender { lender encoder.new ≡ lender encoder.old }
+{
+    match step {
+        Step::Name(name) => write(encoder, name),
+        Step::U8(number) => {
+            let answer = encoder.emit_u8(*number);
+            tell(encoder, answer)
+        }
+        Step::U16(number) => write(encoder, number),
+        Step::I32(number) => write(encoder, number),
+        Step::U32(number) => write(encoder, number),
+        Step::Bytes(bytes) => write(encoder, bytes),
+        Step::Text(text) => {
+            let answer = encoder.emit_character_data(text.as_slice());
+            tell(encoder, answer)
+        }
+        Step::Max(size) => {
+            encoder.set_max_size(*size);
+            tell(encoder, Ok(()))
+        }
+        Step::Encoding(mode) => {
+            encoder.set_name_encoding(*mode);
+            tell(encoder, Ok(()))
+        }
+        Step::Reserve => reserve(encoder, places),
+        Step::Fill { place, value } => fill(encoder, places, *place, *value),
+        Step::Items(items) => write_items(encoder, items.as_slice()),
+    }
+}
+
+/// Writes a value at the end.
+fn write<E: BinEncodable>(encoder: &mut BinEncoder<'_>, item: &E) -> Reply
+    requires at_end { (value encoder.old).offset ≡ length (value encoder.old).bytes }
+    ensures tells { Tells (E.emits item.now (value encoder.old)) result (value encoder.new) }
+    ensures lender { lender encoder.new ≡ lender encoder.old }
+{
+    let answer = item.emit(encoder);
+    tell(encoder, answer)
+}
+
+/// The reply to a write.
+fn tell(encoder: &BinEncoder<'_>, answer: ProtoResult<()>) -> Reply
+    ensures { result ≡ reply_to answer (length (value encoder.now).bytes) }
+{
+    let len = encoder.len();
+    match answer {
+        Ok(()) => Reply::Done { len },
+        Err(error) => Reply::Refused { error, len },
+    }
+}
+
+/// Keeps a place.
+fn reserve(encoder: &mut BinEncoder<'_>, places: &mut Places) -> Reply
+    requires room { vec_len places.old < vec_capacity places.old }
+    ensures tells { Tells (TakesRoom (value encoder.old) 2 (reserved (value encoder.old) 2)) result (value encoder.new) }
+    ensures place { KeepsPlace places.old.items (value encoder.old).offset result places.new.items }
+    ensures few { vec_len places.new ≤ vec_len places.old + 1 }
+    ensures room { vec_capacity places.new ≡ vec_capacity places.old }
+    ensures lender { lender encoder.new ≡ lender encoder.old }
+{
+    match encoder.place::<u16>() {
+        Ok(place) => {
+            places.push_reserved(Some(place));
+            tell(encoder, Ok(()))
+        }
+        Err(error) => tell(encoder, Err(error)),
+    }
+}
+
+/// Fills a place, which is spent by it.
+fn fill(encoder: &mut BinEncoder<'_>, places: &mut Places, number: usize, filling: u16) -> Reply
+    requires holds { AllByRecursion (HoldsPlace (value encoder.old)) places.old.items }
+    ensures fills { FillsKept (value encoder.old) (kept_at number places.old.items) filling result (value encoder.new) }
+    ensures spends { places.new.items ≡ without number places.old.items }
+    ensures len { vec_len places.new ≡ vec_len places.old }
+    ensures room { vec_capacity places.new ≡ vec_capacity places.old }
+    ensures lender { lender encoder.new ≡ lender encoder.old }
+{
+    let Some(place) = take_place(places, number) else {
+        return Reply::NoPlace;
+    };
+    let answer = encoder.emit_at(place, filling);
+    tell(encoder, answer)
+}
+
+/// Takes the place of this number, if it was kept and is not spent.
+fn take_place(places: &mut Places, number: usize) -> Option<Place<u16>>
+    ensures place { result ≡ kept_at number places.old.items }
+    ensures spends { places.new.items ≡ without number places.old.items }
+    ensures len { vec_len places.new ≡ vec_len places.old }
+    ensures room { vec_capacity places.new ≡ vec_capacity places.old }
+{
+    if number >= places.len() {
+        return None;
+    }
+    places[number].take()
+}
+
+/// Writes items, up to the first refused one.
+fn write_items(encoder: &mut BinEncoder<'_>, items: &[Item]) -> Reply
+    requires at_end { (value encoder.old).offset ≡ length (value encoder.old).bytes }
+    ensures runs { RunsItems (value encoder.old) items.now result (value encoder.new) }
+    ensures at_end { (value encoder.new).offset ≡ length (value encoder.new).bytes }
+    ensures lender { lender encoder.new ≡ lender encoder.old }
+{
+    let mut rest = items.iter();
+    match encoder.emit_iter(&mut rest) {
+        Ok(count) => Reply::Items {
+            count,
+            error: None,
+            len: encoder.len(),
+        },
+        Err(error) => Reply::Items {
+            count: items.len() - rest.len() - 1,
+            error: Some(error),
+            len: encoder.len(),
+        },
+    }
+}

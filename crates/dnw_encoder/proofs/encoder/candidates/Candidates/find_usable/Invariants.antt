@@ -1,0 +1,8 @@
+use Rattle.std.proofs.Common.{take}
+use Rattle.std.specs.List.{AllByRecursion}
+use Rattle.dnw_encoder.proofs.CandidateLists.{CannotBe}
+use Rattle.dnw_encoder.proofs.encoder.candidates.Candidates.find_usable.Given as goal
+
+-- none of those before is usable
+abbrev pub invariant-loop-held : goal.invariant-loop-held
+invariant-loop-held l = AllByRecursion (CannotBe l.message l.labels) (take l.held-index l.held-items)

@@ -1,0 +1,14 @@
+use Rattle.std.proofs.Common.{◌≡◌, ◌≤◌, length, take, drop}
+use Rattle.dnw_name.specs.Names.{labels_wire}
+use Rattle.dnw_encoder.specs.EncoderValue.{value}
+use Rattle.dnw_encoder.specs.Sharing.{NoneBefore}
+use Rattle.dnw_encoder.proofs.encoder.names.BinEncoder.find_suffix.Given as goal
+
+-- so many labels were passed, and no suffix from one of them on is found
+abbrev pub invariant-suffixes : goal.invariant-suffixes
+invariant-suffixes l =
+    (l.labels ≤ length l.name.labels) × (l.rest ≡ drop l.labels l.name.labels) × (l.size ≡ length (labels_wire (take l.labels l.name.labels)))
+    × NoneBefore (value l.self) l.name.labels l.labels
+
+abbrev pub decreases-suffixes : goal.decreases-suffixes
+decreases-suffixes l = length l.rest
