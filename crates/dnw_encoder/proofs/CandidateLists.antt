@@ -1,14 +1,14 @@
 -- Lists of candidates.
-use Rattle.std.proofs.Common.{◌≡◌, ◌≢◌, ℕ, ◌+◌, ◌-◌, ◌<◌, ◌≤◌, zero, suc, List, [], ◌∷◌, ◌++◌, length, get_or, take, drop, refl, sym, ap, ◌∙◌, subst, ⊎_elim, arith}
+use Rattle.std.proofs.Common.{◌≡◌, ◌≢◌, ℕ, ◌+◌, ◌-◌, ◌<◌, ◌≤◌, zero, suc, Bool, true, false, cond, nat_lt, rules, tests, List, [], ◌∷◌, ◌++◌, length, get_or, set, take, drop, refl, sym, ap, ◌∙◌, subst, ◌⊎◌, inl, inr, ⊎_elim, mod-lt, ◌%◌, ◌*◌, arith}
 use Rattle.std.specs.List.{AllByRecursion}
-use Rattle.std.proofs.lemmas.List.{take_more, length-append, length-take-le}
+use Rattle.std.proofs.lemmas.List.{take_more, take_all, length-append, length-drop, length-take-le, get_or-drop}
 use Rattle.std.proofs.lemmas.Bool.Decides.{leb_tells}
-use Rattle.std.proofs.Math.Seq.{split_at}
+use Rattle.std.proofs.Math.Seq.{split_at, take-add}
 use Rattle.dnw_name.specs.Names.{labels_wire}
 use Rattle.dnw_name.specs.Reading.{NameAt}
-use Rattle.dnw_encoder.specs.Encoder.{Candidate, IsFirstWith}
+use Rattle.dnw_encoder.specs.Encoder.{Candidate, IsFirstWith, candidates_before}
 use Rattle.dnw_encoder.specs.EmittedName.{IsFirstUsable, suffixes}
-use Rattle.dnw_encoder.specs.Sharing.{NoneUsable}
+use Rattle.dnw_encoder.specs.Sharing.{AreMarked, IsMarked, NoneUsable, tag}
 
 all_push : {X : Type 0} (P : X → Type 0) (xs : List X) (y : X) → AllByRecursion P xs → P y → AllByRecursion P (xs ++ y ∷ [])
 all_push P [] y all one = (one, tt)
@@ -103,3 +103,203 @@ length-labels_wire l rest = omega (arith, length-append l (labels_wire rest))
 pub not_nil : {X : Type 0} (xs ys : List X) (y : X) → xs ++ y ∷ ys ≢ []
 not_nil [] ys y e = absurd cc
 not_nil (x ∷ xs) ys y e = absurd cc
+
+-- ---- marks
+
+all_at : {X : Type 0} (P : X → Type 0) (xs before after : List X) (x : X) → xs ≡ before ++ x ∷ after → AllByRecursion P xs → P x
+all_at {X} P xs [] after x split all = let Q : List X → Type 0 = λ ys. AllByRecursion P ys in (subst Q split all).0
+all_at P [] (y ∷ before) after x split all = absurd cc
+all_at P (z ∷ xs) (y ∷ before) after x split all = all_at P xs before after x (let rest : xs ≡ before ++ x ∷ after = cc in rest) all.1
+
+-- what has no mark is not among the candidates
+pub none_with : (marks bytes : List ℕ) (i : ℕ) (cs : List Candidate) → get_or marks (tag bytes) 0 ≡ 0 → AreMarked marks i cs → AllByRecursion (λ c. c.1 ≢ bytes) cs
+none_with marks bytes i [] clear all = tt
+none_with marks bytes i (c ∷ cs) clear all =
+    let some = all.0.some in
+    (λ same. omega (arith, some, ap (λ b. get_or marks (tag b) 0) same, clear), none_with marks bytes (i + 1) cs clear all.1)
+
+-- nor among those before the one that the mark tells
+pub none_early : (marks bytes : List ℕ) (n i : ℕ) (cs : List Candidate) → n + i < get_or marks (tag bytes) 0 → AreMarked marks i cs
+    → AllByRecursion (λ c. c.1 ≢ bytes) (take n cs)
+none_early marks bytes zero i cs less all = tt
+none_early marks bytes (suc n) i [] less all = tt
+none_early marks bytes (suc n) i (c ∷ cs) less all =
+    let early = all.0.early in
+    (λ same. omega (arith, early, ap (λ b. get_or marks (tag b) 0) same, less), none_early marks bytes n (i + 1) cs (omega (arith, less)) all.1)
+
+-- candidates that have not the bytes of the labels cannot be used for them
+pub cannot_be : (message bytes : List ℕ) (labels : List (List ℕ)) (cs : List Candidate) → bytes ≡ labels_wire labels → AllByRecursion (λ c. c.1 ≢ bytes) cs
+    → AllByRecursion (CannotBe message labels) cs
+cannot_be message bytes labels [] same all = tt
+cannot_be message bytes labels (c ∷ cs) same all = (λ is end pointers name. all.0 (is ∙ sym same), cannot_be message bytes labels cs same all.1)
+
+all_both : {X : Type 0} (P : X → Type 0) (xs ys : List X) → AllByRecursion P xs → AllByRecursion P ys → AllByRecursion P (xs ++ ys)
+all_both P [] ys first rest = rest
+all_both P (x ∷ xs) ys first rest = (first.0, all_both P xs ys first.1 rest)
+
+-- the first ones and more behind them
+pub all_further : {X : Type 0} (P : X → Type 0) (cs : List X) (n i : ℕ) → AllByRecursion P (take n cs) → AllByRecursion P (take i (drop n cs))
+    → AllByRecursion P (take (n + i) cs)
+all_further {X} P cs n i first rest =
+    let Q : List X → Type 0 = λ xs. AllByRecursion P xs in
+    subst Q (sym (take-add n i cs)) (all_both P (take n cs) (take i (drop n cs)) first rest)
+
+-- ---- marks that change
+
+get-other : (marks : List ℕ) (i j x : ℕ) → (i ≡ j → ⊥) → get_or (set marks i x) j 0 ≡ get_or marks j 0
+get-other [] i j x other = refl
+get-other (m ∷ marks) zero zero x other = absurd (other refl)
+get-other (m ∷ marks) zero (suc j) x other = refl
+get-other (m ∷ marks) (suc i) zero x other = refl
+get-other (m ∷ marks) (suc i) (suc j) x other = get-other marks i j x (λ same. other (ap suc same))
+
+get-set : (marks : List ℕ) (i x : ℕ) → i < length marks → get_or (set marks i x) i 0 ≡ x
+get-set [] i x less = absurd (omega (arith, less))
+get-set (m ∷ marks) zero x less = refl
+get-set (m ∷ marks) (suc i) x less = get-set marks i x (omega (arith, less))
+
+-- a tag that none of them has marked gets a mark
+marked_still : (marks : List ℕ) (t x i : ℕ) (cs : List Candidate) → (get_or marks t 0 ≡ 0) ⊎ (i + length cs < get_or marks t 0)
+    → AreMarked marks i cs → AreMarked (set marks t x) i cs
+marked_still marks t x i [] clear all = tt
+marked_still marks t x i (c ∷ cs) clear all =
+    let some = all.0.some in
+    let early = all.0.early in
+    let other : t ≡ tag c.1 → ⊥ = λ is.
+    let at = ap (λ n. get_or marks n 0) is in
+    ⊎_elim (λ none. omega (arith, some, at, none)) (λ stale. omega (arith, early, at, stale)) clear
+    in
+    let same = get-other marks t (tag c.1) x other in
+    let rest : (get_or marks t 0 ≡ 0) ⊎ (i + 1 + length cs < get_or marks t 0) = ⊎_elim (λ none. inl none) (λ stale. inr (omega (arith, stale))) clear in
+    (record { some = omega (arith, same, some); early = omega (arith, same, early) }, marked_still marks t x (i + 1) cs rest all.1)
+
+marked_push : (marks bytes : List ℕ) (place i : ℕ) (cs : List Candidate) → AreMarked marks i cs → IsMarked marks (i + length cs) bytes
+    → AreMarked marks i (cs ++ (place, bytes) ∷ [])
+marked_push marks bytes place i [] all one =
+    let early = one.early in
+    (record { some = one.some; early = omega (arith, early) }, tt)
+marked_push marks bytes place i (c ∷ cs) all one =
+    let some = one.some in
+    let early = one.early in
+    (all.0, marked_push marks bytes place (i + 1) cs all.1 (record { some = some; early = omega (arith, early) }))
+
+marked_anew : (marks new bytes : List ℕ) (t place : ℕ) (cs : List Candidate) → t < length marks → t ≡ tag bytes → AreMarked marks 0 cs
+    → (get_or marks t 0 ≡ 0) ⊎ (length cs < get_or marks t 0)
+    → ((n : ℕ) × (1 ≤ n) × (n ≤ length cs + 1) × (new ≡ set marks t n)) → AreMarked new 0 (cs ++ (place, bytes) ∷ [])
+marked_anew marks new bytes t place cs less is all clear (n, some, early, made) =
+    let at : get_or (set marks t n) (tag bytes) 0 ≡ n = ap (λ k. get_or (set marks t n) k 0) (sym is) ∙ get-set marks t n less in
+    let none : (get_or marks t 0 ≡ 0) ⊎ (0 + length cs < get_or marks t 0) = ⊎_elim (λ none. inl none) (λ stale. inr (omega (arith, stale))) clear in
+    subst (λ m. AreMarked m 0 (cs ++ (place, bytes) ∷ [])) (sym made)
+    (marked_push (set marks t n) bytes place 0 cs (marked_still marks t n 0 cs none all) (record { some = omega (arith, some, at); early = omega (arith, early, at) }))
+
+-- one more candidate is marked
+pub marked_more : (marks new bytes : List ℕ) (t place : ℕ) (cs : List Candidate) → t < length marks → t ≡ tag bytes → AreMarked marks 0 cs
+    → (1 ≤ get_or marks t 0 → get_or marks t 0 ≤ length cs + 1 → new ≡ marks)
+    → (get_or marks t 0 ≡ 0 → (n : ℕ) × (1 ≤ n) × (n ≤ length cs + 1) × (new ≡ set marks t n))
+    → (length cs + 1 < get_or marks t 0 → (n : ℕ) × (1 ≤ n) × (n ≤ length cs + 1) × (new ≡ set marks t n))
+    → AreMarked new 0 (cs ++ (place, bytes) ∷ [])
+marked_more marks new bytes t place cs less is all stays none stale =
+    let at : get_or marks t 0 ≡ get_or marks (tag bytes) 0 = ap (λ n. get_or marks n 0) is in
+    ⊎_elim
+    (λ (_, clear). marked_anew marks new bytes t place cs less is all (inl (let no : get_or marks t 0 ≡ 0 = omega (arith, clear) in no)) (none (omega (arith, clear))))
+    (λ (_, some).
+    ⊎_elim
+    (λ (_, early). subst (λ m. AreMarked m 0 (cs ++ (place, bytes) ∷ [])) (sym (stays (omega (arith, some)) early))
+    (marked_push marks bytes place 0 cs all (record { some = omega (arith, at, some); early = omega (arith, at, early) })))
+    (λ (_, late). marked_anew marks new bytes t place cs less is all (inr (omega (arith, late))) (stale late))
+    (leb_tells (get_or marks t 0) (length cs + 1)))
+    (leb_tells (get_or marks t 0) 0)
+
+pub tag_below : (bytes : List ℕ) → tag bytes < 256
+tag_below [] = omega arith
+tag_below (a ∷ []) = omega arith
+tag_below (a ∷ b ∷ []) = omega arith
+tag_below (a ∷ b ∷ c ∷ []) = omega arith
+tag_below (a ∷ b ∷ c ∷ d ∷ rest) = mod-lt (length rest % 256 * 7 + b + c * 3 + d * 5) (omega arith)
+
+-- fresh marks
+pub marked_all : (marks : List ℕ) (i : ℕ) (cs : List Candidate) → ((t : ℕ) → t < 256 → get_or marks t 0 ≡ 1) → ((bs : List ℕ) → tag bs < 256) → AreMarked marks i cs
+marked_all marks i [] one below = tt
+marked_all marks i (c ∷ cs) one below =
+    let is = one (tag c.1) (below c.1) in
+    (record { some = omega (arith, is); early = omega (arith, is) }, marked_all marks (i + 1) cs one below)
+
+pub marked_take : (marks : List ℕ) (n i : ℕ) (cs : List Candidate) → AreMarked marks i cs → AreMarked marks i (take n cs)
+marked_take marks zero i cs all = tt
+marked_take marks (suc n) i [] all = tt
+marked_take marks (suc n) i (c ∷ cs) all = (all.0, marked_take marks n (i + 1) cs all.1)
+
+-- ---- the place that all stand before
+
+pub all_take : {X : Type 0} (P : X → Type 0) (n : ℕ) (xs : List X) → AllByRecursion P xs → AllByRecursion P (take n xs)
+all_take P zero xs all = tt
+all_take P (suc n) [] all = tt
+all_take P (suc n) (x ∷ xs) all = (all.0, all_take P n xs all.1)
+
+all_further_off : (e f : ℕ) (cs : List Candidate) → e ≤ f → AllByRecursion (λ c. c.0 < e) cs → AllByRecursion (λ c. c.0 < f) cs
+all_further_off e f [] le all = tt
+all_further_off e f (c ∷ cs) le all = (omega (arith, le, all.0), all_further_off e f cs le all.1)
+
+pub end_more : (e f place : ℕ) (bytes : List ℕ) (cs : List Candidate) → e ≤ f → place < f → AllByRecursion (λ c. c.0 < e) cs
+    → AllByRecursion (λ c. c.0 < f) (cs ++ (place, bytes) ∷ [])
+end_more e f place bytes cs le less all = all_push (λ c. c.0 < f) cs (place, bytes) (all_further_off e f cs le all) less
+
+is_less : (n m : ℕ) → n < m → nat_lt n m ≡ true
+is_less n m less = search (rules, tests)
+
+less_is : (n m : ℕ) → nat_lt n m ≡ true → n < m
+less_is n m is = search (rules, tests)
+
+-- where all stand before a place, none is dropped from there on
+pub none_dropped : (e place : ℕ) (cs : List Candidate) → e ≤ place → AllByRecursion (λ c. c.0 < e) cs → cs ≡ candidates_before place cs
+none_dropped e place [] le all = refl
+none_dropped e place (c ∷ cs) le all =
+    let before : nat_lt c.0 place ≡ true = is_less c.0 place (omega (arith, le, all.0)) in
+    ap (λ (ds : List Candidate). c ∷ ds) (none_dropped e place cs le all.1)
+    ∙ sym (ap (λ (b : Bool). cond b (c ∷ candidates_before place cs) (candidates_before place cs)) before)
+
+-- those that are left stand before it
+pub end_trimmed : (place : ℕ) (cs : List Candidate) → AllByRecursion (λ c. c.0 < place) (candidates_before place cs)
+end_trimmed place [] = tt
+end_trimmed place (c ∷ cs) =
+    let M : Bool → Type 0 = λ b. nat_lt c.0 place ≡ b → AllByRecursion (λ x. x.0 < place) (cond b (c ∷ candidates_before place cs) (candidates_before place cs)) in
+    let cases : (b : Bool) → M b = λ b. elim b as M [
+      | true ↦ λ is. (less_is c.0 place is, end_trimmed place cs)
+      | false ↦ λ is. end_trimmed place cs
+    ] in
+    cases (nat_lt c.0 place) refl
+
+-- ---- a search that begins behind the first ones
+
+-- what is searched: the candidates from there on
+abbrev pub searched : ℕ → List Candidate → List Candidate
+searched from cs = take (length cs - from) (drop from cs)
+
+searched-is : (from : ℕ) (cs : List Candidate) → searched from cs ≡ drop from cs
+searched-is from cs = take_all (length cs - from) (drop from cs) (omega (arith, length-drop from cs))
+
+module _ (message bytes : List ℕ) (labels : List (List ℕ)) (cs : List Candidate) (from : ℕ) (same : bytes ≡ labels_wire labels) (within : from ≤ length cs)
+    (early : AllByRecursion (λ c. c.1 ≢ bytes) (take from cs)) where
+  none_so_far : (i : ℕ) → AllByRecursion (CannotBe message labels) (take i (searched from cs)) → AllByRecursion (CannotBe message labels) (take (from + i) cs)
+  none_so_far i all =
+      all_further (CannotBe message labels) cs from i (cannot_be message bytes labels (take from cs) same early)
+      (subst (λ ds. AllByRecursion (CannotBe message labels) (take i ds)) (searched-is from cs) all)
+
+  pub found_later : (own : List ℕ) (i place end pointers : ℕ) → i < length (searched from cs) → (place, own) ≡ get_or (searched from cs) i (place, own)
+      → own ≡ bytes → NameAt message place labels end pointers → AllByRecursion (CannotBe message labels) (take i (searched from cs))
+      → IsFirstUsable message cs labels place
+  found_later own i place end pointers below is has name all =
+      let len = ap length (searched-is from cs) in
+      let near : from + i < length cs = omega (arith, below, len, length-drop from cs, within) in
+      let at = is ∙ (ap (λ ds. get_or ds i (place, own)) (searched-is from cs) ∙ get_or-drop from cs i (place, own)) in
+      first_usable message own labels cs (from + i) place end pointers near at (has ∙ same) name (none_so_far i all)
+
+  pub none_later : (i : ℕ) → length (searched from cs) ≤ i → AllByRecursion (CannotBe message labels) (take i (searched from cs)) → NoneUsable message cs labels
+  none_later i past all =
+      let len = ap length (searched-is from cs) in
+      none_usable message labels cs (from + i) (omega (arith, past, len, length-drop from cs, within)) (none_so_far i all)
+
+pub none_at_all : (message bytes : List ℕ) (labels : List (List ℕ)) (cs : List Candidate) → bytes ≡ labels_wire labels → AllByRecursion (λ c. c.1 ≢ bytes) cs
+    → NoneUsable message cs labels
+none_at_all message bytes labels cs same all =
+    none_usable message labels cs (length cs) (omega arith) (all_take (CannotBe message labels) (length cs) cs (cannot_be message bytes labels cs same all))

@@ -1,10 +1,11 @@
 //! What an encoder remembers of the names that it wrote.
-ghost use Rattle.std.specs.Prelude.{◌≡◌, ◌≢◌, ℕ, ◌+◌, ◌<◌, ◌↔◌, List, [], ◌∷◌, ◌++◌, length, take, IfSome, IsTrue, OnOk, OnErr};
+ghost use Rattle.std.specs.Prelude.{◌≡◌, ◌≢◌, ℕ, ◌+◌, ◌<◌, ◌≤◌, ◌↔◌, List, [], ◌∷◌, ◌++◌, length, take, get_or, set, MatchOption, IfSome, IsTrue, OnOk, OnErr};
 ghost use Rattle.std.specs.List.{AllByRecursion};
 ghost use Rattle.dnw_encoder.specs.Encoder.{candidates_before, Finds};
 ghost use Rattle.dnw_encoder.specs.EmittedName.{suffixes};
-ghost use Rattle.dnw_encoder.specs.Sharing.{FindsUsable};
+ghost use Rattle.dnw_encoder.specs.Sharing.{AreMarked, FindsUsable, tag};
 ghost use Rattle.dnw_name.specs.Names.{labels_wire};
+ghost use Rattle.dnw_name.specs.Reading.{NameAt};
 
 use dnw_name::name::LabelIter;
 use dnw_name::name_ref::NameRef;
@@ -32,6 +33,46 @@ impl Model for Candidate {
     ghost invariant = { λ c. c.start < 16383 };
 }
 
+/// A number that few labels share, by their length and their first characters.
+#[inline(always)]
+fn tag(labels: &[u8]) -> usize
+    ensures value { result ≡ tag labels.now }
+    ensures below { result < 256 }
+{
+    match labels {
+        [_, first, second, third, rest @ ..] => {
+            let chars = *first as usize + *second as usize * 3 + *third as usize * 5;
+            (rest.len() % 256 * 7 + chars) % 256
+        }
+        _ => labels.len() % 256,
+    }
+}
+
+/// Marks the tag of the last of `count` candidates, if no candidate has marked it.
+#[inline(always)]
+fn mark(marks: &mut [u8; 256], tag: usize, count: usize)
+    requires tag { tag < 256 }
+    requires count { 1 ≤ count }
+    ensures stays { 1 ≤ get_or marks.old tag 0 → get_or marks.old tag 0 ≤ count → marks.new ≡ marks.old }
+    ensures none { get_or marks.old tag 0 ≡ 0 → (n : ℕ) × (1 ≤ n) × (n ≤ count) × (marks.new ≡ set marks.old tag n) }
+    ensures stale { count < get_or marks.old tag 0 → (n : ℕ) × (1 ≤ n) × (n ≤ count) × (marks.new ≡ set marks.old tag n) }
+{
+    let first = marks[tag] as usize;
+    if first == 0 || first > count {
+        marks[tag] = if count < 256 { count as u8 } else { 1 };
+    }
+}
+
+/// Marks that tell nothing of any candidate but whether there is one.
+fn marks_of(candidates: &[Candidate]) -> [u8; 256]
+    ensures { AreMarked result 0 candidates.now }
+{
+    if candidates.is_empty() {
+        return [0; 256];
+    }
+    [1; 256]
+}
+
 impl Candidate {
     /// Whether these are its labels' bytes.
     #[inline(always)]
@@ -39,6 +80,14 @@ impl Candidate {
         ensures { IsTrue result ↔ (self.now.1 ≡ labels.now) }
     {
         self.labels.as_slice() == labels
+    }
+
+    /// Whether these are its labels' bytes, and in the message these labels are read at its place.
+    #[inline(always)]
+    fn stands_for(&self, bytes: &[u8], message: &[u8], labels: LabelIter<'_>) -> bool
+        ensures { IsTrue result ↔ ((self.now.1 ≡ bytes.now) × (end : ℕ) × (pointers : ℕ) × NameAt message.now self.now.0 labels.entry end pointers) }
+    {
+        self.is(bytes) && NameRef::stands_at(message, self.start as usize, labels)
     }
 }
 
@@ -48,14 +97,23 @@ impl Candidate {
 #[derive(Drop)]
 pub struct Candidates {
     items: Vec<Candidate>,
+    // For each tag where the first candidate with it is or behind it, counted from 1, and 0 for none. It spares searches.
+    marks: [u8; 256],
+    // All candidates stand before this place.
+    end: usize,
 }
 
 impl Model for Candidates {
     ghost use Rattle.std.specs.Prelude.{ℕ, List};
+    ghost use Rattle.std.specs.Prelude.{◌<◌};
+    ghost use Rattle.std.specs.List.{AllByRecursion};
+    ghost use Rattle.dnw_encoder.specs.Sharing.{AreMarked};
 
     ghost Value = { List (ℕ × List ℕ) };
 
     ghost view = { λ c. c.items.items };
+
+    ghost invariant = { λ c. AreMarked c.marks 0 c.items.items × AllByRecursion (λ x. x.0 < c.end) c.items.items };
 }
 
 impl Candidates {
@@ -65,6 +123,8 @@ impl Candidates {
     {
         Candidates {
             items: Vec::new(alloc),
+            marks: [0; 256],
+            end: 0,
         }
     }
 
@@ -81,8 +141,11 @@ impl Candidates {
         ensures ok { OnOk result (self.new ≡ self.old ++ (start, labels.now) ∷ []) }
         ensures err { OnErr result (self.new ≡ self.old) }
     {
+        let tag = tag(labels);
         let labels = SmallVec::from_slice(*self.items.allocator(), labels)?;
         self.items.push(Candidate { start, labels })?;
+        mark(&mut self.marks, tag, self.items.len());
+        self.end = self.end.max(start as usize + 1);
         Ok(())
     }
 
@@ -99,6 +162,19 @@ impl Candidates {
         None
     }
 
+    /// Where to begin the search for these labels, if one may have them.
+    #[inline(always)]
+    fn first_with(&self, labels: &[u8]) -> Option<usize>
+        ensures { MatchOption result (AllByRecursion (λ c. c.1 ≢ labels.now) self.now)
+            (λ from. (from ≤ length self.now) × AllByRecursion (λ c. c.1 ≢ labels.now) (take from self.now)) }
+    {
+        let mark = self.marks[tag(labels)] as usize;
+        if mark == 0 {
+            return None;
+        }
+        Some((mark - 1).min(self.items.len()))
+    }
+
     /// The place of the first one that is usable for the labels in this message.
     pub(crate) fn find_usable(&self, message: &[u8], labels: LabelIter<'_>) -> Option<u16>
         ensures finds { FindsUsable message.now labels.entry self.now result }
@@ -106,8 +182,9 @@ impl Candidates {
     {
         let wire = labels.as_wire();
         let bytes = &wire[..wire.len() - 1];
-        for held in &self.items {
-            if held.is(bytes) && NameRef::stands_at(message, held.start as usize, labels.clone()) {
+        let from = self.first_with(bytes)?;
+        for held in &self.items[from..] {
+            if held.stands_for(bytes, message, labels.clone()) {
                 return Some(held.start);
             }
         }
@@ -172,7 +249,12 @@ impl Candidates {
     pub(crate) fn trim(&mut self, place: usize)
         ensures { self.new ≡ candidates_before place self.old }
     {
+        if place >= self.end {
+            return;
+        }
         self.items
             .retain(|candidate| (candidate.start as usize) < place);
+        self.end = place;
+        self.marks = marks_of(self.items.as_slice());
     }
 }

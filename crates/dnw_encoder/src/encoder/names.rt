@@ -38,7 +38,7 @@ impl<'a> BinEncoder<'a> {
         ensures writes { EmitsLabels (value self.old) name.now.labels result (value self.new) }
         ensures lender { lender self.new ≡ lender self.old }
     {
-        if !self.compresses() {
+        if self.candidates.len() == 0 || !self.compresses() {
             return self.emit_whole(name);
         }
         match self.find_suffix(name) {
