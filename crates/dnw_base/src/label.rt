@@ -151,16 +151,18 @@ fn may_follow(c: u8) -> bool
 fn is_plain(first: bool, byte: u8) -> bool
     ensures { result ≡ is_plain first byte }
 {
-    is_safe(byte) || (byte == b'-' && !first) || (byte == b'*' && first)
+    byte.is_ascii() && (is_safe(byte) || (byte == b'-' && !first) || (byte == b'*' && first))
 }
 
 /// Appends the text that shows a byte of a label.
+///
+/// Small letters come first, since most bytes are; and where a byte is known to be ASCII, its character takes a byte.
 fn push_byte_text<const N: usize>(out: &mut ArrayString<N>, first: bool, byte: u8)
     requires { array_string_len out.old + 4 ≤ N }
     ensures text { out.new.bytes ≡ out.old.bytes ++ byte_text first byte }
     ensures len { array_string_len out.new ≤ array_string_len out.old + 4 }
 {
-    if is_plain(first, byte) {
+    if byte.is_ascii_lowercase() || is_plain(first, byte) {
         out.push(char::from(byte));
     } else if byte.is_ascii_graphic() {
         out.push('\\');

@@ -1,12 +1,12 @@
 -- A copy of a name, run by run.
-use Rattle.std.proofs.Common.{◌≡◌, ℕ, ◌+◌, ◌-◌, ◌<◌, ◌≤◌, Option, Some, None, List, [], ◌∷◌, ◌++◌, length, take, drop, get_or, slice_get, slice_range, refl, sym, ap, ◌∙◌, append_assoc, arith, length-append}
+use Rattle.std.proofs.Common.{◌≡◌, ℕ, Bool, IsTrue, ◌+◌, ◌-◌, ◌<◌, ◌≤◌, Option, Some, None, List, [], ◌∷◌, ◌++◌, length, take, drop, get_or, slice_get, slice_range, refl, sym, ap, ◌∙◌, append_assoc, arith, length-append}
 use Rattle.std.proofs.Math.Seq.{take-add}
 use Rattle.std.proofs.lemmas.List.{drop-drop}
 use Rattle.std.proofs.lemmas.List.Edits.{length-between, between_more}
 use Rattle.std.proofs.lemmas.Option.{get_or_from_slice_get, slice_get_within}
 use Rattle.dnw_name.specs.Names.{label_wire, wire}
 use Rattle.dnw_name.specs.Reading.{target, Reads, zero_octet, label, pointer}
-use Rattle.dnw_name.specs.NameRefInside.{labels_at, StandsAt, Copies}
+use Rattle.dnw_name.specs.NameRefInside.{labels_at, StandsAt, LiesAt, Copies}
 use Rattle.dnw_name.proofs.Sizes.{length-label}
 use Rattle.dnw_name.proofs.Wires.{wire-cons, length-wire}
 use Rattle.dnw_name.proofs.Counts.{Reads-own}
@@ -54,19 +54,21 @@ Reads-plain {b} {p} (label {e = end} {ls = rest} c w g one most fit r) none =
     ∙ ap (λ (front : List ℕ). front ++ wire rest) (label-octets b p c g fit) ∙ sym (wire-cons text rest)
 Reads-plain (pointer high low w g least g' prior r) none = absurd (omega arith)
 
--- such a name stands in one piece
-pub record InOnePiece (b : List ℕ) (p e : ℕ) : Type 0 where
-  pub order : p ≤ e
-  pub inside : e ≤ length b
-  pub form : slice_range b p e ≡ wire (labels_at b p)
-  pub short : length (slice_range b p e) ≤ 255
+-- such a name stands in one piece, as long as its uncompressed form
+pub record InOnePiece (b : List ℕ) (p size : ℕ) : Type 0 where
+  pub inside : p + size ≤ length b
+  pub form : slice_range b p (p + size) ≡ wire (labels_at b p)
+  pub short : size ≤ 255
 
-pub StandsAt-plain : {b : List ℕ} {p e size count k : ℕ} → StandsAt b p e size count k → k ≡ 0 → InOnePiece b p e
-StandsAt-plain {b} {p} h none =
-    let (behind, inside) = Reads-own h.name.reads in
-    let form = Reads-plain h.name.reads none in
-    let fits = h.name.fits in
-    record { order = omega arith; inside = inside; form = form; short = omega (arith, ap length form, length-wire (labels_at b p)) }
+pub LiesAt-plain : {b : List ℕ} {p size count : ℕ} {in_one_piece : Bool} → LiesAt b p size count in_one_piece → IsTrue in_one_piece
+    → InOnePiece b p size
+LiesAt-plain {b} {p} {size} h whole =
+    let (behind, inside) = Reads-own h.stands.name.reads in
+    let form = Reads-plain h.stands.name.reads (h.plain whole) in
+    let fits = h.stands.name.fits in
+    let size_is = h.stands.size_is in
+    let end_is : h.end ≡ p + size = omega (arith, length-between b p h.end (omega arith), ap length form, length-wire (labels_at b p)) in
+    record { inside = omega arith; form = rw end_is at form; short = omega arith }
 
 -- the copy of a name begins
 pub Copies-start : (b : List ℕ) (p end size count pointers : ℕ) → StandsAt b p end size count pointers → Copies b p p p []

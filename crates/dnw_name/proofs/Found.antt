@@ -1,9 +1,8 @@
 -- The labels that a place in a message gives are those that are read there.
-use Rattle.std.proofs.Common.{◌≡◌, ℕ, zero, suc, ◌+◌, ◌<◌, ◌≤◌, Option, Some, None, List, ◌∷◌, length, slice_range, min, Result, Ok, Err, IfOk, IfErr, refl, ap, arith}
+use Rattle.std.proofs.Common.{◌≡◌, ℕ, zero, suc, ◌+◌, ◌<◌, ◌≤◌, Option, Some, None, List, ◌∷◌, length, slice_range, min, refl, ap, arith}
 use Rattle.std.proofs.lemmas.Bool.{ne_eqb, le-leb, lt-leb}
 use Rattle.std.proofs.lemmas.Option.{get_or_from_slice_get}
 use Rattle.dnw_base.specs.declared.error.DecodeError.{DecodeError}
-use Rattle.dnw_name.specs.declared.name_ref.walk.Walked.{Walked}
 use Rattle.dnw_name.specs.Names.{AreLabels, encoded_size}
 use Rattle.dnw_name.specs.Reading.{target, Reads, NameAt, FaultAt, zero_octet, label, pointer}
 use Rattle.dnw_name.specs.ReadingLaws.{AreBytes}
@@ -62,9 +61,3 @@ FaultAt-few b p k j error bytes fault =
     let pointers = Stops-pointers bytes fault in
     let labels = Stops-labels one fault in
     (omega arith, omega arith)
-
--- whatever a walk answers
-pub Walk-few : (b : List ℕ) (p k j : ℕ) (answer : Result Walked DecodeError) → AreBytes b
-    → IfOk answer (λ (w : Walked). StandsAt b p w.end w.size j k) → IfErr answer (λ e. FaultAt b p e k j) → (k ≤ min p 16384) × (j ≤ 128)
-Walk-few b p k j (Ok w) bytes ok err = StandsAt-few b p w.end w.size j k bytes ok
-Walk-few b p k j (Err e) bytes ok err = FaultAt-few b p k j e bytes err

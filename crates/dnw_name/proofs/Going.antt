@@ -5,8 +5,8 @@ use Rattle.std.proofs.lemmas.List.{length_push, append-nil}
 use Rattle.dnw_base.specs.declared.error.DecodeError.{DecodeError}
 use Rattle.dnw_base.specs.declared.error.DecodeError.TheVariants.{DomainNameTooLong}
 use Rattle.dnw_name.specs.Names.{encoded_size}
-use Rattle.dnw_name.specs.Reading.{IsWithin, target, Stops, NameAt, FaultAt, zero_octet, label, pointer, overlap, too_long}
-use Rattle.dnw_name.specs.Walking.{IsLabelAt, IsPointerAt, IsOverlap, GoesOn}
+use Rattle.dnw_name.specs.Reading.{IsWithin, target, Stops, NameAt, FaultAt, zero_octet, label, pointer, too_long}
+use Rattle.dnw_name.specs.Walking.{IsLabelAt, IsPointerAt, GoesOn}
 use Rattle.dnw_name.proofs.Sizes.{length-label}
 use Rattle.dnw_name.proofs.Wires.{encoded_size_push}
 
@@ -25,11 +25,6 @@ GoesOn-start b p = record {
       let same_j : 0 + j ≡ j = omega arith in
       rw (same_k, same_j) f;
 }
-
--- at its limit it stops
-pub overlap-stops : (b : List ℕ) (p s n : ℕ) (limit : Option ℕ) (error : DecodeError) → IsOverlap p s limit error → Stops b p s limit n error 0 0
-overlap-stops b p s n None error h = absurd h
-overlap-stops b p s n (Some limit) error h = subst (λ (e : DecodeError). Stops b p s (Some limit) n e 0 0) (sym h.1) (overlap h.0)
 
 -- the first pointer is where the name's own octets end
 first_end : (end : Option ℕ) (q e : ℕ) → unwrap_or (option_or end (Some q)) e ≡ unwrap_or end q

@@ -1,5 +1,6 @@
 pub mod Wires
 pub mod EditLemmas
+mod SimpleLabels
 pub mod Sizes
 pub mod Steps
 pub mod Unique
@@ -10,6 +11,8 @@ pub mod Counts
 pub mod Joined
 pub mod Going
 pub mod Found
+pub mod Leading
+pub mod Onward
 pub mod Takes
 pub mod Behind
 pub mod Copying

@@ -126,10 +126,10 @@ pub name_from-last : (r : TextReader) (empty : Bool) → r.place ≡ HeldOutside
 unfolding name_from name_from_rest
 name_from-last r empty place same h = rw place (last_text r.name.labels r.label (sym same ∙ h))
 
--- a reader that has read nothing
-pub name_from-start : (r : TextReader) (cs : List ℕ) → r.name.labels ≡ [] → r.label ≡ [] → r.place ≡ HeldOutside → name_from r cs ≡ name_from_rest [] [] Outside cs
+-- a reader that has read the labels of a name
+pub name_from-start : (r : TextReader) (ls : List (List ℕ)) (cs : List ℕ) → r.name.labels ≡ ls → r.label ≡ [] → r.place ≡ HeldOutside → name_from r cs ≡ name_from_rest ls [] Outside cs
 unfolding name_from
-name_from-start r cs labels label place = rw (labels, label, place) refl
+name_from-start r ls cs labels label place = rw (labels, label, place) refl
 
 -- a text of no bytes has no characters
 pub chars-empty : (bs : List ℕ) → length bs ≡ 0 → chars bs ≡ []

@@ -1,5 +1,6 @@
 -- How a `NameRef` is kept: the message, and where its name stands. No public clause cites this module.
-use Rattle.std.specs.Prelude.{◌≡◌, ℕ, zero, suc, ◌+◌, ◌<◌, ◌≤◌, ◌==◌, nat_le, if◌then◌else◌, Option, List, [], ◌∷◌, ◌++◌, length, slice_index, slice_range}
+use Rattle.std.specs.Prelude.{◌≡◌, ℕ, Bool, IsTrue, zero, suc, ◌+◌, ◌<◌, ◌≤◌, ◌==◌, nat_le, if◌then◌else◌, Option, List, [], ◌∷◌, ◌++◌, length, slice_index, slice_range}
+use Rattle.dnw_name.specs.declared.name_ref.walk.Walked.{Walked}
 use Rattle.dnw_name.specs.Names.{encoded_size, wire}
 use Rattle.dnw_name.specs.Reading.{target, Reads, NameAt}
 
@@ -20,6 +21,20 @@ pub record StandsAt (b : List ℕ) (p e size count pointers : ℕ) : Type 0 wher
   pub name : NameAt b p (labels_at b p) e pointers
   pub size_is : size ≡ encoded_size (labels_at b p)
   pub count_is : count ≡ length (labels_at b p)
+
+-- Such a name follows no pointer from there on where it is said to stand in one piece: then its own octets are its
+-- uncompressed form.
+pub record LiesAt (b : List ℕ) (p size count : ℕ) (in_one_piece : Bool) : Type 0 where
+  pub end : ℕ
+  pub pointers : ℕ
+  pub stands : StandsAt b p end size count pointers
+  pub plain : IsTrue in_one_piece → pointers ≡ 0
+
+-- What a walk from p has found: the name, and where its first label lies.
+pub record IsFound (b : List ℕ) (p : ℕ) (walked : Walked) (count pointers : ℕ) : Type 0 where
+  pub stands : StandsAt b p walked.end walked.size count pointers
+  pub lies : LiesAt b walked.first walked.size count walked.in_one_piece
+  pub same : labels_at b walked.first ≡ labels_at b p
 
 -- A copy has come to position, with the octets from run on still to be written: what is written, these octets and
 -- the form of the labels that follow make the form of the whole name.

@@ -1,6 +1,10 @@
 -- What the reader of a name's text holds. No public clause cites this module.
-use Rattle.std.specs.Prelude.{◌≡◌, ℕ, ◌+◌, ◌<◌, ◌≤◌, ◌⊎◌, ⊤, List, [], ◌∷◌, length, Result, encode_utf8}
+use Rattle.std.specs.Prelude.{◌≡◌, ℕ, ◌+◌, ◌<◌, ◌≤◌, ◌⊎◌, ⊤, Bool, true, ◌||◌, ◌&&◌, ◌==◌, nat_lt, List, [], ◌∷◌, ◌++◌, length, Result, Ok, encode_utf8}
+use Rattle.std.specs.List.{list_all}
+use Rattle.std.specs.Str.{IsUtf8}
 use Rattle.dnw_base.specs.Fault.{Fault, UnrecognizedChar, IllegalChar}
+use Rattle.dnw_base.specs.Labels.{IsLabel}
+use Rattle.dnw_base.specs.LabelText.{dash, dot, is_safe, label_from_text}
 use Rattle.dnw_name.specs.Names.{NameValue}
 use Rattle.dnw_name.specs.NameText.{Place, Outside, Escaped, AfterOne, AfterTwo, Element, Char, Dot, Stop, elements, name_from_elements}
 use Rattle.dnw_name.specs.declared.name.text.Place.{Place as Held}
@@ -40,6 +44,22 @@ IsWithin n move = ⊤
 -- the same bytes, or as many, and too many for a label
 abbrev pub IsAlike : List ℕ → List ℕ → Type 0
 IsAlike a b = (a ≡ b) ⊎ ((63 < length a) × (length a ≡ length b))
+
+-- a letter, a digit, `-` or `_`: a character that stands for itself
+abbrev pub is_simple : ℕ → Bool
+is_simple c = nat_lt c 128 && (is_safe c || c == dash)
+
+-- The label is made of simple characters, which write it.
+pub record IsSimpleLabel (label : List ℕ) : Type 0 where
+  pub simple : list_all is_simple label ≡ true
+  pub is_label : IsLabel label
+  pub written : label_from_text label ≡ Ok label
+
+-- The text begins with such a label and a dot, and goes on with the rest.
+pub record SplitsSimpleLabel (text label rest : List ℕ) : Type 0 where
+  pub spelled : text ≡ label ++ dot ∷ rest
+  pub front : IsSimpleLabel label
+  pub utf8 : IsUtf8 rest
 
 -- what reading the characters gives, behind the labels so far and the text collected for the next one
 unfoldable pub name_from_rest : List (List ℕ) → List ℕ → Place → List ℕ → Result NameValue Fault

@@ -3,7 +3,7 @@ ghost use Rattle.std.specs.Prelude.{◌≡◌, ℕ, List, ◌+◌, ◌≤◌, �
 ghost use Rattle.dnw_base.specs.Decoder.{Decoder};
 ghost use Rattle.dnw_name.specs.Reading.{NameAt, TakesName, StopsAt};
 ghost use Rattle.dnw_name.specs.Names.{AreLabels, IsZoneOf, encoded_size, lower, wire};
-ghost use Rattle.dnw_name.specs.NameRefInside.{labels_at, StandsAt};
+ghost use Rattle.dnw_name.specs.NameRefInside.{labels_at};
 
 use crate::name::{LabelIter, Name};
 use dnw_base::decoder::BinDecoder;
@@ -26,23 +26,22 @@ pub use walk::ReadSteps;
 #[derive(Drop)]
 pub struct NameRef<'a> {
     message: &'a [u8],
-    start: usize,
-    end: usize,
+    first: usize,
     size: usize,
     labels: usize,
-    pointers: usize,
+    in_one_piece: bool,
 }
 
 impl<'a> Model for NameRef<'a> {
     ghost use Rattle.std.specs.Prelude.{List, ℕ};
     ghost use Rattle.dnw_name.specs.Names.{AreLabels, IsZoneOf, encoded_size, lower, wire};
-    ghost use Rattle.dnw_name.specs.NameRefInside.{labels_at, StandsAt};
+    ghost use Rattle.dnw_name.specs.NameRefInside.{labels_at, LiesAt};
 
     ghost Value = { List (List ℕ) };
 
-    ghost view = { λ n. labels_at n.message.now n.start };
+    ghost view = { λ n. labels_at n.message.now n.first };
 
-    ghost invariant = { λ n. StandsAt n.message.now n.start n.end n.size n.labels n.pointers };
+    ghost invariant = { λ n. LiesAt n.message.now n.first n.size n.labels n.in_one_piece };
 }
 
 impl<'a> NameRef<'a> {
@@ -87,11 +86,10 @@ impl<'a> NameRef<'a> {
         let _own = decoder.read_slice(walked.end - start).unwrap();
         Ok(NameRef {
             message,
-            start,
-            end: walked.end,
+            first: walked.first,
             size: walked.size,
             labels: steps.labels,
-            pointers: steps.pointers,
+            in_one_piece: walked.in_one_piece,
         })
     }
 
@@ -111,7 +109,7 @@ impl<'a> NameRef<'a> {
     pub fn labels(&self) -> RefLabels<'a>
         ensures { result ≡ self.now }
     {
-        RefLabels::new(self.message, self.start, self.labels)
+        RefLabels::new(self.message, self.first, self.labels)
     }
 
     /// The number of all labels, also of a `*` in the first place.
@@ -174,7 +172,7 @@ impl<'a> NameRef<'a> {
         Name::from_wire(wire)
     }
 
-    /// Writes the uncompressed form: in one piece where the name follows no pointer.
+    /// Writes the uncompressed form: in one piece where no pointer follows the first label.
     fn write_form(&self, out: &mut SmallVec<u8, 255>)
         requires inline { out.old.capacity ≡ 255 }
         requires empty { out.old.items ≡ [] }
@@ -182,11 +180,11 @@ impl<'a> NameRef<'a> {
         ensures labels { AreLabels self.now }
         ensures inline { out.new.capacity ≡ 255 }
     {
-        if self.pointers == 0 {
-            out.extend_from_slice(&self.message[self.start..self.end])
+        if self.in_one_piece {
+            out.extend_from_slice(&self.message[self.first..self.first + self.size])
                 .unwrap();
         } else {
-            copy::copy_runs(out, self.message, self.start);
+            copy::copy_runs(out, self.message, self.first);
         }
     }
 }

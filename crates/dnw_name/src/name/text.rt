@@ -1,11 +1,12 @@
 //! Names from text (RFC 1035, section 5.1).
-ghost use Rattle.std.specs.Prelude.{◌≡◌, ℕ, ◌+◌, ◌-◌, ◌*◌, ◌^◌, ◌<◌, ◌≤◌, List, [], ◌∷◌, ◌++◌, ◌==◌, length, Some, None, Ok, Err, IfOk, IfErr, OnOk, IsErrOf, if◌then◌else◌, encode_utf8};
+ghost use Rattle.std.specs.Prelude.{◌≡◌, ℕ, ◌+◌, ◌-◌, ◌*◌, ◌^◌, ◌<◌, ◌≤◌, List, [], ◌∷◌, ◌++◌, ◌==◌, length, take, true, Some, None, Ok, Err, IfSome, IfOk, IfErr, OnOk, IsErrOf, if◌then◌else◌, encode_utf8};
+ghost use Rattle.std.specs.List.{list_all};
 ghost use Rattle.std.specs.Option.{option_copied};
 ghost use Rattle.std.specs.Str.{chars};
 ghost use Rattle.dnw_base.specs.Fault.{RefusesOrRunsOut, NeedsMemory};
 ghost use Rattle.dnw_base.specs.LabelText.{label_from_text};
 ghost use Rattle.dnw_name.specs.NameText.{Outside, Escaped, is_numeric, is_octal_digit, elements, Stop, bad_digit, with_text, name_from_text, name_from_text_at};
-ghost use Rattle.dnw_name.specs.TextReader.{place_of, moved, escape_len, IsWithin, IsAlike, name_from_rest, name_from, reader_len};
+ghost use Rattle.dnw_name.specs.TextReader.{place_of, moved, escape_len, IsWithin, IsAlike, is_simple, IsSimpleLabel, SplitsSimpleLabel, name_from_rest, name_from, reader_len};
 
 use super::Name;
 use arrayvec::ArrayString;
@@ -244,14 +245,14 @@ struct TextReader {
 }
 
 impl TextReader {
-    /// A reader that has read nothing.
-    fn new(alloc: Global) -> Self
-        ensures labels { result.name.labels ≡ [] }
+    /// A reader that has read the labels of a name.
+    fn new(name: Name) -> Self
+        ensures labels { result.name.labels ≡ name.labels }
         ensures label { result.label ≡ [] }
         ensures place { result.place ≡ Place.Outside }
     {
         TextReader {
-            name: Name::new(alloc),
+            name,
             label: Collected::new(),
             place: Place::Outside,
         }
@@ -316,15 +317,85 @@ fn add_label(name: &mut Name, alloc: Global, label: &Collected) -> ProtoResult<(
     name.extend_name(label.as_bytes())
 }
 
-/// The name that the characters of a text give, with no exception for the empty text and the lone dot.
+/// The name that the characters of a text give, with no exception for the empty text and the lone dot. Labels of
+/// simple characters are taken whole, and from the first other label on the text is read character by character.
 fn read_all(alloc: Global, text: &str) -> ProtoResult<Name>
     ensures ok { IfOk result (λ n. name_from_rest [] [] Outside (chars text.now) ≡ Ok n) }
     ensures err { IfErr result (RefusesOrRunsOut (name_from_rest [] [] Outside (chars text.now))) }
     ensures memory { IsErrOf result ProtoError.Memory → NeedsMemory (name_from_rest [] [] Outside (chars text.now)) }
 {
-    let mut reader = TextReader::new(alloc);
+    let mut name = Name::new(alloc);
+    let mut rest = text;
+    while let Some((label, behind)) = split_simple_label(rest) {
+        name.extend_name(label)?;
+        rest = behind;
+    }
+    if rest.is_empty() {
+        name.set_fqdn(true);
+        return Ok(name);
+    }
+    let last = rest.as_bytes();
+    if simple_label_len(last) == last.len() {
+        name.extend_name(last)?;
+        return Ok(name);
+    }
+    read_rest(alloc, name, rest)
+}
+
+/// The name that the characters of a text give behind the labels of a name.
+fn read_rest(alloc: Global, name: Name, text: &str) -> ProtoResult<Name>
+    ensures ok { IfOk result (λ n. name_from_rest name.labels [] Outside (chars text.now) ≡ Ok n) }
+    ensures err { IfErr result (RefusesOrRunsOut (name_from_rest name.labels [] Outside (chars text.now))) }
+    ensures memory { IsErrOf result ProtoError.Memory → NeedsMemory (name_from_rest name.labels [] Outside (chars text.now)) }
+{
+    let mut reader = TextReader::new(name);
     for c in text.chars() {
         reader.take(alloc, c)?;
     }
     reader.finish(alloc)
+}
+
+/// The label of simple characters that a text begins with, where a dot ends it, and the text behind the dot.
+#[tactic(auto, using(crate::proofs::SimpleLabels::splits_at, crate::proofs::SimpleLabels::cut_behind))]
+fn split_simple_label(text: &str) -> Option<(&[u8], &str)>
+    ensures { IfSome result (λ split. SplitsSimpleLabel text.now split.0.now split.1.now) }
+{
+    let bytes = text.as_bytes();
+    let len = simple_label_len(bytes);
+    if len == 0 || len == bytes.len() || bytes[len] != b'.' {
+        return None;
+    }
+    Some((&bytes[..len], &text[len + 1..]))
+}
+
+/// The length of the label of simple characters that a text begins with, or 0.
+#[tactic(auto, using(crate::proofs::SimpleLabels::simple_front))]
+fn simple_label_len(text: &[u8]) -> usize
+    ensures few { result ≤ length text.now }
+    ensures label { 0 < result → IsSimpleLabel (take result text.now) }
+{
+    let len = simple_len(text);
+    if len == 0 || len > 63 || text[0] == b'-' {
+        return 0;
+    }
+    len
+}
+
+/// How many simple characters a text begins with.
+fn simple_len(text: &[u8]) -> usize
+    ensures few { result ≤ length text.now }
+    ensures simple { list_all is_simple (take result text.now) ≡ true }
+{
+    let mut len = 0;
+    while len < text.len() && is_simple(text[len]) {
+        len += 1;
+    }
+    len
+}
+
+/// Whether a byte is a letter, a digit, `-` or `_`: a character that stands for itself.
+fn is_simple(byte: u8) -> bool
+    ensures { result ≡ is_simple byte }
+{
+    byte.is_ascii_lowercase() || byte.is_ascii_alphanumeric() || byte == b'-' || byte == b'_'
 }

@@ -1,9 +1,9 @@
 //! The walk over a name's elements, which copies nothing (RFC 1035, section 4.1.4).
-ghost use Rattle.std.specs.Prelude.{◌≡◌, ℕ, List, ◌+◌, ◌<◌, ◌≤◌, min, length, slice_get, Some, IfOk, IfErr, OnOk};
+ghost use Rattle.std.specs.Prelude.{◌≡◌, ℕ, List, ◌+◌, ◌<◌, ◌≤◌, min, length, slice_get, Some, IsTrue, IfOk, IfErr, OnOk};
 ghost use Rattle.dnw_name.specs.Reading.{IsWithin, NameAt, FaultAt, target};
 ghost use Rattle.dnw_name.specs.Names.{encoded_size};
-ghost use Rattle.dnw_name.specs.Walking.{IsElement, IsNoElement, IsOverlap};
-ghost use Rattle.dnw_name.specs.NameRefInside.{StandsAt};
+ghost use Rattle.dnw_name.specs.Walking.{IsElement, IsNoElement, IsPast, ReadsFrom};
+ghost use Rattle.dnw_name.specs.NameRefInside.{IsFound};
 
 use dnw_base::error::DecodeError;
 
@@ -30,10 +30,14 @@ enum Element {
 /// What a walk to the end of a name has found.
 #[derive(Clone, Copy)]
 pub(crate) struct Walked {
+    /// Where its first label stands, or its closing zero where it has none: behind the pointers before them.
+    pub(crate) first: usize,
     /// Where the name's own octets end.
     pub(crate) end: usize,
     /// The octets of its uncompressed form.
     pub(crate) size: usize,
+    /// Whether the uncompressed form stands at `first`: no pointer is followed from there on.
+    pub(crate) in_one_piece: bool,
 }
 
 /// Walks over the name that stands at `start`, and counts the pointers followed and the labels found.
@@ -42,7 +46,7 @@ pub(crate) fn walk(
     start: usize,
     steps: &mut ReadSteps,
 ) -> Result<Walked, DecodeError>
-    ensures ok { IfOk result (λ walked. StandsAt message.now start walked.end walked.size steps.new.labels steps.new.pointers) }
+    ensures ok { IfOk result (λ walked. IsFound message.now start walked steps.new.labels steps.new.pointers) }
     ensures err { IfErr result (λ e. FaultAt message.now start e steps.new.pointers steps.new.labels) }
     ensures few_pointers { steps.new.pointers ≤ min start 16384 }
     ensures few_labels { steps.new.labels ≤ 128 }
@@ -53,25 +57,26 @@ pub(crate) fn walk(
 fn walk_elements(message: &[u8], start: usize, steps: &mut ReadSteps) -> Result<Walked, DecodeError>
     ensures ok { IfOk result (λ walked. (ls : List (List ℕ))
         × NameAt message.now start ls walked.end steps.new.pointers
-        × (walked.size ≡ encoded_size ls) × (steps.new.labels ≡ length ls)) }
+        × (walked.size ≡ encoded_size ls) × (steps.new.labels ≡ length ls)
+        × (more : ℕ) × ReadsFrom message.now walked.first ls more × (IsTrue walked.in_one_piece → more ≡ 0)) }
     ensures err { IfErr result (λ e. FaultAt message.now start e steps.new.pointers steps.new.labels) }
 {
-    *steps = ReadSteps {
-        pointers: 0,
-        labels: 0,
-    };
+    *steps = ReadSteps::default();
     let mut position = start;
     let mut segment = start;
-    let mut limit = None;
-    let mut end = None;
+    let mut first = start;
+    let mut limit = message.len();
+    let mut end = start;
     let mut size = 1;
     'elements: loop {
-        check_limit(position, segment, limit)?;
+        check_limit(position, segment, limit, steps.pointers)?;
         match element_at(message, position, segment)? {
             Element::End => {
                 return Ok(Walked {
-                    end: end.unwrap_or(position + 1),
+                    first,
+                    end: own_end(steps.pointers, end, position + 1),
                     size,
+                    in_one_piece: segment == first,
                 });
             }
             Element::Label(len) => {
@@ -83,9 +88,10 @@ fn walk_elements(message: &[u8], start: usize, steps: &mut ReadSteps) -> Result<
                 position = position + 1 + len;
             }
             Element::Pointer(target) => {
+                end = own_end(steps.pointers, end, position + 2);
                 steps.pointers += 1;
-                end = end.or(Some(position + 2));
-                limit = Some(segment);
+                first = if size == 1 { target } else { first };
+                limit = segment;
                 segment = target;
                 position = target;
             }
@@ -93,30 +99,46 @@ fn walk_elements(message: &[u8], start: usize, steps: &mut ReadSteps) -> Result<
     }
 }
 
-/// Whether an element may begin at a position, in a segment that began at `segment`.
+/// Where the name's own octets end: behind the first pointer where one was followed, and here where none was.
 #[inline(always)]
-fn check_limit(position: usize, segment: usize, limit: Option<usize>) -> Result<(), DecodeError>
-    ensures ok { OnOk result (IsWithin position limit) }
-    ensures err { IfErr result (IsOverlap position segment limit) }
+fn own_end(pointers: usize, end: usize, here: usize) -> usize
+    ensures none { pointers ≡ 0 → result ≡ here }
+    ensures some { 1 ≤ pointers → result ≡ end }
 {
-    match limit {
-        Some(limit) if limit <= position => Err(DecodeError::LabelOverlapsWithOther {
-            label: segment,
-            other: limit,
-        }),
-        _ => Ok(()),
+    if pointers == 0 { here } else { end }
+}
+
+/// Whether an element may begin at a position, in a segment that began at `segment`. `limit` is the end of the message
+/// as long as no pointer was followed, and then where the segment before began.
+#[inline(always)]
+fn check_limit(
+    position: usize,
+    segment: usize,
+    limit: usize,
+    pointers: usize,
+) -> Result<(), DecodeError>
+    ensures ok { OnOk result (position < limit) }
+    ensures err { IfErr result (IsPast position segment limit pointers) }
+{
+    if position < limit {
+        return Ok(());
     }
+    if pointers == 0 {
+        return Err(DecodeError::InsufficientBytes);
+    }
+    Err(DecodeError::LabelOverlapsWithOther {
+        label: segment,
+        other: limit,
+    })
 }
 
 /// The element at a position, in a segment that began at `segment`.
 #[inline(always)]
 fn element_at(message: &[u8], position: usize, segment: usize) -> Result<Element, DecodeError>
+    requires { position < length message.now }
     ensures ok { IfOk result (IsElement message.now position segment) }
     ensures err { IfErr result (IsNoElement message.now position segment) }
 {
-    if position >= message.len() {
-        return Err(DecodeError::InsufficientBytes);
-    }
     let octet = message[position];
     if octet == 0 {
         return Ok(Element::End);

@@ -1,59 +1,45 @@
--- Each character is taken from what is left, and the length of the text bounds what the reader counts.
-use Rattle.std.proofs.Common.{◌≡◌, Err, ◌<◌, ◌^◌, length, encode_utf8, sym, ap, ◌∙◌, arith}
-use Rattle.std.specs.Str.Iter.{chars_rest}
-use Rattle.std.proofs.lemmas.List.{length-append}
+-- Each label that is taken whole is one that reading gives, and where no more characters follow, the name is qualified.
+use Rattle.std.proofs.Common.{sym, ap, ◌∙◌, eqb-true, []}
+use Rattle.std.specs.Str.{chars}
 use Rattle.std.proofs.lemmas.Result.{err_from_is_err_and}
-use Rattle.std.proofs.lemmas.Str.{chars_past_char, IsUtf8-past_char}
-use Rattle.dnw_name.specs.TextReader.{name_from}
-use Rattle.dnw_base.specs.declared.error.ProtoError.TheVariants.{Memory}
-use Rattle.dnw_name.proofs.TextReading.{name_from-start, chars-empty}
+use Rattle.dnw_base.specs.Fault.{◌>>=◌}
+use Rattle.dnw_name.specs.NameText.{Outside}
+use Rattle.dnw_name.specs.TextReader.{name_from_rest}
+use Rattle.dnw_name.proofs.SimpleLabels.{name_from_rest-label, name_from_rest-end, refused_label, refused_last, last_label, simple_whole}
 use Rattle.dnw_name.proofs.name.text.read_all.Goals as goal
 
-pub loop-c-init : goal.loop-c-init
-loop-c-init c =
-    let new = c.new-reader.ensures in
-    rw (c.into_iter-c-iterator.ensures.into_iter_gives, c.chars-c-items.ensures.rest) (record {
-      rest = name_from-start c.new-reader.result _ new.labels new.label new.place;
-      len = rw (new.label, new.place) (omega arith);
-      utf8 = c.utf8.text;
-    })
-
-pub take-requires : goal.take-requires
-take-requires c =
-    let fits : length c.args.text.now < 2 ^ 64 = omega arith in
-    omega (arith, length-append (encode_utf8 c.in-Some.c) (chars_rest c.next.new.self), ap length c.in-Some.ensures.steps.0)
-
-pub loop-c-preserved : goal.loop-c-preserved
-loop-c-preserved c =
-    let left = c.in-Some.ensures.steps.0 in
-    record {
-      rest = c.in_ok-take.ensures.ok _ ∙ ap (name_from c.loop-c.reader) (sym (chars_past_char _ _ _ c.loop-c.invariant.utf8 left)) ∙ c.loop-c.invariant.rest;
-      len = omega (arith, length-append (encode_utf8 c.in-Some.c) (chars_rest c.next.new.self), ap length left, c.in_ok-take.ensures.len);
-      utf8 = IsUtf8-past_char _ _ _ c.loop-c.invariant.utf8 left;
-    }
-
-pub returns-in_err-take-clause-err : goal.returns-in_err-take-clause-err
-returns-in_err-take-clause-err c =
+pub returns-in_err-extend_name-clause-err : goal.returns-in_err-extend_name-clause-err
+returns-in_err-extend_name-clause-err c =
     let p = err_from_is_err_and c.from_residual.result c.from_residual.ensures.1 in
-    rw (p.1, p.2, ← c.loop-c.invariant.rest, chars_past_char _ _ _ c.loop-c.invariant.utf8 c.in-Some.ensures.steps.0)
-    (c.in_err-take.ensures.err _)
+    rw (p.1, p.2, ← c.loop-label.invariant.rest)
+    (refused_label _ _ _ _ _ c.in-Some.ensures c.in_err-extend_name.ensures.err)
 
-pub returns-in_err-take-clause-memory : goal.returns-in_err-take-clause-memory
-returns-in_err-take-clause-memory c =
-    let p = err_from_is_err_and c.from_residual.result c.from_residual.ensures.1 in
-    rw (p.1, p.2, ← c.loop-c.invariant.rest, chars_past_char _ _ _ c.loop-c.invariant.utf8 c.in-Some.ensures.steps.0)
-    (λ m.
-    let same : c.in_err-take.field-0.0 ≡ Memory = cc in
-    c.in_err-take.ensures.memory (ap (λ e. Err e) same) _)
+pub loop-label-preserved : goal.loop-label-preserved
+loop-label-preserved c = record {
+  rest = sym (name_from_rest-label _ _ _ _ c.in-Some.ensures ∙ ap (λ r. r >>= (λ longer. name_from_rest longer [] Outside (chars c.in-Some.behind.now))) c.in_ok-extend_name.ensures.ok) ∙ c.loop-label.invariant.rest;
+  relative = c.in_ok-extend_name.ensures.flag ∙ c.loop-label.invariant.relative;
+  utf8 = c.in-Some.ensures.utf8;
+}
 
-pub returns-clause-ok : goal.returns-clause-ok
-returns-clause-ok c =
-    rw (← c.loop-c.invariant.rest, chars-empty _ c.in-None.ensures.steps.0.0) c.finish.ensures.ok
+pub returns-in_err-extend_name-2-clause-err : goal.returns-in_err-extend_name-2-clause-err
+returns-in_err-extend_name-2-clause-err c =
+    let p = err_from_is_err_and c.from_residual-in_err-extend_name-2.result c.from_residual-in_err-extend_name-2.ensures.1 in
+    let all = rw c.as_bytes-last.ensures.value at c.if-simple_label_len-last.true in
+    let front = rw c.as_bytes-last.ensures.value at c.simple_label_len.ensures.label in
+    let last = simple_whole c.loop-label.rest.now c.simple_label_len.result all (sym c.is_empty.ensures ∙ c.if-is_empty.false) front in
+    let refused = rw c.as_bytes-last.ensures.value at c.in_err-extend_name-2.ensures.err in
+    rw (p.1, p.2, ← c.loop-label.invariant.rest)
+    (refused_last _ _ _ last refused)
 
-pub returns-clause-err : goal.returns-clause-err
-returns-clause-err c =
-    rw (← c.loop-c.invariant.rest, chars-empty _ c.in-None.ensures.steps.0.0) c.finish.ensures.err
+pub returns-then-simple_label_len-last-clause-ok : goal.returns-then-simple_label_len-last-clause-ok
+returns-then-simple_label_len-last-clause-ok c =
+    let all = rw c.as_bytes-last.ensures.value at c.if-simple_label_len-last.true in
+    let front = rw c.as_bytes-last.ensures.value at c.simple_label_len.ensures.label in
+    let last = simple_whole c.loop-label.rest.now c.simple_label_len.result all (sym c.is_empty.ensures ∙ c.if-is_empty.false) front in
+    let added = rw c.as_bytes-last.ensures.value at c.in_ok-extend_name-2.ensures.ok in
+    sym c.loop-label.invariant.rest ∙ last_label _ _ _ last (c.in_ok-extend_name-2.ensures.flag ∙ c.loop-label.invariant.relative) added
 
-pub returns-clause-memory : goal.returns-clause-memory
-returns-clause-memory c =
-    rw (← c.loop-c.invariant.rest, chars-empty _ c.in-None.ensures.steps.0.0) c.finish.ensures.memory
+pub returns-then-is_empty-clause-ok : goal.returns-then-is_empty-clause-ok
+returns-then-is_empty-clause-ok c =
+    let none = eqb-true _ _ (sym c.is_empty.ensures ∙ c.if-is_empty.true) in
+    rw (c.set_fqdn.ensures, ← c.loop-label.invariant.rest) (name_from_rest-end _ _ none)

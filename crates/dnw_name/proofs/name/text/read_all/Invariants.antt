@@ -1,14 +1,18 @@
-use Rattle.std.proofs.Common.{◌≡◌, ◌+◌, ◌≤◌, [], length}
-use Rattle.std.specs.Str.{chars, IsUtf8}
-use Rattle.std.specs.Str.Iter.{chars_rest}
+use Rattle.std.proofs.Common.{◌≡◌, false, [], length}
+use Rattle.std.specs.Str.{chars}
+use denote.Shadow.{shadow}
+use denote.Text.{Utf8}
 use Rattle.dnw_name.specs.NameText.{Outside}
-use Rattle.dnw_name.specs.TextReader.{name_from_rest, name_from, reader_len}
+use Rattle.dnw_name.specs.TextReader.{name_from_rest}
 use Rattle.dnw_name.proofs.name.text.read_all.Given as goal
 
--- what is left, behind what is read, gives what all gives
-abbrev pub invariant-loop-c : goal.invariant-loop-c
-invariant-loop-c l = record {
-  rest : name_from l.reader (chars (chars_rest l.c-iterator)) ≡ name_from_rest [] [] Outside (chars l.text);
-  len : reader_len l.reader + length (chars_rest l.c-iterator) ≤ length l.text;
-  utf8 : IsUtf8 (chars_rest l.c-iterator);
+-- what is left, behind the labels so far, gives what all gives
+abbrev pub invariant-loop-label : goal.invariant-loop-label
+invariant-loop-label l = record {
+  rest : name_from_rest l.name.labels [] Outside (chars l.rest) ≡ name_from_rest [] [] Outside (chars l.text);
+  relative : l.name.is_fqdn ≡ false;
+  utf8 : shadow (Utf8 l.rest);
 }
+
+abbrev pub decreases-loop-label : goal.decreases-loop-label
+decreases-loop-label l = length l.rest

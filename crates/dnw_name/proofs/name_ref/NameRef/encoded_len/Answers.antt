@@ -4,4 +4,4 @@ use Rattle.dnw_name.proofs.Found.{StandsAt-labels}
 use Rattle.dnw_name.proofs.name_ref.NameRef.encoded_len.Goals as goal
 
 pub returns-clause-labels : goal.returns-clause-labels
-returns-clause-labels c = subst AreLabels c.self.view_is (StandsAt-labels c.self.invariant)
+returns-clause-labels c = subst AreLabels c.self.view_is (StandsAt-labels c.self.invariant.stands)

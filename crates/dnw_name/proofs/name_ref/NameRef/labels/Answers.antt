@@ -2,4 +2,4 @@ use Rattle.dnw_name.proofs.Lending.{StandsAt-more}
 use Rattle.dnw_name.proofs.name_ref.NameRef.labels.Goals as goal
 
 pub new-requires : goal.new-requires
-new-requires c = record { more = StandsAt-more _ _ _ _ _ _ c.self.invariant; counted = c.self.invariant.count_is }
+new-requires c = record { more = StandsAt-more _ _ _ _ _ _ c.self.invariant.stands; counted = c.self.invariant.stands.count_is }

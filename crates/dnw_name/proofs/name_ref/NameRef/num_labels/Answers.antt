@@ -3,4 +3,4 @@ use Rattle.dnw_name.proofs.Found.{NameAt-few}
 use Rattle.dnw_name.proofs.name_ref.NameRef.num_labels.Goals as goal
 
 pub overflow_cast-result : goal.overflow_cast-result
-overflow_cast-result c = omega (arith, NameAt-few _ _ _ _ _ c.self.invariant.name, c.self.invariant.count_is)
+overflow_cast-result c = omega (arith, NameAt-few _ _ _ _ _ c.self.invariant.stands.name, c.self.invariant.stands.count_is)

@@ -28,27 +28,27 @@ returns-in_err-walked-clause-few_labels c = c.walk.ensures.few_labels
 
 -- the name's own octets lie behind the start, within the message
 pub overflow_sub-walked : goal.overflow_sub-walked
-overflow_sub-walked c = let (behind, inside) = Reads-own c.in_ok-walked.ensures.ok.name.reads in omega arith
+overflow_sub-walked c = let (behind, inside) = Reads-own c.in_ok-walked.ensures.ok.stands.name.reads in omega arith
 
 pub unwrap-own-requires : goal.unwrap-own-requires
 unwrap-own-requires c =
-    let (behind, inside) = Reads-own c.in_ok-walked.ensures.ok.name.reads in
+    let (behind, inside) = Reads-own c.in_ok-walked.ensures.ok.stands.name.reads in
     c.read_slice.ensures.enough.1 (omega (arith, ap length c.message_of-message.ensures, c.index-start.ensures.index))
 
 pub invariant_of-result : goal.invariant_of-result
-invariant_of-result c = c.in_ok-walked.ensures.ok
+invariant_of-result c = c.in_ok-walked.ensures.ok.lies
 
 -- the decoder takes the name
-takes : (c : After-unwrap-own) → TakesName c.args.decoder.now c.read_slice.new.self (labels_at c.message_of-message.result.now c.index-start.result) c.walk.new.steps.pointers
+takes : (c : After-unwrap-own) → TakesName c.args.decoder.now c.read_slice.new.self (labels_at c.message_of-message.result.now c.in_ok-walked.walked.first) c.walk.new.steps.pointers
 takes c =
-    let (behind, inside) = Reads-own c.in_ok-walked.ensures.ok.name.reads in
+    let (behind, inside) = Reads-own c.in_ok-walked.ensures.ok.stands.name.reads in
     let start = c.index-start.ensures.index in
-    let name = rw (c.message_of-message.ensures, start) at c.in_ok-walked.ensures.ok.name in
+    let name = rw (c.message_of-message.ensures, start) at c.in_ok-walked.ensures.ok.stands.name in
     let moved = rw (c.unwrap-own.ensures, start) at c.read_slice.ensures.moved in
-    rw (c.message_of-message.ensures, start) (TakesName-moved c.args.decoder.now c.read_slice.new.self _ c.in_ok-walked.walked.end _ name (omega arith) moved)
+    rw (c.in_ok-walked.ensures.ok.same, c.message_of-message.ensures, start) (TakesName-moved c.args.decoder.now c.read_slice.new.self _ c.in_ok-walked.walked.end _ name (omega arith) moved)
 
 pub returns-clause-ok : goal.returns-clause-ok
-returns-clause-ok c = (takes c, c.in_ok-walked.ensures.ok.count_is)
+returns-clause-ok c = (takes c, c.in_ok-walked.ensures.ok.lies.stands.count_is)
 
 pub returns-clause-accepts : goal.returns-clause-accepts
 returns-clause-accepts c after ls k other = TakesName-unique (takes c) other

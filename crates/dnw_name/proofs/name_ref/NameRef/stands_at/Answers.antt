@@ -8,7 +8,7 @@ use Rattle.dnw_name.proofs.name_ref.NameRef.stands_at.Goals as goal
 use Rattle.dnw_name.proofs.name_ref.NameRef.stands_at.Goals.{In_default}
 
 found : (c : In_default) → StandsAt c.args.message.now c.args.start c.in_default.field-0.end c.in_default.field-0.size c.walk.new.steps.labels c.walk.new.steps.pointers
-found c = c.in_default.ensures.ok
+found c = c.in_default.ensures.ok.stands
 
 pub returns-in-Err : goal.returns-in-Err
 returns-in-Err c = (λ no. absurd cc, λ (e, k, n). absurd (Reads-not-Stops n.reads (let fits = n.fits in omega arith) c.in-Err.ensures.err))
@@ -18,7 +18,7 @@ new-requires c = record { more = StandsAt-more _ _ _ _ _ _ (found c); counted = 
 
 pub returns : goal.returns
 returns c =
-    let own = c.in_default.ensures.ok in (
+    let own = c.in_default.ensures.ok.stands in (
       λ yes. (c.in_default.field-0.end, c.walk.new.steps.pointers, subst (λ ls. NameAt c.args.message.now c.args.start ls c.in_default.field-0.end c.walk.new.steps.pointers) (sym c.new.ensures ∙ c.same_labels.ensures.0 yes) own.name),
       λ (e, k, n). c.same_labels.ensures.1 (c.new.ensures ∙ (Reads-unique own.name.reads n.reads).0),
     )

@@ -2,7 +2,7 @@
 use Rattle.std.proofs.Common.{◌≤◌, min, arith}
 use Rattle.std.proofs.lemmas.Result.{IfOk-weaker}
 use Rattle.dnw_name.specs.ReadingLaws.{AreBytes}
-use Rattle.dnw_name.proofs.Found.{StandsAt-found, Walk-few}
+use Rattle.dnw_name.proofs.Leading.{IsFound-walked, Walk-few}
 use Rattle.dnw_name.proofs.name_ref.walk.walk.Goals as goal
 use Rattle.dnw_name.proofs.name_ref.walk.walk.Goals.{After-walk_elements}
 
@@ -11,7 +11,7 @@ bytes c i = omega (arith, c.type_inv.message i)
 
 pub returns-clause-ok : goal.returns-clause-ok
 returns-clause-ok c =
-    IfOk-weaker _ _ _ (λ w found. StandsAt-found _ _ _ _ _ _ found) c.walk_elements.ensures.ok
+    IfOk-weaker _ _ _ (λ w found. IsFound-walked _ _ _ _ w found) c.walk_elements.ensures.ok
 
 few : (c : After-walk_elements) → (c.walk_elements.new.steps.pointers ≤ min c.args.start 16384) × (c.walk_elements.new.steps.labels ≤ 128)
 few c = Walk-few _ _ _ _ c.walk_elements.result (bytes c) (returns-clause-ok c) c.walk_elements.ensures.err

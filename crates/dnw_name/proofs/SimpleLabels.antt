@@ -1,0 +1,178 @@
+-- Labels of simple characters, which are read whole.
+use Rattle.std.proofs.Common.{◌≡◌, ℕ, zero, suc, ◌+◌, ◌<◌, ◌≤◌, Bool, true, false, not, ◌&&◌, ◌||◌, ◌==◌, nat_lt, List, [], ◌∷◌, ◌++◌, length, take, drop, get_or, Result, Ok, refl, sym, ap, ◌∙◌, subst, append_assoc, arith}
+use Rattle.std.specs.Char.{is_control, is_whitespace}
+use Rattle.std.specs.List.{list_all}
+use Rattle.std.specs.Str.{chars, IsUtf8}
+use Rattle.std.proofs.lemmas.Bool.{and_parts, or_left, not-true, le-ltb, lt-ltb, ltb-true, ne_eqb, agree_below_at}
+use Rattle.std.proofs.Math.Seq.{take-length}
+use Rattle.std.proofs.lemmas.List.{append-nil, length-take-le}
+use Rattle.std.proofs.lemmas.Str.{chars-nil, encode_ascii, lead_after_ascii}
+use Rattle.dnw_base.specs.declared.error.ProtoError.{ProtoError}
+use Rattle.dnw_base.specs.declared.error.ProtoError.TheVariants.{Memory}
+use Rattle.dnw_base.specs.Fault.{Fault, Refuses, RefusesOrRunsOut, ◌>>=◌}
+use Rattle.dnw_base.specs.LabelText.{dash, dot, backslash, is_safe, may_begin, may_follow}
+use Rattle.dnw_name.specs.Names.{NameValue}
+use Rattle.dnw_name.specs.Edits.{with_label}
+use Rattle.dnw_name.specs.NameText.{Outside, Char, elements, name_from_elements}
+use Rattle.dnw_name.specs.TextReader.{is_simple, IsSimpleLabel, SplitsSimpleLabel, name_from_rest}
+use Rattle.dnw_name.proofs.TextReading.{RefusesOrRunsOut-bind, chars-empty}
+
+-- a text is what stands before a byte, the byte, and what stands behind it
+parts_at : (bs : List ℕ) (n b : ℕ) → n < length bs → get_or bs n 0 ≡ b → bs ≡ take n bs ++ b ∷ drop (suc n) bs
+parts_at [] n b lt e = absurd (omega (arith, lt))
+parts_at (c ∷ bs) zero b lt e = ap (λ (x : ℕ). x ∷ bs) e
+parts_at (c ∷ bs) (suc n) b lt e = ap (λ (more : List ℕ). c ∷ more) (parts_at bs n b (omega (arith, lt)) e)
+
+is_low : (c : ℕ) → is_simple c ≡ true → c < 128
+is_low c h = ltb-true c 128 (and_parts _ _ h).0
+
+-- neither a dot nor a backslash nor refused
+stands : ℕ → Bool
+stands c = not (is_simple c) || (not (c == dot) && (not (c == backslash) && not (is_control c || is_whitespace c)))
+
+all_stand : (c : ℕ) → c < 128 → stands c ≡ true
+unfolding stands
+all_stand c lt = agree_below_at stands (λ (n : ℕ). true) 128 c refl lt
+
+simple_stands : (c : ℕ) → is_simple c ≡ true → (not (c == dot) && (not (c == backslash) && not (is_control c || is_whitespace c))) ≡ true
+unfolding stands
+simple_stands c h = rw h at (all_stand c (is_low c h))
+
+-- so it is a character of its label
+simple_element : (c : ℕ) (cs : List ℕ) → is_simple c ≡ true → elements Outside (c ∷ cs) ≡ Char c ∷ elements Outside cs
+simple_element c cs h =
+    let first = and_parts (not (c == dot)) (not (c == backslash) && not (is_control c || is_whitespace c)) (simple_stands c h) in
+    let second = and_parts (not (c == backslash)) (not (is_control c || is_whitespace c)) first.1 in
+    rw (not-true (c == dot) first.0, not-true (c == backslash) second.0, not-true (is_control c || is_whitespace c) second.1) refl
+
+-- an ASCII byte is its own character
+chars-ascii : (b : ℕ) (bs : List ℕ) → b < 128 → chars (b ∷ bs) ≡ b ∷ chars bs
+unfolding chars
+chars-ascii b [] lt = rw (lt-ltb b 128 lt) refl
+chars-ascii b (d ∷ bs) lt = rw (lt-ltb b 128 lt) refl
+
+-- a run of them is its own characters
+chars-simple : (l bs : List ℕ) → list_all is_simple l ≡ true → chars (l ++ bs) ≡ l ++ chars bs
+chars-simple [] bs h = refl
+chars-simple (c ∷ l) bs h =
+    let both = and_parts _ _ h in
+    chars-ascii c (l ++ bs) (is_low c both.0) ∙ ap (λ (more : List ℕ). c ∷ more) (chars-simple l bs both.1)
+
+-- and adds them to the label
+simple_run : (l : List ℕ) (ls : List (List ℕ)) (text cs : List ℕ) → list_all is_simple l ≡ true
+    → name_from_elements ls text (elements Outside (l ++ cs)) ≡ name_from_elements ls (text ++ l) (elements Outside cs)
+simple_run [] ls text cs h = ap (λ (t : List ℕ). name_from_elements ls t (elements Outside cs)) (sym (append-nil text))
+simple_run (c ∷ l) ls text cs h =
+    let both = and_parts _ _ h in
+    ap (name_from_elements ls text) (simple_element c (l ++ cs) both.0)
+    ∙ ap (λ (t : List ℕ). name_from_elements ls (text ++ t) (elements Outside (l ++ cs))) (encode_ascii c (is_low c both.0))
+    ∙ simple_run l ls (text ++ c ∷ []) cs both.1
+    ∙ ap (λ (t : List ℕ). name_from_elements ls t (elements Outside cs)) (append_assoc text (c ∷ []) l)
+
+-- such a label is added, and what follows its dot is read on
+pub name_from_rest-label : (ls : List (List ℕ)) (text label rest : List ℕ) → SplitsSimpleLabel text label rest
+    → name_from_rest ls [] Outside (chars text) ≡ (with_label ls label >>= (λ longer. name_from_rest longer [] Outside (chars rest)))
+unfolding name_from_rest
+name_from_rest-label ls text label rest s =
+    ap (λ (t : List ℕ). name_from_elements ls [] (elements Outside (chars t))) s.spelled
+    ∙ ap (λ (cs : List ℕ). name_from_elements ls [] (elements Outside cs)) (chars-simple label (dot ∷ rest) s.front.simple ∙ ap (λ (cs : List ℕ). label ++ cs) (chars-ascii dot rest (omega arith)))
+    ∙ simple_run label ls [] (dot ∷ chars rest) s.front.simple
+    ∙ ap (λ r. (r >>= with_label ls) >>= (λ longer. name_from_elements longer [] (elements Outside (chars rest)))) s.front.written
+
+-- the last label is added, and the name is relative
+name_from_rest-last : (ls : List (List ℕ)) (label : List ℕ) → IsSimpleLabel label
+    → name_from_rest ls [] Outside (chars label) ≡ (with_label ls label >>= (λ all. Ok (record { is_fqdn = false; labels = all })))
+unfolding name_from_rest
+name_from_rest-last ls [] s = absurd (omega (arith, s.is_label.not_empty))
+name_from_rest-last ls (b ∷ label) s =
+    ap (λ (t : List ℕ). name_from_elements ls [] (elements Outside (chars t))) (sym (append-nil (b ∷ label)))
+    ∙ ap (λ (cs : List ℕ). name_from_elements ls [] (elements Outside cs))
+    (chars-simple (b ∷ label) [] s.simple ∙ ap (λ (cs : List ℕ). (b ∷ label) ++ cs) chars-nil)
+    ∙ simple_run (b ∷ label) ls [] [] s.simple
+    ∙ ap (λ r. (r >>= with_label ls) >>= (λ all. Ok (record { is_fqdn = false; labels = all }))) s.written
+
+pub last_label : (ls : List (List ℕ)) (label : List ℕ) (n : NameValue) → IsSimpleLabel label → n.is_fqdn ≡ false → with_label ls label ≡ Ok n.labels
+    → name_from_rest ls [] Outside (chars label) ≡ Ok n
+last_label ls label n s relative added =
+    name_from_rest-last ls label s ∙ ap (λ r. r >>= (λ all. Ok (record { is_fqdn = false; labels = all }))) added
+    ∙ ap (λ (flag : Bool). Ok (record { is_fqdn = flag; labels = n.labels })) (sym relative)
+
+-- where it is refused, so is the name
+refuses_or : {A : Type 0} (r : Result A Fault) (e : ProtoError) → Refuses r e → RefusesOrRunsOut r e
+refuses_or r Memory h = tt
+refuses_or r e h = h
+
+pub refused_label : (ls : List (List ℕ)) (text label rest : List ℕ) (e : ProtoError) → SplitsSimpleLabel text label rest → Refuses (with_label ls label) e
+    → RefusesOrRunsOut (name_from_rest ls [] Outside (chars text)) e
+refused_label ls text label rest e s h =
+    rw (name_from_rest-label ls text label rest s)
+    (RefusesOrRunsOut-bind (with_label ls label) (λ longer. name_from_rest longer [] Outside (chars rest)) e (refuses_or (with_label ls label) e h))
+
+pub refused_last : (ls : List (List ℕ)) (label : List ℕ) (e : ProtoError) → IsSimpleLabel label → Refuses (with_label ls label) e
+    → RefusesOrRunsOut (name_from_rest ls [] Outside (chars label)) e
+refused_last ls label e s h =
+    rw (name_from_rest-last ls label s)
+    (RefusesOrRunsOut-bind (with_label ls label) (λ all. Ok (record { is_fqdn = false; labels = all })) e (refuses_or (with_label ls label) e h))
+
+-- where no characters follow, the name is fully qualified
+pub name_from_rest-end : (ls : List (List ℕ)) (bs : List ℕ) → length bs ≡ 0 → name_from_rest ls [] Outside (chars bs) ≡ Ok (record { is_fqdn = true; labels = ls })
+unfolding name_from_rest
+name_from_rest-end ls bs none = rw (chars-empty bs none) refl
+
+all_follow : (l : List ℕ) → list_all is_simple l ≡ true → list_all may_follow l ≡ true
+all_follow [] h = refl
+all_follow (c ∷ l) h =
+    let both = and_parts _ _ h in
+    let follows : may_follow c ≡ true = or_left (is_safe c || c == dash) (c == dot) (and_parts (nat_lt c 128) (is_safe c || c == dash) both.0).1 in
+    rw (follows, all_follow l both.1) refl
+
+safe_alone : (x : Bool) → (x || false) ≡ true → x ≡ true
+safe_alone true h = refl
+safe_alone false h = h
+
+-- simple characters write a label, where the first is no dash
+pub simple_label : (l : List ℕ) → list_all is_simple l ≡ true → 1 ≤ length l → length l ≤ 63 → (get_or l 0 0 ≡ dash → ⊥) → IsSimpleLabel l
+simple_label [] h some few ne = absurd (omega (arith, some))
+simple_label (c ∷ l) h some few ne =
+    let both = and_parts (is_simple c) (list_all is_simple l) h in
+    let plain : (is_safe c || c == dash) ≡ true = (and_parts (nat_lt c 128) (is_safe c || c == dash) both.0).1 in
+    let safe : (is_safe c || false) ≡ true = rw (ne_eqb c dash ne) at plain in
+    let begins : may_begin c ≡ true = rw (safe_alone (is_safe c) safe) refl in
+    record {
+      simple = h;
+      is_label = record { not_empty = some; not_long = few };
+      written = rw (le-ltb 63 (length (c ∷ l)) few, begins, all_follow l both.1) refl;
+    }
+
+first_kept : (bs : List ℕ) (n : ℕ) → (n ≡ 0 → ⊥) → get_or (take n bs) 0 0 ≡ get_or bs 0 0
+first_kept bs zero some = absurd (some refl)
+first_kept [] (suc n) some = refl
+first_kept (b ∷ bs) (suc n) some = refl
+
+-- so the first of them do
+pub simple_front : (text : List ℕ) (n : ℕ) → n ≤ length text → (n ≡ 0 → ⊥) → n ≤ 63 → (get_or text 0 0 ≡ dash → ⊥)
+    → list_all is_simple (take n text) ≡ true → IsSimpleLabel (take n text)
+simple_front text n le some few first simple =
+    let size : length (take n text) ≡ n = length-take-le n text le in
+    simple_label (take n text) simple (omega (arith, size, some)) (omega (arith, size, few)) (rw (first_kept text n some) first)
+
+-- and all of them, where they are all
+pub simple_whole : (text : List ℕ) (n : ℕ) → n ≡ length text → (length text == 0) ≡ false → (0 < n → IsSimpleLabel (take n text)) → IsSimpleLabel text
+simple_whole [] n all some front = absurd cc
+simple_whole (b ∷ bs) n all some front =
+    subst IsSimpleLabel (ap (λ (k : ℕ). take k (b ∷ bs)) all ∙ take-length (b ∷ bs)) (front (omega (arith, all)))
+
+-- a text may be cut behind a dot (as a search meets it)
+pub cut_behind : (text : List ℕ) (n : ℕ) → IsUtf8 text → n < length text → get_or text n 0 ≡ dot → n + 1 < length text → 128 ≤ get_or text (n + 1) 0 → 192 ≤ get_or text (n + 1) 0
+cut_behind text n utf8 lt at_dot = lead_after_ascii text n utf8 (omega (arith, at_dot))
+
+-- and where a dot follows, they are split from the rest
+pub splits_at : (text : List ℕ) (n : ℕ) → n < length text → IsSimpleLabel (take n text) → get_or text n 0 ≡ dot → IsUtf8 (drop (n + 1) text)
+    → SplitsSimpleLabel text (take n text) (drop (n + 1) text)
+splits_at text n lt front at_dot utf8 =
+    let next : suc n ≡ n + 1 = omega arith in
+    record {
+      spelled = rw (← next) (parts_at text n dot lt at_dot);
+      front = front;
+      utf8 = utf8;
+    }
