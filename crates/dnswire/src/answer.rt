@@ -1,5 +1,7 @@
 //! What the program answers to its words.
 
+mod names;
+
 use dns_names_wire::decoder::BinDecoder;
 use dns_names_wire::error::{DecodeError, ProtoError};
 use dns_names_wire::name::Name;
@@ -65,6 +67,7 @@ fn reply(alloc: Global, words: &[String]) -> Result<String, Refusal> {
         [command, start, message] if command.as_str() == "read" => {
             read(alloc, start.as_str(), message.as_str())
         }
+        [command, _, ..] if command.as_str() == "names" => names::shared(alloc, &words[1..]),
         _ => Err(Refusal::Usage),
     }
 }

@@ -1,4 +1,4 @@
-//! `dnswire` writes a name as octets, and reads one from a message.
+//! `dnswire` writes names as octets, each alone or all in one message, and reads one from a message.
 #![tactic(auto)]
 
 mod answer;

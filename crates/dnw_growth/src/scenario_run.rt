@@ -1,6 +1,8 @@
 //! Scenarios are run.
 
 use crate::scenarios::{SCENARIOS, Scenario};
+use crate::script_run::run_script;
+use crate::scripts::SCRIPTS;
 use crate::show::{show_bytes, show_call, show_encoder};
 use crate::step::take;
 use dns_names_wire::encoder::BinEncoder;
@@ -8,8 +10,8 @@ use std::alloc::Global;
 use std::io;
 use std::io::Write;
 
-/// Runs the scenario of this name, or under the name `all` each one behind a line with its name. Tells whether there
-/// is one.
+/// Runs the scenario or the script of this name, or under the name `all` each one behind a line with its name. Tells
+/// whether there is one.
 pub fn run_named<W: Write>(alloc: Global, name: &[u8], out: &mut W) -> io::Result<bool> {
     let all = name == b"all".as_slice();
     let mut found = all;
@@ -20,6 +22,15 @@ pub fn run_named<W: Write>(alloc: Global, name: &[u8], out: &mut W) -> io::Resul
         } else if name == scenario.name.as_bytes() {
             found = true;
             run_scenario(alloc, scenario, out)?;
+        }
+    }
+    for script in SCRIPTS {
+        if all {
+            writeln!(out, "== {}", script.name)?;
+            run_script(alloc, script, out)?;
+        } else if name == script.name.as_bytes() {
+            found = true;
+            run_script(alloc, script, out)?;
         }
     }
     Ok(found)

@@ -31,6 +31,22 @@ pub(crate) fn read_at(alloc: Global, message: &[u8], start: usize) -> Result<Str
     }
 }
 
+/// The first place at which a message is not read as told, if there is one: `PLACE NAME END` between semicolons.
+pub(crate) fn misread(
+    alloc: Global,
+    message: &[u8],
+    readings: &str,
+) -> Result<Option<usize>, Fail> {
+    for reading in readings.split_terminator(';') {
+        let (place, want) = reading.split_once(' ').ok_or("no place")?;
+        let place = place.parse::<usize>()?;
+        if read_at(alloc, message, place)?.as_str() != want {
+            return Ok(Some(place));
+        }
+    }
+    Ok(None)
+}
+
 /// The text of a name, or of its error.
 pub(crate) fn told(alloc: Global, answer: ProtoResult<Name>) -> Result<String, Fail> {
     Ok(match answer {

@@ -18,8 +18,12 @@ mod labels;
 #[cfg(test)]
 mod names;
 #[cfg(test)]
+mod overwritten;
+#[cfg(test)]
 mod reading;
 #[cfg(test)]
 mod readme;
+#[cfg(test)]
+mod scripts;
 #[cfg(test)]
 mod texts;

@@ -5,7 +5,7 @@ use std::test::Fail;
 const USAGE: &str = "usage: dnswire whole NAME | read START HEX | names NAME..\n";
 
 /// Words, what is written, and the status.
-const ANSWERS: [(&[&str], &str, u8); 22] = [
+const ANSWERS: [(&[&str], &str, u8); 33] = [
     (&["whole", "a.bc."], "016102626300\n", 0),
     (&["whole", "a.bc"], "016102626300\n", 0),
     (&["whole", "."], "00\n", 0),
@@ -42,6 +42,33 @@ const ANSWERS: [(&[&str], &str, u8); 22] = [
     (&["read", "+0", "00"], USAGE, 2),
     (&["read", "", "00"], USAGE, 2),
     (&["read", "99999999999999999999999999", "00"], USAGE, 2),
+    (
+        &["names", "a.bc.", "a.bc."],
+        "016102626300c000\n0 a.bc.\n6 a.bc.\n",
+        0,
+    ),
+    (&["names", "a"], "016100\n0 a.\n", 0),
+    (&["names", ""], "00\n0 .\n", 0),
+    (
+        &["names", "ra.rb.rc.", "rb.rc.", "rc.", "z.ra.rb.rc."],
+        "02726102726202726300c003c006017ac000\n0 ra.rb.rc.\n10 rb.rc.\n12 rc.\n14 z.ra.rb.rc.\n",
+        0,
+    ),
+    (
+        &["names", "ra.rb.rc", "ra.rc", "ra.rc"],
+        "02726102726202726300027261c006c00a\n0 ra.rb.rc.\n10 ra.rc.\n15 ra.rc.\n",
+        0,
+    ),
+    (
+        &["names", "A.", "a.", ".", "A."],
+        "01410001610000c000\n0 A.\n3 a.\n6 .\n7 A.\n",
+        0,
+    ),
+    (&["names", "a.", "\\"], "refused: unfinished escape\n", 1),
+    (&["names", "a..b", "\\"], "refused: Malformed label: \n", 1),
+    (&["names"], USAGE, 2),
+    (&["name", "a."], USAGE, 2),
+    (&["whole", "a.", "a."], USAGE, 2),
     (&["whole"], USAGE, 2),
     (&[], USAGE, 2),
 ];

@@ -1,0 +1,139 @@
+//! Scripts are run.
+
+use crate::scripts::{Line, Script, steps};
+use crate::show::show_bytes;
+use dns_names_wire::decoder::BinDecoder;
+use dns_names_wire::name::Name;
+use dns_names_wire::script::{self, Reply};
+use std::alloc::Global;
+use std::io;
+use std::io::Write;
+
+/// Runs a script over no bytes. Shows the reply to each step, the bytes that are left, and each accepted name as it is
+/// read at its place.
+pub fn run_script<W: Write>(alloc: Global, script: &Script, out: &mut W) -> io::Result<()> {
+    let steps = match steps(alloc, script.lines) {
+        Ok(steps) => steps,
+        Err(e) => return writeln!(out, "steps -> {e}; nothing is run"),
+    };
+    let mut message = Vec::new(alloc);
+    match script::run(alloc, &mut message, steps.as_slice()) {
+        Ok(replies) => {
+            show_replies(out, script.lines, replies.as_slice())?;
+            show_left(out, message.as_slice())?;
+            show_readings(
+                alloc,
+                out,
+                script.lines,
+                replies.as_slice(),
+                message.as_slice(),
+            )
+        }
+        Err(e) => {
+            writeln!(out, "run -> {e}; no step is done")?;
+            show_left(out, message.as_slice())
+        }
+    }
+}
+
+fn show_left<W: Write>(out: &mut W, message: &[u8]) -> io::Result<()> {
+    write!(out, "left: ")?;
+    show_bytes(out, message)?;
+    writeln!(out, "")
+}
+
+fn show_replies<W: Write>(out: &mut W, lines: &[Line], replies: &[Reply]) -> io::Result<()> {
+    for (line, reply) in lines.iter().zip(replies) {
+        show_line(out, *line)?;
+        show_reply(out, reply)?;
+    }
+    Ok(())
+}
+
+fn show_line<W: Write>(out: &mut W, line: Line) -> io::Result<()> {
+    match line {
+        Line::Name(text) => write!(out, "name {text:?}"),
+        Line::Bytes(bytes) => {
+            write!(out, "bytes ")?;
+            show_bytes(out, bytes)
+        }
+        Line::Max(size) => write!(out, "max {size}"),
+        Line::Reserve => write!(out, "reserve"),
+        Line::Fill(place, value) => write!(out, "fill {place} {value}"),
+        Line::Items(items) => write!(out, "items {items:?}"),
+    }
+}
+
+fn show_reply<W: Write>(out: &mut W, reply: &Reply) -> io::Result<()> {
+    match reply {
+        Reply::Done { len } => writeln!(out, " -> done; len {len}"),
+        Reply::Refused { error, len } => writeln!(out, " -> {error}; len {len}"),
+        Reply::NoPlace => writeln!(out, " -> no place"),
+        Reply::Items {
+            count,
+            error: Some(error),
+            len,
+        } => writeln!(out, " -> {error}; wrote {count}; len {len}"),
+        Reply::Items {
+            count,
+            error: None,
+            len,
+        } => writeln!(out, " -> wrote {count}; len {len}"),
+    }
+}
+
+/// Reads the names of each accepted step.
+fn show_readings<W: Write>(
+    alloc: Global,
+    out: &mut W,
+    lines: &[Line],
+    replies: &[Reply],
+    message: &[u8],
+) -> io::Result<()> {
+    let mut place = 0;
+    for (line, reply) in lines.iter().zip(replies) {
+        show_names(alloc, out, message, place, accepted_names(*line, reply))?;
+        place = match reply {
+            Reply::Done { len } | Reply::Refused { len, .. } | Reply::Items { len, .. } => *len,
+            Reply::NoPlace => place,
+        };
+    }
+    Ok(())
+}
+
+/// How many names an accepted step or the accepted items of one have.
+fn accepted_names(line: Line, reply: &Reply) -> usize {
+    match (line, reply) {
+        (Line::Name(_), Reply::Done { .. }) => 1,
+        (Line::Items(items), Reply::Items { count, .. }) => {
+            let mut names = 0usize;
+            for item in items.iter().take(*count) {
+                names = names.saturating_add(item.len());
+            }
+            names
+        }
+        _ => 0,
+    }
+}
+
+/// Reads so many names, of which the first stands at the place, and each other one where the one before it ends.
+fn show_names<W: Write>(
+    alloc: Global,
+    out: &mut W,
+    message: &[u8],
+    place: usize,
+    count: usize,
+) -> io::Result<()> {
+    let mut decoder = BinDecoder::new(message);
+    if decoder.read_slice(place).is_err() {
+        return writeln!(out, "{place}: past the end");
+    }
+    for _ in 0..count {
+        let place = decoder.index();
+        match Name::read(alloc, &mut decoder) {
+            Ok(name) => writeln!(out, "{place}: {name}")?,
+            Err(e) => return writeln!(out, "{place}: {e}"),
+        }
+    }
+    Ok(())
+}

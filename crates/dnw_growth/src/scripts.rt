@@ -1,0 +1,129 @@
+//! The scripts. A new one is a new entry, and a file of what must be seen in the folder `expected`.
+
+use dns_names_wire::error::ProtoResult;
+use dns_names_wire::name::Name;
+use dns_names_wire::script::{Item, Part, Step};
+use std::alloc::Global;
+
+/// What a step of a script is made from.
+#[derive(Clone, Copy)]
+pub enum Line {
+    Name(&'static str),
+    Bytes(&'static [u8]),
+    Max(u16),
+    Reserve,
+    Fill(usize, u16),
+    /// Items, each of names alone.
+    Items(&'static [&'static [&'static str]]),
+}
+
+/// A script, which is run over no bytes.
+#[derive(Clone, Copy)]
+pub struct Script {
+    pub name: &'static str,
+    pub lines: &'static [Line],
+}
+
+/// Every script. `.ci/growth` refuses each of their growths in turn.
+pub const SCRIPTS: &[Script] = &[SHARING, PLACED, UNDONE, MANY, LONG];
+
+/// Each name shares what it can with those before it.
+const SHARING: Script = Script {
+    name: "script_sharing",
+    lines: &[
+        Line::Name("ra.rb.rc."),
+        Line::Name("rb.rc."),
+        Line::Name("rc."),
+        Line::Name("z.ra.rb.rc."),
+    ],
+};
+
+/// A place is filled once.
+const PLACED: Script = Script {
+    name: "script_place",
+    lines: &[
+        Line::Reserve,
+        Line::Name("a."),
+        Line::Name("b.a."),
+        Line::Fill(0, 0x0162),
+        Line::Fill(0, 0x0162),
+    ],
+};
+
+/// An item is undone, and bytes stand where it stood.
+const UNDONE: Script = Script {
+    name: "script_items",
+    lines: &[
+        Line::Max(10),
+        Line::Items(&[&["a."], &["b."], &["x.", "yy."]]),
+        Line::Max(20),
+        Line::Bytes(&[1, 0x78, 0]),
+        Line::Name("x."),
+    ],
+};
+
+/// Names of four bytes that share nothing.
+const MANY: Script = Script {
+    name: "script_many",
+    lines: &[
+        Line::Name("na."),
+        Line::Name("nb."),
+        Line::Name("nc."),
+        Line::Name("nd."),
+        Line::Name("ne."),
+        Line::Name("nf."),
+        Line::Name("ng."),
+        Line::Name("nh."),
+        Line::Name("ni."),
+        Line::Name("nj."),
+    ],
+};
+
+/// Labels of more bytes than a candidate holds without memory of its own.
+const LONG: Script = Script {
+    name: "script_long",
+    lines: &[
+        Line::Name("abcdefghijklmnopqrstuvwxyz0123456789.b."),
+        Line::Name("c.abcdefghijklmnopqrstuvwxyz0123456789.b."),
+        Line::Name("c.abcdefghijklmnopqrstuvwxyz0123456789.b."),
+    ],
+};
+
+/// The steps of a script.
+pub fn steps(alloc: Global, lines: &[Line]) -> ProtoResult<Vec<Step>> {
+    let mut steps = Vec::with_capacity(alloc, lines.len())?;
+    for line in lines {
+        steps.push(step(alloc, *line)?)?;
+    }
+    Ok(steps)
+}
+
+fn step(alloc: Global, line: Line) -> ProtoResult<Step> {
+    Ok(match line {
+        Line::Name(text) => Step::Name(Name::from_ascii(alloc, text)?),
+        Line::Bytes(bytes) => Step::Bytes(Vec::from_slice(alloc, bytes)?),
+        Line::Max(size) => Step::Max(size),
+        Line::Reserve => Step::Reserve,
+        Line::Fill(place, value) => Step::Fill { place, value },
+        Line::Items(items) => Step::Items(items_of(alloc, items)?),
+    })
+}
+
+fn items_of(alloc: Global, items: &[&[&str]]) -> ProtoResult<Vec<Item>> {
+    let mut made = Vec::with_capacity(alloc, items.len())?;
+    for names in items {
+        made.push(Item {
+            encoding: None,
+            parts: parts(alloc, names)?,
+        })?;
+    }
+    Ok(made)
+}
+
+fn parts(alloc: Global, names: &[&str]) -> ProtoResult<Vec<Part>> {
+    let mut parts = Vec::with_capacity(alloc, names.len())?;
+    for text in names {
+        parts.push(Part::Name(Name::from_ascii(alloc, text)?))?;
+    }
+    Ok(parts)
+}
