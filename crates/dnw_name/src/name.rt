@@ -102,6 +102,7 @@ impl Name {
 
     /// Reads the name at the cursor, and leaves the cursor behind the name's own octets (RFC 1035, section 4.1.4).
     /// Where it is refused, the cursor stays. It takes no memory.
+    #[inline(always)]
     pub fn read(alloc: Global, decoder: &mut BinDecoder<'_>) -> Result<Self, DecodeError>
         ensures ok { IfOk result (λ name. IsTrue name.is_fqdn × (k : ℕ) × TakesName decoder.old decoder.new name.labels k) }
         ensures err { IfErr result (λ e. (k : ℕ) × (j : ℕ) × StopsAt decoder.old e k j) }
@@ -118,6 +119,7 @@ impl Name {
     }
 
     /// Reads as `read` does, and tells how many steps it took, also where it is refused.
+    #[inline(always)]
     pub fn read_counted(
         alloc: Global,
         decoder: &mut BinDecoder<'_>,

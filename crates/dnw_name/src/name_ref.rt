@@ -173,6 +173,7 @@ impl<'a> NameRef<'a> {
     }
 
     /// Writes the uncompressed form: in one piece where no pointer follows the first label.
+    #[inline(always)]
     fn write_form(&self, out: &mut SmallVec<u8, 255>)
         requires inline { out.old.capacity ≡ 255 }
         requires empty { out.old.items ≡ [] }
