@@ -1,5 +1,5 @@
 //! One copy of a name that stands in a message, piece by piece between its pointers.
-ghost use Rattle.std.specs.Prelude.{◌≡◌, ℕ, []};
+ghost use Rattle.std.specs.Prelude.{◌≡◌, ℕ, ◌+◌, ◌≤◌, [], ◌++◌, length};
 ghost use Rattle.dnw_name.specs.Names.{wire};
 ghost use Rattle.dnw_name.specs.NameRefInside.{labels_at, StandsAt};
 
@@ -26,9 +26,22 @@ pub(crate) fn copy_runs(out: &mut SmallVec<u8, 255>, message: &[u8], start: usiz
         if octet < 192 {
             position = position + 1 + octet as usize;
         } else {
-            out.extend_from_slice(&message[run..position]).unwrap();
+            push_run(out, &message[run..position]);
             run = walk::pointer_target(octet, message[position + 1]);
             position = run;
         }
+    }
+}
+
+/// Adds a run that fits in one piece, and nothing where it is empty: between two pointers there is no octet.
+#[inline(always)]
+fn push_run(out: &mut SmallVec<u8, 255>, run: &[u8])
+    requires inline { out.old.capacity ≡ 255 }
+    requires fits { length out.old.items + length run.now ≤ 255 }
+    ensures added { out.new.items ≡ out.old.items ++ run.now }
+    ensures inline { out.new.capacity ≡ 255 }
+{
+    if !run.is_empty() {
+        out.extend_from_slice(run).unwrap();
     }
 }

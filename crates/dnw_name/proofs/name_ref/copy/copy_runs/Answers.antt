@@ -31,21 +31,18 @@ bounds-message-position-else-octet-lt192 c = Copies-second c.elements.invariant.
 pub elements-smaller : goal.elements-smaller
 elements-smaller c =
     let (copies, earlier) = Copies-pointer c.elements.invariant.copies _ c.pointer_target-run.ensures c.if-octet-lt192.false in
-    let written = rw c.unwrap-else-octet-lt192.ensures at c.extend_from_slice-else-octet-lt192.ensures.ok in
     let order = c.elements.invariant.copies.order in
     omega (
       arith,
       Copies-fits c.elements.invariant.copies,
       Copies-run c.elements.invariant.copies,
-      ap length written,
+      ap length c.push_run.ensures.added,
       length-append c.elements.out.items (slice_range c.args.message.now c.elements.run c.elements.position),
     )
 
 pub elements-preserved : goal.elements-preserved
 elements-preserved c =
-    let written = rw c.unwrap-else-octet-lt192.ensures at c.extend_from_slice-else-octet-lt192.ensures.ok in
     record {
-      copies = rw written (Copies-pointer c.elements.invariant.copies _ c.pointer_target-run.ensures c.if-octet-lt192.false).0;
-      inline = c.extend_from_slice-else-octet-lt192.ensures.inline
-          (omega (arith, Copies-fits c.elements.invariant.copies, Copies-run c.elements.invariant.copies, c.elements.invariant.inline)) c.elements.invariant.inline;
+      copies = rw c.push_run.ensures.added (Copies-pointer c.elements.invariant.copies _ c.pointer_target-run.ensures c.if-octet-lt192.false).0;
+      inline = c.push_run.ensures.inline;
     }
