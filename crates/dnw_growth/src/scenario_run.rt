@@ -12,7 +12,7 @@ use std::io::Write;
 
 /// Runs the scenario or the script of this name, or under the name `all` each one behind a line with its name. Tells
 /// whether there is one.
-pub fn run_named<W: Write>(alloc: Global, name: &[u8], out: &mut W) -> io::Result<bool> {
+pub(crate) fn run_named<W: Write>(alloc: Global, name: &[u8], out: &mut W) -> io::Result<bool> {
     let all = name == b"all".as_slice();
     let mut found = all;
     for scenario in SCENARIOS {

@@ -16,7 +16,7 @@ pub struct Labels {
 
 impl Labels {
     /// Whether they stand before the offset, where an encoder can be asked for them.
-    pub fn are_written(&self, encoder: &BinEncoder<'_>) -> bool
+    pub(crate) fn are_written(&self, encoder: &BinEncoder<'_>) -> bool
         ensures { IsTrue result ↔ ((self.now.start < (value encoder.now).offset) × (self.now.start ≤ self.now.end)
             × (self.now.end ≤ length (value encoder.now).bytes) × (self.now.end ≤ 65535)) }
     {

@@ -11,7 +11,7 @@ use std::io::Write;
 
 /// Runs a script over no bytes. Shows the reply to each step, the bytes that are left, and each accepted name as it is
 /// read at its place.
-pub fn run_script<W: Write>(alloc: Global, script: &Script, out: &mut W) -> io::Result<()> {
+pub(crate) fn run_script<W: Write>(alloc: Global, script: &Script, out: &mut W) -> io::Result<()> {
     let steps = match steps(alloc, script.lines) {
         Ok(steps) => steps,
         Err(e) => return writeln!(out, "steps -> {e}; nothing is run"),

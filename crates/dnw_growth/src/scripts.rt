@@ -90,7 +90,7 @@ const LONG: Script = Script {
 };
 
 /// The steps of a script.
-pub fn steps(alloc: Global, lines: &[Line]) -> ProtoResult<Vec<Step>> {
+pub(crate) fn steps(alloc: Global, lines: &[Line]) -> ProtoResult<Vec<Step>> {
     let mut steps = Vec::with_capacity(alloc, lines.len())?;
     for line in lines {
         steps.push(step(alloc, *line)?)?;

@@ -8,7 +8,7 @@ use std::io;
 use std::io::Write;
 
 /// Writes the call and its answer, and no line's end.
-pub fn show_call<W: Write>(
+pub(crate) fn show_call<W: Write>(
     out: &mut W,
     step: Step,
     answer: &ProtoResult<Answer>,
@@ -28,7 +28,7 @@ pub fn show_call<W: Write>(
 }
 
 /// Writes the encoder's bytes, its offset, its mode and which of the labels a candidate has, and ends the line.
-pub fn show_encoder<W: Write>(
+pub(crate) fn show_encoder<W: Write>(
     out: &mut W,
     encoder: &mut BinEncoder<'_>,
     watched: &[Labels],
@@ -45,7 +45,7 @@ pub fn show_encoder<W: Write>(
 }
 
 /// Writes bytes in hexadecimal digits, and a dash for none.
-pub fn show_bytes<W: Write>(out: &mut W, bytes: &[u8]) -> io::Result<()> {
+pub(crate) fn show_bytes<W: Write>(out: &mut W, bytes: &[u8]) -> io::Result<()> {
     if bytes.is_empty() {
         return write!(out, "-");
     }

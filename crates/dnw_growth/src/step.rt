@@ -58,7 +58,7 @@ pub enum Answer {
 }
 
 /// Makes the call. A place that it keeps is put into `place`, and one that it fills is taken from there.
-pub fn take(
+pub(crate) fn take(
     alloc: Global,
     step: Step,
     encoder: &mut BinEncoder<'_>,

@@ -12,7 +12,7 @@ use std::io::Write;
 const SHOWN: u64 = 20;
 
 /// Makes the requests of a line, compares the answers, and shows the line where one differs that is not meant to.
-pub fn replay<W: Write>(
+pub(crate) fn replay<W: Write>(
     alloc: Global,
     line: &str,
     tally: &mut Tally,
@@ -45,7 +45,7 @@ fn compare(alloc: Global, line: &str, tally: &mut Tally) -> ProtoResult<()> {
 }
 
 /// The octets that are written in hexadecimal; `-` for none.
-pub fn octets(alloc: Global, text: &str) -> ProtoResult<Vec<u8>> {
+pub(crate) fn octets(alloc: Global, text: &str) -> ProtoResult<Vec<u8>> {
     if text == "-" {
         return Ok(Vec::new(alloc));
     }

@@ -8,7 +8,7 @@ use dns_names_wire::name::Name;
 use std::alloc::{AllocError, Global};
 
 /// Reads at each place of the message in turn, and compares the answers with those that are wanted.
-pub fn compare(
+pub(crate) fn compare(
     alloc: Global,
     message: &str,
     wanted: &[&str],
@@ -62,7 +62,7 @@ fn read_at(alloc: Global, message: &[u8], start: usize) -> Result<String, AllocE
 }
 
 /// The list's word for an error.
-pub fn code_of(alloc: Global, error: &DecodeError) -> Result<String, AllocError> {
+pub(crate) fn code_of(alloc: Global, error: &DecodeError) -> Result<String, AllocError> {
     match error {
         DecodeError::InsufficientBytes => String::from_str(alloc, "c"),
         DecodeError::PointerNotPriorToLabel { idx, ptr } => format!(in alloc; "p{idx}.{ptr}"),

@@ -10,7 +10,12 @@ use dns_names_wire::name::Name;
 use std::alloc::Global;
 
 /// Runs a script over an empty buffer, and compares the bytes that it leaves.
-pub fn compare(alloc: Global, steps: &[&str], want: &str, tally: &mut Tally) -> ProtoResult<()> {
+pub(crate) fn compare(
+    alloc: Global,
+    steps: &[&str],
+    want: &str,
+    tally: &mut Tally,
+) -> ProtoResult<()> {
     let want = octets(alloc, want)?;
     let got = written(alloc, steps)?;
     tally.count(if got == want {

@@ -30,7 +30,7 @@ pub struct Tally {
 
 impl Tally {
     /// None yet.
-    pub fn new() -> Self {
+    pub(crate) fn new() -> Self {
         Tally {
             compared: 0,
             cursor_stays: 0,
@@ -41,7 +41,7 @@ impl Tally {
     }
 
     /// Counts one more answer.
-    pub fn count(&mut self, verdict: Verdict) {
+    pub(crate) fn count(&mut self, verdict: Verdict) {
         self.compared = self.compared.saturating_add(1);
         match verdict {
             Verdict::Same => {}
@@ -57,17 +57,17 @@ impl Tally {
     }
 
     /// How many answers differ that are not meant to.
-    pub fn different(&self) -> u64 {
+    pub(crate) fn different(&self) -> u64 {
         self.different
     }
 
     /// Whether there were answers, and none differs that is not meant to.
-    pub fn is_clean(&self) -> bool {
+    pub(crate) fn is_clean(&self) -> bool {
         self.compared > 0 && self.different == 0
     }
 
     /// Tells the counts.
-    pub fn tell<W: Write>(&self, out: &mut W) -> io::Result<()> {
+    pub(crate) fn tell<W: Write>(&self, out: &mut W) -> io::Result<()> {
         writeln!(out, "answers compared: {}", self.compared)?;
         writeln!(
             out,

@@ -9,7 +9,12 @@ use dns_names_wire::name::Name;
 use std::alloc::{AllocError, Global};
 
 /// Parses a text, and compares the name's own text, or the error.
-pub fn compare_parsed(alloc: Global, text: &str, want: &str, tally: &mut Tally) -> ProtoResult<()> {
+pub(crate) fn compare_parsed(
+    alloc: Global,
+    text: &str,
+    want: &str,
+    tally: &mut Tally,
+) -> ProtoResult<()> {
     let text = octets(alloc, text)?;
     let Ok(text) = str::from_utf8(text.as_slice()) else {
         return Err(ProtoError::Utf8);
@@ -20,7 +25,7 @@ pub fn compare_parsed(alloc: Global, text: &str, want: &str, tally: &mut Tally) 
 }
 
 /// Prints the name with these octets, and compares its text.
-pub fn compare_printed(
+pub(crate) fn compare_printed(
     alloc: Global,
     flag: &str,
     form: &str,
