@@ -1,4 +1,4 @@
--- Labels of simple characters, which are read whole.
+-- Labels of characters that stand for themselves, which are read whole.
 use Rattle.std.proofs.Common.{◌≡◌, ℕ, zero, suc, ◌+◌, ◌<◌, ◌≤◌, Bool, true, false, not, ◌&&◌, ◌||◌, ◌==◌, nat_lt, List, [], ◌∷◌, ◌++◌, length, take, drop, get_or, Result, Ok, refl, sym, ap, ◌∙◌, subst, append_assoc, arith}
 use Rattle.std.specs.Char.{is_control, is_whitespace}
 use Rattle.std.specs.List.{list_all}
@@ -10,11 +10,11 @@ use Rattle.std.proofs.lemmas.Str.{chars-nil, encode_ascii, lead_after_ascii}
 use Rattle.dnw_base.specs.declared.error.ProtoError.{ProtoError}
 use Rattle.dnw_base.specs.declared.error.ProtoError.TheVariants.{Memory}
 use Rattle.dnw_base.specs.Fault.{Fault, Refuses, RefusesOrRunsOut, ◌>>=◌}
-use Rattle.dnw_base.specs.LabelText.{dash, dot, backslash, is_safe, may_begin, may_follow}
+use Rattle.dnw_base.specs.LabelText.{asterisk, dash, dot, backslash, is_safe, may_begin, may_follow}
 use Rattle.dnw_name.specs.Names.{NameValue}
 use Rattle.dnw_name.specs.Edits.{with_label}
 use Rattle.dnw_name.specs.NameText.{Outside, Char, elements, name_from_elements}
-use Rattle.dnw_name.specs.TextReader.{is_simple, IsSimpleLabel, SplitsSimpleLabel, name_from_rest}
+use Rattle.dnw_name.specs.TextReader.{is_simple, is_own, IsSimpleLabel, SplitsSimpleLabel, name_from_rest}
 use Rattle.dnw_name.proofs.TextReading.{RefusesOrRunsOut-bind, chars-empty}
 
 -- a text is what stands before a byte, the byte, and what stands behind it
@@ -23,23 +23,23 @@ parts_at [] n b lt e = absurd (omega (arith, lt))
 parts_at (c ∷ bs) zero b lt e = ap (λ (x : ℕ). x ∷ bs) e
 parts_at (c ∷ bs) (suc n) b lt e = ap (λ (more : List ℕ). c ∷ more) (parts_at bs n b (omega (arith, lt)) e)
 
-is_low : (c : ℕ) → is_simple c ≡ true → c < 128
+is_low : (c : ℕ) → is_own c ≡ true → c < 128
 is_low c h = ltb-true c 128 (and_parts _ _ h).0
 
 -- neither a dot nor a backslash nor refused
 stands : ℕ → Bool
-stands c = not (is_simple c) || (not (c == dot) && (not (c == backslash) && not (is_control c || is_whitespace c)))
+stands c = not (is_own c) || (not (c == dot) && (not (c == backslash) && not (is_control c || is_whitespace c)))
 
 all_stand : (c : ℕ) → c < 128 → stands c ≡ true
 unfolding stands
 all_stand c lt = agree_below_at stands (λ (n : ℕ). true) 128 c refl lt
 
-simple_stands : (c : ℕ) → is_simple c ≡ true → (not (c == dot) && (not (c == backslash) && not (is_control c || is_whitespace c))) ≡ true
+simple_stands : (c : ℕ) → is_own c ≡ true → (not (c == dot) && (not (c == backslash) && not (is_control c || is_whitespace c))) ≡ true
 unfolding stands
 simple_stands c h = rw h at (all_stand c (is_low c h))
 
 -- so it is a character of its label
-simple_element : (c : ℕ) (cs : List ℕ) → is_simple c ≡ true → elements Outside (c ∷ cs) ≡ Char c ∷ elements Outside cs
+simple_element : (c : ℕ) (cs : List ℕ) → is_own c ≡ true → elements Outside (c ∷ cs) ≡ Char c ∷ elements Outside cs
 simple_element c cs h =
     let first = and_parts (not (c == dot)) (not (c == backslash) && not (is_control c || is_whitespace c)) (simple_stands c h) in
     let second = and_parts (not (c == backslash)) (not (is_control c || is_whitespace c)) first.1 in
@@ -52,14 +52,14 @@ chars-ascii b [] lt = rw (lt-ltb b 128 lt) refl
 chars-ascii b (d ∷ bs) lt = rw (lt-ltb b 128 lt) refl
 
 -- a run of them is its own characters
-chars-simple : (l bs : List ℕ) → list_all is_simple l ≡ true → chars (l ++ bs) ≡ l ++ chars bs
+chars-simple : (l bs : List ℕ) → list_all is_own l ≡ true → chars (l ++ bs) ≡ l ++ chars bs
 chars-simple [] bs h = refl
 chars-simple (c ∷ l) bs h =
     let both = and_parts _ _ h in
     chars-ascii c (l ++ bs) (is_low c both.0) ∙ ap (λ (more : List ℕ). c ∷ more) (chars-simple l bs both.1)
 
 -- and adds them to the label
-simple_run : (l : List ℕ) (ls : List (List ℕ)) (text cs : List ℕ) → list_all is_simple l ≡ true
+simple_run : (l : List ℕ) (ls : List (List ℕ)) (text cs : List ℕ) → list_all is_own l ≡ true
     → name_from_elements ls text (elements Outside (l ++ cs)) ≡ name_from_elements ls (text ++ l) (elements Outside cs)
 simple_run [] ls text cs h = ap (λ (t : List ℕ). name_from_elements ls t (elements Outside cs)) (sym (append-nil text))
 simple_run (c ∷ l) ls text cs h =
@@ -75,8 +75,8 @@ pub name_from_rest-label : (ls : List (List ℕ)) (text label rest : List ℕ) �
 unfolding name_from_rest
 name_from_rest-label ls text label rest s =
     ap (λ (t : List ℕ). name_from_elements ls [] (elements Outside (chars t))) s.spelled
-    ∙ ap (λ (cs : List ℕ). name_from_elements ls [] (elements Outside cs)) (chars-simple label (dot ∷ rest) s.front.simple ∙ ap (λ (cs : List ℕ). label ++ cs) (chars-ascii dot rest (omega arith)))
-    ∙ simple_run label ls [] (dot ∷ chars rest) s.front.simple
+    ∙ ap (λ (cs : List ℕ). name_from_elements ls [] (elements Outside cs)) (chars-simple label (dot ∷ rest) s.front.own ∙ ap (λ (cs : List ℕ). label ++ cs) (chars-ascii dot rest (omega arith)))
+    ∙ simple_run label ls [] (dot ∷ chars rest) s.front.own
     ∙ ap (λ r. (r >>= with_label ls) >>= (λ longer. name_from_elements longer [] (elements Outside (chars rest)))) s.front.written
 
 -- the last label is added, and the name is relative
@@ -87,8 +87,8 @@ name_from_rest-last ls [] s = absurd (omega (arith, s.is_label.not_empty))
 name_from_rest-last ls (b ∷ label) s =
     ap (λ (t : List ℕ). name_from_elements ls [] (elements Outside (chars t))) (sym (append-nil (b ∷ label)))
     ∙ ap (λ (cs : List ℕ). name_from_elements ls [] (elements Outside cs))
-    (chars-simple (b ∷ label) [] s.simple ∙ ap (λ (cs : List ℕ). (b ∷ label) ++ cs) chars-nil)
-    ∙ simple_run (b ∷ label) ls [] [] s.simple
+    (chars-simple (b ∷ label) [] s.own ∙ ap (λ (cs : List ℕ). (b ∷ label) ++ cs) chars-nil)
+    ∙ simple_run (b ∷ label) ls [] [] s.own
     ∙ ap (λ r. (r >>= with_label ls) >>= (λ all. Ok (record { is_fqdn = false; labels = all }))) s.written
 
 pub last_label : (ls : List (List ℕ)) (label : List ℕ) (n : NameValue) → IsSimpleLabel label → n.is_fqdn ≡ false → with_label ls label ≡ Ok n.labels
@@ -130,6 +130,13 @@ safe_alone : (x : Bool) → (x || false) ≡ true → x ≡ true
 safe_alone true h = refl
 safe_alone false h = h
 
+all_own : (l : List ℕ) → list_all is_simple l ≡ true → list_all is_own l ≡ true
+all_own [] h = refl
+all_own (c ∷ l) h =
+    let both = and_parts (is_simple c) (list_all is_simple l) h in
+    let low = and_parts (nat_lt c 128) (is_safe c || c == dash) both.0 in
+    rw (low.0, or_left (is_safe c || c == dash) (c == asterisk) low.1, all_own l both.1) refl
+
 -- simple characters write a label, where the first is no dash
 pub simple_label : (l : List ℕ) → list_all is_simple l ≡ true → 1 ≤ length l → length l ≤ 63 → (get_or l 0 0 ≡ dash → ⊥) → IsSimpleLabel l
 simple_label [] h some few ne = absurd (omega (arith, some))
@@ -139,7 +146,7 @@ simple_label (c ∷ l) h some few ne =
     let safe : (is_safe c || false) ≡ true = rw (ne_eqb c dash ne) at plain in
     let begins : may_begin c ≡ true = rw (safe_alone (is_safe c) safe) refl in
     record {
-      simple = h;
+      own = all_own (c ∷ l) h;
       is_label = record { not_empty = some; not_long = few };
       written = rw (le-ltb 63 (length (c ∷ l)) few, begins, all_follow l both.1) refl;
     }
@@ -155,6 +162,13 @@ pub simple_front : (text : List ℕ) (n : ℕ) → n ≤ length text → (n ≡ 
 simple_front text n le some few first simple =
     let size : length (take n text) ≡ n = length-take-le n text le in
     simple_label (take n text) simple (omega (arith, size, some)) (omega (arith, size, few)) (rw (first_kept text n some) first)
+
+-- an asterisk is a label
+pub asterisk_front : (text : List ℕ) → 0 < length text → get_or text 0 0 ≡ asterisk → IsSimpleLabel (take 1 text)
+asterisk_front [] some first = absurd (omega (arith, some))
+asterisk_front (c ∷ cs) some first =
+    subst (λ (b : ℕ). IsSimpleLabel (b ∷ [])) (sym first)
+    (record { own = refl; is_label = record { not_empty = omega arith; not_long = omega arith }; written = refl })
 
 -- and all of them, where they are all
 pub simple_whole : (text : List ℕ) (n : ℕ) → n ≡ length text → (length text == 0) ≡ false → (0 < n → IsSimpleLabel (take n text)) → IsSimpleLabel text

@@ -4,7 +4,7 @@ use Rattle.std.specs.List.{list_all}
 use Rattle.std.specs.Str.{IsUtf8}
 use Rattle.dnw_base.specs.Fault.{Fault, UnrecognizedChar, IllegalChar}
 use Rattle.dnw_base.specs.Labels.{IsLabel}
-use Rattle.dnw_base.specs.LabelText.{dash, dot, is_safe, label_from_text}
+use Rattle.dnw_base.specs.LabelText.{asterisk, dash, dot, is_safe, label_from_text}
 use Rattle.dnw_name.specs.Names.{NameValue}
 use Rattle.dnw_name.specs.NameText.{Place, Outside, Escaped, AfterOne, AfterTwo, Element, Char, Dot, Stop, elements, name_from_elements}
 use Rattle.dnw_name.specs.declared.name.text.Place.{Place as Held}
@@ -49,9 +49,13 @@ IsAlike a b = (a ≡ b) ⊎ ((63 < length a) × (length a ≡ length b))
 abbrev pub is_simple : ℕ → Bool
 is_simple c = nat_lt c 128 && (is_safe c || c == dash)
 
--- The label is made of simple characters, which write it.
+-- the same, or `*`
+abbrev pub is_own : ℕ → Bool
+is_own c = nat_lt c 128 && (is_safe c || c == dash || c == asterisk)
+
+-- The label is made of characters that stand for themselves, and they write it.
 pub record IsSimpleLabel (label : List ℕ) : Type 0 where
-  pub simple : list_all is_simple label ≡ true
+  pub own : list_all is_own label ≡ true
   pub is_label : IsLabel label
   pub written : label_from_text label ≡ Ok label
 

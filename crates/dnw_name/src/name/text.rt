@@ -317,8 +317,8 @@ fn add_label(name: &mut Name, alloc: Global, label: &Collected) -> ProtoResult<(
     name.extend_name(label.as_bytes())
 }
 
-/// The name that the characters of a text give, with no exception for the empty text and the lone dot. Labels of
-/// simple characters are taken whole, and from the first other label on the text is read character by character.
+/// The name that the characters of a text give, with no exception for the empty text and the lone dot. A `*` and
+/// labels of simple characters are taken whole, and from the first other label on the text is read by characters.
 fn read_all(alloc: Global, text: &str) -> ProtoResult<Name>
     ensures ok { IfOk result (λ n. name_from_rest [] [] Outside (chars text.now) ≡ Ok n) }
     ensures err { IfErr result (RefusesOrRunsOut (name_from_rest [] [] Outside (chars text.now))) }
@@ -355,7 +355,8 @@ fn read_rest(alloc: Global, name: Name, text: &str) -> ProtoResult<Name>
     reader.finish(alloc)
 }
 
-/// The label of simple characters that a text begins with, where a dot ends it, and the text behind the dot.
+/// The label that a text begins with, where it is `*` or made of simple characters and a dot ends it, and the text
+/// behind the dot.
 #[tactic(auto, using(crate::proofs::SimpleLabels::splits_at, crate::proofs::SimpleLabels::cut_behind))]
 fn split_simple_label(text: &str) -> Option<(&[u8], &str)>
     ensures { IfSome result (λ split. SplitsSimpleLabel text.now split.0.now split.1.now) }
@@ -368,17 +369,31 @@ fn split_simple_label(text: &str) -> Option<(&[u8], &str)>
     Some((&bytes[..len], &text[len + 1..]))
 }
 
-/// The length of the label of simple characters that a text begins with, or 0.
-#[tactic(auto, using(crate::proofs::SimpleLabels::simple_front))]
+/// The length of the label that a text begins with, where it is `*` or made of simple characters, or 0.
 fn simple_label_len(text: &[u8]) -> usize
     ensures few { result ≤ length text.now }
     ensures label { 0 < result → IsSimpleLabel (take result text.now) }
 {
     let len = simple_len(text);
-    if len == 0 || len > 63 || text[0] == b'-' {
+    if len == 0 {
+        return asterisk_len(text);
+    }
+    if len > 63 || text[0] == b'-' {
         return 0;
     }
     len
+}
+
+/// 1 where a text begins with `*`, else 0.
+#[tactic(auto, using(crate::proofs::SimpleLabels::asterisk_front))]
+fn asterisk_len(text: &[u8]) -> usize
+    ensures few { result ≤ length text.now }
+    ensures label { 0 < result → IsSimpleLabel (take result text.now) }
+{
+    match text {
+        [b'*', ..] => 1,
+        _ => 0,
+    }
 }
 
 /// How many simple characters a text begins with.
