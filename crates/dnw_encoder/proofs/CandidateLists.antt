@@ -1,16 +1,16 @@
 -- Lists of candidates.
-use Rattle.std.proofs.Common.{◌≡◌, ◌≢◌, ℕ, ◌+◌, ◌-◌, ◌<◌, ◌≤◌, zero, suc, Bool, true, false, cond, nat_lt, rules, tests, List, [], ◌∷◌, ◌++◌, length, get_or, set, take, drop, refl, sym, ap, ◌∙◌, subst, ◌⊎◌, inl, inr, ⊎_elim, mod-lt, ◌%◌, ◌*◌, arith}
+use Rattle.std.proofs.Common.{◌≡◌, ◌≢◌, ℕ, ◌+◌, ◌<◌, ◌≤◌, zero, suc, Bool, true, false, cond, nat_lt, rules, tests, List, [], ◌∷◌, ◌++◌, length, get_or, set, take, drop, refl, sym, ap, ◌∙◌, subst, ◌⊎◌, inl, inr, ⊎_elim, mod-lt, ◌%◌, ◌*◌, arith}
 use Rattle.std.specs.List.{AllByRecursion}
-use Rattle.std.proofs.lemmas.List.{take_more, take_all, length-append, length-drop, length-take-le, get_or-drop}
+use Rattle.std.proofs.lemmas.List.{take_more, length-append, length-take-le}
 use Rattle.std.proofs.lemmas.Bool.Decides.{leb_tells}
-use Rattle.std.proofs.Math.Seq.{split_at, take-add}
+use Rattle.std.proofs.Math.Seq.{split_at}
 use Rattle.dnw_name.specs.Names.{labels_wire}
 use Rattle.dnw_name.specs.Reading.{NameAt}
 use Rattle.dnw_encoder.specs.Encoder.{Candidate, IsFirstWith, candidates_before}
-use Rattle.dnw_encoder.specs.EmittedName.{IsFirstUsable, suffixes}
+use Rattle.dnw_encoder.specs.EmittedName.{IsFirstUsable}
 use Rattle.dnw_encoder.specs.Sharing.{AreMarked, IsMarked, NoneUsable, tag}
 
-all_push : {X : Type 0} (P : X → Type 0) (xs : List X) (y : X) → AllByRecursion P xs → P y → AllByRecursion P (xs ++ y ∷ [])
+pub all_push : {X : Type 0} (P : X → Type 0) (xs : List X) (y : X) → AllByRecursion P xs → P y → AllByRecursion P (xs ++ y ∷ [])
 all_push P [] y all one = (one, tt)
 all_push P (x ∷ xs) y all one = (all.0, all_push P xs y all.1 one)
 
@@ -87,15 +87,7 @@ first_usable message own labels cs i place end pointers below is same name all =
           at_split (CannotBe message labels) cs earlier later (other, labels_wire labels) i u.split (omega (arith, less, at)) all refl u.end u.pointers u.name);
     }
 
--- ---- suffixes that are added one by one
-
--- the first of those that are left
-pub take_suffixes : (left start : ℕ) (l : List ℕ) (rest : List (List ℕ)) → 0 < left
-    → take left (suffixes start (l ∷ rest)) ≡ (start, labels_wire (l ∷ rest)) ∷ take (left - 1) (suffixes (start + 1 + length l) rest)
-take_suffixes zero start l rest some = absurd (omega (arith, some))
-take_suffixes (suc left) start l rest some =
-    let less : suc left - 1 ≡ left = omega arith in
-    ap (λ n. (start, labels_wire (l ∷ rest)) ∷ take n (suffixes (start + 1 + length l) rest)) (sym less)
+-- ---- the bytes of labels
 
 pub length-labels_wire : (l : List ℕ) (rest : List (List ℕ)) → length (labels_wire (l ∷ rest)) ≡ 1 + length l + length (labels_wire rest)
 length-labels_wire l rest = omega (arith, length-append l (labels_wire rest))
@@ -105,11 +97,6 @@ not_nil [] ys y e = absurd cc
 not_nil (x ∷ xs) ys y e = absurd cc
 
 -- ---- marks
-
-all_at : {X : Type 0} (P : X → Type 0) (xs before after : List X) (x : X) → xs ≡ before ++ x ∷ after → AllByRecursion P xs → P x
-all_at {X} P xs [] after x split all = let Q : List X → Type 0 = λ ys. AllByRecursion P ys in (subst Q split all).0
-all_at P [] (y ∷ before) after x split all = absurd cc
-all_at P (z ∷ xs) (y ∷ before) after x split all = all_at P xs before after x (let rest : xs ≡ before ++ x ∷ after = cc in rest) all.1
 
 -- what has no mark is not among the candidates
 pub none_with : (marks bytes : List ℕ) (i : ℕ) (cs : List Candidate) → get_or marks (tag bytes) 0 ≡ 0 → AreMarked marks i cs → AllByRecursion (λ c. c.1 ≢ bytes) cs
@@ -132,17 +119,6 @@ pub cannot_be : (message bytes : List ℕ) (labels : List (List ℕ)) (cs : List
     → AllByRecursion (CannotBe message labels) cs
 cannot_be message bytes labels [] same all = tt
 cannot_be message bytes labels (c ∷ cs) same all = (λ is end pointers name. all.0 (is ∙ sym same), cannot_be message bytes labels cs same all.1)
-
-all_both : {X : Type 0} (P : X → Type 0) (xs ys : List X) → AllByRecursion P xs → AllByRecursion P ys → AllByRecursion P (xs ++ ys)
-all_both P [] ys first rest = rest
-all_both P (x ∷ xs) ys first rest = (first.0, all_both P xs ys first.1 rest)
-
--- the first ones and more behind them
-pub all_further : {X : Type 0} (P : X → Type 0) (cs : List X) (n i : ℕ) → AllByRecursion P (take n cs) → AllByRecursion P (take i (drop n cs))
-    → AllByRecursion P (take (n + i) cs)
-all_further {X} P cs n i first rest =
-    let Q : List X → Type 0 = λ xs. AllByRecursion P xs in
-    subst Q (sym (take-add n i cs)) (all_both P (take n cs) (take i (drop n cs)) first rest)
 
 -- ---- marks that change
 
@@ -210,6 +186,19 @@ marked_more marks new bytes t place cs less is all stays none stale =
     (leb_tells (get_or marks t 0) (length cs + 1)))
     (leb_tells (get_or marks t 0) 0)
 
+-- the next one of them is marked
+pub marked_next : (marks new bytes : List ℕ) (t place i : ℕ) (cs : List Candidate) → i < length cs → (place, bytes) ≡ get_or cs i (place, bytes)
+    → t < length marks → t ≡ tag bytes → AreMarked marks 0 (take i cs)
+    → (1 ≤ get_or marks t 0 → get_or marks t 0 ≤ i + 1 → new ≡ marks)
+    → (get_or marks t 0 ≡ 0 → (n : ℕ) × (1 ≤ n) × (n ≤ i + 1) × (new ≡ set marks t n))
+    → (i + 1 < get_or marks t 0 → (n : ℕ) × (1 ≤ n) × (n ≤ i + 1) × (new ≡ set marks t n))
+    → AreMarked new 0 (take (i + 1) cs)
+marked_next marks new bytes t place i cs below at less is all stays none stale =
+    let size : i ≡ length (take i cs) = sym (length-take-le i cs (omega (arith, below))) in
+    let next = take_more cs i (place, bytes) below ∙ ap (λ (x : Candidate). take i cs ++ x ∷ []) (sym at) in
+    subst (AreMarked new 0) (sym next)
+    (marked_more marks new bytes t place (take i cs) less is all (rw size at stays) (rw size at none) (rw size at stale))
+
 pub tag_below : (bytes : List ℕ) → tag bytes < 256
 tag_below [] = omega arith
 tag_below (a ∷ []) = omega arith
@@ -236,68 +225,43 @@ all_take P zero xs all = tt
 all_take P (suc n) [] all = tt
 all_take P (suc n) (x ∷ xs) all = (all.0, all_take P n xs all.1)
 
-all_further_off : (e f : ℕ) (cs : List Candidate) → e ≤ f → AllByRecursion (λ c. c.0 < e) cs → AllByRecursion (λ c. c.0 < f) cs
-all_further_off e f [] le all = tt
-all_further_off e f (c ∷ cs) le all = (omega (arith, le, all.0), all_further_off e f cs le all.1)
-
-pub end_more : (e f place : ℕ) (bytes : List ℕ) (cs : List Candidate) → e ≤ f → place < f → AllByRecursion (λ c. c.0 < e) cs
-    → AllByRecursion (λ c. c.0 < f) (cs ++ (place, bytes) ∷ [])
-end_more e f place bytes cs le less all = all_push (λ c. c.0 < f) cs (place, bytes) (all_further_off e f cs le all) less
-
 is_less : (n m : ℕ) → n < m → nat_lt n m ≡ true
 is_less n m less = search (rules, tests)
 
-less_is : (n m : ℕ) → nat_lt n m ≡ true → n < m
+pub less_is : (n m : ℕ) → nat_lt n m ≡ true → n < m
 less_is n m is = search (rules, tests)
 
 -- where all stand before a place, none is dropped from there on
-pub none_dropped : (e place : ℕ) (cs : List Candidate) → e ≤ place → AllByRecursion (λ c. c.0 < e) cs → cs ≡ candidates_before place cs
-none_dropped e place [] le all = refl
-none_dropped e place (c ∷ cs) le all =
-    let before : nat_lt c.0 place ≡ true = is_less c.0 place (omega (arith, le, all.0)) in
-    ap (λ (ds : List Candidate). c ∷ ds) (none_dropped e place cs le all.1)
+pub none_dropped : (place : ℕ) (cs : List Candidate) → AllByRecursion (λ c. c.0 < place) cs → cs ≡ candidates_before place cs
+none_dropped place [] all = refl
+none_dropped place (c ∷ cs) all =
+    let before : nat_lt c.0 place ≡ true = is_less c.0 place all.0 in
+    ap (λ (ds : List Candidate). c ∷ ds) (none_dropped place cs all.1)
     ∙ sym (ap (λ (b : Bool). cond b (c ∷ candidates_before place cs) (candidates_before place cs)) before)
 
--- those that are left stand before it
-pub end_trimmed : (place : ℕ) (cs : List Candidate) → AllByRecursion (λ c. c.0 < place) (candidates_before place cs)
-end_trimmed place [] = tt
-end_trimmed place (c ∷ cs) =
-    let M : Bool → Type 0 = λ b. nat_lt c.0 place ≡ b → AllByRecursion (λ x. x.0 < place) (cond b (c ∷ candidates_before place cs) (candidates_before place cs)) in
+kept_fewer : (place : ℕ) (cs : List Candidate) → length (candidates_before place cs) ≤ length cs
+kept_fewer place [] = omega arith
+kept_fewer place (c ∷ cs) =
+    let fewer = kept_fewer place cs in
+    let M : Bool → Type 0 = λ b. length (cond b (c ∷ candidates_before place cs) (candidates_before place cs)) ≤ suc (length cs) in
+    elim (nat_lt c.0 place) as M [
+      | true ↦ omega (arith, fewer)
+      | false ↦ omega (arith, fewer)
+    ]
+
+-- where as many are left as there were, they are the same
+pub kept_same : (place : ℕ) (cs : List Candidate) → length cs ≤ length (candidates_before place cs) → candidates_before place cs ≡ cs
+kept_same place [] le = refl
+kept_same place (c ∷ cs) le =
+    let kept = candidates_before place cs in
+    let M : Bool → Type 0 = λ b. suc (length cs) ≤ length (cond b (c ∷ kept) kept) → cond b (c ∷ kept) kept ≡ c ∷ cs in
     let cases : (b : Bool) → M b = λ b. elim b as M [
-      | true ↦ λ is. (less_is c.0 place is, end_trimmed place cs)
-      | false ↦ λ is. end_trimmed place cs
+      | true ↦ λ all. ap (λ (ds : List Candidate). c ∷ ds) (kept_same place cs (omega (arith, all)))
+      | false ↦ λ all. absurd (omega (arith, all, kept_fewer place cs))
     ] in
-    cases (nat_lt c.0 place) refl
+    cases (nat_lt c.0 place) le
 
 -- ---- a search that begins behind the first ones
-
--- what is searched: the candidates from there on
-abbrev pub searched : ℕ → List Candidate → List Candidate
-searched from cs = take (length cs - from) (drop from cs)
-
-searched-is : (from : ℕ) (cs : List Candidate) → searched from cs ≡ drop from cs
-searched-is from cs = take_all (length cs - from) (drop from cs) (omega (arith, length-drop from cs))
-
-module _ (message bytes : List ℕ) (labels : List (List ℕ)) (cs : List Candidate) (from : ℕ) (same : bytes ≡ labels_wire labels) (within : from ≤ length cs)
-    (early : AllByRecursion (λ c. c.1 ≢ bytes) (take from cs)) where
-  none_so_far : (i : ℕ) → AllByRecursion (CannotBe message labels) (take i (searched from cs)) → AllByRecursion (CannotBe message labels) (take (from + i) cs)
-  none_so_far i all =
-      all_further (CannotBe message labels) cs from i (cannot_be message bytes labels (take from cs) same early)
-      (subst (λ ds. AllByRecursion (CannotBe message labels) (take i ds)) (searched-is from cs) all)
-
-  pub found_later : (own : List ℕ) (i place end pointers : ℕ) → i < length (searched from cs) → (place, own) ≡ get_or (searched from cs) i (place, own)
-      → own ≡ bytes → NameAt message place labels end pointers → AllByRecursion (CannotBe message labels) (take i (searched from cs))
-      → IsFirstUsable message cs labels place
-  found_later own i place end pointers below is has name all =
-      let len = ap length (searched-is from cs) in
-      let near : from + i < length cs = omega (arith, below, len, length-drop from cs, within) in
-      let at = is ∙ (ap (λ ds. get_or ds i (place, own)) (searched-is from cs) ∙ get_or-drop from cs i (place, own)) in
-      first_usable message own labels cs (from + i) place end pointers near at (has ∙ same) name (none_so_far i all)
-
-  pub none_later : (i : ℕ) → length (searched from cs) ≤ i → AllByRecursion (CannotBe message labels) (take i (searched from cs)) → NoneUsable message cs labels
-  none_later i past all =
-      let len = ap length (searched-is from cs) in
-      none_usable message labels cs (from + i) (omega (arith, past, len, length-drop from cs, within)) (none_so_far i all)
 
 pub none_at_all : (message bytes : List ℕ) (labels : List (List ℕ)) (cs : List Candidate) → bytes ≡ labels_wire labels → AllByRecursion (λ c. c.1 ≢ bytes) cs
     → NoneUsable message cs labels

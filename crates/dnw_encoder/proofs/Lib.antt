@@ -5,3 +5,4 @@ pub mod Bounds
 pub mod Suffixes
 pub mod Emission
 pub mod NameBack
+pub mod Held

@@ -7,3 +7,4 @@ pub mod EmittingLaws
 pub mod NameFrames
 pub mod Guards
 pub mod EncoderLaws
+pub mod Store

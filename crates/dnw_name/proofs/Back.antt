@@ -1,10 +1,10 @@
 -- An uncompressed form is read back, whatever stands before and behind it.
-use Rattle.std.proofs.Common.{◌≡◌, ℕ, ◌+◌, ◌-◌, Some, None, List, [], ◌∷◌, ◌++◌, length, slice_get, slice_range, refl, subst, ap, sym, ◌∙◌, append_assoc, arith, length-append, drop_at}
+use Rattle.std.proofs.Common.{◌≡◌, ℕ, ◌+◌, ◌-◌, ◌≤◌, take, drop, Some, None, List, [], ◌∷◌, ◌++◌, length, slice_get, slice_range, refl, subst, ap, sym, ◌∙◌, append_assoc, arith, length-append, drop_at}
 use Rattle.std.specs.List.{AllByRecursion}
-use Rattle.std.proofs.lemmas.List.{take_at}
+use Rattle.std.proofs.lemmas.List.{take_at, take-append-drop, length-take-le}
 use Rattle.dnw_base.specs.Labels.{IsLabel}
-use Rattle.dnw_name.specs.Names.{encoded_size, labels_wire, wire}
-use Rattle.dnw_name.specs.Reading.{Reads, zero_octet, label}
+use Rattle.dnw_name.specs.Names.{AreLabels, encoded_size, labels_wire, wire}
+use Rattle.dnw_name.specs.Reading.{NameAt, Reads, zero_octet, label}
 use Rattle.dnw_name.proofs.Sizes.{octets-cons}
 
 -- the octet at a seam
@@ -59,3 +59,16 @@ Reads-front b before behind (l ∷ front) back p q s e k p_is q_is b_is all r =
     subst (λ x. Reads b p s None (x ∷ (front ++ back)) e k)
     part
     (label (length l) tt here all.0.not_empty all.0.not_long (omega arith) (Reads-front b (start ++ l) behind front back (p + 1 + length l) q s e k rest_is next rest all.1 r))
+
+-- an uncompressed form that stands at a place is read there
+pub NameAt-form : (b form : List ℕ) (p : ℕ) (ls : List (List ℕ)) → p ≤ length b → take (length form) (drop p b) ≡ form → form ≡ wire ls → AreLabels ls
+    → NameAt b p ls (p + encoded_size ls) 0
+NameAt-form b form p ls within stands is are =
+    let n = length form in
+    let behind = drop n (drop p b) in
+    let rest : wire ls ++ behind ≡ drop p b = ap (λ (x : List ℕ). x ++ behind) (sym is ∙ sym stands) ∙ take-append-drop n (drop p b) in
+    let split : b ≡ take p b ++ (wire ls ++ behind) = sym (ap (λ (x : List ℕ). take p b ++ x) rest ∙ take-append-drop p b) in
+    record {
+      reads = Reads-wire b (take p b) behind ls p p (p + encoded_size ls) (sym (length-take-le p b within)) refl split are.each;
+      fits = are.fit;
+    }

@@ -97,6 +97,9 @@ impl<'a> NameRef<'a> {
     pub fn stands_at(message: &'a [u8], start: usize, labels: LabelIter<'_>) -> bool
         ensures { IsTrue result ↔ ((e : ℕ) × (k : ℕ) × NameAt message.now start labels.entry e k) }
     {
+        if compare::has_form(message, start, labels.as_wire()) {
+            return true;
+        }
         let mut steps = ReadSteps::default();
         if let Err(_) = walk::walk(message, start, &mut steps) {
             return false;

@@ -1,6 +1,9 @@
 //! How a name is written.
-ghost use Rattle.dnw_encoder.specs.EmittedName.{EmitsName};
+ghost use Rattle.std.specs.Prelude.{◌≡◌};
+ghost use Rattle.dnw_encoder.specs.EmittedName.{EmitsLabels, EmitsName};
+ghost use Rattle.dnw_encoder.specs.EncoderValue.{value, lender};
 ghost use Rattle.dnw_encoder.specs.NameFrames.{frame-name};
+ghost use Rattle.dnw_name.specs.Names.{lower};
 
 use super::BinEncodable;
 use crate::encoder::{BinEncoder, NameEncoding};
@@ -15,8 +18,18 @@ impl BinEncodable for Name {
     /// Writes the name: in lower case or with compression where the encoder's mode says so.
     fn emit(&self, encoder: &mut BinEncoder<'_>) -> ProtoResult<()> {
         match encoder.name_encoding() {
-            NameEncoding::UncompressedLowercase => encoder.emit_name(&self.to_lowercase()),
+            NameEncoding::UncompressedLowercase => emit_lowercase(self, encoder),
             _ => encoder.emit_name(self),
         }
     }
+}
+
+/// Writes the name in lower case. It stands apart, so that other modes do not pay for the room of a second name.
+#[cold]
+#[inline(never)]
+fn emit_lowercase(name: &Name, encoder: &mut BinEncoder<'_>) -> ProtoResult<()>
+    ensures writes { EmitsLabels (value encoder.old) (lower name.now.labels) result (value encoder.new) }
+    ensures lender { lender encoder.new ≡ lender encoder.old }
+{
+    encoder.emit_name(&name.to_lowercase())
 }

@@ -7,31 +7,13 @@ ghost use Rattle.dnw_encoder.specs.Sharing.{AreMarked, FindsUsable, tag};
 ghost use Rattle.dnw_name.specs.Names.{labels_wire};
 ghost use Rattle.dnw_name.specs.Reading.{NameAt};
 
+mod store;
+
 use dnw_name::name::LabelIter;
 use dnw_name::name_ref::NameRef;
-use smallvec::SmallVec;
 use std::alloc::{AllocError, Global};
 use std::marker::Model;
-
-/// A place of the message where labels stand, and their bytes as they stand there.
-///
-/// A contract sees it as this pair.
-#[derive(Drop)]
-struct Candidate {
-    // A pointer reaches no further than 0x3FFF.
-    start: u16,
-    labels: SmallVec<u8, 32>,
-}
-
-impl Model for Candidate {
-    ghost use Rattle.std.specs.Prelude.{ℕ, ◌<◌, List};
-
-    ghost Value = { ℕ × List ℕ };
-
-    ghost view = { λ c. (c.start, c.labels.items) };
-
-    ghost invariant = { λ c. c.start < 16383 };
-}
+use store::Store;
 
 /// A number that few labels share, by their length and their first characters.
 #[inline(always)]
@@ -53,6 +35,7 @@ fn tag(labels: &[u8]) -> usize
 fn mark(marks: &mut [u8; 256], tag: usize, count: usize)
     requires tag { tag < 256 }
     requires count { 1 ≤ count }
+    ensures len { length marks.new ≡ 256 }
     ensures stays { 1 ≤ get_or marks.old tag 0 → get_or marks.old tag 0 ≤ count → marks.new ≡ marks.old }
     ensures none { get_or marks.old tag 0 ≡ 0 → (n : ℕ) × (1 ≤ n) × (n ≤ count) × (marks.new ≡ set marks.old tag n) }
     ensures stale { count < get_or marks.old tag 0 → (n : ℕ) × (1 ≤ n) × (n ≤ count) × (marks.new ≡ set marks.old tag n) }
@@ -64,31 +47,29 @@ fn mark(marks: &mut [u8; 256], tag: usize, count: usize)
 }
 
 /// Marks that tell nothing of any candidate but whether there is one.
-fn marks_of(candidates: &[Candidate]) -> [u8; 256]
+fn marks_of(candidates: &Store) -> [u8; 256]
     ensures { AreMarked result 0 candidates.now }
 {
-    if candidates.is_empty() {
+    if candidates.len() == 0 {
         return [0; 256];
     }
     [1; 256]
 }
 
-impl Candidate {
-    /// Whether these are its labels' bytes.
-    #[inline(always)]
-    fn is(&self, labels: &[u8]) -> bool
-        ensures { IsTrue result ↔ (self.now.1 ≡ labels.now) }
-    {
-        self.labels.as_slice() == labels
-    }
+/// Whether these are the labels' bytes.
+#[inline(always)]
+fn is_same(own: &[u8], labels: &[u8]) -> bool
+    ensures { IsTrue result ↔ (own.now ≡ labels.now) }
+{
+    own == labels
+}
 
-    /// Whether these are its labels' bytes, and in the message these labels are read at its place.
-    #[inline(always)]
-    fn stands_for(&self, bytes: &[u8], message: &[u8], labels: LabelIter<'_>) -> bool
-        ensures { IsTrue result ↔ ((self.now.1 ≡ bytes.now) × (end : ℕ) × (pointers : ℕ) × NameAt message.now self.now.0 labels.entry end pointers) }
-    {
-        self.is(bytes) && NameRef::stands_at(message, self.start as usize, labels)
-    }
+/// Whether these are the labels' bytes, and in the message these labels are read at that place.
+#[inline(always)]
+fn is_usable(place: u16, own: &[u8], bytes: &[u8], message: &[u8], labels: LabelIter<'_>) -> bool
+    ensures { IsTrue result ↔ ((own.now ≡ bytes.now) × (end : ℕ) × (pointers : ℕ) × NameAt message.now place labels.entry end pointers) }
+{
+    is_same(own, bytes) && NameRef::stands_at(message, place as usize, labels)
 }
 
 /// The candidates of an encoder, in the order in which they were stored.
@@ -96,24 +77,20 @@ impl Candidate {
 /// A contract sees them as the list of their places and labels.
 #[derive(Drop)]
 pub struct Candidates {
-    items: Vec<Candidate>,
+    held: Store,
     // For each tag where the first candidate with it is or behind it, counted from 1, and 0 for none. It spares searches.
     marks: [u8; 256],
-    // All candidates stand before this place.
-    end: usize,
 }
 
 impl Model for Candidates {
     ghost use Rattle.std.specs.Prelude.{ℕ, List};
-    ghost use Rattle.std.specs.Prelude.{◌<◌};
-    ghost use Rattle.std.specs.List.{AllByRecursion};
     ghost use Rattle.dnw_encoder.specs.Sharing.{AreMarked};
 
     ghost Value = { List (ℕ × List ℕ) };
 
-    ghost view = { λ c. c.items.items };
+    ghost view = { λ c. c.held };
 
-    ghost invariant = { λ c. AreMarked c.marks 0 c.items.items × AllByRecursion (λ x. x.0 < c.end) c.items.items };
+    ghost invariant = { λ c. AreMarked c.marks 0 c.held };
 }
 
 impl Candidates {
@@ -122,9 +99,8 @@ impl Candidates {
         ensures { result ≡ [] }
     {
         Candidates {
-            items: Vec::new(alloc),
+            held: Store::new(alloc),
             marks: [0; 256],
-            end: 0,
         }
     }
 
@@ -132,20 +108,18 @@ impl Candidates {
     pub(crate) fn len(&self) -> usize
         ensures { result ≡ length self.now }
     {
-        self.items.len()
+        self.held.len()
     }
 
     /// Adds one at the end.
     pub(crate) fn push(&mut self, start: u16, labels: &[u8]) -> Result<(), AllocError>
-        requires { start < 16383 }
+        requires reached { start < 16383 }
+        requires size { length labels.now ≤ 65535 }
         ensures ok { OnOk result (self.new ≡ self.old ++ (start, labels.now) ∷ []) }
         ensures err { OnErr result (self.new ≡ self.old) }
     {
-        let tag = tag(labels);
-        let labels = SmallVec::from_slice(*self.items.allocator(), labels)?;
-        self.items.push(Candidate { start, labels })?;
-        mark(&mut self.marks, tag, self.items.len());
-        self.end = self.end.max(start as usize + 1);
+        self.held.push(start, labels)?;
+        mark(&mut self.marks, tag(labels), self.held.len());
         Ok(())
     }
 
@@ -154,9 +128,10 @@ impl Candidates {
         ensures finds { Finds labels.now self.now result }
         ensures reached { IfSome result (λ place. place < 16383) }
     {
-        for candidate in &self.items {
-            if candidate.is(labels) {
-                return Some(candidate.start);
+        'search: for index in 0..self.held.len() {
+            let (place, own) = self.held.get(index);
+            if is_same(own, labels) {
+                return Some(place);
             }
         }
         None
@@ -166,13 +141,13 @@ impl Candidates {
     #[inline(always)]
     fn first_with(&self, labels: &[u8]) -> Option<usize>
         ensures { MatchOption result (AllByRecursion (λ c. c.1 ≢ labels.now) self.now)
-            (λ from. (from ≤ length self.now) × AllByRecursion (λ c. c.1 ≢ labels.now) (take from self.now)) }
+            (λ from. AllByRecursion (λ c. c.1 ≢ labels.now) (take from self.now)) }
     {
         let mark = self.marks[tag(labels)] as usize;
         if mark == 0 {
             return None;
         }
-        Some((mark - 1).min(self.items.len()))
+        Some(mark - 1)
     }
 
     /// The place of the first one that is usable for the labels in this message.
@@ -183,9 +158,10 @@ impl Candidates {
         let wire = labels.as_wire();
         let bytes = &wire[..wire.len() - 1];
         let from = self.first_with(bytes)?;
-        for held in &self.items[from..] {
-            if held.stands_for(bytes, message, labels.clone()) {
-                return Some(held.start);
+        'search: for index in from..self.held.len() {
+            let (place, own) = self.held.get(index);
+            if is_usable(place, own, bytes, message, labels.clone()) {
+                return Some(place);
             }
         }
         None
@@ -204,36 +180,11 @@ impl Candidates {
         ensures err { OnErr result (self.new ≡ self.old) }
         ensures needed { OnErr result (take most (suffixes start labels.entry) ≢ []) }
     {
-        let held = self.items.len();
-        let answer = self.push_each(start, labels, most);
-        if answer.is_err() {
-            self.truncate(held);
-        }
-        answer
-    }
-
-    /// Adds suffixes as `push_suffixes`. Where memory for one of them is refused, those before it stay.
-    fn push_each(
-        &mut self,
-        start: usize,
-        mut labels: LabelIter<'_>,
-        most: usize,
-    ) -> Result<(), AllocError>
-        requires reached { start + length (labels_wire labels) < 16383 }
-        ensures ok { OnOk result (self.new ≡ self.old ++ take most (suffixes start labels.entry)) }
-        ensures err { OnErr result ((more : List (ℕ × List ℕ)) × (self.new ≡ self.old ++ more)) }
-        ensures needed { OnErr result (take most (suffixes start labels.entry) ≢ []) }
-    {
-        let mut start = start;
-        let mut left = most;
-        'suffixes: while left > 0 {
-            let wire = labels.as_wire();
-            let Some(label) = labels.next() else {
-                return Ok(());
-            };
-            self.push(start as u16, &wire[..wire.len() - 1])?;
-            start = start + 1 + label.len();
-            left -= 1;
+        let before = self.held.len();
+        self.held.push_suffixes(start, labels, most)?;
+        'marks: for index in before..self.held.len() {
+            let (_, own) = self.held.get(index);
+            mark(&mut self.marks, tag(own), index + 1);
         }
         Ok(())
     }
@@ -242,19 +193,17 @@ impl Candidates {
     pub(crate) fn truncate(&mut self, len: usize)
         ensures { self.new ≡ take len self.old }
     {
-        self.items.truncate(len);
+        self.held.truncate(len);
     }
 
     /// Drops those that stand at `place` or behind it.
     pub(crate) fn trim(&mut self, place: usize)
         ensures { self.new ≡ candidates_before place self.old }
     {
-        if place >= self.end {
-            return;
+        let held = self.held.len();
+        self.held.retain_before(place);
+        if self.held.len() < held {
+            self.marks = marks_of(&self.held);
         }
-        self.items
-            .retain(|candidate| (candidate.start as usize) < place);
-        self.end = place;
-        self.marks = marks_of(self.items.as_slice());
     }
 }

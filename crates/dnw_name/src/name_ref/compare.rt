@@ -1,5 +1,5 @@
 //! Labels compared without regard to ASCII case (RFC 4343).
-ghost use Rattle.std.specs.Prelude.{◌≡◌, ◌-◌, ◌↔◌, length, map, drop, IsTrue};
+ghost use Rattle.std.specs.Prelude.{◌≡◌, ◌-◌, ◌≤◌, ◌↔◌, length, map, take, drop, IsTrue};
 ghost use Rattle.std.specs.Char.{to_ascii_lowercase};
 ghost use Rattle.dnw_name.specs.Names.{lower};
 
@@ -34,6 +34,19 @@ pub(crate) fn same_labels(mut ours: RefLabels<'_>, mut theirs: LabelIter<'_>) ->
         }
     }
     theirs.len() == 0
+}
+
+/// Whether an uncompressed form stands at `start` of the message, byte for byte.
+#[inline(always)]
+pub(crate) fn has_form(message: &[u8], start: usize, wire: &[u8]) -> bool
+    ensures within { IsTrue result → start ≤ length message.now }
+    ensures form { IsTrue result → take (length wire.now) (drop start message.now) ≡ wire.now }
+{
+    if start > message.len() || wire.len() > message.len() - start {
+        return false;
+    }
+    let end = start + wire.len();
+    &message[start..end] == wire
 }
 
 fn eq_label(a: &[u8], b: &[u8]) -> bool

@@ -1,7 +1,9 @@
--- The labels that the walk has found are the only ones that are read there.
-use Rattle.std.proofs.Common.{sym, subst, ◌∙◌, arith}
+-- The whole form stands there; or the labels that the walk has found are the only ones that are read there.
+use Rattle.std.proofs.Common.{◌+◌, refl, sym, subst, ◌∙◌, arith}
 use Rattle.dnw_name.specs.Reading.{NameAt}
+use Rattle.dnw_name.specs.Names.{encoded_size}
 use Rattle.dnw_name.specs.NameRefInside.{StandsAt}
+use Rattle.dnw_name.proofs.Back.{NameAt-form}
 use Rattle.dnw_name.proofs.Lending.{StandsAt-more}
 use Rattle.dnw_name.proofs.Unique.{Reads-unique, Reads-not-Stops}
 use Rattle.dnw_name.proofs.name_ref.NameRef.stands_at.Goals as goal
@@ -9,6 +11,13 @@ use Rattle.dnw_name.proofs.name_ref.NameRef.stands_at.Goals.{In_default}
 
 found : (c : In_default) → StandsAt c.args.message.now c.args.start c.in_default.field-0.end c.in_default.field-0.size c.walk.new.steps.labels c.walk.new.steps.pointers
 found c = c.in_default.ensures.ok.stands
+
+pub returns-then-has_form : goal.returns-then-has_form
+returns-then-has_form c =
+    let ls = c.args.labels in
+    let stands = NameAt-form c.args.message.now c.as_wire.result.now c.args.start ls (c.has_form.ensures.within c.if-has_form.true)
+    (c.has_form.ensures.form c.if-has_form.true) c.as_wire.ensures.form c.as_wire.ensures.labels in
+    (λ yes. (c.args.start + encoded_size ls, 0, stands), λ at. refl)
 
 pub returns-in-Err : goal.returns-in-Err
 returns-in-Err c = (λ no. absurd cc, λ (e, k, n). absurd (Reads-not-Stops n.reads (let fits = n.fits in omega arith) c.in-Err.ensures.err))

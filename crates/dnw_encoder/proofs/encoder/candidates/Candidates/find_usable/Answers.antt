@@ -1,9 +1,11 @@
 -- This candidate is the first that is usable; or none is.
-use Rattle.std.proofs.Common.{◌≡◌, ◌<◌, ◌≤◌, ℕ, List, length, get_or, take, sym, ◌∙◌, subst}
+use Rattle.std.proofs.Common.{◌<◌, ◌≤◌, List, length, take, sym, ◌∙◌, subst, arith}
 use Rattle.std.specs.List.{AllByRecursion}
 use Rattle.dnw_name.proofs.Wires.{front_of}
 use Rattle.dnw_encoder.specs.Encoder.{Candidate}
-use Rattle.dnw_encoder.proofs.CandidateLists.{CannotBe, found_later, none_at_all, none_later, searched}
+use Rattle.dnw_encoder.specs.EmittedName.{IsFirstUsable}
+use Rattle.dnw_encoder.specs.Sharing.{NoneUsable}
+use Rattle.dnw_encoder.proofs.CandidateLists.{CannotBe, cannot_be, first_usable, none_at_all, none_usable, passed}
 use Rattle.dnw_encoder.proofs.encoder.candidates.Candidates.find_usable.Goals as goal
 
 pub returns-in_err-from-clause-finds : goal.returns-in_err-from-clause-finds
@@ -11,28 +13,39 @@ returns-in_err-from-clause-finds c =
     let form = front_of c.args.labels c.as_wire-wire.result.now c.as_wire-wire.ensures.form in
     rw c.from_residual.ensures (none_at_all c.args.message.now _ c.args.labels c.args.self.now form c.in_err-from.ensures)
 
-pub returns-then-stands_for-clause-finds : goal.returns-then-stands_for-clause-finds
-returns-then-stands_for-clause-finds c =
+pub search-init : goal.search-init
+search-init c =
     let form = front_of c.args.labels c.as_wire-wire.result.now c.as_wire-wire.ensures.form in
-    let cs : c.deref.result.now ≡ c.args.self.now = c.deref.ensures.value ∙ c.self.view_is in
-    let from = c.in_ok-from.from in
-    let own = c.held.inside.labels.items in
-    let place = c.held.inside.start in
-    let i = c.loop-held.held-index in
-    let Is : (ℕ × List ℕ) → Type 0 = λ x. x ≡ get_or (searched from c.deref.result.now) i x in
-    let is : (place, own) ≡ get_or (searched from c.deref.result.now) i (place, own) = subst Is (sym c.held.view_is) c.held-item.is in
-    let (has, end, pointers, name) = rw (c.clone.ensures, ← c.held.view_is) at (c.stands_for.ensures.0 c.if-stands_for.true) in
-    found_later c.args.message.now _ c.args.labels c.args.self.now from form c.in_ok-from.ensures.0 c.in_ok-from.ensures.1 own i place end pointers
-    (subst (λ (ds : List Candidate). i < length (searched from ds)) cs c.loop-held-test.true)
-    (subst (λ (ds : List Candidate). (place, own) ≡ get_or (searched from ds) i (place, own)) cs is) has name
-    (subst (λ (ds : List Candidate). AllByRecursion (CannotBe c.args.message.now c.args.labels) (take i (searched from ds))) cs c.loop-held.invariant)
+    let early = cannot_be c.args.message.now _ c.args.labels (take c.in_ok-from.from c.args.self.now) form c.in_ok-from.ensures in
+    subst (λ (cs : List Candidate). AllByRecursion (CannotBe c.args.message.now c.args.labels) (take c.in_ok-from.from cs)) (sym c.self.view_is) early
+
+pub returns-then-is_usable-clause-finds : goal.returns-then-is_usable-clause-finds
+returns-then-is_usable-clause-finds c =
+    let form = front_of c.args.labels c.as_wire-wire.result.now c.as_wire-wire.ensures.form in
+    let cs = c.self.inside.held in
+    let place = c.get-place.result.0 in
+    let own = c.get-place.result.1.now in
+    let (has, end, pointers, name) = rw c.clone.ensures at (c.is_usable.ensures.0 c.if-is_usable.true) in
+    let below : c.search.index < length cs = omega (arith, c.search-test.true, c.len-index-end.ensures) in
+    subst (λ (ds : List Candidate). IsFirstUsable c.args.message.now ds c.args.labels place) c.self.view_is
+    (first_usable c.args.message.now own c.args.labels cs c.search.index place end pointers below c.get-place.ensures.item (has ∙ form) name c.search.invariant)
+
+pub search-preserved : goal.search-preserved
+search-preserved c =
+    let form = front_of c.args.labels c.as_wire-wire.result.now c.as_wire-wire.ensures.form in
+    let cs = c.self.inside.held in
+    let place = c.get-place.result.0 in
+    let own = c.get-place.result.1.now in
+    let below : c.search.index < length cs = omega (arith, c.search-test.true, c.len-index-end.ensures) in
+    let is = rw c.clone.ensures at c.is_usable.ensures.1 in
+    let cannot : CannotBe c.args.message.now c.args.labels (place, own) = λ same end pointers name.
+    let yes = is (same ∙ sym form, end, pointers, name) in absurd cc
+    in
+    passed (CannotBe c.args.message.now c.args.labels) own cs c.search.index place below c.get-place.ensures.item cannot c.search.invariant
 
 pub returns-clause-finds : goal.returns-clause-finds
 returns-clause-finds c =
-    let form = front_of c.args.labels c.as_wire-wire.result.now c.as_wire-wire.ensures.form in
-    let cs : c.deref.result.now ≡ c.args.self.now = c.deref.ensures.value ∙ c.self.view_is in
-    let from = c.in_ok-from.from in
-    let i = c.loop-held.held-index in
-    none_later c.args.message.now _ c.args.labels c.args.self.now from form c.in_ok-from.ensures.0 c.in_ok-from.ensures.1 i
-    (subst (λ (ds : List Candidate). length (searched from ds) ≤ i) cs c.loop-held-test.false)
-    (subst (λ (ds : List Candidate). AllByRecursion (CannotBe c.args.message.now c.args.labels) (take i (searched from ds))) cs c.loop-held.invariant)
+    let cs = c.self.inside.held in
+    let past : length cs ≤ c.search.index = omega (arith, c.search-test.false, c.len-index-end.ensures) in
+    subst (λ (ds : List Candidate). NoneUsable c.args.message.now ds c.args.labels) c.self.view_is
+    (none_usable c.args.message.now c.args.labels cs c.search.index past c.search.invariant)

@@ -4,5 +4,5 @@ use Rattle.dnw_encoder.proofs.CandidateLists.{CannotBe}
 use Rattle.dnw_encoder.proofs.encoder.candidates.Candidates.find_usable.Given as goal
 
 -- none of those before is usable
-abbrev pub invariant-loop-held : goal.invariant-loop-held
-invariant-loop-held l = AllByRecursion (CannotBe l.message l.labels) (take l.held-index l.held-items)
+abbrev pub invariant-search : goal.invariant-search
+invariant-search l = AllByRecursion (CannotBe l.message l.labels) (take l.index l.self-inside.held)
