@@ -5,6 +5,7 @@
 
 #[cfg(test)]
 mod borrowed;
+pub mod calling;
 #[cfg(test)]
 mod decoding;
 #[cfg(test)]
