@@ -1,4 +1,4 @@
-//! Labels compared without regard to ASCII case (RFC 4343).
+//! Labels compared, byte for byte or without regard to ASCII case (RFC 4343).
 ghost use Rattle.std.specs.Prelude.{◌≡◌, ◌-◌, ◌≤◌, ◌↔◌, length, map, take, drop, IsTrue};
 ghost use Rattle.std.specs.Char.{to_ascii_lowercase};
 ghost use Rattle.dnw_name.specs.Names.{lower};
@@ -39,8 +39,7 @@ pub(crate) fn same_labels(mut ours: RefLabels<'_>, mut theirs: LabelIter<'_>) ->
 /// Whether an uncompressed form stands at `start` of the message, byte for byte.
 #[inline(always)]
 pub(crate) fn has_form(message: &[u8], start: usize, wire: &[u8]) -> bool
-    ensures within { IsTrue result → start ≤ length message.now }
-    ensures form { IsTrue result → take (length wire.now) (drop start message.now) ≡ wire.now }
+    ensures { IsTrue result ↔ ((start ≤ length message.now) × (take (length wire.now) (drop start message.now) ≡ wire.now)) }
 {
     if start > message.len() || wire.len() > message.len() - start {
         return false;
