@@ -1,19 +1,19 @@
--- Each step of a run is answered by its definition.
+-- Each step of a run is given by its definition.
 use Rattle.std.proofs.Common.{◌≡◌, ℕ, zero, suc, ◌+◌, ◌-◌, ◌≤◌, Bool, true, false, if◌then◌else◌, List, [], ◌∷◌, ◌++◌, length, map, take, drop, sum_by, Option, Some, None, Err, refl, sym, ap, ◌∙◌, subst, arith, take_at, drop_at}
 use Rattle.std.specs.List.{AllByRecursion}
 use Rattle.std.specs.Int.{w16, w32, to_be_bytes, cast_unsigned}
 use Rattle.std.proofs.lemmas.List.{length-append}
-use Rattle.dnw_base.specs.declared.error.ProtoError.{ProtoError}
-use Rattle.dnw_base.specs.declared.error.ProtoError.TheVariants.{CharacterDataTooLong, MaxBufferSizeExceeded, Memory}
+use Rattle.dnw_error.specs.declared.error.ProtoError.{ProtoError}
+use Rattle.dnw_error.specs.declared.error.ProtoError.TheVariants.{CharacterDataTooLong, MaxBufferSizeExceeded, Memory}
 use Rattle.dnw_encoder.specs.Encoder.{Encoder, HasRoom, TakesRoom, Writes, WritesText, written, reserved, moved_to}
-use Rattle.dnw_encoder.specs.Emitting.{EmitsItem, InTurn, told}
+use Rattle.dnw_encoder.specs.Emitting.{EmitsItem, InTurn, list_error}
 use Rattle.dnw_encoder.specs.EmittedName.{EmitsAs, Share, in_mode, room_for}
 use Rattle.dnw_encoder.specs.EmittingLaws.{frame-written}
 use Rattle.dnw_encoder.proofs.Bounds.{places_stay_bounded}
 use Rattle.dnw_encoder.proofs.NameBack.{size-in_mode}
 use Rattle.dnw_encoder.proofs.Places.{length-over}
 use Rattle.dnw_encoder.proofs.Suffixes.{length-all}
-use Rattle.dnw_name.specs.Names.{NameValue, encoded_size}
+use Rattle.dnw_base.specs.Names.{NameValue, encoded_size}
 use Rattle.dns_names_wire.specs.declared.script.Part.{Part}
 use Rattle.dns_names_wire.specs.declared.script.Part.TheVariants.{Name, U8, U16, I32, U32, Bytes, Text}
 use Rattle.dns_names_wire.specs.declared.script.Item.{Item}
@@ -21,9 +21,9 @@ use Rattle.dns_names_wire.specs.declared.script.Reply.{Reply}
 use Rattle.dns_names_wire.specs.declared.script.Reply.TheVariants.{Done, Refused, Items}
 use Rattle.dns_names_wire.specs.Script.{Action, write, set_max, set_encoding, reserve, fill, write_items, EmitsPart, EmitsScriptItem, item_size}
 use Rattle.dns_names_wire.specs.Pieces.{Account, Piece, Slot, after, filled_with, opening, spent}
-use Rattle.dns_names_wire.specs.Replies.{Answers, AnswersAll, AnswersBytes, AnswersFill, AnswersItems, AnswersName, AnswersPart, AnswersText, RefusesItem, Stays, open_place}
-use Rattle.dns_names_wire.specs.Runs.{Runs, RunsFill, RunsItems, RunsStep, Tells, beginning}
-use Rattle.dns_names_wire.specs.ScriptLaws.{RunsAnswer}
+use Rattle.dns_names_wire.specs.Replies.{ReplyTo, RepliesTo, ReplyToBytes, ReplyToFill, ReplyToItems, ReplyToName, ReplyToPart, ReplyToText, ItemFails, Stays, open_place}
+use Rattle.dns_names_wire.specs.Runs.{Runs, RunsFill, RunsItems, RunsStep, GivesReply, beginning}
+use Rattle.dns_names_wire.specs.ScriptLaws.{RunsReply}
 use Rattle.dns_names_wire.proofs.Sizes.{RefusesParts, item-refused, items-go, part-goes, part-same, room-no_more}
 
 -- ---- what account and encoder have in common
@@ -74,39 +74,39 @@ inside-open n zero (slot ∷ slots) all =
     cases slot.is_open
 inside-open n (suc number) (slot ∷ slots) all = inside-open n number slots all.1
 
--- ---- what each step is answered
+-- ---- what each step is given
 
 -- n bytes
-bytes-answered : (a : Account) (v done : Encoder) (n : ℕ) (reply : Reply) (w : Encoder) → Follows a v
-    → (HasRoom v n → length done.bytes ≡ v.offset + n) → Tells (TakesRoom v n done) reply w → AnswersBytes a n reply
-bytes-answered a v done n (Done len) w f size h =
+bytes-given : (a : Account) (v done : Encoder) (n : ℕ) (reply : Reply) (w : Encoder) → Follows a v
+    → (HasRoom v n → length done.bytes ≡ v.offset + n) → GivesReply (TakesRoom v n done) reply w → ReplyToBytes a n reply
+bytes-given a v done n (Done len) w f size h =
     (omega (arith, f.at_end, f.len_is, f.max_is, h.0.0), omega (arith, f.at_end, f.len_is, size h.0.0, h.1, ap (λ (x : Encoder). length x.bytes) h.0.1))
-bytes-answered a v done n (Refused Memory len) w f size h =
+bytes-given a v done n (Refused Memory len) w f size h =
     (omega (arith, f.at_end, f.len_is, f.max_is, h.0.0), omega (arith, f.len_is, h.1, ap (λ (x : Encoder). length x.bytes) h.0.2))
-bytes-answered a v done n (Refused (MaxBufferSizeExceeded max) len) w f size h =
+bytes-given a v done n (Refused (MaxBufferSizeExceeded max) len) w f size h =
     (omega (arith, f.at_end, f.len_is, f.max_is, h.0.0), h.0.1 ∙ sym f.max_is, omega (arith, f.len_is, h.1, ap (λ (x : Encoder). length x.bytes) h.0.2))
-bytes-answered a v done n (Refused error len) w f size h = absurd h.0
-bytes-answered a v done n reply w f size h = absurd h
+bytes-given a v done n (Refused error len) w f size h = absurd h.0
+bytes-given a v done n reply w f size h = absurd h
 
 -- bytes as they are
-writes-answered : (a : Account) (v : Encoder) (d : List ℕ) (reply : Reply) (w : Encoder) → Follows a v → Tells (Writes v d) reply w
-    → AnswersBytes a (length d) reply
-writes-answered a v d reply w f h =
+writes-given : (a : Account) (v : Encoder) (d : List ℕ) (reply : Reply) (w : Encoder) → Follows a v → GivesReply (Writes v d) reply w
+    → ReplyToBytes a (length d) reply
+writes-given a v d reply w f h =
     let size : length (written v d).bytes ≡ v.offset + length d = sym (frame-written v d f.at_end).ends in
-    bytes-answered a v (written v d) (length d) reply w f (λ room. size) h
+    bytes-given a v (written v d) (length d) reply w f (λ room. size) h
 
 -- character data
-text-answered : (a : Account) (v : Encoder) (text : List ℕ) (reply : Reply) (w : Encoder) → Follows a v → Tells (WritesText v text) reply w
-    → AnswersText a (length text) reply
-text-answered a v text (Refused (CharacterDataTooLong max size) len) w f h =
+text-given : (a : Account) (v : Encoder) (text : List ℕ) (reply : Reply) (w : Encoder) → Follows a v → GivesReply (WritesText v text) reply w
+    → ReplyToText a (length text) reply
+text-given a v text (Refused (CharacterDataTooLong max size) len) w f h =
     (h.0.0, h.0.1, h.0.2, omega (arith, f.len_is, h.1, ap (λ (x : Encoder). length x.bytes) h.0.3))
-text-answered a v text (Refused error len) w f h =
+text-given a v text (Refused error len) w f h =
     let more : length (length text ∷ text) ≡ length text + 1 = omega arith in
-    (h.0.0, subst (λ n. AnswersBytes a n (Refused error len)) more (writes-answered a v (length text ∷ text) (Refused error len) w f (h.0.1, h.1)))
-text-answered a v text (Done len) w f h =
+    (h.0.0, subst (λ n. ReplyToBytes a n (Refused error len)) more (writes-given a v (length text ∷ text) (Refused error len) w f (h.0.1, h.1)))
+text-given a v text (Done len) w f h =
     let more : length (length text ∷ text) ≡ length text + 1 = omega arith in
-    (h.0.0, subst (λ n. AnswersBytes a n (Done len)) more (writes-answered a v (length text ∷ text) (Done len) w f (h.0.1, h.1)))
-text-answered a v text reply w f h = absurd h
+    (h.0.0, subst (λ n. ReplyToBytes a n (Done len)) more (writes-given a v (length text ∷ text) (Done len) w f (h.0.1, h.1)))
+text-given a v text reply w f h = absurd h
 
 -- a name
 room-least : (ls : List (List ℕ)) (choice : Option Share) → encoded_size ls ≤ room_for ls choice + 1
@@ -115,7 +115,7 @@ room-least ls (Some share) = omega (arith, length-all ls)
 
 -- a refused name did not fit whole, or memory could not be had
 name-refused : (a : Account) (v w : Encoder) (ls : List (List ℕ)) (choice : Option Share) (size len : ℕ) (error : ProtoError) → Follows a v
-    → encoded_size ls ≡ size → len ≡ length w.bytes → EmitsAs v ls choice (Err error) w → AnswersName a size (Refused error len)
+    → encoded_size ls ≡ size → len ≡ length w.bytes → EmitsAs v ls choice (Err error) w → ReplyToName a size (Refused error len)
 name-refused a v w ls choice size len Memory f is tells h =
     (omega (arith, f.at_end, f.len_is, f.max_is, is, h.0, room-least ls choice), omega (arith, f.len_is, tells, ap (λ (x : Encoder). length x.bytes) h.2))
 name-refused a v w ls choice size len (MaxBufferSizeExceeded max) f is tells h = (
@@ -126,89 +126,89 @@ name-refused a v w ls choice size len (MaxBufferSizeExceeded max) f is tells h =
 name-refused a v w ls choice size len error f is tells h = absurd h
 
 -- an accepted name fits but for its closing zero, and takes no more than whole
-name-answered : (a : Account) (v : Encoder) (name : NameValue) (reply : Reply) (w : Encoder) → Follows a v → Tells (EmitsPart (Name name) v) reply w
-    → AnswersName a (encoded_size name.labels) reply
-name-answered a v name (Done len) w f h =
+name-given : (a : Account) (v : Encoder) (name : NameValue) (reply : Reply) (w : Encoder) → Follows a v → GivesReply (EmitsPart (Name name) v) reply w
+    → ReplyToName a (encoded_size name.labels) reply
+name-given a v name (Done len) w f h =
     let ls = in_mode v.encoding name.labels in
     let go = part-goes (Name name) v w f.at_end h.0 in (
       omega (arith, f.at_end, f.len_is, f.max_is, h.0.written_as.0, room-least ls h.0.choice, size-in_mode v.encoding name.labels),
       omega (arith, f.at_end, f.len_is, h.1, go.at_end, go.no_more),
     )
-name-answered a v name (Refused error len) w f h =
+name-given a v name (Refused error len) w f h =
     name-refused a v w (in_mode v.encoding name.labels) h.0.choice (encoded_size name.labels) len error f (size-in_mode v.encoding name.labels) h.1 h.0.written_as
-name-answered a v name reply w f h = absurd h
+name-given a v name reply w f h = absurd h
 
 -- any part
-part-answered : (a : Account) (v : Encoder) (part : Part) (reply : Reply) (w : Encoder) → Follows a v → Tells (EmitsPart part v) reply w
-    → AnswersPart a part reply
-part-answered a v (Name name) reply w f h = name-answered a v name reply w f h
-part-answered a v (U8 number) reply w f h = writes-answered a v (number ∷ []) reply w f h
-part-answered a v (U16 number) reply w f h = writes-answered a v (to_be_bytes w16 number) reply w f h
-part-answered a v (I32 number) reply w f h = writes-answered a v (to_be_bytes w32 (cast_unsigned w32 number)) reply w f h
-part-answered a v (U32 number) reply w f h = writes-answered a v (to_be_bytes w32 number) reply w f h
-part-answered a v (Bytes bytes) reply w f h = writes-answered a v bytes.items reply w f h
-part-answered a v (Text text) reply w f h = text-answered a v text.items reply w f h
+part-given : (a : Account) (v : Encoder) (part : Part) (reply : Reply) (w : Encoder) → Follows a v → GivesReply (EmitsPart part v) reply w
+    → ReplyToPart a part reply
+part-given a v (Name name) reply w f h = name-given a v name reply w f h
+part-given a v (U8 number) reply w f h = writes-given a v (number ∷ []) reply w f h
+part-given a v (U16 number) reply w f h = writes-given a v (to_be_bytes w16 number) reply w f h
+part-given a v (I32 number) reply w f h = writes-given a v (to_be_bytes w32 (cast_unsigned w32 number)) reply w f h
+part-given a v (U32 number) reply w f h = writes-given a v (to_be_bytes w32 number) reply w f h
+part-given a v (Bytes bytes) reply w f h = writes-given a v bytes.items reply w f h
+part-given a v (Text text) reply w f h = text-given a v text.items reply w f h
 
 -- a place that is filled
-fill-answered : (a : Account) (v : Encoder) (place : Option ℕ) (value : ℕ) (reply : Reply) (w : Encoder) → Follows a v → IsInsideIf a.len place
-    → RunsFill v place value reply w → AnswersFill a place reply
-fill-answered a v None value reply w f inside h = h.0
-fill-answered a v (Some end) value (Done len) w f inside h =
+fill-given : (a : Account) (v : Encoder) (place : Option ℕ) (value : ℕ) (reply : Reply) (w : Encoder) → Follows a v → IsInsideIf a.len place
+    → RunsFill v place value reply w → ReplyToFill a place reply
+fill-given a v None value reply w f inside h = h.0
+fill-given a v (Some end) value (Done len) w f inside h =
     let kept = length-over (end - 2) v.bytes (to_be_bytes w16 value) (omega (arith, f.len_is, inside.0, inside.1)) in
     let u_is = ap (λ (x : Encoder). length x.bytes) h.0.1.1 in
     (omega (arith, f.max_is, inside.0, h.0.1.0), omega (arith, f.len_is, h.1, ap (λ (x : Encoder). length x.bytes) h.0.2, u_is, kept))
-fill-answered a v (Some end) value (Refused Memory len) w f inside h = absurd (omega (arith, f.len_is, inside.0, inside.1, h.0.1.1))
-fill-answered a v (Some end) value (Refused (MaxBufferSizeExceeded max) len) w f inside h = (
+fill-given a v (Some end) value (Refused Memory len) w f inside h = absurd (omega (arith, f.len_is, inside.0, inside.1, h.0.1.1))
+fill-given a v (Some end) value (Refused (MaxBufferSizeExceeded max) len) w f inside h = (
   omega (arith, f.max_is, inside.0, h.0.1.0),
   h.0.1.1 ∙ sym f.max_is,
   omega (arith, f.len_is, h.1, ap (λ (x : Encoder). length x.bytes) h.0.2, ap (λ (x : Encoder). length x.bytes) h.0.1.2),
 )
-fill-answered a v (Some end) value (Refused error len) w f inside h = absurd h.0.1
-fill-answered a v (Some end) value reply w f inside h = absurd h
+fill-given a v (Some end) value (Refused error len) w f inside h = absurd h.0.1
+fill-given a v (Some end) value reply w f inside h = absurd h
 
 -- items: why one is refused that begins at a place
-item-answered : (a : Account) (v : Encoder) (count : ℕ) (item : Item) (rest : List Item) (cause error : ProtoError) → Follows a v → (start : ℕ)
-    → error ≡ told count cause → RefusesParts v.max_size start item.parts.items cause → RefusesItem a count start (item ∷ rest) error
-item-answered a v count item rest (MaxBufferSizeExceeded size) error f start is h =
-    let P : ProtoError → Type 0 = λ x. RefusesItem a count start (item ∷ rest) x in
+item-given : (a : Account) (v : Encoder) (count : ℕ) (item : Item) (rest : List Item) (cause error : ProtoError) → Follows a v → (start : ℕ)
+    → error ≡ list_error count cause → RefusesParts v.max_size start item.parts.items cause → ItemFails a count start (item ∷ rest) error
+item-given a v count item rest (MaxBufferSizeExceeded size) error f start is h =
+    let P : ProtoError → Type 0 = λ x. ItemFails a count start (item ∷ rest) x in
     subst P (sym is) ((refl, omega (arith, f.max_is, h)))
-item-answered a v count item rest (CharacterDataTooLong max n) error f start is h =
-    let P : ProtoError → Type 0 = λ x. RefusesItem a count start (item ∷ rest) x in
+item-given a v count item rest (CharacterDataTooLong max n) error f start is h =
+    let P : ProtoError → Type 0 = λ x. ItemFails a count start (item ∷ rest) x in
     subst P (sym is) h
-item-answered a v count item rest Memory error f start is h =
-    let P : ProtoError → Type 0 = λ x. RefusesItem a count start (item ∷ rest) x in
+item-given a v count item rest Memory error f start is h =
+    let P : ProtoError → Type 0 = λ x. ItemFails a count start (item ∷ rest) x in
     subst P (sym is) tt
-item-answered a v count item rest cause error f start is h = absurd h
+item-given a v count item rest cause error f start is h = absurd h
 
 -- the items before the refused one are written, and the refused one has its reason
 items-refused : (a : Account) (v : Encoder) (first : List Item) (item : Item) (rest : List Item) (m : Encoder) (count : ℕ) (error : ProtoError) (len : ℕ) (w : Encoder)
     → Follows a v → count ≡ length first → InTurn EmitsScriptItem v first m → EmitsItem EmitsScriptItem item count m (Err error) w
-    → len ≡ length w.bytes → AnswersItems a (first ++ item ∷ rest) (Items count (Some error) len)
+    → len ≡ length w.bytes → ReplyToItems a (first ++ item ∷ rest) (Items count (Some error) len)
 items-refused a v first item rest m count error len w f many in_turn one tells =
     let go = items-go first v m f.at_end in_turn in
     let same : length w.bytes ≡ length m.bytes = ap (λ (x : Encoder). length x.bytes) one.3 in
     let start : len ≡ m.offset = tells ∙ (same ∙ sym go.at_end) in
     let why = item-refused item m one.0 one.1 go.at_end one.2 in
-    let refused : RefusesItem a count m.offset (item ∷ rest) error =
-    item-answered a v count item rest one.1 error f m.offset one.4 (subst (λ n. RefusesParts n m.offset item.parts.items one.1) go.max_size why) in
-    let behind : RefusesItem a count len (item ∷ rest) error = subst (λ n. RefusesItem a count n (item ∷ rest) error) (sym start) refused in
+    let refused : ItemFails a count m.offset (item ∷ rest) error =
+    item-given a v count item rest one.1 error f m.offset one.4 (subst (λ n. RefusesParts n m.offset item.parts.items one.1) go.max_size why) in
+    let behind : ItemFails a count len (item ∷ rest) error = subst (λ n. ItemFails a count n (item ∷ rest) error) (sym start) refused in
     let front : take count (first ++ item ∷ rest) ≡ first = take_at first (item ∷ rest) count (sym many) in
     let back : drop count (first ++ item ∷ rest) ≡ item ∷ rest = drop_at first (item ∷ rest) count (sym many) in (
       omega (arith, many, length-append first (item ∷ rest)),
       omega (arith, f.at_end, f.len_is, start, go.no_more, ap (sum_by item_size) front),
-      subst (λ xs. RefusesItem a count len xs error) (sym back) behind,
+      subst (λ xs. ItemFails a count len xs error) (sym back) behind,
     )
 
 -- items in turn
-items-answered : (a : Account) (v : Encoder) (items : List Item) (reply : Reply) (w : Encoder) → Follows a v → RunsItems v items reply w
-    → AnswersItems a items reply
-items-answered a v items (Items count None len) w f h =
+items-given : (a : Account) (v : Encoder) (items : List Item) (reply : Reply) (w : Encoder) → Follows a v → RunsItems v items reply w
+    → ReplyToItems a items reply
+items-given a v items (Items count None len) w f h =
     let go = items-go items v w f.at_end h.0 in
     (h.1, omega (arith, f.at_end, f.len_is, h.2, go.at_end, go.no_more))
-items-answered a v items (Items count (Some error) len) w f h =
+items-given a v items (Items count (Some error) len) w f h =
     let (first, item, rest, m, split, many, in_turn, one, tells) = h in
-    subst (λ xs. AnswersItems a xs (Items count (Some error) len)) (sym split) (items-refused a v first item rest m count error len w f many in_turn one tells)
-items-answered a v items reply w f h = absurd h
+    subst (λ xs. ReplyToItems a xs (Items count (Some error) len)) (sym split) (items-refused a v first item rest m count error len w f many in_turn one tells)
+items-given a v items reply w f h = absurd h
 
 -- ---- and what account and encoder have in common then
 
@@ -219,7 +219,7 @@ follows-same a v w f same =
     subst P (sym same) f
 
 -- behind a part
-pub part-follows : (a : Account) (v : Encoder) (part : Part) (reply : Reply) (w : Encoder) → Follows a v → Tells (EmitsPart part v) reply w
+pub part-follows : (a : Account) (v : Encoder) (part : Part) (reply : Reply) (w : Encoder) → Follows a v → GivesReply (EmitsPart part v) reply w
     → Follows (after a (write part) reply) w
 part-follows a v part (Done len) w f h =
     let go = part-goes part v w f.at_end h.0 in
@@ -234,7 +234,7 @@ part-follows a v part (Refused error len) w f h = follows-same a v w f (part-sam
 part-follows a v part reply w f h = absurd h
 
 -- behind a place
-reserved-follows : (a : Account) (v : Encoder) (reply : Reply) (w : Encoder) → Follows a v → Tells (TakesRoom v 2 (reserved v 2)) reply w
+reserved-follows : (a : Account) (v : Encoder) (reply : Reply) (w : Encoder) → Follows a v → GivesReply (TakesRoom v 2 (reserved v 2)) reply w
     → Follows (after a reserve reply) w
 reserved-follows a v (Done len) w f h =
     let end : w.offset ≡ v.offset + 2 = ap (λ (x : Encoder). x.offset) h.0.1 in
@@ -345,13 +345,13 @@ step-follows a v (write part) reply w f h = part-follows a v part reply w f h
 step-follows a v (set_max size) reply w f h =
     let P : Reply → Encoder → Type 0 = λ r x. Follows (after a (set_max size) r) x in
     let v' : Encoder = record v { max_size = size } in
-    let told : P (Done (length w.bytes)) v' = record { at_end = f.at_end; len_is = f.len_is; max_is = refl; mode_is = f.mode_is; inside = f.inside } in
-    subst (λ r. P r w) (sym h.0) (subst (λ x. P (Done (length w.bytes)) x) (sym h.1) told)
+    let done : P (Done (length w.bytes)) v' = record { at_end = f.at_end; len_is = f.len_is; max_is = refl; mode_is = f.mode_is; inside = f.inside } in
+    subst (λ r. P r w) (sym h.0) (subst (λ x. P (Done (length w.bytes)) x) (sym h.1) done)
 step-follows a v (set_encoding mode) reply w f h =
     let P : Reply → Encoder → Type 0 = λ r x. Follows (after a (set_encoding mode) r) x in
     let v' : Encoder = record v { encoding = mode } in
-    let told : P (Done (length w.bytes)) v' = record { at_end = f.at_end; len_is = f.len_is; max_is = f.max_is; mode_is = refl; inside = f.inside } in
-    subst (λ r. P r w) (sym h.0) (subst (λ x. P (Done (length w.bytes)) x) (sym h.1) told)
+    let done : P (Done (length w.bytes)) v' = record { at_end = f.at_end; len_is = f.len_is; max_is = f.max_is; mode_is = refl; inside = f.inside } in
+    subst (λ r. P r w) (sym h.0) (subst (λ x. P (Done (length w.bytes)) x) (sym h.1) done)
 step-follows a v reserve reply w f h = reserved-follows a v reply w f h
 step-follows a v (fill place value) reply w f h =
     let stood = fill-stands a v (open_place place a.places) value reply w f (inside-open a.len place a.places f.inside) h in
@@ -359,38 +359,38 @@ step-follows a v (fill place value) reply w f h =
 step-follows a v (write_items items) reply w f h = items-follow a v items reply w f h
 
 -- a step that writes nothing tells the length
-stays-answered : (a : Account) (v w : Encoder) (reply : Reply) → Follows a v → length w.bytes ≡ length v.bytes → reply ≡ Done (length w.bytes) → Stays a reply
-stays-answered a v w reply f same is = subst (λ r. Stays a r) (sym is) (omega (arith, f.len_is, same))
+stays-given : (a : Account) (v w : Encoder) (reply : Reply) → Follows a v → length w.bytes ≡ length v.bytes → reply ≡ Done (length w.bytes) → Stays a reply
+stays-given a v w reply f same is = subst (λ r. Stays a r) (sym is) (omega (arith, f.len_is, same))
 
 -- any step
-step-answered : (a : Account) (v : Encoder) (action : Action) (reply : Reply) (w : Encoder) → Follows a v → RunsStep a v action reply w
-    → Answers a action reply
-step-answered a v (write part) reply w f h = part-answered a v part reply w f h
-step-answered a v (set_max size) reply w f h = stays-answered a v w reply f (ap (λ (x : Encoder). length x.bytes) h.1) h.0
-step-answered a v (set_encoding mode) reply w f h = stays-answered a v w reply f (ap (λ (x : Encoder). length x.bytes) h.1) h.0
-step-answered a v reserve reply w f h =
-    bytes-answered a v (reserved v 2) 2 reply w f (λ room. sym (places_stay_bounded v 2 (omega (arith, f.at_end)) room).1) h
-step-answered a v (fill place value) reply w f h =
-    fill-answered a v (open_place place a.places) value reply w f (inside-open a.len place a.places f.inside) h
-step-answered a v (write_items items) reply w f h = items-answered a v items reply w f h
+step-given : (a : Account) (v : Encoder) (action : Action) (reply : Reply) (w : Encoder) → Follows a v → RunsStep a v action reply w
+    → ReplyTo a action reply
+step-given a v (write part) reply w f h = part-given a v part reply w f h
+step-given a v (set_max size) reply w f h = stays-given a v w reply f (ap (λ (x : Encoder). length x.bytes) h.1) h.0
+step-given a v (set_encoding mode) reply w f h = stays-given a v w reply f (ap (λ (x : Encoder). length x.bytes) h.1) h.0
+step-given a v reserve reply w f h =
+    bytes-given a v (reserved v 2) 2 reply w f (λ room. sym (places_stay_bounded v 2 (omega (arith, f.at_end)) room).1) h
+step-given a v (fill place value) reply w f h =
+    fill-given a v (open_place place a.places) value reply w f (inside-open a.len place a.places f.inside) h
+step-given a v (write_items items) reply w f h = items-given a v items reply w f h
 
 -- ---- runs
 
 -- all steps
-all-answered : (a : Account) (v : Encoder) (actions : List Action) (replies : List Reply) (w : Encoder) → Follows a v → Runs a v actions replies w
-    → AnswersAll a actions replies
-all-answered a v [] [] w f h = tt
-all-answered a v [] (reply ∷ replies) w f h = h
-all-answered a v (action ∷ actions) [] w f h = h
-all-answered a v (action ∷ actions) (reply ∷ replies) w f h = (
-  step-answered a v action reply h.0 f h.1,
-  all-answered (after a action reply) h.0 actions replies w (step-follows a v action reply h.0 f h.1) h.2,
+all-given : (a : Account) (v : Encoder) (actions : List Action) (replies : List Reply) (w : Encoder) → Follows a v → Runs a v actions replies w
+    → RepliesTo a actions replies
+all-given a v [] [] w f h = tt
+all-given a v [] (reply ∷ replies) w f h = h
+all-given a v (action ∷ actions) [] w f h = h
+all-given a v (action ∷ actions) (reply ∷ replies) w f h = (
+  step-given a v action reply h.0 f h.1,
+  all-given (after a action reply) h.0 actions replies w (step-follows a v action reply h.0 f h.1) h.2,
 )
 
 -- at the beginning
 pub follows-beginning : (old : List ℕ) (candidates names : ℕ) → Follows (opening (length old)) (beginning old candidates names)
 follows-beginning old candidates names = record { at_end = refl; len_is = refl; max_is = refl; mode_is = refl; inside = tt }
 
-pub runs_answer : RunsAnswer
+pub runs_answer : RunsReply
 runs_answer old candidates names actions replies w h =
-    all-answered (opening (length old)) (beginning old candidates names) actions replies w (follows-beginning old candidates names) h
+    all-given (opening (length old)) (beginning old candidates names) actions replies w (follows-beginning old candidates names) h

@@ -4,19 +4,21 @@ use Rattle.std.specs.List.{AllByRecursion}
 use Rattle.std.proofs.lemmas.List.{length-append, length-take-le}
 use Rattle.dnw_base.specs.Labels.{IsLabel}
 use Rattle.dnw_encoder.specs.declared.encoder.modes.NameEncoding.{NameEncoding}
-use Rattle.dnw_encoder.specs.Encoder.{Encoder, Candidate}
+use Rattle.dnw_encoder.specs.Encoder.{Encoder}
+use Rattle.dnw_candidates.specs.Candidates.{Candidate}
 use Rattle.dnw_encoder.specs.EmittedName.{Points, Share, emitted, in_mode, pointer_to, so_far}
-use Rattle.dnw_encoder.proofs.CandidateLists.{not_nil}
+use Rattle.dnw_candidates.proofs.CandidateLists.{not_nil}
 use Rattle.dnw_encoder.proofs.Emission.{labels_wire-append}
 use Rattle.dnw_encoder.proofs.NameBack.{Reads-shared, each_front, each_back}
 use Rattle.dnw_encoder.proofs.Suffixes.{length-all}
-use Rattle.dnw_name.specs.Names.{AreLabels, encoded_size, labels_wire, wire}
-use Rattle.dnw_name.specs.NameInside.{labels_of}
-use Rattle.dnw_name.specs.Reading.{NameAt, Reads}
-use Rattle.dnw_name.proofs.Back.{Reads-wire}
-use Rattle.dnw_name.proofs.Counts.{Reads-own}
-use Rattle.dnw_name.proofs.Stand.{Reads-append}
-use Rattle.dnw_name.proofs.Wires.{labels_of-wire}
+use Rattle.dnw_base.specs.Limits.{pointer_reach}
+use Rattle.dnw_base.specs.Names.{AreLabels, encoded_size, labels_wire, wire}
+use Rattle.dnw_form.specs.Inside.WireBytes.{labels_of}
+use Rattle.dnw_reading.specs.Reading.{NameAt, Reads}
+use Rattle.dnw_reading.proofs.Back.{Reads-wire}
+use Rattle.dnw_reading.proofs.Counts.{Reads-own}
+use Rattle.dnw_reading.proofs.Stand.{Reads-append}
+use Rattle.dnw_form.proofs.Wires.{labels_of-wire}
 use Rattle.dns_names_wire.specs.Pieces.{Piece, name_piece, bytes_piece, place_piece}
 use Rattle.dns_names_wire.specs.Finished.{EndsIn}
 use Rattle.dns_names_wire.proofs.Shortening.{Has, emitted-old, kept-whole, kept-before}
@@ -83,7 +85,7 @@ ends_within pieces front back (before, mode, labels, after, first, split, is) =
 wire-append : (front back : List (List ℕ)) → wire (front ++ back) ≡ labels_wire front ++ wire back
 wire-append front back = ap (λ (b : List ℕ). b ++ 0 ∷ []) (labels_wire-append front back) ∙ append_assoc (labels_wire front) (labels_wire back) (0 ∷ [])
 
--- labels are told by their bytes
+-- labels are account_from by their bytes
 pub same_labels : (xs ys : List (List ℕ)) → AllByRecursion IsLabel xs → AllByRecursion IsLabel ys → labels_wire xs ≡ labels_wire ys → xs ≡ ys
 same_labels xs ys all each e =
     sym (labels_of-wire xs all) ∙ (ap (λ (b : List ℕ). labels_of (b ++ 0 ∷ [])) e ∙ labels_of-wire ys each)
@@ -136,7 +138,7 @@ usable-old v ls back choice b more at_end longer u = record {
 
 -- a suffix of a name that is written whole
 pub usable-whole : (v : Encoder) (ls front back : List (List ℕ)) → v.offset ≡ length v.bytes → AreLabels ls → ls ≡ front ++ back → back ≢ []
-    → v.offset + length (labels_wire ls) < 16383 → length v.candidates + length ls ≤ v.candidate_limit
+    → v.offset + length (labels_wire ls) < pointer_reach → length v.candidates + length ls ≤ v.candidate_limit
     → Usable (emitted v ls None).bytes (emitted v ls None).candidates back
 usable-whole v ls front back at_end are split some near room =
     let start = so_far v ++ labels_wire front in
@@ -161,11 +163,11 @@ usable-whole v ls front back at_end are split some near room =
 
 -- a suffix of a name that begins before a pointer
 pub usable-front : (v : Encoder) (ls front middle : List (List ℕ)) (share : Share) → v.offset ≡ length v.bytes → AreLabels ls
-    → Points v ls share.front share.back share.place → share.front ≡ front ++ middle → middle ≢ []
-    → v.offset + length (labels_wire ls) < 16383 → length v.candidates + length ls ≤ v.candidate_limit
+    → Points v ls share.front share.back share.target → share.front ≡ front ++ middle → middle ≢ []
+    → v.offset + length (labels_wire ls) < pointer_reach → length v.candidates + length ls ≤ v.candidate_limit
     → Usable (emitted v ls (Some share)).bytes (emitted v ls (Some share)).candidates (middle ++ share.back)
 usable-front v ls front middle share at_end are points split some near room =
-    let octets = pointer_to share.place in
+    let octets = pointer_to share.target in
     let start = so_far v ++ labels_wire front in
     let bytes : so_far v ++ (labels_wire share.front ++ octets) ≡ start ++ (labels_wire middle ++ (octets ++ [])) =
     ap (λ (x : List ℕ). so_far v ++ (x ++ octets)) (ap labels_wire split ∙ labels_wire-append front middle)
@@ -180,7 +182,7 @@ usable-front v ls front middle share at_end are points split some near room =
     let back = middle ++ share.back in
     let whole : ls ≡ front ++ back = points.parts ∙ (ap (λ (xs : List (List ℕ)). xs ++ share.back) split ∙ append_assoc front middle share.back) in
     let read : Reads (start ++ (labels_wire middle ++ (octets ++ []))) (length start) (length start) None back end (suc u.pointers) =
-    Reads-shared start [] middle share.back share.place u.end u.pointers each (Reads-append (labels_wire front) u.name.reads) in
+    Reads-shared start [] middle share.back share.target u.end u.pointers each (Reads-append (labels_wire front) u.name.reads) in
     record {
       place = place;
       end = end;

@@ -3,7 +3,7 @@ use Rattle.std.proofs.Common.{◌≡◌, ℕ, suc, ◌+◌, List, [], ◌∷◌,
 use Rattle.std.specs.Iterator.{Yields}
 use Rattle.std.specs.Slice.Iter.{iter_rest, iter_steps}
 use Rattle.std.proofs.lemmas.List.{length-append, append-nil}
-use Rattle.dnw_base.specs.declared.error.ProtoError.{ProtoError}
+use Rattle.dnw_error.specs.declared.error.ProtoError.{ProtoError}
 use Rattle.dnw_encoder.specs.Encoder.{Encoder}
 use Rattle.dnw_encoder.specs.Emitting.{Emits, EmitsItem, EmitsItems, InTurn}
 use Rattle.dns_names_wire.specs.declared.script.Item.{Item}

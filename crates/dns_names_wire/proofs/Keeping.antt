@@ -3,12 +3,13 @@ use Rattle.std.proofs.Common.{◌≡◌, ℕ, zero, suc, ◌+◌, ◌-◌, ◌�
 use Rattle.std.specs.List.{AllByRecursion}
 use Rattle.std.proofs.lemmas.List.{length-append}
 use Rattle.dnw_base.specs.Labels.{IsLabel}
-use Rattle.dnw_name.specs.Names.{encoded_size, labels_wire}
-use Rattle.dnw_name.specs.Reading.{Reads, NameAt}
-use Rattle.dnw_name.proofs.Back.{Reads-front}
-use Rattle.dnw_name.proofs.Wires.{encoded_size-cons}
-use Rattle.dnw_encoder.specs.Encoder.{Encoder, Candidate, candidates_before}
-use Rattle.dnw_encoder.specs.EmittedName.{kept, suffixes}
+use Rattle.dnw_base.specs.Names.{encoded_size, labels_wire}
+use Rattle.dnw_reading.specs.Reading.{Reads, NameAt}
+use Rattle.dnw_reading.proofs.Back.{Reads-front}
+use Rattle.dnw_base.proofs.Wires.{encoded_size-cons}
+use Rattle.dnw_encoder.specs.Encoder.{Encoder}
+use Rattle.dnw_candidates.specs.Candidates.{Candidate, candidates_before, suffixes}
+use Rattle.dnw_encoder.specs.EmittedName.{kept}
 use Rattle.dns_names_wire.proofs.Spelling.{NameAt-append}
 
 -- The buffers that differ in the places alone: one for all values of the places.

@@ -3,15 +3,16 @@ use Rattle.std.proofs.Common.{◌≡◌, ℕ, suc, ◌+◌, ◌/◌, ◌%◌, �
 use Rattle.std.specs.List.{AllByRecursion}
 use Rattle.std.proofs.lemmas.List.{length-append, append-nil, take_all, drop_all}
 use Rattle.dnw_base.specs.Labels.{IsLabel}
-use Rattle.dnw_name.specs.Names.{AreLabels, encoded_size, labels_wire, wire}
-use Rattle.dnw_name.specs.Reading.{Reads, NameAt, zero_octet, pointer, target}
-use Rattle.dnw_name.proofs.Back.{Reads-wire, Reads-front, slice_get-seam}
-use Rattle.dnw_name.proofs.Stand.{Reads-limited, Reads-wider}
-use Rattle.dnw_name.proofs.Counts.{Reads-own}
-use Rattle.dnw_name.proofs.Unique.{Reads-unique}
-use Rattle.dnw_name.proofs.Wires.{length-wire}
-use Rattle.dnw_encoder.specs.Encoder.{Encoder, Candidate}
-use Rattle.dnw_encoder.specs.EmittedName.{Points, Share, emitted, pointer_to, so_far, suffixes}
+use Rattle.dnw_base.specs.Names.{AreLabels, encoded_size, labels_wire, wire}
+use Rattle.dnw_reading.specs.Reading.{Reads, NameAt, zero_octet, pointer, target}
+use Rattle.dnw_reading.proofs.Back.{Reads-wire, Reads-front, slice_get-seam}
+use Rattle.dnw_reading.proofs.Stand.{Reads-limited, Reads-wider}
+use Rattle.dnw_reading.proofs.Counts.{Reads-own}
+use Rattle.dnw_reading.proofs.Unique.{Reads-unique}
+use Rattle.dnw_base.proofs.Wires.{length-wire}
+use Rattle.dnw_encoder.specs.Encoder.{Encoder}
+use Rattle.dnw_candidates.specs.Candidates.{Candidate, suffixes}
+use Rattle.dnw_encoder.specs.EmittedName.{Points, Share, emitted, pointer_to, so_far}
 use Rattle.dnw_encoder.proofs.NameBack.{each_front, pointer_leads}
 use Rattle.dns_names_wire.proofs.Keeping.{Buffers, IsKept, AreKept, kept-append, kept-before, kept-between, kept-longer, newly_kept, suffixes-kept}
 
@@ -81,13 +82,13 @@ module _ (b m : Buffers) (v : Encoder) (ls : List (List ℕ)) (are : AreLabels l
       }
 
   -- with a pointer
-  pub shared_stands : (share : Share) (f0 : ℕ → ℕ) → so_far v ≡ b f0 → Points v ls share.front share.back share.place
-      → ((f : ℕ → ℕ) → m f ≡ b f ++ (labels_wire share.front ++ pointer_to share.place)) → ((f : ℕ → ℕ) → v.offset ≡ length (b f))
-      → Stands m v.offset ls (v.offset + length (labels_wire share.front ++ pointer_to share.place)) (emitted v ls (Some share)).candidates
+  pub shared_stands : (share : Share) (f0 : ℕ → ℕ) → so_far v ≡ b f0 → Points v ls share.front share.back share.target
+      → ((f : ℕ → ℕ) → m f ≡ b f ++ (labels_wire share.front ++ pointer_to share.target)) → ((f : ℕ → ℕ) → v.offset ≡ length (b f))
+      → Stands m v.offset ls (v.offset + length (labels_wire share.front ++ pointer_to share.target)) (emitted v ls (Some share)).candidates
   shared_stands share f0 now points m_is start =
       let front = share.front in
       let back = share.back in
-      let place = share.place in
+      let place = share.target in
       let u = points.usable.usable in
       let n = length (labels_wire front ++ pointer_to place) in
       let q = v.offset + length (labels_wire front) in

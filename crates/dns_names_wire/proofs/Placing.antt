@@ -8,8 +8,8 @@ use Rattle.dns_names_wire.specs.declared.script.Reply.TheVariants.{Done, Refused
 use Rattle.dns_names_wire.specs.Script.{fill, reserve}
 use Rattle.dns_names_wire.specs.Pieces.{Account, Slot, after, spent}
 use Rattle.dns_names_wire.specs.Replies.{open_place}
-use Rattle.dns_names_wire.specs.Runs.{Fills, RunsFill, Tells}
-use Rattle.dns_names_wire.specs.Running.{FillsKept, HoldsPlace, KeepsPlace, Tracks, kept_at, without}
+use Rattle.dns_names_wire.specs.Runs.{Fills, RunsFill, GivesReply}
+use Rattle.dns_names_wire.specs.Inside.Running.{FillsKept, HoldsPlace, KeepsPlace, Tracks, kept_at, without}
 
 -- ---- what is kept of the places is what the account has of them
 
@@ -23,7 +23,7 @@ open_kept zero (None ∷ places) (slot ∷ slots) v value reply w t h =
     subst (λ b. RunsFill v (if b then Some slot.end else None) value reply w) (sym t.0) h
 open_kept zero (Some p ∷ places) (slot ∷ slots) v value reply w t h =
     subst (λ b. RunsFill v (if b then Some slot.end else None) value reply w) (sym t.0)
-    (subst (λ e. Tells (Fills v e value) reply w) (sym t.1) h)
+    (subst (λ e. GivesReply (Fills v e value) reply w) (sym t.1) h)
 open_kept (suc n) (None ∷ places) (slot ∷ slots) v value reply w t h = open_kept n places slots v value reply w t.1 h
 open_kept (suc n) (Some p ∷ places) (slot ∷ slots) v value reply w t h = open_kept n places slots v value reply w t.2 h
 
@@ -67,7 +67,7 @@ tracks_push (Some q ∷ places) [] p e is t = absurd t
 tracks_push (None ∷ places) (slot ∷ slots) p e is t = (t.0, tracks_push places slots p e is t.1)
 tracks_push (Some q ∷ places) (slot ∷ slots) p e is t = (t.0, t.1, tracks_push places slots p e is t.2)
 
--- what is told behind a place that was kept is its end
+-- what is account_from behind a place that was kept is its end
 abbrev pub EndsBehind : ℕ → Reply → Type 0
 EndsBehind p (Done len) = len ≡ p + 2
 EndsBehind p reply = Unit {0}
@@ -100,7 +100,7 @@ holds_at v n [] all = tt
 holds_at v zero (place ∷ places) all = all.0
 holds_at v (suc n) (place ∷ places) all = holds_at v n places all.1
 
-pub ends_behind : (v : Encoder) (reply : Reply) (w : Encoder) → v.offset ≤ length v.bytes → Tells (TakesRoom v 2 (reserved v 2)) reply w → EndsBehind v.offset reply
+pub ends_behind : (v : Encoder) (reply : Reply) (w : Encoder) → v.offset ≤ length v.bytes → GivesReply (TakesRoom v 2 (reserved v 2)) reply w → EndsBehind v.offset reply
 ends_behind v (Done len) w within h =
     h.1 ∙ (ap (λ (x : Encoder). length x.bytes) h.0.1 ∙ sym (places_stay_bounded v 2 within h.0.0).1)
 ends_behind v (Refused error len) w within h = tt

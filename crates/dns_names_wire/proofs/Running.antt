@@ -2,13 +2,14 @@
 use Rattle.std.proofs.Common.{◌≡◌, ℕ, List, [], ◌∷◌, ◌++◌, length, take, refl, sym, ap, ◌∙◌, subst, append_assoc, arith}
 use Rattle.std.specs.List.{AllByRecursion}
 use Rattle.std.proofs.lemmas.List.{append-nil, take_at}
-use Rattle.dnw_name.specs.Reading.{NameAt}
-use Rattle.dnw_encoder.specs.Encoder.{Encoder, Candidate}
+use Rattle.dnw_reading.specs.Reading.{NameAt}
+use Rattle.dnw_encoder.specs.Encoder.{Encoder}
+use Rattle.dnw_candidates.specs.Candidates.{Candidate}
 use Rattle.dnw_encoder.specs.EmittedName.{so_far}
 use Rattle.dnw_encoder.specs.EmittingLaws.{take-all}
 use Rattle.dns_names_wire.specs.declared.script.Reply.{Reply}
 use Rattle.dns_names_wire.specs.Script.{Action}
-use Rattle.dns_names_wire.specs.Pieces.{Account, Spells, after, opening, told}
+use Rattle.dns_names_wire.specs.Pieces.{Account, Spells, after, opening, account_from}
 use Rattle.dns_names_wire.specs.Runs.{IsUseful, Runs, beginning}
 use Rattle.dns_names_wire.specs.ScriptLaws.{RunsFinish, RunsStayUseful}
 use Rattle.dns_names_wire.proofs.Agreeing.{Chunk, length-pieces_of, next, pieces_of, pieces_of-append, render, render-append, upto}
@@ -19,7 +20,7 @@ use Rattle.dns_names_wire.proofs.Stepping.{Goes, Good, goes-same, step}
 
 -- all steps in turn
 pub goes : (old : List ℕ) (cs : List Chunk) (f : ℕ → ℕ) (a : Account) (v w : Encoder) (actions : List Action) (replies : List Reply) → Good old cs f a v
-    → Runs a v actions replies w → Goes old cs (told a actions replies) w
+    → Runs a v actions replies w → Goes old cs (account_from a actions replies) w
 goes old cs f a v w [] [] good h = goes-same old cs f a v w good h
 goes old cs f a v w [] (reply ∷ replies) good h = absurd h
 goes old cs f a v w (action ∷ actions) [] good h = absurd h
@@ -30,7 +31,7 @@ goes old cs f a v w (action ∷ actions) (reply ∷ replies) good h =
     record {
       more = one.more ++ rest.more;
       values = rest.values;
-      good = subst (λ (ds : List Chunk). Good old ds rest.values (told b actions replies) w) (append_assoc cs one.more rest.more) rest.good;
+      good = subst (λ (ds : List Chunk). Good old ds rest.values (account_from b actions replies) w) (append_assoc cs one.more rest.more) rest.good;
     }
 
 -- the opening account and the beginning encoder agree on no chunks
@@ -47,19 +48,19 @@ good-opening old candidates names =
 -- ---- the first steps
 
 -- A run is one of the first steps, and one of the others.
-pub record Splits (a : Account) (v w : Encoder) (first rest : List Action) (answered others : List Reply) : Type 0 where
+pub record Splits (a : Account) (v w : Encoder) (first rest : List Action) (given others : List Reply) : Type 0 where
   pub middle : Encoder
-  pub before : Runs a v first answered middle
-  pub behind : Runs (told a first answered) middle rest others w
-  pub account : told a (first ++ rest) (answered ++ others) ≡ told (told a first answered) rest others
+  pub before : Runs a v first given middle
+  pub behind : Runs (account_from a first given) middle rest others w
+  pub account : account_from a (first ++ rest) (given ++ others) ≡ account_from (account_from a first given) rest others
 
-splits : (a : Account) (v w : Encoder) (first rest : List Action) (answered others : List Reply) → length first ≡ length answered
-    → Runs a v (first ++ rest) (answered ++ others) w → Splits a v w first rest answered others
+splits : (a : Account) (v w : Encoder) (first rest : List Action) (given others : List Reply) → length first ≡ length given
+    → Runs a v (first ++ rest) (given ++ others) w → Splits a v w first rest given others
 splits a v w [] rest [] others same h = record { middle = v; before = refl; behind = h; account = refl }
-splits a v w [] rest (reply ∷ answered) others same h = absurd (omega (arith, same))
+splits a v w [] rest (reply ∷ given) others same h = absurd (omega (arith, same))
 splits a v w (action ∷ first) rest [] others same h = absurd (omega (arith, same))
-splits a v w (action ∷ first) rest (reply ∷ answered) others same h =
-    let r = splits (after a action reply) h.0 w first rest answered others (omega (arith, same)) h.2 in
+splits a v w (action ∷ first) rest (reply ∷ given) others same h =
+    let r = splits (after a action reply) h.0 w first rest given others (omega (arith, same)) h.2 in
     record { middle = r.middle; before = (h.0, h.1, r.before); behind = r.behind; account = r.account }
 
 -- The pieces of the chunks so far are the first ones once there are more, and they stand there.
@@ -77,19 +78,19 @@ stand_first old cs ds f g a b v w early late =
     rw (bytes, some, end) (Spells-append (buffer old cs g) more (pieces_of g 0 cs) (length old) (upto (length old) cs) (early.sound.spells g))
 
 -- So do those of the first steps in the finished bytes.
-spells_first : (old : List ℕ) (candidates names : ℕ) (first rest : List Action) (answered others : List Reply) (w : Encoder) → length first ≡ length answered
-    → Runs (opening (length old)) (beginning old candidates names) (first ++ rest) (answered ++ others) w
-    → Spells w.bytes (take (length (told (opening (length old)) first answered).pieces) (told (opening (length old)) (first ++ rest) (answered ++ others)).pieces)
-    (length old) (told (opening (length old)) first answered).len
-spells_first old candidates names first rest answered others w same h =
+spells_first : (old : List ℕ) (candidates names : ℕ) (first rest : List Action) (given others : List Reply) (w : Encoder) → length first ≡ length given
+    → Runs (opening (length old)) (beginning old candidates names) (first ++ rest) (given ++ others) w
+    → Spells w.bytes (take (length (account_from (opening (length old)) first given).pieces) (account_from (opening (length old)) (first ++ rest) (given ++ others)).pieces)
+    (length old) (account_from (opening (length old)) first given).len
+spells_first old candidates names first rest given others w same h =
     let a = opening (length old) in
     let v = beginning old candidates names in
-    let b = told a first answered in
-    let r = splits a v w first rest answered others same h in
-    let one = goes old [] (λ i. 0) a v r.middle first answered (good-opening old candidates names) r.before in
+    let b = account_from a first given in
+    let r = splits a v w first rest given others same h in
+    let one = goes old [] (λ i. 0) a v r.middle first given (good-opening old candidates names) r.before in
     let two = goes old one.more one.values b r.middle w rest others one.good r.behind in
     subst (λ (c : Account). Spells w.bytes (take (length b.pieces) c.pieces) (length old) b.len) (sym r.account)
-    (stand_first old one.more two.more one.values two.values b (told b rest others) r.middle w one.good two.good)
+    (stand_first old one.more two.more one.values two.values b (account_from b rest others) r.middle w one.good two.good)
 
 -- ---- the laws
 
@@ -101,10 +102,10 @@ runs_finish old candidates names actions replies w h =
     let s = all.good.sound in
     record {
       begins = ap (take (length old)) s.bytes ∙ take_at old (render all.values 0 all.more) (length old) refl;
-      spells = λ first rest answered others actions_are replies_are same.
-          let parts : Runs a v (first ++ rest) (answered ++ others) w =
+      spells = λ first rest given others actions_are replies_are same.
+          let parts : Runs a v (first ++ rest) (given ++ others) w =
           subst (λ (rs : List Reply). Runs a v (first ++ rest) rs w) replies_are (subst (λ (xs : List Action). Runs a v xs replies w) actions_are h) in
-          rw (actions_are, replies_are) (spells_first old candidates names first rest answered others w same parts);
+          rw (actions_are, replies_are) (spells_first old candidates names first rest given others w same parts);
       ends = all.good.len ∙ sound_end old all.more all.values w.bytes w.offset w.candidates s;
     }
 

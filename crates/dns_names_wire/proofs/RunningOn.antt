@@ -7,15 +7,15 @@ use Rattle.dnw_encoder.specs.declared.encoder.modes.NameEncoding.TheVariants.{Co
 use Rattle.dns_names_wire.specs.declared.script.Step.{Step}
 use Rattle.dns_names_wire.specs.declared.script.Reply.{Reply}
 use Rattle.dns_names_wire.specs.Script.{Action, action}
-use Rattle.dns_names_wire.specs.Pieces.{Account, Slot, after, opening, told}
+use Rattle.dns_names_wire.specs.Pieces.{Account, Slot, after, opening, account_from}
 use Rattle.dns_names_wire.specs.Runs.{Runs, RunsStep}
-use Rattle.dns_names_wire.specs.Running.{HoldsPlace, Tracks}
+use Rattle.dns_names_wire.specs.Inside.Running.{HoldsPlace, Tracks}
 use Rattle.dns_names_wire.proofs.Answering.{Follows, IsInside, step-follows}
 
 -- ---- one step more, behind the others
 
 runs_push : (a : Account) (v : Encoder) (actions : List Action) (replies : List Reply) (m : Encoder) (action : Action) (reply : Reply) (w : Encoder)
-    → Runs a v actions replies m → RunsStep (told a actions replies) m action reply w → Runs a v (actions ++ action ∷ []) (replies ++ reply ∷ []) w
+    → Runs a v actions replies m → RunsStep (account_from a actions replies) m action reply w → Runs a v (actions ++ action ∷ []) (replies ++ reply ∷ []) w
 runs_push a v [] [] m action reply w same step = (w, subst (λ x. RunsStep a x action reply w) same step, refl)
 runs_push a v [] (r ∷ replies) m action reply w all step = absurd all
 runs_push a v (x ∷ actions) [] m action reply w all step = absurd all
@@ -23,7 +23,7 @@ runs_push a v (x ∷ actions) (r ∷ replies) m action reply w all step =
     (all.0, all.1, runs_push (after a x r) all.0 actions replies m action reply w all.2 step)
 
 told_push : (a : Account) (v : Encoder) (actions : List Action) (replies : List Reply) (m : Encoder) (action : Action) (reply : Reply)
-    → Runs a v actions replies m → told a (actions ++ action ∷ []) (replies ++ reply ∷ []) ≡ after (told a actions replies) action reply
+    → Runs a v actions replies m → account_from a (actions ++ action ∷ []) (replies ++ reply ∷ []) ≡ after (account_from a actions replies) action reply
 told_push a v [] [] m action reply all = refl
 told_push a v [] (r ∷ replies) m action reply all = absurd all
 told_push a v (x ∷ actions) [] m action reply all = absurd all
@@ -39,8 +39,8 @@ length_runs a v (x ∷ actions) (r ∷ replies) w all = ap suc (length_runs (aft
 
 pub record HasRun (v : Encoder) (actions : List Action) (replies : List Reply) (w : Encoder) (places : List (Option ℕ)) : Type 0 where
   pub runs : Runs (opening (length v.bytes)) v actions replies w
-  pub tracks : Tracks places (told (opening (length v.bytes)) actions replies).places
-  pub follows : Follows (told (opening (length v.bytes)) actions replies) w
+  pub tracks : Tracks places (account_from (opening (length v.bytes)) actions replies).places
+  pub follows : Follows (account_from (opening (length v.bytes)) actions replies) w
 
 -- a run that has not begun
 pub has_not_run : (v : Encoder) → v.offset ≡ length v.bytes → v.max_size ≡ 65535 → v.encoding ≡ Compressed → HasRun v [] [] v []
@@ -61,7 +61,7 @@ holds_kept w len (Some p ∷ places) (slot ∷ slots) e t inside =
 pub has_run_holds : (v w : Encoder) (actions : List Action) (replies : List Reply) (places : List (Option ℕ)) → HasRun v actions replies w places
     → AllByRecursion (HoldsPlace w) places
 has_run_holds v w actions replies places h =
-    let a = told (opening (length v.bytes)) actions replies in
+    let a = account_from (opening (length v.bytes)) actions replies in
     holds_kept w a.len places a.places (h.follows.len_is ∙ sym h.follows.at_end) h.tracks h.follows.inside
 
 has_run_push : (v m w : Encoder) (actions : List Action) (replies : List Reply) (places new : List (Option ℕ)) (x : Action) (reply : Reply)
@@ -70,7 +70,7 @@ has_run_push : (v m w : Encoder) (actions : List Action) (replies : List Reply) 
     → ((a : Account) → Tracks places a.places → Tracks new (after a x reply).places)
     → HasRun v (actions ++ x ∷ []) (replies ++ reply ∷ []) w new
 has_run_push v m w actions replies places new x reply h runs tracks =
-    let a = told (opening (length v.bytes)) actions replies in
+    let a = account_from (opening (length v.bytes)) actions replies in
     let step = runs a h.tracks in
     let next = sym (told_push (opening (length v.bytes)) v actions replies m x reply h.runs) in
     record {

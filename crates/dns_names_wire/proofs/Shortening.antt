@@ -1,12 +1,14 @@
 -- Which candidates the suffixes of names are, and that they stay usable.
 use Rattle.std.proofs.Common.{◌≡◌, ◌≢◌, ℕ, zero, suc, ◌+◌, ◌-◌, ◌<◌, ◌≤◌, min, Bool, true, false, cond, nat_lt, if◌then◌else◌, List, [], ◌∷◌, ◌++◌, length, take, Option, Some, None, ◌⊎◌, inl, inr, ⊎_elim, refl, sym, ap, ◌∙◌, subst, append_assoc, arith, rules, tests}
 use Rattle.std.proofs.lemmas.List.{length-append, length-take}
-use Rattle.dnw_encoder.specs.Encoder.{Encoder, Candidate, candidates_before}
-use Rattle.dnw_encoder.specs.EmittedName.{Share, emitted, kept, newly_kept, suffixes}
-use Rattle.dnw_encoder.proofs.CandidateLists.{length-labels_wire, not_nil}
+use Rattle.dnw_encoder.specs.Encoder.{Encoder}
+use Rattle.dnw_candidates.specs.Candidates.{Candidate, candidates_before, suffixes}
+use Rattle.dnw_encoder.specs.EmittedName.{Share, emitted, kept, newly_kept}
+use Rattle.dnw_candidates.proofs.CandidateLists.{length-labels_wire, not_nil}
 use Rattle.dnw_encoder.proofs.Emission.{labels_wire-append, length-suffixes}
 use Rattle.dnw_encoder.proofs.Suffixes.{kept-some}
-use Rattle.dnw_name.specs.Names.{labels_wire}
+use Rattle.dnw_base.specs.Limits.{pointer_reach}
+use Rattle.dnw_base.specs.Names.{labels_wire}
 
 -- ---- one of the candidates
 
@@ -169,7 +171,7 @@ emitted-old v ls (Some share) c less h =
 
 -- as many suffixes are kept as candidates are left
 kept-suffix : (v : Encoder) (ls front back : List (List ℕ)) (n : ℕ) → ls ≡ front ++ back → back ≢ [] → length front < n
-    → v.offset + length (labels_wire ls) < 16383 → length v.candidates + n ≤ v.candidate_limit
+    → v.offset + length (labels_wire ls) < pointer_reach → length v.candidates + n ≤ v.candidate_limit
     → Has (kept v ls n) (v.offset + length (labels_wire front), labels_wire back)
 kept-suffix v ls front back n split some less near room =
     let many : n ≡ min n (v.candidate_limit - length v.candidates) = omega (arith, room) in
@@ -187,7 +189,7 @@ some_bytes [] some = absurd (some refl)
 some_bytes (l ∷ ls) some = omega (arith, length-labels_wire l ls)
 
 -- all suffixes of a name that is written whole are kept
-pub kept-whole : (v : Encoder) (ls front back : List (List ℕ)) → ls ≡ front ++ back → back ≢ [] → v.offset + length (labels_wire ls) < 16383
+pub kept-whole : (v : Encoder) (ls front back : List (List ℕ)) → ls ≡ front ++ back → back ≢ [] → v.offset + length (labels_wire ls) < pointer_reach
     → length v.candidates + length ls ≤ v.candidate_limit
     → Has (emitted v ls None).candidates (v.offset + length (labels_wire front), labels_wire back)
 kept-whole v ls front back split some near room =
@@ -197,7 +199,7 @@ kept-whole v ls front back split some near room =
 
 -- and of one with a pointer those that begin before it
 pub kept-before : (v : Encoder) (ls front middle : List (List ℕ)) (share : Share) → ls ≡ share.front ++ share.back → share.front ≡ front ++ middle → middle ≢ []
-    → v.offset + length (labels_wire ls) < 16383 → length v.candidates + length ls ≤ v.candidate_limit
+    → v.offset + length (labels_wire ls) < pointer_reach → length v.candidates + length ls ≤ v.candidate_limit
     → Has (emitted v ls (Some share)).candidates (v.offset + length (labels_wire front), labels_wire (middle ++ share.back))
 kept-before v ls front middle share parts split some near room =
     let back = middle ++ share.back in

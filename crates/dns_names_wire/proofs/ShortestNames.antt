@@ -6,23 +6,25 @@ use Rattle.std.proofs.lemmas.List.{length-append, length-map, take-append-drop}
 use Rattle.dnw_base.specs.Labels.{IsLabel}
 use Rattle.dnw_encoder.specs.declared.encoder.modes.NameEncoding.{NameEncoding}
 use Rattle.dnw_encoder.specs.declared.encoder.modes.NameEncoding.TheVariants.{Compressed, Uncompressed, UncompressedLowercase}
-use Rattle.dnw_encoder.specs.Encoder.{Encoder, Candidate}
-use Rattle.dnw_encoder.specs.EmittedName.{Chooses, IsUsable, Points, Share, compresses, counted, emitted, in_mode, is_compressed, pointer_to, so_far}
+use Rattle.dnw_encoder.specs.Encoder.{Encoder}
+use Rattle.dnw_candidates.specs.Candidates.{Candidate, IsUsable}
+use Rattle.dnw_encoder.specs.EmittedName.{Chooses, Points, Share, compresses, counted, emitted, in_mode, is_compressed, pointer_to, so_far}
 use Rattle.dnw_encoder.specs.EmittingLaws.{take-all}
 use Rattle.dnw_encoder.specs.NameFrames.{frame-name}
-use Rattle.dnw_encoder.proofs.CandidateLists.{not_nil}
+use Rattle.dnw_candidates.proofs.CandidateLists.{not_nil}
 use Rattle.dnw_encoder.proofs.NameBack.{each_back, pointers_save}
 use Rattle.dnw_encoder.proofs.Suffixes.{length-all}
-use Rattle.dnw_name.specs.Names.{NameValue, AreLabels, encoded_size, labels_wire}
-use Rattle.dnw_name.specs.Reading.{NameAt}
-use Rattle.dnw_name.proofs.Counts.{Reads-labels}
-use Rattle.dnw_name.proofs.Wires.{length-wire}
+use Rattle.dnw_base.specs.Limits.{max_name, pointer_reach}
+use Rattle.dnw_base.specs.Names.{NameValue, AreLabels, encoded_size, labels_wire}
+use Rattle.dnw_reading.specs.Reading.{NameAt}
+use Rattle.dnw_reading.proofs.Counts.{Reads-labels}
+use Rattle.dnw_base.proofs.Wires.{length-wire}
 use Rattle.dns_names_wire.specs.declared.script.Part.TheVariants.{Name}
 use Rattle.dns_names_wire.specs.declared.script.Reply.{Reply}
 use Rattle.dns_names_wire.specs.declared.script.Reply.TheVariants.{Done, Refused}
 use Rattle.dns_names_wire.specs.Script.{Action, write, set_encoding, EmitsPart}
-use Rattle.dns_names_wire.specs.Pieces.{Account, Piece, name_piece, after, opening, told}
-use Rattle.dns_names_wire.specs.Runs.{Runs, RunsStep, Tells, beginning}
+use Rattle.dns_names_wire.specs.Pieces.{Account, Piece, name_piece, after, opening, account_from}
+use Rattle.dns_names_wire.specs.Runs.{Runs, RunsStep, GivesReply, beginning}
 use Rattle.dns_names_wire.specs.Finished.{AreNames, EndsIn, IsShortest, count_labels, count_names}
 use Rattle.dns_names_wire.specs.ScriptLaws.{RunsAreShortest}
 use Rattle.dns_names_wire.proofs.Answering.{Follows, follows-beginning, part-follows, step-follows}
@@ -48,7 +50,7 @@ record Knows (candidates names : ℕ) (a : Account) (v : Encoder) (labels many :
   few : length v.candidates ≤ labels
   counted_most : v.names ≤ many
   spelled : (c : Candidate) → Has v.candidates c → IsSpelled a.pieces c
-  usable : labels ≤ candidates → a.len ≤ 16128 → (back : List (List ℕ)) → back ≢ [] → EndsIn a.pieces back
+  usable : labels ≤ candidates → a.len + max_name ≤ pointer_reach → (back : List (List ℕ)) → back ≢ [] → EndsIn a.pieces back
       → Usable v.bytes v.candidates back
 
 -- what is known holds for larger counts
@@ -98,9 +100,9 @@ emitted-names v ls (Some share) = counted-most v
 
 -- a suffix that begins where a pointer stands, or before it
 before-pointer : (pieces : List Piece) (v : Encoder) (ls front middle back : List (List ℕ)) (share : Share) (w : Encoder) → v.offset ≡ length v.bytes
-    → AreLabels ls → Points v ls share.front share.back share.place → w ≡ emitted v ls (Some share) → EndsIn pieces share.back
+    → AreLabels ls → Points v ls share.front share.back share.target → w ≡ emitted v ls (Some share) → EndsIn pieces share.back
     → (EndsIn pieces back → Usable w.bytes w.candidates back) → share.front ≡ front ++ middle → back ≡ middle ++ share.back
-    → v.offset + length (labels_wire ls) < 16383 → length v.candidates + length ls ≤ v.candidate_limit → Usable w.bytes w.candidates back
+    → v.offset + length (labels_wire ls) < pointer_reach → length v.candidates + length ls ≤ v.candidate_limit → Usable w.bytes w.candidates back
 before-pointer pieces v ls front [] back share w at_end are points same shared old longer is near room =
     old (subst (λ x. EndsIn pieces x) (sym is) shared)
 before-pointer pieces v ls front (l ∷ middle) back share w at_end are points same shared old longer is near room =
@@ -112,9 +114,9 @@ before-pointer pieces v ls front (l ∷ middle) back share w at_end are points s
 -- each suffix of the new name can be pointed at, if each suffix of the others can
 usable-new : (pieces : List Piece) (v : Encoder) (ls front back : List (List ℕ)) (choice : Option Share) (w : Encoder) → v.offset ≡ length v.bytes
     → AreLabels ls → Chooses v ls choice → w ≡ emitted v ls choice
-    → ((share : Share) → Points v ls share.front share.back share.place → EndsIn pieces share.back)
+    → ((share : Share) → Points v ls share.front share.back share.target → EndsIn pieces share.back)
     → (EndsIn pieces back → Usable w.bytes w.candidates back) → ls ≡ front ++ back → back ≢ []
-    → v.offset + length (labels_wire ls) < 16383 → length v.candidates + length ls ≤ v.candidate_limit → Usable w.bytes w.candidates back
+    → v.offset + length (labels_wire ls) < pointer_reach → length v.candidates + length ls ≤ v.candidate_limit → Usable w.bytes w.candidates back
 usable-new pieces v ls front back None w at_end are chosen same shared old split some near room =
     let P : Encoder → Type 0 = λ x. Usable x.bytes x.candidates back in
     subst P (sym same) (usable-whole v ls front back at_end are split some near room)
@@ -125,7 +127,7 @@ usable-new pieces v ls front back (Some share) w at_end are (_, points) same sha
     (two_suffixes share.front share.back front back (sym points.parts ∙ split))
 
 module _ (candidates names : ℕ) (a : Account) (v : Encoder) (name : NameValue) (len : ℕ) (w : Encoder) (labels many : ℕ)
-    (k : Knows candidates names a v labels many) (h : Tells (EmitsPart (Name name) v) (Done len) w) where
+    (k : Knows candidates names a v labels many) (h : GivesReply (EmitsPart (Name name) v) (Done len) w) where
   -- what can be pointed at before can be then
   still-usable : (back : List (List ℕ)) → Usable v.bytes v.candidates back → Usable w.bytes w.candidates back
   still-usable back u =
@@ -157,20 +159,20 @@ module _ (candidates names : ℕ) (a : Account) (v : Encoder) (name : NameValue)
       (emitted-has v ls h.0.choice c (subst (λ cs. Has cs c) list one))
 
   -- each end can be pointed at then
-  all-usable : labels + length name.labels ≤ candidates → len ≤ 16128 → (back : List (List ℕ)) → back ≢ []
+  all-usable : labels + length name.labels ≤ candidates → len + max_name ≤ pointer_reach → (back : List (List ℕ)) → back ≢ []
       → EndsIn (after a (write (Name name)) (Done len)).pieces back → Usable w.bytes w.candidates back
   all-usable fit near back some ends =
       let f = k.follows in
       let ls = in_mode v.encoding name.labels in
       let mode : in_mode a.mode name.labels ≡ ls = ap (λ (m : NameEncoding). in_mode m name.labels) f.mode_is in
       let go = part-goes (Name name) v w f.at_end h.0 in
-      let before : a.len ≤ 16128 = omega (arith, near, h.1, f.len_is, f.at_end, go.at_end, go.no_less) in
+      let before : a.len + max_name ≤ pointer_reach = omega (arith, near, h.1, f.len_is, f.at_end, go.at_end, go.no_less) in
       let old : EndsIn a.pieces back → Usable w.bytes w.candidates back =
       λ e. still-usable back (k.usable (omega (arith, fit)) before back some e) in
       ⊎_elim
       (λ e. old e)
       (λ (front, is). usable-new a.pieces v ls front back h.0.choice w f.at_end h.0.are_labels h.0.chooses h.0.written_as.1
-      (λ share points. shared-ends candidates names a v labels many ls share.front share.back share.place k points)
+      (λ share points. shared-ends candidates names a v labels many ls share.front share.back share.target k points)
       old (sym mode ∙ is) some
       (omega (arith, before, f.len_is, f.at_end, length-all ls, h.0.are_labels.fit))
       (omega (arith, k.few, fit, k.candidate_limit, length-in_mode v.encoding name.labels)))
@@ -203,7 +205,7 @@ knows-refused candidates names a v w labels many k same =
 
 -- a name, accepted or refused
 knows-part : (candidates names : ℕ) (a : Account) (v : Encoder) (name : NameValue) (reply : Reply) (w : Encoder) (labels many : ℕ)
-    → Knows candidates names a v labels many → Tells (EmitsPart (Name name) v) reply w
+    → Knows candidates names a v labels many → GivesReply (EmitsPart (Name name) v) reply w
     → Knows candidates names (after a (write (Name name)) reply) w (labels + length name.labels) (many + 1)
 knows-part candidates names a v name (Done len) w labels many k h = knows-name candidates names a v name len w labels many k h
 knows-part candidates names a v name (Refused error len) w labels many k h =
@@ -217,7 +219,7 @@ knows-mode : (candidates names : ℕ) (a : Account) (v : Encoder) (mode : NameEn
     → Knows candidates names (after a (set_encoding mode) reply) w labels many
 knows-mode candidates names a v mode reply w labels many k h =
     let P : Reply → Encoder → Type 0 = λ r x. Follows (after a (set_encoding mode) r) x → Knows candidates names (after a (set_encoding mode) r) x labels many in
-    let told : P (Done (length w.bytes)) (record v { encoding = mode }) = λ f.
+    let done : P (Done (length w.bytes)) (record v { encoding = mode }) = λ f.
     record {
       follows = f;
       candidate_limit = k.candidate_limit;
@@ -227,7 +229,7 @@ knows-mode candidates names a v mode reply w labels many k h =
       spelled = k.spelled;
       usable = k.usable;
     } in
-    subst (λ r. P r w) (sym h.0) (subst (λ x. P (Done (length w.bytes)) x) (sym h.1) told) (step-follows a v (set_encoding mode) reply w k.follows h)
+    subst (λ r. P r w) (sym h.0) (subst (λ x. P (Done (length w.bytes)) x) (sym h.1) done) (step-follows a v (set_encoding mode) reply w k.follows h)
 
 -- ---- runs
 
@@ -248,25 +250,25 @@ comes-counted candidates names a labels many more_labels more_names actions repl
 }
 
 -- the first steps lead there where they are names and modes
-runs-come : (candidates names : ℕ) (a : Account) (v : Encoder) (first rest : List Action) (answered others : List Reply) (w : Encoder) (labels many : ℕ)
-    → Knows candidates names a v labels many → AreNames first → length first ≡ length answered → Runs a v (first ++ rest) (answered ++ others) w
-    → Comes candidates names (told a first answered) (labels + count_labels first) (many + count_names first) rest others w
+runs-come : (candidates names : ℕ) (a : Account) (v : Encoder) (first rest : List Action) (given others : List Reply) (w : Encoder) (labels many : ℕ)
+    → Knows candidates names a v labels many → AreNames first → length first ≡ length given → Runs a v (first ++ rest) (given ++ others) w
+    → Comes candidates names (account_from a first given) (labels + count_labels first) (many + count_names first) rest others w
 runs-come candidates names a v [] rest [] others w labels many k are e h =
     comes-counted candidates names a labels many (labels + count_labels []) (many + count_names []) rest others w (omega arith) (omega arith)
     (record { middle = v; knows = k; runs = h })
-runs-come candidates names a v [] rest (reply ∷ answered) others w labels many k are e h = absurd (omega (arith, e))
+runs-come candidates names a v [] rest (reply ∷ given) others w labels many k are e h = absurd (omega (arith, e))
 runs-come candidates names a v (write (Name name) ∷ first) rest [] others w labels many k are e h = absurd (omega (arith, e))
-runs-come candidates names a v (write (Name name) ∷ first) rest (reply ∷ answered) others w labels many k are e h =
-    let c = runs-come candidates names (after a (write (Name name)) reply) h.0 first rest answered others w (labels + length name.labels) (many + 1)
+runs-come candidates names a v (write (Name name) ∷ first) rest (reply ∷ given) others w labels many k are e h =
+    let c = runs-come candidates names (after a (write (Name name)) reply) h.0 first rest given others w (labels + length name.labels) (many + 1)
     (knows-part candidates names a v name reply h.0 labels many k h.1) are (omega (arith, e)) h.2 in
-    comes-counted candidates names (told (after a (write (Name name)) reply) first answered) (labels + length name.labels + count_labels first)
+    comes-counted candidates names (account_from (after a (write (Name name)) reply) first given) (labels + length name.labels + count_labels first)
     (many + 1 + count_names first) (labels + count_labels (write (Name name) ∷ first)) (many + count_names (write (Name name) ∷ first)) rest others w
     (omega arith) (omega arith) c
 runs-come candidates names a v (set_encoding mode ∷ first) rest [] others w labels many k are e h = absurd (omega (arith, e))
-runs-come candidates names a v (set_encoding mode ∷ first) rest (reply ∷ answered) others w labels many k are e h =
-    runs-come candidates names (after a (set_encoding mode) reply) h.0 first rest answered others w labels many
+runs-come candidates names a v (set_encoding mode ∷ first) rest (reply ∷ given) others w labels many k are e h =
+    runs-come candidates names (after a (set_encoding mode) reply) h.0 first rest given others w labels many
     (knows-mode candidates names a v mode reply h.0 labels many k h.1) are (omega (arith, e)) h.2
-runs-come candidates names a v (action ∷ first) rest answered others w labels many k are e h = absurd are
+runs-come candidates names a v (action ∷ first) rest given others w labels many k are e h = absurd are
 
 -- ---- the least length
 
@@ -313,7 +315,7 @@ back-least f b g c e le =
 
 -- a pointer stands for the longest suffix that is an end, or none is
 shortest : (candidates names : ℕ) (a : Account) (v : Encoder) (labels many : ℕ) (ls : List (List ℕ)) (choice : Option Share) (w : Encoder)
-    → Knows candidates names a v labels many → labels ≤ candidates → a.len ≤ 16128 → compresses v ≡ true → AreLabels ls → Chooses v ls choice
+    → Knows candidates names a v labels many → labels ≤ candidates → a.len + max_name ≤ pointer_reach → compresses v ≡ true → AreLabels ls → Chooses v ls choice
     → w ≡ emitted v ls choice → IsShortest a.pieces ls v.offset w.offset
 shortest candidates names a v labels many ls None w k fit near compressed are chosen made =
     let size : w.offset ≡ v.offset + encoded_size ls = omega (arith, ap (λ (x : Encoder). x.offset) made, length-wire ls) in
@@ -325,12 +327,12 @@ shortest candidates names a v labels many ls None w k fit near compressed are ch
       reached = inl size;
     }
 shortest candidates names a v labels many ls (Some share) w k fit near compressed are (_, points) made =
-    let form = labels_wire share.front ++ pointer_to share.place in
+    let form = labels_wire share.front ++ pointer_to share.target in
     let offset : w.offset ≡ v.offset + length form = ap (λ (x : Encoder). x.offset) made in
     let size : w.offset + encoded_size share.back ≡ v.offset + encoded_size ls + 2 =
-    omega (arith, offset, length-append (labels_wire share.front) (pointer_to share.place), size-back ls share.front share.back points.parts) in
+    omega (arith, offset, length-append (labels_wire share.front) (pointer_to share.target), size-back ls share.front share.back points.parts) in
     record {
-      at_most_whole = omega (arith, offset, pointers_save v ls share.front share.back share.place are points);
+      at_most_whole = omega (arith, offset, pointers_save v ls share.front share.back share.target are points);
       at_most_shared = λ front back split some ends.
           let (place, before, behind, u) = usable-is v back k.follows.at_end (k.usable fit near back some ends) in
           let longest = points.longest front back place before behind split some u in
@@ -340,15 +342,15 @@ shortest candidates names a v labels many ls (Some share) w k fit near compresse
         share.back,
         points.parts,
         points.some,
-        shared-ends candidates names a v labels many ls share.front share.back share.place k points,
+        shared-ends candidates names a v labels many ls share.front share.back share.target k points,
         size,
       );
     }
 
 -- the next name is as short as can be
 name-shortest : (candidates names : ℕ) (a : Account) (v : Encoder) (labels many : ℕ) (name : NameValue) (len : ℕ) (w : Encoder)
-    → Knows candidates names a v labels many → is_compressed a.mode ≡ true → many + 1 ≤ names → labels + length name.labels ≤ candidates → a.len ≤ 16128
-    → Tells (EmitsPart (Name name) v) (Done len) w → IsShortest a.pieces name.labels a.len len
+    → Knows candidates names a v labels many → is_compressed a.mode ≡ true → many + 1 ≤ names → labels + length name.labels ≤ candidates → a.len + max_name ≤ pointer_reach
+    → GivesReply (EmitsPart (Name name) v) (Done len) w → IsShortest a.pieces name.labels a.len len
 name-shortest candidates names a v labels many name len w k compressed few_names few_labels near h =
     let f = k.follows in
     let mode : is_compressed v.encoding ≡ true = ap is_compressed (sym f.mode_is) ∙ compressed in
@@ -379,10 +381,10 @@ knows-beginning old candidates names = record {
 }
 
 pub names_are_shortest : RunsAreShortest
-names_are_shortest old candidates names actions replies w h first name rest answered others len split told_is e compressed are few_names few_labels near =
+names_are_shortest old candidates names actions replies w h first name rest given others len split told_is e compressed are few_names few_labels near =
     let a = opening (length old) in
     let v = beginning old candidates names in
-    let runs = subst (λ xs. Runs a v xs (answered ++ Done len ∷ others) w) split (subst (λ rs. Runs a v actions rs w) told_is h) in
-    let c = runs-come candidates names a v first (write (Name name) ∷ rest) answered (Done len ∷ others) w 0 0 (knows-beginning old candidates names) are e runs in
-    name-shortest candidates names (told a first answered) c.middle (0 + count_labels first) (0 + count_names first) name len c.runs.0 c.knows compressed
+    let runs = subst (λ xs. Runs a v xs (given ++ Done len ∷ others) w) split (subst (λ rs. Runs a v actions rs w) told_is h) in
+    let c = runs-come candidates names a v first (write (Name name) ∷ rest) given (Done len ∷ others) w 0 0 (knows-beginning old candidates names) are e runs in
+    name-shortest candidates names (account_from a first given) c.middle (0 + count_labels first) (0 + count_names first) name len c.runs.0 c.knows compressed
     (omega (arith, few_names)) (omega (arith, few_labels)) near c.runs.1

@@ -3,21 +3,21 @@ use Rattle.std.proofs.Common.{◌≡◌, ℕ, ◌+◌, ◌<◌, ◌≤◌, List,
 use Rattle.std.specs.Int.{w16, w32, to_be_bytes, cast_unsigned}
 use Rattle.std.proofs.lemmas.List.{length-take}
 use Rattle.std.proofs.lemmas.List.Sums.{sum_by-cons}
-use Rattle.dnw_base.specs.declared.error.ProtoError.{ProtoError}
-use Rattle.dnw_base.specs.declared.error.ProtoError.TheVariants.{CharacterDataTooLong, MaxBufferSizeExceeded, Memory}
+use Rattle.dnw_error.specs.declared.error.ProtoError.{ProtoError}
+use Rattle.dnw_error.specs.declared.error.ProtoError.TheVariants.{CharacterDataTooLong, MaxBufferSizeExceeded, Memory}
 use Rattle.dnw_encoder.specs.declared.encoder.modes.NameEncoding.{NameEncoding}
 use Rattle.dnw_encoder.specs.Encoder.{Encoder, Writes, WritesText}
 use Rattle.dnw_encoder.specs.Emitting.{Frame, InTurn}
 use Rattle.dnw_encoder.specs.EmittedName.{EmitsAs, Share, in_mode, room_for}
-use Rattle.dnw_encoder.specs.EmittingLaws.{refused-same}
+use Rattle.dnw_encoder.specs.EmittingLaws.{fails-unchanged}
 use Rattle.dnw_encoder.proofs.NameBack.{names_take_no_more, size-in_mode}
 use Rattle.dnw_encoder.proofs.Suffixes.{length-all}
-use Rattle.dnw_name.specs.Names.{encoded_size}
+use Rattle.dnw_base.specs.Names.{encoded_size}
 use Rattle.dns_names_wire.specs.declared.script.Part.{Part}
 use Rattle.dns_names_wire.specs.declared.script.Part.TheVariants.{Name, U8, U16, I32, U32, Bytes, Text}
 use Rattle.dns_names_wire.specs.declared.script.Item.{Item}
 use Rattle.dns_names_wire.specs.Script.{EmitsPart, EmitsParts, EmitsScriptItem, in_encoding, part_size, item_size}
-use Rattle.dns_names_wire.specs.Replies.{HasText}
+use Rattle.dns_names_wire.specs.Replies.{HasTextOfSize}
 use Rattle.dns_names_wire.specs.ItemFrames.{frame-part}
 
 -- ---- what is accepted
@@ -115,22 +115,22 @@ name-same v w ls choice error h = absurd h
 -- nor do refused character data
 text-same : (v w : Encoder) (text : List ℕ) (error : ProtoError) → WritesText v text (Err error) w → w ≡ v
 text-same v w text (CharacterDataTooLong max len) h = h.3
-text-same v w text error h = refused-same v (length text ∷ text) error w h.1
+text-same v w text error h = fails-unchanged v (length text ∷ text) error w h.1
 
 -- a refused part changes nothing
 pub part-same : (part : Part) (v w : Encoder) (error : ProtoError) → EmitsPart part v (Err error) w → w ≡ v
 part-same (Name name) v w error h = name-same v w (in_mode v.encoding name.labels) h.choice error h.written_as
-part-same (U8 number) v w error h = refused-same v (number ∷ []) error w h
-part-same (U16 number) v w error h = refused-same v (to_be_bytes w16 number) error w h
-part-same (I32 number) v w error h = refused-same v (to_be_bytes w32 (cast_unsigned w32 number)) error w h
-part-same (U32 number) v w error h = refused-same v (to_be_bytes w32 number) error w h
-part-same (Bytes bytes) v w error h = refused-same v bytes.items error w h
+part-same (U8 number) v w error h = fails-unchanged v (number ∷ []) error w h
+part-same (U16 number) v w error h = fails-unchanged v (to_be_bytes w16 number) error w h
+part-same (I32 number) v w error h = fails-unchanged v (to_be_bytes w32 (cast_unsigned w32 number)) error w h
+part-same (U32 number) v w error h = fails-unchanged v (to_be_bytes w32 number) error w h
+part-same (Bytes bytes) v w error h = fails-unchanged v bytes.items error w h
 part-same (Text text) v w error h = text-same v w text.items error h
 
 -- why parts are refused that begin at a place
 abbrev pub RefusesParts : ℕ → ℕ → List Part → ProtoError → Type 0
 RefusesParts most start parts (MaxBufferSizeExceeded size) = most < start + sum_by part_size parts
-RefusesParts most start parts (CharacterDataTooLong max n) = (max ≡ 255) × (255 < n) × HasText n parts
+RefusesParts most start parts (CharacterDataTooLong max n) = (max ≡ 255) × (255 < n) × HasTextOfSize n parts
 RefusesParts most start parts Memory = Unit {0}
 RefusesParts most start parts error = ⊥
 
@@ -175,7 +175,7 @@ part-refused (Bytes bytes) parts v w error h = first-refused (Bytes bytes) parts
 part-refused (Text text) parts v w error h = text-refused text parts v w error h
 
 -- a text behind a part is one of the parts
-text-behind : (n : ℕ) (part : Part) (parts : List Part) → HasText n parts → HasText n (part ∷ parts)
+text-behind : (n : ℕ) (part : Part) (parts : List Part) → HasTextOfSize n parts → HasTextOfSize n (part ∷ parts)
 text-behind n (Text text) parts h = inr h
 text-behind n part parts h = h
 

@@ -1,9 +1,9 @@
 -- Pieces that stand in bytes still stand when bytes follow, and one more piece stands behind them.
 use Rattle.std.proofs.Common.{◌≡◌, ℕ, ◌+◌, List, [], ◌∷◌, ◌++◌, length, slice_range, refl, sym, ap, ◌∙◌, subst, arith}
 use Rattle.std.proofs.lemmas.List.{length-append, append-nil}
-use Rattle.dnw_name.specs.Reading.{NameAt}
-use Rattle.dnw_name.proofs.Stand.{Reads-append, slice_range-append}
-use Rattle.dnw_name.proofs.Back.{slice_range-middle}
+use Rattle.dnw_reading.specs.Reading.{NameAt}
+use Rattle.dnw_reading.proofs.Stand.{Reads-append, slice_range-append}
+use Rattle.dnw_reading.proofs.Back.{slice_range-middle}
 use Rattle.dns_names_wire.specs.Pieces.{Piece, name_piece, bytes_piece, place_piece, PieceAt, Spells}
 
 -- a name stands when bytes follow

@@ -4,10 +4,11 @@ use Rattle.std.proofs.Common.{◌≡◌, ℕ, ◌+◌, ◌&&◌, nat_lt, Bool, t
 use Rattle.std.specs.List.{flat_map}
 use Rattle.std.proofs.lemmas.List.{length-append, append-nil}
 use Rattle.dnw_encoder.specs.declared.encoder.modes.NameEncoding.{NameEncoding}
-use Rattle.dnw_name.specs.Names.{NameValue, AreLabels, encoded_size, wire}
-use Rattle.dnw_name.proofs.Back.{slice_range-middle}
-use Rattle.dnw_name.proofs.Wires.{length-wire}
-use Rattle.dnw_encoder.specs.Encoder.{Encoder, Candidate, written}
+use Rattle.dnw_base.specs.Names.{NameValue, AreLabels, encoded_size, wire}
+use Rattle.dnw_reading.proofs.Back.{slice_range-middle}
+use Rattle.dnw_base.proofs.Wires.{length-wire}
+use Rattle.dnw_encoder.specs.Encoder.{Encoder, written}
+use Rattle.dnw_candidates.specs.Candidates.{Candidate}
 use Rattle.dnw_encoder.specs.Emitting.{InTurn}
 use Rattle.dnw_encoder.specs.EmittedName.{Chooses, EmitsAs, EmitsName, Share, form, in_mode, is_compressed, so_far}
 use Rattle.dnw_encoder.specs.EmittingLaws.{take-all}

@@ -3,12 +3,13 @@ use Rattle.std.proofs.Common.{◌≡◌, ℕ, ◌+◌, ◌-◌, Option, Some, No
 use Rattle.std.specs.List.{flat_map}
 use Rattle.std.specs.Int.{w16, to_be_bytes}
 use Rattle.std.proofs.lemmas.List.{length-append, length-map, map-append, append-nil, take_all, take_at, drop_at}
-use Rattle.dnw_base.specs.declared.error.ProtoError.{ProtoError}
-use Rattle.dnw_base.specs.declared.error.ProtoError.TheVariants.{MaxBufferSizeExceeded, Memory}
-use Rattle.dnw_name.proofs.Back.{slice_range-middle}
-use Rattle.dnw_encoder.specs.Encoder.{Encoder, Candidate, TakesRoom, filled, moved_to, reserved}
+use Rattle.dnw_error.specs.declared.error.ProtoError.{ProtoError}
+use Rattle.dnw_error.specs.declared.error.ProtoError.TheVariants.{MaxBufferSizeExceeded, Memory}
+use Rattle.dnw_reading.proofs.Back.{slice_range-middle}
+use Rattle.dnw_encoder.specs.Encoder.{Encoder, TakesRoom, filled, moved_to, reserved}
+use Rattle.dnw_candidates.specs.Candidates.{Candidate}
 use Rattle.dnw_encoder.specs.Emitting.{rolled_back}
-use Rattle.dnw_encoder.specs.EmittingLaws.{refused-same}
+use Rattle.dnw_encoder.specs.EmittingLaws.{fails-unchanged}
 use Rattle.dns_names_wire.specs.declared.script.Part.{Part}
 use Rattle.dns_names_wire.specs.declared.script.Item.{Item}
 use Rattle.dns_names_wire.specs.declared.script.Reply.{Reply}
@@ -205,7 +206,7 @@ step-fill old cs f a v w place value (Some end) (Done len) good here h =
     goes-same old cs (update f place value) b (filled v (end - 2) d) w (good-filled old cs f a v place value end good here) made
 step-fill old cs f a v w place value (Some end) (Refused error len) good here h =
     let d = to_be_bytes w16 value in
-    let same : w ≡ v = h.0.2 ∙ ap (λ (x : Encoder). moved_to x v.offset) (refused-same (moved_to v (end - 2)) d error h.0.0 h.0.1) in
+    let same : w ≡ v = h.0.2 ∙ ap (λ (x : Encoder). moved_to x v.offset) (fails-unchanged (moved_to v (end - 2)) d error h.0.0 h.0.1) in
     goes-same old cs f (record a { places = spent place a.places }) v w (good-spent old cs f a v place good) same
 step-fill old cs f a v w place value (Some end) reply good here h = absurd h
 

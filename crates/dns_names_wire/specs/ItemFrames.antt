@@ -3,7 +3,7 @@ use Rattle.std.proofs.Common.{◌≡◌, ◌∷◌, List, [], length, Option, So
 use Rattle.std.specs.Int.{w16, w32, to_be_bytes, cast_unsigned}
 use Rattle.dnw_encoder.specs.declared.encoder.modes.NameEncoding.{NameEncoding}
 use Rattle.dnw_encoder.specs.Encoder.{Encoder}
-use Rattle.dnw_encoder.specs.Emitting.{Answer, Frame}
+use Rattle.dnw_encoder.specs.Emitting.{Outcome, Frame}
 use Rattle.dnw_encoder.specs.EmittingLaws.{frame, frame-same, frame-text, frames-follow}
 use Rattle.dnw_encoder.specs.NameFrames.{frame-name}
 use Rattle.dns_names_wire.specs.declared.script.Part.{Part}
@@ -11,16 +11,16 @@ use Rattle.dns_names_wire.specs.declared.script.Part.TheVariants.{Name, U8, U16,
 use Rattle.dns_names_wire.specs.declared.script.Item.{Item}
 use Rattle.dns_names_wire.specs.Script.{EmitsPart, EmitsParts, EmitsScriptItem, in_encoding}
 
-pub frame-part : (part : Part) (v : Encoder) (answer : Answer) (w : Encoder) → v.offset ≡ length v.bytes → EmitsPart part v answer w → Frame v answer w
-frame-part (Name name) v answer w e h = frame-name name v answer w e h
-frame-part (U8 number) v answer w e h = frame v (number ∷ []) answer w e h
-frame-part (U16 number) v answer w e h = frame v (to_be_bytes w16 number) answer w e h
-frame-part (I32 number) v answer w e h = frame v (to_be_bytes w32 (cast_unsigned w32 number)) answer w e h
-frame-part (U32 number) v answer w e h = frame v (to_be_bytes w32 number) answer w e h
-frame-part (Bytes bytes) v answer w e h = frame v bytes.items answer w e h
-frame-part (Text text) v answer w e h = frame-text v text.items answer w e h
+pub frame-part : (part : Part) (v : Encoder) (outcome : Outcome) (w : Encoder) → v.offset ≡ length v.bytes → EmitsPart part v outcome w → Frame v outcome w
+frame-part (Name name) v outcome w e h = frame-name name v outcome w e h
+frame-part (U8 number) v outcome w e h = frame v (number ∷ []) outcome w e h
+frame-part (U16 number) v outcome w e h = frame v (to_be_bytes w16 number) outcome w e h
+frame-part (I32 number) v outcome w e h = frame v (to_be_bytes w32 (cast_unsigned w32 number)) outcome w e h
+frame-part (U32 number) v outcome w e h = frame v (to_be_bytes w32 number) outcome w e h
+frame-part (Bytes bytes) v outcome w e h = frame v bytes.items outcome w e h
+frame-part (Text text) v outcome w e h = frame-text v text.items outcome w e h
 
-pub frame-parts : (parts : List Part) (v : Encoder) (answer : Answer) (w : Encoder) → v.offset ≡ length v.bytes → EmitsParts parts v answer w → Frame v answer w
+pub frame-parts : (parts : List Part) (v : Encoder) (outcome : Outcome) (w : Encoder) → v.offset ≡ length v.bytes → EmitsParts parts v outcome w → Frame v outcome w
 frame-parts [] v (Ok tt) w e h = let P : Encoder → Type 0 = λ x. Frame v (Ok tt) x in subst P (sym h) (frame-same v (Ok tt) e)
 frame-parts [] v (Err error) w e h = absurd h
 frame-parts (part ∷ parts) v (Ok tt) w e h =
@@ -35,9 +35,9 @@ frame-parts (part ∷ parts) v (Err error) w e h =
     ]
 
 -- the mode makes no difference to the frame but for itself
-frame-in_mode : (v : Encoder) (mode : NameEncoding) (answer : Answer) (u : Encoder) → Frame (record v { encoding = mode }) answer u
-    → Frame v answer (record u { encoding = v.encoding })
-frame-in_mode v mode answer u f =
+frame-in_mode : (v : Encoder) (mode : NameEncoding) (outcome : Outcome) (u : Encoder) → Frame (record v { encoding = mode }) outcome u
+    → Frame v outcome (record u { encoding = v.encoding })
+frame-in_mode v mode outcome u f =
     record {
       bytes = f.bytes;
       candidates = f.candidates;
@@ -49,12 +49,12 @@ frame-in_mode v mode answer u f =
       ends = f.ends;
     }
 
-framed : (item : Item) (mode : Option NameEncoding) (v : Encoder) (answer : Answer) (u : Encoder) → v.offset ≡ length v.bytes
-    → EmitsParts item.parts.items (in_encoding mode v) answer u → Frame v answer (record u { encoding = v.encoding })
-framed item None v answer u e h = frame-in_mode v v.encoding answer u (frame-parts item.parts.items v answer u e h)
-framed item (Some mode) v answer u e h = frame-in_mode v mode answer u (frame-parts item.parts.items (record v { encoding = mode }) answer u e h)
+framed : (item : Item) (mode : Option NameEncoding) (v : Encoder) (outcome : Outcome) (u : Encoder) → v.offset ≡ length v.bytes
+    → EmitsParts item.parts.items (in_encoding mode v) outcome u → Frame v outcome (record u { encoding = v.encoding })
+framed item None v outcome u e h = frame-in_mode v v.encoding outcome u (frame-parts item.parts.items v outcome u e h)
+framed item (Some mode) v outcome u e h = frame-in_mode v mode outcome u (frame-parts item.parts.items (record v { encoding = mode }) outcome u e h)
 
-pub frame-item : (item : Item) (v : Encoder) (answer : Answer) (w : Encoder) → v.offset ≡ length v.bytes → EmitsScriptItem item v answer w → Frame v answer w
-frame-item item v answer w e h =
-    let P : Encoder → Type 0 = λ x. Frame v answer x in
-    subst P (sym h.2) (framed item item.encoding v answer h.0 e h.1)
+pub frame-item : (item : Item) (v : Encoder) (outcome : Outcome) (w : Encoder) → v.offset ≡ length v.bytes → EmitsScriptItem item v outcome w → Frame v outcome w
+frame-item item v outcome w e h =
+    let P : Encoder → Type 0 = λ x. Frame v outcome x in
+    subst P (sym h.2) (framed item item.encoding v outcome h.0 e h.1)

@@ -3,6 +3,6 @@ pub mod Pieces
 pub mod Replies
 pub mod Runs
 pub mod ItemFrames
-pub mod Running
+pub mod Inside
 pub mod Finished
 pub mod ScriptLaws

@@ -1,12 +1,13 @@
--- What a script writes, as steps and replies alone tell it, and what it is for it to stand in a message.
+-- What a script writes, as its steps and replies alone say, and what it means that a message has it.
 use Rattle.std.specs.Prelude.{◌≡◌, ℕ, zero, suc, ◌+◌, ◌≤◌, Bool, true, false, ◌==◌, if◌then◌else◌, List, [], ◌∷◌, ◌++◌, length, map, take, slice_range, Option, Some, None}
 use Rattle.std.specs.List.{flat_map}
 use Rattle.std.specs.Int.{w16, w32, to_be_bytes, cast_unsigned}
 use Rattle.dnw_encoder.specs.declared.encoder.modes.NameEncoding.{NameEncoding}
 use Rattle.dnw_encoder.specs.declared.encoder.modes.NameEncoding.TheVariants.{Compressed}
 use Rattle.dnw_encoder.specs.EmittedName.{in_mode, is_compressed}
-use Rattle.dnw_name.specs.Names.{encoded_size}
-use Rattle.dnw_name.specs.Reading.{NameAt}
+use Rattle.dnw_base.specs.Limits.{max_message}
+use Rattle.dnw_base.specs.Names.{encoded_size}
+use Rattle.dnw_reading.specs.Reading.{NameAt}
 use Rattle.dns_names_wire.specs.declared.script.Part.{Part}
 use Rattle.dns_names_wire.specs.declared.script.Part.TheVariants.{Name, U8, U16, I32, U32, Bytes, Text}
 use Rattle.dns_names_wire.specs.declared.script.Item.{Item}
@@ -16,14 +17,14 @@ use Rattle.dns_names_wire.specs.Script.{Action, write, set_max, set_encoding, re
 
 -- ---- pieces
 
--- A piece of a message: a name that a mode wrote, other bytes, or a place with its number and what fills it.
+-- A piece of a message: a name that is written in a mode, other bytes, or a placeholder with its number and its value.
 pub data Piece : Type 0 where
   name_piece : NameEncoding → List (List ℕ) → Piece
   bytes_piece : List ℕ → Piece
   place_piece : ℕ → ℕ → Piece
 
--- A name is read there, as its mode writes it, and takes no more bytes than its uncompressed form, and in a mode
--- without compression just as many. Other bytes stand there as they are.
+-- From p to e a name is read, as its mode writes it: in no more bytes than its wire form, and in a mode without
+-- compression in just as many. Other bytes are there as they are.
 abbrev pub PieceAt : List ℕ → Piece → ℕ → ℕ → Type 0
 PieceAt b (name_piece mode labels) p e =
     (pointers : ℕ) × NameAt b p (in_mode mode labels) e pointers × (e ≤ p + encoded_size labels)
@@ -31,19 +32,19 @@ PieceAt b (name_piece mode labels) p e =
 PieceAt b (bytes_piece bytes) p e = (slice_range b p e ≡ bytes) × (e ≡ p + length bytes) × (e ≤ length b)
 PieceAt b (place_piece number value) p e = (slice_range b p e ≡ to_be_bytes w16 value) × (e ≡ p + 2) × (e ≤ length b)
 
--- the pieces stand from p to q, one behind the other
+-- the pieces are there from p to q, one after the other
 abbrev pub Spells : List ℕ → List Piece → ℕ → ℕ → Type 0
 Spells b [] p q = p ≡ q
 Spells b (piece ∷ pieces) p q = (e : ℕ) × PieceAt b piece p e × Spells b pieces e q
 
 -- ---- the account of a script
 
--- a place that was kept: where it ends, and whether it may still be filled
+-- a placeholder: the offset after it, and whether it may still be filled
 pub record Slot : Type 0 where
   pub end : ℕ
   pub is_open : Bool
 
--- what steps and replies tell: the length of the buffer, the maximum and the mode in force, the pieces, the places
+-- what steps and replies say: the length of the buffer, the maximum and the mode in force, the pieces, the placeholders
 pub record Account : Type 0 where
   pub len : ℕ
   pub max : ℕ
@@ -52,7 +53,7 @@ pub record Account : Type 0 where
   pub places : List Slot
 
 abbrev pub opening : ℕ → Account
-opening len = record { len = len; max = 65535; mode = Compressed; pieces = []; places = [] }
+opening len = record { len = len; max = max_message; mode = Compressed; pieces = []; places = [] }
 
 abbrev pub with_piece : Account → Piece → ℕ → Account
 with_piece a piece len = record a { len = len; pieces = a.pieces ++ piece ∷ [] }
@@ -73,18 +74,18 @@ mode_or (Some own) mode = own
 abbrev pub item_pieces : NameEncoding → Item → List Piece
 item_pieces mode item = map (part_piece (mode_or item.encoding mode)) item.parts.items
 
--- the place of this number, with this value
+-- the piece, with this value if it is the placeholder of this number
 abbrev pub filled_with : ℕ → ℕ → Piece → Piece
 filled_with number value (place_piece n old) = place_piece n (if n == number then value else old)
 filled_with number value piece = piece
 
--- the places, the one of this number spent
+-- the placeholders, the one of this number used up
 abbrev pub spent : ℕ → List Slot → List Slot
 spent number [] = []
 spent zero (slot ∷ slots) = record { end = slot.end; is_open = false } ∷ slots
 spent (suc number) (slot ∷ slots) = slot ∷ spent number slots
 
--- One more step was answered.
+-- one more step and its reply
 abbrev pub after : Account → Action → Reply → Account
 after a (write p) (Done len) = with_piece a (part_piece a.mode p) len
 after a (set_max size) (Done len) = record a { max = size }
@@ -99,8 +100,8 @@ after a (fill place value) (Refused error len) = record a { places = spent place
 after a (write_items items) (Items count error len) = record a { len = len; pieces = a.pieces ++ flat_map (item_pieces a.mode) (take count items) }
 after a action reply = a
 
--- what the steps and replies tell, from an account on
-abbrev pub told : Account → List Action → List Reply → Account
-told a [] replies = a
-told a (action ∷ actions) [] = a
-told a (action ∷ actions) (reply ∷ replies) = told (after a action reply) actions replies
+-- what the steps and replies say, from an account on
+abbrev pub account_from : Account → List Action → List Reply → Account
+account_from a [] replies = a
+account_from a (action ∷ actions) [] = a
+account_from a (action ∷ actions) (reply ∷ replies) = account_from (after a action reply) actions replies

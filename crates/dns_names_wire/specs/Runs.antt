@@ -2,11 +2,12 @@
 use Rattle.std.specs.Prelude.{◌≡◌, ℕ, ◌-◌, List, [], ◌∷◌, ◌++◌, length, Option, Some, None, Ok, Err}
 use Rattle.std.specs.List.{AllByRecursion}
 use Rattle.std.specs.Int.{w16, to_be_bytes}
-use Rattle.dnw_encoder.specs.Encoder.{Encoder, Candidate, Writes, TakesRoom, fresh, moved_to, reserved}
-use Rattle.dnw_encoder.specs.Emitting.{Answer, EmitsItem, InTurn}
+use Rattle.dnw_encoder.specs.Encoder.{Encoder, Writes, TakesRoom, fresh, moved_to, reserved}
+use Rattle.dnw_candidates.specs.Candidates.{Candidate}
+use Rattle.dnw_encoder.specs.Emitting.{Outcome, EmitsItem, InTurn}
 use Rattle.dnw_encoder.specs.EmittedName.{so_far}
-use Rattle.dnw_name.specs.Names.{labels_wire}
-use Rattle.dnw_name.specs.Reading.{NameAt}
+use Rattle.dnw_base.specs.Names.{labels_wire}
+use Rattle.dnw_reading.specs.Reading.{NameAt}
 use Rattle.dns_names_wire.specs.declared.script.Item.{Item}
 use Rattle.dns_names_wire.specs.declared.script.Reply.{Reply}
 use Rattle.dns_names_wire.specs.declared.script.Reply.TheVariants.{Done, Refused, NoPlace, Items}
@@ -14,21 +15,21 @@ use Rattle.dns_names_wire.specs.Script.{Action, write, set_max, set_encoding, re
 use Rattle.dns_names_wire.specs.Pieces.{Account, after, opening}
 use Rattle.dns_names_wire.specs.Replies.{open_place}
 
--- a write was answered, and the length is told
-abbrev pub Tells : (Answer → Encoder → Type 0) → Reply → Encoder → Type 0
-Tells writes (Done len) w = writes (Ok tt) w × (len ≡ length w.bytes)
-Tells writes (Refused error len) w = writes (Err error) w × (len ≡ length w.bytes)
-Tells writes reply w = ⊥
+-- the reply to a write, with the length of the buffer after it
+abbrev pub GivesReply : (Outcome → Encoder → Type 0) → Reply → Encoder → Type 0
+GivesReply writes (Done len) w = writes (Ok tt) w × (len ≡ length w.bytes)
+GivesReply writes (Refused error len) w = writes (Err error) w × (len ≡ length w.bytes)
+GivesReply writes reply w = ⊥
 
--- two bytes were written at the place that ends there, and the offset put back
-abbrev pub Fills : Encoder → ℕ → ℕ → Answer → Encoder → Type 0
-Fills v end value answer w = (u : Encoder) × Writes (moved_to v (end - 2)) (to_be_bytes w16 value) answer u × (w ≡ moved_to u v.offset)
+-- two bytes are written into the placeholder that ends there, and the offset put back
+abbrev pub Fills : Encoder → ℕ → ℕ → Outcome → Encoder → Type 0
+Fills v end value outcome w = (u : Encoder) × Writes (moved_to v (end - 2)) (to_be_bytes w16 value) outcome u × (w ≡ moved_to u v.offset)
 
 abbrev pub RunsFill : Encoder → Option ℕ → ℕ → Reply → Encoder → Type 0
 RunsFill v None value reply w = (reply ≡ NoPlace) × (w ≡ v)
-RunsFill v (Some end) value reply w = Tells (Fills v end value) reply w
+RunsFill v (Some end) value reply w = GivesReply (Fills v end value) reply w
 
--- The first items were written in turn, so many, and the next one, if there is one, was refused and undone.
+-- The first items are written in turn, and the next one, if there is one, fails and is rolled back.
 abbrev pub RunsItems : Encoder → List Item → Reply → Encoder → Type 0
 RunsItems v items (Items count None len) w = InTurn EmitsScriptItem v items w × (count ≡ length items) × (len ≡ length w.bytes)
 RunsItems v items (Items count (Some error) len) w =
@@ -38,10 +39,10 @@ RunsItems v items reply w = ⊥
 
 -- one step
 abbrev pub RunsStep : Account → Encoder → Action → Reply → Encoder → Type 0
-RunsStep a v (write part) reply w = Tells (EmitsPart part v) reply w
+RunsStep a v (write part) reply w = GivesReply (EmitsPart part v) reply w
 RunsStep a v (set_max size) reply w = (reply ≡ Done (length w.bytes)) × (w ≡ record v { max_size = size })
 RunsStep a v (set_encoding mode) reply w = (reply ≡ Done (length w.bytes)) × (w ≡ record v { encoding = mode })
-RunsStep a v reserve reply w = Tells (TakesRoom v 2 (reserved v 2)) reply w
+RunsStep a v reserve reply w = GivesReply (TakesRoom v 2 (reserved v 2)) reply w
 RunsStep a v (fill place value) reply w = RunsFill v (open_place place a.places) value reply w
 RunsStep a v (write_items items) reply w = RunsItems v items reply w
 
@@ -56,7 +57,7 @@ Runs a v (action ∷ actions) (reply ∷ replies) w = (m : Encoder) × RunsStep 
 abbrev pub beginning : List ℕ → ℕ → ℕ → Encoder
 beginning old candidates names = record (fresh old (length old)) { candidate_limit = candidates; name_limit = names }
 
--- A candidate is usable: the message that is written so far has, at its place, a name whose labels have its bytes.
+-- A candidate is usable: at its offset, the message that is written so far has a name whose labels have its bytes.
 pub record IsUseful (v : Encoder) (c : Candidate) : Type 0 where
   pub labels : List (List ℕ)
   pub bytes : c.1 ≡ labels_wire labels

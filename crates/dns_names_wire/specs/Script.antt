@@ -5,14 +5,14 @@ use Rattle.dnw_encoder.specs.declared.encoder.modes.NameEncoding.{NameEncoding}
 use Rattle.dnw_encoder.specs.Encoder.{Encoder, Writes, WritesText}
 use Rattle.dnw_encoder.specs.Emitting.{Emits}
 use Rattle.dnw_encoder.specs.EmittedName.{EmitsName}
-use Rattle.dnw_name.specs.Names.{encoded_size}
+use Rattle.dnw_base.specs.Names.{encoded_size}
 use Rattle.dns_names_wire.specs.declared.script.Part.{Part}
 use Rattle.dns_names_wire.specs.declared.script.Part.TheVariants.{Name, U8, U16, I32, U32, Bytes, Text}
 use Rattle.dns_names_wire.specs.declared.script.Item.{Item}
 use Rattle.dns_names_wire.specs.declared.script.Step.{Step}
 use Rattle.dns_names_wire.specs.declared.script.Step.TheVariants as step
 
--- What a step asks for: seven of its kinds are a part.
+-- What a step does: seven kinds of steps write a part.
 pub data Action : Type 0 where
   write : Part → Action
   set_max : ℕ → Action
@@ -36,15 +36,15 @@ action (step.Fill place value) = fill place value
 action (step.Items items) = write_items items.items
 
 abbrev pub EmitsPart : Emits Part
-EmitsPart (Name name) v answer w = EmitsName name v answer w
-EmitsPart (U8 number) v answer w = Writes v (number ∷ []) answer w
-EmitsPart (U16 number) v answer w = Writes v (to_be_bytes w16 number) answer w
-EmitsPart (I32 number) v answer w = Writes v (to_be_bytes w32 (cast_unsigned w32 number)) answer w
-EmitsPart (U32 number) v answer w = Writes v (to_be_bytes w32 number) answer w
-EmitsPart (Bytes bytes) v answer w = Writes v bytes.items answer w
-EmitsPart (Text text) v answer w = WritesText v text.items answer w
+EmitsPart (Name name) v outcome w = EmitsName name v outcome w
+EmitsPart (U8 number) v outcome w = Writes v (number ∷ []) outcome w
+EmitsPart (U16 number) v outcome w = Writes v (to_be_bytes w16 number) outcome w
+EmitsPart (I32 number) v outcome w = Writes v (to_be_bytes w32 (cast_unsigned w32 number)) outcome w
+EmitsPart (U32 number) v outcome w = Writes v (to_be_bytes w32 number) outcome w
+EmitsPart (Bytes bytes) v outcome w = Writes v bytes.items outcome w
+EmitsPart (Text text) v outcome w = WritesText v text.items outcome w
 
--- The parts were written in turn, up to the first refused one.
+-- The parts are written in turn, up to the first that fails.
 abbrev pub EmitsParts : Emits (List Part)
 EmitsParts [] v (Ok done) w = w ≡ v
 EmitsParts [] v (Err error) w = ⊥
@@ -56,10 +56,10 @@ abbrev pub in_encoding : Option NameEncoding → Encoder → Encoder
 in_encoding None v = v
 in_encoding (Some mode) v = record v { encoding = mode }
 
--- An item's parts were written in its mode, and the former mode put back.
+-- An item's parts are written in its mode, and the former mode put back.
 abbrev pub EmitsScriptItem : Emits Item
-EmitsScriptItem item v answer w =
-    (u : Encoder) × EmitsParts item.parts.items (in_encoding item.encoding v) answer u × (w ≡ record u { encoding = v.encoding })
+EmitsScriptItem item v outcome w =
+    (u : Encoder) × EmitsParts item.parts.items (in_encoding item.encoding v) outcome u × (w ≡ record u { encoding = v.encoding })
 
 -- ---- sizes
 

@@ -5,16 +5,16 @@ use Rattle.dnw_encoder.specs.Encoder.{Encoder}
 use Rattle.dns_names_wire.specs.declared.script.Reply.{Reply}
 use Rattle.dns_names_wire.specs.Script.{Action}
 use Rattle.dns_names_wire.specs.Pieces.{opening}
-use Rattle.dns_names_wire.specs.Replies.{AnswersAll}
+use Rattle.dns_names_wire.specs.Replies.{RepliesTo}
 use Rattle.dns_names_wire.specs.Runs.{Runs, IsUseful, beginning}
 use Rattle.dns_names_wire.specs.Finished.{Finished, Shortest}
 
--- Each step is answered by its definition.
-abbrev pub RunsAnswer : Type 0
-RunsAnswer = (old : List ℕ) (candidates names : ℕ) (actions : List Action) (replies : List Reply) (w : Encoder)
-    → Runs (opening (length old)) (beginning old candidates names) actions replies w → AnswersAll (opening (length old)) actions replies
+-- Each step has the reply that its definition says.
+abbrev pub RunsReply : Type 0
+RunsReply = (old : List ℕ) (candidates names : ℕ) (actions : List Action) (replies : List Reply) (w : Encoder)
+    → Runs (opening (length old)) (beginning old candidates names) actions replies w → RepliesTo (opening (length old)) actions replies
 
--- The pieces stand in the finished bytes.
+-- The finished bytes hold the pieces.
 abbrev pub RunsFinish : Type 0
 RunsFinish = (old : List ℕ) (candidates names : ℕ) (actions : List Action) (replies : List Reply) (w : Encoder)
     → Runs (opening (length old)) (beginning old candidates names) actions replies w → Finished old actions replies w.bytes
@@ -24,7 +24,7 @@ abbrev pub RunsStayUseful : Type 0
 RunsStayUseful = (old : List ℕ) (candidates names : ℕ) (actions : List Action) (replies : List Reply) (w : Encoder)
     → Runs (opening (length old)) (beginning old candidates names) actions replies w → AllByRecursion (IsUseful w) w.candidates
 
--- Names are as short as can be.
+-- Names are as short as possible.
 abbrev pub RunsAreShortest : Type 0
 RunsAreShortest = (old : List ℕ) (candidates names : ℕ) (actions : List Action) (replies : List Reply) (w : Encoder)
     → Runs (opening (length old)) (beginning old candidates names) actions replies w → Shortest (length old) candidates names actions replies

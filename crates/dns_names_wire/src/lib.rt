@@ -1,9 +1,9 @@
 //! The lowest layer of DNS, proved: names, labels and the binary wire format.
 //!
-//! Each module shows what users of this layer call. What its contracts speak of stands in the crates below.
+//! Each module has what users of this layer call. The words of its contracts are those of `specs/Words.antt`.
 #![tactic(auto)]
 
-/// What is read from messages, and what is written into them.
+/// Types that are read from messages or written into them.
 pub mod binary {
     pub use dnw_encoder::binary::{BinEncodable, EncodedSize};
     pub use dnw_name::binary::BinDecodable;
@@ -17,31 +17,36 @@ pub mod decoder {
 /// Writing messages of a bounded size, and what follows from the definitions of writing.
 pub mod encoder {
     pub use dnw_encoder::encoder::{
-        BinEncoder, ModalEncoder, NameEncoding, Place, RDataEncoding, laws,
+        BinEncoder, CANDIDATE_LIMIT, ModalEncoder, NAME_LIMIT, NameEncoding, Place, RDataEncoding,
+        laws,
     };
 }
 
 /// The errors of this layer.
 pub mod error {
-    pub use dnw_base::error::{DecodeError, ProtoError, ProtoResult};
+    pub use dnw_error::error::{DecodeError, ProtoError, ProtoResult};
 }
 
 /// Labels, of which names are made.
 pub mod label {
-    pub use dnw_base::label::{IntoLabel, Label};
+    pub use dnw_label::label::{IntoLabel, Label};
 }
 
 /// Domain names, and what follows from the definitions of reading them.
 pub mod name {
-    pub use dnw_name::name::{LabelIter, Name, laws};
+    pub use dnw_form::label_iter::LabelIter;
+    pub use dnw_name::name::Name;
+    pub use dnw_reading::laws;
 }
 
-/// Names that stand in a message, and are walked without copying.
+/// Names within a message, which are walked without a copy.
 pub mod name_ref {
-    pub use dnw_name::name_ref::{NameRef, ReadSteps, RefLabels};
+    pub use dnw_name::name_ref::NameRef;
+    pub use dnw_reading::ref_labels::RefLabels;
+    pub use dnw_reading::walk::ReadSteps;
 }
 
-/// Values that came from a stranger.
+/// Values from a stranger, which have to be verified.
 pub mod restrict {
     pub use dnw_base::restrict::{Restrict, RestrictedMath, Verified};
 }

@@ -1,6 +1,6 @@
-//! Scripts: messages written step by step, with an answer for each step.
-use dnw_base::error::ProtoError;
+//! Scripts: messages that are written step by step, with a reply to each step.
 use dnw_encoder::encoder::NameEncoding;
+use dnw_error::error::ProtoError;
 use dnw_name::name::Name;
 
 mod emit;
@@ -9,8 +9,8 @@ mod running;
 
 pub use running::{run, run_limited};
 
-/// One step of a script.
-#[derive(Drop)]
+/// A step of a script.
+#[derive(Debug, Drop)]
 pub enum Step {
     /// Writes a name in the mode in force.
     Name(Name),
@@ -22,38 +22,38 @@ pub enum Step {
     I32(i32),
     /// Writes a number in network byte order.
     U32(u32),
-    /// Writes bytes as they are.
+    /// Writes bytes.
     Bytes(Vec<u8>),
     /// Writes character data: a length octet and at most 255 bytes (RFC 1035, section 3.3).
     Text(Vec<u8>),
-    /// Sets the size that no later step goes past.
+    /// Sets the maximum size of the buffer for the steps after it.
     Max(u16),
-    /// Sets how later names are written.
+    /// Sets how names are written after it.
     Encoding(NameEncoding),
-    /// Keeps a place of two bytes, which are zero until it is filled. Accepted ones are numbered from 0.
+    /// Reserves a placeholder of two bytes, which are zero until it is filled. Placeholders are numbered from 0.
     Reserve,
-    /// Fills a place, once.
+    /// Fills a placeholder, once.
     Fill {
-        /// The place's number.
+        /// The placeholder's number.
         place: usize,
-        /// What is written there, in network byte order.
+        /// The value, written in network byte order.
         value: u16,
     },
-    /// Writes items in turn; the first one that is refused is undone, and those behind it are not written.
+    /// Writes items in turn. The first one that fails is rolled back, and those after it are not written.
     Items(Vec<Item>),
 }
 
-/// An item: parts that are written or undone together.
-#[derive(Drop)]
+/// An item: parts that are written or rolled back together.
+#[derive(Debug, Drop)]
 pub struct Item {
     /// How its names are written, if not in the mode in force.
     pub encoding: Option<NameEncoding>,
-    /// What it is made of.
+    /// Its parts, in their order.
     pub parts: Vec<Part>,
 }
 
 /// A part of an item.
-#[derive(Drop)]
+#[derive(Debug, Drop)]
 pub enum Part {
     /// A name.
     Name(Name),
@@ -65,34 +65,34 @@ pub enum Part {
     I32(i32),
     /// A number in network byte order.
     U32(u32),
-    /// Bytes as they are.
+    /// Bytes.
     Bytes(Vec<u8>),
     /// Character data: a length octet and at most 255 bytes (RFC 1035, section 3.3).
     Text(Vec<u8>),
 }
 
-/// How a step was answered.
+/// The reply to a step.
 #[derive(Debug, Drop)]
 pub enum Reply {
-    /// It was done.
+    /// The step was done.
     Done {
         /// The length of the buffer after the step.
         len: usize,
     },
-    /// It was refused, and changed nothing; a place that was to be filled is spent.
+    /// The step failed and changed nothing, except that a placeholder that was to be filled is used up.
     Refused {
         /// Why.
         error: ProtoError,
         /// The length of the buffer after the step.
         len: usize,
     },
-    /// No accepted step before it kept a place of this number, or the place is spent.
+    /// There is no placeholder of this number, or it is used up.
     NoPlace,
     /// Items were written.
     Items {
-        /// How many.
+        /// Their number.
         count: usize,
-        /// Why the next one was refused, if there is one.
+        /// Why the next one failed, if it did.
         error: Option<ProtoError>,
         /// The length of the buffer after the step.
         len: usize,

@@ -1,7 +1,6 @@
+pub mod Limits
 pub mod Labels
-pub mod Copies
-pub mod Fault
-pub mod LabelText
+pub mod Names
 pub mod Decoder
 pub mod Verified
 pub mod Checked

@@ -1,4 +1,4 @@
--- What a contract sees of a verified value: the value, and the verdict.
+-- What a contract sees of a verified value: the value, and the verdict of the test.
 use Rattle.std.specs.Prelude.{Bool}
 use Rattle.std.specs.Borrow.{Bor}
 use Rattle.dnw_base.specs.declared.restrict.Verified.{Verified}

@@ -1,16 +1,19 @@
 //! A cursor over the bytes of a message.
-ghost use Rattle.std.specs.Prelude.{◌≡◌, ℕ, ◌+◌, ◌-◌, ◌≤◌, ◌↔◌, List, length, IsTrue, IsOk, IfOk, IfErr, OnOk, OnErr, IsErrOf, ◌⊎◌, Some, slice_get, slice_index, slice_range};
+ghost use Rattle.std.specs.Prelude.{◌≡◌, ℕ, ◌+◌, ◌-◌, ◌≤◌, ◌↔◌, ⊤, List, length, IsTrue, IsOk, IfOk, IfErr, Some, slice_get, slice_index, slice_range};
 ghost use Rattle.std.specs.Int.{w16, w32, from_be_bytes, cast_signed};
-ghost use Rattle.dnw_base.specs.Decoder.{Decoder, HasLeft, next_bytes, moved};
+ghost use Rattle.dnw_base.specs.Decoder.{Decoder, Takes, TakesCopy, next_bytes, advanced};
 
-use crate::error::DecodeError;
 use crate::restrict::Restrict;
+use dnw_error::error::DecodeError;
 use std::alloc::Global;
 use std::marker::Model;
 
-/// Reads a message from the left. What it lends lives as long as the message.
+/// Reads a message from the left. The slices that it lends live as long as the message.
 ///
-/// A contract sees it as the message's bytes and the index of the next one.
+/// A read fails with `InsufficientBytes` if the message has too few bytes left. A call that fails leaves the decoder
+/// unchanged. Only `read_vec` allocates.
+///
+/// A contract sees a decoder as the message's bytes and the index of the next one.
 #[derive(Drop)]
 pub struct BinDecoder<'a> {
     buffer: &'a [u8],
@@ -29,7 +32,7 @@ impl<'a> Model for BinDecoder<'a> {
 }
 
 impl<'a> BinDecoder<'a> {
-    /// A decoder at the first byte of a message.
+    /// Creates a decoder at the first byte of a message.
     #[inline(always)]
     pub fn new(buffer: &'a [u8]) -> Self
         ensures { result ≡ record { bytes = buffer.now; index = 0 } }
@@ -40,11 +43,7 @@ impl<'a> BinDecoder<'a> {
     /// Reads one byte.
     #[inline(always)]
     pub fn pop(&mut self) -> Result<Restrict<u8>, DecodeError>
-        ensures enough { IsOk result ↔ HasLeft self.old 1 }
-        ensures byte { IfOk result (λ byte. slice_get self.old.bytes self.old.index ≡ Some byte) }
-        ensures moved { OnOk result (self.new ≡ moved self.old 1) }
-        ensures error { IfErr result (λ e. e ≡ DecodeError.InsufficientBytes) }
-        ensures same { OnErr result (self.new ≡ self.old) }
+        ensures takes { Takes self.old 1 (λ byte. slice_get self.old.bytes self.old.index ≡ Some byte) result self.new }
     {
         if self.index == self.buffer.len() {
             return Err(DecodeError::InsufficientBytes);
@@ -54,7 +53,7 @@ impl<'a> BinDecoder<'a> {
         Ok(Restrict::new(byte))
     }
 
-    /// The number of bytes that are left.
+    /// Returns the number of bytes that are left.
     #[inline(always)]
     pub fn len(&self) -> usize
         ensures { self.now.index + result ≡ length self.now.bytes }
@@ -62,7 +61,7 @@ impl<'a> BinDecoder<'a> {
         self.buffer.len() - self.index
     }
 
-    /// Whether no byte is left.
+    /// Returns `true` if no byte is left.
     #[inline(always)]
     pub fn is_empty(&self) -> bool
         ensures { IsTrue result ↔ (self.now.index ≡ length self.now.bytes) }
@@ -70,7 +69,7 @@ impl<'a> BinDecoder<'a> {
         self.index == self.buffer.len()
     }
 
-    /// The next byte, which stays the next.
+    /// Returns the next byte without moving past it, or `None` at the end of the message.
     #[inline(always)]
     pub fn peek(&self) -> Option<Restrict<u8>>
         ensures { result ≡ slice_get self.now.bytes self.now.index }
@@ -81,7 +80,7 @@ impl<'a> BinDecoder<'a> {
         Some(Restrict::new(self.buffer[self.index]))
     }
 
-    /// The index of the next byte in the message.
+    /// Returns the index of the next byte in the message.
     #[inline(always)]
     pub fn index(&self) -> usize
         ensures index { result ≡ self.now.index }
@@ -90,7 +89,17 @@ impl<'a> BinDecoder<'a> {
         self.index
     }
 
-    /// A decoder of the same message at another index, which has to be within the message.
+    /// Returns the whole message, whatever was read of it.
+    #[inline(always)]
+    pub fn message(&self) -> &'a [u8]
+        ensures { result.now ≡ self.now.bytes }
+    {
+        self.buffer
+    }
+
+    /// Creates a decoder of the same message at another index, which must be within the message.
+    ///
+    /// `BinDecoder::new(decoder.message())` and then `skip` reach any index, and test it.
     #[inline(always)]
     pub fn clone(&self, index_at: u16) -> Self
         requires { index_at ≤ length self.now.bytes }
@@ -104,12 +113,8 @@ impl<'a> BinDecoder<'a> {
 
     /// Reads character data: a length octet and that many bytes (RFC 1035, section 3.3).
     pub fn read_character_data(&mut self) -> Result<Restrict<&'a [u8]>, DecodeError>
-        ensures enough { IsOk result ↔ HasLeft self.old (1 + slice_index self.old.bytes self.old.index) }
-        ensures bytes { IfOk result (λ read. read.now
-            ≡ next_bytes (moved self.old 1) (slice_index self.old.bytes self.old.index)) }
-        ensures moved { OnOk result (self.new ≡ moved self.old (1 + slice_index self.old.bytes self.old.index)) }
-        ensures error { IfErr result (λ e. e ≡ DecodeError.InsufficientBytes) }
-        ensures same { OnErr result (self.new ≡ self.old) }
+        ensures takes { Takes self.old (1 + slice_index self.old.bytes self.old.index)
+            (λ read. read.now ≡ next_bytes (advanced self.old 1) (slice_index self.old.bytes self.old.index)) result self.new }
     {
         if self.index == self.buffer.len() {
             return Err(DecodeError::InsufficientBytes);
@@ -124,14 +129,22 @@ impl<'a> BinDecoder<'a> {
         Ok(Restrict::new(read))
     }
 
+    /// Moves past `len` bytes.
+    #[inline(always)]
+    pub fn skip(&mut self, len: usize) -> Result<(), DecodeError>
+        ensures takes { Takes self.old len (λ _. ⊤) result self.new }
+    {
+        if self.buffer.len() - self.index < len {
+            return Err(DecodeError::InsufficientBytes);
+        }
+        self.index += len;
+        Ok(())
+    }
+
     /// Reads `len` bytes.
     #[inline(always)]
     pub fn read_slice(&mut self, len: usize) -> Result<Restrict<&'a [u8]>, DecodeError>
-        ensures enough { IsOk result ↔ HasLeft self.old len }
-        ensures bytes { IfOk result (λ read. read.now ≡ next_bytes self.old len) }
-        ensures moved { OnOk result (self.new ≡ moved self.old len) }
-        ensures error { IfErr result (λ e. e ≡ DecodeError.InsufficientBytes) }
-        ensures same { OnErr result (self.new ≡ self.old) }
+        ensures takes { Takes self.old len (λ read. read.now ≡ next_bytes self.old len) result self.new }
     {
         if self.buffer.len() - self.index < len {
             return Err(DecodeError::InsufficientBytes);
@@ -141,17 +154,16 @@ impl<'a> BinDecoder<'a> {
         Ok(Restrict::new(read))
     }
 
-    /// Reads `len` bytes into a vector of its own. Where there is no memory the decoder is as before.
+    /// Reads `len` bytes into a new vector. It fails with `Memory` if the vector cannot be allocated; no bytes need no
+    /// allocation.
     pub fn read_vec(&mut self, alloc: Global, len: usize) -> Result<Restrict<Vec<u8>>, DecodeError>
-        ensures enough { IsOk result → HasLeft self.old len }
-        ensures bytes { IfOk result (λ read. read.items ≡ next_bytes self.old len) }
-        ensures moved { OnOk result (self.new ≡ moved self.old len) }
-        ensures insufficient { IsErrOf result DecodeError.InsufficientBytes ↔ ¬ (HasLeft self.old len) }
-        ensures error { IfErr result (λ e. (e ≡ DecodeError.InsufficientBytes) ⊎ (e ≡ DecodeError.Memory)) }
-        ensures same { OnErr result (self.new ≡ self.old) }
+        ensures takes { TakesCopy self.old len (λ read. read.items ≡ next_bytes self.old len) result self.new }
     {
-        if len > self.buffer.len() - self.index {
+        if self.buffer.len() - self.index < len {
             return Err(DecodeError::InsufficientBytes);
+        }
+        if len == 0 {
+            return Ok(Restrict::new(Vec::new(alloc)));
         }
         let end = self.index + len;
         let read = Vec::from_slice(alloc, &self.buffer[self.index..end])?;
@@ -159,7 +171,8 @@ impl<'a> BinDecoder<'a> {
         Ok(Restrict::new(read))
     }
 
-    /// What was read from an index on, up to the cursor.
+    /// Returns what was read from `index` on, up to the cursor. It fails with `InvalidPreviousIndex` if `index` is
+    /// past the cursor.
     pub fn slice_from(&self, index: usize) -> Result<&'a [u8], DecodeError>
         ensures enough { IsOk result ↔ (index ≤ self.now.index) }
         ensures bytes { IfOk result (λ read. read.now ≡ slice_range self.now.bytes index self.now.index) }
@@ -174,11 +187,7 @@ impl<'a> BinDecoder<'a> {
     /// Reads one byte, as `pop` does.
     #[inline(always)]
     pub fn read_u8(&mut self) -> Result<Restrict<u8>, DecodeError>
-        ensures enough { IsOk result ↔ HasLeft self.old 1 }
-        ensures byte { IfOk result (λ byte. slice_get self.old.bytes self.old.index ≡ Some byte) }
-        ensures moved { OnOk result (self.new ≡ moved self.old 1) }
-        ensures error { IfErr result (λ e. e ≡ DecodeError.InsufficientBytes) }
-        ensures same { OnErr result (self.new ≡ self.old) }
+        ensures takes { Takes self.old 1 (λ byte. slice_get self.old.bytes self.old.index ≡ Some byte) result self.new }
     {
         self.pop()
     }
@@ -186,11 +195,7 @@ impl<'a> BinDecoder<'a> {
     /// Reads a number of two bytes, the high one first (RFC 1035, section 2.3.2).
     #[inline(always)]
     pub fn read_u16(&mut self) -> Result<Restrict<u16>, DecodeError>
-        ensures enough { IsOk result ↔ HasLeft self.old 2 }
-        ensures number { IfOk result (λ n. n ≡ from_be_bytes w16 (next_bytes self.old 2)) }
-        ensures moved { OnOk result (self.new ≡ moved self.old 2) }
-        ensures error { IfErr result (λ e. e ≡ DecodeError.InsufficientBytes) }
-        ensures same { OnErr result (self.new ≡ self.old) }
+        ensures takes { Takes self.old 2 (λ n. n ≡ from_be_bytes w16 (next_bytes self.old 2)) result self.new }
     {
         let bytes = self.read_array::<2>()?;
         Ok(Restrict::new(u16::from_be_bytes(bytes)))
@@ -199,11 +204,7 @@ impl<'a> BinDecoder<'a> {
     /// Reads a signed number of four bytes, the highest first.
     #[inline(always)]
     pub fn read_i32(&mut self) -> Result<Restrict<i32>, DecodeError>
-        ensures enough { IsOk result ↔ HasLeft self.old 4 }
-        ensures number { IfOk result (λ n. n ≡ cast_signed w32 (from_be_bytes w32 (next_bytes self.old 4))) }
-        ensures moved { OnOk result (self.new ≡ moved self.old 4) }
-        ensures error { IfErr result (λ e. e ≡ DecodeError.InsufficientBytes) }
-        ensures same { OnErr result (self.new ≡ self.old) }
+        ensures takes { Takes self.old 4 (λ n. n ≡ cast_signed w32 (from_be_bytes w32 (next_bytes self.old 4))) result self.new }
     {
         let bytes = self.read_array::<4>()?;
         Ok(Restrict::new(u32::from_be_bytes(bytes).cast_signed()))
@@ -212,11 +213,7 @@ impl<'a> BinDecoder<'a> {
     /// Reads a number of four bytes, the highest first.
     #[inline(always)]
     pub fn read_u32(&mut self) -> Result<Restrict<u32>, DecodeError>
-        ensures enough { IsOk result ↔ HasLeft self.old 4 }
-        ensures number { IfOk result (λ n. n ≡ from_be_bytes w32 (next_bytes self.old 4)) }
-        ensures moved { OnOk result (self.new ≡ moved self.old 4) }
-        ensures error { IfErr result (λ e. e ≡ DecodeError.InsufficientBytes) }
-        ensures same { OnErr result (self.new ≡ self.old) }
+        ensures takes { Takes self.old 4 (λ n. n ≡ from_be_bytes w32 (next_bytes self.old 4)) result self.new }
     {
         let bytes = self.read_array::<4>()?;
         Ok(Restrict::new(u32::from_be_bytes(bytes)))
@@ -225,11 +222,7 @@ impl<'a> BinDecoder<'a> {
     /// Reads `N` bytes.
     #[inline(always)]
     fn read_array<const N: usize>(&mut self) -> Result<[u8; N], DecodeError>
-        ensures enough { IsOk result ↔ HasLeft self.old N }
-        ensures bytes { IfOk result (λ read. read ≡ next_bytes self.old N) }
-        ensures moved { OnOk result (self.new ≡ moved self.old N) }
-        ensures error { IfErr result (λ e. e ≡ DecodeError.InsufficientBytes) }
-        ensures same { OnErr result (self.new ≡ self.old) }
+        ensures takes { Takes self.old N (λ read. read ≡ next_bytes self.old N) result self.new }
     {
         if self.buffer.len() - self.index < N {
             return Err(DecodeError::InsufficientBytes);

@@ -1,7 +1,6 @@
-//! The base of the DNS wire layer: untrusted values, errors, the decoder and labels.
+//! The base of the DNS wire layer: limits, untrusted values and the decoder.
 #![tactic(auto)]
 
 pub mod decoder;
-pub mod error;
-pub mod label;
+pub mod limits;
 pub mod restrict;

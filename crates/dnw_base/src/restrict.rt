@@ -1,6 +1,7 @@
-//! Values that came from a stranger, which are used only on purpose.
+//! Values that were read from a message and are not verified yet.
 ghost use Rattle.std.specs.Prelude.{◌≡◌, ℕ, ◌+◌, ◌-◌, ◌*◌, ◌<◌, ◌≤◌, ◌^◌, Bool, true, false, IsTrue, ◌↔◌, Option, Some, None, Result, Ok, Err, MatchResult};
 ghost use Rattle.std.specs.Fn.{FnReturnsAt};
+ghost use Rattle.std.specs.Borrow.{Bor};
 ghost use Rattle.std.specs.Option.{ok_or, option_and_then};
 ghost use Rattle.std.specs.Result.{result_ok};
 ghost use Rattle.dnw_base.specs.Checked.{sum_below, difference, product_below};
@@ -9,7 +10,8 @@ use std::marker::Model;
 
 /// A value that was read from a message and has not been verified.
 ///
-/// A contract sees it as the value itself.
+/// It is taken out by a test (`verify_unwrap`), or on purpose without one (`unverified`). A contract sees it as the
+/// value itself.
 #[derive(Clone, Copy)]
 pub struct Restrict<T>(T);
 
@@ -24,7 +26,7 @@ impl<T> Model for Restrict<T> {
 impl<T> Restrict<T> {
     ghost use Rattle.dnw_base.specs.Verified.{verified_value, verified_verdict};
 
-    /// Marks a value as untrusted.
+    /// Marks a value as not verified.
     #[inline(always)]
     pub fn new(restricted: T) -> Self
         ensures { result ≡ restricted }
@@ -32,10 +34,10 @@ impl<T> Restrict<T> {
         Restrict(restricted)
     }
 
-    /// The value, with the verdict of a test.
+    /// Tests the value, and returns it with the verdict.
     #[inline]
     pub fn verify<F: Fn(&T) -> bool>(&self, f: F) -> Verified<'_, T>
-        requires { F.IsAlwaysCallable f }
+        requires { (x : Bor T) → x.now ≡ self.now → F.pre f x }
         ensures value { (verified_value result).now ≡ self.now }
         ensures verdict { FnReturnsAt F.Fn f self.now (verified_verdict result) }
     {
@@ -46,10 +48,10 @@ impl<T> Restrict<T> {
         }
     }
 
-    /// The value: `Ok` where it passes the test, and else `Err`.
+    /// Returns the value: `Ok` if it passes the test, else `Err`.
     #[inline]
     pub fn verify_unwrap<F: Fn(&T) -> bool>(self, f: F) -> Result<T, T>
-        requires { F.IsAlwaysCallable f }
+        requires { (x : Bor T) → x.now ≡ self → F.pre f x }
         ensures { MatchResult result (λ x. (x ≡ self) × FnReturnsAt F.Fn f self true) (λ x. (x ≡ self) × FnReturnsAt F.Fn f self false) }
     {
         let Restrict(value) = self;
@@ -60,7 +62,7 @@ impl<T> Restrict<T> {
         }
     }
 
-    /// The value as it came. It is on the caller to verify it or to see that any value will do.
+    /// Returns the value as it was read. The caller verifies it, or knows that any value is right.
     #[inline(always)]
     pub fn unverified(self) -> T
         ensures { result ≡ self }
@@ -69,7 +71,7 @@ impl<T> Restrict<T> {
         value
     }
 
-    /// Another value made of this one, as untrusted as it.
+    /// Makes another value of this one, which is not verified either.
     #[inline(always)]
     pub fn map<R, F: Fn(T) -> R>(self, f: F) -> Restrict<R>
         requires { F.pre f self }
@@ -80,10 +82,10 @@ impl<T> Restrict<T> {
     }
 }
 
-/// The verdict of a test on a value.
+/// Returns the verdict of a test on a value.
 #[inline(always)]
 fn passes<T, F: Fn(&T) -> bool>(f: &F, value: &T) -> bool
-    requires { F.IsAlwaysCallable f.now }
+    requires { (x : Bor T) → x.now ≡ value.now → F.pre f.now x }
     ensures { FnReturnsAt F.Fn f.now value.now result }
 {
     f(value)
@@ -99,10 +101,11 @@ pub struct Verified<'a, T> {
 impl<'a, T> Verified<'a, T> {
     ghost use Rattle.dnw_base.specs.Verified.{verified_value, verified_verdict};
 
-    /// What `f` makes of the value, or the value where it did not pass.
+    /// Returns what `f` makes of the value, or as an error the value, if it did not pass the test. Only a value that
+    /// passed is given to `f`.
     #[inline]
     pub fn then<R, F: Fn(&T) -> R>(&self, f: F) -> Result<R, &'a T>
-        requires { F.IsAlwaysCallable f }
+        requires { IsTrue (verified_verdict self.now) → (x : Bor T) → x.now ≡ (verified_value self.now).now → F.pre f x }
         ensures { MatchResult result (λ r. IsTrue (verified_verdict self.now) × FnReturnsAt F.Fn f (verified_value self.now).now r)
             (λ value. (verified_verdict self.now ≡ false) × (value.now ≡ (verified_value self.now).now)) }
     {
@@ -113,7 +116,7 @@ impl<'a, T> Verified<'a, T> {
         }
     }
 
-    /// Whether the value passed the test.
+    /// Returns `true` if the value passed the test.
     #[inline(always)]
     pub fn is_valid(&self) -> bool
         ensures { result ≡ verified_verdict self.now }
@@ -122,29 +125,29 @@ impl<'a, T> Verified<'a, T> {
     }
 }
 
-/// Arithmetic on untrusted numbers. Where the exact result is out of range, the argument is the error.
+/// Arithmetic on numbers that are not verified. If the exact result is out of range, the error is the argument.
 pub trait RestrictedMath {
     /// The type of the second operand.
     type Arg: Copy;
     /// The type of the result.
     type Value: Copy;
 
-    // The untrusted number, where there is one.
+    // The exact results, if they are in range.
     ghost sum: { Self → Self.Arg → Option Self.Value };
 
     ghost difference: { Self → Self.Arg → Option Self.Value };
 
     ghost product: { Self → Self.Arg → Option Self.Value };
 
-    /// The sum, if it is in range.
+    /// Returns the sum, if it is in range.
     fn checked_add(&self, arg: Self::Arg) -> Result<Restrict<Self::Value>, Self::Arg>
         ensures { result ≡ ok_or (sum self.now arg) arg };
 
-    /// The difference, if it is in range.
+    /// Returns the difference, if it is in range.
     fn checked_sub(&self, arg: Self::Arg) -> Result<Restrict<Self::Value>, Self::Arg>
         ensures { result ≡ ok_or (difference self.now arg) arg };
 
-    /// The product, if it is in range.
+    /// Returns the product, if it is in range.
     fn checked_mul(&self, arg: Self::Arg) -> Result<Restrict<Self::Value>, Self::Arg>
         ensures { result ≡ ok_or (product self.now arg) arg };
 }
@@ -221,7 +224,7 @@ impl RestrictedMath for Restrict<u16> {
     }
 }
 
-/// A chain of operations: the first that is out of range makes each later one answer its own argument.
+/// A chain of operations. After the first that is out of range, each later one fails with its own argument.
 impl<R: RestrictedMath, A: Copy> RestrictedMath for Result<R, A> {
     type Arg = R::Arg;
 

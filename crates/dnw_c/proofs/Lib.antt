@@ -1,2 +1,3 @@
 mod Starts
 mod Lists
+mod TextFaults

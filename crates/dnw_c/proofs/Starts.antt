@@ -1,18 +1,24 @@
--- From a position of a message to a decoder that stands there.
-use Rattle.std.proofs.Common.{◌≡◌, ℕ, ◌<◌, ◌≤◌, length, List, zero-add, ap, ◌∙◌, refl}
-use Rattle.dnw_base.specs.Decoder.{Decoder, moved}
-use Rattle.dnw_name.specs.Reading.{NameAt, TakesName}
-use Rattle.dnw_name.proofs.Counts.{Reads-own}
+-- A name that is read at an offset, and the octets that it has there.
+use Rattle.std.proofs.Common.{◌≡◌, ℕ, ◌<◌, ◌≤◌, List, length, Err, ⊎_elim, arith}
+use Rattle.std.specs.Prelude.{⊤}
+use Rattle.std.proofs.lemmas.Bool.Decides.{leb_tells}
+use Rattle.dnw_error.specs.declared.error.DecodeError.{DecodeError}
+use Rattle.dnw_error.specs.declared.error.DecodeError.TheVariants.{InsufficientBytes}
+use Rattle.dnw_base.specs.Decoder.{Decoder, Takes}
+use Rattle.dnw_reading.specs.Reading.{FaultAt, TakesName, no_octet}
+use Rattle.dnw_reading.proofs.Counts.{Reads-own}
 
--- the decoder that was moved from the start of the message to the position
-pub takes-at : (d first : Decoder) (message : List ℕ) (start : ℕ) (ls : List (List ℕ)) (e k : ℕ)
-    → first ≡ record { bytes = message; index = 0 } → d ≡ moved first start
-    → NameAt message start ls e k → TakesName d (record { bytes = message; index = e }) ls k
-takes-at d first message start ls e k begins is name =
-    let at : ℕ → Decoder = λ i. record { bytes = message; index = i } in
-    let from : Decoder → Decoder = λ f. moved f start in
-    let there : d ≡ at start = is ∙ (ap from begins ∙ ap at (zero-add start)) in
-    rw there (record { end = e; name = name; moved = refl })
+-- no name is at an offset that is skipped in vain
+pub skipped_past : (first after : Decoder) (message : List ℕ) (start : ℕ) (error : DecodeError)
+    → first ≡ record { bytes = message; index = 0 } → Takes first start (λ (done : Unit {0}). ⊤) (Err error) after
+    → (k : ℕ) × (j : ℕ) × FaultAt message start error k j
+skipped_past first after message start InsufficientBytes is takes =
+    let few : length message ≤ start = ⊎_elim
+    (λ within. absurd (takes.0 (rw is (omega (arith, within.1)))))
+    (λ past. omega (arith, past.1))
+    (leb_tells start (length message)) in
+    (0, 0, no_octet tt few)
+skipped_past first after message start error is takes = absurd takes
 
 -- a name has octets of its own
 pub takes-onward : {d after : Decoder} {ls : List (List ℕ)} {k : ℕ} → TakesName d after ls k
@@ -21,7 +27,7 @@ takes-onward {d} takes =
     let (further, inside) = Reads-own takes.name.reads in
     rw takes.moved further
 
--- which lie within the message
+-- which are within the message
 pub takes-within : {d after : Decoder} {ls : List (List ℕ)} {k : ℕ} → TakesName d after ls k
     → after.index ≤ length after.bytes
 takes-within {d} takes =

@@ -1,14 +1,14 @@
--- The numbers by which C is told why a call answers nothing.
-use Rattle.std.specs.Prelude.{ℕ, List, codes}
-use Rattle.dnw_base.specs.declared.error.DecodeError.{DecodeError}
-use Rattle.dnw_base.specs.declared.error.DecodeError.TheVariants.{InsufficientBytes, PointerNotPriorToLabel}
-use Rattle.dnw_base.specs.declared.error.DecodeError.TheVariants.{UnrecognizedLabelCode, Memory}
-use Rattle.dnw_base.specs.declared.error.DecodeError.TheVariants.{LabelOverlapsWithOther}
-use Rattle.dnw_base.specs.declared.error.DecodeError.TheVariants.{DomainNameTooLong, LabelBytesTooLong}
-use Rattle.dnw_base.specs.declared.error.ProtoError.{ProtoError}
-use Rattle.dnw_base.specs.declared.error.ProtoError.TheVariants.{Decode, Message}
-use Rattle.dnw_base.specs.declared.error.ProtoError.TheVariants.{Msg, MaxBufferSizeExceeded, Memory as ProtoMemory}
-use Rattle.dnw_base.specs.Fault.{Fault, LabelTooLong as TextLabelTooLong, NameTooLong as TextNameTooLong}
+-- The numbers by which C learns why a call fails.
+use Rattle.std.specs.Prelude.{◌≡◌, ◌≢◌, ◌⊎◌, ℕ, List, [], codes}
+use Rattle.dnw_error.specs.declared.error.DecodeError.{DecodeError}
+use Rattle.dnw_error.specs.declared.error.DecodeError.TheVariants.{InsufficientBytes, PointerNotPriorToLabel}
+use Rattle.dnw_error.specs.declared.error.DecodeError.TheVariants.{UnrecognizedLabelCode, Memory}
+use Rattle.dnw_error.specs.declared.error.DecodeError.TheVariants.{LabelOverlapsWithOther}
+use Rattle.dnw_error.specs.declared.error.DecodeError.TheVariants.{DomainNameTooLong, LabelBytesTooLong}
+use Rattle.dnw_error.specs.declared.error.ProtoError.{ProtoError}
+use Rattle.dnw_error.specs.declared.error.ProtoError.TheVariants.{Decode, Message}
+use Rattle.dnw_error.specs.declared.error.ProtoError.TheVariants.{Msg, MaxBufferSizeExceeded, Memory as ProtoMemory}
+use Rattle.dnw_error.specs.Fault.{Fault, LabelTooLong as TextLabelTooLong, NameTooLong as TextNameTooLong}
 use Rattle.dnw_c.specs.declared.failure.Failure.{Failure}
 use Rattle.dnw_c.specs.declared.failure.Failure.TheVariants.{NoMemory, NoRoom, MessageCut}
 use Rattle.dnw_c.specs.declared.failure.Failure.TheVariants.{PointerNotBack, ReservedOctet, SegmentsOverlap}
@@ -30,23 +30,34 @@ number BytesLeft = 11
 number MessageTooLong = 12
 number Other = 13
 
+-- The number of a failure for which this is so.
+abbrev pub NumberOf : (Failure → Type 0) → ℕ → Type 0
+NumberOf Fails code = (failure : Failure) × Fails failure × (code ≡ number failure)
+
 -- what it is, for people
 abbrev pub failure_text : Failure → List ℕ
 failure_text NoMemory = codes "out of memory"
-failure_text NoRoom = codes "the buffer for the answer is too short"
+failure_text NoRoom = codes "the buffer for the result is too short"
 failure_text MessageCut = codes "the message ends within the name"
-failure_text PointerNotBack = codes "a compression pointer does not lead back"
+failure_text PointerNotBack = codes "a compression pointer does not point back"
 failure_text ReservedOctet = codes "an octet from 64 to 191 begins no label"
-failure_text SegmentsOverlap = codes "a name runs into the name that leads to it"
+failure_text SegmentsOverlap = codes "a name runs into the name that points to it"
 failure_text NameTooLong = codes "a name of more than 255 octets"
 failure_text LabelTooLong = codes "a label of more than 63 octets"
 failure_text BadText = codes "a label, a character or an escape of the text is not allowed"
-failure_text NotUtf8 = codes "the text is no UTF-8"
-failure_text BytesLeft = codes "bytes follow behind the name"
+failure_text NotUtf8 = codes "the text is not UTF-8"
+failure_text BytesLeft = codes "bytes follow after the name"
 failure_text MessageTooLong = codes "the message would be longer than its maximum"
 failure_text Other = codes "another failure"
 
--- why a name of a message is refused
+-- The text of a number: of success, of a failure, and none of any other.
+abbrev pub HasText : ℕ → List ℕ → Type 0
+HasText code text =
+    ((code ≡ 0) × (text ≡ codes "success"))
+    ⊎ ((failure : Failure) × (code ≡ number failure) × (text ≡ failure_text failure))
+    ⊎ ((code ≢ 0) × ((failure : Failure) → number failure ≢ code) × (text ≡ []))
+
+-- why a name of a message is rejected
 abbrev pub of_decode : DecodeError → Failure
 of_decode InsufficientBytes = MessageCut
 of_decode (PointerNotPriorToLabel idx ptr) = PointerNotBack
@@ -57,7 +68,7 @@ of_decode (LabelBytesTooLong size) = LabelTooLong
 of_decode Memory = NoMemory
 of_decode error = Other
 
--- why a text or a write is refused
+-- why a text is rejected or a write fails
 abbrev pub of_proto : ProtoError → Failure
 of_proto (Decode cause) = of_decode cause
 of_proto (Message text) = BadText
@@ -66,7 +77,7 @@ of_proto (MaxBufferSizeExceeded size) = MessageTooLong
 of_proto ProtoMemory = NoMemory
 of_proto error = Other
 
--- why the text of a name is refused
+-- why the text of a name is rejected
 abbrev pub of_fault : Fault → Failure
 of_fault (TextLabelTooLong size) = LabelTooLong
 of_fault (TextNameTooLong size) = NameTooLong

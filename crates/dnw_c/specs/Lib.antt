@@ -1,2 +1,4 @@
+pub mod Buffers
 pub mod Failures
-pub mod Answers
+pub mod NameCalls
+pub mod NameLists

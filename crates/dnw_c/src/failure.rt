@@ -1,22 +1,22 @@
-//! Why a call answers nothing.
+//! Why a call fails.
 ghost use Rattle.std.specs.Prelude.{◌≡◌, ◌≢◌, ◌≤◌, length, IfSome, IfNone};
 ghost use Rattle.dnw_c.specs.declared.failure.Failure.{Failure};
-ghost use Rattle.dnw_c.specs.Failures.{number, failure_text, of_decode, of_proto};
+ghost use Rattle.dnw_c.specs.Failures.{HasText, number, failure_text, of_decode, of_proto};
 
 use dns_names_wire::error::{DecodeError, ProtoError};
 
-/// Why a call answers nothing. The header tells them by number, from 1 on in this order.
+/// Why a call fails. In the header each has its number, from 1 on in this order.
 #[derive(Clone, Copy)]
 pub enum Failure {
-    /// There is no memory.
+    /// Memory ran out.
     NoMemory = 1,
-    /// The answer is longer than the buffer that it was to go into.
+    /// The result is longer than the buffer that it was to go into.
     NoRoom,
     /// The message ends within the name, or before it.
     MessageCut,
-    /// A compression pointer does not lead back.
+    /// A compression pointer does not point back.
     PointerNotBack,
-    /// An octet from 64 to 191 stands where an element of a name begins.
+    /// A label begins with an octet from 64 to 191.
     ReservedOctet,
     /// A segment of a name runs into the one that it was reached from.
     SegmentsOverlap,
@@ -26,25 +26,25 @@ pub enum Failure {
     LabelTooLong,
     /// A text has a label, a character or an escape that is not allowed.
     BadText,
-    /// A text is no UTF-8.
+    /// A text is not UTF-8.
     NotUtf8,
-    /// Bytes go on behind the name.
+    /// Bytes follow after the name.
     BytesLeft,
     /// A message would go past its maximum.
     MessageTooLong,
-    /// Another cause, which no call gives today.
+    /// Another cause, which no call reports today.
     Other,
 }
 
 impl Failure {
-    /// The number that stands for it in C.
+    /// Returns its number in C.
     pub fn number(self) -> u32
         ensures { result ≡ number self }
     {
         self as u32
     }
 
-    /// The failure that a number stands for.
+    /// Returns the failure with this number.
     pub fn from_number(code: u32) -> Option<Self>
         ensures some { IfSome result (λ failure. number failure ≡ code) }
         ensures none { IfNone result ((failure : Failure) → number failure ≢ code) }
@@ -68,30 +68,30 @@ impl Failure {
         Some(failure)
     }
 
-    /// What it is, for people.
+    /// Returns a text about it, for people.
     pub fn text(self) -> &'static str
         ensures text { result.now ≡ failure_text self }
         ensures few { length result.now ≤ 64 }
     {
         match self {
             Failure::NoMemory => "out of memory",
-            Failure::NoRoom => "the buffer for the answer is too short",
+            Failure::NoRoom => "the buffer for the result is too short",
             Failure::MessageCut => "the message ends within the name",
-            Failure::PointerNotBack => "a compression pointer does not lead back",
+            Failure::PointerNotBack => "a compression pointer does not point back",
             Failure::ReservedOctet => "an octet from 64 to 191 begins no label",
-            Failure::SegmentsOverlap => "a name runs into the name that leads to it",
+            Failure::SegmentsOverlap => "a name runs into the name that points to it",
             Failure::NameTooLong => "a name of more than 255 octets",
             Failure::LabelTooLong => "a label of more than 63 octets",
             Failure::BadText => "a label, a character or an escape of the text is not allowed",
-            Failure::NotUtf8 => "the text is no UTF-8",
-            Failure::BytesLeft => "bytes follow behind the name",
+            Failure::NotUtf8 => "the text is not UTF-8",
+            Failure::BytesLeft => "bytes follow after the name",
             Failure::MessageTooLong => "the message would be longer than its maximum",
             Failure::Other => "another failure",
         }
     }
 }
 
-/// Why a name of a message is refused.
+/// Returns why a name of a message is rejected.
 pub fn of_decode(error: &DecodeError) -> Failure
     ensures { result ≡ of_decode error.now }
 {
@@ -107,7 +107,7 @@ pub fn of_decode(error: &DecodeError) -> Failure
     }
 }
 
-/// Why a text or a write is refused.
+/// Returns why a text is rejected or a write fails.
 pub fn of_proto(error: &ProtoError) -> Failure
     ensures { result ≡ of_proto error.now }
 {
@@ -120,14 +120,14 @@ pub fn of_proto(error: &ProtoError) -> Failure
     }
 }
 
-/// What stands for a number, for people; empty where no failure has it.
+/// Returns the text for a number, which is empty for a number that stands for nothing.
 pub fn text_of(code: u32) -> &'static str
-    ensures known { (failure : Failure) → code ≡ number failure → result.now ≡ failure_text failure }
+    ensures text { HasText code result.now }
     ensures few { length result.now ≤ 64 }
 {
     match Failure::from_number(code) {
         Some(failure) => failure.text(),
-        None if code == 0 => "done",
+        None if code == 0 => "success",
         None => "",
     }
 }

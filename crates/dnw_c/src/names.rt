@@ -1,21 +1,21 @@
 //! Names read, written, parsed and printed.
-ghost use Rattle.std.specs.Prelude.{◌≡◌, ◌≢◌, ◌⊎◌, ℕ, ◌<◌, ◌≤◌, true, List, [], length, Ok, Err, IsUtf8};
-ghost use Rattle.std.specs.Prelude.{IfOk, IfErr, IsErrOf, IsErrAnd, OnOk, OnErr};
+ghost use Rattle.std.specs.Prelude.{◌≡◌, ◌≢◌, ◌⊎◌, ℕ, ◌<◌, ◌≤◌, true, List, length, Ok, Err, IsUtf8};
+ghost use Rattle.std.specs.Prelude.{IfOk, IfErr, OnOk, OnErr};
 ghost use Rattle.std.specs.Str.{chars};
-ghost use Rattle.dnw_base.specs.declared.error.DecodeError.{DecodeError};
-ghost use Rattle.dnw_base.specs.Fault.{Fault};
-ghost use Rattle.dnw_name.specs.Names.{NameValue, wire};
-ghost use Rattle.dnw_name.specs.NameText.{name_text, name_from_text};
-ghost use Rattle.dnw_name.specs.Reading.{NameAt, FaultAt};
+ghost use Rattle.dnw_error.specs.declared.error.DecodeError.{DecodeError};
+ghost use Rattle.dnw_base.specs.Names.{NameValue, wire};
+ghost use Rattle.dnw_form.specs.NameText.{name_text, name_from_text};
+ghost use Rattle.dnw_reading.specs.Reading.{NameAt, FaultAt};
 ghost use Rattle.dnw_name.specs.Decodable.{TakesNameValue};
 ghost use Rattle.dnw_encoder.specs.Encoder.{Encoder};
 ghost use Rattle.dnw_encoder.specs.EncoderValue.{value, lender};
 ghost use Rattle.dnw_encoder.specs.EmittedName.{EmitsName};
-ghost use Rattle.dnw_c.specs.Answers.{put, at_first, limited_to, IsAmong};
-ghost use Rattle.dnw_c.specs.Answers.{WritesNames, Refuses, StopsWriting, FailsToWrite};
-ghost use Rattle.dnw_c.specs.Failures.{number, failure_text, of_decode, of_fault};
+ghost use Rattle.dnw_c.specs.Buffers.{PutsIfFits, put};
+ghost use Rattle.dnw_c.specs.Failures.{HasText, NumberOf};
+ghost use Rattle.dnw_c.specs.NameCalls.{FailsToParse, FailsToPrint, FailsToRead, FailsToReadText, absolute_text};
+ghost use Rattle.dnw_c.specs.NameLists.{FailsToCopy, FailsToWrite, StopsWriting, WritesNames, at_first, limited_to};
 ghost use Rattle.dnw_c.specs.declared.failure.Failure.{Failure};
-ghost use Rattle.dnw_c.specs.declared.failure.Failure.TheVariants.{NoMemory, NoRoom, NotUtf8, BytesLeft};
+ghost use Rattle.dnw_c.specs.declared.failure.Failure.TheVariants.{NoMemory, NoRoom};
 
 use crate::failure::{Failure, of_decode, of_proto, text_of};
 use dns_names_wire::binary::BinEncodable;
@@ -25,7 +25,7 @@ use dns_names_wire::error::DecodeError;
 use dns_names_wire::name::Name;
 use std::alloc::Global;
 
-/// What is told of a name that was read: how many bytes of the answer were put, and where the name's own octets end.
+/// A name that was read: the number of bytes that were put, and the offset after the name's own octets.
 #[repr(C)]
 #[derive(Clone, Copy)]
 pub struct ReadName {
@@ -33,8 +33,7 @@ pub struct ReadName {
     pub end: usize,
 }
 
-/// What is told of a text that was parsed: how many bytes of the answer were put, and whether the name is fully
-/// qualified.
+/// A text that was parsed: the number of bytes that were put, and `true` if the name is fully qualified.
 #[repr(C)]
 #[derive(Clone, Copy)]
 pub struct ParsedName {
@@ -42,7 +41,7 @@ pub struct ParsedName {
     pub is_fqdn: bool,
 }
 
-/// What is told of a list that was written: how many bytes of the answer were put, and how many names there were.
+/// A list that was written: the number of bytes that were put, and the number of names.
 #[repr(C)]
 #[derive(Clone, Copy)]
 pub struct WrittenNames {
@@ -50,7 +49,7 @@ pub struct WrittenNames {
     pub count: usize,
 }
 
-/// Reads the name at a position of a message, and puts its uncompressed form.
+/// Reads the name at an offset of a message, and puts its wire form. It does not allocate.
 #[unsafe(no_mangle)]
 pub extern "C" fn dnw_name_read(
     alloc: Global,
@@ -59,27 +58,21 @@ pub extern "C" fn dnw_name_read(
     form: &mut [u8],
     read: &mut ReadName,
 ) -> u32
-    ensures ok { result ≡ 0 → (ls : List (List ℕ)) × (k : ℕ) × NameAt message.now start ls read.new.end k
-        × (form.new ≡ put form.old (wire ls)) × (read.new.len ≡ length (wire ls)) }
+    ensures ok { result ≡ 0 → (labels : List (List ℕ)) × (k : ℕ) × NameAt message.now start labels read.new.end k
+        × (form.new ≡ put form.old (wire labels)) × (read.new.len ≡ length (wire labels)) }
+    ensures err { result ≢ 0 → NumberOf (FailsToRead message.now start (length form.old)) result }
     ensures same { result ≢ 0 → (form.new ≡ form.old) × (read.new ≡ read.old) }
-    ensures accepts { (ls : List (List ℕ)) (e k : ℕ) → NameAt message.now start ls e k
-        → length (wire ls) ≤ length form.old → result ≡ 0 }
-    ensures refuses { (error : DecodeError) (k j : ℕ) → FaultAt message.now start error k j
-        → result ≡ number (of_decode error) }
 {
-    match name_at(alloc, message, start) {
-        Ok((name, end)) => match put(form, name.as_wire()) {
-            Ok(len) => {
-                *read = ReadName { len, end };
-                0
-            }
-            Err(failure) => failure.number(),
-        },
-        Err(error) => of_decode(&error).number(),
+    match read_form(alloc, message, start, form) {
+        Ok(name) => {
+            *read = name;
+            0
+        }
+        Err(failure) => failure.number(),
     }
 }
 
-/// Reads the name at a position of a message, and puts its text.
+/// Reads the name at an offset of a message, and puts its text.
 #[unsafe(no_mangle)]
 pub extern "C" fn dnw_name_read_text(
     alloc: Global,
@@ -88,29 +81,21 @@ pub extern "C" fn dnw_name_read_text(
     text: &mut [u8],
     read: &mut ReadName,
 ) -> u32
-    ensures ok { result ≡ 0 → (ls : List (List ℕ)) × (k : ℕ) × NameAt message.now start ls read.new.end k
-        × (text.new ≡ put text.old (name_text (record { is_fqdn = true; labels = ls })))
-        × (read.new.len ≡ length (name_text (record { is_fqdn = true; labels = ls }))) }
+    ensures ok { result ≡ 0 → (labels : List (List ℕ)) × (k : ℕ) × NameAt message.now start labels read.new.end k
+        × (text.new ≡ put text.old (absolute_text labels)) × (read.new.len ≡ length (absolute_text labels)) }
+    ensures err { result ≢ 0 → NumberOf (FailsToReadText message.now start (length text.old)) result }
     ensures same { result ≢ 0 → (text.new ≡ text.old) × (read.new ≡ read.old) }
-    ensures accepts { (ls : List (List ℕ)) (e k : ℕ) → NameAt message.now start ls e k
-        → length (name_text (record { is_fqdn = true; labels = ls })) ≤ length text.old
-        → (result ≡ 0) ⊎ (result ≡ number NoMemory) }
-    ensures refuses { (error : DecodeError) (k j : ℕ) → FaultAt message.now start error k j
-        → result ≡ number (of_decode error) }
 {
-    match name_at(alloc, message, start) {
-        Ok((name, end)) => match put_text(alloc, text, &name) {
-            Ok(len) => {
-                *read = ReadName { len, end };
-                0
-            }
-            Err(failure) => failure.number(),
-        },
-        Err(error) => of_decode(&error).number(),
+    match read_text(alloc, message, start, text) {
+        Ok(name) => {
+            *read = name;
+            0
+        }
+        Err(failure) => failure.number(),
     }
 }
 
-/// Puts the uncompressed form of the name that a text writes.
+/// Puts the wire form of the name that a text gives.
 #[unsafe(no_mangle)]
 pub extern "C" fn dnw_name_parse(
     alloc: Global,
@@ -118,32 +103,22 @@ pub extern "C" fn dnw_name_parse(
     form: &mut [u8],
     parsed: &mut ParsedName,
 ) -> u32
-    ensures ok { result ≡ 0 → (name : NameValue) × (name_from_text (chars text.now) ≡ Ok name)
+    ensures ok { result ≡ 0 → (name : NameValue) × IsUtf8 text.now × (name_from_text (chars text.now) ≡ Ok name)
         × (form.new ≡ put form.old (wire name.labels))
         × (parsed.new ≡ record { len = length (wire name.labels); is_fqdn = name.is_fqdn }) }
+    ensures err { result ≢ 0 → NumberOf (FailsToParse text.now (length form.old)) result }
     ensures same { result ≢ 0 → (form.new ≡ form.old) × (parsed.new ≡ parsed.old) }
-    // Want of memory refuses no text that is one.
-    ensures accepts { (name : NameValue) → IsUtf8 text.now → name_from_text (chars text.now) ≡ Ok name
-        → length (wire name.labels) ≤ length form.old → result ≡ 0 }
-    ensures refuses { (fault : Fault) → name_from_text (chars text.now) ≡ Err fault
-        → IsAmong result (number (of_fault fault)) (number NoMemory) (number NotUtf8) }
 {
-    match parse(alloc, text) {
-        Ok(name) => match put(form, name.as_wire()) {
-            Ok(len) => {
-                *parsed = ParsedName {
-                    len,
-                    is_fqdn: name.is_fqdn(),
-                };
-                0
-            }
-            Err(failure) => failure.number(),
-        },
+    match parse(alloc, text, form) {
+        Ok(name) => {
+            *parsed = name;
+            0
+        }
         Err(failure) => failure.number(),
     }
 }
 
-/// Puts the text of the name whose uncompressed form is given.
+/// Puts the text of the name with a wire form.
 #[unsafe(no_mangle)]
 pub extern "C" fn dnw_name_print(
     alloc: Global,
@@ -152,38 +127,22 @@ pub extern "C" fn dnw_name_print(
     text: &mut [u8],
     len: &mut usize,
 ) -> u32
-    ensures ok { result ≡ 0 → (ls : List (List ℕ)) × (k : ℕ) × NameAt form.now 0 ls (length form.now) k
-        × (text.new ≡ put text.old (name_text (record { is_fqdn = is_fqdn; labels = ls })))
-        × (len.new ≡ length (name_text (record { is_fqdn = is_fqdn; labels = ls }))) }
+    ensures ok { result ≡ 0 → (labels : List (List ℕ)) × (k : ℕ) × NameAt form.now 0 labels (length form.now) k
+        × (text.new ≡ put text.old (name_text (record { is_fqdn = is_fqdn; labels = labels })))
+        × (len.new ≡ length (name_text (record { is_fqdn = is_fqdn; labels = labels }))) }
+    ensures err { result ≢ 0 → NumberOf (FailsToPrint form.now is_fqdn (length text.old)) result }
     ensures same { result ≢ 0 → (text.new ≡ text.old) × (len.new ≡ len.old) }
-    ensures accepts { (ls : List (List ℕ)) (k : ℕ) → NameAt form.now 0 ls (length form.now) k
-        → length (name_text (record { is_fqdn = is_fqdn; labels = ls })) ≤ length text.old
-        → (result ≡ 0) ⊎ (result ≡ number NoMemory) }
-    ensures left { (ls : List (List ℕ)) (e k : ℕ) → NameAt form.now 0 ls e k → e ≢ length form.now
-        → result ≡ number BytesLeft }
-    ensures refuses { (error : DecodeError) (k j : ℕ) → FaultAt form.now 0 error k j
-        → result ≡ number (of_decode error) }
 {
-    match name_at(alloc, form, 0) {
-        Ok((mut name, end)) => {
-            if end != form.len() {
-                return Failure::BytesLeft.number();
-            }
-            name.set_fqdn(is_fqdn);
-            match put_text(alloc, text, &name) {
-                Ok(put) => {
-                    *len = put;
-                    0
-                }
-                Err(failure) => failure.number(),
-            }
+    match print(alloc, form, is_fqdn, text) {
+        Ok(put) => {
+            *len = put;
+            0
         }
-        Err(error) => of_decode(&error).number(),
+        Err(failure) => failure.number(),
     }
 }
 
-/// Puts the names of a list, which stand one behind the other as in a message, into a message of a maximum size: each
-/// compressed by those before it.
+/// Puts a message of the names of a list, each compressed by those before it.
 #[unsafe(no_mangle)]
 pub extern "C" fn dnw_names_write(
     alloc: Global,
@@ -194,69 +153,143 @@ pub extern "C" fn dnw_names_write(
 ) -> u32
     ensures ok { result ≡ 0 → (w : Encoder) × WritesNames (at_first names.now) (limited_to max_size) written.new.count w
         × (out.new ≡ put out.old w.bytes) × (written.new.len ≡ length w.bytes) }
-    ensures err { result ≢ 0 → FailsToWrite names.now max_size (length out.old) result }
+    ensures err { result ≢ 0 → NumberOf (FailsToWrite names.now max_size (length out.old)) result }
     ensures same { result ≢ 0 → (out.new ≡ out.old) × (written.new ≡ written.old) }
 {
-    match write_all(alloc, names, max_size) {
-        Ok((bytes, count)) => match put(out, bytes.as_slice()) {
-            Ok(len) => {
-                *written = WrittenNames { len, count };
-                0
-            }
-            Err(failure) => failure.number(),
-        },
+    match write(alloc, names, max_size, out) {
+        Ok(list) => {
+            *written = list;
+            0
+        }
         Err(failure) => failure.number(),
     }
 }
 
-/// Puts the text that tells a number, and tells its length.
+/// Puts the text for a number if it fits, and returns its length. A number that stands for nothing has an empty text.
 #[unsafe(no_mangle)]
 pub extern "C" fn dnw_error_text(code: u32, text: &mut [u8]) -> usize
-    ensures known { (failure : Failure) → code ≡ number failure → result ≡ length (failure_text failure) }
-    ensures fits { (failure : Failure) → code ≡ number failure → length (failure_text failure) ≤ length text.old
-        → text.new ≡ put text.old (failure_text failure) }
-    ensures short { length text.old < result → text.new ≡ text.old }
+    ensures text { (own : List ℕ) × HasText code own × (result ≡ length own) × PutsIfFits text.old own text.new }
     ensures few { result ≤ 64 }
 {
-    let told = text_of(code).as_bytes();
-    let _ = put(text, told);
-    told.len()
+    let own = text_of(code).as_bytes();
+    let _ = put(text, own);
+    own.len()
 }
 
-/// The name at a position, and where its own octets end.
-fn name_at(alloc: Global, message: &[u8], start: usize) -> Result<(Name, usize), DecodeError>
-    ensures ok { IfOk result (λ r. (r.0.is_fqdn ≡ true) × (k : ℕ) × NameAt message.now start r.0.labels r.1 k) }
-    ensures accepts { (ls : List (List ℕ)) (e k : ℕ) → NameAt message.now start ls e k
-        → result ≡ Ok (record { 0 = record { is_fqdn = true; labels = ls }; 1 = e }) }
-    ensures refuses { (error : DecodeError) (k j : ℕ) → FaultAt message.now start error k j → IsErrOf result error }
+/// Reads the name at an offset, and puts its wire form.
+fn read_form(
+    alloc: Global,
+    message: &[u8],
+    start: usize,
+    form: &mut [u8],
+) -> Result<ReadName, Failure>
+    ensures ok { IfOk result (λ r. (labels : List (List ℕ)) × (k : ℕ) × NameAt message.now start labels r.end k
+        × (form.new ≡ put form.old (wire labels)) × (r.len ≡ length (wire labels))) }
+    ensures err { IfErr result (FailsToRead message.now start (length form.old)) }
+    ensures same { OnErr result (form.new ≡ form.old) }
 {
-    let mut decoder = BinDecoder::new(message);
-    let Ok(_) = decoder.read_slice(start) else {
-        return Err(DecodeError::InsufficientBytes);
-    };
-    let name = Name::read(alloc, &mut decoder)?;
-    Ok((name, decoder.index()))
+    match name_at(alloc, message, start) {
+        Ok((name, end)) => {
+            let len = put(form, name.as_wire())?;
+            Ok(ReadName { len, end })
+        }
+        Err(error) => Err(of_decode(&error)),
+    }
 }
 
-/// The name that a text writes.
-fn parse(alloc: Global, text: &[u8]) -> Result<Name, Failure>
-    ensures ok { IfOk result (λ name. name_from_text (chars text.now) ≡ Ok name) }
-    ensures accepts { (name : NameValue) → IsUtf8 text.now → name_from_text (chars text.now) ≡ Ok name
-        → result ≡ Ok name }
-    ensures err { (fault : Fault) → name_from_text (chars text.now) ≡ Err fault
-        → IsErrAnd result (λ failure.
-        IsAmong (number failure) (number (of_fault fault)) (number NoMemory) (number NotUtf8)) }
+/// Reads the name at an offset, and puts its text.
+fn read_text(
+    alloc: Global,
+    message: &[u8],
+    start: usize,
+    text: &mut [u8],
+) -> Result<ReadName, Failure>
+    ensures ok { IfOk result (λ r. (labels : List (List ℕ)) × (k : ℕ) × NameAt message.now start labels r.end k
+        × (text.new ≡ put text.old (absolute_text labels)) × (r.len ≡ length (absolute_text labels))) }
+    ensures err { IfErr result (FailsToReadText message.now start (length text.old)) }
+    ensures same { OnErr result (text.new ≡ text.old) }
+{
+    match name_at(alloc, message, start) {
+        Ok((name, end)) => {
+            let len = put_text(alloc, text, &name)?;
+            Ok(ReadName { len, end })
+        }
+        Err(error) => Err(of_decode(&error)),
+    }
+}
+
+/// Puts the wire form of the name that a text gives.
+fn parse(alloc: Global, text: &[u8], form: &mut [u8]) -> Result<ParsedName, Failure>
+    ensures ok { IfOk result (λ r. (name : NameValue) × IsUtf8 text.now × (name_from_text (chars text.now) ≡ Ok name)
+        × (form.new ≡ put form.old (wire name.labels))
+        × (r ≡ record { len = length (wire name.labels); is_fqdn = name.is_fqdn })) }
+    ensures err { IfErr result (FailsToParse text.now (length form.old)) }
+    ensures same { OnErr result (form.new ≡ form.old) }
 {
     let Ok(chars) = str::from_utf8(text) else {
         return Err(Failure::NotUtf8);
     };
     match Name::from_ascii(alloc, chars) {
-        Ok(name) => Ok(name),
+        Ok(name) => {
+            let len = put(form, name.as_wire())?;
+            Ok(ParsedName {
+                len,
+                is_fqdn: name.is_fqdn(),
+            })
+        }
         Err(error) => Err(of_proto(&error)),
     }
 }
 
-/// The bytes of a message of a list's names, and how many there are.
+/// Puts the text of the name with a wire form, and returns its length.
+fn print(alloc: Global, form: &[u8], is_fqdn: bool, text: &mut [u8]) -> Result<usize, Failure>
+    ensures ok { IfOk result (λ len. (labels : List (List ℕ)) × (k : ℕ) × NameAt form.now 0 labels (length form.now) k
+        × (text.new ≡ put text.old (name_text (record { is_fqdn = is_fqdn; labels = labels })))
+        × (len ≡ length (name_text (record { is_fqdn = is_fqdn; labels = labels })))) }
+    ensures err { IfErr result (FailsToPrint form.now is_fqdn (length text.old)) }
+    ensures same { OnErr result (text.new ≡ text.old) }
+{
+    match name_at(alloc, form, 0) {
+        Ok((mut name, end)) => {
+            if end != form.len() {
+                return Err(Failure::BytesLeft);
+            }
+            name.set_fqdn(is_fqdn);
+            put_text(alloc, text, &name)
+        }
+        Err(error) => Err(of_decode(&error)),
+    }
+}
+
+/// Puts a message of the names of a list.
+fn write(
+    alloc: Global,
+    names: &[u8],
+    max_size: u16,
+    out: &mut [u8],
+) -> Result<WrittenNames, Failure>
+    ensures ok { IfOk result (λ r. (w : Encoder) × WritesNames (at_first names.now) (limited_to max_size) r.count w
+        × (out.new ≡ put out.old w.bytes) × (r.len ≡ length w.bytes)) }
+    ensures err { IfErr result (FailsToWrite names.now max_size (length out.old)) }
+    ensures same { OnErr result (out.new ≡ out.old) }
+{
+    let (bytes, count) = write_all(alloc, names, max_size)?;
+    let len = put(out, bytes.as_slice())?;
+    Ok(WrittenNames { len, count })
+}
+
+/// Returns the name at an offset, and the offset after its own octets.
+fn name_at(alloc: Global, message: &[u8], start: usize) -> Result<(Name, usize), DecodeError>
+    ensures ok { IfOk result (λ r. (r.0.is_fqdn ≡ true) × (k : ℕ) × NameAt message.now start r.0.labels r.1 k) }
+    ensures err { IfErr result (λ error. (k : ℕ) × (j : ℕ) × FaultAt message.now start error k j) }
+{
+    let mut decoder = BinDecoder::new(message);
+    decoder.skip(start)?;
+    let name = Name::read(alloc, &mut decoder)?;
+    Ok((name, decoder.index()))
+}
+
+/// Returns the bytes of a message of a list's names, and their number.
 fn write_all(alloc: Global, names: &[u8], max_size: u16) -> Result<(Vec<u8>, usize), Failure>
     ensures ok { IfOk result (λ r. (w : Encoder) × WritesNames (at_first names.now) (limited_to max_size) r.1 w
         × (r.0.items ≡ w.bytes)) }
@@ -270,7 +303,7 @@ fn write_all(alloc: Global, names: &[u8], max_size: u16) -> Result<(Vec<u8>, usi
     Ok((bytes, count))
 }
 
-/// Writes the names of a list, and tells how many there are.
+/// Writes the names of a list, and returns their number.
 fn write_names(alloc: Global, names: &[u8], encoder: &mut BinEncoder<'_>) -> Result<usize, Failure>
     ensures ok { IfOk result (λ count.
         WritesNames (at_first names.now) (value encoder.old) count (value encoder.new)) }
@@ -294,7 +327,7 @@ fn write_next(
 ) -> Result<(), Failure>
     ensures ok { OnOk result ((name : NameValue) × TakesNameValue decoder.old name decoder.new
         × EmitsName name (value encoder.old) (Ok tt) (value encoder.new)) }
-    ensures err { IfErr result (Refuses decoder.old (value encoder.old)) }
+    ensures err { IfErr result (FailsToCopy decoder.old (value encoder.old)) }
     ensures onward { OnOk result (decoder.old.index < decoder.new.index) }
     ensures within { OnOk result (decoder.new.index ≤ length decoder.new.bytes) }
     ensures bytes { decoder.new.bytes ≡ decoder.old.bytes }
@@ -309,9 +342,10 @@ fn write_next(
     }
 }
 
-/// Puts bytes at the front of a buffer, where there is room for them.
+/// Puts bytes at the front of a buffer if they fit.
 fn put(buffer: &mut [u8], bytes: &[u8]) -> Result<usize, Failure>
-    ensures ok { IfOk result (λ len. (len ≡ length bytes.now) × (buffer.new ≡ put buffer.old bytes.now)) }
+    ensures ok { IfOk result (λ len. (len ≡ length bytes.now) × (length bytes.now ≤ length buffer.old)
+        × (buffer.new ≡ put buffer.old bytes.now)) }
     ensures err { IfErr result (λ failure. (failure ≡ NoRoom) × (length buffer.old < length bytes.now)) }
     ensures same { OnErr result (buffer.new ≡ buffer.old) }
 {
@@ -322,7 +356,7 @@ fn put(buffer: &mut [u8], bytes: &[u8]) -> Result<usize, Failure>
     Ok(bytes.len())
 }
 
-/// Puts the text of a name.
+/// Puts the text of a name, and returns its length.
 fn put_text(alloc: Global, buffer: &mut [u8], name: &Name) -> Result<usize, Failure>
     ensures ok { IfOk result (λ len. (len ≡ length (name_text name.now))
         × (buffer.new ≡ put buffer.old (name_text name.now))) }

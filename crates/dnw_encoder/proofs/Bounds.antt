@@ -3,7 +3,7 @@ use Rattle.std.proofs.Common.{◌≡◌, ℕ, zero, suc, ◌+◌, ◌-◌, ◌�
 use Rattle.std.proofs.Math.Nat.{le-max_left, le-max_right, max-le}
 use Rattle.std.proofs.lemmas.List.{length-append, length-drop, length-take, length-take-le, length-replicate}
 use Rattle.dnw_encoder.specs.Encoder.{Encoder, reserved}
-use Rattle.dnw_encoder.specs.Emitting.{Answer, Emits, Frame}
+use Rattle.dnw_encoder.specs.Emitting.{Outcome, Emits, Frame}
 use Rattle.dnw_encoder.specs.EncoderLaws.{StaysBounded, WritesStayBounded, PlacesStayBounded, FillsStayBounded, FillsTakeNoMemory, ItemsStayBounded}
 use Rattle.dnw_encoder.proofs.Places.{length-over}
 
@@ -36,7 +36,7 @@ pub fills_take_no_memory : FillsTakeNoMemory
 fills_take_no_memory v w place bytes within holds h = omega (arith, h.1)
 
 pub items_stay_bounded : {X : Type 0} (emits : Emits X)
-    → ((x : X) (v : Encoder) (answer : Answer) (w : Encoder) → v.offset ≡ length v.bytes → emits x v answer w → Frame v answer w)
+    → ((x : X) (v : Encoder) (outcome : Outcome) (w : Encoder) → v.offset ≡ length v.bytes → emits x v outcome w → Frame v outcome w)
     → ItemsStayBounded emits
 items_stay_bounded emits keeps each v w [] e h =
     let P : Encoder → Type 0 = λ x. StaysBounded v x in

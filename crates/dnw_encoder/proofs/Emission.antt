@@ -1,13 +1,14 @@
 -- A name is written as the definition says, whole or with a pointer, or it is undone.
 use Rattle.std.proofs.Common.{if◌then◌else◌, nat_lt, ◌≡◌, ℕ, suc, ◌+◌, ◌-◌, ◌≤◌, List, [], ◌∷◌, ◌++◌, length, take, drop, Some, None, Ok, Err, refl, sym, ap, ◌∙◌, subst, inl, append_assoc, arith}
 use Rattle.std.proofs.lemmas.List.{take_all, take_at, length-take-le, take-append-drop}
-use Rattle.dnw_base.specs.declared.error.ProtoError.{ProtoError}
-use Rattle.dnw_base.specs.declared.error.ProtoError.TheVariants.{MaxBufferSizeExceeded, Memory}
-use Rattle.dnw_name.specs.Names.{encoded_size, labels_wire, wire}
-use Rattle.dnw_name.proofs.Wires.{length-wire}
-use Rattle.dnw_encoder.specs.Encoder.{Encoder, Candidate, HasRoom, Grows, Writes, written, candidates_before}
-use Rattle.dnw_encoder.specs.EmittedName.{EmitsAs, Share, counted, emitted, kept, newly_kept, pointer_to, so_far, suffixes}
-use Rattle.dnw_encoder.specs.Sharing.{share_of}
+use Rattle.dnw_error.specs.declared.error.ProtoError.{ProtoError}
+use Rattle.dnw_error.specs.declared.error.ProtoError.TheVariants.{MaxBufferSizeExceeded, Memory}
+use Rattle.dnw_base.specs.Names.{encoded_size, labels_wire, wire}
+use Rattle.dnw_base.proofs.Wires.{length-wire}
+use Rattle.dnw_encoder.specs.Encoder.{Encoder, HasRoom, Grows, Writes, written}
+use Rattle.dnw_candidates.specs.Candidates.{Candidate, candidates_before, suffixes}
+use Rattle.dnw_encoder.specs.EmittedName.{EmitsAs, Share, counted, emitted, kept, newly_kept, pointer_to, so_far}
+use Rattle.dnw_encoder.specs.Inside.Sharing.{share_of}
 
 -- ---- all suffixes are kept where there is no pointer
 
@@ -74,11 +75,11 @@ kept-front v ls n place within = ap (kept v ls) (sym (length-take-le n ls within
 -- memory for the bytes is refused
 pub shared_undone : (v u m : Encoder) (ls : List (List ℕ)) (share : Share) (front : List ℕ) (error : ProtoError) (more : List Candidate)
     → HasRoom v (length (labels_wire ls)) → u ≡ record v { candidates = v.candidates ++ more } → front ≡ labels_wire share.front
-    → Grows u (length (front ++ pointer_to share.place)) → m ≡ u → error ≡ Memory
+    → Grows u (length (front ++ pointer_to share.target)) → m ≡ u → error ≡ Memory
     → EmitsAs v ls (Some share) (Err error) (record m { candidates = take (length v.candidates) m.candidates })
 shared_undone v u m ls share front error more room first is grows same memory =
     let back : take (length v.candidates) (v.candidates ++ more) ≡ v.candidates = take_at v.candidates more (length v.candidates) refl in
-    let needs = subst (λ f. Grows v (length (f ++ pointer_to share.place))) is (subst (λ x. Grows x (length (front ++ pointer_to share.place))) first grows) in
+    let needs = subst (λ f. Grows v (length (f ++ pointer_to share.target))) is (subst (λ x. Grows x (length (front ++ pointer_to share.target))) first grows) in
     rw memory (
       room,
       inl needs,
@@ -89,18 +90,18 @@ shared_undone v u m ls share front error more room first is grows same memory =
 pub shared_done : (v u m : Encoder) (ls : List (List ℕ)) (share : Share) (front : List ℕ) (names size : ℕ) (more cs : List Candidate)
     → HasRoom v (length (labels_wire ls)) → u ≡ record v { candidates = v.candidates ++ more } → more ≡ newly_kept v ls (Some share)
     → front ≡ labels_wire share.front → size ≡ length (labels_wire share.front) → names ≡ counted v
-    → m ≡ record u { bytes = so_far u ++ (front ++ pointer_to share.place); offset = u.offset + length (front ++ pointer_to share.place) }
+    → m ≡ record u { bytes = so_far u ++ (front ++ pointer_to share.target); offset = u.offset + length (front ++ pointer_to share.target) }
     → cs ≡ candidates_before (v.offset + size) m.candidates
     → EmitsAs v ls (Some share) (Ok tt) (record m { candidates = cs; names = names })
 shared_done v u m ls share front names size more cs room first all is size_is count second cut =
     let w = emitted v ls (Some share) in
     let bytes : List ℕ → Encoder = λ f. record v {
-      bytes = so_far v ++ (f ++ pointer_to share.place);
-      offset = v.offset + length (f ++ pointer_to share.place);
+      bytes = so_far v ++ (f ++ pointer_to share.target);
+      offset = v.offset + length (f ++ pointer_to share.target);
       candidates = v.candidates ++ more;
     } in
     let made : m ≡ bytes (labels_wire share.front) =
-    second ∙ (ap (λ (x : Encoder). record x { bytes = so_far x ++ (front ++ pointer_to share.place); offset = x.offset + length (front ++ pointer_to share.place) }) first
+    second ∙ (ap (λ (x : Encoder). record x { bytes = so_far x ++ (front ++ pointer_to share.target); offset = x.offset + length (front ++ pointer_to share.target) }) first
     ∙ ap bytes is) in
     let left : cs ≡ w.candidates =
     cut ∙ (ap (λ (x : Encoder). candidates_before (v.offset + size) x.candidates) made

@@ -8,17 +8,17 @@ use Rattle.std.proofs.lemmas.List.{length-append, length-take-le, length-map, ap
 use Rattle.dnw_base.specs.Labels.{IsLabel}
 use Rattle.dnw_encoder.specs.declared.encoder.modes.NameEncoding.{NameEncoding}
 use Rattle.dnw_encoder.specs.declared.encoder.modes.NameEncoding.TheVariants.{Compressed, Uncompressed, UncompressedLowercase}
-use Rattle.dnw_name.specs.Names.{AreLabels, encoded_size, labels_wire, wire, lower}
-use Rattle.dnw_name.specs.Reading.{Reads, NameAt, pointer, target}
-use Rattle.dnw_name.proofs.Wires.{length-wire, encoded_size-cons}
-use Rattle.dnw_name.proofs.Back.{Reads-wire, Reads-front, slice_get-seam}
-use Rattle.dnw_name.proofs.Stand.{Reads-limited}
-use Rattle.dnw_name.proofs.Counts.{Reads-own}
+use Rattle.dnw_base.specs.Names.{AreLabels, encoded_size, labels_wire, wire, lower}
+use Rattle.dnw_reading.specs.Reading.{Reads, NameAt, pointer, target}
+use Rattle.dnw_base.proofs.Wires.{length-wire, encoded_size-cons}
+use Rattle.dnw_reading.proofs.Back.{Reads-wire, Reads-front, slice_get-seam}
+use Rattle.dnw_reading.proofs.Stand.{Reads-limited}
+use Rattle.dnw_reading.proofs.Counts.{Reads-own}
 use Rattle.dnw_encoder.specs.Encoder.{Encoder, fresh}
 use Rattle.dnw_encoder.specs.EmittedName.{EmitsAs, Chooses, Share, form, in_mode, pointer_to, so_far}
 use Rattle.dnw_encoder.specs.EncoderLaws.{StaysBounded, NameIsRead, NamesStayBounded, NamesTakeNoMore, PointersSave, NameComesBack}
 use Rattle.dnw_encoder.proofs.Bounds.{length-written}
-use Rattle.dnw_encoder.proofs.CandidateLists.{length-labels_wire, not_nil}
+use Rattle.dnw_candidates.proofs.CandidateLists.{length-labels_wire, not_nil}
 use Rattle.dnw_encoder.proofs.Emission.{labels_wire-append}
 use Rattle.dnw_encoder.proofs.Suffixes.{length-all}
 
@@ -83,11 +83,11 @@ read_back v w ls (Some share) are within (_, points) h =
     let u = points.usable.usable in
     let all = each_front front back (subst (λ x. AllByRecursion IsLabel x) points.parts are.each) in
     let start : length b ≡ v.offset = length-take-le v.offset v.bytes within in
-    let octets = pointer_to share.place in
+    let octets = pointer_to share.target in
     let bytes : w.bytes ≡ b ++ (labels_wire front ++ (octets ++ [])) = ap (λ (e : Encoder). e.bytes) h.1 in
     let end : length b + length (labels_wire front) + 2 ≡ w.offset =
     omega (arith, start, ap (λ (e : Encoder). e.offset) h.1, length-append (labels_wire front) octets) in
-    let r = Reads-shared b [] front back share.place u.end u.pointers all u.name.reads in
+    let r = Reads-shared b [] front back share.target u.end u.pointers all u.name.reads in
     let there : Reads w.bytes v.offset v.offset None ls w.offset (suc u.pointers) =
     rw (bytes, points.parts) (subst (λ e. Reads (b ++ (labels_wire front ++ (octets ++ []))) v.offset v.offset None (front ++ back) e (suc u.pointers)) end
     (subst (λ p. Reads (b ++ (labels_wire front ++ (octets ++ []))) p p None (front ++ back) (length b + length (labels_wire front) + 2) (suc u.pointers)) start r)) in
@@ -99,7 +99,7 @@ name_is_read name v w within h = read_back v w (in_mode v.encoding name.labels) 
 -- over no bytes there is nothing to point at
 no_choice : (w : Encoder) (ls : List (List ℕ)) (choice : Option Share) → Chooses (fresh [] 0) ls choice → choice ≡ None
 no_choice w ls None chosen = refl
-no_choice w ls (Some share) (_, points) = absurd (not_nil points.usable.before points.usable.after (share.place, labels_wire share.back) (sym points.usable.usable.split))
+no_choice w ls (Some share) (_, points) = absurd (not_nil points.usable.before points.usable.after (share.target, labels_wire share.back) (sym points.usable.usable.split))
 
 pub name_comes_back : NameComesBack
 name_comes_back name w h =
@@ -145,7 +145,7 @@ no_more : (v w : Encoder) (ls : List (List ℕ)) (choice : Option Share) → Are
     → EmitsAs v ls choice (Ok tt) w → w.offset ≤ v.offset + encoded_size ls
 no_more v w ls None are chosen h = omega (arith, ap (λ (e : Encoder). e.offset) h.1, length-wire ls)
 no_more v w ls (Some share) are (_, points) h =
-    omega (arith, ap (λ (e : Encoder). e.offset) h.1, pointers_save v ls share.front share.back share.place are points)
+    omega (arith, ap (λ (e : Encoder). e.offset) h.1, pointers_save v ls share.front share.back share.target are points)
 
 pub names_take_no_more : NamesTakeNoMore
 names_take_no_more name v w h =
@@ -162,7 +162,7 @@ bounded v w ls None are within chosen h =
 bounded v w ls (Some share) are within (_, points) h =
     let d = form ls (Some share) in
     let size : length w.bytes ≡ v.offset + length d = ap (λ (e : Encoder). length e.bytes) h.1 ∙ (length-append (so_far v) d ∙ ap (λ n. n + length d) (length-take-le v.offset v.bytes within)) in
-    let saved = pointers_save v ls share.front share.back share.place are points in
+    let saved = pointers_save v ls share.front share.back share.target are points in
     let end = ap (λ (e : Encoder). e.offset) h.1 in
     (omega (arith, size, h.0, saved, length-all ls, le-max_right (length v.bytes) v.max_size), omega (arith, size, end))
 

@@ -3,7 +3,7 @@ use Rattle.std.proofs.Common.{◌≡◌, ℕ, ◌+◌, ◌≤◌, List, ◌++◌
 use Rattle.std.specs.Result.{OnOk}
 use Rattle.std.proofs.lemmas.List.{length-append, length-drop, length-take-le}
 use Rattle.dnw_encoder.specs.Encoder.{Encoder, moved_to}
-use Rattle.dnw_encoder.specs.Emitting.{Emits, Answer, FillsPlace, WritesLen, RefusesWhole}
+use Rattle.dnw_encoder.specs.Emitting.{Emits, Outcome, FillsPlace, WritesLen, FailsUnchanged}
 
 -- bytes written over others are as many as before
 pub length-over : (p : ℕ) (b d : List ℕ) → p + length d ≤ length b → length (take p b ++ (d ++ drop (p + length d) b)) ≡ length b
@@ -12,9 +12,9 @@ length-over p b d le =
     omega (arith, length-append (take p b) (d ++ drop (p + length d) b), length-append d (drop (p + length d) b), length-drop (p + length d) b, length-take-le p b front)
 
 -- the offset stays within the buffer
-pub still_within : {X : Type 0} (emits : Emits X) (n : ℕ) → WritesLen emits n → RefusesWhole emits
-    → (x : X) (v u : Encoder) (answer : Answer) (p : ℕ) → p + n ≤ v.offset → v.offset ≤ length v.bytes
-    → emits x (moved_to v p) answer u → v.offset ≤ length u.bytes
+pub still_within : {X : Type 0} (emits : Emits X) (n : ℕ) → WritesLen emits n → FailsUnchanged emits
+    → (x : X) (v u : Encoder) (outcome : Outcome) (p : ℕ) → p + n ≤ v.offset → v.offset ≤ length v.bytes
+    → emits x (moved_to v p) outcome u → v.offset ≤ length u.bytes
 still_within emits n accepts refuses x v u (Ok tt) p holds within e =
     let wrote = accepts x (moved_to v p) u e in
     let size : length u.bytes ≡ length v.bytes =
@@ -26,8 +26,8 @@ still_within emits n accepts refuses x v u (Err error) p holds within e =
 
 -- what is written at the place fills it
 pub fills : {X : Type 0} (emits : Emits X) (n : ℕ) → WritesLen emits n
-    → (x : X) (v u : Encoder) (answer : Answer) (p : ℕ) → emits x (moved_to v p) answer u
-    → OnOk answer (FillsPlace p n v (moved_to u v.offset))
+    → (x : X) (v u : Encoder) (outcome : Outcome) (p : ℕ) → emits x (moved_to v p) outcome u
+    → OnOk outcome (FillsPlace p n v (moved_to u v.offset))
 fills emits n accepts x v u (Ok tt) p e =
     let wrote = accepts x (moved_to v p) u e in
     (wrote.0, wrote.1, ap (λ (w : Encoder). moved_to w v.offset) wrote.2)

@@ -3,12 +3,13 @@ use Rattle.std.proofs.Common.{◌≡◌, ℕ, zero, suc, ◌+◌, ◌-◌, ◌<�
 use Rattle.std.proofs.lemmas.List.{length-append, length-take-le, length-take, take_all, take-take, take-append-drop, drop_at, length-drop, drop_all, take-append-le, take_at, append-nil}
 use Rattle.std.proofs.lemmas.Bool.Decides.{leb_tells}
 use Rattle.std.proofs.Math.Nat.{eq-or-lt_of_le}
-use Rattle.dnw_name.specs.Names.{encoded_size, labels_wire}
-use Rattle.dnw_name.proofs.Wires.{length-wire}
+use Rattle.dnw_base.specs.Names.{encoded_size, labels_wire}
+use Rattle.dnw_base.proofs.Wires.{length-wire}
 use Rattle.dnw_encoder.specs.Encoder.{Encoder, written}
-use Rattle.dnw_encoder.specs.EmittedName.{IsUsable, IsFirstUsable, PointsNowhere, kept, so_far, suffixes}
-use Rattle.dnw_encoder.specs.Sharing.{NoneUsable, NoneBefore, IsSuffix}
-use Rattle.dnw_encoder.proofs.CandidateLists.{length-labels_wire, le_unless}
+use Rattle.dnw_encoder.specs.EmittedName.{PointsNowhere, kept, so_far}
+use Rattle.dnw_candidates.specs.Candidates.{IsUsable, IsFirstUsable, suffixes, NoneUsable}
+use Rattle.dnw_encoder.specs.Inside.Sharing.{NoneBefore, IsSuffix}
+use Rattle.dnw_candidates.proofs.CandidateLists.{length-labels_wire, le_unless}
 
 -- ---- one label more
 

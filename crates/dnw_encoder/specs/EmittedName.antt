@@ -1,57 +1,42 @@
 -- How a name is written, with compression (RFC 1035, section 4.1.4).
 --
--- The longest suffix of a name that has a usable candidate is not written again: a pointer to the first such candidate
--- stands for it. The labels before the pointer, or all labels, are kept as candidates for later names.
+-- If a suffix of the name has a usable candidate, the longest such suffix is written as a pointer to its first usable
+-- candidate. The labels before the pointer, or all labels, are kept as candidates for later names.
 use Rattle.std.specs.Prelude.{◌≡◌, ◌≢◌, ℕ, ◌+◌, ◌-◌, ◌<◌, ◌≤◌, ◌/◌, ◌%◌, Bool, true, false, ◌&&◌, nat_lt, if◌then◌else◌, List, [], ◌∷◌, ◌++◌, length, take, Option, Some, None, Ok, Err, ◌⊎◌}
-use Rattle.dnw_base.specs.declared.error.ProtoError.TheVariants.{MaxBufferSizeExceeded, Memory}
+use Rattle.dnw_base.specs.Limits.{pointer_mark, pointer_reach}
+use Rattle.dnw_base.specs.Names.{NameValue, AreLabels, encoded_size, labels_wire, wire, lower}
+use Rattle.dnw_error.specs.declared.error.ProtoError.TheVariants.{MaxBufferSizeExceeded, Memory}
+use Rattle.dnw_candidates.specs.Candidates.{Candidate, IsUsable, IsFirstUsable, candidates_before, suffixes}
 use Rattle.dnw_encoder.specs.declared.encoder.modes.NameEncoding.{NameEncoding}
 use Rattle.dnw_encoder.specs.declared.encoder.modes.NameEncoding.TheVariants.{Compressed, UncompressedLowercase}
-use Rattle.dnw_encoder.specs.Encoder.{Encoder, Candidate, HasRoom, Grows, written, candidates_before}
-use Rattle.dnw_encoder.specs.Emitting.{Answer, Emits}
-use Rattle.dnw_name.specs.Names.{NameValue, AreLabels, encoded_size, labels_wire, wire, lower}
-use Rattle.dnw_name.specs.Reading.{NameAt}
+use Rattle.dnw_encoder.specs.Encoder.{Encoder, HasRoom, Grows, written}
+use Rattle.dnw_encoder.specs.Emitting.{Outcome, Emits}
 
 -- ---- what a pointer may stand for
-
--- The candidate between these others is usable for the labels: it has their bytes, and in the message that is written
--- so far they are read at its place.
-pub record IsUsable (message : List ℕ) (candidates : List Candidate) (labels : List (List ℕ)) (place : ℕ) (before after : List Candidate) : Type 0 where
-  pub split : candidates ≡ before ++ (place, labels_wire labels) ∷ after
-  pub end : ℕ
-  pub pointers : ℕ
-  pub name : NameAt message place labels end pointers
 
 -- the message that is written so far
 abbrev pub so_far : Encoder → List ℕ
 so_far v = take v.offset v.bytes
 
--- The first candidate that is usable for the labels stands at the place.
-pub record IsFirstUsable (message : List ℕ) (candidates : List Candidate) (labels : List (List ℕ)) (place : ℕ) : Type 0 where
-  pub before : List Candidate
-  pub after : List Candidate
-  pub usable : IsUsable message candidates labels place before after
-  pub first : (other : ℕ) (earlier later : List Candidate) → IsUsable message candidates labels other earlier later
-      → length before ≤ length earlier
-
--- The labels are front and back, and a pointer to the place stands for back: the first candidate that is usable for it
--- is there, and none is usable for a longer suffix.
-pub record Points (v : Encoder) (labels front back : List (List ℕ)) (place : ℕ) : Type 0 where
+-- The labels are front and back, and a pointer to the target stands for back: the first candidate that is usable for
+-- back is there, and none is usable for a longer suffix.
+pub record Points (v : Encoder) (labels front back : List (List ℕ)) (target : ℕ) : Type 0 where
   pub parts : labels ≡ front ++ back
   pub some : back ≢ []
-  pub usable : IsFirstUsable (so_far v) v.candidates back place
+  pub usable : IsFirstUsable (so_far v) v.candidates back target
   pub longest : (less more : List (List ℕ)) (other : ℕ) (before after : List Candidate) → labels ≡ less ++ more → more ≢ []
       → IsUsable (so_far v) v.candidates more other before after → length front ≤ length less
 
 -- No suffix of the labels has a usable candidate.
 abbrev pub PointsNowhere : Encoder → List (List ℕ) → Type 0
-PointsNowhere v labels = (front back : List (List ℕ)) (place : ℕ) (before after : List Candidate) → labels ≡ front ++ back
-    → back ≢ [] → IsUsable (so_far v) v.candidates back place before after → ⊥
+PointsNowhere v labels = (front back : List (List ℕ)) (target : ℕ) (before after : List Candidate) → labels ≡ front ++ back
+    → back ≢ [] → IsUsable (so_far v) v.candidates back target before after → ⊥
 
--- Only the front is written, and a pointer to the place stands for the back.
+-- Only the front is written, and a pointer to the target stands for the back.
 pub record Share : Type 0 where
   pub front : List (List ℕ)
   pub back : List (List ℕ)
-  pub place : ℕ
+  pub target : ℕ
 
 abbrev pub is_compressed : NameEncoding → Bool
 is_compressed Compressed = true
@@ -64,34 +49,30 @@ compresses v = is_compressed v.encoding && nat_lt v.names v.name_limit
 -- The labels are written in this way: whole, or with a pointer.
 abbrev pub Chooses : Encoder → List (List ℕ) → Option Share → Type 0
 Chooses v labels None = compresses v ≡ true → PointsNowhere v labels
-Chooses v labels (Some share) = (compresses v ≡ true) × Points v labels share.front share.back share.place
+Chooses v labels (Some share) = (compresses v ≡ true) × Points v labels share.front share.back share.target
 
 -- ---- what is written
 
--- a pointer to a place: 14 bits behind two that are set
+-- a pointer to an offset: 14 bits after two that are set
 abbrev pub pointer_to : ℕ → List ℕ
-pointer_to place = (192 + place / 256) ∷ (place % 256) ∷ []
+pointer_to offset = (pointer_mark + offset / 256) ∷ (offset % 256) ∷ []
 
 abbrev pub form : List (List ℕ) → Option Share → List ℕ
 form labels None = wire labels
-form labels (Some share) = labels_wire share.front ++ pointer_to share.place
+form labels (Some share) = labels_wire share.front ++ pointer_to share.target
 
--- All labels need room, also those that a pointer stands for, and the closing zero where there is no pointer.
+-- Room is needed for all labels, also for those that a pointer stands for, and for the closing zero if there is no
+-- pointer.
 abbrev pub room_for : List (List ℕ) → Option Share → ℕ
 room_for labels None = encoded_size labels
 room_for labels (Some share) = length (labels_wire labels)
 
 -- ---- what is kept
 
--- the suffixes of labels that are written at a place, longest first
-abbrev pub suffixes : ℕ → List (List ℕ) → List Candidate
-suffixes place [] = []
-suffixes place (l ∷ labels) = (place, labels_wire (l ∷ labels)) ∷ suffixes (place + 1 + length l) labels
-
--- Of the first n suffixes as many as are allowed are kept, if pointers reach to the end of the full labels.
+-- Of the first n suffixes as many as are allowed are kept, if pointers reach to the end of all labels.
 abbrev pub kept : Encoder → List (List ℕ) → ℕ → List Candidate
 kept v labels n =
-    if nat_lt (v.offset + length (labels_wire labels)) 16383
+    if nat_lt (v.offset + length (labels_wire labels)) pointer_reach
     then take (v.candidate_limit - length v.candidates) (take n (suffixes v.offset labels))
     else []
 
@@ -104,7 +85,7 @@ newly_kept v labels (Some share) = kept v labels (length share.front)
 abbrev pub counted : Encoder → ℕ
 counted v = if compresses v then v.names + 1 else v.names
 
--- What stood behind a pointer is cut, and so are candidates there.
+-- A pointer is the end of the buffer, and no candidate stays from there on.
 abbrev pub emitted : Encoder → List (List ℕ) → Option Share → Encoder
 emitted v labels None = record v {
   bytes = (written v (wire labels)).bytes;
@@ -119,31 +100,31 @@ emitted v labels (Some share) = record v {
   names = counted v;
 }
 
--- Memory is needed where the buffer grows or candidates are kept.
+-- A name may need memory only if the buffer grows or candidates are kept.
 abbrev pub NeedsMemory : Encoder → List (List ℕ) → Option Share → Type 0
 NeedsMemory v labels choice = Grows v (length (form labels choice)) ⊎ (newly_kept v labels choice ≢ [])
 
--- The labels were written in this way, or refused: exactly where there is no room, or memory could not be had. Then
--- nothing was changed, and the name is not counted.
-abbrev pub EmitsAs : Encoder → List (List ℕ) → Option Share → Answer → Encoder → Type 0
+-- The labels are written in this way. The call fails if there is no room, or if memory ran out; then the encoder is
+-- unchanged, and the name is not counted.
+abbrev pub EmitsAs : Encoder → List (List ℕ) → Option Share → Outcome → Encoder → Type 0
 EmitsAs v labels choice (Ok done) w = HasRoom v (room_for labels choice) × (w ≡ emitted v labels choice)
 EmitsAs v labels choice (Err Memory) w = HasRoom v (room_for labels choice) × NeedsMemory v labels choice × (w ≡ v)
 EmitsAs v labels choice (Err (MaxBufferSizeExceeded size)) w =
     (v.max_size < v.offset + room_for labels choice) × (size ≡ v.max_size) × (w ≡ v)
 EmitsAs v labels choice (Err error) w = ⊥
 
--- The labels of a name were written.
-pub record EmitsLabels (v : Encoder) (labels : List (List ℕ)) (answer : Answer) (w : Encoder) : Type 0 where
+-- The labels of a name are written.
+pub record EmitsLabels (v : Encoder) (labels : List (List ℕ)) (outcome : Outcome) (w : Encoder) : Type 0 where
   pub are_labels : AreLabels labels
   pub choice : Option Share
   pub chooses : Chooses v labels choice
-  pub written_as : EmitsAs v labels choice answer w
+  pub written_as : EmitsAs v labels choice outcome w
 
 -- the labels as a mode writes them
 abbrev pub in_mode : NameEncoding → List (List ℕ) → List (List ℕ)
 in_mode UncompressedLowercase ls = lower ls
 in_mode mode ls = ls
 
--- A name was written.
+-- A name is written.
 abbrev pub EmitsName : Emits NameValue
-EmitsName name v answer w = EmitsLabels v (in_mode v.encoding name.labels) answer w
+EmitsName name v outcome w = EmitsLabels v (in_mode v.encoding name.labels) outcome w

@@ -2,10 +2,11 @@
 use Rattle.std.proofs.Common.{◌≡◌, ℕ, ◌+◌, ◌≤◌, List, [], ◌∷◌, ◌++◌, length, take, drop, Ok, Err, OnOk, refl, sym, ap, ◌∙◌, subst, arith, rules, tests, Bool, true, false, cond, nat_lt}
 use Rattle.std.proofs.lemmas.List.{length-append, length-drop, length-take, take-append-le, take-take}
 use Rattle.std.proofs.Math.Seq.{take-length}
-use Rattle.dnw_base.specs.declared.error.ProtoError.{ProtoError}
-use Rattle.dnw_base.specs.declared.error.ProtoError.TheVariants.{CharacterDataTooLong, MaxBufferSizeExceeded, Memory}
-use Rattle.dnw_encoder.specs.Encoder.{Encoder, Candidate, Writes, WritesText, written, candidates_before}
-use Rattle.dnw_encoder.specs.Emitting.{Answer, Emits, Frame, InTurn}
+use Rattle.dnw_error.specs.declared.error.ProtoError.{ProtoError}
+use Rattle.dnw_error.specs.declared.error.ProtoError.TheVariants.{CharacterDataTooLong, MaxBufferSizeExceeded, Memory}
+use Rattle.dnw_encoder.specs.Encoder.{Encoder, Writes, WritesText, written}
+use Rattle.dnw_candidates.specs.Candidates.{Candidate, candidates_before}
+use Rattle.dnw_encoder.specs.Emitting.{Outcome, Emits, Frame, InTurn}
 
 pub take-all : (o : ℕ) (b : List ℕ) → o ≡ length b → take o b ≡ b
 take-all o b e = rw e (take-length b)
@@ -20,15 +21,15 @@ length-written : (o : ℕ) (b d : List ℕ) → o ≡ length b → o + length d 
 length-written o b d e =
     omega (arith, e, ap length (take-all o b e), length-append (take o b) (d ++ drop (o + length d) b), length-append d (drop (o + length d) b), length-drop (o + length d) b)
 
-on-ok : (answer : Answer) {P : Type 0} → P → OnOk answer P
+on-ok : (outcome : Outcome) {P : Type 0} → P → OnOk outcome P
 on-ok (Ok done) p = p
 on-ok (Err error) p = tt
 
 -- Where what is new stands behind what stood before, the frame is kept.
-pub frame-moved : (v : Encoder) (answer : Answer) (b : List ℕ) (o : ℕ) (cs : List Candidate) (names : ℕ) → take v.offset b ≡ v.bytes
+pub frame-moved : (v : Encoder) (outcome : Outcome) (b : List ℕ) (o : ℕ) (cs : List Candidate) (names : ℕ) → take v.offset b ≡ v.bytes
     → candidates_before v.offset cs ≡ candidates_before v.offset v.candidates → o ≡ length b
-    → Frame v answer (record v { bytes = b; offset = o; candidates = cs; names = names })
-frame-moved v answer b o cs names front kept end =
+    → Frame v outcome (record v { bytes = b; offset = o; candidates = cs; names = names })
+frame-moved v outcome b o cs names front kept end =
     record {
       bytes = front;
       candidates = kept;
@@ -37,16 +38,16 @@ frame-moved v answer b o cs names front kept end =
       max_size = refl;
       candidate_limit = refl;
       name_limit = refl;
-      ends = on-ok answer end;
+      ends = on-ok outcome end;
     }
 
 pub frame-written : (v : Encoder) (d : List ℕ) → v.offset ≡ length v.bytes → Frame v (Ok tt) (written v d)
 frame-written v d e = frame-moved v (Ok tt) _ _ v.candidates v.names (front-written v.offset v.bytes d e) refl (length-written v.offset v.bytes d e)
 
-pub frame-same : (v : Encoder) (answer : Answer) → v.offset ≡ length v.bytes → Frame v answer v
-frame-same v answer e = frame-moved v answer v.bytes v.offset v.candidates v.names (take-all v.offset v.bytes e) refl e
+pub frame-same : (v : Encoder) (outcome : Outcome) → v.offset ≡ length v.bytes → Frame v outcome v
+frame-same v outcome e = frame-moved v outcome v.bytes v.offset v.candidates v.names (take-all v.offset v.bytes e) refl e
 
-pub frame : (v : Encoder) (d : List ℕ) (answer : Answer) (w : Encoder) → v.offset ≡ length v.bytes → Writes v d answer w → Frame v answer w
+pub frame : (v : Encoder) (d : List ℕ) (outcome : Outcome) (w : Encoder) → v.offset ≡ length v.bytes → Writes v d outcome w → Frame v outcome w
 frame v d (Ok tt) w e h = let P : Encoder → Type 0 = λ x. Frame v (Ok tt) x in subst P (sym h.1) (frame-written v d e)
 frame v d (Err Memory) w e h = let P : Encoder → Type 0 = λ x. Frame v (Err Memory) x in subst P (sym h.2) (frame-same v (Err Memory) e)
 frame v d (Err (MaxBufferSizeExceeded size)) w e h =
@@ -55,10 +56,10 @@ frame v d (Err (MaxBufferSizeExceeded size)) w e h =
 frame v d (Err error) w e h = absurd h
 
 -- a refused write changes nothing
-pub refused-same : (v : Encoder) (d : List ℕ) (error : ProtoError) (w : Encoder) → Writes v d (Err error) w → w ≡ v
-refused-same v d Memory w h = h.2
-refused-same v d (MaxBufferSizeExceeded size) w h = h.2
-refused-same v d error w h = absurd h
+pub fails-unchanged : (v : Encoder) (d : List ℕ) (error : ProtoError) (w : Encoder) → Writes v d (Err error) w → w ≡ v
+fails-unchanged v d Memory w h = h.2
+fails-unchanged v d (MaxBufferSizeExceeded size) w h = h.2
+fails-unchanged v d error w h = absurd h
 
 -- ---- one frame behind another
 
@@ -78,8 +79,8 @@ candidates_before-twice p q (c ∷ cs) le =
     ] in
     cases (nat_lt c.0 q) refl
 
-pub frames-follow : (v m w : Encoder) (answer : Answer) → v.offset ≡ length v.bytes → Frame v (Ok tt) m → Frame m answer w → Frame v answer w
-frames-follow v m w answer e f g =
+pub frames-follow : (v m w : Encoder) (outcome : Outcome) → v.offset ≡ length v.bytes → Frame v (Ok tt) m → Frame m outcome w → Frame v outcome w
+frames-follow v m w outcome e f g =
     let le : v.offset ≤ m.offset = omega (arith, e, f.ends, ap length f.bytes, length-take v.offset m.bytes) in
     record {
       bytes = sym (take-take v.offset m.offset w.bytes le) ∙ (ap (take v.offset) g.bytes ∙ f.bytes);
@@ -95,7 +96,7 @@ frames-follow v m w answer e f g =
 
 -- items in turn
 pub frame-in_turn : {X : Type 0} (emits : Emits X)
-    → ((x : X) (v : Encoder) (answer : Answer) (w : Encoder) → v.offset ≡ length v.bytes → emits x v answer w → Frame v answer w)
+    → ((x : X) (v : Encoder) (outcome : Outcome) (w : Encoder) → v.offset ≡ length v.bytes → emits x v outcome w → Frame v outcome w)
     → (v w : Encoder) (xs : List X) → v.offset ≡ length v.bytes → InTurn emits v xs w → Frame v (Ok tt) w
 frame-in_turn emits keeps v w [] e h =
     let P : Encoder → Type 0 = λ x. Frame v (Ok tt) x in
@@ -105,7 +106,7 @@ frame-in_turn emits keeps v w (x ∷ xs) e h =
     frames-follow v h.0 w (Ok tt) e first (frame-in_turn emits keeps h.0 w xs first.ends h.2)
 
 -- character data
-pub frame-text : (v : Encoder) (d : List ℕ) (answer : Answer) (w : Encoder) → v.offset ≡ length v.bytes → WritesText v d answer w → Frame v answer w
+pub frame-text : (v : Encoder) (d : List ℕ) (outcome : Outcome) (w : Encoder) → v.offset ≡ length v.bytes → WritesText v d outcome w → Frame v outcome w
 frame-text v d (Ok tt) w e h = frame v (length d ∷ d) (Ok tt) w e h.1
 frame-text v d (Err (CharacterDataTooLong max len)) w e h =
     let P : Encoder → Type 0 = λ x. Frame v (Err (CharacterDataTooLong max len)) x in

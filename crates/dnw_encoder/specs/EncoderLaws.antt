@@ -1,10 +1,10 @@
 -- What follows from the definitions of writing. Each is the clause of a public function, and so proved.
 use Rattle.std.specs.Prelude.{◌≡◌, ℕ, ◌+◌, ◌≤◌, max, List, [], ◌++◌, length, Ok, Err}
-use Rattle.dnw_base.specs.declared.error.ProtoError.TheVariants.{Memory}
-use Rattle.dnw_name.specs.Names.{NameValue, AreLabels, encoded_size, labels_wire}
-use Rattle.dnw_name.specs.Reading.{NameAt, TakesName}
+use Rattle.dnw_error.specs.declared.error.ProtoError.TheVariants.{Memory}
+use Rattle.dnw_base.specs.Names.{NameValue, AreLabels, encoded_size, labels_wire}
+use Rattle.dnw_reading.specs.Reading.{NameAt, TakesName}
 use Rattle.dnw_encoder.specs.Encoder.{Encoder, HasRoom, Holds, Writes, fresh, filled, reserved, moved_to}
-use Rattle.dnw_encoder.specs.Emitting.{Answer, Emits, Frame, InTurn}
+use Rattle.dnw_encoder.specs.Emitting.{Outcome, Emits, Frame, InTurn}
 use Rattle.dnw_encoder.specs.EmittedName.{EmitsName, Points, in_mode, pointer_to}
 
 -- the buffer is no longer than it was, or than the maximum
@@ -44,8 +44,8 @@ ItemsKeepFrame {X} emits = (v w : Encoder) (xs : List X) → v.offset ≡ length
 
 -- So does what follows an accepted part.
 abbrev pub FramesFollow : Type 0
-FramesFollow = (v m w : Encoder) (answer : Answer) → v.offset ≡ length v.bytes
-    → Frame v (Ok tt) m → Frame m answer w → Frame v answer w
+FramesFollow = (v m w : Encoder) (outcome : Outcome) → v.offset ≡ length v.bytes
+    → Frame v (Ok tt) m → Frame m outcome w → Frame v outcome w
 
 -- An accepted name is read at its start at once, with its labels as they were written.
 abbrev pub NameIsRead : Type 0

@@ -2,7 +2,8 @@
 use Rattle.std.specs.Prelude.{ℕ, List}
 use Rattle.std.specs.Borrow.{GName}
 use Rattle.dnw_encoder.specs.declared.encoder.BinEncoder.{BinEncoder}
-use Rattle.dnw_encoder.specs.Encoder.{Encoder, Candidate}
+use Rattle.dnw_encoder.specs.Encoder.{Encoder}
+use Rattle.dnw_candidates.specs.Candidates.{Candidate}
 
 -- the bytes of the buffer, whatever else the encoder owns
 abbrev pub buffer_bytes : {C : Type 0} → BinEncoder C → List ℕ

@@ -4,7 +4,7 @@ use Rattle.std.specs.Borrow.{MutBor, GName}
 use Rattle.dnw_encoder.specs.declared.encoder.BinEncoder.{BinEncoder}
 use Rattle.dnw_encoder.specs.declared.encoder.modal.ModalEncoder.{ModalEncoder}
 use Rattle.dnw_encoder.specs.declared.encoder.modes.NameEncoding.{NameEncoding}
-use Rattle.dnw_encoder.specs.Encoder.{Candidate}
+use Rattle.dnw_candidates.specs.Candidates.{Candidate}
 use Rattle.dnw_encoder.specs.EncoderValue.{value, lender}
 
 -- the encoder that is lent

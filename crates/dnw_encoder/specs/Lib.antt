@@ -2,9 +2,8 @@ pub mod Encoder
 pub mod EncoderValue
 pub mod Emitting
 pub mod EmittedName
-pub mod Sharing
 pub mod EmittingLaws
 pub mod NameFrames
 pub mod Guards
 pub mod EncoderLaws
-pub mod Store
+pub mod Inside

@@ -2,11 +2,12 @@
 use Rattle.std.proofs.Common.{◌≡◌, ℕ, zero, suc, ◌+◌, ◌-◌, ◌≤◌, if◌then◌else◌, List, [], ◌∷◌, ◌++◌, length, take, Option, Some, None, Ok, Err, refl, sym, ap, ◌∙◌, subst, arith, rules, tests, Bool, true, false, cond, nat_lt}
 use Rattle.std.specs.List.{AllByRecursion}
 use Rattle.std.proofs.lemmas.List.{length-append, take-append-le, append-nil}
-use Rattle.dnw_base.specs.declared.error.ProtoError.TheVariants.{MaxBufferSizeExceeded, Memory}
-use Rattle.dnw_name.specs.Names.{NameValue, labels_wire, wire}
-use Rattle.dnw_encoder.specs.Encoder.{Encoder, Candidate, candidates_before}
-use Rattle.dnw_encoder.specs.Emitting.{Answer, Frame}
-use Rattle.dnw_encoder.specs.EmittedName.{EmitsAs, EmitsName, Share, counted, emitted, form, in_mode, kept, newly_kept, suffixes}
+use Rattle.dnw_error.specs.declared.error.ProtoError.TheVariants.{MaxBufferSizeExceeded, Memory}
+use Rattle.dnw_base.specs.Names.{NameValue, labels_wire, wire}
+use Rattle.dnw_encoder.specs.Encoder.{Encoder}
+use Rattle.dnw_candidates.specs.Candidates.{Candidate, candidates_before, suffixes}
+use Rattle.dnw_encoder.specs.Emitting.{Outcome, Frame}
+use Rattle.dnw_encoder.specs.EmittedName.{EmitsAs, EmitsName, Share, counted, emitted, form, in_mode, kept, newly_kept}
 use Rattle.dnw_encoder.specs.EmittingLaws.{frame-moved, frame-written, frame-same, take-all, candidates_before-twice}
 
 -- ---- what is kept lies behind the start
@@ -80,8 +81,8 @@ frame-emitted v ls (Some share) e =
     (candidates_before-twice v.offset (v.offset + length front) cs (omega arith) ∙ same-before v ls (length share.front))
     (omega (arith, e, ap length all, length-append (take v.offset v.bytes) d))
 
-frame-as : (v : Encoder) (ls : List (List ℕ)) (choice : Option Share) (answer : Answer) (w : Encoder) → v.offset ≡ length v.bytes
-    → EmitsAs v ls choice answer w → Frame v answer w
+frame-as : (v : Encoder) (ls : List (List ℕ)) (choice : Option Share) (outcome : Outcome) (w : Encoder) → v.offset ≡ length v.bytes
+    → EmitsAs v ls choice outcome w → Frame v outcome w
 frame-as v ls choice (Ok tt) w e h = let P : Encoder → Type 0 = λ x. Frame v (Ok tt) x in subst P (sym h.1) (frame-emitted v ls choice e)
 frame-as v ls choice (Err Memory) w e h = let P : Encoder → Type 0 = λ x. Frame v (Err Memory) x in subst P (sym h.2) (frame-same v (Err Memory) e)
 frame-as v ls choice (Err (MaxBufferSizeExceeded size)) w e h =
@@ -89,6 +90,6 @@ frame-as v ls choice (Err (MaxBufferSizeExceeded size)) w e h =
     subst P (sym h.2) (frame-same v (Err (MaxBufferSizeExceeded size)) e)
 frame-as v ls choice (Err error) w e h = absurd h
 
-pub frame-name : (name : NameValue) (v : Encoder) (answer : Answer) (w : Encoder) → v.offset ≡ length v.bytes
-    → EmitsName name v answer w → Frame v answer w
-frame-name name v answer w e h = frame-as v (in_mode v.encoding name.labels) h.choice answer w e h.written_as
+pub frame-name : (name : NameValue) (v : Encoder) (outcome : Outcome) (w : Encoder) → v.offset ≡ length v.bytes
+    → EmitsName name v outcome w → Frame v outcome w
+frame-name name v outcome w e h = frame-as v (in_mode v.encoding name.labels) h.choice outcome w e h.written_as

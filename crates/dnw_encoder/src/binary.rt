@@ -1,32 +1,33 @@
-//! Types that have a form in messages.
+//! Types that are written into messages.
 ghost use Rattle.std.specs.Prelude.{◌≡◌, ◌≢◌, ℕ, ◌≤◌, List, [], length, Ok, Err, Result, IfOk, IfErr, refl};
 ghost use Rattle.std.specs.Int.{w16, w32, to_be_bytes};
 ghost use Rattle.std.specs.Int.{cast_unsigned as unsigned};
-ghost use Rattle.dnw_base.specs.declared.error.ProtoError.{ProtoError};
+ghost use Rattle.dnw_error.specs.declared.error.ProtoError.{ProtoError};
 ghost use Rattle.dnw_encoder.specs.Encoder.{Encoder, fresh, Writes};
 ghost use Rattle.dnw_encoder.specs.EncoderValue.{value, lender};
-ghost use Rattle.dnw_encoder.specs.Emitting.{Answer, Frame, WritesLen, RefusesWhole};
-ghost use Rattle.dnw_encoder.specs.EmittingLaws.{frame, refused-same};
+ghost use Rattle.dnw_encoder.specs.Emitting.{Outcome, Frame, WritesLen, FailsUnchanged};
+ghost use Rattle.dnw_encoder.specs.EmittingLaws.{frame, fails-unchanged};
 ghost use Rattle.std.proofs.Common.{lit≤};
 
 use crate::encoder::BinEncoder;
-use dnw_base::error::{ProtoError, ProtoResult};
+use dnw_error::error::{ProtoError, ProtoResult};
 use std::alloc::Global;
 
 mod name;
 
 /// A type that can be written into messages.
 ///
-/// `emits` says how: which answers and which encoders may come of an encoder.
+/// `emits` says how: which outcomes and which encoders may come of a value and an encoder. `keeps_frame` shows that a
+/// write at the buffer's end keeps what is before it.
 pub trait BinEncodable {
-    ghost emits: { Self → Encoder → Answer → Encoder → Type 0 };
+    ghost emits: { Self → Encoder → Outcome → Encoder → Type 0 };
 
     /// Writes the value at the encoder's offset.
     fn emit(&self, encoder: &mut BinEncoder<'_>) -> ProtoResult<()>
         ensures emits { emits self.now (value encoder.old) result (value encoder.new) }
         ensures lender { lender encoder.new ≡ lender encoder.old };
 
-    /// The value's bytes, as a new encoder over no bytes writes them.
+    /// Returns the value's bytes, as a new encoder writes them into an empty buffer.
     fn to_bytes(&self, alloc: Global) -> ProtoResult<Vec<u8>>
         ensures ok { IfOk result (λ bytes. (w : Encoder) × emits self.now (fresh [] 0) (Ok tt) w × (bytes.items ≡ w.bytes)) }
         ensures err { IfErr result (λ e. (w : Encoder) × emits self.now (fresh [] 0) (Err e) w) }
@@ -38,8 +39,8 @@ pub trait BinEncodable {
         Ok(bytes)
     }
 
-    ghost keeps_frame: { (x : Self) (v : Encoder) (answer : Answer) (w : Encoder)
-        → v.offset ≡ length v.bytes → emits x v answer w → Frame v answer w };
+    ghost keeps_frame: { (x : Self) (v : Encoder) (outcome : Outcome) (w : Encoder)
+        → v.offset ≡ length v.bytes → emits x v outcome w → Frame v outcome w };
 }
 
 impl<E: BinEncodable> BinEncodable for &E {
@@ -52,7 +53,7 @@ impl<E: BinEncodable> BinEncodable for &E {
     }
 }
 
-/// A type whose form always has as many bytes.
+/// A type that is always written with the same number of bytes.
 pub trait EncodedSize: BinEncodable + Drop {
     /// The number of bytes.
     const LEN: usize;
@@ -63,13 +64,13 @@ pub trait EncodedSize: BinEncodable + Drop {
 
     ghost writes_len: { WritesLen Self.emits LEN };
 
-    ghost refuses_whole: { RefusesWhole Self.emits };
+    ghost fails_unchanged: { FailsUnchanged Self.emits };
 }
 
 impl BinEncodable for u16 {
     ghost emits = { λ number v. Writes v (to_be_bytes w16 number) };
 
-    ghost keeps_frame = { λ number v answer w. frame v (to_be_bytes w16 number) answer w };
+    ghost keeps_frame = { λ number v outcome w. frame v (to_be_bytes w16 number) outcome w };
 
     fn emit(&self, encoder: &mut BinEncoder<'_>) -> ProtoResult<()> {
         encoder.emit_u16(*self)
@@ -85,13 +86,13 @@ impl EncodedSize for u16 {
 
     ghost writes_len = { λ number v w h. (to_be_bytes w16 number, refl, h.1) };
 
-    ghost refuses_whole = { λ number v w error h. refused-same v (to_be_bytes w16 number) error w h };
+    ghost fails_unchanged = { λ number v w error h. fails-unchanged v (to_be_bytes w16 number) error w h };
 }
 
 impl BinEncodable for i32 {
     ghost emits = { λ number v. Writes v (to_be_bytes w32 (unsigned w32 number)) };
 
-    ghost keeps_frame = { λ number v answer w. frame v (to_be_bytes w32 (unsigned w32 number)) answer w };
+    ghost keeps_frame = { λ number v outcome w. frame v (to_be_bytes w32 (unsigned w32 number)) outcome w };
 
     fn emit(&self, encoder: &mut BinEncoder<'_>) -> ProtoResult<()> {
         encoder.emit_i32(*self)
@@ -101,7 +102,7 @@ impl BinEncodable for i32 {
 impl BinEncodable for u32 {
     ghost emits = { λ number v. Writes v (to_be_bytes w32 number) };
 
-    ghost keeps_frame = { λ number v answer w. frame v (to_be_bytes w32 number) answer w };
+    ghost keeps_frame = { λ number v outcome w. frame v (to_be_bytes w32 number) outcome w };
 
     fn emit(&self, encoder: &mut BinEncoder<'_>) -> ProtoResult<()> {
         encoder.emit_u32(*self)
@@ -111,7 +112,7 @@ impl BinEncodable for u32 {
 impl BinEncodable for Vec<u8> {
     ghost emits = { λ bytes v. Writes v bytes.items };
 
-    ghost keeps_frame = { λ bytes v answer w. frame v bytes.items answer w };
+    ghost keeps_frame = { λ bytes v outcome w. frame v bytes.items outcome w };
 
     fn emit(&self, encoder: &mut BinEncoder<'_>) -> ProtoResult<()> {
         encoder.emit_vec(self.as_slice())

@@ -2,11 +2,14 @@
 ghost use Rattle.std.specs.Prelude.{◌≡◌, ℕ, ◌+◌, ◌%◌, ◌<◌, ◌≤◌, ◌↔◌, Bool, ◌==◌, List, [], ◌∷◌, ◌++◌, length, slice_range, IsTrue, IfSome, OnOk, IfErr, vec_len};
 ghost use Rattle.std.specs.Int.{w16, w32, to_be_bytes};
 ghost use Rattle.std.specs.Int.{cast_unsigned as unsigned};
-ghost use Rattle.dnw_encoder.specs.Encoder.{fresh, trimmed, HasRoom, Writes, WritesText, Stores, Finds};
+ghost use Rattle.dnw_base.specs.Limits.{max_message, pointer_reach};
+ghost use Rattle.dnw_encoder.specs.Encoder.{fresh, trimmed, HasRoom, Writes, WritesText, Stores};
+ghost use Rattle.dnw_candidates.specs.Candidates.{Finds};
 
-use dnw_base::error::{ProtoError, ProtoResult};
+use dnw_base::limits::{MAX_CHARACTER_DATA, MAX_MESSAGE, POINTER_REACH};
+use dnw_candidates::candidates::Candidates;
+use dnw_error::error::{ProtoError, ProtoResult};
 
-mod candidates;
 mod items;
 pub mod laws;
 mod modal;
@@ -14,27 +17,23 @@ mod modes;
 mod names;
 mod place;
 
-use candidates::Candidates;
 pub use modal::ModalEncoder;
 pub use modes::{NameEncoding, RDataEncoding};
 pub use place::Place;
 
-/// The size that an encoder begins with (RFC 1035, section 4.2.2).
-const MAX_SIZE: u16 = 65535;
+/// How many candidates for compression an encoder keeps unless another limit is set.
+pub const CANDIDATE_LIMIT: usize = 64;
 
-/// How many candidates an encoder keeps where nothing else is said.
-const CANDIDATE_LIMIT: usize = 64;
+/// How many names an encoder compresses unless another limit is set.
+pub const NAME_LIMIT: usize = 120;
 
-/// How many names an encoder compresses where nothing else is said.
-const NAME_LIMIT: usize = 120;
-
-/// Where candidates end to be stored: a pointer has 14 bits (RFC 1035, section 4.1.4).
-const POINTER_LIMIT: usize = 0x3FFF;
-
-/// Writes a message into a buffer, up to a maximum size. A call that is refused changes nothing.
+/// Writes a message into a buffer, up to a maximum size. A call that fails leaves the encoder unchanged.
 ///
-/// A contract sees it as an encoder value: the buffer's bytes, where the next one is written, the maximum, and how
-/// names are written. The parameter stands for what the encoder owns; write `BinEncoder<'a>`.
+/// Names are compressed (RFC 1035, section 4.1.4): the encoder keeps the suffixes of the first names as candidates, to
+/// which later names point.
+///
+/// A contract sees it as an encoder value: the buffer's bytes, the offset of the next one, the maximum, and how names
+/// are written. The parameter stands for what the encoder owns; write `BinEncoder<'a>`.
 pub struct BinEncoder<'a, C = Candidates> {
     buffer: &'a mut Vec<u8>,
     offset: usize,
@@ -51,7 +50,7 @@ pub struct BinEncoder<'a, C = Candidates> {
 impl<C: Drop> Drop for BinEncoder<'_, C> {
     ghost use Rattle.dnw_encoder.specs.EncoderValue.{buffer_bytes};
 
-    // The buffer is left as it was.
+    // The buffer stays with its owner.
     fn drop(self)
         ensures { self.exit.0.now.items ≡ buffer_bytes self.entry }
     {
@@ -72,7 +71,7 @@ impl<C: Drop> Drop for BinEncoder<'_, C> {
 impl<'a> BinEncoder<'a> {
     ghost use Rattle.dnw_encoder.specs.EncoderValue.{value, lender};
 
-    /// An encoder that writes from the buffer's first byte on. It takes no memory.
+    /// Creates an encoder that writes from the buffer's first byte on. It does not allocate.
     pub fn new(buf: &'a mut Vec<u8>) -> Self
         ensures value { value result ≡ fresh buf.old.items 0 }
         ensures lender { lender result ≡ buf.entry.ghost_name }
@@ -80,7 +79,7 @@ impl<'a> BinEncoder<'a> {
         BinEncoder::with_offset(buf, 0)
     }
 
-    /// An encoder that writes from the offset on, which has to be within the buffer. It takes no memory.
+    /// Creates an encoder that writes from `offset` on, which must not be past the buffer's end. It does not allocate.
     pub fn with_offset(buf: &'a mut Vec<u8>, offset: u32) -> Self
         requires { offset ≤ vec_len buf.old }
         ensures value { value result ≡ fresh buf.old.items offset }
@@ -90,7 +89,7 @@ impl<'a> BinEncoder<'a> {
         BinEncoder {
             buffer: buf,
             offset: offset as usize,
-            max_size: MAX_SIZE,
+            max_size: MAX_MESSAGE,
             encoding: NameEncoding::Compressed,
             canonical: false,
             candidates: Candidates::new(alloc),
@@ -100,8 +99,8 @@ impl<'a> BinEncoder<'a> {
         }
     }
 
-    /// The same encoder with other limits on the candidates that it keeps and on the names that it counts.
-    /// Candidates above the new limit stay.
+    /// Sets how many candidates the encoder keeps and how many names it compresses. Candidates above the new limit
+    /// stay.
     pub fn with_limits(mut self, candidates: usize, names: usize) -> Self
         ensures value { value result ≡ record (value self.entry) { candidate_limit = candidates; name_limit = names } }
         ensures lender { lender result ≡ lender self.entry }
@@ -111,7 +110,7 @@ impl<'a> BinEncoder<'a> {
         self
     }
 
-    /// Sets the size that no write goes past.
+    /// Sets the maximum size, in bytes: a write that would go past it fails.
     pub fn set_max_size(&mut self, max: u16)
         ensures value { value self.new ≡ record (value self.old) { max_size = max } }
         ensures lender { lender self.new ≡ lender self.old }
@@ -119,7 +118,7 @@ impl<'a> BinEncoder<'a> {
         self.max_size = max;
     }
 
-    /// The bytes of the buffer.
+    /// Ends the encoder and returns the buffer.
     pub fn into_bytes(self) -> &'a Vec<u8>
         ensures { result.now.items ≡ (value self.entry).bytes }
     {
@@ -137,7 +136,7 @@ impl<'a> BinEncoder<'a> {
         buffer
     }
 
-    /// The number of bytes in the buffer.
+    /// Returns the number of bytes in the buffer.
     #[inline(always)]
     pub fn len(&self) -> usize
         ensures { result ≡ length (value self.now).bytes }
@@ -145,7 +144,7 @@ impl<'a> BinEncoder<'a> {
         self.buffer.len()
     }
 
-    /// Whether the buffer has no bytes.
+    /// Returns `true` if the buffer has no bytes.
     #[inline(always)]
     pub fn is_empty(&self) -> bool
         ensures { IsTrue result ↔ ((value self.now).bytes ≡ []) }
@@ -153,7 +152,7 @@ impl<'a> BinEncoder<'a> {
         self.buffer.is_empty()
     }
 
-    /// Where the next byte is written.
+    /// Returns the offset at which the next byte is written.
     #[inline(always)]
     pub fn offset(&self) -> usize
         ensures offset { result ≡ (value self.now).offset }
@@ -162,7 +161,7 @@ impl<'a> BinEncoder<'a> {
         self.offset
     }
 
-    /// Sets where the next byte is written, which has to be within the buffer.
+    /// Sets the offset at which the next byte is written, which must not be past the buffer's end.
     #[inline(always)]
     pub fn set_offset(&mut self, offset: usize)
         requires { offset ≤ length (value self.old).bytes }
@@ -172,7 +171,7 @@ impl<'a> BinEncoder<'a> {
         self.offset = offset;
     }
 
-    /// Whether record data is to be written in canonical form (RFC 4034, section 6.2).
+    /// Sets whether record data is written in canonical form (RFC 4034, section 6.2).
     pub fn set_canonical_form(&mut self, canonical_form: bool)
         ensures value { value self.new ≡ record (value self.old) { canonical = canonical_form } }
         ensures lender { lender self.new ≡ lender self.old }
@@ -180,7 +179,7 @@ impl<'a> BinEncoder<'a> {
         self.canonical = canonical_form;
     }
 
-    /// Whether record data is written in canonical form.
+    /// Returns `true` if record data is written in canonical form.
     pub fn is_canonical_form(&self) -> bool
         ensures { result ≡ (value self.now).canonical }
     {
@@ -195,14 +194,14 @@ impl<'a> BinEncoder<'a> {
         self.encoding = name_encoding;
     }
 
-    /// How names are written.
+    /// Returns how names are written.
     pub fn name_encoding(&self) -> NameEncoding
         ensures { result ≡ (value self.now).encoding }
     {
         self.encoding
     }
 
-    /// Cuts the bytes and the candidates from the offset on.
+    /// Removes the bytes and the candidates from the offset on.
     pub fn trim(&mut self)
         ensures value { value self.new ≡ trimmed (value self.old) }
         ensures lender { lender self.new ≡ lender self.old }
@@ -211,7 +210,7 @@ impl<'a> BinEncoder<'a> {
         self.candidates.trim(self.offset);
     }
 
-    /// The bytes from `start` to `end`.
+    /// Returns the bytes from `start` to `end`.
     pub fn slice_of(&self, start: usize, end: usize) -> &[u8]
         requires written { start < (value self.now).offset }
         requires order { start ≤ end }
@@ -222,17 +221,17 @@ impl<'a> BinEncoder<'a> {
         &bytes[start..end]
     }
 
-    /// Remembers the labels that stand from `start` to `end` as a candidate for compression, where one more is
-    /// allowed and pointers reach as far as the offset.
+    /// Keeps the labels from `start` to `end` as a candidate for compression, if one more is allowed and pointers reach
+    /// as far as the offset.
     pub fn store_label_pointer(&mut self, start: usize, end: usize) -> ProtoResult<()>
         requires written { start < (value self.old).offset }
         requires order { start ≤ end }
         requires within { end ≤ length (value self.old).bytes }
-        requires reached { end ≤ 65535 }
+        requires reached { end ≤ max_message }
         ensures stores { Stores (value self.old) (start, slice_range (value self.old).bytes start end) result (value self.new) }
         ensures lender { lender self.new ≡ lender self.old }
     {
-        if self.offset >= POINTER_LIMIT || self.candidates.len() >= self.candidate_limit {
+        if self.offset >= POINTER_REACH || self.candidates.len() >= self.candidate_limit {
             return Ok(());
         }
         self.candidates
@@ -240,14 +239,14 @@ impl<'a> BinEncoder<'a> {
         Ok(())
     }
 
-    /// Where the first candidate stands that has the same labels as stand from `start` to `end`.
+    /// Returns the offset of the first candidate whose labels are those from `start` to `end`.
     pub fn get_label_pointer(&self, start: usize, end: usize) -> Option<u16>
         requires written { start < (value self.now).offset }
         requires order { start ≤ end }
         requires within { end ≤ length (value self.now).bytes }
-        requires reached { end ≤ 65535 }
+        requires reached { end ≤ max_message }
         ensures finds { Finds (slice_range (value self.now).bytes start end) (value self.now).candidates result }
-        ensures reached { IfSome result (λ place. place < 16383) }
+        ensures reached { IfSome result (λ offset. offset < pointer_reach) }
     {
         self.candidates.find(self.slice_of(start, end))
     }
@@ -260,7 +259,7 @@ impl<'a> BinEncoder<'a> {
         self.emit_vec(&[b])
     }
 
-    /// Writes one byte, as `emit`.
+    /// Writes one byte, as `emit` does.
     pub fn emit_u8(&mut self, number: u8) -> ProtoResult<()>
         ensures writes { Writes (value self.old) (number ∷ []) result (value self.new) }
         ensures lender { lender self.new ≡ lender self.old }
@@ -317,9 +316,9 @@ impl<'a> BinEncoder<'a> {
         ensures writes { WritesText (value self.old) char_data.now result (value self.new) }
         ensures lender { lender self.new ≡ lender self.old }
     {
-        if char_data.len() > 255 {
+        if char_data.len() > MAX_CHARACTER_DATA {
             return Err(ProtoError::CharacterDataTooLong {
-                max: 255,
+                max: MAX_CHARACTER_DATA,
                 len: char_data.len(),
             });
         }
@@ -327,6 +326,8 @@ impl<'a> BinEncoder<'a> {
     }
 
     /// Writes the low eight bits of the length of some bytes, and these bytes.
+    ///
+    /// A reader of more than 255 bytes does not find their end; see `emit_character_data`.
     pub fn emit_character_data_unrestricted(&mut self, char_data: &[u8]) -> ProtoResult<()>
         ensures writes { Writes (value self.old) (length char_data.now % 256 ∷ char_data.now) result (value self.new) }
         ensures lender { lender self.new ≡ lender self.old }
@@ -342,7 +343,7 @@ impl<'a> BinEncoder<'a> {
         Ok(())
     }
 
-    /// Refuses where `len` more bytes are not allowed.
+    /// Fails if `len` more bytes go past the maximum.
     #[inline(always)]
     fn test_room(&self, len: usize) -> ProtoResult<()>
         ensures ok { OnOk result (HasRoom (value self.now) len) }

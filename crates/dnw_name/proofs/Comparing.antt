@@ -3,8 +3,8 @@ use Rattle.std.proofs.Common.{◌≡◌, ◌↔◌, ℕ, suc, ◌-◌, ◌<◌, 
 use Rattle.std.specs.Iterator.{YieldsFirstRef}
 use Rattle.std.specs.Char.{to_ascii_lowercase}
 use Rattle.std.proofs.lemmas.List.{drop_at, length-map, take-append-drop}
-use Rattle.dnw_name.specs.Names.{encoded_size, lower, IsZoneOf}
-use Rattle.dnw_name.proofs.Wires.{encoded_size-cons}
+use Rattle.dnw_base.specs.Names.{encoded_size, lower, IsZoneOf}
+use Rattle.dnw_base.proofs.Wires.{encoded_size-cons}
 
 -- lower case keeps the number of labels and the size
 length-lower : (ls : List (List ℕ)) → length (lower ls) ≡ length ls

@@ -1,25 +1,3 @@
-pub mod Wires
-pub mod EditLemmas
-mod SimpleLabels
-pub mod Sizes
-pub mod Steps
-pub mod Unique
-pub mod Walks
-pub mod Back
-pub mod Stand
-pub mod Counts
-pub mod Joined
-pub mod Going
-pub mod Found
-pub mod Leading
-pub mod Onward
-pub mod Takes
-pub mod Behind
-pub mod Copying
-pub mod Lending
 pub mod Comparing
-pub mod TextReading
-pub mod ByteTexts
 pub mod Qualified
-pub mod LowerWires
-pub mod ReadBack
+pub mod Borrowed

@@ -1,10 +1,1 @@
-pub mod Names
-pub mod Edits
-pub mod NameText
-pub mod TextReader
-pub mod NameInside
-pub mod Reading
-pub mod ReadingLaws
 pub mod Decodable
-pub mod Walking
-pub mod NameRefInside

@@ -1,4 +1,4 @@
-//! The wire traits: what is read from a message, and what is written to one.
+//! Types that can be read from a message.
 
 mod decode;
 

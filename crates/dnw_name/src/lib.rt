@@ -1,4 +1,4 @@
-//! Names, and names that stand in a message.
+//! Names, owned and borrowed from a message.
 #![tactic(auto)]
 
 pub mod binary;

@@ -1,124 +1,111 @@
 //! Domain names.
-ghost use Rattle.std.specs.Prelude.{◌≡◌, ◌≢◌, ℕ, ◌+◌, ◌-◌, ◌*◌, ◌<◌, ◌≤◌, ◌↔◌, Bool, true, false, ◌==◌, ◌||◌, if◌then◌else◌, List, [], ◌∷◌, ◌++◌, length, map, min, Some, Ok, Result, IsTrue, IsOk, IfOk, IfErr, OnOk, OnErr, IsErrOf, IsOkAnd, string_bytes, sum_by};
-ghost use Rattle.std.specs.List.{AllByRecursion, join_with_byte};
+ghost use Rattle.std.specs.Prelude.{◌≡◌, ◌≢◌, ℕ, ◌+◌, ◌≤◌, ◌↔◌, false, true, List, [], ◌∷◌, length, min, Some, Ok, Result, IsTrue, IfOk, IfErr, OnErr, IsErrOf, IsOkAnd, string_bytes};
+ghost use Rattle.std.specs.List.{AllByRecursion};
+ghost use Rattle.std.specs.Option.{option_copied};
 ghost use Rattle.std.specs.Str.{chars};
-ghost use Rattle.arrayvec.specs.ArrayString.{array_string_len};
-ghost use Rattle.dnw_base.specs.Fault.{Fault, Refuses, RefusesOrRunsOut, NeedsMemory};
-ghost use Rattle.dnw_base.specs.Labels.{IsLabel};
+ghost use Rattle.dnw_base.specs.Limits.{max_labels, pointer_offsets};
+ghost use Rattle.dnw_error.specs.Fault.{Follows, NeedsErrorText};
 ghost use Rattle.dnw_base.specs.Decoder.{Decoder};
-ghost use Rattle.dnw_name.specs.Reading.{TakesName, StopsAt};
-ghost use Rattle.dnw_base.specs.LabelText.{label_text, asterisk, dot};
-ghost use Rattle.dnw_name.specs.Names.{NameValue, AreLabels, encoded_size, IsWildcard, lower, wire};
-ghost use Rattle.dnw_name.specs.Edits.{with_label, with_labels, append_label, append_name, append_domain};
-ghost use Rattle.dnw_name.specs.NameText.{name_text, name_from_text, IsLabelText};
-ghost use Rattle.dnw_name.specs.NameInside.{labels_of, IsWire};
+ghost use Rattle.dnw_base.specs.Labels.{wildcard};
+ghost use Rattle.dnw_base.specs.Names.{NameValue, AreLabels, encoded_size, IsWildcard, lower, wire};
+ghost use Rattle.dnw_reading.specs.Reading.{TakesName, StopsAt};
+ghost use Rattle.dnw_form.specs.Edits.{append_label, append_name, append_domain};
+ghost use Rattle.dnw_form.specs.NameText.{name_text, name_from_text, name_from_text_at, IsLabelText};
 
-use crate::name_ref::{NameRef, ReadSteps};
+use crate::name_ref::NameRef;
 use arrayvec::ArrayString;
 use dnw_base::decoder::BinDecoder;
-use dnw_base::error::{DecodeError, ProtoError, ProtoResult};
-use dnw_base::label::{IntoLabel, push_label_text};
-use smallvec::SmallVec;
+use dnw_base::limits::MAX_NAME;
+use dnw_error::error::{DecodeError, ProtoError, ProtoResult};
+use dnw_form::form::WireForm;
+pub use dnw_form::label_iter::LabelIter;
+use dnw_form::text;
+use dnw_label::label::IntoLabel;
+use dnw_reading::walk::ReadSteps;
 use std::alloc::Global;
 use std::fmt;
 use std::marker::Model;
 
-mod label_iter;
-pub mod laws;
-mod text;
-
-pub use label_iter::LabelIter;
-
-/// The most bytes that a name's text has.
-const MAX_TEXT: usize = 1024;
-
-/// A domain name: labels, and whether they end at the root (RFC 1034, section 3.1).
+/// A domain name: its labels, and whether it is fully qualified, so that it ends at the root (RFC 1034, section 3.1).
 ///
-/// A contract sees it as that flag and the list of its labels, from the left. It takes no memory.
+/// It has at most 255 octets, which are kept inline. So a name takes some 280 bytes wherever it is, and neither reading
+/// nor copying one allocates.
+///
+/// A contract sees it as the flag `is_fqdn` and the list of its labels, from the left.
 #[derive(Drop)]
 pub struct Name {
     is_fqdn: bool,
-    // The uncompressed form with its closing zero.
-    wire: SmallVec<u8, 255>,
+    form: WireForm,
 }
 
 impl Model for Name {
-    ghost use Rattle.std.specs.Prelude.{◌≡◌};
-    ghost use Rattle.dnw_name.specs.Names.{NameValue};
-    ghost use Rattle.dnw_name.specs.NameInside.{labels_of, IsWire};
+    ghost use Rattle.dnw_base.specs.Names.{NameValue};
 
     ghost Value = { NameValue };
 
-    ghost view = { λ n. record { is_fqdn = n.is_fqdn; labels = labels_of n.wire.items } };
-
-    ghost invariant = { λ n. IsWire n.wire.items × (n.wire.capacity ≡ 255) };
+    ghost view = { λ n. record { is_fqdn = n.is_fqdn; labels = n.form } };
 }
 
 impl Name {
-    /// The most octets that a name takes on the wire (RFC 1035, section 2.3.4).
-    pub const MAX_LENGTH: usize = 255;
+    /// The most octets of a name on the wire (RFC 1035, section 2.3.4).
+    pub const MAX_LENGTH: usize = MAX_NAME;
 
-    /// The relative name without labels.
+    /// Creates the relative name without labels.
     pub fn new(alloc: Global) -> Self
         ensures { result ≡ record { is_fqdn = false; labels = [] } }
     {
-        Name::without_labels(alloc, false)
+        Name {
+            is_fqdn: false,
+            form: WireForm::new(alloc),
+        }
     }
 
-    /// The relative name without labels, as `new`.
+    /// Creates the relative name without labels, as `new`.
     pub fn default(alloc: Global) -> Self
         ensures { result ≡ record { is_fqdn = false; labels = [] } }
     {
         Name::new(alloc)
     }
 
-    /// The root, `.`.
+    /// Creates the root, `.`.
     pub fn root(alloc: Global) -> Self
         ensures { result ≡ record { is_fqdn = true; labels = [] } }
     {
-        Name::without_labels(alloc, true)
+        Name::qualified(WireForm::new(alloc))
     }
 
-    fn without_labels(alloc: Global, is_fqdn: bool) -> Self
-        ensures { result ≡ record { is_fqdn = is_fqdn; labels = [] } }
-    {
-        let mut wire = SmallVec::new(alloc);
-        wire.push_reserved(0);
-        Name { is_fqdn, wire }
-    }
-
-    /// The fully qualified name with this uncompressed form.
+    /// Creates the fully qualified name with this wire form.
     #[inline(always)]
-    pub(crate) fn from_wire(wire: SmallVec<u8, 255>) -> Self
-        requires form { IsWire wire.items }
-        requires inline { wire.capacity ≡ 255 }
-        ensures { result ≡ record { is_fqdn = true; labels = labels_of wire.items } }
+    pub(crate) fn qualified(form: WireForm) -> Self
+        ensures { result ≡ record { is_fqdn = true; labels = form } }
     {
         Name {
             is_fqdn: true,
-            wire,
+            form,
         }
     }
 
-    /// Reads the name at the cursor, and leaves the cursor behind the name's own octets (RFC 1035, section 4.1.4).
-    /// Where it is refused, the cursor stays. It takes no memory.
+    /// Reads the name at the cursor, and leaves the cursor after the name's own octets (RFC 1035, section 4.1.4). The
+    /// name is fully qualified and keeps its case.
+    ///
+    /// If it fails, the cursor is unchanged. It does not allocate.
     #[inline(always)]
     pub fn read(alloc: Global, decoder: &mut BinDecoder<'_>) -> Result<Self, DecodeError>
         ensures ok { IfOk result (λ name. IsTrue name.is_fqdn × (k : ℕ) × TakesName decoder.old decoder.new name.labels k) }
         ensures err { IfErr result (λ e. (k : ℕ) × (j : ℕ) × StopsAt decoder.old e k j) }
         ensures same { OnErr result (decoder.new ≡ decoder.old) }
 
-        // What the definition accepts is accepted, and what it refuses is refused.
+        // It accepts what the definition accepts, and fails where the definition stops.
         ensures accepts { (after : Decoder) (ls : List (List ℕ)) (k : ℕ) → TakesName decoder.old after ls k
             → IsOkAnd result (λ name. name ≡ record { is_fqdn = true; labels = ls }) × (decoder.new ≡ after) }
-        ensures refuses { (error : DecodeError) (k j : ℕ) → StopsAt decoder.old error k j → IsErrOf result error }
+        ensures fails { (error : DecodeError) (k j : ℕ) → StopsAt decoder.old error k j → IsErrOf result error }
         ensures no_memory { IsErrOf result DecodeError.Memory → ⊥ }
     {
         let mut steps = ReadSteps::default();
         Name::read_counted(alloc, decoder, &mut steps)
     }
 
-    /// Reads as `read` does, and tells how many steps it took, also where it is refused.
+    /// Reads as `read` does, and counts the steps, also if it fails.
     #[inline(always)]
     pub fn read_counted(
         alloc: Global,
@@ -130,34 +117,28 @@ impl Name {
         ensures err { IfErr result (λ e. StopsAt decoder.old e steps.new.pointers steps.new.labels) }
         ensures same { OnErr result (decoder.new ≡ decoder.old) }
 
-        // What the definition accepts is accepted, and what it refuses is refused.
+        // It accepts what the definition accepts, and fails where the definition stops.
         ensures accepts { (after : Decoder) (ls : List (List ℕ)) (k : ℕ) → TakesName decoder.old after ls k
             → IsOkAnd result (λ name. name ≡ record { is_fqdn = true; labels = ls }) × (decoder.new ≡ after) }
-        ensures refuses { (error : DecodeError) (k j : ℕ) → StopsAt decoder.old error k j → IsErrOf result error }
+        ensures fails { (error : DecodeError) (k j : ℕ) → StopsAt decoder.old error k j → IsErrOf result error }
         ensures no_memory { IsErrOf result DecodeError.Memory → ⊥ }
 
         // Every reading takes few steps.
-        ensures few_pointers { steps.new.pointers ≤ min decoder.old.index 16384 }
-        ensures few_labels { steps.new.labels ≤ 128 }
+        ensures few_pointers { steps.new.pointers ≤ min decoder.old.index pointer_offsets }
+        ensures few_labels { steps.new.labels ≤ max_labels + 1 }
     {
         let name = NameRef::read_counted(decoder, steps)?;
         Ok(name.copied(alloc))
     }
 
-    /// Whether this is the root: fully qualified and without labels.
+    /// Returns `true` for the root: the name is fully qualified and has no labels.
     pub fn is_root(&self) -> bool
         ensures { IsTrue result ↔ ((self.now.labels ≡ []) × IsTrue self.now.is_fqdn) }
     {
-        self.is_fqdn && self.has_no_labels()
+        self.is_fqdn && self.form.has_no_labels()
     }
 
-    fn has_no_labels(&self) -> bool
-        ensures { IsTrue result ↔ (self.now.labels ≡ []) }
-    {
-        self.wire.len() == 1
-    }
-
-    /// Whether the name is fully qualified: it ends at the root.
+    /// Returns `true` if the name is fully qualified, so that it ends at the root.
     #[inline(always)]
     pub fn is_fqdn(&self) -> bool
         ensures { result ≡ self.now.is_fqdn }
@@ -173,90 +154,59 @@ impl Name {
         self.is_fqdn = val;
     }
 
-    /// The name with its ASCII letters in lower case (RFC 4343). It takes no memory.
-    pub fn to_lowercase(&self) -> Self
-        ensures { result ≡ record { is_fqdn = self.now.is_fqdn; labels = lower self.now.labels } }
+    /// Returns the name with its ASCII letters in lower case (RFC 4343). It does not allocate and cannot fail.
+    #[inline(always)]
+    pub fn to_lowercase(&self) -> ProtoResult<Self>
+        ensures { result ≡ Ok (record { is_fqdn = self.now.is_fqdn; labels = lower self.now.labels }) }
     {
-        Name {
+        Ok(Name {
             is_fqdn: self.is_fqdn,
-            wire: self.lower_wire(),
-        }
+            form: self.form.to_lowercase(),
+        })
     }
 
-    /// The uncompressed form in lower case.
-    fn lower_wire(&self) -> SmallVec<u8, 255>
-        ensures form { result.items ≡ wire (lower self.now.labels) }
-        ensures labels { AreLabels (lower self.now.labels) }
-        ensures inline { result.capacity ≡ 255 }
-    {
-        let mut lowered = SmallVec::from_slice(
-            *self.wire.allocator(),
-            self.wire.as_slice(),
-        ).unwrap();
-        // Length octets are no letters.
-        lowered.as_mut_slice().make_ascii_lowercase();
-        lowered
-    }
-
-    /// The labels from the left, as their bytes.
+    /// Returns an iterator over the labels, from the left, as their bytes.
     #[inline(always)]
     pub fn iter(&self) -> LabelIter<'_>
         ensures labels { result ≡ self.now.labels }
         ensures names { AreLabels self.now.labels }
     {
-        LabelIter::new(self.wire.as_slice())
+        self.form.labels()
     }
 
-    /// Adds a label at the end. It takes memory only where making the label does.
+    /// Adds a label at the end. It fails with `DomainNameTooLong` and the size that the name would have, if that is past
+    /// 255. It allocates only if making the label does.
     pub fn append_label<L: IntoLabel>(mut self, alloc: Global, label: L) -> ProtoResult<Self>
-        ensures ok { IfOk result (λ name. append_label self (L.label_of label) ≡ Ok name) }
-        ensures err { IfErr result (RefusesOrRunsOut (append_label self (L.label_of label))) }
-        ensures memory { IsErrOf result ProtoError.Memory → L.may_run_out label }
+        ensures follows { Follows (append_label self (L.label_of label)) (L.may_run_out label) result }
     {
         let label = label.into_label(alloc)?;
-        self.extend_name(label.as_bytes())?;
+        self.form.push(label.as_bytes())?;
         Ok(self)
     }
 
-    /// Adds a label at the end, or tells the size that the name would have.
-    fn extend_name(&mut self, label: &[u8]) -> ProtoResult<()>
-        requires { IsLabel label.now }
-        ensures flag { self.new.is_fqdn ≡ self.old.is_fqdn }
-        ensures ok { OnOk result (with_label self.old.labels label.now ≡ Ok self.new.labels) }
-        ensures err { IfErr result (Refuses (with_label self.old.labels label.now)) }
-    {
-        let size = self.wire.len() + 1 + label.len();
-        if size > Name::MAX_LENGTH {
-            return Err(ProtoError::Decode(DecodeError::DomainNameTooLong(size)));
-        }
-        push_label(&mut self.wire, label);
-        Ok(())
-    }
-
-    /// Adds the labels of `other`, and takes its flag.
+    /// Adds the labels of `other`, and takes its flag. It fails with `DomainNameTooLong` and the size with the first
+    /// label that does not fit.
     pub fn append_name(mut self, other: &Self) -> ProtoResult<Self>
-        ensures ok { IfOk result (λ name. append_name self other.now ≡ Ok name) }
-        ensures err { IfErr result (Refuses (append_name self other.now)) }
+        ensures follows { Follows (append_name self other.now) ⊥ result }
     {
         let mut labels = other.iter();
         while let Some(label) = labels.next() {
-            self.extend_name(label)?;
+            self.form.push(label)?;
         }
         self.is_fqdn = other.is_fqdn;
         Ok(self)
     }
 
-    /// Adds the labels of `domain`, and makes the name fully qualified.
+    /// Adds the labels of `domain`, and makes the name fully qualified. It fails as `append_name`.
     pub fn append_domain(self, domain: &Self) -> ProtoResult<Self>
-        ensures ok { IfOk result (λ name. append_domain self domain.now ≡ Ok name) }
-        ensures err { IfErr result (Refuses (append_domain self domain.now)) }
+        ensures follows { Follows (append_domain self domain.now) ⊥ result }
     {
         let mut name = self.append_name(domain)?;
         name.set_fqdn(true);
         Ok(name)
     }
 
-    /// The number of labels, without a `*` in the first place: a wildcard stands for labels that are not counted.
+    /// Returns the number of labels, without a `*` at the start.
     pub fn num_labels(&self) -> u8
         ensures wildcard { IsWildcard self.now.labels → result + 1 ≡ length self.now.labels }
         ensures other { ¬ (IsWildcard self.now.labels) → result ≡ length self.now.labels }
@@ -273,86 +223,111 @@ impl Name {
         }
     }
 
-    /// The bytes of all labels, and one for each label; 1 where there is none.
+    /// Returns the number of bytes of all labels plus the number of labels, or 1 if there are no labels.
     pub fn len(&self) -> usize
         ensures none { self.now.labels ≡ [] → result ≡ 1 }
         ensures some { self.now.labels ≢ [] → result + 1 ≡ encoded_size self.now.labels }
     {
-        if self.has_no_labels() {
+        if self.form.has_no_labels() {
             1
         } else {
             self.encoded_len() - 1
         }
     }
 
-    /// Always false: even the root takes an octet.
+    /// Returns `false`: even the root takes an octet.
     pub fn is_empty(&self) -> bool
         ensures { result ≡ false }
     {
         false
     }
 
-    /// The octets of the uncompressed form.
+    /// Returns the number of octets of the wire form.
     #[inline(always)]
     pub fn encoded_len(&self) -> usize
         ensures size { result ≡ encoded_size self.now.labels }
         ensures labels { AreLabels self.now.labels }
     {
-        self.wire.len()
+        self.form.len()
     }
 
-    /// The uncompressed form, with its closing zero (RFC 1035, section 3.1).
+    /// Returns the wire form, with its closing zero (RFC 1035, section 3.1).
     #[inline(always)]
     pub fn as_wire(&self) -> &[u8]
         ensures { result.now ≡ wire self.now.labels }
     {
-        self.wire.as_slice()
+        self.form.as_bytes()
     }
 
-    /// The same name once more. It takes no memory.
+    /// Copies the name. It does not allocate and cannot fail.
+    #[inline(always)]
     pub fn clone(&self) -> ProtoResult<Self>
         ensures { result ≡ Ok self.now }
     {
-        let wire = SmallVec::from_slice(*self.wire.allocator(), self.wire.as_slice()).unwrap();
         Ok(Name {
             is_fqdn: self.is_fqdn,
-            wire,
+            form: self.form.clone(),
         })
     }
 
-    /// The text that shows the name: its labels with a dot between them, and one at the end where it is fully
-    /// qualified. It reads back as the name where each label can be written as it stands.
+    /// Creates a name from text. It is fully qualified if the text ends in a dot. The text `.` is the root, and the
+    /// empty text the relative name without labels.
+    ///
+    /// A backslash makes the next character an ordinary one, and a backslash with three octal digits stands for the
+    /// character of that number. The first fault from the left is the error. Only an error with an allocated text can
+    /// run out of memory.
+    pub fn from_ascii(alloc: Global, name: &str) -> ProtoResult<Self>
+        ensures follows { Follows (name_from_text (chars name.now)) (NeedsErrorText (name_from_text (chars name.now))) result }
+    {
+        let parsed = text::read(alloc, name)?;
+        Ok(Name {
+            is_fqdn: parsed.is_fqdn,
+            form: parsed.form,
+        })
+    }
+
+    /// Creates a name from text, as `from_ascii`.
+    pub fn from_str(alloc: Global, name: &str) -> ProtoResult<Self>
+        ensures follows { Follows (name_from_text (chars name.now)) (NeedsErrorText (name_from_text (chars name.now))) result }
+    {
+        Name::from_ascii(alloc, name)
+    }
+
+    /// Creates a name from text, as `from_ascii`.
+    pub fn from_str_relaxed(alloc: Global, name: &str) -> ProtoResult<Self>
+        ensures follows { Follows (name_from_text (chars name.now)) (NeedsErrorText (name_from_text (chars name.now))) result }
+    {
+        Name::from_ascii(alloc, name)
+    }
+
+    /// Creates a name from text, as `from_ascii`. If there is an origin, it completes a relative name.
+    pub fn parse(alloc: Global, local: &str, origin: Option<&Name>) -> ProtoResult<Self>
+        ensures follows { Follows (name_from_text_at (chars local.now) (option_copied origin.entry)) (NeedsErrorText (name_from_text (chars local.now))) result }
+    {
+        let name = Name::from_ascii(alloc, local)?;
+        match origin {
+            Some(origin) if !name.is_fqdn() => name.append_domain(origin),
+            _ => Ok(name),
+        }
+    }
+
+    /// Returns the name as text: its labels with a dot between them, and one at the end if it is fully qualified. If each
+    /// label stands for itself as text, `from_ascii` gives the name back.
     pub fn to_ascii(&self, alloc: Global) -> ProtoResult<String>
         ensures ok { IfOk result (λ text. string_bytes text ≡ name_text self.now) }
         ensures reads_back { AllByRecursion IsLabelText self.now.labels → IfOk result (λ text. name_from_text (chars (string_bytes text)) ≡ Ok self.now) }
         ensures err { IfErr result (λ e. e ≡ ProtoError.Memory) }
     {
         // The proof reads here that the labels fit together.
-        let _ = &self.wire;
+        let _size = self.encoded_len();
         Ok(self.to_string(alloc)?)
     }
 }
 
 fn is_asterisk(label: &[u8]) -> bool
-    ensures { IsTrue result ↔ (label.now ≡ asterisk ∷ []) }
+    ensures { IsTrue result ↔ (label.now ≡ wildcard) }
 {
     label.len() == 1 && label[0] == b'*'
-}
-
-/// Puts a label before the closing zero.
-fn push_label(wire: &mut SmallVec<u8, 255>, label: &[u8])
-    requires inline { wire.old.capacity ≡ 255 }
-    requires wire { IsWire wire.old.items }
-    requires label { IsLabel label.now }
-    requires room { length wire.old.items + 1 + length label.now ≤ 255 }
-    ensures wire { IsWire wire.new.items }
-    ensures labels { labels_of wire.new.items ≡ labels_of wire.old.items ++ label.now ∷ [] }
-    ensures inline { wire.new.capacity ≡ 255 }
-{
-    wire.pop();
-    wire.push_reserved(label.len() as u8);
-    wire.extend_from_slice(label).unwrap();
-    wire.push_reserved(0);
 }
 
 impl<'a> IntoIterator for &'a Name {
@@ -367,30 +342,12 @@ impl<'a> IntoIterator for &'a Name {
     }
 }
 
-/// Writes the texts of labels, with dots between them.
-fn push_labels_text(out: &mut ArrayString<MAX_TEXT>, mut labels: LabelIter<'_>)
-    requires empty { out.old.bytes ≡ [] }
-    requires labels { AllByRecursion IsLabel labels }
-    requires fit { encoded_size labels ≤ 255 }
-    ensures text { out.new.bytes ≡ join_with_byte dot (map label_text labels.entry) }
-    ensures room { array_string_len out.new ≤ 1020 }
-{
-    let Some(first) = labels.next() else {
-        return;
-    };
-    push_label_text(out, first);
-    while let Some(label) = labels.next() {
-        out.push('.');
-        push_label_text(out, label);
-    }
-}
-
 impl fmt::Display for Name {
     ghost output = { λ n. Some (name_text n) };
 
     fn fmt<W: fmt::Write>(&self, f: &mut fmt::Formatter<W>) -> fmt::Result {
-        let mut text = ArrayString::<MAX_TEXT>::new();
-        push_labels_text(&mut text, self.iter());
+        let mut text = ArrayString::<{ text::MAX_TEXT }>::new();
+        text::push_labels_text(&mut text, self.iter());
         if self.is_fqdn {
             text.push('.');
         }

@@ -1,28 +1,29 @@
-//! Names that stand in a message, and are walked without copying.
+//! Names in a message, which are walked without copying.
 ghost use Rattle.std.specs.Prelude.{◌≡◌, ℕ, List, ◌+◌, ◌≤◌, ◌↔◌, true, min, [], length, Ok, IsTrue, IfOk, IfErr, OnErr, IsErrOf, IsOkAnd};
 ghost use Rattle.dnw_base.specs.Decoder.{Decoder};
-ghost use Rattle.dnw_name.specs.Reading.{NameAt, TakesName, StopsAt};
-ghost use Rattle.dnw_name.specs.Names.{AreLabels, IsZoneOf, encoded_size, lower, wire};
-ghost use Rattle.dnw_name.specs.NameRefInside.{labels_at};
+ghost use Rattle.dnw_base.specs.Limits.{max_labels, max_name, pointer_offsets};
+ghost use Rattle.dnw_reading.specs.Reading.{TakesName, StopsAt};
+ghost use Rattle.dnw_base.specs.Names.{AreLabels, IsZoneOf, encoded_size, lower, wire};
+ghost use Rattle.dnw_reading.specs.Inside.Found.{labels_at};
 
-use crate::name::{LabelIter, Name};
+use crate::name::Name;
 use dnw_base::decoder::BinDecoder;
-use dnw_base::error::{DecodeError, ProtoResult};
+use dnw_base::limits::MAX_NAME;
+use dnw_error::error::{DecodeError, ProtoResult};
+use dnw_form::form::WireForm;
+use dnw_reading::copy;
+use dnw_reading::ref_labels::RefLabels;
+use dnw_reading::walk::{self, ReadSteps};
 use smallvec::SmallVec;
 use std::alloc::Global;
 use std::marker::Model;
 
 mod compare;
-mod copy;
-mod ref_labels;
-mod walk;
 
-pub use ref_labels::RefLabels;
-pub use walk::ReadSteps;
-
-/// A name that stands in a message. It lends its labels from the message and takes no memory.
+/// A name in a message. It borrows its labels from the message, and nothing here allocates.
 ///
-/// A contract sees it as the list of its labels.
+/// It takes 40 bytes, while a `Name` takes some 280 and is a copy: use this to compare a name or to pass over it, and
+/// `to_name` to keep it. A contract sees it as the list of its labels.
 #[derive(Drop)]
 pub struct NameRef<'a> {
     message: &'a [u8],
@@ -34,8 +35,8 @@ pub struct NameRef<'a> {
 
 impl<'a> Model for NameRef<'a> {
     ghost use Rattle.std.specs.Prelude.{List, ℕ};
-    ghost use Rattle.dnw_name.specs.Names.{AreLabels, IsZoneOf, encoded_size, lower, wire};
-    ghost use Rattle.dnw_name.specs.NameRefInside.{labels_at, LiesAt};
+    ghost use Rattle.dnw_base.specs.Names.{AreLabels, IsZoneOf, encoded_size, lower, wire};
+    ghost use Rattle.dnw_reading.specs.Inside.Found.{labels_at, LiesAt};
 
     ghost Value = { List (List ℕ) };
 
@@ -45,23 +46,23 @@ impl<'a> Model for NameRef<'a> {
 }
 
 impl<'a> NameRef<'a> {
-    /// Reads the name at the cursor, and leaves the cursor behind the name's own octets. Where it is refused, the
-    /// cursor stays.
+    /// Reads the name at the cursor, and leaves the cursor after the name's own octets (RFC 1035, section 4.1.4). If it
+    /// fails, the cursor is unchanged. It accepts exactly what `Name::read` accepts.
     pub fn read(decoder: &mut BinDecoder<'a>) -> Result<Self, DecodeError>
         ensures ok { IfOk result (λ name. (k : ℕ) × TakesName decoder.old decoder.new name k) }
         ensures err { IfErr result (λ e. (k : ℕ) × (j : ℕ) × StopsAt decoder.old e k j) }
         ensures same { OnErr result (decoder.new ≡ decoder.old) }
 
-        // What the definition accepts is accepted, and what it refuses is refused.
+        // It accepts what the definition accepts, and fails where the definition stops.
         ensures accepts { (after : Decoder) (ls : List (List ℕ)) (k : ℕ) → TakesName decoder.old after ls k
             → IsOkAnd result (λ name. name ≡ ls) × (decoder.new ≡ after) }
-        ensures refuses { (error : DecodeError) (k j : ℕ) → StopsAt decoder.old error k j → IsErrOf result error }
+        ensures fails { (error : DecodeError) (k j : ℕ) → StopsAt decoder.old error k j → IsErrOf result error }
     {
         let mut steps = ReadSteps::default();
         NameRef::read_counted(decoder, &mut steps)
     }
 
-    /// Reads as `read` does, and tells how many steps it took, also where it is refused.
+    /// Reads as `read` does, and counts the steps, also if it fails.
     pub fn read_counted(
         decoder: &mut BinDecoder<'a>,
         steps: &mut ReadSteps,
@@ -71,19 +72,19 @@ impl<'a> NameRef<'a> {
         ensures err { IfErr result (λ e. StopsAt decoder.old e steps.new.pointers steps.new.labels) }
         ensures same { OnErr result (decoder.new ≡ decoder.old) }
 
-        // What the definition accepts is accepted, and what it refuses is refused.
+        // It accepts what the definition accepts, and fails where the definition stops.
         ensures accepts { (after : Decoder) (ls : List (List ℕ)) (k : ℕ) → TakesName decoder.old after ls k
             → IsOkAnd result (λ name. name ≡ ls) × (decoder.new ≡ after) }
-        ensures refuses { (error : DecodeError) (k j : ℕ) → StopsAt decoder.old error k j → IsErrOf result error }
+        ensures fails { (error : DecodeError) (k j : ℕ) → StopsAt decoder.old error k j → IsErrOf result error }
 
         // Every reading takes few steps.
-        ensures few_pointers { steps.new.pointers ≤ min decoder.old.index 16384 }
-        ensures few_labels { steps.new.labels ≤ 128 }
+        ensures few_pointers { steps.new.pointers ≤ min decoder.old.index pointer_offsets }
+        ensures few_labels { steps.new.labels ≤ max_labels + 1 }
     {
-        let message = message_of(decoder);
+        let message = decoder.message();
         let start = decoder.index();
         let walked = walk::walk(message, start, steps)?;
-        let _own = decoder.read_slice(walked.end - start).unwrap();
+        decoder.skip(walked.end - start).unwrap();
         Ok(NameRef {
             message,
             first: walked.first,
@@ -93,21 +94,7 @@ impl<'a> NameRef<'a> {
         })
     }
 
-    /// Whether these labels, byte for byte, are read as a name at `start`.
-    pub fn stands_at(message: &'a [u8], start: usize, labels: LabelIter<'_>) -> bool
-        ensures { IsTrue result ↔ ((e : ℕ) × (k : ℕ) × NameAt message.now start labels.entry e k) }
-    {
-        if compare::has_form(message, start, labels.as_wire()) {
-            return true;
-        }
-        let mut steps = ReadSteps::default();
-        if let Err(_) = walk::walk(message, start, &mut steps) {
-            return false;
-        }
-        compare::same_labels(RefLabels::new(message, start, steps.labels), labels)
-    }
-
-    /// The labels from the left, lent from the message.
+    /// Returns an iterator over the labels, from the left, borrowed from the message.
     #[inline(always)]
     pub fn labels(&self) -> RefLabels<'a>
         ensures { result ≡ self.now }
@@ -115,7 +102,7 @@ impl<'a> NameRef<'a> {
         RefLabels::new(self.message, self.first, self.labels)
     }
 
-    /// The number of all labels, also of a `*` in the first place.
+    /// Returns the number of all labels, a `*` at the start included.
     #[inline(always)]
     pub fn num_labels(&self) -> u8
         ensures { result ≡ length self.now }
@@ -123,7 +110,7 @@ impl<'a> NameRef<'a> {
         self.labels as u8
     }
 
-    /// The octets of the uncompressed form.
+    /// Returns the number of octets of the wire form.
     #[inline(always)]
     pub fn encoded_len(&self) -> usize
         ensures size { result ≡ encoded_size self.now }
@@ -132,7 +119,7 @@ impl<'a> NameRef<'a> {
         self.size
     }
 
-    /// Whether this is the root: it has no labels.
+    /// Returns `true` for the root: the name has no labels.
     #[inline(always)]
     pub fn is_root(&self) -> bool
         ensures { IsTrue result ↔ (self.now ≡ []) }
@@ -140,16 +127,18 @@ impl<'a> NameRef<'a> {
         self.labels == 0
     }
 
-    /// Whether `other` has the same labels, without regard to ASCII case (RFC 4343). Whether `other` is fully
-    /// qualified makes no difference.
+    /// Returns `true` if `other` has the same labels, ignoring ASCII case (RFC 4343). It ignores whether `other` is fully
+    /// qualified.
     pub fn eq_name(&self, other: &Name) -> bool
         ensures { IsTrue result ↔ (lower self.now ≡ lower other.now.labels) }
     {
         self.encoded_len() == other.encoded_len() && compare::eq_labels(self.labels(), other.iter())
     }
 
-    /// Whether the name lies in the zone: the last labels are those of `zone`, without regard to ASCII case
-    /// (RFC 1034, section 4.2, and RFC 4343).
+    /// Returns `true` if this name is in the zone: its last labels are those of `zone`, ignoring ASCII case (RFC 1034,
+    /// section 4.2, and RFC 4343).
+    ///
+    /// The argument is the zone. `Name::zone_of` asks the other way round: there `self` is the zone.
     pub fn zone_of(&self, zone: &Name) -> bool
         ensures { IsTrue result ↔ IsZoneOf zone.now.labels self.now }
     {
@@ -158,31 +147,31 @@ impl<'a> NameRef<'a> {
         compare::eq_labels(last, zone_labels)
     }
 
-    /// The name as one of its own, fully qualified. It takes no memory.
+    /// Copies the name. It is fully qualified. This does not allocate and cannot fail.
     pub fn to_name(&self, alloc: Global) -> ProtoResult<Name>
         ensures { result ≡ Ok (record { is_fqdn = true; labels = self.now }) }
     {
         Ok(self.copied(alloc))
     }
 
-    /// The name as one of its own, as `to_name`.
+    /// Copies the name, as `to_name`.
     #[inline(always)]
     pub(crate) fn copied(&self, alloc: Global) -> Name
         ensures { result ≡ record { is_fqdn = true; labels = self.now } }
     {
         let mut wire = SmallVec::new(alloc);
         self.write_form(&mut wire);
-        Name::from_wire(wire)
+        Name::qualified(WireForm::from_wire(wire))
     }
 
-    /// Writes the uncompressed form: in one piece where no pointer follows the first label.
+    /// Writes the wire form: in one piece if no pointer follows the first label.
     #[inline(always)]
-    fn write_form(&self, out: &mut SmallVec<u8, 255>)
-        requires inline { out.old.capacity ≡ 255 }
+    fn write_form(&self, out: &mut SmallVec<u8, MAX_NAME>)
+        requires inline { out.old.capacity ≡ max_name }
         requires empty { out.old.items ≡ [] }
         ensures form { out.new.items ≡ wire self.now }
         ensures labels { AreLabels self.now }
-        ensures inline { out.new.capacity ≡ 255 }
+        ensures inline { out.new.capacity ≡ max_name }
     {
         if self.in_one_piece {
             out.extend_from_slice(&self.message[self.first..self.first + self.size])
@@ -193,12 +182,17 @@ impl<'a> NameRef<'a> {
     }
 }
 
-/// The whole message of a decoder.
-#[inline(always)]
-fn message_of<'a>(decoder: &BinDecoder<'a>) -> &'a [u8]
-    ensures { result.now ≡ decoder.now.bytes }
-{
-    let mut whole = decoder.clone(0);
-    let len = whole.len();
-    whole.read_slice(len).unwrap().unverified()
+impl Name {
+    /// Returns a view of the name as a `NameRef`, without a copy. Whether the name is fully qualified is not part of it.
+    pub fn as_name_ref(&self) -> NameRef<'_>
+        ensures { result ≡ self.now.labels }
+    {
+        NameRef {
+            message: self.as_wire(),
+            first: 0,
+            size: self.encoded_len(),
+            labels: self.iter().len(),
+            in_one_piece: true,
+        }
+    }
 }

@@ -2,17 +2,17 @@
 use Rattle.std.specs.Prelude.{◌≡◌, ◌⊎◌, ℕ, List, [], ◌∷◌, length, Ok, Err}
 use Rattle.std.proofs.Common.{inl, inr}
 use Rattle.dnw_encoder.specs.Encoder.{Encoder, Writes, WritesText}
-use Rattle.dnw_encoder.specs.Emitting.{Answer, Frame}
+use Rattle.dnw_encoder.specs.Emitting.{Outcome, Frame}
 use Rattle.dnw_encoder.specs.EmittingLaws.{frame, frames-follow, frame-text}
 
 -- the byte, and then the text; or the first of both that is refused
-abbrev pub WritesBoth : ℕ → List ℕ → Encoder → Answer → Encoder → Type 0
+abbrev pub WritesBoth : ℕ → List ℕ → Encoder → Outcome → Encoder → Type 0
 WritesBoth byte text v (Ok done) w = (m : Encoder) × Writes v (byte ∷ []) (Ok tt) m × WritesText m text (Ok tt) w
 WritesBoth byte text v (Err error) w =
     Writes v (byte ∷ []) (Err error) w ⊎ ((m : Encoder) × Writes v (byte ∷ []) (Ok tt) m × WritesText m text (Err error) w)
 
-pub keeps_frame : (byte : ℕ) (text : List ℕ) (v : Encoder) (answer : Answer) (w : Encoder) → v.offset ≡ length v.bytes
-    → WritesBoth byte text v answer w → Frame v answer w
+pub keeps_frame : (byte : ℕ) (text : List ℕ) (v : Encoder) (outcome : Outcome) (w : Encoder) → v.offset ≡ length v.bytes
+    → WritesBoth byte text v outcome w → Frame v outcome w
 keeps_frame byte text v (Ok tt) w e h =
     let first = frame v (byte ∷ []) (Ok tt) h.0 e h.1 in
     frames-follow v h.0 w (Ok tt) e first (frame-text h.0 text (Ok tt) w first.ends h.2)
@@ -25,7 +25,7 @@ keeps_frame byte text v (Err error) w e h =
     ]
 
 -- behind an accepted byte it is the text that decides
-pub then : (byte : ℕ) (text : List ℕ) (v m : Encoder) (answer : Answer) (w : Encoder)
-    → Writes v (byte ∷ []) (Ok tt) m → WritesText m text answer w → WritesBoth byte text v answer w
+pub then : (byte : ℕ) (text : List ℕ) (v m : Encoder) (outcome : Outcome) (w : Encoder)
+    → Writes v (byte ∷ []) (Ok tt) m → WritesText m text outcome w → WritesBoth byte text v outcome w
 then byte text v m (Ok tt) w first rest = (m, first, rest)
 then byte text v m (Err error) w first rest = inr (m, first, rest)

@@ -1,6 +1,6 @@
 //! The caller that CALLING.md shows, word for word, and its test.
 ghost use Rattle.std.specs.Prelude.{◌≡◌, ℕ, List, true, Ok, OnOk, OnErr};
-ghost use Rattle.dnw_name.specs.Reading.{TakesName};
+ghost use Rattle.dnw_reading.specs.Reading.{TakesName};
 ghost use Rattle.dnw_encoder.specs.EmittedName.{EmitsName};
 ghost use Rattle.dnw_encoder.specs.EncoderValue.{value, lender};
 

@@ -5,9 +5,9 @@ ghost use Rattle.dns_names_wire.specs.Script.{EmitsPart, EmitsParts, EmitsScript
 ghost use Rattle.dns_names_wire.specs.ItemFrames.{frame-part, frame-item};
 
 use super::{Item, Part};
-use dnw_base::error::ProtoResult;
 use dnw_encoder::binary::BinEncodable;
 use dnw_encoder::encoder::BinEncoder;
+use dnw_error::error::ProtoResult;
 
 impl BinEncodable for Part {
     ghost emits = { EmitsPart };
@@ -33,18 +33,18 @@ impl BinEncodable for Item {
 
     ghost keeps_frame = { frame-item };
 
-    /// Writes the parts in turn, in the item's mode, and puts the former mode back whatever comes. Where a part is
-    /// refused, those before it stay: it is for a list of items to undo them.
+    /// Writes the parts in turn, in the item's mode, and puts the former mode back in any case. If a part fails, those
+    /// before it stay written; a list of items rolls them back.
     fn emit(&self, encoder: &mut BinEncoder<'_>) -> ProtoResult<()> {
         let former = encoder.name_encoding();
         encoder.set_name_encoding(self.encoding.unwrap_or(former));
-        let answer = emit_parts(self.parts.as_slice(), encoder);
+        let outcome = emit_parts(self.parts.as_slice(), encoder);
         encoder.set_name_encoding(former);
-        answer
+        outcome
     }
 }
 
-/// Writes the parts in turn, up to the first refused one.
+/// Writes the parts in turn, up to the first that fails.
 fn emit_parts(parts: &[Part], encoder: &mut BinEncoder<'_>) -> ProtoResult<()>
     ensures writes { EmitsParts parts.now (value encoder.old) result (value encoder.new) }
     ensures lender { lender encoder.new ≡ lender encoder.old }

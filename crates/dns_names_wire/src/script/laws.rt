@@ -1,20 +1,20 @@
-//! What follows from a run of a script, for whoever rests a proof on it.
+//! What follows from a run of a script, for callers' proofs.
 //!
-//! The functions do nothing: each is there for its clause.
-ghost use Rattle.dns_names_wire.specs.ScriptLaws.{RunsAnswer, RunsFinish, RunsStayUseful, RunsAreShortest};
+//! The functions do nothing. Each is there for its clauses.
+ghost use Rattle.dns_names_wire.specs.ScriptLaws.{RunsReply, RunsFinish, RunsStayUseful, RunsAreShortest};
 
-/// Each step is answered by its definition.
+/// Each step has the reply that its definition says.
 pub fn replies_follow()
-    ensures { RunsAnswer }
+    ensures { RunsReply }
 {}
 
-/// The pieces of a script stand in the finished bytes, and every candidate is usable.
+/// The finished bytes hold the pieces of a script, and every candidate is usable.
 pub fn pieces_stand()
     ensures finished { RunsFinish }
     ensures useful { RunsStayUseful }
 {}
 
-/// Names are as short as can be.
+/// Names are as short as possible.
 pub fn names_are_shortest()
     ensures { RunsAreShortest }
 {}

@@ -2,41 +2,44 @@
 ghost use Rattle.std.specs.Prelude.{◌≡◌, ℕ, ◌+◌, ◌<◌, ◌≤◌, ◌^◌, List, [], length, map, IfOk, IfErr, OnErr, vec_len};
 ghost use Rattle.std.specs.Vec.{vec_capacity};
 ghost use Rattle.std.specs.List.{AllByRecursion};
-ghost use Rattle.dnw_base.specs.declared.error.ProtoError.{ProtoError};
+ghost use Rattle.dnw_base.specs.Limits.{max_message};
+ghost use Rattle.dnw_error.specs.declared.error.ProtoError.{ProtoError};
 ghost use Rattle.dnw_encoder.specs.declared.encoder.modes.NameEncoding.{NameEncoding};
-ghost use Rattle.dnw_encoder.specs.Encoder.{TakesRoom, reserved};
+ghost use Rattle.dnw_encoder.specs.Encoder.{TakesRoom, reserved, usual_candidates, usual_names};
 ghost use Rattle.dnw_encoder.specs.EncoderValue.{value, lender};
 ghost use Rattle.dns_names_wire.specs.Script.{action};
 ghost use Rattle.dns_names_wire.specs.Pieces.{Account, after, opening};
 ghost use Rattle.dns_names_wire.specs.Finished.{Finished, Shortest};
-ghost use Rattle.dns_names_wire.specs.Replies.{AnswersAll};
-ghost use Rattle.dns_names_wire.specs.Runs.{Run, Runs, RunsStep, RunsItems, Tells};
-ghost use Rattle.dns_names_wire.specs.Running.{FillsKept, HoldsPlace, KeepsPlace, Tracks, kept_at, reply_to, without};
+ghost use Rattle.dns_names_wire.specs.Replies.{RepliesTo};
+ghost use Rattle.dns_names_wire.specs.Runs.{Run, Runs, RunsStep, RunsItems, GivesReply};
+ghost use Rattle.dns_names_wire.specs.Inside.Running.{FillsKept, HoldsPlace, KeepsPlace, Tracks, kept_at, reply_to, without};
 
 use super::{Item, Reply, Step};
-use dnw_base::error::ProtoResult;
 use dnw_encoder::binary::BinEncodable;
-use dnw_encoder::encoder::{BinEncoder, Place};
+use dnw_encoder::encoder::{BinEncoder, CANDIDATE_LIMIT, NAME_LIMIT, Place};
+use dnw_error::error::ProtoResult;
 use std::alloc::Global;
 
-/// The places of a run, in the order in which they were kept: none where it is spent.
+/// The placeholders of a run, by their numbers: `None` if it is used up.
 type Places = Vec<Option<Place<u16>>>;
 
-/// Writes the steps behind what the buffer has, whose length has to fit 32 bits, and answers each of them; behind one
-/// that is refused the others go on. It asks for the replies' memory first: where that is refused, nothing is written.
+/// Writes the steps after what the buffer has, and returns a reply to each. If a step fails, those after it go on.
+///
+/// The buffer's length must fit in 32 bits. Memory for the replies is allocated first: if it runs out, nothing is written.
 pub fn run(alloc: Global, buf: &mut Vec<u8>, steps: &[Step]) -> ProtoResult<Vec<Reply>>
     requires { length buf.old.items < 2 ^ 32 }
-    ensures replies { IfOk result (λ replies. AnswersAll (opening (length buf.old.items)) (map action steps.now) replies.items) }
+    ensures replies { IfOk result (λ replies. RepliesTo (opening (length buf.old.items)) (map action steps.now) replies.items) }
     ensures finished { IfOk result (λ replies. Finished buf.old.items (map action steps.now) replies.items buf.new.items) }
-    ensures shortest { IfOk result (λ replies. Shortest (length buf.old.items) 64 120 (map action steps.now) replies.items) }
-    ensures runs { IfOk result (λ replies. Run buf.old.items 64 120 (map action steps.now) replies.items buf.new.items) }
+    ensures shortest { IfOk result (λ replies. Shortest (length buf.old.items) usual_candidates usual_names (map action steps.now) replies.items) }
+    ensures runs { IfOk result (λ replies. Run buf.old.items usual_candidates usual_names (map action steps.now) replies.items buf.new.items) }
     ensures err { IfErr result (λ e. e ≡ ProtoError.Memory) }
     ensures same { OnErr result (buf.new.items ≡ buf.old.items) }
 {
-    run_limited(alloc, buf, steps, 64, 120)
+    run_limited(alloc, buf, steps, CANDIDATE_LIMIT, NAME_LIMIT)
 }
 
-/// Writes the steps as `run` does, with other limits on the candidates that are kept and on the names that are counted.
+/// Writes the steps as `run` does, with other limits on the candidates that are kept and on the names that are
+/// compressed.
 pub fn run_limited(
     alloc: Global,
     buf: &mut Vec<u8>,
@@ -45,7 +48,7 @@ pub fn run_limited(
     names: usize,
 ) -> ProtoResult<Vec<Reply>>
     requires { length buf.old.items < 2 ^ 32 }
-    ensures replies { IfOk result (λ replies. AnswersAll (opening (length buf.old.items)) (map action steps.now) replies.items) }
+    ensures replies { IfOk result (λ replies. RepliesTo (opening (length buf.old.items)) (map action steps.now) replies.items) }
     ensures finished { IfOk result (λ replies. Finished buf.old.items (map action steps.now) replies.items buf.new.items) }
     ensures shortest { IfOk result (λ replies. Shortest (length buf.old.items) candidates names (map action steps.now) replies.items) }
     ensures runs { IfOk result (λ replies. Run buf.old.items candidates names (map action steps.now) replies.items buf.new.items) }
@@ -77,7 +80,7 @@ fn run_all(
     Ok(replies)
 }
 
-/// Writes the steps, and adds a reply for each.
+/// Writes the steps, and adds a reply to each.
 fn run_steps(
     encoder: &mut BinEncoder<'_>,
     steps: &[Step],
@@ -85,7 +88,7 @@ fn run_steps(
     replies: &mut Vec<Reply>,
 )
     requires at_end { (value encoder.old).offset ≡ length (value encoder.old).bytes }
-    requires whole { (value encoder.old).max_size ≡ 65535 }
+    requires whole { (value encoder.old).max_size ≡ max_message }
     requires compressed { (value encoder.old).encoding ≡ NameEncoding.Compressed }
     requires no_places { places.old.items ≡ [] }
     requires no_replies { replies.old.items ≡ [] }
@@ -114,24 +117,24 @@ fn run_step(encoder: &mut BinEncoder<'_>, step: &Step, places: &mut Places) -> R
     match step {
         Step::Name(name) => write(encoder, name),
         Step::U8(number) => {
-            let answer = encoder.emit_u8(*number);
-            tell(encoder, answer)
+            let outcome = encoder.emit_u8(*number);
+            reply_to(encoder, outcome)
         }
         Step::U16(number) => write(encoder, number),
         Step::I32(number) => write(encoder, number),
         Step::U32(number) => write(encoder, number),
         Step::Bytes(bytes) => write(encoder, bytes),
         Step::Text(text) => {
-            let answer = encoder.emit_character_data(text.as_slice());
-            tell(encoder, answer)
+            let outcome = encoder.emit_character_data(text.as_slice());
+            reply_to(encoder, outcome)
         }
         Step::Max(size) => {
             encoder.set_max_size(*size);
-            tell(encoder, Ok(()))
+            reply_to(encoder, Ok(()))
         }
         Step::Encoding(mode) => {
             encoder.set_name_encoding(*mode);
-            tell(encoder, Ok(()))
+            reply_to(encoder, Ok(()))
         }
         Step::Reserve => reserve(encoder, places),
         Step::Fill { place, value } => fill(encoder, places, *place, *value),
@@ -142,28 +145,28 @@ fn run_step(encoder: &mut BinEncoder<'_>, step: &Step, places: &mut Places) -> R
 /// Writes a value at the end.
 fn write<E: BinEncodable>(encoder: &mut BinEncoder<'_>, item: &E) -> Reply
     requires at_end { (value encoder.old).offset ≡ length (value encoder.old).bytes }
-    ensures tells { Tells (E.emits item.now (value encoder.old)) result (value encoder.new) }
+    ensures reply { GivesReply (E.emits item.now (value encoder.old)) result (value encoder.new) }
     ensures lender { lender encoder.new ≡ lender encoder.old }
 {
-    let answer = item.emit(encoder);
-    tell(encoder, answer)
+    let outcome = item.emit(encoder);
+    reply_to(encoder, outcome)
 }
 
-/// The reply to a write.
-fn tell(encoder: &BinEncoder<'_>, answer: ProtoResult<()>) -> Reply
-    ensures { result ≡ reply_to answer (length (value encoder.now).bytes) }
+/// Returns the reply to a write.
+fn reply_to(encoder: &BinEncoder<'_>, outcome: ProtoResult<()>) -> Reply
+    ensures { result ≡ reply_to outcome (length (value encoder.now).bytes) }
 {
     let len = encoder.len();
-    match answer {
+    match outcome {
         Ok(()) => Reply::Done { len },
         Err(error) => Reply::Refused { error, len },
     }
 }
 
-/// Keeps a place.
+/// Reserves a placeholder.
 fn reserve(encoder: &mut BinEncoder<'_>, places: &mut Places) -> Reply
     requires room { vec_len places.old < vec_capacity places.old }
-    ensures tells { Tells (TakesRoom (value encoder.old) 2 (reserved (value encoder.old) 2)) result (value encoder.new) }
+    ensures reply { GivesReply (TakesRoom (value encoder.old) 2 (reserved (value encoder.old) 2)) result (value encoder.new) }
     ensures place { KeepsPlace places.old.items (value encoder.old).offset result places.new.items }
     ensures few { vec_len places.new ≤ vec_len places.old + 1 }
     ensures room { vec_capacity places.new ≡ vec_capacity places.old }
@@ -172,13 +175,13 @@ fn reserve(encoder: &mut BinEncoder<'_>, places: &mut Places) -> Reply
     match encoder.place::<u16>() {
         Ok(place) => {
             places.push_reserved(Some(place));
-            tell(encoder, Ok(()))
+            reply_to(encoder, Ok(()))
         }
-        Err(error) => tell(encoder, Err(error)),
+        Err(error) => reply_to(encoder, Err(error)),
     }
 }
 
-/// Fills a place, which is spent by it.
+/// Fills a placeholder, which is used up also if this fails.
 fn fill(encoder: &mut BinEncoder<'_>, places: &mut Places, number: usize, filling: u16) -> Reply
     requires holds { AllByRecursion (HoldsPlace (value encoder.old)) places.old.items }
     ensures fills { FillsKept (value encoder.old) (kept_at number places.old.items) filling result (value encoder.new) }
@@ -190,11 +193,11 @@ fn fill(encoder: &mut BinEncoder<'_>, places: &mut Places, number: usize, fillin
     let Some(place) = take_place(places, number) else {
         return Reply::NoPlace;
     };
-    let answer = encoder.emit_at(place, filling);
-    tell(encoder, answer)
+    let outcome = encoder.emit_at(place, filling);
+    reply_to(encoder, outcome)
 }
 
-/// Takes the place of this number, if it was kept and is not spent.
+/// Takes the placeholder of this number, if there is one that is not used up.
 fn take_place(places: &mut Places, number: usize) -> Option<Place<u16>>
     ensures place { result ≡ kept_at number places.old.items }
     ensures spends { places.new.items ≡ without number places.old.items }
@@ -207,7 +210,7 @@ fn take_place(places: &mut Places, number: usize) -> Option<Place<u16>>
     places[number].take()
 }
 
-/// Writes items, up to the first refused one.
+/// Writes items, up to the first that fails.
 fn write_items(encoder: &mut BinEncoder<'_>, items: &[Item]) -> Reply
     requires at_end { (value encoder.old).offset ≡ length (value encoder.old).bytes }
     ensures runs { RunsItems (value encoder.old) items.now result (value encoder.new) }

@@ -1,16 +1,16 @@
 //! Lists of items.
 ghost use Rattle.std.specs.Prelude.{◌≡◌, ℕ, ◌+◌, ◌<◌, ◌≤◌, ◌^◌, List, length, OnOk, OnErr};
 ghost use Rattle.std.specs.Iterator.{IsFinite, size};
-ghost use Rattle.dnw_base.specs.declared.error.ProtoError.{ProtoError};
-ghost use Rattle.dnw_encoder.specs.Emitting.{EmitsItem, EmitsItems, told};
+ghost use Rattle.dnw_error.specs.declared.error.ProtoError.{ProtoError};
+ghost use Rattle.dnw_encoder.specs.Emitting.{EmitsItem, EmitsItems, list_error};
 
 use super::BinEncoder;
 use crate::binary::BinEncodable;
-use dnw_base::error::{ProtoError, ProtoResult};
+use dnw_error::error::{ProtoError, ProtoResult};
 
-/// The error that tells of a refused item behind `count` accepted ones.
-fn tell(count: usize, error: ProtoError) -> ProtoError
-    ensures { result ≡ told count error }
+/// Returns the error of a list whose next item failed after `count` were written.
+fn list_error(count: usize, error: ProtoError) -> ProtoError
+    ensures { result ≡ list_error count error }
 {
     match error {
         ProtoError::MaxBufferSizeExceeded(_) => ProtoError::NotAllRecordsWritten { count },
@@ -21,10 +21,11 @@ fn tell(count: usize, error: ProtoError) -> ProtoError
 impl<'a> BinEncoder<'a> {
     ghost use Rattle.dnw_encoder.specs.EncoderValue.{value, lender};
 
-    /// Writes the items in turn, and tells how many there were. The first one that is refused is undone, whatever the
-    /// error, and the items behind it stay in the iterator. The items may be values or references.
+    /// Writes the items in turn, and returns their number. The first one that fails is rolled back, whatever the error,
+    /// and those after it stay in the iterator. The items may be values or references.
     ///
-    /// The offset has to be the buffer's end, and the iterator has to end.
+    /// If an item goes past the maximum size, the error is `NotAllRecordsWritten` with the number of the items before it.
+    /// The offset must be the buffer's end, and the iterator must end.
     pub fn emit_iter<I: Iterator<Item = E>, E: BinEncodable + Drop>(
         &mut self,
         iter: &mut I,
@@ -45,7 +46,7 @@ impl<'a> BinEncoder<'a> {
         Ok(count)
     }
 
-    /// Writes the items in turn, as `emit_iter`.
+    /// Writes the items in turn, as `emit_iter` does.
     pub fn emit_all<I: Iterator<Item = E>, E: BinEncodable + Drop>(
         &mut self,
         mut iter: I,
@@ -61,7 +62,7 @@ impl<'a> BinEncoder<'a> {
         self.emit_iter(&mut iter)
     }
 
-    /// Writes the items in turn, as `emit_iter`: for items that are references to references.
+    /// Writes the items in turn, as `emit_iter` does: for items that are references to references.
     pub fn emit_all_refs<I: Iterator<Item = E>, E: BinEncodable + Drop>(
         &mut self,
         iter: I,
@@ -77,7 +78,7 @@ impl<'a> BinEncoder<'a> {
         self.emit_all(iter)
     }
 
-    /// Writes one more item behind `count` others, or undoes it.
+    /// Writes one more item after `count` others, or rolls it back.
     fn emit_item<E: BinEncodable>(&mut self, item: &E, count: usize) -> ProtoResult<()>
         requires at_end { (value self.old).offset ≡ length (value self.old).bytes }
         ensures item { EmitsItem E.emits item.now count (value self.old) result (value self.new) }
@@ -88,7 +89,7 @@ impl<'a> BinEncoder<'a> {
         if let Err(error) = item.emit(self) {
             self.set_offset(start);
             self.trim();
-            return Err(tell(count, error));
+            return Err(list_error(count, error));
         }
         Ok(())
     }

@@ -1,23 +1,23 @@
-//! What follows from the definitions of writing, for whoever rests a proof on them.
+//! What follows from the definitions of writing, for callers' proofs.
 //!
-//! The functions do nothing: each is there for its clause.
+//! The functions do nothing. Each is there for its clauses.
 ghost use Rattle.dnw_encoder.specs.EncoderLaws.{WritesStayBounded, PlacesStayBounded, FillsStayBounded, FillsTakeNoMemory, ItemsStayBounded, ItemsKeepFrame, FramesFollow, NameIsRead, NameComesBack, NamesStayBounded, NamesTakeNoMore, PointersSave};
 
 use crate::binary::BinEncodable;
 
-/// No accepted write, place or filling leaves a buffer longer than the greater of its old length and the maximum.
+/// A write, a placeholder and its filling leave the buffer no longer than it was, or than the maximum.
 pub fn writes_stay_bounded()
     ensures writes { WritesStayBounded }
     ensures places { PlacesStayBounded }
     ensures fills { FillsStayBounded }
 {}
 
-/// Nor do items in turn, where none of them does.
+/// So do items in turn, if each of them does.
 pub fn items_stay_bounded<E: BinEncodable>()
     ensures { ItemsStayBounded E.emits }
 {}
 
-/// Filling a place takes no memory.
+/// Filling a placeholder does not run out of memory.
 pub fn fills_take_no_memory()
     ensures { FillsTakeNoMemory }
 {}
@@ -34,8 +34,8 @@ pub fn names_come_back()
     ensures alone { NameComesBack }
 {}
 
-/// A name that is written keeps within the maximum, and takes no more bytes than its uncompressed form; a pointer saves
-/// a byte at least.
+/// A name leaves the buffer no longer than it was, or than the maximum, and takes no more bytes than its wire form; a
+/// pointer saves one byte or more.
 pub fn names_stay_bounded()
     ensures bounded { NamesStayBounded }
     ensures no_more { NamesTakeNoMore }

@@ -1,4 +1,4 @@
-//! Guards, under which names are written in another mode.
+//! Guards, which set how names are written for a while.
 ghost use Rattle.std.specs.Prelude.{◌≡◌};
 ghost use Rattle.dnw_encoder.specs.Encoder.{mode_of_rdata};
 ghost use Rattle.dnw_encoder.specs.EncoderValue.{value, lender};
@@ -7,7 +7,7 @@ ghost use Rattle.dnw_encoder.specs.Guards.{Guards, guarded, former};
 use super::{BinEncoder, NameEncoding, RDataEncoding};
 use std::ops::{Deref, DerefMut};
 
-/// An encoder that writes names in another mode for a while. When it is dropped, the former mode is put back.
+/// A guard that lends its encoder in another mode. When the guard is dropped, the encoder is in its former mode again.
 pub struct ModalEncoder<'a, 'e> {
     inner: &'e mut BinEncoder<'a>,
     previous: NameEncoding,
@@ -42,7 +42,7 @@ impl Drop for ModalEncoder<'_, '_> {
 }
 
 impl<'a> BinEncoder<'a> {
-    /// A guard under which names are written in this mode.
+    /// Returns a guard that lends the encoder in this mode.
     pub fn with_name_encoding<'e>(&'e mut self, name_encoding: NameEncoding) -> ModalEncoder<'a, 'e>
         ensures { Guards self.entry name_encoding result }
     {
@@ -54,7 +54,7 @@ impl<'a> BinEncoder<'a> {
         }
     }
 
-    /// A guard under which the names of record data are written as their kind asks for (RFC 3597, sections 4 and 7;
+    /// Returns a guard that lends the encoder in the mode for the names of such record data (RFC 3597, sections 4 and 7;
     /// RFC 4034, section 6.2).
     pub fn with_rdata_behavior<'e>(
         &'e mut self,

@@ -1,18 +1,18 @@
 //! How names are written.
 
 /// How names are written.
-#[derive(Clone, Copy)]
+#[derive(Clone, Copy, Debug)]
 pub enum NameEncoding {
-    /// Compressed (RFC 1035, section 4.1.4), and in the case that they have.
+    /// Compressed (RFC 1035, section 4.1.4), in their own case.
     Compressed,
-    /// Whole, and in the case that they have.
+    /// Whole, in their own case.
     Uncompressed,
-    /// Whole, and in lower case (RFC 4034, section 6.2).
+    /// Whole, in lower case (RFC 4034, section 6.2).
     UncompressedLowercase,
 }
 
 /// How names within record data are written.
-#[derive(Clone, Copy)]
+#[derive(Clone, Copy, Debug)]
 pub enum RDataEncoding {
     /// Of a record type that RFC 1035, section 3.3 defines: as other names, but in canonical form whole and in lower
     /// case.
@@ -20,6 +20,6 @@ pub enum RDataEncoding {
     /// Of a later record type whose canonical form has lower case (RFC 4034, section 6.2): always whole, and in
     /// canonical form in lower case.
     Canonical,
-    /// Of any other record type (RFC 3597, section 4): always whole, and in the case that they have.
+    /// Of any other record type (RFC 3597, section 4): always whole, in their own case.
     Other,
 }

@@ -1,39 +1,43 @@
 //! Names, written whole or with a pointer (RFC 1035, section 4.1.4).
 ghost use Rattle.std.specs.Prelude.{◌≡◌, ◌≢◌, ℕ, ◌+◌, ◌<◌, ◌≤◌, List, [], ◌++◌, length, MatchOption, IfSome, IfErr, OnOk, OnErr, Some, None};
-ghost use Rattle.dnw_base.specs.declared.error.ProtoError.{ProtoError};
-ghost use Rattle.dnw_name.specs.Names.{AreLabels};
+ghost use Rattle.dnw_base.specs.Limits.{max_message, pointer_offsets, pointer_reach};
+ghost use Rattle.dnw_error.specs.declared.error.ProtoError.{ProtoError};
+ghost use Rattle.dnw_base.specs.Names.{AreLabels};
 ghost use Rattle.dnw_encoder.specs.Encoder.{Grows, written};
 ghost use Rattle.dnw_encoder.specs.EmittedName.{EmitsLabels, EmitsAs, PointsNowhere, compresses, counted, kept, pointer_to, so_far};
-ghost use Rattle.dnw_encoder.specs.Sharing.{FindsUsable, IsSuffix, share_of};
+ghost use Rattle.dnw_encoder.specs.Inside.Sharing.{IsSuffix, share_of};
+ghost use Rattle.dnw_candidates.specs.Candidates.{FindsUsable};
 
-use super::{BinEncoder, NameEncoding, POINTER_LIMIT};
-use dnw_base::error::ProtoResult;
-use dnw_name::name::{LabelIter, Name};
+use super::{BinEncoder, NameEncoding};
+use dnw_base::limits::{POINTER_MARK, POINTER_REACH};
+use dnw_error::error::ProtoResult;
+use dnw_form::label_iter::LabelIter;
+use dnw_name::name::Name;
 
 /// A suffix of a name that a pointer can stand for.
 #[derive(Clone, Copy)]
 struct Suffix {
-    /// How many labels there are before it.
+    /// The number of labels before it.
     labels: usize,
-    /// The bytes of these labels, with their length octets.
+    /// The number of bytes of these labels, length octets included.
     size: usize,
-    /// Where the message has it.
-    place: u16,
+    /// The offset at which the message has it.
+    target: u16,
 }
 
-/// The two octets of a pointer: 14 bits behind two that are set.
+/// Returns the two octets of a pointer: 14 bits after two that are set.
 #[inline(always)]
-fn pointer_octets(place: u16) -> [u8; 2]
-    requires { place < 16384 }
-    ensures { result ≡ pointer_to place }
+fn pointer_octets(target: u16) -> [u8; 2]
+    requires { target < pointer_offsets }
+    ensures { result ≡ pointer_to target }
 {
-    [(192 + place / 256) as u8, (place % 256) as u8]
+    [POINTER_MARK + (target / 256) as u8, (target % 256) as u8]
 }
 
 impl<'a> BinEncoder<'a> {
     ghost use Rattle.dnw_encoder.specs.EncoderValue.{value, lender};
 
-    /// Writes the labels of a name as they stand: with a pointer where the mode allows one and a suffix is found.
+    /// Writes the labels of a name in their own case: with a pointer if the mode allows one and a suffix is found.
     pub(crate) fn emit_name(&mut self, name: &Name) -> ProtoResult<()>
         ensures writes { EmitsLabels (value self.old) name.now.labels result (value self.new) }
         ensures lender { lender self.new ≡ lender self.old }
@@ -47,7 +51,7 @@ impl<'a> BinEncoder<'a> {
         }
     }
 
-    /// Whether the next name is compressed.
+    /// Returns `true` if the next name is compressed.
     fn compresses(&self) -> bool
         ensures { result ≡ compresses (value self.now) }
     {
@@ -57,7 +61,7 @@ impl<'a> BinEncoder<'a> {
         }
     }
 
-    /// How many names are counted once the next one is written.
+    /// Returns the number of names that are counted once the next one is written.
     fn counted(&self) -> usize
         ensures { result ≡ counted (value self.now) }
     {
@@ -68,11 +72,11 @@ impl<'a> BinEncoder<'a> {
         }
     }
 
-    /// The longest suffix of the name that a pointer can stand for.
+    /// Returns the longest suffix of the name that a pointer can stand for.
     fn find_suffix(&self, name: &Name) -> Option<Suffix>
         ensures finds { MatchOption result (PointsNowhere (value self.now) name.now.labels)
-            (λ suffix. IsSuffix (value self.now) name.now.labels suffix.labels suffix.size suffix.place) }
-        ensures reached { IfSome result (λ suffix. suffix.place < 16383) }
+            (λ suffix. IsSuffix (value self.now) name.now.labels suffix.labels suffix.size suffix.target) }
+        ensures reached { IfSome result (λ suffix. suffix.target < pointer_reach) }
     {
         let mut rest = name.iter();
         let mut labels = 0;
@@ -80,11 +84,11 @@ impl<'a> BinEncoder<'a> {
         'suffixes: loop {
             let suffix = rest.clone();
             let label = rest.next()?;
-            if let Some(place) = self.find_usable(suffix) {
+            if let Some(target) = self.find_usable(suffix) {
                 return Some(Suffix {
                     labels,
                     size,
-                    place,
+                    target,
                 });
             }
             labels += 1;
@@ -92,10 +96,10 @@ impl<'a> BinEncoder<'a> {
         }
     }
 
-    /// The place of the first candidate that is usable for the labels.
+    /// Returns the offset of the first candidate that is usable for the labels.
     fn find_usable(&self, labels: LabelIter<'_>) -> Option<u16>
         ensures finds { FindsUsable (so_far (value self.now)) labels.entry (value self.now).candidates result }
-        ensures reached { IfSome result (λ place. place < 16383) }
+        ensures reached { IfSome result (λ offset. offset < pointer_reach) }
     {
         self.candidates
             .find_usable(&self.buffer[..self.offset], labels)
@@ -122,10 +126,10 @@ impl<'a> BinEncoder<'a> {
 
     /// Writes the labels before a suffix, and a pointer for the suffix.
     fn emit_shared(&mut self, name: &Name, suffix: Suffix) -> ProtoResult<()>
-        requires suffix { IsSuffix (value self.old) name.now.labels suffix.labels suffix.size suffix.place }
-        requires reached { suffix.place < 16383 }
+        requires suffix { IsSuffix (value self.old) name.now.labels suffix.labels suffix.size suffix.target }
+        requires reached { suffix.target < pointer_reach }
         ensures labels { AreLabels name.now.labels }
-        ensures writes { EmitsAs (value self.old) name.now.labels (Some (share_of name.now.labels suffix.labels suffix.place)) result (value self.new) }
+        ensures writes { EmitsAs (value self.old) name.now.labels (Some (share_of name.now.labels suffix.labels suffix.target)) result (value self.new) }
         ensures lender { lender self.new ≡ lender self.old }
     {
         let wire = name.as_wire();
@@ -134,7 +138,7 @@ impl<'a> BinEncoder<'a> {
         let held = self.candidates.len();
         self.keep_suffixes(name, suffix.labels)?;
         let pointer = self.offset + suffix.size;
-        if let Err(error) = self.write_front(&wire[..suffix.size], suffix.place) {
+        if let Err(error) = self.write_front(&wire[..suffix.size], suffix.target) {
             self.candidates.truncate(held);
             return Err(error);
         }
@@ -143,7 +147,7 @@ impl<'a> BinEncoder<'a> {
         Ok(())
     }
 
-    /// Keeps the first suffixes of a name that is about to be written, so many as are allowed.
+    /// Keeps the first `count` suffixes of a name that is about to be written, or as many as are allowed.
     fn keep_suffixes(&mut self, name: &Name, count: usize) -> ProtoResult<()>
         ensures ok { OnOk result (value self.new ≡ record (value self.old) { candidates = (value self.old).candidates ++ kept (value self.old) name.now.labels count }) }
         ensures err { IfErr result (λ e. e ≡ ProtoError.Memory) }
@@ -151,7 +155,7 @@ impl<'a> BinEncoder<'a> {
         ensures same { OnErr result (value self.new ≡ value self.old) }
         ensures lender { lender self.new ≡ lender self.old }
     {
-        if name.encoded_len() - 1 >= POINTER_LIMIT - self.offset.min(POINTER_LIMIT) {
+        if name.encoded_len() - 1 >= POINTER_REACH - self.offset.min(POINTER_REACH) {
             return Ok(());
         }
         let allowed = self.candidate_limit.saturating_sub(self.candidates.len());
@@ -160,26 +164,26 @@ impl<'a> BinEncoder<'a> {
         Ok(())
     }
 
-    /// Writes the labels before a pointer, and the pointer; what stood behind is cut.
-    fn write_front(&mut self, front: &[u8], place: u16) -> ProtoResult<()>
-        requires reached { place < 16384 }
-        requires fits { (value self.old).offset + length front.now ≤ 65535 }
+    /// Writes the labels before a pointer, and the pointer, and ends the buffer there.
+    fn write_front(&mut self, front: &[u8], target: u16) -> ProtoResult<()>
+        requires reached { target < pointer_offsets }
+        requires fits { (value self.old).offset + length front.now ≤ max_message }
         ensures ok { OnOk result (value self.new ≡ record (value self.old) {
-          bytes = so_far (value self.old) ++ (front.now ++ pointer_to place);
-          offset = (value self.old).offset + length (front.now ++ pointer_to place);
+          bytes = so_far (value self.old) ++ (front.now ++ pointer_to target);
+          offset = (value self.old).offset + length (front.now ++ pointer_to target);
         }) }
         ensures err { IfErr result (λ e. e ≡ ProtoError.Memory) }
-        ensures needed { OnErr result (Grows (value self.old) (length (front.now ++ pointer_to place))) }
+        ensures needed { OnErr result (Grows (value self.old) (length (front.now ++ pointer_to target))) }
         ensures same { OnErr result (value self.new ≡ value self.old) }
         ensures lender { lender self.new ≡ lender self.old }
     {
         self.buffer.resize(self.offset + front.len() + 2, 0)?;
         self.put(front);
-        self.put(&pointer_octets(place));
+        self.put(&pointer_octets(target));
         Ok(())
     }
 
-    /// Writes bytes over as many that stand at the offset.
+    /// Writes bytes over as many at the offset.
     #[inline(always)]
     fn put(&mut self, bytes: &[u8])
         requires { (value self.old).offset + length bytes.now ≤ length (value self.old).bytes }

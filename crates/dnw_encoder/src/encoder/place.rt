@@ -1,16 +1,16 @@
-//! Places that are filled later.
+//! Placeholders, for fields whose value is known later.
 ghost use Rattle.std.specs.Prelude.{◌≡◌, ℕ, ◌+◌, ◌≤◌, ◌↔◌, List, length, IsTrue, IfOk, OnOk, OnErr};
 ghost use Rattle.dnw_encoder.specs.Encoder.{Holds, TakesRoom, reserved};
 ghost use Rattle.dnw_encoder.specs.Emitting.{EmitsAt, FillsPlace};
 
 use super::BinEncoder;
 use crate::binary::EncodedSize;
-use dnw_base::error::ProtoResult;
+use dnw_error::error::ProtoResult;
 use std::marker::{Model, PhantomData};
 
-/// A place of a message that is kept for a value, and filled once with `replace` or `emit_at`.
+/// A placeholder: a field of a message that is reserved for a value, and written once with `replace` or `emit_at`.
 ///
-/// A contract sees it as the index of its first byte.
+/// A contract sees it as the offset of its first byte.
 #[derive(Debug, Drop)]
 pub struct Place<T: EncodedSize> {
     start_index: usize,
@@ -28,7 +28,7 @@ impl<T: EncodedSize> Model for Place<T> {
 impl<T: EncodedSize> Place<T> {
     ghost use Rattle.dnw_encoder.specs.EncoderValue.{value, lender};
 
-    /// Writes a value over the place. Where it is refused, the place is spent all the same.
+    /// Writes the value into the placeholder, which is used up also if this fails.
     pub fn replace(self, encoder: &mut BinEncoder<'_>, number: T) -> ProtoResult<()>
         requires { Holds (value encoder.old) self T.LEN }
         ensures emits { EmitsAt T.emits self number (value encoder.old) result (value encoder.new) }
@@ -43,8 +43,7 @@ impl<T: EncodedSize> Place<T> {
 impl<'a> BinEncoder<'a> {
     ghost use Rattle.dnw_encoder.specs.EncoderValue.{value, lender};
 
-    /// Keeps a place at the offset, for a value that is known later: what stands behind the place is cut, and bytes
-    /// that are missing are zero.
+    /// Reserves a placeholder at the offset. Bytes that are missing there are zero, and the buffer ends after it.
     pub fn place<T: EncodedSize>(&mut self) -> ProtoResult<Place<T>>
         ensures value { TakesRoom (value self.old) T.LEN (reserved (value self.old) T.LEN) result (value self.new) }
         ensures place { IfOk result (λ place. place ≡ (value self.old).offset) }
@@ -61,14 +60,14 @@ impl<'a> BinEncoder<'a> {
         })
     }
 
-    /// Whether the place lies before the offset.
+    /// Returns `true` if the placeholder ends no later than the offset.
     pub fn holds<T: EncodedSize>(&self, place: &Place<T>) -> bool
         ensures { IsTrue result ↔ Holds (value self.now) place.now T.LEN }
     {
         T::LEN <= self.offset && place.start_index <= self.offset - T::LEN
     }
 
-    /// The number of bytes between the place and the offset.
+    /// Returns the number of bytes from the placeholder's end to the offset.
     pub fn len_since_place<T: EncodedSize>(&self, place: &Place<T>) -> usize
         requires { Holds (value self.now) place.now T.LEN }
         ensures { place.now + T.LEN + result ≡ (value self.now).offset }
@@ -76,7 +75,7 @@ impl<'a> BinEncoder<'a> {
         self.offset - place.start_index - T::LEN
     }
 
-    /// Writes a value over a place. Where it is refused, the place is spent all the same.
+    /// Writes the value into the placeholder, which is used up also if this fails.
     pub fn emit_at<T: EncodedSize>(&mut self, place: Place<T>, number: T) -> ProtoResult<()>
         requires { Holds (value self.old) place T.LEN }
         ensures emits { EmitsAt T.emits place number (value self.old) result (value self.new) }
@@ -86,8 +85,8 @@ impl<'a> BinEncoder<'a> {
     {
         let offset = self.offset;
         self.offset = place.start_index;
-        let answer = number.emit(self);
+        let outcome = number.emit(self);
         self.offset = offset;
-        answer
+        outcome
     }
 }

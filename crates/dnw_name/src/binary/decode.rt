@@ -1,43 +1,43 @@
-//! What is read from a message.
+//! Types that can be read from a message.
 ghost use Rattle.std.specs.Prelude.{◌≡◌, ℕ, ℤ, IfOk, IfErr, OnErr, IsErrOf, IsOkAnd};
 ghost use Rattle.dnw_base.specs.Decoder.{Decoder};
-ghost use Rattle.dnw_base.specs.declared.error.DecodeError.{DecodeError};
+ghost use Rattle.dnw_error.specs.declared.error.DecodeError.{DecodeError};
 ghost use Rattle.dnw_name.specs.Decodable.{TakesU16, TakesU32, TakesI32, LacksBytes, TakesNameValue, StopsSomehow};
 
 use crate::name::Name;
 use dnw_base::decoder::BinDecoder;
-use dnw_base::error::DecodeError;
 use dnw_base::restrict::Restrict;
+use dnw_error::error::DecodeError;
 use std::alloc::Global;
 
-/// What can be read from a message. Each type says what stands in a message as one of its values, so generic callers
-/// know what they read.
+/// Types that can be read from a message. Each says which octets are one of its values, so generic callers know what
+/// they read.
 pub trait BinDecodable<'r>: Sized {
     ghost use Rattle.dnw_base.specs.Decoder.{Decoder};
-    ghost use Rattle.dnw_base.specs.declared.error.DecodeError.{DecodeError};
+    ghost use Rattle.dnw_error.specs.declared.error.DecodeError.{DecodeError};
 
-    // The decoder stands at this value, and behind it afterwards.
+    // The decoder is at this value, and after it afterwards.
     ghost stands: { Decoder → Self → Decoder → Type 0 };
 
-    // The decoder stands at no value, and reading stops with this error.
+    // The decoder is at no value, and reading stops with this error.
     ghost fails: { Decoder → DecodeError → Type 0 };
 
-    /// Reads the value at the cursor. Where it is refused, the cursor stays.
+    /// Reads the value at the cursor. If it fails, the cursor is unchanged.
     fn read(alloc: Global, decoder: &mut BinDecoder<'r>) -> Result<Self, DecodeError>
         ensures ok { IfOk result (λ x. stands decoder.old x decoder.new) }
         ensures err { IfErr result (fails decoder.old) }
         ensures same { OnErr result (decoder.new ≡ decoder.old) }
         ensures accepts { (x : Self) (after : Decoder) → stands decoder.old x after
             → IsOkAnd result (λ y. y ≡ x) × (decoder.new ≡ after) }
-        ensures refuses { (e : DecodeError) → fails decoder.old e → IsErrOf result e };
+        ensures rejects { (e : DecodeError) → fails decoder.old e → IsErrOf result e };
 
-    /// Reads the value at the start of a message, whatever follows it: `read` by a decoder at 0.
+    /// Reads the value at the start of a message, whatever follows it, as `read` with a new decoder.
     fn from_bytes(alloc: Global, bytes: &'r [u8]) -> Result<Self, DecodeError>
         ensures ok { IfOk result (λ x. (after : Decoder) × stands (record { bytes = bytes.now; index = 0 }) x after) }
         ensures err { IfErr result (fails (record { bytes = bytes.now; index = 0 })) }
         ensures accepts { (x : Self) (after : Decoder) → stands (record { bytes = bytes.now; index = 0 }) x after
             → IsOkAnd result (λ y. y ≡ x) }
-        ensures refuses { (e : DecodeError) → fails (record { bytes = bytes.now; index = 0 }) e → IsErrOf result e };
+        ensures rejects { (e : DecodeError) → fails (record { bytes = bytes.now; index = 0 }) e → IsErrOf result e };
 }
 
 impl<'r> BinDecodable<'r> for u16 {

@@ -1,15 +1,8 @@
-use Rattle.std.proofs.Common.{◌≡◌, ◌∙◌, ap}
-use Rattle.dnw_c.proofs.Starts.{takes-at}
+use Rattle.std.proofs.lemmas.Result.{err_from_is_err_and}
+use Rattle.dnw_c.proofs.Starts.{skipped_past}
 use Rattle.dnw_c.proofs.names.name_at.Goals as goal
 
-pub returns-in_err-name-clause-accepts : goal.returns-in_err-name-clause-accepts
-returns-in_err-name-clause-accepts c ls e k name =
-    let takes = takes-at _ _ _ c.args.start ls e k c.new-decoder.ensures c.in-Ok.ensures.moved name in
-    absurd (c.in_err-name.ensures.accepts _ ls k takes).0
-
-pub returns-clause-accepts : goal.returns-clause-accepts
-returns-clause-accepts c ls e k name =
-    let takes = takes-at _ _ _ c.args.start ls e k c.new-decoder.ensures c.in-Ok.ensures.moved name in
-    let (same, there) = c.in_ok-name.ensures.accepts _ ls k takes in
-    let end : c.index.result ≡ e = c.index.ensures.index ∙ ap (λ d. d.index) there in
-    cc (same, end)
+pub returns-in_err-skip-clause-err : goal.returns-in_err-skip-clause-err
+returns-in_err-skip-clause-err c =
+    let (error, is, cause) = err_from_is_err_and c.from_residual.result c.from_residual.ensures.1 in
+    rw (is, cause) (skipped_past c.new-decoder.result c.skip.new.self c.args.message.now c.args.start c.in_err-skip.field-0.0 c.new-decoder.ensures c.in_err-skip.ensures.takes)

@@ -1,4 +1,4 @@
-use Rattle.dnw_c.specs.Answers.{unread, unwritten}
+use Rattle.dnw_c.specs.NameLists.{unread, unwritten}
 use Rattle.dnw_c.proofs.Starts.{takes-onward, takes-within}
 use Rattle.dnw_c.proofs.names.write_next.Goals as goal
 

@@ -1,5 +1,5 @@
 use Rattle.std.proofs.Common.{◌≡◌, ◌+◌, ◌≤◌, length, ap, arith}
-use Rattle.dnw_name.proofs.Wires.{AreLabels-few}
+use Rattle.dnw_base.proofs.Wires.{AreLabels-few}
 use Rattle.dnw_name.proofs.name.Name.num_labels.Goals as goal
 use Rattle.dnw_name.proofs.name.Name.num_labels.Goals.{After-len-others}
 

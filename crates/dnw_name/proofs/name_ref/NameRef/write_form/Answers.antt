@@ -1,7 +1,7 @@
 use Rattle.std.proofs.Common.{◌∙◌, length, subst, ap, arith}
-use Rattle.dnw_name.specs.Names.{AreLabels, wire}
-use Rattle.dnw_name.proofs.Found.{StandsAt-labels}
-use Rattle.dnw_name.proofs.Copying.{LiesAt-plain}
+use Rattle.dnw_base.specs.Names.{AreLabels, wire}
+use Rattle.dnw_reading.proofs.Found.{StandsAt-labels}
+use Rattle.dnw_reading.proofs.Copying.{LiesAt-plain}
 use Rattle.dnw_name.proofs.name_ref.NameRef.write_form.Goals as goal
 
 pub slice_bounds-extend_from_slice-end : goal.slice_bounds-extend_from_slice-end

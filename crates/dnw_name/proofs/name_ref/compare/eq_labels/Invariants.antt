@@ -1,5 +1,5 @@
 use Rattle.std.proofs.Common.{◌≡◌, ◌↔◌, length}
-use Rattle.dnw_name.specs.Names.{lower}
+use Rattle.dnw_base.specs.Names.{lower}
 use Rattle.dnw_name.proofs.name_ref.compare.eq_labels.Given as goal
 
 -- what is left decides

@@ -1,8 +1,8 @@
 -- The name is written whole, or nothing is changed.
 use Rattle.std.proofs.Common.{◌≤◌, length, refl, ◌∙◌, inr, arith}
 use Rattle.std.proofs.lemmas.Result.{err_from_is_err_and}
-use Rattle.dnw_name.specs.Names.{encoded_size}
-use Rattle.dnw_name.proofs.Wires.{AreLabels-few}
+use Rattle.dnw_base.specs.Names.{encoded_size}
+use Rattle.dnw_base.proofs.Wires.{AreLabels-few}
 use Rattle.dnw_encoder.specs.Encoder.{HasRoom}
 use Rattle.dnw_encoder.specs.EncoderValue.{value}
 use Rattle.dnw_encoder.specs.EmittedName.{kept}

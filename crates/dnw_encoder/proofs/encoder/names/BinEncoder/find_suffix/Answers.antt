@@ -1,9 +1,9 @@
 -- Each suffix in turn, from the longest on, is the first that is usable, or is ruled out.
 use Rattle.std.proofs.Common.{◌+◌, ◌≤◌, length, sym, ◌∙◌, subst, arith}
-use Rattle.dnw_name.proofs.Wires.{AreLabels-few}
+use Rattle.dnw_base.proofs.Wires.{AreLabels-few}
 use Rattle.dnw_encoder.specs.EncoderValue.{value}
-use Rattle.dnw_encoder.specs.EmittedName.{IsFirstUsable, so_far}
-use Rattle.dnw_encoder.specs.Sharing.{NoneUsable}
+use Rattle.dnw_encoder.specs.EmittedName.{so_far}
+use Rattle.dnw_candidates.specs.Candidates.{IsFirstUsable, NoneUsable}
 use Rattle.dnw_encoder.proofs.Suffixes.{drop_next, labels_wire_take, length-all, none_more, nowhere, suffix_found}
 use Rattle.dnw_encoder.proofs.encoder.names.BinEncoder.find_suffix.Goals as goal
 use Rattle.dnw_encoder.proofs.encoder.names.BinEncoder.find_suffix.Goals.{In_default}
@@ -17,8 +17,8 @@ pub returns-in-Some-clause-finds : goal.returns-in-Some-clause-finds
 returns-in-Some-clause-finds c =
     let (within, rest, size, none) = c.suffixes.invariant in
     let v = value c.args.self.now in
-    let found = subst (λ ls. IsFirstUsable (so_far v) v.candidates ls c.in-Some.place) (c.clone-suffix.ensures ∙ rest) c.in-Some.ensures.finds in
-    suffix_found v c.args.name.now.labels c.suffixes.labels c.suffixes.size c.in-Some.place c.in_ok-label.label.now c.next.new.self within
+    let found = subst (λ ls. IsFirstUsable (so_far v) v.candidates ls c.in-Some.target) (c.clone-suffix.ensures ∙ rest) c.in-Some.ensures.finds in
+    suffix_found v c.args.name.now.labels c.suffixes.labels c.suffixes.size c.in-Some.target c.in_ok-label.label.now c.next.new.self within
     (sym rest ∙ c.in_ok-label.ensures.steps) size none found
 
 -- the labels that were passed, and one more, are among those of the name

@@ -1,7 +1,7 @@
 use Rattle.std.proofs.Common.{◌≡◌, ◌≤◌, length, take, drop}
-use Rattle.dnw_name.specs.Names.{labels_wire}
+use Rattle.dnw_base.specs.Names.{labels_wire}
 use Rattle.dnw_encoder.specs.EncoderValue.{value}
-use Rattle.dnw_encoder.specs.Sharing.{NoneBefore}
+use Rattle.dnw_encoder.specs.Inside.Sharing.{NoneBefore}
 use Rattle.dnw_encoder.proofs.encoder.names.BinEncoder.find_suffix.Given as goal
 
 -- so many labels were passed, and no suffix from one of them on is found

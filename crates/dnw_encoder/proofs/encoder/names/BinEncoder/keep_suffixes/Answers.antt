@@ -2,7 +2,7 @@
 use Rattle.std.proofs.Common.{◌≡◌, ◌+◌, ◌-◌, ◌<◌, ◌≤◌, ◌++◌, length, min, sym, ap, ◌∙◌, arith}
 use Rattle.std.proofs.lemmas.List.{append-nil}
 use Rattle.std.proofs.lemmas.Result.{err_from_is_err_and}
-use Rattle.dnw_name.specs.Names.{labels_wire}
+use Rattle.dnw_base.specs.Names.{labels_wire}
 use Rattle.dnw_encoder.specs.EncoderValue.{value}
 use Rattle.dnw_encoder.proofs.Suffixes.{length-all, kept-none, kept-some}
 use Rattle.dnw_encoder.proofs.encoder.names.BinEncoder.keep_suffixes.Goals as goal

@@ -16,8 +16,8 @@ invariant_of-self-2 g c =
     record {
       within = omega (
         arith,
-        still_within g.T.BinEncodable.emits n g.met.T.EncodedSize.writes_len g.met.T.EncodedSize.refuses_whole
-            c.args.number v (value c.emit-answer.new.encoder) c.emit-answer.result p holds within c.emit-answer.ensures.emits,
+        still_within g.T.BinEncodable.emits n g.met.T.EncodedSize.writes_len g.met.T.EncodedSize.fails_unchanged
+            c.args.number v (value c.emit-outcome.new.encoder) c.emit-outcome.result p holds within c.emit-outcome.ensures.emits,
       );
     }
 
@@ -26,6 +26,6 @@ returns-clause-ok g c =
     let p = c.place.inside.start_index in
     let n : ℕ = g.T.EncodedSize.LEN in
     let v = value c.args.self.now in
-    let u = value c.emit-answer.new.encoder in
-    let P : ℕ → Type 0 = λ q. OnOk c.emit-answer.result (FillsPlace q n v (moved_to u v.offset)) in
-    subst P c.place.view_is (fills g.T.BinEncodable.emits n g.met.T.EncodedSize.writes_len c.args.number v u c.emit-answer.result p c.emit-answer.ensures.emits)
+    let u = value c.emit-outcome.new.encoder in
+    let P : ℕ → Type 0 = λ q. OnOk c.emit-outcome.result (FillsPlace q n v (moved_to u v.offset)) in
+    subst P c.place.view_is (fills g.T.BinEncodable.emits n g.met.T.EncodedSize.writes_len c.args.number v u c.emit-outcome.result p c.emit-outcome.ensures.emits)

@@ -1,0 +1,217 @@
+//! The benchmark's functions: `include/dnw_bench.h` says what each does.
+//!
+//! Each works through its input `count` times and returns the sum of the checksums, without regard to carries past 64
+//! bits. A failure counts as 2^40.
+#![tactic(auto)]
+
+ghost use Rattle.std.specs.Prelude.{◌≡◌};
+
+use dns_names_wire::binary::BinEncodable;
+use dns_names_wire::decoder::BinDecoder;
+use dns_names_wire::encoder::{BinEncoder, NameEncoding};
+use dns_names_wire::error::ProtoResult;
+use dns_names_wire::name::Name;
+use std::alloc::{AllocError, Global};
+
+/// What a failure adds.
+const FAILURE: u64 = 1 << 40;
+
+/// Reads the name at each start: its end, and 65536 times its encoded length.
+#[unsafe(no_mangle)]
+pub extern "C" fn dnw_read_names(alloc: Global, msg: &[u8], starts: &[u32], count: u64) -> u64
+    ensures idle { count ≡ 0 → result ≡ 0 }
+{
+    let mut sum = 0u64;
+    for _round in 0..count {
+        sum = sum.wrapping_add(read_each(alloc, msg, starts));
+    }
+    sum
+}
+
+/// Writes the names of a list, compressed, into a new message: its length. The list has to be one of wire forms; else
+/// the result is 0.
+#[unsafe(no_mangle)]
+pub extern "C" fn dnw_emit_names(alloc: Global, names: &[u8], count: u64) -> u64
+    ensures idle { count ≡ 0 → result ≡ 0 }
+{
+    let Ok(names) = names_of(alloc, names) else {
+        return 0;
+    };
+    let mut sum = 0u64;
+    for _round in 0..count {
+        sum = sum.wrapping_add(emit_each(alloc, names.as_slice(), NameEncoding::Compressed));
+    }
+    sum
+}
+
+/// Writes the names of a list, in lower case, into a new message: its length.
+#[unsafe(no_mangle)]
+pub extern "C" fn dnw_emit_lower(alloc: Global, names: &[u8], count: u64) -> u64
+    ensures idle { count ≡ 0 → result ≡ 0 }
+{
+    let Ok(names) = names_of(alloc, names) else {
+        return 0;
+    };
+    let mut sum = 0u64;
+    for _round in 0..count {
+        sum = sum.wrapping_add(emit_each(
+            alloc,
+            names.as_slice(),
+            NameEncoding::UncompressedLowercase,
+        ));
+    }
+    sum
+}
+
+/// Copies the names of a list into a vector with room for all: the vector's length.
+#[unsafe(no_mangle)]
+pub extern "C" fn dnw_clone_names(alloc: Global, names: &[u8], count: u64) -> u64
+    ensures idle { count ≡ 0 → result ≡ 0 }
+{
+    let Ok(names) = names_of(alloc, names) else {
+        return 0;
+    };
+    let mut sum = 0u64;
+    for _round in 0..count {
+        sum = sum.wrapping_add(match clone_each(alloc, names.as_slice()) {
+            Ok(copies) => copies.len() as u64,
+            Err(_) => FAILURE,
+        });
+    }
+    sum
+}
+
+/// Reads the names of a list into a vector that grows: the vector's length.
+#[unsafe(no_mangle)]
+pub extern "C" fn dnw_collect_names(alloc: Global, names: &[u8], count: u64) -> u64
+    ensures idle { count ≡ 0 → result ≡ 0 }
+{
+    let mut sum = 0u64;
+    for _round in 0..count {
+        sum = sum.wrapping_add(match names_of(alloc, names) {
+            Ok(names) => names.len() as u64,
+            Err(_) => FAILURE,
+        });
+    }
+    sum
+}
+
+/// Parses the texts, each ended by a line feed: the sum of the names' encoded lengths. If they are not UTF-8, the result
+/// is 0.
+#[unsafe(no_mangle)]
+pub extern "C" fn dnw_parse_names(alloc: Global, texts: &[u8], count: u64) -> u64
+    ensures idle { count ≡ 0 → result ≡ 0 }
+{
+    let Ok(text) = str::from_utf8(texts) else {
+        return 0;
+    };
+    let Ok(lines) = lines_of(alloc, text) else {
+        return 0;
+    };
+    let mut sum = 0u64;
+    for _round in 0..count {
+        sum = sum.wrapping_add(parse_each(alloc, lines.as_slice()));
+    }
+    sum
+}
+
+/// Prints the names of a list: the sum of the texts' lengths.
+#[unsafe(no_mangle)]
+pub extern "C" fn dnw_to_ascii(alloc: Global, names: &[u8], count: u64) -> u64
+    ensures idle { count ≡ 0 → result ≡ 0 }
+{
+    let Ok(names) = names_of(alloc, names) else {
+        return 0;
+    };
+    let mut sum = 0u64;
+    for _round in 0..count {
+        sum = sum.wrapping_add(print_each(alloc, names.as_slice()));
+    }
+    sum
+}
+
+fn read_each(alloc: Global, msg: &[u8], starts: &[u32]) -> u64 {
+    let mut sum = 0u64;
+    for start in starts {
+        sum = sum.wrapping_add(read_one(alloc, msg, *start));
+    }
+    sum
+}
+
+#[inline]
+fn read_one(alloc: Global, msg: &[u8], start: u32) -> u64 {
+    let mut decoder = BinDecoder::new(msg);
+    if decoder.skip(start as usize).is_err() {
+        return FAILURE;
+    }
+    match Name::read(alloc, &mut decoder) {
+        Ok(name) => (decoder.index() as u64).wrapping_add(65536 * name.encoded_len() as u64),
+        Err(_) => FAILURE,
+    }
+}
+
+fn emit_each(alloc: Global, names: &[Name], encoding: NameEncoding) -> u64 {
+    let mut message = Vec::new(alloc);
+    let mut encoder = BinEncoder::new(&mut message);
+    encoder.set_name_encoding(encoding);
+    let mut failed = 0u64;
+    for name in names {
+        if name.emit(&mut encoder).is_err() {
+            failed = failed.wrapping_add(FAILURE);
+        }
+    }
+    drop(encoder);
+    failed.wrapping_add(message.len() as u64)
+}
+
+fn clone_each(alloc: Global, names: &[Name]) -> ProtoResult<Vec<Name>> {
+    let mut copies = Vec::with_capacity(alloc, names.len())?;
+    for name in names {
+        copies.push(name.clone()?)?;
+    }
+    Ok(copies)
+}
+
+fn parse_each(alloc: Global, texts: &[&str]) -> u64 {
+    let mut sum = 0u64;
+    for text in texts {
+        sum = sum.wrapping_add(match Name::from_ascii(alloc, text) {
+            Ok(name) => name.encoded_len() as u64,
+            Err(_) => FAILURE,
+        });
+    }
+    sum
+}
+
+fn print_each(alloc: Global, names: &[Name]) -> u64 {
+    let mut sum = 0u64;
+    for name in names {
+        sum = sum.wrapping_add(match name.to_ascii(alloc) {
+            Ok(text) => text.len() as u64,
+            Err(_) => FAILURE,
+        });
+    }
+    sum
+}
+
+/// Returns the names of a list.
+fn names_of(alloc: Global, list: &[u8]) -> ProtoResult<Vec<Name>> {
+    let mut decoder = BinDecoder::new(list);
+    let mut names = Vec::new(alloc);
+    for _ in 0..list.len() {
+        if decoder.is_empty() {
+            break;
+        }
+        names.push(Name::read(alloc, &mut decoder)?)?;
+    }
+    Ok(names)
+}
+
+/// Returns the lines of a text.
+fn lines_of(alloc: Global, text: &str) -> Result<Vec<&str>, AllocError> {
+    let mut lines = Vec::new(alloc);
+    for line in text.lines() {
+        lines.push(line)?;
+    }
+    Ok(lines)
+}

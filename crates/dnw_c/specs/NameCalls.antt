@@ -1,0 +1,51 @@
+-- Why the functions for C that take one name fail.
+use Rattle.std.specs.Prelude.{◌≡◌, ◌≢◌, ◌<◌, ◌⊎◌, ℕ, Bool, true, List, length, Ok, Err, IsUtf8}
+use Rattle.std.specs.Str.{chars}
+use Rattle.dnw_error.specs.declared.error.DecodeError.{DecodeError}
+use Rattle.dnw_error.specs.Fault.{Fault, HasOwnText}
+use Rattle.dnw_base.specs.Names.{NameValue, wire}
+use Rattle.dnw_form.specs.NameText.{name_text, name_from_text}
+use Rattle.dnw_reading.specs.Reading.{NameAt, FaultAt}
+use Rattle.dnw_c.specs.Failures.{of_decode, of_fault}
+use Rattle.dnw_c.specs.declared.failure.Failure.{Failure}
+use Rattle.dnw_c.specs.declared.failure.Failure.TheVariants.{NoMemory, NoRoom, NotUtf8, BytesLeft}
+
+-- the text of a name that is read from a message, which is fully qualified
+abbrev pub absolute_text : List (List ℕ) → List ℕ
+absolute_text labels = name_text (record { is_fqdn = true; labels = labels })
+
+-- no name is at this offset, and that is why
+abbrev pub HasNoName : List ℕ → ℕ → Failure → Type 0
+HasNoName message start failure = (error : DecodeError) × (k : ℕ) × (j : ℕ) × FaultAt message start error k j × (failure ≡ of_decode error)
+
+-- The name at an offset of a message is not read into a buffer of this size as its wire form: there is none, or the form
+-- is longer.
+abbrev pub FailsToRead : List ℕ → ℕ → ℕ → Failure → Type 0
+FailsToRead message start size failure =
+    HasNoName message start failure
+    ⊎ ((labels : List (List ℕ)) × (end : ℕ) × (k : ℕ) × NameAt message start labels end k × (size < length (wire labels)) × (failure ≡ NoRoom))
+
+-- Nor as its text: there is none, or the text is longer, or memory ran out.
+abbrev pub FailsToReadText : List ℕ → ℕ → ℕ → Failure → Type 0
+FailsToReadText message start size failure =
+    HasNoName message start failure
+    ⊎ ((labels : List (List ℕ)) × (end : ℕ) × (k : ℕ) × NameAt message start labels end k
+    × (((size < length (absolute_text labels)) × (failure ≡ NoRoom)) ⊎ (failure ≡ NoMemory)))
+
+-- A text is not parsed into a buffer of this size: it is not UTF-8, or not a name's, or the wire form is longer. Memory may
+-- run out only for an error with a text of its own.
+abbrev pub FailsToParse : List ℕ → ℕ → Failure → Type 0
+FailsToParse text size failure =
+    ((¬ (IsUtf8 text)) × (failure ≡ NotUtf8))
+    ⊎ ((fault : Fault) × IsUtf8 text × (name_from_text (chars text) ≡ Err fault)
+    × ((failure ≡ of_fault fault) ⊎ (HasOwnText fault × (failure ≡ NoMemory))))
+    ⊎ ((name : NameValue) × IsUtf8 text × (name_from_text (chars text) ≡ Ok name) × (size < length (wire name.labels)) × (failure ≡ NoRoom))
+
+-- A wire form is not printed into a buffer of this size: it is none, or bytes follow after it, or the text is longer, or
+-- memory ran out.
+abbrev pub FailsToPrint : List ℕ → Bool → ℕ → Failure → Type 0
+FailsToPrint form is_fqdn size failure =
+    HasNoName form 0 failure
+    ⊎ ((labels : List (List ℕ)) × (end : ℕ) × (k : ℕ) × NameAt form 0 labels end k × (end ≢ length form) × (failure ≡ BytesLeft))
+    ⊎ ((labels : List (List ℕ)) × (k : ℕ) × NameAt form 0 labels (length form) k
+    × (((size < length (name_text (record { is_fqdn = is_fqdn; labels = labels }))) × (failure ≡ NoRoom)) ⊎ (failure ≡ NoMemory)))

@@ -1,0 +1,2 @@
+pub mod CandidateLists
+pub mod Held

@@ -1,0 +1,3 @@
+-- What no public clause cites: how candidates are kept and found.
+pub mod Marks
+pub mod Store

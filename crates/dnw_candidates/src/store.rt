@@ -1,0 +1,204 @@
+//! The store of the candidates' labels: the bytes of all of them, to which a name adds once.
+ghost use Rattle.std.specs.Prelude.{◌≡◌, ◌≢◌, ℕ, ◌+◌, ◌^◌, ◌<◌, ◌≤◌, vec_len, vec_capacity, List, [], ◌∷◌, ◌++◌, length, take, get_or, IsTrue, OnOk, OnErr};
+ghost use Rattle.std.specs.List.{AllByRecursion};
+ghost use Rattle.dnw_base.specs.Limits.{max_message, pointer_reach};
+ghost use Rattle.dnw_candidates.specs.Candidates.{candidates_before, suffixes};
+ghost use Rattle.dnw_candidates.specs.Inside.Store.{AreWithin, entries_of};
+ghost use Rattle.dnw_base.specs.Names.{labels_wire};
+
+use dnw_form::label_iter::LabelIter;
+use smallvec::SmallVec;
+use std::alloc::{AllocError, Global};
+use std::marker::Model;
+
+/// Where the bytes of a candidate's labels are in the store, and where the message has these labels.
+#[derive(Clone, Copy)]
+struct Entry {
+    from: usize,
+    size: u16,
+    // Before the reach of pointers.
+    start: u16,
+}
+
+/// Candidates in the order in which they were added.
+///
+/// A contract sees them as the list of their offsets and labels.
+#[derive(Drop)]
+pub(crate) struct Store {
+    // Of one name after another. Those of the first names are inline.
+    bytes: SmallVec<u8, 64>,
+    entries: Vec<Entry>,
+    // All candidates are before this offset.
+    end: usize,
+}
+
+impl Model for Store {
+    ghost use Rattle.std.specs.Prelude.{ℕ, List, length};
+    ghost use Rattle.dnw_candidates.specs.Inside.Store.{AreHeld, held};
+
+    ghost Value = { List (ℕ × List ℕ) };
+
+    ghost view = { λ s. held s.bytes.items s.entries.items };
+
+    ghost invariant = { λ s. AreHeld (length s.bytes.items) s.end s.entries.items };
+}
+
+/// Returns the end of these entries' bytes.
+fn bytes_used(entries: &[Entry], len: usize) -> usize
+    requires { AreWithin len entries.now }
+    ensures within { AreWithin result entries.now }
+    ensures some { result ≤ len }
+{
+    let mut used = 0;
+    for entry in entries {
+        used = used.max(entry.from + entry.size as usize);
+    }
+    used
+}
+
+/// Adds the entries of the first `most` suffixes of labels that are written at `start` and whose bytes begin at `from`.
+/// Returns the offset after these suffixes' first labels.
+#[inline(always)]
+fn push_entries(
+    entries: &mut Vec<Entry>,
+    from: usize,
+    start: usize,
+    mut labels: LabelIter<'_>,
+    most: usize,
+) -> usize
+    requires room { vec_len entries.old + most ≤ vec_capacity entries.old }
+    requires from { from + length (labels_wire labels) < 2 ^ 64 }
+    requires reached { start + length (labels_wire labels) < pointer_reach }
+    ensures items { entries.new.items ≡ entries.old.items ++ entries_of most from start labels.entry }
+    ensures end { result ≡ start + length (labels_wire (take most labels.entry)) }
+{
+    let mut from = from;
+    let mut start = start;
+    let mut left = most;
+    'suffixes: while left > 0 {
+        let size = labels.as_wire().len() - 1;
+        let Some(label) = labels.next() else {
+            return start;
+        };
+        entries.push_reserved(Entry {
+            from,
+            size: size as u16,
+            start: start as u16,
+        });
+        from += 1 + label.len();
+        start += 1 + label.len();
+        left -= 1;
+    }
+    start
+}
+
+impl Store {
+    /// Creates an empty store. It does not allocate.
+    pub(crate) fn new(alloc: Global) -> Self
+        ensures { result ≡ [] }
+    {
+        Store {
+            bytes: SmallVec::new(alloc),
+            entries: Vec::new(alloc),
+            end: 0,
+        }
+    }
+
+    /// Returns the number of candidates.
+    #[inline(always)]
+    pub(crate) fn len(&self) -> usize
+        ensures { result ≡ length self.now }
+    {
+        self.entries.len()
+    }
+
+    /// Returns the offset and the labels of a candidate.
+    #[inline(always)]
+    pub(crate) fn get(&self, index: usize) -> (u16, &[u8])
+        requires { index < length self.now }
+        ensures item { (result.0, result.1.now) ≡ get_or self.now index (result.0, result.1.now) }
+        ensures reached { result.0 < pointer_reach }
+    {
+        let entry = self.entries[index];
+        let rest = &self.bytes.as_slice()[entry.from..];
+        (entry.start, &rest[..entry.size as usize])
+    }
+
+    /// Adds a candidate at the end.
+    pub(crate) fn push(&mut self, start: u16, labels: &[u8]) -> Result<(), AllocError>
+        requires reached { start < pointer_reach }
+        requires size { length labels.now ≤ max_message }
+        ensures ok { OnOk result (self.new ≡ self.old ++ (start, labels.now) ∷ []) }
+        ensures err { OnErr result (self.new ≡ self.old) }
+    {
+        self.entries.reserve(1)?;
+        let from = self.bytes.len();
+        self.bytes.extend_from_slice(labels)?;
+        self.entries.push_reserved(Entry {
+            from,
+            size: labels.len() as u16,
+            start,
+        });
+        self.end = self.end.max(start as usize + 1);
+        Ok(())
+    }
+
+    /// Adds the first `most` suffixes of labels that are written at `start`, the longest first. If memory runs out, none
+    /// is added.
+    pub(crate) fn push_suffixes(
+        &mut self,
+        start: usize,
+        labels: LabelIter<'_>,
+        most: usize,
+    ) -> Result<(), AllocError>
+        requires reached { start + length (labels_wire labels) < pointer_reach }
+        ensures ok { OnOk result (self.new ≡ self.old ++ take most (suffixes start labels.entry)) }
+        ensures err { OnErr result (self.new ≡ self.old) }
+        ensures needed { OnErr result (take most (suffixes start labels.entry) ≢ []) }
+    {
+        let wire = labels.as_wire();
+        if most == 0 {
+            return Ok(());
+        }
+        // The root has no suffix.
+        if wire.len() == 1 {
+            return Ok(());
+        }
+        let bytes = &wire[..wire.len() - 1];
+        // At once for as many as are allowed: with the usual limit the entries grow only here.
+        self.entries.reserve(most)?;
+        self.bytes.extend_from_slice(bytes)?;
+        let from = self.bytes.len() - bytes.len();
+        let end = push_entries(&mut self.entries, from, start, labels, most);
+        self.end = self.end.max(end);
+        Ok(())
+    }
+
+    /// Keeps the first `len` candidates.
+    pub(crate) fn truncate(&mut self, len: usize)
+        ensures { self.new ≡ take len self.old }
+    {
+        self.entries.truncate(len);
+        self.cut();
+    }
+
+    /// Keeps the candidates before an offset.
+    #[inline]
+    pub(crate) fn retain_before(&mut self, offset: usize)
+        ensures { self.new ≡ candidates_before offset self.old }
+    {
+        if self.end > offset {
+            self.entries.retain(|entry| (entry.start as usize) < offset);
+            self.end = offset;
+            self.cut();
+        }
+    }
+
+    /// Removes the bytes after those of the last entry.
+    fn cut(&mut self)
+        ensures { self.new ≡ self.old }
+    {
+        let used = bytes_used(self.entries.as_slice(), self.bytes.len());
+        self.bytes.truncate(used);
+    }
+}

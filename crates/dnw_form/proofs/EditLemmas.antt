@@ -1,0 +1,37 @@
+-- When a label fits, and what a failure within a composition is.
+use Rattle.std.proofs.Common.{◌≡◌, ℕ, ◌+◌, ◌<◌, ◌≤◌, List, [], ◌∷◌, ◌++◌, length, Result, Ok, Err, refl, arith}
+use Rattle.std.proofs.lemmas.Bool.{le-ltb, lt-ltb}
+use Rattle.dnw_error.specs.declared.error.ProtoError.{ProtoError}
+use Rattle.dnw_error.specs.declared.error.ProtoError.TheVariants.{Memory}
+use Rattle.dnw_error.specs.Fault.{Fault, NameTooLong, Fails, FailsOr, NeedsErrorText, ◌>>=◌}
+use Rattle.dnw_base.specs.Names.{encoded_size}
+use Rattle.dnw_form.specs.Edits.{with_label}
+use Rattle.dnw_base.proofs.Wires.{encoded_size_push}
+
+pub with_label_long : (ls : List (List ℕ)) (l : List ℕ) (n : ℕ) → n ≡ encoded_size ls + 1 + length l → 255 < n → with_label ls l ≡ Err (NameTooLong n)
+with_label_long ls l n e lt =
+    let size : encoded_size (ls ++ l ∷ []) ≡ n = omega (arith, encoded_size_push ls l, e) in
+    rw (size, lt-ltb 255 n lt) refl
+
+pub with_label_fits : (ls : List (List ℕ)) (l : List ℕ) → encoded_size ls + 1 + length l ≤ 255 → with_label ls l ≡ Ok (ls ++ l ∷ [])
+with_label_fits ls l le =
+    rw (le-ltb 255 (encoded_size (ls ++ l ∷ [])) (omega (arith, encoded_size_push ls l, le))) refl
+
+-- what the first part fails with, the whole fails with
+Fails-bind : {A B : Type 0} (r : Result A Fault) (f : A → Result B Fault) (e : ProtoError) → Fails r e → Fails (r >>= f) e
+Fails-bind (Ok x) f e h = absurd h
+Fails-bind (Err fault) f e h = h
+
+NeedsErrorText-bind : {A B : Type 0} (r : Result A Fault) (f : A → Result B Fault) → NeedsErrorText r → NeedsErrorText (r >>= f)
+NeedsErrorText-bind (Ok x) f h = absurd h
+NeedsErrorText-bind (Err fault) f h = h
+
+pub FailsOr-bind : {A B : Type 0} (r : Result A Fault) (f : A → Result B Fault) (e : ProtoError)
+    → FailsOr r (NeedsErrorText r) e → FailsOr (r >>= f) (NeedsErrorText (r >>= f)) e
+FailsOr-bind r f Memory h = NeedsErrorText-bind r f h
+FailsOr-bind r f e h = Fails-bind r f e h
+
+-- what fails without memory, fails whatever memory there is
+pub FailsOr-any : {A : Type 0} (r : Result A Fault) (e : ProtoError) → FailsOr r ⊥ e → FailsOr r (NeedsErrorText r) e
+FailsOr-any r Memory h = absurd h
+FailsOr-any r e h = h

@@ -1,0 +1,10 @@
+pub mod Wires
+pub mod EditLemmas
+pub mod Joined
+pub mod TextReading
+pub mod ByteTexts
+pub mod LowerWires
+pub mod ReadBack
+pub mod SimpleLabels
+pub mod PlainText
+pub mod Runs

@@ -1,0 +1,39 @@
+-- The uncompressed form in lower case: no length octet is a letter.
+use Rattle.std.proofs.Common.{◌≡◌, ℕ, ◌≤◌, List, [], ◌∷◌, ◌++◌, length, take, drop, map, refl, sym, ap, ◌∙◌, arith, rules, tests}
+use Rattle.std.specs.List.{AllByRecursion, refill}
+use Rattle.std.specs.Char.{to_ascii_lowercase}
+use Rattle.std.proofs.lemmas.List.{map-append, length-map}
+use Rattle.std.proofs.Math.Seq.{take-append_seam}
+use Rattle.dnw_base.specs.Labels.{IsLabel}
+use Rattle.dnw_base.specs.Names.{AreLabels, encoded_size, wire, lower}
+use Rattle.dnw_base.proofs.Wires.{wire-cons, length-wire}
+
+no_letter : (n : ℕ) → n ≤ 63 → to_ascii_lowercase n ≡ n
+no_letter n le = search (rules, tests)
+
+pub lower-wire : (ls : List (List ℕ)) → AllByRecursion IsLabel ls → map to_ascii_lowercase (wire ls) ≡ wire (lower ls)
+lower-wire [] each = refl
+lower-wire (l ∷ ls) each =
+    ap (map to_ascii_lowercase) (wire-cons l ls)
+    ∙ (ap (λ (n : ℕ). n ∷ map to_ascii_lowercase (l ++ wire ls)) (no_letter (length l) each.0.not_long ∙ sym (length-map l to_ascii_lowercase))
+    ∙ (ap (λ (bytes : List ℕ). length (map to_ascii_lowercase l) ∷ bytes)
+    (map-append to_ascii_lowercase l (wire ls) ∙ ap (λ (bytes : List ℕ). map to_ascii_lowercase l ++ bytes) (lower-wire ls each.1))
+    ∙ sym (wire-cons (map to_ascii_lowercase l) (lower ls))))
+
+-- bytes that are written over all of a list
+pub refill-whole : (xs ws : List ℕ) → length ws ≡ length xs → refill (length xs) xs ws ≡ ws
+refill-whole xs ws e =
+    ap (λ (n : ℕ). take n (ws ++ drop (length ws) xs)) (sym e) ∙ take-append_seam ws (drop (length ws) xs)
+
+lower_each : (ls : List (List ℕ)) → AllByRecursion IsLabel ls → AllByRecursion IsLabel (lower ls)
+lower_each [] each = tt
+lower_each (l ∷ ls) each =
+    let same = length-map l to_ascii_lowercase in
+    (record { not_empty = omega (arith, same, each.0.not_empty); not_long = omega (arith, same, each.0.not_long) }, lower_each ls each.1)
+
+lower_size : (ls : List (List ℕ)) → AllByRecursion IsLabel ls → encoded_size (lower ls) ≡ encoded_size ls
+lower_size ls each =
+    sym (length-wire (lower ls)) ∙ (ap length (sym (lower-wire ls each)) ∙ (length-map (wire ls) to_ascii_lowercase ∙ length-wire ls))
+
+pub AreLabels-lower : (ls : List (List ℕ)) → AreLabels ls → AreLabels (lower ls)
+AreLabels-lower ls h = record { each = lower_each ls h.each; fit = omega (arith, lower_size ls h.each, h.fit) }

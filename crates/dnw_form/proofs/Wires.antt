@@ -1,0 +1,108 @@
+-- The labels that an uncompressed form gives back.
+use Rattle.std.proofs.Common.{◌≡◌, ◌↔◌, ℕ, zero, suc, ◌+◌, ◌-◌, ◌≤◌, List, [], ◌∷◌, ◌++◌, length, take, drop, refl, sym, ap, ◌∙◌, subst, append_assoc, arith}
+use Rattle.std.specs.List.{AllByRecursion}
+use Rattle.std.proofs.lemmas.List.{take_at, drop_at, length-append}
+use Rattle.dnw_base.specs.Labels.{IsLabel}
+use Rattle.dnw_base.specs.Names.{AreLabels, encoded_size, labels_wire, wire}
+use Rattle.dnw_base.proofs.Wires.{wire-cons, encoded_size_push, length-wire, AllByRecursion-push, labels_wire_push, few_labels, AreLabels-rest, AreLabels-few, no_labels_size}
+use Rattle.dnw_form.specs.Inside.WireBytes.{labels_within, labels_of, IsWire, SplitsLabel}
+
+-- the first of what is left
+labels_within-cons : (n : ℕ) (l bytes : List ℕ) → 1 ≤ length l → labels_within (suc n) (length l ∷ (l ++ bytes)) ≡ l ∷ labels_within n bytes
+labels_within-cons n [] bytes h = absurd (omega (arith, h))
+labels_within-cons n (b ∷ bs) bytes h = rw (take_at bs bytes (length bs) refl, drop_at bs bytes (length bs) refl) refl
+
+labels_within-wire : (ls : List (List ℕ)) (n : ℕ) → AllByRecursion IsLabel ls → length ls ≤ n → labels_within n (wire ls) ≡ ls
+labels_within-wire [] zero each le = refl
+labels_within-wire [] (suc n) each le = refl
+labels_within-wire (l ∷ ls) zero each le = absurd (omega (arith, le))
+labels_within-wire (l ∷ ls) (suc n) each le =
+    ap (labels_within (suc n)) (wire-cons l ls) ∙ labels_within-cons n l (wire ls) each.0.not_empty
+    ∙ ap (λ (more : List (List ℕ)). l ∷ more) (labels_within-wire ls n each.1 (omega (arith, le)))
+
+-- all but the closing zero
+pub front_of : (ls : List (List ℕ)) (bytes : List ℕ) → bytes ≡ wire ls → take (length bytes - 1) bytes ≡ labels_wire ls
+front_of ls bytes e =
+    rw e (take_at (labels_wire ls) (0 ∷ []) _ (omega (arith, length-append (labels_wire ls) (0 ∷ []))))
+
+pub labels_of-wire : (ls : List (List ℕ)) → AllByRecursion IsLabel ls → labels_of (wire ls) ≡ ls
+unfolding labels_of
+labels_of-wire ls each = labels_within-wire ls (length (wire ls)) each (omega (arith, length-wire ls, few_labels ls))
+
+pub IsWire-wire : (ls : List (List ℕ)) → AreLabels ls → IsWire (wire ls)
+IsWire-wire ls h =
+    let same = labels_of-wire ls h.each in
+    record { spelled = ap wire (sym same); labels = subst AreLabels (sym same) h }
+
+-- the size of a form is its length
+pub IsWire-size : (bytes : List ℕ) → IsWire bytes → encoded_size (labels_of bytes) ≡ length bytes
+IsWire-size bytes w = sym (length-wire (labels_of bytes)) ∙ ap length (sym w.spelled)
+
+pub IsWire-short : (bytes : List ℕ) → IsWire bytes → length bytes ≤ 255
+IsWire-short bytes w = omega (arith, IsWire-size bytes w, w.labels.fit)
+
+pub IsWire-one : (bytes : List ℕ) → IsWire bytes → (length bytes ≡ 1) ↔ (labels_of bytes ≡ [])
+IsWire-one bytes w =
+    let both = no_labels_size (labels_of bytes) in
+    (λ e. both.0 (IsWire-size bytes w ∙ e), λ e. sym (IsWire-size bytes w) ∙ both.1 e)
+
+-- a label put before the closing zero is the last label
+pub IsWire-push : (bytes label : List ℕ) → IsWire bytes → IsLabel label → length bytes + 1 + length label ≤ 255
+    → IsWire (take (length bytes - 1) bytes ++ length label ∷ [] ++ label ++ 0 ∷ [])
+    × (labels_of (take (length bytes - 1) bytes ++ length label ∷ [] ++ label ++ 0 ∷ []) ≡ labels_of bytes ++ label ∷ [])
+IsWire-push bytes label w h room =
+    let ls : List (List ℕ) = labels_of bytes in
+    let more : AreLabels (ls ++ label ∷ []) = record { each = AllByRecursion-push ls label w.labels.each h; fit = omega (arith, encoded_size_push ls label, IsWire-size bytes w, room) } in
+    let front : take (length bytes - 1) bytes ≡ labels_wire ls = front_of ls bytes w.spelled in
+    let form : take (length bytes - 1) bytes ++ length label ∷ [] ++ label ++ 0 ∷ [] ≡ wire (ls ++ label ∷ []) =
+    ap (λ (front : List ℕ). front ++ 0 ∷ [])
+    (ap (λ (front : List ℕ). front ++ length label ∷ [] ++ label) front
+    ∙ append_assoc (labels_wire ls) (length label ∷ []) label ∙ sym (labels_wire_push ls label)) in
+    (subst IsWire (sym form) (IsWire-wire (ls ++ label ∷ []) more), ap labels_of form ∙ labels_of-wire (ls ++ label ∷ []) more.each)
+
+-- a form that begins with a zero is that of no labels
+zero_first : (ls : List (List ℕ)) (rest : List ℕ) → AreLabels ls → wire ls ≡ 0 ∷ rest → ls ≡ []
+zero_first [] rest h e = refl
+zero_first (l ∷ ls) rest h e =
+    let zero_length : length l ≡ 0 = cc in
+    absurd (omega (arith, h.each.0.not_empty, zero_length))
+
+pub IsWire-zero : (bytes : List ℕ) (c : ℕ) (rest : List ℕ) → IsWire bytes → bytes ≡ c ∷ rest → c ≡ 0 → labels_of bytes ≡ []
+IsWire-zero bytes c rest w e z = zero_first (labels_of bytes) rest w.labels (sym w.spelled ∙ e ∙ ap (λ (n : ℕ). n ∷ rest) z)
+
+-- any other begins with a label, and goes on with the form of the others
+pub record Front (ls : List (List ℕ)) (c : ℕ) (rest : List ℕ) : Type 0 where
+  pub fits : c ≤ length rest
+  pub is_label : IsLabel (take c rest)
+  pub labels : ls ≡ take c rest ∷ labels_of (drop c rest)
+  pub others : IsWire (drop c rest)
+
+label_first : (ls : List (List ℕ)) (c : ℕ) (rest : List ℕ) → AreLabels ls → wire ls ≡ c ∷ rest → (c ≡ 0 → ⊥) → Front ls c rest
+label_first [] c rest h e ne = absurd (ne (let zero_c : 0 ≡ c = cc in sym zero_c))
+label_first (l ∷ ls) c rest h e ne =
+    let whole : length l ∷ (l ++ wire ls) ≡ c ∷ rest = sym (wire-cons l ls) ∙ e in
+    let first : length l ≡ c = cc in
+    let after : l ++ wire ls ≡ rest = cc in
+    let label_is : take c rest ≡ l = rw (← after) (take_at l (wire ls) c first) in
+    let rest_is : drop c rest ≡ wire ls = rw (← after) (drop_at l (wire ls) c first) in
+    let more = AreLabels-rest l ls h in
+    record {
+      fits = omega (arith, ap length after, length-append l (wire ls), first);
+      is_label = subst IsLabel (sym label_is) h.each.0;
+      labels = rw (label_is, rest_is, labels_of-wire ls more.each) refl;
+      others = subst IsWire (sym rest_is) (IsWire-wire ls more);
+    }
+
+pub IsWire-front : (bytes : List ℕ) (c : ℕ) (rest : List ℕ) → IsWire bytes → bytes ≡ c ∷ rest → (c ≡ 0 → ⊥) → Front (labels_of bytes) c rest
+IsWire-front bytes c rest w e ne = label_first (labels_of bytes) c rest w.labels (sym w.spelled ∙ e) ne
+
+-- and so without that label
+pub Front-splits : (bytes : List ℕ) (c : ℕ) (rest label after : List ℕ) → Front (labels_of bytes) c rest → label ≡ take c rest → after ≡ drop c rest → SplitsLabel bytes label after
+Front-splits bytes c rest label after f label_is after_is = record {
+  labels = rw (label_is, after_is) f.labels;
+  is_label = subst IsLabel (sym label_is) f.is_label;
+  others = subst IsWire (sym after_is) f.others;
+}
+
+pub IsWire-few : (bytes : List ℕ) → IsWire bytes → length (labels_of bytes) ≤ 127
+IsWire-few bytes w = AreLabels-few (labels_of bytes) w.labels

@@ -1,0 +1,15 @@
+-- A lone zero is the wire form of no labels.
+use Rattle.std.proofs.Common.{[], refl, arith}
+use Rattle.dnw_form.specs.Inside.WireBytes.{labels_of}
+use Rattle.dnw_form.proofs.Wires.{IsWire-wire}
+use Rattle.dnw_form.proofs.form.WireForm.new.Goals as goal
+
+pub invariant_of-result : goal.invariant_of-result
+invariant_of-result c = (
+  rw (c.push_reserved.ensures.items, c.new-bytes.ensures.items) (IsWire-wire [] (record { each = tt; fit = omega arith })),
+  rw c.push_reserved.ensures.capacity c.new-bytes.ensures.capacity,
+)
+
+pub returns : goal.returns
+unfolding labels_of
+returns c = rw (c.push_reserved.ensures.items, c.new-bytes.ensures.items) refl

@@ -1,0 +1,6 @@
+//! The wire form of names, its labels and its texts, without regard to whether a name is fully qualified.
+#![tactic(auto)]
+
+pub mod form;
+pub mod label_iter;
+pub mod text;

@@ -1,0 +1,498 @@
+//! Names as text (RFC 1035, section 5.1, but with octal escapes).
+ghost use Rattle.std.specs.Prelude.{◌≡◌, ℕ, ◌+◌, ◌-◌, ◌*◌, ◌^◌, ◌<◌, ◌≤◌, List, [], ◌∷◌, ◌++◌, ◌==◌, length, map, take, true, Some, None, Ok, IfSome, IfOk, IfErr, OnOk, if◌then◌else◌, encode_utf8};
+ghost use Rattle.std.specs.List.{AllByRecursion, join_with_byte, list_all};
+ghost use Rattle.std.specs.Str.{chars};
+ghost use Rattle.arrayvec.specs.ArrayString.{array_string_len};
+ghost use Rattle.dnw_base.specs.Limits.{max_label, max_name};
+ghost use Rattle.dnw_error.specs.Fault.{Follows, FailsOr, NeedsErrorText, Updates};
+ghost use Rattle.dnw_base.specs.Labels.{IsLabel};
+ghost use Rattle.dnw_base.specs.Names.{encoded_size};
+ghost use Rattle.dnw_label.specs.LabelText.{dot, label_from_text, label_text};
+ghost use Rattle.dnw_form.specs.NameText.{Outside, Escaped, is_numeric, is_octal_digit, elements, Stop, bad_digit, with_text, name_from_text};
+ghost use Rattle.dnw_form.specs.Inside.TextReader.{state_of, elements_from, escape_len, IsNoLonger, IsAlike, is_simple, IsSimpleLabel, PutsLengths, BeginsWithEscape, name_from_rest, name_from, reader_len};
+
+use crate::form::WireForm;
+use crate::label_iter::LabelIter;
+use arrayvec::ArrayString;
+use dnw_base::limits::{MAX_LABEL, MAX_NAME};
+use dnw_error::error::{DecodeError, ProtoError, ProtoResult};
+use dnw_label::label::{Label, push_label_text};
+use smallvec::SmallVec;
+use std::alloc::Global;
+use std::marker::Model;
+use unicode::properties::GeneralCategory;
+
+/// The room for a name's text: four bytes for each octet of its wire form are enough.
+pub const MAX_TEXT: usize = 4 * (MAX_NAME + 1);
+
+/// What a text gives: the wire form of a name, and whether the name is fully qualified.
+///
+/// A contract sees it as a name.
+#[derive(Drop)]
+pub struct Parsed {
+    pub form: WireForm,
+    pub is_fqdn: bool,
+}
+
+impl Model for Parsed {
+    ghost use Rattle.dnw_base.specs.Names.{NameValue};
+
+    ghost Value = { NameValue };
+
+    ghost view = { λ p. record { is_fqdn = p.is_fqdn; labels = p.form } };
+}
+
+/// Reads the name that a text gives.
+pub fn read(alloc: Global, text: &str) -> ProtoResult<Parsed>
+    ensures follows { Follows (name_from_text (chars text.now)) (NeedsErrorText (name_from_text (chars text.now))) result }
+{
+    if text.is_empty() {
+        return Ok(Parsed {
+            form: WireForm::new(alloc),
+            is_fqdn: false,
+        });
+    }
+    if text == "." {
+        return Ok(Parsed {
+            form: WireForm::new(alloc),
+            is_fqdn: true,
+        });
+    }
+    match read_plain(alloc, text.as_bytes()) {
+        Some(parsed) => Ok(parsed),
+        None => read_by_parts(alloc, text),
+    }
+}
+
+/// Writes labels as text, with dots between them.
+pub fn push_labels_text(out: &mut ArrayString<MAX_TEXT>, mut labels: LabelIter<'_>)
+    requires empty { out.old.bytes ≡ [] }
+    requires labels { AllByRecursion IsLabel labels }
+    requires fit { encoded_size labels ≤ max_name }
+    ensures text { out.new.bytes ≡ join_with_byte dot (map label_text labels.entry) }
+    ensures room { array_string_len out.new ≤ 4 * max_name }
+{
+    let Some(first) = labels.next() else {
+        return;
+    };
+    push_label_text(out, first);
+    while let Some(label) = labels.next() {
+        out.push('.');
+        push_label_text(out, label);
+    }
+}
+
+/// Where the next character is: outside an escape, after its backslash, or after one or two of its digits.
+#[derive(Clone, Copy)]
+enum State {
+    Outside,
+    Escaped,
+    AfterOne(u8),
+    AfterTwo(u8, u8),
+}
+
+/// What a character does: it leads to another state, adds a character to the label, ends the label, or is an error.
+enum Move {
+    Enter(State),
+    Char(char),
+    Dot,
+    Unrecognized,
+    Illegal,
+}
+
+/// Returns what the character does in this state.
+fn step(state: State, c: char) -> Move
+    ensures elements { (cs : List ℕ) → elements (state_of state) (c ∷ cs) ≡ elements_from result c cs }
+    ensures longer { IsNoLonger (escape_len state + length (encode_utf8 c)) result }
+{
+    match state {
+        State::Outside => step_outside(c),
+        State::Escaped => step_escaped(c),
+        State::AfterOne(a) => match octal_digit(c) {
+            Some(b) => Move::Enter(State::AfterTwo(a, b)),
+            None => bad_digit(c),
+        },
+        State::AfterTwo(a, b) => match octal_digit(c) {
+            Some(d) => Move::Char(octal_char(a, b, d)),
+            None => bad_digit(c),
+        },
+    }
+}
+
+/// The same outside an escape.
+fn step_outside(c: char) -> Move
+    ensures elements { (cs : List ℕ) → elements Outside (c ∷ cs) ≡ elements_from result c cs }
+    ensures longer { IsNoLonger (length (encode_utf8 c)) result }
+{
+    if c == '.' {
+        Move::Dot
+    } else if c == '\\' {
+        Move::Enter(State::Escaped)
+    } else if c.is_control() || c.is_whitespace() {
+        Move::Unrecognized
+    } else {
+        Move::Char(c)
+    }
+}
+
+/// The same after a backslash.
+fn step_escaped(c: char) -> Move
+    ensures elements { (cs : List ℕ) → elements Escaped (c ∷ cs) ≡ elements_from result c cs }
+    ensures longer { IsNoLonger (1 + length (encode_utf8 c)) result }
+{
+    match octal_digit(c) {
+        Some(a) => Move::Enter(State::AfterOne(a)),
+        None if is_numeric(c) => Move::Illegal,
+        None => Move::Char(c),
+    }
+}
+
+/// Returns why a character is not the second or third digit of an escape.
+fn bad_digit(c: char) -> Move
+    ensures elements { (cs : List ℕ) → Stop (bad_digit c) ∷ [] ≡ elements_from result c cs }
+    ensures longer { (n : ℕ) → IsNoLonger n result }
+{
+    if is_numeric(c) {
+        Move::Illegal
+    } else {
+        Move::Unrecognized
+    }
+}
+
+/// Returns `true` if a character has the general category Nd, Nl or No.
+fn is_numeric(c: char) -> bool
+    ensures { result ≡ is_numeric c }
+{
+    let category = GeneralCategory::for_char(c);
+    category == GeneralCategory::DecimalNumber
+        || category == GeneralCategory::LetterNumber
+        || category == GeneralCategory::OtherNumber
+}
+
+/// Returns the value of an octal digit.
+fn octal_digit(c: char) -> Option<u8>
+    ensures { result ≡ (if is_octal_digit c then Some (c - 48) else None) }
+{
+    if '0' <= c && c <= '7' {
+        Some(c as u8 - b'0')
+    } else {
+        None
+    }
+}
+
+/// Returns the character of the octal escape that a text begins with.
+fn octal_escape(text: &[u8]) -> Option<char>
+    ensures { IfSome result (λ char. (rest : List ℕ) × BeginsWithEscape text.now char rest) }
+{
+    match text {
+        [b'\\', a, b, c, ..] => {
+            let a = octal_digit(char::from(*a))?;
+            let b = octal_digit(char::from(*b))?;
+            let c = octal_digit(char::from(*c))?;
+            Some(octal_char(a, b, c))
+        }
+        _ => None,
+    }
+}
+
+/// Returns the character that three octal digits stand for.
+fn octal_char(a: u8, b: u8, c: u8) -> char
+    ensures { result ≡ 64 * a + 8 * b + c }
+{
+    char::from_u32(64 * u32::from(a) + 8 * u32::from(b) + u32::from(c)).unwrap()
+}
+
+/// The bytes collected for the next label. Those past the room of a label are only counted, since the error of a label
+/// that is too long has its length alone.
+///
+/// A contract sees it as a list of bytes, those that are only counted as zeros.
+#[derive(Drop)]
+struct Collected {
+    text: ArrayString<MAX_LABEL>,
+    // The bytes that are only counted.
+    more: usize,
+}
+
+impl Model for Collected {
+    ghost use Rattle.std.specs.Prelude.{ℕ, ◌+◌, ◌<◌, List, ◌++◌, length, replicate};
+    ghost use Rattle.dnw_base.specs.Limits.{max_label};
+
+    ghost Value = { List ℕ };
+
+    ghost view = { λ c. c.text.bytes ++ replicate c.more 0 };
+
+    ghost invariant = { λ c. 0 < c.more → max_label < length c.text.bytes + c.more };
+}
+
+impl Collected {
+    /// No bytes.
+    fn new() -> Self
+        ensures { result ≡ [] }
+    {
+        Collected {
+            text: ArrayString::new(),
+            more: 0,
+        }
+    }
+
+    /// Returns `true` if there are no bytes.
+    fn is_empty(&self) -> bool
+        ensures { result ≡ (length self.now == 0) }
+    {
+        self.text.is_empty() && self.more == 0
+    }
+
+    /// Adds a run of characters.
+    fn push_run(&mut self, run: &str)
+        requires { length self.old + length run.now < 2 ^ 64 }
+        ensures { IsAlike self.new (self.old ++ run.now) }
+    {
+        if self.text.try_push_str(run).is_err() {
+            self.more += run.len();
+        }
+    }
+
+    /// Adds the bytes of a character.
+    fn push(&mut self, c: char)
+        requires { length self.old + length (encode_utf8 c) < 2 ^ 64 }
+        ensures { IsAlike self.new (self.old ++ encode_utf8 c) }
+    {
+        if self.text.try_push(c).is_err() {
+            self.more += c.len_utf8();
+        }
+    }
+
+    /// Returns the label that the bytes give.
+    fn to_label(&self, alloc: Global) -> ProtoResult<Label>
+        requires { length self.now < 2 ^ 64 }
+        ensures follows { Follows (label_from_text self.now) (NeedsErrorText (label_from_text self.now)) result }
+    {
+        if self.more > 0 {
+            return Err(ProtoError::Decode(DecodeError::LabelBytesTooLong(
+                self.text.len() + self.more,
+            )));
+        }
+        Label::from_ascii(alloc, self.text.as_str())
+    }
+}
+
+/// A name that is read by characters.
+#[derive(Drop)]
+struct TextReader {
+    form: WireForm,
+    label: Collected,
+    state: State,
+}
+
+impl TextReader {
+    /// Creates a reader that has read the labels of a form.
+    fn new(form: WireForm) -> Self
+        ensures form { result.form ≡ form }
+        ensures label { result.label ≡ [] }
+        ensures state { result.state ≡ State.Outside }
+    {
+        TextReader {
+            form,
+            label: Collected::new(),
+            state: State::Outside,
+        }
+    }
+
+    /// Reads one more character.
+    fn take(&mut self, alloc: Global, c: char) -> ProtoResult<()>
+        requires { reader_len self.old + length (encode_utf8 c) < 2 ^ 64 }
+        ensures ok { OnOk result ((cs : List ℕ) → name_from self.new cs ≡ name_from self.old (c ∷ cs)) }
+        ensures len { OnOk result (reader_len self.new ≤ reader_len self.old + length (encode_utf8 c)) }
+        ensures err { IfErr result (λ e. (cs : List ℕ) → FailsOr (name_from self.old (c ∷ cs)) (NeedsErrorText (name_from self.old (c ∷ cs))) e) }
+    {
+        match step(self.state, c) {
+            Move::Enter(state) => self.state = state,
+            Move::Char(char) => {
+                self.label.push(char);
+                self.state = State::Outside;
+            }
+            Move::Dot => {
+                add_label(&mut self.form, alloc, &self.label)?;
+                self.label = Collected::new();
+                self.state = State::Outside;
+            }
+            Move::Unrecognized => {
+                return Err(ProtoError::Msg(format!(in alloc; "unrecognized char: {c}")?));
+            }
+            Move::Illegal => return Err(ProtoError::Msg(format!(in alloc; "illegal char: {c}")?)),
+        }
+        Ok(())
+    }
+
+    /// Reads on from a text that is not empty, and returns what is left of it.
+    fn advance<'t>(&mut self, alloc: Global, text: &'t str) -> ProtoResult<&'t str>
+        requires some { 0 < length text.now }
+        requires len { reader_len self.old + length text.now < 2 ^ 64 }
+        ensures ok { IfOk result (λ rest. name_from self.new (chars rest.now) ≡ name_from self.old (chars text.now)) }
+        ensures shorter { IfOk result (λ rest. length rest.now < length text.now) }
+        ensures len { IfOk result (λ rest. reader_len self.new + length rest.now ≤ reader_len self.old + length text.now) }
+        ensures err { IfErr result (FailsOr (name_from self.old (chars text.now)) (NeedsErrorText (name_from self.old (chars text.now)))) }
+    {
+        if let State::Outside = self.state {
+            let run = simple_len(text.as_bytes());
+            if run > 0 {
+                self.label.push_run(&text[..run]);
+                return Ok(&text[run..]);
+            }
+            if let Some(c) = octal_escape(text.as_bytes()) {
+                self.label.push(c);
+                return Ok(&text[4..]);
+            }
+        }
+        let mut chars = text.chars();
+        let c = chars.next().unwrap();
+        self.take(alloc, c)?;
+        Ok(chars.as_str())
+    }
+
+    /// Returns the name, if no more characters follow.
+    fn finish(self, alloc: Global) -> ProtoResult<Parsed>
+        requires { length self.label < 2 ^ 64 }
+        ensures follows { Follows (name_from self []) (NeedsErrorText (name_from self [])) result }
+    {
+        let State::Outside = self.state else {
+            return Err(ProtoError::Message("unfinished escape"));
+        };
+        let mut form = self.form;
+        if self.label.is_empty() {
+            return Ok(Parsed {
+                form,
+                is_fqdn: true,
+            });
+        }
+        add_label(&mut form, alloc, &self.label)?;
+        Ok(Parsed {
+            form,
+            is_fqdn: false,
+        })
+    }
+}
+
+/// Adds the label that the bytes give.
+fn add_label(form: &mut WireForm, alloc: Global, label: &Collected) -> ProtoResult<()>
+    requires { length label.now < 2 ^ 64 }
+    ensures updates { Updates (with_text form.old label.now) (NeedsErrorText (with_text form.old label.now)) form.old result form.new }
+{
+    let label = label.to_label(alloc)?;
+    form.push(label.as_bytes())
+}
+
+/// Reads a text that is not empty and not a lone dot, in runs of simple characters, octal escapes and characters.
+fn read_by_parts(alloc: Global, text: &str) -> ProtoResult<Parsed>
+    ensures follows { Follows (name_from_rest [] [] Outside (chars text.now)) (NeedsErrorText (name_from_rest [] [] Outside (chars text.now))) result }
+{
+    let mut reader = TextReader::new(WireForm::new(alloc));
+    let mut rest = text;
+    while !rest.is_empty() {
+        rest = reader.advance(alloc, rest)?;
+    }
+    reader.finish(alloc)
+}
+
+/// Reads a text whose labels are `*` or have simple characters alone, if its wire form fits. It is copied once, and
+/// then each dot gives way to a length octet.
+fn read_plain(alloc: Global, text: &[u8]) -> Option<Parsed>
+    requires { 0 < length text.now }
+    ensures { IfSome result (λ name. name_from_rest [] [] Outside (chars text.now) ≡ Ok name) }
+{
+    if text.len() > MAX_NAME - 2 {
+        return None;
+    }
+    let mut bytes = SmallVec::new(alloc);
+    bytes.push_reserved(0);
+    bytes.extend_from_slice(text).unwrap();
+    bytes.push_reserved(0);
+    let is_fqdn = put_lengths(bytes.as_mut_slice(), text)?;
+    if is_fqdn {
+        bytes.pop();
+        return Some(Parsed {
+            form: WireForm::from_wire(bytes),
+            is_fqdn: true,
+        });
+    }
+    Some(Parsed {
+        form: WireForm::from_wire(bytes),
+        is_fqdn: false,
+    })
+}
+
+/// Puts the length of each label of a text into the octet before it, and a zero after the last one. Returns whether the
+/// text ends in a dot, or `None` if a label is not simple.
+fn put_lengths(wire: &mut [u8], text: &[u8]) -> Option<bool>
+    requires copied { wire.old ≡ 0 ∷ text.now ++ 0 ∷ [] }
+    requires some { 0 < length text.now }
+    requires fits { length text.now ≤ 253 }
+    ensures { IfSome result (PutsLengths text.now wire.new) }
+{
+    let mut start = 0;
+    'labels: loop {
+        let len = simple_label_len(&text[start..]);
+        if len == 0 {
+            return None;
+        }
+        wire[start] = len as u8;
+        let end = start + len;
+        if end == text.len() {
+            return Some(false);
+        }
+        if text[end] != b'.' {
+            return None;
+        }
+        start = end + 1;
+        if start == text.len() {
+            wire[start] = 0;
+            return Some(true);
+        }
+    }
+}
+
+/// Returns the length of the label that a text begins with, if it is `*` or has simple characters alone, or else 0.
+fn simple_label_len(text: &[u8]) -> usize
+    ensures few { result ≤ length text.now }
+    ensures label { 0 < result → IsSimpleLabel (take result text.now) }
+{
+    let len = simple_len(text);
+    if len == 0 {
+        return asterisk_len(text);
+    }
+    if len > MAX_LABEL || text[0] == b'-' {
+        return 0;
+    }
+    len
+}
+
+/// Returns 1 if a text begins with `*`, else 0.
+#[tactic(auto, using(crate::proofs::SimpleLabels::asterisk_front))]
+fn asterisk_len(text: &[u8]) -> usize
+    ensures few { result ≤ length text.now }
+    ensures label { 0 < result → IsSimpleLabel (take result text.now) }
+{
+    match text {
+        [b'*', ..] => 1,
+        _ => 0,
+    }
+}
+
+/// Returns the number of simple characters that a text begins with.
+fn simple_len(text: &[u8]) -> usize
+    ensures few { result ≤ length text.now }
+    ensures simple { list_all is_simple (take result text.now) ≡ true }
+{
+    let mut len = 0;
+    while len < text.len() && is_simple(text[len]) {
+        len += 1;
+    }
+    len
+}
+
+/// Returns `true` if a byte is a letter, a digit, `-` or `_`: a character that stands for itself.
+fn is_simple(byte: u8) -> bool
+    ensures { result ≡ is_simple byte }
+{
+    byte.is_ascii_lowercase() || byte.is_ascii_alphanumeric() || byte == b'-' || byte == b'_'
+}

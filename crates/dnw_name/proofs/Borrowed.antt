@@ -1,0 +1,29 @@
+-- A name's wire form, as a message that has the name at its start.
+use Rattle.std.proofs.Common.{◌≡◌, ℕ, ◌+◌, List, length, true, refl, arith}
+use Rattle.std.proofs.lemmas.List.{take_all}
+use Rattle.dnw_base.specs.Names.{AreLabels, encoded_size, wire}
+use Rattle.dnw_reading.specs.Reading.{NameAt}
+use Rattle.dnw_reading.specs.Inside.Found.{LiesAt, labels_at}
+use Rattle.dnw_reading.proofs.Back.{NameAt-form}
+use Rattle.dnw_reading.proofs.Found.{labels_at-NameAt}
+
+name_at : (form : List ℕ) (ls : List (List ℕ)) → form ≡ wire ls → AreLabels ls → NameAt form 0 ls (0 + encoded_size ls) 0
+name_at form ls is are = NameAt-form form form 0 ls (omega arith) (take_all (length form) form (omega arith)) is are
+
+pub labels_are : (form : List ℕ) (ls : List (List ℕ)) → form ≡ wire ls → AreLabels ls → labels_at form 0 ≡ ls
+labels_are form ls is are = labels_at-NameAt form 0 ls (0 + encoded_size ls) 0 (name_at form ls is are)
+
+pub lies_at : (form : List ℕ) (ls : List (List ℕ)) (size count : ℕ) → form ≡ wire ls → AreLabels ls → size ≡ encoded_size ls → count ≡ length ls
+    → LiesAt form 0 size count true
+lies_at form ls size count is are size_is count_is =
+    let same = labels_are form ls is are in
+    record {
+      end = 0 + encoded_size ls;
+      pointers = 0;
+      stands = record {
+        name = rw same (name_at form ls is are);
+        size_is = rw same size_is;
+        count_is = rw same count_is;
+      };
+      plain = λ yes. refl;
+    }

@@ -1,0 +1,17 @@
+use Rattle.std.proofs.Common.{length, sym, ap, ◌∙◌, arith}
+use Rattle.dnw_reading.proofs.Lending.{LeadsTo-lends}
+use Rattle.dnw_reading.proofs.ref_labels.RefLabelsIterator.next.Goals as goal
+
+pub invariant_of-self : goal.invariant_of-self
+invariant_of-self c =
+    let lends = LeadsTo-lends c.follow_pointers-start.ensures (omega (arith, c.self.invariant.counted)) in
+    record { more = lends.others; counted = omega (arith, ap length lends.labels, c.self.invariant.counted) }
+
+pub returns-clause-steps : goal.returns-clause-steps
+returns-clause-steps c =
+    sym c.self.view_is ∙ (LeadsTo-lends c.follow_pointers-start.ensures (omega (arith, c.self.invariant.counted))).labels
+
+pub returns-clause-goes : goal.returns-clause-goes
+returns-clause-goes c =
+    let shorter = ap length (returns-clause-steps c) in
+    record { on = λ _. (tt, tt, omega arith); keeps = tt; rests = λ _. tt }

@@ -1,0 +1,208 @@
+//! The walk over the elements of a name in a message, which copies nothing (RFC 1035, section 4.1.4).
+ghost use Rattle.std.specs.Prelude.{◌≡◌, ℕ, List, ◌+◌, ◌<◌, ◌≤◌, min, length, slice_get, Some, IsTrue, IfOk, IfErr, OnOk};
+ghost use Rattle.dnw_reading.specs.Reading.{IsWithin, NameAt, FaultAt, target};
+ghost use Rattle.dnw_base.specs.Limits.{max_label, max_labels, pointer_mark, pointer_offsets};
+ghost use Rattle.dnw_base.specs.Names.{encoded_size};
+ghost use Rattle.dnw_reading.specs.Inside.Walking.{IsElement, IsNoElement, IsPast, ReadsFrom};
+ghost use Rattle.dnw_reading.specs.Inside.Found.{IsFound};
+
+use dnw_base::limits::{MAX_LABEL, MAX_NAME, POINTER_MARK};
+use dnw_error::error::DecodeError;
+
+/// The number of steps that a reading took, also if it failed.
+#[derive(Clone, Copy, Debug, Default, PartialEq, Eq)]
+pub struct ReadSteps {
+    /// The pointers that were followed, at most min(start, 16384).
+    pub pointers: usize,
+    /// The labels whose octets were there, at most 128: one that makes the name too long counts too.
+    pub labels: usize,
+}
+
+/// An element of a name.
+#[derive(Clone, Copy)]
+enum Element {
+    /// The zero octet that ends the name.
+    End,
+    /// A label of so many octets after its length octet.
+    Label(usize),
+    /// A pointer to this offset.
+    Pointer(usize),
+}
+
+/// What a walk to the end of a name found.
+#[derive(Clone, Copy)]
+pub struct Walked {
+    /// The offset of its first label, or of its closing zero if it has none: after the pointers before them.
+    pub first: usize,
+    /// The offset at which the name's own octets end.
+    pub end: usize,
+    /// The octets of its wire form.
+    pub size: usize,
+    /// `true` if the wire form is at `first`: no pointer is followed from there on.
+    pub in_one_piece: bool,
+}
+
+/// Walks over the name at `start`, and counts the pointers followed and the labels found.
+pub fn walk(message: &[u8], start: usize, steps: &mut ReadSteps) -> Result<Walked, DecodeError>
+    ensures ok { IfOk result (λ walked. IsFound message.now start walked steps.new.labels steps.new.pointers) }
+    ensures err { IfErr result (λ e. FaultAt message.now start e steps.new.pointers steps.new.labels) }
+    ensures few_pointers { steps.new.pointers ≤ min start pointer_offsets }
+    ensures few_labels { steps.new.labels ≤ max_labels + 1 }
+{
+    walk_elements(message, start, steps)
+}
+
+fn walk_elements(message: &[u8], start: usize, steps: &mut ReadSteps) -> Result<Walked, DecodeError>
+    ensures ok { IfOk result (λ walked. (ls : List (List ℕ))
+        × NameAt message.now start ls walked.end steps.new.pointers
+        × (walked.size ≡ encoded_size ls) × (steps.new.labels ≡ length ls)
+        × (more : ℕ) × ReadsFrom message.now walked.first ls more × (IsTrue walked.in_one_piece → more ≡ 0)) }
+    ensures err { IfErr result (λ e. FaultAt message.now start e steps.new.pointers steps.new.labels) }
+{
+    *steps = ReadSteps::default();
+    let mut position = start;
+    let mut segment = start;
+    let mut first = start;
+    let mut limit = message.len();
+    let mut end = start;
+    let mut size = 1;
+    'elements: loop {
+        check_limit(position, segment, limit, steps.pointers)?;
+        match element_at(message, position, segment)? {
+            Element::End => {
+                return Ok(Walked {
+                    first,
+                    end: own_end(steps.pointers, end, position + 1),
+                    size,
+                    in_one_piece: segment == first,
+                });
+            }
+            Element::Label(len) => {
+                steps.labels += 1;
+                size = size + 1 + len;
+                if size > MAX_NAME {
+                    return Err(DecodeError::DomainNameTooLong(len));
+                }
+                position = position + 1 + len;
+            }
+            Element::Pointer(target) => {
+                end = own_end(steps.pointers, end, position + 2);
+                steps.pointers += 1;
+                first = if size == 1 { target } else { first };
+                limit = segment;
+                segment = target;
+                position = target;
+            }
+        }
+    }
+}
+
+/// Returns where the name's own octets end: after the first pointer if one was followed, else here.
+#[inline(always)]
+fn own_end(pointers: usize, end: usize, here: usize) -> usize
+    ensures none { pointers ≡ 0 → result ≡ here }
+    ensures some { 1 ≤ pointers → result ≡ end }
+{
+    if pointers == 0 { here } else { end }
+}
+
+/// Tests that an element may begin at an offset, in a segment that began at `segment`. `limit` is the end of the
+/// message until a pointer is followed, and then the start of the segment before.
+#[inline(always)]
+fn check_limit(
+    position: usize,
+    segment: usize,
+    limit: usize,
+    pointers: usize,
+) -> Result<(), DecodeError>
+    ensures ok { OnOk result (position < limit) }
+    ensures err { IfErr result (IsPast position segment limit pointers) }
+{
+    if position < limit {
+        return Ok(());
+    }
+    if pointers == 0 {
+        return Err(DecodeError::InsufficientBytes);
+    }
+    Err(DecodeError::LabelOverlapsWithOther {
+        label: segment,
+        other: limit,
+    })
+}
+
+/// Returns the element at an offset, in a segment that began at `segment`.
+#[inline(always)]
+fn element_at(message: &[u8], position: usize, segment: usize) -> Result<Element, DecodeError>
+    requires { position < length message.now }
+    ensures ok { IfOk result (IsElement message.now position segment) }
+    ensures err { IfErr result (IsNoElement message.now position segment) }
+{
+    let octet = message[position];
+    if octet == 0 {
+        return Ok(Element::End);
+    }
+    if octet as usize <= MAX_LABEL {
+        return label_at(message, position, segment, octet as usize);
+    }
+    if octet >= POINTER_MARK {
+        return pointer_at(message, position, segment, octet);
+    }
+    Err(DecodeError::UnrecognizedLabelCode(octet))
+}
+
+/// Returns the label of `len` octets, 1 to 63, whose length octet is at `position`.
+#[inline(always)]
+fn label_at(
+    message: &[u8],
+    position: usize,
+    segment: usize,
+    len: usize,
+) -> Result<Element, DecodeError>
+    requires inside { position < length message.now }
+    requires octet { slice_get message.now position ≡ Some len }
+    requires some { 1 ≤ len }
+    requires few { len ≤ max_label }
+    ensures ok { IfOk result (IsElement message.now position segment) }
+    ensures err { IfErr result (IsNoElement message.now position segment) }
+{
+    if message.len() - position <= len {
+        return Err(DecodeError::InsufficientBytes);
+    }
+    Ok(Element::Label(len))
+}
+
+/// Returns the pointer whose first octet is at `position`. It must point before the start of its segment.
+#[inline(always)]
+fn pointer_at(
+    message: &[u8],
+    position: usize,
+    segment: usize,
+    high: u8,
+) -> Result<Element, DecodeError>
+    requires inside { position < length message.now }
+    requires octet { slice_get message.now position ≡ Some high }
+    requires marked { pointer_mark ≤ high }
+    ensures ok { IfOk result (IsElement message.now position segment) }
+    ensures err { IfErr result (IsNoElement message.now position segment) }
+{
+    if message.len() - position <= 1 {
+        return Err(DecodeError::InsufficientBytes);
+    }
+    let target = pointer_target(high, message[position + 1]);
+    if target >= segment {
+        return Err(DecodeError::PointerNotPriorToLabel {
+            idx: position,
+            ptr: target as u16,
+        });
+    }
+    Ok(Element::Pointer(target))
+}
+
+/// Returns the offset that these two octets point to: their low 14 bits.
+#[inline(always)]
+pub fn pointer_target(high: u8, low: u8) -> usize
+    requires { pointer_mark ≤ high }
+    ensures { result ≡ target high low }
+{
+    (high - POINTER_MARK) as usize * 256 + low as usize
+}
