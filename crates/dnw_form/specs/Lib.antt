@@ -1,3 +1,4 @@
 pub mod Edits
 pub mod NameText
+pub mod Order
 pub mod Inside

@@ -7,7 +7,7 @@ ghost use Rattle.dnw_base.specs.Names.{AreLabels, encoded_size, lower, wire};
 ghost use Rattle.dnw_form.specs.Edits.{with_label};
 ghost use Rattle.dnw_form.specs.Inside.WireBytes.{labels_of, IsWire};
 
-use crate::label_iter::LabelIter;
+use crate::wire_labels::WireLabels;
 use dnw_base::limits::MAX_NAME;
 use dnw_error::error::{DecodeError, ProtoError, ProtoResult};
 use smallvec::SmallVec;
@@ -84,11 +84,11 @@ impl WireForm {
 
     /// Returns an iterator over the labels.
     #[inline(always)]
-    pub fn labels(&self) -> LabelIter<'_>
+    pub fn labels(&self) -> WireLabels<'_>
         ensures labels { result ≡ self.now }
         ensures names { AreLabels self.now }
     {
-        LabelIter::new(self.bytes.as_slice())
+        WireLabels::new(self.bytes.as_slice())
     }
 
     /// Adds a label at the end. It fails with `DomainNameTooLong` and the size that the form would have, if that is
