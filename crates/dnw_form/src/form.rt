@@ -1,12 +1,13 @@
 //! The wire form of a name.
-ghost use Rattle.std.specs.Prelude.{◌≡◌, ℕ, ◌+◌, ◌≤◌, ◌↔◌, List, [], ◌∷◌, ◌++◌, length, IsTrue};
+ghost use Rattle.std.specs.Prelude.{◌≡◌, ℕ, ◌+◌, ◌-◌, ◌≤◌, ◌↔◌, List, [], ◌∷◌, ◌++◌, length, drop, IsTrue, MatchOption};
 ghost use Rattle.dnw_base.specs.Limits.{max_name};
 ghost use Rattle.dnw_error.specs.Fault.{Updates};
-ghost use Rattle.dnw_base.specs.Labels.{IsLabel};
+ghost use Rattle.dnw_base.specs.Labels.{IsLabel, wildcard};
 ghost use Rattle.dnw_base.specs.Names.{AreLabels, encoded_size, lower, wire};
 ghost use Rattle.dnw_form.specs.Edits.{with_label};
 ghost use Rattle.dnw_form.specs.Inside.WireBytes.{labels_of, IsWire};
 
+use crate::order::last_labels;
 use crate::wire_labels::WireLabels;
 use dnw_base::limits::MAX_NAME;
 use dnw_error::error::{DecodeError, ProtoError, ProtoResult};
@@ -105,6 +106,31 @@ impl WireForm {
         Ok(())
     }
 
+    /// Returns the form of the last `count` labels, or of all if there are fewer.
+    pub fn last(&self, count: usize) -> Self
+        ensures { result ≡ drop (length self.now - count) self.now }
+    {
+        WireForm {
+            bytes: inline_copy(
+                *self.bytes.allocator(),
+                last_labels(self.labels(), count).as_wire(),
+            ),
+        }
+    }
+
+    /// Returns the form with `*` in place of the first label (RFC 4592, section 2.1.1), or `None` if there is no label.
+    pub fn to_wildcard(&self) -> Option<Self>
+        ensures { MatchOption result (self.now ≡ []) (λ form. form ≡ wildcard ∷ drop 1 self.now) }
+    {
+        let mut labels = self.labels();
+        labels.next()?;
+        let mut bytes = SmallVec::new(*self.bytes.allocator());
+        bytes.push_reserved(1);
+        bytes.push_reserved(b'*');
+        bytes.extend_from_slice(labels.as_wire()).unwrap();
+        Some(WireForm { bytes })
+    }
+
     /// Returns the form with its ASCII letters in lower case (RFC 4343).
     pub fn to_lowercase(&self) -> Self
         ensures { result ≡ lower self.now }
@@ -133,8 +159,18 @@ fn copied(bytes: &SmallVec<u8, MAX_NAME>) -> SmallVec<u8, MAX_NAME>
     ensures items { result.items ≡ bytes.now.items }
     ensures inline { result.capacity ≡ max_name }
 {
-    let mut copy = SmallVec::new(*bytes.allocator());
-    copy.extend_from_slice(bytes.as_slice()).unwrap();
+    inline_copy(*bytes.allocator(), bytes.as_slice())
+}
+
+/// Copies octets that fit inline.
+#[inline(always)]
+fn inline_copy(alloc: Global, octets: &[u8]) -> SmallVec<u8, MAX_NAME>
+    requires { length octets.now ≤ max_name }
+    ensures items { result.items ≡ octets.now }
+    ensures inline { result.capacity ≡ max_name }
+{
+    let mut copy = SmallVec::new(alloc);
+    copy.extend_from_slice(octets).unwrap();
     copy
 }
 

@@ -1,8 +1,6 @@
-use Rattle.std.proofs.Common.{ap, ◌∙◌}
+use Rattle.std.proofs.Common.{◌∙◌}
 use Rattle.std.proofs.lemmas.Cmp.{ranked}
 use Rattle.std.specs.Cmp.Lexicographic.{slice_cmp}
-use Rattle.std.specs.Ordering.{ordering_then}
-use Rattle.std.specs.declared.cmp.Ordering.{Ordering}
 use Rattle.dnw_form.proofs.Comparing.{last_decide}
 use Rattle.dnw_form.proofs.order.cmp_labels_by.Goals as goal
 
@@ -12,5 +10,5 @@ returns g c =
     let lengths = rw (c.len-left_len.ensures.value, c.len-right_len.ensures.value) at (ranked c.len-left_len.result c.len-right_len.result c.cmp.result c.cmp.ensures) in
     let lefts = rw c.len-right_len.ensures.value at c.last_labels-lefts.ensures in
     let rights = rw c.len-left_len.ensures.value at c.last_labels-rights.ensures in
-    c.then.ensures ∙ ap (λ (first : Ordering). ordering_then first c.cmp.result) (rw (lefts, rights) at c.cmp_pairs.ensures)
+    rw (c.cmp_pairs.ensures, lefts, rights) at c.then.ensures
     ∙ last_decide R c.args.left c.args.right c.cmp.result lengths
