@@ -1,9 +1,9 @@
 -- The order, equality and hash of names (RFC 4034, section 6.1, and RFC 4343).
-use Rattle.std.specs.Prelude.{◌≡◌, ℕ, Bool, nat_eq, if◌then◌else◌, List, [], ◌∷◌, ◌++◌, reverse}
+use Rattle.std.specs.Prelude.{◌≡◌, ℕ, Bool, nat_eq, if◌then◌else◌, List, [], ◌∷◌, ◌++◌, reverse, codes}
 use Rattle.std.specs.Cmp.Lexicographic.{pointwise, slice_cmp}
 use Rattle.std.specs.Ordering.{on, then_cmp, bool_cmp, eq_of_both, eq_by_cmp}
 use Rattle.std.specs.declared.cmp.Ordering.{Ordering}
-use Rattle.dnw_base.specs.Names.{NameValue, lower, wire}
+use Rattle.dnw_base.specs.Names.{NameValue, IsZoneOf, lower, wire}
 use Rattle.dnw_label.specs.LabelOrder.{octets_cmp}
 
 -- the labels from the last one, with each octet by its order, and a name before those that end in it
@@ -51,3 +51,11 @@ name_hash_input n = (wire (lower n.labels) ++ (if n.is_fqdn then 1 else 0) ∷ [
 -- the zone's labels are the last ones (RFC 1034, section 4.2), with capitals as they are
 abbrev pub IsZoneOfCase : List (List ℕ) → List (List ℕ) → Type 0
 IsZoneOfCase zone ls = (front : List (List ℕ)) × (ls ≡ front ++ zone)
+
+-- the label `localhost` (RFC 6761, section 6.3)
+abbrev pub localhost : List ℕ
+localhost = codes "localhost"
+
+-- the last label is `localhost`, but for ASCII case
+abbrev pub IsLocalhost : List (List ℕ) → Type 0
+IsLocalhost ls = IsZoneOf (localhost ∷ []) ls

@@ -1,10 +1,10 @@
 -- Why names are totally ordered, and why equal ones are fed to a hasher alike.
-use Rattle.std.proofs.Common.{◌≡◌, ℕ, Bool, true, false, List, [], ◌∷◌, ◌++◌, map, reverse, refl, sym, ap, ◌∙◌, nat_cmp, true≢false}
+use Rattle.std.proofs.Common.{◌≡◌, ◌↔◌, ℕ, Bool, true, false, List, [], ◌∷◌, ◌++◌, map, reverse, refl, sym, ap, ◌∙◌, nat_cmp, true≢false}
 use Rattle.std.specs.Bool.{Decides, IsTrue, one_answer}
 use Rattle.std.specs.Char.{to_ascii_lowercase}
-use Rattle.std.specs.Cmp.{IsTotalOrder, IsEquivalence, then_total, on_total, nat_cmp_total, bool_cmp_total, and_equiv, on_equiv, nat_eq_equiv, eq_by_cmp_equiv, both_tied, unsigned_Decides, unsigned_ties, first_so, second_so}
+use Rattle.std.specs.Cmp.{IsTotalOrder, IsPartialOrder, IsEquivalence, po, then_total, on_total, nat_cmp_total, bool_cmp_total, and_equiv, on_equiv, nat_eq_equiv, eq_by_cmp_equiv, both_tied, unsigned_Decides, unsigned_ties, first_so, second_so}
 use Rattle.std.specs.Cmp.Lexicographic.{lists_total, lists_equiv, lists_ties, pointwise_decides, slice_cmp}
-use Rattle.std.specs.Ordering.{eq_by_cmp, bool_cmp}
+use Rattle.std.specs.Ordering.{eq_by_cmp, bool_cmp, as_partial_cmp}
 use Rattle.std.proofs.lemmas.List.{reverse-append, reverse-reverse, map-append}
 use Rattle.dnw_base.specs.Names.{NameValue, lower}
 use Rattle.dnw_label.specs.LabelOrder.{octets_cmp}
@@ -76,6 +76,12 @@ same_flag false true e = absurd (true≢false (sym e))
 same_flag true false e = absurd (true≢false (sym e))
 same_flag true true e = refl
 
+flag_tied : (a b : Bool) → a ≡ b → eq_by_cmp bool_cmp a b ≡ true
+flag_tied false false e = refl
+flag_tied false true e = absurd (true≢false (sym e))
+flag_tied true false e = absurd (true≢false e)
+flag_tied true true e = refl
+
 -- what names that are equal have in common
 pub name_eq_parts : (x y : NameValue) → name_eq x y ≡ true → (x.is_fqdn ≡ y.is_fqdn) × (lower x.labels ≡ lower y.labels)
 name_eq_parts x y e =
@@ -97,3 +103,15 @@ name_hash_alike x y e = let (flag, labels) = name_eq_parts x y e in rw (flag, la
 
 pub name_case_hash_alike : (x y : NameValue) → IsTrue (name_eq_case x y) → name_hash_input x ≡ name_hash_input y
 name_case_hash_alike x y e = let (flag, labels) = name_eq_case_parts x y e in rw (flag, labels) refl
+
+-- partial comparison is the total one
+abbrev pub name_order : IsPartialOrder name_eq (as_partial_cmp name_cmp)
+name_order = po name_cmp_total name_ties
+
+abbrev pub name_case_order : IsPartialOrder name_eq_case (as_partial_cmp name_cmp_case)
+name_case_order = po name_cmp_case_total name_case_ties
+
+-- a test of lowered labels tells whether names are equal, if their flags are
+pub name_eq_test : (x y : NameValue) (test : Bool) → x.is_fqdn ≡ y.is_fqdn → ((test ≡ true) ↔ (lower x.labels ≡ lower y.labels)) → test ≡ name_eq x y
+name_eq_test x y test flags says =
+    rw (flag_tied x.is_fqdn y.is_fqdn flags) (one_answer test (labels_eq (lower x.labels) (lower y.labels)) says (labels_Decides (lower x.labels) (lower y.labels)))

@@ -1,12 +1,13 @@
 //! The wire form of a name.
-ghost use Rattle.std.specs.Prelude.{◌≡◌, ℕ, ◌+◌, ◌-◌, ◌≤◌, ◌↔◌, List, [], ◌∷◌, ◌++◌, length, drop, IsTrue, MatchOption};
+ghost use Rattle.std.specs.Prelude.{◌≡◌, ◌≢◌, ℕ, ◌+◌, ◌-◌, ◌≤◌, ◌↔◌, List, [], ◌∷◌, ◌++◌, length, drop, Ok, IsTrue, IfErr, OnOk, MatchOption};
 ghost use Rattle.dnw_base.specs.Limits.{max_name};
-ghost use Rattle.dnw_error.specs.Fault.{Updates};
+ghost use Rattle.dnw_error.specs.Fault.{FailsOr, Updates};
 ghost use Rattle.dnw_base.specs.Labels.{IsLabel, wildcard};
 ghost use Rattle.dnw_base.specs.Names.{AreLabels, encoded_size, lower, wire};
-ghost use Rattle.dnw_form.specs.Edits.{with_label};
+ghost use Rattle.dnw_form.specs.Edits.{with_label, with_labels};
 ghost use Rattle.dnw_form.specs.Inside.WireBytes.{labels_of, IsWire};
 
+use crate::label_iter::LabelIter;
 use crate::order::last_labels;
 use crate::wire_labels::WireLabels;
 use dnw_base::limits::MAX_NAME;
@@ -83,7 +84,16 @@ impl WireForm {
         self.bytes.len() == 1
     }
 
-    /// Returns an iterator over the labels.
+    /// Returns an iterator over the labels from both ends.
+    #[inline(always)]
+    pub fn iter(&self) -> LabelIter<'_>
+        ensures labels { result ≡ self.now }
+        ensures names { AreLabels self.now }
+    {
+        LabelIter::new(self.bytes.as_slice())
+    }
+
+    /// Returns an iterator over the labels from the left.
     #[inline(always)]
     pub fn labels(&self) -> WireLabels<'_>
         ensures labels { result ≡ self.now }
@@ -106,6 +116,17 @@ impl WireForm {
         Ok(())
     }
 
+    /// Adds labels at the end. It fails with `DomainNameTooLong` and the size with the first label that does not fit.
+    pub fn append(&mut self, mut labels: WireLabels<'_>) -> ProtoResult<()>
+        ensures ok { OnOk result (with_labels self.old labels.entry ≡ Ok self.new) }
+        ensures err { IfErr result (FailsOr (with_labels self.old labels.entry) ⊥) }
+    {
+        'labels: while let Some(label) = labels.next() {
+            self.push(label)?;
+        }
+        Ok(())
+    }
+
     /// Returns the form of the last `count` labels, or of all if there are fewer.
     pub fn last(&self, count: usize) -> Self
         ensures { result ≡ drop (length self.now - count) self.now }
@@ -120,7 +141,7 @@ impl WireForm {
 
     /// Returns the form with `*` in place of the first label (RFC 4592, section 2.1.1), or `None` if there is no label.
     pub fn to_wildcard(&self) -> Option<Self>
-        ensures { MatchOption result (self.now ≡ []) (λ form. form ≡ wildcard ∷ drop 1 self.now) }
+        ensures { MatchOption result (self.now ≡ []) (λ form. (self.now ≢ []) × (form ≡ wildcard ∷ drop 1 self.now)) }
     {
         let mut labels = self.labels();
         labels.next()?;

@@ -39,7 +39,7 @@ fn cmp_labels_by<F: LabelCmp>(left: WireLabels<'_>, right: WireLabels<'_>) -> Or
 }
 
 /// Returns the last `count` labels, or all if there are fewer.
-pub(crate) fn last_labels(mut labels: WireLabels<'_>, count: usize) -> WireLabels<'_>
+pub fn last_labels(mut labels: WireLabels<'_>, count: usize) -> WireLabels<'_>
     ensures { result ≡ drop (length labels.entry - count) labels.entry }
 {
     'passed: while labels.len() > count {

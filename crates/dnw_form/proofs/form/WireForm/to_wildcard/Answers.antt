@@ -35,8 +35,13 @@ invariant_of-result c =
           capacity,
     )
 
+none_is_some : (first : List ℕ) (rest : List (List ℕ)) → [] ≡ first ∷ rest → ⊥
+none_is_some first rest e = let none : 0 ≡ length (first ∷ rest) = ap length e in omega (arith, none)
+
 pub returns : goal.returns
 returns c =
     let are = are_labels _ _ _ _ c.labels-labels.ensures.labels c.in_ok-next.ensures.steps c.labels-labels.ensures.names in
-    ap labels_of (written c) ∙ labels_of-wire _ are.each
-    ∙ ap (λ (ls : List (List ℕ)). wildcard ∷ drop 1 ls) (sym c.in_ok-next.ensures.steps ∙ c.labels-labels.ensures.labels)
+    let split = sym c.labels-labels.ensures.labels ∙ c.in_ok-next.ensures.steps in (
+      λ none. none_is_some _ _ (sym none ∙ split),
+      ap labels_of (written c) ∙ labels_of-wire _ are.each ∙ ap (λ (ls : List (List ℕ)). wildcard ∷ drop 1 ls) (sym split),
+    )
