@@ -1,7 +1,8 @@
 -- Names made of labels and of other names. They fail at the first label, from the left, that brings the encoded size
 -- past 255 (RFC 1035, section 2.3.4).
-use Rattle.std.specs.Prelude.{ℕ, ◌-◌, ◌==◌, true, List, [], ◌∷◌, ◌++◌, length, drop, nat_lt, if◌then◌else◌, Result, Ok, Err}
-use Rattle.dnw_error.specs.Fault.{Fault, NameTooLong, ◌>>=◌}
+use Rattle.std.specs.Prelude.{ℕ, ◌-◌, ◌==◌, true, List, [], ◌∷◌, ◌++◌, length, drop, nat_lt, if◌then◌else◌, Result, Ok, Err, is_ok}
+use Rattle.std.specs.List.{list_all}
+use Rattle.dnw_error.specs.Fault.{Fault, NameTooLong, UnconvertedLabels, ◌>>=◌}
 use Rattle.dnw_base.specs.Limits.{max_name}
 use Rattle.dnw_base.specs.Labels.{wildcard}
 use Rattle.dnw_base.specs.Names.{NameValue, encoded_size}
@@ -58,3 +59,23 @@ abbrev pub into_wildcard : NameValue → NameValue
 into_wildcard n =
     if length n.labels == 0 then record { is_fqdn = true; labels = [] }
     else record { is_fqdn = n.is_fqdn; labels = wildcard ∷ drop 1 n.labels }
+
+-- the labels that could be made
+abbrev pub made : List (Result (List ℕ) Fault) → List (List ℕ)
+made [] = []
+made (Ok l ∷ items) = l ∷ made items
+made (Err fault ∷ items) = made items
+
+-- The labels of all items. That there are too many is reported first, then that one could not be made, then the first
+-- label that does not fit.
+abbrev pub joined : List (Result (List ℕ) Fault) → Result (List (List ℕ)) Fault
+joined items =
+    if nat_lt max_name (length (made items)) then Err (NameTooLong (length (made items)))
+    else if list_all is_ok items then with_labels [] (made items)
+    else Err UnconvertedLabels
+
+-- the labels of all items, fully qualified
+abbrev pub from_labels : List (Result (List ℕ) Fault) → Result NameValue Fault
+from_labels items = do
+  ls ← joined items
+  Ok (record { is_fqdn = true; labels = ls })

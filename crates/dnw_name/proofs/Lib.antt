@@ -1,2 +1,3 @@
 pub mod Qualified
 pub mod Borrowed
+pub mod Joins

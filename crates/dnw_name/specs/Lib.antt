@@ -1,1 +1,3 @@
 pub mod Decodable
+pub mod Inside
+pub mod FromLabels

@@ -1,5 +1,6 @@
 //! Domain names.
-ghost use Rattle.std.specs.Prelude.{◌≡◌, ◌≢◌, ℕ, ◌+◌, ◌≤◌, ◌↔◌, false, true, List, [], ◌∷◌, length, min, Some, Ok, Result, IsTrue, IfOk, IfErr, OnErr, IsErrOf, IsOkAnd, string_bytes};
+ghost use Rattle.std.specs.Prelude.{◌≡◌, ◌≢◌, ℕ, ◌+◌, ◌^◌, ◌<◌, ◌≤◌, ◌↔◌, false, true, List, [], ◌∷◌, length, min, Some, Ok, Result, IsTrue, IfOk, IfErr, OnErr, IsErrOf, IsOkAnd, string_bytes};
+ghost use Rattle.std.specs.Iterator.{IsFinite, size};
 ghost use Rattle.std.specs.List.{AllByRecursion};
 ghost use Rattle.std.specs.Option.{option_copied};
 ghost use Rattle.std.specs.Str.{chars};
@@ -12,7 +13,9 @@ ghost use Rattle.dnw_reading.specs.Reading.{TakesName, StopsAt};
 ghost use Rattle.dnw_form.specs.Edits.{append_label, prepend_label, append_name, append_domain, base_name, trim_to, into_wildcard};
 ghost use Rattle.dnw_form.specs.NameText.{name_text, name_from_text, name_from_text_at, IsLabelText};
 ghost use Rattle.dnw_form.specs.Order.{IsLocalhost, IsZoneOfCase};
+ghost use Rattle.dnw_name.specs.FromLabels.{JoinsItems};
 
+use crate::name::joining::Joining;
 use crate::name_ref::NameRef;
 use arrayvec::ArrayString;
 use dnw_base::decoder::BinDecoder;
@@ -28,6 +31,7 @@ use std::alloc::Global;
 use std::fmt;
 use std::marker::Model;
 
+mod joining;
 mod ordering;
 
 /// The wire form of `localhost` (RFC 6761, section 6.3).
@@ -215,6 +219,26 @@ impl Name {
         })
     }
 
+    /// Creates the fully qualified name with the labels of all items. The iterator must end.
+    ///
+    /// It fails with `DomainNameTooLong` and the number of labels that were made if they are more than 255, else with a
+    /// `Msg` if an item gives no label, and else with `DomainNameTooLong` and the size with the first label that does not
+    /// fit. It allocates only if making a label does, and for the text of its own error.
+    pub fn from_labels<I: IntoIterator<Item = L>, L: IntoLabel>(
+        alloc: Global,
+        labels: I,
+    ) -> ProtoResult<Self>
+        requires ends { (it : I.IntoIter) → I.into_iter_gives labels it → I.IntoIter.can_next it × IsFinite (I.IntoIter.remaining it) }
+        requires fits { (it : I.IntoIter) → I.into_iter_gives labels it → size (I.IntoIter.remaining it) < 2 ^ 64 }
+        ensures joins { (it : I.IntoIter) × I.into_iter_gives labels it × JoinsItems I.IntoIter.next_gives L.label_of L.may_run_out it result }
+    {
+        let mut joining = Joining::new(alloc);
+        for label in labels {
+            joining.add(alloc, label)?;
+        }
+        Ok(Name::qualified(joining.finish(alloc)?))
+    }
+
     /// Adds the labels of `other`, and takes its flag. It fails with `DomainNameTooLong` and the size with the first
     /// label that does not fit.
     pub fn append_name(mut self, other: &Self) -> ProtoResult<Self>
@@ -364,7 +388,7 @@ impl Name {
     pub fn from_str_relaxed(alloc: Global, name: &str) -> ProtoResult<Self>
         ensures follows { Follows (name_from_text (chars name.now)) (NeedsErrorText (name_from_text (chars name.now))) result }
     {
-        Name::from_ascii(alloc, name)
+        Name::from_str(alloc, name)
     }
 
     /// Creates a name from text, as `from_ascii`. If there is an origin, it completes a relative name.

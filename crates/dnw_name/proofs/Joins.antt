@@ -1,0 +1,88 @@
+-- One more item that is joined to others.
+use Rattle.std.proofs.Common.{◌≡◌, ℕ, ◌+◌, ◌<◌, ◌≤◌, false, true≢false, List, [], ◌∷◌, ◌++◌, length, map, Result, Ok, Err, refl, sym, ap, ◌∙◌, arith, length-append}
+use Rattle.std.specs.Result.{is_ok, IsErr}
+use Rattle.std.specs.List.{list_all}
+use Rattle.dnw_error.specs.Fault.{Fault, NameTooLong, ◌>>=◌}
+use Rattle.dnw_base.specs.Names.{encoded_size}
+use Rattle.dnw_form.specs.Edits.{made, with_label, with_labels}
+use Rattle.dnw_form.proofs.EditLemmas.{with_label_long}
+use Rattle.dnw_name.specs.Inside.Joined.{HasJoined}
+use Rattle.dnw_name.specs.declared.name.joining.Joining.{Joining}
+
+made-push : (items : List (Result (List ℕ) Fault)) (l : List ℕ) → made (items ++ Ok l ∷ []) ≡ made items ++ l ∷ []
+made-push [] l = refl
+made-push (Ok k ∷ items) l = ap (λ (ls : List (List ℕ)). k ∷ ls) (made-push items l)
+made-push (Err fault ∷ items) l = made-push items l
+
+pub made-length : (items : List (Result (List ℕ) Fault)) (l : List ℕ) → length (made (items ++ Ok l ∷ [])) ≡ length (made items) + 1
+made-length items l = ap length (made-push items l) ∙ length-append (made items) (l ∷ [])
+
+pub made-fault : (items : List (Result (List ℕ) Fault)) (fault : Fault) → made (items ++ Err fault ∷ []) ≡ made items
+made-fault [] fault = refl
+made-fault (Ok k ∷ items) fault = ap (λ (ls : List (List ℕ)). k ∷ ls) (made-fault items fault)
+made-fault (Err other ∷ items) fault = made-fault items fault
+
+pub all-made : (items : List (Result (List ℕ) Fault)) (l : List ℕ) → list_all is_ok (items ++ Ok l ∷ []) ≡ list_all is_ok items
+all-made [] l = refl
+all-made (Ok k ∷ items) l = all-made items l
+all-made (Err fault ∷ items) l = refl
+
+pub all-fault : (items : List (Result (List ℕ) Fault)) (fault : Fault) → list_all is_ok (items ++ Err fault ∷ []) ≡ false
+all-fault [] fault = refl
+all-fault (Ok k ∷ items) fault = all-fault items fault
+all-fault (Err other ∷ items) fault = refl
+
+bind-Ok : {A : Type 0} (r : Result A Fault) → (r >>= Ok) ≡ r
+bind-Ok (Ok x) = refl
+bind-Ok (Err fault) = refl
+
+bind-assoc : {A B C : Type 0} (r : Result A Fault) (f : A → Result B Fault) (g : B → Result C Fault) → ((r >>= f) >>= g) ≡ (r >>= (λ x. f x >>= g))
+bind-assoc (Ok x) f g = refl
+bind-assoc (Err fault) f g = refl
+
+bind-each : {A B : Type 0} (r : Result A Fault) (f g : A → Result B Fault) → ((x : A) → f x ≡ g x) → (r >>= f) ≡ (r >>= g)
+bind-each (Ok x) f g same = same x
+bind-each (Err fault) f g same = refl
+
+with_labels-push : (ls more : List (List ℕ)) (l : List ℕ) → with_labels ls (more ++ l ∷ []) ≡ (with_labels ls more >>= (λ longer. with_label longer l))
+with_labels-push ls [] l = bind-Ok (with_label ls l)
+with_labels-push ls (k ∷ more) l =
+    bind-each (with_label ls k) (λ longer. with_labels longer (more ++ l ∷ [])) (λ longer. with_labels longer more >>= (λ all. with_label all l)) (λ longer. with_labels-push longer more l)
+    ∙ sym (bind-assoc (with_label ls k) (λ longer. with_labels longer more) (λ all. with_label all l))
+
+pub joined-push : (items : List (Result (List ℕ) Fault)) (l : List ℕ) → with_labels [] (made (items ++ Ok l ∷ [])) ≡ (with_labels [] (made items) >>= (λ longer. with_label longer l))
+joined-push items l = ap (with_labels []) (made-push items l) ∙ with_labels-push [] (made items) l
+
+pub still-long : (items : List (Result (List ℕ) Fault)) (l : List ℕ) (fault : Fault) → with_labels [] (made items) ≡ Err fault → with_labels [] (made (items ++ Ok l ∷ [])) ≡ Err fault
+still-long items l fault e = joined-push items l ∙ rw e refl
+
+pub now-long : (items : List (Result (List ℕ) Fault)) (l : List ℕ) (ls : List (List ℕ)) (n : ℕ) → with_labels [] (made items) ≡ Ok ls → n ≡ encoded_size ls + 1 + length l → 255 < n
+    → with_labels [] (made (items ++ Ok l ∷ [])) ≡ Err (NameTooLong n)
+now-long items l ls n e size lt = joined-push items l ∙ rw e (with_label_long ls l n size lt)
+
+pub now-fits : (items : List (Result (List ℕ) Fault)) (l : List ℕ) (ls more : List (List ℕ)) → with_labels [] (made items) ≡ Ok ls → with_label ls l ≡ Ok more
+    → with_labels [] (made (items ++ Ok l ∷ [])) ≡ Ok more
+now-fits items l ls more e fits = joined-push items l ∙ rw e fits
+
+fault-made : (r : Result (List ℕ) Fault) → IsErr r → (items : List (Result (List ℕ) Fault)) → (made (items ++ r ∷ []) ≡ made items) × (list_all is_ok (items ++ r ∷ []) ≡ false)
+fault-made (Ok l) h items = absurd (true≢false (sym h))
+fault-made (Err fault) h items = (made-fault items fault, all-fault items fault)
+
+-- an item without a label
+pub HasJoined-fault : (j : Joining) (r : Result (List ℕ) Fault) (items : List (Result (List ℕ) Fault)) → IsErr r → HasJoined j items → HasJoined (record j { all_made = false }) (items ++ r ∷ [])
+HasJoined-fault j r items none h =
+    let (same, fault) = fault-made r none items in
+    record {
+      count = h.count ∙ ap length (sym same);
+      all = sym fault;
+      fits = λ e. ap (with_labels []) same ∙ h.fits e;
+      long = λ size e. ap (with_labels []) same ∙ h.long size e;
+    }
+
+pub made-few : {L : Type 0} (label_of : L → Result (List ℕ) Fault) (items : List L) → length (made (map label_of items)) ≤ length items
+made-few label_of [] = omega arith
+made-few label_of (item ∷ items) = let one = made-one (label_of item) (map label_of items) (length items) (made-few label_of items) in omega (arith, one)
+  where
+    made-one : (r : Result (List ℕ) Fault) (rs : List (Result (List ℕ) Fault)) (n : ℕ) → length (made rs) ≤ n → length (made (r ∷ rs)) ≤ n + 1
+    made-one (Ok l) rs n le = omega arith
+    made-one (Err fault) rs n le = omega arith
