@@ -1,0 +1,4 @@
+//! Names in lower case, as zones and caches are keyed.
+#![tactic(auto)]
+
+pub mod lower_name;
