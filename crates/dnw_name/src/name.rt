@@ -297,7 +297,7 @@ impl Name {
     pub fn from_str_relaxed(alloc: Global, name: &str) -> ProtoResult<Self>
         ensures follows { Follows (name_from_text (chars name.now)) (NeedsErrorText (name_from_text (chars name.now))) result }
     {
-        Name::from_ascii(alloc, name)
+        Name::from_str(alloc, name)
     }
 
     /// Creates a name from text, as `from_ascii`. If there is an origin, it completes a relative name.
