@@ -1,6 +1,6 @@
 -- Writes keep a reply within its bound.
 use Rattle.std.proofs.Common.{◌≡◌, ◌≤◌, ◌∙◌, ℕ, Ok, Err, length, max, arith}
-use Rattle.std.specs.Prelude.{OnOk, Result}
+use Rattle.std.specs.Prelude.{OnOk}
 use Rattle.dns_names_wire.specs.Words.{Encoder, NameValue, EmitsName, NamesStayBounded, Outcome, frame-name}
 use Rattle.uses.specs.Bounded.{IsBounded, max_reply}
 
