@@ -9,7 +9,7 @@ ghost use Rattle.dnw_reading.specs.Reading.{NameAt};
 
 use crate::store::Store;
 use crate::usable::stands_at;
-use dnw_form::label_iter::LabelIter;
+use dnw_form::wire_labels::WireLabels;
 use std::alloc::{AllocError, Global};
 use std::marker::Model;
 
@@ -64,7 +64,7 @@ fn is_same(own: &[u8], labels: &[u8]) -> bool
 
 /// Returns `true` if the bytes are equal, and reading the message at `start` gives the labels.
 #[inline(always)]
-fn is_usable(start: u16, own: &[u8], bytes: &[u8], message: &[u8], labels: LabelIter<'_>) -> bool
+fn is_usable(start: u16, own: &[u8], bytes: &[u8], message: &[u8], labels: WireLabels<'_>) -> bool
     ensures { IsTrue result ↔ ((own.now ≡ bytes.now) × (end : ℕ) × (pointers : ℕ) × NameAt message.now start labels.entry end pointers) }
 {
     is_same(own, bytes) && stands_at(message, start as usize, labels)
@@ -149,7 +149,7 @@ impl Candidates {
     }
 
     /// Returns the offset of the first candidate that is usable for the labels in this message.
-    pub fn find_usable(&self, message: &[u8], labels: LabelIter<'_>) -> Option<u16>
+    pub fn find_usable(&self, message: &[u8], labels: WireLabels<'_>) -> Option<u16>
         ensures finds { FindsUsable message.now labels.entry self.now result }
         ensures reached { IfSome result (λ offset. offset < pointer_reach) }
     {
@@ -170,7 +170,7 @@ impl Candidates {
     pub fn push_suffixes(
         &mut self,
         start: usize,
-        labels: LabelIter<'_>,
+        labels: WireLabels<'_>,
         most: usize,
     ) -> Result<(), AllocError>
         requires reached { start + length (labels_wire labels) < pointer_reach }

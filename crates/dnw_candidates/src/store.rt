@@ -6,7 +6,7 @@ ghost use Rattle.dnw_candidates.specs.Candidates.{candidates_before, suffixes};
 ghost use Rattle.dnw_candidates.specs.Inside.Store.{AreWithin, entries_of};
 ghost use Rattle.dnw_base.specs.Names.{labels_wire};
 
-use dnw_form::label_iter::LabelIter;
+use dnw_form::wire_labels::WireLabels;
 use smallvec::SmallVec;
 use std::alloc::{AllocError, Global};
 use std::marker::Model;
@@ -63,7 +63,7 @@ fn push_entries(
     entries: &mut Vec<Entry>,
     from: usize,
     start: usize,
-    mut labels: LabelIter<'_>,
+    mut labels: WireLabels<'_>,
     most: usize,
 ) -> usize
     requires room { vec_len entries.old + most ≤ vec_capacity entries.old }
@@ -148,7 +148,7 @@ impl Store {
     pub(crate) fn push_suffixes(
         &mut self,
         start: usize,
-        labels: LabelIter<'_>,
+        labels: WireLabels<'_>,
         most: usize,
     ) -> Result<(), AllocError>
         requires reached { start + length (labels_wire labels) < pointer_reach }

@@ -2,14 +2,14 @@
 ghost use Rattle.std.specs.Prelude.{◌≡◌, ℕ, ◌≤◌, ◌↔◌, length, take, drop, IsTrue};
 ghost use Rattle.dnw_reading.specs.Reading.{NameAt};
 
-use dnw_form::label_iter::LabelIter;
+use dnw_form::wire_labels::WireLabels;
 use dnw_reading::ref_labels::RefLabels;
 use dnw_reading::walk::{self, ReadSteps};
 
 /// Returns `true` if reading a name at `start` gives these labels, byte for byte. Mostly the message has their whole
 /// wire form there, which is compared in one piece; a name that ends in a pointer is walked.
 #[inline(never)]
-pub fn stands_at(message: &[u8], start: usize, labels: LabelIter<'_>) -> bool
+pub fn stands_at(message: &[u8], start: usize, labels: WireLabels<'_>) -> bool
     ensures { IsTrue result ↔ ((e : ℕ) × (k : ℕ) × NameAt message.now start labels.entry e k) }
 {
     if has_form(message, start, labels.as_wire()) {
@@ -35,7 +35,7 @@ fn has_form(message: &[u8], start: usize, wire: &[u8]) -> bool
 }
 
 /// Returns `true` if the labels are equal, byte for byte.
-fn same_labels(mut ours: RefLabels<'_>, mut theirs: LabelIter<'_>) -> bool
+fn same_labels(mut ours: RefLabels<'_>, mut theirs: WireLabels<'_>) -> bool
     ensures { IsTrue result ↔ (ours.entry ≡ theirs.entry) }
 {
     'labels: while let Some(label) = ours.next() {

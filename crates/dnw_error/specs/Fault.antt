@@ -12,6 +12,7 @@ pub data Fault : Type 0 where
   UnrecognizedChar : (char : ℕ) → Fault
   IllegalChar : (char : ℕ) → Fault
   UnfinishedEscape : Fault
+  UnconvertedLabels : Fault
 
 -- the error is this fixed text
 abbrev pub IsMessage : List ℕ → ProtoError → Type 0
@@ -32,12 +33,14 @@ Reports (NameTooLong size) e = e ≡ Decode (DomainNameTooLong size)
 Reports (UnrecognizedChar char) e = IsMsg (codes "unrecognized char: " ++ encode_utf8 char) e
 Reports (IllegalChar char) e = IsMsg (codes "illegal char: " ++ encode_utf8 char) e
 Reports UnfinishedEscape e = IsMessage (codes "unfinished escape") e
+Reports UnconvertedLabels e = IsMsg (codes "error converting some labels") e
 
 -- the text of its error is allocated
 abbrev pub HasOwnText : Fault → Type 0
 HasOwnText (MalformedLabel text) = ⊤
 HasOwnText (UnrecognizedChar char) = ⊤
 HasOwnText (IllegalChar char) = ⊤
+HasOwnText UnconvertedLabels = ⊤
 HasOwnText fault = ⊥
 
 -- the definition fails, and the error reports why

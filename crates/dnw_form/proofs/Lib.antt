@@ -1,4 +1,6 @@
 pub mod Wires
+pub mod Comparing
+pub mod OpenWires
 pub mod EditLemmas
 pub mod Joined
 pub mod TextReading

@@ -1,5 +1,5 @@
 -- The uncompressed form in lower case: no length octet is a letter.
-use Rattle.std.proofs.Common.{◌≡◌, ℕ, ◌≤◌, List, [], ◌∷◌, ◌++◌, length, take, drop, map, refl, sym, ap, ◌∙◌, arith, rules, tests}
+use Rattle.std.proofs.Common.{◌≡◌, ◌↔◌, ℕ, ◌≤◌, List, [], ◌∷◌, ◌++◌, length, take, drop, map, refl, sym, ap, ◌∙◌, arith, rules, tests}
 use Rattle.std.specs.List.{AllByRecursion, refill}
 use Rattle.std.specs.Char.{to_ascii_lowercase}
 use Rattle.std.proofs.lemmas.List.{map-append, length-map}
@@ -7,6 +7,8 @@ use Rattle.std.proofs.Math.Seq.{take-append_seam}
 use Rattle.dnw_base.specs.Labels.{IsLabel}
 use Rattle.dnw_base.specs.Names.{AreLabels, encoded_size, wire, lower}
 use Rattle.dnw_base.proofs.Wires.{wire-cons, length-wire}
+use Rattle.dnw_form.specs.Inside.WireBytes.{labels_of}
+use Rattle.dnw_form.proofs.Wires.{labels_of-wire}
 
 no_letter : (n : ℕ) → n ≤ 63 → to_ascii_lowercase n ≡ n
 no_letter n le = search (rules, tests)
@@ -37,3 +39,21 @@ lower_size ls each =
 
 pub AreLabels-lower : (ls : List (List ℕ)) → AreLabels ls → AreLabels (lower ls)
 AreLabels-lower ls h = record { each = lower_each ls h.each; fit = omega (arith, lower_size ls h.each, h.fit) }
+
+-- so labels are the same in lower case if their forms are
+pub lower-wires : (ls rs : List (List ℕ)) → AreLabels ls → AreLabels rs → (map to_ascii_lowercase (wire ls) ≡ map to_ascii_lowercase (wire rs)) ↔ (lower ls ≡ lower rs)
+lower-wires ls rs h k = (
+  λ same.
+      sym (labels_of-wire (lower ls) (lower_each ls h.each))
+      ∙ ap labels_of (sym (lower-wire ls h.each) ∙ same ∙ lower-wire rs k.each)
+      ∙ labels_of-wire (lower rs) (lower_each rs k.each),
+  λ same. lower-wire ls h.each ∙ ap wire same ∙ sym (lower-wire rs k.each),
+)
+
+pub lower-long : (ls : List (List ℕ)) → AreLabels ls → length (wire (lower ls)) ≤ 255
+lower-long ls h = omega (arith, length-wire (lower ls), lower_size ls h.each, h.fit)
+
+-- octets of a wire form that are written over by the same in lower case
+pub refill-lowered : (ls : List (List ℕ)) (xs ws : List ℕ) → AllByRecursion IsLabel ls → xs ≡ wire ls → ws ≡ map to_ascii_lowercase xs → refill (length xs) xs ws ≡ wire (lower ls)
+refill-lowered ls xs ws each form after =
+    refill-whole xs ws (ap length after ∙ length-map xs to_ascii_lowercase) ∙ (after ∙ (ap (map to_ascii_lowercase) form ∙ lower-wire ls each))

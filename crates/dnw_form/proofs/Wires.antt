@@ -2,9 +2,9 @@
 use Rattle.std.proofs.Common.{◌≡◌, ◌↔◌, ℕ, zero, suc, ◌+◌, ◌-◌, ◌≤◌, List, [], ◌∷◌, ◌++◌, length, take, drop, refl, sym, ap, ◌∙◌, subst, append_assoc, arith}
 use Rattle.std.specs.List.{AllByRecursion}
 use Rattle.std.proofs.lemmas.List.{take_at, drop_at, length-append}
-use Rattle.dnw_base.specs.Labels.{IsLabel}
+use Rattle.dnw_base.specs.Labels.{IsLabel, wildcard}
 use Rattle.dnw_base.specs.Names.{AreLabels, encoded_size, labels_wire, wire}
-use Rattle.dnw_base.proofs.Wires.{wire-cons, encoded_size_push, length-wire, AllByRecursion-push, labels_wire_push, few_labels, AreLabels-rest, AreLabels-few, no_labels_size}
+use Rattle.dnw_base.proofs.Wires.{wire-cons, encoded_size-cons, encoded_size_push, length-wire, AllByRecursion-push, labels_wire_push, few_labels, AreLabels-rest, AreLabels-few, no_labels_size}
 use Rattle.dnw_form.specs.Inside.WireBytes.{labels_within, labels_of, IsWire, SplitsLabel}
 
 -- the first of what is left
@@ -106,3 +106,10 @@ Front-splits bytes c rest label after f label_is after_is = record {
 
 pub IsWire-few : (bytes : List ℕ) → IsWire bytes → length (labels_of bytes) ≤ 127
 IsWire-few bytes w = AreLabels-few (labels_of bytes) w.labels
+
+-- an asterisk in place of the first label
+pub AreLabels-wildcard : (first : List ℕ) (rest : List (List ℕ)) → AreLabels (first ∷ rest) → AreLabels (wildcard ∷ rest)
+AreLabels-wildcard first rest h = record {
+  each = (record { not_empty = omega arith; not_long = omega arith }, h.each.1);
+  fit = omega (arith, encoded_size-cons first rest, encoded_size-cons wildcard rest, h.each.0.not_empty, h.fit);
+}

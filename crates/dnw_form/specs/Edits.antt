@@ -1,8 +1,9 @@
 -- Names made of labels and of other names. They fail at the first label, from the left, that brings the encoded size
 -- past 255 (RFC 1035, section 2.3.4).
-use Rattle.std.specs.Prelude.{ℕ, true, List, [], ◌∷◌, ◌++◌, nat_lt, if◌then◌else◌, Result, Ok, Err}
+use Rattle.std.specs.Prelude.{ℕ, ◌-◌, ◌==◌, true, List, [], ◌∷◌, ◌++◌, length, drop, nat_lt, if◌then◌else◌, Result, Ok, Err}
 use Rattle.dnw_error.specs.Fault.{Fault, NameTooLong, ◌>>=◌}
 use Rattle.dnw_base.specs.Limits.{max_name}
+use Rattle.dnw_base.specs.Labels.{wildcard}
 use Rattle.dnw_base.specs.Names.{NameValue, encoded_size}
 
 abbrev pub with_label : List (List ℕ) → List ℕ → Result (List (List ℕ)) Fault
@@ -32,3 +33,28 @@ abbrev pub append_domain : NameValue → NameValue → Result NameValue Fault
 append_domain n domain = do
   ls ← with_labels n.labels domain.labels
   Ok (record { is_fqdn = true; labels = ls })
+
+-- the label at the front, and the flag unchanged
+abbrev pub prepend_label : NameValue → Result (List ℕ) Fault → Result NameValue Fault
+prepend_label n label = do
+  l ← label
+  ls ← with_labels [] (l ∷ n.labels)
+  Ok (record { is_fqdn = n.is_fqdn; labels = ls })
+
+-- the last labels, fully qualified; the name itself if it has fewer
+abbrev pub trim_to : NameValue → ℕ → NameValue
+trim_to n count =
+    if nat_lt (length n.labels) count then n
+    else record { is_fqdn = true; labels = drop (length n.labels - count) n.labels }
+
+-- all labels but the first, fully qualified; the name itself if it has none
+abbrev pub base_name : NameValue → NameValue
+base_name n =
+    if length n.labels == 0 then n
+    else record { is_fqdn = true; labels = drop 1 n.labels }
+
+-- `*` in place of the first label (RFC 4592, section 2.1.1); the root if there is none
+abbrev pub into_wildcard : NameValue → NameValue
+into_wildcard n =
+    if length n.labels == 0 then record { is_fqdn = true; labels = [] }
+    else record { is_fqdn = n.is_fqdn; labels = wildcard ∷ drop 1 n.labels }

@@ -1,3 +1,5 @@
 pub mod Edits
 pub mod NameText
+pub mod Order
+pub mod OrderLaws
 pub mod Inside

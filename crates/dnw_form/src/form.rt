@@ -1,13 +1,15 @@
 //! The wire form of a name.
-ghost use Rattle.std.specs.Prelude.{◌≡◌, ℕ, ◌+◌, ◌≤◌, ◌↔◌, List, [], ◌∷◌, ◌++◌, length, IsTrue};
+ghost use Rattle.std.specs.Prelude.{◌≡◌, ◌≢◌, ℕ, ◌+◌, ◌-◌, ◌≤◌, ◌↔◌, List, [], ◌∷◌, ◌++◌, length, drop, Ok, IsTrue, IfErr, OnOk, MatchOption};
 ghost use Rattle.dnw_base.specs.Limits.{max_name};
-ghost use Rattle.dnw_error.specs.Fault.{Updates};
-ghost use Rattle.dnw_base.specs.Labels.{IsLabel};
+ghost use Rattle.dnw_error.specs.Fault.{FailsOr, Updates};
+ghost use Rattle.dnw_base.specs.Labels.{IsLabel, wildcard};
 ghost use Rattle.dnw_base.specs.Names.{AreLabels, encoded_size, lower, wire};
-ghost use Rattle.dnw_form.specs.Edits.{with_label};
+ghost use Rattle.dnw_form.specs.Edits.{with_label, with_labels};
 ghost use Rattle.dnw_form.specs.Inside.WireBytes.{labels_of, IsWire};
 
 use crate::label_iter::LabelIter;
+use crate::order::last_labels;
+use crate::wire_labels::WireLabels;
 use dnw_base::limits::MAX_NAME;
 use dnw_error::error::{DecodeError, ProtoError, ProtoResult};
 use smallvec::SmallVec;
@@ -82,13 +84,22 @@ impl WireForm {
         self.bytes.len() == 1
     }
 
-    /// Returns an iterator over the labels.
+    /// Returns an iterator over the labels from both ends.
     #[inline(always)]
-    pub fn labels(&self) -> LabelIter<'_>
+    pub fn iter(&self) -> LabelIter<'_>
         ensures labels { result ≡ self.now }
         ensures names { AreLabels self.now }
     {
         LabelIter::new(self.bytes.as_slice())
+    }
+
+    /// Returns an iterator over the labels from the left.
+    #[inline(always)]
+    pub fn labels(&self) -> WireLabels<'_>
+        ensures labels { result ≡ self.now }
+        ensures names { AreLabels self.now }
+    {
+        WireLabels::new(self.bytes.as_slice())
     }
 
     /// Adds a label at the end. It fails with `DomainNameTooLong` and the size that the form would have, if that is
@@ -103,6 +114,42 @@ impl WireForm {
         }
         push_label(&mut self.bytes, label);
         Ok(())
+    }
+
+    /// Adds labels at the end. It fails with `DomainNameTooLong` and the size with the first label that does not fit.
+    pub fn append(&mut self, mut labels: WireLabels<'_>) -> ProtoResult<()>
+        ensures ok { OnOk result (with_labels self.old labels.entry ≡ Ok self.new) }
+        ensures err { IfErr result (FailsOr (with_labels self.old labels.entry) ⊥) }
+    {
+        'labels: while let Some(label) = labels.next() {
+            self.push(label)?;
+        }
+        Ok(())
+    }
+
+    /// Returns the form of the last `count` labels, or of all if there are fewer.
+    pub fn last(&self, count: usize) -> Self
+        ensures { result ≡ drop (length self.now - count) self.now }
+    {
+        WireForm {
+            bytes: inline_copy(
+                *self.bytes.allocator(),
+                last_labels(self.labels(), count).as_wire(),
+            ),
+        }
+    }
+
+    /// Returns the form with `*` in place of the first label (RFC 4592, section 2.1.1), or `None` if there is no label.
+    pub fn to_wildcard(&self) -> Option<Self>
+        ensures { MatchOption result (self.now ≡ []) (λ form. (self.now ≢ []) × (form ≡ wildcard ∷ drop 1 self.now)) }
+    {
+        let mut labels = self.labels();
+        labels.next()?;
+        let mut bytes = SmallVec::new(*self.bytes.allocator());
+        bytes.push_reserved(1);
+        bytes.push_reserved(b'*');
+        bytes.extend_from_slice(labels.as_wire()).unwrap();
+        Some(WireForm { bytes })
     }
 
     /// Returns the form with its ASCII letters in lower case (RFC 4343).
@@ -133,8 +180,18 @@ fn copied(bytes: &SmallVec<u8, MAX_NAME>) -> SmallVec<u8, MAX_NAME>
     ensures items { result.items ≡ bytes.now.items }
     ensures inline { result.capacity ≡ max_name }
 {
-    let mut copy = SmallVec::new(*bytes.allocator());
-    copy.extend_from_slice(bytes.as_slice()).unwrap();
+    inline_copy(*bytes.allocator(), bytes.as_slice())
+}
+
+/// Copies octets that fit inline.
+#[inline(always)]
+fn inline_copy(alloc: Global, octets: &[u8]) -> SmallVec<u8, MAX_NAME>
+    requires { length octets.now ≤ max_name }
+    ensures items { result.items ≡ octets.now }
+    ensures inline { result.capacity ≡ max_name }
+{
+    let mut copy = SmallVec::new(alloc);
+    copy.extend_from_slice(octets).unwrap();
     copy
 }
 

@@ -3,4 +3,6 @@
 
 pub mod form;
 pub mod label_iter;
+pub mod order;
 pub mod text;
+pub mod wire_labels;

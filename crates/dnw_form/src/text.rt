@@ -12,7 +12,7 @@ ghost use Rattle.dnw_form.specs.NameText.{Outside, Escaped, is_numeric, is_octal
 ghost use Rattle.dnw_form.specs.Inside.TextReader.{state_of, elements_from, escape_len, IsNoLonger, IsAlike, is_simple, IsSimpleLabel, PutsLengths, BeginsWithEscape, name_from_rest, name_from, reader_len};
 
 use crate::form::WireForm;
-use crate::label_iter::LabelIter;
+use crate::wire_labels::WireLabels;
 use arrayvec::ArrayString;
 use dnw_base::limits::{MAX_LABEL, MAX_NAME};
 use dnw_error::error::{DecodeError, ProtoError, ProtoResult};
@@ -65,7 +65,7 @@ pub fn read(alloc: Global, text: &str) -> ProtoResult<Parsed>
 }
 
 /// Writes labels as text, with dots between them.
-pub fn push_labels_text(out: &mut ArrayString<MAX_TEXT>, mut labels: LabelIter<'_>)
+pub fn push_labels_text(out: &mut ArrayString<MAX_TEXT>, mut labels: WireLabels<'_>)
     requires empty { out.old.bytes ≡ [] }
     requires labels { AllByRecursion IsLabel labels }
     requires fit { encoded_size labels ≤ max_name }

@@ -1,1 +1,2 @@
 pub mod LabelText
+pub mod LabelOrder

@@ -1,19 +1,28 @@
 //! Labels, of which names are made.
 ghost use Rattle.std.specs.Prelude.{◌≡◌, ℕ, ◌+◌, ◌*◌, ◌≤◌, ◌<◌, ◌↔◌, List, [], ◌∷◌, ◌++◌, length, Some, Ok, Result, IsTrue, IfOk, IfErr, OnOk, string_bytes};
+ghost use Rattle.std.specs.Cmp.{on_total, nat_cmp_total, partial_order_from_own_ties};
+ghost use Rattle.std.specs.Cmp.Lexicographic.{slice_cmp};
+ghost use Rattle.std.specs.Cmp.Rules.{comparing, hashing};
+ghost use Rattle.std.specs.Char.{to_ascii_lowercase};
 ghost use Rattle.std.specs.Fmt.{WritesText};
 ghost use Rattle.std.specs.List.{list_all};
+ghost use Rattle.std.specs.Ordering.{nat_cmp, as_partial_cmp};
+ghost use Rattle.std.proofs.Common.{rules};
 ghost use Rattle.arrayvec.specs.ArrayString.{array_string_len};
 ghost use Rattle.dnw_error.specs.Fault.{Fault, Follows, NeedsErrorText};
-ghost use Rattle.dnw_base.specs.Labels.{IsLabel};
+ghost use Rattle.dnw_base.specs.Labels.{IsLabel, wildcard};
+ghost use Rattle.dnw_label.specs.LabelOrder.{lower_label, label_cmp, label_eq, octet_cmp_ignore_case, IsTotalPreorder, IsOctet, AreOctets, of_octets, label_hash_input};
 ghost use Rattle.dnw_label.specs.LabelText.{label_from_bytes, label_from_text, label_text, is_plain, byte_text, is_label_text, is_safe, may_begin, may_follow};
 
-use arrayvec::ArrayString;
+use arrayvec::{ArrayString, ArrayVec};
 use dnw_base::limits::MAX_LABEL;
 use dnw_error::error::{DecodeError, ProtoError, ProtoResult};
 use smallvec::SmallVec;
 use std::alloc::Global;
+use std::cmp::Ordering;
 use std::fmt;
 use std::fmt::Write;
+use std::hash::{Hash, Hasher};
 use std::marker::Model;
 
 /// The most bytes of a label's text: four for each byte of the label.
@@ -69,6 +78,29 @@ impl Label {
         Label::from_raw_bytes(alloc, s.as_bytes())
     }
 
+    /// Creates the label `*` (RFC 4592, section 2.1.1). It does not allocate and cannot fail.
+    pub fn wildcard(alloc: Global) -> ProtoResult<Self>
+        ensures { result ≡ Ok wildcard }
+    {
+        Ok(Label(SmallVec::from_slice(alloc, b"*").unwrap()))
+    }
+
+    /// Returns the label with its ASCII letters in lower case (RFC 4343). It does not allocate and cannot fail.
+    pub fn to_lowercase(&self) -> ProtoResult<Self>
+        ensures { result ≡ Ok (lower_label self.now) }
+    {
+        let mut bytes = SmallVec::from_slice(*self.0.allocator(), self.0.as_slice()).unwrap();
+        bytes.as_mut_slice().make_ascii_lowercase();
+        Ok(Label(bytes))
+    }
+
+    /// Returns `true` if this is the label `*` (RFC 4592, section 2.1.1).
+    pub fn is_wildcard(&self) -> bool
+        ensures { IsTrue result ↔ (self.now ≡ wildcard) }
+    {
+        self.as_bytes() == b"*".as_slice()
+    }
+
     /// Copies the label. It does not allocate.
     pub fn clone(&self) -> ProtoResult<Self>
         ensures { result ≡ Ok self.now }
@@ -98,6 +130,22 @@ impl Label {
         ensures label { IsLabel self.now }
     {
         self.0.as_slice()
+    }
+
+    /// Returns `true` if the labels are equal, ignoring ASCII case (RFC 4343).
+    pub fn eq_ignore_ascii_case(&self, other: &Self) -> bool
+        ensures { IsTrue result ↔ (lower_label self.now ≡ lower_label other.now) }
+    {
+        self.as_bytes().eq_ignore_ascii_case(other.as_bytes())
+    }
+
+    /// Compares two labels byte by byte from the left, as `F` compares bytes. A label that is the beginning of another
+    /// comes before it.
+    pub fn cmp_with_f<F: LabelCmp>(&self, other: &Self) -> Ordering
+        ensures order { result ≡ slice_cmp F.order self.now other.now }
+        ensures total { IsTotalPreorder AreOctets (slice_cmp F.order) }
+    {
+        cmp_bytes::<F>(self.as_bytes(), other.as_bytes())
     }
 
     /// Returns the label as text. Letters, digits and `_` stand for themselves, and so do a `*` at the start and a `-`
@@ -208,6 +256,118 @@ impl fmt::Debug for Label {
     fn fmt<W: fmt::Write>(&self, f: &mut fmt::Formatter<W>) -> fmt::Result {
         fmt::Display::fmt(self, f)
     }
+}
+
+/// Labels are equal ignoring ASCII case (RFC 4343).
+impl PartialEq for Label {
+    ghost eq = { label_eq };
+
+    ghost laws = { Prim.search (comparing, rules) };
+
+    fn eq(&self, other: &Self) -> bool {
+        self.eq_ignore_ascii_case(other)
+    }
+}
+
+impl Eq for Label {
+    ghost laws = { Prim.search (comparing, rules) };
+}
+
+impl PartialOrd for Label {
+    ghost partial_cmp = { as_partial_cmp label_cmp };
+
+    ghost laws = { partial_order_from_own_ties (Prim.search (comparing, rules)) (Prim.search (comparing, rules)) };
+
+    fn partial_cmp(&self, other: &Self) -> Option<Ordering> {
+        Some(self.cmp(other))
+    }
+}
+
+/// Labels are ordered as strings of unsigned bytes from the left, a shorter one before those that it begins, and ignoring
+/// ASCII case (RFC 4034, section 6.1).
+impl Ord for Label {
+    ghost cmp = { label_cmp };
+
+    ghost total = { Prim.search (comparing, rules) };
+
+    ghost matches_partial_cmp = { Prim.search (comparing, rules) };
+
+    ghost matches_eq = { Prim.search (comparing, rules) };
+
+    fn cmp(&self, other: &Self) -> Ordering {
+        self.cmp_with_f::<CaseInsensitive>(other)
+    }
+}
+
+/// A label is hashed as its length and its bytes in lower case, so equal labels have equal hashes.
+impl Hash for Label {
+    ghost hash_input = { label_hash_input };
+
+    ghost respects_eq = { Prim.search (hashing, rules) };
+
+    fn hash<H: Hasher>(&self, state: &mut H) {
+        let mut lowered = ArrayVec::<u8, MAX_LABEL>::new();
+        lowered.try_extend_from_slice(self.as_bytes()).unwrap();
+        lowered.as_mut_slice().make_ascii_lowercase();
+        state.write_u8(self.len() as u8);
+        state.write(lowered.as_slice());
+    }
+}
+
+/// How the bytes of labels compare.
+pub trait LabelCmp {
+    ghost use Rattle.std.specs.Prelude.{◌≡◌, ℕ};
+    ghost use Rattle.std.specs.declared.cmp.Ordering.{Ordering};
+    ghost use Rattle.dnw_label.specs.LabelOrder.{IsTotalPreorder, IsOctet};
+
+    // How two bytes compare.
+    ghost order: { ℕ → ℕ → Ordering };
+
+    /// Compares two bytes.
+    fn cmp_u8(l: u8, r: u8) -> Ordering
+        ensures { result ≡ order l r };
+
+    // The bytes are totally ordered, though different ones may be equal.
+    ghost total: { IsTotalPreorder IsOctet order };
+}
+
+/// Compares bytes as they are.
+pub struct CaseSensitive;
+
+impl LabelCmp for CaseSensitive {
+    ghost order = { nat_cmp };
+
+    ghost total = { of_octets nat_cmp_total };
+
+    fn cmp_u8(l: u8, r: u8) -> Ordering {
+        l.cmp(&r)
+    }
+}
+
+/// Compares bytes ignoring ASCII case (RFC 4343).
+pub struct CaseInsensitive;
+
+impl LabelCmp for CaseInsensitive {
+    ghost order = { octet_cmp_ignore_case };
+
+    ghost total = { of_octets (on_total to_ascii_lowercase nat_cmp_total) };
+
+    fn cmp_u8(l: u8, r: u8) -> Ordering {
+        l.to_ascii_lowercase().cmp(&r.to_ascii_lowercase())
+    }
+}
+
+/// Compares bytes from the left by `F`: the first that are not equal decide, and else the lengths.
+pub fn cmp_bytes<F: LabelCmp>(left: &[u8], right: &[u8]) -> Ordering
+    ensures { result ≡ slice_cmp F.order left.now right.now }
+{
+    for i in 0..left.len().min(right.len()) {
+        let order = F::cmp_u8(left[i], right[i]);
+        if order.is_ne() {
+            return order;
+        }
+    }
+    left.len().cmp(&right.len())
 }
 
 /// Types that give a label: labels, texts and bytes.

@@ -7,10 +7,11 @@ ghost use Rattle.dnw_base.specs.Limits.{max_labels, pointer_offsets};
 ghost use Rattle.dnw_error.specs.Fault.{Follows, NeedsErrorText};
 ghost use Rattle.dnw_base.specs.Decoder.{Decoder};
 ghost use Rattle.dnw_base.specs.Labels.{wildcard};
-ghost use Rattle.dnw_base.specs.Names.{NameValue, AreLabels, encoded_size, IsWildcard, lower, wire};
+ghost use Rattle.dnw_base.specs.Names.{NameValue, AreLabels, encoded_size, IsWildcard, IsZoneOf, lower, wire};
 ghost use Rattle.dnw_reading.specs.Reading.{TakesName, StopsAt};
-ghost use Rattle.dnw_form.specs.Edits.{append_label, append_name, append_domain};
+ghost use Rattle.dnw_form.specs.Edits.{append_label, prepend_label, append_name, append_domain, base_name, trim_to, into_wildcard};
 ghost use Rattle.dnw_form.specs.NameText.{name_text, name_from_text, name_from_text_at, IsLabelText};
+ghost use Rattle.dnw_form.specs.Order.{IsLocalhost, IsZoneOfCase};
 
 use crate::name_ref::NameRef;
 use arrayvec::ArrayString;
@@ -19,12 +20,18 @@ use dnw_base::limits::MAX_NAME;
 use dnw_error::error::{DecodeError, ProtoError, ProtoResult};
 use dnw_form::form::WireForm;
 pub use dnw_form::label_iter::LabelIter;
-use dnw_form::text;
+use dnw_form::wire_labels::WireLabels;
+use dnw_form::{order, text};
 use dnw_label::label::IntoLabel;
 use dnw_reading::walk::ReadSteps;
 use std::alloc::Global;
 use std::fmt;
 use std::marker::Model;
+
+mod ordering;
+
+/// The wire form of `localhost` (RFC 6761, section 6.3).
+const LOCALHOST: &[u8] = b"\x09localhost\x00";
 
 /// A domain name: its labels, and whether it is fully qualified, so that it ends at the root (RFC 1034, section 3.1).
 ///
@@ -165,9 +172,18 @@ impl Name {
         })
     }
 
-    /// Returns an iterator over the labels, from the left, as their bytes.
+    /// Returns an iterator over the labels, from the left or from the right, as their bytes.
     #[inline(always)]
     pub fn iter(&self) -> LabelIter<'_>
+        ensures labels { result ≡ self.now.labels }
+        ensures names { AreLabels self.now.labels }
+    {
+        self.form.iter()
+    }
+
+    /// Returns an iterator over the labels from the left, which returns the wire form of those that are left, too.
+    #[inline(always)]
+    pub fn wire_labels(&self) -> WireLabels<'_>
         ensures labels { result ≡ self.now.labels }
         ensures names { AreLabels self.now.labels }
     {
@@ -184,15 +200,27 @@ impl Name {
         Ok(self)
     }
 
+    /// Returns the name with a label at the front. It fails with `DomainNameTooLong` and the size of the name up to the
+    /// first label, from the left, that brings it past 255. It allocates only if making the label does.
+    pub fn prepend_label<L: IntoLabel>(&self, alloc: Global, label: L) -> ProtoResult<Self>
+        ensures follows { Follows (prepend_label self.now (L.label_of label)) (L.may_run_out label) result }
+    {
+        let label = label.into_label(alloc)?;
+        let mut form = WireForm::new(alloc);
+        form.push(label.as_bytes())?;
+        form.append(self.wire_labels())?;
+        Ok(Name {
+            is_fqdn: self.is_fqdn,
+            form,
+        })
+    }
+
     /// Adds the labels of `other`, and takes its flag. It fails with `DomainNameTooLong` and the size with the first
     /// label that does not fit.
     pub fn append_name(mut self, other: &Self) -> ProtoResult<Self>
         ensures follows { Follows (append_name self other.now) ⊥ result }
     {
-        let mut labels = other.iter();
-        while let Some(label) = labels.next() {
-            self.form.push(label)?;
-        }
+        self.form.append(other.wire_labels())?;
         self.is_fqdn = other.is_fqdn;
         Ok(self)
     }
@@ -206,12 +234,51 @@ impl Name {
         Ok(name)
     }
 
+    /// Returns the name without its first label, fully qualified. If there is none, it returns a copy. It does not
+    /// allocate and cannot fail.
+    pub fn base_name(&self) -> ProtoResult<Self>
+        ensures { result ≡ Ok (base_name self.now) }
+    {
+        let len = self.wire_labels().len();
+        if len == 0 {
+            return self.clone();
+        }
+        self.trim_to(len - 1)
+    }
+
+    /// Returns the last labels, `num_labels` of them, as a fully qualified name. If there are fewer, it returns a copy. It
+    /// does not allocate and cannot fail.
+    pub fn trim_to(&self, num_labels: usize) -> ProtoResult<Self>
+        ensures { result ≡ Ok (trim_to self.now num_labels) }
+    {
+        if num_labels > self.wire_labels().len() {
+            return self.clone();
+        }
+        Ok(Name::qualified(self.form.last(num_labels)))
+    }
+
+    /// Returns `true` if this name is the zone of `name`: its labels are the last ones of `name`, with capitals as they
+    /// are. Whether they are fully qualified is ignored.
+    pub fn zone_of_case(&self, name: &Self) -> bool
+        ensures { IsTrue result ↔ IsZoneOfCase self.now.labels name.now.labels }
+    {
+        order::is_zone_of_case(self.wire_labels(), name.wire_labels())
+    }
+
+    /// Returns `true` if this name is the zone of `name`: its labels are the last ones of `name`, ignoring ASCII case (RFC
+    /// 1034, section 4.2, and RFC 4343). Whether they are fully qualified is ignored.
+    pub fn zone_of(&self, name: &Self) -> bool
+        ensures { IsTrue result ↔ IsZoneOf self.now.labels name.now.labels }
+    {
+        order::is_zone_of(self.wire_labels(), name.wire_labels())
+    }
+
     /// Returns the number of labels, without a `*` at the start.
     pub fn num_labels(&self) -> u8
         ensures wildcard { IsWildcard self.now.labels → result + 1 ≡ length self.now.labels }
         ensures other { ¬ (IsWildcard self.now.labels) → result ≡ length self.now.labels }
     {
-        let mut labels = self.iter();
+        let mut labels = self.wire_labels();
         let Some(first) = labels.next() else {
             return 0;
         };
@@ -322,6 +389,37 @@ impl Name {
         let _size = self.encoded_len();
         Ok(self.to_string(alloc)?)
     }
+
+    /// Returns `true` if the last label is `localhost`, ignoring ASCII case (RFC 6761, section 6.3).
+    pub fn is_localhost(&self) -> bool
+        ensures { IsTrue result ↔ IsLocalhost self.now.labels }
+    {
+        order::is_zone_of(WireLabels::new(LOCALHOST), self.wire_labels())
+    }
+
+    /// Returns `true` if the first label is `*` (RFC 4592, section 2.1.1).
+    pub fn is_wildcard(&self) -> bool
+        ensures { IsTrue result ↔ IsWildcard self.now.labels }
+    {
+        match self.wire_labels().next() {
+            Some(first) => is_asterisk(first),
+            None => false,
+        }
+    }
+
+    /// Returns the name with `*` in place of its first label. Without labels it becomes the root. It does not allocate and
+    /// cannot fail.
+    pub fn into_wildcard(self) -> ProtoResult<Self>
+        ensures { result ≡ Ok (into_wildcard self) }
+    {
+        match self.form.to_wildcard() {
+            Some(form) => Ok(Name {
+                is_fqdn: self.is_fqdn,
+                form,
+            }),
+            None => Ok(Name::qualified(self.form)),
+        }
+    }
 }
 
 fn is_asterisk(label: &[u8]) -> bool
@@ -347,7 +445,7 @@ impl fmt::Display for Name {
 
     fn fmt<W: fmt::Write>(&self, f: &mut fmt::Formatter<W>) -> fmt::Result {
         let mut text = ArrayString::<{ text::MAX_TEXT }>::new();
-        text::push_labels_text(&mut text, self.iter());
+        text::push_labels_text(&mut text, self.wire_labels());
         if self.is_fqdn {
             text.push('.');
         }

@@ -5,6 +5,7 @@ ghost use Rattle.dnw_base.specs.Limits.{max_labels, max_name, pointer_offsets};
 ghost use Rattle.dnw_reading.specs.Reading.{TakesName, StopsAt};
 ghost use Rattle.dnw_base.specs.Names.{AreLabels, IsZoneOf, encoded_size, lower, wire};
 ghost use Rattle.dnw_reading.specs.Inside.Found.{labels_at};
+ghost use Rattle.dnw_form.specs.Order.{labels_cmp};
 
 use crate::name::Name;
 use dnw_base::decoder::BinDecoder;
@@ -16,6 +17,7 @@ use dnw_reading::ref_labels::RefLabels;
 use dnw_reading::walk::{self, ReadSteps};
 use smallvec::SmallVec;
 use std::alloc::Global;
+use std::cmp::Ordering;
 use std::marker::Model;
 
 mod compare;
@@ -132,7 +134,18 @@ impl<'a> NameRef<'a> {
     pub fn eq_name(&self, other: &Name) -> bool
         ensures { IsTrue result ↔ (lower self.now ≡ lower other.now.labels) }
     {
-        self.encoded_len() == other.encoded_len() && compare::eq_labels(self.labels(), other.iter())
+        self.encoded_len() == other.encoded_len()
+            && compare::eq_labels(self.labels(), other.wire_labels())
+    }
+
+    /// Compares the labels with those of `other` in canonical order (RFC 4034, section 6.1): from the last one, and ignoring
+    /// ASCII case. It ignores whether `other` is fully qualified.
+    ///
+    /// So the names of a message can be looked up in a sorted store without a copy.
+    pub fn cmp_name(&self, other: &Name) -> Ordering
+        ensures { result ≡ labels_cmp self.now other.now.labels }
+    {
+        compare::cmp_labels(self.labels(), other.wire_labels())
     }
 
     /// Returns `true` if this name is in the zone: its last labels are those of `zone`, ignoring ASCII case (RFC 1034,
@@ -142,7 +155,7 @@ impl<'a> NameRef<'a> {
     pub fn zone_of(&self, zone: &Name) -> bool
         ensures { IsTrue result ↔ IsZoneOf zone.now.labels self.now }
     {
-        let zone_labels = zone.iter();
+        let zone_labels = zone.wire_labels();
         let last = compare::last_labels(self.labels(), zone_labels.len());
         compare::eq_labels(last, zone_labels)
     }
@@ -191,7 +204,7 @@ impl Name {
             message: self.as_wire(),
             first: 0,
             size: self.encoded_len(),
-            labels: self.iter().len(),
+            labels: self.wire_labels().len(),
             in_one_piece: true,
         }
     }

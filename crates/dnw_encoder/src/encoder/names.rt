@@ -11,7 +11,7 @@ ghost use Rattle.dnw_candidates.specs.Candidates.{FindsUsable};
 use super::{BinEncoder, NameEncoding};
 use dnw_base::limits::{POINTER_MARK, POINTER_REACH};
 use dnw_error::error::ProtoResult;
-use dnw_form::label_iter::LabelIter;
+use dnw_form::wire_labels::WireLabels;
 use dnw_name::name::Name;
 
 /// A suffix of a name that a pointer can stand for.
@@ -78,7 +78,7 @@ impl<'a> BinEncoder<'a> {
             (λ suffix. IsSuffix (value self.now) name.now.labels suffix.labels suffix.size suffix.target) }
         ensures reached { IfSome result (λ suffix. suffix.target < pointer_reach) }
     {
-        let mut rest = name.iter();
+        let mut rest = name.wire_labels();
         let mut labels = 0;
         let mut size = 0;
         'suffixes: loop {
@@ -97,7 +97,7 @@ impl<'a> BinEncoder<'a> {
     }
 
     /// Returns the offset of the first candidate that is usable for the labels.
-    fn find_usable(&self, labels: LabelIter<'_>) -> Option<u16>
+    fn find_usable(&self, labels: WireLabels<'_>) -> Option<u16>
         ensures finds { FindsUsable (so_far (value self.now)) labels.entry (value self.now).candidates result }
         ensures reached { IfSome result (λ offset. offset < pointer_reach) }
     {
@@ -160,7 +160,7 @@ impl<'a> BinEncoder<'a> {
         }
         let allowed = self.candidate_limit.saturating_sub(self.candidates.len());
         self.candidates
-            .push_suffixes(self.offset, name.iter(), count.min(allowed))?;
+            .push_suffixes(self.offset, name.wire_labels(), count.min(allowed))?;
         Ok(())
     }
 

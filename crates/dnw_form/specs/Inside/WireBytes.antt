@@ -1,5 +1,5 @@
 -- The labels that the octets of a wire form give.
-use Rattle.std.specs.Prelude.{◌≡◌, ℕ, zero, suc, List, [], ◌∷◌, length, take, drop}
+use Rattle.std.specs.Prelude.{◌≡◌, ℕ, zero, suc, List, [], ◌∷◌, ◌++◌, length, take, drop}
 use Rattle.dnw_base.specs.Labels.{IsLabel}
 use Rattle.dnw_base.specs.Names.{AreLabels, wire}
 
@@ -24,3 +24,12 @@ pub record SplitsLabel (bytes label rest : List ℕ) : Type 0 where
   pub labels : labels_of bytes ≡ label ∷ labels_of rest
   pub is_label : IsLabel label
   pub others : IsWire rest
+
+-- octets with a closing zero
+abbrev pub closed : List ℕ → List ℕ
+closed bytes = bytes ++ 0 ∷ []
+
+-- A wire form without its last label is the wire form of the others; both without the closing zero.
+pub record SplitsLast (bytes before label : List ℕ) : Type 0 where
+  pub labels : labels_of (closed bytes) ≡ labels_of (closed before) ++ label ∷ []
+  pub others : IsWire (closed before)

@@ -1,12 +1,12 @@
 use Rattle.std.proofs.Common.{◌≡◌, ◌+◌, length}
-use Rattle.dnw_form.specs.Inside.WireBytes.{IsWire, labels_of}
+use Rattle.dnw_form.specs.Inside.WireBytes.{closed, IsWire, labels_of}
 use Rattle.dnw_form.proofs.label_iter.count_labels.Given as goal
 
-abbrev pub invariant-loop-others : goal.invariant-loop-others
-invariant-loop-others l = record {
-  rest : IsWire l.rest;
-  counted : l.count + length (labels_of l.rest) ≡ length (labels_of l.wire);
+abbrev pub invariant-labels : goal.invariant-labels
+invariant-labels l = record {
+  rest : IsWire (closed l.rest);
+  counted : l.count + length (labels_of (closed l.rest)) ≡ length (labels_of (closed l.fn.labels));
 }
 
-abbrev pub decreases-loop-others : goal.decreases-loop-others
-decreases-loop-others l = length (labels_of l.rest)
+abbrev pub decreases-labels : goal.decreases-labels
+decreases-labels l = length (labels_of (closed l.rest))

@@ -6,9 +6,9 @@ use Rattle.dnw_name.proofs.name.Name.num_labels.Goals.{After-len-others}
 -- there are few labels behind the first
 few : (c : After-len-others) → c.len-others.result + 1 ≤ 127
 few c =
-    let all : length c.iter-labels.result ≡ length c.args.self.now.labels = ap length c.iter-labels.ensures.labels in
-    let split : length c.iter-labels.result ≡ length c.next.new.self + 1 = rw c.in-Some.ensures.steps (omega arith) in
-    omega (arith, AreLabels-few _ c.iter-labels.ensures.names)
+    let all : length c.wire_labels-labels.result ≡ length c.args.self.now.labels = ap length c.wire_labels-labels.ensures.labels in
+    let split : length c.wire_labels-labels.result ≡ length c.next.new.self + 1 = rw c.in-Some.ensures.steps (omega arith) in
+    omega (arith, AreLabels-few _ c.wire_labels-labels.ensures.names)
 
 pub overflow_cast-others : goal.overflow_cast-others
 overflow_cast-others c = omega (arith, few c)

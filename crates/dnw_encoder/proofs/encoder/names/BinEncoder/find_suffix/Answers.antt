@@ -27,7 +27,7 @@ within c =
     let (within, rest, size, none) = c.suffixes.invariant in
     let (more, others, bytes) = drop_next c.args.name.now.labels c.suffixes.labels c.in_ok-label.label.now c.next.new.self (sym rest ∙ c.in_ok-label.ensures.steps) in
     let ls = c.args.name.now.labels in
-    let names = c.iter-rest.ensures.names in
+    let names = c.wire_labels-rest.ensures.names in
     (omega (arith, more, AreLabels-few ls names), omega (arith, size, bytes, labels_wire_take (c.suffixes.labels + 1) ls, length-all ls, names.fit))
 
 pub overflow_add-labels : goal.overflow_add-labels

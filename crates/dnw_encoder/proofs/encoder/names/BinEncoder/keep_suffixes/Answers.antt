@@ -18,7 +18,7 @@ pub push_suffixes-requires : goal.push_suffixes-requires
 push_suffixes-requires c =
     let near : c.args.self.now.offset + length (labels_wire c.args.name.now.labels) < 16383 =
     omega (arith, c.if-encoded_len-min.false, c.min.ensures, c.encoded_len.ensures.size, length-all c.args.name.now.labels) in
-    record { reached = rw c.iter.ensures.labels near }
+    record { reached = rw c.wire_labels.ensures.labels near }
 
 pub returns-in_err-push_suffixes-clause-needed : goal.returns-in_err-push_suffixes-clause-needed
 returns-in_err-push_suffixes-clause-needed c =
@@ -27,7 +27,7 @@ returns-in_err-push_suffixes-clause-needed c =
     let near : v.offset + length (labels_wire ls) < 16383 = omega (arith, c.if-encoded_len-min.false, c.min.ensures, c.encoded_len.ensures.size, length-all ls) in
     let count : c.min-2.result ≡ min c.args.count (v.candidate_limit - length v.candidates) = omega (arith, c.min-2.ensures, c.saturating_sub-allowed.ensures, c.len.ensures) in
     let p = err_from_is_err_and c.from_residual.result c.from_residual.ensures.1 in
-    rw p.1 (λ none. c.in_err-push_suffixes.ensures.needed (kept-some v ls c.iter.result c.args.count c.min-2.result near count c.iter.ensures.labels ∙ none))
+    rw p.1 (λ none. c.in_err-push_suffixes.ensures.needed (kept-some v ls c.wire_labels.result c.args.count c.min-2.result near count c.wire_labels.ensures.labels ∙ none))
 
 pub returns-clause-ok : goal.returns-clause-ok
 returns-clause-ok c =
@@ -35,5 +35,5 @@ returns-clause-ok c =
     let ls = c.args.name.now.labels in
     let near : v.offset + length (labels_wire ls) < 16383 = omega (arith, c.if-encoded_len-min.false, c.min.ensures, c.encoded_len.ensures.size, length-all ls) in
     let count : c.min-2.result ≡ min c.args.count (v.candidate_limit - length v.candidates) = omega (arith, c.min-2.ensures, c.saturating_sub-allowed.ensures, c.len.ensures) in
-    let same = kept-some v ls c.iter.result c.args.count c.min-2.result near count c.iter.ensures.labels in
+    let same = kept-some v ls c.wire_labels.result c.args.count c.min-2.result near count c.wire_labels.ensures.labels in
     ap (λ cs. record v { candidates = cs }) (c.in_ok-push_suffixes.ensures.ok ∙ ap (λ cs. v.candidates ++ cs) same)

@@ -1,6 +1,6 @@
 -- The first octet of a form tells whether a label follows.
 use Rattle.dnw_form.proofs.Wires.{IsWire-zero, IsWire-front, Front-splits}
-use Rattle.dnw_form.proofs.label_iter.split_label.Goals as goal
+use Rattle.dnw_form.proofs.wire_labels.split_label.Goals as goal
 
 pub returns-then-len-eq0 : goal.returns-then-len-eq0
 returns-then-len-eq0 c = IsWire-zero _ _ _ c.requires c.in_ok-len.ensures.cases.0 c.if-len-eq0.true

@@ -1,0 +1,14 @@
+use Rattle.std.proofs.Common.{◌∙◌}
+use Rattle.std.proofs.lemmas.Cmp.{ranked}
+use Rattle.std.specs.Cmp.Lexicographic.{slice_cmp}
+use Rattle.dnw_form.proofs.Comparing.{last_decide}
+use Rattle.dnw_form.proofs.order.cmp_labels_by.Goals as goal
+
+pub returns : goal.returns
+returns g c =
+    let R = slice_cmp g.F.LabelCmp.order in
+    let lengths = rw (c.len-left_len.ensures.value, c.len-right_len.ensures.value) at (ranked c.len-left_len.result c.len-right_len.result c.cmp.result c.cmp.ensures) in
+    let lefts = rw c.len-right_len.ensures.value at c.last_labels-lefts.ensures in
+    let rights = rw c.len-left_len.ensures.value at c.last_labels-rights.ensures in
+    rw (c.cmp_pairs.ensures, lefts, rights) at c.then.ensures
+    ∙ last_decide R c.args.left c.args.right c.cmp.result lengths

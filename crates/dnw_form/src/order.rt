@@ -1,0 +1,126 @@
+//! The order, equality and hash of the labels of names, and which are the last ones of others.
+ghost use Rattle.std.specs.Prelude.{◌≡◌, ℕ, ◌-◌, ◌↔◌, if◌then◌else◌, List, [], ◌∷◌, ◌++◌, length, reverse, drop, fold, IsTrue};
+ghost use Rattle.std.specs.Cmp.Lexicographic.{slice_cmp};
+ghost use Rattle.dnw_base.specs.Names.{IsZoneOf, encoded_size, lower, wire};
+ghost use Rattle.dnw_form.specs.Order.{labels_cmp, labels_cmp_by, labels_cmp_case, name_hash_input, IsZoneOfCase};
+
+use crate::wire_labels::WireLabels;
+use arrayvec::ArrayVec;
+use dnw_base::limits::MAX_NAME;
+use dnw_label::label::{CaseInsensitive, CaseSensitive, LabelCmp, cmp_bytes};
+use std::cmp::Ordering;
+use std::hash::Hasher;
+
+/// The most bytes that a name is hashed as: its wire form and its flag.
+const HASHED: usize = MAX_NAME + 1;
+
+/// Compares labels from the last one, ignoring ASCII case (RFC 4034, section 6.1).
+pub fn cmp_labels(left: WireLabels<'_>, right: WireLabels<'_>) -> Ordering
+    ensures { result ≡ labels_cmp left.entry right.entry }
+{
+    cmp_labels_by::<CaseInsensitive>(left, right)
+}
+
+/// Compares labels from the last one, with capitals as they are.
+pub fn cmp_labels_case(left: WireLabels<'_>, right: WireLabels<'_>) -> Ordering
+    ensures { result ≡ labels_cmp_case left.entry right.entry }
+{
+    cmp_labels_by::<CaseSensitive>(left, right)
+}
+
+/// Compares labels from the last one, and their bytes as `F` does. Labels come before those that end in them.
+fn cmp_labels_by<F: LabelCmp>(left: WireLabels<'_>, right: WireLabels<'_>) -> Ordering
+    ensures { result ≡ labels_cmp_by F.order left.entry right.entry }
+{
+    let (left_len, right_len) = (left.len(), right.len());
+    let lefts = last_labels(left, right_len);
+    let rights = last_labels(right, left_len);
+    cmp_pairs::<F>(lefts, rights).then(left_len.cmp(&right_len))
+}
+
+/// Returns the last `count` labels, or all if there are fewer.
+pub fn last_labels(mut labels: WireLabels<'_>, count: usize) -> WireLabels<'_>
+    ensures { result ≡ drop (length labels.entry - count) labels.entry }
+{
+    'passed: while labels.len() > count {
+        let _passed = labels.next();
+    }
+    labels
+}
+
+/// Compares as many labels as there are on the other side. The last ones that differ decide.
+fn cmp_pairs<F: LabelCmp>(mut lefts: WireLabels<'_>, mut rights: WireLabels<'_>) -> Ordering
+    requires { length lefts ≡ length rights }
+    ensures { result ≡ slice_cmp (slice_cmp F.order) (reverse lefts.entry) (reverse rights.entry) }
+{
+    let mut order = Ordering::Equal;
+    'pairs: while let Some(left) = lefts.next() {
+        let Some(right) = rights.next() else {
+            return order;
+        };
+        order = cmp_bytes::<F>(left, right).then(order);
+    }
+    order
+}
+
+/// Returns `true` if the labels are equal, ignoring ASCII case (RFC 4343).
+pub fn eq_labels(left: WireLabels<'_>, right: WireLabels<'_>) -> bool
+    ensures { IsTrue result ↔ (lower left.entry ≡ lower right.entry) }
+{
+    // Length octets are no letters.
+    left.as_wire().eq_ignore_ascii_case(right.as_wire())
+}
+
+/// Returns `true` if the labels are equal, with capitals as they are.
+pub fn eq_labels_case(left: WireLabels<'_>, right: WireLabels<'_>) -> bool
+    ensures { IsTrue result ↔ (left.entry ≡ right.entry) }
+{
+    left.as_wire() == right.as_wire()
+}
+
+/// Returns `true` if the last labels are those of the zone, ignoring ASCII case (RFC 1034, section 4.2, and RFC 4343).
+pub fn is_zone_of(zone: WireLabels<'_>, labels: WireLabels<'_>) -> bool
+    ensures { IsTrue result ↔ IsZoneOf zone.entry labels.entry }
+{
+    eq_labels(last_octets(labels, zone.as_wire().len()), zone)
+}
+
+/// Returns `true` if the last labels are those of the zone, with capitals as they are.
+pub fn is_zone_of_case(zone: WireLabels<'_>, labels: WireLabels<'_>) -> bool
+    ensures { IsTrue result ↔ IsZoneOfCase zone.entry labels.entry }
+{
+    eq_labels_case(last_octets(labels, zone.as_wire().len()), zone)
+}
+
+/// Returns the last labels whose wire form has `size` octets, or fewer if there are none.
+fn last_octets(mut labels: WireLabels<'_>, size: usize) -> WireLabels<'_>
+    ensures last { (front : List (List ℕ)) × (labels.entry ≡ front ++ result) }
+    ensures size { (front rest : List (List ℕ)) → labels.entry ≡ front ++ rest → encoded_size rest ≡ size → result ≡ rest }
+{
+    'passed: while labels.as_wire().len() > size {
+        let Some(_) = labels.next() else {
+            return labels;
+        };
+    }
+    labels
+}
+
+/// Feeds a name to a hasher: its wire form in lower case, and whether it is fully qualified.
+pub fn hash_name<H: Hasher>(is_fqdn: bool, labels: WireLabels<'_>, state: &mut H)
+    ensures { state.new ≡ fold H.write state.old (name_hash_input (record { is_fqdn = is_fqdn; labels = labels.entry })) }
+{
+    state.write(hashed(is_fqdn, labels).as_slice());
+}
+
+/// Returns the bytes that a name is hashed as.
+#[inline(always)]
+fn hashed(is_fqdn: bool, labels: WireLabels<'_>) -> ArrayVec<u8, HASHED>
+    ensures { result.items ≡ wire (lower labels.entry) ++ (if is_fqdn then 1 else 0) ∷ [] }
+{
+    let mut bytes = ArrayVec::new();
+    bytes.try_extend_from_slice(labels.as_wire()).unwrap();
+    // Length octets are no letters.
+    bytes.as_mut_slice().make_ascii_lowercase();
+    bytes.push(u8::from(is_fqdn));
+    bytes
+}
