@@ -49,5 +49,8 @@ int main(void)
     EXPECT(dnw_clone_names(BYTES("\001a\002bc\000\000"), 3) == 6);
     EXPECT(dnw_collect_names(BYTES("\001a\002bc\000\000"), 3) == 6);
     EXPECT(dnw_collect_names(BYTES("\001a"), 1) == (uint64_t)1 << 40);
+    EXPECT(dnw_compare(BYTES("\001b\000\001A\000\001a\000\001c\000"), 2) == 2 * (2 + 1 + 0));
+    EXPECT(dnw_sort(BYTES("\002bb\000\001A\000\000"), 1) == 1 * 1 + 2 * 3 + 3 * 4);
+    EXPECT(dnw_hash(BYTES("\001A\000"), 1) == dnw_hash(BYTES("\001a\000"), 1));
     return 0;
 }

@@ -230,6 +230,29 @@ static void refuses_to_write(void)
     EXPECT(written.len == 5 && written.count == 1 && holds("\003www\000", 5));
 }
 
+/* The order is that of RFC 4034, section 6.1: example, a.example, yljkjljk.a.example, Z.a.example, .. */
+static void compares(void)
+{
+    int32_t order = 7;
+    bool is = false;
+    size_t len = 7;
+    EXPECT(dnw_name_compare(BYTES("\007example\000"), BYTES("\001a\007example\000"), &order) == DNW_DONE && order == -1);
+    EXPECT(dnw_name_compare(BYTES("\001Z\001a\000"), BYTES("\010yljkjljk\001a\000"), &order) == DNW_DONE && order == 1);
+    EXPECT(dnw_name_compare(BYTES("\001Z\000"), BYTES("\001z\000"), &order) == DNW_DONE && order == 0);
+    EXPECT(dnw_name_compare(BYTES("\001Z\000\000"), BYTES("\001z\000"), &order) == DNW_BYTES_LEFT && order == 0);
+    EXPECT(dnw_name_compare(BYTES("\001Z\000"), BYTES("\001"), &order) == DNW_MESSAGE_CUT && order == 0);
+    EXPECT(dnw_name_equal(BYTES("\001Z\000"), BYTES("\001z\000"), &is) == DNW_DONE && is);
+    EXPECT(dnw_name_equal(BYTES("\001Z\000"), BYTES("\001y\000"), &is) == DNW_DONE && !is);
+    EXPECT(dnw_name_equal(BYTES("\100"), BYTES("\001y\000"), &is) == DNW_RESERVED_OCTET && !is);
+    EXPECT(dnw_name_in_zone(BYTES("\001b\001A\000"), BYTES("\001a\000"), &is) == DNW_DONE && is);
+    EXPECT(dnw_name_in_zone(BYTES("\001a\000"), BYTES("\001b\001A\000"), &is) == DNW_DONE && !is);
+    EXPECT(dnw_name_in_zone(BYTES("\001a\000"), BYTES("\001b\001A"), &is) == DNW_MESSAGE_CUT && !is);
+    clear();
+    EXPECT(dnw_name_to_lowercase(BYTES("\001A\002Bc\000"), buffer, 5, &len) == DNW_NO_ROOM && untouched() && len == 7);
+    EXPECT(dnw_name_to_lowercase(BYTES("\001A\002Bc\000"), buffer, 6, &len) == DNW_DONE && len == 6);
+    EXPECT(holds("\001a\002bc\000", 6));
+}
+
 static void tells_failures(void)
 {
     clear();
@@ -276,6 +299,7 @@ int main(void)
     prints();
     writes();
     refuses_to_write();
+    compares();
     tells_failures();
     lacks_memory();
     return 0;

@@ -94,6 +94,22 @@ uint32_t dnw_name_print(const uint8_t *form, size_t form_len, bool is_fqdn, uint
 uint32_t dnw_names_write(const uint8_t *names, size_t names_len, uint16_t max_size, uint8_t *out, size_t out_size,
                          struct dnw_written_names *written);
 
+/* Compares two names by their wire forms, in canonical order (RFC 4034, section 6.1): from the last label, as unsigned
+   octets, ignoring ASCII case, a name before those that end in it. Puts -1, 0 or 1 into `order`. It does not allocate. If
+   one of them is no wire form, it fails as dnw_name_read or with DNW_BYTES_LEFT; so do the next three. */
+uint32_t dnw_name_compare(const uint8_t *left, size_t left_len, const uint8_t *right, size_t right_len, int32_t *order);
+
+/* Puts whether two names are equal, ignoring ASCII case (RFC 4343). It does not allocate. */
+uint32_t dnw_name_equal(const uint8_t *left, size_t left_len, const uint8_t *right, size_t right_len, bool *is_equal);
+
+/* Puts whether a name is in a zone: the last labels of the name are those of the zone, ignoring ASCII case (RFC 1034,
+   section 4.2). It does not allocate. */
+uint32_t dnw_name_in_zone(const uint8_t *name, size_t name_len, const uint8_t *zone, size_t zone_len, bool *is_in_zone);
+
+/* Puts the wire form of a name with its ASCII letters in lower case, and its length into `len`. It does not allocate. It
+   fails with DNW_NO_ROOM if the wire form has more than `lowered_size` octets. */
+uint32_t dnw_name_to_lowercase(const uint8_t *form, size_t form_len, uint8_t *lowered, size_t lowered_size, size_t *len);
+
 /* Returns the length of the text for a number, at most 64, and puts the text if it fits. The text of 0 is `success`,
    and that of a number not listed above is empty. */
 size_t dnw_error_text(uint32_t number, uint8_t *text, size_t text_size);

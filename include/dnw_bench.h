@@ -34,6 +34,15 @@ uint64_t dnw_parse_names(const uint8_t *texts, size_t len, uint64_t count);
 /* Prints each name: the lengths of the texts. */
 uint64_t dnw_to_ascii(const uint8_t *names, size_t len, uint64_t count);
 
+/* Compares each name with the next in canonical order: 0, 1 or 2 if it is less, equal or greater. */
+uint64_t dnw_compare(const uint8_t *names, size_t len, uint64_t count);
+
+/* Sorts the names in canonical order: the sum of the sizes of their wire forms, each times its rank from 1. */
+uint64_t dnw_sort(const uint8_t *names, size_t len, uint64_t count);
+
+/* Hashes each name by SipHash 1-3: the hashes. */
+uint64_t dnw_hash(const uint8_t *names, size_t len, uint64_t count);
+
 #ifdef __cplusplus
 }
 #endif

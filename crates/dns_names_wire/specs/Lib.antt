@@ -7,10 +7,12 @@ pub mod Inside
 pub mod Finished
 pub mod ScriptLaws
 pub mod Words
-
 -- The files of the crates below that public clauses cite: callers name these as this crate's own.
 pub use Rattle.dnw_error.specs.Copies
 pub use Rattle.dnw_error.specs.Fault
+pub use Rattle.dnw_error.specs.TextTable
+pub use Rattle.dnw_error.specs.RecordTypes
+pub use Rattle.dnw_error.specs.DnsClasses
 pub use Rattle.dnw_base.specs.Checked
 pub use Rattle.dnw_base.specs.Decoder
 pub use Rattle.dnw_base.specs.Labels
@@ -18,10 +20,13 @@ pub use Rattle.dnw_base.specs.Limits
 pub use Rattle.dnw_base.specs.Names
 pub use Rattle.dnw_base.specs.Verified
 pub use Rattle.dnw_label.specs.LabelText
+pub use Rattle.dnw_label.specs.LabelOrder
 pub use Rattle.dnw_reading.specs.Reading
 pub use Rattle.dnw_reading.specs.ReadingLaws
 pub use Rattle.dnw_form.specs.Edits
 pub use Rattle.dnw_form.specs.NameText
+pub use Rattle.dnw_form.specs.Order
+pub use Rattle.dnw_form.specs.OrderLaws
 pub use Rattle.dnw_candidates.specs.Candidates
 pub use Rattle.dnw_name.specs.Decodable
 pub use Rattle.dnw_encoder.specs.EmittedName
