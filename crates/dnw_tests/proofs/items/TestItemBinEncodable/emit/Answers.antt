@@ -1,5 +1,5 @@
 use Rattle.dnw_tests.specs.TestItems.{then}
-use Rattle.dnw_tests.proofs.encoding.tests.TestItemBinEncodable.emit.Goals as goal
+use Rattle.dnw_tests.proofs.items.TestItemBinEncodable.emit.Goals as goal
 
 pub returns-clause-emits : goal.returns-clause-emits
 returns-clause-emits c =
