@@ -27,6 +27,9 @@ pub use Rattle.dnw_form.specs.Edits
 pub use Rattle.dnw_form.specs.NameText
 pub use Rattle.dnw_form.specs.Order
 pub use Rattle.dnw_form.specs.OrderLaws
+pub use Rattle.dnw_txt.specs.Tokens
+pub use Rattle.dnw_txt.specs.Lexing
+pub use Rattle.dnw_txt.specs.Times
 pub use Rattle.dnw_candidates.specs.Candidates
 pub use Rattle.dnw_name.specs.Decodable
 pub use Rattle.dnw_encoder.specs.EmittedName

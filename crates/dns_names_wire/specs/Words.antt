@@ -51,3 +51,8 @@ pub use Rattle.dns_names_wire.specs.Finished.{Finished, Shortest}
 pub use Rattle.dns_names_wire.specs.Runs.{Run}
 pub use Rattle.dns_names_wire.specs.ItemFrames.{frame-part, frame-item}
 pub use Rattle.dns_names_wire.specs.ScriptLaws.{RunsReply, RunsFinish, RunsStayUseful, RunsAreShortest}
+
+-- Master files: tokens, and times to live.
+pub use Rattle.dnw_txt.specs.Tokens.{TokenValue, LexFault, LexState, LexerValue}
+pub use Rattle.dnw_txt.specs.Lexing.{token_value, Lexes, Calls, EndsInTime}
+pub use Rattle.dnw_txt.specs.Times.{max_ttl, time_seconds, IsNoTtl, IsParseTime}

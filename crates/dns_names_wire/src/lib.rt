@@ -63,3 +63,10 @@ pub mod restrict {
 
 /// Scripts: messages written step by step.
 pub mod script;
+
+/// Master files: their tokens, and times to live (RFC 1035, section 5.1).
+pub mod txt {
+    pub use dnw_txt::errors::{LexerError, ParseError, ParseResult};
+    pub use dnw_txt::ttl::parse_ttl;
+    pub use dnw_txt::zone_lex::{Lexer, Token};
+}

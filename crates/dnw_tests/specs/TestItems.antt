@@ -1,9 +1,9 @@
 -- An item of a test: a byte, and character data after it.
 use Rattle.std.specs.Prelude.{◌≡◌, ◌⊎◌, ℕ, List, [], ◌∷◌, length, Ok, Err}
 use Rattle.std.proofs.Common.{inl, inr}
-use Rattle.dnw_encoder.specs.Encoder.{Encoder, Writes, WritesText}
-use Rattle.dnw_encoder.specs.Emitting.{Outcome, Frame}
-use Rattle.dnw_encoder.specs.EmittingLaws.{frame, frames-follow, frame-text}
+use Rattle.dns_names_wire.specs.Encoder.{Encoder, Writes, WritesText}
+use Rattle.dns_names_wire.specs.Emitting.{Outcome, Frame}
+use Rattle.dns_names_wire.specs.EmittingLaws.{frame, frames-follow, frame-text}
 
 -- the byte, and then the text; or the first of both that fails
 abbrev pub WritesBoth : ℕ → List ℕ → Encoder → Outcome → Encoder → Type 0
