@@ -3,6 +3,7 @@ ghost use Rattle.std.specs.Prelude.{◌≡◌, IfOk, IfErr};
 
 use crate::zone_lex::Token;
 use dnw_error::error::{DecodeError, ProtoError};
+use dnw_error::record_type::RecordType;
 use std::alloc::{AllocError, AllocFailed};
 use thiserror::Error;
 
@@ -42,6 +43,9 @@ pub enum ParseError {
     /// The code of no record type.
     #[error("unknown RecordType: {0}")]
     UnknownRecordType(u16),
+    /// A record type whose data cannot be read from text.
+    #[error("unsupported RecordType: {0}")]
+    UnsupportedRecordType(RecordType),
     /// An allocation failed.
     #[error("out of memory")]
     Memory,
@@ -200,6 +204,9 @@ impl ParseError {
                 Err(_) => Err(ParseError::Memory),
             },
             ParseError::UnknownRecordType(code) => Ok(ParseError::UnknownRecordType(*code)),
+            ParseError::UnsupportedRecordType(code) => {
+                Ok(ParseError::UnsupportedRecordType(*code))
+            }
             ParseError::Memory => Ok(ParseError::Memory),
         }
     }
