@@ -1,5 +1,5 @@
-/* Each function of dns_names_wire.h on good and on bad input. It says nothing where all is well, and exits by 1 at
-   the first answer that is not the expected one. What is expected stands in RFC 1035 or in the header. */
+/* Calls each function of dns_names_wire.h with good and with bad input. It prints nothing if all is well, and exits with 1
+   at the first result that is not the expected one. Expected values come from RFC 1035 or from the header. */
 #include "dns_names_wire.h"
 
 #include <stdio.h>
@@ -9,14 +9,14 @@
 #define EXPECT(fact)                                                                    \
     do {                                                                                \
         if (!(fact)) {                                                                  \
-            fprintf(stderr, "test.c:%d: not so: %s\n", __LINE__, #fact);                \
+            fprintf(stderr, "test.c:%d: failed: %s\n", __LINE__, #fact);                \
             exit(1);                                                                    \
         }                                                                               \
     } while (0)
 
 #define BYTES(text) ((const uint8_t *)(text)), (sizeof(text) - 1)
 
-/* While there is no memory, malloc and realloc give none: the linker puts these in their place. */
+/* While this is set, malloc and realloc fail: the linker puts the functions below in their place. */
 static bool no_memory;
 
 void *__real_malloc(size_t size);
@@ -36,7 +36,7 @@ void *__wrap_realloc(void *block, size_t size)
 
 static uint8_t buffer[1200];
 
-/* The buffer holds these bytes, and what stood behind them. */
+/* The buffer has these bytes, and is unchanged after them. */
 static bool holds(const char *bytes, size_t len)
 {
     return memcmp(buffer, bytes, len) == 0 && buffer[len] == 0xAA;
@@ -230,11 +230,36 @@ static void refuses_to_write(void)
     EXPECT(written.len == 5 && written.count == 1 && holds("\003www\000", 5));
 }
 
+/* The order is that of RFC 4034, section 6.1: example, a.example, yljkjljk.a.example, Z.a.example, .. */
+static void compares(void)
+{
+    int32_t order = 7;
+    bool is = false;
+    size_t len = 7;
+    EXPECT(dnw_name_compare(BYTES("\007example\000"), BYTES("\001a\007example\000"), &order) == DNW_DONE && order == -1);
+    EXPECT(dnw_name_compare(BYTES("\001Z\001a\000"), BYTES("\010yljkjljk\001a\000"), &order) == DNW_DONE && order == 1);
+    EXPECT(dnw_name_compare(BYTES("\001Z\000"), BYTES("\001z\000"), &order) == DNW_DONE && order == 0);
+    EXPECT(dnw_name_compare(BYTES("\001Z\000\000"), BYTES("\001z\000"), &order) == DNW_BYTES_LEFT && order == 0);
+    EXPECT(dnw_name_compare(BYTES("\001Z\000"), BYTES("\001"), &order) == DNW_MESSAGE_CUT && order == 0);
+    EXPECT(dnw_name_equal(BYTES("\001Z\000"), BYTES("\001z\000"), &is) == DNW_DONE && is);
+    EXPECT(dnw_name_equal(BYTES("\001Z\000"), BYTES("\001y\000"), &is) == DNW_DONE && !is);
+    EXPECT(dnw_name_equal(BYTES("\100"), BYTES("\001y\000"), &is) == DNW_RESERVED_OCTET && !is);
+    EXPECT(dnw_name_in_zone(BYTES("\001b\001A\000"), BYTES("\001a\000"), &is) == DNW_DONE && is);
+    EXPECT(dnw_name_in_zone(BYTES("\001a\000"), BYTES("\001b\001A\000"), &is) == DNW_DONE && !is);
+    EXPECT(dnw_name_in_zone(BYTES("\001a\000"), BYTES("\001b\001A"), &is) == DNW_MESSAGE_CUT && !is);
+    clear();
+    EXPECT(dnw_name_to_lowercase(BYTES("\001A\002Bc\000"), buffer, 5, &len) == DNW_NO_ROOM && untouched() && len == 7);
+    EXPECT(dnw_name_to_lowercase(BYTES("\001A\002Bc\000"), buffer, 6, &len) == DNW_DONE && len == 6);
+    EXPECT(holds("\001a\002bc\000", 6));
+}
+
 static void tells_failures(void)
 {
     clear();
     EXPECT(dnw_error_text(DNW_NO_MEMORY, buffer, 12) == 13 && untouched());
     EXPECT(dnw_error_text(DNW_NO_MEMORY, buffer, 13) == 13 && holds("out of memory", 13));
+    clear();
+    EXPECT(dnw_error_text(DNW_DONE, buffer, sizeof buffer) == 7 && holds("success", 7));
     for (uint32_t i = 0; i <= DNW_OTHER; i++) {
         size_t len = dnw_error_text(i, buffer, sizeof buffer);
         EXPECT(0 < len && len <= 64);
@@ -243,7 +268,7 @@ static void tells_failures(void)
     EXPECT(dnw_error_text(UINT32_MAX, buffer, sizeof buffer) == 0);
 }
 
-/* Without memory, what needs none answers as ever, and what needs some says so and writes nothing. */
+/* Without memory, what does not allocate succeeds, and what allocates says so and writes nothing. */
 static void lacks_memory(void)
 {
     struct dnw_read_name read = {7, 9};
@@ -264,25 +289,6 @@ static void lacks_memory(void)
     no_memory = false;
 }
 
-static void counts(void)
-{
-    static const uint32_t starts[] = {20, 40, 64, 92};
-    static const uint32_t refused[] = {0, 94};
-    /* the ends, and the lengths of the forms */
-    uint64_t sum = (32 + 46 + 66 + 93) + 65536 * (uint64_t)(12 + 16 + 6 + 1);
-    EXPECT(dnw_read_names(message, sizeof message, starts, 4, 0) == 0);
-    EXPECT(dnw_read_names(message, sizeof message, starts, 4, 3) == 3 * sum);
-    EXPECT(dnw_read_names(message, sizeof message, refused, 2, 1) == (uint64_t)1 << 41);
-    EXPECT(dnw_parse_names(BYTES("a.bc.\n.\n"), 2) == 14);
-    EXPECT(dnw_parse_names(BYTES("a..\na\n"), 1) == ((uint64_t)1 << 40) + 3);
-    EXPECT(dnw_parse_names(BYTES("\377"), 1) == 0);
-    EXPECT(dnw_to_ascii(BYTES("\001a\002bc\000\000"), 2) == 12);
-    EXPECT(dnw_to_ascii(BYTES("\001a"), 2) == 0);
-    EXPECT(dnw_emit_names(BYTES("\001a\002bc\000\000"), 2) == 14);
-    EXPECT(dnw_emit_names(BYTES("\001a"), 2) == 0);
-    EXPECT(dnw_emit_names(BYTES("\001a\000"), 0) == 0);
-}
-
 int main(void)
 {
     make_message();
@@ -293,8 +299,8 @@ int main(void)
     prints();
     writes();
     refuses_to_write();
+    compares();
     tells_failures();
     lacks_memory();
-    counts();
     return 0;
 }

@@ -1,11 +1,11 @@
 #!/usr/bin/env python3
-"""Makes the list of the Rust's answers: requests by a generator with a fixed seed, answers by an oracle, a program
+"""Makes the lists of the Rust's answers: requests by a generator with a fixed seed, answers by an oracle, a program
 over hickory-proto 0.26.3 that answers requests line by line.
 
     make.py ORACLE    writes the lists beside itself
 
-README.md tells their format. What is asked: readings at each place of messages that are valid, cut, changed in a
-byte or hostile; scripts of an encoder without refusals; the texts of names, both ways.
+README.md has their format. The requests: readings at each offset of messages that are valid, cut, changed in a byte or
+hostile; steps of an encoder of which none fails; the texts of names, both ways.
 """
 import os
 import re
@@ -86,7 +86,7 @@ def decode_code(debug):
 
 
 def proto_code(debug, display):
-    """The oracle escapes control characters, so the rest of a text is told only where nothing may be escaped."""
+    """The oracle escapes control characters, so the rest of a text is left out if something in it may be escaped."""
     if m := re.fullmatch(r"Decode\((.*)\)", debug):
         return decode_code(m.group(1))
     for prefix, code in MSG:
@@ -145,7 +145,7 @@ def chain(pointers):
 
 
 def deep(labels):
-    """Labels of one byte, each behind the last one by a pointer."""
+    """Labels of one byte, each before the last one by a pointer."""
     out, last = bytearray(b"\1a\0"), 0
     for _ in range(labels - 1):
         last, at = len(out), last
@@ -196,7 +196,7 @@ def readings(oracle, r):
     for (m, start), answer, cursor in zip(asked, said, cursors):
         answers.setdefault(m, []).append(reading(m, start, answer, cursor))
     for m, told in answers.items():
-        yield f"r {hexed(m)} " + " ".join(told)
+        yield f"readings {hexed(m)} = " + " ".join(told)
 
 
 def reading(message, start, answer, cursor):
@@ -230,7 +230,7 @@ def texts(oracle, r):
     asked = ["", ".", "\\", "a\\", "a.b\\.", "\\\U0001246f"]
     asked += sorted({text(r) for _ in range(22000)} - set(asked))
     for t, answer in zip(asked, oracle.ask([f"text {hexed(t.encode())}" for t in asked])):
-        yield f"t {hexed(t.encode())} " + parsed(t, answer)
+        yield f"text {hexed(t.encode())} = " + parsed(t, answer)
 
 
 def parsed(asked, answer):
@@ -251,91 +251,64 @@ def prints(oracle, r):
     said = oracle.ask(["to_ascii " + oracle_name(flag, labels) for flag, labels in asked])
     for (flag, labels), answer in zip(asked, said):
         shown = bytes.fromhex(answer.split()[1].replace("-", "")).decode()
-        yield f"p {flag} {wire_of(labels).hex()} {shown}".rstrip()
+        yield f"print {flag} {wire_of(labels).hex()} = {shown}".rstrip()
 
 
-# ---- scripts
+# ---- encoders
 
-def script(r, compressed):
-    """Steps in the list's words, and the same in the oracle's."""
-    ours, theirs, places = [], [], 0
-    if not compressed:
-        ours, theirs = ["mU"], ["enc:U"]
+def steps(r, compressed):
+    """A few steps. Placeholders are filled from the last one reserved to the first."""
+    out, places, kept = ([] if compressed else ["enc:U"]), 0, []
     for _ in range(1 + r.below(9)):
         kind = r.below(20)
-        mine, spelled = step_of(name(r))
+        step = step_of(name(r))
         if kind < 11:
-            ours, theirs = ours + [mine], theirs + [spelled]
+            out.append(step)
         elif kind < 13:
-            rdata = r.pick("SCO")
-            ours, theirs = ours + [rdata + mine[1:]], theirs + [f"rdata:{rdata}", spelled, "end"]
+            out += ["rdata:" + r.pick("SCO"), step, "end"]
         elif kind == 13:
-            mode = r.pick("CUL" if compressed else "UL")
-            ours, theirs = ours + ["m" + mode], theirs + ["enc:" + mode]
+            out.append("enc:" + r.pick("CUL" if compressed else "UL"))
         elif kind == 14:
-            ours, theirs = ours + ["k"], theirs + ["place"]
+            out.append("place")
+            kept.append(places)
             places += 1
-        elif kind == 15 and places:
-            number = r.below(65536)
-            places -= 1
-            # places are filled from the last one kept to the first: theirs are counted from 0
-            ours, theirs = ours + [f"f{number}"], theirs + [f"fill:{{{len(ours)}}}:{number}"]
+        elif kind == 15 and kept:
+            out.append(f"fill:{kept.pop()}:{r.below(65536)}")
         elif kind == 16:
-            number = r.below(2**31) * 2 + r.below(2)
-            ours, theirs = ours + [f"w{number}"], theirs + [f"u32:{number}"]
+            out.append(f"u32:{r.below(2**31) * 2 + r.below(2)}")
         elif kind == 17:
-            number = r.below(65536)
-            ours, theirs = ours + [f"h{number}"], theirs + [f"u16:{number}"]
+            out.append(f"u16:{r.below(65536)}")
         elif kind == 18:
             data = bytes(r.below(256) for _ in range(1 + r.below(6)))
-            word = r.pick(["v", "s"])
-            spelled = "vec:" if word == "v" else "char:"
-            ours, theirs = ours + [word + data.hex()], theirs + [spelled + data.hex()]
+            out.append(r.pick(["vec:", "char:"]) + data.hex())
         else:
-            on = r.below(2)
-            ours, theirs = ours + [f"c{on}"], theirs + [f"canon:{on}"]
-    return ours, numbered(theirs)
-
-
-def step_of(labels):
-    """A name's step in both words."""
-    return "n" + wire_of(labels).hex(), "n:1:" + (",".join(l.hex() for l in labels) or "-")
-
-
-def long_script(r):
-    """More names than an encoder compresses, and more suffixes than it remembers."""
-    steps = [step_of(name(r)) for _ in range(110 + r.below(50))]
-    return [ours for ours, _ in steps], [theirs for _, theirs in steps]
-
-
-def far_script(r):
-    """Names before, at and behind the place that pointers reach to."""
-    gap = 16300 + r.below(80)
-    steps = [step_of(name(r)) for _ in range(3)] + [(f"z{gap}", f"zeros:{gap}")] + [step_of(name(r)) for _ in range(9)]
-    return [ours for ours, _ in steps], [theirs for _, theirs in steps]
-
-
-def numbered(steps):
-    """The fills with the number of the last place that is kept and not filled yet."""
-    kept, count, out = [], 0, []
-    for step in steps:
-        if step == "place":
-            kept.append(count)
-            count += 1
-        if step.startswith("fill:"):
-            step = f"fill:{kept.pop()}:" + step.rsplit(":", 1)[1]
-        out.append(step)
+            out.append(f"canon:{r.below(2)}")
     return out
 
 
-def scripts(oracle, r, compressed, count):
-    asked = [script(r, compressed) for _ in range(count)]
+def step_of(labels):
+    return "n:" + oracle_name(1, labels).replace(" ", ":")
+
+
+def many_names(r):
+    """More names than an encoder compresses, and more suffixes than it keeps."""
+    return [step_of(name(r)) for _ in range(110 + r.below(50))]
+
+
+def far_names(r):
+    """Names before, at and after the offset that pointers reach to."""
+    gap = 16300 + r.below(80)
+    return [step_of(name(r)) for _ in range(3)] + [f"zeros:{gap}"] + [step_of(name(r)) for _ in range(9)]
+
+
+def encoders(oracle, r, compressed, count):
+    asked = [steps(r, compressed) for _ in range(count)]
     if compressed:
-        asked += [long_script(r) for _ in range(40)] + [far_script(r) for _ in range(6)]
-    for (ours, _), answer in zip(asked, oracle.ask(["emit " + " ".join(theirs) for _, theirs in asked])):
-        steps, written = answer.split(" | ")
-        assert "err" not in steps and "noplace" not in steps, answer
-        yield "e " + " ".join(ours) + " = " + written.split()[0]
+        asked += [many_names(r) for _ in range(40)] + [far_names(r) for _ in range(6)]
+    for steps_of_one, answer in zip(asked, oracle.ask(["emit " + " ".join(it) for it in asked])):
+        assert "err" not in answer and "noplace" not in answer, answer
+        # how many names were compressed is private to our encoder
+        yield f"encode {' '.join(steps_of_one)} = " + re.sub(r" names=\d+$", "", answer)
 
 
 def main():
@@ -344,12 +317,12 @@ def main():
         "readings": readings(oracle, Random(1)),
         "texts": texts(oracle, Random(2)),
         "prints": prints(oracle, Random(3)),
-        "scripts_whole": scripts(oracle, Random(4), False, 1500),
-        "scripts_compressed": scripts(oracle, Random(5), True, 5000),
+        "encoders_uncompressed": encoders(oracle, Random(4), False, 1500),
+        "encoders_compressed": encoders(oracle, Random(5), True, 5000),
     }
     for name_of_list, lines in lists.items():
         with open(os.path.join(os.path.dirname(__file__), name_of_list + ".txt"), "w") as out:
-            print("# Answers of hickory-proto 0.26.3, by diff/make.py. README.md tells the format.", file=out)
+            print("# Answers of hickory-proto 0.26.3, by diff/make.py. README.md has the format.", file=out)
             for line in lines:
                 print(line, file=out)
 

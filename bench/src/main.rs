@@ -1,6 +1,6 @@
 //! Times dns-names-wire beside trust-dns-proto 0.22, in one process and on the same inputs.
 //!
-//! A contender does a task `count` times in a call and answers a checksum, as `include/dns_names_wire.h` says. The time
+//! A contender does a task `count` times in a call and returns a checksum, as `include/dnw_bench.h` says. The time
 //! of a call with count 0, which does the set-up alone, is taken off. The contenders take turns, round by round.
 mod inputs;
 mod ours;

@@ -1,4 +1,4 @@
-//! dns-names-wire, through its door for C.
+//! dns-names-wire, through the functions of `include/dnw_bench.h`.
 use crate::inputs::{Kind, Task};
 
 extern "C" {

@@ -14,6 +14,11 @@ pub mod decoder {
     pub use dnw_base::decoder::BinDecoder;
 }
 
+/// The classes of records.
+pub mod dns_class {
+    pub use dnw_error::dns_class::DNSClass;
+}
+
 /// Writing messages of a bounded size, and what follows from the definitions of writing.
 pub mod encoder {
     pub use dnw_encoder::encoder::{
@@ -29,7 +34,7 @@ pub mod error {
 
 /// Labels, of which names are made.
 pub mod label {
-    pub use dnw_label::label::{IntoLabel, Label};
+    pub use dnw_label::label::{CaseInsensitive, CaseSensitive, IntoLabel, Label, LabelCmp};
 }
 
 /// Domain names, and what follows from the definitions of reading them.
@@ -46,10 +51,22 @@ pub mod name_ref {
     pub use dnw_reading::walk::ReadSteps;
 }
 
-/// Values from a stranger, which have to be verified.
+/// The types of records.
+pub mod record_type {
+    pub use dnw_error::record_type::RecordType;
+}
+
+/// Untrusted values, which have to be verified.
 pub mod restrict {
     pub use dnw_base::restrict::{Restrict, RestrictedMath, Verified};
 }
 
 /// Scripts: messages written step by step.
 pub mod script;
+
+/// Master files: their tokens, and times to live (RFC 1035, section 5.1).
+pub mod txt {
+    pub use dnw_txt::errors::{LexerError, ParseError, ParseResult};
+    pub use dnw_txt::ttl::parse_ttl;
+    pub use dnw_txt::zone_lex::{Lexer, Token};
+}

@@ -12,6 +12,8 @@ use dns_names_wire::encoder::{BinEncoder, NameEncoding};
 use dns_names_wire::error::ProtoResult;
 use dns_names_wire::name::Name;
 use std::alloc::{AllocError, Global};
+use std::cmp::Ordering;
+use std::hash::{DefaultHasher, Hash, Hasher};
 
 /// What a failure adds.
 const FAILURE: u64 = 1 << 40;
@@ -126,6 +128,91 @@ pub extern "C" fn dnw_to_ascii(alloc: Global, names: &[u8], count: u64) -> u64
     let mut sum = 0u64;
     for _round in 0..count {
         sum = sum.wrapping_add(print_each(alloc, names.as_slice()));
+    }
+    sum
+}
+
+/// Compares each name with the next: 0, 1 or 2 if it is less, equal or greater.
+#[unsafe(no_mangle)]
+pub extern "C" fn dnw_compare(alloc: Global, names: &[u8], count: u64) -> u64
+    ensures idle { count ≡ 0 → result ≡ 0 }
+{
+    let Ok(names) = names_of(alloc, names) else {
+        return 0;
+    };
+    let mut sum = 0u64;
+    for _round in 0..count {
+        sum = sum.wrapping_add(compare_each(names.as_slice()));
+    }
+    sum
+}
+
+/// Sorts the names: the sum of their encoded lengths, each times its rank from 1.
+#[unsafe(no_mangle)]
+pub extern "C" fn dnw_sort(alloc: Global, names: &[u8], count: u64) -> u64
+    ensures idle { count ≡ 0 → result ≡ 0 }
+{
+    let Ok(names) = names_of(alloc, names) else {
+        return 0;
+    };
+    let mut sum = 0u64;
+    for _round in 0..count {
+        sum = sum.wrapping_add(match sort_all(alloc, names.as_slice()) {
+            Ok(ranked) => ranked,
+            Err(_) => FAILURE,
+        });
+    }
+    sum
+}
+
+/// Hashes each name: the hashes.
+#[unsafe(no_mangle)]
+pub extern "C" fn dnw_hash(alloc: Global, names: &[u8], count: u64) -> u64
+    ensures idle { count ≡ 0 → result ≡ 0 }
+{
+    let Ok(names) = names_of(alloc, names) else {
+        return 0;
+    };
+    let mut sum = 0u64;
+    for _round in 0..count {
+        sum = sum.wrapping_add(hash_each(names.as_slice()));
+    }
+    sum
+}
+
+fn compare_each(names: &[Name]) -> u64 {
+    let mut sum = 0u64;
+    for pair in names.windows(2) {
+        sum = sum.wrapping_add(match pair[0].cmp(&pair[1]) {
+            Ordering::Less => 0,
+            Ordering::Equal => 1,
+            Ordering::Greater => 2,
+        });
+    }
+    sum
+}
+
+fn sort_all(alloc: Global, names: &[Name]) -> Result<u64, AllocError> {
+    let mut sorted = Vec::with_capacity(alloc, names.len())?;
+    for name in names {
+        sorted.push(name)?;
+    }
+    sorted.sort()?;
+    let mut sum = 0u64;
+    let mut rank = 0u64;
+    for name in sorted.as_slice() {
+        rank = rank.wrapping_add(1);
+        sum = sum.wrapping_add(rank.wrapping_mul(name.encoded_len() as u64));
+    }
+    Ok(sum)
+}
+
+fn hash_each(names: &[Name]) -> u64 {
+    let mut sum = 0u64;
+    for name in names {
+        let mut state = DefaultHasher::new();
+        name.hash(&mut state);
+        sum = sum.wrapping_add(state.finish());
     }
     sum
 }

@@ -3,7 +3,9 @@ use Rattle.std.specs.Prelude.{◌≡◌, ◌≢◌, ◌<◌, ◌⊎◌, ℕ, Boo
 use Rattle.std.specs.Str.{chars}
 use Rattle.dnw_error.specs.declared.error.DecodeError.{DecodeError}
 use Rattle.dnw_error.specs.Fault.{Fault, HasOwnText}
-use Rattle.dnw_base.specs.Names.{NameValue, wire}
+use Rattle.std.specs.declared.cmp.Ordering.{Ordering}
+use Rattle.std.specs.declared.cmp.Ordering.TheVariants.{Less, Equal, Greater}
+use Rattle.dnw_base.specs.Names.{NameValue, lower, wire}
 use Rattle.dnw_form.specs.NameText.{name_text, name_from_text}
 use Rattle.dnw_reading.specs.Reading.{NameAt, FaultAt}
 use Rattle.dnw_c.specs.Failures.{of_decode, of_fault}
@@ -40,6 +42,31 @@ FailsToParse text size failure =
     ⊎ ((fault : Fault) × IsUtf8 text × (name_from_text (chars text) ≡ Err fault)
     × ((failure ≡ of_fault fault) ⊎ (HasOwnText fault × (failure ≡ NoMemory))))
     ⊎ ((name : NameValue) × IsUtf8 text × (name_from_text (chars text) ≡ Ok name) × (size < length (wire name.labels)) × (failure ≡ NoRoom))
+
+-- The octets are the wire form of these labels, whole.
+abbrev pub IsFormOf : List ℕ → List (List ℕ) → Type 0
+IsFormOf form labels = (k : ℕ) × NameAt form 0 labels (length form) k
+
+-- The octets are no wire form: no name is at their start, or bytes follow after it.
+abbrev pub IsNoForm : List ℕ → Failure → Type 0
+IsNoForm form failure =
+    HasNoName form 0 failure
+    ⊎ ((labels : List (List ℕ)) × (end : ℕ) × (k : ℕ) × NameAt form 0 labels end k × (end ≢ length form) × (failure ≡ BytesLeft))
+
+-- One of two is no wire form: the first that is none decides.
+abbrev pub FailsAsForms : List ℕ → List ℕ → Failure → Type 0
+FailsAsForms left right failure = IsNoForm left failure ⊎ ((labels : List (List ℕ)) × IsFormOf left labels × IsNoForm right failure)
+
+-- A wire form is not put in lower case into a buffer of this size: it is none, or longer.
+abbrev pub FailsToLower : List ℕ → ℕ → Failure → Type 0
+FailsToLower form size failure =
+    IsNoForm form failure ⊎ ((labels : List (List ℕ)) × IsFormOf form labels × (size < length (wire (lower labels))) × (failure ≡ NoRoom))
+
+-- -1, 0 or 1
+abbrev pub sign : Ordering → ℤ
+sign Less = - 1
+sign Equal = + 0
+sign Greater = + 1
 
 -- A wire form is not printed into a buffer of this size: it is none, or bytes follow after it, or the text is longer, or
 -- memory ran out.

@@ -7,3 +7,5 @@
 mod failure;
 /// Names read, written, parsed and printed.
 pub mod names;
+/// Names compared, and in lower case.
+pub mod order;

@@ -279,7 +279,11 @@ fn write(
 }
 
 /// Returns the name at an offset, and the offset after its own octets.
-fn name_at(alloc: Global, message: &[u8], start: usize) -> Result<(Name, usize), DecodeError>
+pub(crate) fn name_at(
+    alloc: Global,
+    message: &[u8],
+    start: usize,
+) -> Result<(Name, usize), DecodeError>
     ensures ok { IfOk result (λ r. (r.0.is_fqdn ≡ true) × (k : ℕ) × NameAt message.now start r.0.labels r.1 k) }
     ensures err { IfErr result (λ error. (k : ℕ) × (j : ℕ) × FaultAt message.now start error k j) }
 {
@@ -343,7 +347,7 @@ fn write_next(
 }
 
 /// Puts bytes at the front of a buffer if they fit.
-fn put(buffer: &mut [u8], bytes: &[u8]) -> Result<usize, Failure>
+pub(crate) fn put(buffer: &mut [u8], bytes: &[u8]) -> Result<usize, Failure>
     ensures ok { IfOk result (λ len. (len ≡ length bytes.now) × (length bytes.now ≤ length buffer.old)
         × (buffer.new ≡ put buffer.old bytes.now)) }
     ensures err { IfErr result (λ failure. (failure ≡ NoRoom) × (length buffer.old < length bytes.now)) }

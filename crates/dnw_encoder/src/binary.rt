@@ -3,6 +3,8 @@ ghost use Rattle.std.specs.Prelude.{◌≡◌, ◌≢◌, ℕ, ◌≤◌, List, 
 ghost use Rattle.std.specs.Int.{w16, w32, to_be_bytes};
 ghost use Rattle.std.specs.Int.{cast_unsigned as unsigned};
 ghost use Rattle.dnw_error.specs.declared.error.ProtoError.{ProtoError};
+ghost use Rattle.dnw_error.specs.RecordTypes.{type_code};
+ghost use Rattle.dnw_error.specs.DnsClasses.{class_code};
 ghost use Rattle.dnw_encoder.specs.Encoder.{Encoder, fresh, Writes};
 ghost use Rattle.dnw_encoder.specs.EncoderValue.{value, lender};
 ghost use Rattle.dnw_encoder.specs.Emitting.{Outcome, Frame, WritesLen, FailsUnchanged};
@@ -10,7 +12,9 @@ ghost use Rattle.dnw_encoder.specs.EmittingLaws.{frame, fails-unchanged};
 ghost use Rattle.std.proofs.Common.{lit≤};
 
 use crate::encoder::BinEncoder;
+use dnw_error::dns_class::DNSClass;
 use dnw_error::error::{ProtoError, ProtoResult};
+use dnw_error::record_type::RecordType;
 use std::alloc::Global;
 
 mod name;
@@ -106,6 +110,28 @@ impl BinEncodable for u32 {
 
     fn emit(&self, encoder: &mut BinEncoder<'_>) -> ProtoResult<()> {
         encoder.emit_u32(*self)
+    }
+}
+
+/// A record type is written as its code.
+impl BinEncodable for RecordType {
+    ghost emits = { λ kind v. Writes v (to_be_bytes w16 (type_code kind)) };
+
+    ghost keeps_frame = { λ kind v outcome w. frame v (to_be_bytes w16 (type_code kind)) outcome w };
+
+    fn emit(&self, encoder: &mut BinEncoder<'_>) -> ProtoResult<()> {
+        encoder.emit_u16(u16::from(*self))
+    }
+}
+
+/// A class is written as its code.
+impl BinEncodable for DNSClass {
+    ghost emits = { λ class v. Writes v (to_be_bytes w16 (class_code class)) };
+
+    ghost keeps_frame = { λ class v outcome w. frame v (to_be_bytes w16 (class_code class)) outcome w };
+
+    fn emit(&self, encoder: &mut BinEncoder<'_>) -> ProtoResult<()> {
+        encoder.emit_u16(u16::from(*self))
     }
 }
 

@@ -1,6 +1,7 @@
 //! The errors of this layer.
 ghost use Rattle.std.specs.Prelude.{◌≡◌, IfOk, IfErr, IsOk};
 
+use crate::record_type::RecordType;
 use std::alloc::{AllocError, AllocFailed};
 use thiserror::Error;
 
@@ -125,6 +126,9 @@ pub enum DecodeError {
     /// A record after the signature that must be the last.
     #[error("record after TSIG or SIG(0)")]
     RecordAfterSig,
+    /// A record of a type that has no place in the additional section.
+    #[error("record type {0} only allowed in additional section")]
+    RecordNotInAdditionalSection(RecordType),
     /// A second EDNS record.
     #[error("more than one EDNS record")]
     DuplicateEdns,
@@ -312,6 +316,9 @@ impl DecodeError {
                 Ok(DecodeError::UnknownNsec3HashAlgorithm(*code))
             }
             DecodeError::RecordAfterSig => Ok(DecodeError::RecordAfterSig),
+            DecodeError::RecordNotInAdditionalSection(kind) => {
+                Ok(DecodeError::RecordNotInAdditionalSection(*kind))
+            }
             DecodeError::DuplicateEdns => Ok(DecodeError::DuplicateEdns),
             DecodeError::SvcParamsOutOfOrder => Ok(DecodeError::SvcParamsOutOfOrder),
             DecodeError::SvcParamMissingValue => Ok(DecodeError::SvcParamMissingValue),

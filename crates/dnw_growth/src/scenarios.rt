@@ -1,7 +1,7 @@
 //! The scenarios. A new one is a new entry, and a file of what must be seen in the folder `expected`.
 
 ghost use Rattle.std.specs.Prelude.{◌<◌, ◌≤◌, ◌↔◌, IsTrue, length};
-ghost use Rattle.dnw_encoder.specs.EncoderValue.{value};
+ghost use Rattle.dns_names_wire.specs.Words.{value};
 
 use crate::step::Step;
 use dns_names_wire::encoder::{BinEncoder, NameEncoding};

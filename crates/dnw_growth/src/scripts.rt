@@ -25,7 +25,7 @@ pub struct Script {
 }
 
 /// Every script. `.ci/growth` refuses each of their growths in turn.
-pub const SCRIPTS: &[Script] = &[SHARING, PLACED, UNDONE, MANY, LONG];
+pub const SCRIPTS: &[Script] = &[SHARING, PLACED, UNDONE, MANY, LONG, HOSTS];
 
 /// Each name shares what it can with those before it.
 const SHARING: Script = Script {
@@ -86,6 +86,78 @@ const LONG: Script = Script {
         Line::Name("abcdefghijklmnopqrstuvwxyz0123456789.b."),
         Line::Name("c.abcdefghijklmnopqrstuvwxyz0123456789.b."),
         Line::Name("c.abcdefghijklmnopqrstuvwxyz0123456789.b."),
+    ],
+};
+
+/// One name more than candidates are kept, which share nothing.
+const HOSTS: Script = Script {
+    name: "script_hosts",
+    lines: &[
+        Line::Name("aa."),
+        Line::Name("ab."),
+        Line::Name("ac."),
+        Line::Name("ad."),
+        Line::Name("ae."),
+        Line::Name("ba."),
+        Line::Name("bb."),
+        Line::Name("bc."),
+        Line::Name("bd."),
+        Line::Name("be."),
+        Line::Name("ca."),
+        Line::Name("cb."),
+        Line::Name("cc."),
+        Line::Name("cd."),
+        Line::Name("ce."),
+        Line::Name("da."),
+        Line::Name("db."),
+        Line::Name("dc."),
+        Line::Name("dd."),
+        Line::Name("de."),
+        Line::Name("ea."),
+        Line::Name("eb."),
+        Line::Name("ec."),
+        Line::Name("ed."),
+        Line::Name("ee."),
+        Line::Name("fa."),
+        Line::Name("fb."),
+        Line::Name("fc."),
+        Line::Name("fd."),
+        Line::Name("fe."),
+        Line::Name("ga."),
+        Line::Name("gb."),
+        Line::Name("gc."),
+        Line::Name("gd."),
+        Line::Name("ge."),
+        Line::Name("ha."),
+        Line::Name("hb."),
+        Line::Name("hc."),
+        Line::Name("hd."),
+        Line::Name("he."),
+        Line::Name("ia."),
+        Line::Name("ib."),
+        Line::Name("ic."),
+        Line::Name("id."),
+        Line::Name("ie."),
+        Line::Name("ja."),
+        Line::Name("jb."),
+        Line::Name("jc."),
+        Line::Name("jd."),
+        Line::Name("je."),
+        Line::Name("ka."),
+        Line::Name("kb."),
+        Line::Name("kc."),
+        Line::Name("kd."),
+        Line::Name("ke."),
+        Line::Name("la."),
+        Line::Name("lb."),
+        Line::Name("lc."),
+        Line::Name("ld."),
+        Line::Name("le."),
+        Line::Name("ma."),
+        Line::Name("mb."),
+        Line::Name("mc."),
+        Line::Name("md."),
+        Line::Name("me."),
     ],
 };
 

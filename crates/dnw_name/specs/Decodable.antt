@@ -1,10 +1,14 @@
--- Which octets of a message are a value of a type: numbers with the high octet first (RFC 1035, section 2.3.2), names
--- by the reading relation.
+-- Which octets of a message are a value of a type: numbers with the high octet first (RFC 1035, section 2.3.2), record
+-- types and classes by their codes, names by the reading relation.
 use Rattle.std.specs.Prelude.{◌≡◌, ℕ, ℤ, true}
 use Rattle.std.specs.Int.{w16, w32, from_be_bytes, cast_signed}
 use Rattle.dnw_base.specs.Decoder.{Decoder, HasLeft, next_bytes, advanced}
 use Rattle.dnw_error.specs.declared.error.DecodeError.{DecodeError}
 use Rattle.dnw_error.specs.declared.error.DecodeError.TheVariants.{InsufficientBytes}
+use Rattle.dnw_error.specs.declared.record_type.RecordType.{RecordType}
+use Rattle.dnw_error.specs.declared.dns_class.DNSClass.{DNSClass}
+use Rattle.dnw_error.specs.RecordTypes.{type_of_code}
+use Rattle.dnw_error.specs.DnsClasses.{class_of_code}
 use Rattle.dnw_base.specs.Names.{NameValue}
 use Rattle.dnw_reading.specs.Reading.{TakesName, StopsAt}
 
@@ -16,6 +20,14 @@ TakesU32 before n after = HasLeft before 4 × (n ≡ from_be_bytes w32 (next_byt
 
 abbrev pub TakesI32 : Decoder → ℤ → Decoder → Type 0
 TakesI32 before n after = HasLeft before 4 × (n ≡ cast_signed w32 (from_be_bytes w32 (next_bytes before 4))) × (after ≡ advanced before 4)
+
+abbrev pub TakesType : Decoder → RecordType → Decoder → Type 0
+TakesType before kind after =
+    HasLeft before 2 × (kind ≡ type_of_code (from_be_bytes w16 (next_bytes before 2))) × (after ≡ advanced before 2)
+
+abbrev pub TakesClass : Decoder → DNSClass → Decoder → Type 0
+TakesClass before class after =
+    HasLeft before 2 × (class ≡ class_of_code (from_be_bytes w16 (next_bytes before 2))) × (after ≡ advanced before 2)
 
 -- the message ends before so many octets
 abbrev pub LacksBytes : ℕ → Decoder → DecodeError → Type 0

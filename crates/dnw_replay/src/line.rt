@@ -1,56 +1,94 @@
-//! A line of a list.
+//! A line: a request, and the answer that is expected.
 
+use crate::notation::repeated;
+use crate::requests;
 use crate::tally::{Tally, Verdict};
-use crate::{readings, scripts, texts};
-use dns_names_wire::error::{ProtoError, ProtoResult};
-use hex::FromHexError;
 use std::alloc::Global;
 use std::io;
 use std::io::Write;
 
-/// How many lines are shown in which an answer differs.
-const SHOWN: u64 = 20;
+/// The most differences that are printed.
+const MAX_PRINTED: u64 = 20;
 
-/// Makes the requests of a line, compares the answers, and shows the line where one differs that is not meant to.
+/// The most characters that are printed of a request, and of each of its answers.
+const MAX_CHARS: usize = 50;
+
+/// The characters that two answers share and that are printed before the first that differs.
+const SHARED_CHARS: usize = 10;
+
+/// Makes the request of a line, compares the answer, and prints a line if it differs.
 pub(crate) fn replay<W: Write>(
     alloc: Global,
     line: &str,
     tally: &mut Tally,
     out: &mut W,
 ) -> io::Result<()> {
-    let before = tally.different();
-    if let Err(error) = compare(alloc, line, tally) {
-        tally.count(Verdict::Different);
-        writeln!(out, "{error}: {line}")?;
-    } else if before < tally.different() && before < SHOWN {
-        writeln!(out, "differs: {line}")?;
+    if line.is_empty() || line.starts_with('#') {
+        return Ok(());
+    }
+    if line.contains('×') {
+        return match repeated(alloc, line) {
+            Ok(line) => compare(alloc, line.as_str(), tally, out),
+            Err(error) => {
+                tally.add(Verdict::Different);
+                writeln!(out, "{error}: {}", cut(line))
+            }
+        };
+    }
+    compare(alloc, line, tally, out)
+}
+
+fn compare<W: Write>(alloc: Global, line: &str, tally: &mut Tally, out: &mut W) -> io::Result<()> {
+    let (request, wanted) = parts(line);
+    let (kind, words) = request.split_once(' ').unwrap_or((request, ""));
+    let got = match requests::answer(alloc, kind, words) {
+        Ok(answer) => answer,
+        Err(error) => format!(in alloc; "error: {error}")?,
+    };
+    let verdict = tally.count(alloc, kind, words, wanted, got.as_str());
+    if let Verdict::Different = verdict
+        && tally.different() <= MAX_PRINTED
+    {
+        let (wanted, got) = from_difference(wanted, got.as_str());
+        let request = cut(request);
+        writeln!(out, "{request} = {got} but expected {wanted}")?;
     }
     Ok(())
 }
 
-fn compare(alloc: Global, line: &str, tally: &mut Tally) -> ProtoResult<()> {
-    let mut words = Vec::new(alloc);
-    for word in line.split(' ') {
-        words.push(word)?;
-    }
-    match words.as_slice() {
-        ["r", message, wanted @ ..] => readings::compare(alloc, message, wanted, tally),
-        ["t", text, wanted] => texts::compare_parsed(alloc, text, wanted, tally),
-        ["p", flag, form, wanted] => texts::compare_printed(alloc, flag, form, wanted, tally),
-        ["p", flag, form] => texts::compare_printed(alloc, flag, form, "", tally),
-        ["e", steps @ .., "=", wanted] => scripts::compare(alloc, steps, wanted, tally),
-        ["#", ..] => Ok(()),
-        _ => Err(ProtoError::Message("a line of no known form")),
+/// Returns the request and the answer, which may be empty.
+fn parts(line: &str) -> (&str, &str) {
+    match line.split_once(" = ") {
+        Some(parts) => parts,
+        None => (line.strip_suffix(" =").unwrap_or(line), ""),
     }
 }
 
-/// The octets that are written in hexadecimal; `-` for none.
-pub(crate) fn octets(alloc: Global, text: &str) -> ProtoResult<Vec<u8>> {
-    if text == "-" {
-        return Ok(Vec::new(alloc));
+/// Returns two texts from where they differ on.
+fn from_difference<'a>(wanted: &'a str, got: &'a str) -> (&'a str, &'a str) {
+    let mut same = 0usize;
+    for (a, b) in wanted.chars().zip(got.chars()) {
+        if a != b {
+            break;
+        }
+        same = same.saturating_add(1);
     }
-    hex::decode(alloc, text).map_err(|e| match e {
-        FromHexError::OutOfMemory => ProtoError::Memory,
-        _ => ProtoError::Message("no hexadecimal"),
-    })
+    let start = same.saturating_sub(SHARED_CHARS);
+    (cut(after(wanted, start)), cut(after(got, start)))
+}
+
+/// Returns a text after its first characters.
+fn after(text: &str, chars: usize) -> &str {
+    match text.char_indices().nth(chars) {
+        Some((start, _)) => text.get(start..).unwrap_or(text),
+        None => "",
+    }
+}
+
+/// Returns the first characters of a text.
+fn cut(text: &str) -> &str {
+    match text.char_indices().nth(MAX_CHARS) {
+        Some((end, _)) => text.get(..end).unwrap_or(text),
+        None => text,
+    }
 }

@@ -1,11 +1,23 @@
-//! `dnw_replay` compares the library with the Rust that it was ported from. Lists of the Rust's answers come in on
-//! standard input (`diff/README.md` tells their format), and each request is made of the library. It tells how many
-//! answers are the same and how many differ, those of each intended difference by its name, and fails where there is
-//! any other.
+//! `dnw_replay` makes requests of the library and compares the answers with those that are expected: worked examples by
+//! hand, and what hickory-proto 0.26.3 answered. It reads lines from standard input; `diff/README.md` has their format.
+//!
+//! It prints each line with another answer, up to a limit, and then how many answers there were, how many of them differ
+//! on purpose, by reason, and how many not on purpose. It exits with 1 if there is one of these.
 #![tactic(auto)]
 
+mod buffer;
+mod decoding;
+mod encoding;
+mod errors;
+mod labels;
 mod line;
+mod messages;
+mod names;
+mod notation;
+mod read_back;
 mod readings;
+mod requests;
+mod restrict;
 mod scripts;
 mod tally;
 mod texts;
@@ -22,7 +34,7 @@ fn run<R: Input + Print + AllocGlobal>(rt: &R) -> io::Result<bool> {
     for line in BufReader::new(alloc, rt.reader())?.lines(alloc) {
         line::replay(alloc, line?.as_str(), &mut tally, &mut out)?;
     }
-    tally.tell(&mut out)?;
+    tally.print(&mut out)?;
     Ok(tally.is_clean())
 }
 

@@ -1,124 +1,192 @@
-//! Scripts of an encoder.
+//! Scripts, their replies, and what is read back of what they wrote.
 
-use crate::line::octets;
-use crate::tally::{Tally, Verdict};
-use dns_names_wire::binary::BinEncodable;
-use dns_names_wire::decoder::BinDecoder;
-use dns_names_wire::encoder::{BinEncoder, NameEncoding, Place, RDataEncoding};
-use dns_names_wire::error::{ProtoError, ProtoResult};
-use dns_names_wire::name::Name;
+use crate::buffer::{Buffer, is_setting};
+use crate::notation::{
+    BAD_LINE, error_word, hexadecimal, letter, mode, name, number, octets, push_word, zeros,
+};
+use crate::read_back::read_back;
+use dns_names_wire::encoder::{BinEncoder, CANDIDATE_LIMIT, NAME_LIMIT};
+use dns_names_wire::error::ProtoResult;
+use dns_names_wire::script::{self, Item, Part, Reply, Step};
 use std::alloc::Global;
 
-/// Runs a script over an empty buffer, and compares the bytes that it leaves.
-pub(crate) fn compare(
-    alloc: Global,
-    steps: &[&str],
-    want: &str,
-    tally: &mut Tally,
-) -> ProtoResult<()> {
-    let want = octets(alloc, want)?;
-    let got = written(alloc, steps)?;
-    tally.count(if got == want {
-        Verdict::Same
-    } else {
-        Verdict::Different
-    });
-    Ok(())
-}
-
-/// What is told of a word that is no step.
-const BAD_STEP: &str = "a step of no known form";
-
-fn written(alloc: Global, steps: &[&str]) -> ProtoResult<Vec<u8>> {
-    let mut bytes = Vec::new(alloc);
-    let mut encoder = BinEncoder::new(&mut bytes);
-    let mut places = Vec::new(alloc);
-    for step in steps {
-        apply(alloc, step, &mut encoder, &mut places)?;
-    }
-    drop(encoder);
-    Ok(bytes)
-}
-
-/// Takes one step: its first byte tells which, and the others what is written.
-fn apply(
-    alloc: Global,
-    step: &str,
-    encoder: &mut BinEncoder<'_>,
-    places: &mut Vec<Place<u16>>,
-) -> ProtoResult<()> {
-    let Some((kind, rest)) = step.as_bytes().split_first() else {
-        return Err(ProtoError::Message(BAD_STEP));
-    };
-    let Ok(rest) = str::from_utf8(rest) else {
-        return Err(ProtoError::Message(BAD_STEP));
-    };
+/// Returns the answer to a request about scripts.
+pub(crate) fn answer(alloc: Global, kind: &str, words: &str) -> ProtoResult<String> {
     match kind {
-        b'n' => name(alloc, rest)?.emit(encoder),
-        b'S' => emit_in_rdata(alloc, rest, RDataEncoding::StandardRecord, encoder),
-        b'C' => emit_in_rdata(alloc, rest, RDataEncoding::Canonical, encoder),
-        b'O' => emit_in_rdata(alloc, rest, RDataEncoding::Other, encoder),
-        b'h' => encoder.emit_u16((number(rest)? % 65536) as u16),
-        b'w' => encoder.emit_u32(number(rest)?),
-        b'z' => emit_zeros(alloc, rest, encoder),
-        b'v' => encoder.emit_vec(octets(alloc, rest)?.as_slice()),
-        b's' => encoder.emit_character_data(octets(alloc, rest)?.as_slice()),
-        b'k' => {
-            places.push(encoder.place()?)?;
-            Ok(())
+        "script" => Ok(run(alloc, words)?.whole),
+        "script-end" => Ok(run(alloc, words)?.end),
+        "items" => emit_items(alloc, words),
+        _ => Err(BAD_LINE),
+    }
+}
+
+/// What comes of a script.
+#[derive(Drop)]
+struct Outcome {
+    /// The replies, the message, and its names.
+    whole: String,
+    /// The last reply, and the last two octets.
+    end: String,
+}
+
+/// Runs the steps, one a word, after what the buffer has.
+fn run(alloc: Global, words: &str) -> ProtoResult<Outcome> {
+    let mut buffer = Buffer::new(alloc, words)?;
+    let start = buffer.bytes.len();
+    if start > 65536 {
+        return Err(BAD_LINE);
+    }
+    let steps = steps(alloc, words)?;
+    let replies = if buffer.candidates == CANDIDATE_LIMIT && buffer.names == NAME_LIMIT {
+        script::run(alloc, &mut buffer.bytes, steps.as_slice())?
+    } else {
+        let (candidates, names) = (buffer.candidates, buffer.names);
+        script::run_limited(
+            alloc,
+            &mut buffer.bytes,
+            steps.as_slice(),
+            candidates,
+            names,
+        )?
+    };
+    let (steps, replies, message) = (
+        steps.as_slice(),
+        replies.as_slice(),
+        buffer.bytes.as_slice(),
+    );
+    let names = read_back(alloc, message, start, steps, replies)?;
+    Ok(Outcome {
+        whole: whole(alloc, replies, message, names.as_str())?,
+        end: end(alloc, replies, message)?,
+    })
+}
+
+fn whole(alloc: Global, replies: &[Reply], message: &[u8], names: &str) -> ProtoResult<String> {
+    let mut told = String::new(alloc);
+    for reply in replies {
+        push_word(&mut told, reply_word(alloc, reply)?.as_str())?;
+    }
+    let message = hexadecimal(alloc, message)?;
+    Ok(format!(in alloc; "{told} | {message} |{names}")?)
+}
+
+fn end(alloc: Global, replies: &[Reply], message: &[u8]) -> ProtoResult<String> {
+    let reply = reply_word(alloc, replies.last().ok_or(BAD_LINE)?)?;
+    let last = message
+        .get(message.len().saturating_sub(2)..)
+        .unwrap_or(message);
+    let last = hexadecimal(alloc, last)?;
+    Ok(format!(in alloc; "{reply} {last}")?)
+}
+
+fn reply_word(alloc: Global, reply: &Reply) -> ProtoResult<String> {
+    Ok(match reply {
+        Reply::Done { len } => format!(in alloc; "ok:{len}")?,
+        Reply::Refused { error, len } => {
+            format!(in alloc; "err:{}:{len}", error_word(alloc, error)?)?
         }
-        b'f' => fill(rest, encoder, places),
-        _ => set(step, encoder),
+        Reply::NoPlace => String::from_str(alloc, "noplace")?,
+        Reply::Items {
+            count,
+            error: None,
+            len,
+        } => format!(in alloc; "items:{count}:{len}")?,
+        Reply::Items {
+            count,
+            error: Some(error),
+            len,
+        } => format!(in alloc; "items-err:{count}:{}:{len}", error_word(alloc, error)?)?,
+    })
+}
+
+/// Returns the steps, one a word.
+fn steps(alloc: Global, words: &str) -> ProtoResult<Vec<Step>> {
+    let mut steps = Vec::new(alloc);
+    for word in words.split(' ') {
+        let (kind, rest) = word.split_once(':').unwrap_or((word, ""));
+        if !is_setting(kind) {
+            steps.push(step(alloc, kind, rest)?)?;
+        }
     }
+    Ok(steps)
 }
 
-/// Sets how names are written, or whether record data is in canonical form.
-fn set(step: &str, encoder: &mut BinEncoder<'_>) -> ProtoResult<()> {
-    match step {
-        "mC" => encoder.set_name_encoding(NameEncoding::Compressed),
-        "mU" => encoder.set_name_encoding(NameEncoding::Uncompressed),
-        "mL" => encoder.set_name_encoding(NameEncoding::UncompressedLowercase),
-        "c0" => encoder.set_canonical_form(false),
-        "c1" => encoder.set_canonical_form(true),
-        _ => return Err(ProtoError::Message(BAD_STEP)),
+fn step(alloc: Global, kind: &str, rest: &str) -> ProtoResult<Step> {
+    Ok(match kind {
+        "max" => Step::Max(number(rest)?),
+        "enc" => Step::Encoding(mode(rest)?),
+        "place" => Step::Reserve,
+        "fill" => {
+            let (place, value) = rest.split_once(':').ok_or(BAD_LINE)?;
+            Step::Fill {
+                place: number(place)?,
+                value: number(value)?,
+            }
+        }
+        "items" => Step::Items(items(alloc, rest)?),
+        _ => match part(alloc, kind, rest)? {
+            Part::Name(name) => Step::Name(name),
+            Part::U8(number) => Step::U8(number),
+            Part::U16(number) => Step::U16(number),
+            Part::I32(number) => Step::I32(number),
+            Part::U32(number) => Step::U32(number),
+            Part::Bytes(bytes) => Step::Bytes(bytes),
+            Part::Text(text) => Step::Text(text),
+        },
+    })
+}
+
+/// Returns the items, between bars.
+fn items(alloc: Global, text: &str) -> ProtoResult<Vec<Item>> {
+    let mut items = Vec::new(alloc);
+    for text in text.split('|') {
+        items.push(item(alloc, text)?)?;
     }
-    Ok(())
+    Ok(items)
 }
 
-/// Writes a name as names of record data of a kind are written.
-fn emit_in_rdata(
-    alloc: Global,
-    form: &str,
-    kind: RDataEncoding,
-    encoder: &mut BinEncoder<'_>,
-) -> ProtoResult<()> {
-    let name = name(alloc, form)?;
-    let mut guard = encoder.with_rdata_behavior(kind);
-    name.emit(&mut guard)
-}
-
-/// Writes as many zero bytes.
-fn emit_zeros(alloc: Global, text: &str, encoder: &mut BinEncoder<'_>) -> ProtoResult<()> {
-    let zeros = vec![in alloc; 0u8; number(text)? as usize]?;
-    encoder.emit_vec(zeros.as_slice())
-}
-
-/// Fills the last place that was kept and is not filled yet.
-fn fill(text: &str, encoder: &mut BinEncoder<'_>, places: &mut Vec<Place<u16>>) -> ProtoResult<()> {
-    let number = (number(text)? % 65536) as u16;
-    match places.pop() {
-        Some(place) if encoder.holds(&place) => place.replace(encoder, number),
-        _ => Err(ProtoError::Message(BAD_STEP)),
+/// Returns the item, whose parts are between commas.
+fn item(alloc: Global, text: &str) -> ProtoResult<Item> {
+    let mut item = Item {
+        encoding: None,
+        parts: Vec::new(alloc),
+    };
+    for text in text.split(',') {
+        let (kind, rest) = text.split_once(':').ok_or(BAD_LINE)?;
+        match kind {
+            "enc" => item.encoding = Some(mode(rest)?),
+            _ => item.parts.push(part(alloc, kind, rest)?)?,
+        }
     }
+    Ok(item)
 }
 
-/// The name with these octets.
-fn name(alloc: Global, form: &str) -> ProtoResult<Name> {
-    let form = octets(alloc, form)?;
-    let mut decoder = BinDecoder::new(form.as_slice());
-    Ok(Name::read(alloc, &mut decoder)?)
+fn part(alloc: Global, kind: &str, rest: &str) -> ProtoResult<Part> {
+    Ok(match kind {
+        "n" => Part::Name(name(alloc, rest)?),
+        "u8" => Part::U8(number(rest)?),
+        "u16" => Part::U16(number(rest)?),
+        "i32" => Part::I32(number(rest)?),
+        "u32" => Part::U32(number(rest)?),
+        "vec" => Part::Bytes(octets(alloc, rest)?),
+        "zeros" => Part::Bytes(zeros(alloc, rest)?),
+        "char" => Part::Text(octets(alloc, rest)?),
+        "charzeros" => Part::Text(zeros(alloc, rest)?),
+        _ => return Err(BAD_LINE),
+    })
 }
 
-fn number(text: &str) -> ProtoResult<u32> {
-    text.parse::<u32>().map_err(|_| ProtoError::ParseInt)
+/// Writes items with an encoder, and returns how many it wrote, the way to write names then, and the bytes.
+fn emit_items(alloc: Global, text: &str) -> ProtoResult<String> {
+    let items = items(alloc, text)?;
+    let mut message = Vec::new(alloc);
+    let mut encoder = BinEncoder::new(&mut message);
+    let outcome = encoder.emit_all(items.iter());
+    let mode = letter(encoder.name_encoding());
+    drop(encoder);
+    let message = hexadecimal(alloc, message.as_slice())?;
+    Ok(match outcome {
+        Ok(count) => format!(in alloc; "items:{count} {mode} {message}")?,
+        Err(e) => format!(in alloc; "items-err:{} {mode} {message}", error_word(alloc, &e)?)?,
+    })
 }

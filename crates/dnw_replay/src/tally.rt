@@ -1,26 +1,28 @@
-//! How answers compare, counted.
+//! Answers that are compared and counted.
 
+use crate::notation::octets;
+use std::alloc::Global;
 use std::io;
 use std::io::Write;
 
-/// How an answer compares with the Rust's.
+/// How an answer compares with the one that is expected.
 #[derive(Clone, Copy)]
-pub enum Verdict {
+pub(crate) enum Verdict {
     /// It is the same.
     Same,
-    /// The Rust leaves the cursor moved behind a refused reading.
+    /// The Rust moves the cursor although it fails to read.
     CursorStays,
     /// The Rust drops a backslash at the end of a text.
     UnfinishedEscape,
     /// A character is numeric since Unicode 18.0.
     NumericCharacter,
-    /// It is another, and is not meant to be.
+    /// It is another, and not on purpose.
     Different,
 }
 
 /// How many answers there were of each kind.
 #[derive(Drop)]
-pub struct Tally {
+pub(crate) struct Tally {
     compared: u64,
     cursor_stays: u64,
     unfinished_escape: u64,
@@ -29,7 +31,7 @@ pub struct Tally {
 }
 
 impl Tally {
-    /// None yet.
+    /// Creates a tally of no answers.
     pub(crate) fn new() -> Self {
         Tally {
             compared: 0,
@@ -40,50 +42,132 @@ impl Tally {
         }
     }
 
-    /// Counts one more answer.
-    pub(crate) fn count(&mut self, verdict: Verdict) {
-        self.compared = self.compared.saturating_add(1);
-        match verdict {
-            Verdict::Same => {}
-            Verdict::CursorStays => self.cursor_stays = self.cursor_stays.saturating_add(1),
-            Verdict::UnfinishedEscape => {
-                self.unfinished_escape = self.unfinished_escape.saturating_add(1);
-            }
-            Verdict::NumericCharacter => {
-                self.numeric_character = self.numeric_character.saturating_add(1);
-            }
-            Verdict::Different => self.different = self.different.saturating_add(1),
+    /// Compares an answer with the one that is expected, and counts it. A request may have several answers, one a word.
+    pub(crate) fn count(
+        &mut self,
+        alloc: Global,
+        kind: &str,
+        request: &str,
+        wanted: &str,
+        got: &str,
+    ) -> Verdict {
+        if kind == "readings" {
+            return self.count_words(wanted, got);
         }
+        let verdict = judge(alloc, kind, request, wanted, got);
+        self.add(verdict);
+        verdict
     }
 
-    /// How many answers differ that are not meant to.
+    /// Compares answers word by word. Returns `Different` if one differs, and not on purpose.
+    fn count_words(&mut self, wanted: &str, got: &str) -> Verdict {
+        let mut worst = Verdict::Same;
+        let mut answers = got.split(' ');
+        for want in wanted.split(' ') {
+            let verdict = judge_reading(want, answers.next().unwrap_or(""));
+            self.add(verdict);
+            if let Verdict::Different = verdict {
+                worst = verdict;
+            }
+        }
+        if answers.next().is_some() {
+            self.add(Verdict::Different);
+            worst = Verdict::Different;
+        }
+        worst
+    }
+
+    /// Counts an answer.
+    pub(crate) fn add(&mut self, verdict: Verdict) {
+        self.compared = self.compared.saturating_add(1);
+        let count = match verdict {
+            Verdict::Same => return,
+            Verdict::CursorStays => &mut self.cursor_stays,
+            Verdict::UnfinishedEscape => &mut self.unfinished_escape,
+            Verdict::NumericCharacter => &mut self.numeric_character,
+            Verdict::Different => &mut self.different,
+        };
+        *count = count.saturating_add(1);
+    }
+
+    /// Returns the number of answers that differ, and not on purpose.
     pub(crate) fn different(&self) -> u64 {
         self.different
     }
 
-    /// Whether there were answers, and none differs that is not meant to.
+    /// Returns `true` if answers were compared, and none differs but on purpose.
     pub(crate) fn is_clean(&self) -> bool {
         self.compared > 0 && self.different == 0
     }
 
-    /// Tells the counts.
-    pub(crate) fn tell<W: Write>(&self, out: &mut W) -> io::Result<()> {
+    /// Prints the counts.
+    pub(crate) fn print<W: Write>(&self, out: &mut W) -> io::Result<()> {
         writeln!(out, "answers compared: {}", self.compared)?;
         writeln!(
             out,
-            "the cursor stays where reading is refused: {}",
+            "different on purpose, the cursor is unchanged if reading fails: {}",
             self.cursor_stays
         )?;
         writeln!(
             out,
-            "an unfinished escape is refused: {}",
+            "different on purpose, an unfinished escape is rejected: {}",
             self.unfinished_escape
         )?;
         writeln!(
             out,
-            "numeric characters of Unicode 18.0: {}",
+            "different on purpose, numeric characters of Unicode 18.0: {}",
             self.numeric_character
         )?;
-        writeln!(out, "other differences: {}", self.different)
+        writeln!(out, "different: {}", self.different)
     }
+}
+
+fn judge(alloc: Global, kind: &str, request: &str, wanted: &str, got: &str) -> Verdict {
+    if wanted == got {
+        Verdict::Same
+    } else if kind == "text" {
+        judge_parsed(alloc, request, wanted, got)
+    } else {
+        Verdict::Different
+    }
+}
+
+/// Compares a reading, whose expected error may have the Rust's cursor after it.
+fn judge_reading(want: &str, got: &str) -> Verdict {
+    if want == got {
+        return Verdict::Same;
+    }
+    match want.split_once('@') {
+        Some((code, _)) if code == got => Verdict::CursorStays,
+        _ => Verdict::Different,
+    }
+}
+
+/// Compares a parsed text. The list leaves out the rest of an error's text if it has control characters.
+fn judge_parsed(alloc: Global, text: &str, wanted: &str, got: &str) -> Verdict {
+    let code = got.split_once(':').map_or(got, |parts| parts.0);
+    if wanted == code {
+        Verdict::Same
+    } else if got == "!e" {
+        Verdict::UnfinishedEscape
+    } else if code == "!i" && has_newly_numeric(alloc, text) {
+        Verdict::NumericCharacter
+    } else {
+        Verdict::Different
+    }
+}
+
+/// Returns `true` if a text in hexadecimal has a character that is numeric in Unicode 18.0 and was not before.
+fn has_newly_numeric(alloc: Global, text: &str) -> bool {
+    let Ok(octets) = octets(alloc, text) else {
+        return false;
+    };
+    match str::from_utf8(octets.as_slice()) {
+        Ok(text) => text.chars().any(is_newly_numeric),
+        Err(_) => false,
+    }
+}
+
+fn is_newly_numeric(c: char) -> bool {
+    matches!(c, '\u{1246F}' | '\u{12475}'..='\u{1247F}' | '\u{12550}'..='\u{12686}')
 }

@@ -1,55 +1,62 @@
 //! The texts of names, both ways.
 
-use crate::line::octets;
+use crate::names::shown;
+use crate::notation::{BAD_LINE, first_word, octets};
 use crate::readings::code_of;
-use crate::tally::{Tally, Verdict};
 use dns_names_wire::decoder::BinDecoder;
 use dns_names_wire::error::{ProtoError, ProtoResult};
 use dns_names_wire::name::Name;
 use std::alloc::{AllocError, Global};
 
-/// Parses a text, and compares the name's own text, or the error.
-pub(crate) fn compare_parsed(
-    alloc: Global,
-    text: &str,
-    want: &str,
-    tally: &mut Tally,
-) -> ProtoResult<()> {
-    let text = octets(alloc, text)?;
-    let Ok(text) = str::from_utf8(text.as_slice()) else {
-        return Err(ProtoError::Utf8);
-    };
-    let got = parsed(alloc, text)?;
-    tally.count(judge(text, want, got.as_str()));
-    Ok(())
+/// Returns the answer to a request about texts.
+pub(crate) fn answer(alloc: Global, kind: &str, words: &str) -> ProtoResult<String> {
+    match kind {
+        "text" => parsed(alloc, words),
+        "print" => printed(alloc, words),
+        "parse" => parse(alloc, words),
+        "origin" => {
+            let (origin, text) = words.split_once(' ').unwrap_or((words, ""));
+            let origin = Name::from_ascii(alloc, origin)?;
+            shown(alloc, Name::parse(alloc, text, Some(&origin)))
+        }
+        _ => Err(BAD_LINE),
+    }
 }
 
-/// Prints the name with these octets, and compares its text.
-pub(crate) fn compare_printed(
-    alloc: Global,
-    flag: &str,
-    form: &str,
-    want: &str,
-    tally: &mut Tally,
-) -> ProtoResult<()> {
+/// Parses a text by each call that does.
+fn parse(alloc: Global, text: &str) -> ProtoResult<String> {
+    let answer = shown(alloc, Name::from_ascii(alloc, text))?;
+    for other in [
+        shown(alloc, Name::from_str(alloc, text))?,
+        shown(alloc, Name::from_str_relaxed(alloc, text))?,
+        shown(alloc, Name::parse(alloc, text, None))?,
+    ] {
+        if other.as_str() != answer.as_str() {
+            return Err(ProtoError::Message("the calls differ"));
+        }
+    }
+    Ok(answer)
+}
+
+/// Prints the name with this flag and wire form.
+fn printed(alloc: Global, words: &str) -> ProtoResult<String> {
+    let (flag, form) = first_word(words)?;
     let form = octets(alloc, form)?;
     let mut decoder = BinDecoder::new(form.as_slice());
     let mut name = Name::read(alloc, &mut decoder)?;
     name.set_fqdn(flag == "1");
-    let got = name.to_ascii(alloc)?;
-    tally.count(if got.as_str() == want {
-        Verdict::Same
-    } else {
-        Verdict::Different
-    });
-    Ok(())
+    name.to_ascii(alloc)
 }
 
-/// What parsing a text answers, in the list's words.
+/// Parses a text in hexadecimal, and returns the answer in the words of the lists.
 fn parsed(alloc: Global, text: &str) -> ProtoResult<String> {
+    let text = octets(alloc, text)?;
+    let Ok(text) = str::from_utf8(text.as_slice()) else {
+        return Err(BAD_LINE);
+    };
     let name = match Name::from_ascii(alloc, text) {
         Ok(name) => name,
-        Err(error) => return Ok(code_of_refusal(alloc, &error)?),
+        Err(error) => return Ok(code_of_failure(alloc, &error)?),
     };
     let flag = if name.is_fqdn() { 1 } else { 0 };
     let shown = name.to_ascii(alloc)?;
@@ -60,8 +67,8 @@ fn parsed(alloc: Global, text: &str) -> ProtoResult<String> {
     }
 }
 
-/// The list's word for an error.
-fn code_of_refusal(alloc: Global, error: &ProtoError) -> Result<String, AllocError> {
+/// Returns the word of the lists for an error.
+fn code_of_failure(alloc: Global, error: &ProtoError) -> Result<String, AllocError> {
     match error {
         ProtoError::Decode(cause) => {
             let code = code_of(alloc, cause)?;
@@ -73,7 +80,7 @@ fn code_of_refusal(alloc: Global, error: &ProtoError) -> Result<String, AllocErr
     }
 }
 
-/// The same for an error that has a text of its own: which one, and the rest of the text.
+/// Returns the word for an error with a text of its own: which one, and the rest of the text.
 fn code_of_text(alloc: Global, text: &str) -> Result<String, AllocError> {
     for (begin, code) in [
         ("Malformed label: ", "m"),
@@ -86,23 +93,4 @@ fn code_of_text(alloc: Global, text: &str) -> Result<String, AllocError> {
         }
     }
     format!(in alloc; "!{text}")
-}
-
-fn judge(text: &str, want: &str, got: &str) -> Verdict {
-    // The list leaves the rest of an error's text out where it has control characters.
-    let code = got.split_once(':').map_or(got, |parts| parts.0);
-    if want == got || want == code {
-        Verdict::Same
-    } else if got == "!e" {
-        Verdict::UnfinishedEscape
-    } else if code == "!i" && text.chars().any(is_newly_numeric) {
-        Verdict::NumericCharacter
-    } else {
-        Verdict::Different
-    }
-}
-
-/// Whether a character is numeric by Unicode 18.0 and was not before.
-fn is_newly_numeric(c: char) -> bool {
-    matches!(c, '\u{1246F}' | '\u{12475}'..='\u{1247F}' | '\u{12550}'..='\u{12686}')
 }

@@ -1,11 +1,11 @@
--- An item of a test: a byte, and character data behind it.
+-- An item of a test: a byte, and character data after it.
 use Rattle.std.specs.Prelude.{◌≡◌, ◌⊎◌, ℕ, List, [], ◌∷◌, length, Ok, Err}
 use Rattle.std.proofs.Common.{inl, inr}
-use Rattle.dnw_encoder.specs.Encoder.{Encoder, Writes, WritesText}
-use Rattle.dnw_encoder.specs.Emitting.{Outcome, Frame}
-use Rattle.dnw_encoder.specs.EmittingLaws.{frame, frames-follow, frame-text}
+use Rattle.dns_names_wire.specs.Encoder.{Encoder, Writes, WritesText}
+use Rattle.dns_names_wire.specs.Emitting.{Outcome, Frame}
+use Rattle.dns_names_wire.specs.EmittingLaws.{frame, frames-follow, frame-text}
 
--- the byte, and then the text; or the first of both that is refused
+-- the byte, and then the text; or the first of both that fails
 abbrev pub WritesBoth : ℕ → List ℕ → Encoder → Outcome → Encoder → Type 0
 WritesBoth byte text v (Ok done) w = (m : Encoder) × Writes v (byte ∷ []) (Ok tt) m × WritesText m text (Ok tt) w
 WritesBoth byte text v (Err error) w =
@@ -24,7 +24,7 @@ keeps_frame byte text v (Err error) w e h =
           frames-follow v r.0 w (Err error) e first (frame-text r.0 text (Err error) w first.ends r.2)
     ]
 
--- behind an accepted byte it is the text that decides
+-- after an accepted byte the text decides
 pub then : (byte : ℕ) (text : List ℕ) (v m : Encoder) (outcome : Outcome) (w : Encoder)
     → Writes v (byte ∷ []) (Ok tt) m → WritesText m text outcome w → WritesBoth byte text v outcome w
 then byte text v m (Ok tt) w first rest = (m, first, rest)

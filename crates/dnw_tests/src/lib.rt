@@ -1,30 +1,15 @@
-//! Tests that cross crates: worked examples, hostile messages, error texts, and every call that takes memory.
+//! Tests of what only a caller's code can show: borrows that outlive what lent them, guards, closures with contracts of
+//! their own, and items of a caller's own type.
 //!
-//! Expected values come from the RFCs, from worked examples by hand, or from the Rust that the library ports.
+//! Each test is proved, and so costs more than a row of data. Worked examples are in `diff/rows`, which
+//! `crates/dnw_replay` runs.
 #![tactic(auto)]
 
 #[cfg(test)]
 mod borrowed;
-pub mod calling;
 #[cfg(test)]
-mod decoding;
+mod closures;
 #[cfg(test)]
-mod encoding;
+mod guards;
 #[cfg(test)]
-mod errors;
-#[cfg(test)]
-mod helpers;
-#[cfg(test)]
-mod labels;
-#[cfg(test)]
-mod names;
-#[cfg(test)]
-mod overwritten;
-#[cfg(test)]
-mod reading;
-#[cfg(test)]
-mod readme;
-#[cfg(test)]
-mod scripts;
-#[cfg(test)]
-mod texts;
+mod items;

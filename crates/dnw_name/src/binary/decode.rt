@@ -2,12 +2,14 @@
 ghost use Rattle.std.specs.Prelude.{◌≡◌, ℕ, ℤ, IfOk, IfErr, OnErr, IsErrOf, IsOkAnd};
 ghost use Rattle.dnw_base.specs.Decoder.{Decoder};
 ghost use Rattle.dnw_error.specs.declared.error.DecodeError.{DecodeError};
-ghost use Rattle.dnw_name.specs.Decodable.{TakesU16, TakesU32, TakesI32, LacksBytes, TakesNameValue, StopsSomehow};
+ghost use Rattle.dnw_name.specs.Decodable.{TakesU16, TakesU32, TakesI32, TakesType, TakesClass, LacksBytes, TakesNameValue, StopsSomehow};
 
 use crate::name::Name;
 use dnw_base::decoder::BinDecoder;
 use dnw_base::restrict::Restrict;
+use dnw_error::dns_class::DNSClass;
 use dnw_error::error::DecodeError;
+use dnw_error::record_type::RecordType;
 use std::alloc::Global;
 
 /// Types that can be read from a message. Each says which octets are one of its values, so generic callers know what
@@ -92,6 +94,38 @@ impl<'r> BinDecodable<'r> for Name {
 
     fn read(alloc: Global, decoder: &mut BinDecoder<'r>) -> Result<Self, DecodeError> {
         Name::read(alloc, decoder)
+    }
+
+    fn from_bytes(alloc: Global, bytes: &'r [u8]) -> Result<Self, DecodeError> {
+        let mut decoder = BinDecoder::new(bytes);
+        Self::read(alloc, &mut decoder)
+    }
+}
+
+/// Any two octets are a record type.
+impl<'r> BinDecodable<'r> for RecordType {
+    ghost stands = { TakesType };
+
+    ghost fails = { LacksBytes 2 };
+
+    fn read(_alloc: Global, decoder: &mut BinDecoder<'r>) -> Result<Self, DecodeError> {
+        Ok(RecordType::from(decoder.read_u16()?.unverified()))
+    }
+
+    fn from_bytes(alloc: Global, bytes: &'r [u8]) -> Result<Self, DecodeError> {
+        let mut decoder = BinDecoder::new(bytes);
+        Self::read(alloc, &mut decoder)
+    }
+}
+
+/// Any two octets are a class, which is never `OPT`.
+impl<'r> BinDecodable<'r> for DNSClass {
+    ghost stands = { TakesClass };
+
+    ghost fails = { LacksBytes 2 };
+
+    fn read(_alloc: Global, decoder: &mut BinDecoder<'r>) -> Result<Self, DecodeError> {
+        Ok(DNSClass::from(decoder.read_u16()?.unverified()))
     }
 
     fn from_bytes(alloc: Global, bytes: &'r [u8]) -> Result<Self, DecodeError> {

@@ -1,0 +1,56 @@
+/* Calls each function of dnw_bench.h and compares its checksum. It exits with 1 at the first that is not the expected
+   one. */
+#include "dnw_bench.h"
+
+#include <stdio.h>
+#include <stdlib.h>
+#include <string.h>
+
+#define EXPECT(fact)                                                                    \
+    do {                                                                                \
+        if (!(fact)) {                                                                  \
+            fprintf(stderr, "bench.c:%d: failed: %s\n", __LINE__, #fact);               \
+            exit(1);                                                                    \
+        }                                                                               \
+    } while (0)
+
+#define BYTES(text) ((const uint8_t *)(text)), (sizeof(text) - 1)
+
+static uint8_t message[93];
+
+static void make_message(void)
+{
+    memset(message, 0xFF, sizeof message);
+    memcpy(message + 20, "\001F\003ISI\004ARPA\000", 12);
+    memcpy(message + 40, "\003FOO\300\024", 6);
+    memcpy(message + 64, "\300\032", 2);
+    message[92] = 0;
+}
+
+int main(void)
+{
+    make_message();
+    static const uint32_t starts[] = {20, 40, 64, 92};
+    static const uint32_t refused[] = {0, 94};
+    /* the ends, and the lengths of the forms */
+    uint64_t sum = (32 + 46 + 66 + 93) + 65536 * (uint64_t)(12 + 16 + 6 + 1);
+    EXPECT(dnw_read_names(message, sizeof message, starts, 4, 0) == 0);
+    EXPECT(dnw_read_names(message, sizeof message, starts, 4, 3) == 3 * sum);
+    EXPECT(dnw_read_names(message, sizeof message, refused, 2, 1) == (uint64_t)1 << 41);
+    EXPECT(dnw_parse_names(BYTES("a.bc.\n.\n"), 2) == 14);
+    EXPECT(dnw_parse_names(BYTES("a..\na\n"), 1) == ((uint64_t)1 << 40) + 3);
+    EXPECT(dnw_parse_names(BYTES("\377"), 1) == 0);
+    EXPECT(dnw_to_ascii(BYTES("\001a\002bc\000\000"), 2) == 12);
+    EXPECT(dnw_to_ascii(BYTES("\001a"), 2) == 0);
+    EXPECT(dnw_emit_names(BYTES("\001a\002bc\000\000"), 2) == 14);
+    EXPECT(dnw_emit_names(BYTES("\001a"), 2) == 0);
+    EXPECT(dnw_emit_names(BYTES("\001a\000"), 0) == 0);
+    EXPECT(dnw_emit_lower(BYTES("\001A\002bc\000\001A\002bc\000"), 2) == 24);
+    EXPECT(dnw_clone_names(BYTES("\001a\002bc\000\000"), 3) == 6);
+    EXPECT(dnw_collect_names(BYTES("\001a\002bc\000\000"), 3) == 6);
+    EXPECT(dnw_collect_names(BYTES("\001a"), 1) == (uint64_t)1 << 40);
+    EXPECT(dnw_compare(BYTES("\001b\000\001A\000\001a\000\001c\000"), 2) == 2 * (2 + 1 + 0));
+    EXPECT(dnw_sort(BYTES("\002bb\000\001A\000\000"), 1) == 1 * 1 + 2 * 3 + 3 * 4);
+    EXPECT(dnw_hash(BYTES("\001A\000"), 1) == dnw_hash(BYTES("\001a\000"), 1));
+    return 0;
+}

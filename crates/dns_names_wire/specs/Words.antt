@@ -1,0 +1,58 @@
+-- The words of the public contracts, gathered for callers: a clause or a proof of theirs writes
+-- `Rattle.dns_names_wire.specs.Words.{TakesName, wire}` and names no crate below this one.
+
+-- Limits (RFC 1035, section 2.3.4).
+pub use Rattle.dnw_base.specs.Limits.{max_label, max_labels, max_name, max_character_data, max_message}
+pub use Rattle.dnw_base.specs.Limits.{pointer_mark, pointer_offsets, pointer_reach}
+-- Errors.
+pub use Rattle.dnw_error.specs.Fault.{Fault, Follows, NeedsErrorText, Updates}
+pub use Rattle.dnw_error.specs.Copies.{IsCopyOf, IsDecodeCopyOf, OwnsText, OwnsDecodeText}
+-- Untrusted values.
+pub use Rattle.dnw_base.specs.Checked.{difference}
+pub use Rattle.dnw_base.specs.Verified.{verified_value, verified_verdict}
+-- Labels, names and their wire form.
+pub use Rattle.dnw_base.specs.Labels.{IsLabel, wildcard}
+pub use Rattle.dnw_base.specs.Names.{NameValue, AreLabels, IsWildcard, IsZoneOf, encoded_size, lower, wire, labels_wire}
+pub use Rattle.dnw_form.specs.Edits.{append_label, prepend_label, append_name, append_domain, with_label}
+pub use Rattle.dnw_form.specs.Edits.{base_name, trim_to, into_wildcard}
+-- Order, equality and hash of labels and names.
+pub use Rattle.dnw_label.specs.LabelOrder.{label_cmp, label_eq, label_hash_input, lower_label, octets_cmp}
+pub use Rattle.dnw_form.specs.Order.{labels_cmp, labels_cmp_case, name_cmp, name_cmp_case, name_eq, name_eq_case, name_hash_input}
+pub use Rattle.dnw_form.specs.Order.{IsZoneOfCase, IsLocalhost, localhost}
+-- Types and classes of records.
+pub use Rattle.dnw_error.specs.RecordTypes.{type_code, type_name, type_cmp, type_hash, is_dnssec, is_unknown, ReportsType}
+pub use Rattle.dnw_error.specs.DnsClasses.{class_code, class_name, class_cmp, class_hash, min_payload, ReportsClass}
+-- Texts of labels and names.
+pub use Rattle.dnw_label.specs.LabelText.{dot, label_from_bytes, label_from_text, label_text}
+pub use Rattle.dnw_form.specs.NameText.{IsLabelText, name_from_text, name_from_text_at, name_text}
+-- Reading a message.
+pub use Rattle.dnw_base.specs.Decoder.{Decoder, Takes, TakesCopy, advanced, next_bytes}
+pub use Rattle.dnw_reading.specs.Reading.{Reads, Stops, NameAt, FaultAt, TakesName, StopsAt, target}
+pub use Rattle.dnw_name.specs.Decodable.{LacksBytes, StopsSomehow, TakesU16, TakesU32, TakesI32, TakesNameValue}
+pub use Rattle.dnw_reading.specs.ReadingLaws.{NameOrFault, NotBoth, OneName, OneFault, ReadsBack, StandsBefore, StandsWider}
+pub use Rattle.dnw_reading.specs.ReadingLaws.{NameSteps, FaultSteps, OwnOctets}
+-- Writing a message.
+pub use Rattle.dnw_encoder.specs.EncoderValue.{value, lender}
+pub use Rattle.dnw_encoder.specs.Encoder.{Encoder, fresh, Writes, WritesText, TakesRoom, HasRoom, Holds, Stores}
+pub use Rattle.dnw_encoder.specs.Encoder.{reserved, trimmed, mode_of_rdata, usual_candidates, usual_names}
+pub use Rattle.dnw_encoder.specs.Emitting.{Outcome, Emits, Frame, EmitsAt, EmitsItem, EmitsItems, FillsPlace, WritesLen, FailsUnchanged}
+pub use Rattle.dnw_encoder.specs.EmittingLaws.{frame, fails-unchanged}
+pub use Rattle.dnw_encoder.specs.EmittedName.{EmitsName, EmitsLabels, pointer_to}
+pub use Rattle.dnw_encoder.specs.NameFrames.{frame-name}
+pub use Rattle.dnw_encoder.specs.Guards.{Guards, guarded, former}
+pub use Rattle.dnw_candidates.specs.Candidates.{Finds, FindsUsable, suffixes}
+pub use Rattle.dnw_encoder.specs.EncoderLaws.{NameComesBack, NameIsRead, NamesTakeNoMore, PointersSave, FramesFollow, ItemsKeepFrame}
+pub use Rattle.dnw_encoder.specs.EncoderLaws.{FillsTakeNoMemory, FillsStayBounded, ItemsStayBounded, NamesStayBounded, PlacesStayBounded, WritesStayBounded}
+-- Scripts.
+pub use Rattle.dns_names_wire.specs.Script.{Action, action, EmitsPart, EmitsScriptItem}
+pub use Rattle.dns_names_wire.specs.Pieces.{Account, Piece, opening}
+pub use Rattle.dns_names_wire.specs.Replies.{RepliesTo}
+pub use Rattle.dns_names_wire.specs.Finished.{Finished, Shortest}
+pub use Rattle.dns_names_wire.specs.Runs.{Run}
+pub use Rattle.dns_names_wire.specs.ItemFrames.{frame-part, frame-item}
+pub use Rattle.dns_names_wire.specs.ScriptLaws.{RunsReply, RunsFinish, RunsStayUseful, RunsAreShortest}
+
+-- Master files: tokens, and times to live.
+pub use Rattle.dnw_txt.specs.Tokens.{TokenValue, LexFault, LexState, LexerValue}
+pub use Rattle.dnw_txt.specs.Lexing.{token_value, Lexes, Calls, EndsInTime}
+pub use Rattle.dnw_txt.specs.Times.{max_ttl, time_seconds, IsNoTtl, IsParseTime}

@@ -1,0 +1,144 @@
+//! Names compared, by their wire forms.
+ghost use Rattle.std.specs.Prelude.{◌≡◌, ◌≢◌, ◌↔◌, List, ℕ, length, IsTrue, IfOk, IfErr};
+ghost use Rattle.dnw_base.specs.Names.{IsZoneOf, lower, wire};
+ghost use Rattle.dnw_form.specs.Order.{labels_cmp};
+ghost use Rattle.dnw_c.specs.Buffers.{put};
+ghost use Rattle.dnw_c.specs.Failures.{NumberOf};
+ghost use Rattle.dnw_c.specs.NameCalls.{FailsAsForms, FailsToLower, IsFormOf, IsNoForm, sign};
+
+use crate::failure::{Failure, of_decode};
+use crate::names::{name_at, put};
+use dns_names_wire::name::Name;
+use std::alloc::Global;
+use std::cmp::Ordering;
+
+/// Compares two names in canonical order, and puts -1, 0 or 1.
+#[unsafe(no_mangle)]
+pub extern "C" fn dnw_name_compare(alloc: Global, left: &[u8], right: &[u8], order: &mut i32) -> u32
+    ensures ok { result ≡ 0 → (a b : List (List ℕ)) × IsFormOf left.now a × IsFormOf right.now b × (order.new ≡ sign (labels_cmp a b)) }
+    ensures err { result ≢ 0 → NumberOf (FailsAsForms left.now right.now) result }
+    ensures same { result ≢ 0 → order.new ≡ order.old }
+{
+    match both_names(alloc, left, right) {
+        Ok((left, right)) => {
+            *order = sign_of(left.cmp(&right));
+            0
+        }
+        Err(failure) => failure.number(),
+    }
+}
+
+/// Puts whether two names are equal, ignoring ASCII case.
+#[unsafe(no_mangle)]
+pub extern "C" fn dnw_name_equal(
+    alloc: Global,
+    left: &[u8],
+    right: &[u8],
+    is_equal: &mut bool,
+) -> u32
+    ensures ok { result ≡ 0 → (a b : List (List ℕ)) × IsFormOf left.now a × IsFormOf right.now b × (IsTrue is_equal.new ↔ (lower a ≡ lower b)) }
+    ensures err { result ≢ 0 → NumberOf (FailsAsForms left.now right.now) result }
+    ensures same { result ≢ 0 → is_equal.new ≡ is_equal.old }
+{
+    match both_names(alloc, left, right) {
+        Ok((left, right)) => {
+            *is_equal = left.eq_ignore_root(&right);
+            0
+        }
+        Err(failure) => failure.number(),
+    }
+}
+
+/// Puts whether a name is in a zone, ignoring ASCII case.
+#[unsafe(no_mangle)]
+pub extern "C" fn dnw_name_in_zone(
+    alloc: Global,
+    name: &[u8],
+    zone: &[u8],
+    is_in_zone: &mut bool,
+) -> u32
+    ensures ok { result ≡ 0 → (a b : List (List ℕ)) × IsFormOf name.now a × IsFormOf zone.now b × (IsTrue is_in_zone.new ↔ IsZoneOf b a) }
+    ensures err { result ≢ 0 → NumberOf (FailsAsForms name.now zone.now) result }
+    ensures same { result ≢ 0 → is_in_zone.new ≡ is_in_zone.old }
+{
+    match both_names(alloc, name, zone) {
+        Ok((name, zone)) => {
+            *is_in_zone = zone.zone_of(&name);
+            0
+        }
+        Err(failure) => failure.number(),
+    }
+}
+
+/// Puts the wire form of a name in lower case, and its length.
+#[unsafe(no_mangle)]
+pub extern "C" fn dnw_name_to_lowercase(
+    alloc: Global,
+    form: &[u8],
+    lowered: &mut [u8],
+    len: &mut usize,
+) -> u32
+    ensures ok { result ≡ 0 → (labels : List (List ℕ)) × IsFormOf form.now labels
+        × (lowered.new ≡ put lowered.old (wire (lower labels))) × (len.new ≡ length (wire (lower labels))) }
+    ensures err { result ≢ 0 → NumberOf (FailsToLower form.now (length lowered.old)) result }
+    ensures same { result ≢ 0 → (lowered.new ≡ lowered.old) × (len.new ≡ len.old) }
+{
+    match lower_form(alloc, form, lowered) {
+        Ok(put) => {
+            *len = put;
+            0
+        }
+        Err(failure) => failure.number(),
+    }
+}
+
+/// Puts the wire form of a name in lower case.
+fn lower_form(alloc: Global, form: &[u8], lowered: &mut [u8]) -> Result<usize, Failure>
+    ensures ok { IfOk result (λ len. (labels : List (List ℕ)) × IsFormOf form.now labels
+        × (lowered.new ≡ put lowered.old (wire (lower labels))) × (len ≡ length (wire (lower labels)))) }
+    ensures err { IfErr result (FailsToLower form.now (length lowered.old)) }
+    ensures same { IfErr result (λ _. lowered.new ≡ lowered.old) }
+{
+    let name = name_of(alloc, form)?;
+    match name.to_lowercase() {
+        Ok(name) => put(lowered, name.as_wire()),
+        Err(_) => Err(Failure::Other),
+    }
+}
+
+/// Returns the name with a wire form.
+fn name_of(alloc: Global, form: &[u8]) -> Result<Name, Failure>
+    ensures ok { IfOk result (λ name. IsTrue name.is_fqdn × IsFormOf form.now name.labels) }
+    ensures err { IfErr result (IsNoForm form.now) }
+{
+    match name_at(alloc, form, 0) {
+        Ok((name, end)) => {
+            if end != form.len() {
+                return Err(Failure::BytesLeft);
+            }
+            Ok(name)
+        }
+        Err(error) => Err(of_decode(&error)),
+    }
+}
+
+/// Returns the names with two wire forms.
+fn both_names(alloc: Global, left: &[u8], right: &[u8]) -> Result<(Name, Name), Failure>
+    ensures ok { IfOk result (λ names. IsTrue names.0.is_fqdn × IsTrue names.1.is_fqdn × IsFormOf left.now names.0.labels × IsFormOf right.now names.1.labels) }
+    ensures err { IfErr result (FailsAsForms left.now right.now) }
+{
+    let left = name_of(alloc, left)?;
+    let right = name_of(alloc, right)?;
+    Ok((left, right))
+}
+
+/// Returns an order as -1, 0 or 1.
+fn sign_of(order: Ordering) -> i32
+    ensures { result ≡ sign order }
+{
+    match order {
+        Ordering::Less => -1,
+        Ordering::Equal => 0,
+        Ordering::Greater => 1,
+    }
+}

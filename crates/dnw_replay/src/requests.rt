@@ -1,0 +1,32 @@
+//! Which module makes which request.
+
+use crate::notation::BAD_LINE;
+use crate::{decoding, encoding, errors, labels, names, readings, restrict, scripts, texts};
+use dns_names_wire::error::ProtoResult;
+use std::alloc::Global;
+
+/// Makes a request, which is its first word and the others, and returns the answer.
+pub(crate) fn answer(alloc: Global, kind: &str, words: &str) -> ProtoResult<String> {
+    match kind {
+        "readings" | "read" | "cuts" | "octets" | "pairs" | "chain" | "blocks" => {
+            readings::answer(alloc, kind, words)
+        }
+        "text" | "print" | "parse" | "origin" => texts::answer(alloc, kind, words),
+        "label" | "label-text" | "into-label" => labels::answer(alloc, kind, words),
+        "made"
+        | "name"
+        | "append"
+        | "append-octets"
+        | "append-name"
+        | "append-domain"
+        | "lower"
+        | "in-zone"
+        | "eq-name" => names::answer(alloc, kind, words),
+        "decode" | "from-bytes" => decoding::answer(alloc, kind, words),
+        "restrict" => restrict::answer(alloc, words),
+        "encode" | "encode-numbered" | "to-bytes" => encoding::answer(alloc, kind, words),
+        "script" | "script-end" | "items" => scripts::answer(alloc, kind, words),
+        "error" => errors::answer(alloc, words),
+        _ => Err(BAD_LINE),
+    }
+}

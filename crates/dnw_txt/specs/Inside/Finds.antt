@@ -1,0 +1,67 @@
+-- What the parts of a lexer find, and what is left of a time.
+use Rattle.std.specs.Prelude.{◌≡◌, ℕ, ◌+◌, ◌-◌, ◌<◌, ◌≤◌, Bool, true, false, ◌&&◌, ◌||◌, ◌==◌, not, nat_lt, List, [], ◌∷◌, ◌++◌, length, take, drop, Option, Some, None, option_map, Result, Ok, Err}
+use Rattle.std.specs.Char.{is_whitespace, is_ascii_digit}
+use denote.Ref.{Bor}
+use Rattle.std.specs.Str.{chars, IsUtf8, IsCharBoundary}
+use Rattle.dnw_txt.specs.Tokens.{LexState, StartLine, RestOfLine, Failed, Step, Gives, Ends, before, from, is_line_end, quote, backslash, semicolon, close_paren, Plain, Escaped, quoted_after}
+use Rattle.dnw_txt.specs.Times.{groups_after, total_seconds}
+use Rattle.dnw_txt.specs.Lexing.{token_value, Fails}
+use Rattle.dnw_txt.specs.declared.zone_lex.State.{State}
+use Rattle.dnw_txt.specs.declared.zone_lex.State.TheVariants.{StartLine as AtStart, RestOfLine as InLine, Failed as HasStopped}
+use Rattle.dnw_txt.specs.declared.zone_lex.Found.{Found}
+use Rattle.dnw_txt.specs.declared.errors.LexerError.{LexerError}
+use Rattle.dnw_txt.specs.declared.errors.LexerError.TheVariants.{EOF, IllegalCharacter}
+
+abbrev pub state_of : State → LexState
+state_of AtStart = StartLine
+state_of InLine = RestOfLine
+state_of HasStopped = Failed
+
+-- a part finds what stands next
+abbrev pub Finds : Step → Result (Option Found) LexerError → Type 0
+Finds step (Ok (Some found)) = step ≡ Gives (token_value found.token) (chars found.rest.now) (state_of found.state)
+Finds step (Ok None) = step ≡ Ends
+Finds step (Err e) = Fails step e
+
+-- A text of these bytes is cut after n of them, before the first character that passes the test.
+pub record CutsBefore (p : ℕ → Bool) (text : List ℕ) (n : ℕ) : Type 0 where
+  pub within : n ≤ length text
+  pub boundary : IsCharBoundary text n
+  pub front : chars (take n text) ≡ before p (chars text)
+  pub back : chars (drop n text) ≡ from p (chars text)
+
+-- no white space, or the end of the line
+abbrev pub is_no_gap : ℕ → Bool
+is_no_gap c = is_line_end c || not (is_whitespace c)
+
+-- a character of a word that is a byte
+abbrev pub is_plain : ℕ → Bool
+is_plain c = nat_lt 32 c && nat_lt c 127 && not (c == semicolon) && not (c == close_paren)
+
+-- a text of fewer bytes
+abbrev pub IsShorter : List ℕ → List ℕ → Type 0
+IsShorter rest text = (length rest < length text) × IsUtf8 rest
+
+-- the first character of a text of these bytes, and the text after it
+abbrev pub BeginsWith : List ℕ → Option (ℕ × Bor (List ℕ)) → Type 0
+BeginsWith text None = chars text ≡ []
+BeginsWith text (Some (c, rest)) = (chars text ≡ c ∷ chars rest.now) × IsShorter rest.now text
+
+-- An escape is read after its backslash: its character joins the text, and the rest is read on.
+abbrev pub Escapes : List ℕ → Result (ℕ × Bor (List ℕ)) LexerError → Type 0
+Escapes cs (Ok (c, rest)) = (text : List ℕ) → quoted_after text Escaped cs ≡ quoted_after (text ++ c ∷ []) Plain (chars rest.now)
+Escapes cs (Err e) = (text : List ℕ) → Fails (quoted_after text Escaped cs) e
+
+-- the first character is a decimal digit, or a fault
+abbrev pub ReadsDigit : List ℕ → Result (ℕ × Bor (List ℕ)) LexerError → Type 0
+ReadsDigit cs (Ok (d, rest)) = (c : ℕ) × (cs ≡ c ∷ chars rest.now) × (is_ascii_digit c ≡ true) × (d ≡ c - 48)
+ReadsDigit [] (Err e) = e ≡ EOF
+ReadsDigit (c ∷ cs) (Err e) = (is_ascii_digit c ≡ false) × (e ≡ IllegalCharacter c)
+
+-- a quote or a backslash
+abbrev pub ends_run : ℕ → Bool
+ends_run c = c == quote || c == backslash
+
+-- the seconds of a time after groups of so many seconds and the digits of a number
+abbrev pub seconds_after : ℕ → Option ℕ → List ℕ → Option ℕ
+seconds_after total number cs = option_map (λ groups. total + total_seconds groups) (groups_after number cs)

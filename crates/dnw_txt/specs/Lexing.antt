@@ -1,0 +1,84 @@
+-- What a lexer's calls return, and what any number of them do.
+use Rattle.std.specs.Prelude.{◌≡◌, ℕ, ◌≤◌, ⊤, List, [], ◌∷◌, length, map, Option, Some, None, Result, Ok, Err, String, string_bytes, codes}
+use Rattle.std.specs.declared.alloc.Global.{Global}
+use Rattle.std.specs.Str.{chars}
+use Rattle.std.specs.List.{AllByRecursion}
+use Rattle.dnw_txt.specs.Tokens.{TokenValue, Blank, Grouped, CharData, AtSign, Include, Origin, Ttl, LineEnd, LexFault, EndOfText, IllegalCharacter, UnrecognizedChar, UnclosedList, UnclosedQuote, UnrecognizedDollar, HasFailed, RestOfLine, Failed, Step, Gives, Ends, Stops, LexerValue, next}
+use Rattle.dnw_txt.specs.declared.zone_lex.Token.{Token}
+use Rattle.dnw_txt.specs.declared.zone_lex.Token.TheVariants.{Blank as BlankToken, List as ListToken, CharData as CharDataToken, At as AtToken, Include as IncludeToken, Origin as OriginToken, Ttl as TtlToken, EOL as EndToken}
+use Rattle.dnw_txt.specs.declared.errors.LexerError.{LexerError}
+use Rattle.dnw_txt.specs.declared.errors.LexerError.TheVariants.{EOF, IllegalCharacter as IllegalError, IllegalState, UnclosedList as ListError, UnclosedQuotedString, UnrecognizedChar as UnrecognizedError, UnrecognizedDollar as DollarError, Memory}
+
+-- the characters of a text
+abbrev pub characters : String Global → List ℕ
+characters text = chars (string_bytes text)
+
+abbrev pub token_value : Token → TokenValue
+token_value BlankToken = Blank
+token_value (ListToken words) = Grouped (map characters words.items)
+token_value (CharDataToken text) = CharData (characters text)
+token_value AtToken = AtSign
+token_value IncludeToken = Include
+token_value OriginToken = Origin
+token_value TtlToken = Ttl
+token_value EndToken = LineEnd
+
+-- the error is this fixed text
+abbrev pub IsIllegalState : List ℕ → LexerError → Type 0
+IsIllegalState text (IllegalState own) = own.now ≡ text
+IsIllegalState text error = ⊥
+
+-- the error has a text of these characters
+abbrev pub IsDollarError : List ℕ → LexerError → Type 0
+IsDollarError word (DollarError own) = characters own ≡ word
+IsDollarError word error = ⊥
+
+-- the error reports the fault
+abbrev pub Reports : LexFault → LexerError → Type 0
+Reports EndOfText e = e ≡ EOF
+Reports (IllegalCharacter char) e = e ≡ IllegalError char
+Reports (UnrecognizedChar char) e = e ≡ UnrecognizedError char
+Reports UnclosedList e = e ≡ ListError
+Reports UnclosedQuote e = e ≡ UnclosedQuotedString
+Reports (UnrecognizedDollar word) e = IsDollarError word e
+Reports HasFailed e = IsIllegalState (codes "the lexer has failed") e
+
+-- what stands next has a text or a list, which are allocated
+abbrev pub MayRunOut : Step → Type 0
+MayRunOut (Gives (Grouped words) rest state) = ⊤
+MayRunOut (Gives (CharData text) rest state) = ⊤
+MayRunOut (Stops HasFailed) = ⊥
+MayRunOut (Stops fault) = ⊤
+MayRunOut step = ⊥
+
+-- the error reports the fault that stands next
+abbrev pub FailsWith : Step → LexerError → Type 0
+FailsWith (Stops fault) e = Reports fault e
+FailsWith step e = ⊥
+
+-- the same, or memory ran out
+abbrev pub Fails : Step → LexerError → Type 0
+Fails step Memory = MayRunOut step
+Fails step e = FailsWith step e
+
+-- What a call returns, and the lexer after it. A lexer at the end of its text stays there, and one that has failed
+-- stays so.
+abbrev pub Lexes : LexerValue → Result (Option Token) LexerError → LexerValue → Type 0
+Lexes old (Ok (Some token)) new = next old ≡ Gives (token_value token) new.rest new.state
+Lexes old (Ok None) new = (next old ≡ Ends) × (new ≡ record { rest = []; state = RestOfLine })
+Lexes old (Err e) new = Fails (next old) e × (new ≡ record old { state = Failed })
+
+-- any number of calls, one after the other, and what they return
+abbrev pub Calls : LexerValue → List (Result (Option Token) LexerError) → LexerValue → Type 0
+Calls old [] new = new ≡ old
+Calls old (answer ∷ answers) new = (between : LexerValue) × Lexes old answer between × Calls between answers new
+
+-- the call returned a token
+abbrev pub IsToken : Result (Option Token) LexerError → Type 0
+IsToken (Ok (Some found)) = ⊤
+IsToken answer = ⊥
+
+-- Calls return no more tokens than there are characters, before they return the end or an error.
+abbrev pub EndsInTime : LexerValue → Type 0
+EndsInTime lexer = (answers : List (Result (Option Token) LexerError)) (new : LexerValue)
+    → Calls lexer answers new → AllByRecursion IsToken answers → length answers ≤ length lexer.rest

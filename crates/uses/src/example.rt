@@ -1,0 +1,49 @@
+//! The example of the README.
+
+use dns_names_wire::binary::BinEncodable;
+use dns_names_wire::decoder::BinDecoder;
+use dns_names_wire::error::{DecodeError, ProtoResult};
+use dns_names_wire::name::Name;
+use dns_names_wire::name_ref::NameRef;
+use std::alloc::Global;
+
+/// Returns the name at the cursor of a message as text. If there is none, the cursor is unchanged.
+pub fn name_text(alloc: Global, decoder: &mut BinDecoder<'_>) -> ProtoResult<String> {
+    let name = Name::read(alloc, decoder)?;
+    name.to_ascii(alloc)
+}
+
+/// Returns `true` if the name at the cursor is in a zone. It does not copy the name.
+pub fn is_in_zone(decoder: &mut BinDecoder<'_>, zone: &Name) -> Result<bool, DecodeError> {
+    Ok(NameRef::read(decoder)?.zone_of(zone))
+}
+
+/// Returns the octets of a host's name in a zone.
+pub fn host(alloc: Global, zone: &Name, label: &str) -> ProtoResult<Vec<u8>> {
+    let name = Name::new(alloc)
+        .append_label(alloc, label)?
+        .append_domain(zone)?;
+    name.to_bytes(alloc)
+}
+
+#[cfg(test)]
+mod tests {
+    use super::{host, is_in_zone, name_text};
+    use dns_names_wire::decoder::BinDecoder;
+    use dns_names_wire::name::Name;
+    use std::test::Fail;
+
+    #[test]
+    fn the_example_runs(rt: HostRuntime) -> Result<(), Fail> {
+        let alloc = rt.alloc();
+        let zone = Name::from_ascii(alloc, "Example.")?;
+        let bytes = host(alloc, &zone, "www")?;
+        assert_eq!(rt; bytes.as_slice(), b"\x03www\x07Example\x00".as_slice());
+        let mut decoder = BinDecoder::new(bytes.as_slice());
+        let text = name_text(alloc, &mut decoder)?;
+        assert_eq!(rt; text.as_str(), "www.Example.");
+        let mut decoder = BinDecoder::new(bytes.as_slice());
+        assert!(rt; is_in_zone(&mut decoder, &zone).map_err(|_| "a name")?);
+        Ok(())
+    }
+}

@@ -1,0 +1,9 @@
+//! Callers of the library, each proved: how it is called, and how its contracts are used. They name `dns_names_wire` and
+//! no crate below it. README.md and CALLING.md show them.
+#![tactic(auto)]
+
+pub mod copying;
+pub mod example;
+pub mod question;
+pub mod reply;
+pub mod zone;

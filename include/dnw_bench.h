@@ -1,0 +1,50 @@
+/* Functions for benchmarks: the static library libdnw_bench.a, which `rt lib` builds in crates/dnw_bench. They are there
+   to be timed: they promise to be safe and to return, and 0 if `count` is 0.
+
+   Each does its set-up once, works through its input `count` times, and returns the sum of the checksums modulo 2^64. A
+   failure adds 2^40. `names` is wire forms, one after another; `texts` has a line feed after each text. */
+#ifndef DNW_BENCH_H
+#define DNW_BENCH_H
+
+#include <stddef.h>
+#include <stdint.h>
+
+#ifdef __cplusplus
+extern "C" {
+#endif
+
+/* Reads the name at each start: the offset after it, and 65536 times the size of its wire form. */
+uint64_t dnw_read_names(const uint8_t *message, size_t len, const uint32_t *starts, size_t n, uint64_t count);
+
+/* Writes all names into a new message, compressed: the length of the message. */
+uint64_t dnw_emit_names(const uint8_t *names, size_t len, uint64_t count);
+
+/* Writes all names into a new message, whole and in lower case: the length of the message. */
+uint64_t dnw_emit_lower(const uint8_t *names, size_t len, uint64_t count);
+
+/* Copies each name into a vector with room for all: the length of the vector. */
+uint64_t dnw_clone_names(const uint8_t *names, size_t len, uint64_t count);
+
+/* Reads each name into a growing vector: the length of the vector. */
+uint64_t dnw_collect_names(const uint8_t *names, size_t len, uint64_t count);
+
+/* Parses each text: the sizes of the wire forms. */
+uint64_t dnw_parse_names(const uint8_t *texts, size_t len, uint64_t count);
+
+/* Prints each name: the lengths of the texts. */
+uint64_t dnw_to_ascii(const uint8_t *names, size_t len, uint64_t count);
+
+/* Compares each name with the next in canonical order: 0, 1 or 2 if it is less, equal or greater. */
+uint64_t dnw_compare(const uint8_t *names, size_t len, uint64_t count);
+
+/* Sorts the names in canonical order: the sum of the sizes of their wire forms, each times its rank from 1. */
+uint64_t dnw_sort(const uint8_t *names, size_t len, uint64_t count);
+
+/* Hashes each name by SipHash 1-3: the hashes. */
+uint64_t dnw_hash(const uint8_t *names, size_t len, uint64_t count);
+
+#ifdef __cplusplus
+}
+#endif
+
+#endif
