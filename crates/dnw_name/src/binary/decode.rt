@@ -53,7 +53,7 @@ impl<'r> BinDecodable<'r> for u16 {
 
     fn from_bytes(alloc: Global, bytes: &'r [u8]) -> Result<Self, DecodeError> {
         let mut decoder = BinDecoder::new(bytes);
-        Self::read(alloc, &mut decoder)
+        u16::read(alloc, &mut decoder)
     }
 }
 
@@ -68,7 +68,7 @@ impl<'r> BinDecodable<'r> for i32 {
 
     fn from_bytes(alloc: Global, bytes: &'r [u8]) -> Result<Self, DecodeError> {
         let mut decoder = BinDecoder::new(bytes);
-        Self::read(alloc, &mut decoder)
+        i32::read(alloc, &mut decoder)
     }
 }
 
@@ -83,7 +83,7 @@ impl<'r> BinDecodable<'r> for u32 {
 
     fn from_bytes(alloc: Global, bytes: &'r [u8]) -> Result<Self, DecodeError> {
         let mut decoder = BinDecoder::new(bytes);
-        Self::read(alloc, &mut decoder)
+        u32::read(alloc, &mut decoder)
     }
 }
 
@@ -98,7 +98,7 @@ impl<'r> BinDecodable<'r> for Name {
 
     fn from_bytes(alloc: Global, bytes: &'r [u8]) -> Result<Self, DecodeError> {
         let mut decoder = BinDecoder::new(bytes);
-        Self::read(alloc, &mut decoder)
+        Name::read(alloc, &mut decoder)
     }
 }
 
@@ -114,7 +114,7 @@ impl<'r> BinDecodable<'r> for RecordType {
 
     fn from_bytes(alloc: Global, bytes: &'r [u8]) -> Result<Self, DecodeError> {
         let mut decoder = BinDecoder::new(bytes);
-        Self::read(alloc, &mut decoder)
+        RecordType::read(alloc, &mut decoder)
     }
 }
 
@@ -130,6 +130,6 @@ impl<'r> BinDecodable<'r> for DNSClass {
 
     fn from_bytes(alloc: Global, bytes: &'r [u8]) -> Result<Self, DecodeError> {
         let mut decoder = BinDecoder::new(bytes);
-        Self::read(alloc, &mut decoder)
+        DNSClass::read(alloc, &mut decoder)
     }
 }
