@@ -13,12 +13,17 @@ pub use Rattle.dnw_base.specs.Verified.{verified_value, verified_verdict}
 -- Labels, names and their wire form.
 pub use Rattle.dnw_base.specs.Labels.{IsLabel, wildcard}
 pub use Rattle.dnw_base.specs.Names.{NameValue, AreLabels, IsWildcard, IsZoneOf, encoded_size, lower, wire, labels_wire}
-pub use Rattle.dnw_form.specs.Edits.{append_label, prepend_label, append_name, append_domain, with_label}
+pub use Rattle.dnw_form.specs.Edits.{append_label, prepend_label, append_name, append_domain, from_labels, with_label}
 pub use Rattle.dnw_form.specs.Edits.{base_name, trim_to, into_wildcard}
 -- Order, equality and hash of labels and names.
 pub use Rattle.dnw_label.specs.LabelOrder.{label_cmp, label_eq, label_hash_input, lower_label, octets_cmp}
 pub use Rattle.dnw_form.specs.Order.{labels_cmp, labels_cmp_case, name_cmp, name_cmp_case, name_eq, name_eq_case, name_hash_input}
 pub use Rattle.dnw_form.specs.Order.{IsZoneOfCase, IsLocalhost, localhost}
+pub use Rattle.dnw_label.specs.LabelOrder.{IsTotalPreorder, IsOctet, AreOctets, octet_cmp_ignore_case}
+pub use Rattle.dnw_form.specs.OrderLaws.{name_cmp_total, name_cmp_case_total, name_ties, name_case_ties, name_eq_parts, name_eq_case_parts}
+pub use Rattle.dnw_name.specs.FromLabels.{JoinsItems, JoinsAll, RunsOutAt}
+-- Names in lower case.
+pub use Rattle.dnw_lower.specs.LowerNames.{lowered, IsLower, lower_name_from_text, lower_name_hash_input, TakesLowerName}
 -- Types and classes of records.
 pub use Rattle.dnw_error.specs.RecordTypes.{type_code, type_name, type_cmp, type_hash, is_dnssec, is_unknown, ReportsType}
 pub use Rattle.dnw_error.specs.DnsClasses.{class_code, class_name, class_cmp, class_hash, min_payload, ReportsClass}

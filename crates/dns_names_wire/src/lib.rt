@@ -37,6 +37,11 @@ pub mod label {
     pub use dnw_label::label::{CaseInsensitive, CaseSensitive, IntoLabel, Label, LabelCmp};
 }
 
+/// Domain names in lower case, as zones and caches are keyed.
+pub mod lower_name {
+    pub use dnw_lower::lower_name::LowerName;
+}
+
 /// Domain names, and what follows from the definitions of reading them.
 pub mod name {
     pub use dnw_form::label_iter::LabelIter;

@@ -71,8 +71,7 @@ impl LowerName {
     pub fn from_str(alloc: Global, name: &str) -> ProtoResult<Self>
         ensures follows { Follows (lower_name_from_text (chars name.now)) (NeedsErrorText (lower_name_from_text (chars name.now))) result }
     {
-        let name = Name::from_str(alloc, name)?;
-        LowerName::new(&name)
+        LowerName::from_name(Name::from_str(alloc, name)?)
     }
 
     /// Reads a name as `Name::read` does, and makes it lower case. It does not allocate.
@@ -111,7 +110,8 @@ impl LowerName {
         ensures name { result ≡ self }
         ensures lower { IsLower self.labels }
     {
-        self.0
+        let LowerName(name) = self;
+        name
     }
 
     /// Makes the name fully qualified or relative.
@@ -249,7 +249,7 @@ impl Hash for LowerName {
 
     fn hash<H: Hasher>(&self, state: &mut H) {
         state.write(self.0.as_wire());
-        self.0.is_fqdn().hash(state);
+        self.is_fqdn().hash(state);
     }
 }
 
