@@ -1,0 +1,5 @@
+//! Sets of record types, and serial numbers.
+#![tactic(auto)]
+
+pub mod record_type_set;
+pub mod serial_number;

@@ -1,0 +1,4 @@
+//! Sets of record types.
+
+mod bitmap;
+mod writing;
