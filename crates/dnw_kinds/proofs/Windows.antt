@@ -1,5 +1,5 @@
 -- Steps of reading a bitmap.
-use Rattle.std.proofs.Common.{◌≡◌, ◌*◌, Bool, true, false, ℕ, zero, suc, ◌==◌, ◌||◌, ◌&&◌, nat_le, ◌+◌, ◌<◌, ◌≤◌, List, [], ◌∷◌, length, take, drop, map, ◌++◌, refl, sym, ap, ◌∙◌, arith}
+use Rattle.std.proofs.Common.{◌≡◌, ◌*◌, true, false, ℕ, zero, suc, ◌==◌, ◌||◌, ◌&&◌, nat_le, ◌+◌, ◌<◌, ◌≤◌, List, [], ◌∷◌, length, take, drop, map, ◌++◌, refl, sym, ap, ◌∙◌, arith}
 use Rattle.std.proofs.lemmas.List.{length-drop, append_assoc, append-nil, map-append}
 use Rattle.std.proofs.Math.Dec.{eqb-suc-zero}
 use Rattle.dnw_error.specs.declared.record_type.RecordType.{RecordType}
@@ -36,7 +36,7 @@ pub windows-none : windows_of [] ≡ []
 unfolding windows_of
 windows-none = refl
 
-windows-next : (number len : ℕ) (bytes : List ℕ) → windows_of (number ∷ len ∷ bytes) ≡ window number (take len bytes) ∷ windows_of (drop len bytes)
+pub windows-next : (number len : ℕ) (bytes : List ℕ) → windows_of (number ∷ len ∷ bytes) ≡ window number (take len bytes) ∷ windows_of (drop len bytes)
 unfolding windows_of
 windows-next number len bytes =
     let shorter = length-drop len bytes in

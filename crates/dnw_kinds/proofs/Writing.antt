@@ -1,12 +1,12 @@
 -- Steps of writing a bitmap.
-use Rattle.std.proofs.Common.{◌≡◌, ◌≢◌, ◌*◌, ◌/◌, ◌-◌, ◌^◌, ◌%◌, Bool, true, false, ℕ, zero, suc, ◌==◌, ◌+◌, ◌<◌, ◌≤◌, List, [], ◌∷◌, ◌++◌, length, take, drop, map, get_or, refl, sym, ap, ◌∙◌, subst, arith, bit_or, add-zero, add-one}
+use Rattle.std.proofs.Common.{◌≡◌, ◌≢◌, ◌*◌, ◌/◌, ◌-◌, ◌^◌, ◌%◌, Bool, true, false, ℕ, zero, suc, ◌+◌, ◌<◌, ◌≤◌, List, [], ◌∷◌, ◌++◌, length, take, get_or, refl, sym, ap, ◌∙◌, subst, arith, bit_or, add-zero, add-one}
 use Rattle.std.proofs.Math.Seq.{take-length}
 use Rattle.std.specs.Int.{bit_at, w8}
 use Rattle.std.specs.List.{flat_map, AllByRecursion}
 use Rattle.std.proofs.lemmas.Grind.{flat_map-append}
 use Rattle.std.proofs.lemmas.List.{append_assoc, append-nil, length-append, take_more, take_all}
 use Rattle.std.proofs.lemmas.Nat.Bits.{bit_at_set_same, bit_at_set_other, bit_at-zero}
-use Rattle.dnw_kinds.specs.TypeSets.{Window, window, bits, bit_codes, octet_codes, octets_codes, window_codes, windows_codes, window_bytes, window_size, max_octets, EndsInBit, NumbersFrom, IsWritten, Encodes}
+use Rattle.dnw_kinds.specs.TypeSets.{Window, window, bit_codes, octet_codes, octets_codes, window_codes, windows_codes, window_bytes, window_size, EndsInBit, NumbersFrom, IsWritten, Encodes}
 use Rattle.dnw_kinds.specs.Inside.Bitmaps.{Above, code_if, with_bit, PushesWindow}
 
 -- ---- one octet

@@ -1,10 +1,10 @@
 -- Sets of record types, and the bitmaps that stand for them on the wire (RFC 4034, section 4.1.2).
-use Rattle.std.specs.Prelude.{◌≡◌, ◌≢◌, ℕ, zero, suc, ◌+◌, ◌-◌, ◌*◌, ◌≤◌, ◌<◌, ◌==◌, ◌||◌, ◌&&◌, ◌↔◌, Bool, true, false, nat_le, List, [], ◌∷◌, ◌++◌, length, map, ⊤, if◌then◌else◌, take, drop, Contains}
-use Rattle.std.specs.List.{flat_map, list_all, AllByRecursion}
+use Rattle.std.specs.Prelude.{◌≡◌, ◌≢◌, ℕ, zero, suc, ◌+◌, ◌-◌, ◌*◌, ◌≤◌, ◌==◌, ◌||◌, ◌&&◌, Bool, true, false, nat_le, nat_eq, List, [], ◌∷◌, ◌++◌, length, map, ⊤, if◌then◌else◌, take, drop, Contains}
+use Rattle.std.specs.List.{flat_map, list_all, dedup, AllByRecursion}
 use Rattle.std.specs.List.Sorted.{IsStrictlySortedBy}
 use Rattle.std.specs.Int.{bit_at}
 use Rattle.dnw_error.specs.declared.record_type.RecordType.{RecordType}
-use Rattle.dnw_error.specs.RecordTypes.{type_cmp, type_of_code}
+use Rattle.dnw_error.specs.RecordTypes.{type_cmp, type_code, type_of_code}
 
 -- A set of record types: its types in ascending order, and the bytes that it is written as.
 pub record TypeSet : Type 0 where
@@ -16,6 +16,10 @@ pub record IsSetOf (listed types : List RecordType) : Type 0 where
   pub ascending : IsStrictlySortedBy type_cmp types
   pub all : (kind : RecordType) → Contains listed kind → Contains types kind
   pub no_others : (kind : RecordType) → Contains types kind → Contains listed kind
+
+-- the codes of types in ascending order, each once
+abbrev pub set_codes : List RecordType → List ℕ
+set_codes types = dedup nat_eq (map type_code types)
 
 -- ---- windows
 

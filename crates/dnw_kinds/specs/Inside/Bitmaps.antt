@@ -1,6 +1,6 @@
 -- A bitmap window by window.
-use Rattle.std.specs.Prelude.{◌≡◌, ℕ, ◌<◌, ◌==◌, ◌||◌, ◌&&◌, ◌+◌, ◌≤◌, ⊤, Bool, nat_le, ◌*◌, ◌-◌, ◌^◌, ◌%◌, List, [], ◌∷◌, ◌++◌, take, length, if◌then◌else◌, bit_or}
-use Rattle.dnw_kinds.specs.TypeSets.{Window, window, window_bytes, windows_of, ends_in_zeros, octets_codes, bit_codes, EndsInBit}
+use Rattle.std.specs.Prelude.{◌≡◌, ℕ, ◌<◌, ◌==◌, ◌||◌, ◌&&◌, ◌+◌, ◌≤◌, ⊤, Bool, nat_le, ◌*◌, ◌-◌, ◌^◌, ◌%◌, List, [], ◌∷◌, ◌++◌, length, if◌then◌else◌, bit_or}
+use Rattle.dnw_kinds.specs.TypeSets.{window, window_bytes, windows_of, ends_in_zeros, octets_codes, EndsInBit}
 
 -- the first window of a bitmap has this number and these octets, and these bytes follow it
 abbrev pub SplitsWindow : List ℕ → ℕ → List ℕ → List ℕ → Type 0

@@ -1,4 +1,3 @@
-use Rattle.std.proofs.Common.{sym}
 use Rattle.std.proofs.lemmas.List.{nil_from_length}
 use Rattle.dnw_kinds.proofs.Writing.{written-next, written-all}
 use Rattle.dnw_kinds.proofs.record_type_set.writing.write_windows.Goals as goal
