@@ -15,3 +15,5 @@ pub mod Answering
 pub mod Shortening
 pub mod Endings
 pub mod ShortestNames
+pub mod AcceptedTexts
+pub mod DottedTexts

@@ -6,3 +6,4 @@ pub mod ItemFrames
 pub mod Inside
 pub mod Finished
 pub mod ScriptLaws
+pub mod TextLaws

@@ -53,3 +53,6 @@ pub mod restrict {
 
 /// Scripts: messages written step by step.
 pub mod script;
+
+/// What follows from the definitions of texts, for callers' proofs.
+pub mod text_laws;

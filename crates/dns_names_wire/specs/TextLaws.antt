@@ -1,0 +1,25 @@
+-- What follows from the definitions of texts (RFC 1035, section 5.1, but with octal escapes). Each is the clause of a
+-- public function, and so proved.
+use Rattle.std.specs.Prelude.{◌≡◌, ℕ, true, if◌then◌else◌, List, [], ◌∷◌, ◌++◌, length, Ok}
+use Rattle.std.specs.List.{AllByRecursion}
+use Rattle.dnw_base.specs.Names.{NameValue, AreLabels, wire}
+use Rattle.dnw_label.specs.LabelText.{dot}
+use Rattle.dnw_reading.specs.Reading.{NameAt}
+use Rattle.dnw_form.specs.NameText.{name_from_text, name_text, IsLabelText}
+
+-- The labels of a name that a text gives all stand for themselves as text.
+abbrev pub AcceptedLabels : Type 0
+AcceptedLabels = (text : List ℕ) (n : NameValue) → name_from_text text ≡ Ok n → AllByRecursion IsLabelText n.labels
+
+-- the same labels, fully qualified: what the wire form of a name says
+abbrev pub qualified : NameValue → NameValue
+qualified n = record { is_fqdn = true; labels = n.labels }
+
+-- the text of a name, with a last dot
+abbrev pub dotted_text : NameValue → List ℕ
+dotted_text n = if n.is_fqdn then name_text n else name_text n ++ dot ∷ []
+
+-- Reading the wire form of a name returns its labels, and they are written as the name's own text with a last dot.
+abbrev pub BytesAndTextsAgree : Type 0
+BytesAndTextsAgree = (n : NameValue) → AreLabels n.labels
+    → NameAt (wire n.labels) 0 n.labels (length (wire n.labels)) 0 × (name_text (qualified n) ≡ dotted_text n)
