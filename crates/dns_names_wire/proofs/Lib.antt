@@ -17,3 +17,5 @@ pub mod Endings
 pub mod ShortestNames
 pub mod AcceptedTexts
 pub mod DottedTexts
+pub mod TextElements
+pub mod DifferentTexts

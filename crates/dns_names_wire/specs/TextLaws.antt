@@ -5,7 +5,17 @@ use Rattle.std.specs.List.{AllByRecursion}
 use Rattle.dnw_base.specs.Names.{NameValue, AreLabels, wire}
 use Rattle.dnw_label.specs.LabelText.{dot}
 use Rattle.dnw_reading.specs.Reading.{NameAt}
+use Rattle.dnw_reading.specs.ReadingLaws.{AreBytes}
 use Rattle.dnw_form.specs.NameText.{name_from_text, name_text, IsLabelText}
+
+-- each octet of each label is below 256
+abbrev pub AreByteLabels : List (List ℕ) → Type 0
+AreByteLabels labels = AllByRecursion AreBytes labels
+
+-- Names with different labels or different flags have different texts.
+abbrev pub TextsDiffer : Type 0
+TextsDiffer = (n m : NameValue) → AreLabels n.labels → AreLabels m.labels → AreByteLabels n.labels → AreByteLabels m.labels
+    → name_text n ≡ name_text m → n ≡ m
 
 -- The labels of a name that a text gives all stand for themselves as text.
 abbrev pub AcceptedLabels : Type 0

@@ -1,7 +1,12 @@
 //! What follows from the definitions of texts, for callers' proofs.
 //!
 //! The functions do nothing: each exists for its clauses.
-ghost use Rattle.dns_names_wire.specs.TextLaws.{AcceptedLabels, BytesAndTextsAgree};
+ghost use Rattle.dns_names_wire.specs.TextLaws.{TextsDiffer, AcceptedLabels, BytesAndTextsAgree};
+
+/// Names with different labels or different flags have different texts, byte for byte.
+pub fn texts_differ()
+    ensures { TextsDiffer }
+{}
 
 /// What `Name::from_ascii` accepts has labels that all stand for themselves as text, so that `from_ascii` gives the name
 /// back from what `Name::to_ascii` writes.
