@@ -19,3 +19,4 @@ pub mod AcceptedTexts
 pub mod DottedTexts
 pub mod TextElements
 pub mod DifferentTexts
+pub mod LabelBytes
