@@ -8,7 +8,6 @@ pub mod Finished
 pub mod ScriptLaws
 pub mod TextLaws
 pub mod Words
-
 -- The files of the crates below that public clauses cite: callers name these as this crate's own.
 pub use Rattle.dnw_error.specs.Copies
 pub use Rattle.dnw_error.specs.Fault
