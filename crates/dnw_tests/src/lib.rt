@@ -2,7 +2,7 @@
 //! their own, and items of a caller's own type.
 //!
 //! Each test is proved, and so costs more than a row of data. Worked examples are in `diff/rows`, which
-//! `diff/replay` runs.
+//! `crates/dnw_replay` runs.
 #![tactic(auto)]
 
 #[cfg(test)]

@@ -1,4 +1,4 @@
-//! The replay makes requests of the library and compares the answers with those that are expected: worked examples by
+//! `dnw_replay` makes requests of the library and compares the answers with those that are expected: worked examples by
 //! hand, and what hickory-proto 0.26.3 answered. It reads lines from standard input; `diff/README.md` has their format.
 //!
 //! It prints each line with another answer, up to a limit, and then how many answers there were, how many of them differ
