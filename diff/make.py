@@ -327,4 +327,5 @@ def main():
                 print(line, file=out)
 
 
-main()
+if __name__ == "__main__":
+    main()

@@ -14,6 +14,7 @@ mod line;
 mod messages;
 mod names;
 mod notation;
+mod ordering;
 mod read_back;
 mod readings;
 mod requests;

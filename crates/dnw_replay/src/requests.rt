@@ -1,7 +1,9 @@
 //! Which module makes which request.
 
 use crate::notation::BAD_LINE;
-use crate::{decoding, encoding, errors, labels, names, readings, restrict, scripts, texts};
+use crate::{
+    decoding, encoding, errors, labels, names, ordering, readings, restrict, scripts, texts,
+};
 use dns_names_wire::error::ProtoResult;
 use std::alloc::Global;
 
@@ -22,6 +24,22 @@ pub(crate) fn answer(alloc: Global, kind: &str, words: &str) -> ProtoResult<Stri
         | "lower"
         | "in-zone"
         | "eq-name" => names::answer(alloc, kind, words),
+        "order"
+        | "label-order"
+        | "lower-order"
+        | "cmp"
+        | "edits"
+        | "from_labels"
+        | "base_name"
+        | "into_wildcard"
+        | "trim_to"
+        | "append_label"
+        | "prepend_label"
+        | "append_name"
+        | "append_domain"
+        | "back"
+        | "lower-name"
+        | "tests" => { ordering::answer(alloc, kind, words) }
         "decode" | "from-bytes" => decoding::answer(alloc, kind, words),
         "restrict" => restrict::answer(alloc, words),
         "encode" | "encode-numbered" | "to-bytes" => encoding::answer(alloc, kind, words),

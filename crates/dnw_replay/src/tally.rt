@@ -51,7 +51,10 @@ impl Tally {
         wanted: &str,
         got: &str,
     ) -> Verdict {
-        if kind == "readings" {
+        if matches!(
+            kind,
+            "readings" | "order" | "label-order" | "lower-order" | "edits"
+        ) {
             return self.count_words(wanted, got);
         }
         let verdict = judge(alloc, kind, request, wanted, got);
