@@ -53,3 +53,10 @@ pub mod restrict {
 
 /// Scripts: messages written step by step.
 pub mod script;
+
+/// The tokens of master files, and times to live.
+pub mod txt {
+    pub use dnw_txt::errors::{LexerError, ParseError, ParseResult};
+    pub use dnw_txt::ttl::parse_ttl;
+    pub use dnw_txt::zone_lex::{Lexer, Token};
+}

@@ -1,7 +1,7 @@
 //! A line of a list.
 
 use crate::tally::{Tally, Verdict};
-use crate::{readings, scripts, texts};
+use crate::{lexing, readings, scripts, texts};
 use dns_names_wire::error::{ProtoError, ProtoResult};
 use hex::FromHexError;
 use std::alloc::Global;
@@ -29,10 +29,14 @@ pub(crate) fn replay<W: Write>(
 }
 
 fn compare(alloc: Global, line: &str, tally: &mut Tally) -> ProtoResult<()> {
-    let mut words = Vec::new(alloc);
-    for word in line.split(' ') {
-        words.push(word)?;
+    if let Some((request, wanted)) = line.split_once(" = ") {
+        let words = words_of(alloc, request)?;
+        if let Some(answer) = lexing::ask(alloc, words.as_slice())? {
+            tally.count_texts(&answer, wanted);
+            return Ok(());
+        }
     }
+    let words = words_of(alloc, line)?;
     match words.as_slice() {
         ["r", message, wanted @ ..] => readings::compare(alloc, message, wanted, tally),
         ["t", text, wanted] => texts::compare_parsed(alloc, text, wanted, tally),
@@ -42,6 +46,14 @@ fn compare(alloc: Global, line: &str, tally: &mut Tally) -> ProtoResult<()> {
         ["#", ..] => Ok(()),
         _ => Err(ProtoError::Message("a line of no known form")),
     }
+}
+
+fn words_of<'l>(alloc: Global, line: &'l str) -> ProtoResult<Vec<&'l str>> {
+    let mut words = Vec::new(alloc);
+    for word in line.split(' ') {
+        words.push(word)?;
+    }
+    Ok(words)
 }
 
 /// The octets that are written in hexadecimal; `-` for none.

@@ -4,6 +4,7 @@
 //! any other.
 #![tactic(auto)]
 
+mod lexing;
 mod line;
 mod readings;
 mod scripts;

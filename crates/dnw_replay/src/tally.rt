@@ -1,5 +1,6 @@
 //! How answers compare, counted.
 
+use crate::lexing::Answer;
 use std::io;
 use std::io::Write;
 
@@ -25,6 +26,8 @@ pub struct Tally {
     cursor_stays: u64,
     unfinished_escape: u64,
     numeric_character: u64,
+    open_list: u64,
+    dollar_word: u64,
     different: u64,
 }
 
@@ -36,6 +39,8 @@ impl Tally {
             cursor_stays: 0,
             unfinished_escape: 0,
             numeric_character: 0,
+            open_list: 0,
+            dollar_word: 0,
             different: 0,
         }
     }
@@ -53,6 +58,16 @@ impl Tally {
                 self.numeric_character = self.numeric_character.saturating_add(1);
             }
             Verdict::Different => self.different = self.different.saturating_add(1),
+        }
+    }
+
+    /// Counts the texts of a request for tokens or times.
+    pub(crate) fn count_texts(&mut self, answer: &Answer, wanted: &str) {
+        self.compared = self.compared.saturating_add(answer.texts);
+        self.open_list = self.open_list.saturating_add(answer.open_lists);
+        self.dollar_word = self.dollar_word.saturating_add(answer.dollar_words);
+        if answer.text.as_str() != wanted {
+            self.different = self.different.saturating_add(1);
         }
     }
 
@@ -84,6 +99,8 @@ impl Tally {
             "numeric characters of Unicode 18.0: {}",
             self.numeric_character
         )?;
+        writeln!(out, "an open list is an error: {}", self.open_list)?;
+        writeln!(out, "an error has the word after a $: {}", self.dollar_word)?;
         writeln!(out, "other differences: {}", self.different)
     }
 }
