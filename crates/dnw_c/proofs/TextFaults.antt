@@ -2,7 +2,7 @@
 use Rattle.std.proofs.Common.{◌≡◌, ◌⊎◌, List, ℕ, Ok, Err, Result, refl, inl, inr, ap}
 use Rattle.dnw_error.specs.declared.error.ProtoError.{ProtoError}
 use Rattle.dnw_error.specs.declared.error.ProtoError.TheVariants.{Message, Msg, Memory}
-use Rattle.dnw_error.specs.Fault.{Fault, EmptyLabel, LabelTooLong, MalformedLabel, NameTooLong, UnrecognizedChar, IllegalChar, UnfinishedEscape, FailsOr, HasOwnText, NeedsErrorText, Reports}
+use Rattle.dnw_error.specs.Fault.{Fault, EmptyLabel, LabelTooLong, MalformedLabel, NameTooLong, UnrecognizedChar, IllegalChar, UnfinishedEscape, UnconvertedLabels, FailsOr, HasOwnText, NeedsErrorText, Reports}
 use Rattle.std.specs.Str.{chars}
 use Rattle.dnw_form.specs.NameText.{name_from_text}
 use Rattle.dnw_c.specs.Failures.{of_fault, of_proto}
@@ -22,6 +22,8 @@ of_reported (IllegalChar char) (Msg own) h = refl
 of_reported (IllegalChar char) e h = absurd h
 of_reported UnfinishedEscape (Message text) h = refl
 of_reported UnfinishedEscape e h = absurd h
+of_reported UnconvertedLabels (Msg own) h = refl
+of_reported UnconvertedLabels e h = absurd h
 
 failed : {A : Type 0} (definition : Result A Fault) (e : ProtoError) → FailsOr definition (NeedsErrorText definition) e
     → (fault : Fault) × (definition ≡ Err fault) × ((of_proto e ≡ of_fault fault) ⊎ (HasOwnText fault × (of_proto e ≡ NoMemory)))

@@ -1,5 +1,5 @@
 -- Why the functions for C that take one name fail.
-use Rattle.std.specs.Prelude.{◌≡◌, ◌≢◌, ◌<◌, ◌⊎◌, ℕ, Bool, true, List, length, Ok, Err, IsUtf8}
+use Rattle.std.specs.Prelude.{◌≡◌, ◌≢◌, ◌<◌, ◌⊎◌, ℕ, ℤ, pos, negsuc, Bool, true, List, length, Ok, Err, IsUtf8}
 use Rattle.std.specs.Str.{chars}
 use Rattle.dnw_error.specs.declared.error.DecodeError.{DecodeError}
 use Rattle.dnw_error.specs.Fault.{Fault, HasOwnText}
@@ -64,9 +64,9 @@ FailsToLower form size failure =
 
 -- -1, 0 or 1
 abbrev pub sign : Ordering → ℤ
-sign Less = - 1
-sign Equal = + 0
-sign Greater = + 1
+sign Less = negsuc 0
+sign Equal = pos 0
+sign Greater = pos 1
 
 -- A wire form is not printed into a buffer of this size: it is none, or bytes follow after it, or the text is longer, or
 -- memory ran out.

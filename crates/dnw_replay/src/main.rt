@@ -6,6 +6,7 @@
 #![tactic(auto)]
 
 mod buffer;
+mod codes;
 mod decoding;
 mod encoding;
 mod errors;

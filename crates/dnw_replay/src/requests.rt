@@ -2,7 +2,7 @@
 
 use crate::notation::BAD_LINE;
 use crate::{
-    decoding, encoding, errors, labels, names, ordering, readings, restrict, scripts, texts,
+    codes, decoding, encoding, errors, labels, names, ordering, readings, restrict, scripts, texts,
 };
 use dns_names_wire::error::ProtoResult;
 use std::alloc::Global;
@@ -40,6 +40,24 @@ pub(crate) fn answer(alloc: Global, kind: &str, words: &str) -> ProtoResult<Stri
         | "back"
         | "lower-name"
         | "tests" => { ordering::answer(alloc, kind, words) }
+        "class"
+        | "class-cmp"
+        | "class-name"
+        | "classes"
+        | "data"
+        | "for-opt"
+        | "serial"
+        | "set-cuts"
+        | "set-eq"
+        | "set-has"
+        | "set-new"
+        | "set-read"
+        | "set-under"
+        | "sets"
+        | "type"
+        | "type-cmp"
+        | "type-name"
+        | "types" => codes::answer(alloc, kind, words),
         "decode" | "from-bytes" => decoding::answer(alloc, kind, words),
         "restrict" => restrict::answer(alloc, words),
         "encode" | "encode-numbered" | "to-bytes" => encoding::answer(alloc, kind, words),

@@ -117,7 +117,9 @@ fn shown_type(alloc: Global, kind: RecordType) -> ProtoResult<String> {
     }
     let printed = format!(in alloc; "{kind}")?;
     let octets = kind.to_bytes(alloc)?;
-    if printed.as_str() != name || RecordType::from_bytes(alloc, octets.as_slice())? != RecordType::from(u16::from(kind)) {
+    if printed.as_str() != name
+        || RecordType::from_bytes(alloc, octets.as_slice())? != RecordType::from(u16::from(kind))
+    {
         push_word(&mut shown, "differs from its text or octets")?;
     }
     Ok(shown)
@@ -129,7 +131,9 @@ fn shown_class(alloc: Global, class: DNSClass) -> ProtoResult<String> {
     let mut shown = format!(in alloc; "{} {class:?} {name}", u16::from(class))?;
     let printed = format!(in alloc; "{class}")?;
     let octets = class.to_bytes(alloc)?;
-    if printed.as_str() != name || DNSClass::from_bytes(alloc, octets.as_slice())? != DNSClass::from(u16::from(class)) {
+    if printed.as_str() != name
+        || DNSClass::from_bytes(alloc, octets.as_slice())? != DNSClass::from(u16::from(class))
+    {
         push_word(&mut shown, "differs from its text or octets")?;
     }
     Ok(shown)
@@ -178,7 +182,10 @@ fn data(alloc: Global, words: &str) -> ProtoResult<String> {
     Ok(format!(in alloc; "{value} {}", decoder.index())?)
 }
 
-fn value_word<T: Display + Drop>(alloc: Global, read: Result<T, DecodeError>) -> ProtoResult<String> {
+fn value_word<T: Display + Drop>(
+    alloc: Global,
+    read: Result<T, DecodeError>,
+) -> ProtoResult<String> {
     match read {
         Ok(value) => Ok(format!(in alloc; "{value}")?),
         Err(error) => Ok(decode_error_word(alloc, &error)?),
@@ -225,7 +232,11 @@ fn set_of(alloc: Global, words: &str) -> ProtoResult<RecordTypeSet> {
 fn shown_set(alloc: Global, set: &RecordTypeSet) -> ProtoResult<String> {
     let copy = set.clone()?;
     let octets = copy.to_bytes(alloc)?;
-    Ok(format!(in alloc; "{} {}", codes_of(alloc, set)?, hexadecimal(alloc, octets.as_slice())?)?)
+    Ok(format!(in alloc;
+        "{} {}",
+        codes_of(alloc, set)?,
+        hexadecimal(alloc, octets.as_slice())?
+    )?)
 }
 
 /// Returns a set's types between commas, as codes, with `U` before that of an `Unknown` whose code has a name.
@@ -329,14 +340,26 @@ fn bitmap(alloc: Global, random: &mut Random) -> ProtoResult<Vec<u8>> {
     let mut bytes = Vec::new(alloc);
     let mut window = random.below(3);
     for _ in 0..windows {
-        let len = if form == 2 { random.below(36) } else { 1 + random.below(8) };
+        let len = if form == 2 {
+            random.below(36)
+        } else {
+            1 + random.below(8)
+        };
         bytes.push(window as u8)?;
         bytes.push(len as u8)?;
         for _ in 0..len {
-            let octet = if random.below(3) == 0 { random.below(256) } else { 0 };
+            let octet = if random.below(3) == 0 {
+                random.below(256)
+            } else {
+                0
+            };
             bytes.push(octet as u8)?;
         }
-        window = if form == 3 { random.below(3) } else { window + 1 + random.below(3) };
+        window = if form == 3 {
+            random.below(3)
+        } else {
+            window + 1 + random.below(3)
+        };
     }
     let len = bytes.len() as u64;
     if form == 1 {
