@@ -238,3 +238,18 @@ chars-none text utf8 e = ap length (sym (encodes-chars text utf8) ∙ ap encodes
 pub chars-empty : (text : List ℕ) → length text ≡ 0 → chars text ≡ []
 chars-empty [] e = chars-nil
 chars-empty (b ∷ bs) e = absurd (omega (arith, e))
+
+-- an ASCII byte that is not plain ends a word
+ends_or_plain : ℕ → Bool
+ends_or_plain c = is_plain c || ends_word c
+
+ends_or_plain_below : (c : ℕ) → c < 128 → ends_or_plain c ≡ true
+unfolding ends_or_plain
+ends_or_plain_below c lt = agree_below_at ends_or_plain (λ (n : ℕ). true) 128 c refl lt
+
+pub Scanned-byte : (text : List ℕ) (n : ℕ) → IsUtf8 text → Scanned ends_word text n → n < length text → get_or text n 0 < 128 → is_plain (get_or text n 0) ≡ false → CutsBefore ends_word text n
+unfolding ends_or_plain
+Scanned-byte text n utf8 s lt small ends =
+    let b = get_or text n 0 in
+    let byte : chars (drop n text) ≡ b ∷ chars (drop (suc n) text) = ap chars (drop-cons text n 0 lt) ∙ chars-ascii b (drop (suc n) text) small in
+    Scanned-found ends_word text n b (chars (drop (suc n) text)) utf8 s byte (rw ends at (ends_or_plain_below b small))

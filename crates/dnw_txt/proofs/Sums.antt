@@ -1,5 +1,5 @@
 -- The seconds of a time, group by group.
-use Rattle.std.proofs.Common.{◌≡◌, ℕ, ◌+◌, ◌-◌, ◌*◌, ◌<◌, ◌≤◌, ◌==◌, ◌||◌, Bool, true, false, if◌then◌else◌, Option, Some, None, option_map, List, [], ◌∷◌, length, refl, ap, arith}
+use Rattle.std.proofs.Common.{◌≡◌, ℕ, ◌+◌, ◌-◌, ◌*◌, ◌<◌, ◌≤◌, ◌==◌, ◌||◌, Bool, true, false, if◌then◌else◌, Option, Some, None, option_map, List, [], ◌∷◌, length, ◌∙◌, refl, ap, arith}
 use Rattle.std.specs.Prelude.{⊤, unwrap_or}
 use Rattle.std.proofs.lemmas.List.Sums.{sum_by-cons}
 use Rattle.std.proofs.Math.Nat.{mul-le-mul_left}
@@ -104,11 +104,7 @@ pub time_seconds-some : (text : List ℕ) → (length text ≡ 0 → ⊥) → ti
 time_seconds-some [] some = absurd (some refl)
 time_seconds-some (c ∷ cs) some = from_zero (groups_after None (c ∷ cs))
 
--- what the value of a digit tells
-pub digit_found : (t : Bool) (d x : ℕ) → Some d ≡ (if t then Some x else None) → (t ≡ true) × (d ≡ x)
-digit_found true d x e = (refl, cc)
-digit_found false d x e = absurd cc
-
-pub digit_missing : (t : Bool) (x : ℕ) → None ≡ (if t then Some x else None) → t ≡ false
-digit_missing true x e = absurd cc
-digit_missing false x e = refl
+-- A digit comes after those of the number, or is its first one.
+pub after_number : (total : ℕ) (number : Option ℕ) (c : ℕ) (cs : List ℕ) → is_ascii_digit c ≡ true → seconds_after total number (c ∷ cs) ≡ seconds_after total (Some (10 * unwrap_or number 0 + (c - 48))) cs
+after_number total None c cs h = after_first total c cs h ∙ ap (λ (n : ℕ). seconds_after total (Some n) cs) (omega arith)
+after_number total (Some n) c cs h = after_digit total n c cs h

@@ -1,7 +1,6 @@
 //! Times to live as text.
-ghost use Rattle.std.specs.Prelude.{◌≡◌, ℕ, ◌+◌, ◌-◌, ◌*◌, ◌<◌, ◌≤◌, List, ◌∷◌, Some, None, IfOk, IfErr, OnErr, IfSome, IfNone, MatchOption, if◌then◌else◌};
+ghost use Rattle.std.specs.Prelude.{◌≡◌, ℕ, ◌+◌, ◌-◌, ◌*◌, ◌<◌, ◌≤◌, List, ◌∷◌, Some, None, IfOk, IfErr, OnErr, IfSome, IfNone, MatchOption};
 ghost use Rattle.std.specs.Option.{ForSome};
-ghost use Rattle.std.specs.Char.{is_ascii_digit};
 ghost use Rattle.dnw_txt.specs.Times.{max_ttl, unit_seconds, time_seconds, IsNoTtl, IsParseTime};
 ghost use Rattle.dnw_txt.specs.Inside.Finds.{seconds_after};
 
@@ -62,33 +61,18 @@ fn take(total: u64, number: Option<u64>, byte: u8) -> Option<(u64, Option<u64>)>
     ensures fits { IfSome result (λ x. (x.0 ≤ max_ttl) × ForSome x.1 (λ n. n ≤ max_ttl)) }
     ensures none { IfNone result ((cs : List ℕ) → IsNoTtl (seconds_after total number (byte ∷ cs))) }
 {
-    let digit = digit(byte);
-    let Some(n) = number else {
-        return Some((total, Some(digit?)));
-    };
-    if let Some(digit) = digit {
-        let longer = 10 * n + digit;
+    if byte.is_ascii_digit() {
+        let longer = 10 * number.unwrap_or(0) + u64::from(byte - b'0');
         if longer > MAX_TTL {
             return None;
         }
         return Some((total, Some(longer)));
     }
-    let longer = total + n * unit_seconds(byte)?;
+    let longer = total + number? * unit_seconds(byte)?;
     if longer > MAX_TTL {
         return None;
     }
     Some((longer, None))
-}
-
-/// Returns the value of a decimal digit.
-fn digit(byte: u8) -> Option<u64>
-    ensures { result ≡ (if is_ascii_digit byte then Some (byte - 48) else None) }
-{
-    if byte.is_ascii_digit() {
-        Some(u64::from(byte - b'0'))
-    } else {
-        None
-    }
 }
 
 /// Returns the seconds of a unit.

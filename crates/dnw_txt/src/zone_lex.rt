@@ -1,5 +1,5 @@
 //! The tokens of a master file (RFC 1035, section 5.1).
-ghost use Rattle.std.specs.Prelude.{◌≡◌, not, true, ℕ, ◌+◌, ◌-◌, ◌*◌, ◌<◌, ◌≤◌, ⊤, Bool, List, [], ◌∷◌, ◌++◌, length, take, Some, None, Ok, Err, IfOk, IfErr, IfSome, MatchOption, MatchResult};
+ghost use Rattle.std.specs.Prelude.{◌≡◌, not, true, false, slice_index, ℕ, ◌+◌, ◌-◌, ◌*◌, ◌<◌, ◌≤◌, ⊤, Bool, List, [], ◌∷◌, ◌++◌, length, take, Some, None, Ok, Err, IfOk, IfErr, IfSome, MatchOption, MatchResult};
 ghost use Rattle.std.specs.Char.{IsScalar};
 ghost use Rattle.std.specs.Str.{chars};
 ghost use Rattle.std.specs.List.{list_all};
@@ -406,7 +406,11 @@ fn after_gap(text: &str) -> &str
 fn word_len(text: &str) -> usize
     ensures { CutsBefore ends_word text.now result }
 {
-    let mut len = plain_len(text.as_bytes());
+    let bytes = text.as_bytes();
+    let mut len = plain_len(bytes);
+    if len < bytes.len() && bytes[len] < 128 {
+        return len;
+    }
     while let Some((c, _)) = split_first_char(&text[len..]) {
         if ends_word(c) {
             return len;
@@ -428,6 +432,7 @@ fn ends_word(c: char) -> bool
 fn plain_len(text: &[u8]) -> usize
     ensures within { result ≤ length text.now }
     ensures plain { list_all is_plain (take result text.now) ≡ true }
+    ensures end { result < length text.now → is_plain (slice_index text.now result) ≡ false }
 {
     let mut len = 0;
     while len < text.len() && is_plain(text[len]) {

@@ -1,11 +1,11 @@
 -- A run of plain bytes and then a character that does not end the word, over and over.
-use Rattle.std.proofs.Common.{◌≡◌, ℕ, ◌+◌, ◌≤◌, List, ◌∷◌, length, take, drop, true, false, sym, subst, ◌∙◌, zero-add}
+use Rattle.std.proofs.Common.{◌≡◌, ℕ, ◌+◌, ◌<◌, ◌≤◌, get_or, List, ◌∷◌, length, take, drop, true, false, sym, subst, ◌∙◌, zero-add, arith}
 use Rattle.std.specs.List.{list_all}
 use Rattle.std.specs.Char.{len_utf8}
 use Rattle.std.specs.Str.{chars, IsUtf8}
 use Rattle.dnw_txt.specs.Tokens.{ends_word}
 use Rattle.dnw_txt.specs.Inside.Finds.{is_plain}
-use Rattle.dnw_txt.proofs.Cuts.{Scanned, Scanned-start, Scanned-step, Scanned-run, Scanned-found, Scanned-end, plain_small, plain_fails}
+use Rattle.dnw_txt.proofs.Cuts.{Scanned, Scanned-start, Scanned-step, Scanned-run, Scanned-found, Scanned-end, Scanned-byte, plain_small, plain_fails}
 use Rattle.dnw_txt.proofs.zone_lex.word_len.Goals as goal
 
 run : (text : List ℕ) (n k : ℕ) → IsUtf8 text → Scanned ends_word text n → k ≤ length (drop n text) → list_all is_plain (take k (drop n text)) ≡ true → Scanned ends_word text (n + k)
@@ -15,8 +15,19 @@ pub loop-c-init : goal.loop-c-init
 loop-c-init c =
     let text = c.args.text.now in
     let all = run text 0 c.plain_len-len.result c.utf8.text (Scanned-start ends_word text c.utf8.text)
-    (rw c.as_bytes.ensures.value at c.plain_len-len.ensures.within) (rw c.as_bytes.ensures.value at c.plain_len-len.ensures.plain) in
+    (rw c.as_bytes-bytes.ensures.value at c.plain_len-len.ensures.within) (rw c.as_bytes-bytes.ensures.value at c.plain_len-len.ensures.plain) in
     subst (Scanned ends_word text) (zero-add c.plain_len-len.result) all
+
+pub returns-then-bytes-len-lt128 : goal.returns-then-bytes-len-lt128
+returns-then-bytes-len-lt128 c =
+    let text = c.args.text.now in
+    let n = c.plain_len-len.result in
+    let all = run text 0 n c.utf8.text (Scanned-start ends_word text c.utf8.text)
+    (rw c.as_bytes-bytes.ensures.value at c.plain_len-len.ensures.within) (rw c.as_bytes-bytes.ensures.value at c.plain_len-len.ensures.plain) in
+    let inside : n < length c.as_bytes-bytes.result.now = omega arith in
+    let small : get_or c.as_bytes-bytes.result.now n 0 < 128 = omega arith in
+    Scanned-byte text n c.utf8.text (subst (Scanned ends_word text) (zero-add n) all)
+    (rw c.as_bytes-bytes.ensures.value at inside) (rw c.as_bytes-bytes.ensures.value at small) (rw c.as_bytes-bytes.ensures.value at (c.plain_len-len.ensures.end inside))
 
 pub returns-then-ends_word : goal.returns-then-ends_word
 returns-then-ends_word c =
@@ -34,8 +45,8 @@ pub loop-c-preserved : goal.loop-c-preserved
 loop-c-preserved c =
     let s = passed _ _ _ _ _ c.utf8.text c.loop-c.invariant (rw c.range_from.ensures.value at c.in-Some.ensures.0) (sym c.ends_word.ensures ∙ c.if-ends_word.false) c.len_utf8-len.ensures.value in
     run _ _ _ c.utf8.text s
-    (rw (c.as_bytes-in-Some.ensures.value, c.range_from-in-Some.ensures.value) at c.plain_len-len-in-Some.ensures.within)
-    (rw (c.as_bytes-in-Some.ensures.value, c.range_from-in-Some.ensures.value) at c.plain_len-len-in-Some.ensures.plain)
+    (rw (c.as_bytes.ensures.value, c.range_from-in-Some.ensures.value) at c.plain_len-len-in-Some.ensures.within)
+    (rw (c.as_bytes.ensures.value, c.range_from-in-Some.ensures.value) at c.plain_len-len-in-Some.ensures.plain)
 
 pub returns : goal.returns
 returns c = Scanned-end _ _ _ c.utf8.text c.loop-c.invariant (rw c.range_from.ensures.value at c.in_default.ensures)
