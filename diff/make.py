@@ -321,7 +321,7 @@ def main():
         "encoders_compressed": encoders(oracle, Random(5), True, 5000),
     }
     for name_of_list, lines in lists.items():
-        with open(os.path.join(os.path.dirname(__file__), name_of_list + ".txt"), "w") as out:
+        with open(os.path.join(os.path.dirname(__file__), "lists", name_of_list + ".txt"), "w") as out:
             print("# Answers of hickory-proto 0.26.3, by diff/make.py. README.md has the format.", file=out)
             for line in lines:
                 print(line, file=out)

@@ -2,7 +2,7 @@
 """Makes the list of the Rust's answers on order, equality, hash and edits: requests by a generator with a fixed seed,
 answers by an oracle, a program over hickory-proto 0.26.3 that answers requests line by line.
 
-    make_order.py ORACLE    writes ordering.txt beside itself
+    make_order.py ORACLE    writes lists/ordering.txt
 
 README.md has the format.
 """
@@ -226,7 +226,7 @@ def sets_of_labels(r):
 def main():
     oracle = Oracle(sys.argv[1])
     r = Random(6)
-    with open(os.path.join(os.path.dirname(__file__), "ordering.txt"), "w") as out:
+    with open(os.path.join(os.path.dirname(__file__), "lists", "ordering.txt"), "w") as out:
         print("# Answers of hickory-proto 0.26.3, by diff/make_order.py. README.md has the format.", file=out)
         for lines in (
             lists_of_pairs(oracle, "order", "cmp", order_word, asked, sets_of_names(r)),

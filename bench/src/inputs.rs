@@ -6,6 +6,11 @@ pub enum Kind {
     Emit,
     Parse,
     Print,
+    Clone,
+    Collect,
+    Compare,
+    Sort,
+    Hash,
 }
 
 pub struct Task {
@@ -14,9 +19,9 @@ pub struct Task {
     pub kind: Kind,
     pub bytes: Vec<u8>,
     pub starts: Vec<u32>,
-    /// How many names are read, written, parsed or printed each time.
+    /// How many names are worked on each time.
     pub operations: u64,
-    /// How often the task is done where its instructions are counted.
+    /// How often the task is done if its instructions are counted.
     pub few: u64,
 }
 
@@ -56,7 +61,7 @@ fn text(random: &mut Random) -> String {
     text
 }
 
-/// A name's uncompressed form.
+/// A name's wire form.
 fn form(text: &str) -> Vec<u8> {
     let mut form = vec![];
     for label in text.split_terminator('.') {
@@ -99,7 +104,7 @@ fn message() -> (Vec<u8>, Vec<u32>) {
     (bytes, starts)
 }
 
-/// A root behind as many pointers, each to the one before.
+/// A root after as many pointers, each to the one before.
 fn chain(pointers: usize) -> (Vec<u8>, Vec<u32>) {
     let (mut bytes, mut last) = (vec![0u8], 0);
     for _ in 0..pointers {
@@ -122,6 +127,17 @@ fn deep() -> (Vec<u8>, Vec<u32>) {
     (bytes, vec![last as u32])
 }
 
+/// Names that differ only in a number: hosts of one zone, the same with `www` before them, and labels of 63 octets.
+fn numbered(count: usize, pattern: impl Fn(usize) -> String) -> (Vec<u8>, Vec<u32>) {
+    (forms(&(0..count).map(pattern).collect::<Vec<_>>()), vec![])
+}
+
+/// Texts with an escape in front, in the middle and everywhere.
+fn escaped() -> (Vec<u8>, Vec<u32>) {
+    let lines = (0..200).map(|i| format!("\\_a{i}.example.com.\nhost{i}.ex\\-ample.com.\n\\x\\y\\z{i}.\\e\\x.com.\n"));
+    (lines.collect::<String>().into_bytes(), vec![])
+}
+
 pub fn tasks() -> Vec<Task> {
     let mut tasks = vec![];
     let mut add = |name, what, kind, (bytes, starts): (Vec<u8>, Vec<u32>), operations, few| {
@@ -129,7 +145,7 @@ pub fn tasks() -> Vec<Task> {
     };
     add("read-plain", "a name of four labels, whole", Kind::Read, (form("mail.eu.example.com."), vec![0]), 1, 2000);
     add("read-message", "20 names of a compressed message", Kind::Read, message(), 20, 100);
-    add("read-chain", "a root behind 7999 pointers", Kind::Read, chain(7999), 1, 5);
+    add("read-chain", "a root after 7999 pointers", Kind::Read, chain(7999), 1, 5);
     add("read-deep", "127 labels over 126 pointers", Kind::Read, deep(), 1, 100);
     let one = form("mail.eu.example.com.");
     add("emit-1", "a name of four labels into a new message", Kind::Emit, (one, vec![]), 1, 2000);
@@ -138,6 +154,19 @@ pub fn tasks() -> Vec<Task> {
     let thousand = texts(1000, 4);
     let lines = thousand.join("\n") + "\n";
     add("parse", "1000 texts of names", Kind::Parse, (lines.into_bytes(), vec![]), 1000, 5);
-    add("print", "1000 names", Kind::Print, (forms(&thousand), vec![]), 1000, 5);
+    add("parse-escaped", "600 texts with escapes", Kind::Parse, escaped(), 600, 5);
+    let names = forms(&thousand);
+    add("print", "1000 names", Kind::Print, (names.clone(), vec![]), 1000, 5);
+    let host = |i| format!("host{i:04}.example.com.");
+    add("emit-hosts", "120 numbered hosts of one zone", Kind::Emit, numbered(120, host), 120, 10);
+    let www = |i| format!("www.host{i:04}.example.com.");
+    add("emit-www", "120 names www.host0000.example.com. and on", Kind::Emit, numbered(120, www), 120, 10);
+    let long = |i| format!("{}{i:04}.example.com.", "x".repeat(59));
+    add("emit-63", "120 labels of 63 octets that end in a number", Kind::Emit, numbered(120, long), 120, 10);
+    add("clone", "1000 names into a vector with room", Kind::Clone, (names.clone(), vec![]), 1000, 5);
+    add("collect", "1000 names read into a growing vector", Kind::Collect, (names.clone(), vec![]), 1000, 5);
+    add("compare", "1000 names, each with the next", Kind::Compare, (names.clone(), vec![]), 1000, 5);
+    add("sort", "1000 names", Kind::Sort, (names.clone(), vec![]), 1000, 5);
+    add("hash", "1000 names by SipHash 1-3", Kind::Hash, (names, vec![]), 1000, 5);
     tasks
 }

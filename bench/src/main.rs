@@ -55,7 +55,8 @@ fn measure(task: &Task) {
         print!("    {name:<16}{median:>12.2} ns ({least:.2})   x{ratio:.2} (x{least_ratio:.2})");
         println!("   checksum {}", sums[i]);
     }
-    if sums[0] != sums[1] {
+    // Hashes are the libraries' own.
+    if sums[0] != sums[1] && !matches!(task.kind, inputs::Kind::Hash) {
         println!("    the checksums differ: not the same work");
     }
 }

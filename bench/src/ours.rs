@@ -6,6 +6,11 @@ extern "C" {
     fn dnw_emit_names(names: *const u8, len: usize, count: u64) -> u64;
     fn dnw_parse_names(texts: *const u8, len: usize, count: u64) -> u64;
     fn dnw_to_ascii(names: *const u8, len: usize, count: u64) -> u64;
+    fn dnw_clone_names(names: *const u8, len: usize, count: u64) -> u64;
+    fn dnw_collect_names(names: *const u8, len: usize, count: u64) -> u64;
+    fn dnw_compare(names: *const u8, len: usize, count: u64) -> u64;
+    fn dnw_sort(names: *const u8, len: usize, count: u64) -> u64;
+    fn dnw_hash(names: *const u8, len: usize, count: u64) -> u64;
 }
 
 pub fn run(task: &Task, count: u64) -> u64 {
@@ -17,6 +22,11 @@ pub fn run(task: &Task, count: u64) -> u64 {
             Kind::Emit => dnw_emit_names(bytes, len, count),
             Kind::Parse => dnw_parse_names(bytes, len, count),
             Kind::Print => dnw_to_ascii(bytes, len, count),
+            Kind::Clone => dnw_clone_names(bytes, len, count),
+            Kind::Collect => dnw_collect_names(bytes, len, count),
+            Kind::Compare => dnw_compare(bytes, len, count),
+            Kind::Sort => dnw_sort(bytes, len, count),
+            Kind::Hash => dnw_hash(bytes, len, count),
         }
     }
 }

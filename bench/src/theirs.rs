@@ -1,5 +1,7 @@
 //! trust-dns-proto 0.22, by the same rules.
 use crate::inputs::{Kind, Task};
+use std::collections::hash_map::DefaultHasher;
+use std::hash::{Hash, Hasher};
 use std::hint::black_box;
 use trust_dns_proto::rr::Name;
 use trust_dns_proto::serialize::binary::{BinDecodable, BinDecoder, BinEncodable, BinEncoder};
@@ -21,6 +23,23 @@ pub fn run(task: &Task, count: u64) -> u64 {
             let names = names_of(&task.bytes);
             repeat(count, || sum(black_box(&names), |n| black_box(n.to_ascii()).len() as u64))
         }
+        Kind::Clone => {
+            let names = names_of(&task.bytes);
+            repeat(count, || clone_each(black_box(&names)).len() as u64)
+        }
+        Kind::Collect => repeat(count, || black_box(names_of(black_box(&task.bytes))).len() as u64),
+        Kind::Compare => {
+            let names = names_of(&task.bytes);
+            repeat(count, || black_box(&names).windows(2).map(|pair| (1 + pair[0].cmp(&pair[1]) as i64) as u64).sum())
+        }
+        Kind::Sort => {
+            let names = names_of(&task.bytes);
+            repeat(count, || sort_all(black_box(&names)))
+        }
+        Kind::Hash => {
+            let names = names_of(&task.bytes);
+            repeat(count, || sum(black_box(&names), hash))
+        }
     }
 }
 
@@ -35,7 +54,7 @@ fn sum<T>(items: &[T], value: impl Fn(&T) -> u64) -> u64 {
 fn read_each(message: &[u8], starts: &[u32]) -> u64 {
     sum(starts, |start| {
         let mut decoder = BinDecoder::new(message);
-        decoder.read_slice(*start as usize).expect("a place of the message");
+        decoder.read_slice(*start as usize).expect("an offset of the message");
         match Name::read(&mut decoder) {
             Ok(name) => decoder.index() as u64 + 65536 * encoded(black_box(&name)),
             Err(_) => REFUSED,
@@ -55,6 +74,24 @@ fn sum_mut<T>(items: &[T], mut value: impl FnMut(&T) -> u64) -> u64 {
     items.iter().fold(0, |all, item| all.wrapping_add(value(item)))
 }
 
+fn clone_each(names: &[Name]) -> Vec<Name> {
+    let mut copies = Vec::with_capacity(names.len());
+    copies.extend(names.iter().cloned());
+    black_box(copies)
+}
+
+fn sort_all(names: &[Name]) -> u64 {
+    let mut sorted: Vec<&Name> = names.iter().collect();
+    sorted.sort();
+    sorted.iter().zip(1..).fold(0, |all, (name, rank)| all.wrapping_add(rank * encoded(name)))
+}
+
+fn hash(name: &Name) -> u64 {
+    let mut state = DefaultHasher::new();
+    name.hash(&mut state);
+    state.finish()
+}
+
 fn names_of(list: &[u8]) -> Vec<Name> {
     let mut decoder = BinDecoder::new(list);
     let mut names = vec![];
@@ -64,7 +101,7 @@ fn names_of(list: &[u8]) -> Vec<Name> {
     names
 }
 
-/// The octets of a name's uncompressed form.
+/// The octets of a name's wire form.
 fn encoded(name: &Name) -> u64 {
     if name.is_root() {
         1

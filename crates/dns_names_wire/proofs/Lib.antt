@@ -15,3 +15,8 @@ pub mod Answering
 pub mod Shortening
 pub mod Endings
 pub mod ShortestNames
+pub mod AcceptedTexts
+pub mod DottedTexts
+pub mod TextElements
+pub mod DifferentTexts
+pub mod LabelBytes

@@ -6,6 +6,7 @@ pub mod ItemFrames
 pub mod Inside
 pub mod Finished
 pub mod ScriptLaws
+pub mod TextLaws
 pub mod Words
 -- The files of the crates below that public clauses cite: callers name these as this crate's own.
 pub use Rattle.dnw_error.specs.Copies
@@ -40,3 +41,8 @@ pub use Rattle.dnw_encoder.specs.EncoderLaws
 pub use Rattle.dnw_encoder.specs.EncoderValue
 pub use Rattle.dnw_encoder.specs.Guards
 pub use Rattle.dnw_encoder.specs.NameFrames
+pub use Rattle.dnw_lower.specs.LowerNames
+pub use Rattle.dnw_kinds.specs.Serials
+pub use Rattle.dnw_kinds.specs.TypeSets
+pub use Rattle.dnw_kinds.specs.RecordData
+pub use Rattle.dnw_kinds.specs.SetLaws

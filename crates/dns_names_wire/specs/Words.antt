@@ -56,8 +56,15 @@ pub use Rattle.dns_names_wire.specs.Finished.{Finished, Shortest}
 pub use Rattle.dns_names_wire.specs.Runs.{Run}
 pub use Rattle.dns_names_wire.specs.ItemFrames.{frame-part, frame-item}
 pub use Rattle.dns_names_wire.specs.ScriptLaws.{RunsReply, RunsFinish, RunsStayUseful, RunsAreShortest}
-
 -- Master files: tokens, and times to live.
 pub use Rattle.dnw_txt.specs.Tokens.{TokenValue, LexFault, LexState, LexerValue}
 pub use Rattle.dnw_txt.specs.Lexing.{token_value, Lexes, Calls, EndsInTime}
 pub use Rattle.dnw_txt.specs.Times.{max_ttl, time_seconds, IsNoTtl, IsParseTime}
+-- Sets of record types, serial numbers, and record data.
+pub use Rattle.dnw_kinds.specs.TypeSets.{set_codes, windows_within, bitmap_types}
+pub use Rattle.dnw_kinds.specs.Serials.{distance, serial_cmp, serial_sum}
+pub use Rattle.dnw_kinds.specs.RecordData.{TakesTypeSet, FailsTypeSet, TypeSetRunsOut, HasBitmap}
+pub use Rattle.dnw_kinds.specs.SetLaws.{SetsComeBack}
+-- What follows from the definitions of texts.
+pub use Rattle.dns_names_wire.specs.TextLaws.{AreByteLabels, TextsDiffer, ReadLabelsAreBytes, TextLabelsAreBytes}
+pub use Rattle.dns_names_wire.specs.TextLaws.{AcceptedLabels, AcceptedReadBack, qualified, dotted_text, BytesAndTextsAgree}

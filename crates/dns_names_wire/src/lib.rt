@@ -9,6 +9,11 @@ pub mod binary {
     pub use dnw_name::binary::BinDecodable;
 }
 
+/// Types that are read from the data of a record.
+pub mod record_data {
+    pub use dnw_kinds::record_data::RecordDataDecodable;
+}
+
 /// A cursor over the bytes of a message.
 pub mod decoder {
     pub use dnw_base::decoder::BinDecoder;
@@ -61,6 +66,11 @@ pub mod record_type {
     pub use dnw_error::record_type::RecordType;
 }
 
+/// Sets of record types, as NSEC, NSEC3 and CSYNC have them.
+pub mod record_type_set {
+    pub use dnw_kinds::record_type_set::{RecordTypeSet, TypeIter, sets_come_back};
+}
+
 /// Untrusted values, which have to be verified.
 pub mod restrict {
     pub use dnw_base::restrict::{Restrict, RestrictedMath, Verified};
@@ -68,6 +78,14 @@ pub mod restrict {
 
 /// Scripts: messages written step by step.
 pub mod script;
+
+/// Serial numbers of zones (RFC 1982).
+pub mod serial_number {
+    pub use dnw_kinds::serial_number::SerialNumber;
+}
+
+/// What follows from the definitions of texts, for callers' proofs.
+pub mod text_laws;
 
 /// Master files: their tokens, and times to live (RFC 1035, section 5.1).
 pub mod txt {

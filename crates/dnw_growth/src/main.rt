@@ -1,4 +1,4 @@
-//! `growth SCENARIO..` runs scenarios on the encoder and on names, and scripts, and prints what stands after each call
+//! `growth SCENARIO..` runs scenarios on the encoder and on names, scripts, and texts of master files, and prints what stands after each call
 //! or step.
 //!
 //! The program's words and lines take no memory. So each growth that `rt try --fail-alloc N` counts is one that the
@@ -11,6 +11,7 @@ mod script_run;
 mod scripts;
 mod show;
 mod step;
+mod texts;
 
 use std::io;
 use std::process::ExitCode;

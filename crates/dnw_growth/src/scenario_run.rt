@@ -5,6 +5,7 @@ use crate::script_run::run_script;
 use crate::scripts::SCRIPTS;
 use crate::show::{show_bytes, show_call, show_encoder};
 use crate::step::take;
+use crate::texts::{LEXED, TIMES, run_lexed, run_time};
 use dns_names_wire::encoder::BinEncoder;
 use std::alloc::Global;
 use std::io;
@@ -31,6 +32,24 @@ pub(crate) fn run_named<W: Write>(alloc: Global, name: &[u8], out: &mut W) -> io
         } else if name == script.name.as_bytes() {
             found = true;
             run_script(alloc, script, out)?;
+        }
+    }
+    for text in LEXED {
+        if all {
+            writeln!(out, "== {}", text.name)?;
+            run_lexed(alloc, text, out)?;
+        } else if name == text.name.as_bytes() {
+            found = true;
+            run_lexed(alloc, text, out)?;
+        }
+    }
+    for text in TIMES {
+        if all {
+            writeln!(out, "== {}", text.name)?;
+            run_time(alloc, text, out)?;
+        } else if name == text.name.as_bytes() {
+            found = true;
+            run_time(alloc, text, out)?;
         }
     }
     Ok(found)

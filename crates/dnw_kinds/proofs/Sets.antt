@@ -1,0 +1,121 @@
+-- Sets of types: their lists, and their bytes read back.
+use Rattle.std.proofs.Common.{◌≡◌, ℕ, ◌+◌, ◌<◌, ◌≤◌, ◌&&◌, ◌||◌, ◌==◌, Bool, true, false, nat_eq, List, [], ◌∷◌, ◌++◌, length, drop, map, cond, refl, sym, ap, ◌∙◌, subst, arith, Result, Ok, Err, IfErr, IsOkAnd}
+use Rattle.std.specs.List.{flat_map, list_all, dedup, dedup_from, AllByRecursion}
+use Rattle.std.specs.List.Retain.{IsFiltered, DiffersFromLast}
+use Rattle.std.specs.List.Sorted.{IsStrictlySortedBy, IsSorted, IsPermutation}
+use Rattle.std.specs.Ordering.{eq_by_cmp, nat_cmp, bool_cmp, ordering_then, MatchOrdering}
+use Rattle.std.specs.declared.cmp.Ordering.{Ordering}
+use Rattle.std.specs.declared.cmp.Ordering.TheVariants.{Less, Equal, Greater}
+use Rattle.std.proofs.Math.Seq.{take-append_seam, drop-append_seam}
+use Rattle.std.proofs.lemmas.Bool.{le-leb}
+use Rattle.std.proofs.lemmas.Cmp.{ranked}
+use Rattle.std.proofs.lemmas.List.{drop_all, append-nil}
+use Rattle.std.proofs.lemmas.List.Filters.{dedup_is}
+use Rattle.std.proofs.lemmas.List.Kept.{Contains-dedup, Contains-from_dedup, IsStrictlySortedBy-dedup}
+use Rattle.std.proofs.lemmas.List.Sorted.{Contains-permutation, IsPermutation-sym}
+use Rattle.dnw_error.specs.declared.record_type.RecordType.{RecordType}
+use Rattle.dnw_error.specs.RecordTypes.{type_cmp, type_code, is_unknown}
+use Rattle.dnw_error.specs.Inside.RecordTypeLaws.{types-tied}
+use Rattle.dnw_kinds.specs.TypeSets.{IsSetOf, set_codes, Window, window, windows_of, windows_codes, window_bytes, in_bounds, ends_in_zeros, is_empty, IsWritten, bitmap_types}
+use Rattle.dnw_kinds.specs.SetLaws.{SetsComeBack}
+use Rattle.dnw_kinds.specs.Inside.Bitmaps.{Above}
+use Rattle.dnw_kinds.specs.Inside.SetLaws.{types-total, types-equal}
+use Rattle.dnw_kinds.proofs.Windows.{windows-next, windows-none}
+use Rattle.std.proofs.lemmas.Bool.{eqb-true, eqb-false}
+use Rattle.dnw_error.specs.declared.error.DecodeError.{DecodeError}
+
+-- ---- lists of types
+
+-- sorted, and each once
+pub settled : (xs ys zs : List RecordType) → IsPermutation xs ys → IsSorted type_cmp ys → IsFiltered (DiffersFromLast (eq_by_cmp type_cmp)) [] ys zs → IsSetOf xs zs
+settled xs ys zs moved sorted once =
+    let is = dedup_is (eq_by_cmp type_cmp) ys zs once in
+    rw is (record {
+      ascending = IsStrictlySortedBy-dedup types-total (λ x y. refl) ys sorted;
+      all = λ kind h. Contains-dedup types-equal types-tied ys kind (Contains-permutation xs ys kind moved h);
+      no_others = λ kind h. Contains-permutation ys xs kind (IsPermutation-sym xs ys moved) (Contains-from_dedup (eq_by_cmp type_cmp) ys kind h);
+    })
+
+pub empty-set : (bitmap : List ℕ) (types : List RecordType) → bitmap ≡ [] → types ≡ [] → IsSetOf (bitmap_types bitmap) types
+unfolding windows_of IsStrictlySortedBy
+empty-set bitmap types none empty = rw (none, empty) (record { ascending = tt; all = λ kind h. h; no_others = λ kind h. h })
+
+pub empty-ascends : (types : List RecordType) → types ≡ [] → IsStrictlySortedBy type_cmp types
+unfolding IsStrictlySortedBy
+empty-ascends types empty = rw empty tt
+
+-- ---- their codes
+
+-- codes in ascending order, perhaps some of them more than once
+abbrev Rising : ℕ → List ℕ → Type 0
+Rising least [] = Unit {0}
+Rising least (code ∷ codes) = (least ≤ code) × Rising code codes
+
+ordered : (a b : Ordering) (x y : ℕ) → MatchOrdering a (x < y) (x ≡ y) (y < x) → ordering_then a b ≡ Less → x ≤ y
+ordered Less b x y h e = omega arith
+ordered Equal b x y h e = omega arith
+ordered Greater b x y h e = absurd cc
+
+codes-ordered : (s t : RecordType) → type_cmp s t ≡ Less → type_code s ≤ type_code t
+codes-ordered s t h =
+    ordered (nat_cmp (type_code s) (type_code t)) (bool_cmp (is_unknown s) (is_unknown t)) (type_code s) (type_code t) (ranked (type_code s) (type_code t) (nat_cmp (type_code s) (type_code t)) refl) h
+
+codes-rise : (kind : RecordType) (types : List RecordType) → IsStrictlySortedBy type_cmp (kind ∷ types) → Rising (type_code kind) (map type_code types)
+unfolding IsStrictlySortedBy
+codes-rise kind [] h = tt
+codes-rise kind (next ∷ types) h = (codes-ordered kind next h.0.0, codes-rise next types h.1)
+
+dedup-above : (least code : ℕ) (codes : List ℕ) → least ≤ code → Rising code codes → Above least (dedup_from nat_eq code codes)
+dedup-above least code [] le h = (le, tt)
+dedup-above least code (next ∷ codes) le h =
+    let rises = h.0 in
+    let M : Bool → Type 0 = λ b. nat_eq next code ≡ b → Above least (cond b (dedup_from nat_eq code codes) (code ∷ dedup_from nat_eq next codes)) in
+    let cases : (b : Bool) → M b = λ b. elim b as M [
+      | true ↦ λ e. dedup-above least code codes le (let P : ℕ → Type 0 = λ n. Rising n codes in subst P (eqb-true next code e) h.1)
+      | false ↦ λ e. (le, dedup-above (code + 1) next codes (let apart = eqb-false next code e in omega arith) h.1)
+    ] in
+    cases (nat_eq next code) refl
+
+pub set_codes-above : (types : List RecordType) → IsStrictlySortedBy type_cmp types → Above 0 (set_codes types)
+set_codes-above [] h = tt
+set_codes-above (kind ∷ types) h = dedup-above 0 (type_code kind) (map type_code types) (omega arith) (codes-rise kind types h)
+
+-- ---- their bytes read back
+
+windows-back : (ws : List Window) → AllByRecursion IsWritten ws → windows_of (flat_map window_bytes ws) ≡ ws
+windows-back [] h = windows-none
+windows-back (w ∷ ws) h =
+    let rest = flat_map window_bytes ws in
+    windows-next w.number (length w.octets) (w.octets ++ rest)
+    ∙ (ap (λ octets. window w.number octets ∷ windows_of (drop (length w.octets) (w.octets ++ rest))) (take-append_seam w.octets rest)
+    ∙ (ap (λ others. w ∷ windows_of others) (drop-append_seam w.octets rest) ∙ ap (λ others. w ∷ others) (windows-back ws h.1)))
+
+bounds-back : (ws : List Window) → AllByRecursion IsWritten ws → in_bounds ws ≡ true
+bounds-back [] h = refl
+bounds-back (w ∷ ws) h =
+    let some = le-leb 1 (length w.octets) h.0.some in
+    let zeros : ends_in_zeros w.octets ≡ true = ap (list_all (λ octet. octet == 0)) (drop_all 32 w.octets h.0.few) in
+    ap (λ b. (b || is_empty ws) && ends_in_zeros w.octets && in_bounds ws) some ∙ (ap (λ b. b && in_bounds ws) zeros ∙ bounds-back ws h.1)
+
+pub sets-come_back : SetsComeBack
+sets-come_back codes bytes e =
+    let back : windows_of bytes ≡ e.windows = ap windows_of e.spelled ∙ windows-back e.windows e.written in
+    (ap in_bounds back ∙ bounds-back e.windows e.written, ap windows_codes back ∙ e.same)
+
+-- ---- results
+
+-- what succeeds does not fail
+pub not-failed : {A : Type 0} (P : A → Type 0) (Q : DecodeError → Type 0) (r : Result A DecodeError) → IsOkAnd r P → IfErr r Q
+not-failed P Q (Ok x) h = tt
+not-failed P Q (Err e) h = absurd h
+
+-- the codes of all types, each once
+pub coded : (types : List RecordType) (index : ℕ) (codes once : List ℕ) → codes ++ map type_code (drop index types) ≡ map type_code types → length types ≤ index
+    → IsFiltered (DiffersFromLast nat_eq) [] codes once → once ≡ set_codes types
+coded types index codes once done end kept =
+    let all : codes ≡ map type_code types = sym (append-nil codes) ∙ (ap (λ l. codes ++ map type_code l) (sym (drop_all index types end)) ∙ done) in
+    dedup_is nat_eq codes once kept ∙ ap (dedup nat_eq) all
+
+pub coded-above : (types : List RecordType) (index : ℕ) (codes once : List ℕ) → codes ++ map type_code (drop index types) ≡ map type_code types → length types ≤ index
+    → IsFiltered (DiffersFromLast nat_eq) [] codes once → IsStrictlySortedBy type_cmp types → Above 0 once
+coded-above types index codes once done end kept ascending = rw (coded types index codes once done end kept) (set_codes-above types ascending)

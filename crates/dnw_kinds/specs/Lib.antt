@@ -1,0 +1,5 @@
+pub mod Serials
+pub mod TypeSets
+pub mod RecordData
+pub mod SetLaws
+pub mod Inside

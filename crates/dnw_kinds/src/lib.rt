@@ -1,0 +1,6 @@
+//! Sets of record types, serial numbers, and types that can be read from record data.
+#![tactic(auto)]
+
+pub mod record_data;
+pub mod record_type_set;
+pub mod serial_number;
