@@ -1,12 +1,12 @@
 -- Labels compared from the last one, and the last labels of a list.
-use Rattle.std.proofs.Common.{◌≡◌, ◌↔◌, ℕ, suc, ◌-◌, ◌<◌, ◌≤◌, Option, Some, None, Bor, List, [], ◌∷◌, ◌++◌, length, map, take, drop, reverse, refl, sym, ap, ◌∙◌, arith, length-append, length-drop}
+use Rattle.std.proofs.Common.{◌≡◌, ◌+◌, ◌↔◌, ℕ, suc, ◌-◌, ◌<◌, ◌≤◌, Option, Some, None, Bor, List, [], ◌∷◌, ◌++◌, length, map, take, drop, get_or, reverse, refl, sym, ap, ◌∙◌, arith, length-append, length-drop}
 use Rattle.std.specs.Iterator.{YieldsFirstRef}
 use Rattle.std.specs.Char.{to_ascii_lowercase}
 use Rattle.std.specs.Cmp.Lexicographic.{slice_cmp}
 use Rattle.std.specs.Ordering.{ordering_then, nat_cmp, MatchOrdering}
 use Rattle.std.specs.declared.cmp.Ordering.{Ordering}
 use Rattle.std.specs.declared.cmp.Ordering.TheVariants.{Less, Equal, Greater}
-use Rattle.std.proofs.lemmas.List.{drop_at, length-map, length-take-le, length-reverse, take-append-drop, reverse-append, append-nil}
+use Rattle.std.proofs.lemmas.List.{drop_at, drop_all, drop_more, length-map, length-take-le, length-reverse, take-append-drop, reverse-append, append-nil}
 use Rattle.dnw_base.specs.Names.{encoded_size, lower, IsZoneOf}
 use Rattle.dnw_base.proofs.Wires.{encoded_size-cons}
 use Rattle.dnw_label.specs.LabelOrder.{octets_cmp, octet_cmp_ignore_case}
@@ -156,3 +156,26 @@ slice_cmp-lowered (x ∷ xs) [] = refl
 slice_cmp-lowered (x ∷ xs) (y ∷ ys) =
     ap (λ (first : Ordering). ordering_then first (slice_cmp (slice_cmp octet_cmp_ignore_case) xs ys)) (slice_cmp-on to_ascii_lowercase nat_cmp x y)
     ∙ ap (ordering_then (octets_cmp (map to_ascii_lowercase x) (map to_ascii_lowercase y))) (slice_cmp-lowered xs ys)
+
+-- ---- labels that are passed, and equal ones
+
+-- one more is passed
+pub drop-step : (i : ℕ) (r : Option (Bor (List ℕ))) (xs ys all : List (List ℕ)) → YieldsFirstRef (λ labels. labels) xs r ys → xs ≡ drop i all → ys ≡ drop (i + 1) all
+drop-step i None xs ys all (none, after) e =
+    let few : length all ≤ i = omega (arith, ap length (sym e ∙ none), length-drop i all) in
+    after ∙ sym (drop_all (i + 1) all (omega arith))
+drop-step i (Some x) xs ys all first e =
+    let some : i < length all = omega (arith, ap length (sym e ∙ first), length-drop i all) in
+    let both : x.now ∷ ys ≡ get_or all i [] ∷ drop (i + 1) all = sym first ∙ e ∙ drop_more all i [] some in
+    let same : ys ≡ drop (i + 1) all = cc in same
+
+slice_cmp-same : {A : Type 0} (R : A → A → Ordering) → ((x : A) → R x x ≡ Equal) → (xs : List A) → slice_cmp R xs xs ≡ Equal
+slice_cmp-same R same [] = refl
+slice_cmp-same R same (x ∷ xs) = rw (same x) (slice_cmp-same R same xs)
+
+-- labels that are left and are equal decide nothing
+pub same_left : (order : ℕ → ℕ → Ordering) → ((n : ℕ) → order n n ≡ Equal) → (xs ys : List (List ℕ)) (so_far whole : Ordering) → xs ≡ ys
+    → ordering_then (slice_cmp (slice_cmp order) (reverse xs) (reverse ys)) so_far ≡ whole → so_far ≡ whole
+same_left order same xs ys so_far whole e later =
+    ap (λ (first : Ordering). ordering_then first so_far) (sym (slice_cmp-same (slice_cmp order) (slice_cmp-same order same) (reverse ys)))
+    ∙ ap (λ (ls : List (List ℕ)). ordering_then (slice_cmp (slice_cmp order) (reverse ls) (reverse ys)) so_far) (sym e) ∙ later

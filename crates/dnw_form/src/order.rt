@@ -30,19 +30,28 @@ pub fn cmp_labels_case(left: WireLabels<'_>, right: WireLabels<'_>) -> Ordering
 
 /// Compares labels from the last one, and their bytes as `F` does. Labels come before those that end in them.
 fn cmp_labels_by<F: LabelCmp>(left: WireLabels<'_>, right: WireLabels<'_>) -> Ordering
+    requires { (n : ℕ) → F.order n n ≡ Ordering.Equal }
     ensures { result ≡ labels_cmp_by F.order left.entry right.entry }
 {
     let (left_len, right_len) = (left.len(), right.len());
-    let lefts = last_labels(left, right_len);
-    let rights = last_labels(right, left_len);
+    let lefts = without_first(left, left_len.saturating_sub(right_len));
+    let rights = without_first(right, right_len.saturating_sub(left_len));
     cmp_pairs::<F>(lefts, rights).then(left_len.cmp(&right_len))
 }
 
 /// Returns the last `count` labels, or all if there are fewer.
-pub fn last_labels(mut labels: WireLabels<'_>, count: usize) -> WireLabels<'_>
+pub fn last_labels(labels: WireLabels<'_>, count: usize) -> WireLabels<'_>
     ensures { result ≡ drop (length labels.entry - count) labels.entry }
 {
-    'passed: while labels.len() > count {
+    let passed = labels.len().saturating_sub(count);
+    without_first(labels, passed)
+}
+
+/// Returns the labels after the first `count`.
+fn without_first(mut labels: WireLabels<'_>, count: usize) -> WireLabels<'_>
+    ensures { result ≡ drop count labels.entry }
+{
+    'passed: for _ in 0..count {
         let _passed = labels.next();
     }
     labels
@@ -50,7 +59,8 @@ pub fn last_labels(mut labels: WireLabels<'_>, count: usize) -> WireLabels<'_>
 
 /// Compares as many labels as there are on the other side. The last ones that differ decide.
 fn cmp_pairs<F: LabelCmp>(mut lefts: WireLabels<'_>, mut rights: WireLabels<'_>) -> Ordering
-    requires { length lefts ≡ length rights }
+    requires same { (n : ℕ) → F.order n n ≡ Ordering.Equal }
+    requires alike { length lefts ≡ length rights }
     ensures { result ≡ slice_cmp (slice_cmp F.order) (reverse lefts.entry) (reverse rights.entry) }
 {
     let mut order = Ordering::Equal;
@@ -59,6 +69,10 @@ fn cmp_pairs<F: LabelCmp>(mut lefts: WireLabels<'_>, mut rights: WireLabels<'_>)
             return order;
         };
         order = cmp_bytes::<F>(left, right).then(order);
+        // Names of one zone end alike.
+        if eq_labels_case(lefts.clone(), rights.clone()) {
+            return order;
+        }
     }
     order
 }

@@ -8,7 +8,7 @@ pub returns : goal.returns
 returns g c =
     let R = slice_cmp g.F.LabelCmp.order in
     let lengths = rw (c.len-left_len.ensures.value, c.len-right_len.ensures.value) at (ranked c.len-left_len.result c.len-right_len.result c.cmp.result c.cmp.ensures) in
-    let lefts = rw c.len-right_len.ensures.value at c.last_labels-lefts.ensures in
-    let rights = rw c.len-left_len.ensures.value at c.last_labels-rights.ensures in
+    let lefts = rw (c.saturating_sub.ensures, c.len-left_len.ensures.value, c.len-right_len.ensures.value) at c.without_first-lefts.ensures in
+    let rights = rw (c.saturating_sub-2.ensures, c.len-right_len.ensures.value, c.len-left_len.ensures.value) at c.without_first-rights.ensures in
     rw (c.cmp_pairs.ensures, lefts, rights) at c.then.ensures
     ∙ last_decide R c.args.left c.args.right c.cmp.result lengths
