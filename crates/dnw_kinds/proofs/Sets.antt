@@ -1,5 +1,5 @@
 -- Sets of types: their lists, and their bytes read back.
-use Rattle.std.proofs.Common.{◌≡◌, ℕ, ◌+◌, ◌<◌, ◌≤◌, ◌&&◌, ◌||◌, ◌==◌, Bool, true, false, nat_eq, List, [], ◌∷◌, ◌++◌, length, drop, map, cond, refl, sym, ap, ◌∙◌, subst, arith, Result, Ok, Err, IfErr, IsOkAnd}
+use Rattle.std.proofs.Common.{nat_lt, get_or, ◌≡◌, ℕ, ◌+◌, ◌<◌, ◌≤◌, ◌&&◌, ◌||◌, ◌==◌, Bool, true, false, nat_eq, List, [], ◌∷◌, ◌++◌, length, drop, map, cond, refl, sym, ap, ◌∙◌, subst, arith, Result, Ok, Err, IfErr, IsOkAnd}
 use Rattle.std.specs.List.{flat_map, list_all, dedup, dedup_from, AllByRecursion}
 use Rattle.std.specs.List.Retain.{IsFiltered, DiffersFromLast}
 use Rattle.std.specs.List.Sorted.{IsStrictlySortedBy, IsSorted, IsPermutation}
@@ -9,7 +9,7 @@ use Rattle.std.specs.declared.cmp.Ordering.TheVariants.{Less, Equal, Greater}
 use Rattle.std.proofs.Math.Seq.{take-append_seam, drop-append_seam}
 use Rattle.std.proofs.lemmas.Bool.{le-leb}
 use Rattle.std.proofs.lemmas.Cmp.{ranked}
-use Rattle.std.proofs.lemmas.List.{drop_all, append-nil}
+use Rattle.std.proofs.lemmas.List.{drop_all, append-nil, at_drop_more}
 use Rattle.std.proofs.lemmas.List.Filters.{dedup_is}
 use Rattle.std.proofs.lemmas.List.Kept.{Contains-dedup, Contains-from_dedup, IsStrictlySortedBy-dedup}
 use Rattle.std.proofs.lemmas.List.Sorted.{Contains-permutation, IsPermutation-sym}
@@ -21,7 +21,7 @@ use Rattle.dnw_kinds.specs.SetLaws.{SetsComeBack}
 use Rattle.dnw_kinds.specs.Inside.Bitmaps.{Above}
 use Rattle.dnw_kinds.specs.Inside.SetLaws.{types-total, types-equal}
 use Rattle.dnw_kinds.proofs.Windows.{windows-next, windows-none}
-use Rattle.std.proofs.lemmas.Bool.{eqb-true, eqb-false}
+use Rattle.std.proofs.lemmas.Bool.{lt-ltb, eqb-true, eqb-false}
 use Rattle.dnw_error.specs.declared.error.DecodeError.{DecodeError}
 
 -- ---- lists of types
@@ -119,3 +119,35 @@ coded types index codes once done end kept =
 pub coded-above : (types : List RecordType) (index : ℕ) (codes once : List ℕ) → codes ++ map type_code (drop index types) ≡ map type_code types → length types ≤ index
     → IsFiltered (DiffersFromLast nat_eq) [] codes once → IsStrictlySortedBy type_cmp types → Above 0 once
 coded-above types index codes once done end kept ascending = rw (coded types index codes once done end kept) (set_codes-above types ascending)
+
+-- ---- types that already ascend
+
+pub sorted-nothing : (types : List RecordType) → types ≡ [] → IsStrictlySortedBy type_cmp types
+sorted-nothing = empty-ascends
+
+pub sorted-end : (kind : RecordType) (types : List RecordType) (index : ℕ) → length types ≤ index → IsStrictlySortedBy type_cmp (kind ∷ drop index types)
+unfolding IsStrictlySortedBy
+sorted-end kind types index end = rw (drop_all index types end) (tt, tt)
+
+less-all : (x y : RecordType) (ys : List RecordType) → type_cmp x y ≡ Less → AllByRecursion (λ z. type_cmp y z ≡ Less) ys → AllByRecursion (λ z. type_cmp x z ≡ Less) ys
+less-all x y [] h all = tt
+less-all x y (z ∷ ys) h all = (types-total.trans x y z h all.0, less-all x y ys h all.1)
+
+codes-less : (x y : RecordType) → type_code x < type_code y → type_cmp x y ≡ Less
+codes-less x y h = let less : nat_lt (type_code x) (type_code y) ≡ true = lt-ltb (type_code x) (type_code y) h in rw less refl
+
+pub sorted-more : (x y : RecordType) (ys : List RecordType) → type_code x < type_code y → IsStrictlySortedBy type_cmp (y ∷ ys) → IsStrictlySortedBy type_cmp (x ∷ y ∷ ys)
+unfolding IsStrictlySortedBy
+sorted-more x y ys h sorted = let less = codes-less x y h in ((less, less-all x y ys less sorted.0), sorted)
+
+pub settled-already : (types : List RecordType) → IsStrictlySortedBy type_cmp types → IsSetOf types types
+settled-already types ascending = record { ascending = ascending; all = λ kind h. h; no_others = λ kind h. h }
+
+pub sorted-on : (types others : List RecordType) (last : RecordType) (index : ℕ) (other : RecordType) → index < length others
+    → type_code last < type_code (get_or others index other)
+    → (IsStrictlySortedBy type_cmp (last ∷ drop index others) → IsStrictlySortedBy type_cmp types)
+    → IsStrictlySortedBy type_cmp (get_or others index other ∷ drop (index + 1) others) → IsStrictlySortedBy type_cmp types
+sorted-on types others last index other within less all sorted =
+    let next : drop index others ≡ get_or others index other ∷ drop (index + 1) others = at_drop_more (λ l. l) others index other within in
+    let P : List RecordType → Type 0 = λ l. IsStrictlySortedBy type_cmp (last ∷ l) in
+    all (subst P (sym next) (sorted-more last (get_or others index other) (drop (index + 1) others) less sorted))

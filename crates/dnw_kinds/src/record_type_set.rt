@@ -26,6 +26,9 @@ use std::fmt;
 use std::hash::{Hash, Hasher};
 use std::marker::Model;
 
+/// For how many types memory is taken at first: few sets have more.
+const USUAL_TYPES: usize = 16;
+
 mod bitmap;
 mod laws;
 mod type_iter;
@@ -111,12 +114,32 @@ impl RecordTypeSet {
     }
 }
 
-/// Makes the list of a set: each type once, in ascending order.
+/// Makes the list of a set: each type once, in ascending order. Most bitmaps list their types so.
 fn settle(types: &mut Vec<RecordType>)
     ensures { IsSetOf types.old.items types.new.items }
 {
+    if is_ascending(types.as_slice()) {
+        return;
+    }
     types.sort_unstable();
     types.dedup();
+}
+
+/// Returns `true` if the codes of the types ascend.
+fn is_ascending(types: &[RecordType]) -> bool
+    ensures { IsTrue result → IsStrictlySortedBy type_cmp types.now }
+{
+    let Some((first, others)) = types.split_first() else {
+        return true;
+    };
+    let mut last = *first;
+    for kind in others {
+        if u16::from(last) >= u16::from(*kind) {
+            return false;
+        }
+        last = *kind;
+    }
+    true
 }
 
 /// Returns the codes of the types of a set, each once.
@@ -146,6 +169,7 @@ fn read_bitmap(alloc: Global, bitmap: &[u8]) -> Result<RecordTypeSet, AllocError
             encoding: Vec::new(alloc),
         });
     }
+    types.reserve(USUAL_TYPES)?;
     bitmap::push_windows(&mut types, bitmap)?;
     settle(&mut types);
     let encoding = Vec::from_slice(alloc, bitmap)?;
