@@ -205,10 +205,11 @@ fn read_set(alloc: Global, len: u16, bitmap: &[u8]) -> ProtoResult<String> {
 /// Reads each beginning of a bitmap as a set, and returns the codes of each, or `x` if it fails.
 fn cut_sets(alloc: Global, bitmap: &[u8]) -> ProtoResult<String> {
     let mut answers = String::new(alloc);
-    for len in 0..bitmap.len() + 1 {
-        let mut decoder = BinDecoder::new(&bitmap[..len]);
-        match RecordTypeSet::read_data(alloc, &mut decoder, Restrict::new(len as u16)) {
-            Ok(set) if set.to_bytes(alloc)?.as_slice() == &bitmap[..len] => {
+    for len in 0..bitmap.len().saturating_add(1) {
+        let cut = bitmap.get(..len).unwrap_or(bitmap);
+        let mut decoder = BinDecoder::new(cut);
+        match RecordTypeSet::read_data(alloc, &mut decoder, Restrict::new(half(len as u64))) {
+            Ok(set) if set.to_bytes(alloc)?.as_slice() == cut => {
                 push_word(&mut answers, codes_of(alloc, &set)?.as_str())?;
             }
             _ => push_word(&mut answers, "x")?,
@@ -295,7 +296,7 @@ fn folded_codes(alloc: Global, kind: &str, words: &str) -> ProtoResult<String> {
     let (first, end) = first_word(words)?;
     let mut checksum = Checksum::new();
     for code in number::<u32>(first)?..number::<u32>(end)? {
-        let code = code as u16;
+        let code = half(u64::from(code));
         let shown = match kind {
             "types" => shown_type(alloc, RecordType::from(code))?,
             _ => shown_class(alloc, DNSClass::from(code))?,
@@ -316,6 +317,9 @@ impl Random {
             .0
             .wrapping_mul(6364136223846793005)
             .wrapping_add(1442695040888963407);
+        if n == 0 {
+            return 0;
+        }
         (self.0 >> 33) % n
     }
 }
@@ -328,7 +332,7 @@ fn folded_sets(alloc: Global, words: &str) -> ProtoResult<String> {
     let mut checksum = Checksum::new();
     for _ in 0..number::<u32>(count)? {
         let bitmap = bitmap(alloc, &mut random)?;
-        let answer = read_set(alloc, bitmap.len() as u16, bitmap.as_slice())?;
+        let answer = read_set(alloc, half(bitmap.len() as u64), bitmap.as_slice())?;
         checksum.add(answer.as_str());
     }
     Ok(format!(in alloc; "{}", checksum.0)?)
@@ -336,38 +340,51 @@ fn folded_sets(alloc: Global, words: &str) -> ProtoResult<String> {
 
 fn bitmap(alloc: Global, random: &mut Random) -> ProtoResult<Vec<u8>> {
     let form = random.below(4);
-    let windows = 1 + random.below(3);
+    let windows = random.below(3).saturating_add(1);
     let mut bytes = Vec::new(alloc);
     let mut window = random.below(3);
     for _ in 0..windows {
         let len = if form == 2 {
             random.below(36)
         } else {
-            1 + random.below(8)
+            random.below(8).saturating_add(1)
         };
-        bytes.push(window as u8)?;
-        bytes.push(len as u8)?;
+        bytes.push(octet(window))?;
+        bytes.push(octet(len))?;
         for _ in 0..len {
-            let octet = if random.below(3) == 0 {
+            let bits = if random.below(3) == 0 {
                 random.below(256)
             } else {
                 0
             };
-            bytes.push(octet as u8)?;
+            bytes.push(octet(bits))?;
         }
         window = if form == 3 {
             random.below(3)
         } else {
-            window + 1 + random.below(3)
+            window.saturating_add(1).saturating_add(random.below(3))
         };
     }
     let len = bytes.len() as u64;
     if form == 1 {
-        bytes.truncate(random.below(len + 1) as usize);
+        bytes.truncate(random.below(len.saturating_add(1)) as usize);
     }
     if form == 2 {
         let at = random.below(len) as usize;
-        bytes[at] = random.below(256) as u8;
+        let changed = octet(random.below(256));
+        if let Some(byte) = bytes.as_mut_slice().get_mut(at) {
+            *byte = changed;
+        }
     }
     Ok(bytes)
+}
+
+/// Returns the low 16 bits of a number.
+fn half(number: u64) -> u16 {
+    (number % 65536) as u16
+}
+
+/// Returns the low 8 bits of a number.
+fn octet(number: u64) -> u8 {
+    (number % 256) as u8
 }

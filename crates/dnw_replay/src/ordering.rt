@@ -45,7 +45,7 @@ fn order(alloc: Global, words: &str) -> ProtoResult<String> {
 /// Returns what the comparisons of two names return, as two characters.
 fn pair(alloc: Global, left: &Name, right: &Name) -> ProtoResult<String> {
     check_borrowed(left, right)?;
-    let orders = 3 * place(left.cmp(right)) + place(left.cmp_case(right));
+    let orders = both(left.cmp(right), left.cmp_case(right));
     let alike = hash_of(left) == hash_of(right);
     let tests = [
         left == right,
@@ -55,7 +55,7 @@ fn pair(alloc: Global, left: &Name, right: &Name) -> ProtoResult<String> {
         left.zone_of(right),
         left.zone_of_case(right),
     ];
-    let orders = letter(orders + if alike { 9 } else { 0 });
+    let orders = letter(orders.saturating_add(if alike { 9 } else { 0 }));
     Ok(format!(in alloc; "{orders}{}", letter(bits(&tests)))?)
 }
 
@@ -97,7 +97,7 @@ fn label_pair(alloc: Global, left: &Label, right: &Label) -> ProtoResult<String>
         return Err(DIFFER);
     }
     let alike = hash_of(left) == hash_of(right);
-    let orders = letter(3 * place(order) + place(case) + if alike { 9 } else { 0 });
+    let orders = letter(both(order, case).saturating_add(if alike { 9 } else { 0 }));
     Ok(format!(in alloc; "{orders}{}", letter(bits(&[left == right])))?)
 }
 
@@ -242,6 +242,11 @@ fn hash_of<T: Hash>(value: &T) -> u64 {
     state.finish()
 }
 
+/// Returns two orders as a number.
+fn both(order: Ordering, case: Ordering) -> usize {
+    place(order).saturating_mul(3).saturating_add(place(case))
+}
+
 fn place(order: Ordering) -> usize {
     match order {
         Ordering::Less => 0,
@@ -264,9 +269,9 @@ fn bit(test: bool) -> u8 {
 
 /// Returns tests as a number, the first as its lowest bit.
 fn bits(tests: &[bool]) -> usize {
-    let mut number = 0;
+    let mut number = 0usize;
     for test in tests.iter().rev() {
-        number = 2 * (number % 64) + usize::from(*test);
+        number = (2 * (number % 64)).saturating_add(usize::from(*test));
     }
     number
 }

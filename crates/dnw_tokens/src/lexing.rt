@@ -304,11 +304,13 @@ fn nth_text(alloc: Global, alphabet: &[char], length: u32, index: u64) -> ProtoR
     let mut text = String::new(alloc);
     let mut rest = index;
     for _ in 0..length {
-        if alphabet.is_empty() {
+        let count = alphabet.len() as u64;
+        if count == 0 {
             return Ok(text);
         }
-        let count = alphabet.len() as u64;
-        text.push(alphabet[(rest % count) as usize])?;
+        if let Some(letter) = alphabet.get((rest % count) as usize) {
+            text.push(*letter)?;
+        }
         rest /= count;
     }
     Ok(text)
