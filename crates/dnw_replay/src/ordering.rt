@@ -151,7 +151,7 @@ fn edits(alloc: Global, word: &str) -> ProtoResult<String> {
     ] {
         push_word(&mut answer, shown(alloc, edited)?.as_str())?;
     }
-    for count in 0..name.iter().len() + 2 {
+    for count in 0..name.iter().len().saturating_add(2) {
         push_word(&mut answer, shown(alloc, name.trim_to(count))?.as_str())?;
     }
     Ok(answer)
