@@ -206,16 +206,22 @@ fn read_set(alloc: Global, len: u16, bitmap: &[u8]) -> ProtoResult<String> {
 fn cut_sets(alloc: Global, bitmap: &[u8]) -> ProtoResult<String> {
     let mut answers = String::new(alloc);
     for len in 0..bitmap.len().saturating_add(1) {
-        let cut = bitmap.get(..len).unwrap_or(bitmap);
-        let mut decoder = BinDecoder::new(cut);
-        match RecordTypeSet::read_data(alloc, &mut decoder, Restrict::new(half(len as u64))) {
-            Ok(set) if set.to_bytes(alloc)?.as_slice() == cut => {
-                push_word(&mut answers, codes_of(alloc, &set)?.as_str())?;
-            }
-            _ => push_word(&mut answers, "x")?,
-        }
+        let answer = cut_set(alloc, bitmap.get(..len).unwrap_or(bitmap))?;
+        push_word(&mut answers, answer.as_str())?;
     }
     Ok(answers)
+}
+
+/// Reads a whole bitmap as a set that is written back as it was, and returns its codes, or `x`.
+fn cut_set(alloc: Global, bitmap: &[u8]) -> ProtoResult<String> {
+    let mut decoder = BinDecoder::new(bitmap);
+    let len = half(bitmap.len() as u64);
+    if let Ok(set) = RecordTypeSet::read_data(alloc, &mut decoder, Restrict::new(len)) {
+        if set.to_bytes(alloc)?.as_slice() == bitmap {
+            return codes_of(alloc, &set);
+        }
+    }
+    Ok(String::from_str(alloc, "x")?)
 }
 
 /// Makes the set of types between commas; `-` stands for none.
