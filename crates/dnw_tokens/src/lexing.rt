@@ -179,20 +179,21 @@ impl Reading {
     fn zone(&mut self, text: &str) -> ProtoResult<()> {
         self.lex(text)?;
         let mut counts = [0u32; KINDS.len()];
-        let mut last = "";
         for word in self.out.split(' ') {
             for (count, kind) in counts.iter_mut().zip(KINDS) {
                 if word.starts_with(*kind) {
                     *count = count.saturating_add(1);
                 }
             }
-            last = word;
         }
         let mut shown = String::new(self.alloc);
         for (count, kind) in counts.iter().zip(KINDS) {
             write!(shown, "{kind}{count} ")?;
         }
-        shown.push_str(last)?;
+        match self.out.rsplit_once(' ') {
+            Some((_, last)) => shown.push_str(last)?,
+            None => shown.push_str(self.out.as_str())?,
+        }
         self.fold();
         let checksum = self.checksum;
         write!(shown, " {checksum:016x}")?;
@@ -205,11 +206,16 @@ impl Reading {
         self.texts = self.texts.saturating_add(1);
         match parse_ttl(self.alloc, text) {
             Ok(seconds) => write!(self.out, "{seconds}")?,
-            Err(ParseError::ParseTime(own)) if own.as_str() == text => {
-                self.out.push_str("!time")?;
-            }
-            Err(ParseError::Memory) => return Err(ProtoError::Memory),
-            Err(other) => write!(self.out, "!{other}")?,
+            Err(error) => self.time_error(&error, text)?,
+        }
+        Ok(())
+    }
+
+    fn time_error(&mut self, error: &ParseError, text: &str) -> ProtoResult<()> {
+        match error {
+            ParseError::ParseTime(own) if own.as_str() == text => self.out.push_str("!time")?,
+            ParseError::Memory => return Err(ProtoError::Memory),
+            other => write!(self.out, "!{other}")?,
         }
         Ok(())
     }
