@@ -161,7 +161,10 @@ fn edits(alloc: Global, word: &str) -> ProtoResult<String> {
 fn from_back(alloc: Global, name: &Name) -> ProtoResult<String> {
     let mut text = String::new(alloc);
     let mut labels = name.iter();
-    while let Some(label) = labels.next_back() {
+    for _ in 0..name.iter().len() {
+        let Some(label) = labels.next_back() else {
+            break;
+        };
         if !text.is_empty() {
             text.push_str(",")?;
         }
