@@ -1,38 +1,14 @@
 /* Calls each function of dnw_bench.h and compares its checksum. It exits with 1 at the first that is not the expected
    one. */
 #include "dnw_bench.h"
-
-#include <stdio.h>
-#include <stdlib.h>
-#include <string.h>
-
-#define EXPECT(fact)                                                                    \
-    do {                                                                                \
-        if (!(fact)) {                                                                  \
-            fprintf(stderr, "bench.c:%d: failed: %s\n", __LINE__, #fact);               \
-            exit(1);                                                                    \
-        }                                                                               \
-    } while (0)
-
-#define BYTES(text) ((const uint8_t *)(text)), (sizeof(text) - 1)
-
-static uint8_t message[93];
-
-static void make_message(void)
-{
-    memset(message, 0xFF, sizeof message);
-    memcpy(message + 20, "\001F\003ISI\004ARPA\000", 12);
-    memcpy(message + 40, "\003FOO\300\024", 6);
-    memcpy(message + 64, "\300\032", 2);
-    message[92] = 0;
-}
+#include "expect.h"
 
 int main(void)
 {
     make_message();
     static const uint32_t starts[] = {20, 40, 64, 92};
     static const uint32_t refused[] = {0, 94};
-    /* the ends, and the lengths of the forms */
+    /* the ends, and the lengths of the wire forms */
     uint64_t sum = (32 + 46 + 66 + 93) + 65536 * (uint64_t)(12 + 16 + 6 + 1);
     EXPECT(dnw_read_names(message, sizeof message, starts, 4, 0) == 0);
     EXPECT(dnw_read_names(message, sizeof message, starts, 4, 3) == 3 * sum);

@@ -1,20 +1,7 @@
 /* Calls each function of dns_names_wire.h with good and with bad input. It prints nothing if all is well, and exits with 1
    at the first result that is not the expected one. Expected values come from RFC 1035 or from the header. */
 #include "dns_names_wire.h"
-
-#include <stdio.h>
-#include <stdlib.h>
-#include <string.h>
-
-#define EXPECT(fact)                                                                    \
-    do {                                                                                \
-        if (!(fact)) {                                                                  \
-            fprintf(stderr, "test.c:%d: failed: %s\n", __LINE__, #fact);                \
-            exit(1);                                                                    \
-        }                                                                               \
-    } while (0)
-
-#define BYTES(text) ((const uint8_t *)(text)), (sizeof(text) - 1)
+#include "expect.h"
 
 /* While this is set, malloc and realloc fail: the linker puts the functions below in their place. */
 static bool no_memory;
@@ -53,18 +40,6 @@ static bool untouched(void)
 static void clear(void)
 {
     memset(buffer, 0xAA, sizeof buffer);
-}
-
-/* The names of RFC 1035, section 4.1.4: F.ISI.ARPA at 20, FOO.F.ISI.ARPA at 40, ARPA at 64, the root at 92. */
-static uint8_t message[93];
-
-static void make_message(void)
-{
-    memset(message, 0xFF, sizeof message);
-    memcpy(message + 20, "\001F\003ISI\004ARPA\000", 12);
-    memcpy(message + 40, "\003FOO\300\024", 6);
-    memcpy(message + 64, "\300\032", 2);
-    message[92] = 0;
 }
 
 static uint32_t read_form(size_t start, size_t size, struct dnw_read_name *read)

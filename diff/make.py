@@ -9,44 +9,15 @@ hostile; steps of an encoder of which none fails; the texts of names, both ways.
 """
 import os
 import re
-import subprocess
 import sys
+
+from oracle import Oracle, Random, hexed
 
 HOSTS = "www mail smtp ns1 ns2 api cdn static img db auth login _sip _tcp _443 git ci x a *".split()
 PIECES = ["a", "B", "z", "0", "7", "9", "-", "_", "*", ".", ".", "\\", "\\", "\\.", "\\101", "\\052", "\\200", "\\377",
           " ", "\t", "!", "@", "~", "\x7f", "\0"]
 TELLING = [0, 42, 45, 46, 92, 95, 127, 128, 255]
 ZONES = "example.com example.net Example.ORG hickory-dns.org bbc.co.uk in-addr.arpa a.b de".split()
-
-
-class Random:
-    """A linear congruential generator (Knuth's MMIX)."""
-
-    def __init__(self, seed):
-        self.state = seed
-
-    def below(self, n):
-        self.state = (self.state * 6364136223846793005 + 1442695040888963407) % 2**64
-        return (self.state >> 33) % n
-
-    def pick(self, items):
-        return items[self.below(len(items))]
-
-
-class Oracle:
-    def __init__(self, path):
-        self.path = path
-
-    def ask(self, requests):
-        """The answers to the requests, in their order."""
-        said = subprocess.run([self.path], input="\n".join(requests) + "\n", capture_output=True, text=True, check=True)
-        answers = said.stdout.split("\n")[:-1]
-        assert len(answers) == len(requests), (len(answers), len(requests))
-        return answers
-
-
-def hexed(data):
-    return data.hex() or "-"
 
 
 def labels_of(wire):

@@ -8,8 +8,9 @@ Ranges of codes and runs of bitmaps are folded into checksums (FNV-1a of 64 bits
 a code that has a name is left out: the Rust takes it for the same type in an order, and for another elsewhere.
 """
 import os
-import subprocess
 import sys
+
+from oracle import Oracle, Random, hexed
 
 TESTS = "any cert cname ns soa srv ip_addr dnssec rrsig zero".split()
 NAMES = """A AAAA ANAME ANY AXFR CAA CDNSKEY CDS CERT CNAME CSYNC DNAME DNSKEY DS HINFO HTTPS IXFR KEY MX NAPTR NS NSEC NSEC3
@@ -17,33 +18,11 @@ NSEC3PARAM NULL OPENPGPKEY OPT PTR RRSIG SIG SMIMEA SOA SRV SSHFP SVCB TLSA TSIG
 CLASSES = "IN CH HS NONE ANY OPT UNKNOWN *".split()
 
 
-class Random:
-    """A linear congruential generator (Knuth's MMIX)."""
-
-    def __init__(self, seed):
-        self.state = seed
-
-    def below(self, n):
-        self.state = (self.state * 6364136223846793005 + 1442695040888963407) % 2**64
-        return (self.state >> 33) % n
-
-
-def ask(oracle, requests):
-    said = subprocess.run([oracle], input="\n".join(requests) + "\n", capture_output=True, text=True, check=True)
-    answers = said.stdout.split("\n")[:-1]
-    assert len(answers) == len(requests), (len(answers), len(requests))
-    return answers
-
-
 def checksum(lines):
     sum = 14695981039346656037
     for byte in "".join(line + "\n" for line in lines).encode():
         sum = (sum ^ byte) * 1099511628211 % 2**64
     return sum
-
-
-def hexed(data):
-    return data.hex() or "-"
 
 
 def error(answer):
@@ -95,8 +74,8 @@ def near(names):
 
 def main(oracle):
     out = ["# Codes, sets of types and serial numbers: answers of hickory-proto 0.26.3, by diff/make_codes.py."]
-    types = ask(oracle, [f"type {code}" for code in range(65536)])
-    classes = ask(oracle, [f"class {code}" for code in range(65536)])
+    types = oracle.ask([f"type {code}" for code in range(65536)])
+    classes = oracle.ask([f"class {code}" for code in range(65536)])
     for first in range(0, 65536, 4096):
         end = first + 4096
         out.append(f"types {first} {end} = {checksum(map(type_line, types[first:end]))}")
@@ -106,16 +85,16 @@ def main(oracle):
 
     random = Random(1)
     sizes = [0, 1, 511, 512, 513, 4096, 65535] + [random.below(65536) for _ in range(50)]
-    out += [f"for-opt {n} = {a.split()[2]}" for n, a in zip(sizes, ask(oracle, [f"for_opt {n}" for n in sizes]))]
+    out += [f"for-opt {n} = {a.split()[2]}" for n, a in zip(sizes, oracle.ask([f"for_opt {n}" for n in sizes]))]
     codes = [random.below(300) if random.below(2) else random.below(65536) for _ in range(800)]
     pairs = [(codes[i], codes[i] if i % 16 == 0 else codes[i + 1]) for i in range(0, len(codes), 2)]
     for kind in "type", "class":
-        for (a, b), answer in zip(pairs, ask(oracle, [f"{kind}-cmp {a} {b}" for a, b in pairs])):
+        for (a, b), answer in zip(pairs, oracle.ask([f"{kind}-cmp {a} {b}" for a, b in pairs])):
             cmp, eq, hash = (word.split("=")[1] for word in answer.split())
             out.append(f"{kind}-cmp {a} {b} = {cmp} {'true' if eq == '1' else 'false'} {'true' if hash == '1' else 'false'}")
     for kind, names in ("type", NAMES), ("class", CLASSES):
         texts = sorted(text for text in set(near(names)) if text and " " not in text)
-        answers = ask(oracle, [f"{kind}-str {text.encode().hex()}" for text in texts])
+        answers = oracle.ask([f"{kind}-str {text.encode().hex()}" for text in texts])
         for text, answer in zip(texts, answers):
             told = answer.split()[2] if answer.startswith("ok") else error(answer)
             out.append(f"{kind}-name {text} = {told}")
@@ -126,27 +105,27 @@ def main(oracle):
         a = random.below(2**31) * 2 + random.below(2)
         apart = [random.below(2**31), 2**31 - 2 + random.below(5), random.below(3)][random.below(3)]
         serials.append((a, (a + apart) % 2**32 if random.below(2) else (a - apart) % 2**32))
-    for (a, b), answer in zip(serials, ask(oracle, [f"serial {a} {b}" for a, b in serials])):
+    for (a, b), answer in zip(serials, oracle.ask([f"serial {a} {b}" for a, b in serials])):
         cmp, eq, sum = (word.split("=")[1] for word in answer.split())
         out.append(f"serial {a} {b} = {cmp} {'true' if eq == '1' else 'false'} {sum}")
 
     random = Random(2)
     bitmaps = [bitmap(random) for _ in range(3000)]
-    for octets, answer in zip(bitmaps, ask(oracle, [f"typeset-read {len(b)} {hexed(b)}" for b in bitmaps])):
+    for octets, answer in zip(bitmaps, oracle.ask([f"typeset-read {len(b)} {hexed(b)}" for b in bitmaps])):
         out.append(f"set-read {len(octets)} {hexed(octets)} = {set_line(answer)}")
     short = [(random.below(len(b) + 3), b) for b in bitmaps[:500]]
-    for (size, octets), answer in zip(short, ask(oracle, [f"typeset-read {n} {hexed(b)}" for n, b in short])):
+    for (size, octets), answer in zip(short, oracle.ask([f"typeset-read {n} {hexed(b)}" for n, b in short])):
         out.append(f"set-read {size} {hexed(octets)} = {set_line(answer)}")
     for seed in range(3, 103):
         random = Random(seed)
         run = [bitmap(random) for _ in range(1000)]
-        answers = ask(oracle, [f"typeset-read {len(b)} {hexed(b)}" for b in run])
+        answers = oracle.ask([f"typeset-read {len(b)} {hexed(b)}" for b in run])
         out.append(f"sets {seed} 1000 = {checksum(map(set_line, answers))}")
 
     random = Random(103)
     listed = [[[random.below(64), random.below(300), random.below(65536)][random.below(3)] for _ in range(random.below(12))] for _ in range(1000)]
-    members = ask(oracle, [f"typeset-new {' '.join(map(str, l))}".rstrip() for l in listed])
-    octets = ask(oracle, [f"typeset-emit {' '.join(map(str, l))}".rstrip() for l in listed])
+    members = oracle.ask([f"typeset-new {' '.join(map(str, l))}".rstrip() for l in listed])
+    octets = oracle.ask([f"typeset-emit {' '.join(map(str, l))}".rstrip() for l in listed])
     for codes, own, emitted in zip(listed, members, octets):
         out.append(f"set-new {','.join(map(str, codes)) or '-'} = {own.split()[1].replace('U', '')} {emitted.split()[1]}")
 
@@ -155,4 +134,5 @@ def main(oracle):
         file.write("\n".join(out) + "\n")
 
 
-main(sys.argv[1])
+if __name__ == "__main__":
+    main(Oracle(sys.argv[1]))

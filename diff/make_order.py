@@ -10,7 +10,7 @@ import os
 import re
 import sys
 
-from make import Oracle, Random
+from oracle import Oracle, Random
 
 LETTERS = "0123456789ABCDEFGHIJKLMNOPQRSTUVWXYZabcdefghijklmnopqrstuvwxyz-_"
 ORDERS = {"Less": 0, "Equal": 1, "Greater": 2}

@@ -10,44 +10,15 @@ written for such texts is what `expected` below says; for all others the two are
 """
 import os
 import re
-import subprocess
 import sys
 import unicodedata
+
+from oracle import Oracle, Random, hexed
 
 # White space, as Rust's `char::is_whitespace` has it.
 SPACE = set("\t\n\x0b\x0c\r \x85\xa0\u1680\u2028\u2029\u202f\u205f\u3000") | {chr(c) for c in range(0x2000, 0x200B)}
 CONTROL = {chr(c) for c in [*range(0x20), *range(0x7F, 0xA0)]}
 WORDS = {"INCLUDE": "include", "ORIGIN": "origin", "TTL": "ttl"}
-
-
-class Random:
-    """A linear congruential generator (Knuth's MMIX)."""
-
-    def __init__(self, seed):
-        self.state = seed
-
-    def below(self, n):
-        self.state = (self.state * 6364136223846793005 + 1442695040888963407) % 2**64
-        return (self.state >> 33) % n
-
-    def pick(self, items):
-        return items[self.below(len(items))]
-
-
-class Oracle:
-    def __init__(self, path):
-        self.path = path
-
-    def ask(self, requests):
-        """The answers to the requests, in their order."""
-        said = subprocess.run([self.path], input="\n".join(requests) + "\n", capture_output=True, text=True, check=True)
-        answers = said.stdout.split("\n")[:-1]
-        assert len(answers) == len(requests), (len(answers), len(requests))
-        return answers
-
-
-def hexed(data):
-    return data.hex() or "-"
 
 
 class Fault(Exception):
