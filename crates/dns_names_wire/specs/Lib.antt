@@ -26,8 +26,8 @@ pub use Rattle.dnw_reading.specs.Reading
 pub use Rattle.dnw_reading.specs.ReadingLaws
 pub use Rattle.dnw_form.specs.Edits
 pub use Rattle.dnw_form.specs.NameText
-pub use Rattle.dnw_form.specs.Order
-pub use Rattle.dnw_form.specs.OrderLaws
+pub use Rattle.dnw_order.specs.Order
+pub use Rattle.dnw_order.specs.OrderLaws
 pub use Rattle.dnw_txt.specs.Tokens
 pub use Rattle.dnw_txt.specs.Lexing
 pub use Rattle.dnw_txt.specs.Times

@@ -1,5 +1,5 @@
 pub mod Wires
-pub mod Comparing
+pub mod Passing
 pub mod OpenWires
 pub mod EditLemmas
 pub mod Joined

@@ -1,5 +1,3 @@
 pub mod Edits
 pub mod NameText
-pub mod Order
-pub mod OrderLaws
 pub mod Inside

@@ -8,8 +8,7 @@ ghost use Rattle.dnw_form.specs.Edits.{with_label, with_labels};
 ghost use Rattle.dnw_form.specs.Inside.WireBytes.{labels_of, IsWire};
 
 use crate::label_iter::LabelIter;
-use crate::order::last_labels;
-use crate::wire_labels::WireLabels;
+use crate::wire_labels::{WireLabels, last_labels};
 use dnw_base::limits::MAX_NAME;
 use dnw_error::error::{DecodeError, ProtoError, ProtoResult};
 use smallvec::SmallVec;

@@ -3,6 +3,5 @@
 
 pub mod form;
 pub mod label_iter;
-pub mod order;
 pub mod text;
 pub mod wire_labels;

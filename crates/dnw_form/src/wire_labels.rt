@@ -1,5 +1,5 @@
 //! The labels of a wire form from the left, and the wire form of those that are left.
-ghost use Rattle.std.specs.Prelude.{◌≡◌, [], length, Some, IfSome, MatchOption};
+ghost use Rattle.std.specs.Prelude.{◌≡◌, ◌-◌, [], length, drop, Some, IfSome, MatchOption};
 ghost use Rattle.std.specs.Iterator.{UpTo, YieldsFirstRef, at_most, item_count};
 ghost use Rattle.std.specs.Iterator.SizeHint.{IsWithinCount};
 ghost use Rattle.dnw_form.specs.Inside.WireBytes.{labels_of, IsWire, SplitsLabel};
@@ -84,6 +84,24 @@ impl<'a> ExactSizeIterator for WireLabels<'a> {
     fn len(&self) -> usize {
         count_labels(self.rest)
     }
+}
+
+/// Returns the last `count` labels, or all if there are fewer.
+pub fn last_labels(labels: WireLabels<'_>, count: usize) -> WireLabels<'_>
+    ensures { result ≡ drop (length labels.entry - count) labels.entry }
+{
+    let passed = labels.len().saturating_sub(count);
+    without_first(labels, passed)
+}
+
+/// Returns the labels after the first `count`.
+pub fn without_first(mut labels: WireLabels<'_>, count: usize) -> WireLabels<'_>
+    ensures { result ≡ drop count labels.entry }
+{
+    'passed: for _ in 0..count {
+        let _passed = labels.next();
+    }
+    labels
 }
 
 /// Returns the number of labels of a wire form.

@@ -1,10 +1,11 @@
-//! `growth SCENARIO..` runs scenarios on the encoder and on names, scripts, and texts of master files, and prints what stands after each call
+//! `growth SCENARIO..` runs scenarios on the encoder and on names, edits of names, scripts, and texts of master files, and prints what stands after each call
 //! or step.
 //!
 //! The program's words and lines take no memory. So each growth that `rt try --fail-alloc N` counts is one that the
 //! library asks for, or one for the steps that a script is made of, and `.ci/growth` refuses every one of them in turn.
 #![tactic(auto)]
 
+mod edits;
 mod scenario_run;
 mod scenarios;
 mod script_run;

@@ -1,5 +1,6 @@
 //! Scenarios are run.
 
+use crate::edits::{EDITS, LOWER_EDITS, run_edits, run_lower_edits};
 use crate::scenarios::{SCENARIOS, Scenario};
 use crate::script_run::run_script;
 use crate::scripts::SCRIPTS;
@@ -52,7 +53,25 @@ pub(crate) fn run_named<W: Write>(alloc: Global, name: &[u8], out: &mut W) -> io
             run_time(alloc, text, out)?;
         }
     }
+    if all || name == EDITS.as_bytes() {
+        found = true;
+        show_head(out, all, EDITS)?;
+        run_edits(alloc, out)?;
+    }
+    if all || name == LOWER_EDITS.as_bytes() {
+        found = true;
+        show_head(out, all, LOWER_EDITS)?;
+        run_lower_edits(alloc, out)?;
+    }
     Ok(found)
+}
+
+/// Writes the line before a scenario, if all are run.
+fn show_head<W: Write>(out: &mut W, all: bool, name: &str) -> io::Result<()> {
+    if all {
+        writeln!(out, "== {name}")?;
+    }
+    Ok(())
 }
 
 /// Makes each call on an encoder over no bytes, and in the end shows the buffer that the encoder leaves.

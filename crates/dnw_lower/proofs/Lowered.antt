@@ -3,8 +3,8 @@ use Rattle.std.proofs.Common.{◌≡◌, ◌↔◌, ℕ, Bool, true, List, [], �
 use Rattle.std.specs.Bool.{Decides, one_answer}
 use Rattle.std.specs.Char.{to_ascii_lowercase}
 use Rattle.dnw_base.specs.Names.{NameValue, lower}
-use Rattle.dnw_form.specs.Order.{name_eq_case}
-use Rattle.dnw_form.specs.OrderLaws.{name_eq_case_equiv, name_eq_case_parts}
+use Rattle.dnw_order.specs.Order.{name_eq_case}
+use Rattle.dnw_order.specs.OrderLaws.{name_eq_case_equiv, name_eq_case_parts}
 use Rattle.dnw_lower.specs.LowerNames.{lowered, IsLower}
 
 twice : (n : ℕ) → to_ascii_lowercase (to_ascii_lowercase n) ≡ to_ascii_lowercase n

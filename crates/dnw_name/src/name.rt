@@ -12,7 +12,7 @@ ghost use Rattle.dnw_base.specs.Names.{NameValue, AreLabels, encoded_size, IsWil
 ghost use Rattle.dnw_reading.specs.Reading.{TakesName, StopsAt};
 ghost use Rattle.dnw_form.specs.Edits.{append_label, prepend_label, append_name, append_domain, base_name, trim_to, into_wildcard};
 ghost use Rattle.dnw_form.specs.NameText.{name_text, name_from_text, name_from_text_at, IsLabelText};
-ghost use Rattle.dnw_form.specs.Order.{IsLocalhost, IsZoneOfCase};
+ghost use Rattle.dnw_order.specs.Order.{IsLocalhost, IsZoneOfCase};
 ghost use Rattle.dnw_name.specs.FromLabels.{JoinsItems};
 
 use crate::name::joining::Joining;
@@ -23,9 +23,10 @@ use dnw_base::limits::MAX_NAME;
 use dnw_error::error::{DecodeError, ProtoError, ProtoResult};
 use dnw_form::form::WireForm;
 pub use dnw_form::label_iter::LabelIter;
+use dnw_form::text;
 use dnw_form::wire_labels::WireLabels;
-use dnw_form::{order, text};
 use dnw_label::label::IntoLabel;
+use dnw_order::order;
 use dnw_reading::walk::ReadSteps;
 use std::alloc::Global;
 use std::fmt;

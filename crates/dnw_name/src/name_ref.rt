@@ -5,7 +5,7 @@ ghost use Rattle.dnw_base.specs.Limits.{max_labels, max_name, pointer_offsets};
 ghost use Rattle.dnw_reading.specs.Reading.{TakesName, StopsAt};
 ghost use Rattle.dnw_base.specs.Names.{AreLabels, IsZoneOf, encoded_size, lower, wire};
 ghost use Rattle.dnw_reading.specs.Inside.Found.{labels_at};
-ghost use Rattle.dnw_form.specs.Order.{labels_cmp};
+ghost use Rattle.dnw_order.specs.Order.{labels_cmp};
 
 use crate::name::Name;
 use dnw_base::decoder::BinDecoder;

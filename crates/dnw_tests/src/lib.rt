@@ -1,5 +1,5 @@
 //! Tests of what only a caller's code can show: borrows that outlive what lent them, guards, closures with contracts of
-//! their own, and items of a caller's own type.
+//! their own, items of a caller's own type, and calls that no other test makes.
 //!
 //! Each test is proved, and so costs more than a row of data. Worked examples are in `diff/rows`, which
 //! `crates/dnw_replay` runs.
@@ -13,3 +13,5 @@ mod closures;
 mod guards;
 #[cfg(test)]
 mod items;
+#[cfg(test)]
+mod values;

@@ -4,10 +4,9 @@ ghost use Rattle.std.specs.Cmp.Lexicographic.{slice_cmp};
 ghost use Rattle.std.specs.Char.{to_ascii_lowercase};
 ghost use Rattle.dnw_base.specs.Names.{lower};
 ghost use Rattle.dnw_label.specs.LabelOrder.{octet_cmp_ignore_case};
-ghost use Rattle.dnw_form.specs.Order.{labels_cmp};
+ghost use Rattle.dnw_order.specs.Order.{labels_cmp};
 
-use dnw_form::order;
-use dnw_form::wire_labels::WireLabels;
+use dnw_form::wire_labels::{self, WireLabels};
 use dnw_label::label::{CaseInsensitive, cmp_bytes};
 use dnw_reading::ref_labels::RefLabels;
 use std::cmp::Ordering;
@@ -49,7 +48,7 @@ pub(crate) fn cmp_labels(ours: RefLabels<'_>, theirs: WireLabels<'_>) -> Orderin
 {
     let (our_len, their_len) = (ours.len(), theirs.len());
     let our_last = last_labels(ours, their_len);
-    let their_last = order::last_labels(theirs, our_len);
+    let their_last = wire_labels::last_labels(theirs, our_len);
     cmp_pairs(our_last, their_last).then(our_len.cmp(&their_len))
 }
 

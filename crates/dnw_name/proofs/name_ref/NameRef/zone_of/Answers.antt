@@ -1,4 +1,4 @@
-use Rattle.dnw_form.proofs.Comparing.{IsZoneOf-last}
+use Rattle.dnw_order.proofs.Comparing.{IsZoneOf-last}
 use Rattle.dnw_name.proofs.name_ref.NameRef.zone_of.Goals as goal
 
 pub returns : goal.returns

@@ -2,7 +2,7 @@ use Rattle.std.proofs.Common.{reverse, ◌∙◌}
 use Rattle.std.proofs.lemmas.Cmp.{ranked}
 use Rattle.std.specs.Cmp.Lexicographic.{slice_cmp}
 use Rattle.dnw_label.specs.LabelOrder.{octet_cmp_ignore_case}
-use Rattle.dnw_form.proofs.Comparing.{last_decide, slice_cmp-lowered}
+use Rattle.dnw_order.proofs.Comparing.{last_decide, slice_cmp-lowered}
 use Rattle.dnw_name.proofs.name_ref.compare.cmp_labels.Goals as goal
 
 pub returns : goal.returns

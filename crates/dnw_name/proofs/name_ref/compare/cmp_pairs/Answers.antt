@@ -1,7 +1,7 @@
 use Rattle.std.proofs.Common.{length, ap, arith}
 use Rattle.std.specs.Cmp.Lexicographic.{slice_cmp}
 use Rattle.dnw_label.specs.LabelOrder.{octet_cmp_ignore_case}
-use Rattle.dnw_form.proofs.Comparing.{pairs_on}
+use Rattle.dnw_order.proofs.Comparing.{pairs_on}
 use Rattle.dnw_name.proofs.name_ref.compare.cmp_pairs.Goals as goal
 
 pub pairs-preserved : goal.pairs-preserved

@@ -1,5 +1,5 @@
 use Rattle.std.proofs.Common.{◌<◌, length, ◌∙◌, arith}
-use Rattle.dnw_form.proofs.Comparing.{drop-next}
+use Rattle.dnw_order.proofs.Comparing.{drop-next}
 use Rattle.dnw_name.proofs.name_ref.compare.last_labels.Goals as goal
 
 pub passed-preserved : goal.passed-preserved

@@ -1,7 +1,7 @@
 use Rattle.std.proofs.Common.{◌≡◌, length, reverse}
 use Rattle.std.specs.Cmp.Lexicographic.{slice_cmp}
 use Rattle.std.specs.Ordering.{ordering_then}
-use Rattle.dnw_form.proofs.order.cmp_pairs.Given as goal
+use Rattle.dnw_order.proofs.order.cmp_pairs.Given as goal
 
 -- the pairs that are left decide, and else those that were compared
 abbrev pub invariant-pairs : goal.invariant-pairs

@@ -1,8 +1,8 @@
 use Rattle.std.proofs.Common.{◌≡◌, [], ◌∷◌, ◌++◌, length, ap, sym, arith, ◌∙◌, append_assoc}
 use Rattle.dnw_base.specs.Names.{encoded_size}
 use Rattle.dnw_base.proofs.Wires.{length-wire}
-use Rattle.dnw_form.proofs.Comparing.{no_front, past_first}
-use Rattle.dnw_form.proofs.order.last_octets.Goals as goal
+use Rattle.dnw_order.proofs.Comparing.{no_front, past_first}
+use Rattle.dnw_order.proofs.order.last_octets.Goals as goal
 
 pub passed-preserved : goal.passed-preserved
 passed-preserved c =

@@ -1,7 +1,7 @@
 use Rattle.std.proofs.Common.{length, ap, sym, ◌∙◌, arith}
 use Rattle.std.specs.Cmp.Lexicographic.{slice_cmp}
-use Rattle.dnw_form.proofs.Comparing.{pairs_on, same_left}
-use Rattle.dnw_form.proofs.order.cmp_pairs.Goals as goal
+use Rattle.dnw_order.proofs.Comparing.{pairs_on, same_left}
+use Rattle.dnw_order.proofs.order.cmp_pairs.Goals as goal
 
 pub pairs-preserved : goal.pairs-preserved
 pairs-preserved g c =

@@ -1,8 +1,8 @@
 use Rattle.std.proofs.Common.{length, ap, sym, ◌∙◌}
 use Rattle.dnw_base.specs.Names.{lower}
 use Rattle.dnw_base.proofs.Wires.{length-wire}
-use Rattle.dnw_form.proofs.Comparing.{lower-size}
-use Rattle.dnw_form.proofs.order.is_zone_of.Goals as goal
+use Rattle.dnw_order.proofs.Comparing.{lower-size}
+use Rattle.dnw_order.proofs.order.is_zone_of.Goals as goal
 
 pub returns : goal.returns
 returns c =

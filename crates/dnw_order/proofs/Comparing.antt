@@ -157,17 +157,7 @@ slice_cmp-lowered (x ∷ xs) (y ∷ ys) =
     ap (λ (first : Ordering). ordering_then first (slice_cmp (slice_cmp octet_cmp_ignore_case) xs ys)) (slice_cmp-on to_ascii_lowercase nat_cmp x y)
     ∙ ap (ordering_then (octets_cmp (map to_ascii_lowercase x) (map to_ascii_lowercase y))) (slice_cmp-lowered xs ys)
 
--- ---- labels that are passed, and equal ones
-
--- one more is passed
-pub drop-step : (i : ℕ) (r : Option (Bor (List ℕ))) (xs ys all : List (List ℕ)) → YieldsFirstRef (λ labels. labels) xs r ys → xs ≡ drop i all → ys ≡ drop (i + 1) all
-drop-step i None xs ys all (none, after) e =
-    let few : length all ≤ i = omega (arith, ap length (sym e ∙ none), length-drop i all) in
-    after ∙ sym (drop_all (i + 1) all (omega arith))
-drop-step i (Some x) xs ys all first e =
-    let some : i < length all = omega (arith, ap length (sym e ∙ first), length-drop i all) in
-    let both : x.now ∷ ys ≡ get_or all i [] ∷ drop (i + 1) all = sym first ∙ e ∙ drop_more all i [] some in
-    let same : ys ≡ drop (i + 1) all = cc in same
+-- ---- labels that are equal
 
 slice_cmp-same : {A : Type 0} (R : A → A → Ordering) → ((x : A) → R x x ≡ Equal) → (xs : List A) → slice_cmp R xs xs ≡ Equal
 slice_cmp-same R same [] = refl

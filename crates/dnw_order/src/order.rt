@@ -1,12 +1,12 @@
 //! The order, equality and hash of the labels of names, and which are the last ones of others.
-ghost use Rattle.std.specs.Prelude.{◌≡◌, ℕ, ◌-◌, ◌↔◌, if◌then◌else◌, List, [], ◌∷◌, ◌++◌, length, reverse, drop, fold, IsTrue};
+ghost use Rattle.std.specs.Prelude.{◌≡◌, ℕ, ◌↔◌, if◌then◌else◌, List, [], ◌∷◌, ◌++◌, length, reverse, fold, IsTrue};
 ghost use Rattle.std.specs.Cmp.Lexicographic.{slice_cmp};
 ghost use Rattle.dnw_base.specs.Names.{IsZoneOf, encoded_size, lower, wire};
-ghost use Rattle.dnw_form.specs.Order.{labels_cmp, labels_cmp_by, labels_cmp_case, name_hash_input, IsZoneOfCase};
+ghost use Rattle.dnw_order.specs.Order.{labels_cmp, labels_cmp_by, labels_cmp_case, name_hash_input, IsZoneOfCase};
 
-use crate::wire_labels::WireLabels;
 use arrayvec::ArrayVec;
 use dnw_base::limits::MAX_NAME;
+use dnw_form::wire_labels::{WireLabels, without_first};
 use dnw_label::label::{CaseInsensitive, CaseSensitive, LabelCmp, cmp_bytes};
 use std::cmp::Ordering;
 use std::hash::Hasher;
@@ -37,24 +37,6 @@ fn cmp_labels_by<F: LabelCmp>(left: WireLabels<'_>, right: WireLabels<'_>) -> Or
     let lefts = without_first(left, left_len.saturating_sub(right_len));
     let rights = without_first(right, right_len.saturating_sub(left_len));
     cmp_pairs::<F>(lefts, rights).then(left_len.cmp(&right_len))
-}
-
-/// Returns the last `count` labels, or all if there are fewer.
-pub fn last_labels(labels: WireLabels<'_>, count: usize) -> WireLabels<'_>
-    ensures { result ≡ drop (length labels.entry - count) labels.entry }
-{
-    let passed = labels.len().saturating_sub(count);
-    without_first(labels, passed)
-}
-
-/// Returns the labels after the first `count`.
-fn without_first(mut labels: WireLabels<'_>, count: usize) -> WireLabels<'_>
-    ensures { result ≡ drop count labels.entry }
-{
-    'passed: for _ in 0..count {
-        let _passed = labels.next();
-    }
-    labels
 }
 
 /// Compares as many labels as there are on the other side. The last ones that differ decide.

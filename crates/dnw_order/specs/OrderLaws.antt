@@ -8,7 +8,7 @@ use Rattle.std.specs.Ordering.{eq_by_cmp, bool_cmp, as_partial_cmp}
 use Rattle.std.proofs.lemmas.List.{reverse-append, reverse-reverse, map-append}
 use Rattle.dnw_base.specs.Names.{NameValue, lower}
 use Rattle.dnw_label.specs.LabelOrder.{octets_cmp}
-use Rattle.dnw_form.specs.Order.{canonical, flags_cmp, labels_cmp, labels_cmp_case, labels_eq, name_cmp, name_cmp_case, name_eq, name_eq_case, name_hash_input}
+use Rattle.dnw_order.specs.Order.{canonical, flags_cmp, labels_cmp, labels_cmp_case, labels_eq, name_cmp, name_cmp_case, name_eq, name_eq_case, name_hash_input}
 
 abbrev pub flags_total : IsTotalOrder flags_cmp
 flags_total = on_total (λ n. n.is_fqdn) bool_cmp_total

@@ -1,6 +1,6 @@
 use Rattle.std.proofs.Common.{◌≡◌, ◌∙◌, arith}
-use Rattle.dnw_form.proofs.Comparing.{drop-step}
-use Rattle.dnw_form.proofs.order.without_first.Goals as goal
+use Rattle.dnw_form.proofs.Passing.{drop-step}
+use Rattle.dnw_form.proofs.wire_labels.without_first.Goals as goal
 
 pub passed-preserved : goal.passed-preserved
 passed-preserved c = drop-step c.passed.counter _ _ _ c.args.labels c.next-passed.ensures.steps c.passed.invariant

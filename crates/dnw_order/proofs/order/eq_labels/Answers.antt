@@ -1,5 +1,5 @@
 use Rattle.dnw_form.proofs.LowerWires.{lower-wires}
-use Rattle.dnw_form.proofs.order.eq_labels.Goals as goal
+use Rattle.dnw_order.proofs.order.eq_labels.Goals as goal
 
 pub returns : goal.returns
 returns c =

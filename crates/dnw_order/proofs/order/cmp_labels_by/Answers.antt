@@ -1,8 +1,8 @@
 use Rattle.std.proofs.Common.{◌∙◌}
 use Rattle.std.proofs.lemmas.Cmp.{ranked}
 use Rattle.std.specs.Cmp.Lexicographic.{slice_cmp}
-use Rattle.dnw_form.proofs.Comparing.{last_decide}
-use Rattle.dnw_form.proofs.order.cmp_labels_by.Goals as goal
+use Rattle.dnw_order.proofs.Comparing.{last_decide}
+use Rattle.dnw_order.proofs.order.cmp_labels_by.Goals as goal
 
 pub returns : goal.returns
 returns g c =

@@ -1,6 +1,6 @@
 use Rattle.std.proofs.Common.{◌≡◌, ℕ, List, ◌++◌, length}
 use Rattle.dnw_base.specs.Names.{encoded_size}
-use Rattle.dnw_form.proofs.order.last_octets.Given as goal
+use Rattle.dnw_order.proofs.order.last_octets.Given as goal
 
 abbrev pub invariant-passed : goal.invariant-passed
 invariant-passed l = record {

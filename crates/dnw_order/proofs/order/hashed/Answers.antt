@@ -5,7 +5,7 @@ use Rattle.std.specs.Char.{to_ascii_lowercase}
 use Rattle.dnw_base.specs.Names.{wire, lower}
 use Rattle.dnw_base.proofs.Wires.{length-wire}
 use Rattle.dnw_form.proofs.LowerWires.{lower-long, refill-lowered}
-use Rattle.dnw_form.proofs.order.hashed.Goals as goal
+use Rattle.dnw_order.proofs.order.hashed.Goals as goal
 
 pub unwrap-requires : goal.unwrap-requires
 unwrap-requires c =

@@ -1,6 +1,6 @@
 use Rattle.std.proofs.Common.{List, ℕ, ◌++◌, length, ap, sym, ◌∙◌}
 use Rattle.dnw_base.proofs.Wires.{length-wire}
-use Rattle.dnw_form.proofs.order.is_zone_of_case.Goals as goal
+use Rattle.dnw_order.proofs.order.is_zone_of_case.Goals as goal
 
 pub returns : goal.returns
 returns c =
