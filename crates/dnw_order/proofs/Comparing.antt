@@ -1,5 +1,5 @@
 -- Labels compared from the last one, and the last labels of a list.
-use Rattle.std.proofs.Common.{◌≡◌, ◌+◌, ◌↔◌, ℕ, suc, ◌-◌, ◌<◌, ◌≤◌, Option, Some, None, Bor, List, [], ◌∷◌, ◌++◌, length, map, take, drop, get_or, reverse, refl, sym, ap, ◌∙◌, arith, length-append, length-drop}
+use Rattle.std.proofs.Common.{◌≡◌, ◌↔◌, ℕ, suc, ◌-◌, ◌<◌, ◌≤◌, min, Option, Some, None, Bor, List, [], ◌∷◌, ◌++◌, length, map, take, drop, reverse, refl, sym, ap, ◌∙◌, arith, length-append, length-drop}
 use Rattle.std.specs.Iterator.{YieldsFirstRef}
 use Rattle.std.specs.Char.{to_ascii_lowercase}
 use Rattle.std.specs.Cmp.Lexicographic.{slice_cmp}
@@ -157,15 +157,19 @@ slice_cmp-lowered (x ∷ xs) (y ∷ ys) =
     ap (λ (first : Ordering). ordering_then first (slice_cmp (slice_cmp octet_cmp_ignore_case) xs ys)) (slice_cmp-on to_ascii_lowercase nat_cmp x y)
     ∙ ap (ordering_then (octets_cmp (map to_ascii_lowercase x) (map to_ascii_lowercase y))) (slice_cmp-lowered xs ys)
 
--- ---- labels that are equal
-
-slice_cmp-same : {A : Type 0} (R : A → A → Ordering) → ((x : A) → R x x ≡ Equal) → (xs : List A) → slice_cmp R xs xs ≡ Equal
-slice_cmp-same R same [] = refl
-slice_cmp-same R same (x ∷ xs) = rw (same x) (slice_cmp-same R same xs)
-
--- labels that are left and are equal decide nothing
-pub same_left : (order : ℕ → ℕ → Ordering) → ((n : ℕ) → order n n ≡ Equal) → (xs ys : List (List ℕ)) (so_far whole : Ordering) → xs ≡ ys
-    → ordering_then (slice_cmp (slice_cmp order) (reverse xs) (reverse ys)) so_far ≡ whole → so_far ≡ whole
-same_left order same xs ys so_far whole e later =
-    ap (λ (first : Ordering). ordering_then first so_far) (sym (slice_cmp-same (slice_cmp order) (slice_cmp-same order same) (reverse ys)))
-    ∙ ap (λ (ls : List (List ℕ)). ordering_then (slice_cmp (slice_cmp order) (reverse ls) (reverse ys)) so_far) (sym e) ∙ later
+-- if one list has ended, the lengths decide
+pub slice_cmp-ended : (R : List ℕ → List ℕ → Ordering) (i : ℕ) (xs ys : List (List ℕ)) (r : Ordering)
+    → MatchOrdering r (length xs < length ys) (length xs ≡ length ys) (length ys < length xs) → i ≡ min (length xs) (length ys)
+    → slice_cmp R (drop i (reverse xs)) (drop i (reverse ys)) ≡ r
+slice_cmp-ended R i xs ys Less h e =
+    let none : length (reverse xs) ≤ i = omega (arith, h, e, length-reverse xs) in
+    let more : i < length (reverse ys) = omega (arith, h, e, length-reverse ys) in
+    rw (drop_all i (reverse xs) none, drop_more (reverse ys) i [] more) refl
+slice_cmp-ended R i xs ys Equal h e =
+    let none : length (reverse xs) ≤ i = omega (arith, h, e, length-reverse xs) in
+    let none_too : length (reverse ys) ≤ i = omega (arith, h, e, length-reverse ys) in
+    rw (drop_all i (reverse xs) none, drop_all i (reverse ys) none_too) refl
+slice_cmp-ended R i xs ys Greater h e =
+    let none : length (reverse ys) ≤ i = omega (arith, h, e, length-reverse ys) in
+    let more : i < length (reverse xs) = omega (arith, h, e, length-reverse xs) in
+    rw (drop_all i (reverse ys) none, drop_more (reverse xs) i [] more) refl

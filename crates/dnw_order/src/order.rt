@@ -4,9 +4,10 @@ ghost use Rattle.std.specs.Cmp.Lexicographic.{slice_cmp};
 ghost use Rattle.dnw_base.specs.Names.{IsZoneOf, encoded_size, lower, wire};
 ghost use Rattle.dnw_order.specs.Order.{labels_cmp, labels_cmp_by, labels_cmp_case, name_hash_input, IsZoneOfCase};
 
+use crate::from_last::FromLast;
 use arrayvec::ArrayVec;
 use dnw_base::limits::MAX_NAME;
-use dnw_form::wire_labels::{WireLabels, without_first};
+use dnw_form::wire_labels::WireLabels;
 use dnw_label::label::{CaseInsensitive, CaseSensitive, LabelCmp, cmp_bytes};
 use std::cmp::Ordering;
 use std::hash::Hasher;
@@ -30,33 +31,16 @@ pub fn cmp_labels_case(left: WireLabels<'_>, right: WireLabels<'_>) -> Ordering
 
 /// Compares labels from the last one, and their bytes as `F` does. Labels come before those that end in them.
 fn cmp_labels_by<F: LabelCmp>(left: WireLabels<'_>, right: WireLabels<'_>) -> Ordering
-    requires { (n : ℕ) → F.order n n ≡ Ordering.Equal }
     ensures { result ≡ labels_cmp_by F.order left.entry right.entry }
 {
-    let (left_len, right_len) = (left.len(), right.len());
-    let lefts = without_first(left, left_len.saturating_sub(right_len));
-    let rights = without_first(right, right_len.saturating_sub(left_len));
-    cmp_pairs::<F>(lefts, rights).then(left_len.cmp(&right_len))
-}
-
-/// Compares as many labels as there are on the other side. The last ones that differ decide.
-fn cmp_pairs<F: LabelCmp>(mut lefts: WireLabels<'_>, mut rights: WireLabels<'_>) -> Ordering
-    requires same { (n : ℕ) → F.order n n ≡ Ordering.Equal }
-    requires alike { length lefts ≡ length rights }
-    ensures { result ≡ slice_cmp (slice_cmp F.order) (reverse lefts.entry) (reverse rights.entry) }
-{
-    let mut order = Ordering::Equal;
-    'pairs: while let Some(left) = lefts.next() {
-        let Some(right) = rights.next() else {
-            return order;
-        };
-        order = cmp_bytes::<F>(left, right).then(order);
-        // Names of one zone end alike.
-        if eq_labels_case(lefts.clone(), rights.clone()) {
+    let (lefts, rights) = (FromLast::new(left), FromLast::new(right));
+    for i in 0..lefts.len().min(rights.len()) {
+        let order = cmp_bytes::<F>(lefts.get(i), rights.get(i));
+        if order.is_ne() {
             return order;
         }
     }
-    order
+    lefts.len().cmp(&rights.len())
 }
 
 /// Returns `true` if the labels are equal, ignoring ASCII case (RFC 4343).
