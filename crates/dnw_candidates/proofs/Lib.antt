@@ -1,2 +1,3 @@
 pub mod CandidateLists
 pub mod Held
+pub mod Rings

@@ -3,56 +3,16 @@ ghost use Rattle.std.specs.Prelude.{◌≡◌, ◌≢◌, ℕ, ◌+◌, ◌<◌,
 ghost use Rattle.std.specs.List.{AllByRecursion};
 ghost use Rattle.dnw_base.specs.Limits.{max_message, pointer_reach};
 ghost use Rattle.dnw_candidates.specs.Candidates.{Finds, FindsUsable, candidates_before, suffixes};
-ghost use Rattle.dnw_candidates.specs.Inside.Marks.{AreMarked, tag};
+ghost use Rattle.dnw_candidates.specs.Inside.Marks.{CannotBe};
 ghost use Rattle.dnw_base.specs.Names.{labels_wire};
 ghost use Rattle.dnw_reading.specs.Reading.{NameAt};
 
+use crate::marks::{Marks, tag};
 use crate::store::Store;
 use crate::usable::stands_at;
 use dnw_form::wire_labels::WireLabels;
 use std::alloc::{AllocError, Global};
 use std::marker::Model;
-
-/// Returns a number below 256 that few labels share: it comes of their length and their first characters.
-#[inline(always)]
-fn tag(labels: &[u8]) -> usize
-    ensures value { result ≡ tag labels.now }
-    ensures below { result < 256 }
-{
-    match labels {
-        [_, first, second, third, rest @ ..] => {
-            let chars = *first as usize + *second as usize * 3 + *third as usize * 5;
-            (rest.len() % 256 * 7 + chars) % 256
-        }
-        _ => labels.len() % 256,
-    }
-}
-
-/// Marks the tag of the last of `count` candidates, if no candidate has marked it.
-#[inline(always)]
-fn mark(marks: &mut [u8; 256], tag: usize, count: usize)
-    requires tag { tag < 256 }
-    requires count { 1 ≤ count }
-    ensures len { length marks.new ≡ 256 }
-    ensures stays { 1 ≤ get_or marks.old tag 0 → get_or marks.old tag 0 ≤ count → marks.new ≡ marks.old }
-    ensures none { get_or marks.old tag 0 ≡ 0 → (n : ℕ) × (1 ≤ n) × (n ≤ count) × (marks.new ≡ set marks.old tag n) }
-    ensures stale { count < get_or marks.old tag 0 → (n : ℕ) × (1 ≤ n) × (n ≤ count) × (marks.new ≡ set marks.old tag n) }
-{
-    let first = marks[tag] as usize;
-    if first == 0 || first > count {
-        marks[tag] = if count < 256 { count as u8 } else { 1 };
-    }
-}
-
-/// Returns marks that only say whether there is any candidate.
-fn marks_of(candidates: &Store) -> [u8; 256]
-    ensures { AreMarked result 0 candidates.now }
-{
-    if candidates.len() == 0 {
-        return [0; 256];
-    }
-    [1; 256]
-}
 
 /// Returns `true` if the bytes are equal.
 #[inline(always)]
@@ -70,14 +30,31 @@ fn is_usable(start: u16, own: &[u8], bytes: &[u8], message: &[u8], labels: WireL
     is_same(own, bytes) && stands_at(message, start as usize, labels)
 }
 
+/// Returns the offset of the first usable candidate from this index on, if none before it is usable.
+#[inline(always)]
+fn find_from(held: &Store, from: usize, message: &[u8], labels: WireLabels<'_>) -> Option<u16>
+    requires { AllByRecursion (CannotBe message.now labels) (take from held.now) }
+    ensures finds { FindsUsable message.now labels.entry held.now result }
+    ensures reached { IfSome result (λ offset. offset < pointer_reach) }
+{
+    let wire = labels.as_wire();
+    let bytes = &wire[..wire.len() - 1];
+    'search: for index in from..held.len() {
+        let (start, own) = held.get(index);
+        if is_usable(start, own, bytes, message, labels.clone()) {
+            return Some(start);
+        }
+    }
+    None
+}
+
 /// Candidates for compression, in the order in which they were added.
 ///
 /// A contract sees them as the list of their offsets and labels.
 #[derive(Drop)]
 pub struct Candidates {
     held: Store,
-    // For each tag the first candidate with it, or one before it, counted from 1, and 0 for none: no search begins before.
-    marks: [u8; 256],
+    marks: Marks,
 }
 
 impl Model for Candidates {
@@ -88,7 +65,7 @@ impl Model for Candidates {
 
     ghost view = { λ c. c.held };
 
-    ghost invariant = { λ c. AreMarked c.marks 0 c.held };
+    ghost invariant = { λ c. AreMarked c.marks.last c.marks.next c.marks.count c.held };
 }
 
 impl Candidates {
@@ -98,7 +75,7 @@ impl Candidates {
     {
         Candidates {
             held: Store::new(alloc),
-            marks: [0; 256],
+            marks: Marks::new(),
         }
     }
 
@@ -117,7 +94,7 @@ impl Candidates {
         ensures err { OnErr result (self.new ≡ self.old) }
     {
         self.held.push(start, labels)?;
-        mark(&mut self.marks, tag(labels), self.held.len());
+        self.marks.add_all(&self.held);
         Ok(())
     }
 
@@ -135,19 +112,6 @@ impl Candidates {
         None
     }
 
-    /// Returns the index at which the search for these labels begins, if one may have them.
-    #[inline(always)]
-    fn first_with(&self, labels: &[u8]) -> Option<usize>
-        ensures { MatchOption result (AllByRecursion (λ c. c.1 ≢ labels.now) self.now)
-            (λ from. AllByRecursion (λ c. c.1 ≢ labels.now) (take from self.now)) }
-    {
-        let mark = self.marks[tag(labels)] as usize;
-        if mark == 0 {
-            return None;
-        }
-        Some(mark - 1)
-    }
-
     /// Returns the offset of the first candidate that is usable for the labels in this message.
     pub fn find_usable(&self, message: &[u8], labels: WireLabels<'_>) -> Option<u16>
         ensures finds { FindsUsable message.now labels.entry self.now result }
@@ -155,14 +119,16 @@ impl Candidates {
     {
         let wire = labels.as_wire();
         let bytes = &wire[..wire.len() - 1];
-        let from = self.first_with(bytes)?;
-        'search: for index in from..self.held.len() {
+        let tag = tag(bytes);
+        let mut next = self.marks.first(tag);
+        'search: while let Some(index) = next {
             let (start, own) = self.held.get(index);
             if is_usable(start, own, bytes, message, labels.clone()) {
                 return Some(start);
             }
+            next = self.marks.after(tag, index);
         }
-        None
+        find_from(&self.held, self.marks.len(), message, labels)
     }
 
     /// Adds the first `most` suffixes of labels that are written at `start`, the longest first. If memory runs out, none
@@ -178,12 +144,8 @@ impl Candidates {
         ensures err { OnErr result (self.new ≡ self.old) }
         ensures needed { OnErr result (take most (suffixes start labels.entry) ≢ []) }
     {
-        let before = self.held.len();
         self.held.push_suffixes(start, labels, most)?;
-        'marks: for index in before..self.held.len() {
-            let (_, own) = self.held.get(index);
-            mark(&mut self.marks, tag(own), index + 1);
-        }
+        self.marks.add_all(&self.held);
         Ok(())
     }
 
@@ -192,6 +154,7 @@ impl Candidates {
         ensures { self.new ≡ take len self.old }
     {
         self.held.truncate(len);
+        self.marks = Marks::of(&self.held);
     }
 
     /// Keeps the candidates before an offset.
@@ -201,7 +164,7 @@ impl Candidates {
         let held = self.held.len();
         self.held.retain_before(offset);
         if self.held.len() < held {
-            self.marks = marks_of(&self.held);
+            self.marks = Marks::of(&self.held);
         }
     }
 }

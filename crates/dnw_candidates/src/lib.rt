@@ -3,5 +3,6 @@
 #![tactic(auto)]
 
 pub mod candidates;
+mod marks;
 mod store;
 pub mod usable;

@@ -1,19 +1,58 @@
--- Marks, which spare the search most candidates.
-use Rattle.std.specs.Prelude.{ℕ, ◌+◌, ◌*◌, ◌%◌, ◌≤◌, List, [], ◌∷◌, get_or, length}
+-- Marks: candidates that share a tag are linked in a ring, so that a search passes over all others.
+use Rattle.std.specs.Prelude.{◌≡◌, ℕ, ◌+◌, ◌-◌, ◌*◌, ◌%◌, ◌<◌, ◌≤◌, ◌&&◌, nat_lt, if◌then◌else◌, List, ◌∷◌, get_or, length, map, take}
+use Rattle.dnw_base.specs.Names.{labels_wire}
+use Rattle.dnw_reading.specs.Reading.{NameAt}
 use Rattle.dnw_candidates.specs.Candidates.{Candidate}
 
--- A number below 256 that labels' bytes have, by their length and their first characters.
+-- ---- tags
+
+-- the last two octets of the first label, which has this length
+abbrev pub label_end : List ℕ → ℕ → ℕ
+label_end bytes len = if nat_lt 0 len && nat_lt len (length bytes) then get_or bytes len 0 * 33 + get_or bytes (len - 1) 0 * 3 else 0
+
+-- A number below 256 that labels' bytes have, by their length and by the first three and the last two octets of the
+-- first label.
 abbrev pub tag : List ℕ → ℕ
-tag (octet ∷ first ∷ second ∷ third ∷ rest) = (length rest % 256 * 7 + first + second * 3 + third * 5) % 256
+tag (len ∷ first ∷ second ∷ third ∷ rest) =
+    ((4 + length rest) % 256 * 51 + (first * 71 + second * 15 + third * 75) + label_end (len ∷ first ∷ second ∷ third ∷ rest) len) % 256
 tag bytes = length bytes % 256
 
--- The mark of the labels' tag is not zero, and no greater than the number of the candidates up to this one.
-pub record IsMarked (marks : List ℕ) (i : ℕ) (bytes : List ℕ) : Type 0 where
-  pub some : 1 ≤ get_or marks (tag bytes) 0
-  pub early : get_or marks (tag bytes) 0 ≤ i + 1
+abbrev pub tags : List Candidate → List ℕ
+tags candidates = map (λ c. tag c.1) candidates
 
--- So are the marks of all candidates, the first of which is this one. What has a zero mark is not among them, and what
--- has another is not before the one that the mark gives.
-abbrev pub AreMarked : List ℕ → ℕ → List Candidate → Type 0
-AreMarked marks i [] = Unit {0}
-AreMarked marks i (c ∷ candidates) = IsMarked marks i c.1 × AreMarked marks (i + 1) candidates
+-- ---- rings
+
+-- No candidate from this one on has the tag.
+abbrev pub NoneFrom : List ℕ → ℕ → ℕ → Type 0
+NoneFrom tags t from = (i : ℕ) → from ≤ i → get_or tags i 256 ≡ t → ⊥
+
+-- No candidate from this one on and before the other has the tag.
+abbrev pub NoneBetween : List ℕ → ℕ → ℕ → ℕ → Type 0
+NoneBetween tags t from to = (i : ℕ) → from ≤ i → i < to → get_or tags i 256 ≡ t → ⊥
+
+-- The i-th candidate leads to the n-th, the next one of its tag; the last one, whose number is given, to the first.
+pub record LeadsTo (tags : List ℕ) (t last i n : ℕ) : Type 0 where
+  pub same : get_or tags n 256 ≡ t
+  pub onward : i + 1 < last → (i < n) × NoneBetween tags t (i + 1) n
+  pub round : last ≤ i + 1 → NoneBetween tags t 0 n
+
+-- The candidates of a tag are linked, and the number of the last one is given, counted from 1; it is 0 if there is none.
+pub record IsRing (tags next : List ℕ) (t last : ℕ) : Type 0 where
+  pub some : 1 ≤ last → get_or tags (last - 1) 256 ≡ t
+  pub none : NoneFrom tags t last
+  pub each : (i : ℕ) → get_or tags i 256 ≡ t → LeadsTo tags t last i (get_or next i 0)
+
+-- The candidates with these tags are linked.
+abbrev pub AreLinked : List ℕ → List ℕ → List ℕ → Type 0
+AreLinked last next tags = (t : ℕ) → t < 256 → IsRing tags next t (get_or last t 0)
+
+-- The first ones of the candidates are linked, so many.
+pub record AreMarked (last next : List ℕ) (count : ℕ) (candidates : List Candidate) : Type 0 where
+  pub few : count ≤ length candidates
+  pub linked : AreLinked last next (tags (take count candidates))
+
+-- ---- the search
+
+-- The candidate does not have the bytes of the labels, or they are not read at its offset.
+abbrev pub CannotBe : List ℕ → List (List ℕ) → Candidate → Type 0
+CannotBe message labels c = c.1 ≡ labels_wire labels → (end pointers : ℕ) → NameAt message c.0 labels end pointers → ⊥

@@ -8,6 +8,7 @@ use Rattle.dnw_candidates.proofs.candidates.Candidates.trim.Goals as goal
 pub invariant_of-self-else-len-held : goal.invariant_of-self-else-len-held
 invariant_of-self-else-len-held c =
     let cs = c.self.inside.held in
+    let m = c.self.inside.marks in
     let all : length cs ≤ length (candidates_before c.args.offset cs) =
     omega (arith, c.if-len-held.false, c.len.ensures, c.len-held.ensures, ap length c.retain_before.ensures) in
-    subst (AreMarked c.self.inside.marks 0) (sym (c.retain_before.ensures ∙ kept_same c.args.offset cs all)) c.self.invariant
+    subst (AreMarked m.last m.next m.count) (sym (c.retain_before.ensures ∙ kept_same c.args.offset cs all)) c.self.invariant

@@ -1,0 +1,143 @@
+//! Marks, by which a search passes over most candidates.
+ghost use Rattle.std.specs.Prelude.{◌≡◌, ℕ, ◌+◌, ◌<◌, ◌≤◌, true, false, List, [], ◌∷◌, ◌++◌, get_or, length, MatchOption};
+ghost use Rattle.dnw_candidates.specs.Inside.Marks.{AreLinked, AreMarked, NoneBetween, NoneFrom, label_end, tag};
+
+use crate::store::Store;
+
+/// How many candidates have marks: the first ones. The number of each, counted from 1, fits a byte.
+const ROOM: usize = 255;
+
+/// Returns a number below 256 that few labels share: it comes of their length, and of the first three and the last two
+/// octets of the first label.
+#[inline(always)]
+pub(crate) fn tag(labels: &[u8]) -> usize
+    ensures value { result ≡ tag labels.now }
+    ensures below { result < 256 }
+{
+    match labels {
+        [len, first, second, third, ..] => {
+            let front = *first as usize * 71 + *second as usize * 15 + *third as usize * 75;
+            (labels.len() % 256 * 51 + front + label_end(labels, *len as usize)) % 256
+        }
+        _ => labels.len() % 256,
+    }
+}
+
+/// Returns a number that comes of the last two octets of the first label, which has this length.
+#[inline(always)]
+fn label_end(labels: &[u8], len: usize) -> usize
+    ensures value { result ≡ label_end labels.now len }
+    ensures few { result ≤ 9180 }
+{
+    if 0 < len && len < labels.len() {
+        labels[len] as usize * 33 + labels[len - 1] as usize * 3
+    } else {
+        0
+    }
+}
+
+/// The candidates that share a tag are linked, each to the next one and the last to the first.
+#[derive(Drop)]
+pub(crate) struct Marks {
+    // For each tag the last candidate that has it, counted from 1, or 0 if there is none.
+    last: [u8; 256],
+    // For each candidate the next one of its tag, or the first.
+    next: [u8; 256],
+    // The candidates that are linked.
+    count: usize,
+    ghost few: { count ≤ 255 },
+}
+
+impl Marks {
+    /// Creates marks of no candidates.
+    #[inline(always)]
+    pub(crate) fn new() -> Self
+        ensures count { result.count ≡ 0 }
+        ensures linked { AreLinked result.last result.next [] }
+    {
+        Marks {
+            last: [0; 256],
+            next: [0; 256],
+            count: 0,
+        }
+    }
+
+    /// Creates the marks of candidates.
+    #[inline(never)]
+    pub(crate) fn of(candidates: &Store) -> Self
+        ensures { AreMarked result.last result.next result.count candidates.now }
+    {
+        let mut marks = Marks::new();
+        marks.add_all(candidates);
+        marks
+    }
+
+    /// Returns the number of candidates that are linked.
+    #[inline(always)]
+    pub(crate) fn len(&self) -> usize
+        ensures { result ≡ self.now.count }
+    {
+        self.count
+    }
+
+    /// Adds the candidates that have no marks yet, as far as there is room.
+    #[inline(always)]
+    pub(crate) fn add_all(&mut self, candidates: &Store)
+        requires { AreMarked self.old.last self.old.next self.old.count candidates.now }
+        ensures { AreMarked self.new.last self.new.next self.new.count candidates.now }
+    {
+        'marks: while self.count < candidates.len() && self.count < ROOM {
+            let (_, labels) = candidates.get(self.count);
+            self.add(tag(labels));
+        }
+    }
+
+    /// Adds the next candidate, which has this tag.
+    #[inline(always)]
+    fn add(&mut self, tag: usize)
+        requires tag { tag < 256 }
+        requires room { self.old.count < 255 }
+        ensures count { self.new.count ≡ self.old.count + 1 }
+        ensures linked { (tags : List ℕ) → length tags ≡ self.old.count → AreLinked self.old.last self.old.next tags
+            → AreLinked self.new.last self.new.next (tags ++ tag ∷ []) }
+    {
+        let index = self.count;
+        let last = self.last[tag] as usize;
+        if last == 0 {
+            self.next[index] = index as u8;
+        } else {
+            self.next[index] = self.next[last - 1];
+            self.next[last - 1] = index as u8;
+        }
+        self.last[tag] = (index + 1) as u8;
+        self.count = index + 1;
+    }
+
+    /// Returns the index of the first candidate with the tag.
+    #[inline(always)]
+    pub(crate) fn first(&self, tag: usize) -> Option<usize>
+        requires { tag < 256 }
+        ensures { (tags : List ℕ) → AreLinked self.now.last self.now.next tags
+            → MatchOption result (NoneFrom tags tag 0) (λ i. (get_or tags i 256 ≡ tag) × NoneBetween tags tag 0 i) }
+    {
+        let last = self.last[tag] as usize;
+        if last == 0 {
+            return None;
+        }
+        Some(self.next[last - 1] as usize)
+    }
+
+    /// Returns the index of the next candidate with the tag after one that has it.
+    #[inline(always)]
+    pub(crate) fn after(&self, tag: usize, index: usize) -> Option<usize>
+        requires tag { tag < 256 }
+        requires index { index < 256 }
+        ensures { (tags : List ℕ) → AreLinked self.now.last self.now.next tags → get_or tags index 256 ≡ tag
+            → MatchOption result (NoneFrom tags tag (index + 1)) (λ i. (index < i) × (get_or tags i 256 ≡ tag) × NoneBetween tags tag (index + 1) i) }
+    {
+        if self.last[tag] as usize <= index + 1 {
+            return None;
+        }
+        Some(self.next[index] as usize)
+    }
+}
