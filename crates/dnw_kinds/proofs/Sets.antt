@@ -1,5 +1,6 @@
 -- Sets of types: their lists, and their bytes read back.
-use Rattle.std.proofs.Common.{nat_lt, get_or, ◌≡◌, ℕ, ◌+◌, ◌<◌, ◌≤◌, ◌&&◌, ◌||◌, ◌==◌, Bool, true, false, nat_eq, List, [], ◌∷◌, ◌++◌, length, drop, map, cond, refl, sym, ap, ◌∙◌, subst, arith, Result, Ok, Err, IfErr, IsOkAnd}
+use Rattle.std.proofs.Common.{nat_lt, get_or, ◌≡◌, ℕ, ◌+◌, ◌<◌, ◌≤◌, ◌&&◌, ◌||◌, ◌==◌, Bool, true, false, nat_eq, List, [], ◌∷◌, ◌++◌, length, drop, map, cond, refl, sym, ap, ◌∙◌, subst, arith, Option, Some, Result, Ok, Err, IfErr, IsOkAnd}
+use Rattle.std.specs.Iterator.{Yields}
 use Rattle.std.specs.List.{flat_map, list_all, dedup, dedup_from, AllByRecursion}
 use Rattle.std.specs.List.Retain.{IsFiltered, DiffersFromLast}
 use Rattle.std.specs.List.Sorted.{IsStrictlySortedBy, IsSorted, IsPermutation}
@@ -16,7 +17,7 @@ use Rattle.std.proofs.lemmas.List.Sorted.{Contains-permutation, IsPermutation-sy
 use Rattle.dnw_error.specs.declared.record_type.RecordType.{RecordType}
 use Rattle.dnw_error.specs.RecordTypes.{type_cmp, type_code, is_unknown}
 use Rattle.dnw_error.specs.Inside.RecordTypeLaws.{types-tied}
-use Rattle.dnw_kinds.specs.TypeSets.{IsSetOf, set_codes, Window, window, windows_of, windows_codes, window_bytes, in_bounds, ends_in_zeros, is_empty, IsWritten, bitmap_types}
+use Rattle.dnw_kinds.specs.TypeSets.{IsSetOf, YieldsSome, set_codes, Window, window, windows_of, windows_codes, window_bytes, in_bounds, ends_in_zeros, is_empty, IsWritten, bitmap_types}
 use Rattle.dnw_kinds.specs.SetLaws.{SetsComeBack}
 use Rattle.dnw_kinds.specs.Inside.Bitmaps.{Above}
 use Rattle.dnw_kinds.specs.Inside.SetLaws.{types-total, types-equal}
@@ -101,6 +102,28 @@ pub sets-come_back : SetsComeBack
 sets-come_back codes bytes e =
     let back : windows_of bytes ≡ e.windows = ap windows_of e.spelled ∙ windows-back e.windows e.written in
     (ap in_bounds back ∙ bounds-back e.windows e.written, ap windows_codes back ∙ e.same)
+
+-- ---- what is not empty
+
+-- a set has types only if types were listed
+pub listed-some : (listed types : List RecordType) → IsSetOf listed types → 1 ≤ length types → 1 ≤ length listed
+listed-some listed [] set h = absurd (omega arith)
+listed-some listed (kind ∷ types) set h = let found = set.no_others kind (0, omega arith, refl) in omega (arith, found.1)
+
+pub codes-some : (types : List RecordType) → 1 ≤ length (set_codes types) → 1 ≤ length types
+codes-some [] h = h
+codes-some (kind ∷ types) h = omega arith
+
+module _ {S A : Type 0} (next : S → Option A → S → Type 0) where
+  -- calls that returned items began with one
+  pub began : (xs : List A) (s t : S) → Yields next s xs t → 1 ≤ length xs → YieldsSome next s
+  began [] s t run some = absurd (omega arith)
+  began (x ∷ xs) s t run some = (x, run.0, run.1)
+
+  -- so did those before one more
+  pub began-or : (xs : List A) (s t u : S) (x : A) → Yields next s xs t → next t (Some x) u → YieldsSome next s
+  began-or [] s t u x run step = let P : S → Type 0 = λ v. next v (Some x) u in (x, u, subst P (sym run) step)
+  began-or (y ∷ ys) s t u x run step = began (y ∷ ys) s t run (omega arith)
 
 -- ---- results
 

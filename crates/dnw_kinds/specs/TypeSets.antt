@@ -1,5 +1,5 @@
 -- Sets of record types, and the bitmaps that stand for them on the wire (RFC 4034, section 4.1.2).
-use Rattle.std.specs.Prelude.{◌≡◌, ◌≢◌, ℕ, zero, suc, ◌+◌, ◌-◌, ◌*◌, ◌≤◌, ◌==◌, ◌||◌, ◌&&◌, Bool, true, false, nat_le, nat_eq, List, [], ◌∷◌, ◌++◌, length, map, ⊤, if◌then◌else◌, take, drop, Contains}
+use Rattle.std.specs.Prelude.{◌≡◌, ◌≢◌, ℕ, zero, suc, ◌+◌, ◌-◌, ◌*◌, ◌≤◌, ◌⊎◌, ◌==◌, ◌||◌, ◌&&◌, Bool, true, false, nat_le, nat_eq, List, [], ◌∷◌, ◌++◌, length, map, Option, Some, ⊤, if◌then◌else◌, take, drop, Contains}
 use Rattle.std.specs.List.{flat_map, list_all, dedup, AllByRecursion}
 use Rattle.std.specs.List.Sorted.{IsStrictlySortedBy}
 use Rattle.std.specs.Int.{bit_at}
@@ -10,6 +10,14 @@ use Rattle.dnw_error.specs.RecordTypes.{type_cmp, type_code, type_of_code}
 pub record TypeSet : Type 0 where
   pub types : List RecordType
   pub encoding : List ℕ
+
+-- the set has a type or is written as some bytes, which are allocated
+abbrev pub HasOwnMemory : TypeSet → Type 0
+HasOwnMemory set = (1 ≤ length set.types) ⊎ (1 ≤ length set.encoding)
+
+-- the first call of `next` returns an item
+abbrev pub YieldsSome : {S A : Type 0} → (S → Option A → S → Type 0) → S → Type 0
+YieldsSome {S} {A} next it = (x : A) × (after : S) × next it (Some x) after
 
 -- the set of these types: each once, in ascending order
 pub record IsSetOf (listed types : List RecordType) : Type 0 where

@@ -9,7 +9,7 @@ ghost use Rattle.dnw_error.specs.declared.record_type.RecordType.{RecordType};
 ghost use Rattle.dnw_error.specs.declared.error.DecodeError.{DecodeError};
 ghost use Rattle.dnw_encoder.specs.Encoder.{Writes};
 ghost use Rattle.dnw_encoder.specs.EmittingLaws.{frame};
-ghost use Rattle.dnw_kinds.specs.TypeSets.{IsSetOf, Encodes, set_codes, windows_of, windows_codes, in_bounds, bitmap_types};
+ghost use Rattle.dnw_kinds.specs.TypeSets.{HasOwnMemory, YieldsSome, IsSetOf, Encodes, set_codes, windows_of, windows_codes, in_bounds, bitmap_types};
 ghost use Rattle.dnw_kinds.specs.Inside.Bitmaps.{Above};
 ghost use Rattle.dnw_kinds.specs.RecordData.{TakesTypeSet, FailsTypeSet, TypeSetRunsOut};
 ghost use Rattle.dnw_kinds.specs.Inside.SetLaws.{sets-equal, sets-per, sets-hash, sets-hash_alike};
@@ -65,13 +65,14 @@ impl RecordTypeSet {
     /// Creates the set of these types, in any order and any number of times. It is written as ascending windows without
     /// trailing zeros; types with the same code share its bit.
     ///
-    /// It fails only with `Memory`. The iterator must end.
+    /// It fails only with `Memory`, and only if there is a type. The iterator must end.
     pub fn new<I: IntoIterator<Item = RecordType>>(alloc: Global, types: I) -> ProtoResult<Self>
         requires { (it : I.IntoIter) → I.into_iter_gives types it
             → I.IntoIter.can_next it × IsFinite (I.IntoIter.remaining it) }
         ensures ok { IfOk result (λ set. (it : I.IntoIter) × (listed : List RecordType) × I.into_iter_gives types it
             × Drains I.IntoIter.next_gives it listed × IsSetOf listed set.types × Encodes (set_codes set.types) set.encoding) }
-        ensures err { IfErr result (λ e. e ≡ ProtoError.Memory) }
+        ensures err { IfErr result (λ e. (e ≡ ProtoError.Memory)
+            × (it : I.IntoIter) × I.into_iter_gives types it × YieldsSome I.IntoIter.next_gives it) }
     {
         let mut listed = Vec::new(alloc);
         for kind in types {
@@ -86,15 +87,15 @@ impl RecordTypeSet {
         })
     }
 
-    /// Copies the set.
+    /// Copies the set. It fails only with `Memory`, and only if the set has a type or is written as some bytes.
     pub fn clone(&self) -> ProtoResult<Self>
         ensures ok { IfOk result (λ set. set ≡ self.now) }
-        ensures err { IfErr result (λ e. e ≡ ProtoError.Memory) }
+        ensures err { IfErr result (λ e. (e ≡ ProtoError.Memory) × HasOwnMemory self.now) }
     {
         let alloc = *self.types.allocator();
         Ok(RecordTypeSet {
-            types: Vec::from_slice(alloc, self.types.as_slice())?,
-            encoding: Vec::from_slice(alloc, self.encoding.as_slice())?,
+            types: copied(alloc, self.types.as_slice())?,
+            encoding: copied(alloc, self.encoding.as_slice())?,
         })
     }
 
@@ -112,6 +113,16 @@ impl RecordTypeSet {
     {
         self.types.as_slice().contains(&kind)
     }
+}
+
+/// Copies items. No items take no memory.
+fn copied<T: Copy>(alloc: Global, items: &[T]) -> Result<Vec<T>, AllocError>
+    ensures ok { IfOk result (λ copy. copy.items ≡ items.now) }
+    ensures err { OnErr result (1 ≤ length items.now) }
+{
+    let mut copy = Vec::with_capacity(alloc, items.len())?;
+    copy.extend_from_slice(items)?;
+    Ok(copy)
 }
 
 /// Makes the list of a set: each type once, in ascending order. Most bitmaps list their types so.
@@ -147,6 +158,7 @@ fn codes(alloc: Global, types: &[RecordType]) -> Result<Vec<u16>, AllocError>
     requires { IsStrictlySortedBy type_cmp types.now }
     ensures codes { IfOk result (λ codes. codes.items ≡ set_codes types.now) }
     ensures above { IfOk result (λ codes. Above 0 codes.items) }
+    ensures err { OnErr result (1 ≤ length types.now) }
 {
     let mut codes = Vec::new(alloc);
     for kind in types {

@@ -1,5 +1,5 @@
 //! Writing type bitmaps (RFC 4034, section 4.1.2).
-ghost use Rattle.std.specs.Prelude.{◌≡◌, ℕ, ◌+◌, ◌*◌, ◌≤◌, ◌<◌, ◌++◌, [], take, length, OnOk, IfOk};
+ghost use Rattle.std.specs.Prelude.{◌≡◌, ℕ, ◌+◌, ◌*◌, ◌≤◌, ◌<◌, ◌++◌, [], take, length, OnOk, OnErr, IfOk};
 ghost use Rattle.smallvec.specs.SmallVec.{small_vec_len};
 ghost use Rattle.dnw_kinds.specs.TypeSets.{octet_codes, octets_codes, EndsInBit, max_octets, Encodes};
 ghost use Rattle.dnw_kinds.specs.Inside.Bitmaps.{Above, code_if, with_bit, PushesWindow};
@@ -89,7 +89,8 @@ fn used_len(octets: &[u8]) -> usize
 /// Writes ascending codes as windows.
 pub fn write_windows(alloc: Global, codes: &[u16]) -> Result<Vec<u8>, AllocError>
     requires { Above 0 codes.now }
-    ensures { IfOk result (λ bytes. Encodes codes.now bytes.items) }
+    ensures ok { IfOk result (λ bytes. Encodes codes.now bytes.items) }
+    ensures err { OnErr result (1 ≤ length codes.now) }
 {
     let mut bytes = Vec::new(alloc);
     let mut rest = codes;

@@ -14,5 +14,5 @@ loop-code-preserved c =
     c.in-Some.field-0-1.now c.in-Some.code.now c.loop-code.invariant c.in-Some.ensures.cases.0
     c.in_ok-rest.ensures.codes c.in_ok-rest.ensures.above c.in_ok-rest.ensures.len (rw c.as_slice.ensures at c.in_ok-push_window.ensures)
 
-pub returns : goal.returns
-returns c = written-all c.args.codes.now c.loop-code.bytes.items c.loop-code.rest.now c.loop-code.invariant (nil_from_length c.loop-code.rest.now c.in_default.ensures.cases)
+pub returns-clause-ok : goal.returns-clause-ok
+returns-clause-ok c = written-all c.args.codes.now c.loop-code.bytes.items c.loop-code.rest.now c.loop-code.invariant (nil_from_length c.loop-code.rest.now c.in_default.ensures.cases)
