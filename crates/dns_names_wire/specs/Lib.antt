@@ -42,6 +42,7 @@ pub use Rattle.dnw_encoder.specs.EncoderValue
 pub use Rattle.dnw_encoder.specs.Guards
 pub use Rattle.dnw_encoder.specs.NameFrames
 pub use Rattle.dnw_lower.specs.LowerNames
+pub use Rattle.dnw_kinds.specs.Keys
 pub use Rattle.dnw_kinds.specs.Serials
 pub use Rattle.dnw_kinds.specs.TypeSets
 pub use Rattle.dnw_kinds.specs.RecordData

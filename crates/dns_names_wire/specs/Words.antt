@@ -60,8 +60,9 @@ pub use Rattle.dns_names_wire.specs.ScriptLaws.{RunsReply, RunsFinish, RunsStayU
 pub use Rattle.dnw_txt.specs.Tokens.{TokenValue, LexFault, LexState, LexerValue}
 pub use Rattle.dnw_txt.specs.Lexing.{token_value, Lexes, Calls, EndsInTime}
 pub use Rattle.dnw_txt.specs.Times.{max_ttl, time_seconds, IsNoTtl, IsParseTime}
--- Sets of record types, serial numbers, and record data.
-pub use Rattle.dnw_kinds.specs.TypeSets.{set_codes, windows_within, bitmap_types}
+-- Sets of record types, keys, serial numbers, and record data.
+pub use Rattle.dnw_kinds.specs.TypeSets.{set_codes, windows_within, bitmap_types, HasOwnMemory, YieldsSome}
+pub use Rattle.dnw_kinds.specs.Keys.{key_cmp, key_eq, key_hash}
 pub use Rattle.dnw_kinds.specs.Serials.{distance, serial_cmp, serial_sum}
 pub use Rattle.dnw_kinds.specs.RecordData.{TakesTypeSet, FailsTypeSet, TypeSetRunsOut, HasBitmap}
 pub use Rattle.dnw_kinds.specs.SetLaws.{SetsComeBack}

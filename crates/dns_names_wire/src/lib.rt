@@ -76,6 +76,11 @@ pub mod restrict {
     pub use dnw_base::restrict::{Restrict, RestrictedMath, Verified};
 }
 
+/// Keys of sets of records: a name and a type.
+pub mod rr_key {
+    pub use dnw_kinds::rr_key::RrKey;
+}
+
 /// Scripts: messages written step by step.
 pub mod script;
 

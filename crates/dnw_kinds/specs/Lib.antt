@@ -2,4 +2,5 @@ pub mod Serials
 pub mod TypeSets
 pub mod RecordData
 pub mod SetLaws
+pub mod Keys
 pub mod Inside

@@ -3,10 +3,12 @@ ghost use Rattle.std.specs.Prelude.{◌≡◌, ℕ, ℤ, IfOk, IfErr, OnErr, IsE
 ghost use Rattle.dnw_base.specs.Decoder.{Decoder};
 ghost use Rattle.dnw_error.specs.declared.error.DecodeError.{DecodeError};
 ghost use Rattle.dnw_name.specs.Decodable.{TakesU16, TakesU32, TakesI32, LacksBytes, TakesNameValue, StopsSomehow};
+ghost use Rattle.dnw_lower.specs.LowerNames.{TakesLowerName};
 
 use dnw_base::decoder::BinDecoder;
 use dnw_base::restrict::Restrict;
 use dnw_error::error::DecodeError;
+use dnw_lower::lower_name::LowerName;
 use dnw_name::binary::BinDecodable;
 use dnw_name::name::Name;
 use std::alloc::Global;
@@ -108,5 +110,22 @@ impl<'r> RecordDataDecodable<'r> for Name {
         _length: Restrict<u16>,
     ) -> Result<Self, DecodeError> {
         Name::read(alloc, decoder)
+    }
+}
+
+/// A name in lower case, whatever the length. It does not allocate.
+impl<'r> RecordDataDecodable<'r> for LowerName {
+    ghost stands = { λ _. TakesLowerName };
+
+    ghost fails = { λ _. StopsSomehow };
+
+    ghost runs_out = { λ _ _. ⊥ };
+
+    fn read_data(
+        alloc: Global,
+        decoder: &mut BinDecoder<'r>,
+        _length: Restrict<u16>,
+    ) -> Result<Self, DecodeError> {
+        LowerName::read(alloc, decoder)
     }
 }
