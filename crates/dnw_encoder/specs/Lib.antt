@@ -5,5 +5,6 @@ pub mod EmittedName
 pub mod EmittingLaws
 pub mod NameFrames
 pub mod Guards
+pub mod Marks
 pub mod EncoderLaws
 pub mod Inside

@@ -12,11 +12,13 @@ use dnw_error::error::{ProtoError, ProtoResult};
 
 mod items;
 pub mod laws;
+mod mark;
 mod modal;
 mod modes;
 mod names;
 mod place;
 
+pub use mark::Mark;
 pub use modal::ModalEncoder;
 pub use modes::{NameEncoding, RDataEncoding};
 pub use place::Place;

@@ -3,6 +3,7 @@
 //! The functions do nothing. Each is there for its clauses.
 ghost use Rattle.dnw_encoder.specs.EncoderLaws.{WritesStayBounded, PlacesStayBounded, FillsStayBounded, FillsTakeNoMemory, ItemsStayBounded, ItemsKeepFrame, FramesFollow, NameIsRead, NameComesBack, NamesStayBounded, NamesTakeNoMore, PointersSave};
 
+pub use super::mark::rewinding_undoes;
 use crate::binary::BinEncodable;
 
 /// A write, a placeholder and its filling leave the buffer no longer than it was, or than the maximum.
