@@ -1,0 +1,110 @@
+-- At each place there is one record at most, or one error.
+use Rattle.std.proofs.Common.{◌≡◌, ◌≢◌, ℕ, ◌+◌, ◌-◌, ◌≤◌, List, length, Result, Ok, Err, IfOk, true, inl, inr, refl, sym, ap, ◌∙◌, subst, arith, zero-add}
+use Rattle.std.specs.Prelude.{⊤}
+use Rattle.dnw_base.specs.Decoder.{Decoder, Takes, advanced}
+use Rattle.dnw_base.proofs.DecoderReads.{Takes-enough}
+use Rattle.dnw_base.specs.Names.{NameValue}
+use Rattle.dnw_error.specs.declared.error.DecodeError.{DecodeError}
+use Rattle.dnw_error.specs.declared.error.DecodeError.TheVariants.{IncorrectRDataLengthRead}
+use Rattle.dnw_reading.specs.Reading.{NameAt, FaultAt, StopsAt, TakesName}
+use Rattle.dnw_reading.proofs.Counts.{Reads-own}
+use Rattle.dnw_reading.proofs.Unique.{Reads-unique, Stops-unique, Reads-not-Stops}
+use Rattle.dnw_record.specs.Records.{RecordValue, RecordAt, TakesRecord, FailsRecord, LacksRecord, HasRest, HasDataName, FailsDataName, record_of}
+
+-- a decoder that skips to an index of a message is there
+pub started : (message : List ℕ) (index : ℕ) (start : Decoder) (skipped : Result (Unit {0}) DecodeError) (after : Decoder)
+    → start ≡ record { bytes = message; index = 0 } → index ≤ length message → Takes start index (λ _. ⊤) skipped after
+    → after ≡ record { bytes = message; index = index }
+started message index start skipped after is within takes =
+    let at : ℕ → Decoder = λ i. record { bytes = message; index = i } in
+    let from : Takes (at 0) index (λ _. ⊤) skipped after = subst (λ d. Takes d index (λ _. ⊤) skipped after) is takes in
+    (Takes-enough (at 0) index (λ _. ⊤) skipped after (omega arith) from).1 ∙ ap at (zero-add index)
+
+not-both : {b : List ℕ} {p e k followed found : ℕ} {ls : List (List ℕ)} {error : DecodeError} → NameAt b p ls e k → FaultAt b p error followed found → ⊥
+not-both h fault = let fits = h.fits in Reads-not-Stops h.reads (omega arith) fault
+
+RecordAt-unique : (b : List ℕ) (p : ℕ) (r r' : RecordValue) (e e' : ℕ) → RecordAt b p r e → RecordAt b p r' e' → (r ≡ r') × (e ≡ e')
+RecordAt-unique b p r r' e e' h h' =
+    let (labels, ends, _) = Reads-unique h.owner_read.reads h'.owner_read.reads in
+    let same : r ≡ r' = h.is ∙ (ap (λ ls. record_of b ls h.owner_end) labels ∙ ap (record_of b h'.labels) ends) ∙ sym h'.is in
+    (same, h.ends ∙ ap (λ (x : RecordValue). x.start + x.len) same ∙ sym h'.ends)
+
+pub TakesRecord-unique : (d : Decoder) (r r' : RecordValue) (after after' : Decoder) → TakesRecord d r after → TakesRecord d r' after' → (r ≡ r') × (after ≡ after')
+TakesRecord-unique d r r' after after' h h' =
+    let (same, ends) = RecordAt-unique d.bytes d.index r r' h.0 h'.0 h.1 h'.1 in
+    let at : ℕ → Decoder = λ i. record { bytes = d.bytes; index = i } in
+    (same, h.2 ∙ ap at ends ∙ sym h'.2)
+
+has-rest : (b : List ℕ) (p : ℕ) (r : RecordValue) (e : ℕ) → RecordAt b p r e → LacksRecord b p → ⊥
+has-rest b p r e h lacks =
+    let (_, ends, _) = Reads-unique h.owner_read.reads lacks.3.reads in
+    lacks.4 (subst (HasRest b) ends h.rest)
+
+pub TakesRecord-not-Fails : (d : Decoder) (r : RecordValue) (after : Decoder) (error : DecodeError) → TakesRecord d r after → FailsRecord d error → ⊥
+TakesRecord-not-Fails d r after error h (inl stops) = not-both h.1.owner_read stops.2
+TakesRecord-not-Fails d r after error h (inr lacks) = has-rest d.bytes d.index r h.0 h.1 lacks.0
+
+pub FailsRecord-unique : (d : Decoder) (error other : DecodeError) → FailsRecord d error → FailsRecord d other → error ≡ other
+FailsRecord-unique d error other (inl stops) (inl stops') = (Stops-unique stops.2 stops'.2).0
+FailsRecord-unique d error other (inl stops) (inr lacks) = absurd (not-both lacks.0.3 stops.2)
+FailsRecord-unique d error other (inr lacks) (inl stops) = absurd (not-both lacks.0.3 stops.2)
+FailsRecord-unique d error other (inr lacks) (inr lacks') = lacks.1 ∙ sym lacks'.1
+
+-- the same at the start of a message
+pub from-start : (result : Result RecordValue DecodeError) (d d' after : Decoder) → d ≡ d' → IfOk result (λ r. TakesRecord d r after)
+    → IfOk result (λ r. (after : Decoder) × TakesRecord d' r after)
+from-start (Ok r) d d' after same h = (after, subst (λ x. TakesRecord x r after) same h)
+from-start (Err e) d d' after same h = tt
+
+-- ---- data that are a name
+
+by-labels : (x y : NameValue) → x.is_fqdn ≡ true → y.is_fqdn ≡ true → x.labels ≡ y.labels → x ≡ y
+by-labels x y fqdn fqdn' labels =
+    let of : List (List ℕ) → NameValue = λ ls. record { is_fqdn = true; labels = ls } in
+    ap (λ b. record { is_fqdn = b; labels = x.labels }) fqdn ∙ (ap of labels ∙ sym (ap (λ b. record { is_fqdn = b; labels = y.labels }) fqdn'))
+
+pub HasDataName-unique : (r : RecordValue) (name other : NameValue) → HasDataName r name → HasDataName r other → name ≡ other
+HasDataName-unique r name other h h' = by-labels name other h.0 h'.0 (Reads-unique h.2.reads h'.2.reads).0
+
+pub HasDataName-not-Fails : (r : RecordValue) (name : NameValue) (error : DecodeError) → HasDataName r name → FailsDataName r error → ⊥
+HasDataName-not-Fails r name error h (inl stops) = not-both h.2 stops.2
+HasDataName-not-Fails r name error h (inr longer) = longer.4 (sym (Reads-unique h.2.reads longer.3.reads).1)
+
+pub FailsDataName-unique : (r : RecordValue) (error other : DecodeError) → FailsDataName r error → FailsDataName r other → error ≡ other
+FailsDataName-unique r error other (inl stops) (inl stops') = (Stops-unique stops.2 stops'.2).0
+FailsDataName-unique r error other (inl stops) (inr longer) = absurd (not-both longer.3 stops.2)
+FailsDataName-unique r error other (inr longer) (inl stops) = absurd (not-both longer.3 stops.2)
+FailsDataName-unique r error other (inr longer) (inr longer') =
+    longer.5 ∙ (ap (λ e. IncorrectRDataLengthRead (e - r.start) r.len) (Reads-unique longer.3.reads longer'.3.reads).1 ∙ sym longer'.5)
+
+-- Reading a name where the data start: it ends there or after, and it is the data if it has their length.
+pub data-name-read : (r now : RecordValue) → r ≡ now → (start : Decoder) (skipped : Result (Unit {0}) DecodeError) (at after : Decoder) (name : NameValue) (index : ℕ)
+    → start ≡ record { bytes = r.message; index = 0 } → r.start + r.len ≤ length r.message → Takes start r.start (λ _. ⊤) skipped at
+    → (name.is_fqdn ≡ true) × (k : ℕ) × TakesName at after name.labels k → index ≡ after.index
+    → (r.start ≤ index) × (index - r.start ≡ r.len → HasDataName now name)
+    × (index - r.start ≢ r.len → FailsDataName now (IncorrectRDataLengthRead (index - r.start) r.len))
+data-name-read r now same start skipped at after name index is inside takes (fqdn, k, read) there =
+    let begins = started r.message r.start start skipped at is (omega (arith, inside)) takes in
+    let moved = rw begins at read in
+    let (later, within) = Reads-own moved.name.reads in
+    let ends : index ≡ moved.end = there ∙ ap (λ (d : Decoder). d.index) moved.moved in
+    let le : r.start ≤ index = omega (arith, later, ends) in
+    let has : index - r.start ≡ r.len → HasDataName r name = λ length_is.
+    let e : moved.end ≡ r.start + r.len = omega (arith, le, ends, length_is) in
+    (fqdn, k, subst (λ end. NameAt r.message r.start name.labels end k) e moved.name) in
+    let fails : index - r.start ≢ r.len → FailsDataName r (IncorrectRDataLengthRead (index - r.start) r.len) = λ differs.
+    let not : moved.end ≢ r.start + r.len = λ e. differs (omega (arith, le, ends, e)) in
+    inr (name.labels, moved.end, k, moved.name, not, ap (λ e. IncorrectRDataLengthRead (e - r.start) r.len) ends) in (
+      le,
+      λ length_is. subst (λ x. HasDataName x name) same (has length_is),
+      λ differs. subst (λ x. FailsDataName x (IncorrectRDataLengthRead (index - r.start) r.len)) same (fails differs),
+    )
+
+-- If reading a name there stops, so does reading the data as a name.
+pub data-name-stops : (r now : RecordValue) → r ≡ now → (start : Decoder) (skipped : Result (Unit {0}) DecodeError) (at : Decoder) (error : DecodeError)
+    → start ≡ record { bytes = r.message; index = 0 } → r.start + r.len ≤ length r.message → Takes start r.start (λ _. ⊤) skipped at
+    → (k : ℕ) × (j : ℕ) × StopsAt at error k j → FailsDataName now error
+data-name-stops r now same start skipped at error is inside takes (k, j, stops) =
+    let begins = started r.message r.start start skipped at is (omega (arith, inside)) takes in
+    let moved = rw begins at stops in
+    subst (λ x. FailsDataName x error) same (inl (k, j, moved))
