@@ -4,6 +4,7 @@
 pub enum Kind {
     Read,
     Emit,
+    EmitLower,
     Parse,
     Print,
     Clone,
@@ -127,9 +128,16 @@ fn deep() -> (Vec<u8>, Vec<u32>) {
     (bytes, vec![last as u32])
 }
 
-/// Names that differ only in a number: hosts of one zone, the same with `www` before them, and labels of 63 octets.
+/// Names that differ only in a number, so that most suffixes look alike.
 fn numbered(count: usize, pattern: impl Fn(usize) -> String) -> (Vec<u8>, Vec<u32>) {
     (forms(&(0..count).map(pattern).collect::<Vec<_>>()), vec![])
+}
+
+/// Names of 127 labels of one octet, none of which is a suffix of another: what the search for a suffix likes least.
+fn one_octet_labels(i: usize) -> String {
+    let letter = |n: usize| (b'a' + (n % 26) as u8) as char;
+    let labels = (0..127).map(|k| if k < 126 { 'a' } else { letter(i) });
+    labels.map(|label| format!("{label}.")).collect()
 }
 
 /// Texts with an escape in front, in the middle and everywhere.
@@ -155,6 +163,8 @@ pub fn tasks() -> Vec<Task> {
     let lines = thousand.join("\n") + "\n";
     add("parse", "1000 texts of names", Kind::Parse, (lines.into_bytes(), vec![]), 1000, 5);
     add("parse-escaped", "600 texts with escapes", Kind::Parse, escaped(), 600, 5);
+    let long = "a".repeat(60_000) + ".\n";
+    add("parse-long", "a label of 60,000 characters, which is too long", Kind::Parse, (long.into_bytes(), vec![]), 1, 20);
     let names = forms(&thousand);
     add("print", "1000 names", Kind::Print, (names.clone(), vec![]), 1000, 5);
     let host = |i| format!("host{i:04}.example.com.");
@@ -162,6 +172,12 @@ pub fn tasks() -> Vec<Task> {
     let www = |i| format!("www.host{i:04}.example.com.");
     add("emit-www", "120 names www.host0000.example.com. and on", Kind::Emit, numbered(120, www), 120, 10);
     let long = |i| format!("{}{i:04}.example.com.", "x".repeat(59));
+    let ptr = |i| format!("{i:04}.2.0.192.in-addr.arpa.");
+    add("emit-ptr", "120 reverse names of one network", Kind::Emit, numbered(120, ptr), 120, 10);
+    let full = |i| format!("{}{i:04}.{}.{}.{}.", "a".repeat(59), "b".repeat(63), "c".repeat(63), "d".repeat(61));
+    add("emit-255", "120 names of 255 octets that differ in front", Kind::Emit, numbered(120, full), 120, 5);
+    add("emit-127", "20 names of 127 labels, most of which are alike", Kind::Emit, numbered(20, one_octet_labels), 20, 5);
+    add("emit-lower", "20 names into a new message, in lower case", Kind::EmitLower, (forms(&texts(20, 6)), vec![]), 20, 50);
     add("emit-63", "120 labels of 63 octets that end in a number", Kind::Emit, numbered(120, long), 120, 10);
     add("clone", "1000 names into a vector with room", Kind::Clone, (names.clone(), vec![]), 1000, 5);
     add("collect", "1000 names read into a growing vector", Kind::Collect, (names.clone(), vec![]), 1000, 5);

@@ -6,18 +6,28 @@ mod inputs;
 mod ours;
 mod theirs;
 
-use inputs::Task;
+use inputs::{Kind, Task};
 use std::time::Instant;
 
 const ROUNDS: usize = 31;
 const NANOSECONDS_A_ROUND: f64 = 4e6;
+
+/// What `std::hint::black_box` is for, which Debian 12's compiler does not offer.
+pub fn black_box<T>(value: T) -> T {
+    // SAFETY: the value is read once, and what it was read from is forgotten.
+    unsafe {
+        let same = std::ptr::read_volatile(&value);
+        std::mem::forget(value);
+        same
+    }
+}
 
 type Contender = fn(&Task, u64) -> u64;
 const CONTENDERS: [(&str, Contender); 2] = [("dns-names-wire", ours::run), ("trust-dns-0.22", theirs::run)];
 
 fn time(contender: Contender, task: &Task, count: u64) -> f64 {
     let start = Instant::now();
-    std::hint::black_box(contender(task, count));
+    black_box(contender(task, count));
     start.elapsed().as_nanos() as f64
 }
 
@@ -37,6 +47,17 @@ fn calibrate(contender: Contender, task: &Task) -> (u64, f64) {
     (count, setup)
 }
 
+/// What each contender's answer is, if they are not the same: then their work was not, and no ratio says anything.
+///
+/// trust-dns compresses without limits, so it writes fewer bytes for many names. Hashes are the libraries' own.
+fn difference(task: &Task) -> Option<String> {
+    let sums: Vec<_> = CONTENDERS.iter().map(|(_, run)| run(task, 1)).collect();
+    if sums[0] == sums[1] || matches!(task.kind, Kind::Hash) {
+        return None;
+    }
+    Some(format!("not the same work: checksums {} and {}", sums[0], sums[1]))
+}
+
 fn measure(task: &Task) {
     let plans: Vec<_> = CONTENDERS.iter().map(|(_, run)| calibrate(*run, task)).collect();
     let mut times = vec![vec![]; CONTENDERS.len()];
@@ -47,17 +68,26 @@ fn measure(task: &Task) {
         }
     }
     println!("{}: {}", task.name, task.what);
-    let sums: Vec<_> = CONTENDERS.iter().map(|(_, run)| run(task, 1)).collect();
     let (others_median, others_least) = summary(times[1].clone());
+    let difference = difference(task);
     for (i, (name, _)) in CONTENDERS.iter().enumerate() {
         let (median, least) = summary(times[i].clone());
-        let (ratio, least_ratio) = (median / others_median, least / others_least);
-        print!("    {name:<16}{median:>12.2} ns ({least:.2})   x{ratio:.2} (x{least_ratio:.2})");
-        println!("   checksum {}", sums[i]);
+        print!("    {name:<16}{median:>12.2} ns ({least:.2})");
+        match difference {
+            None => println!("   x{:.2} (x{:.2})", median / others_median, least / others_least),
+            Some(_) => println!(),
+        }
     }
-    // Hashes are the libraries' own.
-    if sums[0] != sums[1] && !matches!(task.kind, inputs::Kind::Hash) {
-        println!("    the checksums differ: not the same work");
+    if let Some(difference) = difference {
+        println!("    {difference}");
+    }
+}
+
+/// A line for each task: its name, how often it is done if instructions are counted, its operations, and why the
+/// contenders cannot be compared, if they cannot.
+fn list(tasks: &[Task]) {
+    for task in tasks {
+        println!("{}\t{}\t{}\t{}", task.name, task.few, task.operations, difference(task).unwrap_or_default());
     }
 }
 
@@ -66,7 +96,7 @@ fn main() {
     let words: Vec<String> = std::env::args().skip(1).collect();
     match words.iter().map(String::as_str).collect::<Vec<_>>()[..] {
         [] => tasks.iter().for_each(measure),
-        ["--list"] => tasks.iter().for_each(|t| println!("{} {} {}", t.name, t.few, t.operations)),
+        ["--list"] => list(&tasks),
         ["--one", name, who, count] => {
             let task = tasks.iter().find(|t| t.name == name).expect("a task");
             let (_, run) = CONTENDERS.iter().find(|(n, _)| *n == who).expect("a contender");

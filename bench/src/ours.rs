@@ -4,6 +4,7 @@ use crate::inputs::{Kind, Task};
 extern "C" {
     fn dnw_read_names(message: *const u8, len: usize, starts: *const u32, n: usize, count: u64) -> u64;
     fn dnw_emit_names(names: *const u8, len: usize, count: u64) -> u64;
+    fn dnw_emit_lower(names: *const u8, len: usize, count: u64) -> u64;
     fn dnw_parse_names(texts: *const u8, len: usize, count: u64) -> u64;
     fn dnw_to_ascii(names: *const u8, len: usize, count: u64) -> u64;
     fn dnw_clone_names(names: *const u8, len: usize, count: u64) -> u64;
@@ -20,6 +21,7 @@ pub fn run(task: &Task, count: u64) -> u64 {
         match task.kind {
             Kind::Read => dnw_read_names(bytes, len, task.starts.as_ptr(), task.starts.len(), count),
             Kind::Emit => dnw_emit_names(bytes, len, count),
+            Kind::EmitLower => dnw_emit_lower(bytes, len, count),
             Kind::Parse => dnw_parse_names(bytes, len, count),
             Kind::Print => dnw_to_ascii(bytes, len, count),
             Kind::Clone => dnw_clone_names(bytes, len, count),

@@ -1,8 +1,8 @@
 //! trust-dns-proto 0.22, by the same rules.
+use crate::black_box;
 use crate::inputs::{Kind, Task};
 use std::collections::hash_map::DefaultHasher;
 use std::hash::{Hash, Hasher};
-use std::hint::black_box;
 use trust_dns_proto::rr::Name;
 use trust_dns_proto::serialize::binary::{BinDecodable, BinDecoder, BinEncodable, BinEncoder};
 
@@ -13,7 +13,11 @@ pub fn run(task: &Task, count: u64) -> u64 {
         Kind::Read => repeat(count, || read_each(black_box(&task.bytes), &task.starts)),
         Kind::Emit => {
             let names = names_of(&task.bytes);
-            repeat(count, || emit_each(black_box(&names)))
+            repeat(count, || emit_each(black_box(&names), false))
+        }
+        Kind::EmitLower => {
+            let names = names_of(&task.bytes);
+            repeat(count, || emit_each(black_box(&names), true))
         }
         Kind::Parse => {
             let texts: Vec<&str> = std::str::from_utf8(&task.bytes).expect("UTF-8").lines().collect();
@@ -62,9 +66,10 @@ fn read_each(message: &[u8], starts: &[u32]) -> u64 {
     })
 }
 
-fn emit_each(names: &[Name]) -> u64 {
+fn emit_each(names: &[Name], canonical: bool) -> u64 {
     let mut message = Vec::new();
     let mut encoder = BinEncoder::new(&mut message);
+    encoder.set_canonical_names(canonical);
     let refused = sum_mut(names, |name| if name.emit(&mut encoder).is_err() { REFUSED } else { 0 });
     drop(encoder);
     refused + black_box(&message).len() as u64
