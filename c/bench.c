@@ -28,5 +28,14 @@ int main(void)
     EXPECT(dnw_compare(BYTES("\001b\000\001A\000\001a\000\001c\000"), 2) == 2 * (2 + 1 + 0));
     EXPECT(dnw_sort(BYTES("\002bb\000\001A\000\000"), 1) == 1 * 1 + 2 * 3 + 3 * 4);
     EXPECT(dnw_hash(BYTES("\001A\000"), 1) == dnw_hash(BYTES("\001a\000"), 1));
+    EXPECT(dnw_lex(BYTES("@ IN (a bc) ; to the end\n"), 2) == 2 * (1 + 3 + 4 + 1));
+    EXPECT(dnw_lex(BYTES("a )"), 1) == ((uint64_t)1 << 40) + 2);
+    EXPECT(dnw_lex(BYTES("\377"), 1) == 0);
+    EXPECT(dnw_parse_ttls(BYTES("1h30m\n300\n"), 2) == 2 * 5700);
+    EXPECT(dnw_parse_ttls(BYTES("1x\n1s\n"), 1) == ((uint64_t)1 << 40) + 1);
+    EXPECT(dnw_read_type_sets(BYTES("\000\003\000\001\140\000\000"), 2) == 4);
+    EXPECT(dnw_read_type_sets(BYTES("\000\003\000\000\001"), 1) == (uint64_t)1 << 40);
+    EXPECT(dnw_emit_type_sets(BYTES("\000\004\000\002\140\000\000\000"), 2) == 2 * 3);
+    EXPECT(dnw_emit_type_sets(BYTES("\000\003\000"), 2) == 0);
     return 0;
 }

@@ -2,7 +2,8 @@
    to be timed: they promise to be safe and to return, and 0 if `count` is 0.
 
    Each does its set-up once, works through its input `count` times, and returns the sum of the checksums modulo 2^64. A
-   failure adds 2^40. `names` is wire forms, one after another; `texts` has a line feed after each text. */
+   failure adds 2^40. `names` is wire forms, one after another; `texts` has a line feed after each text;
+   `sets` is bitmaps of record types, each after two octets that have its length. */
 #ifndef DNW_BENCH_H
 #define DNW_BENCH_H
 
@@ -42,6 +43,18 @@ uint64_t dnw_sort(const uint8_t *names, size_t len, uint64_t count);
 
 /* Hashes each name by SipHash 1-3: the hashes. */
 uint64_t dnw_hash(const uint8_t *names, size_t len, uint64_t count);
+
+/* Takes the tokens of a text: for each token 1 and the bytes of its texts. */
+uint64_t dnw_lex(const uint8_t *text, size_t len, uint64_t count);
+
+/* Reads each text as a time to live: the seconds. */
+uint64_t dnw_parse_ttls(const uint8_t *texts, size_t len, uint64_t count);
+
+/* Reads each set of types: the numbers of types. */
+uint64_t dnw_read_type_sets(const uint8_t *sets, size_t len, uint64_t count);
+
+/* Writes a set of the same types as each into a new message: the lengths of the messages. */
+uint64_t dnw_emit_type_sets(const uint8_t *sets, size_t len, uint64_t count);
 
 #ifdef __cplusplus
 }

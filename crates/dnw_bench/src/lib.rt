@@ -9,8 +9,12 @@ ghost use Rattle.std.specs.Prelude.{◌≡◌};
 use dns_names_wire::binary::BinEncodable;
 use dns_names_wire::decoder::BinDecoder;
 use dns_names_wire::encoder::{BinEncoder, NameEncoding};
-use dns_names_wire::error::ProtoResult;
+use dns_names_wire::error::{DecodeError, ProtoResult};
 use dns_names_wire::name::Name;
+use dns_names_wire::record_data::RecordDataDecodable;
+use dns_names_wire::record_type_set::RecordTypeSet;
+use dns_names_wire::restrict::Restrict;
+use dns_names_wire::txt::{Lexer, Token, parse_ttl};
 use std::alloc::{AllocError, Global};
 use std::cmp::Ordering;
 use std::hash::{DefaultHasher, Hash, Hasher};
@@ -180,6 +184,135 @@ pub extern "C" fn dnw_hash(alloc: Global, names: &[u8], count: u64) -> u64
     sum
 }
 
+/// Takes the tokens of a text: for each 1 and the bytes of its texts. If the text is not UTF-8, the result is 0.
+#[unsafe(no_mangle)]
+pub extern "C" fn dnw_lex(alloc: Global, text: &[u8], count: u64) -> u64
+    ensures idle { count ≡ 0 → result ≡ 0 }
+{
+    let Ok(text) = str::from_utf8(text) else {
+        return 0;
+    };
+    let mut sum = 0u64;
+    for _round in 0..count {
+        sum = sum.wrapping_add(lex_all(alloc, text));
+    }
+    sum
+}
+
+/// Reads the texts, each ended by a line feed, as times to live: the sum of the seconds. If they are not UTF-8, the result
+/// is 0.
+#[unsafe(no_mangle)]
+pub extern "C" fn dnw_parse_ttls(alloc: Global, texts: &[u8], count: u64) -> u64
+    ensures idle { count ≡ 0 → result ≡ 0 }
+{
+    let Ok(text) = str::from_utf8(texts) else {
+        return 0;
+    };
+    let Ok(lines) = lines_of(alloc, text) else {
+        return 0;
+    };
+    let mut sum = 0u64;
+    for _round in 0..count {
+        sum = sum.wrapping_add(parse_each_ttl(alloc, lines.as_slice()));
+    }
+    sum
+}
+
+/// Reads the sets of types of a list: the sum of the numbers of types.
+#[unsafe(no_mangle)]
+pub extern "C" fn dnw_read_type_sets(alloc: Global, sets: &[u8], count: u64) -> u64
+    ensures idle { count ≡ 0 → result ≡ 0 }
+{
+    let Ok(bitmaps) = bitmaps_of(alloc, sets) else {
+        return 0;
+    };
+    let mut sum = 0u64;
+    for _round in 0..count {
+        sum = sum.wrapping_add(read_each_set(alloc, bitmaps.as_slice()));
+    }
+    sum
+}
+
+/// Writes sets of the same types as those of a list: the sum of the lengths.
+#[unsafe(no_mangle)]
+pub extern "C" fn dnw_emit_type_sets(alloc: Global, sets: &[u8], count: u64) -> u64
+    ensures idle { count ≡ 0 → result ≡ 0 }
+{
+    let Ok(sets) = sets_of(alloc, sets) else {
+        return 0;
+    };
+    let mut sum = 0u64;
+    for _round in 0..count {
+        sum = sum.wrapping_add(emit_each_set(alloc, sets.as_slice()));
+    }
+    sum
+}
+
+fn lex_all(alloc: Global, text: &str) -> u64 {
+    let mut lexer = Lexer::new(text);
+    let mut sum = 0u64;
+    for _ in 0..text.len() {
+        match lexer.next_token(alloc) {
+            Ok(Some(token)) => sum = sum.wrapping_add(token_size(&token)),
+            Ok(None) => return sum,
+            Err(_) => return sum.wrapping_add(FAILURE),
+        }
+    }
+    sum
+}
+
+#[inline]
+fn token_size(token: &Token) -> u64 {
+    match token {
+        Token::CharData(text) => (text.len() as u64).wrapping_add(1),
+        Token::List(words) => {
+            let mut sum = 1u64;
+            for word in words {
+                sum = sum.wrapping_add(word.len() as u64);
+            }
+            sum
+        }
+        _ => 1,
+    }
+}
+
+fn parse_each_ttl(alloc: Global, texts: &[&str]) -> u64 {
+    let mut sum = 0u64;
+    for text in texts {
+        sum = sum.wrapping_add(match parse_ttl(alloc, text) {
+            Ok(seconds) => seconds as u64,
+            Err(_) => FAILURE,
+        });
+    }
+    sum
+}
+
+fn read_each_set(alloc: Global, bitmaps: &[&[u8]]) -> u64 {
+    let mut sum = 0u64;
+    for bitmap in bitmaps {
+        match read_set(alloc, bitmap) {
+            Ok(set) => {
+                for _kind in set.iter() {
+                    sum = sum.wrapping_add(1);
+                }
+            }
+            Err(_) => sum = sum.wrapping_add(FAILURE),
+        }
+    }
+    sum
+}
+
+fn emit_each_set(alloc: Global, sets: &[RecordTypeSet]) -> u64 {
+    let mut sum = 0u64;
+    for set in sets {
+        sum = sum.wrapping_add(match set.to_bytes(alloc) {
+            Ok(bytes) => bytes.len() as u64,
+            Err(_) => FAILURE,
+        });
+    }
+    sum
+}
+
 fn compare_each(names: &[Name]) -> u64 {
     let mut sum = 0u64;
     for pair in names.windows(2) {
@@ -301,4 +434,33 @@ fn lines_of(alloc: Global, text: &str) -> Result<Vec<&str>, AllocError> {
         lines.push(line)?;
     }
     Ok(lines)
+}
+
+/// Returns the bitmaps of a list, in which two octets before each are its length.
+fn bitmaps_of(alloc: Global, list: &[u8]) -> ProtoResult<Vec<&[u8]>> {
+    let mut decoder = BinDecoder::new(list);
+    let mut bitmaps = Vec::new(alloc);
+    for _ in 0..list.len() {
+        if decoder.is_empty() {
+            break;
+        }
+        let len = decoder.read_u16()?.unverified();
+        bitmaps.push(decoder.read_slice(len as usize)?.unverified())?;
+    }
+    Ok(bitmaps)
+}
+
+/// Returns new sets of the types that the bitmaps of a list have.
+fn sets_of(alloc: Global, list: &[u8]) -> ProtoResult<Vec<RecordTypeSet>> {
+    let mut sets = Vec::new(alloc);
+    for bitmap in bitmaps_of(alloc, list)?.as_slice() {
+        sets.push(RecordTypeSet::new(alloc, read_set(alloc, bitmap)?.iter())?)?;
+    }
+    Ok(sets)
+}
+
+#[inline]
+fn read_set(alloc: Global, bitmap: &[u8]) -> Result<RecordTypeSet, DecodeError> {
+    let length = Restrict::new((bitmap.len() % 65536) as u16);
+    RecordTypeSet::read_data(alloc, &mut BinDecoder::new(bitmap), length)
 }
