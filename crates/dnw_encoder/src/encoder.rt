@@ -120,6 +120,14 @@ impl<'a> BinEncoder<'a> {
         self.max_size = max;
     }
 
+    /// Returns the maximum size, in bytes.
+    #[inline(always)]
+    pub fn max_size(&self) -> u16
+        ensures { result ≡ (value self.now).max_size }
+    {
+        self.max_size
+    }
+
     /// Ends the encoder and returns the buffer.
     pub fn into_bytes(self) -> &'a Vec<u8>
         ensures { result.now.items ≡ (value self.entry).bytes }
