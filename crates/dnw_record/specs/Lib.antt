@@ -1,2 +1,5 @@
 pub mod Records
 pub mod Fields
+pub mod WrittenRecords
+pub mod RecordFrames
+pub mod RecordLaws

@@ -1,0 +1,142 @@
+-- Writing a record keeps the frame of `emit`.
+use Rattle.std.proofs.Common.{◌≡◌, ℕ, ◌+◌, ◌-◌, ◌≤◌, List, [], ◌∷◌, ◌++◌, length, take, drop, replicate, Ok, Err, inl, inr, refl, sym, ap, ◌∙◌, subst, arith}
+use Rattle.std.specs.Int.{w16, w32, to_be_bytes}
+use Rattle.std.proofs.lemmas.List.{length-append, length-take, length-replicate, length-drop, length-take-le, take-append-le, take-take}
+use Rattle.dnw_error.specs.declared.error.ProtoError.{ProtoError}
+use Rattle.dnw_error.specs.declared.error.ProtoError.TheVariants.{MaxBufferSizeExceeded, Memory}
+use Rattle.dnw_error.specs.RecordTypes.{type_code}
+use Rattle.dnw_error.specs.DnsClasses.{class_code}
+use Rattle.dnw_encoder.specs.declared.encoder.modes.NameEncoding.{NameEncoding}
+use Rattle.dnw_encoder.specs.Encoder.{Encoder, TakesRoom, Writes, filled, mode_of_rdata, reserved}
+use Rattle.dnw_encoder.specs.Emitting.{Outcome, Frame}
+use Rattle.dnw_encoder.specs.EmittingLaws.{candidates_before-twice, frame, frame-moved, frame-same, frames-follow, take-all}
+use Rattle.dnw_encoder.specs.EmittedName.{EmitsName}
+use Rattle.dnw_encoder.specs.NameFrames.{frame-name}
+use Rattle.dnw_encoder.specs.Marks.{mark_of, rewound}
+use Rattle.dnw_record.specs.declared.record.WireRecord.{WireRecord}
+use Rattle.dnw_record.specs.declared.record.WireData.{WireData}
+use Rattle.dnw_record.specs.declared.record.WireData.TheVariants.{Bytes, Name}
+use Rattle.dnw_record.specs.WrittenRecords.{Write, Then, EmitsData, EmitsSized, EmitsFields, EmitsRecord, in_encoding, with_length}
+
+-- what writes keep that begin at the buffer's end
+abbrev pub KeepsFrame : Write → Type 0
+KeepsFrame write = (v : Encoder) (outcome : Outcome) (w : Encoder) → v.offset ≡ length v.bytes → write v outcome w → Frame v outcome w
+
+frame-then : (first second : Write) → KeepsFrame first → KeepsFrame second → KeepsFrame (Then first second)
+frame-then first second keeps follows v (Ok tt) w e h =
+    let one = keeps v (Ok tt) h.0 e h.1 in
+    frames-follow v h.0 w (Ok tt) e one (follows h.0 (Ok tt) w one.ends h.2)
+frame-then first second keeps follows v (Err error) w e (inl h) = keeps v (Err error) w e h
+frame-then first second keeps follows v (Err error) w e (inr h) =
+    let one = keeps v (Ok tt) h.0 e h.1 in
+    frames-follow v h.0 w (Err error) e one (follows h.0 (Err error) w one.ends h.2)
+
+-- ---- data
+
+frame-in_mode : (v : Encoder) (mode : NameEncoding) (outcome : Outcome) (u : Encoder) → Frame (in_encoding v mode) outcome u
+    → Frame v outcome (in_encoding u v.encoding)
+frame-in_mode v mode outcome u f =
+    record {
+      bytes = f.bytes;
+      candidates = f.candidates;
+      encoding = refl;
+      canonical = f.canonical;
+      max_size = f.max_size;
+      candidate_limit = f.candidate_limit;
+      name_limit = f.name_limit;
+      ends = f.ends;
+    }
+
+pub frame-data : (rdata : WireData) (v : Encoder) (outcome : Outcome) (w : Encoder) → v.offset ≡ length v.bytes → EmitsData rdata v outcome w → Frame v outcome w
+frame-data (Bytes bytes) v outcome w e h = frame v bytes.items outcome w e h
+frame-data (Name name encoding) v outcome w e h =
+    let mode = mode_of_rdata encoding v.canonical v.encoding in
+    let P : Encoder → Type 0 = λ x. Frame v outcome x in
+    subst P (sym h.2) (frame-in_mode v mode outcome h.0 (frame-name name (in_encoding v mode) outcome h.0 e h.1))
+
+-- ---- the length
+
+frame-reserved : (v : Encoder) → v.offset ≡ length v.bytes → Frame v (Ok tt) (reserved v 2)
+frame-reserved v e =
+    let zeros = replicate {A = ℕ} (v.offset + 2 - length v.bytes) 0 in
+    let front = take (v.offset + 2) v.bytes in
+    let le : v.offset ≤ length front = omega (arith, e, length-take (v.offset + 2) v.bytes) in
+    let same : take v.offset (front ++ zeros) ≡ v.bytes =
+    take-append-le v.offset front zeros le ∙ (take-take v.offset (v.offset + 2) v.bytes (omega arith) ∙ take-all v.offset v.bytes e) in
+    frame-moved v (Ok tt) _ _ v.candidates v.names same refl
+    (omega (arith, e, length-append front zeros, length-take (v.offset + 2) v.bytes, length-replicate {A = ℕ} (v.offset + 2 - length v.bytes) 0))
+
+-- filling two octets after the start keeps the frame
+frame-filled : (v u : Encoder) (two : List ℕ) → length two ≡ 2 → Frame v (Ok tt) u → v.offset + 2 ≤ u.offset → Frame v (Ok tt) (filled u v.offset two)
+frame-filled v u two size f le =
+    let o = v.offset in
+    let behind = two ++ drop (o + length two) u.bytes in
+    let long : o ≤ length u.bytes = omega (arith, le, f.ends) in
+    let front : o ≤ length (take o u.bytes) = omega (arith, length-take-le o u.bytes long) in
+    let over : length (take o u.bytes ++ behind) ≡ length u.bytes =
+    omega (arith, le, f.ends, size, length-append (take o u.bytes) behind, length-append two (drop (o + length two) u.bytes), length-drop (o + length two) u.bytes, length-take-le o u.bytes long) in
+    record {
+      bytes = take-append-le o (take o u.bytes) behind front ∙ (take-take o o u.bytes (omega arith) ∙ f.bytes);
+      candidates = f.candidates;
+      encoding = f.encoding;
+      canonical = f.canonical;
+      max_size = f.max_size;
+      candidate_limit = f.candidate_limit;
+      name_limit = f.name_limit;
+      ends = f.ends ∙ sym over;
+    }
+
+-- what follows a frame is no shorter
+pub frame-grows : (v u : Encoder) (outcome : Outcome) → v.offset ≡ length v.bytes → Frame v outcome u → v.offset ≤ length u.bytes
+frame-grows v u outcome e f = omega (arith, e, ap length f.bytes, length-take v.offset u.bytes)
+
+frame-room : (v : Encoder) (error : ProtoError) (w : Encoder) → v.offset ≡ length v.bytes → TakesRoom {A = Unit {0}} v 2 (reserved v 2) (Err error) w → Frame v (Err error) w
+frame-room v Memory w e h = let P : Encoder → Type 0 = λ x. Frame v (Err Memory) x in subst P (sym h.2) (frame-same v (Err Memory) e)
+frame-room v (MaxBufferSizeExceeded size) w e h =
+    let P : Encoder → Type 0 = λ x. Frame v (Err (MaxBufferSizeExceeded size)) x in
+    subst P (sym h.2) (frame-same v (Err (MaxBufferSizeExceeded size)) e)
+frame-room v error w e h = absurd h
+
+frame-sized : (rdata : WireData) → KeepsFrame (EmitsSized rdata)
+frame-sized rdata v (Ok tt) w e (room, u, one, is) =
+    let first = frame-reserved v e in
+    let second = frame-data rdata (reserved v 2) (Ok tt) u first.ends one in
+    let both = frames-follow v (reserved v 2) u (Ok tt) e first second in
+    let le : v.offset + 2 ≤ u.offset = omega (arith, second.ends, frame-grows (reserved v 2) u (Ok tt) first.ends second) in
+    let P : Encoder → Type 0 = λ x. Frame v (Ok tt) x in
+    subst P (sym is) (frame-filled v u (to_be_bytes w16 (u.offset - (v.offset + 2))) refl both le)
+frame-sized rdata v (Err error) w e (inl h) = frame-room v error w e h
+frame-sized rdata v (Err error) w e (inr h) =
+    let first = frame-reserved v e in
+    frames-follow v (reserved v 2) w (Err error) e first (frame-data rdata (reserved v 2) (Err error) w first.ends h.1)
+
+-- ---- records
+
+pub frame-fields : (r : WireRecord) → KeepsFrame (EmitsFields r)
+frame-fields r =
+    let kind = to_be_bytes w16 (type_code r.record_type) in
+    let class = to_be_bytes w16 (class_code r.class) in
+    let ttl = to_be_bytes w32 r.ttl in
+    let bytes : (d : List ℕ) → KeepsFrame (λ v. Writes v d) = λ d v outcome w e h. frame v d outcome w e h in
+    let last = frame-then (λ v. Writes v ttl) (EmitsSized r.rdata) (bytes ttl) (frame-sized r.rdata) in
+    let more = frame-then (λ v. Writes v class) _ (bytes class) last in
+    frame-then (EmitsName r.owner) _ (λ v outcome w e h. frame-name r.owner v outcome w e h) (frame-then (λ v. Writes v kind) _ (bytes kind) more)
+
+frame-rewound : (v u : Encoder) (error : ProtoError) → Frame v (Err error) u → Frame v (Err error) (rewound u (mark_of v))
+frame-rewound v u error f =
+    record {
+      bytes = take-take v.offset v.offset u.bytes (omega arith) ∙ f.bytes;
+      candidates = candidates_before-twice v.offset v.offset u.candidates (omega arith) ∙ f.candidates;
+      encoding = f.encoding;
+      canonical = f.canonical;
+      max_size = f.max_size;
+      candidate_limit = f.candidate_limit;
+      name_limit = f.name_limit;
+      ends = tt;
+    }
+
+pub frame-record : (r : WireRecord) (v : Encoder) (outcome : Outcome) (w : Encoder) → v.offset ≡ length v.bytes → EmitsRecord r v outcome w → Frame v outcome w
+frame-record r v (Ok tt) w e h = frame-fields r v (Ok tt) w e h
+frame-record r v (Err error) w e (u, fields, is) =
+    let P : Encoder → Type 0 = λ x. Frame v (Err error) x in
+    subst P (sym is) (frame-rewound v u error (frame-fields r v (Err error) u e fields))

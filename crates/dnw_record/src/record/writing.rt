@@ -1,0 +1,99 @@
+//! Records are written.
+ghost use Rattle.std.specs.Prelude.{◌≡◌};
+ghost use Rattle.dnw_encoder.specs.Encoder.{mode_of_rdata};
+ghost use Rattle.dnw_encoder.specs.EncoderValue.{value, lender};
+ghost use Rattle.dnw_record.specs.WrittenRecords.{EmitsData, EmitsDataName, EmitsSized, EmitsFields, EmitsRecord};
+ghost use Rattle.dnw_record.specs.RecordFrames.{frame-data, frame-record};
+
+use super::{WireData, WireRecord};
+use dnw_encoder::binary::BinEncodable;
+use dnw_encoder::encoder::{BinEncoder, NameEncoding, RDataEncoding};
+use dnw_error::error::ProtoResult;
+use dnw_name::name::Name;
+
+impl BinEncodable for WireData {
+    ghost emits = { EmitsData };
+
+    ghost keeps_frame = { frame-data };
+
+    /// Writes the data alone, without their length: a name in the mode for such data.
+    fn emit(&self, encoder: &mut BinEncoder<'_>) -> ProtoResult<()> {
+        match self {
+            WireData::Bytes(bytes) => encoder.emit_vec(bytes.as_slice()),
+            WireData::Name { name, encoding } => emit_data_name(name, *encoding, encoder),
+        }
+    }
+}
+
+impl BinEncodable for WireRecord {
+    ghost emits = { EmitsRecord };
+
+    ghost keeps_frame = { frame-record };
+
+    /// Writes the owner, the type, the class, the time to live, the length and the data. If one of them fails, the encoder
+    /// is put back to where it was.
+    fn emit(&self, encoder: &mut BinEncoder<'_>) -> ProtoResult<()> {
+        let mark = encoder.mark();
+        let outcome = emit_fields(self, encoder);
+        if outcome.is_err() {
+            encoder.rewind(mark);
+        }
+        outcome
+    }
+}
+
+/// Writes the fields of a record in turn, up to the first that fails.
+fn emit_fields(item: &WireRecord, encoder: &mut BinEncoder<'_>) -> ProtoResult<()>
+    ensures writes { EmitsFields item.now (value encoder.old) result (value encoder.new) }
+    ensures lender { lender encoder.new ≡ lender encoder.old }
+{
+    item.owner.emit(encoder)?;
+    item.record_type.emit(encoder)?;
+    item.class.emit(encoder)?;
+    item.ttl.emit(encoder)?;
+    emit_sized(&item.rdata, encoder)
+}
+
+/// Writes data after their length.
+fn emit_sized(rdata: &WireData, encoder: &mut BinEncoder<'_>) -> ProtoResult<()>
+    ensures writes { EmitsSized rdata.now (value encoder.old) result (value encoder.new) }
+    ensures lender { lender encoder.new ≡ lender encoder.old }
+{
+    let place = encoder.place::<u16>()?;
+    rdata.emit(encoder)?;
+    let most = encoder.max_size();
+    let len = encoder.len_since_place(&place);
+    // No write ends past the maximum, so two octets hold the length.
+    prove!(len <= most as usize);
+    encoder.emit_at(place, len as u16)
+}
+
+/// Writes a name in the mode for such data, and puts the former mode back in any case.
+fn emit_data_name(
+    name: &Name,
+    encoding: RDataEncoding,
+    encoder: &mut BinEncoder<'_>,
+) -> ProtoResult<()>
+    ensures writes { EmitsDataName name.now encoding (value encoder.old) result (value encoder.new) }
+    ensures lender { lender encoder.new ≡ lender encoder.old }
+{
+    let former = encoder.name_encoding();
+    let mode = data_mode(encoding, encoder.is_canonical_form(), former);
+    encoder.set_name_encoding(mode);
+    let outcome = name.emit(encoder);
+    encoder.set_name_encoding(former);
+    outcome
+}
+
+/// Returns how names of such data are written: in canonical form or not, given the encoder's own mode.
+fn data_mode(encoding: RDataEncoding, canonical: bool, mode: NameEncoding) -> NameEncoding
+    ensures { result ≡ mode_of_rdata encoding canonical mode }
+{
+    match (encoding, canonical) {
+        (RDataEncoding::StandardRecord, false) => mode,
+        (RDataEncoding::StandardRecord, true) | (RDataEncoding::Canonical, true) => {
+            NameEncoding::UncompressedLowercase
+        }
+        (RDataEncoding::Canonical, false) | (RDataEncoding::Other, _) => NameEncoding::Uncompressed,
+    }
+}
