@@ -1,7 +1,7 @@
 -- At each place there is one record at most, or one error.
-use Rattle.std.proofs.Common.{◌≡◌, ◌≢◌, ℕ, ◌+◌, ◌-◌, ◌≤◌, List, length, Result, Ok, Err, IfOk, true, inl, inr, refl, sym, ap, ◌∙◌, subst, arith, zero-add}
+use Rattle.std.proofs.Common.{◌≡◌, ◌≢◌, ℕ, ◌+◌, ◌-◌, ◌≤◌, List, length, Result, Ok, Err, IfOk, true, inl, inr, sym, ap, ◌∙◌, subst, arith, zero-add}
 use Rattle.std.specs.Prelude.{⊤}
-use Rattle.dnw_base.specs.Decoder.{Decoder, Takes, advanced}
+use Rattle.dnw_base.specs.Decoder.{Decoder, Takes}
 use Rattle.dnw_base.proofs.DecoderReads.{Takes-enough}
 use Rattle.dnw_base.specs.Names.{NameValue}
 use Rattle.dnw_error.specs.declared.error.DecodeError.{DecodeError}

@@ -1,5 +1,5 @@
 -- Writing a record keeps the frame of `emit`.
-use Rattle.std.proofs.Common.{◌≡◌, ℕ, ◌+◌, ◌-◌, ◌≤◌, List, [], ◌∷◌, ◌++◌, length, take, drop, replicate, Ok, Err, inl, inr, refl, sym, ap, ◌∙◌, subst, arith}
+use Rattle.std.proofs.Common.{◌≡◌, ℕ, ◌+◌, ◌-◌, ◌≤◌, List, ◌++◌, length, take, drop, replicate, Ok, Err, inl, inr, refl, sym, ap, ◌∙◌, subst, arith}
 use Rattle.std.specs.Int.{w16, w32, to_be_bytes}
 use Rattle.std.proofs.lemmas.List.{length-append, length-take, length-replicate, length-drop, length-take-le, take-append-le, take-take}
 use Rattle.dnw_error.specs.declared.error.ProtoError.{ProtoError}
@@ -16,7 +16,7 @@ use Rattle.dnw_encoder.specs.Marks.{mark_of, rewound}
 use Rattle.dnw_record.specs.declared.record.WireRecord.{WireRecord}
 use Rattle.dnw_record.specs.declared.record.WireData.{WireData}
 use Rattle.dnw_record.specs.declared.record.WireData.TheVariants.{Bytes, Name}
-use Rattle.dnw_record.specs.WrittenRecords.{Write, Then, EmitsData, EmitsSized, EmitsFields, EmitsRecord, in_encoding, with_length}
+use Rattle.dnw_record.specs.WrittenRecords.{Write, Then, EmitsData, EmitsSized, EmitsFields, EmitsRecord, in_encoding}
 
 -- what writes keep that begin at the buffer's end
 abbrev pub KeepsFrame : Write → Type 0

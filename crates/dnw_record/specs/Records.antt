@@ -1,6 +1,6 @@
 -- Resource records in a message (RFC 1035, sections 3.2.1 and 4.1.3): the owner, then two octets of type, two of class,
 -- four of the time to live, two of the length of the data, and the data.
-use Rattle.std.specs.Prelude.{◌≡◌, ◌≢◌, ℕ, ◌+◌, ◌-◌, ◌<◌, ◌≤◌, true, List, length, slice_range, ◌⊎◌}
+use Rattle.std.specs.Prelude.{◌≡◌, ◌≢◌, ℕ, ◌+◌, ◌-◌, ◌≤◌, true, List, length, slice_range, ◌⊎◌}
 use Rattle.std.specs.Int.{w16, w32, from_be_bytes}
 use Rattle.dnw_error.specs.declared.error.DecodeError.{DecodeError}
 use Rattle.dnw_error.specs.declared.error.DecodeError.TheVariants.{IncorrectRDataLengthRead, InsufficientBytes}

@@ -1,6 +1,5 @@
 -- The data end within the maximum, and so their length fits two octets.
-use Rattle.std.proofs.Common.{◌≡◌, ◌≤◌, ◌+◌, ap, ◌∙◌, arith}
-use Rattle.dnw_encoder.specs.Encoder.{Encoder}
+use Rattle.std.proofs.Common.{arith}
 use Rattle.dnw_encoder.specs.EncoderValue.{value}
 use Rattle.dnw_record.proofs.Writing.{data-bounded}
 use Rattle.dnw_record.proofs.record.writing.emit_sized.Goals as goal

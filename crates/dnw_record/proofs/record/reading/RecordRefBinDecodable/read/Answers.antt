@@ -1,5 +1,5 @@
 -- What the second decoder takes, the first one takes, and the definition allows no other answer.
-use Rattle.std.proofs.Common.{◌≡◌, ℕ, List, refl, ap, ◌∙◌}
+use Rattle.std.proofs.Common.{◌≡◌, ℕ, List, refl}
 use Rattle.std.proofs.lemmas.Result.{err_from_is_err_and}
 use Rattle.dnw_base.specs.Decoder.{Decoder}
 use Rattle.dnw_record.specs.Records.{TakesRecord, FailsRecord}
