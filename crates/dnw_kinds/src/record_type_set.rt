@@ -31,6 +31,7 @@ const USUAL_TYPES: usize = 16;
 
 mod bitmap;
 mod laws;
+mod octets;
 mod type_iter;
 mod writing;
 

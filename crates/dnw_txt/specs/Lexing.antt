@@ -1,9 +1,9 @@
 -- What a lexer's calls return, and what any number of them do.
-use Rattle.std.specs.Prelude.{◌≡◌, ℕ, ◌≤◌, ⊤, List, [], ◌∷◌, length, map, Option, Some, None, Result, Ok, Err, String, string_bytes, codes}
+use Rattle.std.specs.Prelude.{◌≡◌, ℕ, ◌≤◌, Bool, true, false, ⊤, List, [], ◌∷◌, length, map, Option, Some, None, Result, Ok, Err, String, string_bytes, codes}
 use Rattle.std.specs.declared.alloc.Global.{Global}
 use Rattle.std.specs.Str.{chars}
 use Rattle.std.specs.List.{AllByRecursion}
-use Rattle.dnw_txt.specs.Tokens.{TokenValue, Blank, Grouped, CharData, AtSign, Include, Origin, Ttl, LineEnd, LexFault, EndOfText, IllegalCharacter, UnrecognizedChar, UnclosedList, UnclosedQuote, UnrecognizedDollar, HasFailed, RestOfLine, Failed, Step, Gives, Ends, Stops, LexerValue, next}
+use Rattle.dnw_txt.specs.Tokens.{TokenValue, Blank, Grouped, CharData, AtSign, Include, Origin, Ttl, LineEnd, LexFault, EndOfText, IllegalCharacter, UnrecognizedChar, UnclosedList, UnclosedQuote, UnrecognizedDollar, HasFailed, LexState, StartLine, RestOfLine, Failed, Step, Gives, Ends, Stops, LexerValue, next}
 use Rattle.dnw_txt.specs.declared.zone_lex.Token.{Token}
 use Rattle.dnw_txt.specs.declared.zone_lex.Token.TheVariants.{Blank as BlankToken, List as ListToken, CharData as CharDataToken, At as AtToken, Include as IncludeToken, Origin as OriginToken, Ttl as TtlToken, EOL as EndToken}
 use Rattle.dnw_txt.specs.declared.errors.LexerError.{LexerError}
@@ -22,6 +22,11 @@ token_value IncludeToken = Include
 token_value OriginToken = Origin
 token_value TtlToken = Ttl
 token_value EndToken = LineEnd
+
+-- at the start of a line, or in the rest of one
+abbrev pub line_state : Bool → LexState
+line_state true = StartLine
+line_state false = RestOfLine
 
 -- the error is this fixed text
 abbrev pub IsIllegalState : List ℕ → LexerError → Type 0

@@ -12,6 +12,8 @@ use std::alloc::Global;
 use std::marker::Model;
 use unicode::properties::GeneralCategory;
 
+mod resume;
+
 /// What stands next in a master file.
 #[derive(Debug, Drop, PartialEq, Eq)]
 pub enum Token {
