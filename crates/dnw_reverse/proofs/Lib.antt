@@ -1,0 +1,5 @@
+pub mod Decimals
+pub mod Segments
+pub mod Values
+pub mod ValueLabels
+pub mod Back

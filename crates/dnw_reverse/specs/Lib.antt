@@ -1,0 +1,4 @@
+pub mod Arpa
+pub mod ArpaNets
+pub mod ArpaLaws
+pub mod Inside
