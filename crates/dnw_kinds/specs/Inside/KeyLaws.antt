@@ -6,8 +6,8 @@ use Rattle.std.specs.Cmp.{IsTotalOrder, IsPartialOrder, IsEquivalence, IsPartial
 use Rattle.std.specs.Hash.{HashWrites}
 use Rattle.dnw_error.specs.RecordTypes.{type_cmp, type_hash}
 use Rattle.dnw_error.specs.Inside.RecordTypeLaws.{types-hash_alike}
-use Rattle.dnw_form.specs.Order.{name_cmp_case, name_eq_case}
-use Rattle.dnw_form.specs.OrderLaws.{name_cmp_case_total, name_eq_case_equiv, name_case_ties}
+use Rattle.dnw_order.specs.Order.{name_cmp_case, name_eq_case}
+use Rattle.dnw_order.specs.OrderLaws.{name_cmp_case_total, name_eq_case_equiv, name_case_ties}
 use Rattle.dnw_lower.specs.LowerNames.{lower_name_hash_input, lower_name_hash_alike}
 use Rattle.dnw_kinds.specs.declared.rr_key.RrKey.{RrKey}
 use Rattle.dnw_kinds.specs.Keys.{key_cmp, key_eq, key_hash}
