@@ -7,7 +7,9 @@ use dns_names_wire::encoder::BinEncoder;
 use dns_names_wire::label::Label;
 use dns_names_wire::lower_name::LowerName;
 use dns_names_wire::name::Name;
+use dns_names_wire::record_data::RecordDataDecodable;
 use dns_names_wire::record_type::RecordType;
+use dns_names_wire::restrict::Restrict;
 use std::test::Fail;
 
 /// The numbers 1, -2 and 3, the type AAAA, the class IN and the name `A.`
@@ -38,6 +40,15 @@ fn a_name_is_read_from_bytes(rt: HostRuntime) -> Result<(), Fail> {
     assert_eq!(rt; name.to_ascii(rt.alloc())?.as_str(), "A.");
     let lower = LowerName::from_bytes(rt.alloc(), b"\x01A\x00".as_slice()).map_err(|_| "a name")?;
     assert_eq!(rt; lower.to_ascii(rt.alloc())?.as_str(), "a.");
+    Ok(())
+}
+
+#[test]
+fn a_name_in_lower_case_is_read_from_record_data(rt: HostRuntime) -> Result<(), Fail> {
+    let mut decoder = BinDecoder::new(b"\x01A\x00");
+    let length = Restrict::new(3u16);
+    let name = LowerName::read_data(rt.alloc(), &mut decoder, length).map_err(|_| "a name")?;
+    assert_eq!(rt; name.to_ascii(rt.alloc())?.as_str(), "a.");
     Ok(())
 }
 
