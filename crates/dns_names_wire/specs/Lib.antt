@@ -40,6 +40,7 @@ pub use Rattle.dnw_encoder.specs.Encoder
 pub use Rattle.dnw_encoder.specs.EncoderLaws
 pub use Rattle.dnw_encoder.specs.EncoderValue
 pub use Rattle.dnw_encoder.specs.Guards
+pub use Rattle.dnw_encoder.specs.Marks
 pub use Rattle.dnw_encoder.specs.NameFrames
 pub use Rattle.dnw_lower.specs.LowerNames
 pub use Rattle.dnw_kinds.specs.Keys
@@ -47,3 +48,7 @@ pub use Rattle.dnw_kinds.specs.Serials
 pub use Rattle.dnw_kinds.specs.TypeSets
 pub use Rattle.dnw_kinds.specs.RecordData
 pub use Rattle.dnw_kinds.specs.SetLaws
+pub use Rattle.dnw_record.specs.Records
+pub use Rattle.dnw_record.specs.WrittenRecords
+pub use Rattle.dnw_record.specs.RecordFrames
+pub use Rattle.dnw_record.specs.RecordLaws

@@ -45,9 +45,15 @@ pub use Rattle.dnw_encoder.specs.EmittingLaws.{frame, fails-unchanged}
 pub use Rattle.dnw_encoder.specs.EmittedName.{EmitsName, EmitsLabels, pointer_to}
 pub use Rattle.dnw_encoder.specs.NameFrames.{frame-name}
 pub use Rattle.dnw_encoder.specs.Guards.{Guards, guarded, former}
+pub use Rattle.dnw_encoder.specs.Marks.{MarkValue, mark_of, rewound, RewindingUndoes}
 pub use Rattle.dnw_candidates.specs.Candidates.{Finds, FindsUsable, suffixes}
 pub use Rattle.dnw_encoder.specs.EncoderLaws.{NameComesBack, NameIsRead, NamesTakeNoMore, PointersSave, FramesFollow, ItemsKeepFrame}
 pub use Rattle.dnw_encoder.specs.EncoderLaws.{FillsTakeNoMemory, FillsStayBounded, ItemsStayBounded, NamesStayBounded, PlacesStayBounded, WritesStayBounded}
+-- Resource records.
+pub use Rattle.dnw_record.specs.Records.{RecordValue, RecordAt, TakesRecord, FailsRecord, HasDataName, FailsDataName}
+pub use Rattle.dnw_record.specs.WrittenRecords.{EmitsData, EmitsRecord}
+pub use Rattle.dnw_record.specs.RecordFrames.{frame-data, frame-record}
+pub use Rattle.dnw_record.specs.RecordLaws.{RefusedRecordsUndo, RefusedDataUndo}
 -- Scripts.
 pub use Rattle.dns_names_wire.specs.Script.{Action, action, EmitsPart, EmitsScriptItem}
 pub use Rattle.dns_names_wire.specs.Pieces.{Account, Piece, opening}

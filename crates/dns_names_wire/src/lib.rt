@@ -27,8 +27,8 @@ pub mod dns_class {
 /// Writing messages of a bounded size, and what follows from the definitions of writing.
 pub mod encoder {
     pub use dnw_encoder::encoder::{
-        BinEncoder, CANDIDATE_LIMIT, ModalEncoder, NAME_LIMIT, NameEncoding, Place, RDataEncoding,
-        laws,
+        BinEncoder, CANDIDATE_LIMIT, Mark, ModalEncoder, NAME_LIMIT, NameEncoding, Place,
+        RDataEncoding, laws,
     };
 }
 
@@ -59,6 +59,11 @@ pub mod name_ref {
     pub use dnw_name::name_ref::NameRef;
     pub use dnw_reading::ref_labels::RefLabels;
     pub use dnw_reading::walk::ReadSteps;
+}
+
+/// Resource records: written whole or not at all, and read without a copy.
+pub mod record {
+    pub use dnw_record::record::{RecordRef, WireData, WireRecord, laws};
 }
 
 /// The types of records.
