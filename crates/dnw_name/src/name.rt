@@ -34,6 +34,7 @@ use std::marker::Model;
 
 mod joining;
 mod ordering;
+mod reverse;
 
 /// The wire form of `localhost` (RFC 6761, section 6.3).
 const LOCALHOST: &[u8] = b"\x09localhost\x00";
