@@ -228,6 +228,184 @@ static void compares(void)
     EXPECT(holds("\001a\002bc\000", 6));
 }
 
+/* RFC 4592, section 2.1.1, has wildcards; the sizes are those of RFC 1035, section 2.3.4. */
+static void edits(void)
+{
+    uint8_t form[DNW_FORM_SIZE];
+    size_t len = 7;
+    clear();
+    EXPECT(dnw_name_append(BYTES("\003www\000"), BYTES("\002de\000"), buffer, sizeof buffer, &len) == DNW_DONE);
+    EXPECT(len == 8 && holds("\003www\002de\000", 8));
+    clear();
+    EXPECT(dnw_name_append(BYTES("\000"), BYTES("\000"), buffer, 1, &len) == DNW_DONE && len == 1 && holds("\000", 1));
+    clear();
+    EXPECT(dnw_name_append(BYTES("\003www\000"), BYTES("\002de\000"), buffer, 7, &len) == DNW_NO_ROOM);
+    EXPECT(dnw_name_append(BYTES("\003www\000"), BYTES("\002de"), buffer, 8, &len) == DNW_MESSAGE_CUT);
+    EXPECT(dnw_name_append(BYTES("\003www\000\000"), BYTES("\002de"), buffer, 8, &len) == DNW_BYTES_LEFT);
+    EXPECT(dnw_name_prepend_label(BYTES(""), BYTES("\000"), buffer, 8, &len) == DNW_BAD_TEXT);
+    EXPECT(dnw_name_prepend_label(BYTES("a"), BYTES("\100"), buffer, 8, &len) == DNW_RESERVED_OCTET);
+    memset(form, 'a', sizeof form);
+    EXPECT(dnw_name_prepend_label(form, 64, BYTES("\000"), buffer, sizeof buffer, &len) == DNW_LABEL_TOO_LONG);
+    form[0] = form[64] = form[128] = 63;
+    form[192] = 61;
+    form[254] = 0;
+    EXPECT(dnw_name_prepend_label(BYTES("a"), form, sizeof form, buffer, sizeof buffer, &len) == DNW_NAME_TOO_LONG);
+    EXPECT(dnw_name_append(form, sizeof form, BYTES("\001a\000"), buffer, sizeof buffer, &len) == DNW_NAME_TOO_LONG);
+    EXPECT(untouched() && len == 1);
+    EXPECT(dnw_name_prepend_label(BYTES("\000."), BYTES("\002de\000"), buffer, 7, &len) == DNW_DONE && len == 7);
+    EXPECT(holds("\002\000.\002de\000", 7));
+    clear();
+    EXPECT(dnw_name_trim(BYTES("\001a\002bc\000"), 1, buffer, 4, &len) == DNW_DONE && len == 4 && holds("\002bc\000", 4));
+    clear();
+    EXPECT(dnw_name_trim(BYTES("\001a\002bc\000"), 0, buffer, 4, &len) == DNW_DONE && len == 1 && holds("\000", 1));
+    clear();
+    EXPECT(dnw_name_trim(BYTES("\001a\002bc\000"), 2, buffer, 5, &len) == DNW_NO_ROOM && untouched() && len == 1);
+    EXPECT(dnw_name_trim(BYTES("\001a\002bc\000"), SIZE_MAX, buffer, 6, &len) == DNW_DONE && len == 6);
+    EXPECT(holds("\001a\002bc\000", 6));
+    clear();
+    EXPECT(dnw_name_to_wildcard(BYTES("\003www\002de\000"), buffer, 5, &len) == DNW_NO_ROOM && untouched() && len == 6);
+    EXPECT(dnw_name_to_wildcard(BYTES("\003www\002de\000"), buffer, 6, &len) == DNW_DONE && len == 6);
+    EXPECT(holds("\001*\002de\000", 6));
+    EXPECT(dnw_name_to_wildcard(BYTES("\000"), buffer, 6, &len) == DNW_DONE && len == 1 && buffer[0] == 0);
+}
+
+/* The codes are those of the IANA registry "Resource Record (RR) TYPEs", and of RFC 6895, section 3.2. */
+static void codes(void)
+{
+    uint16_t code = 7;
+    size_t len = 7;
+    clear();
+    EXPECT(dnw_type_print(28, buffer, 4, &len) == DNW_DONE && len == 4 && holds("AAAA", 4));
+    EXPECT(dnw_type_print(51, buffer, DNW_CODE_SIZE, &len) == DNW_DONE && len == 10 && holds("NSEC3PARAM", 10));
+    clear();
+    EXPECT(dnw_type_print(28, buffer, 3, &len) == DNW_NO_ROOM && untouched() && len == 10);
+    EXPECT(dnw_type_print(65280, buffer, 7, &len) == DNW_DONE && len == 7 && holds("Unknown", 7));
+    EXPECT(dnw_type_parse(BYTES("AAAA"), &code) == DNW_DONE && code == 28);
+    EXPECT(dnw_type_parse(BYTES("*"), &code) == DNW_DONE && code == 255);
+    EXPECT(dnw_type_parse(BYTES("aaaa"), &code) == DNW_UNKNOWN_TEXT);
+    EXPECT(dnw_type_parse(BYTES(""), &code) == DNW_UNKNOWN_TEXT);
+    EXPECT(dnw_type_parse(BYTES("\377"), &code) == DNW_NOT_UTF8 && code == 255);
+    clear();
+    EXPECT(dnw_class_print(254, buffer, 4, &len) == DNW_DONE && len == 4 && holds("NONE", 4));
+    clear();
+    EXPECT(dnw_class_print(2, buffer, 6, &len) == DNW_NO_ROOM && untouched() && len == 4);
+    EXPECT(dnw_class_print(2, buffer, 7, &len) == DNW_DONE && len == 7 && holds("UNKNOWN", 7));
+    EXPECT(dnw_class_parse(BYTES("CH"), &code) == DNW_DONE && code == 3);
+    EXPECT(dnw_class_parse(BYTES("OPT"), &code) == DNW_UNKNOWN_TEXT);
+    EXPECT(dnw_class_parse(BYTES("\377"), &code) == DNW_NOT_UTF8 && code == 3);
+}
+
+/* RFC 1982, sections 3.1, 3.2 and 5.2 */
+static void serials(void)
+{
+    int32_t order = 7;
+    EXPECT(dnw_serial_compare(0, 1, &order) == DNW_DONE && order == -1);
+    EXPECT(dnw_serial_compare(1, 0, &order) == DNW_DONE && order == 1);
+    EXPECT(dnw_serial_compare(5, 5, &order) == DNW_DONE && order == 0);
+    EXPECT(dnw_serial_compare(UINT32_MAX, 0, &order) == DNW_DONE && order == -1);
+    EXPECT(dnw_serial_compare(0, 0x7FFFFFFF, &order) == DNW_DONE && order == -1);
+    EXPECT(dnw_serial_compare(0, 0x80000001, &order) == DNW_DONE && order == 1);
+    EXPECT(dnw_serial_compare(0, 0x80000000, &order) == DNW_NOT_ORDERED && order == 1);
+    EXPECT(dnw_serial_add(0xFFFFFFFF, 0x7FFFFFFF) == 0x7FFFFFFE);
+    EXPECT(dnw_serial_add(1, 2) == 3);
+}
+
+/* The example of RFC 4034, section 4.3: A MX RRSIG NSEC TYPE1234. */
+static void type_lists(void)
+{
+    static const char bitmap[] = "\000\006\100\001\000\000\000\003"
+                                 "\004\033\000\000\000\000\000\000\000\000\000\000\000\000\000\000\000\000\000\000"
+                                 "\000\000\000\000\000\000\000\000\040";
+    static const uint16_t listed[] = {1, 15, 46, 47, 1234};
+    static const uint16_t jumbled[] = {1234, 47, 1, 46, 15, 1};
+    uint16_t codes[6] = {9, 9, 9, 9, 9, 9};
+    size_t count = 7, len = 7;
+    EXPECT(dnw_types_read(BYTES(bitmap), codes, 4, &count) == DNW_NO_ROOM && codes[0] == 9 && count == 7);
+    EXPECT(dnw_types_read(BYTES(bitmap), codes, 5, &count) == DNW_DONE && count == 5 && codes[5] == 9);
+    EXPECT(memcmp(codes, listed, sizeof listed) == 0);
+    EXPECT(dnw_types_read(BYTES(""), codes, 0, &count) == DNW_DONE && count == 0);
+    EXPECT(dnw_types_read(BYTES("\000\000\000"), codes, 6, &count) == DNW_BAD_BITMAP && count == 0 && codes[0] == 1);
+    static uint8_t longest[65536];
+    EXPECT(dnw_types_read(longest, sizeof longest, codes, 6, &count) == DNW_BAD_BITMAP && count == 0);
+    clear();
+    EXPECT(dnw_types_write(jumbled, 6, buffer, sizeof bitmap - 2, &len) == DNW_NO_ROOM && untouched() && len == 7);
+    EXPECT(dnw_types_write(jumbled, 6, buffer, sizeof bitmap - 1, &len) == DNW_DONE && len == sizeof bitmap - 1);
+    EXPECT(holds(bitmap, sizeof bitmap - 1));
+    clear();
+    EXPECT(dnw_types_write(jumbled, 0, buffer, 0, &len) == DNW_DONE && len == 0 && untouched());
+}
+
+static void times(void)
+{
+    uint32_t seconds = 7;
+    EXPECT(dnw_ttl_parse(BYTES("1h30m"), &seconds) == DNW_DONE && seconds == 5400);
+    EXPECT(dnw_ttl_parse(BYTES("300"), &seconds) == DNW_DONE && seconds == 300);
+    EXPECT(dnw_ttl_parse(BYTES("4294967295"), &seconds) == DNW_DONE && seconds == 4294967295);
+    EXPECT(dnw_ttl_parse(BYTES("4294967296"), &seconds) == DNW_BAD_TIME);
+    EXPECT(dnw_ttl_parse(BYTES(""), &seconds) == DNW_BAD_TIME);
+    EXPECT(dnw_ttl_parse(BYTES("h"), &seconds) == DNW_BAD_TIME);
+    EXPECT(dnw_ttl_parse(BYTES("\377"), &seconds) == DNW_NOT_UTF8 && seconds == 4294967295);
+}
+
+/* The next token has this kind, number of texts and bytes. */
+static bool gives(const char *text, size_t text_len, struct dnw_lexer *lexer, uint32_t kind, size_t count,
+                  const char *bytes, size_t len)
+{
+    struct dnw_token token = {99, 99, 99};
+    clear();
+    return dnw_token_next((const uint8_t *)text, text_len, lexer, buffer, sizeof buffer, &token) == DNW_DONE
+        && token.kind == kind && token.count == count && token.len == len && holds(bytes, len);
+}
+
+#define GIVES(kind, count, bytes) gives(text, sizeof text - 1, &lexer, kind, count, bytes, sizeof(bytes) - 1)
+
+static void tokens(void)
+{
+    static const char text[] = "$TTL 1h\n@ IN SOA ns (1 2 ; two\n33) \"a b\\\"\"\n \303\251\n";
+    struct dnw_lexer lexer = {0, true};
+    EXPECT(GIVES(DNW_TOKEN_TTL, 0, "") && lexer.offset == 4 && !lexer.at_line_start);
+    EXPECT(GIVES(DNW_TOKEN_TEXT, 1, "1h"));
+    EXPECT(GIVES(DNW_TOKEN_LINE_END, 0, "") && lexer.offset == 8 && lexer.at_line_start);
+    EXPECT(GIVES(DNW_TOKEN_AT, 0, "") && GIVES(DNW_TOKEN_TEXT, 1, "IN") && GIVES(DNW_TOKEN_TEXT, 1, "SOA"));
+    EXPECT(GIVES(DNW_TOKEN_TEXT, 1, "ns"));
+    struct dnw_lexer before = lexer;
+    struct dnw_token token = {99, 99, 99};
+    clear();
+    EXPECT(dnw_token_next(BYTES(text), &lexer, buffer, 6, &token) == DNW_NO_ROOM && untouched());
+    EXPECT(token.kind == 99 && token.len == 99 && token.count == 99);
+    EXPECT(lexer.offset == before.offset && lexer.at_line_start == before.at_line_start);
+    EXPECT(GIVES(DNW_TOKEN_LIST, 3, "1\0002\00033\000"));
+    EXPECT(GIVES(DNW_TOKEN_TEXT, 1, "a b\""));
+    EXPECT(GIVES(DNW_TOKEN_LINE_END, 0, "") && GIVES(DNW_TOKEN_BLANK, 0, "") && !lexer.at_line_start);
+    EXPECT(GIVES(DNW_TOKEN_TEXT, 1, "\303\251") && GIVES(DNW_TOKEN_LINE_END, 0, ""));
+    EXPECT(GIVES(DNW_TOKEN_END, 0, "") && lexer.offset == sizeof text - 1);
+    EXPECT(GIVES(DNW_TOKEN_END, 0, ""));
+    lexer.offset = SIZE_MAX;
+    EXPECT(GIVES(DNW_TOKEN_END, 0, "") && lexer.offset == sizeof text - 1);
+}
+
+static uint32_t lex(const uint8_t *text, size_t text_len)
+{
+    struct dnw_lexer lexer = {0, true};
+    struct dnw_token token = {99, 99, 99};
+    clear();
+    uint32_t answer = dnw_token_next(text, text_len, &lexer, buffer, sizeof buffer, &token);
+    EXPECT(untouched() && token.kind == 99 && lexer.offset == 0 && lexer.at_line_start);
+    return answer;
+}
+
+static void refuses_tokens(void)
+{
+    EXPECT(lex(BYTES("\377")) == DNW_NOT_UTF8);
+    EXPECT(lex(BYTES("\r")) == DNW_TEXT_CUT);
+    EXPECT(lex(BYTES("\"\\")) == DNW_TEXT_CUT);
+    EXPECT(lex(BYTES(")")) == DNW_ILLEGAL_CHARACTER);
+    EXPECT(lex(BYTES("\001")) == DNW_CONTROL_CHARACTER);
+    EXPECT(lex(BYTES("(a")) == DNW_UNCLOSED_LIST);
+    EXPECT(lex(BYTES("\"a")) == DNW_UNCLOSED_QUOTE);
+    EXPECT(lex(BYTES("$FOO")) == DNW_UNKNOWN_ENTRY);
+}
+
 static void tells_failures(void)
 {
     clear();
@@ -235,11 +413,11 @@ static void tells_failures(void)
     EXPECT(dnw_error_text(DNW_NO_MEMORY, buffer, 13) == 13 && holds("out of memory", 13));
     clear();
     EXPECT(dnw_error_text(DNW_DONE, buffer, sizeof buffer) == 7 && holds("success", 7));
-    for (uint32_t i = 0; i <= DNW_OTHER; i++) {
+    for (uint32_t i = 0; i <= DNW_UNKNOWN_ENTRY; i++) {
         size_t len = dnw_error_text(i, buffer, sizeof buffer);
         EXPECT(0 < len && len <= 64);
     }
-    EXPECT(dnw_error_text(DNW_OTHER + 1, buffer, sizeof buffer) == 0);
+    EXPECT(dnw_error_text(DNW_UNKNOWN_ENTRY + 1, buffer, sizeof buffer) == 0);
     EXPECT(dnw_error_text(UINT32_MAX, buffer, sizeof buffer) == 0);
 }
 
@@ -261,6 +439,21 @@ static void lacks_memory(void)
     EXPECT(dnw_name_print(BYTES("\001a\000"), true, buffer, sizeof buffer, &len) == DNW_NO_MEMORY);
     EXPECT(dnw_names_write(BYTES("\003www\000"), 512, buffer, sizeof buffer, &written) == DNW_NO_MEMORY);
     EXPECT(untouched() && read.len == 16 && parsed.len == 6 && len == 7 && written.len == 7 && written.count == 9);
+    uint16_t code = 7, codes[1] = {9};
+    uint32_t seconds = 7;
+    struct dnw_lexer lexer = {0, true};
+    struct dnw_token token = {99, 99, 99};
+    EXPECT(dnw_type_parse(BYTES("none"), &code) == DNW_UNKNOWN_TEXT && code == 7);
+    EXPECT(dnw_class_parse(BYTES("none"), &code) == DNW_UNKNOWN_TEXT && code == 7);
+    EXPECT(dnw_ttl_parse(BYTES("none"), &seconds) == DNW_BAD_TIME && seconds == 7);
+    EXPECT(dnw_types_read(BYTES(""), codes, 0, &len) == DNW_DONE && len == 0);
+    EXPECT(dnw_types_read(BYTES("\000\001\100"), codes, 1, &len) == DNW_NO_MEMORY && len == 0 && codes[0] == 9);
+    code = 1;
+    EXPECT(dnw_types_write(&code, 1, buffer, sizeof buffer, &len) == DNW_NO_MEMORY && len == 0);
+    EXPECT(dnw_token_next(BYTES("a"), &lexer, buffer, sizeof buffer, &token) == DNW_NO_MEMORY && lexer.offset == 0);
+    EXPECT(dnw_token_next(BYTES("$FOO"), &lexer, buffer, sizeof buffer, &token) == DNW_NO_MEMORY && token.kind == 99);
+    EXPECT(untouched());
+    EXPECT(dnw_name_append(BYTES("\001a\000"), BYTES("\000"), buffer, sizeof buffer, &len) == DNW_DONE && len == 3);
     no_memory = false;
 }
 
@@ -275,6 +468,13 @@ int main(void)
     writes();
     refuses_to_write();
     compares();
+    edits();
+    codes();
+    serials();
+    type_lists();
+    times();
+    tokens();
+    refuses_tokens();
     tells_failures();
     lacks_memory();
     return 0;

@@ -1,3 +1,7 @@
+pub mod Looking
 mod Starts
 mod Lists
-mod TextFaults
+pub mod TextFaults
+pub mod TokenEnds
+pub mod TokenTexts
+pub mod TypeCodes

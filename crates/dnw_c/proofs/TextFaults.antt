@@ -37,3 +37,10 @@ pub text_failed : (text own : List ℕ) (e : ProtoError) → own ≡ text
     → FailsOr (name_from_text (chars own)) (NeedsErrorText (name_from_text (chars own))) e
     → (fault : Fault) × (name_from_text (chars text) ≡ Err fault) × ((of_proto e ≡ of_fault fault) ⊎ (HasOwnText fault × (of_proto e ≡ NoMemory)))
 text_failed text own e same h = rw⁻¹ same (failed (name_from_text (chars own)) e h)
+
+-- an edit that fails, and that allocates nothing
+pub edit_failed : {A : Type 0} (edit : Result A Fault) (e : ProtoError) → FailsOr edit ⊥ e → (fault : Fault) × (edit ≡ Err fault) × (of_proto e ≡ of_fault fault)
+edit_failed (Ok x) Memory h = absurd h
+edit_failed (Ok x) e h = absurd h
+edit_failed (Err fault) Memory h = absurd h
+edit_failed (Err fault) e h = (fault, refl, of_reported fault e h)

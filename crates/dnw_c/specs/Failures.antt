@@ -14,6 +14,9 @@ use Rattle.dnw_c.specs.declared.failure.Failure.TheVariants.{NoMemory, NoRoom, M
 use Rattle.dnw_c.specs.declared.failure.Failure.TheVariants.{PointerNotBack, ReservedOctet, SegmentsOverlap}
 use Rattle.dnw_c.specs.declared.failure.Failure.TheVariants.{NameTooLong, LabelTooLong, BadText}
 use Rattle.dnw_c.specs.declared.failure.Failure.TheVariants.{NotUtf8, BytesLeft, MessageTooLong, Other}
+use Rattle.dnw_c.specs.declared.failure.Failure.TheVariants.{UnknownText, NotOrdered, BadBitmap, BadTime, TextCut}
+use Rattle.dnw_c.specs.declared.failure.Failure.TheVariants.{IllegalCharacter, ControlCharacter, UnclosedList}
+use Rattle.dnw_c.specs.declared.failure.Failure.TheVariants.{UnclosedQuote, UnknownEntry}
 
 abbrev pub number : Failure → ℕ
 number NoMemory = 1
@@ -29,6 +32,16 @@ number NotUtf8 = 10
 number BytesLeft = 11
 number MessageTooLong = 12
 number Other = 13
+number UnknownText = 14
+number NotOrdered = 15
+number BadBitmap = 16
+number BadTime = 17
+number TextCut = 18
+number IllegalCharacter = 19
+number ControlCharacter = 20
+number UnclosedList = 21
+number UnclosedQuote = 22
+number UnknownEntry = 23
 
 -- The number of a failure for which this is so.
 abbrev pub NumberOf : (Failure → Type 0) → ℕ → Type 0
@@ -49,6 +62,16 @@ failure_text NotUtf8 = codes "the text is not UTF-8"
 failure_text BytesLeft = codes "bytes follow after the name"
 failure_text MessageTooLong = codes "the message would be longer than its maximum"
 failure_text Other = codes "another failure"
+failure_text UnknownText = codes "the text names no record type and no class"
+failure_text NotOrdered = codes "neither serial number comes after the other"
+failure_text BadBitmap = codes "the bitmap is out of bounds"
+failure_text BadTime = codes "the text is no time to live"
+failure_text TextCut = codes "the text ends within an escape or a line's end"
+failure_text IllegalCharacter = codes "a character stands where it may not"
+failure_text ControlCharacter = codes "the text has a control character"
+failure_text UnclosedList = codes "the text ends before the ) of a list"
+failure_text UnclosedQuote = codes "the text ends before a closing quote"
+failure_text UnknownEntry = codes "no control entry has this name"
 
 -- The text of a number: of success, of a failure, and none of any other.
 abbrev pub HasText : ℕ → List ℕ → Type 0

@@ -34,6 +34,26 @@ pub enum Failure {
     MessageTooLong,
     /// Another cause, which no call reports today.
     Other,
+    /// A text is the name of no record type, or of no class.
+    UnknownText,
+    /// Two serial numbers are so far apart that neither comes after the other.
+    NotOrdered,
+    /// A bitmap has an octet or a bit that no window allows, or is longer than a record's data can be.
+    BadBitmap,
+    /// A text is no time to live, or one of too many seconds.
+    BadTime,
+    /// A text ends within an escape, or after a carriage return.
+    TextCut,
+    /// A character of a text stands where it may not.
+    IllegalCharacter,
+    /// A text has a control character that is not white space.
+    ControlCharacter,
+    /// A text ends in a list, before its closing parenthesis.
+    UnclosedList,
+    /// A text ends in a quoted text, before its closing quote.
+    UnclosedQuote,
+    /// A `$` begins none of the control entries.
+    UnknownEntry,
 }
 
 impl Failure {
@@ -63,6 +83,16 @@ impl Failure {
             11 => Failure::BytesLeft,
             12 => Failure::MessageTooLong,
             13 => Failure::Other,
+            14 => Failure::UnknownText,
+            15 => Failure::NotOrdered,
+            16 => Failure::BadBitmap,
+            17 => Failure::BadTime,
+            18 => Failure::TextCut,
+            19 => Failure::IllegalCharacter,
+            20 => Failure::ControlCharacter,
+            21 => Failure::UnclosedList,
+            22 => Failure::UnclosedQuote,
+            23 => Failure::UnknownEntry,
             _ => return None,
         };
         Some(failure)
@@ -87,6 +117,16 @@ impl Failure {
             Failure::BytesLeft => "bytes follow after the name",
             Failure::MessageTooLong => "the message would be longer than its maximum",
             Failure::Other => "another failure",
+            Failure::UnknownText => "the text names no record type and no class",
+            Failure::NotOrdered => "neither serial number comes after the other",
+            Failure::BadBitmap => "the bitmap is out of bounds",
+            Failure::BadTime => "the text is no time to live",
+            Failure::TextCut => "the text ends within an escape or a line's end",
+            Failure::IllegalCharacter => "a character stands where it may not",
+            Failure::ControlCharacter => "the text has a control character",
+            Failure::UnclosedList => "the text ends before the ) of a list",
+            Failure::UnclosedQuote => "the text ends before a closing quote",
+            Failure::UnknownEntry => "no control entry has this name",
         }
     }
 }

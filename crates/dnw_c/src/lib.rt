@@ -4,8 +4,18 @@
 //! tested, whatever the caller promises, and nothing is kept from one call to the next.
 #![tactic(auto)]
 
+/// Codes of types and classes, and serial numbers.
+pub mod codes;
+/// Names changed, by their wire forms.
+pub mod edits;
 mod failure;
 /// Names read, written, parsed and printed.
 pub mod names;
 /// Names compared, and in lower case.
 pub mod order;
+/// The tokens of master files.
+pub mod tokens;
+/// Times to live.
+pub mod ttl;
+/// Bitmaps of types, and lists of their codes.
+pub mod type_sets;

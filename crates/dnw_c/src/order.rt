@@ -107,7 +107,7 @@ fn lower_form(alloc: Global, form: &[u8], lowered: &mut [u8]) -> Result<usize, F
 }
 
 /// Returns the name with a wire form.
-fn name_of(alloc: Global, form: &[u8]) -> Result<Name, Failure>
+pub(crate) fn name_of(alloc: Global, form: &[u8]) -> Result<Name, Failure>
     ensures ok { IfOk result (λ name. IsTrue name.is_fqdn × IsFormOf form.now name.labels) }
     ensures err { IfErr result (IsNoForm form.now) }
 {
@@ -123,7 +123,7 @@ fn name_of(alloc: Global, form: &[u8]) -> Result<Name, Failure>
 }
 
 /// Returns the names with two wire forms.
-fn both_names(alloc: Global, left: &[u8], right: &[u8]) -> Result<(Name, Name), Failure>
+pub(crate) fn both_names(alloc: Global, left: &[u8], right: &[u8]) -> Result<(Name, Name), Failure>
     ensures ok { IfOk result (λ names. IsTrue names.0.is_fqdn × IsTrue names.1.is_fqdn × IsFormOf left.now names.0.labels × IsFormOf right.now names.1.labels) }
     ensures err { IfErr result (FailsAsForms left.now right.now) }
 {
@@ -133,7 +133,7 @@ fn both_names(alloc: Global, left: &[u8], right: &[u8]) -> Result<(Name, Name), 
 }
 
 /// Returns an order as -1, 0 or 1.
-fn sign_of(order: Ordering) -> i32
+pub(crate) fn sign_of(order: Ordering) -> i32
     ensures { result ≡ sign order }
 {
     match order {

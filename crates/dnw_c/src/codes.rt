@@ -1,0 +1,147 @@
+//! The codes of types and classes, and serial numbers.
+ghost use Rattle.std.specs.Prelude.{◌≡◌, ◌≢◌, ◌≤◌, Some, None, length, IfOk, IfErr, OnErr};
+ghost use Rattle.std.specs.declared.cmp.Ordering.{Ordering};
+ghost use Rattle.dnw_error.specs.RecordTypes.{type_code, type_name, type_of_code, type_of_name};
+ghost use Rattle.dnw_error.specs.DnsClasses.{class_code, class_name, class_of_code, class_of_name};
+ghost use Rattle.dnw_error.specs.declared.record_type.RecordType.{RecordType};
+ghost use Rattle.dnw_error.specs.declared.dns_class.DNSClass.{DNSClass};
+ghost use Rattle.dnw_kinds.specs.Serials.{serial_cmp, serial_sum};
+ghost use Rattle.dnw_c.specs.Buffers.{put};
+ghost use Rattle.dnw_c.specs.CodeCalls.{FailsToGive, FailsToPut};
+ghost use Rattle.dnw_c.specs.Failures.{NumberOf, number};
+ghost use Rattle.dnw_c.specs.NameCalls.{sign};
+ghost use Rattle.dnw_c.specs.declared.failure.Failure.TheVariants.{NotOrdered, UnknownText};
+
+use crate::failure::Failure;
+use crate::names::put;
+use crate::order::sign_of;
+use dns_names_wire::dns_class::DNSClass;
+use dns_names_wire::record_type::RecordType;
+use dns_names_wire::serial_number::SerialNumber;
+use std::alloc::Global;
+
+/// Puts the name of the type with a code, and its length.
+#[unsafe(no_mangle)]
+pub extern "C" fn dnw_type_print(code: u16, text: &mut [u8], len: &mut usize) -> u32
+    ensures ok { result ≡ 0 → (text.new ≡ put text.old (type_name (type_of_code code)))
+        × (len.new ≡ length (type_name (type_of_code code))) }
+    ensures err { result ≢ 0 → NumberOf (FailsToPut (type_name (type_of_code code)) (length text.old)) result }
+    ensures same { result ≢ 0 → (text.new ≡ text.old) × (len.new ≡ len.old) }
+{
+    let name = Into::<&str>::into(RecordType::from(code));
+    put_all(text, name.as_bytes(), len)
+}
+
+/// Puts the code of the type with a name.
+#[unsafe(no_mangle)]
+pub extern "C" fn dnw_type_parse(alloc: Global, text: &[u8], code: &mut u16) -> u32
+    ensures ok { result ≡ 0 → (kind : RecordType) × (type_of_name text.now ≡ Some kind) × (code.new ≡ type_code kind) }
+    ensures err { result ≢ 0 → NumberOf (FailsToGive type_of_name UnknownText text.now) result }
+    ensures same { result ≢ 0 → code.new ≡ code.old }
+{
+    match type_named(alloc, text) {
+        Ok(kind) => {
+            *code = u16::from(kind);
+            0
+        }
+        Err(failure) => failure.number(),
+    }
+}
+
+/// Puts the name of the class with a code, and its length.
+#[unsafe(no_mangle)]
+pub extern "C" fn dnw_class_print(code: u16, text: &mut [u8], len: &mut usize) -> u32
+    ensures ok { result ≡ 0 → (text.new ≡ put text.old (class_name (class_of_code code)))
+        × (len.new ≡ length (class_name (class_of_code code))) }
+    ensures err { result ≢ 0 → NumberOf (FailsToPut (class_name (class_of_code code)) (length text.old)) result }
+    ensures same { result ≢ 0 → (text.new ≡ text.old) × (len.new ≡ len.old) }
+{
+    let name = Into::<&str>::into(DNSClass::from(code));
+    put_all(text, name.as_bytes(), len)
+}
+
+/// Puts the code of the class with a name.
+#[unsafe(no_mangle)]
+pub extern "C" fn dnw_class_parse(alloc: Global, text: &[u8], code: &mut u16) -> u32
+    ensures ok { result ≡ 0 → (class : DNSClass) × (class_of_name text.now ≡ Some class) × (code.new ≡ class_code class) }
+    ensures err { result ≢ 0 → NumberOf (FailsToGive class_of_name UnknownText text.now) result }
+    ensures same { result ≢ 0 → code.new ≡ code.old }
+{
+    match class_named(alloc, text) {
+        Ok(class) => {
+            *code = u16::from(class);
+            0
+        }
+        Err(failure) => failure.number(),
+    }
+}
+
+/// Compares two serial numbers by the shorter way round, and puts -1, 0 or 1.
+#[unsafe(no_mangle)]
+pub extern "C" fn dnw_serial_compare(left: u32, right: u32, order: &mut i32) -> u32
+    ensures ok { result ≡ 0 → (way : Ordering) × (serial_cmp left right ≡ Some way) × (order.new ≡ sign way) }
+    ensures err { result ≢ 0 → (result ≡ number NotOrdered) × (serial_cmp left right ≡ None) }
+    ensures same { result ≢ 0 → order.new ≡ order.old }
+{
+    match SerialNumber::new(left).partial_cmp(&SerialNumber::new(right)) {
+        Some(way) => {
+            *order = sign_of(way);
+            0
+        }
+        None => Failure::NotOrdered.number(),
+    }
+}
+
+/// Returns the sum of two serial numbers, which starts again at 0 once it is past the greatest.
+#[unsafe(no_mangle)]
+pub extern "C" fn dnw_serial_add(serial: u32, other: u32) -> u32
+    ensures { result ≡ serial_sum serial other }
+{
+    let sum = SerialNumber::new(serial) + SerialNumber::new(other);
+    sum.get()
+}
+
+/// Puts bytes and their length, and returns 0, or the number of why they do not fit.
+pub(crate) fn put_all(buffer: &mut [u8], bytes: &[u8], len: &mut usize) -> u32
+    ensures ok { result ≡ 0 → (buffer.new ≡ put buffer.old bytes.now) × (len.new ≡ length bytes.now) }
+    ensures err { result ≢ 0 → NumberOf (FailsToPut bytes.now (length buffer.old)) result }
+    ensures same { result ≢ 0 → (buffer.new ≡ buffer.old) × (len.new ≡ len.old) }
+{
+    match put(buffer, bytes) {
+        Ok(put) => {
+            *len = put;
+            0
+        }
+        Err(failure) => failure.number(),
+    }
+}
+
+/// Returns the type with a name.
+#[tactic(auto, using(crate::proofs::Looking::looks_found, crate::proofs::Looking::looks_failed))]
+fn type_named(alloc: Global, text: &[u8]) -> Result<RecordType, Failure>
+    ensures ok { IfOk result (λ kind. type_of_name text.now ≡ Some kind) }
+    ensures err { IfErr result (FailsToGive type_of_name UnknownText text.now) }
+{
+    let Ok(name) = str::from_utf8(text) else {
+        return Err(Failure::NotUtf8);
+    };
+    match RecordType::from_str(alloc, name) {
+        Ok(kind) => Ok(kind),
+        Err(_) => Err(Failure::UnknownText),
+    }
+}
+
+/// Returns the class with a name.
+#[tactic(auto, using(crate::proofs::Looking::looks_found, crate::proofs::Looking::looks_failed))]
+fn class_named(alloc: Global, text: &[u8]) -> Result<DNSClass, Failure>
+    ensures ok { IfOk result (λ class. class_of_name text.now ≡ Some class) }
+    ensures err { IfErr result (FailsToGive class_of_name UnknownText text.now) }
+{
+    let Ok(name) = str::from_utf8(text) else {
+        return Err(Failure::NotUtf8);
+    };
+    match DNSClass::from_str(alloc, name) {
+        Ok(class) => Ok(class),
+        Err(_) => Err(Failure::UnknownText),
+    }
+}
