@@ -1,8 +1,7 @@
 //! Times to live as text.
-ghost use Rattle.std.specs.Prelude.{◌≡◌, ℕ, ◌+◌, ◌-◌, ◌*◌, ◌<◌, ◌≤◌, List, ◌∷◌, Some, None, IfOk, IfErr, OnErr, IfSome, IfNone, MatchOption};
-ghost use Rattle.std.specs.Option.{ForSome};
+ghost use Rattle.std.specs.Prelude.{◌≡◌, ℕ, ◌+◌, ◌-◌, ◌*◌, ◌<◌, ◌≤◌, List, ◌∷◌, length, Some, None, IfOk, IfErr, OnErr, IfSome, IfNone, MatchOption};
 ghost use Rattle.dnw_txt.specs.Times.{max_ttl, unit_seconds, time_seconds, IsNoTtl, IsParseTime};
-ghost use Rattle.dnw_txt.specs.Inside.Finds.{seconds_after};
+ghost use Rattle.dnw_txt.specs.Inside.Finds.{BeginsNoDigit, seconds_after};
 
 use crate::errors::{ParseError, ParseResult};
 use std::alloc::Global;
@@ -29,8 +28,8 @@ pub fn parse_ttl(alloc: Global, ttl_str: &str) -> ParseResult<u32>
     }
 }
 
-/// The greatest time to live, in seconds.
-pub const MAX_TTL: u64 = 4294967295;
+/// The greatest time to live, in seconds: its field has 32 bits.
+const MAX_TTL: u64 = 4294967295;
 
 /// Returns the seconds of a time, if the text is one and they are not too many.
 fn seconds(text: &[u8]) -> Option<u32>
@@ -40,39 +39,61 @@ fn seconds(text: &[u8]) -> Option<u32>
         return None;
     }
     let mut total = 0;
-    let mut number = None;
-    for byte in text {
-        (total, number) = take(total, number, *byte)?;
-    }
-    total += number.unwrap_or(0);
-    if total > MAX_TTL {
-        return None;
+    let mut rest = text;
+    while !rest.is_empty() {
+        let (seconds, others) = take_group(rest)?;
+        total += seconds;
+        if total > MAX_TTL {
+            return None;
+        }
+        rest = others;
     }
     Some(total as u32)
 }
 
-/// Reads one more byte, after groups of so many seconds and the digits of a number. Returns the same after it, or `None`
-/// if no time begins so, or only one of too many seconds.
+/// Takes the first group of a text. Returns its seconds, and what is after it.
 #[inline(always)]
-fn take(total: u64, number: Option<u64>, byte: u8) -> Option<(u64, Option<u64>)>
-    requires total { total ≤ max_ttl }
-    requires number { ForSome number (λ n. n ≤ max_ttl) }
-    ensures goes_on { IfSome result (λ x. (cs : List ℕ) → seconds_after total number (byte ∷ cs) ≡ seconds_after x.0 x.1 cs) }
-    ensures fits { IfSome result (λ x. (x.0 ≤ max_ttl) × ForSome x.1 (λ n. n ≤ max_ttl)) }
-    ensures none { IfNone result ((cs : List ℕ) → IsNoTtl (seconds_after total number (byte ∷ cs))) }
+fn take_group(text: &[u8]) -> Option<(u64, &[u8])>
+    requires { 1 ≤ length text.now }
+    ensures goes_on { IfSome result (λ x. (total : ℕ) → seconds_after total None text.now ≡ seconds_after (total + x.0) None x.1.now) }
+    ensures fits { IfSome result (λ x. x.0 ≤ 604800 * max_ttl) }
+    ensures shorter { IfSome result (λ x. length x.1.now < length text.now) }
+    ensures none { IfNone result ((total : ℕ) → IsNoTtl (seconds_after total None text.now)) }
 {
-    if byte.is_ascii_digit() {
-        let longer = 10 * number.unwrap_or(0) + u64::from(byte - b'0');
-        if longer > MAX_TTL {
-            return None;
-        }
-        return Some((total, Some(longer)));
-    }
-    let longer = total + number? * unit_seconds(byte)?;
-    if longer > MAX_TTL {
+    let (number, rest) = take_number(text)?;
+    let Some((unit, others)) = rest.split_first() else {
+        return Some((number, rest));
+    };
+    Some((number * unit_seconds(*unit)?, others))
+}
+
+/// Takes the digits of a number. Returns the number, and what is after it.
+#[inline(always)]
+fn take_number(text: &[u8]) -> Option<(u64, &[u8])>
+    requires { 1 ≤ length text.now }
+    ensures goes_on { IfSome result (λ x. (total : ℕ) → seconds_after total None text.now ≡ seconds_after total (Some x.0) x.1.now) }
+    ensures fits { IfSome result (λ x. x.0 ≤ max_ttl) }
+    ensures ends { IfSome result (λ x. BeginsNoDigit x.1.now) }
+    ensures shorter { IfSome result (λ x. length x.1.now < length text.now) }
+    ensures none { IfNone result ((total : ℕ) → IsNoTtl (seconds_after total None text.now)) }
+{
+    let (first, digits) = text.split_first()?;
+    if !first.is_ascii_digit() {
         return None;
     }
-    Some((longer, None))
+    let mut number = u64::from(*first - b'0');
+    let mut rest = digits;
+    while let Some((digit, others)) = rest.split_first() {
+        if !digit.is_ascii_digit() {
+            break;
+        }
+        number = 10 * number + u64::from(*digit - b'0');
+        if number > MAX_TTL {
+            return None;
+        }
+        rest = others;
+    }
+    Some((number, rest))
 }
 
 /// Returns the seconds of a unit.

@@ -455,6 +455,9 @@ fn is_plain(byte: u8) -> bool
 fn is_gap(c: char) -> bool
     ensures { result ≡ not (is_no_gap c) }
 {
+    if ' ' < c && c <= '~' {
+        return false;
+    }
     !is_line_end(c) && c.is_whitespace()
 }
 

@@ -1,5 +1,5 @@
 -- What the parts of a lexer find, and what is left of a time.
-use Rattle.std.specs.Prelude.{◌≡◌, ℕ, ◌+◌, ◌-◌, ◌<◌, ◌≤◌, Bool, true, false, ◌&&◌, ◌||◌, ◌==◌, not, nat_lt, List, [], ◌∷◌, ◌++◌, length, take, drop, Option, Some, None, option_map, Result, Ok, Err}
+use Rattle.std.specs.Prelude.{◌≡◌, ℕ, ◌+◌, ◌-◌, ◌<◌, ◌≤◌, ⊤, Bool, true, false, ◌&&◌, ◌||◌, ◌==◌, not, nat_lt, List, [], ◌∷◌, ◌++◌, length, take, drop, Option, Some, None, option_map, Result, Ok, Err}
 use Rattle.std.specs.Char.{is_whitespace, is_ascii_digit}
 use denote.Ref.{Bor}
 use Rattle.std.specs.Str.{chars, IsUtf8, IsCharBoundary}
@@ -65,3 +65,8 @@ ends_run c = c == quote || c == backslash
 -- the seconds of a time after groups of so many seconds and the digits of a number
 abbrev pub seconds_after : ℕ → Option ℕ → List ℕ → Option ℕ
 seconds_after total number cs = option_map (λ groups. total + total_seconds groups) (groups_after number cs)
+
+-- the first character is no digit
+abbrev pub BeginsNoDigit : List ℕ → Type 0
+BeginsNoDigit [] = ⊤
+BeginsNoDigit (c ∷ cs) = is_ascii_digit c ≡ false
