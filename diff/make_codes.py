@@ -1,5 +1,5 @@
 #!/usr/bin/env python3
-"""Makes lists/codes.txt: requests for codes, sets of types and serial numbers, by a generator with fixed seeds, and the
+"""Makes lists/codes.txt: requests for codes, keys, sets of types and serial numbers, by a generator with fixed seeds, and the
 answers of an oracle, a program over hickory-proto 0.26.3 that answers requests line by line.
 
     make_codes.py ORACLE    writes the list
@@ -15,6 +15,7 @@ from oracle import Oracle, Random, hexed
 TESTS = "any cert cname ns soa srv ip_addr dnssec rrsig zero".split()
 NAMES = """A AAAA ANAME ANY AXFR CAA CDNSKEY CDS CERT CNAME CSYNC DNAME DNSKEY DS HINFO HTTPS IXFR KEY MX NAPTR NS NSEC NSEC3
 NSEC3PARAM NULL OPENPGPKEY OPT PTR RRSIG SIG SMIMEA SOA SRV SSHFP SVCB TLSA TSIG TXT ZERO Unknown *""".split()
+LABELS = b"a A b B ab aB * z".split()
 CLASSES = "IN CH HS NONE ANY OPT UNKNOWN *".split()
 
 
@@ -70,6 +71,11 @@ def near(names):
         yield from (name, name.lower(), name.capitalize(), name + "X", name[:-1], "X" + name, name + name, name + "1", name + "*",
                     name[::-1], name[1:], name.swapcase()[:1] + name[1:])
     yield from ("TYPE1", "CLASS1", "1", "**", "a*", "NSEC4", "ÄAAA", "A\u0301", "É", "UNKNOWN", "unknown")
+
+
+def key_words(key, between):
+    flag, labels, code = key
+    return [f"{flag}{between}{','.join(label.hex() for label in labels) or '-'}", str(code)]
 
 
 def main(oracle):
@@ -128,6 +134,14 @@ def main(oracle):
     octets = oracle.ask([f"typeset-emit {' '.join(map(str, l))}".rstrip() for l in listed])
     for codes, own, emitted in zip(listed, members, octets):
         out.append(f"set-new {','.join(map(str, codes)) or '-'} = {own.split()[1].replace('U', '')} {emitted.split()[1]}")
+
+    random = Random(104)
+    keys = [(random.below(2), [random.pick(LABELS) for _ in range(random.below(3))], random.below(4)) for _ in range(400)]
+    asked = [f"key-cmp {' '.join(key_words(keys[i], ' ') + key_words(keys[i + 1], ' '))}" for i in range(0, 400, 2)]
+    for i, answer in enumerate(oracle.ask(asked)):
+        cmp, eq, hash = (word.split("=")[1] for word in answer.split())
+        pair = " ".join(key_words(keys[2 * i], ":") + key_words(keys[2 * i + 1], ":"))
+        out.append(f"key-cmp {pair} = {cmp} {'true' if eq == '1' else 'false'} {'true' if hash == '1' else 'false'}")
 
     path = os.path.join(os.path.dirname(os.path.abspath(__file__)), "lists", "codes.txt")
     with open(path, "w") as file:

@@ -1,18 +1,21 @@
-//! Record types, classes, sets of types, serial numbers, and what is read from record data.
+//! Record types, classes, keys, sets of types, serial numbers, and what is read from record data.
 
 use crate::notation::{
-    BAD_LINE, decode_error_word, error_word, first_word, hexadecimal, number, octets, push_word,
+    BAD_LINE, decode_error_word, error_word, first_word, hexadecimal, name, number, octets,
+    push_word,
 };
 use dns_names_wire::binary::{BinDecodable, BinEncodable};
 use dns_names_wire::decoder::BinDecoder;
 use dns_names_wire::dns_class::DNSClass;
 use dns_names_wire::encoder::BinEncoder;
 use dns_names_wire::error::{DecodeError, ProtoResult};
+use dns_names_wire::lower_name::LowerName;
 use dns_names_wire::name::Name;
 use dns_names_wire::record_data::RecordDataDecodable;
 use dns_names_wire::record_type::RecordType;
 use dns_names_wire::record_type_set::RecordTypeSet;
 use dns_names_wire::restrict::Restrict;
+use dns_names_wire::rr_key::RrKey;
 use dns_names_wire::serial_number::SerialNumber;
 use std::alloc::Global;
 use std::cmp::Ordering;
@@ -36,11 +39,16 @@ pub(crate) fn answer(alloc: Global, kind: &str, words: &str) -> ProtoResult<Stri
         "for-opt" => Ok(format!(in alloc; "{:?}", DNSClass::for_opt(number(words)?))?),
         "type-cmp" => {
             let (a, b) = first_word(words)?;
-            compared(alloc, type_of(a)?, type_of(b)?)
+            compared(alloc, &type_of(a)?, &type_of(b)?)
         }
         "class-cmp" => {
             let (a, b) = first_word(words)?;
-            compared(alloc, class_of(a)?, class_of(b)?)
+            compared(alloc, &class_of(a)?, &class_of(b)?)
+        }
+        "key-cmp" => {
+            let (a, words) = key_of(alloc, words)?;
+            let (b, _) = key_of(alloc, words)?;
+            compared(alloc, &a, &b)
         }
         "serial" => serial(alloc, words),
         "data" => data(alloc, words),
@@ -139,10 +147,18 @@ fn shown_class(alloc: Global, class: DNSClass) -> ProtoResult<String> {
     Ok(shown)
 }
 
+/// Returns the key of a name and a type, and the words after them.
+fn key_of(alloc: Global, words: &str) -> ProtoResult<(RrKey, &str)> {
+    let (text, words) = first_word(words)?;
+    let (kind, words) = words.split_once(' ').unwrap_or((words, ""));
+    let key = RrKey::new(LowerName::from_name(name(alloc, text)?)?, type_of(kind)?);
+    Ok((key.clone()?, words))
+}
+
 /// Returns how two values compare, whether they are equal, and whether they hash alike.
-fn compared<T: Ord + Hash + Copy>(alloc: Global, a: T, b: T) -> ProtoResult<String> {
-    let order = a.cmp(&b);
-    Ok(format!(in alloc; "{order:?} {} {}", a == b, hash_of(&a) == hash_of(&b))?)
+fn compared<T: Ord + Hash>(alloc: Global, a: &T, b: &T) -> ProtoResult<String> {
+    let order = a.cmp(b);
+    Ok(format!(in alloc; "{order:?} {} {}", a == b, hash_of(a) == hash_of(b))?)
 }
 
 fn hash_of<T: Hash>(x: &T) -> u64 {
@@ -177,6 +193,7 @@ fn data(alloc: Global, words: &str) -> ProtoResult<String> {
         "i32" => value_word(alloc, i32::read_data(alloc, &mut decoder, length))?,
         "u32" => value_word(alloc, u32::read_data(alloc, &mut decoder, length))?,
         "name" => value_word(alloc, Name::read_data(alloc, &mut decoder, length))?,
+        "lower" => value_word(alloc, LowerName::read_data(alloc, &mut decoder, length))?,
         _ => return Err(BAD_LINE),
     };
     Ok(format!(in alloc; "{value} {}", decoder.index())?)

@@ -46,6 +46,7 @@ pub(crate) fn answer(alloc: Global, kind: &str, words: &str) -> ProtoResult<Stri
         | "classes"
         | "data"
         | "for-opt"
+        | "key-cmp"
         | "serial"
         | "set-cuts"
         | "set-eq"
