@@ -1,0 +1,3 @@
+pub mod AddressTexts
+pub mod Usages
+pub mod Zones
