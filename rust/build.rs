@@ -1,0 +1,47 @@
+//! Finds the archive `libdns_names_wire.a` and links it.
+//!
+//! It is looked for in the folder that the environment variable `DNW_LIB_DIR` names, and if that is not set in `lib` beside
+//! this file, which a distribution has. Else, in a checkout of the repository, `tools/c-library` builds it, for which the
+//! Rattle toolchain (`rt`) has to be there.
+use std::env;
+use std::path::{Path, PathBuf};
+use std::process::{exit, Command};
+
+const ARCHIVE: &str = "libdns_names_wire.a";
+
+fn main() {
+    println!("cargo:rerun-if-env-changed=DNW_LIB_DIR");
+    let folder = folder().unwrap_or_else(|problem| {
+        eprintln!("dns-names-wire: {problem}");
+        exit(1);
+    });
+    println!("cargo:rerun-if-changed={}", folder.join(ARCHIVE).display());
+    println!("cargo:rustc-link-search=native={}", folder.display());
+    println!("cargo:rustc-link-lib=static=dns_names_wire");
+}
+
+fn folder() -> Result<PathBuf, String> {
+    if let Some(folder) = env::var_os("DNW_LIB_DIR").map(PathBuf::from) {
+        return match folder.join(ARCHIVE).is_file() {
+            true => Ok(folder),
+            false => Err(format!("there is no {ARCHIVE} in DNW_LIB_DIR, {}", folder.display())),
+        };
+    }
+    let here = PathBuf::from(env::var_os("CARGO_MANIFEST_DIR").expect("cargo sets it"));
+    if here.join("lib").join(ARCHIVE).is_file() {
+        return Ok(here.join("lib"));
+    }
+    build(&here.join("../tools/c-library"))
+}
+
+/// Builds the archive in a checkout of the repository.
+fn build(tool: &Path) -> Result<PathBuf, String> {
+    if !tool.is_file() {
+        return Err(format!("set DNW_LIB_DIR to the folder that has {ARCHIVE}"));
+    }
+    let out = PathBuf::from(env::var_os("OUT_DIR").expect("cargo sets it"));
+    match Command::new(tool).arg(&out).status() {
+        Ok(status) if status.success() => Ok(out),
+        _ => Err(format!("{} failed: it needs the Rattle toolchain; or set DNW_LIB_DIR", tool.display())),
+    }
+}

@@ -1,0 +1,175 @@
+//! The C library: its declarations, as in `dns_names_wire.h`, and a safe function over each.
+//!
+//! This is the one module with `unsafe`. Each call is safe for the same reasons: a slice is passed as its pointer, which is
+//! never null, and its length; a result goes through a `&mut`, which overlaps nothing; the C library keeps no pointer, and
+//! is proved to read and write nothing outside its arguments, whatever the bytes are.
+use crate::error::Error;
+
+/// The octets of the longest wire form (RFC 1035, section 2.3.4).
+pub(crate) const FORM_SIZE: usize = 255;
+/// The characters of the longest text of a name.
+pub(crate) const TEXT_SIZE: usize = 1004;
+/// The bytes of the longest text of an error.
+pub(crate) const ERROR_TEXT_SIZE: usize = 64;
+
+/// `struct dnw_read_name`
+#[repr(C)]
+#[derive(Default)]
+pub(crate) struct ReadName {
+    pub(crate) len: usize,
+    pub(crate) end: usize,
+}
+
+/// `struct dnw_parsed_name`
+#[repr(C)]
+#[derive(Default)]
+pub(crate) struct ParsedName {
+    pub(crate) len: usize,
+    pub(crate) is_fqdn: bool,
+}
+
+/// `struct dnw_written_names`
+#[repr(C)]
+#[derive(Default)]
+pub(crate) struct WrittenNames {
+    pub(crate) len: usize,
+    pub(crate) count: usize,
+}
+
+extern "C" {
+    fn dnw_name_read(
+        message: *const u8,
+        message_len: usize,
+        start: usize,
+        form: *mut u8,
+        form_size: usize,
+        read: *mut ReadName,
+    ) -> u32;
+    fn dnw_name_parse(
+        text: *const u8,
+        text_len: usize,
+        form: *mut u8,
+        form_size: usize,
+        parsed: *mut ParsedName,
+    ) -> u32;
+    fn dnw_name_print(
+        form: *const u8,
+        form_len: usize,
+        is_fqdn: bool,
+        text: *mut u8,
+        text_size: usize,
+        len: *mut usize,
+    ) -> u32;
+    fn dnw_names_write(
+        names: *const u8,
+        names_len: usize,
+        max_size: u16,
+        out: *mut u8,
+        out_size: usize,
+        written: *mut WrittenNames,
+    ) -> u32;
+    fn dnw_name_compare(left: *const u8, left_len: usize, right: *const u8, right_len: usize, order: *mut i32) -> u32;
+    fn dnw_name_equal(left: *const u8, left_len: usize, right: *const u8, right_len: usize, is_equal: *mut bool)
+        -> u32;
+    fn dnw_name_in_zone(name: *const u8, name_len: usize, zone: *const u8, zone_len: usize, is_in: *mut bool) -> u32;
+    fn dnw_name_to_lowercase(
+        form: *const u8,
+        form_len: usize,
+        lowered: *mut u8,
+        lowered_size: usize,
+        len: *mut usize,
+    ) -> u32;
+    fn dnw_error_text(number: u32, text: *mut u8, text_size: usize) -> usize;
+}
+
+fn outcome<T>(number: u32, result: T) -> Result<T, Error> {
+    match number {
+        0 => Ok(result),
+        number => Err(Error::from_number(number)),
+    }
+}
+
+/// Reads the name at an offset of a message.
+#[inline]
+pub(crate) fn read(message: &[u8], start: usize, form: &mut [u8; FORM_SIZE]) -> Result<ReadName, Error> {
+    let mut read = ReadName::default();
+    // SAFETY: pointers with their lengths, see the module.
+    let number =
+        unsafe { dnw_name_read(message.as_ptr(), message.len(), start, form.as_mut_ptr(), FORM_SIZE, &mut read) };
+    outcome(number, read)
+}
+
+/// Puts the wire form of the name that a text gives.
+#[inline]
+pub(crate) fn parse(text: &str, form: &mut [u8; FORM_SIZE]) -> Result<ParsedName, Error> {
+    let mut parsed = ParsedName::default();
+    // SAFETY: pointers with their lengths, see the module.
+    let number = unsafe { dnw_name_parse(text.as_ptr(), text.len(), form.as_mut_ptr(), FORM_SIZE, &mut parsed) };
+    outcome(number, parsed)
+}
+
+/// Puts the text of the name with a wire form, and returns it.
+#[inline]
+pub(crate) fn print<'a>(form: &[u8], is_fqdn: bool, text: &'a mut [u8; TEXT_SIZE]) -> Result<&'a str, Error> {
+    let mut len = 0;
+    // SAFETY: pointers with their lengths, see the module.
+    let number = unsafe { dnw_name_print(form.as_ptr(), form.len(), is_fqdn, text.as_mut_ptr(), TEXT_SIZE, &mut len) };
+    outcome(number, ())?;
+    Ok(ascii(&text[..len]))
+}
+
+/// Writes the names of a list into a message.
+pub(crate) fn write(names: &[u8], max_size: u16, out: &mut [u8]) -> Result<WrittenNames, Error> {
+    let mut written = WrittenNames::default();
+    // SAFETY: pointers with their lengths, see the module.
+    let number =
+        unsafe { dnw_names_write(names.as_ptr(), names.len(), max_size, out.as_mut_ptr(), out.len(), &mut written) };
+    outcome(number, written)
+}
+
+/// Compares two names by their wire forms: -1, 0 or 1.
+#[inline]
+pub(crate) fn compare(left: &[u8], right: &[u8]) -> Result<i32, Error> {
+    let mut order = 0;
+    // SAFETY: pointers with their lengths, see the module.
+    let number = unsafe { dnw_name_compare(left.as_ptr(), left.len(), right.as_ptr(), right.len(), &mut order) };
+    outcome(number, order)
+}
+
+/// Returns whether two names are equal, ignoring case.
+#[inline]
+pub(crate) fn equal(left: &[u8], right: &[u8]) -> Result<bool, Error> {
+    let mut is = false;
+    // SAFETY: pointers with their lengths, see the module.
+    let number = unsafe { dnw_name_equal(left.as_ptr(), left.len(), right.as_ptr(), right.len(), &mut is) };
+    outcome(number, is)
+}
+
+/// Returns whether a name is in a zone.
+#[inline]
+pub(crate) fn in_zone(name: &[u8], zone: &[u8]) -> Result<bool, Error> {
+    let mut is = false;
+    // SAFETY: pointers with their lengths, see the module.
+    let number = unsafe { dnw_name_in_zone(name.as_ptr(), name.len(), zone.as_ptr(), zone.len(), &mut is) };
+    outcome(number, is)
+}
+
+/// Puts a wire form in lower case, and returns its length.
+#[inline]
+pub(crate) fn to_lowercase(form: &[u8], lowered: &mut [u8; FORM_SIZE]) -> Result<usize, Error> {
+    let mut len = 0;
+    // SAFETY: pointers with their lengths, see the module.
+    let number = unsafe { dnw_name_to_lowercase(form.as_ptr(), form.len(), lowered.as_mut_ptr(), FORM_SIZE, &mut len) };
+    outcome(number, len)
+}
+
+/// Puts the text for a number, and returns it. It is empty if the number stands for nothing.
+pub(crate) fn error_text(number: u32, text: &mut [u8; ERROR_TEXT_SIZE]) -> &str {
+    // SAFETY: a pointer with its length, see the module.
+    let len = unsafe { dnw_error_text(number, text.as_mut_ptr(), ERROR_TEXT_SIZE) };
+    ascii(&text[..len])
+}
+
+fn ascii(text: &[u8]) -> &str {
+    std::str::from_utf8(text).expect("the C library's texts are ASCII")
+}

@@ -1,0 +1,40 @@
+//! Domain names of DNS messages: read, written, parsed, printed and compared by a library whose every function is proved.
+//!
+//! The library is the static archive of the C library of `dns-names-wire`. Its reader accepts exactly the names of RFC
+//! 1035, section 4.1.4, and no input makes it read outside the message, loop or panic. This crate adds types to it, and is
+//! not proved itself: it is small, has no dependency, and has `unsafe` in one module of declarations alone.
+//!
+//! ```
+//! use dns_names_wire::{Error, Name};
+//!
+//! // The question of a message: a name at offset 12, a type and a class.
+//! let message = b"\x12\x34\x01\0\0\x01\0\0\0\0\0\0\x03www\x07example\x03com\0\0\x01\0\x01";
+//! let (name, end) = Name::read(message, 12)?;
+//! assert_eq!(name.to_string(), "www.example.com.");
+//! assert_eq!(message[end..], [0, 1, 0, 1]);
+//! # Ok::<(), Error>(())
+//! ```
+//!
+//! | to | use |
+//! |---|---|
+//! | read a name of a message, a text or a wire form | [`Name::read`], [`Name::from_ascii`] or `str::parse`, [`Name::from_wire`] |
+//! | pass over names, or walk their labels, without copying them | [`NameRef`], [`names()`] |
+//! | print, compare, sort, hash | `Display`, `Ord`, `Hash`, [`Name::zone_of`], [`Name::to_lowercase`] |
+//! | write names with compression | [`MessageWriter`] |
+//!
+//! Cargo finds the archive as `build.rs` says: in the folder that the environment variable `DNW_LIB_DIR` names, or in `lib`
+//! of this crate; in a checkout of the repository it is built if the Rattle toolchain is there.
+#![deny(unsafe_code)]
+#![warn(missing_docs)]
+
+#[allow(unsafe_code)]
+mod door;
+mod error;
+mod name;
+mod name_ref;
+mod writer;
+
+pub use error::Error;
+pub use name::{Labels, Name};
+pub use name_ref::{names, NameRef, Names};
+pub use writer::MessageWriter;

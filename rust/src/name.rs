@@ -1,0 +1,256 @@
+//! Names that own their wire form.
+use crate::door::{self, FORM_SIZE, TEXT_SIZE};
+use crate::error::Error;
+use std::cmp::Ordering;
+use std::fmt;
+use std::hash::{Hash, Hasher};
+use std::str::FromStr;
+
+/// A domain name: at most 255 octets of wire form (RFC 1035, section 3.1), and whether it is fully qualified.
+///
+/// It keeps its wire form in place, so that no call here allocates but those that make a text. Case is kept, and ignored
+/// when names are compared, ordered and hashed (RFC 4343). The order is canonical (RFC 4034, section 6.1), after all names
+/// that are not fully qualified.
+///
+/// ```
+/// use dns_names_wire::Name;
+///
+/// let name: Name = "www.Example.com.".parse()?;
+/// let zone: Name = "example.com.".parse()?;
+/// assert!(zone.zone_of(&name) && zone < name);
+/// assert_eq!(name, "WWW.example.COM.".parse()?);
+/// assert_eq!(name.to_string(), "www.Example.com.");
+/// assert_eq!(zone.as_wire(), b"\x07example\x03com\0");
+/// # Ok::<(), dns_names_wire::Error>(())
+/// ```
+#[derive(Clone)]
+pub struct Name {
+    form: [u8; FORM_SIZE],
+    len: u8,
+    is_fqdn: bool,
+}
+
+/// Why `expect` holds: a `Name` is made by the C library alone, or is the root.
+const VALID: &str = "the wire form of a name";
+
+impl Name {
+    /// Returns the empty name that is not fully qualified.
+    pub fn new() -> Self {
+        Name { form: [0; FORM_SIZE], len: 1, is_fqdn: false }
+    }
+
+    /// Returns the root: no labels, fully qualified.
+    pub fn root() -> Self {
+        Name { is_fqdn: true, ..Name::new() }
+    }
+
+    /// Reads the name at an offset of a message, following compression pointers (RFC 1035, section 4.1.4). Returns it and
+    /// the offset after its own octets.
+    ///
+    /// # Errors
+    ///
+    /// `MessageCut` (also if `start` is past the message), `PointerNotBack`, `ReservedOctet`, `SegmentsOverlap` or
+    /// `NameTooLong` if there is no name.
+    ///
+    /// ```
+    /// use dns_names_wire::{Error, Name};
+    ///
+    /// let message = b"\x01b\0\x01a\xC0\0";
+    /// let (name, end) = Name::read(message, 3)?;
+    /// assert_eq!((name.to_string().as_str(), end), ("a.b.", 7));
+    /// assert_eq!(Name::read(b"\xC0\0", 0), Err(Error::PointerNotBack));
+    /// # Ok::<(), Error>(())
+    /// ```
+    #[inline]
+    pub fn read(message: &[u8], start: usize) -> Result<(Self, usize), Error> {
+        let mut name = Name::root();
+        let read = door::read(message, start, &mut name.form)?;
+        name.len = read.len as u8;
+        Ok((name, read.end))
+    }
+
+    /// Returns the fully qualified name whose wire form this is, compressed or not: the name at offset 0, if it is all there is.
+    ///
+    /// # Errors
+    ///
+    /// As [`Name::read`], and `BytesLeft` if bytes follow after it.
+    pub fn from_wire(form: &[u8]) -> Result<Self, Error> {
+        match Name::read(form, 0)? {
+            (name, end) if end == form.len() => Ok(name),
+            _ => Err(Error::BytesLeft),
+        }
+    }
+
+    /// Returns the name that a text gives (RFC 1035, section 5.1): labels between dots, fully qualified if it ends in a dot.
+    /// A label has ASCII letters, digits, `_`, `-` if it does not begin with it, `*` if it begins with it, and dots that are
+    /// escaped, as `\\.` or in octal digits.
+    ///
+    /// # Errors
+    ///
+    /// `BadText`, `LabelTooLong` or `NameTooLong` if it gives none, or `NoMemory` in place of `BadText`.
+    ///
+    /// ```
+    /// use dns_names_wire::{Error, Name};
+    ///
+    /// assert!(!Name::from_ascii("a.bc")?.is_fqdn());
+    /// assert_eq!(Name::from_ascii("a..bc"), Err(Error::BadText));
+    /// # Ok::<(), Error>(())
+    /// ```
+    #[inline]
+    pub fn from_ascii(text: &str) -> Result<Self, Error> {
+        let mut name = Name::new();
+        let parsed = door::parse(text, &mut name.form)?;
+        name.len = parsed.len as u8;
+        name.is_fqdn = parsed.is_fqdn;
+        Ok(name)
+    }
+
+    /// Returns the wire form, without compression: each label after its length octet, and a zero octet.
+    pub fn as_wire(&self) -> &[u8] {
+        &self.form[..usize::from(self.len)]
+    }
+
+    /// Returns whether the name is fully qualified.
+    pub fn is_fqdn(&self) -> bool {
+        self.is_fqdn
+    }
+
+    /// Sets whether the name is fully qualified.
+    pub fn set_fqdn(&mut self, is_fqdn: bool) {
+        self.is_fqdn = is_fqdn;
+    }
+
+    /// Returns whether the name has no labels and is fully qualified.
+    pub fn is_root(&self) -> bool {
+        self.len == 1 && self.is_fqdn
+    }
+
+    /// Returns the labels, from the first to the one before the root.
+    ///
+    /// ```
+    /// let name: dns_names_wire::Name = "www.example.com.".parse()?;
+    /// let labels: Vec<&[u8]> = name.labels().collect();
+    /// assert_eq!(labels, [b"www".as_slice(), b"example", b"com"]);
+    /// # Ok::<(), dns_names_wire::Error>(())
+    /// ```
+    pub fn labels(&self) -> Labels<'_> {
+        Labels { message: self.as_wire(), at: 0 }
+    }
+
+    /// Returns whether `name` is in this zone: its last labels are those of the zone, ignoring case (RFC 1034, section 4.2).
+    pub fn zone_of(&self, name: &Name) -> bool {
+        door::in_zone(name.as_wire(), self.as_wire()).expect(VALID)
+    }
+
+    /// Returns whether the labels are equal, ignoring case, whether the names are fully qualified or not.
+    pub fn eq_ignore_root(&self, other: &Name) -> bool {
+        // Equal names have wire forms of one length, and a form equals itself.
+        self.len == other.len
+            && (self.as_wire() == other.as_wire() || door::equal(self.as_wire(), other.as_wire()).expect(VALID))
+    }
+
+    /// Returns the name with its ASCII letters in lower case.
+    pub fn to_lowercase(&self) -> Name {
+        let mut lowered = Name { is_fqdn: self.is_fqdn, ..Name::new() };
+        lowered.len = door::to_lowercase(self.as_wire(), &mut lowered.form).expect(VALID) as u8;
+        lowered
+    }
+
+    /// Calls a function with the text of the name.
+    fn with_text<T>(&self, use_text: impl FnOnce(&str) -> T) -> Result<T, Error> {
+        let mut room = [0; TEXT_SIZE];
+        Ok(use_text(door::print(self.as_wire(), self.is_fqdn, &mut room)?))
+    }
+}
+
+impl Default for Name {
+    fn default() -> Self {
+        Name::new()
+    }
+}
+
+impl FromStr for Name {
+    type Err = Error;
+
+    /// As [`Name::from_ascii`].
+    fn from_str(text: &str) -> Result<Self, Error> {
+        Name::from_ascii(text)
+    }
+}
+
+/// The text of RFC 1035, section 5.1, in ASCII, with a last dot if the name is fully qualified: letters, digits, `_`, `-` and
+/// `*` as [`Name::from_ascii`] takes them, other graphic characters after a backslash, and any other octet as three octal
+/// digits. It fails only if the C library cannot allocate.
+impl fmt::Display for Name {
+    fn fmt(&self, f: &mut fmt::Formatter<'_>) -> fmt::Result {
+        self.with_text(|text| f.pad(text)).map_err(|_| fmt::Error)?
+    }
+}
+
+impl fmt::Debug for Name {
+    fn fmt(&self, f: &mut fmt::Formatter<'_>) -> fmt::Result {
+        self.with_text(|text| f.debug_tuple("Name").field(&text).finish()).map_err(|_| fmt::Error)?
+    }
+}
+
+impl PartialEq for Name {
+    fn eq(&self, other: &Self) -> bool {
+        self.is_fqdn == other.is_fqdn && self.eq_ignore_root(other)
+    }
+}
+
+impl Eq for Name {}
+
+impl PartialOrd for Name {
+    fn partial_cmp(&self, other: &Self) -> Option<Ordering> {
+        Some(self.cmp(other))
+    }
+}
+
+impl Ord for Name {
+    fn cmp(&self, other: &Self) -> Ordering {
+        let labels = || door::compare(self.as_wire(), other.as_wire()).expect(VALID).cmp(&0);
+        self.is_fqdn.cmp(&other.is_fqdn).then_with(labels)
+    }
+}
+
+impl Hash for Name {
+    fn hash<H: Hasher>(&self, state: &mut H) {
+        // A length octet is at most 63, which is no letter, so the whole form is lowered at once.
+        let mut form = self.form;
+        let form = &mut form[..usize::from(self.len)];
+        form.make_ascii_lowercase();
+        state.write(form);
+        state.write_u8(self.is_fqdn.into());
+    }
+}
+
+/// The labels of a name, from the first. See [`Name::labels`] and [`NameRef::labels`](crate::NameRef::labels).
+#[derive(Clone, Debug)]
+pub struct Labels<'a> {
+    pub(crate) message: &'a [u8],
+    pub(crate) at: usize,
+}
+
+/// It walks over a name that the C library has accepted, so that each step is within the message, and each pointer goes
+/// back.
+impl<'a> Iterator for Labels<'a> {
+    type Item = &'a [u8];
+
+    fn next(&mut self) -> Option<&'a [u8]> {
+        loop {
+            let octet = usize::from(*self.message.get(self.at)?);
+            match octet {
+                0 => return None,
+                1..=63 => {
+                    let label = self.message.get(self.at + 1..self.at + 1 + octet)?;
+                    self.at += 1 + octet;
+                    return Some(label);
+                }
+                _ => self.at = (octet & 0x3F) << 8 | usize::from(*self.message.get(self.at + 1)?),
+            }
+        }
+    }
+}
+
+impl std::iter::FusedIterator for Labels<'_> {}

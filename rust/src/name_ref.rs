@@ -1,0 +1,149 @@
+//! Names that stay in their message.
+use crate::door::{self, FORM_SIZE};
+use crate::error::Error;
+use crate::name::{Labels, Name};
+use std::cmp::Ordering;
+use std::fmt;
+use std::hash::{Hash, Hasher};
+
+/// A name that was read in a message and stays there: the message and two offsets. It is fully qualified.
+///
+/// To print or compare one costs a copy on the stack each time; read a [`Name`] if that is done often.
+///
+/// ```
+/// use dns_names_wire::NameRef;
+///
+/// let message = b"\x01b\0\x01a\xC0\0";
+/// let name = NameRef::read(message, 3)?;
+/// assert_eq!(name.end(), 7);
+/// assert!(name.labels().eq([b"a", b"b"]));
+/// assert_eq!(name.to_name(), "A.b.".parse()?);
+/// # Ok::<(), dns_names_wire::Error>(())
+/// ```
+#[derive(Clone, Copy)]
+pub struct NameRef<'a> {
+    message: &'a [u8],
+    start: usize,
+    end: usize,
+}
+
+impl<'a> NameRef<'a> {
+    /// Reads the name at an offset of a message, following compression pointers (RFC 1035, section 4.1.4).
+    ///
+    /// # Errors
+    ///
+    /// As [`Name::read`].
+    pub fn read(message: &'a [u8], start: usize) -> Result<Self, Error> {
+        let read = door::read(message, start, &mut [0; FORM_SIZE])?;
+        Ok(NameRef { message, start, end: read.end })
+    }
+
+    /// Returns the message.
+    pub fn message(&self) -> &'a [u8] {
+        self.message
+    }
+
+    /// Returns the offset of the name.
+    pub fn start(&self) -> usize {
+        self.start
+    }
+
+    /// Returns the offset after the name's own octets, which end at its first pointer or its zero octet.
+    pub fn end(&self) -> usize {
+        self.end
+    }
+
+    /// Returns the labels, borrowed from the message.
+    pub fn labels(&self) -> Labels<'a> {
+        Labels { message: self.message, at: self.start }
+    }
+
+    /// Returns a copy that owns its wire form.
+    pub fn to_name(&self) -> Name {
+        let (name, _) = Name::read(self.message, self.start).expect("a name that was read before");
+        name
+    }
+}
+
+impl fmt::Display for NameRef<'_> {
+    fn fmt(&self, f: &mut fmt::Formatter<'_>) -> fmt::Result {
+        fmt::Display::fmt(&self.to_name(), f)
+    }
+}
+
+impl fmt::Debug for NameRef<'_> {
+    fn fmt(&self, f: &mut fmt::Formatter<'_>) -> fmt::Result {
+        fmt::Debug::fmt(&self.to_name(), f)
+    }
+}
+
+impl From<NameRef<'_>> for Name {
+    fn from(name: NameRef<'_>) -> Name {
+        name.to_name()
+    }
+}
+
+/// By labels, ignoring case, whatever their messages.
+impl PartialEq for NameRef<'_> {
+    fn eq(&self, other: &Self) -> bool {
+        self.to_name() == other.to_name()
+    }
+}
+
+impl Eq for NameRef<'_> {}
+
+impl PartialEq<Name> for NameRef<'_> {
+    fn eq(&self, other: &Name) -> bool {
+        self.to_name() == *other
+    }
+}
+
+impl PartialOrd for NameRef<'_> {
+    fn partial_cmp(&self, other: &Self) -> Option<Ordering> {
+        Some(self.cmp(other))
+    }
+}
+
+impl Ord for NameRef<'_> {
+    fn cmp(&self, other: &Self) -> Ordering {
+        self.to_name().cmp(&other.to_name())
+    }
+}
+
+impl Hash for NameRef<'_> {
+    fn hash<H: Hasher>(&self, state: &mut H) {
+        self.to_name().hash(state);
+    }
+}
+
+/// The names that follow one another in a message. See [`names`].
+#[derive(Clone, Debug)]
+pub struct Names<'a> {
+    message: &'a [u8],
+    at: Option<usize>,
+}
+
+/// Returns the names that follow one another in a message, from an offset to its end. After an error it ends.
+///
+/// ```
+/// use dns_names_wire::names;
+///
+/// let texts: Vec<String> = names(b"\x01b\0\x01a\xC0\0\0", 0).map(|name| name.unwrap().to_string()).collect();
+/// assert_eq!(texts, ["b.", "a.b.", "."]);
+/// ```
+pub fn names(message: &[u8], start: usize) -> Names<'_> {
+    Names { message, at: Some(start) }
+}
+
+impl<'a> Iterator for Names<'a> {
+    type Item = Result<NameRef<'a>, Error>;
+
+    fn next(&mut self) -> Option<Self::Item> {
+        let at = self.at.take().filter(|at| *at != self.message.len())?;
+        let name = NameRef::read(self.message, at);
+        self.at = name.as_ref().ok().map(NameRef::end);
+        Some(name)
+    }
+}
+
+impl std::iter::FusedIterator for Names<'_> {}

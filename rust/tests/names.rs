@@ -1,0 +1,182 @@
+//! The crate as its users call it. Expected values are from RFC 1035, section 4.1.4, RFC 4034, section 6.1, or counted by
+//! hand.
+use dns_names_wire::{names, Error, MessageWriter, Name, NameRef};
+use std::cmp::Ordering;
+use std::collections::{BTreeSet, HashSet};
+
+fn name(text: &str) -> Name {
+    text.parse().unwrap_or_else(|e| panic!("{text}: {e}"))
+}
+
+/// The names of RFC 1035, section 4.1.4: F.ISI.ARPA at 20, FOO.F.ISI.ARPA at 40, ARPA at 64, the root at 92.
+fn message() -> Vec<u8> {
+    let mut message = vec![0xFF; 93];
+    message[20..32].copy_from_slice(b"\x01F\x03ISI\x04ARPA\0");
+    message[40..46].copy_from_slice(b"\x03FOO\xC0\x14");
+    message[64..66].copy_from_slice(b"\xC0\x1A");
+    message[92] = 0;
+    message
+}
+
+#[test]
+fn reads_the_names_of_the_rfc() {
+    let message = message();
+    for (start, text, end) in [(20, "F.ISI.ARPA.", 32), (40, "FOO.F.ISI.ARPA.", 46), (64, "ARPA.", 66), (92, ".", 93)] {
+        let (read, after) = Name::read(&message, start).unwrap();
+        assert_eq!((read.to_string().as_str(), after), (text, end));
+        let borrowed = NameRef::read(&message, start).unwrap();
+        assert_eq!((borrowed.start(), borrowed.end(), borrowed.to_string().as_str()), (start, end, text));
+        assert!(borrowed.labels().eq(read.labels()));
+        assert_eq!(borrowed, read);
+        assert_eq!(Name::from(borrowed).as_wire(), read.as_wire());
+    }
+}
+
+#[test]
+fn each_fault_is_its_error() {
+    let many = [&b"\x01a".repeat(127)[..], b"\0"].concat();
+    let one_more = [&b"\x01a".repeat(128)[..], b"\0"].concat();
+    assert_eq!(Name::read(&many, 0).map(|(name, end)| (name.labels().count(), end)), Ok((127, 255)));
+    let rows: [(&[u8], usize, Error); 7] = [
+        (b"", 0, Error::MessageCut),
+        (b"\0", 2, Error::MessageCut),
+        (b"\x05abc", 0, Error::MessageCut),
+        (b"\xC0\0", 0, Error::PointerNotBack),
+        (b"\x40", 0, Error::ReservedOctet),
+        (b"\x01a\xC0\0", 2, Error::SegmentsOverlap),
+        (&one_more, 0, Error::NameTooLong),
+    ];
+    for (message, start, error) in rows {
+        assert_eq!(Name::read(message, start), Err(error));
+        assert_eq!(NameRef::read(message, start), Err(error));
+    }
+    assert_eq!(Name::read(b"\0", usize::MAX), Err(Error::MessageCut));
+    assert_eq!(Name::from_wire(b"\x01a\0\0"), Err(Error::BytesLeft));
+    assert_eq!(Name::from_wire(b""), Err(Error::MessageCut));
+}
+
+#[test]
+fn texts_are_read_and_shown() {
+    for text in ["a.bc.", "a.bc", ".", "", "*.a.", "_443._tcp.a."] {
+        let read = name(text);
+        assert_eq!(read.to_string(), text);
+        assert_eq!(read.is_fqdn(), text.ends_with('.'));
+    }
+    assert_eq!(name("\\101\\.b.").as_wire(), b"\x03A.b\0");
+    assert_eq!(Name::from_wire(b"\x03a\x80.\x01/\0").unwrap().to_string(), "a\\200\\..\\/.");
+    assert!(name(".").is_root() && !name("").is_root() && name("") == Name::new() && name(".") == Name::root());
+    assert_eq!(format!("{:>6}|{:<4}|{:?}", name("a."), name("."), name("a.b.")), "    a.|.   |Name(\"a.b.\")");
+    let label = "a".repeat(64);
+    let long = [&"a".repeat(63)[..]; 4].join(".");
+    let rows = [
+        ("a..b", Error::BadText),
+        ("\\200", Error::BadText),
+        ("a b", Error::BadText),
+        ("\\", Error::BadText),
+        (&label, Error::LabelTooLong),
+        (&long, Error::NameTooLong),
+    ];
+    for (text, error) in rows {
+        assert_eq!(text.parse::<Name>(), Err(error), "{text}");
+    }
+}
+
+/// The order of RFC 4034, section 6.1.
+const ORDER: [&[u8]; 9] = [
+    b"\x07example\0",
+    b"\x01a\x07example\0",
+    b"\x08yljkjljk\x01a\x07example\0",
+    b"\x01Z\x01a\x07example\0",
+    b"\x04zABC\x01a\x07EXAMPLE\0",
+    b"\x01z\x07example\0",
+    b"\x01\x01\x01z\x07example\0",
+    b"\x01*\x01z\x07example\0",
+    b"\x01\xC8\x01z\x07example\0",
+];
+
+#[test]
+fn the_order_is_canonical() {
+    let ordered: Vec<Name> = ORDER.iter().map(|form| Name::from_wire(form).unwrap()).collect();
+    for (i, left) in ordered.iter().enumerate() {
+        for (j, right) in ordered.iter().enumerate() {
+            assert_eq!(left.cmp(right), i.cmp(&j), "{left} {right}");
+            assert_eq!(left == right, i == j);
+        }
+    }
+    let mut sorted = ordered.clone();
+    sorted.reverse();
+    sorted.sort();
+    assert_eq!(sorted, ordered);
+    assert_eq!(name("A.b.").cmp(&name("a.B.")), Ordering::Equal);
+    assert!(name("z") < name("a.") && name("a") != name("a."));
+    assert!(name("a").eq_ignore_root(&name("A.")) && !name("a.").eq_ignore_root(&name("b.")));
+}
+
+#[test]
+fn equal_names_have_one_hash() {
+    let set: HashSet<Name> = ["WWW.a.", "www.A.", "b."].into_iter().map(name).collect();
+    assert_eq!(set.len(), 2);
+    assert!(set.contains(&name("www.a.")) && !set.contains(&name("www.a")));
+    let tree: BTreeSet<Name> = ORDER.iter().map(|form| Name::from_wire(form).unwrap()).collect();
+    assert_eq!(tree.len(), ORDER.len());
+}
+
+#[test]
+fn zones_and_lower_case() {
+    assert!(name("example.").zone_of(&name("a.EXAMPLE.")) && name("example.").zone_of(&name("example.")));
+    assert!(!name("a.example.").zone_of(&name("example.")) && name(".").zone_of(&name("a.")));
+    assert!(!name("ple.").zone_of(&name("example.")));
+    let lowered = Name::from_wire(b"\x01A\x03Bc\xC0\0").unwrap().to_lowercase();
+    assert_eq!(lowered.as_wire(), b"\x01a\x03bc\xC0\0");
+    assert!(lowered.is_fqdn() && !name("A").to_lowercase().is_fqdn());
+}
+
+#[test]
+fn what_is_written_reads_back() {
+    let list = [".", "www.de.", "mail.de.", "WWW.de.", "x.www.de."].map(name);
+    let mut writer = MessageWriter::default();
+    writer.extend(&list);
+    let message = writer.finish().unwrap();
+    let read: Vec<Name> = names(&message, 0).map(|name| name.unwrap().into()).collect();
+    assert!(read.iter().map(Name::as_wire).eq(list.iter().map(Name::as_wire)));
+    assert!(message.len() < list.iter().map(|name| name.as_wire().len()).sum());
+    assert_eq!(MessageWriter::new().finish(), Ok(vec![]));
+}
+
+#[test]
+fn a_message_has_a_maximum() {
+    let mut writer = MessageWriter::with_max_size(7);
+    writer.push(&name("a.bc."));
+    assert_eq!(writer.finish().unwrap(), b"\x01a\x02bc\0");
+    writer.push(&name("."));
+    assert_eq!(writer.finish().unwrap().len(), 7);
+    writer.push(&name("."));
+    assert_eq!(writer.finish(), Err(Error::MessageTooLong));
+}
+
+#[test]
+fn names_of_a_message_end_after_an_error() {
+    let mut read = names(b"\x01a\0\x40\0", 0);
+    assert_eq!(read.next().unwrap().unwrap().to_name(), name("a."));
+    assert_eq!(read.next(), Some(Err(Error::ReservedOctet)));
+    assert_eq!(read.next(), None);
+    assert_eq!(names(b"\0", 2).next(), Some(Err(Error::MessageCut)));
+}
+
+#[test]
+fn errors_have_texts_and_numbers() {
+    assert_eq!(Error::NoMemory.to_string(), "out of memory");
+    assert_eq!(Error::Other(99).to_string(), "failure 99");
+    let source: Box<dyn std::error::Error + Send + Sync> = Error::BadText.into();
+    assert!(source.to_string().contains("text"));
+    assert_eq!(Error::MessageTooLong.number(), 12);
+}
+
+#[test]
+fn values_cross_threads() {
+    fn is_shared<T: Send + Sync + 'static>() {}
+    is_shared::<Name>();
+    is_shared::<Error>();
+    is_shared::<NameRef<'static>>();
+    is_shared::<MessageWriter>();
+}
