@@ -1,0 +1,92 @@
+"""Why a call fails: an exception for each failure of the C library."""
+
+import ctypes
+from typing import Dict, Type
+
+from ._library import ERROR_TEXT_SIZE, library
+
+
+class DnsError(ValueError):
+    """A call failed. Each failure is a class below this one; `number` is its number in `dns_names_wire.h`."""
+
+    number = 13
+
+
+class MessageCut(DnsError):
+    """The message ends within the name, or before it."""
+
+    number = 3
+
+
+class PointerNotBack(DnsError):
+    """A compression pointer does not point to before the segment of the name that it ends."""
+
+    number = 4
+
+
+class ReservedOctet(DnsError):
+    """An octet from 64 to 191 where a label or a pointer should begin."""
+
+    number = 5
+
+
+class SegmentsOverlap(DnsError):
+    """A segment of the name runs into the one that points to it."""
+
+    number = 6
+
+
+class NameTooLong(DnsError):
+    """A name takes more than 255 octets."""
+
+    number = 7
+
+
+class LabelTooLong(DnsError):
+    """A label takes more than 63 octets."""
+
+    number = 8
+
+
+class BadText(DnsError):
+    """A text has a label, a character or an escape that is not allowed."""
+
+    number = 9
+
+
+class NotUtf8(DnsError):
+    """A text has no UTF-8, as one with half a surrogate pair."""
+
+    number = 10
+
+
+class BytesLeft(DnsError):
+    """Bytes follow after a name that should be all there is."""
+
+    number = 11
+
+
+class MessageTooLong(DnsError):
+    """The message would be longer than its maximum."""
+
+    number = 12
+
+
+_NO_MEMORY = 1
+_CLASSES: Dict[int, Type[DnsError]] = {error.number: error for error in DnsError.__subclasses__()}
+
+
+def error_text(number: int) -> str:
+    """The C library's text for a number, which is empty for one that stands for nothing."""
+    room = ctypes.create_string_buffer(ERROR_TEXT_SIZE)
+    length = library.dnw_error_text(number, room, ERROR_TEXT_SIZE)
+    return room.raw[:length].decode("ascii")
+
+
+def check(number: int) -> None:
+    """Raises the exception for a number other than 0: `MemoryError` if the library could not allocate."""
+    if number == 0:
+        return
+    if number == _NO_MEMORY:
+        raise MemoryError(error_text(number))
+    raise _CLASSES.get(number, DnsError)(error_text(number) or f"failure {number}")

@@ -1,0 +1,56 @@
+"""The shared library and its functions, as `dns_names_wire.h` declares them."""
+
+import ctypes
+import os
+import pathlib
+from ctypes import POINTER, c_bool, c_char_p, c_int32, c_size_t, c_uint16, c_uint32
+
+LIBRARY = "libdns_names_wire.so"
+
+FORM_SIZE = 255
+TEXT_SIZE = 1004
+ERROR_TEXT_SIZE = 64
+
+
+class ReadName(ctypes.Structure):
+    _fields_ = [("len", c_size_t), ("end", c_size_t)]
+
+
+class ParsedName(ctypes.Structure):
+    _fields_ = [("len", c_size_t), ("is_fqdn", c_bool)]
+
+
+class WrittenNames(ctypes.Structure):
+    _fields_ = [("len", c_size_t), ("count", c_size_t)]
+
+
+# A slice of bytes is two arguments: bytes that are read, or a buffer that is written, and their length.
+_READ = (c_char_p, c_size_t)
+_WRITTEN = (c_char_p, c_size_t)
+
+_FUNCTIONS = {
+    "dnw_name_read": (*_READ, c_size_t, *_WRITTEN, POINTER(ReadName)),
+    "dnw_name_parse": (*_READ, *_WRITTEN, POINTER(ParsedName)),
+    "dnw_name_print": (*_READ, c_bool, *_WRITTEN, POINTER(c_size_t)),
+    "dnw_names_write": (*_READ, c_uint16, *_WRITTEN, POINTER(WrittenNames)),
+    "dnw_name_compare": (*_READ, *_READ, POINTER(c_int32)),
+    "dnw_name_equal": (*_READ, *_READ, POINTER(c_bool)),
+    "dnw_name_in_zone": (*_READ, *_READ, POINTER(c_bool)),
+    "dnw_name_to_lowercase": (*_READ, *_WRITTEN, POINTER(c_size_t)),
+}
+
+
+def _load() -> ctypes.CDLL:
+    folder = os.environ.get("DNW_LIB_DIR")
+    path = pathlib.Path(folder) if folder else pathlib.Path(__file__).resolve().parent
+    library = ctypes.CDLL(str(path / LIBRARY))
+    for name, arguments in _FUNCTIONS.items():
+        function = getattr(library, name)
+        function.argtypes = arguments
+        function.restype = c_uint32
+    library.dnw_error_text.argtypes = (c_uint32, *_WRITTEN)
+    library.dnw_error_text.restype = c_size_t
+    return library
+
+
+library = _load()

@@ -1,0 +1,90 @@
+"""Builds the wheel of dns_names_wire, with the standard library alone: `pip wheel python` uses it, and so can a script.
+
+    DNW_LIB_DIR=FOLDER python3 wheel_backend.py OUT
+
+The wheel has the shared library `libdns_names_wire.so`. It is taken from the folder that the environment variable DNW_LIB_DIR
+names; if that is not set, `tools/c-library` of the repository builds it, for which the Rattle toolchain has to be there.
+"""
+
+import base64
+import hashlib
+import os
+import pathlib
+import subprocess
+import sys
+import sysconfig
+import tempfile
+import zipfile
+
+HERE = pathlib.Path(__file__).resolve().parent
+LIBRARY = "libdns_names_wire.so"
+NAME, VERSION = "dns_names_wire", "0.1.0"
+METADATA = """Metadata-Version: 2.1
+Name: dns-names-wire
+Version: 0.1.0
+Summary: Domain names of DNS messages, read, written, printed and compared by a proved library
+License: MIT OR Apache-2.0
+Requires-Python: >=3.9
+"""
+
+
+def platform_tag():
+    return sysconfig.get_platform().replace("-", "_").replace(".", "_")
+
+
+def shared_library():
+    folder = os.environ.get("DNW_LIB_DIR")
+    if folder:
+        return (pathlib.Path(folder) / LIBRARY).read_bytes()
+    with tempfile.TemporaryDirectory() as room:
+        subprocess.run([HERE.parent / "tools" / "c-library", room], check=True)
+        return (pathlib.Path(room) / LIBRARY).read_bytes()
+
+
+def contents(tag):
+    """The files of the wheel, by name, but for the list of them."""
+    package = HERE / NAME
+    files = {f"{NAME}/{path.name}": path.read_bytes() for path in sorted(package.glob("*.py"))}
+    files[f"{NAME}/py.typed"] = b""
+    files[f"{NAME}/{LIBRARY}"] = shared_library()
+    info = f"{NAME}-{VERSION}.dist-info"
+    files[f"{info}/METADATA"] = METADATA.encode()
+    files[f"{info}/WHEEL"] = f"Wheel-Version: 1.0\nGenerator: wheel_backend\nRoot-Is-Purelib: false\nTag: {tag}\n".encode()
+    return files
+
+
+def record(files):
+    """A line for each file with its hash and size, and one for the list itself."""
+    lines = []
+    for name, content in files.items():
+        digest = base64.urlsafe_b64encode(hashlib.sha256(content).digest()).rstrip(b"=").decode()
+        lines.append(f"{name},sha256={digest},{len(content)}\n")
+    own = f"{NAME}-{VERSION}.dist-info/RECORD"
+    return own, "".join([*lines, f"{own},,\n"]).encode()
+
+
+def build_wheel(wheel_directory, config_settings=None, metadata_directory=None):
+    """Builds the wheel and returns its file name (PEP 517). The same files give the same wheel."""
+    tag = f"py3-none-{platform_tag()}"
+    files = contents(tag)
+    own, lines = record(files)
+    files[own] = lines
+    wheel = f"{NAME}-{VERSION}-{tag}.whl"
+    with zipfile.ZipFile(pathlib.Path(wheel_directory) / wheel, "w", zipfile.ZIP_DEFLATED) as archive:
+        for name, content in files.items():
+            entry = zipfile.ZipInfo(name)
+            entry.external_attr = 0o644 << 16
+            entry.compress_type = zipfile.ZIP_DEFLATED
+            archive.writestr(entry, content)
+    return wheel
+
+
+def build_sdist(sdist_directory, config_settings=None):
+    raise NotImplementedError("there is a wheel alone")
+
+
+if __name__ == "__main__":
+    if len(sys.argv) != 2:
+        sys.exit(__doc__)
+    pathlib.Path(sys.argv[1]).mkdir(parents=True, exist_ok=True)
+    print(build_wheel(sys.argv[1]))
