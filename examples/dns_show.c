@@ -1,0 +1,402 @@
+/* Prints a DNS message as dig does, or sorts names, with the C library.
+
+       dns_show [FILE]          prints the message of a file or of standard input, in binary or in hexadecimal
+       dns_show --sort [FILE]   prints the names of a file, one a line, in canonical order (RFC 4034, section 6.1)
+
+   It exits with 1 if the input is rejected and with 2 on a usage error.
+
+       cc -Iinclude examples/dns_show.c -ldns_names_wire -o dns_show */
+#include <arpa/inet.h>
+#include <ctype.h>
+#include <stdio.h>
+#include <stdlib.h>
+#include <string.h>
+
+#include "dns_names_wire.h"
+
+struct bytes {
+    uint8_t *at;
+    size_t len;
+};
+
+static _Noreturn void reject(size_t offset, const char *why, size_t len)
+{
+    fflush(stdout);
+    fprintf(stderr, "dns_show: at offset %zu: %.*s\n", offset, (int)len, why);
+    exit(1);
+}
+
+static _Noreturn void reject_failure(size_t offset, uint32_t failure)
+{
+    uint8_t text[64];
+    reject(offset, (const char *)text, dnw_error_text(failure, text, sizeof text));
+}
+
+static void *room(void *old, size_t size)
+{
+    void *block = realloc(old, size);
+    if (block == NULL)
+        reject(0, "out of memory", 13);
+    return block;
+}
+
+static struct bytes read_all(const char *path)
+{
+    FILE *file = path == NULL ? stdin : fopen(path, "rb");
+    if (file == NULL) {
+        perror(path);
+        exit(2);
+    }
+    struct bytes all = {room(NULL, 4096), 0};
+    for (size_t size = 4096, got; (got = fread(all.at + all.len, 1, size - all.len, file)) > 0;) {
+        all.len += got;
+        if (all.len == size)
+            all.at = room(all.at, size *= 2);
+    }
+    if (file != stdin)
+        fclose(file);
+    return all;
+}
+
+/* If the bytes are hexadecimal digits and blanks, what they stand for takes their place. */
+static void from_hex(struct bytes *all)
+{
+    size_t digits = 0;
+    for (size_t i = 0; i < all->len; i++) {
+        if (isxdigit(all->at[i]))
+            digits++;
+        else if (!isspace(all->at[i]))
+            return;
+    }
+    size_t len = 0, high = 0;
+    for (size_t i = 0; i < all->len; i++) {
+        int c = tolower(all->at[i]);
+        if (isspace(c))
+            continue;
+        high = high << 4 | (size_t)(isdigit(c) ? c - '0' : c - 'a' + 10);
+        if (++len % 2 == 0)
+            all->at[len / 2 - 1] = (uint8_t)high;
+    }
+    if (digits % 2 != 0)
+        reject(digits / 2, "half an octet in hexadecimal", 28);
+    all->len = len / 2;
+}
+
+/* A cursor over a part of a message, which ends at `end`. */
+struct cursor {
+    const struct bytes *message;
+    size_t at, end;
+};
+
+static const uint8_t *take(struct cursor *from, size_t len)
+{
+    if (from->end - from->at < len)
+        reject(from->at, "the message or the record ends too early", 40);
+    from->at += len;
+    return from->message->at + from->at - len;
+}
+
+static unsigned take_u8(struct cursor *from)
+{
+    return take(from, 1)[0];
+}
+
+static unsigned take_u16(struct cursor *from)
+{
+    const uint8_t *octets = take(from, 2);
+    return (unsigned)octets[0] << 8 | octets[1];
+}
+
+static unsigned long take_u32(struct cursor *from)
+{
+    unsigned long high = take_u16(from);
+    return high << 16 | take_u16(from);
+}
+
+/* Puts the text of the name at the cursor, and returns its length. */
+static size_t take_name(struct cursor *from, uint8_t text[DNW_TEXT_SIZE])
+{
+    struct dnw_read_name read;
+    uint32_t failure =
+        dnw_name_read_text(from->message->at, from->message->len, from->at, text, DNW_TEXT_SIZE, &read);
+    if (failure != DNW_DONE)
+        reject_failure(from->at, failure);
+    if (read.end > from->end)
+        reject(from->at, "the message or the record ends too early", 40);
+    from->at = read.end;
+    return read.len;
+}
+
+static void show_name(struct cursor *from)
+{
+    uint8_t text[DNW_TEXT_SIZE];
+    size_t len = take_name(from, text);
+    printf("%.*s", (int)len, (const char *)text);
+}
+
+/* What the data of a type is made of: n a name, 1, 2, 4 a number of so many octets, a A, 6 AAAA, s strings, t a tag and a
+   value, x hexadecimal. */
+static const struct kind {
+    unsigned code;
+    const char *text, *data;
+} kinds[] = {
+    {1, "A", "a"},      {2, "NS", "n"},     {5, "CNAME", "n"}, {6, "SOA", "nn44444"}, {12, "PTR", "n"},
+    {15, "MX", "2n"},   {16, "TXT", "s"},   {28, "AAAA", "6"}, {33, "SRV", "222n"},   {39, "DNAME", "n"},
+    {43, "DS", "211x"}, {46, "RRSIG", ""},  {47, "NSEC", ""},  {48, "DNSKEY", ""},    {65, "HTTPS", ""},
+    {255, "ANY", ""},   {257, "CAA", "1t"},
+};
+
+static const struct kind *kind_of(unsigned code)
+{
+    for (size_t i = 0; i < sizeof kinds / sizeof *kinds; i++)
+        if (kinds[i].code == code)
+            return &kinds[i];
+    return NULL;
+}
+
+static void show_type(unsigned code)
+{
+    const struct kind *kind = kind_of(code);
+    if (kind != NULL)
+        printf("%s", kind->text);
+    else
+        printf("TYPE%u", code);
+}
+
+static void show_class(unsigned code)
+{
+    static const struct {
+        unsigned code;
+        const char *text;
+    } classes[] = {{1, "IN"}, {3, "CH"}, {4, "HS"}, {254, "NONE"}, {255, "ANY"}};
+    for (size_t i = 0; i < sizeof classes / sizeof *classes; i++) {
+        if (classes[i].code == code) {
+            printf("%s", classes[i].text);
+            return;
+        }
+    }
+    printf("CLASS%u", code);
+}
+
+static void show_hex(struct cursor *from)
+{
+    while (from->at < from->end)
+        printf("%02x", take_u8(from));
+}
+
+static void show_string(const uint8_t *octets, size_t len)
+{
+    putchar('"');
+    for (size_t i = 0; i < len; i++) {
+        if (octets[i] < 32 || octets[i] > 126)
+            printf("\\%03d", octets[i]);
+        else
+            printf("%s%c", octets[i] == '"' || octets[i] == '\\' ? "\\" : "", octets[i]);
+    }
+    putchar('"');
+}
+
+static void show_address(struct cursor *from, int family, size_t len)
+{
+    char text[INET6_ADDRSTRLEN];
+    inet_ntop(family, take(from, len), text, sizeof text);
+    printf("%s", text);
+}
+
+static void show_field(struct cursor *data, char field)
+{
+    size_t len;
+    switch (field) {
+    case 'n': show_name(data); break;
+    case '1': printf("%u", take_u8(data)); break;
+    case '2': printf("%u", take_u16(data)); break;
+    case '4': printf("%lu", take_u32(data)); break;
+    case 'a': show_address(data, AF_INET, 4); break;
+    case '6': show_address(data, AF_INET6, 16); break;
+    case 'x': show_hex(data); break;
+    case 's':
+        do {
+            len = take_u8(data);
+            show_string(take(data, len), len);
+            if (data->at < data->end)
+                putchar(' ');
+        } while (data->at < data->end);
+        break;
+    case 't':
+        len = take_u8(data);
+        printf("%.*s ", (int)len, (const char *)take(data, len));
+        len = data->end - data->at;
+        show_string(take(data, len), len);
+        break;
+    }
+}
+
+/* Prints a record's data: by its type, or as RFC 3597 does. */
+static void show_data(struct cursor *data, unsigned type)
+{
+    const struct kind *kind = kind_of(type);
+    if (kind == NULL || kind->data[0] == 0) {
+        printf("\\# %zu%s", data->end - data->at, data->at < data->end ? " " : "");
+        show_hex(data);
+    } else {
+        for (const char *field = kind->data; *field != 0; field++) {
+            if (field != kind->data)
+                putchar(' ');
+            show_field(data, *field);
+        }
+    }
+    if (data->at != data->end)
+        reject(data->at, "octets are left in a record", 27);
+}
+
+/* The pseudorecord OPT (RFC 6891), whose class is a size and whose TTL has a version and flags. */
+static void show_edns(unsigned size, unsigned long ttl)
+{
+    printf("; EDNS: version: %lu, flags:%s; udp: %u\n", ttl >> 16 & 255, ttl & 0x8000 ? " do" : "", size);
+}
+
+static void show_record(struct cursor *from)
+{
+    uint8_t owner[DNW_TEXT_SIZE];
+    size_t owner_len = take_name(from, owner);
+    unsigned type = take_u16(from), class = take_u16(from);
+    unsigned long ttl = take_u32(from);
+    size_t len = take_u16(from);
+    take(from, len);
+    struct cursor data = {from->message, from->at - len, from->at};
+    if (type == 41) {
+        show_edns(class, ttl);
+        return;
+    }
+    printf("%.*s\t%lu\t", (int)owner_len, (const char *)owner, ttl);
+    show_class(class);
+    putchar('\t');
+    show_type(type);
+    putchar('\t');
+    show_data(&data, type);
+    putchar('\n');
+}
+
+static void show_question(struct cursor *from)
+{
+    putchar(';');
+    show_name(from);
+    unsigned type = take_u16(from), class = take_u16(from);
+    putchar('\t');
+    show_class(class);
+    putchar('\t');
+    show_type(type);
+    putchar('\n');
+}
+
+static const char *const opcodes[] = {"QUERY", "IQUERY", "STATUS", NULL, "NOTIFY", "UPDATE"};
+static const char *const statuses[] = {"NOERROR", "FORMERR", "SERVFAIL", "NXDOMAIN", "NOTIMP",  "REFUSED",
+                                       "YXDOMAIN", "YXRRSET", "NXRRSET", "NOTAUTH",  "NOTZONE"};
+
+static void show_code(const char *const *texts, size_t count, const char *other, unsigned code)
+{
+    if (code < count && texts[code] != NULL)
+        printf("%s", texts[code]);
+    else
+        printf("%s%u", other, code);
+}
+
+/* Prints the header, and puts how many records each section has. */
+static void show_header(struct cursor *from, unsigned counts[4])
+{
+    static const struct {
+        unsigned mask;
+        const char *text;
+    } flags[] = {{0x8000, "qr"}, {0x0400, "aa"}, {0x0200, "tc"}, {0x0100, "rd"},
+                 {0x0080, "ra"}, {0x0020, "ad"}, {0x0010, "cd"}};
+    unsigned id = take_u16(from), word = take_u16(from);
+    for (int i = 0; i < 4; i++)
+        counts[i] = take_u16(from);
+    printf(";; ->>HEADER<<- opcode: ");
+    show_code(opcodes, sizeof opcodes / sizeof *opcodes, "OPCODE", word >> 11 & 15);
+    printf(", status: ");
+    show_code(statuses, sizeof statuses / sizeof *statuses, "RCODE", word & 15);
+    printf(", id: %u\n;; flags:", id);
+    for (size_t i = 0; i < sizeof flags / sizeof *flags; i++)
+        if (word & flags[i].mask)
+            printf(" %s", flags[i].text);
+    printf("; QUERY: %u, ANSWER: %u, AUTHORITY: %u, ADDITIONAL: %u\n", counts[0], counts[1], counts[2], counts[3]);
+}
+
+static void show_message(const struct bytes *message)
+{
+    static const char *const sections[] = {"QUESTION", "ANSWER", "AUTHORITY", "ADDITIONAL"};
+    struct cursor from = {message, 0, message->len};
+    unsigned counts[4];
+    show_header(&from, counts);
+    for (int section = 0; section < 4; section++) {
+        if (counts[section] == 0)
+            continue;
+        printf("\n;; %s SECTION:\n", sections[section]);
+        for (unsigned i = 0; i < counts[section]; i++)
+            (section == 0 ? show_question : show_record)(&from);
+    }
+    if (from.at != from.end)
+        reject(from.at, "octets are left after the message", 33);
+}
+
+struct name {
+    uint8_t form[DNW_FORM_SIZE];
+    size_t len, line;
+};
+
+static int by_order(const void *left, const void *right)
+{
+    const struct name *a = left, *b = right;
+    int32_t order = 0;
+    dnw_name_compare(a->form, a->len, b->form, b->len, &order);
+    return order != 0 ? order : (a->line > b->line) - (a->line < b->line);
+}
+
+static void show_sorted(const struct bytes *text)
+{
+    struct name *names = NULL;
+    size_t count = 0;
+    for (size_t at = 0; at < text->len;) {
+        const uint8_t *end = memchr(text->at + at, '\n', text->len - at);
+        size_t len = (end == NULL ? text->len : (size_t)(end - text->at)) - at;
+        names = room(names, (count + 1) * sizeof *names);
+        struct dnw_parsed_name parsed;
+        uint32_t failure = dnw_name_parse(text->at + at, len, names[count].form, DNW_FORM_SIZE, &parsed);
+        if (failure != DNW_DONE)
+            reject_failure(at, failure);
+        names[count].len = parsed.len;
+        names[count].line = count;
+        count++;
+        at += len + 1;
+    }
+    if (count > 0)
+        qsort(names, count, sizeof *names, by_order);
+    for (size_t i = 0; i < count; i++) {
+        uint8_t shown[DNW_TEXT_SIZE];
+        size_t len;
+        uint32_t failure = dnw_name_print(names[i].form, names[i].len, true, shown, sizeof shown, &len);
+        if (failure != DNW_DONE)
+            reject_failure(0, failure);
+        printf("%.*s\n", (int)len, (const char *)shown);
+    }
+    free(names);
+}
+
+int main(int count, char **words)
+{
+    int sorts = count > 1 && strcmp(words[1], "--sort") == 0;
+    if (count > 2 + sorts || (count == 2 && !sorts && words[1][0] == '-')) {
+        fprintf(stderr, "usage: dns_show [--sort] [FILE]\n");
+        return 2;
+    }
+    struct bytes input = read_all(words[1 + sorts]);
+    if (sorts) {
+        show_sorted(&input);
+    } else {
+        from_hex(&input);
+        show_message(&input);
+    }
+    free(input.at);
+    return 0;
+}

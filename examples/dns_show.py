@@ -1,0 +1,201 @@
+#!/usr/bin/env python3
+"""Prints a DNS message as dig does, or sorts names, with the Python package.
+
+    dns_show.py [FILE]          prints the message of a file or of standard input, in binary or in hexadecimal
+    dns_show.py --sort [FILE]   prints the names of a file, one a line, in canonical order (RFC 4034, section 6.1)
+
+It exits with 1 if the input is rejected and with 2 on a usage error.
+"""
+
+import ipaddress
+import pathlib
+import re
+import sys
+
+from dns_names_wire import DnsError, Name, read_name
+
+# What the data of a type is made of: n a name, 1, 2, 4 a number of so many octets, a A, 6 AAAA, s strings, t a tag and a
+# value, x hexadecimal.
+TYPES = {
+    1: ("A", "a"), 2: ("NS", "n"), 5: ("CNAME", "n"), 6: ("SOA", "nn44444"), 12: ("PTR", "n"),
+    15: ("MX", "2n"), 16: ("TXT", "s"), 28: ("AAAA", "6"), 33: ("SRV", "222n"), 39: ("DNAME", "n"),
+    43: ("DS", "211x"), 46: ("RRSIG", ""), 47: ("NSEC", ""), 48: ("DNSKEY", ""), 65: ("HTTPS", ""),
+    255: ("ANY", ""), 257: ("CAA", "1t"),
+}  # fmt: skip
+OPT = 41
+CLASSES = {1: "IN", 3: "CH", 4: "HS", 254: "NONE", 255: "ANY"}
+OPCODES = {0: "QUERY", 1: "IQUERY", 2: "STATUS", 4: "NOTIFY", 5: "UPDATE"}
+STATUSES = ["NOERROR", "FORMERR", "SERVFAIL", "NXDOMAIN", "NOTIMP", "REFUSED", "YXDOMAIN", "YXRRSET", "NXRRSET", "NOTAUTH", "NOTZONE"]
+FLAGS = {0x8000: "qr", 0x0400: "aa", 0x0200: "tc", 0x0100: "rd", 0x0080: "ra", 0x0020: "ad", 0x0010: "cd"}
+
+
+class Rejected(Exception):
+    """The input is no message: the offset, and why."""
+
+
+class Cursor:
+    """A cursor over a part of a message, which ends at `end`."""
+
+    def __init__(self, message, at, end):
+        self.message, self.at, self.end = message, at, end
+
+    def take(self, length):
+        if self.end - self.at < length:
+            raise Rejected(self.at, "the message or the record ends too early")
+        self.at += length
+        return self.message[self.at - length : self.at]
+
+    def number(self, octets):
+        return int.from_bytes(self.take(octets), "big")
+
+    def name(self):
+        try:
+            name, end = read_name(self.message, self.at)
+        except DnsError as error:
+            raise Rejected(self.at, error) from error
+        if end > self.end:
+            raise Rejected(self.at, "the message or the record ends too early")
+        self.at = end
+        return name
+
+    def rest(self):
+        return self.take(self.end - self.at)
+
+
+def type_text(code):
+    return TYPES[code][0] if code in TYPES else f"TYPE{code}"
+
+
+def class_text(code):
+    return CLASSES.get(code, f"CLASS{code}")
+
+
+def string_text(octets):
+    def shown(octet):
+        if not 32 <= octet <= 126:
+            return f"\\{octet:03}"
+        return ("\\" if octet in b'"\\' else "") + chr(octet)
+
+    return '"' + "".join(map(shown, octets)) + '"'
+
+
+def strings_text(data):
+    texts = [string_text(data.take(data.number(1)))]
+    while data.at < data.end:
+        texts.append(string_text(data.take(data.number(1))))
+    return " ".join(texts)
+
+
+def tagged_text(data):
+    tag = data.take(data.number(1)).decode("latin-1")
+    return f"{tag} {string_text(data.rest())}"
+
+
+FIELDS = {
+    "n": lambda data: str(data.name()),
+    "1": lambda data: str(data.number(1)),
+    "2": lambda data: str(data.number(2)),
+    "4": lambda data: str(data.number(4)),
+    "a": lambda data: str(ipaddress.IPv4Address(data.take(4))),
+    "6": lambda data: str(ipaddress.IPv6Address(data.take(16))),
+    "x": lambda data: data.rest().hex(),
+    "s": strings_text,
+    "t": tagged_text,
+}
+
+
+def data_text(data, kind):
+    """A record's data: by its type, or as RFC 3597 does."""
+    fields = TYPES.get(kind, ("", ""))[1]
+    if not fields:
+        octets = data.rest()
+        return f"\\# {len(octets)} {octets.hex()}".rstrip()
+    text = " ".join(FIELDS[field](data) for field in fields)
+    if data.at != data.end:
+        raise Rejected(data.at, "octets are left in a record")
+    return text
+
+
+def record_text(cursor):
+    owner, kind, klass, ttl = cursor.name(), cursor.number(2), cursor.number(2), cursor.number(4)
+    length = cursor.number(2)
+    cursor.take(length)
+    if kind == OPT:  # RFC 6891: its class is a size, and its TTL has a version and flags
+        return f"; EDNS: version: {ttl >> 16 & 255}, flags:{' do' if ttl & 0x8000 else ''}; udp: {klass}"
+    data = data_text(Cursor(cursor.message, cursor.at - length, cursor.at), kind)
+    return f"{owner}\t{ttl}\t{class_text(klass)}\t{type_text(kind)}\t{data}"
+
+
+def question_text(cursor):
+    name, kind, klass = cursor.name(), cursor.number(2), cursor.number(2)
+    return f";{name}\t{class_text(klass)}\t{type_text(kind)}"
+
+
+def header_text(ident, word, counts):
+    opcode, status = word >> 11 & 15, word & 15
+    status_text = STATUSES[status] if status < len(STATUSES) else f"RCODE{status}"
+    flags = "".join(f" {text}" for mask, text in FLAGS.items() if word & mask)
+    return (
+        f";; ->>HEADER<<- opcode: {OPCODES.get(opcode, f'OPCODE{opcode}')}, status: {status_text}, id: {ident}\n"
+        f";; flags:{flags}; QUERY: {counts[0]}, ANSWER: {counts[1]}, AUTHORITY: {counts[2]}, ADDITIONAL: {counts[3]}"
+    )
+
+
+def show_message(message):
+    cursor = Cursor(message, 0, len(message))
+    ident, word = cursor.number(2), cursor.number(2)
+    counts = [cursor.number(2) for _ in range(4)]
+    print(header_text(ident, word, counts))
+    for section, count in zip(["QUESTION", "ANSWER", "AUTHORITY", "ADDITIONAL"], counts):
+        if count:
+            print(f"\n;; {section} SECTION:")
+        for _ in range(count):
+            print((question_text if section == "QUESTION" else record_text)(cursor))
+    if cursor.at != cursor.end:
+        raise Rejected(cursor.at, "octets are left after the message")
+
+
+def show_sorted(text):
+    names, at = [], 0
+    for line in text.splitlines(keepends=True):
+        try:
+            # by its wire form it is fully qualified
+            names.append(Name.from_wire(Name(line.rstrip(b"\n").decode()).wire))
+        except (DnsError, UnicodeDecodeError) as error:
+            raise Rejected(at, error) from error
+        at += len(line)
+    for name in sorted(names):
+        print(name)
+
+
+def message_of(octets):
+    """The octets, or if they are hexadecimal digits and blanks what they stand for."""
+    if not re.fullmatch(rb"[0-9A-Fa-f\s]*", octets):
+        return octets
+    digits = b"".join(octets.split())
+    if len(digits) % 2:
+        raise Rejected(len(digits) // 2, "half an octet in hexadecimal")
+    return bytes.fromhex(digits.decode())
+
+
+def main(words):
+    sorts = words[:1] == ["--sort"]
+    files = words[1:] if sorts else words
+    if len(files) > 1 or (files and files[0].startswith("-")):
+        print("usage: dns_show.py [--sort] [FILE]", file=sys.stderr)
+        return 2
+    octets = pathlib.Path(files[0]).read_bytes() if files else sys.stdin.buffer.read()
+    try:
+        if sorts:
+            show_sorted(octets)
+        else:
+            show_message(message_of(octets))
+    except Rejected as rejected:
+        offset, why = rejected.args
+        print(f"dns_show: at offset {offset}: {why}", file=sys.stderr)
+        return 1
+    return 0
+
+
+if __name__ == "__main__":
+    sys.exit(main(sys.argv[1:]))
