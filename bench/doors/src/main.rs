@@ -1,0 +1,46 @@
+//! The tasks of `bench` through the Rust crate, and through the C functions as a C program calls them.
+//!
+//! `--list` prints the tasks, each with a number of repetitions and of operations in one; `--one TASK DOOR COUNT` does a task
+//! so many times and prints its checksum, which is that of `bench`. `bench/doors/run` counts its instructions.
+mod direct;
+#[allow(dead_code)] // what a task is, for people
+#[path = "../../src/inputs.rs"]
+mod inputs;
+mod typed;
+
+use inputs::Task;
+
+type Door = fn(&Task, u64) -> Option<u64>;
+const DOORS: [(&str, Door); 2] = [("c", direct::run), ("rust", typed::run)];
+
+/// Does something so many times, and returns the sum of what it returns.
+fn repeat(count: u64, once: impl FnMut() -> u64) -> u64 {
+    std::iter::repeat_with(once).take(count as usize).fold(0, u64::wrapping_add)
+}
+
+fn sum<T>(items: impl IntoIterator<Item = T>, value: impl FnMut(T) -> u64) -> u64 {
+    items.into_iter().map(value).fold(0, u64::wrapping_add)
+}
+
+/// What is added for a failure.
+const FAILED: u64 = 1 << 40;
+
+fn main() {
+    let tasks = inputs::tasks();
+    let words: Vec<String> = std::env::args().skip(1).collect();
+    match words.iter().map(String::as_str).collect::<Vec<_>>()[..] {
+        ["--list"] => {
+            for task in &tasks {
+                for (name, _) in DOORS.iter().filter(|(_, door)| door(task, 0).is_some()) {
+                    println!("{} {} {name} {}", task.name, task.few, task.operations);
+                }
+            }
+        }
+        ["--one", name, door, count] => {
+            let task = tasks.iter().find(|task| task.name == name).expect("a task");
+            let (_, run) = DOORS.iter().find(|(name, _)| *name == door).expect("a door");
+            println!("{}", run(task, count.parse().expect("a number")).expect("a task of this door"));
+        }
+        _ => panic!("usage: dnw-bench-doors --list | --one TASK DOOR COUNT"),
+    }
+}
