@@ -279,6 +279,7 @@ fn write(
 }
 
 /// Returns the name at an offset, and the offset after its own octets.
+#[inline(always)]
 pub(crate) fn name_at(
     alloc: Global,
     message: &[u8],
