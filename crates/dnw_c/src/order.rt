@@ -107,6 +107,7 @@ fn lower_form(alloc: Global, form: &[u8], lowered: &mut [u8]) -> Result<usize, F
 }
 
 /// Returns the name with a wire form.
+#[inline(always)]
 pub(crate) fn name_of(alloc: Global, form: &[u8]) -> Result<Name, Failure>
     ensures ok { IfOk result (λ name. IsTrue name.is_fqdn × IsFormOf form.now name.labels) }
     ensures err { IfErr result (IsNoForm form.now) }
@@ -123,6 +124,7 @@ pub(crate) fn name_of(alloc: Global, form: &[u8]) -> Result<Name, Failure>
 }
 
 /// Returns the names with two wire forms.
+#[inline(always)]
 pub(crate) fn both_names(alloc: Global, left: &[u8], right: &[u8]) -> Result<(Name, Name), Failure>
     ensures ok { IfOk result (λ names. IsTrue names.0.is_fqdn × IsTrue names.1.is_fqdn × IsFormOf left.now names.0.labels × IsFormOf right.now names.1.labels) }
     ensures err { IfErr result (FailsAsForms left.now right.now) }
