@@ -184,7 +184,11 @@ def main(words):
     if len(files) > 1 or (files and files[0].startswith("-")):
         print("usage: dns_show.py [--sort] [FILE]", file=sys.stderr)
         return 2
-    octets = pathlib.Path(files[0]).read_bytes() if files else sys.stdin.buffer.read()
+    try:
+        octets = pathlib.Path(files[0]).read_bytes() if files else sys.stdin.buffer.read()
+    except OSError as error:
+        print(f"dns_show: {error}", file=sys.stderr)
+        return 2
     try:
         if sorts:
             show_sorted(octets)
