@@ -106,21 +106,25 @@ impl Name {
     }
 
     /// Returns the wire form, without compression: each label after its length octet, and a zero octet.
+    #[inline]
     pub fn as_wire(&self) -> &[u8] {
         &self.form[..usize::from(self.len)]
     }
 
     /// Returns whether the name is fully qualified.
+    #[inline]
     pub fn is_fqdn(&self) -> bool {
         self.is_fqdn
     }
 
     /// Sets whether the name is fully qualified.
+    #[inline]
     pub fn set_fqdn(&mut self, is_fqdn: bool) {
         self.is_fqdn = is_fqdn;
     }
 
     /// Returns whether the name has no labels and is fully qualified.
+    #[inline]
     pub fn is_root(&self) -> bool {
         self.len == 1 && self.is_fqdn
     }
