@@ -2,7 +2,9 @@
 //! hand.
 use dns_names_wire::{names, Error, MessageWriter, Name, NameRef};
 use std::cmp::Ordering;
+use std::collections::hash_map::DefaultHasher;
 use std::collections::{BTreeSet, HashSet};
+use std::hash::{Hash, Hasher};
 
 fn name(text: &str) -> Name {
     text.parse().unwrap_or_else(|e| panic!("{text}: {e}"))
@@ -179,4 +181,51 @@ fn values_cross_threads() {
     is_shared::<Error>();
     is_shared::<NameRef<'static>>();
     is_shared::<MessageWriter>();
+}
+
+/// A linear congruential generator.
+struct Random(u64);
+
+impl Random {
+    fn below(&mut self, n: usize) -> usize {
+        self.0 = self.0.wrapping_mul(6364136223846793005).wrapping_add(1442695040888963407);
+        (self.0 >> 33) as usize % n
+    }
+}
+
+fn hash(name: &Name) -> u64 {
+    let mut state = DefaultHasher::new();
+    name.hash(&mut state);
+    state.finish()
+}
+
+/// What the crate does itself, the walk over labels, hashes and equality, agrees with what the C library says.
+#[test]
+fn random_messages() {
+    let (mut random, mut last, mut accepted, mut equal) = (Random(1), Name::root(), 0, 0);
+    for _ in 0..50_000 {
+        let len = 1 + random.below(16);
+        let message: Vec<u8> = (0..len).map(|_| [0, 0, 1, 2, b'a', b'A', b'b', 0xC0][random.below(8)]).collect();
+        let start = random.below(len);
+        let borrowed = NameRef::read(&message, start);
+        let (name, end) = match Name::read(&message, start) {
+            Ok(read) => read,
+            Err(error) => {
+                assert_eq!(borrowed, Err(error));
+                continue;
+            }
+        };
+        let borrowed = borrowed.unwrap();
+        assert_eq!((borrowed.end(), &borrowed.to_name()), (end, &name));
+        assert!(borrowed.labels().eq(name.labels()));
+        let octets: Vec<u8> =
+            name.labels().flat_map(|label| [&[label.len() as u8], label].concat()).chain([0]).collect();
+        assert_eq!(octets, name.as_wire());
+        let same = name.to_lowercase().as_wire() == last.to_lowercase().as_wire();
+        assert_eq!((name == last, name.cmp(&last) == Ordering::Equal), (same, same));
+        assert!(!same || hash(&name) == hash(&last));
+        assert_eq!(name.cmp(&last), last.cmp(&name).reverse());
+        (accepted, equal, last) = (accepted + 1, equal + usize::from(same), name);
+    }
+    assert!(accepted > 10_000 && equal > 1_000, "{accepted} {equal}");
 }
