@@ -1,4 +1,5 @@
-"""Domain names of DNS messages: read, written, parsed, printed and compared by a library whose every function is proved.
+"""The lowest layer of DNS, by a library whose every function is proved: domain names are read, written, parsed, printed and
+compared; types, bitmaps of types, serial numbers and master files are read.
 
 The library is the shared library of the C library of `dns-names-wire`, which the wheel has. Its reader accepts exactly the
 names of RFC 1035, section 4.1.4, and no input makes it read outside the message, loop or crash. This package adds types to it
@@ -14,25 +15,41 @@ www.example.com. 00010001
 """
 
 from ._errors import (
+    BadBitmap,
     BadText,
+    BadTime,
     BytesLeft,
+    ControlCharacter,
     DnsError,
+    IllegalCharacter,
     LabelTooLong,
     MessageCut,
     MessageTooLong,
     NameTooLong,
+    NotOrdered,
     NotUtf8,
     PointerNotBack,
     ReservedOctet,
     SegmentsOverlap,
+    TextCut,
+    UnclosedList,
+    UnclosedQuote,
+    UnknownEntry,
+    UnknownText,
 )
 from ._names import Name, NameAt, names, read_name
+from ._text import Token, TokenKind, parse_ttl, tokens
+from ._types import TypeSet, class_code, class_text, serial_add, serial_compare, type_code, type_text
 from ._writer import MessageWriter
 
 __all__ = [
+    "BadBitmap",
     "BadText",
+    "BadTime",
     "BytesLeft",
+    "ControlCharacter",
     "DnsError",
+    "IllegalCharacter",
     "LabelTooLong",
     "MessageCut",
     "MessageTooLong",
@@ -40,10 +57,27 @@ __all__ = [
     "Name",
     "NameAt",
     "NameTooLong",
+    "NotOrdered",
     "NotUtf8",
     "PointerNotBack",
     "ReservedOctet",
     "SegmentsOverlap",
+    "TextCut",
+    "Token",
+    "TokenKind",
+    "TypeSet",
+    "UnclosedList",
+    "UnclosedQuote",
+    "UnknownEntry",
+    "UnknownText",
+    "class_code",
+    "class_text",
     "names",
+    "parse_ttl",
     "read_name",
+    "serial_add",
+    "serial_compare",
+    "tokens",
+    "type_code",
+    "type_text",
 ]

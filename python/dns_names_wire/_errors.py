@@ -72,6 +72,66 @@ class MessageTooLong(DnsError):
     number = 12
 
 
+class UnknownText(DnsError):
+    """A text that is the name of no type or class."""
+
+    number = 14
+
+
+class NotOrdered(DnsError):
+    """Two serial numbers that are 2^31 apart."""
+
+    number = 15
+
+
+class BadBitmap(DnsError):
+    """A bitmap that is out of bounds, or longer than 65535 octets."""
+
+    number = 16
+
+
+class BadTime(DnsError):
+    """A text that is no time to live, or one of more than 4294967295 seconds."""
+
+    number = 17
+
+
+class TextCut(DnsError):
+    """A text that ends within an escape, or after a carriage return."""
+
+    number = 18
+
+
+class IllegalCharacter(DnsError):
+    """A character where it may not stand."""
+
+    number = 19
+
+
+class ControlCharacter(DnsError):
+    """A control character that is not white space."""
+
+    number = 20
+
+
+class UnclosedList(DnsError):
+    """A text that ends in a list, before its `)`."""
+
+    number = 21
+
+
+class UnclosedQuote(DnsError):
+    """A text that ends in a quoted text, before its closing quote."""
+
+    number = 22
+
+
+class UnknownEntry(DnsError):
+    """A `$` that begins none of `$INCLUDE`, `$ORIGIN` and `$TTL`."""
+
+    number = 23
+
+
 _NO_MEMORY = 1
 _CLASSES: Dict[int, Type[DnsError]] = {error.number: error for error in DnsError.__subclasses__()}
 

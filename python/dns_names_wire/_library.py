@@ -9,6 +9,7 @@ LIBRARY = "libdns_names_wire.so"
 
 FORM_SIZE = 255
 TEXT_SIZE = 1004
+CODE_SIZE = 10
 ERROR_TEXT_SIZE = 64
 
 
@@ -24,6 +25,14 @@ class WrittenNames(ctypes.Structure):
     _fields_ = [("len", c_size_t), ("count", c_size_t)]
 
 
+class Lexer(ctypes.Structure):
+    _fields_ = [("offset", c_size_t), ("at_line_start", c_bool)]
+
+
+class Token(ctypes.Structure):
+    _fields_ = [("kind", c_uint32), ("len", c_size_t), ("count", c_size_t)]
+
+
 # A slice of bytes is two arguments: bytes that are read, or a buffer that is written, and their length.
 _READ = (c_char_p, c_size_t)
 _WRITTEN = (c_char_p, c_size_t)
@@ -37,6 +46,20 @@ _FUNCTIONS = {
     "dnw_name_equal": (*_READ, *_READ, POINTER(c_bool)),
     "dnw_name_in_zone": (*_READ, *_READ, POINTER(c_bool)),
     "dnw_name_to_lowercase": (*_READ, *_WRITTEN, POINTER(c_size_t)),
+    "dnw_name_append": (*_READ, *_READ, *_WRITTEN, POINTER(c_size_t)),
+    "dnw_name_prepend_label": (*_READ, *_READ, *_WRITTEN, POINTER(c_size_t)),
+    "dnw_name_trim": (*_READ, c_size_t, *_WRITTEN, POINTER(c_size_t)),
+    "dnw_name_to_wildcard": (*_READ, *_WRITTEN, POINTER(c_size_t)),
+    "dnw_type_print": (c_uint16, *_WRITTEN, POINTER(c_size_t)),
+    "dnw_type_parse": (*_READ, POINTER(c_uint16)),
+    "dnw_class_print": (c_uint16, *_WRITTEN, POINTER(c_size_t)),
+    "dnw_class_parse": (*_READ, POINTER(c_uint16)),
+    "dnw_serial_compare": (c_uint32, c_uint32, POINTER(c_int32)),
+    "dnw_serial_add": (c_uint32, c_uint32),
+    "dnw_types_read": (*_READ, POINTER(c_uint16), c_size_t, POINTER(c_size_t)),
+    "dnw_types_write": (POINTER(c_uint16), c_size_t, *_WRITTEN, POINTER(c_size_t)),
+    "dnw_ttl_parse": (*_READ, POINTER(c_uint32)),
+    "dnw_token_next": (*_READ, POINTER(Lexer), *_WRITTEN, POINTER(Token)),
 }
 
 

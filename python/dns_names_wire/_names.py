@@ -106,6 +106,50 @@ class Name:
         check(library.dnw_name_to_lowercase(*self._slice(), form, FORM_SIZE, byref(length)))
         return Name._of(form.raw[: length.value], self._is_fqdn)
 
+    def append(self, suffix: "Name") -> "Name":
+        """The name with the labels of another after its own, fully qualified if the other is. May raise `NameTooLong`.
+
+        >>> Name("www").append(Name("example.com."))
+        Name('www.example.com.')
+        """
+        form, length = create_string_buffer(FORM_SIZE), ctypes.c_size_t()
+        check(library.dnw_name_append(*self._slice(), *suffix._slice(), form, FORM_SIZE, byref(length)))
+        return Name._of(form.raw[: length.value], suffix._is_fqdn)
+
+    def prepend_label(self, label: bytes) -> "Name":
+        """The name with a label, of any 1 to 63 octets, before its own.
+
+        Raises `BadText` if the label is empty, `LabelTooLong` or `NameTooLong`.
+
+        >>> Name("com.").prepend_label(b"example")
+        Name('example.com.')
+        """
+        form, length = create_string_buffer(FORM_SIZE), ctypes.c_size_t()
+        check(library.dnw_name_prepend_label(label, len(label), *self._slice(), form, FORM_SIZE, byref(length)))
+        return Name._of(form.raw[: length.value], self._is_fqdn)
+
+    def trim_to(self, labels: int) -> "Name":
+        """The name of the last labels, as many as this, or the whole name if it has fewer.
+
+        >>> Name("www.example.com.").trim_to(2)
+        Name('example.com.')
+        """
+        if labels < 0:
+            raise ValueError("a negative number of labels")
+        form, length = create_string_buffer(FORM_SIZE), ctypes.c_size_t()
+        check(library.dnw_name_trim(*self._slice(), min(labels, FORM_SIZE), form, FORM_SIZE, byref(length)))
+        return Name._of(form.raw[: length.value], self._is_fqdn)
+
+    def to_wildcard(self) -> "Name":
+        """The name with `*` in place of its first label (RFC 4592, section 2.1.1). The root stays the root.
+
+        >>> Name("www.example.com.").to_wildcard()
+        Name('*.example.com.')
+        """
+        form, length = create_string_buffer(FORM_SIZE), ctypes.c_size_t()
+        check(library.dnw_name_to_wildcard(*self._slice(), form, FORM_SIZE, byref(length)))
+        return Name._of(form.raw[: length.value], self._is_fqdn)
+
     def compare(self, other: "Name") -> int:
         """-1, 0 or 1 if this name is before, equal to or after the other."""
         if self._is_fqdn != other._is_fqdn:

@@ -9,6 +9,8 @@ use crate::error::Error;
 pub(crate) const FORM_SIZE: usize = 255;
 /// The characters of the longest text of a name.
 pub(crate) const TEXT_SIZE: usize = 1004;
+/// The bytes of the longest name of a type or a class.
+pub(crate) const CODE_SIZE: usize = 10;
 /// The bytes of the longest text of an error.
 pub(crate) const ERROR_TEXT_SIZE: usize = 64;
 
@@ -32,6 +34,23 @@ pub(crate) struct ParsedName {
 #[repr(C)]
 #[derive(Default)]
 pub(crate) struct WrittenNames {
+    pub(crate) len: usize,
+    pub(crate) count: usize,
+}
+
+/// `struct dnw_lexer`
+#[repr(C)]
+#[derive(Clone, Debug)]
+pub(crate) struct Lexer {
+    pub(crate) offset: usize,
+    pub(crate) at_line_start: bool,
+}
+
+/// `struct dnw_token`
+#[repr(C)]
+#[derive(Default)]
+pub(crate) struct Token {
+    pub(crate) kind: u32,
     pub(crate) len: usize,
     pub(crate) count: usize,
 }
@@ -78,6 +97,62 @@ extern "C" {
         lowered: *mut u8,
         lowered_size: usize,
         len: *mut usize,
+    ) -> u32;
+    fn dnw_name_append(
+        name: *const u8,
+        name_len: usize,
+        suffix: *const u8,
+        suffix_len: usize,
+        form: *mut u8,
+        form_size: usize,
+        len: *mut usize,
+    ) -> u32;
+    fn dnw_name_prepend_label(
+        label: *const u8,
+        label_len: usize,
+        name: *const u8,
+        name_len: usize,
+        form: *mut u8,
+        form_size: usize,
+        len: *mut usize,
+    ) -> u32;
+    fn dnw_name_trim(
+        name: *const u8,
+        name_len: usize,
+        labels: usize,
+        form: *mut u8,
+        form_size: usize,
+        len: *mut usize,
+    ) -> u32;
+    fn dnw_name_to_wildcard(name: *const u8, name_len: usize, form: *mut u8, form_size: usize, len: *mut usize) -> u32;
+    fn dnw_type_print(code: u16, text: *mut u8, text_size: usize, len: *mut usize) -> u32;
+    fn dnw_type_parse(text: *const u8, text_len: usize, code: *mut u16) -> u32;
+    fn dnw_class_print(code: u16, text: *mut u8, text_size: usize, len: *mut usize) -> u32;
+    fn dnw_class_parse(text: *const u8, text_len: usize, code: *mut u16) -> u32;
+    fn dnw_serial_compare(left: u32, right: u32, order: *mut i32) -> u32;
+    fn dnw_serial_add(serial: u32, other: u32) -> u32;
+    fn dnw_types_read(
+        bitmap: *const u8,
+        bitmap_len: usize,
+        codes: *mut u16,
+        codes_size: usize,
+        count: *mut usize,
+    ) -> u32;
+    fn dnw_types_write(
+        codes: *const u16,
+        codes_count: usize,
+        bitmap: *mut u8,
+        bitmap_size: usize,
+        len: *mut usize,
+    ) -> u32;
+    fn dnw_ttl_parse(text: *const u8, text_len: usize, seconds: *mut u32) -> u32;
+    fn dnw_token_next(
+        text: *const u8,
+        text_len: usize,
+        lexer: *mut Lexer,
+        words: *mut u8,
+        words_size: usize,
+        token: *mut Token,
     ) -> u32;
     fn dnw_error_text(number: u32, text: *mut u8, text_size: usize) -> usize;
 }
@@ -161,6 +236,122 @@ pub(crate) fn to_lowercase(form: &[u8], lowered: &mut [u8; FORM_SIZE]) -> Result
     // SAFETY: pointers with their lengths, see the module.
     let number = unsafe { dnw_name_to_lowercase(form.as_ptr(), form.len(), lowered.as_mut_ptr(), FORM_SIZE, &mut len) };
     outcome(number, len)
+}
+
+/// Puts the labels of a name and those of another, and returns the length.
+pub(crate) fn append(name: &[u8], suffix: &[u8], form: &mut [u8; FORM_SIZE]) -> Result<usize, Error> {
+    let (mut len, room) = (0, form.as_mut_ptr());
+    // SAFETY: pointers with their lengths, see the module.
+    let number =
+        unsafe { dnw_name_append(name.as_ptr(), name.len(), suffix.as_ptr(), suffix.len(), room, FORM_SIZE, &mut len) };
+    outcome(number, len)
+}
+
+/// Puts a label and those of a name, and returns the length.
+pub(crate) fn prepend_label(label: &[u8], name: &[u8], form: &mut [u8; FORM_SIZE]) -> Result<usize, Error> {
+    let (mut len, room) = (0, form.as_mut_ptr());
+    // SAFETY: pointers with their lengths, see the module.
+    let number = unsafe {
+        dnw_name_prepend_label(label.as_ptr(), label.len(), name.as_ptr(), name.len(), room, FORM_SIZE, &mut len)
+    };
+    outcome(number, len)
+}
+
+/// Puts the last labels of a name, and returns the length.
+pub(crate) fn trim(name: &[u8], labels: usize, form: &mut [u8; FORM_SIZE]) -> Result<usize, Error> {
+    let mut len = 0;
+    // SAFETY: pointers with their lengths, see the module.
+    let number = unsafe { dnw_name_trim(name.as_ptr(), name.len(), labels, form.as_mut_ptr(), FORM_SIZE, &mut len) };
+    outcome(number, len)
+}
+
+/// Puts a name with `*` in place of its first label, and returns the length.
+pub(crate) fn to_wildcard(name: &[u8], form: &mut [u8; FORM_SIZE]) -> Result<usize, Error> {
+    let mut len = 0;
+    // SAFETY: pointers with their lengths, see the module.
+    let number = unsafe { dnw_name_to_wildcard(name.as_ptr(), name.len(), form.as_mut_ptr(), FORM_SIZE, &mut len) };
+    outcome(number, len)
+}
+
+/// Puts the name of a type, and returns it.
+pub(crate) fn type_text(code: u16, text: &mut [u8; CODE_SIZE]) -> Result<&str, Error> {
+    let mut len = 0;
+    // SAFETY: pointers with their lengths, see the module.
+    let number = unsafe { dnw_type_print(code, text.as_mut_ptr(), CODE_SIZE, &mut len) };
+    outcome(number, ())?;
+    Ok(ascii(&text[..len]))
+}
+
+/// Returns the code of the type with a name.
+pub(crate) fn type_code(text: &str) -> Result<u16, Error> {
+    let mut code = 0;
+    // SAFETY: pointers with their lengths, see the module.
+    let number = unsafe { dnw_type_parse(text.as_ptr(), text.len(), &mut code) };
+    outcome(number, code)
+}
+
+/// Puts the name of a class, and returns it.
+pub(crate) fn class_text(code: u16, text: &mut [u8; CODE_SIZE]) -> Result<&str, Error> {
+    let mut len = 0;
+    // SAFETY: pointers with their lengths, see the module.
+    let number = unsafe { dnw_class_print(code, text.as_mut_ptr(), CODE_SIZE, &mut len) };
+    outcome(number, ())?;
+    Ok(ascii(&text[..len]))
+}
+
+/// Returns the code of the class with a name.
+pub(crate) fn class_code(text: &str) -> Result<u16, Error> {
+    let mut code = 0;
+    // SAFETY: pointers with their lengths, see the module.
+    let number = unsafe { dnw_class_parse(text.as_ptr(), text.len(), &mut code) };
+    outcome(number, code)
+}
+
+/// Compares two serial numbers: -1, 0 or 1, or an error if they are not ordered.
+pub(crate) fn serial_compare(left: u32, right: u32) -> Result<i32, Error> {
+    let mut order = 0;
+    // SAFETY: a pointer to a number of this type.
+    let number = unsafe { dnw_serial_compare(left, right, &mut order) };
+    outcome(number, order)
+}
+
+/// Returns the sum of two serial numbers.
+pub(crate) fn serial_add(serial: u32, other: u32) -> u32 {
+    // SAFETY: it takes numbers alone.
+    unsafe { dnw_serial_add(serial, other) }
+}
+
+/// Puts the codes that a bitmap lists, and returns how many.
+pub(crate) fn types_read(bitmap: &[u8], codes: &mut [u16]) -> Result<usize, Error> {
+    let mut count = 0;
+    // SAFETY: pointers with their lengths, see the module.
+    let number = unsafe { dnw_types_read(bitmap.as_ptr(), bitmap.len(), codes.as_mut_ptr(), codes.len(), &mut count) };
+    outcome(number, count)
+}
+
+/// Puts the bitmap of codes, and returns its length.
+pub(crate) fn types_write(codes: &[u16], bitmap: &mut [u8]) -> Result<usize, Error> {
+    let mut len = 0;
+    // SAFETY: pointers with their lengths, see the module.
+    let number = unsafe { dnw_types_write(codes.as_ptr(), codes.len(), bitmap.as_mut_ptr(), bitmap.len(), &mut len) };
+    outcome(number, len)
+}
+
+/// Returns the seconds of a time to live.
+pub(crate) fn ttl(text: &str) -> Result<u32, Error> {
+    let mut seconds = 0;
+    // SAFETY: pointers with their lengths, see the module.
+    let number = unsafe { dnw_ttl_parse(text.as_ptr(), text.len(), &mut seconds) };
+    outcome(number, seconds)
+}
+
+/// Finds the next token of a text, and puts its texts.
+pub(crate) fn next_token(text: &str, lexer: &mut Lexer, words: &mut [u8]) -> Result<Token, Error> {
+    let mut token = Token::default();
+    // SAFETY: pointers with their lengths, see the module.
+    let number =
+        unsafe { dnw_token_next(text.as_ptr(), text.len(), lexer, words.as_mut_ptr(), words.len(), &mut token) };
+    outcome(number, token)
 }
 
 /// Puts the text for a number, and returns it. It is empty if the number stands for nothing.

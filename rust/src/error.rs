@@ -26,26 +26,56 @@ pub enum Error {
     BytesLeft,
     /// The message would be longer than its maximum.
     MessageTooLong,
+    /// A text that is the name of no type or class.
+    UnknownText,
+    /// A bitmap that is out of bounds, or longer than 65535 octets.
+    BadBitmap,
+    /// A text that is no time to live, or one of more than 4294967295 seconds.
+    BadTime,
+    /// A text that ends within an escape, or after a carriage return.
+    TextCut,
+    /// A character where it may not stand.
+    IllegalCharacter,
+    /// A control character that is not white space.
+    ControlCharacter,
+    /// A text that ends in a list, before its `)`.
+    UnclosedList,
+    /// A text that ends in a quoted text, before its closing quote.
+    UnclosedQuote,
+    /// A `$` that begins none of `$INCLUDE`, `$ORIGIN` and `$TTL`.
+    UnknownEntry,
     /// Another failure, by its number in `dns_names_wire.h`.
     Other(u32),
 }
 
+/// The failures that this crate names, each with its number in `dns_names_wire.h`.
+const NUMBERS: [(u32, Error); 19] = [
+    (1, Error::NoMemory),
+    (3, Error::MessageCut),
+    (4, Error::PointerNotBack),
+    (5, Error::ReservedOctet),
+    (6, Error::SegmentsOverlap),
+    (7, Error::NameTooLong),
+    (8, Error::LabelTooLong),
+    (9, Error::BadText),
+    (11, Error::BytesLeft),
+    (12, Error::MessageTooLong),
+    (14, Error::UnknownText),
+    (16, Error::BadBitmap),
+    (17, Error::BadTime),
+    (18, Error::TextCut),
+    (19, Error::IllegalCharacter),
+    (20, Error::ControlCharacter),
+    (21, Error::UnclosedList),
+    (22, Error::UnclosedQuote),
+    (23, Error::UnknownEntry),
+];
+
 impl Error {
     /// The failure with a number of `dns_names_wire.h` other than 0.
     pub(crate) fn from_number(number: u32) -> Self {
-        match number {
-            1 => Error::NoMemory,
-            3 => Error::MessageCut,
-            4 => Error::PointerNotBack,
-            5 => Error::ReservedOctet,
-            6 => Error::SegmentsOverlap,
-            7 => Error::NameTooLong,
-            8 => Error::LabelTooLong,
-            9 => Error::BadText,
-            11 => Error::BytesLeft,
-            12 => Error::MessageTooLong,
-            _ => Error::Other(number),
-        }
+        let named = NUMBERS.iter().find(|(own, _)| *own == number);
+        named.map_or(Error::Other(number), |(_, error)| *error)
     }
 
     /// Returns its number in `dns_names_wire.h`.
@@ -55,17 +85,8 @@ impl Error {
     /// ```
     pub fn number(self) -> u32 {
         match self {
-            Error::NoMemory => 1,
-            Error::MessageCut => 3,
-            Error::PointerNotBack => 4,
-            Error::ReservedOctet => 5,
-            Error::SegmentsOverlap => 6,
-            Error::NameTooLong => 7,
-            Error::LabelTooLong => 8,
-            Error::BadText => 9,
-            Error::BytesLeft => 11,
-            Error::MessageTooLong => 12,
             Error::Other(number) => number,
+            named => NUMBERS.iter().find(|(_, error)| *error == named).map_or(0, |(number, _)| *number),
         }
     }
 }

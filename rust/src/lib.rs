@@ -1,4 +1,5 @@
-//! Domain names of DNS messages: read, written, parsed, printed and compared by a library whose every function is proved.
+//! The lowest layer of DNS, by a library whose every function is proved: domain names are read, written, parsed, printed and
+//! compared; types, bitmaps of types, serial numbers and master files are read.
 //!
 //! The library is the static archive of the C library of `dns-names-wire`. Its reader accepts exactly the names of RFC
 //! 1035, section 4.1.4, and no input makes it read outside the message, loop or panic. This crate adds types to it, and is
@@ -19,8 +20,11 @@
 //! |---|---|
 //! | read a name of a message, a text or a wire form | [`Name::read`], [`Name::from_ascii`] or `str::parse`, [`Name::from_wire`] |
 //! | pass over names, or walk their labels, without copying them | [`NameRef`], [`names()`] |
+//! | make names of names | [`Name::append`], [`Name::prepend_label`], [`Name::trim_to`], [`Name::to_wildcard`] |
 //! | print, compare, sort, hash | `Display`, `Ord`, `Hash`, [`Name::zone_of`], [`Name::to_lowercase`] |
 //! | write names with compression | [`MessageWriter`] |
+//! | name types and classes, read and write their bitmaps, compare serial numbers | [`RecordType`], [`Class`], [`TypeSet`], [`SerialNumber`] |
+//! | read master files | [`tokens`](tokens()), [`parse_ttl`] |
 //!
 //! Cargo finds the archive as `build.rs` says: in the folder that the environment variable `DNW_LIB_DIR` names, or in `lib`
 //! of this crate; in a checkout of the repository it is built if the Rattle toolchain is there.
@@ -29,12 +33,19 @@
 
 #[allow(unsafe_code)]
 mod door;
+
+mod codes;
 mod error;
 mod name;
 mod name_ref;
+mod text;
+mod type_set;
 mod writer;
 
+pub use codes::{Class, RecordType, SerialNumber};
 pub use error::Error;
 pub use name::{Labels, Name};
 pub use name_ref::{names, NameRef, Names};
+pub use text::{parse_ttl, tokens, Token, Tokens};
+pub use type_set::TypeSet;
 pub use writer::MessageWriter;

@@ -160,6 +160,56 @@ impl Name {
         lowered
     }
 
+    /// Returns the name with the labels of another after its own, fully qualified if the other is.
+    ///
+    /// # Errors
+    ///
+    /// `NameTooLong` if both together take more than 255 octets.
+    ///
+    /// ```
+    /// use dns_names_wire::Name;
+    ///
+    /// let host: Name = "www".parse()?;
+    /// assert_eq!(host.append(&"example.com.".parse()?)?.to_string(), "www.example.com.");
+    /// # Ok::<(), dns_names_wire::Error>(())
+    /// ```
+    pub fn append(&self, suffix: &Name) -> Result<Name, Error> {
+        let mut name = Name { is_fqdn: suffix.is_fqdn, ..Name::new() };
+        name.len = door::append(self.as_wire(), suffix.as_wire(), &mut name.form)? as u8;
+        Ok(name)
+    }
+
+    /// Returns the name with a label, of any octets, before its own.
+    ///
+    /// # Errors
+    ///
+    /// `BadText` if the label is empty, `LabelTooLong` if it has more than 63 octets, or `NameTooLong`.
+    pub fn prepend_label(&self, label: &[u8]) -> Result<Name, Error> {
+        let mut name = Name { is_fqdn: self.is_fqdn, ..Name::new() };
+        name.len = door::prepend_label(label, self.as_wire(), &mut name.form)? as u8;
+        Ok(name)
+    }
+
+    /// Returns the name of the last `labels` labels, or the whole name if it has fewer.
+    ///
+    /// ```
+    /// let name: dns_names_wire::Name = "www.example.com.".parse()?;
+    /// assert_eq!(name.trim_to(2).to_string(), "example.com.");
+    /// # Ok::<(), dns_names_wire::Error>(())
+    /// ```
+    pub fn trim_to(&self, labels: usize) -> Name {
+        let mut name = Name { is_fqdn: self.is_fqdn, ..Name::new() };
+        name.len = door::trim(self.as_wire(), labels, &mut name.form).expect(VALID) as u8;
+        name
+    }
+
+    /// Returns the name with `*` in place of its first label (RFC 4592, section 2.1.1). The root stays the root.
+    pub fn to_wildcard(&self) -> Name {
+        let mut name = Name { is_fqdn: self.is_fqdn, ..Name::new() };
+        name.len = door::to_wildcard(self.as_wire(), &mut name.form).expect(VALID) as u8;
+        name
+    }
+
     /// Calls a function with the text of the name.
     fn with_text<T>(&self, use_text: impl FnOnce(&str) -> T) -> Result<T, Error> {
         let mut room = [0; TEXT_SIZE];

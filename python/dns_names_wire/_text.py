@@ -1,0 +1,79 @@
+"""Texts of master files: times to live and tokens."""
+
+import enum
+from ctypes import byref, c_uint32, create_string_buffer
+from typing import Iterator, NamedTuple, Tuple
+
+from ._errors import check
+from ._library import Lexer, library
+from ._library import Token as _Token
+
+
+def parse_ttl(text: str) -> int:
+    """The seconds of a time to live: groups of digits and a unit of `s`, `m`, `h`, `d` or `w`; the last may lack its unit.
+
+    Raises `BadTime`, also past 4294967295 seconds.
+
+    >>> parse_ttl("1h30m"), parse_ttl("300")
+    (5400, 300)
+    """
+    encoded, seconds = text.encode("utf-8", "surrogatepass"), c_uint32()
+    check(library.dnw_ttl_parse(encoded, len(encoded), byref(seconds)))
+    return seconds.value
+
+
+class TokenKind(enum.Enum):
+    """What a token is."""
+
+    BLANK = 1
+    """White space at the start of a line: the record has the owner of the last one."""
+    LIST = 2
+    """What stands in parentheses, by its words."""
+    TEXT = 3
+    """A word, or a text in quotes without its quotes and escapes."""
+    AT = 4
+    """`@`"""
+    INCLUDE = 5
+    """`$INCLUDE`"""
+    ORIGIN = 6
+    """`$ORIGIN`"""
+    TTL = 7
+    """`$TTL`"""
+    LINE_END = 8
+    """The end of a line."""
+
+
+class Token(NamedTuple):
+    """A token: its kind, and its texts, which are one of a text, and the words of a list."""
+
+    kind: TokenKind
+    texts: Tuple[str, ...] = ()
+
+
+def tokens(text: str) -> Iterator[Token]:
+    """The tokens of a text of a master file (RFC 1035, section 5.1), one after another.
+
+    Raises `TextCut`, `IllegalCharacter`, `ControlCharacter`, `UnclosedList`, `UnclosedQuote` or `UnknownEntry` if no token
+    stands next. The time of each token grows with what is left of the text: split a long text at ends of lines, outside of
+    parentheses and quotes.
+
+    >>> for token in tokens("@ MX (10 a.)"):
+    ...     print(token.kind.name, *token.texts)
+    AT
+    TEXT MX
+    LIST 10 a.
+    """
+    encoded = text.encode("utf-8", "surrogatepass")
+    lexer, token, words = Lexer(0, True), _Token(), create_string_buffer(max(len(encoded), 1))
+    while True:
+        check(library.dnw_token_next(encoded, len(encoded), byref(lexer), words, len(encoded), byref(token)))
+        if token.kind == 0:
+            return
+        kind, bytes_ = TokenKind(token.kind), words.raw[: token.len].decode()
+        if kind is TokenKind.TEXT:
+            yield Token(kind, (bytes_,))
+        elif kind is TokenKind.LIST:
+            # a zero byte ends each word
+            yield Token(kind, tuple(bytes_.split("\0")[:-1]))
+        else:
+            yield Token(kind)

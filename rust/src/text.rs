@@ -1,0 +1,113 @@
+//! Texts of master files: times to live and tokens.
+use crate::door;
+use crate::error::Error;
+
+/// Returns the seconds of a time to live: groups of digits and a unit of `s`, `m`, `h`, `d` or `w`, of which the last may
+/// lack its unit.
+///
+/// # Errors
+///
+/// `BadTime`, also past 4294967295 seconds, or `NoMemory` in its place.
+///
+/// ```
+/// use dns_names_wire::{parse_ttl, Error};
+///
+/// assert_eq!(parse_ttl("1h30m"), Ok(5400));
+/// assert_eq!(parse_ttl("300"), Ok(300));
+/// assert_eq!(parse_ttl("h"), Err(Error::BadTime));
+/// ```
+pub fn parse_ttl(text: &str) -> Result<u32, Error> {
+    door::ttl(text)
+}
+
+/// A token of a master file.
+#[derive(Clone, Debug, PartialEq, Eq)]
+pub enum Token {
+    /// White space at the start of a line: the record has the owner of the last one.
+    Blank,
+    /// What stands in parentheses, by its words.
+    List(Vec<String>),
+    /// A word, or a text in quotes without its quotes and escapes.
+    Text(String),
+    /// `@`
+    At,
+    /// `$INCLUDE`
+    Include,
+    /// `$ORIGIN`
+    Origin,
+    /// `$TTL`
+    Ttl,
+    /// The end of a line.
+    LineEnd,
+}
+
+/// The tokens of a text. See [`tokens`].
+#[derive(Clone, Debug)]
+pub struct Tokens<'a> {
+    text: &'a str,
+    lexer: door::Lexer,
+    words: Vec<u8>,
+    has_ended: bool,
+}
+
+/// Returns the tokens of a text of a master file (RFC 1035, section 5.1), one after another. After an error it ends.
+///
+/// The time of each token grows with what is left of the text: split a long text at ends of lines, outside of parentheses
+/// and quotes.
+///
+/// # Errors
+///
+/// `TextCut`, `IllegalCharacter`, `ControlCharacter`, `UnclosedList`, `UnclosedQuote` or `UnknownEntry` if no token stands
+/// next, or `NoMemory`.
+///
+/// ```
+/// use dns_names_wire::{tokens, Token};
+///
+/// let read: Result<Vec<Token>, _> = tokens("@ 1h MX (10 a.)\n").collect();
+/// let list = Token::List(vec!["10".into(), "a.".into()]);
+/// assert_eq!(read?, [Token::At, Token::Text("1h".into()), Token::Text("MX".into()), list, Token::LineEnd]);
+/// # Ok::<(), dns_names_wire::Error>(())
+/// ```
+pub fn tokens(text: &str) -> Tokens<'_> {
+    let lexer = door::Lexer { offset: 0, at_line_start: true };
+    Tokens { text, lexer, words: vec![0; text.len()], has_ended: false }
+}
+
+impl Tokens<'_> {
+    /// The token of a kind with these texts, or none at the end of the text.
+    fn token(&self, kind: u32, words: &[u8]) -> Option<Token> {
+        let text = |bytes: &[u8]| String::from_utf8(bytes.to_vec()).expect("the C library's texts are UTF-8");
+        match kind {
+            1 => Some(Token::Blank),
+            // a zero byte ends each word
+            2 => Some(Token::List(
+                words.split_inclusive(|byte| *byte == 0).map(|word| text(&word[..word.len() - 1])).collect(),
+            )),
+            3 => Some(Token::Text(text(words))),
+            4 => Some(Token::At),
+            5 => Some(Token::Include),
+            6 => Some(Token::Origin),
+            7 => Some(Token::Ttl),
+            8 => Some(Token::LineEnd),
+            _ => None,
+        }
+    }
+}
+
+impl Iterator for Tokens<'_> {
+    type Item = Result<Token, Error>;
+
+    fn next(&mut self) -> Option<Self::Item> {
+        if self.has_ended {
+            return None;
+        }
+        let found = match door::next_token(self.text, &mut self.lexer, &mut self.words) {
+            Ok(token) => self.token(token.kind, &self.words[..token.len]).map(Ok),
+            Err(error) => Some(Err(error)),
+        };
+        self.has_ended = !matches!(found, Some(Ok(_)));
+        found
+    }
+}
+
+impl std::iter::FusedIterator for Tokens<'_> {}
