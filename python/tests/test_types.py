@@ -1,0 +1,97 @@
+"""Types, classes, bitmaps, serial numbers, master files, and names made of names. Expected values are from RFC 4034, section
+4.3, RFC 1982, section 5, RFC 1035, section 5.1, or counted by hand."""
+
+import doctest
+import unittest
+from importlib import import_module
+
+import dns_names_wire as dnw
+from dns_names_wire import Name, Token, TokenKind, TypeSet, parse_ttl, tokens
+
+BITMAP = bytes.fromhex("0006400100000003041b") + bytes(26) + b"\x20"
+
+
+class Edits(unittest.TestCase):
+    def test_names_of_names(self):
+        self.assertEqual(str(Name("a.b").append(Name("c."))), "a.b.c.")
+        self.assertEqual(str(Name("a.").append(Name("c"))), "a.c")
+        self.assertEqual(Name("a.").prepend_label(b"b.\xff").wire, b"\x03b.\xff\x01a\x00")
+        long = Name(".".join(["a" * 63] * 3 + ["a" * 61]) + ".")
+        for label, name, error in [
+            (b"", Name("a."), dnw.BadText),
+            (b"a" * 64, Name("a."), dnw.LabelTooLong),
+            (b"a", long, dnw.NameTooLong),
+        ]:
+            with self.assertRaises(error):
+                name.prepend_label(label)
+        with self.assertRaises(dnw.NameTooLong):
+            long.append(long)
+        self.assertEqual([str(Name("a.b.c").trim_to(n)) for n in [0, 1, 2, 3, 2**70]], ["", "c", "b.c", "a.b.c", "a.b.c"])
+        with self.assertRaises(ValueError):
+            Name("a").trim_to(-1)
+        self.assertEqual([str(Name(text).to_wildcard()) for text in ["a.b.", "."]], ["*.b.", "."])
+
+
+class Types(unittest.TestCase):
+    def test_codes_have_texts(self):
+        for code, text in [(1, "A"), (28, "AAAA"), (46, "RRSIG"), (65, "HTTPS"), (255, "ANY"), (1234, "TYPE1234")]:
+            self.assertEqual((dnw.type_text(code), dnw.type_code(text)), (text, code))
+        for code, text in [(1, "IN"), (3, "CH"), (4, "HS"), (254, "NONE"), (255, "ANY"), (7, "CLASS7")]:
+            self.assertEqual((dnw.class_text(code), dnw.class_code(text)), (text, code))
+        for text in ["", "a", "TYPE", "TYPE65536", "NOTHING"]:
+            with self.subTest(text=text), self.assertRaises(dnw.UnknownText):
+                dnw.type_code(text)
+        with self.assertRaises(ValueError):
+            dnw.type_text(65536)
+
+    def test_sets_are_bitmaps(self):
+        types = TypeSet(dnw.type_code(text) for text in ["A", "MX", "RRSIG", "NSEC", "TYPE1234"])
+        self.assertEqual(types.to_bitmap(), BITMAP)
+        self.assertEqual(TypeSet.from_bitmap(BITMAP), types)
+        self.assertEqual(list(types), [1, 15, 46, 47, 1234])
+        self.assertEqual((types, hash(types)), (TypeSet([1234, 1, 1, 47, 46, 15]), hash(TypeSet(types))))
+        self.assertEqual(types & {1, 2}, TypeSet([1]))
+        self.assertEqual((TypeSet().to_bitmap(), TypeSet.from_bitmap(b"")), (b"", TypeSet()))
+        for bitmap in [b"\x00\x00\x01", b"\x00\x21" + bytes(32) + b"\x01"]:
+            with self.assertRaises(dnw.BadBitmap):
+                TypeSet.from_bitmap(bitmap)
+        every = TypeSet(range(65536))
+        self.assertEqual(TypeSet.from_bitmap(every.to_bitmap()), every)
+        with self.assertRaises(ValueError):
+            TypeSet([65536])
+
+    def test_serial_numbers_go_round(self):
+        self.assertEqual(dnw.serial_add(4294967295, 2), 1)
+        self.assertEqual([dnw.serial_compare(*pair) for pair in [(0, 4294967295), (7, 7), (1, 2**31)]], [1, 0, -1])
+        with self.assertRaises(dnw.NotOrdered):
+            dnw.serial_compare(7, 7 + 2**31)
+        with self.assertRaises(ValueError):
+            dnw.serial_add(-1, 0)
+
+
+class Texts(unittest.TestCase):
+    def test_times_are_sums(self):
+        for text, seconds in [("0", 0), ("1w2d3h4m5s", 788645), ("4294967295", 4294967295)]:
+            self.assertEqual(parse_ttl(text), seconds)
+        for text in ["", "h", "4294967296", "1x"]:
+            with self.subTest(text=text), self.assertRaises(dnw.BadTime):
+                parse_ttl(text)
+
+    def test_tokens_of_a_master_file(self):
+        read = list(tokens('$ORIGIN a.\n@ 1h SOA ns (1 2) ; a comment\n b TXT "c \u00e4"\n'))
+        kinds = [token.kind.name for token in read]
+        self.assertEqual(kinds[:3], ["ORIGIN", "TEXT", "LINE_END"])
+        self.assertEqual(kinds[3:9], ["AT", "TEXT", "TEXT", "TEXT", "LIST", "LINE_END"])
+        self.assertEqual(kinds[9:], ["BLANK", "TEXT", "TEXT", "TEXT", "LINE_END"])
+        self.assertEqual(read[7], Token(TokenKind.LIST, ("1", "2")))
+        self.assertEqual(read[12].texts, ("c \u00e4",))
+        self.assertEqual(list(tokens("")), [])
+        for text, error in [("(a", dnw.UnclosedList), ('"a', dnw.UnclosedQuote), ("$FOO", dnw.UnknownEntry), ("\udc80", dnw.NotUtf8)]:
+            with self.subTest(text=text), self.assertRaises(error):
+                list(tokens(text))
+
+
+def load_tests(loader, tests, pattern):
+    for module in ["_text", "_types"]:
+        tests.addTests(doctest.DocTestSuite(import_module(f"dns_names_wire.{module}")))
+    return tests
