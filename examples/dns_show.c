@@ -135,47 +135,45 @@ static void show_name(struct cursor *from)
 }
 
 /* What the data of a type is made of: n a name, 1, 2, 4 a number of so many octets, a A, 6 AAAA, s strings, t a tag and a
-   value, x hexadecimal. */
-static const struct kind {
+   value, x hexadecimal, b a bitmap of types. */
+static const struct {
     unsigned code;
-    const char *text, *data;
+    const char *data;
 } kinds[] = {
-    {1, "A", "a"},      {2, "NS", "n"},     {5, "CNAME", "n"}, {6, "SOA", "nn44444"}, {12, "PTR", "n"},
-    {15, "MX", "2n"},   {16, "TXT", "s"},   {28, "AAAA", "6"}, {33, "SRV", "222n"},   {39, "DNAME", "n"},
-    {43, "DS", "211x"}, {46, "RRSIG", ""},  {47, "NSEC", ""},  {48, "DNSKEY", ""},    {65, "HTTPS", ""},
-    {255, "ANY", ""},   {257, "CAA", "1t"},
+    {1, "a"},    {2, "n"},  {5, "n"},  {6, "nn44444"}, {12, "n"},   {15, "2n"},  {16, "s"},
+    {28, "6"}, {33, "222n"}, {39, "n"}, {43, "211x"},   {47, "nb"}, {257, "1t"},
 };
+#define OPT 41
 
-static const struct kind *kind_of(unsigned code)
+static const char *data_of(unsigned code)
 {
     for (size_t i = 0; i < sizeof kinds / sizeof *kinds; i++)
         if (kinds[i].code == code)
-            return &kinds[i];
-    return NULL;
+            return kinds[i].data;
+    return "";
+}
+
+/* Prints the name of a code, or as RFC 3597 does for one without a name. */
+static void show_code_text(uint32_t (*print)(uint16_t, uint8_t *, size_t, size_t *), const char *unknown,
+                           const char *prefix, unsigned code)
+{
+    uint8_t text[DNW_CODE_SIZE];
+    size_t len = 0;
+    print((uint16_t)code, text, sizeof text, &len);
+    if (len == strlen(unknown) && memcmp(text, unknown, len) == 0)
+        printf("%s%u", prefix, code);
+    else
+        printf("%.*s", (int)len, (const char *)text);
 }
 
 static void show_type(unsigned code)
 {
-    const struct kind *kind = kind_of(code);
-    if (kind != NULL)
-        printf("%s", kind->text);
-    else
-        printf("TYPE%u", code);
+    show_code_text(dnw_type_print, "Unknown", "TYPE", code);
 }
 
 static void show_class(unsigned code)
 {
-    static const struct {
-        unsigned code;
-        const char *text;
-    } classes[] = {{1, "IN"}, {3, "CH"}, {4, "HS"}, {254, "NONE"}, {255, "ANY"}};
-    for (size_t i = 0; i < sizeof classes / sizeof *classes; i++) {
-        if (classes[i].code == code) {
-            printf("%s", classes[i].text);
-            return;
-        }
-    }
-    printf("CLASS%u", code);
+    show_code_text(dnw_class_print, "UNKNOWN", "CLASS", code);
 }
 
 static void show_hex(struct cursor *from)
@@ -203,6 +201,23 @@ static void show_address(struct cursor *from, int family, size_t len)
     printf("%s", text);
 }
 
+/* Prints the types of a bitmap (RFC 4034, section 4.1.2). */
+static void show_types(struct cursor *from)
+{
+    size_t len = from->end - from->at, count = 0;
+    uint16_t *codes = room(NULL, (8 * len + 1) * sizeof *codes);
+    uint32_t failure = dnw_types_read(from->message->at + from->at, len, codes, 8 * len, &count);
+    if (failure != DNW_DONE)
+        reject_failure(from->at, failure);
+    take(from, len);
+    for (size_t i = 0; i < count; i++) {
+        if (i > 0)
+            putchar(' ');
+        show_type(codes[i]);
+    }
+    free(codes);
+}
+
 static void show_field(struct cursor *data, char field)
 {
     size_t len;
@@ -214,6 +229,7 @@ static void show_field(struct cursor *data, char field)
     case 'a': show_address(data, AF_INET, 4); break;
     case '6': show_address(data, AF_INET6, 16); break;
     case 'x': show_hex(data); break;
+    case 'b': show_types(data); break;
     case 's':
         do {
             len = take_u8(data);
@@ -234,13 +250,13 @@ static void show_field(struct cursor *data, char field)
 /* Prints a record's data: by its type, or as RFC 3597 does. */
 static void show_data(struct cursor *data, unsigned type)
 {
-    const struct kind *kind = kind_of(type);
-    if (kind == NULL || kind->data[0] == 0) {
+    const char *fields = data_of(type);
+    if (*fields == 0) {
         printf("\\# %zu%s", data->end - data->at, data->at < data->end ? " " : "");
         show_hex(data);
     } else {
-        for (const char *field = kind->data; *field != 0; field++) {
-            if (field != kind->data)
+        for (const char *field = fields; *field != 0; field++) {
+            if (field != fields)
                 putchar(' ');
             show_field(data, *field);
         }
@@ -264,7 +280,7 @@ static void show_record(struct cursor *from)
     size_t len = take_u16(from);
     take(from, len);
     struct cursor data = {from->message, from->at - len, from->at};
-    if (type == 41) {
+    if (type == OPT) {
         show_edns(class, ttl);
         return;
     }

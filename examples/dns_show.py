@@ -12,18 +12,14 @@ import pathlib
 import re
 import sys
 
-from dns_names_wire import DnsError, Name, read_name
+from dns_names_wire import DnsError, Name, TypeSet, class_text, read_name, type_text
 
 # What the data of a type is made of: n a name, 1, 2, 4 a number of so many octets, a A, 6 AAAA, s strings, t a tag and a
-# value, x hexadecimal.
-TYPES = {
-    1: ("A", "a"), 2: ("NS", "n"), 5: ("CNAME", "n"), 6: ("SOA", "nn44444"), 12: ("PTR", "n"),
-    15: ("MX", "2n"), 16: ("TXT", "s"), 28: ("AAAA", "6"), 33: ("SRV", "222n"), 39: ("DNAME", "n"),
-    43: ("DS", "211x"), 46: ("RRSIG", ""), 47: ("NSEC", ""), 48: ("DNSKEY", ""), 65: ("HTTPS", ""),
-    255: ("ANY", ""), 257: ("CAA", "1t"),
+# value, x hexadecimal, b a bitmap of types.
+FIELDS_OF = {
+    "A": "a", "NS": "n", "CNAME": "n", "SOA": "nn44444", "PTR": "n", "MX": "2n", "TXT": "s", "AAAA": "6", "SRV": "222n",
+    "DNAME": "n", "DS": "211x", "NSEC": "nb", "CAA": "1t",
 }  # fmt: skip
-OPT = 41
-CLASSES = {1: "IN", 3: "CH", 4: "HS", 254: "NONE", 255: "ANY"}
 OPCODES = {0: "QUERY", 1: "IQUERY", 2: "STATUS", 4: "NOTIFY", 5: "UPDATE"}
 STATUSES = ["NOERROR", "FORMERR", "SERVFAIL", "NXDOMAIN", "NOTIMP", "REFUSED", "YXDOMAIN", "YXRRSET", "NXRRSET", "NOTAUTH", "NOTZONE"]
 FLAGS = {0x8000: "qr", 0x0400: "aa", 0x0200: "tc", 0x0100: "rd", 0x0080: "ra", 0x0020: "ad", 0x0010: "cd"}
@@ -62,14 +58,6 @@ class Cursor:
         return self.take(self.end - self.at)
 
 
-def type_text(code):
-    return TYPES[code][0] if code in TYPES else f"TYPE{code}"
-
-
-def class_text(code):
-    return CLASSES.get(code, f"CLASS{code}")
-
-
 def string_text(octets):
     def shown(octet):
         if not 32 <= octet <= 126:
@@ -91,6 +79,14 @@ def tagged_text(data):
     return f"{tag} {string_text(data.rest())}"
 
 
+def types_text(data):
+    at = data.at
+    try:
+        return " ".join(type_text(code) for code in TypeSet.from_bitmap(data.rest()))
+    except DnsError as error:
+        raise Rejected(at, error) from error
+
+
 FIELDS = {
     "n": lambda data: str(data.name()),
     "1": lambda data: str(data.number(1)),
@@ -99,6 +95,7 @@ FIELDS = {
     "a": lambda data: str(ipaddress.IPv4Address(data.take(4))),
     "6": lambda data: str(ipaddress.IPv6Address(data.take(16))),
     "x": lambda data: data.rest().hex(),
+    "b": types_text,
     "s": strings_text,
     "t": tagged_text,
 }
@@ -106,8 +103,8 @@ FIELDS = {
 
 def data_text(data, kind):
     """A record's data: by its type, or as RFC 3597 does."""
-    fields = TYPES.get(kind, ("", ""))[1]
-    if not fields:
+    fields = FIELDS_OF.get(kind)
+    if fields is None:
         octets = data.rest()
         return f"\\# {len(octets)} {octets.hex()}".rstrip()
     text = " ".join(FIELDS[field](data) for field in fields)
@@ -120,9 +117,9 @@ def record_text(cursor):
     owner, kind, klass, ttl = cursor.name(), cursor.number(2), cursor.number(2), cursor.number(4)
     length = cursor.number(2)
     cursor.take(length)
-    if kind == OPT:  # RFC 6891: its class is a size, and its TTL has a version and flags
+    if type_text(kind) == "OPT":  # RFC 6891: its class is a size, and its TTL has a version and flags
         return f"; EDNS: version: {ttl >> 16 & 255}, flags:{' do' if ttl & 0x8000 else ''}; udp: {klass}"
-    data = data_text(Cursor(cursor.message, cursor.at - length, cursor.at), kind)
+    data = data_text(Cursor(cursor.message, cursor.at - length, cursor.at), type_text(kind))
     return f"{owner}\t{ttl}\t{class_text(klass)}\t{type_text(kind)}\t{data}"
 
 

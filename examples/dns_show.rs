@@ -7,7 +7,7 @@
 //!
 //! It exits with 1 if the input is rejected and with 2 on a usage error. In the folder of the crate:
 //! `cargo run --example dns_show`.
-use dns_names_wire::Name;
+use dns_names_wire::{Class, Name, RecordType, TypeSet};
 use std::fmt::Write as _;
 use std::io::{Read, Write};
 use std::net::{Ipv4Addr, Ipv6Addr};
@@ -74,29 +74,23 @@ impl<'a> Cursor<'a> {
     }
 }
 
-/// A type's code, its text, and what its data is made of: n a name, 1, 2, 4 a number of so many octets, a A, 6 AAAA, s
-/// strings, t a tag and a value, x hexadecimal.
-const TYPES: [(u16, &str, &str); 17] = [
-    (1, "A", "a"),
-    (2, "NS", "n"),
-    (5, "CNAME", "n"),
-    (6, "SOA", "nn44444"),
-    (12, "PTR", "n"),
-    (15, "MX", "2n"),
-    (16, "TXT", "s"),
-    (28, "AAAA", "6"),
-    (33, "SRV", "222n"),
-    (39, "DNAME", "n"),
-    (43, "DS", "211x"),
-    (46, "RRSIG", ""),
-    (47, "NSEC", ""),
-    (48, "DNSKEY", ""),
-    (65, "HTTPS", ""),
-    (255, "ANY", ""),
-    (257, "CAA", "1t"),
+/// What the data of a type is made of: n a name, 1, 2, 4 a number of so many octets, a A, 6 AAAA, s strings, t a tag and a
+/// value, x hexadecimal, b a bitmap of types.
+const FIELDS: [(&str, &str); 13] = [
+    ("A", "a"),
+    ("NS", "n"),
+    ("CNAME", "n"),
+    ("SOA", "nn44444"),
+    ("PTR", "n"),
+    ("MX", "2n"),
+    ("TXT", "s"),
+    ("AAAA", "6"),
+    ("SRV", "222n"),
+    ("DNAME", "n"),
+    ("DS", "211x"),
+    ("NSEC", "nb"),
+    ("CAA", "1t"),
 ];
-const OPT: u16 = 41;
-const CLASSES: [(u16, &str); 5] = [(1, "IN"), (3, "CH"), (4, "HS"), (254, "NONE"), (255, "ANY")];
 const OPCODES: [(u16, &str); 5] = [(0, "QUERY"), (1, "IQUERY"), (2, "STATUS"), (4, "NOTIFY"), (5, "UPDATE")];
 const STATUSES: [(u16, &str); 11] = [
     (0, "NOERROR"),
@@ -119,13 +113,6 @@ fn code_text(texts: &[(u16, &str)], other: &str, code: u16) -> String {
     match texts.iter().find(|(known, _)| *known == code) {
         Some((_, text)) => text.to_string(),
         None => format!("{other}{code}"),
-    }
-}
-
-fn type_text(code: u16) -> String {
-    match TYPES.iter().find(|(known, ..)| *known == code) {
-        Some((_, text, _)) => text.to_string(),
-        None => format!("TYPE{code}"),
     }
 }
 
@@ -160,6 +147,12 @@ fn tagged_text(data: &mut Cursor) -> Result<String, Rejected> {
     Ok(format!("{tag} {}", string_text(data.rest())))
 }
 
+fn types_text(data: &mut Cursor) -> Result<String, Rejected> {
+    let at = data.at;
+    let types = TypeSet::from_bitmap(data.rest()).map_err(|error| Rejected(at, error.to_string()))?;
+    Ok(types.iter().map(|kind| kind.to_string()).collect::<Vec<_>>().join(" "))
+}
+
 fn field_text(data: &mut Cursor, field: char) -> Result<String, Rejected> {
     Ok(match field {
         'n' => data.name()?.to_string(),
@@ -168,6 +161,7 @@ fn field_text(data: &mut Cursor, field: char) -> Result<String, Rejected> {
         '4' => data.take_u32()?.to_string(),
         'a' => Ipv4Addr::from(data.array::<4>()?).to_string(),
         '6' => Ipv6Addr::from(data.array::<16>()?).to_string(),
+        'b' => types_text(data)?,
         's' => strings_text(data)?,
         't' => tagged_text(data)?,
         _ => hex(data.rest()),
@@ -175,8 +169,8 @@ fn field_text(data: &mut Cursor, field: char) -> Result<String, Rejected> {
 }
 
 /// A record's data: by its type, or as RFC 3597 does.
-fn data_text(mut data: Cursor, kind: u16) -> Result<String, Rejected> {
-    let fields = TYPES.iter().find(|(known, ..)| *known == kind).map_or("", |(_, _, fields)| fields);
+fn data_text(mut data: Cursor, kind: &str) -> Result<String, Rejected> {
+    let fields = FIELDS.iter().find(|(known, _)| *known == kind).map_or("", |(_, fields)| fields);
     if fields.is_empty() {
         let octets = data.rest();
         return Ok(format!("\\# {} {}", octets.len(), hex(octets)).trim_end().into());
@@ -193,18 +187,18 @@ fn record_text(cursor: &mut Cursor) -> Result<String, Rejected> {
     let owner = cursor.name()?;
     let (kind, class, ttl, len) = (cursor.take_u16()?, cursor.take_u16()?, cursor.take_u32()?, cursor.take_u16()?);
     let data = cursor.part(len.into())?;
-    if kind == OPT {
+    let kind = RecordType::from(kind).to_string();
+    if kind == "OPT" {
         // RFC 6891: its class is a size, and its TTL has a version and flags.
         let flags = if ttl & 0x8000 != 0 { " do" } else { "" };
         return Ok(format!("; EDNS: version: {}, flags:{flags}; udp: {class}", ttl >> 16 & 255));
     }
-    let (class, data, kind) = (code_text(&CLASSES, "CLASS", class), data_text(data, kind)?, type_text(kind));
-    Ok(format!("{owner}\t{ttl}\t{class}\t{kind}\t{data}"))
+    Ok(format!("{owner}\t{ttl}\t{}\t{kind}\t{}", Class::from(class), data_text(data, &kind)?))
 }
 
 fn question_text(cursor: &mut Cursor) -> Result<String, Rejected> {
     let name = cursor.name()?;
-    let (kind, class) = (type_text(cursor.take_u16()?), code_text(&CLASSES, "CLASS", cursor.take_u16()?));
+    let (kind, class) = (RecordType::from(cursor.take_u16()?), Class::from(cursor.take_u16()?));
     Ok(format!(";{name}\t{class}\t{kind}"))
 }
 

@@ -18,7 +18,7 @@ import dns.rdatatype
 import dns.rdtypes.ANY.CAA  # noqa: F401
 
 HERE = pathlib.Path(__file__).resolve().parent
-DECODED = {"A", "NS", "CNAME", "SOA", "PTR", "MX", "TXT", "AAAA", "SRV", "DNAME", "DS", "CAA"}
+DECODED = {"A", "NS", "CNAME", "SOA", "PTR", "MX", "TXT", "AAAA", "SRV", "DNAME", "DS", "CAA", "NSEC"}
 FLAGS = [dns.flags.QR, dns.flags.AA, dns.flags.TC, dns.flags.RD, dns.flags.RA, dns.flags.AD, dns.flags.CD]
 
 RESPONSES = {
