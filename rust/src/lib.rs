@@ -49,3 +49,8 @@ pub use name_ref::{names, NameRef, Names};
 pub use text::{parse_ttl, tokens, Token, Tokens};
 pub use type_set::TypeSet;
 pub use writer::MessageWriter;
+
+/// The program of the page is a test.
+#[cfg(doctest)]
+#[doc = include_str!("../README.md")]
+struct Page;
