@@ -1,0 +1,91 @@
+#define _DEFAULT_SOURCE
+#include "harness.h"
+
+#include <sys/mman.h>
+
+enum { PAGE = 4096, ROOM = 72 * 1024, FILLED = 64 };
+
+static size_t number_to_refuse;
+static bool refused;
+
+void *__real_malloc(size_t size);
+void *__real_realloc(void *block, size_t size);
+void *__wrap_malloc(size_t size);
+void *__wrap_realloc(void *block, size_t size);
+
+static bool refuses(void)
+{
+    if (number_to_refuse == 0 || --number_to_refuse > 0)
+        return false;
+    refused = true;
+    return true;
+}
+
+void *__wrap_malloc(size_t size)
+{
+    return refuses() ? NULL : __real_malloc(size);
+}
+
+void *__wrap_realloc(void *block, size_t size)
+{
+    return refuses() ? NULL : __real_realloc(block, size);
+}
+
+void refuse(size_t number)
+{
+    number_to_refuse = number;
+    refused = false;
+}
+
+bool was_refused(void)
+{
+    number_to_refuse = 0;
+    return refused;
+}
+
+static void open_room(struct room *room, size_t size)
+{
+    if (room->first == NULL) {
+        uint8_t *pages = mmap(NULL, ROOM + 2 * PAGE, PROT_NONE, MAP_PRIVATE | MAP_ANONYMOUS, -1, 0);
+        CHECK(pages != MAP_FAILED && mprotect(pages + PAGE, ROOM, PROT_READ | PROT_WRITE) == 0);
+        room->first = pages + PAGE;
+        room->size = ROOM;
+    }
+    CHECK(size + FILLED <= room->size);
+}
+
+const uint8_t *put_at_end(struct room *room, const uint8_t *bytes, size_t len)
+{
+    open_room(room, len);
+    return memcpy(room->first + room->size - len, bytes, len);
+}
+
+const uint8_t *put_at_start(struct room *room, const uint8_t *bytes, size_t len)
+{
+    open_room(room, len);
+    return memcpy(room->first, bytes, len);
+}
+
+uint8_t *clear(struct room *room, size_t size)
+{
+    open_room(room, size);
+    uint8_t *buffer = room->first + room->size - size;
+    memset(buffer - FILLED, 0xAA, size + FILLED);
+    return buffer;
+}
+
+static bool is_filled(const uint8_t *bytes, size_t len)
+{
+    return len == 0 || (bytes[0] == 0xAA && memcmp(bytes, bytes + 1, len - 1) == 0);
+}
+
+bool holds(const uint8_t *buffer, size_t size, const void *bytes, size_t len)
+{
+    return len <= size && memcmp(buffer, bytes, len) == 0 && is_filled(buffer + len, size - len) &&
+           is_filled(buffer - FILLED, FILLED);
+}
+
+bool untouched(const uint8_t *buffer, size_t size)
+{
+    return is_filled(buffer - FILLED, size + FILLED);
+}

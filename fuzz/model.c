@@ -1,0 +1,354 @@
+#include "model.h"
+
+#include <string.h>
+
+enum { LABEL_MAX = 63, LABELS_MAX = 127, POINTER = 192, CANDIDATES = 64, COMPRESSED = 120 };
+
+/* RFC 1035, section 4.1.4. A segment of a name ends in a zero octet or in a pointer, which must point to before the
+   segment; no label of the segment that it points to may begin where the one before began, or later. */
+uint32_t model_read(const uint8_t *message, size_t len, size_t start, struct model_name *name)
+{
+    size_t at = start, segment = start, limit = 0, size = 0;
+    bool has_end = false;
+    for (;;) {
+        if (has_end && at >= limit)
+            return DNW_SEGMENTS_OVERLAP;
+        if (at >= len)
+            return DNW_MESSAGE_CUT;
+        uint8_t octet = message[at];
+        if (octet > LABEL_MAX && octet < POINTER)
+            return DNW_RESERVED_OCTET;
+        if (octet >= POINTER) {
+            if (len - at < 2)
+                return DNW_MESSAGE_CUT;
+            size_t target = (size_t)(octet & 63) << 8 | message[at + 1];
+            if (target >= segment)
+                return DNW_POINTER_NOT_BACK;
+            if (!has_end)
+                name->end = at + 2;
+            has_end = true;
+            limit = segment;
+            at = segment = target;
+            continue;
+        }
+        if (len - at < 1u + octet)
+            return DNW_MESSAGE_CUT;
+        if (octet > 0 && size + 1 + octet + 1 > DNW_FORM_SIZE)
+            return DNW_NAME_TOO_LONG;
+        memcpy(name->form + size, message + at, 1u + octet);
+        size += 1u + octet;
+        at += 1u + octet;
+        if (octet == 0)
+            break;
+    }
+    if (!has_end)
+        name->end = at;
+    name->len = size;
+    return DNW_DONE;
+}
+
+uint32_t model_form(const uint8_t *form, size_t len, struct model_name *name)
+{
+    uint32_t failure = model_read(form, len, 0, name);
+    return failure == DNW_DONE && name->end != len ? DNW_BYTES_LEFT : failure;
+}
+
+static bool is_letter(uint8_t c)
+{
+    return (c >= 'a' && c <= 'z') || (c >= 'A' && c <= 'Z');
+}
+
+static bool is_safe(uint8_t c)
+{
+    return is_letter(c) || (c >= '0' && c <= '9') || c == '_';
+}
+
+uint32_t model_character(const uint8_t *text, size_t len, size_t *bytes)
+{
+    static const uint32_t least[] = {0, 0, 0x80, 0x800, 0x10000};
+    uint8_t first = text[0];
+    size_t n = first < 0x80 ? 1 : first >> 5 == 6 ? 2 : first >> 4 == 14 ? 3 : first >> 3 == 30 ? 4 : 0;
+    *bytes = 0;
+    if (n == 0 || n > len)
+        return 0;
+    uint32_t c = n == 1 ? first : first & (0x7Fu >> n);
+    for (size_t i = 1; i < n; i++) {
+        if (text[i] >> 6 != 2)
+            return 0;
+        c = c << 6 | (text[i] & 63);
+    }
+    if (c < least[n] || c > 0x10FFFF || (c >= 0xD800 && c <= 0xDFFF))
+        return 0;
+    *bytes = n;
+    return c;
+}
+
+bool model_is_utf8(const uint8_t *text, size_t len)
+{
+    for (size_t at = 0, bytes; at < len; at += bytes) {
+        model_character(text + at, len - at, &bytes);
+        if (bytes == 0)
+            return false;
+    }
+    return true;
+}
+
+bool model_is_control(uint32_t c)
+{
+    return c < 0x20 || (c >= 0x7F && c <= 0x9F);
+}
+
+bool model_is_space(uint32_t c)
+{
+    return (c >= 9 && c <= 13) || c == ' ' || c == 0x85 || c == 0xA0 || c == 0x1680 || (c >= 0x2000 && c <= 0x200A) ||
+           c == 0x2028 || c == 0x2029 || c == 0x202F || c == 0x205F || c == 0x3000;
+}
+
+/* A label that is being read: how many bytes it has, and the first of them. */
+struct label {
+    uint8_t bytes[LABEL_MAX];
+    size_t len;
+    bool is_past_ascii;
+};
+
+static void add(struct label *label, uint32_t c)
+{
+    size_t bytes = c < 0x80 ? 1 : c < 0x800 ? 2 : c < 0x10000 ? 3 : 4;
+    if (label->len < LABEL_MAX)
+        label->bytes[label->len] = (uint8_t)c;
+    if (bytes > 1)
+        label->is_past_ascii = true;
+    label->len += bytes;
+}
+
+/* Adds a label to the name if it is one: RFC 952, and underscores, dots, and an asterisk at its front. */
+static uint32_t end_label(struct label *label, struct model_text *name)
+{
+    if (label->len > LABEL_MAX)
+        return DNW_LABEL_TOO_LONG;
+    if (label->len == 0 || label->is_past_ascii)
+        return DNW_BAD_TEXT;
+    for (size_t i = 0; i < label->len; i++)
+        if (!is_safe(label->bytes[i]) && label->bytes[i] != '.' && label->bytes[i] != (i == 0 ? '*' : '-'))
+            return DNW_BAD_TEXT;
+    if (name->len + 1 + label->len + 1 > DNW_FORM_SIZE)
+        return DNW_NAME_TOO_LONG;
+    name->form[name->len] = (uint8_t)label->len;
+    memcpy(name->form + name->len + 1, label->bytes, label->len);
+    name->len += 1 + label->len;
+    label->len = 0;
+    return DNW_DONE;
+}
+
+static bool is_octal(uint8_t c)
+{
+    return c >= '0' && c <= '7';
+}
+
+/* Adds the character that an escape stands for, and puts the length of the escape; 0 if it is none. */
+static size_t end_escape(const uint8_t *text, size_t len, struct label *label, struct model_text *name)
+{
+    size_t bytes;
+    if (len < 2)
+        return 0;
+    if (is_octal(text[1])) {
+        if (len < 4 || !is_octal(text[2]) || !is_octal(text[3]))
+            return 0;
+        add(label, (text[1] - '0') * 64u + (text[2] - '0') * 8u + (text[3] - '0'));
+        return 4;
+    }
+    uint32_t c = model_character(text + 1, len - 1, &bytes);
+    if (c == '8' || c == '9')
+        return 0;
+    if (c >= 0x80)
+        name->is_open = true;
+    add(label, c);
+    return 1 + bytes;
+}
+
+/* RFC 1035, section 5.1, but with octal escapes, read from the left up to the first fault. */
+uint32_t model_parse(const uint8_t *text, size_t len, struct model_text *name)
+{
+    struct label label = {.len = 0};
+    memset(name, 0, sizeof *name);
+    if (!model_is_utf8(text, len))
+        return DNW_NOT_UTF8;
+    name->is_fqdn = len == 1 && text[0] == '.';
+    for (size_t at = 0, taken; at < len && !(len == 1 && name->is_fqdn); at += taken) {
+        uint32_t c = model_character(text + at, len - at, &taken), failure = DNW_DONE;
+        name->is_fqdn = c == '.';
+        if (c == '.')
+            failure = end_label(&label, name);
+        else if (c == '\\')
+            taken = end_escape(text + at, len - at, &label, name);
+        else if (model_is_control(c) || model_is_space(c))
+            taken = 0;
+        else
+            add(&label, c);
+        if (failure != DNW_DONE || taken == 0)
+            return failure != DNW_DONE ? failure : DNW_BAD_TEXT;
+    }
+    uint32_t failure = label.len > 0 ? end_label(&label, name) : DNW_DONE;
+    name->form[name->len++] = 0;
+    return failure;
+}
+
+size_t model_print(const struct model_name *name, bool is_fqdn, uint8_t *text)
+{
+    size_t len = 0;
+    for (size_t at = 0; name->form[at] != 0; at += 1u + name->form[at]) {
+        if (at > 0)
+            text[len++] = '.';
+        for (size_t i = 1; i <= name->form[at]; i++) {
+            uint8_t c = name->form[at + i];
+            bool is_plain = is_safe(c) || c == (i == 1 ? '*' : '-');
+            bool is_seen = c > ' ' && c < 0x7F;
+            if (!is_plain)
+                text[len++] = '\\';
+            if (!is_plain && !is_seen) {
+                text[len++] = (uint8_t)('0' + c / 64);
+                text[len++] = (uint8_t)('0' + c / 8 % 8);
+                c = (uint8_t)('0' + c % 8);
+            }
+            text[len++] = c;
+        }
+    }
+    if (is_fqdn)
+        text[len++] = '.';
+    return len;
+}
+
+/* Where labels were written, and their octets, without the zero octet at the end. */
+struct candidate {
+    size_t offset;
+    uint8_t form[DNW_FORM_SIZE];
+    size_t len;
+};
+
+static const struct candidate *find(const struct candidate *all, size_t count, const uint8_t *form, size_t len)
+{
+    for (size_t i = 0; i < count; i++)
+        if (all[i].len == len && memcmp(all[i].form, form, len) == 0)
+            return &all[i];
+    return NULL;
+}
+
+/* A message that is being written. */
+struct writer {
+    struct candidate candidates[CANDIDATES];
+    size_t candidate_count;
+    size_t names;
+    size_t offset;
+};
+
+/* Keeps the suffixes of a name that begin before `front` as candidates. Each needs a label of at most 64 octets, so all
+   lie within reach of a pointer. */
+static void keep(struct writer *w, const struct model_name *name, size_t front)
+{
+    size_t labels = name->len - 1;
+    for (size_t at = 0; at < front && w->candidate_count < CANDIDATES; at += 1u + name->form[at]) {
+        struct candidate *c = &w->candidates[w->candidate_count++];
+        c->offset = w->offset + at;
+        c->len = labels - at;
+        memcpy(c->form, name->form + at, c->len);
+    }
+}
+
+/* The first 120 names are compressed: the longest suffix that was kept is a pointer to the first place of it. */
+static bool write_name(struct writer *w, const struct model_name *name, size_t max_size, uint8_t *out)
+{
+    size_t labels = name->len - 1, front = 0;
+    const struct candidate *found = NULL;
+    while (w->names < COMPRESSED && front < labels &&
+           !(found = find(w->candidates, w->candidate_count, name->form + front, labels - front)))
+        front += 1u + name->form[front];
+    if (w->offset + (found ? labels : labels + 1) > max_size)
+        return false;
+    if (!found)
+        front = labels;
+    memcpy(out + w->offset, name->form, front);
+    if (found) {
+        out[w->offset + front] = (uint8_t)(POINTER | found->offset >> 8);
+        out[w->offset + front + 1] = (uint8_t)found->offset;
+    } else {
+        out[w->offset + front] = 0;
+    }
+    keep(w, name, front);
+    w->offset += front + (found ? 2 : 1);
+    w->names += 1;
+    return true;
+}
+
+uint32_t model_write(const uint8_t *list, size_t list_len, size_t max_size, uint8_t *out,
+                     struct dnw_written_names *written)
+{
+    static struct writer w;
+    w.candidate_count = w.names = w.offset = 0;
+    size_t at = 0;
+    for (struct model_name name; at < list_len; at = name.end) {
+        uint32_t failure = model_read(list, list_len, at, &name);
+        if (failure != DNW_DONE)
+            return failure;
+        if (!write_name(&w, &name, max_size, out))
+            return DNW_MESSAGE_TOO_LONG;
+    }
+    written->len = w.offset;
+    written->count = w.names;
+    return DNW_DONE;
+}
+
+static uint8_t lower(uint8_t c)
+{
+    return c >= 'A' && c <= 'Z' ? (uint8_t)(c + ('a' - 'A')) : c;
+}
+
+/* Length octets are below the letters, and stay. */
+void model_lower(struct model_name *name)
+{
+    for (size_t i = 0; i < name->len; i++)
+        name->form[i] = lower(name->form[i]);
+}
+
+/* Puts where each label begins, and returns how many there are. */
+static size_t label_starts(const struct model_name *name, size_t *starts)
+{
+    size_t count = 0;
+    for (size_t at = 0; name->form[at] != 0; at += 1u + name->form[at])
+        starts[count++] = at;
+    return count;
+}
+
+static int compare_labels(const uint8_t *left, const uint8_t *right)
+{
+    for (size_t i = 1; i <= left[0] && i <= right[0]; i++)
+        if (lower(left[i]) != lower(right[i]))
+            return lower(left[i]) < lower(right[i]) ? -1 : 1;
+    return (left[0] > right[0]) - (left[0] < right[0]);
+}
+
+/* RFC 4034, section 6.1. */
+int model_compare(const struct model_name *left, const struct model_name *right)
+{
+    size_t lefts[LABELS_MAX], rights[LABELS_MAX];
+    size_t l = label_starts(left, lefts), r = label_starts(right, rights);
+    for (; l > 0 && r > 0; l--, r--) {
+        int order = compare_labels(left->form + lefts[l - 1], right->form + rights[r - 1]);
+        if (order != 0)
+            return order;
+    }
+    return (l > r) - (l < r);
+}
+
+/* A name is in a zone if some suffix of it, its labels from one on, is the zone. */
+bool model_in_zone(const struct model_name *name, const struct model_name *zone)
+{
+    struct model_name suffix = *name;
+    for (size_t at = 0;; at += 1u + name->form[at]) {
+        suffix.len = name->len - at;
+        memcpy(suffix.form, name->form + at, suffix.len);
+        if (model_compare(&suffix, zone) == 0)
+            return true;
+        if (name->form[at] == 0)
+            return false;
+    }
+}

@@ -1,0 +1,55 @@
+/* What the functions of dns_names_wire.h must return, written once more in plain C: from RFC 1035, from RFC 4034, and from
+   the header. It shares no line with the library, and it is compiled with the fuzzer's counters, so that inputs are
+   searched for that take new branches here. */
+#ifndef MODEL_H
+#define MODEL_H
+
+#include <stdbool.h>
+#include <stddef.h>
+#include <stdint.h>
+
+#include "dns_names_wire.h"
+
+/* A name: its wire form, and where its own octets end in the message that it was read from. */
+struct model_name {
+    uint8_t form[DNW_FORM_SIZE];
+    size_t len;
+    size_t end;
+};
+
+/* What the text of a name gives. If `is_open`, the failure is DNW_BAD_TEXT or DNW_LABEL_TOO_LONG, and which of them
+   depends on whether a character past ASCII is a digit in Unicode. */
+struct model_text {
+    uint8_t form[DNW_FORM_SIZE];
+    size_t len;
+    bool is_fqdn;
+    bool is_open;
+};
+
+/* Each returns DNW_DONE or the failure. */
+uint32_t model_read(const uint8_t *message, size_t len, size_t start, struct model_name *name);
+uint32_t model_form(const uint8_t *form, size_t len, struct model_name *name);
+uint32_t model_parse(const uint8_t *text, size_t len, struct model_text *parsed);
+
+/* Puts the text of a wire form into `text`, which has DNW_TEXT_SIZE bytes, and returns its length. */
+size_t model_print(const struct model_name *name, bool is_fqdn, uint8_t *text);
+
+/* Writes a list into a message at `out`, which has room for 65,535 bytes, and puts the message's length and its names. */
+uint32_t model_write(const uint8_t *list, size_t list_len, size_t max_size, uint8_t *out,
+                     struct dnw_written_names *written);
+
+int model_compare(const struct model_name *left, const struct model_name *right);
+bool model_in_zone(const struct model_name *name, const struct model_name *zone);
+void model_lower(struct model_name *name);
+
+bool model_is_utf8(const uint8_t *text, size_t len);
+
+/* Returns the character at the front of a text, and the number of its bytes, which is 0 if no UTF-8 is there (RFC 3629,
+   section 4). */
+uint32_t model_character(const uint8_t *text, size_t len, size_t *bytes);
+
+/* Control characters (Cc) and white space (White_Space) of Unicode. */
+bool model_is_control(uint32_t c);
+bool model_is_space(uint32_t c);
+
+#endif

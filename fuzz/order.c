@@ -1,0 +1,76 @@
+/* Compares three names, and puts them in lower case. The first two octets of the input are the lengths of the first two
+   wire forms, and the rest is the third. The answers are the model's, and the order is one. */
+#include "harness.h"
+
+static struct room lefts, rights, lowered;
+
+struct part {
+    const uint8_t *bytes;
+    size_t len;
+};
+
+static int32_t compare(struct part left, struct part right)
+{
+    int32_t order = 7;
+    uint32_t answer = dnw_name_compare(left.bytes, left.len, right.bytes, right.len, &order);
+    CHECK(answer == DNW_DONE ? order >= -1 && order <= 1 : order == 7);
+    return order;
+}
+
+static void compares(struct part left, struct part right)
+{
+    struct model_name l, r;
+    const uint8_t *a = put_at_end(&lefts, left.bytes, left.len), *b = put_at_end(&rights, right.bytes, right.len);
+    uint32_t answer = model_form(a, left.len, &l);
+    if (answer == DNW_DONE)
+        answer = model_form(b, right.len, &r);
+    int32_t order = 7;
+    bool is_equal = false, is_in_zone = false;
+    CHECK(dnw_name_compare(a, left.len, b, right.len, &order) == answer);
+    CHECK(dnw_name_equal(a, left.len, b, right.len, &is_equal) == answer);
+    CHECK(dnw_name_in_zone(a, left.len, b, right.len, &is_in_zone) == answer);
+    if (answer != DNW_DONE) {
+        CHECK(order == 7 && !is_equal && !is_in_zone);
+        return;
+    }
+    CHECK(order == model_compare(&l, &r));
+    CHECK(is_equal == (order == 0));
+    CHECK(is_in_zone == model_in_zone(&l, &r));
+    CHECK(compare(right, left) == -order);
+}
+
+static void lowers(struct part name)
+{
+    struct model_name own;
+    const uint8_t *form = put_at_start(&lefts, name.bytes, name.len);
+    uint32_t answer = model_form(form, name.len, &own);
+    size_t size = answer == DNW_DONE ? own.len : DNW_FORM_SIZE, len = 7;
+    uint8_t *low = clear(&lowered, size);
+    CHECK(dnw_name_to_lowercase(form, name.len, low, size, &len) == answer);
+    if (answer != DNW_DONE) {
+        CHECK(untouched(low, size) && len == 7);
+        return;
+    }
+    model_lower(&own);
+    CHECK(len == own.len && holds(low, size, own.form, own.len));
+    CHECK(compare(name, (struct part){low, len}) == 0);
+    low = clear(&lowered, size - 1);
+    CHECK(dnw_name_to_lowercase(form, name.len, low, size - 1, &len) == DNW_NO_ROOM && untouched(low, size - 1));
+}
+
+int LLVMFuzzerTestOneInput(const uint8_t *data, size_t size)
+{
+    if (size < 2 || (size_t)data[0] + data[1] > size - 2)
+        return 0;
+    struct part parts[3] = {{data + 2, data[0]}, {data + 2 + data[0], data[1]}};
+    parts[2] = (struct part){parts[1].bytes + data[1], size - 2 - data[0] - data[1]};
+    for (size_t i = 0; i < 3; i++) {
+        lowers(parts[i]);
+        for (size_t j = 0; j < 3; j++)
+            compares(parts[i], parts[j]);
+    }
+    int32_t first = compare(parts[0], parts[1]), second = compare(parts[1], parts[2]);
+    if (first <= 0 && second <= 0)
+        CHECK(compare(parts[0], parts[2]) == (first < second ? first : second));
+    return 0;
+}

@@ -1,0 +1,71 @@
+#!/usr/bin/env python3
+"""Writes the inputs that the fuzzer begins with: `seeds.py FOLDER` makes a folder in it for each harness.
+
+They are the messages, texts, wire forms and names of the lists and rows in diff/, each once.
+"""
+
+import hashlib
+import pathlib
+import re
+import sys
+
+DIFF = pathlib.Path(__file__).resolve().parent.parent / "diff"
+
+
+def requests():
+    """The words of each request: the lines of the lists and rows without their answers."""
+    for file in sorted([*DIFF.glob("lists/*.txt"), *DIFF.glob("rows/*.txt")]):
+        for line in file.read_text(encoding="utf-8").split("\n"):
+            if line and not line.startswith("#") and "<" not in line:
+                yield line.split(" = ")[0].split(" ")
+
+
+def octets(word):
+    """The octets that a word of a request has in hexadecimal, or none."""
+    return bytes.fromhex(word) if re.fullmatch("([0-9a-f]{2})*", word) else b""
+
+
+def form(name):
+    """The wire form of `1:LABEL,LABEL` or `0:LABEL,LABEL`, or of a plain text, or nothing."""
+    if re.fullmatch("[01]:[0-9a-f,-]*", name):
+        labels = [octets(label) for label in name[2:].split(",") if label not in ("", "-")]
+    elif re.fullmatch("[0-9A-Za-z.]+", name):
+        labels = [label.encode() for label in name.split(".") if label]
+    else:
+        return b""
+    return b"".join(bytes([len(label)]) + label for label in labels) + b"\0"
+
+
+def triples(forms):
+    """Inputs of three names each: the lengths of the first two, and the three."""
+    for left, middle, right in zip(forms, forms[1:], forms[2:]):
+        if len(left) < 256 and len(middle) < 256:
+            yield bytes([len(left), len(middle)]) + left + middle + right
+
+
+def inputs(words):
+    """The inputs that a request gives: pairs of a harness and octets."""
+    kind, rest = words[0], words[1:]
+    if kind in ("readings", "read", "cuts", "octets"):
+        yield "names", octets(rest[-1])
+    elif kind in ("text", "print"):
+        yield "texts", octets(rest[-1])
+    elif kind in ("encode", "script"):
+        names = [form(step[2:]) for step in rest if step.startswith("n:")]
+        yield "lists", b"\xff\xff\0" + b"".join(names)
+    elif kind == "order":
+        for triple in triples([form(name) for name in rest][:4]):
+            yield "order", triple
+
+
+def main():
+    folder = pathlib.Path(sys.argv[1])
+    for words in requests():
+        for harness, octets_of_it in inputs(words):
+            place = folder / harness
+            place.mkdir(parents=True, exist_ok=True)
+            (place / hashlib.sha1(octets_of_it).hexdigest()).write_bytes(octets_of_it)
+
+
+if __name__ == "__main__":
+    main()
