@@ -1,5 +1,5 @@
 //! Marks, by which a search passes over most candidates.
-ghost use Rattle.std.specs.Prelude.{◌≡◌, ℕ, ◌+◌, ◌<◌, ◌≤◌, true, false, List, [], ◌∷◌, ◌++◌, get_or, length, MatchOption};
+ghost use Rattle.std.specs.Prelude.{◌≡◌, ℕ, ◌+◌, ◌^◌, ◌<◌, ◌≤◌, true, false, List, [], ◌∷◌, ◌++◌, get_or, length, MatchOption};
 ghost use Rattle.dnw_candidates.specs.Inside.Marks.{AreLinked, AreMarked, NoneBetween, NoneFrom, label_end, tag};
 
 use crate::store::Store;
@@ -7,32 +7,48 @@ use crate::store::Store;
 /// How many candidates have marks: the first ones. The number of each, counted from 1, fits a byte.
 const ROOM: usize = 255;
 
-/// Returns a number below 256 that few labels share: it comes of their length, and of the first three and the last two
-/// octets of the first label.
+/// Returns a number below 256 that few labels share: it comes of their length, the first two octets of the first label,
+/// and the last two of the first and the second.
 #[inline(always)]
 pub(crate) fn tag(labels: &[u8]) -> usize
     ensures value { result ≡ tag labels.now }
     ensures below { result < 256 }
 {
     match labels {
-        [len, first, second, third, ..] => {
-            let front = *first as usize * 71 + *second as usize * 15 + *third as usize * 75;
-            (labels.len() % 256 * 51 + front + label_end(labels, *len as usize)) % 256
+        [len, first, second, ..] => {
+            let len = *len as usize;
+            let front = *first as usize * 71 + *second as usize * 15;
+            let ends = label_end(labels, 0, len)
+                + label_end(labels, len + 1, octet_at(labels, len + 1)) * 5;
+            (labels.len() % 256 * 51 + front + ends) % 256
         }
         _ => labels.len() % 256,
     }
 }
 
-/// Returns a number that comes of the last two octets of the first label, which has this length.
+/// Returns a number that comes of the last two octets of the label at `start`, which has this length.
 #[inline(always)]
-fn label_end(labels: &[u8], len: usize) -> usize
-    ensures value { result ≡ label_end labels.now len }
+fn label_end(labels: &[u8], start: usize, len: usize) -> usize
+    requires { start + len < 2 ^ 64 }
+    ensures value { result ≡ label_end labels.now start len }
     ensures few { result ≤ 9180 }
 {
-    if 0 < len && len < labels.len() {
-        labels[len] as usize * 33 + labels[len - 1] as usize * 3
+    if 0 < len && start + len < labels.len() {
+        labels[start + len] as usize * 33 + labels[start + len - 1] as usize * 3
     } else {
         0
+    }
+}
+
+/// Returns the octet at an index, or 0 past the end.
+#[inline(always)]
+fn octet_at(labels: &[u8], index: usize) -> usize
+    ensures value { result ≡ get_or labels.now index 0 }
+    ensures octet { result < 256 }
+{
+    match labels.get(index) {
+        Some(octet) => *octet as usize,
+        None => 0,
     }
 }
 

@@ -29,6 +29,10 @@ pub const CANDIDATE_LIMIT: usize = 64;
 /// How many names an encoder compresses unless another limit is set.
 pub const NAME_LIMIT: usize = 120;
 
+/// How many bytes an empty buffer without room grows to at first, if the maximum size allows as many: most messages then
+/// allocate once.
+const FIRST_ROOM: usize = 512;
+
 /// Writes a message into a buffer, up to a maximum size. A call that fails leaves the encoder unchanged.
 ///
 /// Names are compressed (RFC 1035, section 4.1.4): the encoder keeps the suffixes of the first names as candidates, to
@@ -310,6 +314,10 @@ impl<'a> BinEncoder<'a> {
         let end = self.offset + bytes.len();
         let len = self.buffer.len();
         if self.offset == len {
+            if len == 0 && !bytes.is_empty() {
+                self.buffer
+                    .reserve(bytes.len().max(FIRST_ROOM.min(self.max_size as usize)))?;
+            }
             self.buffer.extend_from_slice(bytes)?;
         } else {
             if end > len {

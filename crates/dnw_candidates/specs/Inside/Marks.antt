@@ -6,15 +6,17 @@ use Rattle.dnw_candidates.specs.Candidates.{Candidate}
 
 -- ---- tags
 
--- the last two octets of the first label, which has this length
-abbrev pub label_end : List ℕ → ℕ → ℕ
-label_end bytes len = if nat_lt 0 len && nat_lt len (length bytes) then get_or bytes len 0 * 33 + get_or bytes (len - 1) 0 * 3 else 0
+-- the last two octets of the label whose length octet is at the start
+abbrev pub label_end : List ℕ → ℕ → ℕ → ℕ
+label_end bytes start len =
+    if nat_lt 0 len && nat_lt (start + len) (length bytes) then get_or bytes (start + len) 0 * 33 + get_or bytes (start + len - 1) 0 * 3 else 0
 
--- A number below 256 that labels' bytes have, by their length and by the first three and the last two octets of the
--- first label.
+-- A number below 256 that labels' bytes have, by their length, the first two octets of the first label, and the last two
+-- of the first and the second.
 abbrev pub tag : List ℕ → ℕ
-tag (len ∷ first ∷ second ∷ third ∷ rest) =
-    ((4 + length rest) % 256 * 51 + (first * 71 + second * 15 + third * 75) + label_end (len ∷ first ∷ second ∷ third ∷ rest) len) % 256
+tag (len ∷ first ∷ second ∷ rest) =
+    let bytes = len ∷ first ∷ second ∷ rest in
+    (length bytes % 256 * 51 + (first * 71 + second * 15) + (label_end bytes 0 len + label_end bytes (len + 1) (get_or bytes (len + 1) 0) * 5)) % 256
 tag bytes = length bytes % 256
 
 abbrev pub tags : List Candidate → List ℕ
