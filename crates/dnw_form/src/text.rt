@@ -9,7 +9,7 @@ ghost use Rattle.dnw_base.specs.Labels.{IsLabel};
 ghost use Rattle.dnw_base.specs.Names.{encoded_size};
 ghost use Rattle.dnw_label.specs.LabelText.{dot, label_from_text, label_text};
 ghost use Rattle.dnw_form.specs.NameText.{Outside, Escaped, is_numeric, is_octal_digit, elements, Stop, bad_digit, with_text, name_from_text};
-ghost use Rattle.dnw_form.specs.Inside.TextReader.{state_of, elements_from, escape_len, IsNoLonger, IsAlike, is_simple, IsSimpleLabel, PutsLengths, BeginsWithEscape, name_from_rest, name_from, reader_len};
+ghost use Rattle.dnw_form.specs.Inside.TextReader.{state_of, elements_from, escape_len, IsNoLonger, IsAlike, is_simple, IsSimpleLabel, IsDottedLabel, PutsLengths, BeginsWithEscape, name_from_rest, name_from, reader_len};
 
 use crate::form::WireForm;
 use crate::wire_labels::WireLabels;
@@ -324,8 +324,41 @@ impl TextReader {
         Ok(())
     }
 
-    /// Reads on from a text that is not empty, and returns what is left of it.
+    /// Reads on from a text that is not empty, and returns what is left of it: a simple label and its dot at once, or else a
+    /// part.
     fn advance<'t>(&mut self, alloc: Global, text: &'t str) -> ProtoResult<&'t str>
+        requires some { 0 < length text.now }
+        requires len { reader_len self.old + length text.now < 2 ^ 64 }
+        ensures ok { IfOk result (λ rest. name_from self.new (chars rest.now) ≡ name_from self.old (chars text.now)) }
+        ensures shorter { IfOk result (λ rest. length rest.now < length text.now) }
+        ensures len { IfOk result (λ rest. reader_len self.new + length rest.now ≤ reader_len self.old + length text.now) }
+        ensures err { IfErr result (FailsOr (name_from self.old (chars text.now)) (NeedsErrorText (name_from self.old (chars text.now)))) }
+    {
+        let len = self.whole_label_len(text.as_bytes());
+        if len == 0 {
+            return self.advance_part(alloc, text);
+        }
+        self.form.push(&text.as_bytes()[..len])?;
+        Ok(&text[len + 1..])
+    }
+
+    /// Returns the length of the simple label that a text begins with, if a dot follows and no part of a label was read
+    /// before it, or else 0.
+    fn whole_label_len(&self, text: &[u8]) -> usize
+        ensures label { 0 < result → IsDottedLabel text.now result }
+        ensures fresh { 0 < result → (self.now.label ≡ []) × (self.now.state ≡ State.Outside) }
+    {
+        if !self.label.is_empty() {
+            return 0;
+        }
+        match self.state {
+            State::Outside => dotted_len(text),
+            _ => 0,
+        }
+    }
+
+    /// Reads on by a run of simple characters, an octal escape or a character.
+    fn advance_part<'t>(&mut self, alloc: Global, text: &'t str) -> ProtoResult<&'t str>
         requires some { 0 < length text.now }
         requires len { reader_len self.old + length text.now < 2 ^ 64 }
         ensures ok { IfOk result (λ rest. name_from self.new (chars rest.now) ≡ name_from self.old (chars text.now)) }
@@ -449,6 +482,17 @@ fn put_lengths(wire: &mut [u8], text: &[u8]) -> Option<bool>
             return Some(true);
         }
     }
+}
+
+/// Returns the length of the simple label that a text begins with, if a dot follows, or else 0.
+fn dotted_len(text: &[u8]) -> usize
+    ensures { 0 < result → IsDottedLabel text.now result }
+{
+    let len = simple_label_len(text);
+    if len == text.len() || text[len] != b'.' {
+        return 0;
+    }
+    len
 }
 
 /// Returns the length of the label that a text begins with, if it is `*` or has simple characters alone, or else 0.

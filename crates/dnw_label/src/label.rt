@@ -197,7 +197,7 @@ fn may_begin(c: u8) -> bool
 fn may_follow(c: u8) -> bool
     ensures { result ≡ may_follow c }
 {
-    is_safe(c) || c == b'-' || c == b'.'
+    c.is_ascii_lowercase() || is_safe(c) || c == b'-' || c == b'.'
 }
 
 fn is_plain(first: bool, byte: u8) -> bool

@@ -1,11 +1,11 @@
 -- What the reader of a name's text holds, and labels that are read whole.
-use Rattle.std.specs.Prelude.{◌≡◌, ℕ, ◌+◌, ◌-◌, ◌*◌, ◌<◌, ◌≤◌, ◌⊎◌, ⊤, Bool, true, ◌||◌, ◌&&◌, ◌==◌, nat_lt, if◌then◌else◌, List, [], ◌∷◌, ◌++◌, length, Result, Ok, encode_utf8}
+use Rattle.std.specs.Prelude.{◌≡◌, ℕ, ◌+◌, ◌-◌, ◌*◌, ◌<◌, ◌≤◌, ◌⊎◌, ⊤, Bool, true, ◌||◌, ◌&&◌, ◌==◌, nat_lt, if◌then◌else◌, List, [], ◌∷◌, ◌++◌, length, take, get_or, Result, Ok, encode_utf8}
 use Rattle.std.specs.List.{list_all}
 use Rattle.std.specs.Str.{chars}
 use Rattle.dnw_error.specs.Fault.{Fault, UnrecognizedChar, IllegalChar}
 use Rattle.dnw_base.specs.Labels.{IsLabel}
 use Rattle.dnw_base.specs.Labels.{asterisk}
-use Rattle.dnw_label.specs.LabelText.{backslash, dash, is_safe, label_from_text}
+use Rattle.dnw_label.specs.LabelText.{backslash, dash, dot, is_safe, label_from_text}
 use Rattle.dnw_base.specs.Names.{NameValue, AreLabels, wire}
 use Rattle.dnw_form.specs.NameText.{State, Outside, Escaped, AfterOne, AfterTwo, TextElement, Char, Dot, Stop, elements, is_octal_digit, name_from_elements}
 use Rattle.dnw_form.specs.declared.text.State.{State as Held}
@@ -59,6 +59,12 @@ pub record IsSimpleLabel (label : List ℕ) : Type 0 where
   pub own : list_all is_own label ≡ true
   pub is_label : IsLabel label
   pub written : label_from_text label ≡ Ok label
+
+-- The text begins with a simple label of n bytes, and a dot follows.
+pub record IsDottedLabel (text : List ℕ) (n : ℕ) : Type 0 where
+  pub inside : n < length text
+  pub label : IsSimpleLabel (take n text)
+  pub dotted : get_or text n 0 ≡ dot
 
 -- what reading the characters gives, after the labels so far and the text collected for the next one
 unfoldable pub name_from_rest : List (List ℕ) → List ℕ → State → List ℕ → Result NameValue Fault

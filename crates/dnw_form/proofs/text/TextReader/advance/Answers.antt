@@ -1,60 +1,58 @@
--- A run and an escape are added whole; any other character is taken alone.
-use Rattle.std.proofs.Common.{encode_utf8, refl, arith}
+-- A simple label and its dot are added whole.
+use Rattle.std.proofs.Common.{◌≡◌, ◌+◌, ◌<◌, List, ℕ, suc, [], ◌∷◌, ◌++◌, take, drop, refl, sym, ap, ◌∙◌, arith}
+use Rattle.std.specs.Str.{chars}
 use Rattle.std.proofs.lemmas.Result.{err_from_is_err_and}
-use Rattle.std.proofs.Math.Nat.{sub-zero}
-use Rattle.std.proofs.lemmas.List.{length-append}
-use Rattle.std.proofs.lemmas.Str.{chars_past_char, length-encode, len_utf8_bounds}
-use Rattle.dnw_form.proofs.Runs.{name_from-run, name_from-escape, cut_after_run, cut_after_escape, IsAlike-length}
+use Rattle.std.proofs.lemmas.Str.{IsCharBoundary-after_ascii}
+use Rattle.dnw_error.specs.Fault.{◌>>=◌}
+use Rattle.dnw_label.specs.LabelText.{dot}
+use Rattle.dnw_form.specs.Edits.{with_label}
+use Rattle.dnw_form.specs.NameText.{Outside}
+use Rattle.dnw_form.specs.Inside.TextReader.{IsDottedLabel, name_from, name_from_rest}
+use Rattle.dnw_form.specs.declared.text.TextReader.{TextReader}
+use Rattle.dnw_form.specs.declared.text.State.TheVariants.{Outside as HeldOutside}
+use Rattle.dnw_form.proofs.EditLemmas.{FailsOr-any, FailsOr-bind}
+use Rattle.dnw_form.proofs.SimpleLabels.{name_from_rest-label, parts_at}
+use Rattle.dnw_form.proofs.TextReading.{name_from-start}
 use Rattle.dnw_form.proofs.text.TextReader.advance.Goals as goal
 
-pub range-requires-clause-end_boundary : goal.range-requires-clause-end_boundary
-range-requires-clause-end_boundary c =
-    let simple = rw c.as_bytes.ensures.value at c.simple_len-run.ensures.simple in
-    let few = rw c.as_bytes.ensures.value at c.simple_len-run.ensures.few in
-    cut_after_run _ _ c.utf8.text c.if-run-gt0.true few simple
-
-pub range_from-requires : goal.range_from-requires
-range_from-requires c = λ _.
-    let simple = rw c.as_bytes.ensures.value at c.simple_len-run.ensures.simple in
-    let few = rw c.as_bytes.ensures.value at c.simple_len-run.ensures.few in
-    cut_after_run _ _ c.utf8.text c.if-run-gt0.true few simple
-
-pub returns-then-run-gt0-clause-ok : goal.returns-then-run-gt0-clause-ok
-returns-then-run-gt0-clause-ok c =
-    let simple = rw c.as_bytes.ensures.value at c.simple_len-run.ensures.simple in
-    let alike = simp (c.range.ensures.value, sub-zero) at c.push_run.ensures in
-    rw c.range_from.ensures.value
-    (name_from-run c.args.self.now _ c.push_run.new.self c.args.text.now c.simple_len-run.result c.in-Outside.is simple refl alike)
+-- what reading gives there
+at_label : (r : TextReader) (text : List ℕ) (n : ℕ) → r.label ≡ [] → r.state ≡ HeldOutside → IsDottedLabel text n
+    → name_from r (chars text) ≡ (with_label r.form (take n text) >>= (λ longer. name_from_rest longer [] Outside (chars (drop (n + 1) text))))
+at_label r text n label state d =
+    let next : suc n ≡ n + 1 = omega arith in
+    name_from-start r r.form (chars text) refl label state
+    ∙ (ap (λ (t : List ℕ). name_from_rest r.form [] Outside (chars t)) (parts_at text n dot d.inside d.dotted ∙ ap (λ k. take n text ++ dot ∷ drop k text) next)
+    ∙ name_from_rest-label r.form (take n text) (drop (n + 1) text) d.label)
 
 pub push-requires : goal.push-requires
 push-requires c =
-    let escape = rw c.as_bytes-in-Outside.ensures.value at c.in-Some.ensures in
-    let cut = cut_after_escape _ _ _ c.utf8.text escape.1 in
-    omega (arith, cut.0, length-encode c.in-Some.c, (len_utf8_bounds c.in-Some.c).1)
+    let d = rw c.as_bytes.ensures.value at (c.whole_label_len-len.ensures.label (omega (arith, c.if-len-eq0.false))) in
+    rw c.as_bytes-2.ensures.value d.label.is_label
 
-pub range_from-requires-in-Some : goal.range_from-requires-in-Some
-range_from-requires-in-Some c = λ _.
-    let escape = rw c.as_bytes-in-Outside.ensures.value at c.in-Some.ensures in
-    (cut_after_escape _ _ _ c.utf8.text escape.1).1
+pub range_from-requires : goal.range_from-requires
+range_from-requires c = λ _.
+    let d = rw c.as_bytes.ensures.value at (c.whole_label_len-len.ensures.label (omega (arith, c.if-len-eq0.false))) in
+    let dotted = d.dotted in
+    IsCharBoundary-after_ascii c.args.text.now c.whole_label_len-len.result c.utf8.text d.inside (omega (arith, dotted))
 
-pub returns-in-Some-clause-ok : goal.returns-in-Some-clause-ok
-returns-in-Some-clause-ok c =
-    let escape = rw c.as_bytes-in-Outside.ensures.value at c.in-Some.ensures in
-    let cut = cut_after_escape _ _ _ c.utf8.text escape.1 in
-    rw (c.range_from-in-Some.ensures.value, cut.2)
-    (name_from-escape c.args.self.now _ c.push.new.self c.args.text.now c.in-Some.c escape.0 c.in-Outside.is escape.1 refl c.push.ensures)
-
-pub returns-in-Some-clause-len : goal.returns-in-Some-clause-len
-returns-in-Some-clause-len c =
-    omega (arith, IsAlike-length _ _ c.push.ensures, length-append c.args.self.now.label (encode_utf8 c.in-Some.c), length-encode c.in-Some.c, (len_utf8_bounds c.in-Some.c).1, c.range_from-in-Some.ensures.len)
-
-pub returns-in_err-take-clause-err : goal.returns-in_err-take-clause-err
-returns-in_err-take-clause-err c =
+pub returns-in_err-push-clause-err : goal.returns-in_err-push-clause-err
+returns-in_err-push-clause-err c =
+    let some : 0 < c.whole_label_len-len.result = omega (arith, c.if-len-eq0.false) in
+    let d = rw c.as_bytes.ensures.value at (c.whole_label_len-len.ensures.label some) in
+    let (label, state) = c.whole_label_len-len.ensures.fresh some in
+    let fails = rw c.as_bytes-2.ensures.value at c.in_err-push.ensures.updates in
     let p = err_from_is_err_and c.from_residual.result c.from_residual.ensures.1 in
-    let steps = rw (c.unwrap-c.ensures, c.chars-chars.ensures.rest) at c.next.ensures.steps in
-    rw (p.1, p.2, chars_past_char _ _ _ c.utf8.text steps.0) (c.in_err-take.ensures.err _)
+    rw (p.1, p.2, at_label c.args.self.now c.args.text.now c.whole_label_len-len.result label state d) (FailsOr-bind _ _ _ (FailsOr-any _ _ fails.0))
 
 pub returns-clause-ok : goal.returns-clause-ok
 returns-clause-ok c =
-    let steps = rw (c.unwrap-c.ensures, c.chars-chars.ensures.rest) at c.next.ensures.steps in
-    rw (c.as_str.ensures, chars_past_char _ _ _ c.utf8.text steps.0) (c.in_ok-take.ensures.ok _)
+    let some : 0 < c.whole_label_len-len.result = omega (arith, c.if-len-eq0.false) in
+    let n = c.whole_label_len-len.result in
+    let d = rw c.as_bytes.ensures.value at (c.whole_label_len-len.ensures.label some) in
+    let (label, state) = c.whole_label_len-len.ensures.fresh some in
+    let longer = rw c.as_bytes-2.ensures.value at c.in_ok-push.ensures.updates in
+    let rest = drop (n + 1) c.args.text.now in
+    let new : TextReader = record { form = c.push.new.self; label = c.args.self.now.label; state = c.args.self.now.state } in
+    rw c.range_from.ensures.value
+    (name_from-start new c.push.new.self (chars rest) refl label state
+    ∙ sym (at_label c.args.self.now c.args.text.now n label state d ∙ ap (λ r. r >>= (λ ls. name_from_rest ls [] Outside (chars rest))) longer))
