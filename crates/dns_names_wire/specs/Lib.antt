@@ -28,6 +28,11 @@ pub use Rattle.dnw_form.specs.Edits
 pub use Rattle.dnw_form.specs.NameText
 pub use Rattle.dnw_order.specs.Order
 pub use Rattle.dnw_order.specs.OrderLaws
+pub use Rattle.dnw_net.specs.Nets
+pub use Rattle.dnw_net.specs.NetTexts
+pub use Rattle.dnw_reverse.specs.Arpa
+pub use Rattle.dnw_reverse.specs.ArpaNets
+pub use Rattle.dnw_reverse.specs.ArpaLaws
 pub use Rattle.dnw_txt.specs.Tokens
 pub use Rattle.dnw_txt.specs.Lexing
 pub use Rattle.dnw_txt.specs.Times
@@ -44,6 +49,9 @@ pub use Rattle.dnw_encoder.specs.Marks
 pub use Rattle.dnw_encoder.specs.NameFrames
 pub use Rattle.dnw_lower.specs.LowerNames
 pub use Rattle.dnw_kinds.specs.Keys
+pub use Rattle.dnw_usage.specs.AddressTexts
+pub use Rattle.dnw_usage.specs.Usages
+pub use Rattle.dnw_usage.specs.Zones
 pub use Rattle.dnw_kinds.specs.Serials
 pub use Rattle.dnw_kinds.specs.TypeSets
 pub use Rattle.dnw_kinds.specs.RecordData

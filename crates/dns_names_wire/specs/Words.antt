@@ -30,6 +30,18 @@ pub use Rattle.dnw_error.specs.DnsClasses.{class_code, class_name, class_cmp, cl
 -- Texts of labels and names.
 pub use Rattle.dnw_label.specs.LabelText.{dot, label_from_bytes, label_from_text, label_text}
 pub use Rattle.dnw_form.specs.NameText.{IsLabelText, name_from_text, name_from_text_at, name_text}
+-- Nets and reverse names.
+pub use Rattle.dnw_net.specs.Nets.{NetValue, ipv4_size, ipv6_size}
+pub use Rattle.dnw_net.specs.NetTexts.{net_addr, net_prefix_len, ip_size, IsPastSize, ip_net_text}
+pub use Rattle.dnw_reverse.specs.Arpa.{ArpaPrefix, ArpaFault, IsArpaPrefix, arpa_labels, arpa_name, arpa_prefix, ip_prefix, reverse_name}
+pub use Rattle.dnw_reverse.specs.ArpaNets.{IsNetOf, ReadsNet}
+pub use Rattle.dnw_reverse.specs.ArpaLaws.{PrefixesComeBack, TextsComeBack, AddressesComeBack}
+-- Special-use zones, and what gives a name.
+pub use Rattle.dnw_usage.specs.Usages.{Zone}
+pub use Rattle.dnw_usage.specs.Zones.{reverse_zone, test_zone, localhost_zone, local_zone, invalid_zone, example_zone, usual_zone, onion_zone}
+pub use Rattle.dnw_usage.specs.Zones.{default_value, localhost_value, in_addr_arpa_127_value, ip6_arpa_1_value, local_value, in_addr_arpa_169_254_value}
+pub use Rattle.dnw_usage.specs.Zones.{ip6_arpa_fe_8_value, ip6_arpa_fe_9_value, ip6_arpa_fe_b_value, invalid_value, onion_value}
+pub use Rattle.dnw_usage.specs.AddressTexts.{ReadsIp}
 -- Reading a message.
 pub use Rattle.dnw_base.specs.Decoder.{Decoder, Takes, TakesCopy, advanced, next_bytes}
 pub use Rattle.dnw_reading.specs.Reading.{Reads, Stops, NameAt, FaultAt, TakesName, StopsAt, target}

@@ -37,6 +37,11 @@ pub mod error {
     pub use dnw_error::error::{DecodeError, ProtoError, ProtoResult};
 }
 
+/// Types that give a name: names, texts and addresses.
+pub mod into_name {
+    pub use dnw_usage::into_name::IntoName;
+}
+
 /// Labels, of which names are made.
 pub mod label {
     pub use dnw_label::label::{CaseInsensitive, CaseSensitive, IntoLabel, Label, LabelCmp};
@@ -52,6 +57,7 @@ pub mod name {
     pub use dnw_form::label_iter::LabelIter;
     pub use dnw_name::name::Name;
     pub use dnw_reading::laws;
+    pub use dnw_reverse::laws::reverse_names_come_back;
 }
 
 /// Names within a message, which are walked without a copy.
@@ -59,6 +65,11 @@ pub mod name_ref {
     pub use dnw_name::name_ref::NameRef;
     pub use dnw_reading::ref_labels::RefLabels;
     pub use dnw_reading::walk::ReadSteps;
+}
+
+/// Nets of IP addresses.
+pub mod net {
+    pub use dnw_net::net::{IpNet, Ipv4Net, Ipv6Net};
 }
 
 /// Resource records: written whole or not at all, and read without a copy.
@@ -102,4 +113,13 @@ pub mod txt {
     pub use dnw_txt::errors::{LexerError, ParseError, ParseResult};
     pub use dnw_txt::ttl::parse_ttl;
     pub use dnw_txt::zone_lex::{Lexer, Token};
+}
+
+/// Special-use zones: what is special about their names, and for whom (RFC 6761).
+pub mod usage {
+    pub use dnw_usage::usage::{
+        AppUsage, AuthUsage, CacheUsage, OpUsage, RegistryUsage, ResolverUsage, UserUsage,
+        ZoneUsage, default, in_addr_arpa, in_addr_arpa_127, in_addr_arpa_169_254, invalid,
+        ip6_arpa, ip6_arpa_1, ip6_arpa_fe_8, ip6_arpa_fe_9, ip6_arpa_fe_b, local, localhost, onion,
+    };
 }
