@@ -9,7 +9,8 @@ static void reads_form(const uint8_t *message, size_t len, size_t start, uint32_
 {
     struct dnw_read_name read = {7, 9};
     uint8_t *form = clear(&forms, name->len);
-    CHECK(dnw_name_read(message, len, start, form, name->len, &read) == answer);
+    refuse(1);
+    CHECK(dnw_name_read(message, len, start, form, name->len, &read) == answer && !was_refused());
     if (answer != DNW_DONE) {
         CHECK(untouched(form, name->len) && read.len == 7 && read.end == 9);
         return;

@@ -26,9 +26,11 @@ static void compares(struct part left, struct part right)
         answer = model_form(b, right.len, &r);
     int32_t order = 7;
     bool is_equal = false, is_in_zone = false;
+    refuse(1);
     CHECK(dnw_name_compare(a, left.len, b, right.len, &order) == answer);
     CHECK(dnw_name_equal(a, left.len, b, right.len, &is_equal) == answer);
     CHECK(dnw_name_in_zone(a, left.len, b, right.len, &is_in_zone) == answer);
+    CHECK(!was_refused());
     if (answer != DNW_DONE) {
         CHECK(order == 7 && !is_equal && !is_in_zone);
         return;
@@ -46,7 +48,8 @@ static void lowers(struct part name)
     uint32_t answer = model_form(form, name.len, &own);
     size_t size = answer == DNW_DONE ? own.len : DNW_FORM_SIZE, len = 7;
     uint8_t *low = clear(&lowered, size);
-    CHECK(dnw_name_to_lowercase(form, name.len, low, size, &len) == answer);
+    refuse(1);
+    CHECK(dnw_name_to_lowercase(form, name.len, low, size, &len) == answer && !was_refused());
     if (answer != DNW_DONE) {
         CHECK(untouched(low, size) && len == 7);
         return;
