@@ -1,12 +1,13 @@
 #!/usr/bin/env python3
 """Writes the inputs that the fuzzer begins with: `seeds.py FOLDER` makes a folder in it for each harness.
 
-They are the messages, texts, wire forms and names of the lists and rows in diff/, each once.
+They are the messages, texts, wire forms, names, bitmaps and times of the lists and rows in diff/, each once.
 """
 
 import hashlib
 import pathlib
 import re
+import struct
 import sys
 
 DIFF = pathlib.Path(__file__).resolve().parent.parent / "diff"
@@ -14,10 +15,11 @@ DIFF = pathlib.Path(__file__).resolve().parent.parent / "diff"
 
 def requests():
     """The words of each request: the lines of the lists and rows without their answers."""
-    for file in sorted([*DIFF.glob("lists/*.txt"), *DIFF.glob("rows/*.txt")]):
+    for file in sorted([*DIFF.glob("lists/*.txt"), *DIFF.glob("rows/*.txt"), *DIFF.glob("tokens/*.txt")]):
         for line in file.read_text(encoding="utf-8").split("\n"):
             if line and not line.startswith("#") and "<" not in line:
-                yield line.split(" = ")[0].split(" ")
+                words = line.split(" = ")[0].split(" ")
+                yield ["lex", words[1]] if file.parent.name == "tokens" and words[0] == "cuts" else words
 
 
 def octets(word):
@@ -56,6 +58,16 @@ def inputs(words):
     elif kind == "order":
         for triple in triples([form(name) for name in rest][:4]):
             yield "order", triple
+            yield "edits", triple
+    elif kind == "set-read":
+        yield "types", b"\0" + octets(rest[-1])
+    elif kind == "set-new":
+        codes = [int(code) for code in rest[0].split(",") if code.isdigit()]
+        yield "types", b"\0" + struct.pack(f"<{len(codes)}H", *codes)
+    elif kind in ("type-name", "class-name"):
+        yield "codes", rest[0].encode()
+    elif kind in ("time", "lex"):
+        yield "codes" if kind == "time" else "tokens", octets(rest[-1])
 
 
 def main():
