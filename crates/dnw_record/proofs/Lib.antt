@@ -1,3 +1,4 @@
 pub mod Reading
 pub mod Fitting
 pub mod Writing
+pub mod Laying

@@ -56,7 +56,7 @@ frame-data (Name name encoding) v outcome w e h =
 
 -- ---- the length
 
-frame-reserved : (v : Encoder) → v.offset ≡ length v.bytes → Frame v (Ok tt) (reserved v 2)
+pub frame-reserved : (v : Encoder) → v.offset ≡ length v.bytes → Frame v (Ok tt) (reserved v 2)
 frame-reserved v e =
     let zeros = replicate {A = ℕ} (v.offset + 2 - length v.bytes) 0 in
     let front = take (v.offset + 2) v.bytes in

@@ -1,14 +1,21 @@
 -- What follows from the definitions of records. Each is the clause of a public function, and so proved.
-use Rattle.std.specs.Prelude.{◌≡◌, ℕ, ◌+◌, ◌<◌, ◌≤◌, length, Ok, Err, ◌⊎◌}
+use Rattle.std.specs.Prelude.{◌≡◌, ℕ, ◌+◌, ◌-◌, ◌^◌, ◌<◌, ◌≤◌, List, ◌++◌, length, slice_range, Ok, Err, ◌⊎◌}
+use Rattle.std.specs.Int.{w16, w32, to_be_bytes}
 use Rattle.dnw_error.specs.declared.error.ProtoError.{ProtoError}
 use Rattle.dnw_error.specs.declared.error.ProtoError.TheVariants.{MaxBufferSizeExceeded, Memory}
+use Rattle.dnw_error.specs.RecordTypes.{type_code, type_of_code}
+use Rattle.dnw_error.specs.DnsClasses.{class_code, class_of_code}
+use Rattle.dnw_base.specs.Limits.{max_message}
 use Rattle.dnw_base.specs.Names.{encoded_size}
+use Rattle.dnw_reading.specs.Reading.{NameAt}
+use Rattle.dnw_encoder.specs.declared.encoder.modes.NameEncoding.{NameEncoding}
+use Rattle.dnw_encoder.specs.EmittedName.{in_mode}
 use Rattle.dnw_candidates.specs.Candidates.{candidates_before}
 use Rattle.dnw_encoder.specs.Encoder.{Encoder}
 use Rattle.dnw_record.specs.declared.record.WireRecord.{WireRecord}
 use Rattle.dnw_record.specs.declared.record.WireData.{WireData}
 use Rattle.dnw_record.specs.declared.record.WireData.TheVariants.{Bytes, Name}
-use Rattle.dnw_record.specs.Records.{fixed_size}
+use Rattle.dnw_record.specs.Records.{RecordAt, RecordValue, fields_at, fixed_size}
 use Rattle.dnw_record.specs.WrittenRecords.{EmitsData, EmitsRecord}
 
 -- A refused record, begun at the buffer's end with every candidate before it, leaves the whole encoder.
@@ -41,3 +48,40 @@ abbrev pub RecordsFit : Type 0
 RecordsFit = (r : WireRecord)
     → ((v w : Encoder) → EmitsRecord r v (Ok tt) w → w.offset ≤ v.offset + record_size r)
     × ((v w : Encoder) (error : ProtoError) → EmitsRecord r v (Err error) w → FailsForSize v (record_size r) error)
+
+-- ---- reading back
+
+-- the ten octets after an owner
+abbrev pub fields_of : ℕ → ℕ → ℕ → ℕ → List ℕ
+fields_of kind class ttl len = to_be_bytes w16 kind ++ (to_be_bytes w16 class ++ (to_be_bytes w32 ttl ++ to_be_bytes w16 len))
+
+-- data that are bytes are there
+abbrev pub HasBytes : List ℕ → WireData → ℕ → ℕ → Type 0
+HasBytes b (Bytes bytes) p e = slice_range b p e ≡ bytes.items
+HasBytes b (Name name encoding) p e = Unit {0}
+
+-- A record is there from p to e: its owner is read at p, the ten octets after it are its fields with the number of octets
+-- of its data, and its data follow.
+pub record LiesAt (b : List ℕ) (mode : NameEncoding) (r : WireRecord) (p e : ℕ) : Type 0 where
+  pub owner_end : ℕ
+  pub pointers : ℕ
+  pub owner : NameAt b p (in_mode mode r.owner.labels) owner_end pointers
+  pub order : owner_end + fixed_size ≤ e
+  pub few : e ≤ max_message
+  pub fields : fields_at b owner_end ≡ fields_of (type_code r.record_type) (class_code r.class) r.ttl (e - (owner_end + fixed_size))
+  pub rdata : HasBytes b r.rdata (owner_end + fixed_size) e
+  pub ends : e ≡ length b
+
+-- A record that is written at the buffer's end is there at once, up to the new end.
+abbrev pub RecordsLie : Type 0
+RecordsLie = (r : WireRecord) (v w : Encoder) → v.offset ≡ length v.bytes → v.max_size ≤ max_message → EmitsRecord r v (Ok tt) w
+    → LiesAt w.bytes v.encoding r v.offset w.offset
+
+-- What lies there is read as a record of its owner, with its type and class by their codes and the octets of its data, if
+-- its numbers fit their fields.
+abbrev pub RecordsAreRead : Type 0
+RecordsAreRead = (b : List ℕ) (mode : NameEncoding) (r : WireRecord) (p e : ℕ) → LiesAt b mode r p e
+    → (x : RecordValue) × RecordAt b p x e × (x.owner ≡ in_mode mode r.owner.labels)
+    × (type_code r.record_type < 2 ^ 16 → x.record_type ≡ type_of_code (type_code r.record_type))
+    × (class_code r.class < 2 ^ 16 → x.class ≡ class_of_code (class_code r.class)) × (r.ttl < 2 ^ 32 → x.ttl ≡ r.ttl)
+    × HasBytes b r.rdata x.start e

@@ -1,7 +1,7 @@
 //! What follows from the definitions of records, for callers' proofs.
 //!
 //! The functions do nothing. Each is there for its clauses.
-ghost use Rattle.dnw_record.specs.RecordLaws.{RefusedRecordsUndo, RefusedDataUndo, RecordsFit};
+ghost use Rattle.dnw_record.specs.RecordLaws.{RefusedRecordsUndo, RefusedDataUndo, RecordsFit, RecordsLie, RecordsAreRead};
 
 use dnw_encoder::encoder::laws::rewinding_undoes;
 
@@ -18,4 +18,11 @@ pub fn refused_records_undo()
 /// ten octets, and the size of its data. It takes no more bytes than that.
 pub fn records_fit()
     ensures { RecordsFit }
+{}
+
+/// A record that is written at the buffer's end is there at once: its owner, its fields with the number of octets of its
+/// data, and its data if they are bytes. What is there is read as a record.
+pub fn records_come_back()
+    ensures lie { RecordsLie }
+    ensures read { RecordsAreRead }
 {}
