@@ -2,7 +2,8 @@
 use Rattle.std.proofs.Common.{◌≡◌, ℕ, suc, ◌+◌, ◌<◌, List, [], ◌∷◌, ◌++◌, length, map, drop, get_or, sym, ◌∙◌, ap, append_assoc, add-one, drop-cons, String, string_bytes}
 use Rattle.std.specs.declared.alloc.Global.{Global}
 use Rattle.std.specs.Str.{IsUtf8}
-use Rattle.std.proofs.lemmas.Str.{encodes-chars}
+use Rattle.std.proofs.lemmas.Str.{IsUtf8-string_bytes, encodes-chars}
+use Rattle.std.specs.Str.{encode_utf8_all}
 use Rattle.dnw_txt.specs.Lexing.{characters}
 use Rattle.dnw_c.specs.TokenCalls.{list_bytes}
 
@@ -28,3 +29,7 @@ words_step items words i word bytes longer own after same within is utf8 text mo
     rw add-one (drop-cons words i word inside ∙ ap (λ (w : String Global). w ∷ drop (suc i) words) (sym here)) in
     let whole = words_more bytes (list_bytes (map characters words)) word (drop (i + 1) words) utf8 (rw cut at h) in
     rw (zero, more, text) whole
+
+-- the characters of a text are encoded as its bytes
+pub text_bytes : (text : String Global) → encode_utf8_all (characters text) ≡ string_bytes text
+text_bytes text = encodes-chars (string_bytes text) (IsUtf8-string_bytes text)
