@@ -6,6 +6,7 @@
 #![tactic(auto)]
 
 mod edits;
+mod reverse;
 mod scenario_run;
 mod scenarios;
 mod script_run;

@@ -1,6 +1,7 @@
 //! Scenarios are run.
 
 use crate::edits::{EDITS, LOWER_EDITS, run_edits, run_lower_edits};
+use crate::reverse;
 use crate::scenarios::{SCENARIOS, Scenario};
 use crate::script_run::run_script;
 use crate::scripts::SCRIPTS;
@@ -62,6 +63,11 @@ pub(crate) fn run_named<W: Write>(alloc: Global, name: &[u8], out: &mut W) -> io
         found = true;
         show_head(out, all, LOWER_EDITS)?;
         run_lower_edits(alloc, out)?;
+    }
+    if all || name == reverse::NAME.as_bytes() {
+        found = true;
+        show_head(out, all, reverse::NAME)?;
+        reverse::run_reverse(alloc, out)?;
     }
     Ok(found)
 }
