@@ -57,6 +57,7 @@ pub const SCENARIOS: &[Scenario] = &[
     NAMES,
     TO_BYTES,
     TO_ASCII,
+    RECORDS,
 ];
 
 const NUMBERS: Scenario = Scenario {
@@ -176,5 +177,16 @@ const TO_ASCII: Scenario = Scenario {
         Step::ToAscii("a.bc."),
         Step::ToAscii("\\8"),
         Step::U8(2),
+    ],
+};
+
+/// Records that are undone if memory runs out in any of their fields.
+const RECORDS: Scenario = Scenario {
+    name: "records",
+    watched: &[],
+    steps: &[
+        Step::Record("a.", "b.a."),
+        Step::Record("a.", "b.a."),
+        Step::Record("a.", "b.a."),
     ],
 };

@@ -69,6 +69,7 @@ fn show_step<W: Write>(out: &mut W, step: Step) -> io::Result<()> {
         Step::Fill(number) => write!(out, "fill {number}"),
         Step::Store(labels) => write!(out, "store {labels}"),
         Step::Name(text) => write!(out, "name {text:?}"),
+        Step::Record(owner, server) => write!(out, "record {owner:?} NS {server:?}"),
         Step::Items(numbers) => write!(out, "items {numbers:?}"),
         Step::ToBytes(text) => write!(out, "to_bytes {text:?}"),
         Step::ToAscii(text) => write!(out, "to_ascii {text:?}"),

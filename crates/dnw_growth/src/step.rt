@@ -2,9 +2,12 @@
 
 use crate::scenarios::Labels;
 use dns_names_wire::binary::BinEncodable;
-use dns_names_wire::encoder::{BinEncoder, NameEncoding, Place};
+use dns_names_wire::dns_class::DNSClass;
+use dns_names_wire::encoder::{BinEncoder, NameEncoding, Place, RDataEncoding};
 use dns_names_wire::error::ProtoResult;
 use dns_names_wire::name::Name;
+use dns_names_wire::record::{WireData, WireRecord};
+use dns_names_wire::record_type::RecordType;
 use std::alloc::Global;
 
 /// One call of a scenario, on its encoder or on a name.
@@ -34,6 +37,8 @@ pub enum Step {
     Store(Labels),
     /// Writes the name with this text.
     Name(&'static str),
+    /// Writes an NS record of this owner, with this name as its data.
+    Record(&'static str, &'static str),
     /// Writes numbers as a list of items.
     Items(&'static [u16]),
     /// The bytes of the name with this text.
@@ -83,6 +88,7 @@ pub(crate) fn take(
         Step::Store(labels) => return store(encoder, labels),
         Step::Items(numbers) => return emit_items(encoder, numbers),
         Step::Name(text) => Name::from_ascii(alloc, text)?.emit(encoder)?,
+        Step::Record(owner, server) => record_of(alloc, owner, server)?.emit(encoder)?,
         Step::ToBytes(text) => {
             let name = Name::from_ascii(alloc, text)?;
             return Ok(Answer::Bytes(name.to_bytes(alloc)?));
@@ -93,6 +99,19 @@ pub(crate) fn take(
         }
     }
     Ok(Answer::Done)
+}
+
+fn record_of(alloc: Global, owner: &'static str, server: &'static str) -> ProtoResult<WireRecord> {
+    Ok(WireRecord {
+        owner: Name::from_ascii(alloc, owner)?,
+        record_type: RecordType::NS,
+        class: DNSClass::IN,
+        ttl: 300,
+        rdata: WireData::Name {
+            name: Name::from_ascii(alloc, server)?,
+            encoding: RDataEncoding::StandardRecord,
+        },
+    })
 }
 
 fn fill(
