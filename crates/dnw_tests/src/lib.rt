@@ -14,4 +14,6 @@ mod guards;
 #[cfg(test)]
 mod items;
 #[cfg(test)]
+mod nets;
+#[cfg(test)]
 mod values;
