@@ -58,7 +58,11 @@ pub(crate) fn run_lower_edits<W: Write>(alloc: Global, out: &mut W) -> io::Resul
 }
 
 /// Writes the name that a call returned, or its error.
-fn show<T: Display, W: Write>(out: &mut W, call: &str, answer: ProtoResult<T>) -> io::Result<()> {
+fn show<T: Display + Drop, W: Write>(
+    out: &mut W,
+    call: &str,
+    answer: ProtoResult<T>,
+) -> io::Result<()> {
     match answer {
         Ok(name) => writeln!(out, "{call} -> {name};"),
         Err(error) => writeln!(out, "{call} -> {error};"),
