@@ -175,8 +175,8 @@ uint32_t dnw_types_read(const uint8_t *bitmap, size_t bitmap_len, uint16_t *code
    than `bitmap_size` octets, or with DNW_NO_MEMORY. */
 uint32_t dnw_types_write(const uint16_t *codes, size_t codes_count, uint8_t *bitmap, size_t bitmap_size, size_t *len);
 
-/* Puts the seconds of a time to live: groups of digits and a unit of `s`, `m`, `h`, `d` or `w`, of which the last may lack
-   its unit, as in `1h30m` or `300`. It fails with DNW_NOT_UTF8 or DNW_BAD_TIME. It may allocate for a text that it
+/* Puts the seconds of a time to live: groups of digits and a unit of `s`, `m`, `h`, `d` or `w` in either case, of which the
+   last may lack its unit, as in `1h30m` or `300`. It fails with DNW_NOT_UTF8 or DNW_BAD_TIME. It may allocate for a text that it
    rejects. */
 uint32_t dnw_ttl_parse(const uint8_t *text, size_t text_len, uint32_t *seconds);
 
@@ -188,7 +188,7 @@ struct dnw_lexer {
 };
 
 enum dnw_token_kind {
-    DNW_TOKEN_END = 0,     /* the text has no more tokens */
+    DNW_TOKEN_END = 0,     /* the text has no more tokens; the lexer is at its end */
     DNW_TOKEN_BLANK = 1,   /* white space at the start of a line: the record has the owner of the last one */
     DNW_TOKEN_LIST = 2,    /* what stands in parentheses, by its words */
     DNW_TOKEN_TEXT = 3,    /* a word, or a text in quotes without its quotes and escapes */
