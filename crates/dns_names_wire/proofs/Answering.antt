@@ -19,7 +19,7 @@ use Rattle.dns_names_wire.specs.declared.script.Part.TheVariants.{Name, U8, U16,
 use Rattle.dns_names_wire.specs.declared.script.Item.{Item}
 use Rattle.dns_names_wire.specs.declared.script.Reply.{Reply}
 use Rattle.dns_names_wire.specs.declared.script.Reply.TheVariants.{Done, Refused, Items}
-use Rattle.dns_names_wire.specs.Script.{Action, write, set_max, set_encoding, reserve, fill, write_items, EmitsPart, EmitsScriptItem, item_size}
+use Rattle.dns_names_wire.specs.Script.{Action, write, set_max, set_encoding, set_canonical, reserve, fill, write_items, EmitsPart, EmitsScriptItem, item_size}
 use Rattle.dns_names_wire.specs.Pieces.{Account, Piece, Slot, after, filled_with, opening, spent}
 use Rattle.dns_names_wire.specs.Replies.{ReplyTo, RepliesTo, ReplyToBytes, ReplyToFill, ReplyToItems, ReplyToName, ReplyToPart, ReplyToText, ItemFails, Stays, open_place}
 use Rattle.dns_names_wire.specs.Runs.{Runs, RunsFill, RunsItems, RunsStep, GivesReply, beginning}
@@ -352,6 +352,11 @@ step-follows a v (set_encoding mode) reply w f h =
     let v' : Encoder = record v { encoding = mode } in
     let done : P (Done (length w.bytes)) v' = record { at_end = f.at_end; len_is = f.len_is; max_is = f.max_is; mode_is = refl; inside = f.inside } in
     subst (λ r. P r w) (sym h.0) (subst (λ x. P (Done (length w.bytes)) x) (sym h.1) done)
+step-follows a v (set_canonical canonical) reply w f h =
+    let P : Reply → Encoder → Type 0 = λ r x. Follows (after a (set_canonical canonical) r) x in
+    let v' : Encoder = record v { canonical = canonical } in
+    let done : P (Done (length w.bytes)) v' = record { at_end = f.at_end; len_is = f.len_is; max_is = f.max_is; mode_is = f.mode_is; inside = f.inside } in
+    subst (λ r. P r w) (sym h.0) (subst (λ x. P (Done (length w.bytes)) x) (sym h.1) done)
 step-follows a v reserve reply w f h = reserved-follows a v reply w f h
 step-follows a v (fill place value) reply w f h =
     let stood = fill-stands a v (open_place place a.places) value reply w f (inside-open a.len place a.places f.inside) h in
@@ -368,6 +373,7 @@ step-given : (a : Account) (v : Encoder) (action : Action) (reply : Reply) (w : 
 step-given a v (write part) reply w f h = part-given a v part reply w f h
 step-given a v (set_max size) reply w f h = stays-given a v w reply f (ap (λ (x : Encoder). length x.bytes) h.1) h.0
 step-given a v (set_encoding mode) reply w f h = stays-given a v w reply f (ap (λ (x : Encoder). length x.bytes) h.1) h.0
+step-given a v (set_canonical canonical) reply w f h = stays-given a v w reply f (ap (λ (x : Encoder). length x.bytes) h.1) h.0
 step-given a v reserve reply w f h =
     bytes-given a v (reserved v 2) 2 reply w f (λ room. sym (places_stay_bounded v 2 (omega (arith, f.at_end)) room).1) h
 step-given a v (fill place value) reply w f h =

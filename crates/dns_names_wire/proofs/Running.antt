@@ -41,6 +41,7 @@ good-opening old candidates names =
       sound = record { bytes = sym (append-nil old); end = refl; spells = λ g. refl; useful = tt };
       len = refl;
       mode = refl;
+      canonical = refl;
       pieces = refl;
       places = refl;
     }

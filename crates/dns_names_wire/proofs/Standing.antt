@@ -12,6 +12,7 @@ use Rattle.dnw_candidates.specs.Candidates.{Candidate}
 use Rattle.dnw_encoder.specs.Emitting.{InTurn}
 use Rattle.dnw_encoder.specs.EmittedName.{Chooses, EmitsAs, EmitsName, Share, form, in_mode, is_compressed, so_far}
 use Rattle.dnw_encoder.specs.EmittingLaws.{take-all}
+use Rattle.dnw_encoder.specs.NameFrames.{frame-name}
 use Rattle.dnw_encoder.proofs.NameBack.{names_take_no_more, size-in_mode}
 use Rattle.dns_names_wire.specs.declared.script.Part.{Part}
 use Rattle.dns_names_wire.specs.declared.script.Part.TheVariants.{Name, U8, U16, I32, U32, Bytes, Text}
@@ -93,6 +94,7 @@ pub record Grown (old : List ℕ) (cs : List Chunk) (f : ℕ → ℕ) (v : Encod
   pub pieces_are : (g : ℕ → ℕ) (n : ℕ) → pieces_of g n more ≡ pieces
   pub no_places : (p : ℕ) → ends_of p more ≡ []
   pub mode : w.encoding ≡ v.encoding
+  pub canonical : w.canonical ≡ v.canonical
 
 pub grown-none : (old : List ℕ) (cs : List Chunk) (f : ℕ → ℕ) (v w : Encoder) → SoundAt old cs f v → w ≡ v → Grown old cs f v [] w
 grown-none old cs f v w s same =
@@ -102,6 +104,7 @@ grown-none old cs f v w s same =
       pieces_are = λ g n. refl;
       no_places = λ p. refl;
       mode = ap (λ (x : Encoder). x.encoding) same;
+      canonical = ap (λ (x : Encoder). x.canonical) same;
     }
 
 pub grown-follows : (old : List ℕ) (cs : List Chunk) (f : ℕ → ℕ) (v m w : Encoder) (ps qs : List Piece) (one : Grown old cs f v ps m)
@@ -116,6 +119,7 @@ grown-follows old cs f v m w ps qs one two =
       no_places = λ p. ends_of-append p one.more two.more
           ∙ (ap (λ (x : List ℕ). x ++ ends_of (upto p one.more) two.more) (one.no_places p) ∙ two.no_places (upto p one.more));
       mode = two.mode ∙ one.mode;
+      canonical = two.canonical ∙ one.canonical;
     }
 
 -- ---- parts
@@ -124,8 +128,8 @@ grown-follows old cs f v m w ps qs one two =
 grown-one : (old : List ℕ) (cs : List Chunk) (f : ℕ → ℕ) (v w : Encoder) (part : Part) (d : List ℕ) → SoundAt old cs f v
     → ((g : ℕ → ℕ) → PieceAt (buffer old (cs ++ wrote v.encoding part d ∷ []) g) (part_piece v.encoding part) v.offset (v.offset + length d))
     → AreKept (buffer old (cs ++ wrote v.encoding part d ∷ [])) w.candidates → w.bytes ≡ v.bytes ++ d → w.offset ≡ v.offset + length d
-    → w.encoding ≡ v.encoding → Grown old cs f v (part_piece v.encoding part ∷ []) w
-grown-one old cs f v w part d s stands useful b_is o_is mode =
+    → w.encoding ≡ v.encoding → w.canonical ≡ v.canonical → Grown old cs f v (part_piece v.encoding part ∷ []) w
+grown-one old cs f v w part d s stands useful b_is o_is mode canonical =
     let c = wrote v.encoding part d in
     record {
       more = c ∷ [];
@@ -134,6 +138,7 @@ grown-one old cs f v w part d s stands useful b_is o_is mode =
       pieces_are = λ g n. refl;
       no_places = λ p. refl;
       mode = mode;
+      canonical = canonical;
     }
 
 -- plain bytes
@@ -157,6 +162,7 @@ grown-bytes old cs f v w part d s piece_is made =
     (ap (λ (x : Encoder). x.bytes) made ∙ written-end v.offset v.bytes d at_end)
     (ap (λ (x : Encoder). x.offset) made)
     (ap (λ (x : Encoder). x.encoding) made)
+    (ap (λ (x : Encoder). x.canonical) made)
 
 -- no pointer is written in a mode without compression
 no_share : (v : Encoder) (labels : List (List ℕ)) (share : Share) → Chooses v labels (Some share) → is_compressed v.encoding ≡ false → ⊥
@@ -211,6 +217,7 @@ grown-name old cs f v w name s h =
     grown-one old cs f v w (Name name) d s
     (λ g. (stands.pointers, stands.name g, omega (arith, o_is, names_take_no_more name v w h), full_size v name h.choice h.chooses))
     stands.useful b_is o_is mode
+    (frame-name name v (Ok tt) w (sound_end old cs f v.bytes v.offset v.candidates s) h).canonical
 
 -- each part
 pub grown-part : (old : List ℕ) (cs : List Chunk) (f : ℕ → ℕ) (v w : Encoder) (part : Part) → SoundAt old cs f v → EmitsPart part v (Ok tt) w
@@ -239,6 +246,10 @@ mode-in : (mode : Option NameEncoding) (v : Encoder) → (in_encoding mode v).en
 mode-in None v = refl
 mode-in (Some mode) v = refl
 
+canonical-in : (mode : Option NameEncoding) (v : Encoder) → (in_encoding mode v).canonical ≡ v.canonical
+canonical-in None v = refl
+canonical-in (Some mode) v = refl
+
 sound-in : (old : List ℕ) (cs : List Chunk) (f : ℕ → ℕ) (mode : Option NameEncoding) (v : Encoder) → SoundAt old cs f v → SoundAt old cs f (in_encoding mode v)
 sound-in old cs f None v s = s
 sound-in old cs f (Some mode) v s = s
@@ -254,6 +265,7 @@ grown-item old cs f v w item s h =
       pieces_are = grown.pieces_are;
       no_places = grown.no_places;
       mode = ap (λ (x : Encoder). x.encoding) h.2;
+      canonical = ap (λ (x : Encoder). x.canonical) h.2 ∙ (grown.canonical ∙ canonical-in item.encoding v);
     }
 
 pub grown-items : (old : List ℕ) (cs : List Chunk) (f : ℕ → ℕ) (v w : Encoder) (mode : NameEncoding) (items : List Item) → SoundAt old cs f v

@@ -14,7 +14,7 @@ use Rattle.dns_names_wire.specs.declared.script.Part.{Part}
 use Rattle.dns_names_wire.specs.declared.script.Item.{Item}
 use Rattle.dns_names_wire.specs.declared.script.Reply.{Reply}
 use Rattle.dns_names_wire.specs.declared.script.Reply.TheVariants.{Done, Refused, Items}
-use Rattle.dns_names_wire.specs.Script.{Action, write, set_max, set_encoding, reserve, fill, write_items}
+use Rattle.dns_names_wire.specs.Script.{Action, write, set_max, set_encoding, set_canonical, reserve, fill, write_items}
 use Rattle.dns_names_wire.specs.Pieces.{Account, Piece, Slot, place_piece, PieceAt, after, filled_with, item_pieces, part_piece, spent}
 use Rattle.dns_names_wire.specs.Replies.{open_place}
 use Rattle.dns_names_wire.specs.Runs.{RunsFill, RunsItems, RunsStep}
@@ -28,6 +28,7 @@ pub record Good (old : List ℕ) (cs : List Chunk) (f : ℕ → ℕ) (a : Accoun
   pub sound : SoundAt old cs f v
   pub len : a.len ≡ v.offset
   pub mode : a.mode ≡ v.encoding
+  pub canonical : a.canonical ≡ v.canonical
   pub pieces : a.pieces ≡ pieces_of f 0 cs
   pub places : map (λ (s : Slot). s.end) a.places ≡ ends_of (length old) cs
 
@@ -58,6 +59,7 @@ goes-grown old cs f a v w ps len good grown len_is =
         sound = grown.sound;
         len = len_is ∙ sym (sound_end old all f w.bytes w.offset w.candidates grown.sound);
         mode = good.mode ∙ sym grown.mode;
+        canonical = good.canonical ∙ sym grown.canonical;
         pieces = ap (λ (x : List Piece). x ++ ps) good.pieces
             ∙ sym (pieces_of-append f 0 cs grown.more ∙ ap (λ (x : List Piece). pieces_of f 0 cs ++ x) (grown.pieces_are f (next 0 cs)));
         places = good.places
@@ -143,6 +145,7 @@ step-reserve old cs f a v w (Done len) good h =
         sound = kept;
         len = len_is;
         mode = good.mode ∙ sym (ap (λ (x : Encoder). x.encoding) h.0.1);
+        canonical = good.canonical ∙ sym (ap (λ (x : Encoder). x.canonical) h.0.1);
         pieces = ap (λ (x : List Piece). x ++ place_piece (length a.places) 0 ∷ []) (good.pieces ∙ pieces_of-same f f' 0 cs same)
             ∙ (ap (λ k. pieces_of f' 0 cs ++ place_piece k 0 ∷ []) (places_so_far old cs f a v good)
             ∙ (ap (λ k. pieces_of f' 0 cs ++ place_piece n k ∷ []) (sym (update-same f n 0 n refl)) ∙ sym (pieces_of-append f' 0 cs one)));
@@ -185,6 +188,7 @@ good-filled old cs f a v place value end good here =
       sound = sound-other old cs f f' v.bytes (filled v (end - 2) d).bytes v.offset v.candidates good.sound bytes;
       len = good.len;
       mode = good.mode;
+      canonical = good.canonical;
       pieces = ap (map (filled_with place value)) good.pieces ∙ pieces_of-filled f place value 0 cs;
       places = ends-spent place a.places ∙ good.places;
     }
@@ -193,7 +197,14 @@ good-filled old cs f a v place value end good here =
 good-spent : (old : List ℕ) (cs : List Chunk) (f : ℕ → ℕ) (a : Account) (v : Encoder) (place : ℕ) → Good old cs f a v
     → Good old cs f (record a { places = spent place a.places }) v
 good-spent old cs f a v place good =
-    record { sound = good.sound; len = good.len; mode = good.mode; pieces = good.pieces; places = ends-spent place a.places ∙ good.places }
+    record {
+      sound = good.sound;
+      len = good.len;
+      mode = good.mode;
+      canonical = good.canonical;
+      pieces = good.pieces;
+      places = ends-spent place a.places ∙ good.places;
+    }
 
 step-fill : (old : List ℕ) (cs : List Chunk) (f : ℕ → ℕ) (a : Account) (v w : Encoder) (place value : ℕ) (slot : Option ℕ) (reply : Reply) → Good old cs f a v
     → open_place place a.places ≡ slot → RunsFill v slot value reply w → Goes old cs (after a (fill place value) reply) w
@@ -237,6 +248,7 @@ step-items old cs f a v w items (Items count (Some error) len) good (first, item
       pieces_are = grown.pieces_are;
       no_places = grown.no_places;
       mode = grown.mode;
+      canonical = grown.canonical;
     } in
     goes-grown old cs f a v w ps len good (subst (λ (x : Encoder). Grown old cs f v ps x) (sym made) left) len_is
 step-items old cs f a v w items reply good h = absurd h
@@ -249,13 +261,19 @@ step old cs f a v w (write part) reply good h = step-write old cs f a v w part r
 step old cs f a v w (set_max size) reply good h =
     let u = record v { max_size = size } in
     let same : Good old cs f (record a { max = size }) u =
-    record { sound = good.sound; len = good.len; mode = good.mode; pieces = good.pieces; places = good.places } in
+    record { sound = good.sound; len = good.len; mode = good.mode; canonical = good.canonical; pieces = good.pieces; places = good.places } in
     subst (λ r. Goes old cs (after a (set_max size) r) w) (sym h.0) (goes-same old cs f (record a { max = size }) u w same h.1)
 step old cs f a v w (set_encoding mode) reply good h =
     let u = record v { encoding = mode } in
     let same : Good old cs f (record a { mode = mode }) u =
-    record { sound = good.sound; len = good.len; mode = refl; pieces = good.pieces; places = good.places } in
+    record { sound = good.sound; len = good.len; mode = refl; canonical = good.canonical; pieces = good.pieces; places = good.places } in
     subst (λ r. Goes old cs (after a (set_encoding mode) r) w) (sym h.0) (goes-same old cs f (record a { mode = mode }) u w same h.1)
+step old cs f a v w (set_canonical canonical) reply good h =
+    let u = record v { canonical = canonical } in
+    let b = record a { canonical = canonical } in
+    let same : Good old cs f b u =
+    record { sound = good.sound; len = good.len; mode = good.mode; canonical = refl; pieces = good.pieces; places = good.places } in
+    subst (λ r. Goes old cs (after a (set_canonical canonical) r) w) (sym h.0) (goes-same old cs f b u w same h.1)
 step old cs f a v w reserve reply good h = step-reserve old cs f a v w reply good h
 step old cs f a v w (fill place value) reply good h = step-fill old cs f a v w place value (open_place place a.places) reply good refl h
 step old cs f a v w (write_items items) reply good h = step-items old cs f a v w items reply good h

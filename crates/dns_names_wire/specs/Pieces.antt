@@ -13,7 +13,7 @@ use Rattle.dns_names_wire.specs.declared.script.Part.TheVariants.{Name, U8, U16,
 use Rattle.dns_names_wire.specs.declared.script.Item.{Item}
 use Rattle.dns_names_wire.specs.declared.script.Reply.{Reply}
 use Rattle.dns_names_wire.specs.declared.script.Reply.TheVariants.{Done, Refused, Items}
-use Rattle.dns_names_wire.specs.Script.{Action, write, set_max, set_encoding, reserve, fill, write_items}
+use Rattle.dns_names_wire.specs.Script.{Action, write, set_max, set_encoding, set_canonical, reserve, fill, write_items}
 
 -- ---- pieces
 
@@ -44,16 +44,18 @@ pub record Slot : Type 0 where
   pub end : ℕ
   pub is_open : Bool
 
--- what steps and replies say: the length of the buffer, the maximum and the mode in force, the pieces, the placeholders
+-- what steps and replies say: the length of the buffer, the maximum and the mode in force, whether record data are in
+-- canonical form, the pieces, the placeholders
 pub record Account : Type 0 where
   pub len : ℕ
   pub max : ℕ
   pub mode : NameEncoding
+  pub canonical : Bool
   pub pieces : List Piece
   pub places : List Slot
 
 abbrev pub opening : ℕ → Account
-opening len = record { len = len; max = max_message; mode = Compressed; pieces = []; places = [] }
+opening len = record { len = len; max = max_message; mode = Compressed; canonical = false; pieces = []; places = [] }
 
 abbrev pub with_piece : Account → Piece → ℕ → Account
 with_piece a piece len = record a { len = len; pieces = a.pieces ++ piece ∷ [] }
@@ -90,6 +92,7 @@ abbrev pub after : Account → Action → Reply → Account
 after a (write p) (Done len) = with_piece a (part_piece a.mode p) len
 after a (set_max size) (Done len) = record a { max = size }
 after a (set_encoding mode) (Done len) = record a { mode = mode }
+after a (set_canonical canonical) (Done len) = record a { canonical = canonical }
 after a reserve (Done len) = record a {
   len = len;
   pieces = a.pieces ++ place_piece (length a.places) 0 ∷ [];

@@ -9,7 +9,7 @@ use Rattle.dns_names_wire.specs.declared.script.Part.TheVariants.{Name, Text}
 use Rattle.dns_names_wire.specs.declared.script.Item.{Item}
 use Rattle.dns_names_wire.specs.declared.script.Reply.{Reply}
 use Rattle.dns_names_wire.specs.declared.script.Reply.TheVariants.{Done, Refused, NoPlace, Items}
-use Rattle.dns_names_wire.specs.Script.{Action, write, set_max, set_encoding, reserve, fill, write_items, part_size, item_size}
+use Rattle.dns_names_wire.specs.Script.{Action, write, set_max, set_encoding, set_canonical, reserve, fill, write_items, part_size, item_size}
 use Rattle.dns_names_wire.specs.Pieces.{Account, Slot, after}
 
 -- n bytes are written if they fit, unless memory runs out
@@ -80,6 +80,7 @@ abbrev pub ReplyTo : Account → Action → Reply → Type 0
 ReplyTo a (write part) reply = ReplyToPart a part reply
 ReplyTo a (set_max size) reply = Stays a reply
 ReplyTo a (set_encoding mode) reply = Stays a reply
+ReplyTo a (set_canonical canonical) reply = Stays a reply
 ReplyTo a reserve reply = ReplyToBytes a 2 reply
 ReplyTo a (fill place value) reply = ReplyToFill a (open_place place a.places) reply
 ReplyTo a (write_items items) reply = ReplyToItems a items reply

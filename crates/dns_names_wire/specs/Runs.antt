@@ -11,7 +11,7 @@ use Rattle.dnw_reading.specs.Reading.{NameAt}
 use Rattle.dns_names_wire.specs.declared.script.Item.{Item}
 use Rattle.dns_names_wire.specs.declared.script.Reply.{Reply}
 use Rattle.dns_names_wire.specs.declared.script.Reply.TheVariants.{Done, Refused, NoPlace, Items}
-use Rattle.dns_names_wire.specs.Script.{Action, write, set_max, set_encoding, reserve, fill, write_items, EmitsPart, EmitsScriptItem}
+use Rattle.dns_names_wire.specs.Script.{Action, write, set_max, set_encoding, set_canonical, reserve, fill, write_items, EmitsPart, EmitsScriptItem}
 use Rattle.dns_names_wire.specs.Pieces.{Account, after, opening}
 use Rattle.dns_names_wire.specs.Replies.{open_place}
 
@@ -42,6 +42,7 @@ abbrev pub RunsStep : Account → Encoder → Action → Reply → Encoder → T
 RunsStep a v (write part) reply w = GivesReply (EmitsPart part v) reply w
 RunsStep a v (set_max size) reply w = (reply ≡ Done (length w.bytes)) × (w ≡ record v { max_size = size })
 RunsStep a v (set_encoding mode) reply w = (reply ≡ Done (length w.bytes)) × (w ≡ record v { encoding = mode })
+RunsStep a v (set_canonical canonical) reply w = (reply ≡ Done (length w.bytes)) × (w ≡ record v { canonical = canonical })
 RunsStep a v reserve reply w = GivesReply (TakesRoom v 2 (reserved v 2)) reply w
 RunsStep a v (fill place value) reply w = RunsFill v (open_place place a.places) value reply w
 RunsStep a v (write_items items) reply w = RunsItems v items reply w

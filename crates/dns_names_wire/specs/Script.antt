@@ -1,5 +1,5 @@
 -- What a script is made of, and what its parts and items write.
-use Rattle.std.specs.Prelude.{◌≡◌, ℕ, ◌+◌, ◌∷◌, List, [], length, Option, Some, None, Ok, Err, ◌⊎◌, sum_by}
+use Rattle.std.specs.Prelude.{◌≡◌, ℕ, ◌+◌, ◌∷◌, Bool, List, [], length, Option, Some, None, Ok, Err, ◌⊎◌, sum_by}
 use Rattle.std.specs.Int.{w16, w32, to_be_bytes, cast_unsigned}
 use Rattle.dnw_encoder.specs.declared.encoder.modes.NameEncoding.{NameEncoding}
 use Rattle.dnw_encoder.specs.Encoder.{Encoder, Writes, WritesText}
@@ -17,6 +17,7 @@ pub data Action : Type 0 where
   write : Part → Action
   set_max : ℕ → Action
   set_encoding : NameEncoding → Action
+  set_canonical : Bool → Action
   reserve : Action
   fill : ℕ → ℕ → Action
   write_items : List Item → Action
@@ -31,6 +32,7 @@ action (step.Bytes bytes) = write (Bytes bytes)
 action (step.Text text) = write (Text text)
 action (step.Max size) = set_max size
 action (step.Encoding mode) = set_encoding mode
+action (step.Canonical canonical) = set_canonical canonical
 action step.Reserve = reserve
 action (step.Fill place value) = fill place value
 action (step.Items items) = write_items items.items

@@ -30,6 +30,9 @@ pub enum Step {
     Max(u16),
     /// Sets how names are written after it.
     Encoding(NameEncoding),
+    /// Sets whether the data of records after it are written in canonical form (RFC 4034, section 6.2). At first they are
+    /// not.
+    Canonical(bool),
     /// Reserves a placeholder of two bytes, which are zero until it is filled. Placeholders are numbered from 0.
     Reserve,
     /// Fills a placeholder, once.
