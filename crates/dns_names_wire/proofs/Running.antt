@@ -42,6 +42,7 @@ good-opening old candidates names =
       len = refl;
       mode = refl;
       canonical = refl;
+      small = omega arith;
       pieces = refl;
       places = refl;
     }

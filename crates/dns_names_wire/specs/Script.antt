@@ -6,6 +6,7 @@ use Rattle.dnw_encoder.specs.Encoder.{Encoder, Writes, WritesText}
 use Rattle.dnw_encoder.specs.Emitting.{Emits}
 use Rattle.dnw_encoder.specs.EmittedName.{EmitsName}
 use Rattle.dnw_base.specs.Names.{encoded_size}
+use Rattle.dnw_record.specs.declared.record.WireRecord.{WireRecord}
 use Rattle.dns_names_wire.specs.declared.script.Part.{Part}
 use Rattle.dns_names_wire.specs.declared.script.Part.TheVariants.{Name, U8, U16, I32, U32, Bytes, Text}
 use Rattle.dns_names_wire.specs.declared.script.Item.{Item}
@@ -20,6 +21,7 @@ pub data Action : Type 0 where
   set_canonical : Bool → Action
   reserve : Action
   fill : ℕ → ℕ → Action
+  write_record : WireRecord → Action
   write_items : List Item → Action
 
 abbrev pub action : Step → Action
@@ -35,6 +37,7 @@ action (step.Encoding mode) = set_encoding mode
 action (step.Canonical canonical) = set_canonical canonical
 action step.Reserve = reserve
 action (step.Fill place value) = fill place value
+action (step.Record r) = write_record r
 action (step.Items items) = write_items items.items
 
 abbrev pub EmitsPart : Emits Part

@@ -2,6 +2,7 @@
 use dnw_encoder::encoder::NameEncoding;
 use dnw_error::error::ProtoError;
 use dnw_name::name::Name;
+use dnw_record::record::WireRecord;
 
 mod emit;
 pub mod laws;
@@ -42,6 +43,8 @@ pub enum Step {
         /// The value, written in network byte order.
         value: u16,
     },
+    /// Writes a record, its owner in the mode in force, or nothing of it if it fails.
+    Record(WireRecord),
     /// Writes items in turn. The first one that fails is rolled back, and those after it are not written.
     Items(Vec<Item>),
 }

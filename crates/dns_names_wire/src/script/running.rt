@@ -142,6 +142,7 @@ fn run_step(encoder: &mut BinEncoder<'_>, step: &Step, places: &mut Places) -> R
         }
         Step::Reserve => reserve(encoder, places),
         Step::Fill { place, value } => fill(encoder, places, *place, *value),
+        Step::Record(record) => write(encoder, record),
         Step::Items(items) => write_items(encoder, items.as_slice()),
     }
 }
