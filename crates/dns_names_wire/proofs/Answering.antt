@@ -1,5 +1,5 @@
 -- Each step of a run is given by its definition.
-use Rattle.std.proofs.Common.{◌≡◌, ℕ, zero, suc, ◌+◌, ◌-◌, ◌≤◌, Bool, true, false, if◌then◌else◌, List, [], ◌∷◌, ◌++◌, length, map, take, drop, sum_by, Option, Some, None, Ok, Err, inl, inr, refl, sym, ap, ◌∙◌, subst, arith, take_at, drop_at}
+use Rattle.std.proofs.Common.{◌≡◌, ℕ, zero, suc, ◌+◌, ◌-◌, ◌≤◌, Bool, true, false, if◌then◌else◌, List, [], ◌∷◌, ◌++◌, length, map, take, drop, sum_by, Option, Some, None, Err, inl, inr, refl, sym, ap, ◌∙◌, subst, arith, take_at, drop_at}
 use Rattle.std.specs.List.{AllByRecursion}
 use Rattle.std.specs.Int.{w16, w32, to_be_bytes, cast_unsigned}
 use Rattle.std.proofs.lemmas.List.{length-append}
@@ -9,7 +9,6 @@ use Rattle.dnw_encoder.specs.Encoder.{Encoder, HasRoom, TakesRoom, Writes, Write
 use Rattle.dnw_encoder.specs.Emitting.{EmitsItem, InTurn, list_error}
 use Rattle.dnw_encoder.specs.EmittedName.{EmitsAs, Share, in_mode, room_for}
 use Rattle.dnw_encoder.specs.EmittingLaws.{frame-written}
-use Rattle.dnw_encoder.specs.Marks.{mark_of, rewound}
 use Rattle.dnw_encoder.proofs.Bounds.{places_stay_bounded}
 use Rattle.dnw_encoder.proofs.NameBack.{size-in_mode}
 use Rattle.dnw_encoder.proofs.Places.{length-over}

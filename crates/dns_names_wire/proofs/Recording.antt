@@ -1,6 +1,6 @@
 -- A record that is written at the end of a buffer stands there, whatever values stand in the places.
-use Rattle.std.proofs.Common.{◌≡◌, ℕ, ◌+◌, ◌-◌, ◌<◌, ◌≤◌, Bool, Ok, List, [], ◌∷◌, ◌++◌, length, map, refl, sym, ap, ◌∙◌, subst, append_assoc, arith}
-use Rattle.std.specs.Int.{w16, w32, to_be_bytes}
+use Rattle.std.proofs.Common.{◌≡◌, ℕ, ◌+◌, ◌-◌, ◌≤◌, Bool, Ok, List, [], ◌∷◌, ◌++◌, length, map, refl, sym, ap, ◌∙◌, subst, append_assoc, arith}
+use Rattle.std.specs.Int.{w16, to_be_bytes}
 use Rattle.std.proofs.lemmas.List.{length-append, append-nil}
 use Rattle.dnw_error.specs.RecordTypes.{type_code}
 use Rattle.dnw_error.specs.DnsClasses.{class_code}
@@ -11,7 +11,7 @@ use Rattle.dnw_candidates.specs.Candidates.{Candidate}
 use Rattle.dnw_record.specs.declared.record.WireRecord.{WireRecord}
 use Rattle.dnw_record.specs.declared.record.WireData.{WireData}
 use Rattle.dnw_record.specs.declared.record.WireData.TheVariants as rdata
-use Rattle.dnw_record.specs.WrittenRecords.{EmitsData, EmitsFields, EmitsRecord, in_encoding, with_length}
+use Rattle.dnw_record.specs.WrittenRecords.{EmitsData, EmitsRecord, in_encoding, with_length}
 use Rattle.dnw_record.specs.RecordFrames.{frame-record}
 use Rattle.dnw_record.proofs.Writing.{data-bounded}
 use Rattle.dns_names_wire.specs.declared.script.Part.{Part}
@@ -19,7 +19,7 @@ use Rattle.dns_names_wire.specs.declared.script.Part.TheVariants.{Name, U16, U32
 use Rattle.dns_names_wire.specs.Script.{EmitsParts}
 use Rattle.dns_names_wire.specs.Pieces.{Piece, name_piece, bytes_piece, place_piece, record_piece, BytesStand, DataStand, PieceAt, RecordStands, Spells, part_piece}
 use Rattle.dns_names_wire.proofs.Agreeing.{Chunk, SameFor, ends_of, ends_of-append, hole, length-ends_of, next, of_record, pieces_of, pieces_of-append, render, render-append, render-same, update, update-other, update-same, upto, wrote}
-use Rattle.dns_names_wire.proofs.Keeping.{Buffers, IsKept, AreKept}
+use Rattle.dns_names_wire.proofs.Keeping.{Buffers, AreKept}
 use Rattle.dns_names_wire.proofs.Spelling.{Spells-append, Spells-rest}
 use Rattle.dns_names_wire.proofs.Standing.{Grown, SoundAt, buffer, buffer-push, filled_bytes, grown-one, grown-part, grown-parts, length_buffer, sound-reserved, sound_end}
 

@@ -8,7 +8,7 @@ use Rattle.dnw_encoder.specs.declared.encoder.modes.NameEncoding.{NameEncoding}
 use Rattle.dnw_base.specs.Names.{NameValue, AreLabels, encoded_size, wire}
 use Rattle.dnw_reading.proofs.Back.{slice_range-middle}
 use Rattle.dnw_base.proofs.Wires.{length-wire}
-use Rattle.dnw_encoder.specs.Encoder.{Encoder, Writes, reserved, written}
+use Rattle.dnw_encoder.specs.Encoder.{Encoder, Writes, reserved}
 use Rattle.dnw_candidates.specs.Candidates.{Candidate}
 use Rattle.dnw_encoder.specs.Emitting.{Frame, InTurn}
 use Rattle.dnw_encoder.specs.EmittedName.{Chooses, EmitsAs, EmitsName, Share, form, in_mode, is_compressed, so_far}

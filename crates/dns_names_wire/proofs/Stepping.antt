@@ -1,8 +1,8 @@
 -- Each step of a run keeps what holds of account and encoder.
-use Rattle.std.proofs.Common.{◌≡◌, ℕ, ◌+◌, ◌-◌, ◌≤◌, Option, Some, None, Err, List, [], ◌∷◌, ◌++◌, length, map, take, drop, replicate, refl, sym, ap, ◌∙◌, subst, append_assoc, arith}
+use Rattle.std.proofs.Common.{◌≡◌, ℕ, ◌+◌, ◌-◌, ◌≤◌, Option, Some, None, Err, List, [], ◌∷◌, ◌++◌, length, map, take, refl, sym, ap, ◌∙◌, subst, append_assoc, arith}
 use Rattle.std.specs.List.{flat_map}
 use Rattle.std.specs.Int.{w16, to_be_bytes}
-use Rattle.std.proofs.lemmas.List.{length-append, length-map, map-append, append-nil, take_all, take_at, drop_at}
+use Rattle.std.proofs.lemmas.List.{length-append, length-map, map-append, append-nil, take_all, take_at}
 use Rattle.dnw_error.specs.declared.error.ProtoError.{ProtoError}
 use Rattle.dnw_error.specs.declared.error.ProtoError.TheVariants.{MaxBufferSizeExceeded, Memory}
 use Rattle.dnw_base.specs.Limits.{max_message}
@@ -21,7 +21,7 @@ use Rattle.dns_names_wire.specs.Script.{Action, write, set_max, set_encoding, se
 use Rattle.dns_names_wire.specs.Pieces.{Account, Piece, Slot, place_piece, record_piece, after, filled_with, item_pieces, part_piece, spent}
 use Rattle.dns_names_wire.specs.Replies.{open_place}
 use Rattle.dns_names_wire.specs.Runs.{RunsFill, RunsItems, RunsStep}
-use Rattle.dns_names_wire.proofs.Agreeing.{Chunk, hole, SameFor, at, ends_of, ends_of-append, ends-spent, fills_at, length-ends_of, next, open_at, pieces_of, pieces_of-append, pieces_of-filled, pieces_of-same, render, render-same, update, update-other, update-same, upto}
+use Rattle.dns_names_wire.proofs.Agreeing.{Chunk, hole, SameFor, at, ends_of, ends_of-append, ends-spent, fills_at, length-ends_of, next, open_at, pieces_of, pieces_of-append, pieces_of-filled, pieces_of-same, update, update-other, update-same, upto}
 use Rattle.dns_names_wire.proofs.Keeping.{AreKept, kept-before}
 use Rattle.dns_names_wire.proofs.Recording.{grown-record}
 use Rattle.dns_names_wire.proofs.Standing.{Grown, SoundAt, buffer, filled_bytes, grown-items, grown-part, sound-other, sound-reserved, sound_end}
