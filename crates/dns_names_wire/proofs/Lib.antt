@@ -8,6 +8,7 @@ pub mod Keeping
 pub mod Naming
 pub mod Standing
 pub mod Recording
+pub mod ReadingBack
 pub mod Stepping
 pub mod Running
 pub mod Outcomes

@@ -23,8 +23,8 @@ BytesStand-append : (b more bytes : List ℕ) (p e : ℕ) → BytesStand b bytes
 BytesStand-append b more bytes p e h =
     (slice_range-append b more p e (omega (arith, h.1)) h.2 ∙ h.0, h.1, omega (arith, h.2, length-append b more))
 
-DataStand-append : (b more : List ℕ) (mode : NameEncoding) (canonical : Bool) (data_is : WireData) (p e : ℕ) → DataStand b mode canonical data_is p e
-    → DataStand (b ++ more) mode canonical data_is p e
+DataStand-append : (b more : List ℕ) (mode : NameEncoding) (canonical : Bool) (d : WireData) (p e : ℕ) → DataStand b mode canonical d p e
+    → DataStand (b ++ more) mode canonical d p e
 DataStand-append b more mode canonical (rdata.Bytes bytes) p e h = BytesStand-append b more bytes.items p e h
 DataStand-append b more mode canonical (rdata.Name name encoding) p e h = NameStands-append b more _ name.labels p e h
 
@@ -58,8 +58,8 @@ Spells-push b (other ∷ pieces) piece p q e h one = (h.0, h.1, Spells-push b pi
 
 -- ---- where pieces end
 
-DataStand-end : (b : List ℕ) (mode : NameEncoding) (canonical : Bool) (data_is : WireData) (p e e' : ℕ) → DataStand b mode canonical data_is p e
-    → DataStand b mode canonical data_is p e' → e ≡ e'
+DataStand-end : (b : List ℕ) (mode : NameEncoding) (canonical : Bool) (d : WireData) (p e e' : ℕ) → DataStand b mode canonical d p e
+    → DataStand b mode canonical d p e' → e ≡ e'
 DataStand-end b mode canonical (rdata.Bytes bytes) p e e' h h' = h.1 ∙ sym h'.1
 DataStand-end b mode canonical (rdata.Name name encoding) p e e' h h' = (Reads-unique h.1.reads h'.1.reads).1
 

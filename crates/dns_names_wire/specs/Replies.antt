@@ -55,8 +55,8 @@ ReplyToFill a (Some end) (Done len) = (end ≤ a.max) × (len ≡ a.len)
 ReplyToFill a (Some end) (Refused (MaxBufferSizeExceeded max) len) = (a.max < end) × (max ≡ a.max) × (len ≡ a.len)
 ReplyToFill a (Some end) reply = ⊥
 
--- A record is written if it fits with its names whole, in no more bytes than that, and past the maximum never. One that
--- is refused leaves the length.
+-- A record is written if it fits with its names whole, in no more bytes than that and never past the maximum. If it is
+-- refused, the length stays.
 abbrev pub ReplyToRecord : Account → ℕ → Reply → Type 0
 ReplyToRecord a size (Done len) = (len ≤ a.max) × (len ≤ a.len + size)
 ReplyToRecord a size (Refused (MaxBufferSizeExceeded max) len) = (a.max < a.len + size) × (max ≡ a.max) × (len ≡ a.len)

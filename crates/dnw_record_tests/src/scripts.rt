@@ -43,10 +43,10 @@ fn with_name(
 /// Returns `true` if every step was done, and left the buffer with these lengths.
 fn are_done(replies: &[Reply], lens: &[usize]) -> bool {
     replies.len() == lens.len()
-        && replies
-            .iter()
-            .zip(lens)
-            .all(|(reply, wanted)| matches!(reply, Reply::Done { len } if len == wanted))
+        && replies.iter().zip(lens).all(|(
+            reply,
+            wanted,
+        )| matches!(reply, Reply::Done { len } if len == wanted))
 }
 
 #[test]
@@ -88,7 +88,10 @@ fn a_refused_record_leaves_nothing(rt: HostRuntime) -> Result<(), Fail> {
     assert!(rt;
         matches!(
             replies.as_slice()[2],
-            Reply::Refused { error: ProtoError::MaxBufferSizeExceeded(18), len: 3 }
+            Reply::Refused {
+                error: ProtoError::MaxBufferSizeExceeded(18),
+                len: 3
+            }
         )
     );
     assert!(rt; are_done(&replies.as_slice()[3..], &[3, 19]));
