@@ -40,6 +40,26 @@ fn with_name(
     Ok(Step::Record(record_of(alloc, row)?))
 }
 
+/// Returns the message that a script writes: this step, a header with these flags and counts, and a record for each row.
+pub fn message_of(
+    alloc: Global,
+    first: Step,
+    flags: u16,
+    counts: [u16; 3],
+    rows: &[Row<'_>],
+) -> ProtoResult<Vec<u8>> {
+    let mut steps = vec![in alloc; first, Step::U16(0x1234), Step::U16(flags), Step::U16(0)]?;
+    for count in counts {
+        steps.push(Step::U16(count))?;
+    }
+    for row in rows {
+        steps.push(Step::Record(record_of(alloc, *row)?))?;
+    }
+    let mut bytes = Vec::new(alloc);
+    script::run(alloc, &mut bytes, steps.as_slice())?;
+    Ok(bytes)
+}
+
 /// Returns `true` if every step was done, and left the buffer with these lengths.
 fn are_done(replies: &[Reply], lens: &[usize]) -> bool {
     replies.len() == lens.len()
