@@ -3,44 +3,54 @@ use Rattle.std.proofs.Common.{◌≡◌, ℕ, zero, suc, ◌+◌, ◌<◌, ◌�
 use Rattle.std.specs.Int.{w16, to_be_bytes}
 use Rattle.std.proofs.lemmas.List.{length-append}
 use Rattle.dnw_encoder.specs.declared.encoder.modes.NameEncoding.{NameEncoding}
+use Rattle.dnw_record.specs.declared.record.WireRecord.{WireRecord}
 use Rattle.dns_names_wire.specs.declared.script.Part.{Part}
 use Rattle.dns_names_wire.specs.declared.script.Part.TheVariants.{Name, U8, U16, I32, U32, Bytes, Text}
-use Rattle.dns_names_wire.specs.Pieces.{Piece, place_piece, part_piece, filled_with, Slot, spent}
+use Rattle.dns_names_wire.specs.Pieces.{Piece, place_piece, record_piece, part_piece, filled_with, Slot, spent}
 use Rattle.dns_names_wire.specs.Replies.{open_place}
 
--- What was written: a part, by the mode and as these bytes, or a place.
+-- What is written at once: a part by the mode, or a record by the mode and in canonical form or not.
+pub data Content : Type 0 where
+  of_part : NameEncoding → Part → Content
+  of_record : NameEncoding → Bool → WireRecord → Content
+
+abbrev pub piece_in : Content → Piece
+piece_in (of_part mode part) = part_piece mode part
+piece_in (of_record mode canonical r) = record_piece mode canonical r
+
+-- What was written, as these bytes, or a place.
 pub data Chunk : Type 0 where
-  wrote : NameEncoding → Part → List ℕ → Chunk
+  wrote : Content → List ℕ → Chunk
   hole : Chunk
 
 -- the chunks' bytes, where the places from this number on have these values
 abbrev pub render : (ℕ → ℕ) → ℕ → List Chunk → List ℕ
 render f n [] = []
-render f n (wrote mode part bytes ∷ cs) = bytes ++ render f n cs
+render f n (wrote content bytes ∷ cs) = bytes ++ render f n cs
 render f n (hole ∷ cs) = to_be_bytes w16 (f n) ++ render f (suc n) cs
 
 -- and their pieces
 abbrev pub pieces_of : (ℕ → ℕ) → ℕ → List Chunk → List Piece
 pieces_of f n [] = []
-pieces_of f n (wrote mode part bytes ∷ cs) = part_piece mode part ∷ pieces_of f n cs
+pieces_of f n (wrote content bytes ∷ cs) = piece_in content ∷ pieces_of f n cs
 pieces_of f n (hole ∷ cs) = place_piece n (f n) ∷ pieces_of f (suc n) cs
 
 -- the number of the next place
 abbrev pub next : ℕ → List Chunk → ℕ
 next n [] = n
-next n (wrote mode part bytes ∷ cs) = next n cs
+next n (wrote content bytes ∷ cs) = next n cs
 next n (hole ∷ cs) = next (suc n) cs
 
 -- where the chunks end that begin there
 abbrev pub upto : ℕ → List Chunk → ℕ
 upto p [] = p
-upto p (wrote mode part bytes ∷ cs) = upto (p + length bytes) cs
+upto p (wrote content bytes ∷ cs) = upto (p + length bytes) cs
 upto p (hole ∷ cs) = upto (p + 2) cs
 
 -- where the places end
 abbrev pub ends_of : ℕ → List Chunk → List ℕ
 ends_of p [] = []
-ends_of p (wrote mode part bytes ∷ cs) = ends_of (p + length bytes) cs
+ends_of p (wrote content bytes ∷ cs) = ends_of (p + length bytes) cs
 ends_of p (hole ∷ cs) = (p + 2) ∷ ends_of (p + 2) cs
 
 -- ---- more chunks
@@ -50,7 +60,7 @@ two_bytes n = refl
 
 pub render-append : (f : ℕ → ℕ) (n : ℕ) (cs ds : List Chunk) → render f n (cs ++ ds) ≡ render f n cs ++ render f (next n cs) ds
 render-append f n [] ds = refl
-render-append f n (wrote mode part bytes ∷ cs) ds =
+render-append f n (wrote content bytes ∷ cs) ds =
     ap (λ (b : List ℕ). bytes ++ b) (render-append f n cs ds) ∙ sym (append_assoc bytes (render f n cs) (render f (next n cs) ds))
 render-append f n (hole ∷ cs) ds =
     let bytes = to_be_bytes w16 (f n) in
@@ -59,43 +69,43 @@ render-append f n (hole ∷ cs) ds =
 pub pieces_of-append : (f : ℕ → ℕ) (n : ℕ) (cs ds : List Chunk)
     → pieces_of f n (cs ++ ds) ≡ pieces_of f n cs ++ pieces_of f (next n cs) ds
 pieces_of-append f n [] ds = refl
-pieces_of-append f n (wrote mode part bytes ∷ cs) ds = ap (λ (b : List Piece). part_piece mode part ∷ b) (pieces_of-append f n cs ds)
+pieces_of-append f n (wrote content bytes ∷ cs) ds = ap (λ (b : List Piece). piece_in content ∷ b) (pieces_of-append f n cs ds)
 pieces_of-append f n (hole ∷ cs) ds = ap (λ (b : List Piece). place_piece n (f n) ∷ b) (pieces_of-append f (suc n) cs ds)
 
 pub upto-append : (p : ℕ) (cs ds : List Chunk) → upto p (cs ++ ds) ≡ upto (upto p cs) ds
 upto-append p [] ds = refl
-upto-append p (wrote mode part bytes ∷ cs) ds = upto-append (p + length bytes) cs ds
+upto-append p (wrote content bytes ∷ cs) ds = upto-append (p + length bytes) cs ds
 upto-append p (hole ∷ cs) ds = upto-append (p + 2) cs ds
 
 pub ends_of-append : (p : ℕ) (cs ds : List Chunk) → ends_of p (cs ++ ds) ≡ ends_of p cs ++ ends_of (upto p cs) ds
 ends_of-append p [] ds = refl
-ends_of-append p (wrote mode part bytes ∷ cs) ds = ends_of-append (p + length bytes) cs ds
+ends_of-append p (wrote content bytes ∷ cs) ds = ends_of-append (p + length bytes) cs ds
 ends_of-append p (hole ∷ cs) ds = ap (λ (b : List ℕ). (p + 2) ∷ b) (ends_of-append (p + 2) cs ds)
 
 -- ---- lengths
 
 pub length-render : (f : ℕ → ℕ) (n p : ℕ) (cs : List Chunk) → p + length (render f n cs) ≡ upto p cs
 length-render f n p [] = omega arith
-length-render f n p (wrote mode part bytes ∷ cs) =
+length-render f n p (wrote content bytes ∷ cs) =
     omega (arith, length-append bytes (render f n cs), length-render f n (p + length bytes) cs)
 length-render f n p (hole ∷ cs) =
     omega (arith, two_bytes (f n), length-append (to_be_bytes w16 (f n)) (render f (suc n) cs), length-render f (suc n) (p + 2) cs)
 
 pub length-pieces_of : (f : ℕ → ℕ) (n : ℕ) (cs : List Chunk) → length (pieces_of f n cs) ≡ length cs
 length-pieces_of f n [] = refl
-length-pieces_of f n (wrote mode part bytes ∷ cs) = ap suc (length-pieces_of f n cs)
+length-pieces_of f n (wrote content bytes ∷ cs) = ap suc (length-pieces_of f n cs)
 length-pieces_of f n (hole ∷ cs) = ap suc (length-pieces_of f (suc n) cs)
 
 pub length-ends_of : (n p : ℕ) (cs : List Chunk) → n + length (ends_of p cs) ≡ next n cs
 length-ends_of n p [] = omega arith
-length-ends_of n p (wrote mode part bytes ∷ cs) = length-ends_of n (p + length bytes) cs
+length-ends_of n p (wrote content bytes ∷ cs) = length-ends_of n (p + length bytes) cs
 length-ends_of n p (hole ∷ cs) = omega (arith, length-ends_of (suc n) (p + 2) cs)
 
 -- ---- values that agree
 
 next-grows : (n : ℕ) (cs : List Chunk) → n ≤ next n cs
 next-grows n [] = omega arith
-next-grows n (wrote mode part bytes ∷ cs) = next-grows n cs
+next-grows n (wrote content bytes ∷ cs) = next-grows n cs
 next-grows n (hole ∷ cs) = omega (arith, next-grows (suc n) cs)
 
 -- the values of these chunks' places are the same
@@ -104,7 +114,7 @@ SameFor f g n cs = (i : ℕ) → n ≤ i → i < next n cs → f i ≡ g i
 
 pub render-same : (f g : ℕ → ℕ) (n : ℕ) (cs : List Chunk) → SameFor f g n cs → render f n cs ≡ render g n cs
 render-same f g n [] same = refl
-render-same f g n (wrote mode part bytes ∷ cs) same = ap (λ (b : List ℕ). bytes ++ b) (render-same f g n cs same)
+render-same f g n (wrote content bytes ∷ cs) same = ap (λ (b : List ℕ). bytes ++ b) (render-same f g n cs same)
 render-same f g n (hole ∷ cs) same =
     let here : f n ≡ g n = same n (omega arith) (omega (arith, next-grows (suc n) cs)) in
     let rest = render-same f g (suc n) cs (λ i least less. same i (omega (arith, least)) less) in
@@ -112,7 +122,7 @@ render-same f g n (hole ∷ cs) same =
 
 pub pieces_of-same : (f g : ℕ → ℕ) (n : ℕ) (cs : List Chunk) → SameFor f g n cs → pieces_of f n cs ≡ pieces_of g n cs
 pieces_of-same f g n [] same = refl
-pieces_of-same f g n (wrote mode part bytes ∷ cs) same = ap (λ (b : List Piece). part_piece mode part ∷ b) (pieces_of-same f g n cs same)
+pieces_of-same f g n (wrote content bytes ∷ cs) same = ap (λ (b : List Piece). piece_in content ∷ b) (pieces_of-same f g n cs same)
 pieces_of-same f g n (hole ∷ cs) same =
     let here : f n ≡ g n = same n (omega arith) (omega (arith, next-grows (suc n) cs)) in
     let rest = pieces_of-same f g (suc n) cs (λ i least less. same i (omega (arith, least)) less) in
@@ -137,22 +147,23 @@ pub update-same : (f : ℕ → ℕ) (number value i : ℕ) → i ≡ number → 
 update-same f number value i same =
     ap (λ n. if i == n then value else f i) (sym same) ∙ ap (λ (b : Bool). if b then value else f i) (is_same i)
 
--- a part is no place
-part_stays : (number value : ℕ) (mode : NameEncoding) (part : Part) → filled_with number value (part_piece mode part) ≡ part_piece mode part
-part_stays number value mode (Name name) = refl
-part_stays number value mode (U8 n) = refl
-part_stays number value mode (U16 n) = refl
-part_stays number value mode (I32 n) = refl
-part_stays number value mode (U32 n) = refl
-part_stays number value mode (Bytes bytes) = refl
-part_stays number value mode (Text text) = refl
+-- neither a part nor a record is a place
+content_stays : (number value : ℕ) (content : Content) → filled_with number value (piece_in content) ≡ piece_in content
+content_stays number value (of_part mode (Name name)) = refl
+content_stays number value (of_part mode (U8 n)) = refl
+content_stays number value (of_part mode (U16 n)) = refl
+content_stays number value (of_part mode (I32 n)) = refl
+content_stays number value (of_part mode (U32 n)) = refl
+content_stays number value (of_part mode (Bytes bytes)) = refl
+content_stays number value (of_part mode (Text text)) = refl
+content_stays number value (of_record mode canonical r) = refl
 
 pub pieces_of-filled : (f : ℕ → ℕ) (number value n : ℕ) (cs : List Chunk)
     → map (filled_with number value) (pieces_of f n cs) ≡ pieces_of (update f number value) n cs
 pieces_of-filled f number value n [] = refl
-pieces_of-filled f number value n (wrote mode part bytes ∷ cs) =
-    ap (λ (x : Piece). x ∷ map (filled_with number value) (pieces_of f n cs)) (part_stays number value mode part)
-    ∙ ap (λ (b : List Piece). part_piece mode part ∷ b) (pieces_of-filled f number value n cs)
+pieces_of-filled f number value n (wrote content bytes ∷ cs) =
+    ap (λ (x : Piece). x ∷ map (filled_with number value) (pieces_of f n cs)) (content_stays number value content)
+    ∙ ap (λ (b : List Piece). piece_in content ∷ b) (pieces_of-filled f number value n cs)
 pieces_of-filled f number value n (hole ∷ cs) =
     ap (λ (b : List Piece). place_piece n (update f number value n) ∷ b) (pieces_of-filled f number value (suc n) cs)
 
@@ -176,7 +187,7 @@ pub record FillsAt (f : ℕ → ℕ) (number value n p : ℕ) (cs : List Chunk) 
 pub fills_at : (f : ℕ → ℕ) (number value n i p : ℕ) (cs : List Chunk) (end : ℕ) → number ≡ n + i → at i (ends_of p cs) ≡ Some end
     → FillsAt f number value n p cs end
 fills_at f number value n i p [] end is here = absurd cc
-fills_at f number value n i p (wrote mode part bytes ∷ cs) end is here =
+fills_at f number value n i p (wrote content bytes ∷ cs) end is here =
     let r = fills_at f number value n i (p + length bytes) cs end is here in
     record {
       before = bytes ++ r.before;

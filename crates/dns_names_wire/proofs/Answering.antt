@@ -1,5 +1,5 @@
 -- Each step of a run is given by its definition.
-use Rattle.std.proofs.Common.{◌≡◌, ℕ, zero, suc, ◌+◌, ◌-◌, ◌≤◌, Bool, true, false, if◌then◌else◌, List, [], ◌∷◌, ◌++◌, length, map, take, drop, sum_by, Option, Some, None, Err, refl, sym, ap, ◌∙◌, subst, arith, take_at, drop_at}
+use Rattle.std.proofs.Common.{◌≡◌, ℕ, zero, suc, ◌+◌, ◌-◌, ◌≤◌, Bool, true, false, if◌then◌else◌, List, [], ◌∷◌, ◌++◌, length, map, take, drop, sum_by, Option, Some, None, Err, inl, inr, refl, sym, ap, ◌∙◌, subst, arith, take_at, drop_at}
 use Rattle.std.specs.List.{AllByRecursion}
 use Rattle.std.specs.Int.{w16, w32, to_be_bytes, cast_unsigned}
 use Rattle.std.proofs.lemmas.List.{length-append}
@@ -14,17 +14,22 @@ use Rattle.dnw_encoder.proofs.NameBack.{size-in_mode}
 use Rattle.dnw_encoder.proofs.Places.{length-over}
 use Rattle.dnw_encoder.proofs.Suffixes.{length-all}
 use Rattle.dnw_base.specs.Names.{NameValue, encoded_size}
+use Rattle.dnw_record.specs.declared.record.WireRecord.{WireRecord}
+use Rattle.dnw_record.specs.RecordFrames.{frame-fields}
+use Rattle.dnw_record.specs.RecordLaws.{FailsForSize, record_size}
+use Rattle.dnw_record.specs.WrittenRecords.{EmitsRecord}
+use Rattle.dnw_record.proofs.Fitting.{records_fit}
 use Rattle.dns_names_wire.specs.declared.script.Part.{Part}
 use Rattle.dns_names_wire.specs.declared.script.Part.TheVariants.{Name, U8, U16, I32, U32, Bytes, Text}
 use Rattle.dns_names_wire.specs.declared.script.Item.{Item}
 use Rattle.dns_names_wire.specs.declared.script.Reply.{Reply}
 use Rattle.dns_names_wire.specs.declared.script.Reply.TheVariants.{Done, Refused, Items}
-use Rattle.dns_names_wire.specs.Script.{Action, write, set_max, set_encoding, reserve, fill, write_items, EmitsPart, EmitsScriptItem, item_size}
+use Rattle.dns_names_wire.specs.Script.{Action, write, set_max, set_encoding, set_canonical, reserve, fill, write_record, write_items, EmitsPart, EmitsScriptItem, item_size}
 use Rattle.dns_names_wire.specs.Pieces.{Account, Piece, Slot, after, filled_with, opening, spent}
-use Rattle.dns_names_wire.specs.Replies.{ReplyTo, RepliesTo, ReplyToBytes, ReplyToFill, ReplyToItems, ReplyToName, ReplyToPart, ReplyToText, ItemFails, Stays, open_place}
+use Rattle.dns_names_wire.specs.Replies.{ReplyTo, RepliesTo, ReplyToBytes, ReplyToFill, ReplyToItems, ReplyToName, ReplyToPart, ReplyToRecord, ReplyToText, ItemFails, Stays, open_place}
 use Rattle.dns_names_wire.specs.Runs.{Runs, RunsFill, RunsItems, RunsStep, GivesReply, beginning}
 use Rattle.dns_names_wire.specs.ScriptLaws.{RunsReply}
-use Rattle.dns_names_wire.proofs.Sizes.{RefusesParts, item-refused, items-go, part-goes, part-same, room-no_more}
+use Rattle.dns_names_wire.proofs.Sizes.{RefusesParts, item-refused, items-go, part-goes, part-same, record-goes, record-within, room-no_more}
 
 -- ---- what account and encoder have in common
 
@@ -73,6 +78,31 @@ inside-open n zero (slot ∷ slots) all =
     ] in
     cases slot.is_open
 inside-open n (suc number) (slot ∷ slots) all = inside-open n number slots all.1
+
+-- the encoder after a step that left its length
+record Stood (v w : Encoder) : Type 0 where
+  at_end : w.offset ≡ length w.bytes
+  size : length w.bytes ≡ length v.bytes
+  max_size : w.max_size ≡ v.max_size
+  encoding : w.encoding ≡ v.encoding
+
+-- nothing was changed at all
+stood-same : (v w : Encoder) → v.offset ≡ length v.bytes → w ≡ v → Stood v w
+stood-same v w e same =
+    let P : Encoder → Type 0 = λ x. Stood v x in
+    subst P (sym same) (record { at_end = e; size = refl; max_size = refl; encoding = refl })
+
+-- a record that is refused is undone
+record-undone : (r : WireRecord) (v w : Encoder) (error : ProtoError) → v.offset ≡ length v.bytes → EmitsRecord r v (Err error) w → Stood v w
+record-undone r v w error e (u, fields, made) =
+    let framed = frame-fields r v (Err error) u e fields in
+    let P : Encoder → Type 0 = λ x. Stood v x in
+    subst P (sym made) (record {
+      at_end = e ∙ sym (ap length framed.bytes);
+      size = ap length framed.bytes;
+      max_size = framed.max_size;
+      encoding = framed.encoding;
+    })
 
 -- ---- what each step is given
 
@@ -148,6 +178,28 @@ part-given a v (I32 number) reply w f h = writes-given a v (to_be_bytes w32 (cas
 part-given a v (U32 number) reply w f h = writes-given a v (to_be_bytes w32 number) reply w f h
 part-given a v (Bytes bytes) reply w f h = writes-given a v bytes.items reply w f h
 part-given a v (Text text) reply w f h = text-given a v text.items reply w f h
+
+-- a record that is refused did not fit whole, or memory could not be had
+record-refused : (a : Account) (v : Encoder) (size len : ℕ) (error : ProtoError) → Follows a v → len ≡ a.len → FailsForSize v size error
+    → ReplyToRecord a size (Refused error len)
+record-refused a v size len error f same (inl memory) =
+    let P : ProtoError → Type 0 = λ x. ReplyToRecord a size (Refused x len) in
+    subst P (sym memory) same
+record-refused a v size len error f same (inr (is, less)) =
+    let P : ProtoError → Type 0 = λ x. ReplyToRecord a size (Refused x len) in
+    subst P (sym is) ((omega (arith, f.at_end, f.len_is, f.max_is, less), sym f.max_is, same))
+
+record-given : (a : Account) (v : Encoder) (r : WireRecord) (reply : Reply) (w : Encoder) → Follows a v → GivesReply (EmitsRecord r v) reply w
+    → ReplyToRecord a (record_size r) reply
+record-given a v r (Done len) w f h =
+    let go = record-goes r v w f.at_end h.0 in (
+      omega (arith, f.max_is, h.1, go.at_end, record-within r v w h.0),
+      omega (arith, f.at_end, f.len_is, h.1, go.at_end, go.no_more),
+    )
+record-given a v r (Refused error len) w f h =
+    let size = (record-undone r v w error f.at_end h.0).size in
+    record-refused a v (record_size r) len error f (omega (arith, f.len_is, h.1, size)) ((records_fit r).1 v w error h.0)
+record-given a v r reply w f h = absurd h
 
 -- a place that is filled
 fill-given : (a : Account) (v : Encoder) (place : Option ℕ) (value : ℕ) (reply : Reply) (w : Encoder) → Follows a v → IsInsideIf a.len place
@@ -254,19 +306,6 @@ reserved-follows a v (Refused (MaxBufferSizeExceeded max) len) w f h = follows-s
 reserved-follows a v (Refused error len) w f h = absurd h.0
 reserved-follows a v reply w f h = absurd h
 
--- the encoder that a place was filled in
-record Stood (v w : Encoder) : Type 0 where
-  at_end : w.offset ≡ length w.bytes
-  size : length w.bytes ≡ length v.bytes
-  max_size : w.max_size ≡ v.max_size
-  encoding : w.encoding ≡ v.encoding
-
--- nothing was changed at all
-stood-same : (v w : Encoder) → v.offset ≡ length v.bytes → w ≡ v → Stood v w
-stood-same v w e same =
-    let P : Encoder → Type 0 = λ x. Stood v x in
-    subst P (sym same) (record { at_end = e; size = refl; max_size = refl; encoding = refl })
-
 -- the account tells the encoder as it was
 follows-stood : (a : Account) (v w : Encoder) → Follows a v → Stood v w → Follows a w
 follows-stood a v w f s = record {
@@ -311,6 +350,21 @@ fill-stands a v (Some end) value (Refused (MaxBufferSizeExceeded max) len) w f i
 fill-stands a v (Some end) value (Refused error len) w f inside h = absurd h.0.1
 fill-stands a v (Some end) value reply w f inside h = absurd h
 
+-- behind a record
+record-follows : (a : Account) (v : Encoder) (r : WireRecord) (reply : Reply) (w : Encoder) → Follows a v → GivesReply (EmitsRecord r v) reply w
+    → Follows (after a (write_record r) reply) w
+record-follows a v r (Done len) w f h =
+    let go = record-goes r v w f.at_end h.0 in
+    record {
+      at_end = go.at_end;
+      len_is = h.1;
+      max_is = f.max_is ∙ sym go.max_size;
+      mode_is = f.mode_is ∙ sym go.encoding;
+      inside = inside-more a.len len a.places (omega (arith, f.at_end, f.len_is, h.1, go.at_end, go.no_less)) f.inside;
+    }
+record-follows a v r (Refused error len) w f h = follows-stood a v w f (record-undone r v w error f.at_end h.0)
+record-follows a v r reply w f h = absurd h
+
 -- behind items
 items-follow : (a : Account) (v : Encoder) (items : List Item) (reply : Reply) (w : Encoder) → Follows a v → RunsItems v items reply w
     → Follows (after a (write_items items) reply) w
@@ -352,10 +406,16 @@ step-follows a v (set_encoding mode) reply w f h =
     let v' : Encoder = record v { encoding = mode } in
     let done : P (Done (length w.bytes)) v' = record { at_end = f.at_end; len_is = f.len_is; max_is = f.max_is; mode_is = refl; inside = f.inside } in
     subst (λ r. P r w) (sym h.0) (subst (λ x. P (Done (length w.bytes)) x) (sym h.1) done)
+step-follows a v (set_canonical canonical) reply w f h =
+    let P : Reply → Encoder → Type 0 = λ r x. Follows (after a (set_canonical canonical) r) x in
+    let v' : Encoder = record v { canonical = canonical } in
+    let done : P (Done (length w.bytes)) v' = record { at_end = f.at_end; len_is = f.len_is; max_is = f.max_is; mode_is = f.mode_is; inside = f.inside } in
+    subst (λ r. P r w) (sym h.0) (subst (λ x. P (Done (length w.bytes)) x) (sym h.1) done)
 step-follows a v reserve reply w f h = reserved-follows a v reply w f h
 step-follows a v (fill place value) reply w f h =
     let stood = fill-stands a v (open_place place a.places) value reply w f (inside-open a.len place a.places f.inside) h in
     follows-fill a w place value reply (follows-stood a v w f stood)
+step-follows a v (write_record r) reply w f h = record-follows a v r reply w f h
 step-follows a v (write_items items) reply w f h = items-follow a v items reply w f h
 
 -- a step that writes nothing tells the length
@@ -368,10 +428,12 @@ step-given : (a : Account) (v : Encoder) (action : Action) (reply : Reply) (w : 
 step-given a v (write part) reply w f h = part-given a v part reply w f h
 step-given a v (set_max size) reply w f h = stays-given a v w reply f (ap (λ (x : Encoder). length x.bytes) h.1) h.0
 step-given a v (set_encoding mode) reply w f h = stays-given a v w reply f (ap (λ (x : Encoder). length x.bytes) h.1) h.0
+step-given a v (set_canonical canonical) reply w f h = stays-given a v w reply f (ap (λ (x : Encoder). length x.bytes) h.1) h.0
 step-given a v reserve reply w f h =
     bytes-given a v (reserved v 2) 2 reply w f (λ room. sym (places_stay_bounded v 2 (omega (arith, f.at_end)) room).1) h
 step-given a v (fill place value) reply w f h =
     fill-given a v (open_place place a.places) value reply w f (inside-open a.len place a.places f.inside) h
+step-given a v (write_record r) reply w f h = record-given a v r reply w f h
 step-given a v (write_items items) reply w f h = items-given a v items reply w f h
 
 -- ---- runs

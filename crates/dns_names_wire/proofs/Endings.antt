@@ -19,7 +19,7 @@ use Rattle.dnw_reading.proofs.Back.{Reads-wire}
 use Rattle.dnw_reading.proofs.Counts.{Reads-own}
 use Rattle.dnw_reading.proofs.Stand.{Reads-append}
 use Rattle.dnw_form.proofs.Wires.{labels_of-wire}
-use Rattle.dns_names_wire.specs.Pieces.{Piece, name_piece, bytes_piece, place_piece}
+use Rattle.dns_names_wire.specs.Pieces.{Piece, name_piece, bytes_piece, place_piece, record_piece}
 use Rattle.dns_names_wire.specs.Finished.{EndsIn}
 use Rattle.dns_names_wire.proofs.Shortening.{Has, emitted-old, kept-whole, kept-before}
 
@@ -46,6 +46,7 @@ labels_in : Piece → List (List ℕ)
 labels_in (name_piece mode labels) = in_mode mode labels
 labels_in (bytes_piece bytes) = []
 labels_in (place_piece number value) = []
+labels_in (record_piece mode canonical r) = []
 
 -- what was an end stays one
 pub ends_more : (pieces : List Piece) (piece : Piece) (back : List (List ℕ)) → EndsIn pieces back → EndsIn (pieces ++ piece ∷ []) back

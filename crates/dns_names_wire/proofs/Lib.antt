@@ -7,6 +7,8 @@ pub mod Spelling
 pub mod Keeping
 pub mod Naming
 pub mod Standing
+pub mod Recording
+pub mod ReadingBack
 pub mod Stepping
 pub mod Running
 pub mod Outcomes

@@ -1,10 +1,11 @@
 -- The pieces of a run stand in the finished bytes, and its candidates are usable.
-use Rattle.std.proofs.Common.{◌≡◌, ℕ, List, [], ◌∷◌, ◌++◌, length, take, refl, sym, ap, ◌∙◌, subst, append_assoc, arith}
+use Rattle.std.proofs.Common.{◌≡◌, ℕ, ◌<◌, Bool, cond, List, [], ◌∷◌, ◌++◌, length, take, refl, sym, ap, ◌∙◌, subst, append_assoc, arith}
 use Rattle.std.specs.List.{AllByRecursion}
-use Rattle.std.proofs.lemmas.List.{append-nil, take_at}
+use Rattle.std.proofs.lemmas.List.{append-nil, length-take, take_at}
 use Rattle.dnw_reading.specs.Reading.{NameAt}
+use Rattle.dnw_reading.proofs.Counts.{Reads-own}
 use Rattle.dnw_encoder.specs.Encoder.{Encoder}
-use Rattle.dnw_candidates.specs.Candidates.{Candidate}
+use Rattle.dnw_candidates.specs.Candidates.{Candidate, candidates_before}
 use Rattle.dnw_encoder.specs.EmittedName.{so_far}
 use Rattle.dnw_encoder.specs.EmittingLaws.{take-all}
 use Rattle.dns_names_wire.specs.declared.script.Reply.{Reply}
@@ -14,6 +15,7 @@ use Rattle.dns_names_wire.specs.Runs.{IsUseful, Runs, beginning}
 use Rattle.dns_names_wire.specs.ScriptLaws.{RunsFinish, RunsStayUseful}
 use Rattle.dns_names_wire.proofs.Agreeing.{Chunk, length-pieces_of, next, pieces_of, pieces_of-append, render, render-append, upto}
 use Rattle.dns_names_wire.proofs.Keeping.{AreKept}
+use Rattle.dns_names_wire.proofs.Shortening.{less_test}
 use Rattle.dns_names_wire.proofs.Spelling.{Spells-append}
 use Rattle.dns_names_wire.proofs.Standing.{buffer, sound_end}
 use Rattle.dns_names_wire.proofs.Stepping.{Goes, Good, goes-same, step}
@@ -41,6 +43,8 @@ good-opening old candidates names =
       sound = record { bytes = sym (append-nil old); end = refl; spells = λ g. refl; useful = tt };
       len = refl;
       mode = refl;
+      canonical = refl;
+      small = omega arith;
       pieces = refl;
       places = refl;
     }
@@ -123,6 +127,22 @@ useful_ones old cs f w (c ∷ candidates) now all = (
   },
   useful_ones old cs f w candidates now all.1,
 )
+
+-- candidates that are usable are before the offset
+pub useful_before : (v : Encoder) (candidates : List Candidate) → AllByRecursion (IsUseful v) candidates → candidates_before v.offset candidates ≡ candidates
+useful_before v [] all = refl
+useful_before v (c ∷ candidates) all =
+    let less : c.0 < v.offset = omega (arith, Reads-own all.0.name.reads, length-take v.offset v.bytes) in
+    let rest = candidates_before v.offset candidates in
+    ap (λ (x : Bool). cond x (c ∷ rest) rest) (less_test c.0 v.offset less)
+    ∙ ap (λ (xs : List Candidate). c ∷ xs) (useful_before v candidates all.1)
+
+-- a run stays at the buffer's end
+pub runs_stay_at_end : (old : List ℕ) (candidates names : ℕ) (actions : List Action) (replies : List Reply) (w : Encoder)
+    → Runs (opening (length old)) (beginning old candidates names) actions replies w → w.offset ≡ length w.bytes
+runs_stay_at_end old candidates names actions replies w h =
+    let all = goes old [] (λ i. 0) (opening (length old)) (beginning old candidates names) w actions replies (good-opening old candidates names) h in
+    sound_end old all.more all.values w.bytes w.offset w.candidates all.good.sound
 
 pub runs_stay_useful : RunsStayUseful
 runs_stay_useful old candidates names actions replies w h =

@@ -39,7 +39,7 @@ has-take (suc n) [] c h = absurd h
 has-take (suc n) (d ∷ cs) c h = ⊎_elim (λ is. inl is) (λ more. inr (has-take n cs c more)) h
 
 -- the test of places
-less_test : (n o : ℕ) → n < o → nat_lt n o ≡ true
+pub less_test : (n o : ℕ) → n < o → nat_lt n o ≡ true
 less_test n o less = search (rules, tests)
 
 -- one that stands before a place is among those before it

@@ -6,13 +6,19 @@ use Rattle.std.proofs.lemmas.List.Sums.{sum_by-cons}
 use Rattle.dnw_error.specs.declared.error.ProtoError.{ProtoError}
 use Rattle.dnw_error.specs.declared.error.ProtoError.TheVariants.{CharacterDataTooLong, MaxBufferSizeExceeded, Memory}
 use Rattle.dnw_encoder.specs.declared.encoder.modes.NameEncoding.{NameEncoding}
-use Rattle.dnw_encoder.specs.Encoder.{Encoder, Writes, WritesText}
+use Rattle.dnw_encoder.specs.Encoder.{Encoder, Writes, WritesText, reserved}
 use Rattle.dnw_encoder.specs.Emitting.{Frame, InTurn}
 use Rattle.dnw_encoder.specs.EmittedName.{EmitsAs, Share, in_mode, room_for}
 use Rattle.dnw_encoder.specs.EmittingLaws.{fails-unchanged}
 use Rattle.dnw_encoder.proofs.NameBack.{names_take_no_more, size-in_mode}
 use Rattle.dnw_encoder.proofs.Suffixes.{length-all}
 use Rattle.dnw_base.specs.Names.{encoded_size}
+use Rattle.dnw_record.specs.declared.record.WireRecord.{WireRecord}
+use Rattle.dnw_record.specs.RecordFrames.{frame-record}
+use Rattle.dnw_record.specs.RecordLaws.{record_size}
+use Rattle.dnw_record.specs.WrittenRecords.{EmitsRecord}
+use Rattle.dnw_record.proofs.Fitting.{done-name, records_fit}
+use Rattle.dnw_record.proofs.Writing.{data-bounded}
 use Rattle.dns_names_wire.specs.declared.script.Part.{Part}
 use Rattle.dns_names_wire.specs.declared.script.Part.TheVariants.{Name, U8, U16, I32, U32, Bytes, Text}
 use Rattle.dns_names_wire.specs.declared.script.Item.{Item}
@@ -73,6 +79,23 @@ part-no_more (Text text) v w h = omega (arith, written-no_more v w (length text.
 -- one part
 pub part-goes : (part : Part) (v w : Encoder) → v.offset ≡ length v.bytes → EmitsPart part v (Ok tt) w → Goes v (part_size part) w
 part-goes part v w e h = goes-framed v w (part_size part) e (frame-part part v (Ok tt) w e h) (part-no_more part v w h)
+
+-- a record
+pub record-goes : (r : WireRecord) (v w : Encoder) → v.offset ≡ length v.bytes → EmitsRecord r v (Ok tt) w → Goes v (record_size r) w
+record-goes r v w e h = goes-framed v w (record_size r) e (frame-record r v (Ok tt) w e h) ((records_fit r).0 v w h)
+
+-- which ends within the maximum
+pub record-within : (r : WireRecord) (v w : Encoder) → EmitsRecord r v (Ok tt) w → w.offset ≤ v.max_size
+record-within r v w (a, owner, (b, kind, (c, class, (d, ttl, (room, u, one, made))))) =
+    omega (
+      arith,
+      (data-bounded r.rdata d (reserved d 2) u (room, refl) one).1,
+      ap (λ (x : Encoder). x.max_size) ttl.1,
+      ap (λ (x : Encoder). x.max_size) class.1,
+      ap (λ (x : Encoder). x.max_size) kind.1,
+      (done-name r.owner v a owner).1,
+      ap (λ (x : Encoder). x.offset) made,
+    )
 
 -- parts in turn
 parts-go : (parts : List Part) (v w : Encoder) → v.offset ≡ length v.bytes → EmitsParts parts v (Ok tt) w → Goes v (sum_by part_size parts) w

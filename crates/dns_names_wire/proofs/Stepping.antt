@@ -1,26 +1,30 @@
 -- Each step of a run keeps what holds of account and encoder.
-use Rattle.std.proofs.Common.{◌≡◌, ℕ, ◌+◌, ◌-◌, Option, Some, None, Err, List, [], ◌∷◌, ◌++◌, length, map, take, drop, replicate, refl, sym, ap, ◌∙◌, subst, append_assoc, arith}
+use Rattle.std.proofs.Common.{◌≡◌, ℕ, ◌+◌, ◌-◌, ◌≤◌, Option, Some, None, Err, List, [], ◌∷◌, ◌++◌, length, map, take, refl, sym, ap, ◌∙◌, subst, append_assoc, arith}
 use Rattle.std.specs.List.{flat_map}
 use Rattle.std.specs.Int.{w16, to_be_bytes}
-use Rattle.std.proofs.lemmas.List.{length-append, length-map, map-append, append-nil, take_all, take_at, drop_at}
+use Rattle.std.proofs.lemmas.List.{length-append, length-map, map-append, append-nil, take_all, take_at}
 use Rattle.dnw_error.specs.declared.error.ProtoError.{ProtoError}
 use Rattle.dnw_error.specs.declared.error.ProtoError.TheVariants.{MaxBufferSizeExceeded, Memory}
-use Rattle.dnw_reading.proofs.Back.{slice_range-middle}
+use Rattle.dnw_base.specs.Limits.{max_message}
 use Rattle.dnw_encoder.specs.Encoder.{Encoder, TakesRoom, filled, moved_to, reserved}
 use Rattle.dnw_candidates.specs.Candidates.{Candidate}
 use Rattle.dnw_encoder.specs.Emitting.{rolled_back}
 use Rattle.dnw_encoder.specs.EmittingLaws.{fails-unchanged}
+use Rattle.dnw_encoder.specs.Marks.{mark_of, rewound}
+use Rattle.dnw_record.specs.declared.record.WireRecord.{WireRecord}
+use Rattle.dnw_record.specs.RecordFrames.{frame-fields}
 use Rattle.dns_names_wire.specs.declared.script.Part.{Part}
 use Rattle.dns_names_wire.specs.declared.script.Item.{Item}
 use Rattle.dns_names_wire.specs.declared.script.Reply.{Reply}
 use Rattle.dns_names_wire.specs.declared.script.Reply.TheVariants.{Done, Refused, Items}
-use Rattle.dns_names_wire.specs.Script.{Action, write, set_max, set_encoding, reserve, fill, write_items}
-use Rattle.dns_names_wire.specs.Pieces.{Account, Piece, Slot, place_piece, PieceAt, after, filled_with, item_pieces, part_piece, spent}
+use Rattle.dns_names_wire.specs.Script.{Action, write, set_max, set_encoding, set_canonical, reserve, fill, write_record, write_items}
+use Rattle.dns_names_wire.specs.Pieces.{Account, Piece, Slot, place_piece, record_piece, after, filled_with, item_pieces, part_piece, spent}
 use Rattle.dns_names_wire.specs.Replies.{open_place}
 use Rattle.dns_names_wire.specs.Runs.{RunsFill, RunsItems, RunsStep}
-use Rattle.dns_names_wire.proofs.Agreeing.{Chunk, hole, SameFor, at, ends_of, ends_of-append, ends-spent, fills_at, length-ends_of, next, open_at, pieces_of, pieces_of-append, pieces_of-filled, pieces_of-same, render, render-same, update, update-other, update-same, upto}
-use Rattle.dns_names_wire.proofs.Keeping.{kept-before}
-use Rattle.dns_names_wire.proofs.Standing.{Grown, Sound, SoundAt, buffer, buffer-push, grown-items, grown-part, length_buffer, sound-push, sound_end, useful-push}
+use Rattle.dns_names_wire.proofs.Agreeing.{Chunk, hole, SameFor, at, ends_of, ends_of-append, ends-spent, fills_at, length-ends_of, next, open_at, pieces_of, pieces_of-append, pieces_of-filled, pieces_of-same, update, update-other, update-same, upto}
+use Rattle.dns_names_wire.proofs.Keeping.{AreKept, kept-before}
+use Rattle.dns_names_wire.proofs.Recording.{grown-record}
+use Rattle.dns_names_wire.proofs.Standing.{Grown, SoundAt, buffer, filled_bytes, grown-items, grown-part, sound-other, sound-reserved, sound_end}
 use Rattle.dns_names_wire.proofs.Sizes.{part-same}
 
 -- Account and encoder agree on chunks, with these values in the places.
@@ -28,6 +32,8 @@ pub record Good (old : List ℕ) (cs : List Chunk) (f : ℕ → ℕ) (a : Accoun
   pub sound : SoundAt old cs f v
   pub len : a.len ≡ v.offset
   pub mode : a.mode ≡ v.encoding
+  pub canonical : a.canonical ≡ v.canonical
+  pub small : v.max_size ≤ max_message
   pub pieces : a.pieces ≡ pieces_of f 0 cs
   pub places : map (λ (s : Slot). s.end) a.places ≡ ends_of (length old) cs
 
@@ -58,6 +64,8 @@ goes-grown old cs f a v w ps len good grown len_is =
         sound = grown.sound;
         len = len_is ∙ sym (sound_end old all f w.bytes w.offset w.candidates grown.sound);
         mode = good.mode ∙ sym grown.mode;
+        canonical = good.canonical ∙ sym grown.canonical;
+        small = omega (arith, good.small, grown.max_size);
         pieces = ap (λ (x : List Piece). x ++ ps) good.pieces
             ∙ sym (pieces_of-append f 0 cs grown.more ∙ ap (λ (x : List Piece). pieces_of f 0 cs ++ x) (grown.pieces_are f (next 0 cs)));
         places = good.places
@@ -83,42 +91,6 @@ places_so_far : (old : List ℕ) (cs : List Chunk) (f : ℕ → ℕ) (a : Accoun
 places_so_far old cs f a v good =
     sym (length-map a.places (λ (s : Slot). s.end)) ∙ (ap length good.places ∙ omega (arith, length-ends_of 0 (length old) cs))
 
--- with other values the same bytes stand there
-sound-other : (old : List ℕ) (cs : List Chunk) (f g : ℕ → ℕ) (b b' : List ℕ) (o : ℕ) (candidates : List Candidate) → Sound old cs f b o candidates
-    → b' ≡ buffer old cs g → Sound old cs g b' o candidates
-sound-other old cs f g b b' o candidates s is = record { bytes = is; end = s.end; spells = s.spells; useful = s.useful }
-
--- two zero bytes stand at a new place
-reserved_bytes : (v : Encoder) → v.offset ≡ length v.bytes → (reserved v 2).bytes ≡ v.bytes ++ to_be_bytes w16 0
-reserved_bytes v at_end =
-    let two : v.offset + 2 - length v.bytes ≡ 2 = omega (arith, at_end) in
-    ap (λ (x : List ℕ). x ++ replicate (v.offset + 2 - length v.bytes) 0) (take_all (v.offset + 2) v.bytes (omega (arith, at_end)))
-    ∙ ap (λ n. v.bytes ++ replicate n 0) two
-
--- it is zero whatever the other places hold
-sound-reserved : (old : List ℕ) (cs : List Chunk) (f : ℕ → ℕ) (v : Encoder) → SoundAt old cs f v
-    → SoundAt old (cs ++ hole ∷ []) (update f (next 0 cs) 0) (reserved v 2)
-sound-reserved old cs f v s =
-    let n = next 0 cs in
-    let f' = update f n 0 in
-    let at_end = sound_end old cs f v.bytes v.offset v.candidates s in
-    let same : SameFor f f' 0 cs = λ i least less. sym (update-other f n 0 i (λ e. omega (arith, e, less))) in
-    let now : v.bytes ≡ buffer old cs f' = s.bytes ∙ ap (λ (x : List ℕ). old ++ x) (render-same f f' 0 cs same) in
-    let zeros : (reserved v 2).bytes ≡ v.bytes ++ render f' n (hole ∷ []) =
-    reserved_bytes v at_end
-    ∙ (ap (λ x. v.bytes ++ to_be_bytes w16 x) (sym (update-same f n 0 n refl))
-    ∙ ap (λ (x : List ℕ). v.bytes ++ x) (sym (append-nil (to_be_bytes w16 (f' n))))) in
-    let stands : (g : ℕ → ℕ) → PieceAt (buffer old (cs ++ hole ∷ []) g) (place_piece n (g n)) v.offset (v.offset + 2) =
-    λ g.
-    let start : v.offset ≡ length (buffer old cs g) = s.end ∙ sym (length_buffer old cs g) in
-    let all = buffer-push old cs hole g in (
-      rw all (slice_range-middle (buffer old cs g) (to_be_bytes w16 (g n)) [] v.offset (v.offset + 2) start refl),
-      refl,
-      omega (arith, start, ap length all, length-append (buffer old cs g) (to_be_bytes w16 (g n) ++ []), length-append (to_be_bytes w16 (g n)) []),
-    ) in
-    sound-push old cs f' hole v.bytes v.offset v.candidates (λ g. place_piece n (g n)) (v.offset + 2) v.candidates
-    (reserved v 2).bytes (v.offset + 2) (sound-other old cs f f' v.bytes v.bytes v.offset v.candidates s now) (λ g. refl) refl stands (useful-push old cs hole v.candidates s.useful) zeros refl
-
 refused-reserve : (v w : Encoder) (error : ProtoError) → TakesRoom {A = Unit {0}} v 2 (reserved v 2) (Err error) w → w ≡ v
 refused-reserve v w Memory h = h.2
 refused-reserve v w (MaxBufferSizeExceeded size) h = h.2
@@ -143,6 +115,8 @@ step-reserve old cs f a v w (Done len) good h =
         sound = kept;
         len = len_is;
         mode = good.mode ∙ sym (ap (λ (x : Encoder). x.encoding) h.0.1);
+        canonical = good.canonical ∙ sym (ap (λ (x : Encoder). x.canonical) h.0.1);
+        small = omega (arith, good.small, ap (λ (x : Encoder). x.max_size) h.0.1);
         pieces = ap (λ (x : List Piece). x ++ place_piece (length a.places) 0 ∷ []) (good.pieces ∙ pieces_of-same f f' 0 cs same)
             ∙ (ap (λ k. pieces_of f' 0 cs ++ place_piece k 0 ∷ []) (places_so_far old cs f a v good)
             ∙ (ap (λ k. pieces_of f' 0 cs ++ place_piece n k ∷ []) (sym (update-same f n 0 n refl)) ∙ sym (pieces_of-append f' 0 cs one)));
@@ -155,16 +129,6 @@ step-reserve old cs f a v w (Refused error len) good h = goes-same old cs f a v 
 step-reserve old cs f a v w reply good h = absurd h
 
 -- ---- a place is filled
-
--- the bytes before a place, and those behind it
-filled_bytes : (b before held behind d : List ℕ) (p : ℕ) → b ≡ before ++ (held ++ behind) → length held ≡ length d → p ≡ length before
-    → take p b ++ (d ++ drop (p + length d) b) ≡ before ++ (d ++ behind)
-filled_bytes b before held behind d p parts size p_is =
-    let front : take p b ≡ before = ap (take p) parts ∙ take_at before (held ++ behind) p (sym p_is) in
-    let far : p + length d ≡ length (before ++ held) = omega (arith, p_is, size, length-append before held) in
-    let back : drop (p + length d) b ≡ behind =
-    ap (drop (p + length d)) (parts ∙ sym (append_assoc before held behind)) ∙ drop_at (before ++ held) behind (p + length d) (sym far) in
-    ap (λ (x : List ℕ). x ++ (d ++ drop (p + length d) b)) front ∙ ap (λ (x : List ℕ). before ++ (d ++ x)) back
 
 -- its value is all that changes
 good-filled : (old : List ℕ) (cs : List Chunk) (f : ℕ → ℕ) (a : Account) (v : Encoder) (place value end : ℕ) → Good old cs f a v
@@ -185,6 +149,8 @@ good-filled old cs f a v place value end good here =
       sound = sound-other old cs f f' v.bytes (filled v (end - 2) d).bytes v.offset v.candidates good.sound bytes;
       len = good.len;
       mode = good.mode;
+      canonical = good.canonical;
+      small = good.small;
       pieces = ap (map (filled_with place value)) good.pieces ∙ pieces_of-filled f place value 0 cs;
       places = ends-spent place a.places ∙ good.places;
     }
@@ -193,7 +159,15 @@ good-filled old cs f a v place value end good here =
 good-spent : (old : List ℕ) (cs : List Chunk) (f : ℕ → ℕ) (a : Account) (v : Encoder) (place : ℕ) → Good old cs f a v
     → Good old cs f (record a { places = spent place a.places }) v
 good-spent old cs f a v place good =
-    record { sound = good.sound; len = good.len; mode = good.mode; pieces = good.pieces; places = ends-spent place a.places ∙ good.places }
+    record {
+      sound = good.sound;
+      len = good.len;
+      mode = good.mode;
+      canonical = good.canonical;
+      small = good.small;
+      pieces = good.pieces;
+      places = ends-spent place a.places ∙ good.places;
+    }
 
 step-fill : (old : List ℕ) (cs : List Chunk) (f : ℕ → ℕ) (a : Account) (v w : Encoder) (place value : ℕ) (slot : Option ℕ) (reply : Reply) → Good old cs f a v
     → open_place place a.places ≡ slot → RunsFill v slot value reply w → Goes old cs (after a (fill place value) reply) w
@@ -237,9 +211,43 @@ step-items old cs f a v w items (Items count (Some error) len) good (first, item
       pieces_are = grown.pieces_are;
       no_places = grown.no_places;
       mode = grown.mode;
+      canonical = grown.canonical;
+      max_size = grown.max_size;
     } in
     goes-grown old cs f a v w ps len good (subst (λ (x : Encoder). Grown old cs f v ps x) (sym made) left) len_is
 step-items old cs f a v w items reply good h = absurd h
+
+-- ---- a record
+
+step-record : (old : List ℕ) (cs : List Chunk) (f : ℕ → ℕ) (a : Account) (v w : Encoder) (r : WireRecord) (reply : Reply) → Good old cs f a v
+    → RunsStep a v (write_record r) reply w → Goes old cs (after a (write_record r) reply) w
+step-record old cs f a v w r (Done len) good h =
+    let grown = grown-record old cs f v w r good.sound good.small h.0 in
+    goes-grown old cs f a v w (record_piece a.mode a.canonical r ∷ []) len good
+    (subst (λ m. Grown old cs f v (record_piece m a.canonical r ∷ []) w) (sym good.mode)
+    (subst (λ x. Grown old cs f v (record_piece v.encoding x r ∷ []) w) (sym good.canonical) grown)) h.1
+step-record old cs f a v w r (Refused error len) good h =
+    let s = good.sound in
+    let at_end = sound_end old cs f v.bytes v.offset v.candidates s in
+    let (u, fields, made) = h.0 in
+    let framed = frame-fields r v (Err error) u at_end fields in
+    let kept = kept-before (buffer old cs) v.offset v.candidates s.useful in
+    let undone : Good old cs f a (rewound u (mark_of v)) = record {
+      sound = record {
+        bytes = framed.bytes ∙ s.bytes;
+        end = s.end;
+        spells = s.spells;
+        useful = subst (λ (cands : List Candidate). AreKept (buffer old cs) cands) (sym framed.candidates) kept;
+      };
+      len = good.len;
+      mode = good.mode ∙ sym framed.encoding;
+      canonical = good.canonical ∙ sym framed.canonical;
+      small = omega (arith, good.small, framed.max_size);
+      pieces = good.pieces;
+      places = good.places;
+    } in
+    goes-same old cs f a (rewound u (mark_of v)) w undone made
+step-record old cs f a v w r reply good h = absurd h
 
 -- ---- each step
 
@@ -249,13 +257,20 @@ step old cs f a v w (write part) reply good h = step-write old cs f a v w part r
 step old cs f a v w (set_max size) reply good h =
     let u = record v { max_size = size } in
     let same : Good old cs f (record a { max = size }) u =
-    record { sound = good.sound; len = good.len; mode = good.mode; pieces = good.pieces; places = good.places } in
+    record { sound = good.sound; len = good.len; mode = good.mode; canonical = good.canonical; small = h.2; pieces = good.pieces; places = good.places } in
     subst (λ r. Goes old cs (after a (set_max size) r) w) (sym h.0) (goes-same old cs f (record a { max = size }) u w same h.1)
 step old cs f a v w (set_encoding mode) reply good h =
     let u = record v { encoding = mode } in
     let same : Good old cs f (record a { mode = mode }) u =
-    record { sound = good.sound; len = good.len; mode = refl; pieces = good.pieces; places = good.places } in
+    record { sound = good.sound; len = good.len; mode = refl; canonical = good.canonical; small = good.small; pieces = good.pieces; places = good.places } in
     subst (λ r. Goes old cs (after a (set_encoding mode) r) w) (sym h.0) (goes-same old cs f (record a { mode = mode }) u w same h.1)
+step old cs f a v w (set_canonical canonical) reply good h =
+    let u = record v { canonical = canonical } in
+    let b = record a { canonical = canonical } in
+    let same : Good old cs f b u =
+    record { sound = good.sound; len = good.len; mode = good.mode; canonical = refl; small = good.small; pieces = good.pieces; places = good.places } in
+    subst (λ r. Goes old cs (after a (set_canonical canonical) r) w) (sym h.0) (goes-same old cs f b u w same h.1)
 step old cs f a v w reserve reply good h = step-reserve old cs f a v w reply good h
 step old cs f a v w (fill place value) reply good h = step-fill old cs f a v w place value (open_place place a.places) reply good refl h
+step old cs f a v w (write_record r) reply good h = step-record old cs f a v w r reply good h
 step old cs f a v w (write_items items) reply good h = step-items old cs f a v w items reply good h

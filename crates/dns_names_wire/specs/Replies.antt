@@ -4,12 +4,13 @@ use Rattle.dnw_error.specs.declared.error.ProtoError.{ProtoError}
 use Rattle.dnw_error.specs.declared.error.ProtoError.TheVariants.{CharacterDataTooLong, MaxBufferSizeExceeded, NotAllRecordsWritten, Memory}
 use Rattle.dnw_base.specs.Limits.{max_character_data}
 use Rattle.dnw_base.specs.Names.{encoded_size}
+use Rattle.dnw_record.specs.RecordLaws.{record_size}
 use Rattle.dns_names_wire.specs.declared.script.Part.{Part}
 use Rattle.dns_names_wire.specs.declared.script.Part.TheVariants.{Name, Text}
 use Rattle.dns_names_wire.specs.declared.script.Item.{Item}
 use Rattle.dns_names_wire.specs.declared.script.Reply.{Reply}
 use Rattle.dns_names_wire.specs.declared.script.Reply.TheVariants.{Done, Refused, NoPlace, Items}
-use Rattle.dns_names_wire.specs.Script.{Action, write, set_max, set_encoding, reserve, fill, write_items, part_size, item_size}
+use Rattle.dns_names_wire.specs.Script.{Action, write, set_max, set_encoding, set_canonical, reserve, fill, write_record, write_items, part_size, item_size}
 use Rattle.dns_names_wire.specs.Pieces.{Account, Slot, after}
 
 -- n bytes are written if they fit, unless memory runs out
@@ -54,6 +55,14 @@ ReplyToFill a (Some end) (Done len) = (end ≤ a.max) × (len ≡ a.len)
 ReplyToFill a (Some end) (Refused (MaxBufferSizeExceeded max) len) = (a.max < end) × (max ≡ a.max) × (len ≡ a.len)
 ReplyToFill a (Some end) reply = ⊥
 
+-- A record is written if it fits with its names whole, in no more bytes than that and never past the maximum. If it is
+-- refused, the length stays.
+abbrev pub ReplyToRecord : Account → ℕ → Reply → Type 0
+ReplyToRecord a size (Done len) = (len ≤ a.max) × (len ≤ a.len + size)
+ReplyToRecord a size (Refused (MaxBufferSizeExceeded max) len) = (a.max < a.len + size) × (max ≡ a.max) × (len ≡ a.len)
+ReplyToRecord a size (Refused Memory len) = len ≡ a.len
+ReplyToRecord a size reply = ⊥
+
 -- one of the parts is a text of so many bytes
 abbrev pub HasTextOfSize : ℕ → List Part → Type 0
 HasTextOfSize n [] = ⊥
@@ -80,8 +89,10 @@ abbrev pub ReplyTo : Account → Action → Reply → Type 0
 ReplyTo a (write part) reply = ReplyToPart a part reply
 ReplyTo a (set_max size) reply = Stays a reply
 ReplyTo a (set_encoding mode) reply = Stays a reply
+ReplyTo a (set_canonical canonical) reply = Stays a reply
 ReplyTo a reserve reply = ReplyToBytes a 2 reply
 ReplyTo a (fill place value) reply = ReplyToFill a (open_place place a.places) reply
+ReplyTo a (write_record r) reply = ReplyToRecord a (record_size r) reply
 ReplyTo a (write_items items) reply = ReplyToItems a items reply
 
 -- each step has its reply

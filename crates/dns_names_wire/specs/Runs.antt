@@ -1,17 +1,19 @@
 -- A run of a script: what each step and its reply make of an encoder.
-use Rattle.std.specs.Prelude.{◌≡◌, ℕ, ◌-◌, List, [], ◌∷◌, ◌++◌, length, Option, Some, None, Ok, Err}
+use Rattle.std.specs.Prelude.{◌≡◌, ℕ, ◌-◌, ◌≤◌, List, [], ◌∷◌, ◌++◌, length, Option, Some, None, Ok, Err}
 use Rattle.std.specs.List.{AllByRecursion}
 use Rattle.std.specs.Int.{w16, to_be_bytes}
 use Rattle.dnw_encoder.specs.Encoder.{Encoder, Writes, TakesRoom, fresh, moved_to, reserved}
 use Rattle.dnw_candidates.specs.Candidates.{Candidate}
 use Rattle.dnw_encoder.specs.Emitting.{Outcome, EmitsItem, InTurn}
 use Rattle.dnw_encoder.specs.EmittedName.{so_far}
+use Rattle.dnw_base.specs.Limits.{max_message}
 use Rattle.dnw_base.specs.Names.{labels_wire}
 use Rattle.dnw_reading.specs.Reading.{NameAt}
+use Rattle.dnw_record.specs.WrittenRecords.{EmitsRecord}
 use Rattle.dns_names_wire.specs.declared.script.Item.{Item}
 use Rattle.dns_names_wire.specs.declared.script.Reply.{Reply}
 use Rattle.dns_names_wire.specs.declared.script.Reply.TheVariants.{Done, Refused, NoPlace, Items}
-use Rattle.dns_names_wire.specs.Script.{Action, write, set_max, set_encoding, reserve, fill, write_items, EmitsPart, EmitsScriptItem}
+use Rattle.dns_names_wire.specs.Script.{Action, write, set_max, set_encoding, set_canonical, reserve, fill, write_record, write_items, EmitsPart, EmitsScriptItem}
 use Rattle.dns_names_wire.specs.Pieces.{Account, after, opening}
 use Rattle.dns_names_wire.specs.Replies.{open_place}
 
@@ -37,13 +39,15 @@ RunsItems v items (Items count (Some error) len) w =
     × InTurn EmitsScriptItem v first m × EmitsItem EmitsScriptItem item count m (Err error) w × (len ≡ length w.bytes)
 RunsItems v items reply w = ⊥
 
--- one step
+-- one step; no maximum is more than a message may have
 abbrev pub RunsStep : Account → Encoder → Action → Reply → Encoder → Type 0
 RunsStep a v (write part) reply w = GivesReply (EmitsPart part v) reply w
-RunsStep a v (set_max size) reply w = (reply ≡ Done (length w.bytes)) × (w ≡ record v { max_size = size })
+RunsStep a v (set_max size) reply w = (reply ≡ Done (length w.bytes)) × (w ≡ record v { max_size = size }) × (size ≤ max_message)
 RunsStep a v (set_encoding mode) reply w = (reply ≡ Done (length w.bytes)) × (w ≡ record v { encoding = mode })
+RunsStep a v (set_canonical canonical) reply w = (reply ≡ Done (length w.bytes)) × (w ≡ record v { canonical = canonical })
 RunsStep a v reserve reply w = GivesReply (TakesRoom v 2 (reserved v 2)) reply w
 RunsStep a v (fill place value) reply w = RunsFill v (open_place place a.places) value reply w
+RunsStep a v (write_record r) reply w = GivesReply (EmitsRecord r v) reply w
 RunsStep a v (write_items items) reply w = RunsItems v items reply w
 
 -- all steps, with a reply for each

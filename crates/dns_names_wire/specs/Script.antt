@@ -1,11 +1,12 @@
 -- What a script is made of, and what its parts and items write.
-use Rattle.std.specs.Prelude.{◌≡◌, ℕ, ◌+◌, ◌∷◌, List, [], length, Option, Some, None, Ok, Err, ◌⊎◌, sum_by}
+use Rattle.std.specs.Prelude.{◌≡◌, ℕ, ◌+◌, ◌∷◌, Bool, List, [], length, Option, Some, None, Ok, Err, ◌⊎◌, sum_by}
 use Rattle.std.specs.Int.{w16, w32, to_be_bytes, cast_unsigned}
 use Rattle.dnw_encoder.specs.declared.encoder.modes.NameEncoding.{NameEncoding}
 use Rattle.dnw_encoder.specs.Encoder.{Encoder, Writes, WritesText}
 use Rattle.dnw_encoder.specs.Emitting.{Emits}
 use Rattle.dnw_encoder.specs.EmittedName.{EmitsName}
 use Rattle.dnw_base.specs.Names.{encoded_size}
+use Rattle.dnw_record.specs.declared.record.WireRecord.{WireRecord}
 use Rattle.dns_names_wire.specs.declared.script.Part.{Part}
 use Rattle.dns_names_wire.specs.declared.script.Part.TheVariants.{Name, U8, U16, I32, U32, Bytes, Text}
 use Rattle.dns_names_wire.specs.declared.script.Item.{Item}
@@ -17,8 +18,10 @@ pub data Action : Type 0 where
   write : Part → Action
   set_max : ℕ → Action
   set_encoding : NameEncoding → Action
+  set_canonical : Bool → Action
   reserve : Action
   fill : ℕ → ℕ → Action
+  write_record : WireRecord → Action
   write_items : List Item → Action
 
 abbrev pub action : Step → Action
@@ -31,8 +34,10 @@ action (step.Bytes bytes) = write (Bytes bytes)
 action (step.Text text) = write (Text text)
 action (step.Max size) = set_max size
 action (step.Encoding mode) = set_encoding mode
+action (step.Canonical canonical) = set_canonical canonical
 action step.Reserve = reserve
 action (step.Fill place value) = fill place value
+action (step.Record r) = write_record r
 action (step.Items items) = write_items items.items
 
 abbrev pub EmitsPart : Emits Part

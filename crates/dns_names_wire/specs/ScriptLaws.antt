@@ -1,12 +1,22 @@
 -- What follows from a run. Each is the clause of a public function, and so proved.
-use Rattle.std.specs.Prelude.{ℕ, List, length}
+use Rattle.std.specs.Prelude.{◌≡◌, ℕ, ◌+◌, ◌<◌, ◌^◌, Bool, true, List, length, slice_range}
 use Rattle.std.specs.List.{AllByRecursion}
-use Rattle.dnw_encoder.specs.Encoder.{Encoder}
+use Rattle.dnw_error.specs.declared.error.ProtoError.{ProtoError}
+use Rattle.dnw_error.specs.RecordTypes.{type_code, type_of_code}
+use Rattle.dnw_error.specs.DnsClasses.{class_code, class_of_code}
+use Rattle.dnw_encoder.specs.declared.encoder.modes.NameEncoding.{NameEncoding}
+use Rattle.dnw_encoder.specs.Encoder.{Encoder, mode_of_rdata}
+use Rattle.dnw_encoder.specs.EmittedName.{in_mode}
+use Rattle.dnw_record.specs.declared.record.WireRecord.{WireRecord}
+use Rattle.dnw_record.specs.declared.record.WireData.{WireData}
+use Rattle.dnw_record.specs.declared.record.WireData.TheVariants as rdata
+use Rattle.dnw_record.specs.Records.{HasDataName, RecordAt, RecordValue}
 use Rattle.dns_names_wire.specs.declared.script.Reply.{Reply}
-use Rattle.dns_names_wire.specs.Script.{Action}
-use Rattle.dns_names_wire.specs.Pieces.{opening}
+use Rattle.dns_names_wire.specs.declared.script.Reply.TheVariants.{Refused}
+use Rattle.dns_names_wire.specs.Script.{Action, write_record}
+use Rattle.dns_names_wire.specs.Pieces.{RecordStands, account_from, opening}
 use Rattle.dns_names_wire.specs.Replies.{RepliesTo}
-use Rattle.dns_names_wire.specs.Runs.{Runs, IsUseful, beginning}
+use Rattle.dns_names_wire.specs.Runs.{Runs, RunsStep, IsUseful, beginning}
 use Rattle.dns_names_wire.specs.Finished.{Finished, Shortest}
 
 -- Each step has the reply that its definition says.
@@ -28,3 +38,24 @@ RunsStayUseful = (old : List ℕ) (candidates names : ℕ) (actions : List Actio
 abbrev pub RunsAreShortest : Type 0
 RunsAreShortest = (old : List ℕ) (candidates names : ℕ) (actions : List Action) (replies : List Reply) (w : Encoder)
     → Runs (opening (length old)) (beginning old candidates names) actions replies w → Shortest (length old) candidates names actions replies
+
+-- A record that is refused after any steps leaves the whole encoder, the count of names included.
+abbrev pub RunsUndoRecords : Type 0
+RunsUndoRecords = (old : List ℕ) (candidates names : ℕ) (actions : List Action) (replies : List Reply) (v w : Encoder) (r : WireRecord)
+    (error : ProtoError) (len : ℕ) → Runs (opening (length old)) (beginning old candidates names) actions replies v
+    → RunsStep (account_from (opening (length old)) actions replies) v (write_record r) (Refused error len) w → w ≡ v
+
+-- the data of a record of a message are these bytes, or this name as it was written
+abbrev pub HasData : RecordValue → NameEncoding → Bool → WireData → Type 0
+HasData x mode canonical (rdata.Bytes bytes) = slice_range x.message x.start (x.start + x.len) ≡ bytes.items
+HasData x mode canonical (rdata.Name name encoding) =
+    HasDataName x (record { is_fqdn = true; labels = in_mode (mode_of_rdata encoding canonical mode) name.labels })
+
+-- A record that stands in a message is read there as a record of its owner, with its type and class by their codes, if its
+-- numbers fit their fields, and with its data.
+abbrev pub StandingRecordsAreRead : Type 0
+StandingRecordsAreRead = (b : List ℕ) (mode : NameEncoding) (canonical : Bool) (r : WireRecord) (p e : ℕ) → RecordStands b mode canonical r p e
+    → (x : RecordValue) × RecordAt b p x e × (x.owner ≡ in_mode mode r.owner.labels)
+    × (type_code r.record_type < 2 ^ 16 → x.record_type ≡ type_of_code (type_code r.record_type))
+    × (class_code r.class < 2 ^ 16 → x.class ≡ class_of_code (class_code r.class)) × (r.ttl < 2 ^ 32 → x.ttl ≡ r.ttl)
+    × HasData x mode canonical r.rdata

@@ -68,12 +68,12 @@ pub use Rattle.dnw_record.specs.RecordFrames.{frame-data, frame-record}
 pub use Rattle.dnw_record.specs.RecordLaws.{RefusedRecordsUndo, RefusedDataUndo}
 -- Scripts.
 pub use Rattle.dns_names_wire.specs.Script.{Action, action, EmitsPart, EmitsScriptItem}
-pub use Rattle.dns_names_wire.specs.Pieces.{Account, Piece, opening}
+pub use Rattle.dns_names_wire.specs.Pieces.{Account, Piece, RecordStands, opening}
 pub use Rattle.dns_names_wire.specs.Replies.{RepliesTo}
 pub use Rattle.dns_names_wire.specs.Finished.{Finished, Shortest}
 pub use Rattle.dns_names_wire.specs.Runs.{Run}
 pub use Rattle.dns_names_wire.specs.ItemFrames.{frame-part, frame-item}
-pub use Rattle.dns_names_wire.specs.ScriptLaws.{RunsReply, RunsFinish, RunsStayUseful, RunsAreShortest}
+pub use Rattle.dns_names_wire.specs.ScriptLaws.{RunsReply, RunsFinish, RunsStayUseful, RunsAreShortest, RunsUndoRecords, StandingRecordsAreRead}
 -- Master files: tokens, and times to live.
 pub use Rattle.dnw_txt.specs.Tokens.{TokenValue, LexFault, LexState, LexerValue}
 pub use Rattle.dnw_txt.specs.Lexing.{token_value, Lexes, Calls, EndsInTime}

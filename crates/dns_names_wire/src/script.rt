@@ -2,6 +2,7 @@
 use dnw_encoder::encoder::NameEncoding;
 use dnw_error::error::ProtoError;
 use dnw_name::name::Name;
+use dnw_record::record::WireRecord;
 
 mod emit;
 pub mod laws;
@@ -30,6 +31,9 @@ pub enum Step {
     Max(u16),
     /// Sets how names are written after it.
     Encoding(NameEncoding),
+    /// Sets whether the data of records after it are written in canonical form (RFC 4034, section 6.2). At first they are
+    /// not.
+    Canonical(bool),
     /// Reserves a placeholder of two bytes, which are zero until it is filled. Placeholders are numbered from 0.
     Reserve,
     /// Fills a placeholder, once.
@@ -39,6 +43,8 @@ pub enum Step {
         /// The value, written in network byte order.
         value: u16,
     },
+    /// Writes a record, its owner in the mode in force, or nothing of it if it fails.
+    Record(WireRecord),
     /// Writes items in turn. The first one that fails is rolled back, and those after it are not written.
     Items(Vec<Item>),
 }

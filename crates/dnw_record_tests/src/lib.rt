@@ -7,4 +7,6 @@
 mod messages;
 #[cfg(test)]
 mod rows;
+#[cfg(test)]
+mod scripts;
 mod sections;

@@ -1,8 +1,10 @@
-//! Whole messages: they are written, and read back record by record.
+//! Whole messages: they are written, by an encoder and by a script, and read back record by record.
 
+use crate::scripts::message_of;
 use crate::sections::{Data, HEADER, Row, has_rows, write_header, write_rows};
 use dns_names_wire::encoder::{BinEncoder, RDataEncoding};
 use dns_names_wire::record_type::RecordType;
+use dns_names_wire::script::Step;
 use std::test::Fail;
 
 /// A name of standard data (RFC 1035, section 3.3).
@@ -35,6 +37,8 @@ fn a_referral_with_glue(rt: HostRuntime) -> Result<(), Fail> {
     write_header(&mut encoder, 0x8000, [0, 2, 2])?;
     assert_eq!(rt; write_rows(rt.alloc(), &mut encoder, &rows)?, 4);
     drop(encoder);
+    let scripted = message_of(rt.alloc(), Step::Max(u16::MAX), 0x8000, [0, 2, 2], &rows)?;
+    assert_eq!(rt; scripted.as_slice(), bytes.as_slice());
     // Header; 13 + 10 + 6; 2 + 10 + 6; twice 2 + 10 + 4: only the first owner is whole.
     assert_eq!(rt; bytes.len(), 12 + 29 + 18 + 16 + 16);
     assert!(rt; has_rows(rt.alloc(), bytes.as_slice(), &rows)?);
@@ -65,6 +69,8 @@ fn a_chain_of_aliases(rt: HostRuntime) -> Result<(), Fail> {
     write_header(&mut encoder, 0x8400, [3, 0, 0])?;
     assert_eq!(rt; write_rows(rt.alloc(), &mut encoder, &rows)?, 3);
     drop(encoder);
+    let scripted = message_of(rt.alloc(), Step::Max(u16::MAX), 0x8400, [3, 0, 0], &rows)?;
+    assert_eq!(rt; scripted.as_slice(), bytes.as_slice());
     // Header; 17 + 10 + 6; 2 + 10 + 17; 2 + 10 + 4.
     assert_eq!(rt; bytes.len(), 12 + 33 + 29 + 16);
     assert!(rt; has_rows(rt.alloc(), bytes.as_slice(), &rows)?);
@@ -100,6 +106,8 @@ fn mail_exchanges_with_addresses(rt: HostRuntime) -> Result<(), Fail> {
     write_header(&mut encoder, 0x8400, [2, 0, 2])?;
     assert_eq!(rt; write_rows(rt.alloc(), &mut encoder, &rows)?, 4);
     drop(encoder);
+    let scripted = message_of(rt.alloc(), Step::Max(u16::MAX), 0x8400, [2, 0, 2], &rows)?;
+    assert_eq!(rt; scripted.as_slice(), bytes.as_slice());
     assert!(rt; has_rows(rt.alloc(), bytes.as_slice(), &rows)?);
     Ok(())
 }
@@ -115,6 +123,8 @@ fn an_answer_is_truncated_at_512_octets(rt: HostRuntime) -> Result<(), Fail> {
     // Header; 13 + 10 + 100; then 2 + 10 + 100 each: four records take 471 octets, and five would take 583.
     assert_eq!(rt; write_rows(rt.alloc(), &mut encoder, &rows)?, 4);
     drop(encoder);
+    let scripted = message_of(rt.alloc(), Step::Max(512), 0x8600, [4, 0, 0], &rows)?;
+    assert_eq!(rt; scripted.as_slice(), bytes.as_slice());
     assert_eq!(rt; bytes.len(), HEADER + 123 + 3 * 112);
     assert!(rt; has_rows(rt.alloc(), bytes.as_slice(), &rows[..4])?);
     Ok(())
@@ -141,6 +151,8 @@ fn names_of_signed_data_are_whole_and_in_lower_case(rt: HostRuntime) -> Result<(
     encoder.set_canonical_form(true);
     assert_eq!(rt; write_rows(rt.alloc(), &mut encoder, &rows)?, 3);
     drop(encoder);
+    let scripted = message_of(rt.alloc(), Step::Canonical(true), 0x8400, [3, 0, 0], &rows)?;
+    assert_eq!(rt; scripted.as_slice(), bytes.as_slice());
     // Header; 13 + 10 + 17; 2 + 10 + 15; 2 + 10 + 15.
     assert_eq!(rt; bytes.len(), 12 + 40 + 27 + 27);
     assert!(rt; &bytes.as_slice()[35..52] == b"\x03ns1\x07example\x03com\x00".as_slice());

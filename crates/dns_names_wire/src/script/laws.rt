@@ -1,7 +1,9 @@
 //! What follows from a run of a script, for callers' proofs.
 //!
 //! The functions do nothing. Each is there for its clauses.
-ghost use Rattle.dns_names_wire.specs.ScriptLaws.{RunsReply, RunsFinish, RunsStayUseful, RunsAreShortest};
+ghost use Rattle.dns_names_wire.specs.ScriptLaws.{RunsReply, RunsFinish, RunsStayUseful, RunsAreShortest, RunsUndoRecords, StandingRecordsAreRead};
+
+use dnw_record::record::laws;
 
 /// Each step has the reply that its definition says.
 pub fn replies_follow()
@@ -17,4 +19,16 @@ pub fn pieces_stand()
 /// Names are as short as possible.
 pub fn names_are_shortest()
     ensures { RunsAreShortest }
+{}
+
+/// A record that is refused leaves the whole encoder unchanged, the count of names included.
+pub fn refused_records_undo()
+    ensures { RunsUndoRecords }
+{
+    laws::refused_records_undo();
+}
+
+/// A record of a script is read where it stands in the finished bytes, with its owner, its fields and its data.
+pub fn records_are_read()
+    ensures { StandingRecordsAreRead }
 {}

@@ -136,8 +136,13 @@ fn run_step(encoder: &mut BinEncoder<'_>, step: &Step, places: &mut Places) -> R
             encoder.set_name_encoding(*mode);
             reply_to(encoder, Ok(()))
         }
+        Step::Canonical(canonical) => {
+            encoder.set_canonical_form(*canonical);
+            reply_to(encoder, Ok(()))
+        }
         Step::Reserve => reserve(encoder, places),
         Step::Fill { place, value } => fill(encoder, places, *place, *value),
+        Step::Record(record) => write(encoder, record),
         Step::Items(items) => write_items(encoder, items.as_slice()),
     }
 }
