@@ -1,8 +1,8 @@
-//! `growth SCENARIO..` runs scenarios on the encoder and on names, edits of names, scripts, and texts of master files, and prints what stands after each call
-//! or step.
+//! `growth SCENARIO..` runs scenarios on the encoder and on names, edits of names, scripts, and texts of master files, and
+//! prints what is there after each call or step.
 //!
-//! The program's words and lines take no memory. So each growth that `rt try --fail-alloc N` counts is one that the
-//! library asks for, or one for the steps that a script is made of, and `.ci/growth` refuses every one of them in turn.
+//! The program's words and lines allocate nothing. So each allocation is one of the library, or one for the steps that a
+//! script is made of, and `.ci/growth` makes every one of them fail in turn.
 #![tactic(auto)]
 
 mod edits;
@@ -22,8 +22,8 @@ use std::rt::Env;
 /// The longest word that may name a scenario.
 const LONGEST: usize = 32;
 
-/// Runs the scenarios that the words name, or all of them for the word `all`, and tells the exit status: 2 where a
-/// word names none.
+/// Runs the scenarios that the words name, or all of them for the word `all`, and returns the exit status: 2 if a word
+/// names none.
 fn run<R: Env + Print + AllocGlobal>(rt: &R) -> io::Result<u8> {
     let mut out = io::writer(rt);
     for i in 1..usize::MAX {

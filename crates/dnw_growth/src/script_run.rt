@@ -2,8 +2,12 @@
 
 use crate::scripts::{Line, Script, steps};
 use crate::show::show_bytes;
+use dns_names_wire::binary::BinDecodable;
 use dns_names_wire::decoder::BinDecoder;
+use dns_names_wire::error::ProtoResult;
 use dns_names_wire::name::Name;
+use dns_names_wire::record::RecordRef;
+use dns_names_wire::record_type::RecordType;
 use dns_names_wire::script::{self, Reply};
 use std::alloc::Global;
 use std::io;
@@ -60,6 +64,7 @@ fn show_line<W: Write>(out: &mut W, line: Line) -> io::Result<()> {
         Line::Max(size) => write!(out, "max {size}"),
         Line::Reserve => write!(out, "reserve"),
         Line::Fill(place, value) => write!(out, "fill {place} {value}"),
+        Line::Record(owner, server) => write!(out, "record {owner:?} NS {server:?}"),
         Line::Items(items) => write!(out, "items {items:?}"),
     }
 }
@@ -82,7 +87,7 @@ fn show_reply<W: Write>(out: &mut W, reply: &Reply) -> io::Result<()> {
     }
 }
 
-/// Reads the names of each accepted step.
+/// Reads the names of each accepted step, or its record.
 fn show_readings<W: Write>(
     alloc: Global,
     out: &mut W,
@@ -92,7 +97,10 @@ fn show_readings<W: Write>(
 ) -> io::Result<()> {
     let mut place = 0;
     for (line, reply) in lines.iter().zip(replies) {
-        show_names(alloc, out, message, place, accepted_names(*line, reply))?;
+        match (line, reply) {
+            (Line::Record(..), Reply::Done { .. }) => show_record(alloc, out, message, place)?,
+            _ => show_names(alloc, out, message, place, accepted_names(*line, reply))?,
+        }
         place = match reply {
             Reply::Done { len } | Reply::Refused { len, .. } | Reply::Items { len, .. } => *len,
             Reply::NoPlace => place,
@@ -136,4 +144,32 @@ fn show_names<W: Write>(
         }
     }
     Ok(())
+}
+
+/// Reads the record at this offset.
+fn show_record<W: Write>(
+    alloc: Global,
+    out: &mut W,
+    message: &[u8],
+    place: usize,
+) -> io::Result<()> {
+    let mut decoder = BinDecoder::new(message);
+    if decoder.read_slice(place).is_err() {
+        return writeln!(out, "{place}: past the end");
+    }
+    match read_record(alloc, &mut decoder) {
+        Ok((owner, kind, server)) => writeln!(out, "{place}: {owner} {kind} {server}"),
+        Err(e) => writeln!(out, "{place}: {e}"),
+    }
+}
+
+/// Returns the owner of a record, its type and the name in its data.
+fn read_record(
+    alloc: Global,
+    decoder: &mut BinDecoder<'_>,
+) -> ProtoResult<(Name, RecordType, Name)> {
+    let record = RecordRef::read(alloc, decoder)?;
+    let owner = record.owner().to_name(alloc)?;
+    let server = record.data_name(alloc)?;
+    Ok((owner, record.record_type(), server))
 }

@@ -1,5 +1,6 @@
 //! The scripts. A new one is a new entry, and a file of what must be seen in the folder `expected`.
 
+use crate::step::record_of;
 use dns_names_wire::error::ProtoResult;
 use dns_names_wire::name::Name;
 use dns_names_wire::script::{Item, Part, Step};
@@ -13,6 +14,8 @@ pub enum Line {
     Max(u16),
     Reserve,
     Fill(usize, u16),
+    /// An NS record of this owner, with this name as its data.
+    Record(&'static str, &'static str),
     /// Items, each of names alone.
     Items(&'static [&'static [&'static str]]),
 }
@@ -24,8 +27,8 @@ pub struct Script {
     pub lines: &'static [Line],
 }
 
-/// Every script. `.ci/growth` refuses each of their growths in turn.
-pub const SCRIPTS: &[Script] = &[SHARING, PLACED, UNDONE, MANY, LONG, HOSTS];
+/// Every script. `.ci/growth` makes each of their allocations fail in turn.
+pub const SCRIPTS: &[Script] = &[SHARING, PLACED, UNDONE, RECORD, MANY, LONG, HOSTS];
 
 /// Each name shares what it can with those before it.
 const SHARING: Script = Script {
@@ -59,6 +62,17 @@ const UNDONE: Script = Script {
         Line::Max(20),
         Line::Bytes(&[1, 0x78, 0]),
         Line::Name("x."),
+    ],
+};
+
+/// A record is undone whole, in whichever of its fields memory runs out. The placeholder before it keeps the first
+/// allocation of the buffer small.
+const RECORD: Script = Script {
+    name: "script_record",
+    lines: &[
+        Line::Reserve,
+        Line::Record("a.", "b.a."),
+        Line::Name("b.a."),
     ],
 };
 
@@ -177,6 +191,7 @@ fn step(alloc: Global, line: Line) -> ProtoResult<Step> {
         Line::Max(size) => Step::Max(size),
         Line::Reserve => Step::Reserve,
         Line::Fill(place, value) => Step::Fill { place, value },
+        Line::Record(owner, server) => Step::Record(record_of(alloc, owner, server)?),
         Line::Items(items) => Step::Items(items_of(alloc, items)?),
     })
 }

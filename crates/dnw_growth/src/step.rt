@@ -101,7 +101,12 @@ pub(crate) fn take(
     Ok(Answer::Done)
 }
 
-fn record_of(alloc: Global, owner: &'static str, server: &'static str) -> ProtoResult<WireRecord> {
+/// Returns the NS record of an owner, with this name as its data.
+pub(crate) fn record_of(
+    alloc: Global,
+    owner: &'static str,
+    server: &'static str,
+) -> ProtoResult<WireRecord> {
     Ok(WireRecord {
         owner: Name::from_ascii(alloc, owner)?,
         record_type: RecordType::NS,

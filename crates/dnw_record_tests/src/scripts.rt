@@ -41,7 +41,7 @@ fn with_name(
 }
 
 /// Returns the message that a script writes: this step, a header with these flags and counts, and a record for each row.
-pub fn message_of(
+pub(crate) fn message_of(
     alloc: Global,
     first: Step,
     flags: u16,
