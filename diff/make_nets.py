@@ -15,7 +15,7 @@ from oracle import Oracle, Random
 ADDRESSES = 12_000
 NAMES = 45_000
 PLAIN = set(b"abcdefghijklmnopqrstuvwxyzABCDEFGHIJKLMNOPQRSTUVWXYZ0123456789+-_")
-# Labels in the place of octets and half-octets: numbers at the limits, with signs and zeros, and what is no number.
+# Labels in the place of octets and nibbles: numbers at the limits, with signs and zeros, and what is no number.
 OCTETS = [b"0", b"00", b"000000001", b"+7", b"+", b"++1", b"-1", b"255", b"256", b"0255", b"1000", b"a", b"1a", b"0x1", b"1 ",
           b"\xff", b"1\xff", b"\xc3\xa9", b"\xd9\xa1", b"99999999999999999999", b"1" * 63]
 DIGITS = [b"0", b"f", b"F", b"A", b"9", b"g", b"G", b"+", b"-", b"\xff", b"\x80", b"\x00", b"00", b"0f", b"\xc3\xa9", b"*"]
@@ -48,7 +48,7 @@ def address(random):
 
 
 def values(random, ip6):
-    """Labels of octets or half-octets, most of them right, from the first to the last."""
+    """Labels of octets or nibbles, most of them right, from the first to the last."""
     most = 32 if ip6 else 4
     count = random.pick([most, most, most, random.below(most + 1), random.below(most + 1), most + 1, most + random.below(6)])
     if ip6:

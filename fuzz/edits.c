@@ -4,11 +4,6 @@
 
 static struct room names, others, results;
 
-struct part {
-    const uint8_t *bytes;
-    size_t len;
-};
-
 /* Puts labels, as they are in a wire form, after those of a name, if they fit in one. */
 static bool add_labels(struct model_name *name, const uint8_t *labels, size_t len)
 {
@@ -99,10 +94,9 @@ static void cuts(struct part part, size_t labels)
 
 int LLVMFuzzerTestOneInput(const uint8_t *data, size_t size)
 {
-    if (size < 2 || (size_t)data[0] + data[1] > size - 2)
+    struct part parts[3];
+    if (!cut_in_three(data, size, parts))
         return 0;
-    struct part parts[3] = {{data + 2, data[0]}, {data + 2 + data[0], data[1]}};
-    parts[2] = (struct part){parts[1].bytes + data[1], size - 2 - data[0] - data[1]};
     for (size_t i = 0; i < 3; i++) {
         for (size_t j = 0; j < 3; j++)
             joins(parts[i], parts[j]);

@@ -89,3 +89,21 @@ bool untouched(const uint8_t *buffer, size_t size)
 {
     return is_filled(buffer - FILLED, size + FILLED);
 }
+
+bool cut_in_three(const uint8_t *data, size_t size, struct part parts[3])
+{
+    if (size < 2 || (size_t)data[0] + data[1] > size - 2)
+        return false;
+    parts[0] = (struct part){data + 2, data[0]};
+    parts[1] = (struct part){parts[0].bytes + data[0], data[1]};
+    parts[2] = (struct part){parts[1].bytes + data[1], size - 2 - data[0] - data[1]};
+    return true;
+}
+
+size_t put_repeated(uint8_t *buffer, size_t size, const uint8_t *bytes, size_t len, size_t times)
+{
+    size_t put = 0;
+    for (size_t i = 0; i <= times && put + len <= size; i++, put += len)
+        memcpy(buffer + put, bytes, len);
+    return put;
+}

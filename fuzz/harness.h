@@ -1,4 +1,4 @@
-/* What the harnesses share: a check, guarded pages, and a malloc that can be refused. */
+/* What the harnesses share: a check, guarded pages, a malloc that can be refused, and the parts of an input. */
 #ifndef HARNESS_H
 #define HARNESS_H
 
@@ -40,6 +40,19 @@ void refuse(size_t number);
 
 /* Returns whether an allocation was refused since, and stops that. */
 bool was_refused(void);
+
+/* A part of an input. */
+struct part {
+    const uint8_t *bytes;
+    size_t len;
+};
+
+/* Cuts an input in three: its first two octets are the lengths of the first two parts, and the rest is the third. Returns
+   false if the input is shorter. */
+bool cut_in_three(const uint8_t *data, size_t size, struct part parts[3]);
+
+/* Puts bytes into a buffer so many times and once more, as often as they fit, and returns how many octets these are. */
+size_t put_repeated(uint8_t *buffer, size_t size, const uint8_t *bytes, size_t len, size_t times);
 
 int LLVMFuzzerTestOneInput(const uint8_t *data, size_t size);
 

@@ -68,13 +68,9 @@ static void writes(const uint8_t *list, size_t len, uint16_t max_size)
 int LLVMFuzzerTestOneInput(const uint8_t *data, size_t size)
 {
     static uint8_t list[LIST_MAX];
-    size_t len = 0;
     if (size < 3)
         return 0;
-    for (size_t i = 0; i <= data[2] && len + (size - 3) <= sizeof list; i++) {
-        memcpy(list + len, data + 3, size - 3);
-        len += size - 3;
-    }
+    size_t len = put_repeated(list, sizeof list, data + 3, size - 3, data[2]);
     const uint8_t *there = put_at_end(&input, list, len);
     writes(there, len, (uint16_t)(data[0] << 8 | data[1]));
     CHECK(memcmp(there, list, len) == 0);

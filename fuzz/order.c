@@ -4,11 +4,6 @@
 
 static struct room lefts, rights, lowered;
 
-struct part {
-    const uint8_t *bytes;
-    size_t len;
-};
-
 static int32_t compare(struct part left, struct part right)
 {
     int32_t order = 7;
@@ -63,10 +58,9 @@ static void lowers(struct part name)
 
 int LLVMFuzzerTestOneInput(const uint8_t *data, size_t size)
 {
-    if (size < 2 || (size_t)data[0] + data[1] > size - 2)
+    struct part parts[3];
+    if (!cut_in_three(data, size, parts))
         return 0;
-    struct part parts[3] = {{data + 2, data[0]}, {data + 2 + data[0], data[1]}};
-    parts[2] = (struct part){parts[1].bytes + data[1], size - 2 - data[0] - data[1]};
     for (size_t i = 0; i < 3; i++) {
         lowers(parts[i]);
         for (size_t j = 0; j < 3; j++)

@@ -122,13 +122,9 @@ static void reads(const uint8_t *bitmap, size_t len)
 int LLVMFuzzerTestOneInput(const uint8_t *data, size_t size)
 {
     static uint8_t bytes[BITMAP_MAX];
-    size_t len = 0;
     if (size < 1)
         return 0;
-    for (size_t i = 0; i <= data[0] && len + (size - 1) <= sizeof bytes; i++) {
-        memcpy(bytes + len, data + 1, size - 1);
-        len += size - 1;
-    }
+    size_t len = put_repeated(bytes, sizeof bytes, data + 1, size - 1, data[0]);
     reads(put_at_end(&input, bytes, len), len);
     size_t count = (size - 1) / 2;
     const uint8_t *codes = put_at_end(&input, data + 1, 2 * count);

@@ -172,7 +172,7 @@ uint32_t dnw_types_read(const uint8_t *bitmap, size_t bitmap_len, uint16_t *code
 
 /* Puts the bitmap of the types with these codes, in any order and any number of times, and its length into `len`: windows
    in ascending order, none longer than needed. `codes_count` counts codes. It fails with DNW_NO_ROOM if the bitmap has more
-   than `bitmap_size` octets, or with DNW_NO_MEMORY. */
+   than `bitmap_size` octets, and with DNW_NO_MEMORY, but not if there are no codes. */
 uint32_t dnw_types_write(const uint16_t *codes, size_t codes_count, uint8_t *bitmap, size_t bitmap_size, size_t *len);
 
 /* Puts the seconds of a time to live: groups of digits and a unit of `s`, `m`, `h`, `d` or `w` in either case, of which the

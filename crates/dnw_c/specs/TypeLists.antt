@@ -30,7 +30,8 @@ FailsToList bitmap size failure =
 abbrev pub IsBitmapOf : List ℕ → List ℕ → Type 0
 IsBitmapOf codes bitmap = (types : List RecordType) × IsSetOf (map type_of_code codes) types × Encodes (set_codes types) bitmap
 
--- Codes are not written into a buffer of this size: their bitmap is longer, or memory ran out.
+-- Codes are not written into a buffer of this size: their bitmap is longer, or there are some and memory ran out.
 abbrev pub FailsToBitmap : List ℕ → ℕ → Failure → Type 0
 FailsToBitmap codes size failure =
-    (failure ≡ NoMemory) ⊎ ((bitmap : List ℕ) × IsBitmapOf codes bitmap × (size < length bitmap) × (failure ≡ NoRoom))
+    ((1 ≤ length codes) × (failure ≡ NoMemory))
+    ⊎ ((bitmap : List ℕ) × IsBitmapOf codes bitmap × (size < length bitmap) × (failure ≡ NoRoom))

@@ -130,7 +130,7 @@ fn codes_of(alloc: Global, set: &RecordTypeSet) -> Result<Vec<u16>, AllocError>
 /// Returns the set of the types with these codes.
 fn set_of(alloc: Global, codes: &[u16]) -> Result<RecordTypeSet, Failure>
     ensures ok { IfOk result (λ set. IsSetOf (map type_of_code codes.now) set.types × Encodes (set_codes set.types) set.encoding) }
-    ensures err { IfErr result (λ failure. failure ≡ NoMemory) }
+    ensures err { IfErr result (λ failure. (1 ≤ length codes.now) × (failure ≡ NoMemory)) }
 {
     let Ok(types) = types_of(alloc, codes) else {
         return Err(Failure::NoMemory);
@@ -143,7 +143,8 @@ fn set_of(alloc: Global, codes: &[u16]) -> Result<RecordTypeSet, Failure>
 
 /// Returns the types with these codes.
 fn types_of(alloc: Global, codes: &[u16]) -> Result<Vec<RecordType>, AllocError>
-    ensures { IfOk result (λ types. types.items ≡ map type_of_code codes.now) }
+    ensures ok { IfOk result (λ types. types.items ≡ map type_of_code codes.now) }
+    ensures err { OnErr result (1 ≤ length codes.now) }
 {
     let mut types = Vec::new(alloc);
     for code in codes {

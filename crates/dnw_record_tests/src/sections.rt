@@ -27,7 +27,7 @@ pub enum Data<'d> {
 
 /// A record of a section, of class IN.
 #[derive(Clone, Copy)]
-pub struct Row<'d> {
+pub(crate) struct Row<'d> {
     /// The text of its owner.
     pub owner: &'d str,
     /// Its type.
@@ -37,7 +37,7 @@ pub struct Row<'d> {
 }
 
 /// Returns the record of a row.
-pub fn record_of(alloc: Global, row: Row<'_>) -> ProtoResult<WireRecord> {
+pub(crate) fn record_of(alloc: Global, row: Row<'_>) -> ProtoResult<WireRecord> {
     let rdata = match row.data {
         Data::Bytes(bytes) => WireData::Bytes(Vec::from_slice(alloc, bytes)?),
         Data::Name(text, encoding) => WireData::Name {
@@ -55,7 +55,7 @@ pub fn record_of(alloc: Global, row: Row<'_>) -> ProtoResult<WireRecord> {
 }
 
 /// Writes a header with these flags and counts, of one question and of the records of three sections.
-pub fn write_header(encoder: &mut BinEncoder<'_>, flags: u16, counts: [u16; 3]) -> ProtoResult<()> {
+pub(crate) fn write_header(encoder: &mut BinEncoder<'_>, flags: u16, counts: [u16; 3]) -> ProtoResult<()> {
     encoder.emit_u16(0x1234)?;
     encoder.emit_u16(flags)?;
     encoder.emit_u16(0)?;
@@ -65,7 +65,7 @@ pub fn write_header(encoder: &mut BinEncoder<'_>, flags: u16, counts: [u16; 3]) 
 }
 
 /// Writes the rows in turn, up to the first that is refused, and returns how many were written.
-pub fn write_rows(
+pub(crate) fn write_rows(
     alloc: Global,
     encoder: &mut BinEncoder<'_>,
     rows: &[Row<'_>],
@@ -81,7 +81,7 @@ pub fn write_rows(
 }
 
 /// Returns `true` if the message has these rows after its header, and nothing after them.
-pub fn has_rows(alloc: Global, message: &[u8], rows: &[Row<'_>]) -> ProtoResult<bool> {
+pub(crate) fn has_rows(alloc: Global, message: &[u8], rows: &[Row<'_>]) -> ProtoResult<bool> {
     let mut decoder = BinDecoder::new(message);
     decoder.skip(HEADER)?;
     for row in rows {
