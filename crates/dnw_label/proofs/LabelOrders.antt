@@ -41,22 +41,22 @@ labels_preorder {R} p =
           sym (same xs zs hx hz) ∙ total.congr xs ys zs (same xs ys hx hy ∙ tied) ∙ same ys zs hy hz;
     }
 
--- where one list has ended, the lengths decide
-pub slice_cmp-ended : (R : ℕ → ℕ → Ordering) (i : ℕ) (xs ys : List ℕ) (r : Ordering)
+-- if one list has ended, the lengths decide
+pub slice_cmp-ended : {A : Type 0} (R : A → A → Ordering) (or : A) (i : ℕ) (xs ys : List A) (r : Ordering)
     → MatchOrdering r (length xs < length ys) (length xs ≡ length ys) (length ys < length xs) → i ≡ min (length xs) (length ys)
     → slice_cmp R (drop i xs) (drop i ys) ≡ r
-slice_cmp-ended R i xs ys Less h e =
+slice_cmp-ended R or i xs ys Less h e =
     let none : length xs ≤ i = omega (arith, h, e) in
     let more : i < length ys = omega (arith, h, e) in
-    rw (drop_all i xs none, drop_more ys i 0 more) refl
-slice_cmp-ended R i xs ys Equal h e =
+    rw (drop_all i xs none, drop_more ys i or more) refl
+slice_cmp-ended R or i xs ys Equal h e =
     let none : length xs ≤ i = omega (arith, h, e) in
     let none_too : length ys ≤ i = omega (arith, h, e) in
     rw (drop_all i xs none, drop_all i ys none_too) refl
-slice_cmp-ended R i xs ys Greater h e =
+slice_cmp-ended R or i xs ys Greater h e =
     let none : length ys ≤ i = omega (arith, h, e) in
     let more : i < length xs = omega (arith, h, e) in
-    rw (drop_all i ys none, drop_more xs i 0 more) refl
+    rw (drop_all i ys none, drop_more xs i or more) refl
 
 -- lists whose items are compared through a function are compared item by item under it
 pub slice_cmp-on : {A B : Type 0} (f : A → B) (R : B → B → Ordering) (xs ys : List A) → slice_cmp (on f R) xs ys ≡ slice_cmp R (map f xs) (map f ys)

@@ -14,7 +14,7 @@ use Rattle.dnw_form.specs.NameText.{IsLabelText, name_from_text, name_text}
 use Rattle.dnw_form.proofs.ReadBack.{read_back}
 use Rattle.dnw_net.specs.NetTexts.{net_addr, net_prefix_len, ip_size}
 use Rattle.dnw_net.specs.declared.net.IpNet.{IpNet}
-use Rattle.dnw_reverse.specs.Arpa.{ArpaPrefix, IsArpaPrefix, arpa, arpa_labels, arpa_name, arpa_prefix, family_label, half_octets, ip_prefix, most_values, padded, prefix_below, prefix_from_end, prefix_of, reverse_name, value_bits, value_label}
+use Rattle.dnw_reverse.specs.Arpa.{ArpaPrefix, IsArpaPrefix, arpa, arpa_labels, arpa_name, arpa_prefix, family_label, nibbles, ip_prefix, most_values, padded, prefix_below, prefix_from_end, prefix_of, reverse_name, value_bits, value_label}
 use Rattle.dnw_reverse.specs.ArpaLaws.{IsIpAddr}
 use Rattle.dnw_reverse.specs.ArpaNets.{IsNetOf}
 use Rattle.dnw_reverse.specs.declared.reading.Family.{Family}
@@ -111,13 +111,13 @@ all_below : (n : ℕ) (xs : List ℕ) → ((k : ℕ) → slice_index xs k < n) �
 all_below n [] h = tt
 all_below n (x ∷ xs) h = (h 0, all_below n xs (λ k. h (suc k)))
 
-halves_fit : (segments : List ℕ) → AllByRecursion (λ s. s < 2 ^ 16) segments → AllByRecursion (λ v. v < 2 ^ 4) (half_octets segments)
+halves_fit : (segments : List ℕ) → AllByRecursion (λ s. s < 2 ^ 16) segments → AllByRecursion (λ v. v < 2 ^ 4) (nibbles segments)
 halves_fit [] h = tt
 halves_fit (s ∷ segments) h =
     let small : s < 65536 = h.0 in
     (omega arith, (omega arith, (omega arith, (omega arith, halves_fit segments h.1))))
 
-halves_length : (segments : List ℕ) → length (half_octets segments) ≡ 4 * length segments
+halves_length : (segments : List ℕ) → length (nibbles segments) ≡ 4 * length segments
 halves_length [] = refl
 halves_length (s ∷ segments) = omega (arith, halves_length segments)
 
@@ -144,7 +144,7 @@ segment_is s = omega arith
 same_segment : (s t : ℕ) → s / 4096 ≡ t / 4096 → s / 256 % 16 ≡ t / 256 % 16 → s / 16 % 16 ≡ t / 16 % 16 → s % 16 ≡ t % 16 → s ≡ t
 same_segment s t a b c d = omega (arith, segment_is s, segment_is t)
 
-halves_injective : (xs ys : List ℕ) → half_octets xs ≡ half_octets ys → xs ≡ ys
+halves_injective : (xs ys : List ℕ) → nibbles xs ≡ nibbles ys → xs ≡ ys
 halves_injective [] [] e = refl
 halves_injective [] (y ∷ ys) e = absurd (cc)
 halves_injective (x ∷ xs) [] e = absurd (cc)
@@ -153,7 +153,7 @@ halves_injective (x ∷ xs) (y ∷ ys) e =
     let second : x / 256 % 16 ≡ y / 256 % 16 = cc in
     let third : x / 16 % 16 ≡ y / 16 % 16 = cc in
     let fourth : x % 16 ≡ y % 16 = cc in
-    let rest : half_octets xs ≡ half_octets ys = cc in
+    let rest : nibbles xs ≡ nibbles ys = cc in
     let same : x ≡ y = same_segment x y first second third fourth in
     rw (same, halves_injective xs ys rest) refl
 

@@ -1,4 +1,4 @@
--- The labels of octets and half-octets: how they are read back, and that they are labels and stand for themselves as text.
+-- The labels of octets and nibbles: how they are read back, and that they are labels and stand for themselves as text.
 use Rattle.std.proofs.Common.{◌≡◌, ℕ, ◌+◌, ◌*◌, ◌^◌, ◌<◌, ◌≤◌, ◌/◌, ◌%◌, true, List, [], ◌∷◌, ◌++◌, length, map, Ok, refl, sym, subst, arith, decimal, inl, inr}
 use Rattle.std.specs.Char.{digit_char, digit_value}
 use Rattle.std.specs.List.{AllByRecursion}
@@ -22,7 +22,7 @@ use Rattle.dnw_reverse.proofs.Values.{octet_parses}
 pub ascii_text : (l : List ℕ) → IsAscii l → is_utf8 l ≡ true
 ascii_text l h = is_utf8-from_IsUtf8 l (IsUtf8-from_ascii l h)
 
--- the digit of a half-octet
+-- the digit of a nibble
 digit_back : (v : ℕ) → v < 16 → digit_value (digit_char v) ≡ v
 digit_back v h = grind (arith, nat_tests)
 
@@ -49,7 +49,7 @@ pub values_back : (family : Family) (vs : List ℕ) → AllByRecursion (λ v. v 
 values_back family [] h = refl
 values_back family (v ∷ vs) h = rw (value_back family v h.0, values_back family vs h.1) refl
 
--- what the label of an octet or a half-octet is
+-- what the label of an octet or a nibble is
 record IsShort (l : List ℕ) : Type 0 where
   label : IsLabel l
   text : IsLabelText l

@@ -1,4 +1,4 @@
--- What labels give as octets and half-octets.
+-- What labels give as octets and nibbles.
 use Rattle.std.proofs.Common.{◌≡◌, ℕ, zero, suc, ◌+◌, ◌-◌, ◌<◌, ◌≤◌, ◌^◌, Bool, true, false, nat_lt, List, [], ◌∷◌, ◌++◌, length, take, slice_index, ◌&&◌, if◌then◌else◌, Result, Ok, Err, refl, sym, ap, ◌∙◌, append_assoc, arith}
 use Rattle.std.specs.Char.{digit_value, is_digit}
 use Rattle.std.specs.List.{AllByRecursion, list_all}
@@ -9,7 +9,7 @@ use Rattle.std.proofs.lemmas.Str.{IsUtf8-from_is_utf8}
 use Rattle.std.proofs.lemmas.Bool.{and_parts, ltb-true, ne_eqb, false_from_ne_true, true≢false}
 use Rattle.std.proofs.lemmas.Bool.Decides.{nat_tests}
 use Rattle.std.proofs.lemmas.List.{append-nil, length-append}
-use Rattle.dnw_reverse.specs.Arpa.{ArpaFault, NotANumber, NotOneDigit, NotUtf8, IsArpaPrefix, TooManyLabels, is_octet_text, octet_of, half_octet_of, value_bits, value_of, values_of, most_values, prefix_of, ◌>>=◌}
+use Rattle.dnw_reverse.specs.Arpa.{ArpaFault, NotANumber, NotOneDigit, NotUtf8, IsArpaPrefix, TooManyLabels, is_octet_text, octet_of, nibble_of, value_bits, value_of, values_of, most_values, prefix_of, ◌>>=◌}
 use Rattle.dnw_reverse.specs.Inside.Reading.{ended, prefix_after}
 use Rattle.dnw_reverse.specs.declared.reading.Family.{Family}
 use Rattle.dnw_reverse.specs.declared.reading.Family.TheVariants.{Ipv4, Ipv6}
@@ -101,15 +101,15 @@ parsed ds false e = λ p. true≢false (sym (octet_text ds p.0 p.1) ∙ e)
 pub octet_parses : (l : List ℕ) → is_utf8 l ≡ true → ParsesUnsigned 8 10 l (octet_of l)
 octet_parses l utf8 = rw utf8 (parsed (without_leading_plus l) (is_octet_text (without_leading_plus l)) refl)
 
--- each fault of a half-octet
-pub half_octet_of-long : (l : List ℕ) → ¬ (length l ≡ 1) → half_octet_of l ≡ Err NotOneDigit
-half_octet_of-long l h = rw (ne_eqb (length l) 1 h) refl
+-- each fault of a nibble
+pub nibble_of-long : (l : List ℕ) → ¬ (length l ≡ 1) → nibble_of l ≡ Err NotOneDigit
+nibble_of-long l h = rw (ne_eqb (length l) 1 h) refl
 
-pub half_octet_of-bytes : (l : List ℕ) → length l ≡ 1 → is_utf8 l ≡ false → half_octet_of l ≡ Err NotUtf8
-half_octet_of-bytes l one bytes = rw (one, bytes) refl
+pub nibble_of-bytes : (l : List ℕ) → length l ≡ 1 → is_utf8 l ≡ false → nibble_of l ≡ Err NotUtf8
+nibble_of-bytes l one bytes = rw (one, bytes) refl
 
-pub half_octet_of-other : (l : List ℕ) → length l ≡ 1 → is_utf8 l ≡ true → ¬ (digit_value (slice_index l 0) < 16) → half_octet_of l ≡ Err NotANumber
-half_octet_of-other l one utf8 h =
+pub nibble_of-other : (l : List ℕ) → length l ≡ 1 → is_utf8 l ≡ true → ¬ (digit_value (slice_index l 0) < 16) → nibble_of l ≡ Err NotANumber
+nibble_of-other l one utf8 h =
     let none : is_digit (slice_index l 0) 16 ≡ false = false_from_ne_true (is_digit (slice_index l 0) 16) (λ e. h (ltb-true _ _ e)) in
     rw (one, utf8, none) refl
 

@@ -1,6 +1,6 @@
 -- Reverse names: the names below `in-addr.arpa` and `ip6.arpa` under which PTR queries find the domain names of an address
--- (RFC 1035, section 3.5; RFC 3596, section 2.5). An address is written from its last octet or half-octet to its first, so
--- the first labels from the end are the net.
+-- (RFC 1035, section 3.5; RFC 3596, section 2.5). An address is written from its last octet, or from its last
+-- nibble of four bits, to its first, so the first labels from the end are the net.
 use Rattle.std.specs.Prelude.{◌≡◌, ℕ, zero, suc, ◌/◌, ◌%◌, ◌^◌, ◌<◌, ◌≤◌, ◌&&◌, ◌==◌, Bool, true, nat_lt, if◌then◌else◌, List, [], ◌∷◌, ◌++◌, length, take, map, reverse, slice_index, codes, decimal, Result, Ok, Err}
 use Rattle.std.specs.Char.{digit_char, digit_value, is_digit}
 use Rattle.std.specs.List.{AllByRecursion, list_all}
@@ -17,14 +17,14 @@ use Rattle.dnw_label.specs.LabelOrder.{label_eq}
 use Rattle.dnw_reverse.specs.declared.reading.Family.{Family}
 use Rattle.dnw_reverse.specs.declared.reading.Family.TheVariants.{Ipv4, Ipv6}
 
--- The first octets of an IPv4 address, or the first half-octets of an IPv6 address.
+-- The first octets of an IPv4 address, or the first nibbles of an IPv6 address.
 pub record ArpaPrefix : Type 0 where
   pub family : Family
   pub values : List ℕ
 
 -- a number of four bits
-abbrev pub IsHalfOctet : ℕ → Type 0
-IsHalfOctet v = v < 16
+abbrev pub IsNibble : ℕ → Type 0
+IsNibble v = v < 16
 
 -- the first n numbers, with zeros in the place of those that there are not
 abbrev pub padded : ℕ → List ℕ → List ℕ
@@ -32,12 +32,12 @@ padded zero vs = []
 padded (suc n) [] = 0 ∷ padded n []
 padded (suc n) (v ∷ vs) = v ∷ padded n vs
 
--- The four half-octets of each segment of 16 bits, the highest first.
-abbrev pub half_octets : List ℕ → List ℕ
-half_octets [] = []
-half_octets (s ∷ segments) = (s / 4096) ∷ (s / 256 % 16) ∷ (s / 16 % 16) ∷ (s % 16) ∷ half_octets segments
+-- The four nibbles of each segment of 16 bits, the highest first.
+abbrev pub nibbles : List ℕ → List ℕ
+nibbles [] = []
+nibbles (s ∷ segments) = (s / 4096) ∷ (s / 256 % 16) ∷ (s / 16 % 16) ∷ (s % 16) ∷ nibbles segments
 
--- how many octets or half-octets an address has
+-- how many octets or nibbles an address has
 abbrev pub most_values : Family → ℕ
 most_values Ipv4 = 4
 most_values Ipv6 = 32
@@ -47,7 +47,7 @@ abbrev pub value_bits : Family → ℕ
 value_bits Ipv4 = 8
 value_bits Ipv6 = 4
 
--- no more octets or half-octets than an address has, and each has its bits
+-- no more octets or nibbles than an address has, and each has its bits
 pub record IsArpaPrefix (p : ArpaPrefix) : Type 0 where
   pub few : length p.values ≤ most_values p.family
   pub fit : AllByRecursion (λ v. v < 2 ^ value_bits p.family) p.values
@@ -60,12 +60,12 @@ family_label Ipv6 = codes "ip6"
 abbrev pub arpa : List ℕ
 arpa = codes "arpa"
 
--- an octet in decimal without leading zeros, a half-octet as one hexadecimal digit, small if it is a letter
+-- an octet in decimal without leading zeros, a nibble as one hexadecimal digit, small if it is a letter
 abbrev pub value_label : Family → ℕ → List ℕ
 value_label Ipv4 v = decimal v
 value_label Ipv6 v = digit_char v ∷ []
 
--- The labels of a prefix: its octets or half-octets from the last to the first, and those of its family.
+-- The labels of a prefix: its octets or nibbles from the last to the first, and those of its family.
 abbrev pub arpa_labels : ArpaPrefix → List (List ℕ)
 arpa_labels p = map (value_label p.family) (reverse p.values) ++ family_label p.family ∷ arpa ∷ []
 
@@ -75,7 +75,7 @@ arpa_name p = record { is_fqdn = true; labels = arpa_labels p }
 -- all of an address
 abbrev pub ip_prefix : IpAddr → ArpaPrefix
 ip_prefix (V4 a) = record { family = Ipv4; values = ipv4_octets a }
-ip_prefix (V6 a) = record { family = Ipv6; values = half_octets (ipv6_segments a) }
+ip_prefix (V6 a) = record { family = Ipv6; values = nibbles (ipv6_segments a) }
 
 -- the reverse name of an address
 abbrev pub reverse_name : IpAddr → NameValue
@@ -111,15 +111,15 @@ octet_of l = do
   text ← as_text l
   if is_octet_text (without_leading_plus text) then Ok (digits_value 10 (without_leading_plus text)) else Err NotANumber
 
--- A half-octet is one hexadecimal digit in either case.
-abbrev pub half_octet_of : List ℕ → Result ℕ ArpaFault
-half_octet_of l =
+-- A nibble is one hexadecimal digit in either case.
+abbrev pub nibble_of : List ℕ → Result ℕ ArpaFault
+nibble_of l =
     if length l == 1 then as_text l >>= (λ text. if is_digit (slice_index text 0) 16 then Ok (digit_value (slice_index text 0)) else Err NotANumber)
     else Err NotOneDigit
 
 abbrev pub value_of : Family → List ℕ → Result ℕ ArpaFault
 value_of Ipv4 l = octet_of l
-value_of Ipv6 l = half_octet_of l
+value_of Ipv6 l = nibble_of l
 
 -- the value of each label, up to the first fault
 abbrev pub values_of : Family → List (List ℕ) → Result (List ℕ) ArpaFault

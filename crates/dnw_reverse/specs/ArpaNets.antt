@@ -5,7 +5,7 @@ use Rattle.dnw_net.specs.NetTexts.{net_addr, net_prefix_len}
 use Rattle.dnw_net.specs.declared.net.IpNet.{IpNet}
 use Rattle.dnw_reverse.specs.Arpa.{ArpaPrefix, ArpaFault, FailsArpa, ip_prefix, padded, most_values, value_bits}
 
--- the prefix with zeros up to the number of octets or half-octets that an address has
+-- the prefix with zeros up to the number of octets or nibbles that an address has
 abbrev pub filled : ArpaPrefix → ArpaPrefix
 filled p = record { family = p.family; values = padded (most_values p.family) p.values }
 

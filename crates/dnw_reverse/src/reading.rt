@@ -4,7 +4,7 @@ ghost use Rattle.std.specs.List.{AllByRecursion};
 ghost use Rattle.std.specs.Net.Addr.{ipv4_octets, ipv6_segments};
 ghost use Rattle.std.specs.Str.{is_utf8};
 ghost use Rattle.dnw_label.specs.LabelOrder.{label_eq};
-ghost use Rattle.dnw_reverse.specs.Arpa.{TooManyLabels, prefix_from_end, prefix_below, prefix_of, octet_of, half_octet_of, value_of, most_values, value_bits, half_octets, padded, IsHalfOctet, IsArpaPrefix, FollowsArpa, FailsArpa, ReportsArpa};
+ghost use Rattle.dnw_reverse.specs.Arpa.{TooManyLabels, prefix_from_end, prefix_below, prefix_of, octet_of, nibble_of, value_of, most_values, value_bits, nibbles, padded, IsNibble, IsArpaPrefix, FollowsArpa, FailsArpa, ReportsArpa};
 ghost use Rattle.dnw_reverse.specs.ArpaNets.{ReadsNet};
 
 use arrayvec::ArrayVec;
@@ -13,7 +13,7 @@ use dnw_form::label_iter::LabelIter;
 use dnw_net::net::{IpNet, Ipv4Net, Ipv6Net};
 use std::net::{Ipv4Addr, Ipv6Addr};
 
-/// The most octets or half-octets of an address.
+/// The most octets or nibbles of an address.
 const MAX_VALUES: usize = 32;
 
 /// The family of an address.
@@ -21,7 +21,7 @@ const MAX_VALUES: usize = 32;
 pub enum Family {
     /// IPv4: reverse names have its octets.
     Ipv4,
-    /// IPv6: reverse names have its half-octets.
+    /// IPv6: reverse names have its nibbles of four bits.
     Ipv6,
 }
 
@@ -72,7 +72,7 @@ fn read_family(family: Family, labels: LabelIter<'_>) -> ProtoResult<IpNet>
     }
 }
 
-/// Reads labels as octets or half-octets, the last one first.
+/// Reads labels as octets or nibbles, the last one first.
 fn read_values(family: Family, mut labels: LabelIter<'_>) -> ProtoResult<ArrayVec<u8, MAX_VALUES>>
     ensures ok { IfOk result (λ values. prefix_of family (reverse labels.entry) ≡ Ok (record { family = family; values = values.items })) }
     ensures prefix { IfOk result (λ values. IsArpaPrefix (record { family = family; values = values.items })) }
@@ -88,7 +88,7 @@ fn read_values(family: Family, mut labels: LabelIter<'_>) -> ProtoResult<ArrayVe
     Ok(values)
 }
 
-/// Returns how many octets or half-octets an address has.
+/// Returns how many octets or nibbles an address has.
 fn most_values(family: Family) -> usize
     ensures { result ≡ most_values family }
 {
@@ -108,14 +108,14 @@ fn too_many_labels(family: Family) -> ProtoError
     }
 }
 
-/// Reads a label as an octet or a half-octet.
+/// Reads a label as an octet or a nibble.
 fn read_value(family: Family, label: &[u8]) -> ProtoResult<u8>
     ensures follows { FollowsArpa (value_of family label.now) result }
     ensures fits { IfOk result (λ value. value < 2 ^ value_bits family) }
 {
     match family {
         Family::Ipv4 => read_octet(label),
-        Family::Ipv6 => read_half_octet(label),
+        Family::Ipv6 => read_nibble(label),
     }
 }
 
@@ -132,10 +132,10 @@ fn read_octet(label: &[u8]) -> ProtoResult<u8>
     }
 }
 
-/// Reads a half-octet: one hexadecimal digit in either case.
-fn read_half_octet(label: &[u8]) -> ProtoResult<u8>
-    ensures follows { FollowsArpa (half_octet_of label.now) result }
-    ensures fits { IfOk result IsHalfOctet }
+/// Reads a nibble: one hexadecimal digit in either case.
+fn read_nibble(label: &[u8]) -> ProtoResult<u8>
+    ensures follows { FollowsArpa (nibble_of label.now) result }
+    ensures fits { IfOk result IsNibble }
 {
     if label.len() != 1 {
         return Err(ProtoError::Message("invalid label length for ip6.arpa"));
@@ -186,11 +186,11 @@ fn ipv4_net(octets: &[u8]) -> Ipv4Net
     Ipv4Net::new(Ipv4Addr::new(a, b, c, d), 8 * octets.len() as u8).unwrap()
 }
 
-/// Returns the net of the first half-octets of an IPv6 address.
+/// Returns the net of the first nibbles of an IPv6 address.
 fn ipv6_net(values: &[u8]) -> Ipv6Net
     requires few { length values.now ≤ 32 }
-    requires fit { AllByRecursion IsHalfOctet values.now }
-    ensures addr { half_octets (ipv6_segments result.addr) ≡ padded 32 values.now }
+    requires fit { AllByRecursion IsNibble values.now }
+    ensures addr { nibbles (ipv6_segments result.addr) ≡ padded 32 values.now }
     ensures bits { result.prefix_len ≡ 4 * length values.now }
 {
     let (a, rest) = split_segment(values);
@@ -205,11 +205,11 @@ fn ipv6_net(values: &[u8]) -> Ipv6Net
     Ipv6Net::new(addr, 4 * values.len() as u8).unwrap()
 }
 
-/// Returns the segment of the first four half-octets, and those after them. Half-octets that are not there are zero.
+/// Returns the segment of the first four nibbles, and those after them. Nibbles that are not there are zero.
 fn split_segment(values: &[u8]) -> (u16, &[u8])
-    requires { AllByRecursion IsHalfOctet values.now }
-    ensures halves { (n : ℕ) → padded (4 + n) values.now ≡ half_octets (result.0 ∷ []) ++ padded n result.1.now }
-    ensures fit { AllByRecursion IsHalfOctet result.1.now }
+    requires { AllByRecursion IsNibble values.now }
+    ensures halves { (n : ℕ) → padded (4 + n) values.now ≡ nibbles (result.0 ∷ []) ++ padded n result.1.now }
+    ensures fit { AllByRecursion IsNibble result.1.now }
 {
     let (a, rest) = split_value(values);
     let (b, rest) = split_value(rest);
@@ -223,7 +223,7 @@ fn split_segment(values: &[u8]) -> (u16, &[u8])
 /// Returns the first number and those after it, or zero if there is none.
 fn split_value(values: &[u8]) -> (u8, &[u8])
     ensures first { (n : ℕ) → padded (1 + n) values.now ≡ result.0 ∷ padded n result.1.now }
-    ensures fit { AllByRecursion IsHalfOctet values.now → IsHalfOctet result.0 × AllByRecursion IsHalfOctet result.1.now }
+    ensures fit { AllByRecursion IsNibble values.now → IsNibble result.0 × AllByRecursion IsNibble result.1.now }
 {
     match values.split_first() {
         Some((first, rest)) => (*first, rest),

@@ -3,7 +3,7 @@ ghost use Rattle.std.specs.Prelude.{◌≡◌, ◌+◌, ◌*◌, ◌≤◌, ◌<
 ghost use Rattle.dnw_base.specs.Labels.{IsLabel};
 ghost use Rattle.dnw_base.specs.Limits.{max_name};
 ghost use Rattle.dnw_base.specs.Names.{encoded_size};
-ghost use Rattle.dnw_reverse.specs.Arpa.{arpa_labels, half_octets, ip_prefix, value_label};
+ghost use Rattle.dnw_reverse.specs.Arpa.{arpa_labels, nibbles, ip_prefix, value_label};
 ghost use Rattle.dnw_reverse.specs.declared.reading.Family.TheVariants.{Ipv4, Ipv6};
 ghost use Rattle.std.specs.declared.net.ip_addr.IpAddr.TheVariants.{V4, V6};
 
@@ -38,10 +38,10 @@ pub fn ipv6_form(alloc: Global, addr: Ipv6Addr) -> WireForm
     form
 }
 
-/// Adds the half-octets of segments, the last one first.
+/// Adds the nibbles of segments, the last one first.
 fn push_segments(form: &mut WireForm, segments: &[u16])
     requires room { encoded_size form.old + 8 * length segments.now ≤ max_name }
-    ensures labels { form.new ≡ form.old ++ map (value_label Ipv6) (reverse (half_octets segments.now)) }
+    ensures labels { form.new ≡ form.old ++ map (value_label Ipv6) (reverse (nibbles segments.now)) }
     ensures size { encoded_size form.new ≡ encoded_size form.old + 8 * length segments.now }
 {
     let mut rest = segments;
@@ -51,20 +51,20 @@ fn push_segments(form: &mut WireForm, segments: &[u16])
     }
 }
 
-/// Adds the four half-octets of a segment, the lowest first.
+/// Adds the four nibbles of a segment, the lowest first.
 fn push_segment(form: &mut WireForm, segment: u16)
     requires room { encoded_size form.old + 8 ≤ max_name }
-    ensures labels { form.new ≡ form.old ++ map (value_label Ipv6) (reverse (half_octets (segment ∷ []))) }
+    ensures labels { form.new ≡ form.old ++ map (value_label Ipv6) (reverse (nibbles (segment ∷ []))) }
     ensures size { encoded_size form.new ≡ encoded_size form.old + 8 }
 {
-    push_half_octet(form, (segment % 16) as u8);
-    push_half_octet(form, (segment / 16 % 16) as u8);
-    push_half_octet(form, (segment / 256 % 16) as u8);
-    push_half_octet(form, (segment / 4096) as u8);
+    push_nibble(form, (segment % 16) as u8);
+    push_nibble(form, (segment / 16 % 16) as u8);
+    push_nibble(form, (segment / 256 % 16) as u8);
+    push_nibble(form, (segment / 4096) as u8);
 }
 
-/// Adds a half-octet as a hexadecimal digit.
-fn push_half_octet(form: &mut WireForm, value: u8)
+/// Adds a nibble as a hexadecimal digit.
+fn push_nibble(form: &mut WireForm, value: u8)
     requires room { encoded_size form.old + 2 ≤ max_name }
     requires value { value < 16 }
     ensures labels { form.new ≡ form.old ++ value_label Ipv6 value ∷ [] }

@@ -62,14 +62,7 @@ impl<'a> BinEncoder<'a> {
     ) -> ModalEncoder<'a, 'e>
         ensures { Guards self.entry (mode_of_rdata rdata_encoding (value self.old).canonical (value self.old).encoding) result }
     {
-        let mode = match (rdata_encoding, self.is_canonical_form()) {
-            (RDataEncoding::StandardRecord, false) => self.name_encoding(),
-            (RDataEncoding::StandardRecord, true) | (RDataEncoding::Canonical, true) => {
-                NameEncoding::UncompressedLowercase
-            }
-            (RDataEncoding::Canonical, false) | (RDataEncoding::Other, _) =>
-                NameEncoding::Uncompressed,
-        };
+        let mode = rdata_encoding.name_encoding(self.is_canonical_form(), self.name_encoding());
         self.with_name_encoding(mode)
     }
 }

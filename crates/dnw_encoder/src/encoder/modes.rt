@@ -1,4 +1,6 @@
 //! How names are written.
+ghost use Rattle.std.specs.Prelude.{◌≡◌};
+ghost use Rattle.dnw_encoder.specs.Encoder.{mode_of_rdata};
 
 /// How names are written.
 #[derive(Clone, Copy, Debug)]
@@ -22,4 +24,21 @@ pub enum RDataEncoding {
     Canonical,
     /// Of any other record type (RFC 3597, section 4): always whole, in their own case.
     Other,
+}
+
+impl RDataEncoding {
+    /// Returns how an encoder in such a mode writes the names of such data, in canonical form or not (RFC 3597, sections 4
+    /// and 7; RFC 4034, section 6.2).
+    pub fn name_encoding(self, canonical: bool, mode: NameEncoding) -> NameEncoding
+        ensures { result ≡ mode_of_rdata self canonical mode }
+    {
+        match (self, canonical) {
+            (RDataEncoding::StandardRecord, false) => mode,
+            (RDataEncoding::StandardRecord, true) | (RDataEncoding::Canonical, true) => {
+                NameEncoding::UncompressedLowercase
+            }
+            (RDataEncoding::Canonical, false) | (RDataEncoding::Other, _) =>
+                NameEncoding::Uncompressed,
+        }
+    }
 }

@@ -32,7 +32,7 @@ impl Name {
         Ok(Name::qualified(ipv4_form(alloc, addr)))
     }
 
-    /// Creates the reverse name of an IPv6 address: its 32 half-octets as hexadecimal digits, the last one first, and
+    /// Creates the reverse name of an IPv6 address: its 32 nibbles as hexadecimal digits, the last one first, and
     /// `ip6.arpa.` (RFC 3596, section 2.5). It does not allocate and cannot fail.
     pub fn from_ipv6(alloc: Global, addr: Ipv6Addr) -> ProtoResult<Self>
         ensures { result ≡ Ok (reverse_name (V6 addr)) }
@@ -40,7 +40,7 @@ impl Name {
         Ok(Name::qualified(ipv6_form(alloc, addr)))
     }
 
-    /// Returns the net that a reverse name stands for: the octets or half-octets that its labels give, with zeros after
+    /// Returns the net that a reverse name stands for: the octets or nibbles that its labels give, with zeros after
     /// them. So `168.192.in-addr.arpa.` is 192.168.0.0/16. ASCII case is ignored. It does not allocate.
     ///
     /// It fails with a `Message` if the name is relative, if it is not below `in-addr.arpa.` or `ip6.arpa.`, if it has more

@@ -7,7 +7,7 @@ ghost use Rattle.dnw_record.specs.RecordFrames.{frame-data, frame-record};
 
 use super::{WireData, WireRecord};
 use dnw_encoder::binary::BinEncodable;
-use dnw_encoder::encoder::{BinEncoder, NameEncoding, RDataEncoding};
+use dnw_encoder::encoder::{BinEncoder, RDataEncoding};
 use dnw_error::error::ProtoResult;
 use dnw_name::name::Name;
 
@@ -78,22 +78,9 @@ fn emit_data_name(
     ensures lender { lender encoder.new ≡ lender encoder.old }
 {
     let former = encoder.name_encoding();
-    let mode = data_mode(encoding, encoder.is_canonical_form(), former);
+    let mode = encoding.name_encoding(encoder.is_canonical_form(), former);
     encoder.set_name_encoding(mode);
     let outcome = name.emit(encoder);
     encoder.set_name_encoding(former);
     outcome
-}
-
-/// Returns how names of such data are written: in canonical form or not, given the encoder's own mode.
-fn data_mode(encoding: RDataEncoding, canonical: bool, mode: NameEncoding) -> NameEncoding
-    ensures { result ≡ mode_of_rdata encoding canonical mode }
-{
-    match (encoding, canonical) {
-        (RDataEncoding::StandardRecord, false) => mode,
-        (RDataEncoding::StandardRecord, true) | (RDataEncoding::Canonical, true) => {
-            NameEncoding::UncompressedLowercase
-        }
-        (RDataEncoding::Canonical, false) | (RDataEncoding::Other, _) => NameEncoding::Uncompressed,
-    }
 }
