@@ -210,8 +210,9 @@ fn read_block<'a>(decoder: &mut BinDecoder<'a>) -> Result<&'a [u8], Failure>
     let Ok(len) = decoder.read_u16() else {
         return Err(Failure::BadItem);
     };
-    match decoder.read_slice(len.unverified() as usize) {
-        Ok(bytes) => Ok(bytes.unverified()),
+    let start = decoder.index();
+    match decoder.skip(len.unverified() as usize) {
+        Ok(()) => Ok(&decoder.message()[start..decoder.index()]),
         Err(_) => Err(Failure::BadItem),
     }
 }
@@ -256,18 +257,18 @@ fn read_record(
 fn data_of(
     alloc: Global,
     how: Option<RDataEncoding>,
-    record: &RecordRef<'_>,
+    found: &RecordRef<'_>,
 ) -> Result<WireData, Failure>
-    ensures ok { IfOk result (IsData how record.now) }
-    ensures err { IfErr result (FailsToTakeData how record.now) }
+    ensures ok { IfOk result (IsData how found.now) }
+    ensures err { IfErr result (FailsToTakeData how found.now) }
 {
     let Some(encoding) = how else {
-        return match Vec::from_slice(alloc, record.rdata()) {
+        return match Vec::from_slice(alloc, found.rdata()) {
             Ok(bytes) => Ok(WireData::Bytes(bytes)),
             Err(_) => Err(Failure::NoMemory),
         };
     };
-    match record.data_name(alloc) {
+    match found.data_name(alloc) {
         Ok(name) => Ok(WireData::Name { name, encoding }),
         Err(_) => Err(Failure::BadItem),
     }

@@ -33,15 +33,15 @@ pub extern "C" fn dnw_record_read(
     message: &[u8],
     start: usize,
     owner: &mut [u8],
-    record: &mut ReadRecord,
+    found: &mut ReadRecord,
 ) -> u32
-    ensures ok { result ≡ 0 → PutsRecord message.now start owner.old owner.new record.new }
+    ensures ok { result ≡ 0 → PutsRecord message.now start owner.old owner.new found.new }
     ensures err { result ≢ 0 → NumberOf (FailsToReadRecord message.now start (length owner.old)) result }
-    ensures same { result ≢ 0 → (owner.new ≡ owner.old) × (record.new ≡ record.old) }
+    ensures same { result ≢ 0 → (owner.new ≡ owner.old) × (found.new ≡ found.old) }
 {
     match read(alloc, message, start, owner) {
         Ok(read) => {
-            *record = read;
+            *found = read;
             0
         }
         Err(failure) => failure.number(),

@@ -1,5 +1,5 @@
 //! Reverse names, of addresses that are bytes.
-ghost use Rattle.std.specs.Prelude.{◌≡◌, ◌≢◌, length, IfOk, IfErr, OnErr};
+ghost use Rattle.std.specs.Prelude.{◌≡◌, ◌≢◌, ◌<◌, length, IfOk, IfErr, OnErr};
 ghost use Rattle.dnw_net.specs.NetTexts.{net_addr};
 ghost use Rattle.dnw_c.specs.Buffers.{put};
 ghost use Rattle.dnw_c.specs.Failures.{NumberOf};
