@@ -6,7 +6,7 @@ ghost use Rattle.dnw_record.specs.Records.{RecordValue, TakesRecord};
 ghost use Rattle.dnw_encoder.specs.Encoder.{Encoder};
 ghost use Rattle.dnw_encoder.specs.EncoderValue.{value, lender};
 ghost use Rattle.dnw_c.specs.Failures.{NumberOf, number};
-ghost use Rattle.dnw_c.specs.MessageItems.{EmitsItem, FailsToCopyItem, FailsToTakeData, FailsToTakeItem, FailsToTakeRecord, FailsToWriteMessage, HasBlock, IsData, IsRecord, PutsMessage, StopsAfter, TakesBlock, TakesItem, WritesWhole, of_message};
+ghost use Rattle.dnw_c.specs.MessageItems.{EmitsItem, FailsToCopyItem, FailsToTakeData, FailsToTakeItem, FailsToTakeRecord, FailsToWriteMessage, HasBlock, IsData, IsRecord, PutsMessage, StopsAfter, TakesBlock, TakesItem, WritesWhole, of_message, record_kind};
 ghost use Rattle.dnw_c.specs.declared.messages.Item.{Item};
 ghost use Rattle.dnw_c.specs.declared.failure.Failure.TheVariants.{BadItem, MessageTooLong};
 
@@ -190,16 +190,29 @@ fn read_item<'a>(alloc: Global, decoder: &mut BinDecoder<'a>) -> Result<Item<'a>
     ensures err { IfErr result (FailsToTakeItem decoder.old) }
 {
     let kind = decoder.pop().unwrap().unverified();
-    let how = match kind {
-        0 => return Ok(Item::Bytes(read_block(decoder)?)),
-        1 => return Ok(Item::Name(read_name(alloc, decoder)?)),
-        2 => None,
-        3 => Some(RDataEncoding::StandardRecord),
-        4 => Some(RDataEncoding::Canonical),
-        5 => Some(RDataEncoding::Other),
-        _ => return Err(Failure::BadItem),
-    };
-    Ok(Item::Record(read_record(alloc, how, decoder)?))
+    match kind {
+        0 => Ok(Item::Bytes(read_block(decoder)?)),
+        1 => Ok(Item::Name(read_name(alloc, decoder)?)),
+        _ => {
+            let how = data_way(kind)?;
+            Ok(Item::Record(read_record(alloc, how, decoder)?))
+        }
+    }
+}
+
+/// Returns how the data of a record are written if its kind is this: as bytes, or as a name in a way.
+fn data_way(kind: u8) -> Result<Option<RDataEncoding>, Failure>
+    requires { 2 ≤ kind }
+    ensures ok { IfOk result (λ how. record_kind how ≡ kind) }
+    ensures err { IfErr result (λ failure. (5 < kind) × (failure ≡ BadItem)) }
+{
+    match kind {
+        2 => Ok(None),
+        3 => Ok(Some(RDataEncoding::StandardRecord)),
+        4 => Ok(Some(RDataEncoding::Canonical)),
+        5 => Ok(Some(RDataEncoding::Other)),
+        _ => Err(Failure::BadItem),
+    }
 }
 
 /// Reads bytes after their number.
