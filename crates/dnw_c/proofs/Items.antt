@@ -6,7 +6,7 @@ use Rattle.dnw_error.specs.declared.error.ProtoError.TheVariants.{MaxBufferSizeE
 use Rattle.dnw_base.specs.Decoder.{Decoder, advanced}
 use Rattle.dnw_encoder.specs.Encoder.{Encoder, Writes}
 use Rattle.dnw_encoder.specs.EncoderValue.{value, lender}
-use Rattle.dnw_encoder.specs.EmittedName.{EmitsAs, Share}
+use Rattle.dnw_encoder.specs.EmittedName.{EmitsAs, Share, in_mode}
 use Rattle.dnw_encoder.specs.EmittingLaws.{fails-unchanged, frame}
 use Rattle.dnw_encoder.specs.NameFrames.{frame-name}
 use Rattle.dnw_record.specs.RecordFrames.{frame-fields, frame-record}
@@ -34,16 +34,16 @@ name-unchanged v labels choice error w h = absurd h
 pub item_undone : (item : Item) (v w : Encoder) (error : ProtoError) → v.offset ≡ length v.bytes → EmitsItem item v (Err error) w
     → w.bytes ≡ v.bytes
 item_undone (Bytes bytes) v w error e h = ap (λ (x : Encoder). x.bytes) (fails-unchanged v bytes.now error w h)
-item_undone (Name name) v w error e h = ap (λ (x : Encoder). x.bytes) (name-unchanged v _ h.choice error w h.written_as)
+item_undone (Name name) v w error e h = ap (λ (x : Encoder). x.bytes) (name-unchanged v (in_mode v.encoding name.labels) h.choice error w h.written_as)
 item_undone (Record r) v w error e (u, fields, is) =
     ap (λ (x : Encoder). x.bytes) is ∙ (frame-fields r v (Err error) u e fields).bytes
 
 -- an item has octets of its own, which are within the list
 pub item_onward : (item : Item) (d after : Decoder) → TakesItem d item after
     → (d.index < after.index) × (after.index ≤ length after.bytes) × (after.bytes ≡ d.bytes)
-item_onward (Bytes bytes) d after (kind, has, is, moved) =
+item_onward (Bytes bytes) d after (kind, (has, is, moved)) =
     rw moved (omega arith, omega (arith, has), refl)
-item_onward (Name name) d after (kind, flag, k, takes) =
+item_onward (Name name) d after (kind, (flag, k, takes)) =
     let further = takes-onward takes in
     (omega (arith, further), takes-within takes, ap (λ (x : Decoder). x.bytes) takes.moved)
 item_onward (Record r) d after (how, kind, x, (e, at, moved), is) =
