@@ -1,4 +1,4 @@
-/* DNS names, codes, type bitmaps, serial numbers and master files, for C. docs/C.md shows how to link the library.
+/* DNS names, records, messages, codes, type bitmaps, serial numbers and master files, for C. docs/C.md shows how to link the library.
 
    Input is a pointer and then a length. Results are put into buffers of the caller, each a pointer and then its size.
    No such pointer may be null, even if its length is 0, and a buffer that is written must not overlap any other
@@ -6,7 +6,7 @@
    threads at once.
 
    Each function but `dnw_error_text` and `dnw_serial_add` returns 0, or the number of a failure. If it fails, it has
-   written nothing, neither into the buffer nor through a pointer. Every input is tested, whatever it is: no byte outside
+   written nothing, neither into the buffer nor through a pointer; `dnw_message_write` has one exception. Every input is tested, whatever it is: no byte outside
    the arguments is read or written.
 
    The wire form of a name (RFC 1035, section 3.1) is each label after its length octet, and a zero octet at the end. It
@@ -52,7 +52,11 @@ enum dnw_failure {
     DNW_CONTROL_CHARACTER = 20, /* a control character that is not white space */
     DNW_UNCLOSED_LIST = 21,    /* a text that ends in a list, before its `)` */
     DNW_UNCLOSED_QUOTE = 22,   /* a text that ends in a quoted text, before its closing quote */
-    DNW_UNKNOWN_ENTRY = 23     /* a `$` that begins none of $INCLUDE, $ORIGIN and $TTL */
+    DNW_UNKNOWN_ENTRY = 23,    /* a `$` that begins none of $INCLUDE, $ORIGIN and $TTL */
+    DNW_WRONG_DATA_LENGTH = 24, /* a name in a record's data whose own octets are fewer or more than the data */
+    DNW_BAD_ADDRESS = 25,      /* an address of neither 4 nor 16 bytes */
+    DNW_NOT_REVERSE = 26,      /* a name that is not the reverse name of an address or a net */
+    DNW_BAD_ITEM = 27          /* a list with an item of no kind, or one that is cut, or a name or record that is none */
 };
 
 /* `len` bytes were put into the buffer, and the name's own octets end at offset `end` of the message. */
@@ -103,6 +107,82 @@ uint32_t dnw_name_print(const uint8_t *form, size_t form_len, bool is_fqdn, uint
    DNW_NO_MEMORY, and with DNW_NO_ROOM if the message has more than `out_size` bytes. */
 uint32_t dnw_names_write(const uint8_t *names, size_t names_len, uint16_t max_size, uint8_t *out, size_t out_size,
                          struct dnw_written_names *written);
+
+/* A record of a message. `owner_len` bytes of its owner were put into the buffer. Its data are the `data_len` octets at
+   offset `data_offset` of the message, and it ends at offset `end`, where the next record begins. */
+struct dnw_record {
+    size_t owner_len;
+    uint16_t record_type;
+    uint16_t record_class;
+    uint32_t ttl;
+    size_t data_offset;
+    size_t data_len;
+    size_t end;
+};
+
+/* Reads the record at offset `start` of a message (RFC 1035, section 4.1.3), and puts its owner's wire form. The data are not
+   looked into. It does not allocate. If no owner is there, it fails as dnw_name_read. It fails with DNW_MESSAGE_CUT if the
+   message ends before the data do, and with DNW_NO_ROOM if the owner's wire form has more than `owner_size` octets. */
+uint32_t dnw_record_read(const uint8_t *message, size_t message_len, size_t start, uint8_t *owner, size_t owner_size,
+                         struct dnw_record *record);
+
+/* Reads the name that the `data_len` octets at offset `data_offset` of a message are, following compression pointers, and
+   puts its wire form and its length into `len`. Pass a record's data if they are a name, as of NS, CNAME and PTR, or what is
+   left of them after the fields before a name, as `data_offset + 2` and `data_len - 2` for MX. It does not allocate. If
+   there is no name, it fails as dnw_name_read. Else it fails with DNW_WRONG_DATA_LENGTH if the name's own octets are not
+   `data_len`, and with DNW_NO_ROOM if the wire form has more than `form_size` octets. */
+uint32_t dnw_record_data_name(const uint8_t *message, size_t message_len, size_t data_offset, size_t data_len,
+                              uint8_t *form, size_t form_size, size_t *len);
+
+/* The kinds of items of a message, and what follows in a list after the octet for the kind. A record is as in a message: the
+   owner's wire form, two octets of type, two of class, four of time to live, two of the length of the data, and the data. */
+enum dnw_item_kind {
+    DNW_ITEM_BYTES = 0,           /* bytes, after two octets of their number */
+    DNW_ITEM_NAME = 1,            /* a name's wire form */
+    DNW_ITEM_RECORD = 2,          /* a record; its data are written as they are */
+    DNW_ITEM_STANDARD_NAME = 3,   /* a record whose data are a name: of a type of RFC 1035, as NS, CNAME or PTR */
+    DNW_ITEM_CANONICAL_NAME = 4,  /* of a later type that canonical form knows, as DNAME (RFC 4034, section 6.2) */
+    DNW_ITEM_OTHER_NAME = 5       /* of any other type */
+};
+
+/* `len` bytes were put into the buffer, of `count` items. */
+struct dnw_written_message {
+    size_t len;
+    size_t count;
+};
+
+/* Writes the items of a list one after another into a message, and puts the message. Names of items and owners of records are
+   compressed by the names before them. So are the data of DNW_ITEM_STANDARD_NAME, but in canonical form, where they are
+   written whole and in lower case, as those of DNW_ITEM_CANONICAL_NAME are; else the data of the latter and of
+   DNW_ITEM_OTHER_NAME are written whole. The number of octets of the data is filled in as they are written.
+
+   It fails with DNW_MESSAGE_TOO_LONG at the first item that would go past `max_size` bytes. Then the message up to that item is
+   there nevertheless, and `written` says how long it is and how many items it has: a caller sets the TC bit and the counts of
+   its header (RFC 1035, section 4.1.1).
+
+   It fails with DNW_BAD_ITEM at the first octet of the list that begins no item; with DNW_NO_MEMORY; and with DNW_NO_ROOM if the
+   message, whole or up to an item that would go past `max_size`, has more than `message_size` bytes. */
+uint32_t dnw_message_write(const uint8_t *items, size_t items_len, uint16_t max_size, bool is_canonical, uint8_t *message,
+                           size_t message_size, struct dnw_written_message *written);
+
+/* Puts the wire form of the reverse name of an address, under which PTR records are found, and its length into `len`. The
+   address is 4 bytes for IPv4 (RFC 1035, section 3.5) or 16 for IPv6 (RFC 3596, section 2.5), as struct in_addr and struct
+   in6_addr have them. It does not allocate. It fails with DNW_BAD_ADDRESS, or with DNW_NO_ROOM if the wire form has more than
+   `form_size` octets. */
+uint32_t dnw_reverse_name(const uint8_t *address, size_t address_len, uint8_t *form, size_t form_size, size_t *len);
+
+/* `len` bytes of an address were put into the buffer, 4 or 16. Its first `prefix_len` bits name the net, and the others are 0. */
+struct dnw_net {
+    size_t len;
+    uint8_t prefix_len;
+};
+
+/* Puts the address of the net that a reverse name stands for: of 168.192.in-addr.arpa. that is 192.168.0.0, with 16 bits, and
+   of the reverse name of an address all bits. It ignores ASCII case, and does not allocate. If the bytes are no wire form, it
+   fails as dnw_name_compare. Else it fails with DNW_NOT_REVERSE if the name is not below in-addr.arpa. or ip6.arpa., or has a
+   label that is no octet in decimal or no hexadecimal digit, or more labels than an address; and with DNW_NO_ROOM if the address
+   has more than `address_size` bytes. */
+uint32_t dnw_reverse_parse(const uint8_t *form, size_t form_len, uint8_t *address, size_t address_size, struct dnw_net *net);
 
 /* Compares two names by their wire forms, in canonical order (RFC 4034, section 6.1): from the last label, as unsigned
    octets, ignoring ASCII case, a name before those that end in it. Puts -1, 0 or 1 into `order`. It does not allocate. If

@@ -1,3 +1,4 @@
+mod Items
 pub mod Looking
 mod Starts
 mod Lists
@@ -5,3 +6,4 @@ pub mod TextFaults
 pub mod TokenEnds
 pub mod TokenTexts
 pub mod TypeCodes
+mod RecordEnds

@@ -16,7 +16,8 @@ use Rattle.dnw_c.specs.declared.failure.Failure.TheVariants.{NameTooLong, LabelT
 use Rattle.dnw_c.specs.declared.failure.Failure.TheVariants.{NotUtf8, BytesLeft, MessageTooLong, Other}
 use Rattle.dnw_c.specs.declared.failure.Failure.TheVariants.{UnknownText, NotOrdered, BadBitmap, BadTime, TextCut}
 use Rattle.dnw_c.specs.declared.failure.Failure.TheVariants.{IllegalCharacter, ControlCharacter, UnclosedList}
-use Rattle.dnw_c.specs.declared.failure.Failure.TheVariants.{UnclosedQuote, UnknownEntry}
+use Rattle.dnw_c.specs.declared.failure.Failure.TheVariants.{UnclosedQuote, UnknownEntry, WrongDataLength}
+use Rattle.dnw_c.specs.declared.failure.Failure.TheVariants.{BadAddress, NotReverse, BadItem}
 
 abbrev pub number : Failure → ℕ
 number NoMemory = 1
@@ -42,6 +43,10 @@ number ControlCharacter = 20
 number UnclosedList = 21
 number UnclosedQuote = 22
 number UnknownEntry = 23
+number WrongDataLength = 24
+number BadAddress = 25
+number NotReverse = 26
+number BadItem = 27
 
 -- The number of a failure for which this is so.
 abbrev pub NumberOf : (Failure → Type 0) → ℕ → Type 0
@@ -72,6 +77,10 @@ failure_text ControlCharacter = codes "the text has a control character"
 failure_text UnclosedList = codes "the text ends before the ) of a list"
 failure_text UnclosedQuote = codes "the text ends before a closing quote"
 failure_text UnknownEntry = codes "no control entry has this name"
+failure_text WrongDataLength = codes "the data of the record are not as long as their name"
+failure_text BadAddress = codes "an address has 4 or 16 bytes"
+failure_text NotReverse = codes "the name is no reverse name of an address or a net"
+failure_text BadItem = codes "an item of the list is malformed"
 
 -- The text of a number: of success, of a failure, and none of any other.
 abbrev pub HasText : ℕ → List ℕ → Type 0

@@ -1,8 +1,11 @@
 pub mod Buffers
 pub mod CodeCalls
 pub mod Failures
+pub mod MessageItems
 pub mod NameCalls
 pub mod NameEdits
 pub mod NameLists
+pub mod RecordCalls
+pub mod ReverseCalls
 pub mod TokenCalls
 pub mod TypeLists

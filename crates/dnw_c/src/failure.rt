@@ -54,6 +54,14 @@ pub enum Failure {
     UnclosedQuote,
     /// A `$` begins none of the control entries.
     UnknownEntry,
+    /// The octets of the name in a record's data are not as many as the data.
+    WrongDataLength,
+    /// An address has neither 4 nor 16 bytes.
+    BadAddress,
+    /// A name is not below `in-addr.arpa` or `ip6.arpa` as the name of an address or a net is.
+    NotReverse,
+    /// A list of items has one of no kind, or one that is cut or that is no name or record.
+    BadItem,
 }
 
 impl Failure {
@@ -93,6 +101,10 @@ impl Failure {
             21 => Failure::UnclosedList,
             22 => Failure::UnclosedQuote,
             23 => Failure::UnknownEntry,
+            24 => Failure::WrongDataLength,
+            25 => Failure::BadAddress,
+            26 => Failure::NotReverse,
+            27 => Failure::BadItem,
             _ => return None,
         };
         Some(failure)
@@ -127,6 +139,10 @@ impl Failure {
             Failure::UnclosedList => "the text ends before the ) of a list",
             Failure::UnclosedQuote => "the text ends before a closing quote",
             Failure::UnknownEntry => "no control entry has this name",
+            Failure::WrongDataLength => "the data of the record are not as long as their name",
+            Failure::BadAddress => "an address has 4 or 16 bytes",
+            Failure::NotReverse => "the name is no reverse name of an address or a net",
+            Failure::BadItem => "an item of the list is malformed",
         }
     }
 }

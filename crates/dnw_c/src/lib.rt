@@ -9,10 +9,16 @@ pub mod codes;
 /// Names changed, by their wire forms.
 pub mod edits;
 mod failure;
+/// Messages written, item by item.
+pub mod messages;
 /// Names read, written, parsed and printed.
 pub mod names;
 /// Names compared, and in lower case.
 pub mod order;
+/// The records of messages.
+pub mod records;
+/// Reverse names.
+pub mod reverse;
 /// The tokens of master files.
 pub mod tokens;
 /// Times to live.

@@ -1,0 +1,288 @@
+//! Messages, written item by item.
+ghost use Rattle.std.specs.Prelude.{◌≡◌, ◌≢◌, ◌<◌, ◌≤◌, ℕ, true, false, Ok, length, IfOk, IfErr, OnOk, OnErr};
+ghost use Rattle.dnw_error.specs.declared.error.DecodeError.{DecodeError};
+ghost use Rattle.dnw_name.specs.Decodable.{StopsSomehow, TakesNameValue};
+ghost use Rattle.dnw_record.specs.Records.{RecordValue, TakesRecord};
+ghost use Rattle.dnw_encoder.specs.Encoder.{Encoder};
+ghost use Rattle.dnw_encoder.specs.EncoderValue.{value, lender};
+ghost use Rattle.dnw_c.specs.Failures.{NumberOf, number};
+ghost use Rattle.dnw_c.specs.MessageItems.{EmitsItem, FailsToCopyItem, FailsToTakeData, FailsToTakeItem, FailsToTakeRecord, FailsToWriteMessage, HasBlock, IsData, IsRecord, PutsMessage, StopsAfter, TakesBlock, TakesItem, WritesWhole, of_message, record_kind};
+ghost use Rattle.dnw_c.specs.declared.messages.Item.{Item};
+ghost use Rattle.dnw_c.specs.declared.failure.Failure.TheVariants.{BadItem, MessageTooLong};
+
+use crate::failure::{Failure, of_proto};
+use crate::names::put;
+use dns_names_wire::binary::{BinDecodable, BinEncodable};
+use dns_names_wire::decoder::BinDecoder;
+use dns_names_wire::encoder::{BinEncoder, RDataEncoding};
+use dns_names_wire::error::ProtoResult;
+use dns_names_wire::name::Name;
+use dns_names_wire::record::{RecordRef, WireData, WireRecord};
+use std::alloc::Global;
+
+/// A message that was written: the number of bytes that were put, and the number of items.
+#[repr(C)]
+#[derive(Clone, Copy)]
+pub struct WrittenMessage {
+    pub len: usize,
+    pub count: usize,
+}
+
+/// What is written into a message.
+#[derive(Drop)]
+enum Item<'a> {
+    /// Bytes as they are.
+    Bytes(&'a [u8]),
+    /// A name, compressed.
+    Name(Name),
+    /// A record.
+    Record(WireRecord),
+}
+
+/// A message of a list, and whether it has all of the items.
+#[derive(Drop)]
+struct Message {
+    bytes: Vec<u8>,
+    count: usize,
+    is_whole: bool,
+}
+
+/// Puts a message of the items of a list, up to the first that would go past the maximum size.
+#[unsafe(no_mangle)]
+pub extern "C" fn dnw_message_write(
+    alloc: Global,
+    items: &[u8],
+    max_size: u16,
+    is_canonical: bool,
+    message: &mut [u8],
+    written: &mut WrittenMessage,
+) -> u32
+    ensures ok { result ≡ 0 → PutsMessage true items.now (of_message max_size is_canonical) message.old message.new written.new }
+    ensures cut { result ≡ number MessageTooLong → PutsMessage false items.now (of_message max_size is_canonical) message.old message.new written.new }
+    ensures err { result ≢ 0 → result ≢ number MessageTooLong
+        → NumberOf (FailsToWriteMessage items.now (of_message max_size is_canonical) (length message.old)) result }
+    ensures same { result ≢ 0 → result ≢ number MessageTooLong → (message.new ≡ message.old) × (written.new ≡ written.old) }
+{
+    match write(alloc, items, max_size, is_canonical, message) {
+        Ok((put, is_whole)) => {
+            *written = put;
+            if is_whole {
+                0
+            } else {
+                Failure::MessageTooLong.number()
+            }
+        }
+        Err(failure) => failure.number(),
+    }
+}
+
+/// Puts a message of the items of a list, and returns whether it has all of them.
+fn write(
+    alloc: Global,
+    items: &[u8],
+    max_size: u16,
+    is_canonical: bool,
+    message: &mut [u8],
+) -> Result<(WrittenMessage, bool), Failure>
+    ensures ok { IfOk result (λ r. PutsMessage r.1 items.now (of_message max_size is_canonical) message.old message.new r.0) }
+    ensures err { IfErr result (FailsToWriteMessage items.now (of_message max_size is_canonical) (length message.old)) }
+    ensures other { IfErr result (λ failure. failure ≢ MessageTooLong) }
+    ensures same { OnErr result (message.new ≡ message.old) }
+{
+    let written = write_all(alloc, items, max_size, is_canonical)?;
+    let len = put(message, written.bytes.as_slice())?;
+    let count = written.count;
+    Ok((WrittenMessage { len, count }, written.is_whole))
+}
+
+/// Returns the message of a list's items.
+fn write_all(
+    alloc: Global,
+    items: &[u8],
+    max_size: u16,
+    is_canonical: bool,
+) -> Result<Message, Failure>
+    ensures ok { IfOk result (λ m. (v : Encoder) × WritesWhole m.is_whole items.now (of_message max_size is_canonical) m.count v
+        × (m.bytes.items ≡ v.bytes)) }
+    ensures err { IfErr result (λ failure. (failure ≢ MessageTooLong) × (count : ℕ) × (v : Encoder)
+        × StopsAfter items.now (of_message max_size is_canonical) count v failure) }
+{
+    let mut bytes = Vec::new(alloc);
+    let mut encoder = BinEncoder::new(&mut bytes);
+    encoder.set_max_size(max_size);
+    encoder.set_canonical_form(is_canonical);
+    let (count, is_whole) = write_items(alloc, items, &mut encoder)?;
+    drop(encoder);
+    Ok(Message {
+        bytes,
+        count,
+        is_whole,
+    })
+}
+
+/// Writes the items of a list up to the first that would go past the maximum size. Returns their number, and whether these
+/// are all.
+fn write_items(
+    alloc: Global,
+    items: &[u8],
+    encoder: &mut BinEncoder<'_>,
+) -> Result<(usize, bool), Failure>
+    requires { (value encoder.old).offset ≡ length (value encoder.old).bytes }
+    ensures ok { IfOk result (λ r. (v : Encoder) × WritesWhole r.1 items.now (value encoder.old) r.0 v
+        × ((value encoder.new).bytes ≡ v.bytes)) }
+    ensures err { IfErr result (λ failure. (failure ≢ MessageTooLong) × (count : ℕ) × (v : Encoder)
+        × StopsAfter items.now (value encoder.old) count v failure) }
+    ensures lender { lender encoder.new ≡ lender encoder.old }
+{
+    let mut decoder = BinDecoder::new(items);
+    let mut count = 0;
+    'list: while !decoder.is_empty() {
+        match write_next(alloc, &mut decoder, encoder) {
+            Ok(()) => count += 1,
+            Err(Failure::MessageTooLong) => return Ok((count, false)),
+            Err(failure) => return Err(failure),
+        }
+    }
+    Ok((count, true))
+}
+
+/// Writes the item at the cursor of a list.
+fn write_next(
+    alloc: Global,
+    decoder: &mut BinDecoder<'_>,
+    encoder: &mut BinEncoder<'_>,
+) -> Result<(), Failure>
+    requires left { decoder.old.index < length decoder.old.bytes }
+    requires ends { (value encoder.old).offset ≡ length (value encoder.old).bytes }
+    ensures ok { OnOk result ((item : Item) × TakesItem decoder.old item decoder.new
+        × EmitsItem item (value encoder.old) (Ok tt) (value encoder.new)) }
+    ensures err { IfErr result (FailsToCopyItem decoder.old (value encoder.old)) }
+    ensures ends { OnOk result ((value encoder.new).offset ≡ length (value encoder.new).bytes) }
+    ensures undone { OnErr result ((value encoder.new).bytes ≡ (value encoder.old).bytes) }
+    ensures onward { OnOk result (decoder.old.index < decoder.new.index) }
+    ensures within { OnOk result (decoder.new.index ≤ length decoder.new.bytes) }
+    ensures bytes { OnOk result (decoder.new.bytes ≡ decoder.old.bytes) }
+    ensures lender { lender encoder.new ≡ lender encoder.old }
+{
+    let item = read_item(alloc, decoder)?;
+    match emit_item(&item, encoder) {
+        Ok(()) => Ok(()),
+        Err(error) => Err(of_proto(&error)),
+    }
+}
+
+/// Writes an item.
+fn emit_item(item: &Item<'_>, encoder: &mut BinEncoder<'_>) -> ProtoResult<()>
+    ensures emits { EmitsItem item.now (value encoder.old) result (value encoder.new) }
+    ensures lender { lender encoder.new ≡ lender encoder.old }
+{
+    match item {
+        Item::Bytes(bytes) => encoder.emit_vec(bytes),
+        Item::Name(name) => name.emit(encoder),
+        Item::Record(record) => record.emit(encoder),
+    }
+}
+
+/// Reads the item at the cursor of a list.
+fn read_item<'a>(alloc: Global, decoder: &mut BinDecoder<'a>) -> Result<Item<'a>, Failure>
+    requires left { decoder.old.index < length decoder.old.bytes }
+    ensures ok { IfOk result (λ item. TakesItem decoder.old item decoder.new) }
+    ensures err { IfErr result (FailsToTakeItem decoder.old) }
+{
+    let kind = decoder.pop().unwrap().unverified();
+    match kind {
+        0 => Ok(Item::Bytes(read_block(decoder)?)),
+        1 => Ok(Item::Name(read_name(alloc, decoder)?)),
+        _ => {
+            let how = data_way(kind)?;
+            Ok(Item::Record(read_record(alloc, how, decoder)?))
+        }
+    }
+}
+
+/// Returns how the data of a record are written if its kind is this: as bytes, or as a name in a way.
+fn data_way(kind: u8) -> Result<Option<RDataEncoding>, Failure>
+    requires { 2 ≤ kind }
+    ensures ok { IfOk result (λ how. record_kind how ≡ kind) }
+    ensures err { IfErr result (λ failure. (5 < kind) × (failure ≡ BadItem)) }
+{
+    match kind {
+        2 => Ok(None),
+        3 => Ok(Some(RDataEncoding::StandardRecord)),
+        4 => Ok(Some(RDataEncoding::Canonical)),
+        5 => Ok(Some(RDataEncoding::Other)),
+        _ => Err(Failure::BadItem),
+    }
+}
+
+/// Reads bytes after their number.
+fn read_block<'a>(decoder: &mut BinDecoder<'a>) -> Result<&'a [u8], Failure>
+    ensures ok { IfOk result (λ bytes. TakesBlock decoder.old bytes.now decoder.new) }
+    ensures err { IfErr result (λ failure. (¬ (HasBlock decoder.old)) × (failure ≡ BadItem)) }
+{
+    let Ok(len) = decoder.read_u16() else {
+        return Err(Failure::BadItem);
+    };
+    let start = decoder.index();
+    match decoder.skip(len.unverified() as usize) {
+        Ok(()) => Ok(&decoder.message()[start..decoder.index()]),
+        Err(_) => Err(Failure::BadItem),
+    }
+}
+
+/// Reads a name.
+fn read_name(alloc: Global, decoder: &mut BinDecoder<'_>) -> Result<Name, Failure>
+    ensures ok { IfOk result (λ name. TakesNameValue decoder.old name decoder.new) }
+    ensures err { IfErr result (λ failure. ((error : DecodeError) × StopsSomehow decoder.old error) × (failure ≡ BadItem)) }
+{
+    match Name::read(alloc, decoder) {
+        Ok(name) => Ok(name),
+        Err(_) => Err(Failure::BadItem),
+    }
+}
+
+/// Reads a record, of which the data are bytes, or a name that is written in a way.
+fn read_record(
+    alloc: Global,
+    how: Option<RDataEncoding>,
+    decoder: &mut BinDecoder<'_>,
+) -> Result<WireRecord, Failure>
+    ensures ok { IfOk result (λ r. (x : RecordValue) × TakesRecord decoder.old x decoder.new × IsRecord how x r) }
+    ensures err { IfErr result (FailsToTakeRecord how decoder.old) }
+{
+    let Ok(record) = RecordRef::read(alloc, decoder) else {
+        return Err(Failure::BadItem);
+    };
+    let rdata = data_of(alloc, how, &record)?;
+    let Ok(owner) = record.owner().to_name(alloc) else {
+        return Err(Failure::Other);
+    };
+    Ok(WireRecord {
+        owner,
+        record_type: record.record_type(),
+        class: record.class(),
+        ttl: record.ttl(),
+        rdata,
+    })
+}
+
+/// Returns the data of a record, to be written.
+fn data_of(
+    alloc: Global,
+    how: Option<RDataEncoding>,
+    found: &RecordRef<'_>,
+) -> Result<WireData, Failure>
+    ensures ok { IfOk result (IsData how found.now) }
+    ensures err { IfErr result (FailsToTakeData how found.now) }
+{
+    let Some(encoding) = how else {
+        return match Vec::from_slice(alloc, found.rdata()) {
+            Ok(bytes) => Ok(WireData::Bytes(bytes)),
+            Err(_) => Err(Failure::NoMemory),
+        };
+    };
+    match found.data_name(alloc) {
+        Ok(name) => Ok(WireData::Name { name, encoding }),
+        Err(_) => Err(Failure::BadItem),
+    }
+}
