@@ -253,11 +253,12 @@ impl Collected {
     }
 
     /// Adds the bytes of a character.
+    #[inline(always)]
     fn push(&mut self, c: char)
         requires { length self.old + length (encode_utf8 c) < 2 ^ 64 }
         ensures { IsAlike self.new (self.old ++ encode_utf8 c) }
     {
-        if c.len_utf8() == 1 && !self.text.is_full() {
+        if c.is_ascii() && !self.text.is_full() {
             // The compiler stores one byte without a copy of a length that it does not know.
             self.text.push(c);
         } else if self.text.try_push(c).is_err() {

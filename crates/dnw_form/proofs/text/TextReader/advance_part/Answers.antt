@@ -28,7 +28,7 @@ returns-in-Some-clause-ok c =
     let cut = cut_after_escape _ _ _ c.utf8.text escape.1 in
     c.take_escapes.ensures.name
     ∙ rw (c.range_from.ensures.value, cut.2)
-      (name_from-escape c.args.self.now _ c.push.new.self c.args.text.now c.in-Some.c escape.0 c.in-Outside.is escape.1 refl c.push.ensures)
+    (name_from-escape c.args.self.now _ c.push.new.self c.args.text.now c.in-Some.c escape.0 c.in-Outside.is escape.1 refl c.push.ensures)
 
 pub returns-in-Some-clause-len : goal.returns-in-Some-clause-len
 returns-in-Some-clause-len c =

@@ -23,7 +23,7 @@ escapes-preserved c =
     let cut = cut_after_escape _ _ _ invariant.utf8 escape.1 in
     record {
       name = rw (c.range_from-rest.ensures.value, cut.2)
-        (name_from-escape c.escapes.self _ c.push.new.self c.escapes.rest.now c.in-Some.c escape.0 invariant.outside escape.1 refl c.push.ensures ∙ invariant.name);
+          (name_from-escape c.escapes.self _ c.push.new.self c.escapes.rest.now c.in-Some.c escape.0 invariant.outside escape.1 refl c.push.ensures ∙ invariant.name);
       outside = invariant.outside;
       len = omega (arith, invariant.len, IsAlike-length _ _ c.push.ensures, length-append c.escapes.self.label (encode_utf8 c.in-Some.c), length-encode c.in-Some.c, (len_utf8_bounds c.in-Some.c).1, c.range_from-rest.ensures.len);
       shorter = omega (arith, invariant.shorter, c.range_from-rest.ensures.len);
