@@ -166,9 +166,11 @@ impl WireForm {
     pub fn clone(&self) -> Self
         ensures { result ≡ self.now }
     {
-        WireForm {
-            bytes: copied(&self.bytes),
-        }
+        let mut copy = WireForm {
+            bytes: SmallVec::new(*self.bytes.allocator()),
+        };
+        copy.bytes.extend_from_slice(self.bytes.as_slice()).unwrap();
+        copy
     }
 }
 

@@ -253,11 +253,15 @@ impl Collected {
     }
 
     /// Adds the bytes of a character.
+    #[inline(always)]
     fn push(&mut self, c: char)
         requires { length self.old + length (encode_utf8 c) < 2 ^ 64 }
         ensures { IsAlike self.new (self.old ++ encode_utf8 c) }
     {
-        if self.text.try_push(c).is_err() {
+        if c.is_ascii() && !self.text.is_full() {
+            // The compiler stores one byte without a copy of a length that it does not know.
+            self.text.push(c);
+        } else if self.text.try_push(c).is_err() {
             self.more += c.len_utf8();
         }
     }
@@ -367,20 +371,36 @@ impl TextReader {
         ensures err { IfErr result (FailsOr (name_from self.old (chars text.now)) (NeedsErrorText (name_from self.old (chars text.now)))) }
     {
         if let State::Outside = self.state {
+            if let Some(c) = octal_escape(text.as_bytes()) {
+                self.label.push(c);
+                return Ok(self.take_escapes(&text[4..]));
+            }
             let run = simple_len(text.as_bytes());
             if run > 0 {
                 self.label.push_run(&text[..run]);
                 return Ok(&text[run..]);
-            }
-            if let Some(c) = octal_escape(text.as_bytes()) {
-                self.label.push(c);
-                return Ok(&text[4..]);
             }
         }
         let mut chars = text.chars();
         let c = chars.next().unwrap();
         self.take(alloc, c)?;
         Ok(chars.as_str())
+    }
+
+    /// Reads the octal escapes that a text begins with, and returns what is left of it.
+    fn take_escapes<'t>(&mut self, text: &'t str) -> &'t str
+        requires outside { self.old.state ≡ State.Outside }
+        requires len { reader_len self.old + length text.now < 2 ^ 64 }
+        ensures name { name_from self.new (chars result.now) ≡ name_from self.old (chars text.now) }
+        ensures shorter { length result.now ≤ length text.now }
+        ensures len { reader_len self.new + length result.now ≤ reader_len self.old + length text.now }
+    {
+        let mut rest = text;
+        'escapes: while let Some(c) = octal_escape(rest.as_bytes()) {
+            self.label.push(c);
+            rest = &rest[4..];
+        }
+        rest
     }
 
     /// Returns the name, if no more characters follow.
