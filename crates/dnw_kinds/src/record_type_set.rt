@@ -79,7 +79,8 @@ impl RecordTypeSet {
         for kind in types {
             listed.push(kind)?;
         }
-        settle(&mut listed);
+        let ascending = is_ascending(listed.as_slice());
+        settle(&mut listed, ascending);
         let codes = codes(alloc, listed.as_slice())?;
         let encoding = writing::write_windows(alloc, codes.as_slice())?;
         Ok(RecordTypeSet {
@@ -126,11 +127,12 @@ fn copied<T: Copy>(alloc: Global, items: &[T]) -> Result<Vec<T>, AllocError>
     Ok(copy)
 }
 
-/// Makes the list of a set: each type once, in ascending order. Most bitmaps list their types so.
-fn settle(types: &mut Vec<RecordType>)
+/// Makes the list of a set: each type once, in ascending order. It may be known that they stand so.
+fn settle(types: &mut Vec<RecordType>, ascending: bool)
+    requires { IsTrue ascending → IsStrictlySortedBy type_cmp types.old.items }
     ensures { IsSetOf types.old.items types.new.items }
 {
-    if is_ascending(types.as_slice()) {
+    if ascending {
         return;
     }
     types.sort_unstable();
@@ -175,16 +177,15 @@ fn read_bitmap(alloc: Global, bitmap: &[u8]) -> Result<RecordTypeSet, AllocError
     ensures encoding { IfOk result (λ set. set.encoding ≡ bitmap.now) }
     ensures err { OnErr result (1 ≤ length bitmap.now) }
 {
-    let mut types = Vec::new(alloc);
     if bitmap.is_empty() {
         return Ok(RecordTypeSet {
-            types,
+            types: Vec::new(alloc),
             encoding: Vec::new(alloc),
         });
     }
-    types.reserve(USUAL_TYPES)?;
-    bitmap::push_windows(&mut types, bitmap)?;
-    settle(&mut types);
+    let mut types = Vec::with_capacity(alloc, USUAL_TYPES)?;
+    let ascending = bitmap::push_windows(&mut types, bitmap)?;
+    settle(&mut types, ascending);
     let encoding = Vec::from_slice(alloc, bitmap)?;
     Ok(RecordTypeSet { types, encoding })
 }

@@ -1,12 +1,12 @@
 -- Labels compared from the last one, and the last labels of a list.
-use Rattle.std.proofs.Common.{◌≡◌, ◌↔◌, ℕ, suc, ◌-◌, ◌<◌, ◌≤◌, min, Option, Some, None, Bor, List, [], ◌∷◌, ◌++◌, length, map, take, drop, reverse, refl, sym, ap, ◌∙◌, arith, length-append, length-drop}
+use Rattle.std.proofs.Common.{◌≡◌, ◌↔◌, ℕ, suc, ◌-◌, ◌<◌, ◌≤◌, Option, Some, None, Bor, List, [], ◌∷◌, ◌++◌, length, map, take, drop, reverse, refl, sym, ap, ◌∙◌, arith, length-append, length-drop}
 use Rattle.std.specs.Iterator.{YieldsFirstRef}
 use Rattle.std.specs.Char.{to_ascii_lowercase}
 use Rattle.std.specs.Cmp.Lexicographic.{slice_cmp}
 use Rattle.std.specs.Ordering.{ordering_then, nat_cmp, MatchOrdering}
 use Rattle.std.specs.declared.cmp.Ordering.{Ordering}
 use Rattle.std.specs.declared.cmp.Ordering.TheVariants.{Less, Equal, Greater}
-use Rattle.std.proofs.lemmas.List.{drop_at, drop_all, drop_more, length-map, length-take-le, length-reverse, take-append-drop, reverse-append, append-nil}
+use Rattle.std.proofs.lemmas.List.{drop_at, length-map, length-take-le, length-reverse, take-append-drop, reverse-append, append-nil}
 use Rattle.dnw_base.specs.Names.{encoded_size, lower, IsZoneOf}
 use Rattle.dnw_base.proofs.Wires.{encoded_size-cons}
 use Rattle.dnw_label.specs.LabelOrder.{octets_cmp, octet_cmp_ignore_case}
@@ -156,20 +156,3 @@ slice_cmp-lowered (x ∷ xs) [] = refl
 slice_cmp-lowered (x ∷ xs) (y ∷ ys) =
     ap (λ (first : Ordering). ordering_then first (slice_cmp (slice_cmp octet_cmp_ignore_case) xs ys)) (slice_cmp-on to_ascii_lowercase nat_cmp x y)
     ∙ ap (ordering_then (octets_cmp (map to_ascii_lowercase x) (map to_ascii_lowercase y))) (slice_cmp-lowered xs ys)
-
--- if one list has ended, the lengths decide
-pub slice_cmp-ended : (R : List ℕ → List ℕ → Ordering) (i : ℕ) (xs ys : List (List ℕ)) (r : Ordering)
-    → MatchOrdering r (length xs < length ys) (length xs ≡ length ys) (length ys < length xs) → i ≡ min (length xs) (length ys)
-    → slice_cmp R (drop i (reverse xs)) (drop i (reverse ys)) ≡ r
-slice_cmp-ended R i xs ys Less h e =
-    let none : length (reverse xs) ≤ i = omega (arith, h, e, length-reverse xs) in
-    let more : i < length (reverse ys) = omega (arith, h, e, length-reverse ys) in
-    rw (drop_all i (reverse xs) none, drop_more (reverse ys) i [] more) refl
-slice_cmp-ended R i xs ys Equal h e =
-    let none : length (reverse xs) ≤ i = omega (arith, h, e, length-reverse xs) in
-    let none_too : length (reverse ys) ≤ i = omega (arith, h, e, length-reverse ys) in
-    rw (drop_all i (reverse xs) none, drop_all i (reverse ys) none_too) refl
-slice_cmp-ended R i xs ys Greater h e =
-    let none : length (reverse ys) ≤ i = omega (arith, h, e, length-reverse ys) in
-    let more : i < length (reverse xs) = omega (arith, h, e, length-reverse xs) in
-    rw (drop_all i (reverse ys) none, drop_more (reverse xs) i [] more) refl

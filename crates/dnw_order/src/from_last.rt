@@ -1,75 +1,106 @@
 //! The labels of a wire form from the last one.
-ghost use Rattle.std.specs.Prelude.{◌≡◌, ◌<◌, List, [], get_or, length, reverse};
+ghost use Rattle.std.specs.Prelude.{◌≡◌, ◌≤◌, ◌/◌, length, reverse};
+ghost use Rattle.std.specs.Iterator.{YieldsFirstRef};
+ghost use Rattle.dnw_form.specs.Inside.WireBytes.{closed, labels_of, IsWire};
+ghost use Rattle.dnw_order.specs.Inside.Lengths.{HasLengths, SplitsBack};
 
-use dnw_form::wire_labels::WireLabels;
 use std::marker::Model;
 
-/// The most labels of a name: each takes two octets at least, and the closing zero one (RFC 1035, section 3.1).
-const MAX_LABELS: usize = 127;
+/// Lengths below this are kept when another one comes: seven, of eight bits each.
+const KEPT: u64 = 1 << 56;
 
-/// Labels, each of which is found at once, from the last one.
+/// Labels from the last one. The lengths of eight are known at a time, so each of these is found at once.
 ///
-/// A contract sees them as their list from the first one.
+/// A contract sees them as the list of the labels that are left, from the last one.
 #[derive(Drop)]
 pub(crate) struct FromLast<'a> {
-    labels: WireLabels<'a>,
-    // Where each label begins in the wire form.
-    starts: [u8; MAX_LABELS],
-    len: usize,
+    // The wire form of what is left, without a closing zero.
+    rest: &'a [u8],
+    // The lengths of the last labels, the last one in the low octet, or 0 if they are not known.
+    lengths: u64,
 }
 
 impl<'a> Model for FromLast<'a> {
-    ghost use Rattle.std.specs.Prelude.{ℕ, List};
-    ghost use Rattle.dnw_order.specs.Inside.Starts.{HasStarts};
+    ghost use Rattle.std.specs.Prelude.{ℕ, List, reverse};
+    ghost use Rattle.dnw_form.specs.Inside.WireBytes.{closed, labels_of, IsWire};
+    ghost use Rattle.dnw_order.specs.Inside.Lengths.{HasLengths};
 
     ghost Value = { List (List ℕ) };
 
-    ghost view = { λ it. it.labels };
+    ghost view = { λ it. reverse (labels_of (closed it.rest.now)) };
 
-    ghost invariant = { λ it. HasStarts it.starts it.len it.labels };
+    ghost invariant = { λ it. IsWire (closed it.rest.now) × HasLengths (reverse (labels_of (closed it.rest.now))) it.lengths };
 }
 
 impl<'a> FromLast<'a> {
-    /// Finds where the labels begin.
+    /// Finds the labels of a wire form.
     #[inline(always)]
-    pub(crate) fn new(labels: WireLabels<'a>) -> Self
-        ensures { result ≡ labels.entry }
+    pub(crate) fn new(wire: &'a [u8]) -> Self
+        requires { IsWire wire.now }
+        ensures { result ≡ reverse (labels_of wire.now) }
     {
-        let size = labels.as_wire().len();
-        let mut starts = [0u8; MAX_LABELS];
-        let mut len = 0;
-        let mut rest = labels.clone();
-        loop {
-            let start = size - rest.as_wire().len();
-            if rest.next().is_none() {
-                break;
-            }
-            starts[len] = start as u8;
-            len += 1;
-        }
+        let rest = &wire[..wire.len() - 1];
         FromLast {
-            labels,
-            starts,
-            len,
+            rest,
+            lengths: last_lengths(rest),
         }
     }
 
-    /// Returns the number of labels.
+    /// Takes the last label of those that are left.
     #[inline(always)]
-    pub(crate) fn len(&self) -> usize
-        ensures { result ≡ length self.now }
+    pub(crate) fn next(&mut self) -> Option<&'a [u8]>
+        ensures { YieldsFirstRef (λ labels. labels) self.old result self.new }
     {
-        self.len
+        let mut lengths = self.lengths;
+        if lengths == 0 {
+            if self.rest.is_empty() {
+                return None;
+            }
+            lengths = more_lengths(self.rest);
+        }
+        let (rest, label) = split_last(self.rest, lengths);
+        self.rest = rest;
+        self.lengths = lengths / 256;
+        Some(label)
     }
+}
 
-    /// Returns the label before the last `index`.
-    #[inline(always)]
-    pub(crate) fn get(&self, index: usize) -> &'a [u8]
-        requires { index < length self.now }
-        ensures { result.now ≡ get_or (reverse self.now) index [] }
-    {
-        let wire = self.labels.as_wire();
-        let start = self.starts[self.len - 1 - index] as usize;
-        WireLabels::new(&wire[start..]).next().unwrap_or(&[])
+/// Returns the labels before the last one, and the last one, whose length is known.
+#[inline(always)]
+fn split_last(labels: &[u8], lengths: u64) -> (&[u8], &[u8])
+    requires wire { IsWire (closed labels.now) }
+    requires lengths { HasLengths (reverse (labels_of (closed labels.now))) lengths }
+    requires known { 1 ≤ lengths }
+    ensures { SplitsBack labels.now result.0.now result.1.now (lengths / 256) }
+{
+    let end = labels.len() - (lengths % 256) as usize;
+    let (_, label) = labels.split_at(end);
+    (&labels[..end - 1], label)
+}
+
+/// Returns the lengths of the last labels, eight at most.
+#[inline(always)]
+fn last_lengths(labels: &[u8]) -> u64
+    requires { IsWire (closed labels.now) }
+    ensures lengths { HasLengths (reverse (labels_of (closed labels.now))) result }
+    ensures some { 1 ≤ length labels.now → 1 ≤ result }
+{
+    let mut lengths = 0;
+    let mut rest = labels;
+    'labels: while let Some((len, others)) = rest.split_first() {
+        lengths = lengths % KEPT * 256 + u64::from(*len);
+        let (_, others) = others.split_at(*len as usize);
+        rest = others;
     }
+    lengths
+}
+
+/// Returns the lengths as `last_lengths` does. It is a call of its own, since few names have more than eight labels.
+#[inline(never)]
+fn more_lengths(labels: &[u8]) -> u64
+    requires { IsWire (closed labels.now) }
+    ensures lengths { HasLengths (reverse (labels_of (closed labels.now))) result }
+    ensures some { 1 ≤ length labels.now → 1 ≤ result }
+{
+    last_lengths(labels)
 }

@@ -8,7 +8,7 @@ use crate::from_last::FromLast;
 use arrayvec::ArrayVec;
 use dnw_base::limits::MAX_NAME;
 use dnw_form::wire_labels::WireLabels;
-use dnw_label::label::{CaseInsensitive, CaseSensitive, LabelCmp, cmp_bytes};
+use dnw_label::label::{CaseInsensitive, CaseSensitive, LabelCmp};
 use std::cmp::Ordering;
 use std::hash::Hasher;
 
@@ -31,16 +31,42 @@ pub fn cmp_labels_case(left: WireLabels<'_>, right: WireLabels<'_>) -> Ordering
 
 /// Compares labels from the last one, and their bytes as `F` does. Labels come before those that end in them.
 fn cmp_labels_by<F: LabelCmp>(left: WireLabels<'_>, right: WireLabels<'_>) -> Ordering
+    requires { (n : ℕ) → F.order n n ≡ Ordering.Equal }
     ensures { result ≡ labels_cmp_by F.order left.entry right.entry }
 {
-    let (lefts, rights) = (FromLast::new(left), FromLast::new(right));
-    for i in 0..lefts.len().min(rights.len()) {
-        let order = cmp_bytes::<F>(lefts.get(i), rights.get(i));
+    let mut lefts = FromLast::new(left.as_wire());
+    let mut rights = FromLast::new(right.as_wire());
+    'labels: while let Some(left) = lefts.next() {
+        let Some(right) = rights.next() else {
+            return Ordering::Greater;
+        };
+        let order = cmp_label::<F>(left, right);
         if order.is_ne() {
             return order;
         }
     }
-    lefts.len().cmp(&rights.len())
+    if rights.next().is_none() {
+        Ordering::Equal
+    } else {
+        Ordering::Less
+    }
+}
+
+/// Compares the bytes of two labels as `F` does. Most bytes are the same, so each pair is tested for that first.
+#[inline(always)]
+fn cmp_label<F: LabelCmp>(left: &[u8], right: &[u8]) -> Ordering
+    requires { (n : ℕ) → F.order n n ≡ Ordering.Equal }
+    ensures { result ≡ slice_cmp F.order left.now right.now }
+{
+    for i in 0..left.len().min(right.len()) {
+        if left[i] != right[i] {
+            let order = F::cmp_u8(left[i], right[i]);
+            if order.is_ne() {
+                return order;
+            }
+        }
+    }
+    left.len().cmp(&right.len())
 }
 
 /// Returns `true` if the labels are equal, ignoring ASCII case (RFC 4343).
