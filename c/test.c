@@ -205,6 +205,187 @@ static void refuses_to_write(void)
     EXPECT(written.len == 5 && written.count == 1 && holds("\003www\000", 5));
 }
 
+/* A referral with glue: www.example.com has to be asked for at ns.example.com, which is 192.0.2.1. Its bytes are worked by
+   hand from RFC 1035, sections 4.1.1 to 4.1.4: the name of the question is at offset 12, so example.com is at 16; the
+   records begin at 33 and 50, and ns.example.com is at 45. */
+#define WWW "\003www\007example\003com\000"
+#define APEX "\007example\003com\000"
+#define NS "\002ns\007example\003com\000"
+#define HEADER "\022\064\200\000\000\001\000\000\000\001\000\001"
+#define TTL "\000\002\243\000"
+#define ADDRESS "\000\001\000\001" TTL "\000\004\300\000\002\001"
+
+static const char referral[] =
+    HEADER WWW "\000\001\000\001" "\300\020" "\000\002\000\001" TTL "\000\005\002ns\300\020" "\300\055" ADDRESS;
+
+static const char referral_items[] =
+    "\000\000\014" HEADER "\001" WWW "\000\000\004\000\001\000\001"
+    "\003" APEX "\000\002\000\001" TTL "\000\020" NS "\002" NS ADDRESS;
+
+static uint32_t read_record(size_t message_len, size_t start, size_t size, struct dnw_record *record)
+{
+    clear();
+    uint32_t answer = dnw_record_read((const uint8_t *)referral, message_len, start, buffer, size, record);
+    if (answer != DNW_DONE)
+        EXPECT(untouched());
+    return answer;
+}
+
+static uint32_t data_name(size_t offset, size_t data_len, size_t size, size_t *len)
+{
+    clear();
+    uint32_t answer = dnw_record_data_name(BYTES(referral), offset, data_len, buffer, size, len);
+    if (answer != DNW_DONE)
+        EXPECT(untouched());
+    return answer;
+}
+
+static void reads_records(void)
+{
+    const size_t all = sizeof referral - 1;
+    struct dnw_record record = {7, 7, 7, 7, 7, 7, 7};
+    size_t len = 7;
+    EXPECT(all == 66);
+    EXPECT(read_record(all, 33, 13, &record) == DNW_DONE && holds(APEX, 13));
+    EXPECT(record.owner_len == 13 && record.record_type == 2 && record.record_class == 1 && record.ttl == 172800);
+    EXPECT(record.data_offset == 45 && record.data_len == 5 && record.end == 50);
+    EXPECT(data_name(record.data_offset, record.data_len, 16, &len) == DNW_DONE && len == 16 && holds(NS, 16));
+    EXPECT(read_record(all, record.end, sizeof buffer, &record) == DNW_DONE && holds(NS, 16));
+    EXPECT(record.owner_len == 16 && record.record_type == 1 && record.record_class == 1 && record.ttl == 172800);
+    EXPECT(record.data_offset == 62 && record.data_len == 4 && record.end == all);
+    EXPECT(memcmp(referral + record.data_offset, "\300\000\002\001", 4) == 0);
+    /* an MX record's data, with a preference of 10 before the root */
+    clear();
+    EXPECT(dnw_record_data_name(BYTES("\000\012\000"), 2, 1, buffer, 1, &len) == DNW_DONE && len == 1 && holds("\000", 1));
+}
+
+static void refuses_records(void)
+{
+    const size_t all = sizeof referral - 1;
+    struct dnw_record record = {7, 7, 7, 7, 7, 7, 7};
+    size_t len = 7;
+    EXPECT(read_record(all, 33, 12, &record) == DNW_NO_ROOM);
+    EXPECT(read_record(all, all, 255, &record) == DNW_MESSAGE_CUT);
+    EXPECT(read_record(all, SIZE_MAX, 255, &record) == DNW_MESSAGE_CUT);
+    EXPECT(read_record(all - 1, 50, 255, &record) == DNW_MESSAGE_CUT);
+    EXPECT(read_record(61, 50, 255, &record) == DNW_MESSAGE_CUT);
+    EXPECT(read_record(all, 2, 255, &record) == DNW_RESERVED_OCTET);
+    EXPECT(record.owner_len == 7 && record.ttl == 7 && record.end == 7);
+    EXPECT(data_name(45, 4, 255, &len) == DNW_WRONG_DATA_LENGTH);
+    EXPECT(data_name(45, 6, 255, &len) == DNW_WRONG_DATA_LENGTH);
+    EXPECT(data_name(45, SIZE_MAX, 255, &len) == DNW_WRONG_DATA_LENGTH);
+    EXPECT(data_name(45, 5, 15, &len) == DNW_NO_ROOM);
+    EXPECT(data_name(SIZE_MAX, 1, 255, &len) == DNW_MESSAGE_CUT && len == 7);
+}
+
+static uint32_t write_items(const uint8_t *items, size_t items_len, uint16_t max_size, bool is_canonical, size_t size,
+                            struct dnw_written_message *written)
+{
+    clear();
+    return dnw_message_write(items, items_len, max_size, is_canonical, buffer, size, written);
+}
+
+/* A record of a name `A` whose data are `B.A`, written in three ways and in canonical form (RFC 4034, section 6.2). */
+#define FIELDS "\000\002\000\001\000\000\000\000\000"
+#define ITEM(kind) BYTES(kind "\001A\000" FIELDS "\005\001B\001A\000")
+
+static void writes_messages(void)
+{
+    struct dnw_written_message written = {7, 9};
+    EXPECT(write_items(BYTES(referral_items), 512, false, 66, &written) == DNW_DONE);
+    EXPECT(written.len == 66 && written.count == 5 && holds(referral, 66));
+    EXPECT(write_items(ITEM("\003"), 512, false, 255, &written) == DNW_DONE && written.len == 17 && written.count == 1);
+    EXPECT(holds("\001A\000" FIELDS "\004\001B\300\000", 17));
+    EXPECT(write_items(ITEM("\003"), 512, true, 255, &written) == DNW_DONE && written.len == 18);
+    EXPECT(holds("\001A\000" FIELDS "\005\001b\001a\000", 18));
+    EXPECT(write_items(ITEM("\004"), 512, true, 255, &written) == DNW_DONE);
+    EXPECT(written.len == 18 && holds("\001A\000" FIELDS "\005\001b\001a\000", 18));
+    EXPECT(write_items(ITEM("\004"), 512, false, 255, &written) == DNW_DONE);
+    EXPECT(written.len == 18 && holds("\001A\000" FIELDS "\005\001B\001A\000", 18));
+    EXPECT(write_items(ITEM("\005"), 512, true, 255, &written) == DNW_DONE);
+    EXPECT(written.len == 18 && holds("\001A\000" FIELDS "\005\001B\001A\000", 18));
+    EXPECT(write_items(ITEM("\002"), 512, true, 255, &written) == DNW_DONE);
+    EXPECT(written.len == 18 && holds("\001A\000" FIELDS "\005\001B\001A\000", 18));
+    EXPECT(write_items(BYTES(""), 0, false, 0, &written) == DNW_DONE && written.len == 0 && written.count == 0);
+}
+
+/* What goes past the maximum is left out whole, and all before it is there. */
+static void cuts_messages(void)
+{
+    struct dnw_written_message written = {7, 9};
+    EXPECT(write_items(BYTES(referral_items), 65, false, sizeof buffer, &written) == DNW_MESSAGE_TOO_LONG);
+    EXPECT(written.len == 50 && written.count == 4 && holds(referral, 50));
+    EXPECT(write_items(BYTES(referral_items), 49, false, sizeof buffer, &written) == DNW_MESSAGE_TOO_LONG);
+    EXPECT(written.len == 33 && written.count == 3 && holds(referral, 33));
+    EXPECT(write_items(BYTES(referral_items), 11, false, sizeof buffer, &written) == DNW_MESSAGE_TOO_LONG);
+    EXPECT(written.len == 0 && written.count == 0 && untouched());
+    written.count = 9;
+    EXPECT(write_items(BYTES(referral_items), 65, false, 49, &written) == DNW_NO_ROOM && untouched());
+    EXPECT(write_items(BYTES(referral_items), 66, false, 65, &written) == DNW_NO_ROOM && untouched());
+    EXPECT(written.len == 0 && written.count == 9);
+}
+
+static uint32_t refuses_items(const uint8_t *items, size_t items_len)
+{
+    struct dnw_written_message written = {7, 9};
+    uint32_t answer = write_items(items, items_len, 512, false, sizeof buffer, &written);
+    EXPECT(untouched() && written.len == 7 && written.count == 9);
+    return answer;
+}
+
+static void refuses_messages(void)
+{
+    EXPECT(refuses_items(BYTES("\006")) == DNW_BAD_ITEM);
+    EXPECT(refuses_items(BYTES("\377")) == DNW_BAD_ITEM);
+    EXPECT(refuses_items(BYTES("\001\000\006")) == DNW_BAD_ITEM);
+    EXPECT(refuses_items(BYTES("\000")) == DNW_BAD_ITEM);
+    EXPECT(refuses_items(BYTES("\000\000")) == DNW_BAD_ITEM);
+    EXPECT(refuses_items(BYTES("\000\000\002a")) == DNW_BAD_ITEM);
+    EXPECT(refuses_items(BYTES("\001")) == DNW_BAD_ITEM);
+    EXPECT(refuses_items(BYTES("\001\100")) == DNW_BAD_ITEM);
+    EXPECT(refuses_items(BYTES("\002\000" FIELDS)) == DNW_BAD_ITEM);
+    EXPECT(refuses_items(BYTES("\002\000" FIELDS "\001")) == DNW_BAD_ITEM);
+    EXPECT(refuses_items(BYTES("\003\000" FIELDS "\002\000\000")) == DNW_BAD_ITEM);
+}
+
+/* The names are those of RFC 1035, section 3.5, with an address of RFC 5737, and of RFC 3596, section 2.5. */
+static void reverses(void)
+{
+    static const char ipv4_name[] = "\0011\0012\0010\003192\007in-addr\004arpa\000";
+    static const char ipv6[] = "\103\041\000\000\000\001\000\002\000\003\000\004\005\147\211\253";
+    static const char nibbles[] = "ba987650400030002000100000001234";
+    char ipv6_name[74 + 1];
+    struct dnw_net net = {7, 9};
+    size_t len = 7;
+    for (size_t i = 0; i < 32; i++) {
+        ipv6_name[2 * i] = 1;
+        ipv6_name[2 * i + 1] = nibbles[i];
+    }
+    memcpy(ipv6_name + 64, "\003ip6\004arpa\000", 11);
+    clear();
+    EXPECT(dnw_reverse_name(BYTES("\300\000\002\001"), buffer, 23, &len) == DNW_NO_ROOM && untouched() && len == 7);
+    EXPECT(dnw_reverse_name(BYTES("\300\000\002"), buffer, 255, &len) == DNW_BAD_ADDRESS && untouched() && len == 7);
+    EXPECT(dnw_reverse_name(BYTES(""), buffer, 255, &len) == DNW_BAD_ADDRESS);
+    EXPECT(dnw_reverse_name(BYTES("\300\000\002\001"), buffer, 24, &len) == DNW_DONE && len == 24 && holds(ipv4_name, 24));
+    clear();
+    EXPECT(dnw_reverse_name(BYTES(ipv6), buffer, 74, &len) == DNW_DONE && len == 74 && holds(ipv6_name, 74));
+    clear();
+    EXPECT(dnw_reverse_parse((const uint8_t *)ipv6_name, 74, buffer, 16, &net) == DNW_DONE);
+    EXPECT(net.len == 16 && net.prefix_len == 128 && holds(ipv6, 16));
+    clear();
+    EXPECT(dnw_reverse_parse((const uint8_t *)ipv4_name, 24, buffer, 4, &net) == DNW_DONE);
+    EXPECT(net.len == 4 && net.prefix_len == 32 && holds("\300\000\002\001", 4));
+    EXPECT(dnw_reverse_parse(BYTES("\003168\003192\007IN-ADDR\004ARPA\000"), buffer, 4, &net) == DNW_DONE);
+    EXPECT(net.len == 4 && net.prefix_len == 16 && holds("\300\250\000\000", 4));
+    clear();
+    EXPECT(dnw_reverse_parse((const uint8_t *)ipv4_name, 24, buffer, 3, &net) == DNW_NO_ROOM);
+    EXPECT(dnw_reverse_parse((const uint8_t *)ipv4_name, 23, buffer, 4, &net) == DNW_MESSAGE_CUT);
+    EXPECT(dnw_reverse_parse(BYTES("\007in-addr\004arpa\000\000"), buffer, 4, &net) == DNW_BYTES_LEFT);
+    EXPECT(dnw_reverse_parse(BYTES("\003256\007in-addr\004arpa\000"), buffer, 4, &net) == DNW_NOT_REVERSE);
+    EXPECT(dnw_reverse_parse(BYTES("\003www\000"), buffer, 4, &net) == DNW_NOT_REVERSE);
+    EXPECT(untouched() && net.len == 4 && net.prefix_len == 16);
+}
+
 /* The order is that of RFC 4034, section 6.1: example, a.example, yljkjljk.a.example, Z.a.example, .. */
 static void compares(void)
 {
@@ -413,11 +594,11 @@ static void tells_failures(void)
     EXPECT(dnw_error_text(DNW_NO_MEMORY, buffer, 13) == 13 && holds("out of memory", 13));
     clear();
     EXPECT(dnw_error_text(DNW_DONE, buffer, sizeof buffer) == 7 && holds("success", 7));
-    for (uint32_t i = 0; i <= DNW_UNKNOWN_ENTRY; i++) {
+    for (uint32_t i = 0; i <= DNW_BAD_ITEM; i++) {
         size_t len = dnw_error_text(i, buffer, sizeof buffer);
         EXPECT(0 < len && len <= 64);
     }
-    EXPECT(dnw_error_text(DNW_UNKNOWN_ENTRY + 1, buffer, sizeof buffer) == 0);
+    EXPECT(dnw_error_text(DNW_BAD_ITEM + 1, buffer, sizeof buffer) == 0);
     EXPECT(dnw_error_text(UINT32_MAX, buffer, sizeof buffer) == 0);
 }
 
@@ -454,6 +635,13 @@ static void lacks_memory(void)
     EXPECT(dnw_token_next(BYTES("$FOO"), &lexer, buffer, sizeof buffer, &token) == DNW_NO_MEMORY && token.kind == 99);
     EXPECT(untouched());
     EXPECT(dnw_name_append(BYTES("\001a\000"), BYTES("\000"), buffer, sizeof buffer, &len) == DNW_DONE && len == 3);
+    struct dnw_record record;
+    struct dnw_net net;
+    EXPECT(read_record(sizeof referral - 1, 33, 255, &record) == DNW_DONE && data_name(45, 5, 255, &len) == DNW_DONE);
+    EXPECT(dnw_reverse_name(BYTES("\300\000\002\001"), buffer, 255, &len) == DNW_DONE);
+    EXPECT(dnw_reverse_parse(BYTES("\007in-addr\004arpa\000"), buffer, 4, &net) == DNW_DONE && net.prefix_len == 0);
+    EXPECT(refuses_items(BYTES("\001\000")) == DNW_NO_MEMORY);
+    EXPECT(refuses_items(BYTES("\002\000" FIELDS "\001a")) == DNW_NO_MEMORY);
     no_memory = false;
 }
 
@@ -467,6 +655,12 @@ int main(void)
     prints();
     writes();
     refuses_to_write();
+    reads_records();
+    refuses_records();
+    writes_messages();
+    cuts_messages();
+    refuses_messages();
+    reverses();
     compares();
     edits();
     codes();
