@@ -55,7 +55,11 @@ pub(crate) fn record_of(alloc: Global, row: Row<'_>) -> ProtoResult<WireRecord> 
 }
 
 /// Writes a header with these flags and counts, of one question and of the records of three sections.
-pub(crate) fn write_header(encoder: &mut BinEncoder<'_>, flags: u16, counts: [u16; 3]) -> ProtoResult<()> {
+pub(crate) fn write_header(
+    encoder: &mut BinEncoder<'_>,
+    flags: u16,
+    counts: [u16; 3],
+) -> ProtoResult<()> {
     encoder.emit_u16(0x1234)?;
     encoder.emit_u16(flags)?;
     encoder.emit_u16(0)?;
