@@ -49,7 +49,7 @@ DataStand b mode canonical (rdata.Bytes bytes) p e = BytesStand b bytes.items p 
 DataStand b mode canonical (rdata.Name name encoding) p e = NameStands b (mode_of_rdata encoding canonical mode) name.labels p e
 
 -- A record is there from p to e (RFC 1035, section 4.1.3): its owner, its type, class and time to live as numbers, the
--- number of octets of its data, and the data up to e.
+-- number of octets of its data, and the data up to e. It ends within the size of a message, so two octets hold that number.
 pub record RecordStands (b : List ℕ) (mode : NameEncoding) (canonical : Bool) (r : WireRecord) (p e : ℕ) : Type 0 where
   pub owner_end : ℕ
   pub owner : NameStands b mode r.owner.labels p owner_end
