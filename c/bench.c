@@ -37,5 +37,13 @@ int main(void)
     EXPECT(dnw_read_type_sets(BYTES("\000\003\000\000\001"), 1) == (uint64_t)1 << 40);
     EXPECT(dnw_emit_type_sets(BYTES("\000\004\000\002\140\000\000\000"), 2) == 2 * 3);
     EXPECT(dnw_emit_type_sets(BYTES("\000\003\000"), 2) == 0);
+    /* a header, then a. A 1 with four octets, and a. NS 2 with b.a., whose names have 3, 3 and 5 octets */
+    static const uint8_t records[] = "\0\0\0\0\0\0\0\0\0\0\0\0"
+                                     "\001a\000\0\1\0\1\0\0\0\1\0\4\1\2\3\4"
+                                     "\300\014\0\2\0\1\0\0\0\2\0\4\001b\300\014";
+    EXPECT(dnw_read_records(records, sizeof records - 1, 2) == 2 * (3 + 4 + 1 + 3 + 5 + 2));
+    EXPECT(dnw_read_records(records, sizeof records - 2, 1) == (uint64_t)1 << 40);
+    EXPECT(dnw_emit_records(records, sizeof records - 1, 2) == 2 * (sizeof records - 1));
+    EXPECT(dnw_emit_records(records, 11, 1) == 0);
     return 0;
 }

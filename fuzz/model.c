@@ -2,7 +2,10 @@
 
 #include <string.h>
 
-enum { LABEL_MAX = 63, LABELS_MAX = 127, POINTER = 192, CANDIDATES = 64, COMPRESSED = 120 };
+enum { LABEL_MAX = 63, LABELS_MAX = 127, POINTER = 192, COMPRESSED = 120 };
+
+/* No candidate is kept of labels that end here or later; the octets of a record between its owner and its data. */
+enum { REACH = 0x3FFF, FIELDS = 10 };
 
 /* RFC 1035, section 4.1.4. A segment of a name ends in a zero octet or in a pointer, which must point to before the
    segment; no label of the segment that it points to may begin where the one before began, or later. */
@@ -45,6 +48,34 @@ uint32_t model_read(const uint8_t *message, size_t len, size_t start, struct mod
         name->end = at;
     name->len = size;
     return DNW_DONE;
+}
+
+uint32_t model_number(const uint8_t *octets, size_t count)
+{
+    uint32_t number = 0;
+    for (size_t i = 0; i < count; i++)
+        number = number << 8 | octets[i];
+    return number;
+}
+
+/* RFC 1035, section 4.1.3. */
+uint32_t model_record(const uint8_t *message, size_t len, size_t start, struct model_name *owner,
+                      struct dnw_record *record)
+{
+    uint32_t failure = model_read(message, len, start, owner);
+    if (failure != DNW_DONE)
+        return failure;
+    if (len - owner->end < FIELDS)
+        return DNW_MESSAGE_CUT;
+    const uint8_t *fields = message + owner->end;
+    record->owner_len = owner->len;
+    record->record_type = (uint16_t)model_number(fields, 2);
+    record->record_class = (uint16_t)model_number(fields + 2, 2);
+    record->ttl = model_number(fields + 4, 4);
+    record->data_len = model_number(fields + 8, 2);
+    record->data_offset = owner->end + FIELDS;
+    record->end = record->data_offset + record->data_len;
+    return record->end > len ? DNW_MESSAGE_CUT : DNW_DONE;
 }
 
 uint32_t model_form(const uint8_t *form, size_t len, struct model_name *name)
@@ -218,14 +249,7 @@ size_t model_print(const struct model_name *name, bool is_fqdn, uint8_t *text)
     return len;
 }
 
-/* Where labels were written, and their octets, without the zero octet at the end. */
-struct candidate {
-    size_t offset;
-    uint8_t form[DNW_FORM_SIZE];
-    size_t len;
-};
-
-static const struct candidate *find(const struct candidate *all, size_t count, const uint8_t *form, size_t len)
+static const struct model_candidate *find(const struct model_candidate *all, size_t count, const uint8_t *form, size_t len)
 {
     for (size_t i = 0; i < count; i++)
         if (all[i].len == len && memcmp(all[i].form, form, len) == 0)
@@ -233,67 +257,73 @@ static const struct candidate *find(const struct candidate *all, size_t count, c
     return NULL;
 }
 
-/* A message that is being written. */
-struct writer {
-    struct candidate candidates[CANDIDATES];
-    size_t candidate_count;
-    size_t names;
-    size_t offset;
-};
-
-/* Keeps the suffixes of a name that begin before `front` as candidates. Each needs a label of at most 64 octets, so all
-   lie within reach of a pointer. */
-static void keep(struct writer *w, const struct model_name *name, size_t front)
+/* Keeps the suffixes of a name that begin before `front` as candidates, if its labels end within reach of a pointer. */
+static void keep(struct model_writer *w, const struct model_name *name, size_t front)
 {
     size_t labels = name->len - 1;
-    for (size_t at = 0; at < front && w->candidate_count < CANDIDATES; at += 1u + name->form[at]) {
-        struct candidate *c = &w->candidates[w->candidate_count++];
+    if (w->offset + labels >= REACH)
+        return;
+    for (size_t at = 0; at < front && w->candidate_count < MODEL_CANDIDATES; at += 1u + name->form[at]) {
+        struct model_candidate *c = &w->candidates[w->candidate_count++];
         c->offset = w->offset + at;
         c->len = labels - at;
         memcpy(c->form, name->form + at, c->len);
     }
 }
 
+bool model_write_bytes(struct model_writer *w, const uint8_t *bytes, size_t len)
+{
+    if (len > w->max_size - w->offset)
+        return false;
+    memcpy(w->out + w->offset, bytes, len);
+    w->offset += len;
+    return true;
+}
+
 /* The first 120 names are compressed: the longest suffix that was kept is a pointer to the first place of it. */
-static bool write_name(struct writer *w, const struct model_name *name, size_t max_size, uint8_t *out)
+bool model_write_name(struct model_writer *w, const struct model_name *name, bool is_compressed)
 {
     size_t labels = name->len - 1, front = 0;
-    const struct candidate *found = NULL;
-    while (w->names < COMPRESSED && front < labels &&
+    const struct model_candidate *found = NULL;
+    is_compressed = is_compressed && w->compressed < COMPRESSED;
+    while (is_compressed && front < labels &&
            !(found = find(w->candidates, w->candidate_count, name->form + front, labels - front)))
         front += 1u + name->form[front];
-    if (w->offset + (found ? labels : labels + 1) > max_size)
+    if (w->offset + (found ? labels : labels + 1) > w->max_size)
         return false;
     if (!found)
         front = labels;
-    memcpy(out + w->offset, name->form, front);
+    uint8_t *out = w->out + w->offset;
+    memcpy(out, name->form, front);
     if (found) {
-        out[w->offset + front] = (uint8_t)(POINTER | found->offset >> 8);
-        out[w->offset + front + 1] = (uint8_t)found->offset;
+        out[front] = (uint8_t)(POINTER | found->offset >> 8);
+        out[front + 1] = (uint8_t)found->offset;
     } else {
-        out[w->offset + front] = 0;
+        out[front] = 0;
     }
     keep(w, name, front);
     w->offset += front + (found ? 2 : 1);
-    w->names += 1;
+    w->compressed += is_compressed;
     return true;
 }
 
 uint32_t model_write(const uint8_t *list, size_t list_len, size_t max_size, uint8_t *out,
                      struct dnw_written_names *written)
 {
-    static struct writer w;
-    w.candidate_count = w.names = w.offset = 0;
-    size_t at = 0;
-    for (struct model_name name; at < list_len; at = name.end) {
+    static struct model_writer w;
+    w.candidate_count = w.compressed = w.offset = 0;
+    w.max_size = max_size;
+    w.out = out;
+    size_t at = 0, count = 0;
+    for (struct model_name name; at < list_len; at = name.end, count++) {
         uint32_t failure = model_read(list, list_len, at, &name);
         if (failure != DNW_DONE)
             return failure;
-        if (!write_name(&w, &name, max_size, out))
+        if (!model_write_name(&w, &name, true))
             return DNW_MESSAGE_TOO_LONG;
     }
     written->len = w.offset;
-    written->count = w.names;
+    written->count = count;
     return DNW_DONE;
 }
 

@@ -26,13 +26,41 @@ struct model_text {
     bool is_open;
 };
 
+/* A candidate for compression: where labels were written, and their octets, without the zero octet at the end. */
+struct model_candidate {
+    size_t offset;
+    uint8_t form[DNW_FORM_SIZE];
+    size_t len;
+};
+
+enum { MODEL_CANDIDATES = 64 };
+
+/* A message that is being written at `out`, which has room for 65,535 bytes. */
+struct model_writer {
+    struct model_candidate candidates[MODEL_CANDIDATES];
+    size_t candidate_count;
+    size_t compressed;
+    size_t offset;
+    size_t max_size;
+    uint8_t *out;
+};
+
+/* Returns the number that octets are in network byte order. */
+uint32_t model_number(const uint8_t *octets, size_t count);
+
 /* Each returns DNW_DONE or the failure. */
 uint32_t model_read(const uint8_t *message, size_t len, size_t start, struct model_name *name);
+uint32_t model_record(const uint8_t *message, size_t len, size_t start, struct model_name *owner,
+                      struct dnw_record *record);
 uint32_t model_form(const uint8_t *form, size_t len, struct model_name *name);
 uint32_t model_parse(const uint8_t *text, size_t len, struct model_text *parsed);
 
 /* Puts the text of a wire form into `text`, which has DNW_TEXT_SIZE bytes, and returns its length. */
 size_t model_print(const struct model_name *name, bool is_fqdn, uint8_t *text);
+
+/* Each returns false if the message would go past its maximum size, and then the writer is unchanged. */
+bool model_write_bytes(struct model_writer *w, const uint8_t *bytes, size_t len);
+bool model_write_name(struct model_writer *w, const struct model_name *name, bool is_compressed);
 
 /* Writes a list into a message at `out`, which has room for 65,535 bytes, and puts the message's length and its names. */
 uint32_t model_write(const uint8_t *list, size_t list_len, size_t max_size, uint8_t *out,

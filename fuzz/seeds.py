@@ -45,6 +45,22 @@ def triples(forms):
             yield bytes([len(left), len(middle)]) + left + middle + right
 
 
+def records(names):
+    """Records of the first name: its own address, and then each other name as the data of an NS record."""
+    first, others = names[0], names[1:]
+    yield first + b"\0\1\0\1\0\0\1\x2c\0\4\xc0\0\2\1"
+    for other in others:
+        yield first + b"\0\2\0\1\0\0\1\x2c" + struct.pack(">H", len(other)) + other
+
+
+def message(names):
+    """A list of items: a header of twelve octets, the first name, and the records of all, the data in each way in turn."""
+    items = b"\0\0\x0c" + bytes(12) + b"\1" + names[0]
+    for number, record in enumerate(records(names)):
+        items += bytes([2 + number % 4 if number else 2]) + record
+    return items
+
+
 def inputs(words):
     """The inputs that a request gives: pairs of a harness and octets."""
     kind, rest = words[0], words[1:]
@@ -55,6 +71,11 @@ def inputs(words):
     elif kind in ("encode", "script"):
         names = [form(step[2:]) for step in rest if step.startswith("n:")]
         yield "lists", b"\xff\xff\0" + b"".join(names)
+        if any(names):
+            names = [name for name in names if name][:20]
+            yield "records", bytes(12) + b"".join(records(names))
+            yield "messages", b"\xff\xff\0" + message(names)
+            yield "messages", b"\0\x60\1" + message(names)
     elif kind == "order":
         for triple in triples([form(name) for name in rest][:4]):
             yield "order", triple

@@ -56,6 +56,14 @@ uint64_t dnw_read_type_sets(const uint8_t *sets, size_t len, uint64_t count);
 /* Writes a set of the same types as each into a new message: the lengths of the messages. */
 uint64_t dnw_emit_type_sets(const uint8_t *sets, size_t len, uint64_t count);
 
+/* Reads the records of a message after its header, with their owners and the names in data of type NS, CNAME and PTR: the
+   sizes of the wire forms of these names, the lengths of other data, and the times to live. */
+uint64_t dnw_read_records(const uint8_t *message, size_t len, uint64_t count);
+
+/* Writes the records of a message, compressed, into a new one after a header: the length of the message. The message is a
+   header and records. */
+uint64_t dnw_emit_records(const uint8_t *message, size_t len, uint64_t count);
+
 #ifdef __cplusplus
 }
 #endif

@@ -12,6 +12,8 @@ pub enum Kind {
     Compare,
     Sort,
     Hash,
+    ReadRecords,
+    EmitRecords,
 }
 
 pub struct Task {
@@ -20,7 +22,7 @@ pub struct Task {
     pub kind: Kind,
     pub bytes: Vec<u8>,
     pub starts: Vec<u32>,
-    /// How many names are worked on each time.
+    /// How many names or records are worked on each time.
     pub operations: u64,
     /// How often the task is done if its instructions are counted.
     pub few: u64,
@@ -82,27 +84,69 @@ fn forms(texts: &[String]) -> Vec<u8> {
     texts.iter().flat_map(|text| form(text)).collect()
 }
 
+/// A message whose names share their suffixes by pointers.
+struct Message {
+    bytes: Vec<u8>,
+    /// The suffixes that are there, and their offsets.
+    known: Vec<(Vec<u8>, usize)>,
+}
+
+impl Message {
+    fn new() -> Self {
+        Message { bytes: vec![0u8; 12], known: vec![] }
+    }
+
+    fn name(&mut self, text: &str) {
+        let mut rest = form(text);
+        while rest[0] != 0 {
+            if let Some((_, place)) = self.known.iter().find(|(suffix, _)| *suffix == rest) {
+                self.bytes.extend((0xC000 | *place as u16).to_be_bytes());
+                return;
+            }
+            self.known.push((rest.clone(), self.bytes.len()));
+            let label = rest[0] as usize + 1;
+            self.bytes.extend(rest.drain(..label));
+        }
+        self.bytes.push(0);
+    }
+
+    /// A record of class IN with this type, whose data are a name.
+    fn record_of_name(&mut self, owner: &str, kind: u8, data: &str) {
+        self.name(owner);
+        self.bytes.extend([0, kind, 0, 1, 0, 0, 1, 44, 0, 0]);
+        let start = self.bytes.len();
+        self.name(data);
+        let len = (self.bytes.len() - start) as u16;
+        self.bytes[start - 2..start].copy_from_slice(&len.to_be_bytes());
+    }
+
+    /// An address of this owner (type A, RFC 1035, section 3.4.1).
+    fn address(&mut self, owner: &str, last: u8) {
+        self.name(owner);
+        self.bytes.extend([0, 1, 0, 1, 0, 0, 1, 44, 0, 4, 192, 0, 2, last]);
+    }
+}
+
 /// A response of records whose names share their suffixes by pointers, and where these names start.
 fn message() -> (Vec<u8>, Vec<u32>) {
-    let (mut bytes, mut starts, mut known) = (vec![0u8; 12], vec![], Vec::<(Vec<u8>, usize)>::new());
+    let (mut message, mut starts) = (Message::new(), vec![]);
     for text in texts(20, 1) {
-        starts.push(bytes.len() as u32);
-        let mut rest = form(&text);
-        while rest[0] != 0 {
-            if let Some((_, place)) = known.iter().find(|(suffix, _)| *suffix == rest) {
-                bytes.extend((0xC000 | *place as u16).to_be_bytes());
-                break;
-            }
-            known.push((rest.clone(), bytes.len()));
-            let label = rest[0] as usize + 1;
-            bytes.extend(rest.drain(..label));
-        }
-        if rest[0] == 0 {
-            bytes.push(0);
-        }
-        bytes.extend([0, 1, 0, 1, 0, 0, 1, 44, 0, 4, 192, 0, 2, 1]);
+        starts.push(message.bytes.len() as u32);
+        message.address(&text, 1);
     }
-    (bytes, starts)
+    (message.bytes, starts)
+}
+
+/// The 30 records of a response: an alias and its six addresses, then twelve name servers of the zone and eleven of their
+/// addresses.
+fn records() -> (Vec<u8>, Vec<u32>) {
+    let mut message = Message::new();
+    message.record_of_name("www.example.com.", 5, "www.eu.cdn.example.net.");
+    (0..6).for_each(|i| message.address("www.eu.cdn.example.net.", i));
+    let servers: Vec<String> = (0..12).map(|i| format!("ns{i}.dns.example.org.")).collect();
+    servers.iter().for_each(|server| message.record_of_name("example.net.", 2, server));
+    servers.iter().take(11).for_each(|server| message.address(server, 7));
+    (message.bytes, vec![])
 }
 
 /// A root after as many pointers, each to the one before.
@@ -184,5 +228,7 @@ pub fn tasks() -> Vec<Task> {
     add("compare", "1000 names, each with the next", Kind::Compare, (names.clone(), vec![]), 1000, 5);
     add("sort", "1000 names", Kind::Sort, (names.clone(), vec![]), 1000, 5);
     add("hash", "1000 names by SipHash 1-3", Kind::Hash, (names, vec![]), 1000, 5);
+    add("read-records", "30 records of a response, with their names", Kind::ReadRecords, records(), 30, 100);
+    add("emit-records", "30 records into a new message", Kind::EmitRecords, records(), 30, 100);
     tasks
 }

@@ -12,6 +12,8 @@ extern "C" {
     fn dnw_compare(names: *const u8, len: usize, count: u64) -> u64;
     fn dnw_sort(names: *const u8, len: usize, count: u64) -> u64;
     fn dnw_hash(names: *const u8, len: usize, count: u64) -> u64;
+    fn dnw_read_records(message: *const u8, len: usize, count: u64) -> u64;
+    fn dnw_emit_records(message: *const u8, len: usize, count: u64) -> u64;
 }
 
 pub fn run(task: &Task, count: u64) -> u64 {
@@ -29,6 +31,8 @@ pub fn run(task: &Task, count: u64) -> u64 {
             Kind::Compare => dnw_compare(bytes, len, count),
             Kind::Sort => dnw_sort(bytes, len, count),
             Kind::Hash => dnw_hash(bytes, len, count),
+            Kind::ReadRecords => dnw_read_records(bytes, len, count),
+            Kind::EmitRecords => dnw_emit_records(bytes, len, count),
         }
     }
 }

@@ -3,7 +3,7 @@ use crate::black_box;
 use crate::inputs::{Kind, Task};
 use std::collections::hash_map::DefaultHasher;
 use std::hash::{Hash, Hasher};
-use trust_dns_proto::rr::Name;
+use trust_dns_proto::rr::{Name, RData, Record};
 use trust_dns_proto::serialize::binary::{BinDecodable, BinDecoder, BinEncodable, BinEncoder};
 
 const REFUSED: u64 = 1 << 40;
@@ -43,6 +43,11 @@ pub fn run(task: &Task, count: u64) -> u64 {
         Kind::Hash => {
             let names = names_of(&task.bytes);
             repeat(count, || sum(black_box(&names), hash))
+        }
+        Kind::ReadRecords => repeat(count, || after_header(black_box(&task.bytes)).map(|r| size(&r)).sum()),
+        Kind::EmitRecords => {
+            let records: Vec<Record> = after_header(&task.bytes).collect();
+            repeat(count, || emit_records(black_box(&records)))
         }
     }
 }
@@ -104,6 +109,34 @@ fn names_of(list: &[u8]) -> Vec<Name> {
         names.push(Name::read(&mut decoder).expect("a name"));
     }
     names
+}
+
+/// The records of a message after its header.
+fn after_header(message: &[u8]) -> impl Iterator<Item = Record> + '_ {
+    let mut decoder = BinDecoder::new(message);
+    decoder.read_slice(12).expect("a header");
+    std::iter::from_fn(move || {
+        (!decoder.is_empty()).then(|| Record::read(&mut decoder).expect("a record"))
+    })
+}
+
+/// The octets of a record's names, or of its address, and its time to live.
+fn size(record: &Record) -> u64 {
+    let data = match record.data() {
+        Some(RData::NS(name) | RData::CNAME(name) | RData::PTR(name)) => encoded(name),
+        Some(RData::A(address)) => address.octets().len() as u64,
+        _ => REFUSED,
+    };
+    encoded(record.name()) + data + u64::from(record.ttl())
+}
+
+fn emit_records(records: &[Record]) -> u64 {
+    let mut message = Vec::new();
+    let mut encoder = BinEncoder::new(&mut message);
+    encoder.emit_vec(&[0; 12]).expect("room");
+    let refused = sum_mut(records, |record| if record.emit(&mut encoder).is_err() { REFUSED } else { 0 });
+    drop(encoder);
+    refused + black_box(&message).len() as u64
 }
 
 /// The octets of a name's wire form.

@@ -6,12 +6,14 @@
 
 ghost use Rattle.std.specs.Prelude.{◌≡◌};
 
-use dns_names_wire::binary::BinEncodable;
+use dns_names_wire::binary::{BinDecodable, BinEncodable};
 use dns_names_wire::decoder::BinDecoder;
-use dns_names_wire::encoder::{BinEncoder, NameEncoding};
+use dns_names_wire::encoder::{BinEncoder, NameEncoding, RDataEncoding};
 use dns_names_wire::error::{DecodeError, ProtoResult};
 use dns_names_wire::name::Name;
+use dns_names_wire::record::{RecordRef, WireData, WireRecord};
 use dns_names_wire::record_data::RecordDataDecodable;
+use dns_names_wire::record_type::RecordType;
 use dns_names_wire::record_type_set::RecordTypeSet;
 use dns_names_wire::restrict::Restrict;
 use dns_names_wire::txt::{Lexer, Token, parse_ttl};
@@ -21,6 +23,9 @@ use std::hash::{DefaultHasher, Hash, Hasher};
 
 /// What a failure adds.
 const FAILURE: u64 = 1 << 40;
+
+/// A message's header (RFC 1035, section 4.1.1), which is not looked into.
+const HEADER: [u8; 12] = [0; 12];
 
 /// Reads the name at each start: its end, and 65536 times its encoded length.
 #[unsafe(no_mangle)]
@@ -248,6 +253,80 @@ pub extern "C" fn dnw_emit_type_sets(alloc: Global, sets: &[u8], count: u64) -> 
     sum
 }
 
+/// Reads the records of a message after its header, with their owners and the names in data of type NS, CNAME and PTR: for
+/// each the encoded lengths of its names, the length of other data, and its time to live.
+#[unsafe(no_mangle)]
+pub extern "C" fn dnw_read_records(alloc: Global, msg: &[u8], count: u64) -> u64
+    ensures idle { count ≡ 0 → result ≡ 0 }
+{
+    let mut sum = 0u64;
+    for _round in 0..count {
+        sum = sum.wrapping_add(match read_each_record(alloc, msg) {
+            Ok(read) => read,
+            Err(_) => FAILURE,
+        });
+    }
+    sum
+}
+
+/// Writes the records of a message into a new one, after a header: its length. The message has to be a header and records;
+/// else the result is 0.
+#[unsafe(no_mangle)]
+pub extern "C" fn dnw_emit_records(alloc: Global, msg: &[u8], count: u64) -> u64
+    ensures idle { count ≡ 0 → result ≡ 0 }
+{
+    let Ok(records) = records_of(alloc, msg) else {
+        return 0;
+    };
+    let mut sum = 0u64;
+    for _round in 0..count {
+        sum = sum.wrapping_add(match emit_each_record(alloc, records.as_slice()) {
+            Ok(len) => len,
+            Err(_) => FAILURE,
+        });
+    }
+    sum
+}
+
+fn read_each_record(alloc: Global, msg: &[u8]) -> ProtoResult<u64> {
+    let mut decoder = BinDecoder::new(msg);
+    decoder.read_slice(HEADER.len())?;
+    let mut sum = 0u64;
+    for _ in 0..msg.len() {
+        if decoder.is_empty() {
+            break;
+        }
+        let record = RecordRef::read(alloc, &mut decoder)?;
+        let owner = record.owner().to_name(alloc)?;
+        let data = if has_name(record.record_type()) {
+            record.data_name(alloc)?.encoded_len()
+        } else {
+            record.rdata().len()
+        };
+        sum = sum
+            .wrapping_add(owner.encoded_len() as u64)
+            .wrapping_add(data as u64)
+            .wrapping_add(record.ttl() as u64);
+    }
+    Ok(sum)
+}
+
+fn emit_each_record(alloc: Global, records: &[WireRecord]) -> ProtoResult<u64> {
+    let mut message = Vec::new(alloc);
+    let mut encoder = BinEncoder::new(&mut message);
+    encoder.emit_vec(&HEADER)?;
+    for record in records {
+        record.emit(&mut encoder)?;
+    }
+    drop(encoder);
+    Ok(message.len() as u64)
+}
+
+/// Returns `true` if the data of such a record are a name.
+fn has_name(kind: RecordType) -> bool {
+    matches!(kind, RecordType::NS | RecordType::CNAME | RecordType::PTR)
+}
+
 fn lex_all(alloc: Global, text: &str) -> u64 {
     let mut lexer = Lexer::new(text);
     let mut sum = 0u64;
@@ -425,6 +504,38 @@ fn names_of(alloc: Global, list: &[u8]) -> ProtoResult<Vec<Name>> {
         names.push(Name::read(alloc, &mut decoder)?)?;
     }
     Ok(names)
+}
+
+/// Returns the records of a message after its header.
+fn records_of(alloc: Global, msg: &[u8]) -> ProtoResult<Vec<WireRecord>> {
+    let mut decoder = BinDecoder::new(msg);
+    decoder.read_slice(HEADER.len())?;
+    let mut records = Vec::new(alloc);
+    for _ in 0..msg.len() {
+        if decoder.is_empty() {
+            break;
+        }
+        records.push(record_of(alloc, &RecordRef::read(alloc, &mut decoder)?)?)?;
+    }
+    Ok(records)
+}
+
+fn record_of(alloc: Global, record: &RecordRef<'_>) -> ProtoResult<WireRecord> {
+    let rdata = if has_name(record.record_type()) {
+        WireData::Name {
+            name: record.data_name(alloc)?,
+            encoding: RDataEncoding::StandardRecord,
+        }
+    } else {
+        WireData::Bytes(Vec::from_slice(alloc, record.rdata())?)
+    };
+    Ok(WireRecord {
+        owner: record.owner().to_name(alloc)?,
+        record_type: record.record_type(),
+        class: record.class(),
+        ttl: record.ttl(),
+        rdata,
+    })
 }
 
 /// Returns the lines of a text.
