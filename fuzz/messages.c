@@ -1,7 +1,7 @@
 /* Writes a list of items into a message. The first two octets of the input are the maximum size; the third says whether
-   the message is in canonical form, and how often the rest is repeated in the list. The message is the model's, byte for
-   byte, whole or up to the item that would go past the maximum; each name, and each owner of a record, is read back where
-   it was written. */
+   the message is in canonical form, and how often the rest is repeated in the list; the fourth, by how many octets the
+   message begins, so that names come near the reach of pointers. The message is the model's, byte for byte, whole or up to
+   the item that would go past the maximum; each name, and each owner of a record, is read back where it was written. */
 #include "harness.h"
 
 enum { LIST_MAX = 70000 };
@@ -151,9 +151,15 @@ static void writes(const uint8_t *items, size_t len, uint16_t max_size, bool is_
 int LLVMFuzzerTestOneInput(const uint8_t *data, size_t size)
 {
     static uint8_t list[LIST_MAX];
-    if (size < 3)
+    if (size < 4)
         return 0;
-    size_t len = put_repeated(list, sizeof list, data + 3, size - 3, data[2] >> 1);
+    size_t front = 64u * data[3];
+    list[0] = DNW_ITEM_BYTES;
+    list[1] = (uint8_t)(front >> 8);
+    list[2] = (uint8_t)front;
+    memset(list + 3, 0, front);
+    size_t len = 3 + front;
+    len += put_repeated(list + len, sizeof list - len, data + 4, size - 4, data[2] >> 1);
     const uint8_t *items = put_at_end(&input, list, len);
     writes(items, len, (uint16_t)model_number(data, 2), data[2] & 1);
     CHECK(memcmp(items, list, len) == 0);

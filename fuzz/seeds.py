@@ -74,8 +74,8 @@ def inputs(words):
         if any(names):
             names = [name for name in names if name][:20]
             yield "records", bytes(12) + b"".join(records(names))
-            yield "messages", b"\xff\xff\0" + message(names)
-            yield "messages", b"\0\x60\1" + message(names)
+            for settings in b"\xff\xff\0\0", b"\0\x60\1\0", b"\xff\xff\0\xff":
+                yield "messages", settings + message(names)
     elif kind == "order":
         for triple in triples([form(name) for name in rest][:4]):
             yield "order", triple
