@@ -1,4 +1,5 @@
-/* DNS names, records, messages, codes, type bitmaps, serial numbers and master files, for C. docs/C.md shows how to link the library.
+/* DNS names, records, messages, codes, type bitmaps, serial numbers and master files, for C. docs/C.md shows how to link
+   the library.
 
    Input is a pointer and then a length. Results are put into buffers of the caller, each a pointer and then its size.
    No such pointer may be null, even if its length is 0, and a buffer that is written must not overlap any other
@@ -6,8 +7,8 @@
    threads at once.
 
    Each function but `dnw_error_text` and `dnw_serial_add` returns 0, or the number of a failure. If it fails, it has
-   written nothing, neither into the buffer nor through a pointer; `dnw_message_write` has one exception. Every input is tested, whatever it is: no byte outside
-   the arguments is read or written.
+   written nothing, neither into the buffer nor through a pointer; only `dnw_message_write` differs, if a message is too
+   long. Every input is tested, whatever it is: no byte outside the arguments is read or written.
 
    The wire form of a name (RFC 1035, section 3.1) is each label after its length octet, and a zero octet at the end. It
    takes at most 255 octets. The text of a name is that of RFC 1035, section 5.1, in ASCII but with octal escapes, and
