@@ -133,13 +133,8 @@ extern "C" {
         form_size: usize,
         len: *mut usize,
     ) -> u32;
-    fn dnw_reverse_parse(
-        form: *const u8,
-        form_len: usize,
-        address: *mut u8,
-        address_size: usize,
-        net: *mut Net,
-    ) -> u32;
+    fn dnw_reverse_parse(form: *const u8, form_len: usize, address: *mut u8, address_size: usize, net: *mut Net)
+        -> u32;
     fn dnw_name_compare(left: *const u8, left_len: usize, right: *const u8, right_len: usize, order: *mut i32) -> u32;
     fn dnw_name_equal(left: *const u8, left_len: usize, right: *const u8, right_len: usize, is_equal: *mut bool)
         -> u32;
@@ -288,8 +283,7 @@ pub(crate) fn write_message(
 pub(crate) fn reverse_name(address: &[u8], form: &mut [u8; FORM_SIZE]) -> Result<usize, Error> {
     let mut len = 0;
     // SAFETY: pointers with their lengths, see the module.
-    let number =
-        unsafe { dnw_reverse_name(address.as_ptr(), address.len(), form.as_mut_ptr(), FORM_SIZE, &mut len) };
+    let number = unsafe { dnw_reverse_name(address.as_ptr(), address.len(), form.as_mut_ptr(), FORM_SIZE, &mut len) };
     outcome(number, len)
 }
 
@@ -297,8 +291,7 @@ pub(crate) fn reverse_name(address: &[u8], form: &mut [u8; FORM_SIZE]) -> Result
 pub(crate) fn reverse_parse(form: &[u8], address: &mut [u8; 16]) -> Result<Net, Error> {
     let mut net = Net::default();
     // SAFETY: pointers with their lengths, see the module.
-    let number =
-        unsafe { dnw_reverse_parse(form.as_ptr(), form.len(), address.as_mut_ptr(), address.len(), &mut net) };
+    let number = unsafe { dnw_reverse_parse(form.as_ptr(), form.len(), address.as_mut_ptr(), address.len(), &mut net) };
     outcome(number, net)
 }
 

@@ -28,8 +28,9 @@ fn referral(max_size: u16) -> MessageWriter {
 fn a_referral_is_written_and_read() {
     assert_eq!(referral(512).finish().as_deref(), Ok(REFERRAL));
     assert_eq!(referral(66).finish_truncated(), Ok((REFERRAL.to_vec(), 4)));
-    let read: Result<Vec<Record>, Error> = records(REFERRAL, 33).collect();
-    let [ns, a] = &read.unwrap()[..] else { panic!("two records") };
+    let read = records(REFERRAL, 33).collect::<Result<Vec<Record>, Error>>().unwrap();
+    assert_eq!(read.len(), 2);
+    let (ns, a) = (&read[0], &read[1]);
     assert_eq!((ns.owner(), ns.ttl(), ns.data(), ns.end()), (&name("example.com."), 172_800, &REFERRAL[45..50], 50));
     assert_eq!((ns.record_type().to_string(), ns.class().to_string()), ("NS".into(), "IN".into()));
     assert_eq!((ns.data_name(), ns.data_offset()), (Ok(name("ns.example.com.")), 45));
@@ -39,7 +40,9 @@ fn a_referral_is_written_and_read() {
 
 #[test]
 fn what_does_not_fit_is_left_out_whole() {
-    for (max_size, len, parts) in [(65, 50, 3), (59, 33, 2), (33, 33, 2), (32, 12, 1), (29, 12, 1), (12, 12, 1), (11, 0, 0)] {
+    for (max_size, len, parts) in
+        [(65, 50, 3), (59, 33, 2), (33, 33, 2), (32, 12, 1), (29, 12, 1), (12, 12, 1), (11, 0, 0)]
+    {
         assert_eq!(referral(max_size).finish_truncated(), Ok((REFERRAL[..len].to_vec(), parts)), "{max_size}");
         assert_eq!(referral(max_size).finish(), Err(Error::MessageTooLong));
     }
@@ -80,7 +83,10 @@ fn each_fault_of_a_record_is_its_error() {
     let record = Record::read(mx, 0).unwrap();
     assert_eq!(record.data_name_after(2), Ok(Name::root()));
     assert_eq!((record.data_name(), record.data_name_after(4)), (Err(Error::WrongDataLength), Err(Error::MessageCut)));
-    assert_eq!(records(&REFERRAL[..65], 33).map(|record| record.map(|r| r.end())).collect::<Vec<_>>(), [Ok(50), Err(Error::MessageCut)]);
+    assert_eq!(
+        records(&REFERRAL[..65], 33).map(|record| record.map(|r| r.end())).collect::<Vec<_>>(),
+        [Ok(50), Err(Error::MessageCut)]
+    );
 }
 
 #[test]
@@ -90,8 +96,12 @@ fn reverse_names_go_and_come_back() {
     let v6_text = "b.a.9.8.7.6.5.0.4.0.0.0.3.0.0.0.2.0.0.0.1.0.0.0.0.0.0.0.1.2.3.4.ip6.arpa.";
     assert_eq!((Name::from(v4), Name::from(v6)), (name("1.2.0.192.in-addr.arpa."), name(v6_text)));
     assert_eq!((Name::from(v4).parse_arpa_name(), Name::from(v6).parse_arpa_name()), (Ok((v4, 32)), Ok((v6, 128))));
-    assert_eq!(name("4.3.2.1.IP6.ARPA.").parse_arpa_name(), Ok((Ipv6Addr::new(0x1234, 0, 0, 0, 0, 0, 0, 0).into(), 16)));
-    for text in ["1.2.0.192.in-addr.arpa", "arpa.", "256.in-addr.arpa.", "g.ip6.arpa.", "1.2.3.4.5.in-addr.arpa.", "."] {
+    assert_eq!(
+        name("4.3.2.1.IP6.ARPA.").parse_arpa_name(),
+        Ok((Ipv6Addr::new(0x1234, 0, 0, 0, 0, 0, 0, 0).into(), 16))
+    );
+    for text in ["1.2.0.192.in-addr.arpa", "arpa.", "256.in-addr.arpa.", "g.ip6.arpa.", "1.2.3.4.5.in-addr.arpa.", "."]
+    {
         assert_eq!(name(text).parse_arpa_name(), Err(Error::NotReverse), "{text}");
     }
 }
