@@ -73,12 +73,7 @@ pub extern "C" fn dnw_record_data_name(
 }
 
 /// Reads the record at an offset, and puts its owner's wire form.
-fn read(
-    alloc: Global,
-    message: &[u8],
-    start: usize,
-    form: &mut [u8],
-) -> Result<ReadRecord, Failure>
+fn read(alloc: Global, message: &[u8], start: usize, form: &mut [u8]) -> Result<ReadRecord, Failure>
     ensures ok { IfOk result (PutsRecord message.now start form.old form.new) }
     ensures err { IfErr result (FailsToReadRecord message.now start (length form.old)) }
     ensures same { OnErr result (form.new ≡ form.old) }
