@@ -7,7 +7,6 @@ use Rattle.std.specs.Int.{w16, from_be_bytes}
 use Rattle.dnw_error.specs.declared.error.DecodeError.{DecodeError}
 use Rattle.dnw_error.specs.declared.error.ProtoError.{ProtoError}
 use Rattle.dnw_base.specs.Decoder.{Decoder, HasLeft, next_bytes, advanced}
-use Rattle.dnw_base.specs.Names.{NameValue}
 use Rattle.dnw_name.specs.Decodable.{TakesNameValue, StopsSomehow}
 use Rattle.dnw_encoder.specs.Encoder.{Encoder, Writes, fresh}
 use Rattle.dnw_encoder.specs.Emitting.{Outcome}
