@@ -56,7 +56,7 @@ class Messages(unittest.TestCase):
 
         self.assertEqual((write(2, False), write(2, True)), (b"\x01B\xc0\x00", b"\x01b\x01a\x00"))
         self.assertEqual((write(39, False), write(39, True)), (b"\x01B\x01A\x00", b"\x01b\x01a\x00"))
-        self.assertEqual((write(33, False), write(33, True)), (b"\x01B\x01A\x00", b"\x01B\x01A\x00"))
+        self.assertEqual((write(65280, False), write(65280, True)), (b"\x01B\x01A\x00", b"\x01B\x01A\x00"))
 
     def test_numbers_have_to_fit(self):
         for fields in [(65536, 1, 0, b""), (1, -1, 0, b""), (1, 1, 2**32, b""), (1, 1, 0, bytes(65536))]:

@@ -55,7 +55,7 @@ fn what_does_not_fit_is_left_out_whole() {
     assert_eq!(bytes.finish_truncated(), Ok((vec![7; 65535], 1)));
 }
 
-/// NS, DNAME and SRV names in and out of canonical form (RFC 3597, section 4; RFC 4034, section 6.2).
+/// The names of NS, DNAME and a private type, in and out of canonical form (RFC 3597, section 4; RFC 4034, section 6.2).
 #[test]
 fn types_decide_how_their_names_are_written() {
     let write = |kind: u16, is_canonical| {
@@ -68,7 +68,7 @@ fn types_decide_how_their_names_are_written() {
     assert_eq!(write(2, true), b"\x01b\x01a\0");
     assert_eq!(write(39, false), b"\x01B\x01A\0");
     assert_eq!(write(39, true), b"\x01b\x01a\0");
-    assert_eq!(write(33, true), b"\x01B\x01A\0");
+    assert_eq!(write(65280, true), b"\x01B\x01A\0");
 }
 
 #[test]
