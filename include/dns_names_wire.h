@@ -164,7 +164,7 @@ struct dnw_written_message {
 
    It fails with DNW_BAD_ITEM at the first octet of the list that begins no item; with DNW_NO_MEMORY; and with DNW_NO_ROOM if
    the message, whole or up to an item that would go past `max_size`, has more than `message_size` bytes. A buffer as long as
-   the list is always enough. */
+   the list is always enough if its names are wire forms; others are read as names of a message that the list is. */
 uint32_t dnw_message_write(const uint8_t *items, size_t items_len, uint16_t max_size, bool is_canonical, uint8_t *message,
                            size_t message_size, struct dnw_written_message *written);
 
