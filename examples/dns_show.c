@@ -113,25 +113,18 @@ static unsigned long take_u32(struct cursor *from)
     return high << 16 | take_u16(from);
 }
 
-/* Puts the text of the name at the cursor, and returns its length. */
-static size_t take_name(struct cursor *from, uint8_t text[DNW_TEXT_SIZE])
+static void show_name(struct cursor *from)
 {
+    uint8_t text[DNW_TEXT_SIZE];
     struct dnw_read_name read;
     uint32_t failure =
-        dnw_name_read_text(from->message->at, from->message->len, from->at, text, DNW_TEXT_SIZE, &read);
+        dnw_name_read_text(from->message->at, from->message->len, from->at, text, sizeof text, &read);
     if (failure != DNW_DONE)
         reject_failure(from->at, failure);
     if (read.end > from->end)
         reject(from->at, "the message or the record ends too early", 40);
     from->at = read.end;
-    return read.len;
-}
-
-static void show_name(struct cursor *from)
-{
-    uint8_t text[DNW_TEXT_SIZE];
-    size_t len = take_name(from, text);
-    printf("%.*s", (int)len, (const char *)text);
+    printf("%.*s", (int)read.len, (const char *)text);
 }
 
 /* What the data of a type is made of: n a name, 1, 2, 4 a number of so many octets, a A, 6 AAAA, s strings, t a tag and a
@@ -273,23 +266,27 @@ static void show_edns(unsigned size, unsigned long ttl)
 
 static void show_record(struct cursor *from)
 {
-    uint8_t owner[DNW_TEXT_SIZE];
-    size_t owner_len = take_name(from, owner);
-    unsigned type = take_u16(from), class = take_u16(from);
-    unsigned long ttl = take_u32(from);
-    size_t len = take_u16(from);
-    take(from, len);
-    struct cursor data = {from->message, from->at - len, from->at};
-    if (type == OPT) {
-        show_edns(class, ttl);
+    uint8_t owner[DNW_FORM_SIZE], text[DNW_TEXT_SIZE];
+    struct dnw_record record;
+    size_t len = 0;
+    uint32_t failure =
+        dnw_record_read(from->message->at, from->message->len, from->at, owner, sizeof owner, &record);
+    if (failure == DNW_DONE)
+        failure = dnw_name_print(owner, record.owner_len, true, text, sizeof text, &len);
+    if (failure != DNW_DONE)
+        reject_failure(from->at, failure);
+    from->at = record.end;
+    if (record.record_type == OPT) {
+        show_edns(record.record_class, record.ttl);
         return;
     }
-    printf("%.*s\t%lu\t", (int)owner_len, (const char *)owner, ttl);
-    show_class(class);
+    printf("%.*s\t%lu\t", (int)len, (const char *)text, (unsigned long)record.ttl);
+    show_class(record.record_class);
     putchar('\t');
-    show_type(type);
+    show_type(record.record_type);
     putchar('\t');
-    show_data(&data, type);
+    struct cursor data = {from->message, record.data_offset, record.end};
+    show_data(&data, record.record_type);
     putchar('\n');
 }
 

@@ -12,7 +12,7 @@ import pathlib
 import re
 import sys
 
-from dns_names_wire import DnsError, Name, TypeSet, class_text, read_name, type_text
+from dns_names_wire import DnsError, Name, TypeSet, class_text, read_name, read_record, type_text
 
 # What the data of a type is made of: n a name, 1, 2, 4 a number of so many octets, a A, 6 AAAA, s strings, t a tag and a
 # value, x hexadecimal, b a bitmap of types.
@@ -114,13 +114,16 @@ def data_text(data, kind):
 
 
 def record_text(cursor):
-    owner, kind, klass, ttl = cursor.name(), cursor.number(2), cursor.number(2), cursor.number(4)
-    length = cursor.number(2)
-    cursor.take(length)
-    if type_text(kind) == "OPT":  # RFC 6891: its class is a size, and its TTL has a version and flags
+    try:
+        record = read_record(cursor.message, cursor.at)
+    except DnsError as error:
+        raise Rejected(cursor.at, error) from error
+    cursor.at = record.end
+    kind, klass, ttl = type_text(record.record_type), record.record_class, record.ttl
+    if kind == "OPT":  # RFC 6891: its class is a size, and its TTL has a version and flags
         return f"; EDNS: version: {ttl >> 16 & 255}, flags:{' do' if ttl & 0x8000 else ''}; udp: {klass}"
-    data = data_text(Cursor(cursor.message, cursor.at - length, cursor.at), type_text(kind))
-    return f"{owner}\t{ttl}\t{class_text(klass)}\t{type_text(kind)}\t{data}"
+    data = data_text(Cursor(cursor.message, record.data_offset, record.end), kind)
+    return f"{record.owner}\t{ttl}\t{class_text(klass)}\t{kind}\t{data}"
 
 
 def question_text(cursor):

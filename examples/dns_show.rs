@@ -7,7 +7,7 @@
 //!
 //! It exits with 1 if the input is rejected and with 2 on a usage error. In the folder of the crate:
 //! `cargo run --example dns_show`.
-use dns_names_wire::{Class, Name, RecordType, TypeSet};
+use dns_names_wire::{Class, Name, Record, RecordType, TypeSet};
 use std::fmt::Write as _;
 use std::io::{Read, Write};
 use std::net::{Ipv4Addr, Ipv6Addr};
@@ -65,12 +65,6 @@ impl<'a> Cursor<'a> {
         let rest = &self.message[self.at..self.end];
         self.at = self.end;
         rest
-    }
-
-    /// A cursor over the next octets.
-    fn part(&mut self, len: usize) -> Result<Cursor<'a>, Rejected> {
-        self.take(len)?;
-        Ok(Cursor { message: self.message, at: self.at - len, end: self.at })
     }
 }
 
@@ -184,16 +178,16 @@ fn data_text(mut data: Cursor, kind: &str) -> Result<String, Rejected> {
 }
 
 fn record_text(cursor: &mut Cursor) -> Result<String, Rejected> {
-    let owner = cursor.name()?;
-    let (kind, class, ttl, len) = (cursor.take_u16()?, cursor.take_u16()?, cursor.take_u32()?, cursor.take_u16()?);
-    let data = cursor.part(len.into())?;
-    let kind = RecordType::from(kind).to_string();
+    let record = Record::read(cursor.message, cursor.at).map_err(|error| Rejected(cursor.at, error.to_string()))?;
+    cursor.at = record.end();
+    let (kind, class, ttl) = (record.record_type().to_string(), record.class(), record.ttl());
     if kind == "OPT" {
         // RFC 6891: its class is a size, and its TTL has a version and flags.
         let flags = if ttl & 0x8000 != 0 { " do" } else { "" };
-        return Ok(format!("; EDNS: version: {}, flags:{flags}; udp: {class}", ttl >> 16 & 255));
+        return Ok(format!("; EDNS: version: {}, flags:{flags}; udp: {}", ttl >> 16 & 255, u16::from(class)));
     }
-    Ok(format!("{owner}\t{ttl}\t{}\t{kind}\t{}", Class::from(class), data_text(data, &kind)?))
+    let data = Cursor { message: cursor.message, at: record.data_offset(), end: record.end() };
+    Ok(format!("{record}\t{}", data_text(data, &kind)?))
 }
 
 fn question_text(cursor: &mut Cursor) -> Result<String, Rejected> {

@@ -1,4 +1,5 @@
-/* DNS names, records, messages, codes, type bitmaps, serial numbers and master files, for C. docs/C.md shows how to link the library.
+/* DNS names, records, messages, codes, type bitmaps, serial numbers and master files, for C. docs/C.md shows how to link
+   the library.
 
    Input is a pointer and then a length. Results are put into buffers of the caller, each a pointer and then its size.
    No such pointer may be null, even if its length is 0, and a buffer that is written must not overlap any other
@@ -6,8 +7,8 @@
    threads at once.
 
    Each function but `dnw_error_text` and `dnw_serial_add` returns 0, or the number of a failure. If it fails, it has
-   written nothing, neither into the buffer nor through a pointer; `dnw_message_write` has one exception. Every input is tested, whatever it is: no byte outside
-   the arguments is read or written.
+   written nothing, neither into the buffer nor through a pointer; only `dnw_message_write` differs, if a message is too
+   long. Every input is tested, whatever it is: no byte outside the arguments is read or written.
 
    The wire form of a name (RFC 1035, section 3.1) is each label after its length octet, and a zero octet at the end. It
    takes at most 255 octets. The text of a name is that of RFC 1035, section 5.1, in ASCII but with octal escapes, and
@@ -137,12 +138,12 @@ uint32_t dnw_record_data_name(const uint8_t *message, size_t message_len, size_t
 /* The kinds of items of a message, and what follows in a list after the octet for the kind. A record is as in a message: the
    owner's wire form, two octets of type, two of class, four of time to live, two of the length of the data, and the data. */
 enum dnw_item_kind {
-    DNW_ITEM_BYTES = 0,           /* bytes, after two octets of their number */
-    DNW_ITEM_NAME = 1,            /* a name's wire form */
-    DNW_ITEM_RECORD = 2,          /* a record; its data are written as they are */
-    DNW_ITEM_STANDARD_NAME = 3,   /* a record whose data are a name: of a type of RFC 1035, as NS, CNAME or PTR */
-    DNW_ITEM_CANONICAL_NAME = 4,  /* of a later type that canonical form knows, as DNAME (RFC 4034, section 6.2) */
-    DNW_ITEM_OTHER_NAME = 5       /* of any other type */
+    DNW_ITEM_BYTES = 0,          /* bytes, after two octets of their number */
+    DNW_ITEM_NAME = 1,           /* a name's wire form */
+    DNW_ITEM_RECORD = 2,         /* a record; its data are written as they are */
+    DNW_ITEM_STANDARD_NAME = 3,  /* a record whose data are a name: of a type of RFC 1035, as NS, CNAME and PTR */
+    DNW_ITEM_CANONICAL_NAME = 4, /* of a later type that canonical form puts in lower case, as DNAME */
+    DNW_ITEM_OTHER_NAME = 5      /* of any other type */
 };
 
 /* `len` bytes were put into the buffer, of `count` items. */
@@ -151,17 +152,19 @@ struct dnw_written_message {
     size_t count;
 };
 
-/* Writes the items of a list one after another into a message, and puts the message. Names of items and owners of records are
-   compressed by the names before them. So are the data of DNW_ITEM_STANDARD_NAME, but in canonical form, where they are
-   written whole and in lower case, as those of DNW_ITEM_CANONICAL_NAME are; else the data of the latter and of
-   DNW_ITEM_OTHER_NAME are written whole. The number of octets of the data is filled in as they are written.
+/* Writes the items of a list one after another into a message, and puts the message. Names of items and owners of records
+   are compressed by the names before them. Of the names in data, those of DNW_ITEM_STANDARD_NAME are compressed too, and the
+   others are written whole; but in canonical form (RFC 4034, section 6.2), which `is_canonical` asks for, those of
+   DNW_ITEM_STANDARD_NAME and of DNW_ITEM_CANONICAL_NAME are written whole and in lower case. The length of the data is that
+   of what is written.
 
-   It fails with DNW_MESSAGE_TOO_LONG at the first item that would go past `max_size` bytes. Then the message up to that item is
-   there nevertheless, and `written` says how long it is and how many items it has: a caller sets the TC bit and the counts of
-   its header (RFC 1035, section 4.1.1).
+   It fails with DNW_MESSAGE_TOO_LONG at the first item that would go past `max_size` bytes. Then the message up to that item
+   is put all the same, and `written` says how long it is and how many items it has: a caller sets the TC bit and the counts
+   of its header (RFC 1035, section 4.1.1).
 
-   It fails with DNW_BAD_ITEM at the first octet of the list that begins no item; with DNW_NO_MEMORY; and with DNW_NO_ROOM if the
-   message, whole or up to an item that would go past `max_size`, has more than `message_size` bytes. */
+   It fails with DNW_BAD_ITEM at the first octet of the list that begins no item; with DNW_NO_MEMORY; and with DNW_NO_ROOM if
+   the message, whole or up to an item that would go past `max_size`, has more than `message_size` bytes. A buffer as long as
+   the list is always enough if its names are wire forms; others are read as names of a message that the list is. */
 uint32_t dnw_message_write(const uint8_t *items, size_t items_len, uint16_t max_size, bool is_canonical, uint8_t *message,
                            size_t message_size, struct dnw_written_message *written);
 
@@ -171,18 +174,20 @@ uint32_t dnw_message_write(const uint8_t *items, size_t items_len, uint16_t max_
    `form_size` octets. */
 uint32_t dnw_reverse_name(const uint8_t *address, size_t address_len, uint8_t *form, size_t form_size, size_t *len);
 
-/* `len` bytes of an address were put into the buffer, 4 or 16. Its first `prefix_len` bits name the net, and the others are 0. */
+/* `len` bytes of an address were put into the buffer, 4 or 16. Its first `prefix_len` bits name the net, and the others are
+   0. */
 struct dnw_net {
     size_t len;
     uint8_t prefix_len;
 };
 
-/* Puts the address of the net that a reverse name stands for: of 168.192.in-addr.arpa. that is 192.168.0.0, with 16 bits, and
-   of the reverse name of an address all bits. It ignores ASCII case, and does not allocate. If the bytes are no wire form, it
-   fails as dnw_name_compare. Else it fails with DNW_NOT_REVERSE if the name is not below in-addr.arpa. or ip6.arpa., or has a
-   label that is no octet in decimal or no hexadecimal digit, or more labels than an address; and with DNW_NO_ROOM if the address
-   has more than `address_size` bytes. */
-uint32_t dnw_reverse_parse(const uint8_t *form, size_t form_len, uint8_t *address, size_t address_size, struct dnw_net *net);
+/* Puts the address of the net that a reverse name stands for: of 168.192.in-addr.arpa. that is 192.168.0.0, with 16 bits,
+   and of the reverse name of an address all bits. It ignores ASCII case, and does not allocate. If the bytes are no wire
+   form, it fails as dnw_name_compare. Else it fails with DNW_NOT_REVERSE if the name is not below in-addr.arpa. or ip6.arpa.,
+   or has a label that is no octet in decimal or no hexadecimal digit, or more labels than an address; and with DNW_NO_ROOM if
+   the address has more than `address_size` bytes. */
+uint32_t dnw_reverse_parse(const uint8_t *form, size_t form_len, uint8_t *address, size_t address_size,
+                           struct dnw_net *net);
 
 /* Compares two names by their wire forms, in canonical order (RFC 4034, section 6.1): from the last label, as unsigned
    octets, ignoring ASCII case, a name before those that end in it. Puts -1, 0 or 1 into `order`. It does not allocate. If

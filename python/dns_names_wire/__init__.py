@@ -1,5 +1,5 @@
 """The lowest layer of DNS, by a library whose every function is proved: domain names are read, written, parsed, printed and
-compared; types, bitmaps of types, serial numbers and master files are read.
+compared; messages are read record by record, and written; types, bitmaps of types, serial numbers and master files are read.
 
 The library is the shared library of the C library of `dns-names-wire`, which the wheel has. Its reader accepts exactly the
 names of RFC 1035, section 4.1.4, and no input makes it read outside the message, loop or crash. This package adds types to it
@@ -27,6 +27,7 @@ from ._errors import (
     MessageTooLong,
     NameTooLong,
     NotOrdered,
+    NotReverse,
     NotUtf8,
     PointerNotBack,
     ReservedOctet,
@@ -36,11 +37,14 @@ from ._errors import (
     UnclosedQuote,
     UnknownEntry,
     UnknownText,
+    WrongDataLength,
 )
 from ._names import Name, NameAt, names, read_name
+from ._records import Record, read_record, records
+from ._reverse import parse_reverse_name, reverse_name
 from ._text import Token, TokenKind, parse_ttl, tokens
 from ._types import TypeSet, class_code, class_text, serial_add, serial_compare, type_code, type_text
-from ._writer import MessageWriter
+from ._writer import MessageWriter, Truncated
 
 __all__ = [
     "BadBitmap",
@@ -58,23 +62,31 @@ __all__ = [
     "NameAt",
     "NameTooLong",
     "NotOrdered",
+    "NotReverse",
     "NotUtf8",
     "PointerNotBack",
+    "Record",
     "ReservedOctet",
     "SegmentsOverlap",
     "TextCut",
     "Token",
     "TokenKind",
+    "Truncated",
     "TypeSet",
     "UnclosedList",
     "UnclosedQuote",
     "UnknownEntry",
     "UnknownText",
+    "WrongDataLength",
     "class_code",
     "class_text",
     "names",
+    "parse_reverse_name",
     "parse_ttl",
     "read_name",
+    "read_record",
+    "records",
+    "reverse_name",
     "serial_add",
     "serial_compare",
     "tokens",

@@ -132,6 +132,18 @@ class UnknownEntry(DnsError):
     number = 23
 
 
+class WrongDataLength(DnsError):
+    """A name in a record's data whose own octets are fewer or more than the data."""
+
+    number = 24
+
+
+class NotReverse(DnsError):
+    """A name that is not the reverse name of an address or a net."""
+
+    number = 26
+
+
 _NO_MEMORY = 1
 _CLASSES: Dict[int, Type[DnsError]] = {error.number: error for error in DnsError.__subclasses__()}
 

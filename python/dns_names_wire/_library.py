@@ -3,7 +3,7 @@
 import ctypes
 import os
 import pathlib
-from ctypes import POINTER, c_bool, c_char_p, c_int32, c_size_t, c_uint16, c_uint32
+from ctypes import POINTER, c_bool, c_char_p, c_int32, c_size_t, c_uint8, c_uint16, c_uint32
 
 LIBRARY = "libdns_names_wire.so"
 
@@ -21,8 +21,24 @@ class ParsedName(ctypes.Structure):
     _fields_ = [("len", c_size_t), ("is_fqdn", c_bool)]
 
 
-class WrittenNames(ctypes.Structure):
+class Record(ctypes.Structure):
+    _fields_ = [
+        ("owner_len", c_size_t),
+        ("record_type", c_uint16),
+        ("record_class", c_uint16),
+        ("ttl", c_uint32),
+        ("data_offset", c_size_t),
+        ("data_len", c_size_t),
+        ("end", c_size_t),
+    ]
+
+
+class WrittenMessage(ctypes.Structure):
     _fields_ = [("len", c_size_t), ("count", c_size_t)]
+
+
+class Net(ctypes.Structure):
+    _fields_ = [("len", c_size_t), ("prefix_len", c_uint8)]
 
 
 class Lexer(ctypes.Structure):
@@ -41,7 +57,11 @@ _FUNCTIONS = {
     "dnw_name_read": (*_READ, c_size_t, *_WRITTEN, POINTER(ReadName)),
     "dnw_name_parse": (*_READ, *_WRITTEN, POINTER(ParsedName)),
     "dnw_name_print": (*_READ, c_bool, *_WRITTEN, POINTER(c_size_t)),
-    "dnw_names_write": (*_READ, c_uint16, *_WRITTEN, POINTER(WrittenNames)),
+    "dnw_record_read": (*_READ, c_size_t, *_WRITTEN, POINTER(Record)),
+    "dnw_record_data_name": (*_READ, c_size_t, c_size_t, *_WRITTEN, POINTER(c_size_t)),
+    "dnw_message_write": (*_READ, c_uint16, c_bool, *_WRITTEN, POINTER(WrittenMessage)),
+    "dnw_reverse_name": (*_READ, *_WRITTEN, POINTER(c_size_t)),
+    "dnw_reverse_parse": (*_READ, *_WRITTEN, POINTER(Net)),
     "dnw_name_compare": (*_READ, *_READ, POINTER(c_int32)),
     "dnw_name_equal": (*_READ, *_READ, POINTER(c_bool)),
     "dnw_name_in_zone": (*_READ, *_READ, POINTER(c_bool)),

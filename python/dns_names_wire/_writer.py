@@ -1,42 +1,117 @@
-"""Names written with compression."""
+"""Messages written with compression."""
 
 from ctypes import byref, create_string_buffer
-from typing import List
+from typing import List, NamedTuple, Tuple, Union
 
-from ._errors import check
-from ._library import WrittenNames, library
+from ._errors import MessageTooLong, check
+from ._library import WrittenMessage, library
 from ._names import Name
+
+# The kinds of items, in `dns_names_wire.h`.
+_BYTES, _NAME, _RECORD, _STANDARD_NAME, _CANONICAL_NAME, _OTHER_NAME = range(6)
+
+# The types of RFC 1035 whose data are a name: NS, MD, MF, CNAME, MB, MG, MR and PTR; and DNAME.
+_KINDS = {**dict.fromkeys([2, 3, 4, 5, 7, 8, 9, 12], _STANDARD_NAME), 39: _CANONICAL_NAME}
+
+
+class Truncated(NamedTuple):
+    """A message, or as many of its first parts as fit, and how many these are."""
+
+    message: bytes
+    parts: int
+
+
+def _number(number: int, octets: int, what: str) -> bytes:
+    if not 0 <= number < 256**octets:
+        raise ValueError(f"a {what} that does not fit into {octets} octets")
+    return number.to_bytes(octets, "big")
 
 
 class MessageWriter:
-    """Writes names into a message, each compressed by those before it (RFC 1035, section 4.1.4).
+    """Writes a message: its header, questions, records and names, each name compressed by those before it (RFC 1035, section
+    4.1.4).
 
-    The names are collected, and written by `finish`. In a message each name begins where the one before it ends, so
-    `names` reads them all.
+    The parts are collected, and written by `finish` from the message's first byte on.
 
     >>> writer = MessageWriter()
     >>> writer.push(Name("www.de."))
-    >>> writer.push(Name("mail.de."))
-    >>> writer.finish()
-    b'\\x03www\\x02de\\x00\\x04mail\\xc0\\x04'
+    >>> writer.record(Name("de."), 2, 1, 60, Name("ns.de."))
+    >>> writer.finish().hex(" ", 1)
+    '03 77 77 77 02 64 65 00 c0 04 00 02 00 01 00 00 00 3c 00 05 02 6e 73 c0 04'
     """
 
-    def __init__(self, max_size: int = 65535) -> None:
-        """A writer of messages of at most `max_size` bytes, from 0 to 65535."""
+    def __init__(self, max_size: int = 65535, canonical: bool = False) -> None:
+        """A writer of messages of at most `max_size` bytes, from 0 to 65535.
+
+        The names in records' data are written in canonical form or not (RFC 4034, section 6.2).
+        """
         if not 0 <= max_size <= 65535:
             raise ValueError("a maximum that is not from 0 to 65535")
-        self._max_size = max_size
-        self._forms: List[bytes] = []
+        self._max_size, self._canonical = max_size, canonical
+        # of each part its items, as `dnw_message_write` takes them
+        self._parts: List[List[bytes]] = []
 
     def push(self, name: Name) -> None:
-        """Adds a name after those that were added before. That it is fully qualified is not written."""
-        self._forms.append(name.wire)
+        """Adds a name. That it is fully qualified is not written."""
+        self._parts.append([bytes([_NAME]) + name.wire])
+
+    def raw(self, octets: bytes) -> None:
+        """Adds bytes as they are, as a message's header."""
+        chunks = [octets[at : at + 65535] for at in range(0, len(octets), 65535)]
+        self._parts.append([bytes([_BYTES]) + _number(len(chunk), 2, "length") + chunk for chunk in chunks])
+
+    def question(self, name: Name, record_type: int, record_class: int) -> None:
+        """Adds a question (RFC 1035, section 4.1.2)."""
+        codes = _number(record_type, 2, "type") + _number(record_class, 2, "class")
+        self._parts.append([bytes([_NAME]) + name.wire, bytes([_BYTES, 0, len(codes)]) + codes])
+
+    def record(self, owner: Name, record_type: int, record_class: int, ttl: int, data: Union[Name, bytes]) -> None:
+        """Adds a record. Data that are a name are compressed if the type is one of RFC 1035 (RFC 3597, section 4); others are
+        written as they are."""
+        is_name = isinstance(data, Name)
+        kind = _KINDS.get(record_type, _OTHER_NAME) if is_name else _RECORD
+        octets = data.wire if isinstance(data, Name) else data
+        codes = _number(record_type, 2, "type") + _number(record_class, 2, "class")
+        fields = codes + _number(ttl, 4, "time to live") + _number(len(octets), 2, "length")
+        self._parts.append([bytes([kind]) + owner.wire + fields + octets])
 
     def finish(self) -> bytes:
         """The message. Raises `MessageTooLong` if it would be longer than the maximum."""
-        forms = b"".join(self._forms)
-        # A name takes no more octets with compression than without.
-        size = min(len(forms), self._max_size)
-        message, written = create_string_buffer(max(size, 1)), WrittenNames()
-        check(library.dnw_names_write(forms, len(forms), self._max_size, message, size, byref(written)))
-        return message.raw[: written.len]
+        message, parts = self.finish_truncated()
+        if parts != len(self._parts):
+            check(MessageTooLong.number)
+        return message
+
+    def finish_truncated(self) -> Truncated:
+        """The message, or as many of its first parts as fit into the maximum, and how many these are.
+
+        If they are not all, the caller sets the TC bit and the counts of the header (RFC 1035, section 4.1.1).
+
+        >>> writer = MessageWriter(max_size=4)
+        >>> writer.push(Name("a."))
+        >>> writer.push(Name("b."))
+        >>> writer.finish_truncated()
+        Truncated(message=b'\\x01a\\x00', parts=1)
+        """
+        message, count = self._write(len(self._parts))
+        ends = [0]
+        for part in self._parts:
+            ends.append(ends[-1] + len(part))
+        whole = max(index for index, end in enumerate(ends) if end <= count)
+        if ends[whole] < count:
+            # A part is not left in the middle.
+            message, _ = self._write(whole)
+        return Truncated(message, whole)
+
+    def _write(self, parts: int) -> Tuple[bytes, int]:
+        """The message of the first parts, or of as many of their items as fit, and how many items these are."""
+        items = b"".join(item for part in self._parts[:parts] for item in part)
+        # An item takes no more octets in a message than in the list.
+        size = min(len(items), self._max_size)
+        message, written = create_string_buffer(max(size, 1)), WrittenMessage()
+        number = library.dnw_message_write(
+            items, len(items), self._max_size, self._canonical, message, size, byref(written)
+        )
+        if number != MessageTooLong.number:
+            check(number)
+        return message.raw[: written.len], written.count

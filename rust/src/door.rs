@@ -30,12 +30,33 @@ pub(crate) struct ParsedName {
     pub(crate) is_fqdn: bool,
 }
 
-/// `struct dnw_written_names`
+/// `struct dnw_record`
+#[repr(C)]
+#[derive(Clone, Default)]
+pub(crate) struct Record {
+    pub(crate) owner_len: usize,
+    pub(crate) record_type: u16,
+    pub(crate) record_class: u16,
+    pub(crate) ttl: u32,
+    pub(crate) data_offset: usize,
+    pub(crate) data_len: usize,
+    pub(crate) end: usize,
+}
+
+/// `struct dnw_written_message`
 #[repr(C)]
 #[derive(Default)]
-pub(crate) struct WrittenNames {
+pub(crate) struct WrittenMessage {
     pub(crate) len: usize,
     pub(crate) count: usize,
+}
+
+/// `struct dnw_net`
+#[repr(C)]
+#[derive(Default)]
+pub(crate) struct Net {
+    pub(crate) len: usize,
+    pub(crate) prefix_len: u8,
 }
 
 /// `struct dnw_lexer`
@@ -79,14 +100,41 @@ extern "C" {
         text_size: usize,
         len: *mut usize,
     ) -> u32;
-    fn dnw_names_write(
-        names: *const u8,
-        names_len: usize,
-        max_size: u16,
-        out: *mut u8,
-        out_size: usize,
-        written: *mut WrittenNames,
+    fn dnw_record_read(
+        message: *const u8,
+        message_len: usize,
+        start: usize,
+        owner: *mut u8,
+        owner_size: usize,
+        record: *mut Record,
     ) -> u32;
+    fn dnw_record_data_name(
+        message: *const u8,
+        message_len: usize,
+        data_offset: usize,
+        data_len: usize,
+        form: *mut u8,
+        form_size: usize,
+        len: *mut usize,
+    ) -> u32;
+    fn dnw_message_write(
+        items: *const u8,
+        items_len: usize,
+        max_size: u16,
+        is_canonical: bool,
+        message: *mut u8,
+        message_size: usize,
+        written: *mut WrittenMessage,
+    ) -> u32;
+    fn dnw_reverse_name(
+        address: *const u8,
+        address_len: usize,
+        form: *mut u8,
+        form_size: usize,
+        len: *mut usize,
+    ) -> u32;
+    fn dnw_reverse_parse(form: *const u8, form_len: usize, address: *mut u8, address_size: usize, net: *mut Net)
+        -> u32;
     fn dnw_name_compare(left: *const u8, left_len: usize, right: *const u8, right_len: usize, order: *mut i32) -> u32;
     fn dnw_name_equal(left: *const u8, left_len: usize, right: *const u8, right_len: usize, is_equal: *mut bool)
         -> u32;
@@ -193,13 +241,58 @@ pub(crate) fn print<'a>(form: &[u8], is_fqdn: bool, text: &'a mut [u8; TEXT_SIZE
     Ok(ascii(&text[..len]))
 }
 
-/// Writes the names of a list into a message.
-pub(crate) fn write(names: &[u8], max_size: u16, out: &mut [u8]) -> Result<WrittenNames, Error> {
-    let mut written = WrittenNames::default();
+/// Reads the record at an offset of a message, and puts its owner's wire form.
+#[inline]
+pub(crate) fn read_record(message: &[u8], start: usize, owner: &mut [u8; FORM_SIZE]) -> Result<Record, Error> {
+    let (mut record, room) = (Record::default(), owner.as_mut_ptr());
     // SAFETY: pointers with their lengths, see the module.
-    let number =
-        unsafe { dnw_names_write(names.as_ptr(), names.len(), max_size, out.as_mut_ptr(), out.len(), &mut written) };
-    outcome(number, written)
+    let number = unsafe { dnw_record_read(message.as_ptr(), message.len(), start, room, FORM_SIZE, &mut record) };
+    outcome(number, record)
+}
+
+/// Puts the wire form of the name that so many octets of a message are, and returns its length.
+#[inline]
+pub(crate) fn data_name(message: &[u8], at: usize, len: usize, form: &mut [u8; FORM_SIZE]) -> Result<usize, Error> {
+    let (mut put, room) = (0, form.as_mut_ptr());
+    // SAFETY: pointers with their lengths, see the module.
+    let number = unsafe { dnw_record_data_name(message.as_ptr(), message.len(), at, len, room, FORM_SIZE, &mut put) };
+    outcome(number, put)
+}
+
+/// Writes the items of a list into a message, up to the first that would go past the maximum. Returns what was written,
+/// and whether that is all.
+pub(crate) fn write_message(
+    items: &[u8],
+    max_size: u16,
+    is_canonical: bool,
+    message: &mut [u8],
+) -> Result<(WrittenMessage, bool), Error> {
+    let (mut written, room) = (WrittenMessage::default(), message.as_mut_ptr());
+    // SAFETY: pointers with their lengths, see the module.
+    let number = unsafe {
+        dnw_message_write(items.as_ptr(), items.len(), max_size, is_canonical, room, message.len(), &mut written)
+    };
+    match outcome(number, ()) {
+        Ok(()) => Ok((written, true)),
+        Err(Error::MessageTooLong) => Ok((written, false)),
+        Err(error) => Err(error),
+    }
+}
+
+/// Puts the wire form of the reverse name of an address of 4 or 16 bytes, and returns its length.
+pub(crate) fn reverse_name(address: &[u8], form: &mut [u8; FORM_SIZE]) -> Result<usize, Error> {
+    let mut len = 0;
+    // SAFETY: pointers with their lengths, see the module.
+    let number = unsafe { dnw_reverse_name(address.as_ptr(), address.len(), form.as_mut_ptr(), FORM_SIZE, &mut len) };
+    outcome(number, len)
+}
+
+/// Puts the address of the net that a reverse name stands for.
+pub(crate) fn reverse_parse(form: &[u8], address: &mut [u8; 16]) -> Result<Net, Error> {
+    let mut net = Net::default();
+    // SAFETY: pointers with their lengths, see the module.
+    let number = unsafe { dnw_reverse_parse(form.as_ptr(), form.len(), address.as_mut_ptr(), address.len(), &mut net) };
+    outcome(number, net)
 }
 
 /// Compares two names by their wire forms: -1, 0 or 1.

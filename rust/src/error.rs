@@ -44,12 +44,16 @@ pub enum Error {
     UnclosedQuote,
     /// A `$` that begins none of `$INCLUDE`, `$ORIGIN` and `$TTL`.
     UnknownEntry,
+    /// A name in a record's data whose own octets are fewer or more than the data.
+    WrongDataLength,
+    /// A name that is not the reverse name of an address or a net.
+    NotReverse,
     /// Another failure, by its number in `dns_names_wire.h`.
     Other(u32),
 }
 
 /// The failures that this crate names, each with its number in `dns_names_wire.h`.
-const NUMBERS: [(u32, Error); 19] = [
+const NUMBERS: [(u32, Error); 21] = [
     (1, Error::NoMemory),
     (3, Error::MessageCut),
     (4, Error::PointerNotBack),
@@ -69,6 +73,8 @@ const NUMBERS: [(u32, Error); 19] = [
     (21, Error::UnclosedList),
     (22, Error::UnclosedQuote),
     (23, Error::UnknownEntry),
+    (24, Error::WrongDataLength),
+    (26, Error::NotReverse),
 ];
 
 impl Error {

@@ -1,5 +1,5 @@
 //! The lowest layer of DNS, by a library whose every function is proved: domain names are read, written, parsed, printed and
-//! compared; types, bitmaps of types, serial numbers and master files are read.
+//! compared; messages are read record by record, and written; types, bitmaps of types, serial numbers and master files are read.
 //!
 //! The library is the static archive of the C library of `dns-names-wire`. Its reader accepts exactly the names of RFC
 //! 1035, section 4.1.4, and no input makes it read outside the message, loop or panic. This crate adds types to it, and is
@@ -22,7 +22,9 @@
 //! | pass over names, or walk their labels, without copying them | [`NameRef`], [`names()`] |
 //! | make names of names | [`Name::append`], [`Name::prepend_label`], [`Name::trim_to`], [`Name::to_wildcard`] |
 //! | print, compare, sort, hash | `Display`, `Ord`, `Hash`, [`Name::zone_of`], [`Name::to_lowercase`] |
-//! | write names with compression | [`MessageWriter`] |
+//! | read the records of a message | [`Record`], [`records()`] |
+//! | write messages: questions, records and names, with compression | [`MessageWriter`] |
+//! | go from addresses to their reverse names, and back | [`Name::from_ip`], [`Name::parse_arpa_name`] |
 //! | name types and classes, read and write their bitmaps, compare serial numbers | [`RecordType`], [`Class`], [`TypeSet`], [`SerialNumber`] |
 //! | read master files | [`tokens`](tokens()), [`parse_ttl`] |
 //!
@@ -38,6 +40,7 @@ mod codes;
 mod error;
 mod name;
 mod name_ref;
+mod record;
 mod text;
 mod type_set;
 mod writer;
@@ -46,6 +49,7 @@ pub use codes::{Class, RecordType, SerialNumber};
 pub use error::Error;
 pub use name::{Labels, Name};
 pub use name_ref::{names, NameRef, Names};
+pub use record::{records, Record, Records};
 pub use text::{parse_ttl, tokens, Token, Tokens};
 pub use type_set::TypeSet;
 pub use writer::MessageWriter;

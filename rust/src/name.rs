@@ -4,6 +4,7 @@ use crate::error::Error;
 use std::cmp::Ordering;
 use std::fmt;
 use std::hash::{Hash, Hasher};
+use std::net::IpAddr;
 use std::str::FromStr;
 
 /// A domain name: at most 255 octets of wire form (RFC 1035, section 3.1), and whether it is fully qualified.
@@ -42,6 +43,28 @@ impl Name {
     /// Returns the root: no labels, fully qualified.
     pub fn root() -> Self {
         Name { is_fqdn: true, ..Name::new() }
+    }
+
+    /// The fully qualified name with a wire form that the C library has put.
+    pub(crate) fn of_form(form: [u8; FORM_SIZE], len: usize) -> Self {
+        Name { form, len: len as u8, is_fqdn: true }
+    }
+
+    /// Returns the reverse name of an address, under which its PTR records are (RFC 1035, section 3.5; RFC 3596, section 2.5).
+    ///
+    /// ```
+    /// use std::net::Ipv4Addr;
+    ///
+    /// let name = dns_names_wire::Name::from_ip(Ipv4Addr::new(192, 0, 2, 1).into());
+    /// assert_eq!(name.to_string(), "1.2.0.192.in-addr.arpa.");
+    /// ```
+    pub fn from_ip(address: IpAddr) -> Self {
+        let mut form = [0; FORM_SIZE];
+        let len = match address {
+            IpAddr::V4(address) => door::reverse_name(&address.octets(), &mut form),
+            IpAddr::V6(address) => door::reverse_name(&address.octets(), &mut form),
+        };
+        Name::of_form(form, len.expect("an address of 4 or 16 bytes"))
     }
 
     /// Reads the name at an offset of a message, following compression pointers (RFC 1035, section 4.1.4). Returns it and
@@ -210,6 +233,33 @@ impl Name {
         name
     }
 
+    /// Returns the net that a reverse name stands for: its address, and how many of its first bits name the net. Of the
+    /// reverse name of an address these are all.
+    ///
+    /// # Errors
+    ///
+    /// `NotReverse` if the name is none: if it is not fully qualified, or not below `in-addr.arpa.` or `ip6.arpa.`, or has a
+    /// label that is no octet in decimal or no hexadecimal digit, or more labels than an address.
+    ///
+    /// ```
+    /// use dns_names_wire::Name;
+    ///
+    /// let name: Name = "168.192.in-addr.arpa.".parse()?;
+    /// assert_eq!(name.parse_arpa_name()?, ([192, 168, 0, 0].into(), 16));
+    /// # Ok::<(), dns_names_wire::Error>(())
+    /// ```
+    pub fn parse_arpa_name(&self) -> Result<(IpAddr, u8), Error> {
+        if !self.is_fqdn {
+            return Err(Error::NotReverse);
+        }
+        let mut room = [0; 16];
+        let net = door::reverse_parse(self.as_wire(), &mut room)?;
+        match <[u8; 4]>::try_from(&room[..net.len]) {
+            Ok(octets) => Ok((octets.into(), net.prefix_len)),
+            Err(_) => Ok((room.into(), net.prefix_len)),
+        }
+    }
+
     /// Calls a function with the text of the name.
     fn with_text<T>(&self, use_text: impl FnOnce(&str) -> T) -> Result<T, Error> {
         let mut room = [0; TEXT_SIZE];
@@ -220,6 +270,13 @@ impl Name {
 impl Default for Name {
     fn default() -> Self {
         Name::new()
+    }
+}
+
+/// As [`Name::from_ip`].
+impl From<IpAddr> for Name {
+    fn from(address: IpAddr) -> Name {
+        Name::from_ip(address)
     }
 }
 

@@ -1,28 +1,46 @@
-//! Names written with compression.
+//! Messages written with compression.
+use crate::codes::{Class, RecordType};
 use crate::door;
 use crate::error::Error;
 use crate::name::Name;
 
-/// Writes names into a message, each compressed by those before it (RFC 1035, section 4.1.4).
+/// The kinds of items, in `dns_names_wire.h`.
+const BYTES: u8 = 0;
+const NAME: u8 = 1;
+const RECORD: u8 = 2;
+const STANDARD_NAME: u8 = 3;
+const CANONICAL_NAME: u8 = 4;
+const OTHER_NAME: u8 = 5;
+
+/// Writes a message: its header, questions, records and names, each name compressed by those before it (RFC 1035, section
+/// 4.1.4).
 ///
-/// The names are collected, and written by [`finish`](MessageWriter::finish). In a message each name begins where the one
-/// before it ends, so [`names`](crate::names) reads them all.
+/// The parts are collected, and written by [`finish`](MessageWriter::finish) from the message's first byte on.
 ///
 /// ```
-/// use dns_names_wire::{names, MessageWriter, Name};
+/// use dns_names_wire::{records, MessageWriter, Name, RecordType};
 ///
+/// let (ns, class) = ("NS".parse()?, "IN".parse()?);
+/// let zone: Name = "example.com.".parse()?;
 /// let mut writer = MessageWriter::new();
-/// writer.push(&"www.example.com.".parse()?).push(&"mail.example.com.".parse()?);
+/// writer
+///     .bytes(b"\x12\x34\x84\0\0\x01\0\x01\0\0\0\0")
+///     .question(&zone, ns, class)
+///     .name_record(&zone, ns, class, 300, &"ns1.example.com.".parse()?);
 /// let message = writer.finish()?;
-/// assert_eq!(message.len(), 17 + 7);
-/// let read: Result<Vec<_>, _> = names(&message, 0).collect();
-/// assert_eq!(read?[1].to_string(), "mail.example.com.");
+/// assert_eq!(message.len(), 12 + 17 + 2 + 10 + 6);
+/// let record = records(&message, 29).next().unwrap()?;
+/// assert_eq!(record.data_name()?.to_string(), "ns1.example.com.");
 /// # Ok::<(), dns_names_wire::Error>(())
 /// ```
 #[derive(Clone, Debug)]
 pub struct MessageWriter {
-    forms: Vec<u8>,
+    /// What `dnw_message_write` takes.
+    items: Vec<u8>,
+    /// How many items there are after each part, and the bytes of these.
+    parts: Vec<(usize, usize)>,
     max_size: u16,
+    is_canonical: bool,
 }
 
 impl MessageWriter {
@@ -33,13 +51,72 @@ impl MessageWriter {
 
     /// Returns a writer of messages of at most `max_size` bytes.
     pub fn with_max_size(max_size: u16) -> Self {
-        MessageWriter { forms: Vec::new(), max_size }
+        MessageWriter { items: Vec::new(), parts: Vec::new(), max_size, is_canonical: false }
     }
 
-    /// Adds a name after those that were added before. That it is fully qualified is not written.
-    pub fn push(&mut self, name: &Name) -> &mut Self {
-        self.forms.extend_from_slice(name.as_wire());
+    /// Sets whether the names in records' data are written in canonical form (RFC 4034, section 6.2).
+    pub fn set_canonical_form(&mut self, is_canonical: bool) -> &mut Self {
+        self.is_canonical = is_canonical;
         self
+    }
+
+    /// Adds a name. That it is fully qualified is not written.
+    pub fn push(&mut self, name: &Name) -> &mut Self {
+        self.items.push(NAME);
+        self.items.extend_from_slice(name.as_wire());
+        self.ends_part(1)
+    }
+
+    /// Adds bytes as they are, as a message's header.
+    pub fn bytes(&mut self, bytes: &[u8]) -> &mut Self {
+        let count = self.add_bytes(bytes);
+        self.ends_part(count)
+    }
+
+    /// Adds a question (RFC 1035, section 4.1.2).
+    pub fn question(&mut self, name: &Name, record_type: RecordType, class: Class) -> &mut Self {
+        self.items.push(NAME);
+        self.items.extend_from_slice(name.as_wire());
+        let [type_high, type_low] = u16::from(record_type).to_be_bytes();
+        let [class_high, class_low] = u16::from(class).to_be_bytes();
+        let count = self.add_bytes(&[type_high, type_low, class_high, class_low]);
+        self.ends_part(1 + count)
+    }
+
+    /// Adds a record, of which the data are written as they are.
+    ///
+    /// # Errors
+    ///
+    /// `MessageTooLong` if the data have more than 65535 octets.
+    pub fn record(
+        &mut self,
+        owner: &Name,
+        record_type: RecordType,
+        class: Class,
+        ttl: u32,
+        data: &[u8],
+    ) -> Result<&mut Self, Error> {
+        let len = u16::try_from(data.len()).map_err(|_| Error::MessageTooLong)?;
+        Ok(self.add_record(RECORD, (owner, record_type, class, ttl), len, data))
+    }
+
+    /// Adds a record, of which the data are a name. It is compressed if the type is one of RFC 1035 (RFC 3597, section 4).
+    pub fn name_record(
+        &mut self,
+        owner: &Name,
+        record_type: RecordType,
+        class: Class,
+        ttl: u32,
+        data: &Name,
+    ) -> &mut Self {
+        // NS, MD, MF, CNAME, MB, MG, MR and PTR; and DNAME
+        let kind = match u16::from(record_type) {
+            2..=5 | 7..=9 | 12 => STANDARD_NAME,
+            39 => CANONICAL_NAME,
+            _ => OTHER_NAME,
+        };
+        let form = data.as_wire();
+        self.add_record(kind, (owner, record_type, class, ttl), form.len() as u16, form)
     }
 
     /// Returns the message.
@@ -48,11 +125,66 @@ impl MessageWriter {
     ///
     /// `MessageTooLong` if it would be longer than the maximum, or `NoMemory`.
     pub fn finish(&self) -> Result<Vec<u8>, Error> {
-        // A name takes no more octets with compression than without.
-        let mut message = vec![0; self.forms.len().min(self.max_size.into())];
-        let written = door::write(&self.forms, self.max_size, &mut message)?;
+        match self.finish_truncated()? {
+            (message, count) if count == self.parts.len() => Ok(message),
+            _ => Err(Error::MessageTooLong),
+        }
+    }
+
+    /// Returns the message, or as many of its first parts as fit into the maximum, and how many these are. If they are not
+    /// all, the caller sets the TC bit and the counts of the header (RFC 1035, section 4.1.1).
+    ///
+    /// # Errors
+    ///
+    /// `NoMemory`.
+    pub fn finish_truncated(&self) -> Result<(Vec<u8>, usize), Error> {
+        // An item takes no more octets in a message than in the list.
+        let mut message = vec![0; self.items.len().min(self.max_size.into())];
+        let (mut written, is_whole) = door::write_message(&self.items, self.max_size, self.is_canonical, &mut message)?;
+        let whole = self.parts.iter().take_while(|(count, _)| *count <= written.count).count();
+        let (count, end) = whole.checked_sub(1).map_or((0, 0), |last| self.parts[last]);
+        if !is_whole && count < written.count {
+            // A part is not left in the middle.
+            (written, _) = door::write_message(&self.items[..end], self.max_size, self.is_canonical, &mut message)?;
+        }
         message.truncate(written.len);
-        Ok(message)
+        Ok((message, whole))
+    }
+
+    /// Adds items of bytes, and returns how many.
+    fn add_bytes(&mut self, bytes: &[u8]) -> usize {
+        let chunks = bytes.chunks(u16::MAX.into());
+        let count = chunks.len();
+        for chunk in chunks {
+            self.items.push(BYTES);
+            self.items.extend_from_slice(&(chunk.len() as u16).to_be_bytes());
+            self.items.extend_from_slice(chunk);
+        }
+        count
+    }
+
+    fn add_record(
+        &mut self,
+        kind: u8,
+        (owner, record_type, class, ttl): (&Name, RecordType, Class, u32),
+        len: u16,
+        data: &[u8],
+    ) -> &mut Self {
+        self.items.push(kind);
+        self.items.extend_from_slice(owner.as_wire());
+        self.items.extend_from_slice(&u16::from(record_type).to_be_bytes());
+        self.items.extend_from_slice(&u16::from(class).to_be_bytes());
+        self.items.extend_from_slice(&ttl.to_be_bytes());
+        self.items.extend_from_slice(&len.to_be_bytes());
+        self.items.extend_from_slice(data);
+        self.ends_part(1)
+    }
+
+    /// A part ends here, which has so many items.
+    fn ends_part(&mut self, items: usize) -> &mut Self {
+        let before = self.parts.last().map_or(0, |(count, _)| *count);
+        self.parts.push((before + items, self.items.len()));
+        self
     }
 }
 

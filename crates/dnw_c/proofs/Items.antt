@@ -1,16 +1,14 @@
 -- A list of items, written item by item.
-use Rattle.std.proofs.Common.{◌≡◌, ◌≢◌, ℕ, ◌+◌, ◌<◌, ◌≤◌, List, length, Ok, Err, subst, sym, ap, ◌∙◌, refl, arith}
+use Rattle.std.proofs.Common.{◌≡◌, ℕ, ◌+◌, ◌<◌, ◌≤◌, Option, List, length, Ok, Err, ap, ◌∙◌, refl, arith}
 use Rattle.std.specs.Borrow.{GName}
 use Rattle.dnw_error.specs.declared.error.ProtoError.{ProtoError}
 use Rattle.dnw_error.specs.declared.error.ProtoError.TheVariants.{MaxBufferSizeExceeded, Memory}
-use Rattle.dnw_base.specs.Decoder.{Decoder, advanced}
-use Rattle.dnw_encoder.specs.Encoder.{Encoder, Writes}
-use Rattle.dnw_encoder.specs.EncoderValue.{value, lender}
+use Rattle.dnw_base.specs.Decoder.{Decoder}
+use Rattle.dnw_encoder.specs.Encoder.{Encoder}
 use Rattle.dnw_encoder.specs.EmittedName.{EmitsAs, Share, in_mode}
 use Rattle.dnw_encoder.specs.EmittingLaws.{fails-unchanged, frame}
 use Rattle.dnw_encoder.specs.NameFrames.{frame-name}
 use Rattle.dnw_record.specs.RecordFrames.{frame-fields, frame-record}
-use Rattle.std.specs.Prelude.{Option}
 use Rattle.dnw_c.specs.declared.messages.Item.{Item}
 use Rattle.dnw_c.specs.declared.messages.Item.TheVariants.{Bytes, Name, Record}
 use Rattle.dnw_c.specs.MessageItems.{EmitsItem, TakesItem, WritesItems, none, more}

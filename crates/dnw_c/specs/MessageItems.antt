@@ -2,12 +2,11 @@
 --
 -- A list has an octet for the kind of each item, and then the item: bytes after their number in two octets, or a name, or a
 -- record as it stands in a message. Names may be wire forms, which are names of any message.
-use Rattle.std.specs.Prelude.{◌≡◌, ◌≢◌, ◌<◌, ◌≤◌, ◌⊎◌, ℕ, ◌+◌, Bool, true, Option, Some, None, List, [], length, slice_get, slice_range, Ok, Err}
+use Rattle.std.specs.Prelude.{◌≡◌, ◌≢◌, ◌<◌, ◌⊎◌, ℕ, ◌+◌, Bool, true, Option, Some, None, List, [], length, slice_get, slice_range, Ok, Err}
 use Rattle.std.specs.Int.{w16, from_be_bytes}
 use Rattle.dnw_error.specs.declared.error.DecodeError.{DecodeError}
 use Rattle.dnw_error.specs.declared.error.ProtoError.{ProtoError}
 use Rattle.dnw_base.specs.Decoder.{Decoder, HasLeft, next_bytes, advanced}
-use Rattle.dnw_base.specs.Names.{NameValue}
 use Rattle.dnw_name.specs.Decodable.{TakesNameValue, StopsSomehow}
 use Rattle.dnw_encoder.specs.Encoder.{Encoder, Writes, fresh}
 use Rattle.dnw_encoder.specs.Emitting.{Outcome}

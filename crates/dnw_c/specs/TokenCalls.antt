@@ -1,5 +1,5 @@
 -- Tokens of a text, of which a caller keeps an offset, and why there is none (RFC 1035, section 5.1).
-use Rattle.std.specs.Prelude.{◌≡◌, ◌<◌, ◌≤◌, ◌⊎◌, ℕ, Bool, false, List, [], ◌∷◌, ◌++◌, length, drop, encode_utf8_all, IsUtf8}
+use Rattle.std.specs.Prelude.{◌≡◌, ◌<◌, ◌≤◌, ◌⊎◌, ℕ, false, List, [], ◌∷◌, ◌++◌, length, drop, encode_utf8_all, IsUtf8}
 use Rattle.std.specs.List.{flat_map}
 use Rattle.std.specs.Str.{chars}
 use Rattle.dnw_txt.specs.Tokens.{TokenValue, Blank, Grouped, CharData, AtSign, Include, Origin, Ttl, LineEnd, Gives, Ends, LexerValue, next}

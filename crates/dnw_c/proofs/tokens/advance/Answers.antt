@@ -1,4 +1,3 @@
-use Rattle.std.proofs.Common.{◌≡◌}
 use Rattle.dnw_txt.specs.Lexing.{line_state, token_value}
 use Rattle.dnw_c.proofs.TokenEnds.{token_left, token_taken}
 use Rattle.dnw_c.proofs.tokens.advance.Goals as goal

@@ -1,0 +1,42 @@
+"""Reverse names of addresses."""
+
+import ipaddress
+from ctypes import byref, c_size_t, create_string_buffer
+from typing import Union
+
+from ._errors import NotReverse, check
+from ._library import FORM_SIZE, Net, library
+from ._names import Name
+
+Address = Union[ipaddress.IPv4Address, ipaddress.IPv6Address]
+Network = Union[ipaddress.IPv4Network, ipaddress.IPv6Network]
+
+
+def reverse_name(address: Union[Address, str]) -> Name:
+    """The reverse name of an address, under which its PTR records are (RFC 1035, section 3.5; RFC 3596, section 2.5).
+
+    Raises `ValueError` for a text that is no address.
+
+    >>> reverse_name("192.0.2.1")
+    Name('1.2.0.192.in-addr.arpa.')
+    """
+    octets = ipaddress.ip_address(address).packed
+    form, length = create_string_buffer(FORM_SIZE), c_size_t()
+    check(library.dnw_reverse_name(octets, len(octets), form, FORM_SIZE, byref(length)))
+    return Name._of(form.raw[: length.value], True)
+
+
+def parse_reverse_name(name: Name) -> Network:
+    """The net that a reverse name stands for; of the reverse name of an address it is that address alone.
+
+    Raises `NotReverse` if the name is not fully qualified, or not below `in-addr.arpa.` or `ip6.arpa.`, or has a label that
+    is no octet in decimal or no hexadecimal digit, or more labels than an address.
+
+    >>> parse_reverse_name(Name("168.192.in-addr.arpa."))
+    IPv4Network('192.168.0.0/16')
+    """
+    if not name.is_fqdn:
+        check(NotReverse.number)
+    address, net = create_string_buffer(16), Net()
+    check(library.dnw_reverse_parse(name.wire, len(name.wire), address, 16, byref(net)))
+    return ipaddress.ip_network((address.raw[: net.len], net.prefix_len))

@@ -1,0 +1,103 @@
+"""Messages of records, and reverse names. Expected bytes are worked by hand from RFC 1035, sections 3.5 and 4.1.1 to 4.1.4, and
+RFC 3596, section 2.5."""
+
+import doctest
+import ipaddress
+import unittest
+from importlib import import_module
+
+import dns_names_wire as dnw
+from dns_names_wire import MessageWriter, Name, read_record, records
+
+# A referral with glue: www.example.com has to be asked for at ns.example.com. The name of the question is at offset 12, so
+# example.com is at 16; the records begin at 33 and 50, and ns.example.com is at 45.
+REFERRAL = bytes.fromhex(
+    "1234 8000 0001 0000 0001 0001 03777777 07 6578616d706c65 03636f6d 00 0001 0001"
+    "c010 0002 0001 0002a300 0005 026e73 c010 c02d 0001 0001 0002a300 0004 c0000201"
+)
+
+
+def referral(max_size):
+    writer = MessageWriter(max_size)
+    writer.raw(REFERRAL[:12])
+    writer.question(Name("www.example.com."), 1, 1)
+    writer.record(Name("example.com."), 2, 1, 172800, Name("ns.example.com."))
+    writer.record(Name("ns.example.com."), 1, 1, 172800, bytes([192, 0, 2, 1]))
+    return writer
+
+
+class Messages(unittest.TestCase):
+    def test_a_referral_is_written_and_read(self):
+        self.assertEqual(referral(512).finish(), REFERRAL)
+        self.assertEqual(referral(66).finish_truncated(), (REFERRAL, 4))
+        for message in [REFERRAL, bytearray(REFERRAL), memoryview(REFERRAL)]:
+            ns, a = records(message, 33)
+            self.assertEqual((ns.owner, ns.record_type, ns.record_class, ns.ttl), (Name("example.com."), 2, 1, 172800))
+            self.assertEqual((ns.data_offset, ns.data, ns.end), (45, REFERRAL[45:50], 50))
+            self.assertEqual(ns.data_name(), Name("ns.example.com."))
+            self.assertEqual((a.owner, a.data, a.end), (Name("ns.example.com."), bytes([192, 0, 2, 1]), 66))
+
+    def test_what_does_not_fit_is_left_out_whole(self):
+        for max_size, length, parts in [(65, 50, 3), (59, 33, 2), (33, 33, 2), (32, 12, 1), (12, 12, 1), (11, 0, 0)]:
+            with self.subTest(max_size=max_size):
+                self.assertEqual(referral(max_size).finish_truncated(), (REFERRAL[:length], parts))
+                with self.assertRaises(dnw.MessageTooLong):
+                    referral(max_size).finish()
+        self.assertEqual(MessageWriter().finish_truncated(), (b"", 0))
+        writer = MessageWriter()
+        writer.raw(bytes(65535) + b"1")
+        self.assertEqual(writer.finish_truncated(), (b"", 0))
+
+    def test_types_decide_how_their_names_are_written(self):
+        def write(kind, canonical):
+            writer = MessageWriter(canonical=canonical)
+            writer.record(Name("A."), kind, 1, 0, Name("B.A."))
+            return writer.finish()[13:]
+
+        self.assertEqual((write(2, False), write(2, True)), (b"\x01B\xc0\x00", b"\x01b\x01a\x00"))
+        self.assertEqual((write(39, False), write(39, True)), (b"\x01B\x01A\x00", b"\x01b\x01a\x00"))
+        self.assertEqual((write(65280, False), write(65280, True)), (b"\x01B\x01A\x00", b"\x01B\x01A\x00"))
+
+    def test_numbers_have_to_fit(self):
+        for fields in [(65536, 1, 0, b""), (1, -1, 0, b""), (1, 1, 2**32, b""), (1, 1, 0, bytes(65536))]:
+            with self.subTest(fields=fields[:3]), self.assertRaises(ValueError):
+                MessageWriter().record(Name("a."), *fields)
+
+    def test_each_fault_of_a_record_is_its_exception(self):
+        for message, start, error in [
+            (REFERRAL, 66, dnw.MessageCut),
+            (REFERRAL[:65], 50, dnw.MessageCut),
+            (REFERRAL, 2**64, dnw.MessageCut),
+            (REFERRAL, 2, dnw.ReservedOctet),
+        ]:
+            with self.subTest(start=start), self.assertRaises(error):
+                read_record(message, start)
+        with self.assertRaises(ValueError):
+            read_record(REFERRAL, -1)
+        mx = read_record(bytes.fromhex("00 000f 0001 00000000 0003 000a 00"))
+        self.assertEqual(mx.data_name(2), Name("."))
+        for skip, error in [(0, dnw.WrongDataLength), (4, dnw.MessageCut), (-1, ValueError)]:
+            with self.subTest(skip=skip), self.assertRaises(error):
+                mx.data_name(skip)
+
+
+class Reverse(unittest.TestCase):
+    def test_reverse_names_go_and_come_back(self):
+        nibbles = "b.a.9.8.7.6.5.0.4.0.0.0.3.0.0.0.2.0.0.0.1.0.0.0.0.0.0.0.1.2.3.4.ip6.arpa."
+        for text, name in [("192.0.2.1", "1.2.0.192.in-addr.arpa."), ("4321:0:1:2:3:4:567:89ab", nibbles)]:
+            address = ipaddress.ip_address(text)
+            self.assertEqual([dnw.reverse_name(text), dnw.reverse_name(address)], [Name(name)] * 2)
+            self.assertEqual(str(dnw.reverse_name(text)), address.reverse_pointer + ".")
+            self.assertEqual(dnw.parse_reverse_name(Name(name)), ipaddress.ip_network(address))
+        self.assertEqual(dnw.parse_reverse_name(Name("4.3.2.1.IP6.ARPA.")), ipaddress.ip_network("1234::/16"))
+        for text in ["1.in-addr.arpa", "arpa.", "256.in-addr.arpa.", "g.ip6.arpa.", "1.2.3.4.5.in-addr.arpa.", "."]:
+            with self.subTest(text=text), self.assertRaises(dnw.NotReverse):
+                dnw.parse_reverse_name(Name(text))
+        with self.assertRaises(ValueError):
+            dnw.reverse_name("192.0.2")
+
+
+def load_tests(loader, tests, pattern):
+    for module in ["_records", "_reverse"]:
+        tests.addTests(doctest.DocTestSuite(import_module(f"dns_names_wire.{module}")))
+    return tests

@@ -1,0 +1,155 @@
+//! The records of messages.
+use crate::codes::{Class, RecordType};
+use crate::door::{self, FORM_SIZE};
+use crate::error::Error;
+use crate::name::Name;
+use std::fmt;
+
+/// A record that was read in a message (RFC 1035, section 4.1.3). Its data stay in the message, and are not looked into.
+///
+/// ```
+/// use dns_names_wire::Record;
+///
+/// // b. NS a.b., the data compressed
+/// let message = b"\x01b\0\0\x02\0\x01\0\0\0\x3C\0\x04\x01a\xC0\0";
+/// let record = Record::read(message, 0)?;
+/// assert_eq!(record.to_string(), "b.\t60\tIN\tNS");
+/// assert_eq!(record.data(), b"\x01a\xC0\0");
+/// assert_eq!(record.data_name()?.to_string(), "a.b.");
+/// assert_eq!(record.end(), message.len());
+/// # Ok::<(), dns_names_wire::Error>(())
+/// ```
+#[derive(Clone)]
+pub struct Record<'a> {
+    message: &'a [u8],
+    owner: Name,
+    read: door::Record,
+}
+
+impl<'a> Record<'a> {
+    /// Reads the record at an offset of a message.
+    ///
+    /// # Errors
+    ///
+    /// As [`Name::read`] if no owner is there, and `MessageCut` if the message ends before the data do.
+    pub fn read(message: &'a [u8], start: usize) -> Result<Self, Error> {
+        let mut form = [0; FORM_SIZE];
+        let read = door::read_record(message, start, &mut form)?;
+        Ok(Record { message, owner: Name::of_form(form, read.owner_len), read })
+    }
+
+    /// Returns the name that owns the record.
+    pub fn owner(&self) -> &Name {
+        &self.owner
+    }
+
+    /// Returns the type.
+    pub fn record_type(&self) -> RecordType {
+        self.read.record_type.into()
+    }
+
+    /// Returns the class.
+    pub fn class(&self) -> Class {
+        self.read.record_class.into()
+    }
+
+    /// Returns the time to live, in seconds.
+    pub fn ttl(&self) -> u32 {
+        self.read.ttl
+    }
+
+    /// Returns the message.
+    pub fn message(&self) -> &'a [u8] {
+        self.message
+    }
+
+    /// Returns the octets of the data, in which names may be compressed.
+    pub fn data(&self) -> &'a [u8] {
+        &self.message[self.read.data_offset..self.read.end]
+    }
+
+    /// Returns the offset of the data in the message, at which their names are read.
+    pub fn data_offset(&self) -> usize {
+        self.read.data_offset
+    }
+
+    /// Reads the data as a name, as those of NS, CNAME and PTR are.
+    ///
+    /// # Errors
+    ///
+    /// As [`Name::read`], and `WrongDataLength` if the name's own octets are not as many as the data.
+    pub fn data_name(&self) -> Result<Name, Error> {
+        self.data_name_after(0)
+    }
+
+    /// Reads what is left of the data after so many octets as a name: after two for MX, after six for SRV.
+    ///
+    /// # Errors
+    ///
+    /// As [`data_name`](Record::data_name), and `MessageCut` if the data have fewer octets.
+    pub fn data_name_after(&self, octets: usize) -> Result<Name, Error> {
+        let left = self.read.data_len.checked_sub(octets).ok_or(Error::MessageCut)?;
+        let mut form = [0; FORM_SIZE];
+        let len = door::data_name(self.message, self.read.data_offset + octets, left, &mut form)?;
+        Ok(Name::of_form(form, len))
+    }
+
+    /// Returns the offset after the record, where the next one begins.
+    pub fn end(&self) -> usize {
+        self.read.end
+    }
+}
+
+/// The owner, the time to live, the class and the type, with tabs between.
+impl fmt::Display for Record<'_> {
+    fn fmt(&self, f: &mut fmt::Formatter<'_>) -> fmt::Result {
+        write!(f, "{}\t{}\t{}\t{}", self.owner, self.ttl(), self.class(), self.record_type())
+    }
+}
+
+impl fmt::Debug for Record<'_> {
+    fn fmt(&self, f: &mut fmt::Formatter<'_>) -> fmt::Result {
+        f.debug_struct("Record")
+            .field("owner", &self.owner)
+            .field("record_type", &self.record_type())
+            .field("class", &self.class())
+            .field("ttl", &self.ttl())
+            .field("data", &self.data())
+            .finish()
+    }
+}
+
+/// The records that follow one another in a message. See [`records`].
+#[derive(Clone, Debug)]
+pub struct Records<'a> {
+    message: &'a [u8],
+    at: Option<usize>,
+}
+
+/// Returns the records that follow one another in a message, from an offset to its end. After an error it ends.
+///
+/// ```
+/// use dns_names_wire::{records, Error, Name};
+///
+/// let message = b"\x12\x34\x84\0\0\x01\0\x01\0\0\0\0\x01b\0\0\x01\0\x01\xC0\x0C\0\x01\0\x01\0\0\0\0\0\x04\xC0\0\x02\x01";
+/// let (_question, end) = Name::read(message, 12)?;
+/// let data: Result<Vec<&[u8]>, Error> = records(message, end + 4).map(|record| Ok(record?.data())).collect();
+/// assert_eq!(data?, [[192, 0, 2, 1]]);
+/// # Ok::<(), Error>(())
+/// ```
+pub fn records(message: &[u8], start: usize) -> Records<'_> {
+    Records { message, at: Some(start) }
+}
+
+impl<'a> Iterator for Records<'a> {
+    type Item = Result<Record<'a>, Error>;
+
+    fn next(&mut self) -> Option<Self::Item> {
+        let at = self.at.take().filter(|at| *at != self.message.len())?;
+        let record = Record::read(self.message, at);
+        self.at = record.as_ref().ok().map(Record::end);
+        Some(record)
+    }
+}
+
+impl std::iter::FusedIterator for Records<'_> {}

@@ -1,0 +1,107 @@
+//! Messages of records, and reverse names. Expected bytes are worked by hand from RFC 1035, sections 3.5 and 4.1.1 to 4.1.4,
+//! and RFC 3596, section 2.5.
+use dns_names_wire::{records, Class, Error, MessageWriter, Name, Record, RecordType};
+use std::net::{IpAddr, Ipv4Addr, Ipv6Addr};
+
+/// A referral with glue: www.example.com has to be asked for at ns.example.com. The name of the question is at offset 12, so
+/// example.com is at 16; the records begin at 33 and 50, and ns.example.com is at 45.
+const REFERRAL: &[u8] = b"\x12\x34\x80\0\0\x01\0\0\0\x01\0\x01\x03www\x07example\x03com\0\0\x01\0\x01\
+    \xC0\x10\0\x02\0\x01\0\x02\xA3\0\0\x05\x02ns\xC0\x10\xC0\x2D\0\x01\0\x01\0\x02\xA3\0\0\x04\xC0\0\x02\x01";
+
+fn name(text: &str) -> Name {
+    text.parse().unwrap_or_else(|e| panic!("{text}: {e}"))
+}
+
+fn referral(max_size: u16) -> MessageWriter {
+    let (a, ns, class) = (RecordType::from(1), RecordType::from(2), Class::from(1));
+    let mut writer = MessageWriter::with_max_size(max_size);
+    writer
+        .bytes(&REFERRAL[..12])
+        .question(&name("www.example.com."), a, class)
+        .name_record(&name("example.com."), ns, class, 172_800, &name("ns.example.com."))
+        .record(&name("ns.example.com."), a, class, 172_800, &[192, 0, 2, 1])
+        .unwrap();
+    writer
+}
+
+#[test]
+fn a_referral_is_written_and_read() {
+    assert_eq!(referral(512).finish().as_deref(), Ok(REFERRAL));
+    assert_eq!(referral(66).finish_truncated(), Ok((REFERRAL.to_vec(), 4)));
+    let read = records(REFERRAL, 33).collect::<Result<Vec<Record>, Error>>().unwrap();
+    assert_eq!(read.len(), 2);
+    let (ns, a) = (&read[0], &read[1]);
+    assert_eq!((ns.owner(), ns.ttl(), ns.data(), ns.end()), (&name("example.com."), 172_800, &REFERRAL[45..50], 50));
+    assert_eq!((ns.record_type().to_string(), ns.class().to_string()), ("NS".into(), "IN".into()));
+    assert_eq!((ns.data_name(), ns.data_offset()), (Ok(name("ns.example.com.")), 45));
+    assert_eq!((a.owner(), a.data(), a.end()), (&name("ns.example.com."), &[192, 0, 2, 1][..], 66));
+    assert_eq!(format!("{a}"), "ns.example.com.\t172800\tIN\tA");
+}
+
+#[test]
+fn what_does_not_fit_is_left_out_whole() {
+    for (max_size, len, parts) in
+        [(65, 50, 3), (59, 33, 2), (33, 33, 2), (32, 12, 1), (29, 12, 1), (12, 12, 1), (11, 0, 0)]
+    {
+        assert_eq!(referral(max_size).finish_truncated(), Ok((REFERRAL[..len].to_vec(), parts)), "{max_size}");
+        assert_eq!(referral(max_size).finish(), Err(Error::MessageTooLong));
+    }
+    assert_eq!(MessageWriter::new().finish_truncated(), Ok((vec![], 0)));
+    let (kind, class) = (RecordType::from(1), Class::from(1));
+    let long = MessageWriter::new().record(&Name::root(), kind, class, 0, &[0; 65536]).map(drop);
+    assert_eq!(long, Err(Error::MessageTooLong));
+    let mut bytes = MessageWriter::new();
+    bytes.bytes(&[7; 65535]).bytes(b"8");
+    assert_eq!(bytes.finish_truncated(), Ok((vec![7; 65535], 1)));
+}
+
+/// The names of NS, DNAME and a private type, in and out of canonical form (RFC 3597, section 4; RFC 4034, section 6.2).
+#[test]
+fn types_decide_how_their_names_are_written() {
+    let write = |kind: u16, is_canonical| {
+        let mut writer = MessageWriter::new();
+        writer.set_canonical_form(is_canonical);
+        writer.name_record(&name("A."), kind.into(), 1.into(), 0, &name("B.A."));
+        writer.finish().unwrap()[13..].to_vec()
+    };
+    assert_eq!(write(2, false), b"\x01B\xC0\0");
+    assert_eq!(write(2, true), b"\x01b\x01a\0");
+    assert_eq!(write(39, false), b"\x01B\x01A\0");
+    assert_eq!(write(39, true), b"\x01b\x01a\0");
+    assert_eq!(write(65280, true), b"\x01B\x01A\0");
+}
+
+#[test]
+fn each_fault_of_a_record_is_its_error() {
+    assert_eq!(Record::read(REFERRAL, 66).map(drop), Err(Error::MessageCut));
+    assert_eq!(Record::read(&REFERRAL[..65], 50).map(drop), Err(Error::MessageCut));
+    assert_eq!(Record::read(REFERRAL, usize::MAX).map(drop), Err(Error::MessageCut));
+    assert_eq!(Record::read(REFERRAL, 2).map(drop), Err(Error::ReservedOctet));
+    let mx = b"\0\0\x0F\0\x01\0\0\0\0\0\x04\0\x0A\x01a";
+    assert_eq!(Record::read(mx, 0).unwrap().data_name_after(2), Err(Error::MessageCut));
+    let mx = b"\0\0\x0F\0\x01\0\0\0\0\0\x03\0\x0A\0";
+    let record = Record::read(mx, 0).unwrap();
+    assert_eq!(record.data_name_after(2), Ok(Name::root()));
+    assert_eq!((record.data_name(), record.data_name_after(4)), (Err(Error::WrongDataLength), Err(Error::MessageCut)));
+    assert_eq!(
+        records(&REFERRAL[..65], 33).map(|record| record.map(|r| r.end())).collect::<Vec<_>>(),
+        [Ok(50), Err(Error::MessageCut)]
+    );
+}
+
+#[test]
+fn reverse_names_go_and_come_back() {
+    let v4: IpAddr = Ipv4Addr::new(192, 0, 2, 1).into();
+    let v6: IpAddr = Ipv6Addr::new(0x4321, 0, 1, 2, 3, 4, 0x567, 0x89AB).into();
+    let v6_text = "b.a.9.8.7.6.5.0.4.0.0.0.3.0.0.0.2.0.0.0.1.0.0.0.0.0.0.0.1.2.3.4.ip6.arpa.";
+    assert_eq!((Name::from(v4), Name::from(v6)), (name("1.2.0.192.in-addr.arpa."), name(v6_text)));
+    assert_eq!((Name::from(v4).parse_arpa_name(), Name::from(v6).parse_arpa_name()), (Ok((v4, 32)), Ok((v6, 128))));
+    assert_eq!(
+        name("4.3.2.1.IP6.ARPA.").parse_arpa_name(),
+        Ok((Ipv6Addr::new(0x1234, 0, 0, 0, 0, 0, 0, 0).into(), 16))
+    );
+    for text in ["1.2.0.192.in-addr.arpa", "arpa.", "256.in-addr.arpa.", "g.ip6.arpa.", "1.2.3.4.5.in-addr.arpa.", "."]
+    {
+        assert_eq!(name(text).parse_arpa_name(), Err(Error::NotReverse), "{text}");
+    }
+}
