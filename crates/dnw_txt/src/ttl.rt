@@ -1,7 +1,7 @@
 //! Times to live as text.
-ghost use Rattle.std.specs.Prelude.{◌≡◌, ℕ, ◌+◌, ◌-◌, ◌*◌, ◌<◌, ◌≤◌, List, ◌∷◌, length, Some, None, IfOk, IfErr, OnErr, IfSome, IfNone, MatchOption};
+ghost use Rattle.std.specs.Prelude.{◌≡◌, ℕ, ◌+◌, ◌-◌, ◌*◌, ◌<◌, ◌≤◌, List, ◌∷◌, drop, length, Some, None, IfOk, IfErr, OnErr, IfSome, IfNone, MatchOption};
 ghost use Rattle.dnw_txt.specs.Times.{max_ttl, unit_seconds, time_seconds, IsNoTtl, IsParseTime};
-ghost use Rattle.dnw_txt.specs.Inside.Finds.{BeginsNoDigit, seconds_after};
+ghost use Rattle.dnw_txt.specs.Inside.Finds.{BeginsNoDigit, rest_from, seconds_after};
 
 use crate::errors::{ParseError, ParseResult};
 use std::alloc::Global;
@@ -39,61 +39,62 @@ fn seconds(text: &[u8]) -> Option<u32>
         return None;
     }
     let mut total = 0;
-    let mut rest = text;
-    while !rest.is_empty() {
-        let (seconds, others) = take_group(rest)?;
+    let mut index = 0;
+    loop {
+        let (seconds, end) = take_group(text, index)?;
         total += seconds;
         if total > MAX_TTL {
             return None;
         }
-        rest = others;
+        if end == text.len() {
+            return Some(total as u32);
+        }
+        index = end;
     }
-    Some(total as u32)
 }
 
-/// Takes the first group of a text. Returns its seconds, and what is after it.
+/// Reads the group that begins at `start`. Returns its seconds and where it ends.
 #[inline(always)]
-fn take_group(text: &[u8]) -> Option<(u64, &[u8])>
-    requires { 1 ≤ length text.now }
-    ensures goes_on { IfSome result (λ x. (total : ℕ) → seconds_after total None text.now ≡ seconds_after (total + x.0) None x.1.now) }
-    ensures fits { IfSome result (λ x. x.0 ≤ 604800 * max_ttl) }
-    ensures shorter { IfSome result (λ x. length x.1.now < length text.now) }
-    ensures none { IfNone result ((total : ℕ) → IsNoTtl (seconds_after total None text.now)) }
+fn take_group(text: &[u8], start: usize) -> Option<(u64, usize)>
+    requires { start < length text.now }
+    ensures goes_on { IfSome result (λ x. (total : ℕ) → seconds_after total None (drop start text.now) ≡ seconds_after (total + x.0) None (drop x.1 text.now)) }
+    ensures fits { IfSome result (λ x. x.0 ≤ 604800 * (10 * max_ttl)) }
+    ensures ends { IfSome result (λ x. (start < x.1) × (x.1 ≤ length text.now)) }
+    ensures none { IfNone result ((total : ℕ) → IsNoTtl (seconds_after total None (drop start text.now))) }
 {
-    let (number, rest) = take_number(text)?;
-    let Some((unit, others)) = rest.split_first() else {
-        return Some((number, rest));
+    let (number, unit) = take_number(text, start)?;
+    let Some(unit) = unit else {
+        return Some((number, text.len()));
     };
-    Some((number * unit_seconds(*unit)?, others))
+    Some((number * unit_seconds(text[unit])?, unit + 1))
 }
 
-/// Takes the digits of a number. Returns the number, and what is after it.
+/// Reads the digits that begin at `start`. Returns their number, and where its unit is unless the text ends.
 #[inline(always)]
-fn take_number(text: &[u8]) -> Option<(u64, &[u8])>
-    requires { 1 ≤ length text.now }
-    ensures goes_on { IfSome result (λ x. (total : ℕ) → seconds_after total None text.now ≡ seconds_after total (Some x.0) x.1.now) }
-    ensures fits { IfSome result (λ x. x.0 ≤ max_ttl) }
-    ensures ends { IfSome result (λ x. BeginsNoDigit x.1.now) }
-    ensures shorter { IfSome result (λ x. length x.1.now < length text.now) }
-    ensures none { IfNone result ((total : ℕ) → IsNoTtl (seconds_after total None text.now)) }
+fn take_number(text: &[u8], start: usize) -> Option<(u64, Option<usize>)>
+    requires { start < length text.now }
+    ensures goes_on { IfSome result (λ x. (total : ℕ) → seconds_after total None (drop start text.now) ≡ seconds_after total (Some x.0) (rest_from text.now x.1)) }
+    ensures fits { IfSome result (λ x. x.0 ≤ 10 * max_ttl) }
+    ensures unit { IfSome result (λ x. IfSome x.1 (λ unit. (start < unit) × (unit < length text.now))) }
+    ensures ends { IfSome result (λ x. BeginsNoDigit (rest_from text.now x.1)) }
+    ensures none { IfNone result ((total : ℕ) → IsNoTtl (seconds_after total None (drop start text.now))) }
 {
-    let (first, digits) = text.split_first()?;
-    if !first.is_ascii_digit() {
+    if !text[start].is_ascii_digit() {
         return None;
     }
-    let mut number = u64::from(*first - b'0');
-    let mut rest = digits;
-    while let Some((digit, others)) = rest.split_first() {
-        if !digit.is_ascii_digit() {
-            break;
+    let mut number = u64::from(text[start] - b'0');
+    let mut end = start + 1;
+    while end < text.len() {
+        if !text[end].is_ascii_digit() {
+            return Some((number, Some(end)));
         }
-        number = 10 * number + u64::from(*digit - b'0');
-        if number > MAX_TTL {
+        if number > MAX_TTL / 10 {
             return None;
         }
-        rest = others;
+        number = 10 * number + u64::from(text[end] - b'0');
+        end += 1;
     }
-    Some((number, rest))
+    Some((number, None))
 }
 
 /// Returns the seconds of a unit.

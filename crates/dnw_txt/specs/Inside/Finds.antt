@@ -66,6 +66,11 @@ ends_run c = c == quote || c == backslash
 abbrev pub seconds_after : ℕ → Option ℕ → List ℕ → Option ℕ
 seconds_after total number cs = option_map (λ groups. total + total_seconds groups) (groups_after number cs)
 
+-- what is left of a text from an offset, or at its end
+abbrev pub rest_from : List ℕ → Option ℕ → List ℕ
+rest_from text None = []
+rest_from text (Some offset) = drop offset text
+
 -- the first character is no digit
 abbrev pub BeginsNoDigit : List ℕ → Type 0
 BeginsNoDigit [] = ⊤

@@ -1,6 +1,6 @@
-use Rattle.std.proofs.Common.{◌≡◌, ◌+◌, ◌<◌, ℕ, List, [], length, None, Some, sym, ap, subst, ◌∙◌, eq-eqb, eqb-true, add-zero, arith}
+use Rattle.std.proofs.Common.{◌≡◌, ◌+◌, ◌<◌, ℕ, List, length, drop, None, Some, sym, ap, subst, ◌∙◌, eq-eqb, add-zero, arith}
 use Rattle.std.proofs.lemmas.Bool.{both_ways}
-use Rattle.std.proofs.lemmas.List.{nil_from_length}
+use Rattle.std.proofs.lemmas.List.{drop_all}
 use Rattle.dnw_txt.specs.Times.{max_ttl, time_seconds, IsNoTtl}
 use Rattle.dnw_txt.specs.Inside.Finds.{seconds_after}
 use Rattle.dnw_txt.proofs.Sums.{after_all, time_seconds-some, too_many}
@@ -12,20 +12,25 @@ whole text rest total some e = time_seconds-some text some ∙ sym e
 
 pub returns-in_err-seconds : goal.returns-in_err-seconds
 returns-in_err-seconds c =
-    let some = λ (e : length c.args.text.now ≡ 0). both_ways _ c.if-is_empty.false (c.is_empty.ensures ∙ eq-eqb _ _ e) in
-    let all = whole c.args.text.now c.loop-rest.rest.now c.loop-rest.total some c.loop-rest.invariant.value in
-    rw c.from_residual.ensures (subst IsNoTtl (sym all) (c.in_err-seconds.ensures.none c.loop-rest.total))
+    let text = c.args.text.now in
+    let some = λ (e : length text ≡ 0). both_ways _ c.if-is_empty.false (c.is_empty.ensures ∙ eq-eqb _ _ e) in
+    let all = whole text (drop c.loop-seconds.index text) c.loop-seconds.total some c.loop-seconds.invariant.value in
+    rw c.from_residual.ensures (subst IsNoTtl (sym all) (c.in_err-seconds.ensures.none c.loop-seconds.total))
 
 pub returns-then-total-gt-MAX_TTL : goal.returns-then-total-gt-MAX_TTL
 returns-then-total-gt-MAX_TTL c =
-    let some = λ (e : length c.args.text.now ≡ 0). both_ways _ c.if-is_empty.false (c.is_empty.ensures ∙ eq-eqb _ _ e) in
-    let all = whole c.args.text.now c.loop-rest.rest.now c.loop-rest.total some c.loop-rest.invariant.value ∙ c.in_ok-seconds.ensures.goes_on c.loop-rest.total in
-    let total = c.loop-rest.total + c.in_ok-seconds.seconds in
+    let text = c.args.text.now in
+    let some = λ (e : length text ≡ 0). both_ways _ c.if-is_empty.false (c.is_empty.ensures ∙ eq-eqb _ _ e) in
+    let all = whole text (drop c.loop-seconds.index text) c.loop-seconds.total some c.loop-seconds.invariant.value ∙ c.in_ok-seconds.ensures.goes_on c.loop-seconds.total in
+    let total = c.loop-seconds.total + c.in_ok-seconds.seconds in
     let many : max_ttl < total = omega (arith, c.if-total-gt-MAX_TTL.true) in
-    subst IsNoTtl (sym all) (too_many total None c.in_ok-seconds.others.now many)
+    subst IsNoTtl (sym all) (too_many total None (drop c.in_ok-seconds.end text) many)
 
-pub returns : goal.returns
-returns c =
-    let some = λ (e : length c.args.text.now ≡ 0). both_ways _ c.if-is_empty.false (c.is_empty.ensures ∙ eq-eqb _ _ e) in
-    let none = nil_from_length c.loop-rest.rest.now (eqb-true _ 0 (sym c.is_empty-in-loop-rest.ensures ∙ c.loop-rest-test.false)) in
-    whole c.args.text.now c.loop-rest.rest.now c.loop-rest.total some c.loop-rest.invariant.value ∙ ap (seconds_after c.loop-rest.total None) none ∙ after_all c.loop-rest.total None ∙ ap Some (add-zero c.loop-rest.total)
+pub returns-then-end-text : goal.returns-then-end-text
+returns-then-end-text c =
+    let text = c.args.text.now in
+    let some = λ (e : length text ≡ 0). both_ways _ c.if-is_empty.false (c.is_empty.ensures ∙ eq-eqb _ _ e) in
+    let total = c.loop-seconds.total + c.in_ok-seconds.seconds in
+    let none = drop_all c.in_ok-seconds.end text (omega (arith, c.if-end-text.true)) in
+    whole text (drop c.loop-seconds.index text) c.loop-seconds.total some c.loop-seconds.invariant.value
+    ∙ c.in_ok-seconds.ensures.goes_on c.loop-seconds.total ∙ ap (seconds_after total None) none ∙ after_all total None ∙ ap Some (add-zero total)

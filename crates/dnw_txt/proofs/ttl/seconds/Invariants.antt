@@ -1,14 +1,15 @@
-use Rattle.std.proofs.Common.{◌≡◌, ◌≤◌, None, length}
+use Rattle.std.proofs.Common.{◌≡◌, ◌≤◌, ◌<◌, ◌-◌, None, length, drop}
 use Rattle.dnw_txt.specs.Times.{max_ttl}
 use Rattle.dnw_txt.specs.Inside.Finds.{seconds_after}
 use Rattle.dnw_txt.proofs.ttl.seconds.Given as goal
 
 -- what is left, after the groups so far, gives what all gives
-abbrev pub invariant-loop-rest : goal.invariant-loop-rest
-invariant-loop-rest l = record {
-  value : seconds_after l.total None l.rest ≡ seconds_after 0 None l.text;
+abbrev pub invariant-loop-seconds : goal.invariant-loop-seconds
+invariant-loop-seconds l = record {
+  value : seconds_after l.total None (drop l.index l.text) ≡ seconds_after 0 None l.text;
   total : l.total ≤ max_ttl;
+  within : l.index < length l.text;
 }
 
-abbrev pub decreases-loop-rest : goal.decreases-loop-rest
-decreases-loop-rest l = length l.rest
+abbrev pub decreases-loop-seconds : goal.decreases-loop-seconds
+decreases-loop-seconds l = length l.text - l.index
