@@ -205,6 +205,14 @@ class NameAt(NamedTuple):
     end: int
 
 
+def _placed(message: Bytes, start: int) -> Tuple[bytes, int]:
+    """The message as `bytes`, and the offset for the library: one octet past the message if it is past it at all."""
+    if start < 0:
+        raise ValueError("a negative offset")
+    whole = message if isinstance(message, bytes) else bytes(message)
+    return whole, min(start, len(whole) + 1)
+
+
 def read_name(message: Bytes, start: int = 0) -> NameAt:
     """Reads the name at an offset of a message, following compression pointers (RFC 1035, section 4.1.4).
 
@@ -214,12 +222,8 @@ def read_name(message: Bytes, start: int = 0) -> NameAt:
     >>> read_name(b"\\x01b\\x00\\x01a\\xc0\\x00", 3)
     NameAt(name=Name('a.b.'), end=7)
     """
-    if start < 0:
-        raise ValueError("a negative offset")
-    whole = message if isinstance(message, bytes) else bytes(message)
+    whole, offset = _placed(message, start)
     form, read = create_string_buffer(FORM_SIZE), ReadName()
-    # An offset past the message is one octet past it, whatever its size.
-    offset = min(start, len(whole) + 1)
     check(library.dnw_name_read(whole, len(whole), offset, form, FORM_SIZE, byref(read)))
     return NameAt(Name._of(form.raw[: read.len], True), read.end)
 

@@ -6,7 +6,7 @@ from typing import Iterator
 from ._errors import MessageCut, check
 from ._library import FORM_SIZE, library
 from ._library import Record as Read
-from ._names import Bytes, Name
+from ._names import Bytes, Name, _placed
 from ._types import class_text, type_text
 
 
@@ -93,12 +93,8 @@ def read_record(message: Bytes, start: int = 0) -> Record:
     >>> record.data_name(), record.end
     (Name('a.b.'), 17)
     """
-    if start < 0:
-        raise ValueError("a negative offset")
-    whole = message if isinstance(message, bytes) else bytes(message)
+    whole, offset = _placed(message, start)
     form, read = create_string_buffer(FORM_SIZE), Read()
-    # An offset past the message is one octet past it, whatever its size.
-    offset = min(start, len(whole) + 1)
     check(library.dnw_record_read(whole, len(whole), offset, form, FORM_SIZE, byref(read)))
     return Record(whole, Name._of(form.raw[: read.owner_len], True), read)
 
