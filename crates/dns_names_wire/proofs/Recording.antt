@@ -7,12 +7,14 @@ use Rattle.dnw_error.specs.DnsClasses.{class_code}
 use Rattle.dnw_base.specs.Limits.{max_message}
 use Rattle.dnw_encoder.specs.declared.encoder.modes.NameEncoding.{NameEncoding}
 use Rattle.dnw_encoder.specs.Encoder.{Encoder, mode_of_rdata, reserved}
+use Rattle.dnw_encoder.specs.NameFrames.{frame-name}
 use Rattle.dnw_candidates.specs.Candidates.{Candidate}
 use Rattle.dnw_record.specs.declared.record.WireRecord.{WireRecord}
 use Rattle.dnw_record.specs.declared.record.WireData.{WireData}
 use Rattle.dnw_record.specs.declared.record.WireData.TheVariants as rdata
 use Rattle.dnw_record.specs.WrittenRecords.{EmitsData, EmitsRecord, in_encoding, with_length}
 use Rattle.dnw_record.specs.RecordFrames.{frame-record}
+use Rattle.dnw_record.proofs.Laying.{fields-apart}
 use Rattle.dnw_record.proofs.Writing.{data-bounded}
 use Rattle.dns_names_wire.specs.declared.script.Part.{Part}
 use Rattle.dns_names_wire.specs.declared.script.Part.TheVariants.{Name, U16, U32, Bytes}
@@ -266,7 +268,9 @@ module _ (old : List ℕ) (cs : List Chunk) (f : ℕ → ℕ) (v d u : Encoder) 
 pub grown-record : (old : List ℕ) (cs : List Chunk) (f : ℕ → ℕ) (v w : Encoder) (r : WireRecord) → SoundAt old cs f v → v.max_size ≤ max_message
     → EmitsRecord r v (Ok tt) w → Grown old cs f v (record_piece v.encoding v.canonical r ∷ []) w
 grown-record old cs f v w r s small emits =
-    let (a, owner, (b, kind, (c, class, (d, ttl, (room, u, one, made))))) = emits in
+    let (a, owner, (d, fixed, (room, u, one, made))) = emits in
+    let at_end = sound_end old cs f v.bytes v.offset v.candidates s in
+    let (b, kind, c, class, ttl) = fields-apart r a d (frame-name r.owner v (Ok tt) a at_end owner).ends fixed in
     let fields : EmitsParts (fields_before r) v (Ok tt) d = (a, owner, (b, kind, (c, class, (d, ttl, refl)))) in
     let first = grown-parts old cs f v d v.encoding (fields_before r) s refl fields in
     let place = sound-reserved old (cs ++ first.more) f d first.sound in

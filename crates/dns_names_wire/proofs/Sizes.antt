@@ -86,13 +86,11 @@ record-goes r v w e h = goes-framed v w (record_size r) e (frame-record r v (Ok 
 
 -- which ends within the maximum
 pub record-within : (r : WireRecord) (v w : Encoder) → EmitsRecord r v (Ok tt) w → w.offset ≤ v.max_size
-record-within r v w (a, owner, (b, kind, (c, class, (d, ttl, (room, u, one, made))))) =
+record-within r v w (a, owner, (d, fixed, (room, u, one, made))) =
     omega (
       arith,
       (data-bounded r.rdata d (reserved d 2) u (room, refl) one).1,
-      ap (λ (x : Encoder). x.max_size) ttl.1,
-      ap (λ (x : Encoder). x.max_size) class.1,
-      ap (λ (x : Encoder). x.max_size) kind.1,
+      ap (λ (x : Encoder). x.max_size) fixed.1,
       (done-name r.owner v a owner).1,
       ap (λ (x : Encoder). x.offset) made,
     )

@@ -1,3 +1,4 @@
+mod Forms
 mod Items
 pub mod Looking
 mod Starts

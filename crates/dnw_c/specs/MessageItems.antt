@@ -2,7 +2,7 @@
 --
 -- A list has an octet for the kind of each item, and then the item: bytes after their number in two octets, or a name, or a
 -- record as it stands in a message. Names may be wire forms, which are names of any message.
-use Rattle.std.specs.Prelude.{◌≡◌, ◌≢◌, ◌<◌, ◌⊎◌, ℕ, ◌+◌, Bool, true, Option, Some, None, List, [], length, slice_get, slice_range, Ok, Err}
+use Rattle.std.specs.Prelude.{◌≡◌, ◌≢◌, ◌<◌, ◌≤◌, ◌⊎◌, ℕ, ◌+◌, Bool, true, Option, Some, None, List, [], length, slice_get, slice_range, Ok, Err}
 use Rattle.std.specs.Int.{w16, from_be_bytes}
 use Rattle.dnw_error.specs.declared.error.DecodeError.{DecodeError}
 use Rattle.dnw_error.specs.declared.error.ProtoError.{ProtoError}
@@ -25,13 +25,32 @@ use Rattle.dnw_c.specs.declared.failure.Failure.{Failure}
 use Rattle.dnw_c.specs.declared.failure.Failure.TheVariants.{BadItem, MessageTooLong, NoMemory, NoRoom}
 use Rattle.dnw_c.specs.declared.messages.Item.{Item}
 use Rattle.dnw_c.specs.declared.messages.Item.TheVariants.{Bytes, Name, Record}
+use Rattle.dnw_c.specs.declared.messages.Kind.{Kind}
+use Rattle.dnw_c.specs.declared.messages.Kind.TheVariants as Kinds
 use Rattle.dnw_c.specs.declared.messages.WrittenMessage.{WrittenMessage}
 
 -- ---- the items of a list
 
--- The next octet of a list is this kind.
-abbrev pub IsKind : Decoder → ℕ → Type 0
-IsKind d kind = slice_get d.bytes d.index ≡ Some kind
+-- the octet for a kind
+abbrev pub kind_octet : Kind → ℕ
+kind_octet Kinds.Bytes = 0
+kind_octet Kinds.Name = 1
+kind_octet (Kinds.Record None) = 2
+kind_octet (Kinds.Record (Some StandardRecord)) = 3
+kind_octet (Kinds.Record (Some Canonical)) = 4
+kind_octet (Kinds.Record (Some Other)) = 5
+
+-- the greatest of them
+abbrev pub last_kind : ℕ
+last_kind = 5
+
+-- The next octet of a list is that for this kind.
+abbrev pub IsKind : Decoder → Kind → Type 0
+IsKind d kind = slice_get d.bytes d.index ≡ Some (kind_octet kind)
+
+-- The next octet of a list is for no kind.
+abbrev pub IsNoKind : Decoder → Type 0
+IsNoKind d = (octet : ℕ) × (slice_get d.bytes d.index ≡ Some octet) × (last_kind < octet)
 
 -- the number of the bytes of an item, in two octets before them
 abbrev pub block_len : Decoder → ℕ
@@ -45,14 +64,7 @@ abbrev pub TakesBlock : Decoder → List ℕ → Decoder → Type 0
 TakesBlock d bytes after =
     HasBlock d × (bytes ≡ next_bytes (advanced d 2) (block_len d)) × (after ≡ advanced (advanced d 2) (block_len d))
 
--- The kind of a record: its data are bytes, or a name that is written in this way.
-abbrev pub record_kind : Option RDataEncoding → ℕ
-record_kind None = 2
-record_kind (Some StandardRecord) = 3
-record_kind (Some Canonical) = 4
-record_kind (Some Other) = 5
-
--- the data of a record of that kind
+-- the data of a record: bytes, or a name that is written in this way
 abbrev pub IsData : Option RDataEncoding → RecordValue → WireData → Type 0
 IsData None x (Data.Bytes bytes) = bytes.items ≡ slice_range x.message x.start (x.start + x.len)
 IsData (Some encoding) x (Data.Name name own) = (own ≡ encoding) × HasDataName x name
@@ -66,15 +78,15 @@ IsRecord how x r =
 
 -- The next item of a list is taken.
 abbrev pub TakesItem : Decoder → Item → Decoder → Type 0
-TakesItem d (Bytes bytes) after = IsKind d 0 × TakesBlock (advanced d 1) bytes.now after
-TakesItem d (Name name) after = IsKind d 1 × TakesNameValue (advanced d 1) name after
+TakesItem d (Bytes bytes) after = IsKind d Kinds.Bytes × TakesBlock (advanced d 1) bytes.now after
+TakesItem d (Name name) after = IsKind d Kinds.Name × TakesNameValue (advanced d 1) name after
 TakesItem d (Record r) after =
-    (how : Option RDataEncoding) × IsKind d (record_kind how) × (x : RecordValue) × TakesRecord (advanced d 1) x after
+    (how : Option RDataEncoding) × IsKind d (Kinds.Record how) × (x : RecordValue) × TakesRecord (advanced d 1) x after
     × IsRecord how x r
 
 -- The data of a record are not taken: they are no name, or memory ran out for a copy.
 abbrev pub FailsToTakeData : Option RDataEncoding → RecordValue → Failure → Type 0
-FailsToTakeData None x failure = failure ≡ NoMemory
+FailsToTakeData None x failure = (1 ≤ x.len) × (failure ≡ NoMemory)
 FailsToTakeData (Some encoding) x failure = ((error : DecodeError) × FailsDataName x error) × (failure ≡ BadItem)
 
 -- After the octet for its kind a record is not taken: there is none, or its data are not taken.
@@ -83,14 +95,14 @@ FailsToTakeRecord how d failure =
     (((error : DecodeError) × FailsRecord d error) × (failure ≡ BadItem))
     ⊎ ((x : RecordValue) × (after : Decoder) × TakesRecord d x after × FailsToTakeData how x failure)
 
--- The next item is not taken: its first octet is no kind, or what has to follow is not there, or memory ran out for a copy
+-- The next item is not taken: its first octet is for no kind, or what has to follow is not there, or memory ran out for a copy
 -- of a record's data.
 abbrev pub FailsToTakeItem : Decoder → Failure → Type 0
 FailsToTakeItem d failure =
-    ((kind : ℕ) × IsKind d kind × (5 < kind) × (failure ≡ BadItem))
-    ⊎ (IsKind d 0 × (¬ (HasBlock (advanced d 1))) × (failure ≡ BadItem))
-    ⊎ (IsKind d 1 × ((error : DecodeError) × StopsSomehow (advanced d 1) error) × (failure ≡ BadItem))
-    ⊎ ((how : Option RDataEncoding) × IsKind d (record_kind how) × FailsToTakeRecord how (advanced d 1) failure)
+    (IsNoKind d × (failure ≡ BadItem))
+    ⊎ (IsKind d Kinds.Bytes × (¬ (HasBlock (advanced d 1))) × (failure ≡ BadItem))
+    ⊎ (IsKind d Kinds.Name × ((error : DecodeError) × StopsSomehow (advanced d 1) error) × (failure ≡ BadItem))
+    ⊎ ((how : Option RDataEncoding) × IsKind d (Kinds.Record how) × FailsToTakeRecord how (advanced d 1) failure)
 
 -- ---- writing
 

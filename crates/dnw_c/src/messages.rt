@@ -1,14 +1,15 @@
 //! Messages, written item by item.
 ghost use Rattle.std.specs.Prelude.{◌≡◌, ◌≢◌, ◌<◌, ◌≤◌, ℕ, true, false, Ok, length, IfOk, IfErr, OnOk, OnErr};
 ghost use Rattle.dnw_error.specs.declared.error.DecodeError.{DecodeError};
+ghost use Rattle.dnw_base.specs.Decoder.{advanced};
 ghost use Rattle.dnw_name.specs.Decodable.{StopsSomehow, TakesNameValue};
 ghost use Rattle.dnw_record.specs.Records.{RecordValue, TakesRecord};
 ghost use Rattle.dnw_encoder.specs.Encoder.{Encoder};
 ghost use Rattle.dnw_encoder.specs.EncoderValue.{value, lender};
 ghost use Rattle.dnw_c.specs.Failures.{NumberOf, number};
-ghost use Rattle.dnw_c.specs.MessageItems.{EmitsItem, FailsToCopyItem, FailsToTakeData, FailsToTakeItem, FailsToTakeRecord, FailsToWriteMessage, HasBlock, IsData, IsRecord, PutsMessage, StopsAfter, TakesBlock, TakesItem, WritesWhole, of_message, record_kind};
+ghost use Rattle.dnw_c.specs.MessageItems.{EmitsItem, FailsToCopyItem, FailsToTakeData, FailsToTakeItem, FailsToTakeRecord, FailsToWriteMessage, HasBlock, IsData, IsKind, IsNoKind, IsRecord, PutsMessage, StopsAfter, TakesBlock, TakesItem, WritesWhole, of_message};
 ghost use Rattle.dnw_c.specs.declared.messages.Item.{Item};
-ghost use Rattle.dnw_c.specs.declared.failure.Failure.TheVariants.{BadItem, MessageTooLong};
+ghost use Rattle.dnw_c.specs.declared.failure.Failure.TheVariants.{BadItem, MessageTooLong, NoMemory};
 
 use crate::failure::{Failure, of_proto};
 use crate::names::put;
@@ -26,6 +27,17 @@ use std::alloc::Global;
 pub struct WrittenMessage {
     pub len: usize,
     pub count: usize,
+}
+
+/// The kind of an item, as the octet before it says.
+#[derive(Clone, Copy)]
+enum Kind {
+    /// Bytes as they are.
+    Bytes,
+    /// A name.
+    Name,
+    /// A record, of which the data are bytes, or a name that is written in this way.
+    Record(Option<RDataEncoding>),
 }
 
 /// What is written into a message.
@@ -189,28 +201,26 @@ fn read_item<'a>(alloc: Global, decoder: &mut BinDecoder<'a>) -> Result<Item<'a>
     ensures ok { IfOk result (λ item. TakesItem decoder.old item decoder.new) }
     ensures err { IfErr result (FailsToTakeItem decoder.old) }
 {
-    let kind = decoder.pop().unwrap().unverified();
-    match kind {
-        0 => Ok(Item::Bytes(read_block(decoder)?)),
-        1 => Ok(Item::Name(read_name(alloc, decoder)?)),
-        _ => {
-            let how = data_way(kind)?;
-            Ok(Item::Record(read_record(alloc, how, decoder)?))
-        }
+    match read_kind(decoder)? {
+        Kind::Bytes => Ok(Item::Bytes(read_block(decoder)?)),
+        Kind::Name => Ok(Item::Name(read_name(alloc, decoder)?)),
+        Kind::Record(how) => Ok(Item::Record(read_record(alloc, how, decoder)?)),
     }
 }
 
-/// Returns how the data of a record are written if its kind is this: as bytes, or as a name in a way.
-fn data_way(kind: u8) -> Result<Option<RDataEncoding>, Failure>
-    requires { 2 ≤ kind }
-    ensures ok { IfOk result (λ how. record_kind how ≡ kind) }
-    ensures err { IfErr result (λ failure. (5 < kind) × (failure ≡ BadItem)) }
+/// Reads the octet for the kind of an item.
+fn read_kind(decoder: &mut BinDecoder<'_>) -> Result<Kind, Failure>
+    requires left { decoder.old.index < length decoder.old.bytes }
+    ensures ok { IfOk result (λ kind. IsKind decoder.old kind × (decoder.new ≡ advanced decoder.old 1)) }
+    ensures err { IfErr result (λ failure. IsNoKind decoder.old × (failure ≡ BadItem)) }
 {
-    match kind {
-        2 => Ok(None),
-        3 => Ok(Some(RDataEncoding::StandardRecord)),
-        4 => Ok(Some(RDataEncoding::Canonical)),
-        5 => Ok(Some(RDataEncoding::Other)),
+    match decoder.pop().unwrap().unverified() {
+        0 => Ok(Kind::Bytes),
+        1 => Ok(Kind::Name),
+        2 => Ok(Kind::Record(None)),
+        3 => Ok(Kind::Record(Some(RDataEncoding::StandardRecord))),
+        4 => Ok(Kind::Record(Some(RDataEncoding::Canonical))),
+        5 => Ok(Kind::Record(Some(RDataEncoding::Other))),
         _ => Err(Failure::BadItem),
     }
 }
@@ -254,11 +264,8 @@ fn read_record(
         return Err(Failure::BadItem);
     };
     let rdata = data_of(alloc, how, &record)?;
-    let Ok(owner) = record.owner().to_name(alloc) else {
-        return Err(Failure::Other);
-    };
     Ok(WireRecord {
-        owner,
+        owner: record.owner().to_name(alloc).unwrap(),
         record_type: record.record_type(),
         class: record.class(),
         ttl: record.ttl(),
@@ -276,13 +283,24 @@ fn data_of(
     ensures err { IfErr result (FailsToTakeData how found.now) }
 {
     let Some(encoding) = how else {
-        return match Vec::from_slice(alloc, found.rdata()) {
-            Ok(bytes) => Ok(WireData::Bytes(bytes)),
-            Err(_) => Err(Failure::NoMemory),
-        };
+        return Ok(WireData::Bytes(copied(alloc, found.rdata())?));
     };
     match found.data_name(alloc) {
         Ok(name) => Ok(WireData::Name { name, encoding }),
         Err(_) => Err(Failure::BadItem),
+    }
+}
+
+/// Copies bytes. No bytes take no memory.
+fn copied(alloc: Global, bytes: &[u8]) -> Result<Vec<u8>, Failure>
+    ensures ok { IfOk result (λ copy. copy.items ≡ bytes.now) }
+    ensures err { IfErr result (λ failure. (1 ≤ length bytes.now) × (failure ≡ NoMemory)) }
+{
+    if bytes.is_empty() {
+        return Ok(Vec::new(alloc));
+    }
+    match Vec::from_slice(alloc, bytes) {
+        Ok(copy) => Ok(copy),
+        Err(_) => Err(Failure::NoMemory),
     }
 }

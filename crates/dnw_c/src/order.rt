@@ -8,20 +8,24 @@ ghost use Rattle.dnw_c.specs.NameCalls.{FailsAsForms, FailsToLower, IsFormOf, Is
 
 use crate::failure::{Failure, of_decode};
 use crate::names::{name_at, put};
+use dns_names_wire::decoder::BinDecoder;
 use dns_names_wire::name::Name;
+use dns_names_wire::name_ref::NameRef;
+use dnw_form::wire_labels::WireLabels;
+use dnw_order::order;
 use std::alloc::Global;
 use std::cmp::Ordering;
 
 /// Compares two names in canonical order, and puts -1, 0 or 1.
 #[unsafe(no_mangle)]
-pub extern "C" fn dnw_name_compare(alloc: Global, left: &[u8], right: &[u8], order: &mut i32) -> u32
+pub extern "C" fn dnw_name_compare(left: &[u8], right: &[u8], order: &mut i32) -> u32
     ensures ok { result ≡ 0 → (a b : List (List ℕ)) × IsFormOf left.now a × IsFormOf right.now b × (order.new ≡ sign (labels_cmp a b)) }
     ensures err { result ≢ 0 → NumberOf (FailsAsForms left.now right.now) result }
     ensures same { result ≢ 0 → order.new ≡ order.old }
 {
-    match both_names(alloc, left, right) {
+    match both_labels(left, right) {
         Ok((left, right)) => {
-            *order = sign_of(left.cmp(&right));
+            *order = sign_of(order::cmp_labels(left, right));
             0
         }
         Err(failure) => failure.number(),
@@ -30,19 +34,14 @@ pub extern "C" fn dnw_name_compare(alloc: Global, left: &[u8], right: &[u8], ord
 
 /// Puts whether two names are equal, ignoring ASCII case.
 #[unsafe(no_mangle)]
-pub extern "C" fn dnw_name_equal(
-    alloc: Global,
-    left: &[u8],
-    right: &[u8],
-    is_equal: &mut bool,
-) -> u32
+pub extern "C" fn dnw_name_equal(left: &[u8], right: &[u8], is_equal: &mut bool) -> u32
     ensures ok { result ≡ 0 → (a b : List (List ℕ)) × IsFormOf left.now a × IsFormOf right.now b × (IsTrue is_equal.new ↔ (lower a ≡ lower b)) }
     ensures err { result ≢ 0 → NumberOf (FailsAsForms left.now right.now) result }
     ensures same { result ≢ 0 → is_equal.new ≡ is_equal.old }
 {
-    match both_names(alloc, left, right) {
+    match both_labels(left, right) {
         Ok((left, right)) => {
-            *is_equal = left.eq_ignore_root(&right);
+            *is_equal = order::eq_labels(left, right);
             0
         }
         Err(failure) => failure.number(),
@@ -51,19 +50,14 @@ pub extern "C" fn dnw_name_equal(
 
 /// Puts whether a name is in a zone, ignoring ASCII case.
 #[unsafe(no_mangle)]
-pub extern "C" fn dnw_name_in_zone(
-    alloc: Global,
-    name: &[u8],
-    zone: &[u8],
-    is_in_zone: &mut bool,
-) -> u32
+pub extern "C" fn dnw_name_in_zone(name: &[u8], zone: &[u8], is_in_zone: &mut bool) -> u32
     ensures ok { result ≡ 0 → (a b : List (List ℕ)) × IsFormOf name.now a × IsFormOf zone.now b × (IsTrue is_in_zone.new ↔ IsZoneOf b a) }
     ensures err { result ≢ 0 → NumberOf (FailsAsForms name.now zone.now) result }
     ensures same { result ≢ 0 → is_in_zone.new ≡ is_in_zone.old }
 {
-    match both_names(alloc, name, zone) {
+    match both_labels(name, zone) {
         Ok((name, zone)) => {
-            *is_in_zone = zone.zone_of(&name);
+            *is_in_zone = order::is_zone_of(zone, name);
             0
         }
         Err(failure) => failure.number(),
@@ -121,6 +115,38 @@ pub(crate) fn name_of(alloc: Global, form: &[u8]) -> Result<Name, Failure>
         }
         Err(error) => Err(of_decode(&error)),
     }
+}
+
+/// Returns the labels of a wire form, which is not copied: no pointer leads on from its first octet, so it is whole.
+#[inline(always)]
+fn labels_of(form: &[u8]) -> Result<WireLabels<'_>, Failure>
+    ensures ok { IfOk result (λ labels. IsFormOf form.now labels) }
+    ensures err { IfErr result (IsNoForm form.now) }
+{
+    let mut decoder = BinDecoder::new(form);
+    match NameRef::read(&mut decoder) {
+        Ok(_) => {
+            if !decoder.is_empty() {
+                return Err(Failure::BytesLeft);
+            }
+            Ok(WireLabels::new(form))
+        }
+        Err(error) => Err(of_decode(&error)),
+    }
+}
+
+/// Returns the labels of two wire forms.
+#[inline(always)]
+fn both_labels<'a>(
+    left: &'a [u8],
+    right: &'a [u8],
+) -> Result<(WireLabels<'a>, WireLabels<'a>), Failure>
+    ensures ok { IfOk result (λ both. IsFormOf left.now both.0 × IsFormOf right.now both.1) }
+    ensures err { IfErr result (FailsAsForms left.now right.now) }
+{
+    let left = labels_of(left)?;
+    let right = labels_of(right)?;
+    Ok((left, right))
 }
 
 /// Returns the names with two wire forms.

@@ -1,3 +1,4 @@
 pub mod CandidateLists
 pub mod Held
 pub mod Rings
+pub mod Matching

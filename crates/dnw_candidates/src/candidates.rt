@@ -93,9 +93,7 @@ impl Candidates {
         ensures ok { OnOk result (self.new ≡ self.old ++ (start, labels.now) ∷ []) }
         ensures err { OnErr result (self.new ≡ self.old) }
     {
-        self.held.push(start, labels)?;
-        self.marks.add_all(&self.held);
-        Ok(())
+        self.held.push(start, labels)
     }
 
     /// Returns the offset of the first candidate with these labels.
@@ -144,9 +142,16 @@ impl Candidates {
         ensures err { OnErr result (self.new ≡ self.old) }
         ensures needed { OnErr result (take most (suffixes start labels.entry) ≢ []) }
     {
-        self.held.push_suffixes(start, labels, most)?;
+        self.held.push_suffixes(start, labels, most)
+    }
+
+    /// Links the candidates that have no marks yet, so that the next search passes over most of them. They are not linked
+    /// as they are added, since no search may follow.
+    #[inline(always)]
+    pub fn link(&mut self)
+        ensures { self.new ≡ self.old }
+    {
         self.marks.add_all(&self.held);
-        Ok(())
     }
 
     /// Keeps the first `len` candidates.
@@ -154,7 +159,7 @@ impl Candidates {
         ensures { self.new ≡ take len self.old }
     {
         self.held.truncate(len);
-        self.marks = Marks::of(&self.held);
+        self.marks = Marks::new();
     }
 
     /// Keeps the candidates before an offset.
@@ -164,7 +169,7 @@ impl Candidates {
         let held = self.held.len();
         self.held.retain_before(offset);
         if self.held.len() < held {
-            self.marks = Marks::of(&self.held);
+            self.marks = Marks::new();
         }
     }
 }

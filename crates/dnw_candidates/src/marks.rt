@@ -78,16 +78,6 @@ impl Marks {
         }
     }
 
-    /// Creates the marks of candidates.
-    #[inline(never)]
-    pub(crate) fn of(candidates: &Store) -> Self
-        ensures { AreMarked result.last result.next result.count candidates.now }
-    {
-        let mut marks = Marks::new();
-        marks.add_all(candidates);
-        marks
-    }
-
     /// Returns the number of candidates that are linked.
     #[inline(always)]
     pub(crate) fn len(&self) -> usize

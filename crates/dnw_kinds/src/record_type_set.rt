@@ -21,6 +21,7 @@ use dnw_encoder::binary::BinEncodable;
 use dnw_encoder::encoder::BinEncoder;
 use dnw_error::error::{DecodeError, ProtoError, ProtoResult};
 use dnw_error::record_type::RecordType;
+use smallvec::SmallVec;
 use std::alloc::{AllocError, Global};
 use std::fmt;
 use std::hash::{Hash, Hasher};
@@ -28,6 +29,12 @@ use std::marker::Model;
 
 /// For how many types memory is taken at first: few sets have more.
 const USUAL_TYPES: usize = 16;
+
+/// How many bytes are kept in the set itself: few sets are written as more.
+const INLINE_BYTES: usize = 32;
+
+/// The bytes that a set is written as.
+type Encoding = SmallVec<u8, INLINE_BYTES>;
 
 mod bitmap;
 mod laws;
@@ -47,7 +54,7 @@ pub use type_iter::TypeIter;
 #[derive(Drop)]
 pub struct RecordTypeSet {
     types: Vec<RecordType>,
-    encoding: Vec<u8>,
+    encoding: Encoding,
 }
 
 impl Model for RecordTypeSet {
@@ -97,7 +104,7 @@ impl RecordTypeSet {
         let alloc = *self.types.allocator();
         Ok(RecordTypeSet {
             types: copied(alloc, self.types.as_slice())?,
-            encoding: copied(alloc, self.encoding.as_slice())?,
+            encoding: kept(alloc, self.encoding.as_slice())?,
         })
     }
 
@@ -125,6 +132,16 @@ fn copied<T: Copy>(alloc: Global, items: &[T]) -> Result<Vec<T>, AllocError>
     let mut copy = Vec::with_capacity(alloc, items.len())?;
     copy.extend_from_slice(items)?;
     Ok(copy)
+}
+
+/// Copies the bytes that a set is written as. No bytes take no memory.
+fn kept(alloc: Global, bytes: &[u8]) -> Result<Encoding, AllocError>
+    ensures ok { IfOk result (λ encoding. encoding.items ≡ bytes.now) }
+    ensures err { OnErr result (1 ≤ length bytes.now) }
+{
+    let mut encoding = Encoding::new(alloc);
+    encoding.extend_from_slice(bytes)?;
+    Ok(encoding)
 }
 
 /// Makes the list of a set: each type once, in ascending order. It may be known that they stand so.
@@ -180,13 +197,13 @@ fn read_bitmap(alloc: Global, bitmap: &[u8]) -> Result<RecordTypeSet, AllocError
     if bitmap.is_empty() {
         return Ok(RecordTypeSet {
             types: Vec::new(alloc),
-            encoding: Vec::new(alloc),
+            encoding: Encoding::new(alloc),
         });
     }
     let mut types = Vec::with_capacity(alloc, USUAL_TYPES)?;
     let ascending = bitmap::push_windows(&mut types, bitmap)?;
     settle(&mut types, ascending);
-    let encoding = Vec::from_slice(alloc, bitmap)?;
+    let encoding = kept(alloc, bitmap)?;
     Ok(RecordTypeSet { types, encoding })
 }
 

@@ -161,6 +161,7 @@ impl<'a> NameRef<'a> {
     }
 
     /// Copies the name. It is fully qualified. This does not allocate and cannot fail.
+    #[inline(always)]
     pub fn to_name(&self, alloc: Global) -> ProtoResult<Name>
         ensures { result ≡ Ok (record { is_fqdn = true; labels = self.now }) }
     {

@@ -43,7 +43,7 @@ label-form {b} {p} {c} h =
     ∙ sym (wire-cons (slice_range b (p + 1) (p + 1 + c)) h.rest) ∙ ap wire (sym h.labels)
 
 -- where no pointer is followed, a name's own octets are its uncompressed form
-Reads-plain : {b : List ℕ} {p s e k : ℕ} {limit : Option ℕ} {ls : List (List ℕ)} → Reads b p s limit ls e k → k ≡ 0
+pub Reads-plain : {b : List ℕ} {p s e k : ℕ} {limit : Option ℕ} {ls : List (List ℕ)} → Reads b p s limit ls e k → k ≡ 0
     → slice_range b p e ≡ wire ls
 Reads-plain {b} {p} (zero_octet w g) none = slice_range-one b p 0 g
 Reads-plain {b} {p} (label {e = end} {ls = rest} c w g one most fit r) none =

@@ -20,7 +20,7 @@ pub struct ReadSteps {
 
 /// An element of a name.
 #[derive(Clone, Copy)]
-enum Element {
+pub enum Element {
     /// The zero octet that ends the name.
     End,
     /// A label of so many octets after its length octet.
@@ -132,7 +132,7 @@ fn check_limit(
 
 /// Returns the element at an offset, in a segment that began at `segment`.
 #[inline(always)]
-fn element_at(message: &[u8], position: usize, segment: usize) -> Result<Element, DecodeError>
+pub fn element_at(message: &[u8], position: usize, segment: usize) -> Result<Element, DecodeError>
     requires { position < length message.now }
     ensures ok { IfOk result (IsElement message.now position segment) }
     ensures err { IfErr result (IsNoElement message.now position segment) }

@@ -1,10 +1,7 @@
 -- A record is refused for its size only if it does not fit with its names whole, and takes no more bytes than that.
 use Rattle.std.proofs.Common.{◌≡◌, ℕ, ◌+◌, ◌≤◌, List, length, Option, Some, None, Ok, Err, inl, inr, refl, ap, ◌∙◌, subst, arith}
-use Rattle.std.specs.Int.{w16, w32, to_be_bytes}
 use Rattle.dnw_error.specs.declared.error.ProtoError.{ProtoError}
 use Rattle.dnw_error.specs.declared.error.ProtoError.TheVariants.{MaxBufferSizeExceeded, Memory}
-use Rattle.dnw_error.specs.RecordTypes.{type_code}
-use Rattle.dnw_error.specs.DnsClasses.{class_code}
 use Rattle.dnw_base.specs.Names.{NameValue, encoded_size}
 use Rattle.dnw_encoder.specs.Encoder.{Encoder, TakesRoom, Writes, mode_of_rdata, reserved}
 use Rattle.dnw_encoder.specs.EmittedName.{EmitsAs, EmitsName, Share, emitted, in_mode, room_for}
@@ -13,7 +10,7 @@ use Rattle.dnw_encoder.proofs.Suffixes.{length-all}
 use Rattle.dnw_record.specs.declared.record.WireRecord.{WireRecord}
 use Rattle.dnw_record.specs.declared.record.WireData.{WireData}
 use Rattle.dnw_record.specs.declared.record.WireData.TheVariants.{Bytes, Name}
-use Rattle.dnw_record.specs.WrittenRecords.{Write, Then, EmitsData, EmitsSized, EmitsFields, in_encoding}
+use Rattle.dnw_record.specs.WrittenRecords.{Write, Then, EmitsData, EmitsSized, EmitsFields, fixed_fields, in_encoding}
 use Rattle.dnw_record.specs.RecordLaws.{FailsForSize, RecordsFit, data_size}
 
 -- A write takes n bytes at most, and is refused for its size only if they do not fit.
@@ -119,14 +116,10 @@ fits-sized rdata = record { done = done-sized rdata; refused = refused-sized rda
 
 -- ---- records
 
-fits-fields : (r : WireRecord) → FitsBySize (EmitsFields r) (encoded_size r.owner.labels + (2 + (2 + (4 + (2 + data_size r.rdata)))))
+fits-fields : (r : WireRecord) → FitsBySize (EmitsFields r) (encoded_size r.owner.labels + (8 + (2 + data_size r.rdata)))
 fits-fields r =
-    let kind = to_be_bytes w16 (type_code r.record_type) in
-    let class = to_be_bytes w16 (class_code r.class) in
-    let ttl = to_be_bytes w32 r.ttl in
-    let last = fits-then (λ v. Writes v ttl) (EmitsSized r.rdata) 4 _ (fits-bytes ttl) (fits-sized r.rdata) in
-    let more = fits-then (λ v. Writes v class) _ 2 _ (fits-bytes class) last in
-    fits-then (EmitsName r.owner) _ _ _ (fits-name r.owner) (fits-then (λ v. Writes v kind) _ 2 _ (fits-bytes kind) more)
+    let last = fits-then (λ v. Writes v (fixed_fields r)) (EmitsSized r.rdata) 8 _ (fits-bytes (fixed_fields r)) (fits-sized r.rdata) in
+    fits-then (EmitsName r.owner) _ _ _ (fits-name r.owner) last
 
 pub records_fit : RecordsFit
 records_fit r = (

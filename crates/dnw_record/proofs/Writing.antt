@@ -1,10 +1,7 @@
 -- Records as they are written: one write after another, and how many bytes they take.
 use Rattle.std.proofs.Common.{◌≡◌, ℕ, ◌+◌, ◌-◌, ◌≤◌, max, length, take, replicate, Ok, Err, inr, ap, ◌∙◌, arith}
-use Rattle.std.specs.Int.{w16, w32, to_be_bytes}
 use Rattle.std.proofs.Math.Nat.{max-le}
 use Rattle.std.proofs.lemmas.List.{length-append, length-take, length-replicate}
-use Rattle.dnw_error.specs.RecordTypes.{type_code}
-use Rattle.dnw_error.specs.DnsClasses.{class_code}
 use Rattle.dnw_encoder.specs.EmittedName.{EmitsName}
 use Rattle.dnw_encoder.specs.Encoder.{Encoder, HasRoom, Writes, mode_of_rdata, reserved}
 use Rattle.dnw_encoder.specs.Emitting.{Outcome}
@@ -13,14 +10,13 @@ use Rattle.dnw_record.proofs.Fitting.{done-name}
 use Rattle.dnw_record.specs.declared.record.WireRecord.{WireRecord}
 use Rattle.dnw_record.specs.declared.record.WireData.{WireData}
 use Rattle.dnw_record.specs.declared.record.WireData.TheVariants.{Bytes, Name}
-use Rattle.dnw_record.specs.WrittenRecords.{EmitsData, EmitsFields, EmitsSized, in_encoding}
+use Rattle.dnw_record.specs.WrittenRecords.{EmitsData, EmitsFields, EmitsSized, fixed_fields, in_encoding}
 
 -- all fields but the last are written, and then the last
-pub fields-on : (r : WireRecord) (v a b c d : Encoder) (outcome : Outcome) (w : Encoder) → EmitsName r.owner v (Ok tt) a
-    → Writes a (to_be_bytes w16 (type_code r.record_type)) (Ok tt) b → Writes b (to_be_bytes w16 (class_code r.class)) (Ok tt) c
-    → Writes c (to_be_bytes w32 r.ttl) (Ok tt) d → EmitsSized r.rdata d outcome w → EmitsFields r v outcome w
-fields-on r v a b c d (Ok tt) w owner kind class ttl rdata = (a, owner, (b, kind, (c, class, (d, ttl, rdata))))
-fields-on r v a b c d (Err error) w owner kind class ttl rdata = inr (a, owner, inr (b, kind, inr (c, class, inr (d, ttl, rdata))))
+pub fields-on : (r : WireRecord) (v a d : Encoder) (outcome : Outcome) (w : Encoder) → EmitsName r.owner v (Ok tt) a
+    → Writes a (fixed_fields r) (Ok tt) d → EmitsSized r.rdata d outcome w → EmitsFields r v outcome w
+fields-on r v a d (Ok tt) w owner fixed rdata = (a, owner, (d, fixed, rdata))
+fields-on r v a d (Err error) w owner fixed rdata = inr (a, owner, inr (d, fixed, rdata))
 
 -- Data that are written after their length end within the maximum, which stays.
 pub data-bounded : (rdata : WireData) (v m w : Encoder) → HasRoom v 2 × (m ≡ reserved v 2) → EmitsData rdata m (Ok tt) w

@@ -1,11 +1,9 @@
 -- Writing a record keeps the frame of `emit`.
 use Rattle.std.proofs.Common.{◌≡◌, ℕ, ◌+◌, ◌-◌, ◌≤◌, List, ◌++◌, length, take, drop, replicate, Ok, Err, inl, inr, refl, sym, ap, ◌∙◌, subst, arith}
-use Rattle.std.specs.Int.{w16, w32, to_be_bytes}
+use Rattle.std.specs.Int.{w16, to_be_bytes}
 use Rattle.std.proofs.lemmas.List.{length-append, length-take, length-replicate, length-drop, length-take-le, take-append-le, take-take}
 use Rattle.dnw_error.specs.declared.error.ProtoError.{ProtoError}
 use Rattle.dnw_error.specs.declared.error.ProtoError.TheVariants.{MaxBufferSizeExceeded, Memory}
-use Rattle.dnw_error.specs.RecordTypes.{type_code}
-use Rattle.dnw_error.specs.DnsClasses.{class_code}
 use Rattle.dnw_encoder.specs.declared.encoder.modes.NameEncoding.{NameEncoding}
 use Rattle.dnw_encoder.specs.Encoder.{Encoder, TakesRoom, Writes, filled, mode_of_rdata, reserved}
 use Rattle.dnw_encoder.specs.Emitting.{Outcome, Frame}
@@ -16,7 +14,7 @@ use Rattle.dnw_encoder.specs.Marks.{mark_of, rewound}
 use Rattle.dnw_record.specs.declared.record.WireRecord.{WireRecord}
 use Rattle.dnw_record.specs.declared.record.WireData.{WireData}
 use Rattle.dnw_record.specs.declared.record.WireData.TheVariants.{Bytes, Name}
-use Rattle.dnw_record.specs.WrittenRecords.{Write, Then, EmitsData, EmitsSized, EmitsFields, EmitsRecord, in_encoding}
+use Rattle.dnw_record.specs.WrittenRecords.{Write, Then, EmitsData, EmitsSized, EmitsFields, EmitsRecord, fixed_fields, in_encoding}
 
 -- what writes keep that begin at the buffer's end
 abbrev pub KeepsFrame : Write → Type 0
@@ -114,13 +112,9 @@ frame-sized rdata v (Err error) w e (inr h) =
 
 pub frame-fields : (r : WireRecord) → KeepsFrame (EmitsFields r)
 frame-fields r =
-    let kind = to_be_bytes w16 (type_code r.record_type) in
-    let class = to_be_bytes w16 (class_code r.class) in
-    let ttl = to_be_bytes w32 r.ttl in
-    let bytes : (d : List ℕ) → KeepsFrame (λ v. Writes v d) = λ d v outcome w e h. frame v d outcome w e h in
-    let last = frame-then (λ v. Writes v ttl) (EmitsSized r.rdata) (bytes ttl) (frame-sized r.rdata) in
-    let more = frame-then (λ v. Writes v class) _ (bytes class) last in
-    frame-then (EmitsName r.owner) _ (λ v outcome w e h. frame-name r.owner v outcome w e h) (frame-then (λ v. Writes v kind) _ (bytes kind) more)
+    let fields : KeepsFrame (λ v. Writes v (fixed_fields r)) = λ v outcome w e h. frame v (fixed_fields r) outcome w e h in
+    let last = frame-then (λ v. Writes v (fixed_fields r)) (EmitsSized r.rdata) fields (frame-sized r.rdata) in
+    frame-then (EmitsName r.owner) _ (λ v outcome w e h. frame-name r.owner v outcome w e h) last
 
 frame-rewound : (v u : Encoder) (error : ProtoError) → Frame v (Err error) u → Frame v (Err error) (rewound u (mark_of v))
 frame-rewound v u error f =

@@ -1,5 +1,5 @@
 -- How a record is written (RFC 1035, section 4.1.3): its fields in turn, and the length once the data are written.
-use Rattle.std.specs.Prelude.{◌≡◌, ℕ, ◌+◌, ◌-◌, Ok, Err, ◌⊎◌}
+use Rattle.std.specs.Prelude.{◌≡◌, ℕ, ◌+◌, ◌-◌, List, ◌++◌, Ok, Err, ◌⊎◌}
 use Rattle.std.specs.Int.{w16, w32, to_be_bytes}
 use Rattle.dnw_error.specs.RecordTypes.{type_code}
 use Rattle.dnw_error.specs.DnsClasses.{class_code}
@@ -51,13 +51,13 @@ EmitsSized rdata v (Err error) w =
 
 -- ---- records
 
+-- the type, the class and the time to live
+abbrev pub fixed_fields : WireRecord → List ℕ
+fixed_fields r = to_be_bytes w16 (type_code r.record_type) ++ (to_be_bytes w16 (class_code r.class) ++ to_be_bytes w32 r.ttl)
+
 -- the owner, the type, the class, the time to live, and the data with their length
 abbrev pub EmitsFields : Emits WireRecord
-EmitsFields r =
-    Then (EmitsName r.owner)
-    (Then (λ v. Writes v (to_be_bytes w16 (type_code r.record_type)))
-    (Then (λ v. Writes v (to_be_bytes w16 (class_code r.class)))
-    (Then (λ v. Writes v (to_be_bytes w32 r.ttl)) (EmitsSized r.rdata))))
+EmitsFields r = Then (EmitsName r.owner) (Then (λ v. Writes v (fixed_fields r)) (EmitsSized r.rdata))
 
 -- A record is written whole, or undone whole: then the encoder is back at its mark, whichever field failed.
 abbrev pub EmitsRecord : Emits WireRecord

@@ -45,10 +45,20 @@ impl<'a> BinEncoder<'a> {
         if self.candidates.len() == 0 || !self.compresses() {
             return self.emit_whole(name);
         }
+        self.link_candidates();
         match self.find_suffix(name) {
             Some(suffix) => self.emit_shared(name, suffix),
             None => self.emit_whole(name),
         }
+    }
+
+    /// Prepares the candidates for a search.
+    #[inline(always)]
+    fn link_candidates(&mut self)
+        ensures value { value self.new ≡ value self.old }
+        ensures lender { lender self.new ≡ lender self.old }
+    {
+        self.candidates.link();
     }
 
     /// Returns `true` if the next name is compressed.

@@ -4,6 +4,7 @@ ghost use Rattle.smallvec.specs.SmallVec.{small_vec_len};
 ghost use Rattle.dnw_kinds.specs.TypeSets.{octet_codes, octets_codes, EndsInBit, max_octets, Encodes};
 ghost use Rattle.dnw_kinds.specs.Inside.Bitmaps.{Above, code_if, with_bit, PushesWindow};
 
+use super::Encoding;
 use smallvec::SmallVec;
 use std::alloc::{AllocError, Global};
 
@@ -87,12 +88,12 @@ fn used_len(octets: &[u8]) -> usize
 }
 
 /// Writes ascending codes as windows.
-pub fn write_windows(alloc: Global, codes: &[u16]) -> Result<Vec<u8>, AllocError>
+pub fn write_windows(alloc: Global, codes: &[u16]) -> Result<Encoding, AllocError>
     requires { Above 0 codes.now }
     ensures ok { IfOk result (λ bytes. Encodes codes.now bytes.items) }
     ensures err { OnErr result (1 ≤ length codes.now) }
 {
-    let mut bytes = Vec::new(alloc);
+    let mut bytes = Encoding::new(alloc);
     let mut rest = codes;
     while let Some((code, _)) = rest.split_first() {
         let number = *code / 256;
@@ -104,7 +105,7 @@ pub fn write_windows(alloc: Global, codes: &[u16]) -> Result<Vec<u8>, AllocError
 }
 
 /// Appends a window without the octets after its last bit.
-fn push_window(bytes: &mut Vec<u8>, number: u8, octets: &[u8]) -> Result<(), AllocError>
+fn push_window(bytes: &mut Encoding, number: u8, octets: &[u8]) -> Result<(), AllocError>
     requires { length octets.now ≤ max_octets }
     ensures { OnOk result (PushesWindow number octets.now bytes.old.items bytes.new.items) }
 {

@@ -99,6 +99,7 @@ impl<'r> RecordRef<'r> {
     ///
     /// It fails with the error of reading the name there, or with `IncorrectRDataLengthRead` if the name's own octets are
     /// not as many as the data.
+    #[inline(always)]
     pub fn data_name(&self, alloc: Global) -> Result<Name, DecodeError>
         ensures ok { IfOk result (HasDataName self.now) }
         ensures err { IfErr result (FailsDataName self.now) }
@@ -146,6 +147,7 @@ fn fields_of(octets: &[u8]) -> Fields
 }
 
 /// Reads a record at the cursor. If it fails, the cursor may be past the owner.
+#[inline(always)]
 fn read_on<'r>(reader: &mut BinDecoder<'r>) -> Result<RecordRef<'r>, DecodeError>
     ensures ok { IfOk result (λ r. TakesRecord reader.old r reader.new) }
     ensures err { IfErr result (FailsRecord reader.old) }

@@ -2,7 +2,7 @@
 ghost use Rattle.std.specs.Prelude.{◌≡◌};
 ghost use Rattle.dnw_encoder.specs.Encoder.{mode_of_rdata};
 ghost use Rattle.dnw_encoder.specs.EncoderValue.{value, lender};
-ghost use Rattle.dnw_record.specs.WrittenRecords.{EmitsData, EmitsDataName, EmitsSized, EmitsFields, EmitsRecord};
+ghost use Rattle.dnw_record.specs.WrittenRecords.{EmitsData, EmitsDataName, EmitsSized, EmitsFields, EmitsRecord, fixed_fields};
 ghost use Rattle.dnw_record.specs.RecordFrames.{frame-data, frame-record};
 
 use super::{WireData, WireRecord};
@@ -48,10 +48,21 @@ fn emit_fields(item: &WireRecord, encoder: &mut BinEncoder<'_>) -> ProtoResult<(
     ensures lender { lender encoder.new ≡ lender encoder.old }
 {
     item.owner.emit(encoder)?;
-    item.record_type.emit(encoder)?;
-    item.class.emit(encoder)?;
-    item.ttl.emit(encoder)?;
+    encoder.emit_vec(&fixed_fields(item))?;
     emit_sized(&item.rdata, encoder)
+}
+
+/// Returns the type, the class and the time to live, as they are written.
+#[inline(always)]
+fn fixed_fields(item: &WireRecord) -> [u8; 8]
+    ensures { result ≡ fixed_fields item.now }
+{
+    let kind = u16::to_be_bytes(u16::from(item.record_type));
+    let class = u16::to_be_bytes(u16::from(item.class));
+    let ttl = u32::to_be_bytes(item.ttl);
+    [
+        kind[0], kind[1], class[0], class[1], ttl[0], ttl[1], ttl[2], ttl[3],
+    ]
 }
 
 /// Writes data after their length.
