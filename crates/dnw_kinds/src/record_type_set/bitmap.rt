@@ -1,5 +1,5 @@
 //! Reading type bitmaps (RFC 4034, section 4.1.2).
-ghost use Rattle.std.specs.Prelude.{◌≡◌, ◌↔◌, [], ◌∷◌, MatchOption, ◌+◌, ◌*◌, ◌≤◌, ◌<◌, ◌++◌, length, map, take, drop, ◌==◌, ◌-◌, IsTrue, IfOk, OnOk, OnErr};
+ghost use Rattle.std.specs.Prelude.{◌≡◌, ◌↔◌, [], ◌∷◌, MatchOption, ◌+◌, ◌*◌, ◌≤◌, ◌<◌, ◌++◌, length, map, take, drop, ◌==◌, ◌-◌, IsTrue, IfOk, OnOk, OnErr, vec_len, vec_capacity};
 ghost use Rattle.std.specs.Int.{bit_at};
 ghost use Rattle.dnw_error.specs.RecordTypes.{type_of_code};
 ghost use Rattle.dnw_kinds.specs.TypeSets.{windows_of, in_bounds, NumbersFrom, ends_in_zeros, bit_codes, octet_codes, octets_codes, window_codes, windows_codes};
@@ -11,26 +11,19 @@ use std::alloc::AllocError;
 /// The most octets of a window: one bit for each of its 256 codes.
 const MAX_OCTETS: usize = 32;
 
-/// Appends the type with a code. It is a call of its own, so that the loop over the bits of an octet stays small.
-#[inline(never)]
-fn push_type(types: &mut Vec<RecordType>, code: u16) -> Result<(), AllocError>
-    ensures ok { OnOk result (types.new.items ≡ types.old.items ++ type_of_code code ∷ []) }
-{
-    types.push(RecordType::from(code))?;
-    Ok(())
-}
-
-/// Appends the type of a bit of an octet, if it is set.
+/// Appends the type of a bit of an octet, if it is set. There is room for it.
 #[inline(always)]
-fn push_bit(types: &mut Vec<RecordType>, first: u16, octet: u8, bit: u16) -> Result<(), AllocError>
+fn push_bit(types: &mut Vec<RecordType>, first: u16, octet: u8, bit: u16)
     requires bit { bit < 8 }
     requires fits { first + 7 < 65536 }
-    ensures ok { OnOk result (types.new.items ≡ types.old.items ++ map type_of_code (bit_codes first octet bit)) }
+    requires room { vec_len types.old < vec_capacity types.old }
+    ensures items { types.new.items ≡ types.old.items ++ map type_of_code (bit_codes first octet bit) }
+    ensures len { vec_len types.new ≤ vec_len types.old + 1 }
+    ensures capacity { vec_capacity types.new ≡ vec_capacity types.old }
 {
     if (octet >> (7 - bit)) % 2 == 1 {
-        push_type(types, first + bit)?;
+        types.push_reserved(RecordType::from(first + bit));
     }
-    Ok(())
 }
 
 /// Appends the types whose bits are set in an octet, of which the highest bit stands for the code `first`.
@@ -41,8 +34,9 @@ fn push_octet(types: &mut Vec<RecordType>, first: u16, octet: u8) -> Result<(), 
     if octet == 0 {
         return Ok(());
     }
+    types.reserve(8)?;
     for bit in 0..8 {
-        push_bit(types, first, octet, bit)?;
+        push_bit(types, first, octet, bit);
     }
     Ok(())
 }
