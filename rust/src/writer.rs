@@ -12,6 +12,10 @@ const STANDARD_NAME: u8 = 3;
 const CANONICAL_NAME: u8 = 4;
 const OTHER_NAME: u8 = 5;
 
+/// For how many bytes of items, and how many parts, there is room at first.
+const USUAL_SIZE: usize = 512;
+const USUAL_PARTS: usize = 16;
+
 /// Writes a message: its header, questions, records and names, each name compressed by those before it (RFC 1035, section
 /// 4.1.4).
 ///
@@ -51,7 +55,8 @@ impl MessageWriter {
 
     /// Returns a writer of messages of at most `max_size` bytes.
     pub fn with_max_size(max_size: u16) -> Self {
-        MessageWriter { items: Vec::new(), parts: Vec::new(), max_size, is_canonical: false }
+        let (items, parts) = (Vec::with_capacity(USUAL_SIZE), Vec::with_capacity(USUAL_PARTS));
+        MessageWriter { items, parts, max_size, is_canonical: false }
     }
 
     /// Sets whether the names in records' data are written in canonical form (RFC 4034, section 6.2).

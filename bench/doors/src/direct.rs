@@ -43,7 +43,7 @@ pub fn run(task: &Task, count: u64) -> Option<u64> {
             let forms = forms(&task.bytes);
             repeat(count, || sort(black_box(&forms)))
         }
-        Kind::Clone | Kind::Collect | Kind::Hash => return None,
+        Kind::EmitLower | Kind::Clone | Kind::Collect | Kind::Hash | Kind::ReadRecords | Kind::EmitRecords => return None,
     })
 }
 

@@ -1,7 +1,7 @@
 //! The tasks through the Rust crate.
 use crate::inputs::{Kind, Task};
 use crate::{repeat, sum, FAILED};
-use dns_names_wire::{names, MessageWriter, Name};
+use dns_names_wire::{names, records, MessageWriter, Name, Record};
 use std::collections::hash_map::DefaultHasher;
 use std::hash::{Hash, Hasher};
 use std::hint::black_box;
@@ -26,7 +26,7 @@ pub fn run(task: &Task, count: u64) -> Option<u64> {
             let names = owned();
             repeat(count, || copy(black_box(&names)))
         }
-        Kind::Collect => return None,
+        Kind::EmitLower | Kind::Collect => return None,
         Kind::Compare => {
             let names = owned();
             repeat(count, || sum(black_box(&names).windows(2), |pair| (1 + pair[0].cmp(&pair[1]) as i64) as u64))
@@ -39,7 +39,48 @@ pub fn run(task: &Task, count: u64) -> Option<u64> {
             let names = owned();
             repeat(count, || sum(black_box(&names), hash))
         }
+        Kind::ReadRecords => repeat(count, || {
+            sum(records(black_box(&task.bytes), HEADER_SIZE), |record| record.map_or(FAILED, |record| record_size(&record)))
+        }),
+        Kind::EmitRecords => {
+            let records: Vec<(Record, Option<Name>)> = records(&task.bytes, HEADER_SIZE)
+                .map(|record| record.expect("a record"))
+                .map(|record| (record.clone(), has_name(&record).then(|| record.data_name().expect("a name"))))
+                .collect();
+            repeat(count, || write_records(black_box(&records)))
+        }
     })
+}
+
+/// A message begins with its header.
+const HEADER_SIZE: usize = 12;
+
+/// The types whose data are a name, in the records of this task: NS, CNAME and PTR.
+const TYPES_OF_NAMES: [u16; 3] = [2, 5, 12];
+
+fn has_name(record: &Record) -> bool {
+    TYPES_OF_NAMES.contains(&record.record_type().into())
+}
+
+fn record_size(record: &Record) -> u64 {
+    let data = match has_name(record) {
+        true => record.data_name().map_or(FAILED, |name| size(&name)),
+        false => black_box(record.data()).len() as u64,
+    };
+    size(record.owner()) + data + u64::from(record.ttl())
+}
+
+fn write_records(records: &[(Record, Option<Name>)]) -> u64 {
+    let mut writer = MessageWriter::new();
+    writer.bytes(&[0; HEADER_SIZE]);
+    for (record, name) in records {
+        let (owner, kind, class, ttl) = (record.owner(), record.record_type(), record.class(), record.ttl());
+        match name {
+            Some(name) => writer.name_record(owner, kind, class, ttl, name),
+            None => writer.record(owner, kind, class, ttl, record.data()).expect("short data"),
+        };
+    }
+    writer.finish().map_or(FAILED, |message| black_box(message).len() as u64)
 }
 
 fn size(name: &Name) -> u64 {
