@@ -1,12 +1,12 @@
 -- Candidates of a tag, linked in a ring.
 use Rattle.std.proofs.Common.{◌≡◌, ◌≢◌, ℕ, zero, suc, ◌+◌, ◌-◌, ◌<◌, ◌≤◌, List, [], ◌∷◌, ◌++◌, length, get_or, set, take, refl, sym, ap, ◌∙◌, subst, Option, Some, None, MatchOption, ◌⊎◌, inl, inr, ⊎_elim, arith}
 use Rattle.std.specs.List.{AllByRecursion}
-use Rattle.std.proofs.lemmas.List.{get_or_default, get_or-set_same, get_or-set_other, length-append, length-map, length-set, length-take-le, map-append, take_more, take-append-le}
+use Rattle.std.proofs.lemmas.List.{get_or_default, get_or-set_same, get_or-set_other, length-map, length-set, length-take-le, map-append, take_more}
 use Rattle.std.proofs.lemmas.Bool.Decides.{leb_tells, eqb_tells}
 use Rattle.dnw_base.specs.Names.{labels_wire}
 use Rattle.dnw_candidates.specs.Candidates.{Candidate}
 use Rattle.dnw_candidates.proofs.CandidateLists.{le_unless}
-use Rattle.dnw_candidates.specs.Inside.Marks.{AreLinked, AreMarked, CannotBe, IsRing, LeadsTo, NoneBetween, NoneFrom, tag, tags}
+use Rattle.dnw_candidates.specs.Inside.Marks.{AreLinked, CannotBe, IsRing, LeadsTo, NoneBetween, NoneFrom, tag, tags}
 
 le_both : (a b : ℕ) → a ≤ b → b ≤ a → a ≡ b
 le_both a b less more = omega (arith, less, more)
@@ -198,15 +198,6 @@ linked_none last next clear = λ t below. record {
 }
 
 -- ---- the marks of candidates
-
--- candidates after those that have marks
-pub marked_before : (last next : List ℕ) (count : ℕ) (cs ds : List Candidate) → AreMarked last next count cs → AreMarked last next count (cs ++ ds)
-marked_before last next count cs ds m =
-    let few = m.few in
-    record {
-      few = omega (arith, few, length-append cs ds);
-      linked = subst (λ (es : List Candidate). AreLinked last next (tags es)) (sym (take-append-le count cs ds few)) m.linked;
-    }
 
 -- the tags of one more
 pub tags_more : (cs : List Candidate) (n : ℕ) (c : Candidate) → n < length cs → c ≡ get_or cs n c → tags (take (n + 1) cs) ≡ tags (take n cs) ++ tag c.1 ∷ []

@@ -146,7 +146,7 @@ impl Candidates {
     }
 
     /// Links the candidates that have no marks yet, so that the next search passes over most of them. They are not linked
-    /// as they are added, since no search may follow.
+    /// as they are added, since no search may follow. A search finds the same candidate without it, only later.
     #[inline(always)]
     pub fn link(&mut self)
         ensures { self.new ≡ self.old }

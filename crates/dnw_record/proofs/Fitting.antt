@@ -10,7 +10,7 @@ use Rattle.dnw_encoder.proofs.Suffixes.{length-all}
 use Rattle.dnw_record.specs.declared.record.WireRecord.{WireRecord}
 use Rattle.dnw_record.specs.declared.record.WireData.{WireData}
 use Rattle.dnw_record.specs.declared.record.WireData.TheVariants.{Bytes, Name}
-use Rattle.dnw_record.specs.WrittenRecords.{Write, Then, EmitsData, EmitsSized, EmitsFields, fixed_fields, in_encoding}
+use Rattle.dnw_record.specs.WrittenRecords.{Write, Then, EmitsData, EmitsSized, EmitsFields, type_class_ttl, in_encoding}
 use Rattle.dnw_record.specs.RecordLaws.{FailsForSize, RecordsFit, data_size}
 
 -- A write takes n bytes at most, and is refused for its size only if they do not fit.
@@ -118,7 +118,7 @@ fits-sized rdata = record { done = done-sized rdata; refused = refused-sized rda
 
 fits-fields : (r : WireRecord) → FitsBySize (EmitsFields r) (encoded_size r.owner.labels + (8 + (2 + data_size r.rdata)))
 fits-fields r =
-    let last = fits-then (λ v. Writes v (fixed_fields r)) (EmitsSized r.rdata) 8 _ (fits-bytes (fixed_fields r)) (fits-sized r.rdata) in
+    let last = fits-then (λ v. Writes v (type_class_ttl r)) (EmitsSized r.rdata) 8 _ (fits-bytes (type_class_ttl r)) (fits-sized r.rdata) in
     fits-then (EmitsName r.owner) _ _ _ (fits-name r.owner) last
 
 pub records_fit : RecordsFit

@@ -16,7 +16,7 @@ use Rattle.dnw_record.specs.declared.record.WireRecord.{WireRecord}
 use Rattle.dnw_record.specs.declared.record.WireData.{WireData}
 use Rattle.dnw_record.specs.declared.record.WireData.TheVariants.{Bytes, Name}
 use Rattle.dnw_record.specs.Records.{length_field, record_of, type_field, class_field, ttl_field}
-use Rattle.dnw_record.specs.WrittenRecords.{EmitsData, fixed_fields}
+use Rattle.dnw_record.specs.WrittenRecords.{EmitsData, type_class_ttl}
 use Rattle.dnw_record.specs.RecordFrames.{frame-data, frame-grows, frame-record, frame-reserved}
 use Rattle.dnw_record.specs.RecordLaws.{HasBytes, RecordsAreRead, RecordsLie, fields_of}
 use Rattle.dnw_record.proofs.Writing.{data-bounded}
@@ -48,11 +48,11 @@ placed v b b' o o' bytes offset =
     ap (λ (x : List ℕ). record v { bytes = x; offset = o }) bytes ∙ ap (λ (n : ℕ). record v { bytes = b'; offset = n }) offset
 
 -- The fixed fields are written at the end as three numbers in turn.
-pub fields-apart : (r : WireRecord) (a d : Encoder) → a.offset ≡ length a.bytes → Writes a (fixed_fields r) (Ok tt) d
+pub fields-apart : (r : WireRecord) (a d : Encoder) → a.offset ≡ length a.bytes → Writes a (type_class_ttl r) (Ok tt) d
     → (b : Encoder) × Writes a (to_be_bytes w16 (type_code r.record_type)) (Ok tt) b
     × (c : Encoder) × Writes b (to_be_bytes w16 (class_code r.class)) (Ok tt) c × Writes c (to_be_bytes w32 r.ttl) (Ok tt) d
 fields-apart r a d e (room, is) =
-    let eight = fixed_fields r in
+    let eight = type_class_ttl r in
     let ks = to_be_bytes w16 (type_code r.record_type) in
     let cs = to_be_bytes w16 (class_code r.class) in
     let ts = to_be_bytes w32 r.ttl in
@@ -74,7 +74,7 @@ records_lie r v w e small h =
     let (a, owner, rest_a) = h in
     let (d, fixed, rest_d) = rest_a in
     let (room, u, one, is) = rest_d in
-    let eight = fixed_fields r in
+    let eight = type_class_ttl r in
     let fa = frame-name r.owner v (Ok tt) a e owner in
     let fd = frame a eight (Ok tt) d fa.ends fixed in
     let fr = frame-reserved d fd.ends in

@@ -10,11 +10,11 @@ use Rattle.dnw_record.proofs.Fitting.{done-name}
 use Rattle.dnw_record.specs.declared.record.WireRecord.{WireRecord}
 use Rattle.dnw_record.specs.declared.record.WireData.{WireData}
 use Rattle.dnw_record.specs.declared.record.WireData.TheVariants.{Bytes, Name}
-use Rattle.dnw_record.specs.WrittenRecords.{EmitsData, EmitsFields, EmitsSized, fixed_fields, in_encoding}
+use Rattle.dnw_record.specs.WrittenRecords.{EmitsData, EmitsFields, EmitsSized, type_class_ttl, in_encoding}
 
 -- all fields but the last are written, and then the last
 pub fields-on : (r : WireRecord) (v a d : Encoder) (outcome : Outcome) (w : Encoder) → EmitsName r.owner v (Ok tt) a
-    → Writes a (fixed_fields r) (Ok tt) d → EmitsSized r.rdata d outcome w → EmitsFields r v outcome w
+    → Writes a (type_class_ttl r) (Ok tt) d → EmitsSized r.rdata d outcome w → EmitsFields r v outcome w
 fields-on r v a d (Ok tt) w owner fixed rdata = (a, owner, (d, fixed, rdata))
 fields-on r v a d (Err error) w owner fixed rdata = inr (a, owner, inr (d, fixed, rdata))
 

@@ -14,7 +14,7 @@ use Rattle.dnw_encoder.specs.Marks.{mark_of, rewound}
 use Rattle.dnw_record.specs.declared.record.WireRecord.{WireRecord}
 use Rattle.dnw_record.specs.declared.record.WireData.{WireData}
 use Rattle.dnw_record.specs.declared.record.WireData.TheVariants.{Bytes, Name}
-use Rattle.dnw_record.specs.WrittenRecords.{Write, Then, EmitsData, EmitsSized, EmitsFields, EmitsRecord, fixed_fields, in_encoding}
+use Rattle.dnw_record.specs.WrittenRecords.{Write, Then, EmitsData, EmitsSized, EmitsFields, EmitsRecord, type_class_ttl, in_encoding}
 
 -- what writes keep that begin at the buffer's end
 abbrev pub KeepsFrame : Write → Type 0
@@ -112,8 +112,8 @@ frame-sized rdata v (Err error) w e (inr h) =
 
 pub frame-fields : (r : WireRecord) → KeepsFrame (EmitsFields r)
 frame-fields r =
-    let fields : KeepsFrame (λ v. Writes v (fixed_fields r)) = λ v outcome w e h. frame v (fixed_fields r) outcome w e h in
-    let last = frame-then (λ v. Writes v (fixed_fields r)) (EmitsSized r.rdata) fields (frame-sized r.rdata) in
+    let fields : KeepsFrame (λ v. Writes v (type_class_ttl r)) = λ v outcome w e h. frame v (type_class_ttl r) outcome w e h in
+    let last = frame-then (λ v. Writes v (type_class_ttl r)) (EmitsSized r.rdata) fields (frame-sized r.rdata) in
     frame-then (EmitsName r.owner) _ (λ v outcome w e h. frame-name r.owner v outcome w e h) last
 
 frame-rewound : (v u : Encoder) (error : ProtoError) → Frame v (Err error) u → Frame v (Err error) (rewound u (mark_of v))

@@ -52,12 +52,12 @@ EmitsSized rdata v (Err error) w =
 -- ---- records
 
 -- the type, the class and the time to live
-abbrev pub fixed_fields : WireRecord → List ℕ
-fixed_fields r = to_be_bytes w16 (type_code r.record_type) ++ (to_be_bytes w16 (class_code r.class) ++ to_be_bytes w32 r.ttl)
+abbrev pub type_class_ttl : WireRecord → List ℕ
+type_class_ttl r = to_be_bytes w16 (type_code r.record_type) ++ (to_be_bytes w16 (class_code r.class) ++ to_be_bytes w32 r.ttl)
 
 -- the owner, the type, the class, the time to live, and the data with their length
 abbrev pub EmitsFields : Emits WireRecord
-EmitsFields r = Then (EmitsName r.owner) (Then (λ v. Writes v (fixed_fields r)) (EmitsSized r.rdata))
+EmitsFields r = Then (EmitsName r.owner) (Then (λ v. Writes v (type_class_ttl r)) (EmitsSized r.rdata))
 
 -- A record is written whole, or undone whole: then the encoder is back at its mark, whichever field failed.
 abbrev pub EmitsRecord : Emits WireRecord

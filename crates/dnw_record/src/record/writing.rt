@@ -2,7 +2,7 @@
 ghost use Rattle.std.specs.Prelude.{◌≡◌};
 ghost use Rattle.dnw_encoder.specs.Encoder.{mode_of_rdata};
 ghost use Rattle.dnw_encoder.specs.EncoderValue.{value, lender};
-ghost use Rattle.dnw_record.specs.WrittenRecords.{EmitsData, EmitsDataName, EmitsSized, EmitsFields, EmitsRecord, fixed_fields};
+ghost use Rattle.dnw_record.specs.WrittenRecords.{EmitsData, EmitsDataName, EmitsSized, EmitsFields, EmitsRecord, type_class_ttl};
 ghost use Rattle.dnw_record.specs.RecordFrames.{frame-data, frame-record};
 
 use super::{WireData, WireRecord};
@@ -48,14 +48,14 @@ fn emit_fields(item: &WireRecord, encoder: &mut BinEncoder<'_>) -> ProtoResult<(
     ensures lender { lender encoder.new ≡ lender encoder.old }
 {
     item.owner.emit(encoder)?;
-    encoder.emit_vec(&fixed_fields(item))?;
+    encoder.emit_vec(&type_class_ttl(item))?;
     emit_sized(&item.rdata, encoder)
 }
 
 /// Returns the type, the class and the time to live, as they are written.
 #[inline(always)]
-fn fixed_fields(item: &WireRecord) -> [u8; 8]
-    ensures { result ≡ fixed_fields item.now }
+fn type_class_ttl(item: &WireRecord) -> [u8; 8]
+    ensures { result ≡ type_class_ttl item.now }
 {
     let kind = u16::to_be_bytes(u16::from(item.record_type));
     let class = u16::to_be_bytes(u16::from(item.class));
