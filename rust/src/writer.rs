@@ -12,9 +12,8 @@ const STANDARD_NAME: u8 = 3;
 const CANONICAL_NAME: u8 = 4;
 const OTHER_NAME: u8 = 5;
 
-/// For how many bytes of items, and how many parts, there is room at first.
+/// For how many bytes of items there is room at first.
 const USUAL_SIZE: usize = 512;
-const USUAL_PARTS: usize = 16;
 
 /// Writes a message: its header, questions, records and names, each name compressed by those before it (RFC 1035, section
 /// 4.1.4).
@@ -40,11 +39,23 @@ const USUAL_PARTS: usize = 16;
 #[derive(Clone, Debug)]
 pub struct MessageWriter {
     /// What `dnw_message_write` takes.
-    items: Vec<u8>,
-    /// How many items there are after each part, and the bytes of these.
-    parts: Vec<(usize, usize)>,
+    list: Vec<u8>,
+    /// How many items the list has, and how many parts they are.
+    items: usize,
+    parts: usize,
+    /// The parts that are not one item each.
+    joined: Vec<Joined>,
     max_size: u16,
     is_canonical: bool,
+}
+
+/// A part of no item or of more than one.
+#[derive(Clone, Debug)]
+struct Joined {
+    /// How many items there are before it, and how many bytes of the list.
+    before: usize,
+    start: usize,
+    items: usize,
 }
 
 impl MessageWriter {
@@ -55,8 +66,8 @@ impl MessageWriter {
 
     /// Returns a writer of messages of at most `max_size` bytes.
     pub fn with_max_size(max_size: u16) -> Self {
-        let (items, parts) = (Vec::with_capacity(USUAL_SIZE), Vec::with_capacity(USUAL_PARTS));
-        MessageWriter { items, parts, max_size, is_canonical: false }
+        let list = Vec::with_capacity(USUAL_SIZE);
+        MessageWriter { list, items: 0, parts: 0, joined: Vec::new(), max_size, is_canonical: false }
     }
 
     /// Sets whether the names in records' data are written in canonical form (RFC 4034, section 6.2).
@@ -67,25 +78,25 @@ impl MessageWriter {
 
     /// Adds a name. That it is fully qualified is not written.
     pub fn push(&mut self, name: &Name) -> &mut Self {
-        self.items.push(NAME);
-        self.items.extend_from_slice(name.as_wire());
-        self.ends_part(1)
+        self.add_name(name);
+        self.ends_part()
     }
 
     /// Adds bytes as they are, as a message's header.
     pub fn bytes(&mut self, bytes: &[u8]) -> &mut Self {
-        let count = self.add_bytes(bytes);
-        self.ends_part(count)
+        let start = self.list.len();
+        let items = self.add_bytes(bytes);
+        self.ends_joined(start, items)
     }
 
     /// Adds a question (RFC 1035, section 4.1.2).
     pub fn question(&mut self, name: &Name, record_type: RecordType, class: Class) -> &mut Self {
-        self.items.push(NAME);
-        self.items.extend_from_slice(name.as_wire());
+        let start = self.list.len();
+        self.add_name(name);
         let [type_high, type_low] = u16::from(record_type).to_be_bytes();
         let [class_high, class_low] = u16::from(class).to_be_bytes();
-        let count = self.add_bytes(&[type_high, type_low, class_high, class_low]);
-        self.ends_part(1 + count)
+        let items = 1 + self.add_bytes(&[type_high, type_low, class_high, class_low]);
+        self.ends_joined(start, items)
     }
 
     /// Adds a record, of which the data are written as they are.
@@ -131,7 +142,7 @@ impl MessageWriter {
     /// `MessageTooLong` if it would be longer than the maximum, or `NoMemory`.
     pub fn finish(&self) -> Result<Vec<u8>, Error> {
         match self.finish_truncated()? {
-            (message, count) if count == self.parts.len() => Ok(message),
+            (message, parts) if parts == self.parts => Ok(message),
             _ => Err(Error::MessageTooLong),
         }
     }
@@ -144,28 +155,67 @@ impl MessageWriter {
     /// `NoMemory`.
     pub fn finish_truncated(&self) -> Result<(Vec<u8>, usize), Error> {
         // An item takes no more octets in a message than in the list.
-        let mut message = vec![0; self.items.len().min(self.max_size.into())];
-        let (mut written, is_whole) = door::write_message(&self.items, self.max_size, self.is_canonical, &mut message)?;
-        let whole = self.parts.iter().take_while(|(count, _)| *count <= written.count).count();
-        let (count, end) = whole.checked_sub(1).map_or((0, 0), |last| self.parts[last]);
-        if !is_whole && count < written.count {
-            // A part is not left in the middle.
-            (written, _) = door::write_message(&self.items[..end], self.max_size, self.is_canonical, &mut message)?;
+        let mut message = vec![0; self.list.len().min(self.max_size.into())];
+        let (written, is_whole) = self.write(self.list.len(), &mut message)?;
+        let (parts, cut) = if is_whole { (self.parts, None) } else { self.whole_parts(written.count) };
+        let len = match cut {
+            None => written.len,
+            Some(part) => self.write(part.start, &mut message)?.0.len,
+        };
+        message.truncate(len);
+        Ok((message, parts))
+    }
+
+    /// Removes all that was added, and keeps the memory for another message.
+    ///
+    /// ```
+    /// use dns_names_wire::{MessageWriter, Name};
+    ///
+    /// let mut writer = MessageWriter::new();
+    /// writer.push(&"a.".parse()?).clear();
+    /// assert_eq!(writer.push(&Name::root()).finish()?, b"\0");
+    /// # Ok::<(), dns_names_wire::Error>(())
+    /// ```
+    pub fn clear(&mut self) -> &mut Self {
+        self.list.clear();
+        self.joined.clear();
+        (self.items, self.parts) = (0, 0);
+        self
+    }
+
+    /// Returns how many whole parts the first items are, and the part in the middle of which they end.
+    fn whole_parts(&self, items: usize) -> (usize, Option<&Joined>) {
+        let mut parts = items;
+        for part in &self.joined {
+            if part.before + part.items <= items {
+                parts = parts + 1 - part.items;
+            } else if part.before < items {
+                return (parts - (items - part.before), Some(part));
+            }
         }
-        message.truncate(written.len);
-        Ok((message, whole))
+        (parts, None)
+    }
+
+    /// Writes the items in the first bytes of the list.
+    fn write(&self, end: usize, message: &mut [u8]) -> Result<(door::WrittenMessage, bool), Error> {
+        door::write_message(&self.list[..end], self.max_size, self.is_canonical, message)
+    }
+
+    fn add_name(&mut self, name: &Name) {
+        self.list.push(NAME);
+        self.list.extend_from_slice(name.as_wire());
     }
 
     /// Adds items of bytes, and returns how many.
     fn add_bytes(&mut self, bytes: &[u8]) -> usize {
         let chunks = bytes.chunks(u16::MAX.into());
-        let count = chunks.len();
+        let items = chunks.len();
         for chunk in chunks {
-            self.items.push(BYTES);
-            self.items.extend_from_slice(&(chunk.len() as u16).to_be_bytes());
-            self.items.extend_from_slice(chunk);
+            self.list.push(BYTES);
+            self.list.extend_from_slice(&(chunk.len() as u16).to_be_bytes());
+            self.list.extend_from_slice(chunk);
         }
-        count
+        items
     }
 
     fn add_record(
@@ -175,20 +225,30 @@ impl MessageWriter {
         len: u16,
         data: &[u8],
     ) -> &mut Self {
-        self.items.push(kind);
-        self.items.extend_from_slice(owner.as_wire());
-        self.items.extend_from_slice(&u16::from(record_type).to_be_bytes());
-        self.items.extend_from_slice(&u16::from(class).to_be_bytes());
-        self.items.extend_from_slice(&ttl.to_be_bytes());
-        self.items.extend_from_slice(&len.to_be_bytes());
-        self.items.extend_from_slice(data);
-        self.ends_part(1)
+        self.list.push(kind);
+        self.list.extend_from_slice(owner.as_wire());
+        self.list.extend_from_slice(&u16::from(record_type).to_be_bytes());
+        self.list.extend_from_slice(&u16::from(class).to_be_bytes());
+        self.list.extend_from_slice(&ttl.to_be_bytes());
+        self.list.extend_from_slice(&len.to_be_bytes());
+        self.list.extend_from_slice(data);
+        self.ends_part()
     }
 
-    /// A part ends here, which has so many items.
-    fn ends_part(&mut self, items: usize) -> &mut Self {
-        let before = self.parts.last().map_or(0, |(count, _)| *count);
-        self.parts.push((before + items, self.items.len()));
+    /// A part of one item ends here.
+    fn ends_part(&mut self) -> &mut Self {
+        self.items += 1;
+        self.parts += 1;
+        self
+    }
+
+    /// A part of so many items ends here, which began at this byte of the list.
+    fn ends_joined(&mut self, start: usize, items: usize) -> &mut Self {
+        if items != 1 {
+            self.joined.push(Joined { before: self.items, start, items });
+        }
+        self.items += items;
+        self.parts += 1;
         self
     }
 }

@@ -55,6 +55,22 @@ fn what_does_not_fit_is_left_out_whole() {
     assert_eq!(bytes.finish_truncated(), Ok((vec![7; 65535], 1)));
 }
 
+#[test]
+fn parts_of_two_items_and_of_none_are_whole_or_left_out() {
+    let write = |max_size| {
+        let mut writer = MessageWriter::with_max_size(max_size);
+        let (kind, class) = (RecordType::from(1), Class::from(1));
+        writer.bytes(&[0; 12]).question(&name("a."), kind, class).question(&name("b."), kind, class);
+        writer.bytes(b"").push(&name("c."));
+        writer.finish_truncated().map(|(message, parts)| (message.len(), parts))
+    };
+    for (max_size, len, parts) in
+        [(29, 29, 5), (28, 26, 4), (26, 26, 4), (25, 19, 2), (21, 19, 2), (18, 12, 1), (11, 0, 0)]
+    {
+        assert_eq!(write(max_size), Ok((len, parts)), "{max_size}");
+    }
+}
+
 /// The names of NS, DNAME and a private type, in and out of canonical form (RFC 3597, section 4; RFC 4034, section 6.2).
 #[test]
 fn types_decide_how_their_names_are_written() {

@@ -22,6 +22,7 @@ pub use Rattle.dnw_base.specs.Names
 pub use Rattle.dnw_base.specs.Verified
 pub use Rattle.dnw_label.specs.LabelText
 pub use Rattle.dnw_label.specs.LabelOrder
+pub use Rattle.dnw_reading.specs.Buffers
 pub use Rattle.dnw_reading.specs.Reading
 pub use Rattle.dnw_reading.specs.ReadingLaws
 pub use Rattle.dnw_form.specs.Edits

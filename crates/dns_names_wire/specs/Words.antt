@@ -45,6 +45,7 @@ pub use Rattle.dnw_usage.specs.AddressTexts.{ReadsIp}
 -- Reading a message.
 pub use Rattle.dnw_base.specs.Decoder.{Decoder, Takes, TakesCopy, advanced, next_bytes}
 pub use Rattle.dnw_reading.specs.Reading.{Reads, Stops, NameAt, FaultAt, TakesName, StopsAt, target}
+pub use Rattle.dnw_reading.specs.Buffers.{put}
 pub use Rattle.dnw_name.specs.Decodable.{LacksBytes, StopsSomehow, TakesU16, TakesU32, TakesI32, TakesNameValue}
 pub use Rattle.dnw_reading.specs.ReadingLaws.{NameOrFault, NotBoth, OneName, OneFault, ReadsBack, StandsBefore, StandsWider}
 pub use Rattle.dnw_reading.specs.ReadingLaws.{NameSteps, FaultSteps, OwnOctets}

@@ -1,5 +1,5 @@
 -- A list of items, written item by item.
-use Rattle.std.proofs.Common.{◌≡◌, ℕ, ◌+◌, ◌<◌, ◌≤◌, Option, List, length, Ok, Err, ap, ◌∙◌, refl, arith}
+use Rattle.std.proofs.Common.{◌≡◌, true, ℕ, ◌+◌, ◌<◌, ◌≤◌, Option, List, length, Ok, Err, ap, ◌∙◌, refl, arith}
 use Rattle.std.specs.Borrow.{GName}
 use Rattle.dnw_error.specs.declared.error.ProtoError.{ProtoError}
 use Rattle.dnw_error.specs.declared.error.ProtoError.TheVariants.{MaxBufferSizeExceeded, Memory}
@@ -18,7 +18,7 @@ use Rattle.dnw_c.proofs.RecordEnds.{record-own}
 -- an item that is written at the buffer's end ends there
 pub item_ends : (item : Item) (v w : Encoder) → v.offset ≡ length v.bytes → EmitsItem item v (Ok tt) w → w.offset ≡ length w.bytes
 item_ends (Bytes bytes) v w e h = (frame v bytes.now (Ok tt) w e h).ends
-item_ends (Name name) v w e h = (frame-name name v (Ok tt) w e h).ends
+item_ends (Name labels) v w e h = (frame-name (record { is_fqdn = true; labels = labels }) v (Ok tt) w e h).ends
 item_ends (Record r) v w e h = (frame-record r v (Ok tt) w e h).ends
 
 -- a name that is not written changes nothing
@@ -32,7 +32,7 @@ name-unchanged v labels choice error w h = absurd h
 pub item_undone : (item : Item) (v w : Encoder) (error : ProtoError) → v.offset ≡ length v.bytes → EmitsItem item v (Err error) w
     → w.bytes ≡ v.bytes
 item_undone (Bytes bytes) v w error e h = ap (λ (x : Encoder). x.bytes) (fails-unchanged v bytes.now error w h)
-item_undone (Name name) v w error e h = ap (λ (x : Encoder). x.bytes) (name-unchanged v (in_mode v.encoding name.labels) h.choice error w h.written_as)
+item_undone (Name labels) v w error e h = ap (λ (x : Encoder). x.bytes) (name-unchanged v (in_mode v.encoding labels) h.choice error w h.written_as)
 item_undone (Record r) v w error e (u, fields, is) =
     ap (λ (x : Encoder). x.bytes) is ∙ (frame-fields r v (Err error) u e fields).bytes
 
@@ -41,7 +41,7 @@ pub item_onward : (item : Item) (d after : Decoder) → TakesItem d item after
     → (d.index < after.index) × (after.index ≤ length after.bytes) × (after.bytes ≡ d.bytes)
 item_onward (Bytes bytes) d after (kind, (has, is, moved)) =
     rw moved (omega arith, omega (arith, has), refl)
-item_onward (Name name) d after (kind, (flag, k, takes)) =
+item_onward (Name labels) d after (kind, (k, takes)) =
     let further = takes-onward takes in
     (omega (arith, further), takes-within takes, ap (λ (x : Decoder). x.bytes) takes.moved)
 item_onward (Record r) d after (how, kind, x, (e, at, moved), is) =

@@ -7,7 +7,8 @@ use Rattle.std.specs.Int.{w16, from_be_bytes}
 use Rattle.dnw_error.specs.declared.error.DecodeError.{DecodeError}
 use Rattle.dnw_error.specs.declared.error.ProtoError.{ProtoError}
 use Rattle.dnw_base.specs.Decoder.{Decoder, HasLeft, next_bytes, advanced}
-use Rattle.dnw_name.specs.Decodable.{TakesNameValue, StopsSomehow}
+use Rattle.dnw_reading.specs.Reading.{TakesName}
+use Rattle.dnw_name.specs.Decodable.{StopsSomehow}
 use Rattle.dnw_encoder.specs.Encoder.{Encoder, Writes, fresh}
 use Rattle.dnw_encoder.specs.Emitting.{Outcome}
 use Rattle.dnw_encoder.specs.EmittedName.{EmitsName}
@@ -79,7 +80,7 @@ IsRecord how x r =
 -- The next item of a list is taken.
 abbrev pub TakesItem : Decoder → Item → Decoder → Type 0
 TakesItem d (Bytes bytes) after = IsKind d Kinds.Bytes × TakesBlock (advanced d 1) bytes.now after
-TakesItem d (Name name) after = IsKind d Kinds.Name × TakesNameValue (advanced d 1) name after
+TakesItem d (Name labels) after = IsKind d Kinds.Name × ((k : ℕ) × TakesName (advanced d 1) after labels k)
 TakesItem d (Record r) after =
     (how : Option RDataEncoding) × IsKind d (Kinds.Record how) × (x : RecordValue) × TakesRecord (advanced d 1) x after
     × IsRecord how x r
@@ -109,7 +110,7 @@ FailsToTakeItem d failure =
 -- how an item is written
 abbrev pub EmitsItem : Item → Encoder → Outcome → Encoder → Type 0
 EmitsItem (Bytes bytes) v outcome w = Writes v bytes.now outcome w
-EmitsItem (Name name) v outcome w = EmitsName name v outcome w
+EmitsItem (Name labels) v outcome w = EmitsName (record { is_fqdn = true; labels = labels }) v outcome w
 EmitsItem (Record r) v outcome w = EmitsRecord r v outcome w
 
 -- a new encoder of a message of that size at most, in canonical form or not

@@ -2,7 +2,8 @@
 ghost use Rattle.std.specs.Prelude.{◌≡◌, ◌≢◌, ◌<◌, ◌≤◌, ℕ, true, false, Ok, length, IfOk, IfErr, OnOk, OnErr};
 ghost use Rattle.dnw_error.specs.declared.error.DecodeError.{DecodeError};
 ghost use Rattle.dnw_base.specs.Decoder.{advanced};
-ghost use Rattle.dnw_name.specs.Decodable.{StopsSomehow, TakesNameValue};
+ghost use Rattle.dnw_name.specs.Decodable.{StopsSomehow};
+ghost use Rattle.dnw_reading.specs.Reading.{TakesName};
 ghost use Rattle.dnw_record.specs.Records.{RecordValue, TakesRecord};
 ghost use Rattle.dnw_encoder.specs.Encoder.{Encoder};
 ghost use Rattle.dnw_encoder.specs.EncoderValue.{value, lender};
@@ -17,7 +18,7 @@ use dns_names_wire::binary::{BinDecodable, BinEncodable};
 use dns_names_wire::decoder::BinDecoder;
 use dns_names_wire::encoder::{BinEncoder, RDataEncoding};
 use dns_names_wire::error::ProtoResult;
-use dns_names_wire::name::Name;
+use dns_names_wire::name_ref::NameRef;
 use dns_names_wire::record::{RecordRef, WireData, WireRecord};
 use std::alloc::Global;
 
@@ -46,7 +47,7 @@ enum Item<'a> {
     /// Bytes as they are.
     Bytes(&'a [u8]),
     /// A name, compressed.
-    Name(Name),
+    Name(NameRef<'a>),
     /// A record.
     Record(WireRecord),
 }
@@ -183,7 +184,8 @@ fn write_next(
     }
 }
 
-/// Writes an item.
+/// Writes an item. It is inlined, as `read_item` is, so that an item is not moved as a value as large as a record.
+#[inline(always)]
 fn emit_item(item: &Item<'_>, encoder: &mut BinEncoder<'_>) -> ProtoResult<()>
     ensures emits { EmitsItem item.now (value encoder.old) result (value encoder.new) }
     ensures lender { lender encoder.new ≡ lender encoder.old }
@@ -196,6 +198,7 @@ fn emit_item(item: &Item<'_>, encoder: &mut BinEncoder<'_>) -> ProtoResult<()>
 }
 
 /// Reads the item at the cursor of a list.
+#[inline(always)]
 fn read_item<'a>(alloc: Global, decoder: &mut BinDecoder<'a>) -> Result<Item<'a>, Failure>
     requires left { decoder.old.index < length decoder.old.bytes }
     ensures ok { IfOk result (λ item. TakesItem decoder.old item decoder.new) }
@@ -203,7 +206,7 @@ fn read_item<'a>(alloc: Global, decoder: &mut BinDecoder<'a>) -> Result<Item<'a>
 {
     match read_kind(decoder)? {
         Kind::Bytes => Ok(Item::Bytes(read_block(decoder)?)),
-        Kind::Name => Ok(Item::Name(read_name(alloc, decoder)?)),
+        Kind::Name => Ok(Item::Name(read_name(decoder)?)),
         Kind::Record(how) => Ok(Item::Record(read_record(alloc, how, decoder)?)),
     }
 }
@@ -241,14 +244,14 @@ fn read_block<'a>(decoder: &mut BinDecoder<'a>) -> Result<&'a [u8], Failure>
 }
 
 /// Reads a name.
-fn read_name(alloc: Global, decoder: &mut BinDecoder<'_>) -> Result<Name, Failure>
-    ensures ok { IfOk result (λ name. TakesNameValue decoder.old name decoder.new) }
+fn read_name<'a>(decoder: &mut BinDecoder<'a>) -> Result<NameRef<'a>, Failure>
+    ensures ok { IfOk result (λ name. (k : ℕ) × TakesName decoder.old decoder.new name k) }
     ensures err { IfErr result (λ failure. ((error : DecodeError) × StopsSomehow decoder.old error) × (failure ≡ BadItem)) }
 {
-    match Name::read(alloc, decoder) {
-        Ok(name) => Ok(name),
-        Err(_) => Err(Failure::BadItem),
-    }
+    let Ok(name) = NameRef::read(decoder) else {
+        return Err(Failure::BadItem);
+    };
+    Ok(name)
 }
 
 /// Reads a record, of which the data are bytes, or a name that is written in a way.

@@ -23,6 +23,7 @@ use dns_names_wire::decoder::BinDecoder;
 use dns_names_wire::encoder::BinEncoder;
 use dns_names_wire::error::DecodeError;
 use dns_names_wire::name::Name;
+use dns_names_wire::name_ref::NameRef;
 use std::alloc::Global;
 
 /// A name that was read: the number of bytes that were put, and the offset after the name's own octets.
@@ -52,7 +53,6 @@ pub struct WrittenNames {
 /// Reads the name at an offset of a message, and puts its wire form. It does not allocate.
 #[unsafe(no_mangle)]
 pub extern "C" fn dnw_name_read(
-    alloc: Global,
     message: &[u8],
     start: usize,
     form: &mut [u8],
@@ -63,7 +63,7 @@ pub extern "C" fn dnw_name_read(
     ensures err { result ≢ 0 → NumberOf (FailsToRead message.now start (length form.old)) result }
     ensures same { result ≢ 0 → (form.new ≡ form.old) × (read.new ≡ read.old) }
 {
-    match read_form(alloc, message, start, form) {
+    match read_form(message, start, form) {
         Ok(name) => {
             *read = name;
             0
@@ -177,20 +177,15 @@ pub extern "C" fn dnw_error_text(code: u32, text: &mut [u8]) -> usize
 }
 
 /// Reads the name at an offset, and puts its wire form.
-fn read_form(
-    alloc: Global,
-    message: &[u8],
-    start: usize,
-    form: &mut [u8],
-) -> Result<ReadName, Failure>
+fn read_form(message: &[u8], start: usize, form: &mut [u8]) -> Result<ReadName, Failure>
     ensures ok { IfOk result (λ r. (labels : List (List ℕ)) × (k : ℕ) × NameAt message.now start labels r.end k
         × (form.new ≡ put form.old (wire labels)) × (r.len ≡ length (wire labels))) }
     ensures err { IfErr result (FailsToRead message.now start (length form.old)) }
     ensures same { OnErr result (form.new ≡ form.old) }
 {
-    match name_at(alloc, message, start) {
+    match name_ref_at(message, start) {
         Ok((name, end)) => {
-            let len = put(form, name.as_wire())?;
+            let len = put_name(form, &name)?;
             Ok(ReadName { len, end })
         }
         Err(error) => Err(of_decode(&error)),
@@ -288,9 +283,19 @@ pub(crate) fn name_at(
     ensures ok { IfOk result (λ r. (r.0.is_fqdn ≡ true) × (k : ℕ) × NameAt message.now start r.0.labels r.1 k) }
     ensures err { IfErr result (λ error. (k : ℕ) × (j : ℕ) × FaultAt message.now start error k j) }
 {
+    let (name, end) = name_ref_at(message, start)?;
+    Ok((name.to_name(alloc).unwrap(), end))
+}
+
+/// Returns the name at an offset, without a copy, and the offset after its own octets.
+#[inline(always)]
+pub(crate) fn name_ref_at(message: &[u8], start: usize) -> Result<(NameRef<'_>, usize), DecodeError>
+    ensures ok { IfOk result (λ r. (k : ℕ) × NameAt message.now start r.0 r.1 k) }
+    ensures err { IfErr result (λ error. (k : ℕ) × (j : ℕ) × FaultAt message.now start error k j) }
+{
     let mut decoder = BinDecoder::new(message);
     decoder.skip(start)?;
-    let name = Name::read(alloc, &mut decoder)?;
+    let name = NameRef::read(&mut decoder)?;
     Ok((name, decoder.index()))
 }
 
@@ -303,13 +308,13 @@ fn write_all(alloc: Global, names: &[u8], max_size: u16) -> Result<(Vec<u8>, usi
     let mut bytes = Vec::new(alloc);
     let mut encoder = BinEncoder::new(&mut bytes);
     encoder.set_max_size(max_size);
-    let count = write_names(alloc, names, &mut encoder)?;
+    let count = write_names(names, &mut encoder)?;
     drop(encoder);
     Ok((bytes, count))
 }
 
 /// Writes the names of a list, and returns their number.
-fn write_names(alloc: Global, names: &[u8], encoder: &mut BinEncoder<'_>) -> Result<usize, Failure>
+fn write_names(names: &[u8], encoder: &mut BinEncoder<'_>) -> Result<usize, Failure>
     ensures ok { IfOk result (λ count.
         WritesNames (at_first names.now) (value encoder.old) count (value encoder.new)) }
     ensures err { IfErr result (StopsWriting (at_first names.now) (value encoder.old)) }
@@ -318,18 +323,14 @@ fn write_names(alloc: Global, names: &[u8], encoder: &mut BinEncoder<'_>) -> Res
     let mut decoder = BinDecoder::new(names);
     let mut count = 0;
     'list: while !decoder.is_empty() {
-        write_next(alloc, &mut decoder, encoder)?;
+        write_next(&mut decoder, encoder)?;
         count += 1;
     }
     Ok(count)
 }
 
 /// Writes the name at the cursor of a list.
-fn write_next(
-    alloc: Global,
-    decoder: &mut BinDecoder<'_>,
-    encoder: &mut BinEncoder<'_>,
-) -> Result<(), Failure>
+fn write_next(decoder: &mut BinDecoder<'_>, encoder: &mut BinEncoder<'_>) -> Result<(), Failure>
     ensures ok { OnOk result ((name : NameValue) × TakesNameValue decoder.old name decoder.new
         × EmitsName name (value encoder.old) (Ok tt) (value encoder.new)) }
     ensures err { IfErr result (FailsToCopy decoder.old (value encoder.old)) }
@@ -338,7 +339,7 @@ fn write_next(
     ensures bytes { decoder.new.bytes ≡ decoder.old.bytes }
     ensures lender { lender encoder.new ≡ lender encoder.old }
 {
-    match Name::read(alloc, decoder) {
+    match NameRef::read(decoder) {
         Ok(name) => match name.emit(encoder) {
             Ok(()) => Ok(()),
             Err(error) => Err(of_proto(&error)),
@@ -359,6 +360,19 @@ pub(crate) fn put(buffer: &mut [u8], bytes: &[u8]) -> Result<usize, Failure>
     }
     buffer[..bytes.len()].copy_from_slice(bytes);
     Ok(bytes.len())
+}
+
+/// Puts the wire form of a name of a message, and returns its length.
+#[inline(always)]
+pub(crate) fn put_name(form: &mut [u8], name: &NameRef<'_>) -> Result<usize, Failure>
+    ensures ok { IfOk result (λ len. (len ≡ length (wire name.now)) × (form.new ≡ put form.old (wire name.now))) }
+    ensures err { IfErr result (λ failure. (failure ≡ NoRoom) × (length form.old < length (wire name.now))) }
+    ensures same { OnErr result (form.new ≡ form.old) }
+{
+    match name.copy_wire(form) {
+        Some(len) => Ok(len),
+        None => Err(Failure::NoRoom),
+    }
 }
 
 /// Puts the text of a name, and returns its length.

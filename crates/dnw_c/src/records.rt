@@ -5,7 +5,7 @@ ghost use Rattle.dnw_c.specs.Failures.{NumberOf};
 ghost use Rattle.dnw_c.specs.RecordCalls.{FailsToReadData, FailsToReadRecord, PutsDataName, PutsRecord, at_offset};
 
 use crate::failure::{Failure, of_decode};
-use crate::names::{name_at, put};
+use crate::names::{name_ref_at, put_name};
 use dns_names_wire::binary::BinDecodable;
 use dns_names_wire::decoder::BinDecoder;
 use dns_names_wire::error::DecodeError;
@@ -52,7 +52,6 @@ pub extern "C" fn dnw_record_read(
 /// not allocate.
 #[unsafe(no_mangle)]
 pub extern "C" fn dnw_record_data_name(
-    alloc: Global,
     message: &[u8],
     data_offset: usize,
     data_len: usize,
@@ -63,7 +62,7 @@ pub extern "C" fn dnw_record_data_name(
     ensures err { result ≢ 0 → NumberOf (FailsToReadData message.now data_offset data_len (length form.old)) result }
     ensures same { result ≢ 0 → (form.new ≡ form.old) × (len.new ≡ len.old) }
 {
-    match data_name(alloc, message, data_offset, data_len, form) {
+    match data_name(message, data_offset, data_len, form) {
         Ok(put) => {
             *len = put;
             0
@@ -82,10 +81,7 @@ fn read(alloc: Global, message: &[u8], start: usize, form: &mut [u8]) -> Result<
         Ok(found) => found,
         Err(error) => return Err(of_decode(&error)),
     };
-    let Ok(owner) = record.owner().to_name(alloc) else {
-        return Err(Failure::Other);
-    };
-    let owner_len = put(form, owner.as_wire())?;
+    let owner_len = put_name(form, record.owner())?;
     let data_len = record.rdata().len();
     Ok(ReadRecord {
         owner_len,
@@ -115,7 +111,6 @@ fn record_at<'r>(
 
 /// Puts the name that so many octets from an offset on are, and returns its length.
 fn data_name(
-    alloc: Global,
     message: &[u8],
     start: usize,
     data_len: usize,
@@ -125,12 +120,12 @@ fn data_name(
     ensures err { IfErr result (FailsToReadData message.now start data_len (length form.old)) }
     ensures same { OnErr result (form.new ≡ form.old) }
 {
-    match name_at(alloc, message, start) {
+    match name_ref_at(message, start) {
         Ok((name, end)) => {
             if end - start != data_len {
                 return Err(Failure::WrongDataLength);
             }
-            put(form, name.as_wire())
+            put_name(form, &name)
         }
         Err(error) => Err(of_decode(&error)),
     }

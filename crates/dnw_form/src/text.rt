@@ -1,5 +1,5 @@
 //! Names as text (RFC 1035, section 5.1, but with octal escapes).
-ghost use Rattle.std.specs.Prelude.{◌≡◌, ℕ, ◌+◌, ◌-◌, ◌*◌, ◌^◌, ◌<◌, ◌≤◌, List, [], ◌∷◌, ◌++◌, ◌==◌, length, map, take, true, Some, None, Ok, IfSome, IfOk, IfErr, OnOk, if◌then◌else◌, encode_utf8};
+ghost use Rattle.std.specs.Prelude.{◌≡◌, ℕ, ◌+◌, ◌-◌, ◌*◌, ◌^◌, ◌<◌, ◌≤◌, List, [], ◌∷◌, ◌++◌, ◌==◌, length, map, take, true, IsTrue, Some, None, Ok, IfSome, IfOk, IfErr, OnOk, if◌then◌else◌, encode_utf8};
 ghost use Rattle.std.specs.List.{AllByRecursion, join_with_byte, list_all};
 ghost use Rattle.std.specs.Str.{chars};
 ghost use Rattle.arrayvec.specs.ArrayString.{array_string_len};
@@ -16,7 +16,7 @@ use crate::wire_labels::WireLabels;
 use arrayvec::ArrayString;
 use dnw_base::limits::{MAX_LABEL, MAX_NAME};
 use dnw_error::error::{DecodeError, ProtoError, ProtoResult};
-use dnw_label::label::{Label, push_label_text};
+use dnw_label::label::{Label, is_label_text, push_label_text};
 use smallvec::SmallVec;
 use std::alloc::Global;
 use std::marker::Model;
@@ -186,13 +186,30 @@ fn octal_escape(text: &[u8]) -> Option<char>
 {
     match text {
         [b'\\', a, b, c, ..] => {
-            let a = octal_digit(char::from(*a))?;
-            let b = octal_digit(char::from(*b))?;
-            let c = octal_digit(char::from(*c))?;
+            let (a, b, c) = (digit_value(*a), digit_value(*b), digit_value(*c));
+            if !are_octal(a, b, c) {
+                return None;
+            }
             Some(octal_char(a, b, c))
         }
         _ => None,
     }
+}
+
+/// Returns the value of an octal digit, or more than 7 for any other byte.
+#[inline(always)]
+fn digit_value(digit: u8) -> u8
+    ensures { result < 8 → (is_octal_digit digit ≡ true) × (result ≡ digit - 48) }
+{
+    digit.wrapping_sub(b'0')
+}
+
+/// Returns `true` if all three are less than 8, by one comparison.
+#[inline(always)]
+fn are_octal(a: u8, b: u8, c: u8) -> bool
+    ensures { IsTrue result → (a < 8) × (b < 8) × (c < 8) }
+{
+    a | b | c < 8
 }
 
 /// Returns the character that three octal digits stand for.
@@ -264,6 +281,16 @@ impl Collected {
         } else if self.text.try_push(c).is_err() {
             self.more += c.len_utf8();
         }
+    }
+
+    /// Returns the bytes if they give a label and none is only counted.
+    fn as_label(&self) -> Option<&[u8]>
+        ensures { IfSome result (λ label. label_from_text self.now ≡ Ok label.now) }
+    {
+        if self.more == 0 && is_label_text(self.text.as_bytes()) {
+            return Some(self.text.as_bytes());
+        }
+        None
     }
 
     /// Returns the label that the bytes give.
@@ -426,11 +453,14 @@ impl TextReader {
     }
 }
 
-/// Adds the label that the bytes give.
+/// Adds the label that the bytes give. A `Label` is made only if they give none: for its error.
 fn add_label(form: &mut WireForm, alloc: Global, label: &Collected) -> ProtoResult<()>
     requires { length label.now < 2 ^ 64 }
     ensures updates { Updates (with_text form.old label.now) (NeedsErrorText (with_text form.old label.now)) form.old result form.new }
 {
+    if let Some(bytes) = label.as_label() {
+        return form.push(bytes);
+    }
     let label = label.to_label(alloc)?;
     form.push(label.as_bytes())
 }

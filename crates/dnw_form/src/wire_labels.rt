@@ -50,7 +50,8 @@ impl<'a> WireLabels<'a> {
     /// Copies the iterator.
     #[inline(always)]
     pub fn clone(&self) -> Self
-        ensures { result ≡ self.now }
+        ensures same { result ≡ self.now }
+        ensures labels { AreLabels self.now }
     {
         WireLabels { rest: self.rest }
     }

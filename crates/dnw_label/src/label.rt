@@ -167,7 +167,7 @@ impl Label {
 }
 
 /// Returns `true` if a text, as bytes, gives a label when it is not too long.
-fn is_label_text(text: &[u8]) -> bool
+pub fn is_label_text(text: &[u8]) -> bool
     ensures { result ≡ is_label_text text.now }
 {
     let Some((first, rest)) = text.split_first() else {
@@ -176,10 +176,19 @@ fn is_label_text(text: &[u8]) -> bool
     may_begin(*first) && all_may_follow(rest)
 }
 
+/// Returns `true` if each byte may follow the first one of a label's text. It goes by index, which takes half the
+/// instructions of an iterator.
 fn all_may_follow(text: &[u8]) -> bool
     ensures { result ≡ list_all may_follow text.now }
 {
-    text.iter().all(|b| may_follow(*b))
+    let mut index = 0;
+    while index < text.len() {
+        if !may_follow(text[index]) {
+            return false;
+        }
+        index += 1;
+    }
+    true
 }
 
 fn is_safe(c: u8) -> bool

@@ -1,7 +1,8 @@
 //! Names in a message, which are walked without copying.
-ghost use Rattle.std.specs.Prelude.{◌≡◌, ℕ, List, ◌+◌, ◌≤◌, ◌↔◌, true, min, [], length, Ok, IsTrue, IfOk, IfErr, OnErr, IsErrOf, IsOkAnd};
+ghost use Rattle.std.specs.Prelude.{◌≡◌, ℕ, List, ◌+◌, ◌<◌, ◌≤◌, ◌↔◌, true, min, [], length, Ok, IsTrue, IfOk, IfErr, IfSome, IfNone, OnErr, IsErrOf, IsOkAnd};
 ghost use Rattle.dnw_base.specs.Decoder.{Decoder};
 ghost use Rattle.dnw_base.specs.Limits.{max_labels, max_name, pointer_offsets};
+ghost use Rattle.dnw_reading.specs.Buffers.{put};
 ghost use Rattle.dnw_reading.specs.Reading.{TakesName, StopsAt};
 ghost use Rattle.dnw_base.specs.Names.{AreLabels, IsZoneOf, encoded_size, lower, wire};
 ghost use Rattle.dnw_reading.specs.Inside.Found.{labels_at};
@@ -12,6 +13,7 @@ use dnw_base::decoder::BinDecoder;
 use dnw_base::limits::MAX_NAME;
 use dnw_error::error::{DecodeError, ProtoResult};
 use dnw_form::form::WireForm;
+use dnw_form::wire_labels::WireLabels;
 use dnw_reading::copy;
 use dnw_reading::ref_labels::RefLabels;
 use dnw_reading::walk::{self, ReadSteps};
@@ -168,28 +170,70 @@ impl<'a> NameRef<'a> {
         Ok(self.copied(alloc))
     }
 
+    /// Returns the labels as an iterator over a wire form: over the message's own octets if no pointer follows the first
+    /// label, and else over a copy in `room`.
+    #[inline(always)]
+    pub fn wire_labels<'r>(&self, room: &'r mut [u8; MAX_NAME]) -> WireLabels<'r>
+    where
+        'a: 'r,
+        ensures { result ≡ self.now }
+    {
+        if self.in_one_piece {
+            return WireLabels::new(&self.message[self.first..self.first + self.size]);
+        }
+        copy::copy_runs(room, self.message, self.first);
+        WireLabels::new(&room[..self.size])
+    }
+
+    /// Copies the wire form to the front of a buffer, and returns its length (RFC 1035, section 3.1). Returns `None` if it
+    /// does not fit; the buffer is then unchanged. 255 octets are enough for any name.
+    #[inline(always)]
+    pub fn copy_wire(&self, out: &mut [u8]) -> Option<usize>
+        ensures some { IfSome result (λ len. (len ≡ encoded_size self.now) × (out.new ≡ put out.old (wire self.now))) }
+        ensures none { IfNone result ((length out.old < encoded_size self.now) × (out.new ≡ out.old)) }
+    {
+        let size = self.encoded_len();
+        if size > out.len() {
+            return None;
+        }
+        self.fill(out);
+        Some(size)
+    }
+
     /// Copies the name, as `to_name`.
     #[inline(always)]
     pub(crate) fn copied(&self, alloc: Global) -> Name
         ensures { result ≡ record { is_fqdn = true; labels = self.now } }
     {
-        let mut wire = SmallVec::new(alloc);
-        self.write_form(&mut wire);
-        Name::qualified(WireForm::from_wire(wire))
+        Name::qualified(WireForm::from_wire(self.form(alloc)))
     }
 
-    /// Writes the wire form: in one piece if no pointer follows the first label.
+    /// Returns the wire form: copied in one piece if no pointer follows the first label.
     #[inline(always)]
-    fn write_form(&self, out: &mut SmallVec<u8, MAX_NAME>)
-        requires inline { out.old.capacity ≡ max_name }
-        requires empty { out.old.items ≡ [] }
-        ensures form { out.new.items ≡ wire self.now }
+    fn form(&self, alloc: Global) -> SmallVec<u8, MAX_NAME>
+        ensures form { result.items ≡ wire self.now }
         ensures labels { AreLabels self.now }
-        ensures inline { out.new.capacity ≡ max_name }
+        ensures inline { result.capacity ≡ max_name }
     {
         if self.in_one_piece {
-            out.extend_from_slice(&self.message[self.first..self.first + self.size])
+            let mut form = SmallVec::new(alloc);
+            form.extend_from_slice(&self.message[self.first..self.first + self.size])
                 .unwrap();
+            return form;
+        }
+        let mut room = [0; MAX_NAME];
+        copy::copy_runs(&mut room, self.message, self.first);
+        SmallVec::from_buf_and_len(alloc, room, self.size)
+    }
+
+    /// Puts the wire form at the front of a buffer: in one piece if no pointer follows the first label.
+    #[inline(always)]
+    fn fill(&self, out: &mut [u8])
+        requires { encoded_size self.now ≤ length out.old }
+        ensures { out.new ≡ put out.old (wire self.now) }
+    {
+        if self.in_one_piece {
+            out[..self.size].copy_from_slice(&self.message[self.first..self.first + self.size]);
         } else {
             copy::copy_runs(out, self.message, self.first);
         }

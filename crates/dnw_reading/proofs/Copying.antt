@@ -93,12 +93,12 @@ module _ {b : List ℕ} {start run p : ℕ} {written : List ℕ} (h : Copies b s
   pub Copies-run : length (slice_range b run p) ≡ p - run
   Copies-run = let inside = Reads-inside h.reads in length-between b run p (omega arith)
 
-  -- what is to be written fits
-  pub Copies-fits : length written + (p - run) + length (wire h.labels) ≤ 255
-  Copies-fits =
+  -- what is written and what is not make the whole form
+  pub Copies-size : length written + (p - run) + length (wire h.labels) ≡ length (wire (labels_at b start))
+  Copies-size =
       let inside = Reads-inside h.reads in
       let order = h.order in
-      omega (arith, h.short, ap length h.whole, length-append written (slice_range b run p ++ wire h.labels), length-append (slice_range b run p) (wire h.labels), length-between b run p (omega arith))
+      omega (arith, ap length h.whole, length-append written (slice_range b run p ++ wire h.labels), length-append (slice_range b run p) (wire h.labels), length-between b run p (omega arith))
 
   -- the last run ends with the zero
   pub Copies-end : get_or b p 0 ≡ 0 → written ++ slice_range b run (p + 1) ≡ wire (labels_at b start)

@@ -7,6 +7,7 @@ pub mod Stand
 pub mod Counts
 pub mod Going
 pub mod Found
+pub mod Filling
 pub mod Leading
 pub mod Onward
 pub mod Takes

@@ -1,3 +1,4 @@
+pub mod Buffers
 pub mod Reading
 pub mod ReadingLaws
 pub mod Inside

@@ -1,6 +1,8 @@
 //! What is borrowed from a message, and not from the decoder that read it.
 
+use dns_names_wire::binary::BinEncodable;
 use dns_names_wire::decoder::BinDecoder;
+use dns_names_wire::encoder::{BinEncoder, NameEncoding};
 use dns_names_wire::error::DecodeError;
 use dns_names_wire::name_ref::NameRef;
 use dns_names_wire::restrict::Restrict;
@@ -34,5 +36,36 @@ fn a_borrowed_name_outlives_its_decoder(rt: HostRuntime) -> Result<(), Fail> {
     assert_eq!(rt; labels.len(), 1);
     assert_eq!(rt; labels.next(), Some(b"a".as_slice()));
     assert_eq!(rt; labels.next(), None);
+    Ok(())
+}
+
+#[test]
+fn a_borrowed_name_is_copied_into_a_buffer(rt: HostRuntime) -> Result<(), Fail> {
+    let message = hex::decode(rt.alloc(), "0162000161c000")?;
+    let name = name_at(message.as_slice(), 3).map_err(|_| "a name")?;
+    let mut buffer = [0xff; 6];
+    assert_eq!(rt; name.copy_wire(&mut buffer[..4]), None);
+    assert_eq!(rt; buffer, [0xff; 6]);
+    assert_eq!(rt; name.copy_wire(&mut buffer[..5]), Some(5));
+    assert_eq!(rt; buffer, *b"\x01a\x01b\x00\xff");
+    Ok(())
+}
+
+#[test]
+fn a_borrowed_name_is_written(rt: HostRuntime) -> Result<(), Fail> {
+    let message = hex::decode(rt.alloc(), "0142000161c000")?;
+    let name = name_at(message.as_slice(), 3).map_err(|_| "a name")?;
+    let mut bytes = Vec::new(rt.alloc());
+    let mut encoder = BinEncoder::new(&mut bytes);
+    name_at(message.as_slice(), 0)
+        .map_err(|_| "a name")?
+        .emit(&mut encoder)?;
+    name.emit(&mut encoder)?;
+    encoder.set_name_encoding(NameEncoding::UncompressedLowercase);
+    name.emit(&mut encoder)?;
+    assert_eq!(rt;
+        encoder.into_bytes().as_slice(),
+        b"\x01B\x00\x01a\xc0\x00\x01a\x01b\x00".as_slice()
+    );
     Ok(())
 }

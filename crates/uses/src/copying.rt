@@ -6,22 +6,17 @@ use dns_names_wire::binary::BinEncodable;
 use dns_names_wire::decoder::BinDecoder;
 use dns_names_wire::encoder::BinEncoder;
 use dns_names_wire::error::ProtoResult;
-use dns_names_wire::name::Name;
-use std::alloc::Global;
+use dns_names_wire::name_ref::NameRef;
 
-/// Copies the name at the cursor of one message to the offset of another, as a server does with a question's name. If it
-/// fails, the other message is unchanged.
-pub fn copy_name(
-    alloc: Global,
-    from: &mut BinDecoder<'_>,
-    to: &mut BinEncoder<'_>,
-) -> ProtoResult<()>
+/// Copies the name at the cursor of one message to the offset of another, as a server does with a question's name. No
+/// `Name` is made between them. If it fails, the other message is unchanged.
+pub fn copy_name(from: &mut BinDecoder<'_>, to: &mut BinEncoder<'_>) -> ProtoResult<()>
     ensures copied { OnOk result ((ls : List (List ℕ)) × (k : ℕ) × TakesName from.old from.new ls k
         × EmitsName (record { is_fqdn = true; labels = ls }) (value to.old) (Ok tt) (value to.new)) }
     ensures kept { OnErr result (value to.new ≡ value to.old) }
     ensures lender { lender to.new ≡ lender to.old }
 {
-    let name = Name::read(alloc, from)?;
+    let name = NameRef::read(from)?;
     name.emit(to)?;
     Ok(())
 }
@@ -43,7 +38,7 @@ mod tests {
         for _ in 0..2 {
             let mut decoder = BinDecoder::new(question.as_slice());
             decoder.skip(3).map_err(|_| "three bytes")?;
-            copy_name(alloc, &mut decoder, &mut encoder)?;
+            copy_name(&mut decoder, &mut encoder)?;
             assert_eq!(rt; decoder.index(), 7);
         }
         drop(encoder);

@@ -1,5 +1,5 @@
 //! How a name is written.
-ghost use Rattle.std.specs.Prelude.{◌≡◌};
+ghost use Rattle.std.specs.Prelude.{◌≡◌, true};
 ghost use Rattle.dnw_encoder.specs.EmittedName.{EmitsLabels, EmitsName};
 ghost use Rattle.dnw_encoder.specs.EncoderValue.{value, lender};
 ghost use Rattle.dnw_encoder.specs.NameFrames.{frame-name};
@@ -7,8 +7,10 @@ ghost use Rattle.dnw_base.specs.Names.{lower};
 
 use super::BinEncodable;
 use crate::encoder::{BinEncoder, NameEncoding};
+use dnw_base::limits::MAX_NAME;
 use dnw_error::error::ProtoResult;
 use dnw_name::name::Name;
+use dnw_name::name_ref::NameRef;
 
 impl BinEncodable for Name {
     ghost emits = { EmitsName };
@@ -19,7 +21,21 @@ impl BinEncodable for Name {
     fn emit(&self, encoder: &mut BinEncoder<'_>) -> ProtoResult<()> {
         match encoder.name_encoding() {
             NameEncoding::UncompressedLowercase => emit_lowercase(self, encoder),
-            _ => encoder.emit_name(self),
+            _ => encoder.emit_labels(&self.wire_labels()),
+        }
+    }
+}
+
+impl BinEncodable for NameRef<'_> {
+    ghost emits = { λ labels. EmitsName (record { is_fqdn = true; labels = labels }) };
+
+    ghost keeps_frame = { λ labels. frame-name (record { is_fqdn = true; labels = labels }) };
+
+    /// Writes the name as `Name` does: without a copy, unless pointers are between its labels or the mode is lower case.
+    fn emit(&self, encoder: &mut BinEncoder<'_>) -> ProtoResult<()> {
+        match encoder.name_encoding() {
+            NameEncoding::UncompressedLowercase => emit_ref_lowercase(self, encoder),
+            _ => emit_ref(self, encoder),
         }
     }
 }
@@ -31,5 +47,24 @@ fn emit_lowercase(name: &Name, encoder: &mut BinEncoder<'_>) -> ProtoResult<()>
     ensures writes { EmitsLabels (value encoder.old) (lower name.now.labels) result (value encoder.new) }
     ensures lender { lender encoder.new ≡ lender encoder.old }
 {
-    encoder.emit_name(&name.to_lowercase()?)
+    encoder.emit_labels(&name.to_lowercase()?.wire_labels())
+}
+
+/// Writes a borrowed name in its own case, from where it is if its labels are in one piece.
+#[inline(always)]
+fn emit_ref(name: &NameRef<'_>, encoder: &mut BinEncoder<'_>) -> ProtoResult<()>
+    ensures writes { EmitsLabels (value encoder.old) name.now result (value encoder.new) }
+    ensures lender { lender encoder.new ≡ lender encoder.old }
+{
+    encoder.emit_labels(&name.wire_labels(&mut [0; MAX_NAME]))
+}
+
+/// Writes a borrowed name in lower case.
+#[cold]
+#[inline(never)]
+fn emit_ref_lowercase(name: &NameRef<'_>, encoder: &mut BinEncoder<'_>) -> ProtoResult<()>
+    ensures writes { EmitsLabels (value encoder.old) (lower name.now) result (value encoder.new) }
+    ensures lender { lender encoder.new ≡ lender encoder.old }
+{
+    emit_lowercase(&name.to_name(encoder.allocator())?, encoder)
 }

@@ -13,6 +13,7 @@ use dnw_base::limits::{POINTER_MARK, POINTER_REACH};
 use dnw_error::error::ProtoResult;
 use dnw_form::wire_labels::WireLabels;
 use dnw_name::name::Name;
+use std::alloc::Global;
 
 /// A suffix of a name that a pointer can stand for.
 #[derive(Clone, Copy)]
@@ -37,9 +38,9 @@ fn pointer_octets(target: u16) -> [u8; 2]
 impl<'a> BinEncoder<'a> {
     ghost use Rattle.dnw_encoder.specs.EncoderValue.{value, lender};
 
-    /// Writes the labels of a name in their own case: with a pointer if the mode allows one and a suffix is found.
-    pub(crate) fn emit_name(&mut self, name: &Name) -> ProtoResult<()>
-        ensures writes { EmitsLabels (value self.old) name.now.labels result (value self.new) }
+    /// Writes labels in their own case: with a pointer if the mode allows one and a suffix is found.
+    pub(crate) fn emit_labels(&mut self, name: &WireLabels<'_>) -> ProtoResult<()>
+        ensures writes { EmitsLabels (value self.old) name.now result (value self.new) }
         ensures lender { lender self.new ≡ lender self.old }
     {
         if self.candidates.len() == 0 || !self.compresses() {
@@ -50,6 +51,12 @@ impl<'a> BinEncoder<'a> {
             Some(suffix) => self.emit_shared(name, suffix),
             None => self.emit_whole(name),
         }
+    }
+
+    /// Returns the allocator of the buffer.
+    #[inline(always)]
+    pub(crate) fn allocator(&self) -> Global {
+        *self.buffer.allocator()
     }
 
     /// Prepares the candidates for a search.
@@ -83,12 +90,12 @@ impl<'a> BinEncoder<'a> {
     }
 
     /// Returns the longest suffix of the name that a pointer can stand for.
-    fn find_suffix(&self, name: &Name) -> Option<Suffix>
-        ensures finds { MatchOption result (PointsNowhere (value self.now) name.now.labels)
-            (λ suffix. IsSuffix (value self.now) name.now.labels suffix.labels suffix.size suffix.target) }
+    fn find_suffix(&self, name: &WireLabels<'_>) -> Option<Suffix>
+        ensures finds { MatchOption result (PointsNowhere (value self.now) name.now)
+            (λ suffix. IsSuffix (value self.now) name.now suffix.labels suffix.size suffix.target) }
         ensures reached { IfSome result (λ suffix. suffix.target < pointer_reach) }
     {
-        let mut rest = name.wire_labels();
+        let mut rest = name.clone();
         let mut labels = 0;
         let mut size = 0;
         'suffixes: loop {
@@ -116,13 +123,13 @@ impl<'a> BinEncoder<'a> {
     }
 
     /// Writes a name whole.
-    fn emit_whole(&mut self, name: &Name) -> ProtoResult<()>
-        ensures labels { AreLabels name.now.labels }
-        ensures writes { EmitsAs (value self.old) name.now.labels None result (value self.new) }
+    fn emit_whole(&mut self, name: &WireLabels<'_>) -> ProtoResult<()>
+        ensures labels { AreLabels name.now }
+        ensures writes { EmitsAs (value self.old) name.now None result (value self.new) }
         ensures lender { lender self.new ≡ lender self.old }
     {
         let wire = name.as_wire();
-        self.test_room(name.encoded_len())?;
+        self.test_room(wire.len())?;
         let names = self.counted();
         let stored = self.candidates.len();
         self.keep_suffixes(name, Name::MAX_LENGTH)?;
@@ -135,15 +142,15 @@ impl<'a> BinEncoder<'a> {
     }
 
     /// Writes the labels before a suffix, and a pointer for the suffix.
-    fn emit_shared(&mut self, name: &Name, suffix: Suffix) -> ProtoResult<()>
-        requires suffix { IsSuffix (value self.old) name.now.labels suffix.labels suffix.size suffix.target }
+    fn emit_shared(&mut self, name: &WireLabels<'_>, suffix: Suffix) -> ProtoResult<()>
+        requires suffix { IsSuffix (value self.old) name.now suffix.labels suffix.size suffix.target }
         requires reached { suffix.target < pointer_reach }
-        ensures labels { AreLabels name.now.labels }
-        ensures writes { EmitsAs (value self.old) name.now.labels (Some (share_of name.now.labels suffix.labels suffix.target)) result (value self.new) }
+        ensures labels { AreLabels name.now }
+        ensures writes { EmitsAs (value self.old) name.now (Some (share_of name.now suffix.labels suffix.target)) result (value self.new) }
         ensures lender { lender self.new ≡ lender self.old }
     {
         let wire = name.as_wire();
-        self.test_room(name.encoded_len() - 1)?;
+        self.test_room(wire.len() - 1)?;
         let names = self.counted();
         let held = self.candidates.len();
         self.keep_suffixes(name, suffix.labels)?;
@@ -158,19 +165,19 @@ impl<'a> BinEncoder<'a> {
     }
 
     /// Keeps the first `count` suffixes of a name that is about to be written, or as many as are allowed.
-    fn keep_suffixes(&mut self, name: &Name, count: usize) -> ProtoResult<()>
-        ensures ok { OnOk result (value self.new ≡ record (value self.old) { candidates = (value self.old).candidates ++ kept (value self.old) name.now.labels count }) }
+    fn keep_suffixes(&mut self, name: &WireLabels<'_>, count: usize) -> ProtoResult<()>
+        ensures ok { OnOk result (value self.new ≡ record (value self.old) { candidates = (value self.old).candidates ++ kept (value self.old) name.now count }) }
         ensures err { IfErr result (λ e. e ≡ ProtoError.Memory) }
-        ensures needed { OnErr result (kept (value self.old) name.now.labels count ≢ []) }
+        ensures needed { OnErr result (kept (value self.old) name.now count ≢ []) }
         ensures same { OnErr result (value self.new ≡ value self.old) }
         ensures lender { lender self.new ≡ lender self.old }
     {
-        if name.encoded_len() - 1 >= POINTER_REACH - self.offset.min(POINTER_REACH) {
+        if name.as_wire().len() - 1 >= POINTER_REACH - self.offset.min(POINTER_REACH) {
             return Ok(());
         }
         let allowed = self.candidate_limit.saturating_sub(self.candidates.len());
         self.candidates
-            .push_suffixes(self.offset, name.wire_labels(), count.min(allowed))?;
+            .push_suffixes(self.offset, name.clone(), count.min(allowed))?;
         Ok(())
     }
 

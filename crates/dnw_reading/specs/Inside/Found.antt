@@ -3,6 +3,7 @@ use Rattle.std.specs.Prelude.{◌≡◌, ℕ, Bool, IsTrue, zero, suc, ◌+◌, 
 use Rattle.dnw_reading.specs.declared.walk.Walked.{Walked}
 use Rattle.dnw_base.specs.Limits.{max_label, max_name, max_labels, pointer_mark}
 use Rattle.dnw_base.specs.Names.{encoded_size, wire}
+use Rattle.dnw_reading.specs.Buffers.{put}
 use Rattle.dnw_reading.specs.Reading.{target, Reads, NameAt}
 
 -- the labels that are read at p in at most n steps
@@ -49,6 +50,13 @@ pub record Copies (b : List ℕ) (start run position : ℕ) (written : List ℕ)
   pub back : segment ≤ run
   pub whole : written ++ (slice_range b run position ++ wire labels) ≡ wire (labels_at b start)
   pub short : length (wire (labels_at b start)) ≤ max_name
+
+-- A copy has put what is written at the front of a buffer.
+pub record IsFilled (b : List ℕ) (start run position : ℕ) (buffer out : List ℕ) (filled : ℕ) : Type 0 where
+  pub written : List ℕ
+  pub copies : Copies b start run position written
+  pub size : filled ≡ length written
+  pub is : out ≡ put buffer written
 
 -- Labels are read at p, in a segment that began there or before.
 pub record MoreAt (b : List ℕ) (p : ℕ) : Type 0 where

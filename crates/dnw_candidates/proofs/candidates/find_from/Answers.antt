@@ -11,7 +11,7 @@ returns-then-is_usable-clause-finds c =
     let cs = c.args.held.now in
     let start = c.get-start.result.0 in
     let own = c.get-start.result.1.now in
-    let (has, end, pointers, name) = rw c.clone.ensures at (c.is_usable.ensures.0 c.if-is_usable.true) in
+    let (has, end, pointers, name) = rw c.clone.ensures.same at (c.is_usable.ensures.0 c.if-is_usable.true) in
     let below : c.search.index < length cs = omega (arith, c.search-test.true, c.len-index-end.ensures) in
     first_usable c.args.message.now own c.args.labels cs c.search.index start end pointers below c.get-start.ensures.item (has ∙ form) name c.search.invariant
 
@@ -22,7 +22,7 @@ search-preserved c =
     let start = c.get-start.result.0 in
     let own = c.get-start.result.1.now in
     let below : c.search.index < length cs = omega (arith, c.search-test.true, c.len-index-end.ensures) in
-    let is = rw c.clone.ensures at c.is_usable.ensures.1 in
+    let is = rw c.clone.ensures.same at c.is_usable.ensures.1 in
     let cannot : CannotBe c.args.message.now c.args.labels (start, own) = λ same end pointers name.
     let yes = is (same ∙ sym form, end, pointers, name) in absurd cc
     in

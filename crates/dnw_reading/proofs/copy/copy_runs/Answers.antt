@@ -1,48 +1,56 @@
-use Rattle.std.proofs.Common.{length, slice_range, ap, ◌∙◌, arith, length-append}
+use Rattle.std.proofs.Common.{[], ◌++◌, slice_range, refl, ap, ◌∙◌, arith, length-append}
+use Rattle.dnw_reading.specs.Buffers.{put}
 use Rattle.dnw_reading.proofs.Behind.{Reads-inside}
-use Rattle.dnw_reading.proofs.Copying.{Copies-start, Copies-run, Copies-fits, Copies-end, Copies-label, Copies-pointer, Copies-second}
+use Rattle.dnw_reading.proofs.Copying.{Copies-start, Copies-run, Copies-size, Copies-end, Copies-label, Copies-pointer, Copies-second}
+use Rattle.dnw_reading.proofs.Filling.{put_more}
 use Rattle.dnw_reading.proofs.copy.copy_runs.Goals as goal
 
 pub bounds-message-position : goal.bounds-message-position
 bounds-message-position c = Reads-inside c.elements.invariant.copies.reads
 
 pub elements-init : goal.elements-init
-elements-init c = record { copies = rw c.requires.empty (Copies-start _ _ _ _ _ _ c.requires.name.4); inline = c.requires.inline }
+elements-init c = record { written = []; copies = Copies-start _ _ _ _ _ _ c.requires.name.4; size = refl; is = refl }
 
 pub overflow_add-position : goal.overflow_add-position
 overflow_add-position c = let inside = Reads-inside c.elements.invariant.copies.reads in omega arith
 
-pub slice_bounds-extend_from_slice-end : goal.slice_bounds-extend_from_slice-end
-slice_bounds-extend_from_slice-end c = let inside = Reads-inside c.elements.invariant.copies.reads in omega arith
+pub slice_bounds-put_run-end : goal.slice_bounds-put_run-end
+slice_bounds-put_run-end c = let inside = Reads-inside c.elements.invariant.copies.reads in omega arith
 
-pub returns-then-octet-eq0-clause-form : goal.returns-then-octet-eq0-clause-form
-returns-then-octet-eq0-clause-form c =
-    let extended = rw c.unwrap.ensures at c.extend_from_slice.ensures.ok in
-    extended ∙ Copies-end c.elements.invariant.copies c.if-octet-eq0.true
+pub returns-then-octet-eq0 : goal.returns-then-octet-eq0
+returns-then-octet-eq0 c =
+    let now = c.elements.invariant in
+    put_more c.args.out.now c.elements.out c.put_run.new.out now.written _ c.elements.filled now.size now.is c.put_run.ensures
+    ∙ ap (put c.args.out.now) (Copies-end now.copies c.if-octet-eq0.true)
 
 pub elements-preserved-then-octet-lt-POINTER_MARK : goal.elements-preserved-then-octet-lt-POINTER_MARK
 elements-preserved-then-octet-lt-POINTER_MARK c =
-    record { copies = (Copies-label c.elements.invariant.copies c.if-octet-eq0.false c.if-octet-lt-POINTER_MARK.true).0; inline = c.elements.invariant.inline }
+    let now = c.elements.invariant in
+    record {
+      written = now.written;
+      copies = (Copies-label now.copies c.if-octet-eq0.false c.if-octet-lt-POINTER_MARK.true).0;
+      size = now.size;
+      is = now.is;
+    }
 
 pub bounds-message-position-else-octet-lt-POINTER_MARK : goal.bounds-message-position-else-octet-lt-POINTER_MARK
 bounds-message-position-else-octet-lt-POINTER_MARK c = Copies-second c.elements.invariant.copies c.if-octet-lt-POINTER_MARK.false
 
--- before a pointer is followed, the run behind it is written
+-- before a pointer is followed, the run before it is written
 pub elements-smaller : goal.elements-smaller
 elements-smaller c =
-    let (copies, earlier) = Copies-pointer c.elements.invariant.copies _ c.pointer_target-run.ensures c.if-octet-lt-POINTER_MARK.false in
-    let order = c.elements.invariant.copies.order in
-    omega (
-      arith,
-      Copies-fits c.elements.invariant.copies,
-      Copies-run c.elements.invariant.copies,
-      ap length c.push_run.ensures.added,
-      length-append c.elements.out.items (slice_range c.args.message.now c.elements.run c.elements.position),
-    )
+    let now = c.elements.invariant in
+    let (copies, earlier) = Copies-pointer now.copies _ c.pointer_target-run.ensures c.if-octet-lt-POINTER_MARK.false in
+    let order = now.copies.order in
+    omega (arith, now.size, Copies-size now.copies, now.copies.short)
 
 pub elements-preserved : goal.elements-preserved
 elements-preserved c =
+    let now = c.elements.invariant in
+    let run = slice_range c.args.message.now c.elements.run c.elements.position in
     record {
-      copies = rw c.push_run.ensures.added (Copies-pointer c.elements.invariant.copies _ c.pointer_target-run.ensures c.if-octet-lt-POINTER_MARK.false).0;
-      inline = c.push_run.ensures.inline;
+      written = now.written ++ run;
+      copies = (Copies-pointer now.copies _ c.pointer_target-run.ensures c.if-octet-lt-POINTER_MARK.false).0;
+      size = omega (arith, now.size, length-append now.written run, Copies-run now.copies);
+      is = put_more c.args.out.now c.elements.out c.put_run-else-octet-lt-POINTER_MARK.new.out now.written run c.elements.filled now.size now.is c.put_run-else-octet-lt-POINTER_MARK.ensures;
     }

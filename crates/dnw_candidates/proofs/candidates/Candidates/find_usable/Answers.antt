@@ -28,7 +28,7 @@ search-preserved c =
     let start = c.get-start.result.0 in
     let own = c.get-start.result.1.now in
     let (at, p) = rw c.in-Some.is at c.search.invariant in
-    let is = rw c.clone.ensures at c.is_usable.ensures.1 in
+    let is = rw c.clone.ensures.same at c.is_usable.ensures.1 in
     let cannot : CannotBe c.args.message.now c.args.labels (start, own) = λ same end pointers name.
     let yes = is (same ∙ sym form, end, pointers, name) in absurd cc
     in
@@ -59,7 +59,7 @@ returns-then-is_usable-clause-finds c =
     let start = c.get-start.result.0 in
     let own = c.get-start.result.1.now in
     let (at, p) = rw c.in-Some.is at c.search.invariant in
-    let (has, end, pointers, name) = rw c.clone.ensures at (c.is_usable.ensures.0 c.if-is_usable.true) in
+    let (has, end, pointers, name) = rw c.clone.ensures.same at (c.is_usable.ensures.0 c.if-is_usable.true) in
     let few = c.self.invariant.few in
     let less = within _ c.in-Some.index c.tag-tag.result c.tag-tag.ensures.below at in
     let below : c.in-Some.index < length cs = omega (arith, less, length-tags cs c.self.inside.marks.count few, few) in

@@ -11,23 +11,23 @@ use Rattle.dnw_encoder.proofs.encoder.names.BinEncoder.find_suffix.Goals.{In_def
 pub returns-in_err-label-clause-finds : goal.returns-in_err-label-clause-finds
 returns-in_err-label-clause-finds c =
     let (within, rest, size, none) = c.suffixes.invariant in
-    rw c.from_residual.ensures (nowhere (value c.args.self.now) c.args.name.now.labels c.suffixes.labels within (sym rest ∙ c.in_err-label.ensures.steps.0) none)
+    rw c.from_residual.ensures (nowhere (value c.args.self.now) c.args.name.now c.suffixes.labels within (sym rest ∙ c.in_err-label.ensures.steps.0) none)
 
 pub returns-in-Some-clause-finds : goal.returns-in-Some-clause-finds
 returns-in-Some-clause-finds c =
     let (within, rest, size, none) = c.suffixes.invariant in
     let v = value c.args.self.now in
-    let found = subst (λ ls. IsFirstUsable (so_far v) v.candidates ls c.in-Some.target) (c.clone-suffix.ensures ∙ rest) c.in-Some.ensures.finds in
-    suffix_found v c.args.name.now.labels c.suffixes.labels c.suffixes.size c.in-Some.target c.in_ok-label.label.now c.next.new.self within
+    let found = subst (λ ls. IsFirstUsable (so_far v) v.candidates ls c.in-Some.target) (c.clone-suffix.ensures.same ∙ rest) c.in-Some.ensures.finds in
+    suffix_found v c.args.name.now c.suffixes.labels c.suffixes.size c.in-Some.target c.in_ok-label.label.now c.next.new.self within
     (sym rest ∙ c.in_ok-label.ensures.steps) size none found
 
 -- the labels that were passed, and one more, are among those of the name
 within : (c : In_default) → (c.suffixes.labels + 1 ≤ 127) × (c.suffixes.size + 1 + length c.in_ok-label.label.now ≤ 254)
 within c =
     let (within, rest, size, none) = c.suffixes.invariant in
-    let (more, others, bytes) = drop_next c.args.name.now.labels c.suffixes.labels c.in_ok-label.label.now c.next.new.self (sym rest ∙ c.in_ok-label.ensures.steps) in
-    let ls = c.args.name.now.labels in
-    let names = c.wire_labels-rest.ensures.names in
+    let (more, others, bytes) = drop_next c.args.name.now c.suffixes.labels c.in_ok-label.label.now c.next.new.self (sym rest ∙ c.in_ok-label.ensures.steps) in
+    let ls = c.args.name.now in
+    let names = c.clone-rest.ensures.labels in
     (omega (arith, more, AreLabels-few ls names), omega (arith, size, bytes, labels_wire_take (c.suffixes.labels + 1) ls, length-all ls, names.fit))
 
 pub overflow_add-labels : goal.overflow_add-labels
@@ -42,8 +42,8 @@ overflow_add-size-in-suffixes c = let few = (within c).1 in omega (arith, few)
 pub suffixes-preserved : goal.suffixes-preserved
 suffixes-preserved c =
     let (within, rest, size, none) = c.suffixes.invariant in
-    let ls = c.args.name.now.labels in
+    let ls = c.args.name.now in
     let v = value c.args.self.now in
     let (more, others, bytes) = drop_next ls c.suffixes.labels c.in_ok-label.label.now c.next.new.self (sym rest ∙ c.in_ok-label.ensures.steps) in
-    let here = subst (λ x. NoneUsable (so_far v) v.candidates x) (c.clone-suffix.ensures ∙ rest) c.in_default.ensures.finds in
+    let here = subst (λ x. NoneUsable (so_far v) v.candidates x) (c.clone-suffix.ensures.same ∙ rest) c.in_default.ensures.finds in
     (more, sym others, omega (arith, size, bytes), none_more v ls c.suffixes.labels none here)

@@ -7,8 +7,8 @@ use Rattle.dnw_encoder.proofs.encoder.names.BinEncoder.find_suffix.Given as goal
 -- so many labels were passed, and no suffix from one of them on is found
 abbrev pub invariant-suffixes : goal.invariant-suffixes
 invariant-suffixes l =
-    (l.labels ≤ length l.name.labels) × (l.rest ≡ drop l.labels l.name.labels) × (l.size ≡ length (labels_wire (take l.labels l.name.labels)))
-    × NoneBefore (value l.self) l.name.labels l.labels
+    (l.labels ≤ length l.name) × (l.rest ≡ drop l.labels l.name) × (l.size ≡ length (labels_wire (take l.labels l.name)))
+    × NoneBefore (value l.self) l.name l.labels
 
 abbrev pub decreases-suffixes : goal.decreases-suffixes
 decreases-suffixes l = length l.rest

@@ -1,6 +1,6 @@
 use Rattle.std.proofs.lemmas.Result.{err_from_is_err_and}
 use Rattle.dnw_c.proofs.Starts.{skipped_past}
-use Rattle.dnw_c.proofs.names.name_at.Goals as goal
+use Rattle.dnw_c.proofs.names.name_ref_at.Goals as goal
 
 pub returns-in_err-skip-clause-err : goal.returns-in_err-skip-clause-err
 returns-in_err-skip-clause-err c =
