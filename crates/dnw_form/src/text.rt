@@ -538,7 +538,8 @@ fn put_lengths(wire: &mut [u8], text: &[u8]) -> Option<bool>
 fn dotted_len(text: &[u8]) -> usize
     ensures { 0 < result → IsDottedLabel text.now result }
 {
-    let len = simple_label_len(text);
+    // A longer run is no label, and is not looked at to its end.
+    let len = simple_label_len(&text[..text.len().min(MAX_LABEL + 1)]);
     if len == text.len() || text[len] != b'.' {
         return 0;
     }
