@@ -86,10 +86,9 @@ impl Name {
     /// ```
     #[inline]
     pub fn read(message: &[u8], start: usize) -> Result<(Self, usize), Error> {
-        let mut name = Name::root();
-        let read = door::read(message, start, &mut name.form)?;
-        name.len = read.len as u8;
-        Ok((name, read.end))
+        let mut form = [0; FORM_SIZE];
+        let read = door::read(message, start, &mut form)?;
+        Ok((Name::of_form(form, read.len), read.end))
     }
 
     /// Returns the fully qualified name whose wire form this is, compressed or not: the name at offset 0, if it is all there is.
