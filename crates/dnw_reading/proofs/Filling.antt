@@ -1,6 +1,6 @@
 -- A buffer of which the front is written, run by run or at once.
 use Rattle.std.proofs.Common.{◌≡◌, ℕ, ◌+◌, List, ◌++◌, length, take, drop, refl, sym, ap, ◌∙◌, append_assoc, arith, length-append}
-use Rattle.std.proofs.lemmas.List.{append-nil, drop_all, take_at}
+use Rattle.std.proofs.lemmas.List.{take_at}
 use Rattle.std.proofs.lemmas.Slice.{drop-append-drop}
 use Rattle.dnw_base.specs.Names.{encoded_size, wire}
 use Rattle.dnw_base.proofs.Wires.{length-wire}
@@ -23,7 +23,3 @@ pub wire_taken : (ls : List (List ℕ)) (size : ℕ) (buffer out : List ℕ) →
 wire_taken ls size buffer out size_is is =
     let all : length (wire ls) ≡ size = omega (arith, size_is, length-wire ls) in
     ap (take size) is ∙ take_at (wire ls) (drop (length (wire ls)) buffer) size all
-
--- as many bytes as the buffer has
-pub put_whole : (buffer bytes : List ℕ) → length bytes ≡ length buffer → put buffer bytes ≡ bytes
-put_whole buffer bytes same = ap (λ (rest : List ℕ). bytes ++ rest) (drop_all (length bytes) buffer (omega (arith, same))) ∙ append-nil bytes
