@@ -466,7 +466,8 @@ fn emit_each(alloc: Global, names: &[Name], encoding: NameEncoding) -> u64 {
 fn clone_each(alloc: Global, names: &[Name]) -> ProtoResult<Vec<Name>> {
     let mut copies = Vec::with_capacity(alloc, names.len())?;
     for name in names {
-        copies.push(name.clone()?)?;
+        copies.reserve(1)?;
+        copies.push_reserved(name.clone()?);
     }
     Ok(copies)
 }
@@ -501,7 +502,8 @@ fn names_of(alloc: Global, list: &[u8]) -> ProtoResult<Vec<Name>> {
         if decoder.is_empty() {
             break;
         }
-        names.push(Name::read(alloc, &mut decoder)?)?;
+        names.reserve(1)?;
+        names.push_reserved(Name::read(alloc, &mut decoder)?);
     }
     Ok(names)
 }

@@ -3,21 +3,21 @@ use Rattle.std.proofs.Common.{◌≡◌, true, ℕ, ◌+◌, ◌<◌, ◌≤◌,
 use Rattle.std.specs.Borrow.{GName}
 use Rattle.dnw_error.specs.declared.error.ProtoError.{ProtoError}
 use Rattle.dnw_error.specs.declared.error.ProtoError.TheVariants.{MaxBufferSizeExceeded, Memory}
-use Rattle.dnw_base.specs.Decoder.{Decoder}
+use Rattle.dnw_base.specs.Decoder.{Decoder, advanced}
 use Rattle.dnw_encoder.specs.Encoder.{Encoder}
 use Rattle.dnw_encoder.specs.EmittedName.{EmitsAs, Share, in_mode}
 use Rattle.dnw_encoder.specs.EmittingLaws.{fails-unchanged, frame}
 use Rattle.dnw_encoder.specs.NameFrames.{frame-name}
 use Rattle.dnw_record.specs.RecordFrames.{frame-fields, frame-record}
-use Rattle.dnw_c.specs.declared.messages.Item.{Item}
-use Rattle.dnw_c.specs.declared.messages.Item.TheVariants.{Bytes, Name, Record}
-use Rattle.dnw_c.specs.MessageItems.{EmitsItem, TakesItem, WritesItems, none, more}
+use Rattle.dnw_c.specs.declared.messages.Kind.{Kind}
+use Rattle.dnw_c.specs.declared.messages.Kind.TheVariants as Kinds
+use Rattle.dnw_c.specs.MessageItems.{Item, Bytes, Name, Record, EmitsItem, TakesOf, TakesItem, WritesItems, none, more}
 use Rattle.dnw_c.proofs.Starts.{takes-onward, takes-within}
 use Rattle.dnw_c.proofs.RecordEnds.{record-own}
 
 -- an item that is written at the buffer's end ends there
 pub item_ends : (item : Item) (v w : Encoder) → v.offset ≡ length v.bytes → EmitsItem item v (Ok tt) w → w.offset ≡ length w.bytes
-item_ends (Bytes bytes) v w e h = (frame v bytes.now (Ok tt) w e h).ends
+item_ends (Bytes bytes) v w e h = (frame v bytes (Ok tt) w e h).ends
 item_ends (Name labels) v w e h = (frame-name (record { is_fqdn = true; labels = labels }) v (Ok tt) w e h).ends
 item_ends (Record r) v w e h = (frame-record r v (Ok tt) w e h).ends
 
@@ -31,22 +31,30 @@ name-unchanged v labels choice error w h = absurd h
 -- an item that is not written leaves the bytes
 pub item_undone : (item : Item) (v w : Encoder) (error : ProtoError) → v.offset ≡ length v.bytes → EmitsItem item v (Err error) w
     → w.bytes ≡ v.bytes
-item_undone (Bytes bytes) v w error e h = ap (λ (x : Encoder). x.bytes) (fails-unchanged v bytes.now error w h)
+item_undone (Bytes bytes) v w error e h = ap (λ (x : Encoder). x.bytes) (fails-unchanged v bytes error w h)
 item_undone (Name labels) v w error e h = ap (λ (x : Encoder). x.bytes) (name-unchanged v (in_mode v.encoding labels) h.choice error w h.written_as)
 item_undone (Record r) v w error e (u, fields, is) =
     ap (λ (x : Encoder). x.bytes) is ∙ (frame-fields r v (Err error) u e fields).bytes
 
--- an item has octets of its own, which are within the list
-pub item_onward : (item : Item) (d after : Decoder) → TakesItem d item after
-    → (d.index < after.index) × (after.index ≤ length after.bytes) × (after.bytes ≡ d.bytes)
-item_onward (Bytes bytes) d after (kind, (has, is, moved)) =
+-- an item's octets are within the list
+taken-within : (kind : Kind) (item : Item) (d after : Decoder) → TakesOf kind d item after
+    → (d.index ≤ after.index) × (after.index ≤ length after.bytes) × (after.bytes ≡ d.bytes)
+taken-within Kinds.Bytes (Bytes bytes) d after (has, is, moved) =
     rw moved (omega arith, omega (arith, has), refl)
-item_onward (Name labels) d after (kind, (k, takes)) =
+taken-within Kinds.Name (Name labels) d after (k, takes) =
     let further = takes-onward takes in
     (omega (arith, further), takes-within takes, ap (λ (x : Decoder). x.bytes) takes.moved)
-item_onward (Record r) d after (how, kind, x, (e, at, moved), is) =
+taken-within (Kinds.Record how) (Record r) d after (x, (e, at, moved), is) =
     let (further, inside) = record-own at in
     rw moved (omega (arith, further), inside, refl)
+taken-within kind item d after h = absurd h
+
+-- and follow the one for its kind
+pub item_onward : (item : Item) (d after : Decoder) → TakesItem d item after
+    → (d.index < after.index) × (after.index ≤ length after.bytes) × (after.bytes ≡ d.bytes)
+item_onward item d after (kind, is, takes) =
+    let (further, inside, bytes) = taken-within kind item (advanced d 1) after takes in
+    (omega (arith, further), inside, bytes)
 
 -- So many items are written up to the decoder d, into v.
 pub record HasWrittenItems (items : List ℕ) (first : Encoder) (loan : GName) (d : Decoder) (v : Encoder) (lent : GName)

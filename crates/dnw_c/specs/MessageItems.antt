@@ -24,13 +24,17 @@ use Rattle.dnw_c.specs.Failures.{of_proto}
 use Rattle.dnw_c.specs.RecordCalls.{at_offset}
 use Rattle.dnw_c.specs.declared.failure.Failure.{Failure}
 use Rattle.dnw_c.specs.declared.failure.Failure.TheVariants.{BadItem, MessageTooLong, NoMemory, NoRoom}
-use Rattle.dnw_c.specs.declared.messages.Item.{Item}
-use Rattle.dnw_c.specs.declared.messages.Item.TheVariants.{Bytes, Name, Record}
 use Rattle.dnw_c.specs.declared.messages.Kind.{Kind}
 use Rattle.dnw_c.specs.declared.messages.Kind.TheVariants as Kinds
 use Rattle.dnw_c.specs.declared.messages.WrittenMessage.{WrittenMessage}
 
 -- ---- the items of a list
+
+-- what is written into a message: bytes as they are, the labels of a name, or a record
+pub data Item : Type 0 where
+  Bytes : List ℕ → Item
+  Name : List (List ℕ) → Item
+  Record : WireRecord → Item
 
 -- the octet for a kind
 abbrev pub kind_octet : Kind → ℕ
@@ -77,13 +81,16 @@ IsRecord how x r =
     (r.owner ≡ record { is_fqdn = true; labels = x.owner }) × (r.record_type ≡ x.record_type) × (r.class ≡ x.class) × (r.ttl ≡ x.ttl)
     × IsData how x r.rdata
 
+-- After the octet for its kind an item is taken.
+abbrev pub TakesOf : Kind → Decoder → Item → Decoder → Type 0
+TakesOf Kinds.Bytes d (Bytes bytes) after = TakesBlock d bytes after
+TakesOf Kinds.Name d (Name labels) after = (k : ℕ) × TakesName d after labels k
+TakesOf (Kinds.Record how) d (Record r) after = (x : RecordValue) × TakesRecord d x after × IsRecord how x r
+TakesOf kind d item after = ⊥
+
 -- The next item of a list is taken.
 abbrev pub TakesItem : Decoder → Item → Decoder → Type 0
-TakesItem d (Bytes bytes) after = IsKind d Kinds.Bytes × TakesBlock (advanced d 1) bytes.now after
-TakesItem d (Name labels) after = IsKind d Kinds.Name × ((k : ℕ) × TakesName (advanced d 1) after labels k)
-TakesItem d (Record r) after =
-    (how : Option RDataEncoding) × IsKind d (Kinds.Record how) × (x : RecordValue) × TakesRecord (advanced d 1) x after
-    × IsRecord how x r
+TakesItem d item after = (kind : Kind) × IsKind d kind × TakesOf kind (advanced d 1) item after
 
 -- The data of a record are not taken: they are no name, or memory ran out for a copy.
 abbrev pub FailsToTakeData : Option RDataEncoding → RecordValue → Failure → Type 0
@@ -96,20 +103,18 @@ FailsToTakeRecord how d failure =
     (((error : DecodeError) × FailsRecord d error) × (failure ≡ BadItem))
     ⊎ ((x : RecordValue) × (after : Decoder) × TakesRecord d x after × FailsToTakeData how x failure)
 
--- The next item is not taken: its first octet is for no kind, or what has to follow is not there, or memory ran out for a copy
--- of a record's data.
-abbrev pub FailsToTakeItem : Decoder → Failure → Type 0
-FailsToTakeItem d failure =
-    (IsNoKind d × (failure ≡ BadItem))
-    ⊎ (IsKind d Kinds.Bytes × (¬ (HasBlock (advanced d 1))) × (failure ≡ BadItem))
-    ⊎ (IsKind d Kinds.Name × ((error : DecodeError) × StopsSomehow (advanced d 1) error) × (failure ≡ BadItem))
-    ⊎ ((how : Option RDataEncoding) × IsKind d (Kinds.Record how) × FailsToTakeRecord how (advanced d 1) failure)
+-- After the octet for its kind an item is not taken: what has to follow is not there, or memory ran out for a copy of a
+-- record's data.
+abbrev pub FailsToTakeOf : Kind → Decoder → Failure → Type 0
+FailsToTakeOf Kinds.Bytes d failure = (¬ (HasBlock d)) × (failure ≡ BadItem)
+FailsToTakeOf Kinds.Name d failure = ((error : DecodeError) × StopsSomehow d error) × (failure ≡ BadItem)
+FailsToTakeOf (Kinds.Record how) d failure = FailsToTakeRecord how d failure
 
 -- ---- writing
 
 -- how an item is written
 abbrev pub EmitsItem : Item → Encoder → Outcome → Encoder → Type 0
-EmitsItem (Bytes bytes) v outcome w = Writes v bytes.now outcome w
+EmitsItem (Bytes bytes) v outcome w = Writes v bytes outcome w
 EmitsItem (Name labels) v outcome w = EmitsName (record { is_fqdn = true; labels = labels }) v outcome w
 EmitsItem (Record r) v outcome w = EmitsRecord r v outcome w
 
@@ -124,15 +129,24 @@ pub data WritesItems (list : List ℕ) (first : Encoder) : ℕ → Decoder → E
       → WritesItems list first count d v → TakesItem d item next → EmitsItem item v (Ok tt) w
       → WritesItems list first (count + 1) next w
 
--- An item is taken, and is not written.
-abbrev pub FailsToEmit : Decoder → Encoder → Failure → Type 0
-FailsToEmit d v failure =
-    (item : Item) × (next : Decoder) × (error : ProtoError) × (w : Encoder) × TakesItem d item next
+-- After the octet for its kind an item is taken and written.
+abbrev pub CopiesOf : Kind → Decoder → Encoder → Decoder → Encoder → Type 0
+CopiesOf kind d v after w = (item : Item) × TakesOf kind d item after × EmitsItem item v (Ok tt) w
+
+-- After the octet for its kind an item is taken, and is not written.
+abbrev pub FailsToEmitOf : Kind → Decoder → Encoder → Failure → Type 0
+FailsToEmitOf kind d v failure =
+    (item : Item) × (next : Decoder) × (error : ProtoError) × (w : Encoder) × TakesOf kind d item next
     × EmitsItem item v (Err error) w × (failure ≡ of_proto error)
 
--- The next item of a list fails: it is not taken, or not written.
+-- After the octet for its kind an item fails: it is not taken, or not written.
+abbrev pub FailsToCopyOf : Kind → Decoder → Encoder → Failure → Type 0
+FailsToCopyOf kind d v failure = FailsToTakeOf kind d failure ⊎ FailsToEmitOf kind d v failure
+
+-- The next item of a list fails: its first octet is for no kind, or what follows fails.
 abbrev pub FailsToCopyItem : Decoder → Encoder → Failure → Type 0
-FailsToCopyItem d v failure = FailsToTakeItem d failure ⊎ FailsToEmit d v failure
+FailsToCopyItem d v failure =
+    (IsNoKind d × (failure ≡ BadItem)) ⊎ ((kind : Kind) × IsKind d kind × FailsToCopyOf kind (advanced d 1) v failure)
 
 -- The items up to one that fails in this way are so many, and v is what they are written as.
 abbrev pub StopsAfter : List ℕ → Encoder → ℕ → Encoder → Failure → Type 0

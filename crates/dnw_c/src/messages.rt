@@ -1,15 +1,12 @@
 //! Messages, written item by item.
 ghost use Rattle.std.specs.Prelude.{◌≡◌, ◌≢◌, ◌<◌, ◌≤◌, ℕ, true, false, Ok, length, IfOk, IfErr, OnOk, OnErr};
-ghost use Rattle.dnw_error.specs.declared.error.DecodeError.{DecodeError};
 ghost use Rattle.dnw_base.specs.Decoder.{advanced};
-ghost use Rattle.dnw_name.specs.Decodable.{StopsSomehow};
-ghost use Rattle.dnw_reading.specs.Reading.{TakesName};
 ghost use Rattle.dnw_record.specs.Records.{RecordValue, TakesRecord};
 ghost use Rattle.dnw_encoder.specs.Encoder.{Encoder};
 ghost use Rattle.dnw_encoder.specs.EncoderValue.{value, lender};
 ghost use Rattle.dnw_c.specs.Failures.{NumberOf, number};
-ghost use Rattle.dnw_c.specs.MessageItems.{EmitsItem, FailsToCopyItem, FailsToTakeData, FailsToTakeItem, FailsToTakeRecord, FailsToWriteMessage, HasBlock, IsData, IsKind, IsNoKind, IsRecord, PutsMessage, StopsAfter, TakesBlock, TakesItem, WritesWhole, of_message};
-ghost use Rattle.dnw_c.specs.declared.messages.Item.{Item};
+ghost use Rattle.dnw_c.specs.MessageItems.{CopiesOf, EmitsItem, FailsToCopyItem, FailsToCopyOf, FailsToTakeData, FailsToTakeRecord, FailsToWriteMessage, HasBlock, IsData, IsKind, IsNoKind, IsRecord, Item, PutsMessage, StopsAfter, TakesBlock, TakesItem, WritesWhole, of_message};
+ghost use Rattle.dnw_c.specs.declared.messages.Kind.TheVariants.{Bytes, Name, Record};
 ghost use Rattle.dnw_c.specs.declared.failure.Failure.TheVariants.{BadItem, MessageTooLong, NoMemory};
 
 use crate::failure::{Failure, of_proto};
@@ -17,7 +14,6 @@ use crate::names::put;
 use dns_names_wire::binary::{BinDecodable, BinEncodable};
 use dns_names_wire::decoder::BinDecoder;
 use dns_names_wire::encoder::{BinEncoder, RDataEncoding};
-use dns_names_wire::error::ProtoResult;
 use dns_names_wire::name_ref::NameRef;
 use dns_names_wire::record::{RecordRef, WireData, WireRecord};
 use std::alloc::Global;
@@ -39,17 +35,6 @@ enum Kind {
     Name,
     /// A record, of which the data are bytes, or a name that is written in this way.
     Record(Option<RDataEncoding>),
-}
-
-/// What is written into a message.
-#[derive(Drop)]
-enum Item<'a> {
-    /// Bytes as they are.
-    Bytes(&'a [u8]),
-    /// A name, compressed.
-    Name(NameRef<'a>),
-    /// A record.
-    Record(WireRecord),
 }
 
 /// A message of a list, and whether it has all of the items.
@@ -170,44 +155,65 @@ fn write_next(
     ensures ok { OnOk result ((item : Item) × TakesItem decoder.old item decoder.new
         × EmitsItem item (value encoder.old) (Ok tt) (value encoder.new)) }
     ensures err { IfErr result (FailsToCopyItem decoder.old (value encoder.old)) }
-    ensures ends { OnOk result ((value encoder.new).offset ≡ length (value encoder.new).bytes) }
     ensures undone { OnErr result ((value encoder.new).bytes ≡ (value encoder.old).bytes) }
-    ensures onward { OnOk result (decoder.old.index < decoder.new.index) }
-    ensures within { OnOk result (decoder.new.index ≤ length decoder.new.bytes) }
-    ensures bytes { OnOk result (decoder.new.bytes ≡ decoder.old.bytes) }
     ensures lender { lender encoder.new ≡ lender encoder.old }
 {
-    let item = read_item(alloc, decoder)?;
-    match emit_item(&item, encoder) {
+    match read_kind(decoder)? {
+        Kind::Bytes => write_bytes(decoder, encoder),
+        Kind::Name => write_name(decoder, encoder),
+        Kind::Record(how) => write_record(alloc, how, decoder, encoder),
+    }
+}
+
+/// Writes bytes that stand after their number.
+fn write_bytes(decoder: &mut BinDecoder<'_>, encoder: &mut BinEncoder<'_>) -> Result<(), Failure>
+    ensures ok { OnOk result (CopiesOf Bytes decoder.old (value encoder.old) decoder.new (value encoder.new)) }
+    ensures err { IfErr result (FailsToCopyOf Bytes decoder.old (value encoder.old)) }
+    ensures undone { OnErr result ((value encoder.new).bytes ≡ (value encoder.old).bytes) }
+    ensures lender { lender encoder.new ≡ lender encoder.old }
+{
+    let bytes = read_block(decoder)?;
+    match encoder.emit_vec(bytes) {
         Ok(()) => Ok(()),
         Err(error) => Err(of_proto(&error)),
     }
 }
 
-/// Writes an item. It is inlined, as `read_item` is, so that an item is not moved as a value as large as a record.
-#[inline(always)]
-fn emit_item(item: &Item<'_>, encoder: &mut BinEncoder<'_>) -> ProtoResult<()>
-    ensures emits { EmitsItem item.now (value encoder.old) result (value encoder.new) }
+/// Writes a name.
+fn write_name(decoder: &mut BinDecoder<'_>, encoder: &mut BinEncoder<'_>) -> Result<(), Failure>
+    ensures ok { OnOk result (CopiesOf Name decoder.old (value encoder.old) decoder.new (value encoder.new)) }
+    ensures err { IfErr result (FailsToCopyOf Name decoder.old (value encoder.old)) }
+    ensures undone { OnErr result ((value encoder.new).bytes ≡ (value encoder.old).bytes) }
     ensures lender { lender encoder.new ≡ lender encoder.old }
 {
-    match item {
-        Item::Bytes(bytes) => encoder.emit_vec(bytes),
-        Item::Name(name) => name.emit(encoder),
-        Item::Record(record) => record.emit(encoder),
+    let Ok(name) = NameRef::read(decoder) else {
+        return Err(Failure::BadItem);
+    };
+    match name.emit(encoder) {
+        Ok(()) => Ok(()),
+        Err(error) => Err(of_proto(&error)),
     }
 }
 
-/// Reads the item at the cursor of a list.
-#[inline(always)]
-fn read_item<'a>(alloc: Global, decoder: &mut BinDecoder<'a>) -> Result<Item<'a>, Failure>
-    requires left { decoder.old.index < length decoder.old.bytes }
-    ensures ok { IfOk result (λ item. TakesItem decoder.old item decoder.new) }
-    ensures err { IfErr result (FailsToTakeItem decoder.old) }
+/// Writes a record, of which the data are bytes, or a name that is written in a way. It is not inlined, since its names take
+/// room that the other kinds do not need.
+#[inline(never)]
+fn write_record(
+    alloc: Global,
+    how: Option<RDataEncoding>,
+    decoder: &mut BinDecoder<'_>,
+    encoder: &mut BinEncoder<'_>,
+) -> Result<(), Failure>
+    requires ends { (value encoder.old).offset ≡ length (value encoder.old).bytes }
+    ensures ok { OnOk result (CopiesOf (Record how) decoder.old (value encoder.old) decoder.new (value encoder.new)) }
+    ensures err { IfErr result (FailsToCopyOf (Record how) decoder.old (value encoder.old)) }
+    ensures undone { OnErr result ((value encoder.new).bytes ≡ (value encoder.old).bytes) }
+    ensures lender { lender encoder.new ≡ lender encoder.old }
 {
-    match read_kind(decoder)? {
-        Kind::Bytes => Ok(Item::Bytes(read_block(decoder)?)),
-        Kind::Name => Ok(Item::Name(read_name(decoder)?)),
-        Kind::Record(how) => Ok(Item::Record(read_record(alloc, how, decoder)?)),
+    let record = read_record(alloc, how, decoder)?;
+    match record.emit(encoder) {
+        Ok(()) => Ok(()),
+        Err(error) => Err(of_proto(&error)),
     }
 }
 
@@ -241,17 +247,6 @@ fn read_block<'a>(decoder: &mut BinDecoder<'a>) -> Result<&'a [u8], Failure>
         Ok(()) => Ok(&decoder.message()[start..decoder.index()]),
         Err(_) => Err(Failure::BadItem),
     }
-}
-
-/// Reads a name.
-fn read_name<'a>(decoder: &mut BinDecoder<'a>) -> Result<NameRef<'a>, Failure>
-    ensures ok { IfOk result (λ name. (k : ℕ) × TakesName decoder.old decoder.new name k) }
-    ensures err { IfErr result (λ failure. ((error : DecodeError) × StopsSomehow decoder.old error) × (failure ≡ BadItem)) }
-{
-    let Ok(name) = NameRef::read(decoder) else {
-        return Err(Failure::BadItem);
-    };
-    Ok(name)
 }
 
 /// Reads a record, of which the data are bytes, or a name that is written in a way.

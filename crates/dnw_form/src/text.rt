@@ -402,7 +402,7 @@ impl TextReader {
                 self.label.push(c);
                 return Ok(self.take_escapes(&text[4..]));
             }
-            let run = simple_len(text.as_bytes());
+            let run = run_len(text.as_bytes());
             if run > 0 {
                 self.label.push_run(&text[..run]);
                 return Ok(&text[run..]);
@@ -583,6 +583,38 @@ fn simple_len(text: &[u8]) -> usize
         len += 1;
     }
     len
+}
+
+/// Returns a number of simple characters that a text begins with, as [`simple_len`] does: a long run takes less, and a
+/// short one more.
+fn run_len(text: &[u8]) -> usize
+    ensures few { result ≤ length text.now }
+    ensures simple { list_all is_simple (take result text.now) ≡ true }
+{
+    let mut len = 0;
+    'fours: while text.len() - len >= 4 && four_are_simple(text, len) {
+        len += 4;
+    }
+    while len < text.len() && is_simple(text[len]) {
+        len += 1;
+    }
+    len
+}
+
+/// Returns `true` if the four bytes at an index are simple characters.
+fn four_are_simple(text: &[u8], at: usize) -> bool
+    requires { at + 4 ≤ length text.now }
+    ensures { IsTrue result → list_all is_simple (take (at + 4) text.now) ≡ list_all is_simple (take at text.now) }
+{
+    two_are_simple(text, at) && two_are_simple(text, at + 2)
+}
+
+/// Returns `true` if the two bytes at an index are simple characters.
+fn two_are_simple(text: &[u8], at: usize) -> bool
+    requires { at + 2 ≤ length text.now }
+    ensures { IsTrue result → list_all is_simple (take (at + 2) text.now) ≡ list_all is_simple (take at text.now) }
+{
+    is_simple(text[at]) && is_simple(text[at + 1])
 }
 
 /// Returns `true` if a byte is a letter, a digit, `-` or `_`: a character that stands for itself.

@@ -1,5 +1,6 @@
+use Rattle.std.proofs.Common.{ap, arith, length}
 use Rattle.dnw_encoder.specs.EncoderValue.{value, lender}
-use Rattle.dnw_c.proofs.Items.{no_items, one_more}
+use Rattle.dnw_c.proofs.Items.{item_onward, no_items, one_more}
 use Rattle.dnw_c.proofs.messages.write_items.Goals as goal
 
 pub list-init : goal.list-init
@@ -15,3 +16,9 @@ pub returns-in-Err-MessageTooLong-clause-ok : goal.returns-in-Err-MessageTooLong
 returns-in-Err-MessageTooLong-clause-ok c =
     let fails = rw c.in-Err-MessageTooLong.field-0-is at c.in-Err-MessageTooLong.ensures.err in
     (value c.list.encoder, (c.list.decoder, c.list.invariant.so_far, fails), c.in-Err-MessageTooLong.ensures.undone)
+
+pub list-smaller : goal.list-smaller
+list-smaller c =
+    let (item, takes, emits) = c.in-Ok.ensures.ok in
+    let (onward, within, bytes) = item_onward item c.list.decoder c.write_next.new.decoder takes in
+    omega (arith, onward, within, ap length bytes, ap length c.list.invariant.same_list)

@@ -1,15 +1,11 @@
-use Rattle.dnw_encoder.specs.EncoderValue.{value}
-use Rattle.dnw_c.proofs.Items.{item_ends, item_onward, item_undone}
+use Rattle.std.proofs.Common.{inr}
+use Rattle.std.proofs.lemmas.Result.{IfErr-weaker}
+use Rattle.dnw_c.specs.declared.messages.Kind.TheVariants.{Record}
 use Rattle.dnw_c.proofs.messages.write_next.Goals as goal
 
-pub returns-in-Ok-clause-ends : goal.returns-in-Ok-clause-ends
-returns-in-Ok-clause-ends c = item_ends c.in_ok-item.item (value c.args.encoder.now) (value c.emit_item.new.encoder) c.requires.ends c.in-Ok.ensures.emits
-
-pub returns-in-Ok-clause-onward : goal.returns-in-Ok-clause-onward
-returns-in-Ok-clause-onward c = (item_onward c.in_ok-item.item c.args.decoder.now c.read_item.new.decoder c.in_ok-item.ensures.ok).0
-
-pub returns-in-Ok-clause-within : goal.returns-in-Ok-clause-within
-returns-in-Ok-clause-within c = (item_onward c.in_ok-item.item c.args.decoder.now c.read_item.new.decoder c.in_ok-item.ensures.ok).1
-
-pub returns-clause-undone : goal.returns-clause-undone
-returns-clause-undone c = item_undone c.in_ok-item.item (value c.args.encoder.now) (value c.emit_item.new.encoder) c.in-Err.error c.requires.ends c.in-Err.ensures.emits
+pub returns-in-Record-clause-err : goal.returns-in-Record-clause-err
+returns-in-Record-clause-err c =
+    let (kind, moved) = c.in_ok-read_kind.ensures.ok in
+    let said = rw c.in-Record.is at kind in
+    let fails = rw moved at c.write_record.ensures.err in
+    IfErr-weaker c.write_record.result _ _ (λ _ failed. inr (Record c.in-Record.how, said, failed)) fails

@@ -36,22 +36,22 @@ returns-in-Some-clause-len c =
 
 pub range-requires-clause-end_boundary : goal.range-requires-clause-end_boundary
 range-requires-clause-end_boundary c =
-    let simple = rw c.as_bytes-in-Outside.ensures.value at c.simple_len-run.ensures.simple in
-    let few = rw c.as_bytes-in-Outside.ensures.value at c.simple_len-run.ensures.few in
+    let simple = rw c.as_bytes-in-Outside.ensures.value at c.run_len-run.ensures.simple in
+    let few = rw c.as_bytes-in-Outside.ensures.value at c.run_len-run.ensures.few in
     cut_after_run _ _ c.utf8.text c.if-run-gt0.true few simple
 
 pub range_from-requires-then-run-gt0 : goal.range_from-requires-then-run-gt0
 range_from-requires-then-run-gt0 c = λ _.
-    let simple = rw c.as_bytes-in-Outside.ensures.value at c.simple_len-run.ensures.simple in
-    let few = rw c.as_bytes-in-Outside.ensures.value at c.simple_len-run.ensures.few in
+    let simple = rw c.as_bytes-in-Outside.ensures.value at c.run_len-run.ensures.simple in
+    let few = rw c.as_bytes-in-Outside.ensures.value at c.run_len-run.ensures.few in
     cut_after_run _ _ c.utf8.text c.if-run-gt0.true few simple
 
 pub returns-then-run-gt0-clause-ok : goal.returns-then-run-gt0-clause-ok
 returns-then-run-gt0-clause-ok c =
-    let simple = rw c.as_bytes-in-Outside.ensures.value at c.simple_len-run.ensures.simple in
+    let simple = rw c.as_bytes-in-Outside.ensures.value at c.run_len-run.ensures.simple in
     let alike = simp (c.range.ensures.value, sub-zero) at c.push_run.ensures in
     rw c.range_from-then-run-gt0.ensures.value
-    (name_from-run c.args.self.now _ c.push_run.new.self c.args.text.now c.simple_len-run.result c.in-Outside.is simple refl alike)
+    (name_from-run c.args.self.now _ c.push_run.new.self c.args.text.now c.run_len-run.result c.in-Outside.is simple refl alike)
 
 pub returns-in_err-take-clause-err : goal.returns-in_err-take-clause-err
 returns-in_err-take-clause-err c =
