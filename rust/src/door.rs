@@ -46,9 +46,9 @@ pub(crate) struct Record {
 /// `struct dnw_written_message`
 #[repr(C)]
 #[derive(Default)]
-pub(crate) struct WrittenMessage {
-    pub(crate) len: usize,
-    pub(crate) count: usize,
+struct WrittenMessage {
+    len: usize,
+    count: usize,
 }
 
 /// `struct dnw_net`
@@ -259,24 +259,30 @@ pub(crate) fn data_name(message: &[u8], at: usize, len: usize, form: &mut [u8; F
     outcome(number, put)
 }
 
-/// Writes the items of a list into a message, up to the first that would go past the maximum. Returns what was written,
-/// and whether that is all.
+/// Replaces `message` by the items of a list, up to the first that would go past the maximum. Returns how many items it has,
+/// and whether these are all.
 pub(crate) fn write_message(
     items: &[u8],
     max_size: u16,
     is_canonical: bool,
-    message: &mut [u8],
-) -> Result<(WrittenMessage, bool), Error> {
-    let (mut written, room) = (WrittenMessage::default(), message.as_mut_ptr());
-    // SAFETY: pointers with their lengths, see the module.
-    let number = unsafe {
-        dnw_message_write(items.as_ptr(), items.len(), max_size, is_canonical, room, message.len(), &mut written)
+    message: &mut Vec<u8>,
+) -> Result<(usize, bool), Error> {
+    message.clear();
+    // An item takes no more octets in a message than in the list.
+    message.reserve(items.len().min(max_size.into()));
+    let (mut written, room) = (WrittenMessage::default(), message.spare_capacity_mut());
+    let (start, size) = (room.as_mut_ptr().cast(), room.len());
+    // SAFETY: pointers with their lengths, see the module; and the room is not read.
+    let number =
+        unsafe { dnw_message_write(items.as_ptr(), items.len(), max_size, is_canonical, start, size, &mut written) };
+    let is_whole = match outcome(number, ()) {
+        Ok(()) => true,
+        Err(Error::MessageTooLong) => false,
+        Err(error) => return Err(error),
     };
-    match outcome(number, ()) {
-        Ok(()) => Ok((written, true)),
-        Err(Error::MessageTooLong) => Ok((written, false)),
-        Err(error) => Err(error),
-    }
+    // SAFETY: so many bytes of the room were written.
+    unsafe { message.set_len(written.len) };
+    Ok((written.count, is_whole))
 }
 
 /// Puts the wire form of the reverse name of an address of 4 or 16 bytes, and returns its length.

@@ -154,15 +154,15 @@ impl MessageWriter {
     ///
     /// `NoMemory`.
     pub fn finish_truncated(&self) -> Result<(Vec<u8>, usize), Error> {
-        // An item takes no more octets in a message than in the list.
-        let mut message = vec![0; self.list.len().min(self.max_size.into())];
-        let (written, is_whole) = self.write(self.list.len(), &mut message)?;
-        let (parts, cut) = if is_whole { (self.parts, None) } else { self.whole_parts(written.count) };
-        let len = match cut {
-            None => written.len,
-            Some(part) => self.write(part.start, &mut message)?.0.len,
-        };
-        message.truncate(len);
+        let mut message = Vec::new();
+        let (items, is_whole) = self.write(self.list.len(), &mut message)?;
+        if is_whole {
+            return Ok((message, self.parts));
+        }
+        let (parts, cut) = self.whole_parts(items);
+        if let Some(part) = cut {
+            self.write(part.start, &mut message)?;
+        }
         Ok((message, parts))
     }
 
@@ -196,14 +196,16 @@ impl MessageWriter {
         (parts, None)
     }
 
-    /// Writes the items in the first bytes of the list.
-    fn write(&self, end: usize, message: &mut [u8]) -> Result<(door::WrittenMessage, bool), Error> {
+    /// Writes the items in the first bytes of the list. Returns how many it wrote, and whether these are all.
+    fn write(&self, end: usize, message: &mut Vec<u8>) -> Result<(usize, bool), Error> {
         door::write_message(&self.list[..end], self.max_size, self.is_canonical, message)
     }
 
     fn add_name(&mut self, name: &Name) {
+        let form = name.as_wire();
+        self.list.reserve(1 + form.len());
         self.list.push(NAME);
-        self.list.extend_from_slice(name.as_wire());
+        self.list.extend_from_slice(form);
     }
 
     /// Adds items of bytes, and returns how many.

@@ -1,6 +1,6 @@
 //! Marks, by which a search passes over most candidates.
-ghost use Rattle.std.specs.Prelude.{◌≡◌, ℕ, ◌+◌, ◌^◌, ◌<◌, ◌≤◌, true, false, List, [], ◌∷◌, ◌++◌, get_or, length, MatchOption};
-ghost use Rattle.dnw_candidates.specs.Inside.Marks.{AreLinked, AreMarked, NoneBetween, NoneFrom, label_end, tag};
+ghost use Rattle.std.specs.Prelude.{◌≡◌, ℕ, ◌+◌, ◌*◌, ◌^◌, ◌<◌, ◌≤◌, true, false, List, [], ◌∷◌, ◌++◌, get_or, length, MatchOption};
+ghost use Rattle.dnw_candidates.specs.Inside.Marks.{AreLinked, AreMarked, NoneBetween, NoneFrom, label_end, pair, tag};
 
 use crate::store::Store;
 
@@ -17,10 +17,10 @@ pub(crate) fn tag(labels: &[u8]) -> usize
     match labels {
         [len, first, second, ..] => {
             let len = *len as usize;
-            let front = *first as usize * 71 + *second as usize * 15;
+            let front = pair(*first, *second) * 18191;
             let ends = label_end(labels, 0, len)
                 + label_end(labels, len + 1, octet_at(labels, len + 1)) * 5;
-            (labels.len() % 256 * 51 + front + ends) % 256
+            (labels.len() % 256 * 51 + (front + ends) / 256) % 256
         }
         _ => labels.len() % 256,
     }
@@ -31,13 +31,22 @@ pub(crate) fn tag(labels: &[u8]) -> usize
 fn label_end(labels: &[u8], start: usize, len: usize) -> usize
     requires { start + len < 2 ^ 64 }
     ensures value { result ≡ label_end labels.now start len }
-    ensures few { result ≤ 9180 }
+    ensures few { result ≤ 65535 * 801 }
 {
     if 0 < len && start + len < labels.len() {
-        labels[start + len] as usize * 33 + labels[start + len - 1] as usize * 3
+        pair(labels[start + len - 1], labels[start + len]) * 801
     } else {
         0
     }
+}
+
+/// Returns two octets as one number, so that one multiplication mixes both.
+#[inline(always)]
+fn pair(first: u8, second: u8) -> usize
+    ensures value { result ≡ pair first second }
+    ensures few { result < 65536 }
+{
+    first as usize + second as usize * 256
 }
 
 /// Returns the octet at an index, or 0 past the end.

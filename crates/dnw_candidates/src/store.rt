@@ -11,6 +11,12 @@ use smallvec::SmallVec;
 use std::alloc::{AllocError, Global};
 use std::marker::Model;
 
+/// How many bytes of labels are inline, and for how many more there is room once these are too few: as a rule for all of a
+/// message, so that it is allocated once.
+const INLINE_SIZE: usize = 64;
+
+const USUAL_SIZE: usize = 448;
+
 /// Where the bytes of a candidate's labels are in the store, and where the message has these labels.
 #[derive(Clone, Copy)]
 struct Entry {
@@ -26,7 +32,7 @@ struct Entry {
 #[derive(Drop)]
 pub(crate) struct Store {
     // Of one name after another. Those of the first names are inline.
-    bytes: SmallVec<u8, 64>,
+    bytes: SmallVec<u8, INLINE_SIZE>,
     entries: Vec<Entry>,
     // All candidates are before this offset.
     end: usize,
@@ -92,6 +98,18 @@ fn push_entries(
     start
 }
 
+/// Appends bytes of labels. If they have no room, there is room for [`USUAL_SIZE`] more afterwards.
+#[inline(always)]
+fn append(bytes: &mut SmallVec<u8, INLINE_SIZE>, labels: &[u8]) -> Result<(), AllocError>
+    ensures ok { OnOk result (bytes.new.items ≡ bytes.old.items ++ labels.now) }
+    ensures err { OnErr result (bytes.new.items ≡ bytes.old.items) }
+{
+    if labels.len() > bytes.capacity() - bytes.len() {
+        bytes.reserve(labels.len().max(USUAL_SIZE))?;
+    }
+    bytes.extend_from_slice(labels)
+}
+
 impl Store {
     /// Creates an empty store. It does not allocate.
     pub(crate) fn new(alloc: Global) -> Self
@@ -133,7 +151,7 @@ impl Store {
     {
         self.entries.reserve(1)?;
         let from = self.bytes.len();
-        self.bytes.extend_from_slice(labels)?;
+        append(&mut self.bytes, labels)?;
         self.entries.push_reserved(Entry {
             from,
             size: labels.len() as u16,
@@ -167,7 +185,7 @@ impl Store {
         let bytes = &wire[..wire.len() - 1];
         // At once for as many as are allowed: with the usual limit the entries grow only here.
         self.entries.reserve(most)?;
-        self.bytes.extend_from_slice(bytes)?;
+        append(&mut self.bytes, bytes)?;
         let from = self.bytes.len() - bytes.len();
         let end = push_entries(&mut self.entries, from, start, labels, most);
         self.end = self.end.max(end);

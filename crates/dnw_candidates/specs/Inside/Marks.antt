@@ -1,22 +1,26 @@
 -- Marks: candidates that share a tag are linked in a ring, so that a search passes over all others.
-use Rattle.std.specs.Prelude.{◌≡◌, ℕ, ◌+◌, ◌-◌, ◌*◌, ◌%◌, ◌<◌, ◌≤◌, ◌&&◌, nat_lt, if◌then◌else◌, List, ◌∷◌, get_or, length, map, take}
+use Rattle.std.specs.Prelude.{◌≡◌, ℕ, ◌+◌, ◌-◌, ◌*◌, ◌/◌, ◌%◌, ◌<◌, ◌≤◌, ◌&&◌, nat_lt, if◌then◌else◌, List, ◌∷◌, get_or, length, map, take}
 use Rattle.dnw_base.specs.Names.{labels_wire}
 use Rattle.dnw_reading.specs.Reading.{NameAt}
 use Rattle.dnw_candidates.specs.Candidates.{Candidate}
 
 -- ---- tags
 
+-- two octets as one number
+abbrev pub pair : ℕ → ℕ → ℕ
+pair first second = first + second * 256
+
 -- the last two octets of the label whose length octet is at the start
 abbrev pub label_end : List ℕ → ℕ → ℕ → ℕ
 label_end bytes start len =
-    if nat_lt 0 len && nat_lt (start + len) (length bytes) then get_or bytes (start + len) 0 * 33 + get_or bytes (start + len - 1) 0 * 3 else 0
+    if nat_lt 0 len && nat_lt (start + len) (length bytes) then pair (get_or bytes (start + len - 1) 0) (get_or bytes (start + len) 0) * 801 else 0
 
 -- A number below 256 that labels' bytes have, by their length, the first two octets of the first label, and the last two
 -- of the first and the second.
 abbrev pub tag : List ℕ → ℕ
 tag (len ∷ first ∷ second ∷ rest) =
     let bytes = len ∷ first ∷ second ∷ rest in
-    (length bytes % 256 * 51 + (first * 71 + second * 15) + (label_end bytes 0 len + label_end bytes (len + 1) (get_or bytes (len + 1) 0) * 5)) % 256
+    (length bytes % 256 * 51 + (pair first second * 18191 + (label_end bytes 0 len + label_end bytes (len + 1) (get_or bytes (len + 1) 0) * 5)) / 256) % 256
 tag bytes = length bytes % 256
 
 abbrev pub tags : List Candidate → List ℕ
