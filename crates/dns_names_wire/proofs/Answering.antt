@@ -270,7 +270,7 @@ follows-same a v w f same =
     let P : Encoder → Type 0 = λ x. Follows a x in
     subst P (sym same) f
 
--- behind a part
+-- after a part
 pub part-follows : (a : Account) (v : Encoder) (part : Part) (reply : Reply) (w : Encoder) → Follows a v → GivesReply (EmitsPart part v) reply w
     → Follows (after a (write part) reply) w
 part-follows a v part (Done len) w f h =
@@ -285,7 +285,7 @@ part-follows a v part (Done len) w f h =
 part-follows a v part (Refused error len) w f h = follows-same a v w f (part-same part v w error h.0)
 part-follows a v part reply w f h = absurd h
 
--- behind a place
+-- after a place
 reserved-follows : (a : Account) (v : Encoder) (reply : Reply) (w : Encoder) → Follows a v → GivesReply (TakesRoom v 2 (reserved v 2)) reply w
     → Follows (after a reserve reply) w
 reserved-follows a v (Done len) w f h =
@@ -350,7 +350,7 @@ fill-stands a v (Some end) value (Refused (MaxBufferSizeExceeded max) len) w f i
 fill-stands a v (Some end) value (Refused error len) w f inside h = absurd h.0.1
 fill-stands a v (Some end) value reply w f inside h = absurd h
 
--- behind a record
+-- after a record
 record-follows : (a : Account) (v : Encoder) (r : WireRecord) (reply : Reply) (w : Encoder) → Follows a v → GivesReply (EmitsRecord r v) reply w
     → Follows (after a (write_record r) reply) w
 record-follows a v r (Done len) w f h =
@@ -365,7 +365,7 @@ record-follows a v r (Done len) w f h =
 record-follows a v r (Refused error len) w f h = follows-stood a v w f (record-undone r v w error f.at_end h.0)
 record-follows a v r reply w f h = absurd h
 
--- behind items
+-- after items
 items-follow : (a : Account) (v : Encoder) (items : List Item) (reply : Reply) (w : Encoder) → Follows a v → RunsItems v items reply w
     → Follows (after a (write_items items) reply) w
 items-follow a v items (Items count None len) w f h =
@@ -392,7 +392,7 @@ items-follow a v items reply w f h = absurd h
 
 -- ---- steps
 
--- behind any step
+-- after any step
 pub step-follows : (a : Account) (v : Encoder) (action : Action) (reply : Reply) (w : Encoder) → Follows a v → RunsStep a v action reply w
     → Follows (after a action reply) w
 step-follows a v (write part) reply w f h = part-follows a v part reply w f h

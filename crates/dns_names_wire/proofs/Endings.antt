@@ -25,7 +25,7 @@ use Rattle.dns_names_wire.proofs.Shortening.{Has, emitted-old, kept-whole, kept-
 
 -- ---- where the pieces end
 
--- the element behind others is the last one, or stands among those
+-- the element after others is the last one, or stands among those
 push_split : {X : Type 0} (xs : List X) (x : X) (before : List X) (y : X) (after : List X) → xs ++ x ∷ [] ≡ before ++ y ∷ after
     → (x ≡ y) ⊎ ((more : List X) × (xs ≡ before ++ y ∷ more))
 push_split [] x [] y after e = inl cc

@@ -11,7 +11,7 @@ use Rattle.dns_names_wire.specs.declared.script.Reply.TheVariants.{Items}
 use Rattle.dns_names_wire.specs.Script.{EmitsScriptItem}
 use Rattle.dns_names_wire.specs.Runs.{RunsItems}
 
--- how an item behind a reference is written
+-- how an item that is borrowed is written
 abbrev pub EmitsLent : Emits (Bor Item)
 EmitsLent item = EmitsScriptItem item.now
 

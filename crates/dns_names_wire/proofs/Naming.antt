@@ -25,7 +25,7 @@ written-end o b d e =
 
 -- ---- how a new name ends
 
--- a zero behind labels ends a name, in a segment from any start
+-- a zero after labels ends a name, in a segment from any start
 zero_ends : (b m labels : List ℕ) (q s : ℕ) → m ≡ b ++ (labels ++ 0 ∷ []) → q ≡ length b + length labels
     → Reads m q s None [] (q + 1) 0
 zero_ends b m labels q s m_is q_is =

@@ -67,7 +67,7 @@ tracks_push (Some q ∷ places) [] p e is t = absurd t
 tracks_push (None ∷ places) (slot ∷ slots) p e is t = (t.0, tracks_push places slots p e is t.1)
 tracks_push (Some q ∷ places) (slot ∷ slots) p e is t = (t.0, t.1, tracks_push places slots p e is t.2)
 
--- what is account_from behind a place that was kept is its end
+-- what is account_from after a place that was kept is its end
 abbrev pub EndsBehind : ℕ → Reply → Type 0
 EndsBehind p (Done len) = len ≡ p + 2
 EndsBehind p reply = Unit {0}

@@ -12,7 +12,7 @@ use Rattle.dns_names_wire.specs.Runs.{Runs, RunsStep}
 use Rattle.dns_names_wire.specs.Inside.Running.{HoldsPlace, Tracks}
 use Rattle.dns_names_wire.proofs.Answering.{Follows, IsInside, step-follows}
 
--- ---- one step more, behind the others
+-- ---- one step more, after the others
 
 runs_push : (a : Account) (v : Encoder) (actions : List Action) (replies : List Reply) (m : Encoder) (action : Action) (reply : Reply) (w : Encoder)
     → Runs a v actions replies m → RunsStep (account_from a actions replies) m action reply w → Runs a v (actions ++ action ∷ []) (replies ++ reply ∷ []) w

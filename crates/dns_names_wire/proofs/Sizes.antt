@@ -28,7 +28,7 @@ use Rattle.dns_names_wire.specs.ItemFrames.{frame-part}
 
 -- ---- what is accepted
 
--- What accepted writes keep, and where they end: at the buffer's end, behind no more than so many bytes.
+-- What accepted writes keep, and where they end: at the buffer's end, after so many bytes at most.
 pub record Goes (v : Encoder) (size : ℕ) (w : Encoder) : Type 0 where
   pub at_end : w.offset ≡ length w.bytes
   pub no_less : v.offset ≤ w.offset
@@ -52,7 +52,7 @@ goes-nowhere v w e same =
     let P : Encoder → Type 0 = λ x. Goes v 0 x in
     subst P (sym same) (record { at_end = e; no_less = omega arith; no_more = omega arith; max_size = refl; encoding = refl })
 
--- one write behind another
+-- one write after another
 goes-on : (v m w : Encoder) (first rest size : ℕ) → size ≡ first + rest → Goes v first m → Goes m rest w → Goes v size w
 goes-on v m w first rest size e f g = record {
   at_end = g.at_end;
@@ -195,12 +195,12 @@ part-refused (U32 number) parts v w error h = first-refused (U32 number) parts v
 part-refused (Bytes bytes) parts v w error h = first-refused (Bytes bytes) parts v w bytes.items error refl h
 part-refused (Text text) parts v w error h = text-refused text parts v w error h
 
--- a text behind a part is one of the parts
+-- a text after a part is one of the parts
 text-behind : (n : ℕ) (part : Part) (parts : List Part) → HasTextOfSize n parts → HasTextOfSize n (part ∷ parts)
 text-behind n (Text text) parts h = inr h
 text-behind n part parts h = h
 
--- what refuses the parts behind a part refuses all of them
+-- what refuses the parts after a part refuses all of them
 refused-behind : (part : Part) (parts : List Part) (most start p : ℕ) (error : ProtoError) → p ≤ start + part_size part
     → RefusesParts most p parts error → RefusesParts most start (part ∷ parts) error
 refused-behind part parts most start p Memory le h = tt

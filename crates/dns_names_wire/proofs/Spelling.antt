@@ -1,4 +1,4 @@
--- Pieces that stand in bytes still stand when bytes follow, and one more piece stands behind them.
+-- Pieces that stand in bytes still stand when bytes follow, and one more piece stands after them.
 use Rattle.std.proofs.Common.{◌≡◌, ℕ, ◌+◌, Bool, List, [], ◌∷◌, ◌++◌, length, slice_range, refl, sym, ap, ◌∙◌, subst, arith}
 use Rattle.std.proofs.lemmas.List.{length-append, append-nil}
 use Rattle.dnw_encoder.specs.declared.encoder.modes.NameEncoding.{NameEncoding}

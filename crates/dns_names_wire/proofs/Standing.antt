@@ -124,7 +124,7 @@ sound-reserved old cs f v s =
     sound-push old cs f' hole v.bytes v.offset v.candidates (λ g. place_piece n (g n)) (v.offset + 2) v.candidates
     (reserved v 2).bytes (v.offset + 2) (sound-other old cs f f' v.bytes v.bytes v.offset v.candidates s now) (λ g. refl) refl stands (useful-push old cs hole v.candidates s.useful) zeros refl
 
--- the bytes before a place, and those behind it
+-- the bytes before a place, and those after it
 pub filled_bytes : (b before held behind d : List ℕ) (p : ℕ) → b ≡ before ++ (held ++ behind) → length held ≡ length d → p ≡ length before
     → take p b ++ (d ++ drop (p + length d) b) ≡ before ++ (d ++ behind)
 filled_bytes b before held behind d p parts size p_is =

@@ -43,7 +43,7 @@ impl From<AllocError> for Refusal {
     }
 }
 
-/// Writes the answer to the words, the program's own name not among them, and tells the exit status: 0 for an
+/// Writes the answer to the words, the program's own name not among them, and returns the exit status: 0 for an
 /// answer, 1 for a refusal, 2 for words that ask for nothing.
 pub fn answer<W: Write>(alloc: Global, words: &[String], out: &mut W) -> io::Result<u8> {
     match reply(alloc, words) {

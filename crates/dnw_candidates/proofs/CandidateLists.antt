@@ -27,7 +27,7 @@ passed P own cs i offset below is other all =
 pub le_unless : (a b : ℕ) → (b < a → ⊥) → a ≤ b
 le_unless a b not = ⊎_elim (λ h. h.1) (λ h. absurd (not h.1)) (leb_tells a b)
 
--- the candidate stands between those before it and those behind
+-- the candidate stands between those before it and those after
 between : (own : List ℕ) (cs : List Candidate) (i offset : ℕ) → i < length cs
     → (offset, own) ≡ get_or cs i (offset, own) → cs ≡ take i cs ++ (offset, own) ∷ drop (suc i) cs
 between own cs i offset below is =

@@ -11,7 +11,7 @@ use Rattle.dnw_candidates.specs.Inside.Store.{AreHeld, AreWithin, candidate_of, 
 use Rattle.dnw_candidates.specs.declared.store.Entry.{Entry}
 use Rattle.dnw_candidates.proofs.CandidateLists.{all_push, length-labels_wire, less_is}
 
--- ---- bytes that come and go behind those that are used
+-- ---- bytes that come and go after those that are used
 
 part_more : (bytes more : List ℕ) (from size : ℕ) → from + size ≤ length bytes → take size (drop from (bytes ++ more)) ≡ take size (drop from bytes)
 part_more bytes more from size within =
@@ -209,7 +209,7 @@ are_held_both n m end to es fs first more further rest =
       reached = all_both (λ (e : Entry). e.start < pointer_reach) es fs first.reached rest.reached;
     }
 
--- the entries of suffixes, and the bytes of all labels, are put behind what is there
+-- the entries of suffixes, and the bytes of all labels, are put after what is there
 module _ (bytes own : List ℕ) (es : List Entry) (from start : ℕ) (ls : List (List ℕ)) (from_is : from ≡ length bytes) (own_is : own ≡ labels_wire ls) where
   pub suffixes_are_held : (n end to : ℕ) → AreHeld (length bytes) end es → end ≤ to → start + length (labels_wire (take n ls)) ≤ to → start + length (labels_wire ls) < pointer_reach
       → AreHeld (length (bytes ++ own)) to (es ++ entries_of n from start ls)

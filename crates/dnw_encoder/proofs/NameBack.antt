@@ -22,7 +22,7 @@ use Rattle.dnw_candidates.proofs.CandidateLists.{length-labels_wire, not_nil}
 use Rattle.dnw_encoder.proofs.Emission.{labels_wire-append}
 use Rattle.dnw_encoder.proofs.Suffixes.{length-all}
 
--- ---- a pointer behind labels
+-- ---- a pointer after labels
 
 pub pointer_leads : (place : ℕ) → target (192 + place / 256) (place % 256) ≡ place
 pointer_leads place = omega (arith, div-add-mod' place 256)
@@ -35,7 +35,7 @@ pub each_back : (front back : List (List ℕ)) → AllByRecursion IsLabel (front
 each_back [] back all = all
 each_back (l ∷ front) back all = each_back front back all.1
 
--- labels and a pointer are read behind a message that has the rest of the name at the pointer's place
+-- labels and a pointer are read after a message that has the rest of the name at the pointer's place
 pub Reads-shared : (b more : List ℕ) (front back : List (List ℕ)) (place end pointers : ℕ) → AllByRecursion IsLabel front
     → Reads b place place None back end pointers
     → Reads (b ++ (labels_wire front ++ (pointer_to place ++ more))) (length b) (length b) None (front ++ back)

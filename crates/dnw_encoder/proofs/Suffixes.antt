@@ -107,7 +107,7 @@ kept-some v ls others n m near count same =
 
 -- ---- the labels before a pointer, and the pointer
 
--- bytes over those that stand there, and more bytes behind them to the end
+-- bytes over those that stand there, and more bytes after them to the end
 pub two_parts : (o e : ℕ) (b r f d : List ℕ) → o ≤ length b → e ≡ o + length f + length d → length (take e b ++ r) ≡ e
     → take (o + length f) (take o (take e b ++ r) ++ (f ++ drop (o + length f) (take e b ++ r)))
     ++ (d ++ drop (o + length f + length d) (take o (take e b ++ r) ++ (f ++ drop (o + length f) (take e b ++ r))))
@@ -125,7 +125,7 @@ two_parts o e b r f d within end size =
     (omega (arith, length-append first (drop (o + length f) old), first_size, length-drop (o + length f) old, size, end)) in
     rw middle (rw (take_at first (drop (o + length f) old) (o + length f) first_size, none, append-nil d) (append_assoc (take o b) f d))
 
--- one write and another behind it, over a buffer that was made to fit
+-- one write and another after it, over a buffer that was made to fit
 pub both_written : (v m w : Encoder) (e : ℕ) (grown r f d : List ℕ) → v.offset ≤ length v.bytes → e ≡ v.offset + length f + length d
     → grown ≡ take e v.bytes ++ r → length grown ≡ e → m ≡ written (record v { bytes = grown }) f → w ≡ written m d
     → w ≡ record v { bytes = take v.offset v.bytes ++ (f ++ d); offset = v.offset + length (f ++ d) }

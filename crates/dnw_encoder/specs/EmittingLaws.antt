@@ -25,7 +25,7 @@ on-ok : (outcome : Outcome) {P : Type 0} → P → OnOk outcome P
 on-ok (Ok done) p = p
 on-ok (Err error) p = tt
 
--- Where what is new stands behind what stood before, the frame is kept.
+-- Where what is new stands after what stood before, the frame is kept.
 pub frame-moved : (v : Encoder) (outcome : Outcome) (b : List ℕ) (o : ℕ) (cs : List Candidate) (names : ℕ) → take v.offset b ≡ v.bytes
     → candidates_before v.offset cs ≡ candidates_before v.offset v.candidates → o ≡ length b
     → Frame v outcome (record v { bytes = b; offset = o; candidates = cs; names = names })
@@ -61,7 +61,7 @@ fails-unchanged v d Memory w h = h.2
 fails-unchanged v d (MaxBufferSizeExceeded size) w h = h.2
 fails-unchanged v d error w h = absurd h
 
--- ---- one frame behind another
+-- ---- one frame after another
 
 no_less : (n p q : ℕ) → p ≤ q → nat_lt n q ≡ false → nat_lt n p ≡ false
 no_less n p q le e = search (rules, tests)

@@ -10,7 +10,7 @@ use Rattle.dnw_encoder.specs.Emitting.{Outcome, Frame}
 use Rattle.dnw_encoder.specs.EmittedName.{EmitsAs, EmitsName, Share, counted, emitted, form, in_mode, kept, newly_kept}
 use Rattle.dnw_encoder.specs.EmittingLaws.{frame-moved, frame-written, frame-same, take-all, candidates_before-twice}
 
--- ---- what is kept lies behind the start
+-- ---- what is kept lies after the start
 
 abbrev IsBehind : ℕ → List Candidate → Type 0
 IsBehind o cs = AllByRecursion (λ c. o ≤ c.0) cs

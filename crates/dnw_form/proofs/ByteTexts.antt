@@ -32,7 +32,7 @@ IsRead-single b small h =
       read = λ cs. rw (not-true (b == dot) first.0, not-true (b == backslash) second.0, not-true (is_control b || is_whitespace b) second.1) refl;
     }
 
--- a dot behind a backslash
+-- a dot after a backslash
 dot_read : (cs : List ℕ) → elements Outside (backslash ∷ dot ∷ cs) ≡ Char dot ∷ elements Outside cs
 unfolding general_category general_category_rows value_in
 dot_read cs = refl

@@ -4,11 +4,11 @@ use Rattle.std.specs.List.{flat_map, join_with_byte}
 use Rattle.std.proofs.lemmas.List.{append-nil}
 use Rattle.dnw_label.specs.LabelText.{dot, label_text}
 
--- a label behind a dot
+-- a label after a dot
 abbrev pub dotted : List ℕ → List ℕ
 dotted l = dot ∷ label_text l
 
--- the first label's text, and then the others, each behind a dot
+-- the first label's text, and then the others, each after a dot
 pub joined-cons : (l : List ℕ) (ls : List (List ℕ)) → join_with_byte dot (map label_text (l ∷ ls)) ≡ label_text l ++ flat_map dotted ls
 joined-cons l [] = sym (append-nil (label_text l))
 joined-cons l (m ∷ ls) = ap (λ (rest : List ℕ). label_text l ++ dot ∷ rest) (joined-cons m ls)

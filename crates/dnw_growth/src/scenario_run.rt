@@ -13,7 +13,7 @@ use std::alloc::Global;
 use std::io;
 use std::io::Write;
 
-/// Runs the scenario or the script of this name, or under the name `all` each one behind a line with its name. Tells
+/// Runs the scenario or the script of this name, or under the name `all` each one after a line with its name. Returns
 /// whether there is one.
 pub(crate) fn run_named<W: Write>(alloc: Global, name: &[u8], out: &mut W) -> io::Result<bool> {
     let all = name == b"all".as_slice();

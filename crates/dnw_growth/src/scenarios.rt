@@ -39,7 +39,7 @@ impl fmt::Display for Labels {
 #[derive(Clone, Copy)]
 pub struct Scenario {
     pub name: &'static str,
-    /// The labels of which each line tells whether a candidate has them.
+    /// The labels of which each line says whether a candidate has them.
     pub watched: &'static [Labels],
     pub steps: &'static [Step],
 }

@@ -1,4 +1,4 @@
-//! The lines that tell a call, its answer, and what stands after it.
+//! The lines for a call: its result, and what stands after it.
 
 use crate::scenarios::Labels;
 use crate::step::{Answer, Step};

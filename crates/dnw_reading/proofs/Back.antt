@@ -1,4 +1,4 @@
--- An uncompressed form is read back, whatever stands before and behind it.
+-- An uncompressed form is read back, whatever stands before and after it.
 use Rattle.std.proofs.Common.{◌≡◌, ℕ, ◌+◌, ◌-◌, ◌≤◌, take, drop, Some, None, List, [], ◌∷◌, ◌++◌, length, slice_get, slice_range, refl, subst, ap, sym, ◌∙◌, append_assoc, arith, length-append, drop_at}
 use Rattle.std.specs.List.{AllByRecursion}
 use Rattle.std.proofs.lemmas.List.{take_at, take-append-drop, length-take-le}
@@ -39,7 +39,7 @@ Reads-wire b before behind (l ∷ ls) p s e p_is e_is b_is all =
     part
     (label (length l) tt here all.0.not_empty all.0.not_long (omega arith) (Reads-wire b (start ++ l) behind ls (p + 1 + length l) s e rest_is end rest all.1))
 
--- labels that are written in a row are read, and what is read behind them follows
+-- labels that are written in a row are read, and what is read after them follows
 pub Reads-front : (b before behind : List ℕ) (front back : List (List ℕ)) (p q s e k : ℕ) → p ≡ length before
     → q ≡ p + length (labels_wire front) → b ≡ before ++ (labels_wire front ++ behind) → AllByRecursion IsLabel front
     → Reads b q s None back e k → Reads b p s None (front ++ back) e k

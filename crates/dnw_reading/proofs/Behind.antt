@@ -16,7 +16,7 @@ Reads-end (zero_octet w g) z = (refl, g)
 Reads-end {b} {p} (label c w g one most fit r) z = absurd (omega (arith, get_or_from_slice_get b p c 0 g))
 Reads-end {b} {p} (pointer high low w g least g' prior r) z = absurd (omega (arith, get_or_from_slice_get b p high 0 g))
 
--- behind a label
+-- after a label
 pub record BehindLabel (b : List ℕ) (p c s : ℕ) (limit : Option ℕ) (ls : List (List ℕ)) (e k : ℕ) : Type 0 where
   pub rest : List (List ℕ)
   pub labels : ls ≡ slice_range b (p + 1) (p + 1 + c) ∷ rest
@@ -31,7 +31,7 @@ Reads-label {b} {p} (label {ls = rest} c w g one most fit r) ne less =
     rw (get_or_from_slice_get b p c 0 g) (record { rest = rest; labels = refl; octet = g; there = fit; reads = r })
 Reads-label {b} {p} (pointer high low w g least g' prior r) ne less = absurd (omega (arith, get_or_from_slice_get b p high 0 g))
 
--- behind a pointer
+-- after a pointer
 pub record BehindPointer (b : List ℕ) (p s : ℕ) (ls : List (List ℕ)) : Type 0 where
   pub to : ℕ
   pub end : ℕ

@@ -1,4 +1,4 @@
--- How a walk goes on behind each element, and what it has found at its end.
+-- How a walk goes on after each element, and what it has found at its end.
 use Rattle.std.proofs.Common.{◌≡◌, ℕ, suc, ◌+◌, ◌<◌, ◌≤◌, Option, Some, None, List, [], ◌∷◌, ◌++◌, length, slice_get, slice_range, unwrap_or, refl, sym, subst, append_assoc, add-zero, arith}
 use Rattle.std.specs.Option.{option_or}
 use Rattle.std.proofs.lemmas.List.{length_push, append-nil}

@@ -1,4 +1,4 @@
--- Where a name's first label stands, behind the pointers before it.
+-- Where a name's first label stands, after the pointers before it.
 use Rattle.std.proofs.Common.{◌≡◌, ℕ, suc, ◌+◌, ◌≤◌, IsTrue, Option, None, List, length, get_or, min, Result, Ok, Err, IfOk, IfErr, refl, sym, ◌∙◌, arith}
 use Rattle.std.proofs.lemmas.Option.{get_or_from_slice_get}
 use Rattle.dnw_error.specs.declared.error.DecodeError.{DecodeError}
@@ -69,7 +69,7 @@ module _ {b : List ℕ} {start first p s size pointers : ℕ} (h : Leads b start
             (fewer, behind, omega arith);
       }
 
-  -- a pointer behind a label is followed
+  -- a pointer after a label is followed
   pub Leads-pointer : (t : ℕ) → IsPointerAt b p s t → (size ≡ 1 → ⊥) → Leads b start first t t size (pointers + 1)
   Leads-pointer t at ne =
       let prior = at.prior in

@@ -48,7 +48,7 @@ module _ {b : List ℕ} {p : ℕ} (h : MoreAt b p) where
         omega arith,
       )
 
--- a label stands where the pointers lead, and the others are read behind it
+-- a label stands where the pointers lead, and the others are read after it
 pub record Lends (b : List ℕ) (p t c : ℕ) : Type 0 where
   pub there : t + 1 + c ≤ length b
   pub labels : labels_at b p ≡ slice_range b (t + 1) (t + 1 + c) ∷ labels_at b (t + 1 + c)

@@ -1,4 +1,4 @@
--- What a walk knows before and behind each element.
+-- What a walk knows before and after each element.
 use Rattle.std.proofs.Common.{◌≡◌, ℕ, ◌+◌, ◌<◌, ◌≤◌, Option, Some, None, List, length, slice_get, unwrap_or, refl, sym, ap, ◌∙◌, subst, ⊎_elim, arith}
 use Rattle.std.specs.Option.{option_or}
 use Rattle.std.proofs.lemmas.Bool.{cases_lt}
@@ -51,7 +51,7 @@ module _ {b : List ℕ} {start first p s limit end size pointers labels : ℕ} (
       (subst (λ (g : Option ℕ). IsWithin p g) (sym given_is) before, omega arith))
       (cases_lt pointers 1)
 
-  -- at or behind it none may
+  -- at or after it none may
   pub WalksOn-past : (error : DecodeError) → IsPast p s limit pointers error → FaultAt b start error pointers labels
   WalksOn-past error at =
       let past = at.past in
@@ -124,7 +124,7 @@ module _ {b : List ℕ} {start first p s limit end size pointers labels : ℕ} (
   WalksOn-leading before t e at here known one =
       WalksOn-onward before t e t at here known (Leads-leading h.leads t at one)
 
-  -- it stands behind a label
+  -- it stands after a label
   pub WalksOn-pointer : p < limit → (t e : ℕ) → IsPointerAt b p s t → (pointers ≡ 0 → e ≡ p + 2) → (1 ≤ pointers → e ≡ end)
       → (size ≡ 1 → ⊥) → WalksOn b start first t t s e size (pointers + 1) labels
   WalksOn-pointer before t e at here known ne =

@@ -33,7 +33,7 @@ fn steps(alloc: Global, texts: &[String]) -> ProtoResult<Vec<Step>> {
     Ok(steps)
 }
 
-/// Writes the message of the steps, or tells why the first refused one was.
+/// Writes the message of the steps, or returns the error of the first one that is refused.
 fn write(alloc: Global, steps: &[Step], message: &mut Vec<u8>) -> ProtoResult<()>
     requires { length message.old.items < 2 ^ 32 }
 {

@@ -4,7 +4,7 @@ use Rattle.dnw_base.specs.Names.{labels_wire}
 use Rattle.dnw_candidates.specs.Inside.Store.{entries_of}
 use Rattle.dnw_candidates.proofs.store.push_entries.Given as goal
 
--- what is left, put behind what was added, is what was to be added
+-- what is left, put after what was added, is what was to be added
 abbrev pub invariant-suffixes : goal.invariant-suffixes
 invariant-suffixes l =
     (vec_len l.entries + l.left ≤ vec_capacity l.entries) × (l.from + length (labels_wire l.labels) < 2 ^ 64)

@@ -5,7 +5,7 @@ use Rattle.dnw_label.specs.LabelText.{dot, label_text}
 use Rattle.dnw_base.specs.Names.{encoded_size}
 use Rattle.dnw_form.proofs.text.push_labels_text.Given as goal
 
--- what is written, and what is left, make what the labels behind the first are written as
+-- what is written, and what is left, make what the labels after the first are written as
 abbrev pub invariant-loop-label : goal.invariant-loop-label
 invariant-loop-label l = record {
   text : l.out.bytes ++ flat_map (λ (label : List ℕ). dot ∷ label_text label) l.labels

@@ -1,4 +1,4 @@
--- An uncompressed form is read back, whatever stands before and behind it.
+-- An uncompressed form is read back, whatever stands before and after it.
 use Rattle.std.proofs.Common.{◌+◌, ◌++◌, length, refl, append_assoc}
 use Rattle.dnw_base.specs.Names.{encoded_size, wire}
 use Rattle.dnw_reading.proofs.Back.{Reads-wire}

@@ -3,7 +3,7 @@ use Rattle.dnw_base.proofs.Wires.{AreLabels-few}
 use Rattle.dnw_name.proofs.name.Name.num_labels.Goals as goal
 use Rattle.dnw_name.proofs.name.Name.num_labels.Goals.{After-len-others}
 
--- there are few labels behind the first
+-- there are few labels after the first
 few : (c : After-len-others) → c.len-others.result + 1 ≤ 127
 few c =
     let all : length c.wire_labels-labels.result ≡ length c.args.self.now.labels = ap length c.wire_labels-labels.ensures.labels in

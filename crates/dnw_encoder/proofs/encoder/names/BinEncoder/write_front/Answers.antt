@@ -1,4 +1,4 @@
--- The buffer ends behind the pointer.
+-- The buffer ends after the pointer.
 use Rattle.std.proofs.Common.{◌≡◌, ◌+◌, ◌≤◌, length, refl, arith}
 use Rattle.dnw_encoder.specs.EncoderValue.{value}
 use Rattle.dnw_encoder.specs.EmittedName.{pointer_to}
