@@ -91,6 +91,33 @@ impl Name {
         Ok((Name::of_form(form, read.len), read.end))
     }
 
+    /// Replaces this name by the one at an offset of a message, and returns the offset after that name's own octets. It is
+    /// [`Name::read`] without a new name: of many names, each can be read over the one before.
+    ///
+    /// # Errors
+    ///
+    /// As [`Name::read`]; the name is then unchanged.
+    ///
+    /// ```
+    /// use dns_names_wire::{Error, Name};
+    ///
+    /// let message = b"\x01b\0\x01a\xC0\0";
+    /// let (mut name, mut end) = (Name::root(), 0);
+    /// while end < message.len() {
+    ///     end = name.read_from(message, end)?;
+    /// }
+    /// assert_eq!(name.to_string(), "a.b.");
+    /// assert_eq!(name.read_from(message, end), Err(Error::MessageCut));
+    /// assert_eq!(name.to_string(), "a.b.");
+    /// # Ok::<(), Error>(())
+    /// ```
+    #[inline]
+    pub fn read_from(&mut self, message: &[u8], start: usize) -> Result<usize, Error> {
+        let read = door::read(message, start, &mut self.form)?;
+        (self.len, self.is_fqdn) = (read.len as u8, true);
+        Ok(read.end)
+    }
+
     /// Returns the fully qualified name whose wire form this is, compressed or not: the name at offset 0, if it is all there is.
     ///
     /// # Errors

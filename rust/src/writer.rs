@@ -141,8 +141,32 @@ impl MessageWriter {
     ///
     /// `MessageTooLong` if it would be longer than the maximum, or `NoMemory`.
     pub fn finish(&self) -> Result<Vec<u8>, Error> {
-        match self.finish_truncated()? {
-            (message, parts) if parts == self.parts => Ok(message),
+        let mut message = Vec::new();
+        self.finish_into(&mut message)?;
+        Ok(message)
+    }
+
+    /// Replaces `message` by the message. Its memory is kept: with [`clear`](MessageWriter::clear), one message after another
+    /// can be written without an allocation in Rust.
+    ///
+    /// # Errors
+    ///
+    /// As [`finish`](MessageWriter::finish); `message` then has the first parts that fit, or nothing.
+    ///
+    /// ```
+    /// use dns_names_wire::{MessageWriter, Name};
+    ///
+    /// let (mut writer, mut message) = (MessageWriter::new(), Vec::new());
+    /// for text in ["a.b.", "c."] {
+    ///     let name: Name = text.parse()?;
+    ///     writer.clear().push(&name).push(&name).finish_into(&mut message)?;
+    ///     assert_eq!(message, [name.as_wire(), b"\xC0\0"].concat());
+    /// }
+    /// # Ok::<(), dns_names_wire::Error>(())
+    /// ```
+    pub fn finish_into(&self, message: &mut Vec<u8>) -> Result<(), Error> {
+        match self.put_whole_parts(message)? {
+            parts if parts == self.parts => Ok(()),
             _ => Err(Error::MessageTooLong),
         }
     }
@@ -155,14 +179,7 @@ impl MessageWriter {
     /// `NoMemory`.
     pub fn finish_truncated(&self) -> Result<(Vec<u8>, usize), Error> {
         let mut message = Vec::new();
-        let (items, is_whole) = self.write(self.list.len(), &mut message)?;
-        if is_whole {
-            return Ok((message, self.parts));
-        }
-        let (parts, cut) = self.whole_parts(items);
-        if let Some(part) = cut {
-            self.write(part.start, &mut message)?;
-        }
+        let parts = self.put_whole_parts(&mut message)?;
         Ok((message, parts))
     }
 
@@ -181,6 +198,19 @@ impl MessageWriter {
         self.joined.clear();
         (self.items, self.parts) = (0, 0);
         self
+    }
+
+    /// Replaces `message` by as many of the first parts as fit into the maximum, and returns how many these are.
+    fn put_whole_parts(&self, message: &mut Vec<u8>) -> Result<usize, Error> {
+        let (items, is_whole) = self.write(self.list.len(), message)?;
+        if is_whole {
+            return Ok(self.parts);
+        }
+        let (parts, cut) = self.whole_parts(items);
+        if let Some(part) = cut {
+            self.write(part.start, message)?;
+        }
+        Ok(parts)
     }
 
     /// Returns how many whole parts the first items are, and the part in the middle of which they end.

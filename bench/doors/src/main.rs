@@ -11,7 +11,7 @@ mod typed;
 use inputs::Task;
 
 type Door = fn(&Task, u64) -> Option<u64>;
-const DOORS: [(&str, Door); 2] = [("c", direct::run), ("rust", typed::run)];
+const DOORS: [(&str, Door); 3] = [("c", direct::run), ("rust", typed::run), ("rust-reusing", typed::run_reusing)];
 
 /// Does something so many times, and returns the sum of what it returns.
 fn repeat(count: u64, once: impl FnMut() -> u64) -> u64 {

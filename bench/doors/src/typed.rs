@@ -52,6 +52,29 @@ pub fn run(task: &Task, count: u64) -> Option<u64> {
     })
 }
 
+/// Reads each name over the one before, and writes each message over the one before.
+pub fn run_reusing(task: &Task, count: u64) -> Option<u64> {
+    match task.kind {
+        Kind::Read => {
+            let mut name = Name::root();
+            let mut read = |start| {
+                let end = name.read_from(black_box(&task.bytes), start as usize);
+                end.map_or(FAILED, |end| end as u64 + 65536 * size(&name))
+            };
+            Some(repeat(count, || sum(&task.starts, |start| read(*start))))
+        }
+        Kind::Emit => {
+            let names: Vec<Name> = names(&task.bytes, 0).map(|name| name.expect("a name").into()).collect();
+            let (mut writer, mut message) = (MessageWriter::new(), vec![]);
+            Some(repeat(count, || {
+                writer.clear().extend(black_box(&names));
+                writer.finish_into(&mut message).map_or(FAILED, |()| black_box(&message).len() as u64)
+            }))
+        }
+        _ => None,
+    }
+}
+
 /// A message begins with its header.
 const HEADER_SIZE: usize = 12;
 
