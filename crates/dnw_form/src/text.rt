@@ -1,11 +1,11 @@
 //! Names as text (RFC 1035, section 5.1, but with octal escapes).
-ghost use Rattle.std.specs.Prelude.{◌≡◌, ℕ, ◌+◌, ◌-◌, ◌*◌, ◌^◌, ◌<◌, ◌≤◌, List, [], ◌∷◌, ◌++◌, ◌==◌, length, map, take, true, IsTrue, Some, None, Ok, IfSome, IfOk, IfErr, OnOk, if◌then◌else◌, encode_utf8};
+ghost use Rattle.std.specs.Prelude.{◌≡◌, ℕ, ◌+◌, ◌-◌, ◌*◌, ◌^◌, ◌<◌, ◌≤◌, List, [], ◌∷◌, ◌++◌, ◌==◌, length, get_or, map, take, true, false, IsTrue, Some, None, Ok, IfSome, IfOk, IfErr, OnOk, if◌then◌else◌, encode_utf8};
 ghost use Rattle.std.specs.List.{AllByRecursion, join_with_byte, list_all};
 ghost use Rattle.std.specs.Str.{chars};
 ghost use Rattle.arrayvec.specs.ArrayString.{array_string_len};
 ghost use Rattle.dnw_base.specs.Limits.{max_label, max_name};
 ghost use Rattle.dnw_error.specs.Fault.{Follows, FailsOr, NeedsErrorText, Updates};
-ghost use Rattle.dnw_base.specs.Labels.{IsLabel};
+ghost use Rattle.dnw_base.specs.Labels.{IsLabel, asterisk};
 ghost use Rattle.dnw_base.specs.Names.{encoded_size};
 ghost use Rattle.dnw_label.specs.LabelText.{dot, label_from_text, label_text};
 ghost use Rattle.dnw_form.specs.NameText.{Outside, Escaped, is_numeric, is_octal_digit, elements, Stop, bad_digit, with_text, name_from_text};
@@ -564,6 +564,7 @@ fn simple_label_len(text: &[u8]) -> usize
 /// Returns 1 if a text begins with `*`, else 0.
 #[tactic(auto, using(crate::proofs::SimpleLabels::asterisk_front))]
 fn asterisk_len(text: &[u8]) -> usize
+    ensures value { result ≡ (if get_or text.now 0 0 == asterisk then 1 else 0) }
     ensures few { result ≤ length text.now }
     ensures label { 0 < result → IsSimpleLabel (take result text.now) }
 {
@@ -577,6 +578,7 @@ fn asterisk_len(text: &[u8]) -> usize
 fn simple_len(text: &[u8]) -> usize
     ensures few { result ≤ length text.now }
     ensures simple { list_all is_simple (take result text.now) ≡ true }
+    ensures longest { result < length text.now → is_simple (get_or text.now result 0) ≡ false }
 {
     let mut len = 0;
     while len < text.len() && is_simple(text[len]) {
@@ -585,11 +587,12 @@ fn simple_len(text: &[u8]) -> usize
     len
 }
 
-/// Returns a number of simple characters that a text begins with, as [`simple_len`] does: a long run takes less, and a
-/// short one more.
+/// Returns the number of simple characters that a text begins with. For a long run this takes less than [`simple_len`], and
+/// for a short one more.
 fn run_len(text: &[u8]) -> usize
     ensures few { result ≤ length text.now }
     ensures simple { list_all is_simple (take result text.now) ≡ true }
+    ensures longest { result < length text.now → is_simple (get_or text.now result 0) ≡ false }
 {
     let mut len = 0;
     'fours: while text.len() - len >= 4 && four_are_simple(text, len) {

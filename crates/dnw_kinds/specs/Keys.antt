@@ -1,5 +1,5 @@
 -- Keys of sets of records: their order, equality and hash.
-use Rattle.std.specs.Prelude.{◌≡◌, Bool, ◌++◌}
+use Rattle.std.specs.Prelude.{Bool, ◌++◌}
 use Rattle.std.specs.Ordering.{on, then_cmp, eq_of_both, eq_by_cmp}
 use Rattle.std.specs.Hash.{HashWrites}
 use Rattle.std.specs.declared.cmp.Ordering.{Ordering}

@@ -1,5 +1,5 @@
 -- The laws of the order, equality and hash of keys.
-use Rattle.std.specs.Prelude.{◌≡◌, Bool, ◌++◌}
+use Rattle.std.specs.Prelude.{◌≡◌, ◌++◌}
 use Rattle.std.proofs.Common.{IsTrue, refl, ap, ◌∙◌}
 use Rattle.std.specs.Ordering.{eq_by_cmp, as_partial_cmp}
 use Rattle.std.specs.Cmp.{IsTotalOrder, IsPartialOrder, IsEquivalence, IsPartialEquivalence, po, then_total, on_total, and_equiv, on_equiv, partial_equiv_from_equiv, both_tied, first_so, second_so}
