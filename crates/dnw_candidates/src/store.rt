@@ -11,10 +11,11 @@ use smallvec::SmallVec;
 use std::alloc::{AllocError, Global};
 use std::marker::Model;
 
-/// How many bytes of labels are inline, and for how many more there is room once these are too few: as a rule for all of a
-/// message, so that it is allocated once.
+/// How many bytes of labels are inline.
 const INLINE_SIZE: usize = 64;
 
+/// For how many bytes of labels there is more room once they have none: the first allocation is then 512 bytes, and not 128,
+/// 256 and 512 in turn.
 const USUAL_SIZE: usize = 448;
 
 /// Where the bytes of a candidate's labels are in the store, and where the message has these labels.
