@@ -1,5 +1,5 @@
 -- A list of items, written item by item.
-use Rattle.std.proofs.Common.{◌≡◌, true, ℕ, ◌+◌, ◌<◌, ◌≤◌, Option, List, length, Ok, Err, ap, ◌∙◌, refl, arith}
+use Rattle.std.proofs.Common.{◌≡◌, inr, true, ℕ, ◌+◌, ◌<◌, ◌≤◌, Option, List, length, Ok, Err, ap, ◌∙◌, refl, arith}
 use Rattle.std.specs.Borrow.{GName}
 use Rattle.dnw_error.specs.declared.error.ProtoError.{ProtoError}
 use Rattle.dnw_error.specs.declared.error.ProtoError.TheVariants.{MaxBufferSizeExceeded, Memory}
@@ -11,7 +11,9 @@ use Rattle.dnw_encoder.specs.NameFrames.{frame-name}
 use Rattle.dnw_record.specs.RecordFrames.{frame-fields, frame-record}
 use Rattle.dnw_c.specs.declared.messages.Kind.{Kind}
 use Rattle.dnw_c.specs.declared.messages.Kind.TheVariants as Kinds
-use Rattle.dnw_c.specs.MessageItems.{Item, Bytes, Name, Record, EmitsItem, TakesOf, TakesItem, WritesItems, none, more}
+use Rattle.dnw_c.specs.Failures.{of_proto}
+use Rattle.dnw_c.specs.declared.failure.Failure.{Failure}
+use Rattle.dnw_c.specs.MessageItems.{Item, Bytes, Name, Record, EmitsItem, FailsToCopyOf, TakesOf, TakesItem, WritesItems, none, more}
 use Rattle.dnw_c.proofs.Starts.{takes-onward, takes-within}
 use Rattle.dnw_c.proofs.RecordEnds.{record-own}
 
@@ -94,3 +96,8 @@ one_more {v = v} {w = w} {d = d} {next = next} {count = count} item h takes emit
       ends = item_ends item v w h.ends emits;
       so_far = more count d next item v w h.so_far takes emits;
     }
+
+-- an item that is taken, and is not written, fails
+pub not_written : (kind : Kind) (item : Item) (d after : Decoder) (v w : Encoder) (error : ProtoError) {failure : Failure} → TakesOf kind d item after
+    → EmitsItem item v (Err error) w → failure ≡ of_proto error → FailsToCopyOf kind d v failure
+not_written kind item d after v w error takes emits is = inr (item, after, error, w, takes, emits, is)

@@ -1,6 +1,7 @@
-use Rattle.std.proofs.Common.{inr}
 use Rattle.dnw_encoder.specs.EncoderValue.{value}
+use Rattle.dnw_c.specs.declared.messages.Kind.TheVariants as Kinds
 use Rattle.dnw_c.specs.MessageItems.{Bytes}
+use Rattle.dnw_c.proofs.Items.{not_written}
 use Rattle.dnw_c.proofs.messages.write_bytes.Goals as goal
 
 pub returns-in-Ok-clause-ok : goal.returns-in-Ok-clause-ok
@@ -8,12 +9,5 @@ returns-in-Ok-clause-ok c = (Bytes c.in_ok-bytes.bytes.now, c.in_ok-bytes.ensure
 
 pub returns-in-Err-clause-err : goal.returns-in-Err-clause-err
 returns-in-Err-clause-err c =
-    inr (
-      Bytes c.in_ok-bytes.bytes.now,
-      c.read_block.new.decoder,
-      c.in-Err.error,
-      value c.emit_vec.new.self,
-      c.in_ok-bytes.ensures.ok,
-      c.in-Err.ensures.writes,
-      c.of_proto.ensures,
-    )
+    not_written Kinds.Bytes (Bytes c.in_ok-bytes.bytes.now) c.args.decoder.now c.read_block.new.decoder (value c.args.encoder.now) (value c.emit_vec.new.self) c.in-Err.error
+    c.in_ok-bytes.ensures.ok c.in-Err.ensures.writes c.of_proto.ensures

@@ -1,7 +1,7 @@
-use Rattle.std.proofs.Common.{inr}
 use Rattle.dnw_encoder.specs.EncoderValue.{value}
+use Rattle.dnw_c.specs.declared.messages.Kind.TheVariants as Kinds
 use Rattle.dnw_c.specs.MessageItems.{Record}
-use Rattle.dnw_c.proofs.Items.{item_undone}
+use Rattle.dnw_c.proofs.Items.{item_undone, not_written}
 use Rattle.dnw_c.proofs.messages.write_record.Goals as goal
 
 pub returns-in-Ok-clause-ok : goal.returns-in-Ok-clause-ok
@@ -9,15 +9,8 @@ returns-in-Ok-clause-ok c = (Record c.in_ok-record.record, c.in_ok-record.ensure
 
 pub returns-clause-err : goal.returns-clause-err
 returns-clause-err c =
-    inr (
-      Record c.in_ok-record.record,
-      c.read_record.new.decoder,
-      c.in-Err.error,
-      value c.emit.new.encoder,
-      c.in_ok-record.ensures.ok,
-      c.in-Err.ensures.emits,
-      c.of_proto.ensures,
-    )
+    not_written (Kinds.Record c.args.how) (Record c.in_ok-record.record) c.args.decoder.now c.read_record.new.decoder (value c.args.encoder.now) (value c.emit.new.encoder) c.in-Err.error
+    c.in_ok-record.ensures.ok c.in-Err.ensures.emits c.of_proto.ensures
 
 pub returns-clause-undone : goal.returns-clause-undone
 returns-clause-undone c = item_undone (Record c.in_ok-record.record) (value c.args.encoder.now) (value c.emit.new.encoder) c.in-Err.error c.requires.ends c.in-Err.ensures.emits
