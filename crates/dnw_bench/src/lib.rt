@@ -466,8 +466,7 @@ fn emit_each(alloc: Global, names: &[Name], encoding: NameEncoding) -> u64 {
 fn clone_each(alloc: Global, names: &[Name]) -> ProtoResult<Vec<Name>> {
     let mut copies = Vec::with_capacity(alloc, names.len())?;
     for name in names {
-        copies.reserve(1)?;
-        copies.push_reserved(name.clone()?);
+        copies.push(name.clone()?)?;
     }
     Ok(copies)
 }
