@@ -1,8 +1,8 @@
 #!/usr/bin/env python3
-"""Makes nets/list.txt, the list of the Rust's reverse names: addresses and names by a generator with a fixed seed, answers by
+"""Makes lists/nets.txt, the list of the Rust's reverse names: addresses and names by a generator with a fixed seed, answers by
 an oracle, a program over hickory-proto 0.26.3 that answers requests line by line.
 
-    make_nets.py ORACLE    writes nets/list.txt
+    make_nets.py ORACLE    writes lists/nets.txt
 
 README.md has the format. Names are cut, changed in an octet or two, have a digit or a label too many or one of another
 kind, capitals, and octets past ASCII.
@@ -109,7 +109,7 @@ def main():
         if is_name(labels):
             names[shown(labels, is_fqdn)] = asked(labels, is_fqdn)
     said = oracle.ask([f"from_ip {it}" for it in addresses] + [f"arpa {it}" for it in names.values()])
-    with open("nets/list.txt", "w") as out:
+    with open("lists/nets.txt", "w") as out:
         for it, answer in zip(addresses, said):
             text = bytes.fromhex(answer.split(" ")[3]).decode()
             out.write(f"ip {it} = {text}\n")

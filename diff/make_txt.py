@@ -1,8 +1,8 @@
 #!/usr/bin/env python3
-"""Makes tokens/list.txt, the list of the Rust's tokens and times: texts by a generator with a fixed seed, answers by an oracle,
+"""Makes lists/tokens.txt, the list of the Rust's tokens and times: texts by a generator with a fixed seed, answers by an oracle,
 a program over hickory-proto 0.26.3 that answers requests line by line.
 
-    make_txt.py ORACLE    writes tokens/list.txt and tokens/zones/counts
+    make_txt.py ORACLE    writes lists/tokens.txt and zones/counts
 
 README.md has the format. The Rust differs on purpose in three ways: a list that the text leaves open may give a word or
 nothing, the error of an unrecognized word after a `$` does not say which, and a lexer goes on after an error. What is
@@ -284,16 +284,16 @@ KINDS = ["blank", "l:", "c:", "at", "include", "origin", "ttl", "eol"]
 
 def rows():
     """The texts of the worked examples."""
-    for row in open(os.path.join(HERE, "tokens", "rows.txt")):
+    for row in open(os.path.join(HERE, "rows", "tokens.txt")):
         if row.startswith("lex "):
             yield bytes.fromhex(row.split(" ")[1].strip("-")).decode()
 
 
 def count_zones(asked):
     """How many tokens of each kind the master files have, and a checksum of all."""
-    for name in sorted(os.listdir(os.path.join(HERE, "tokens", "zones"))):
+    for name in sorted(os.listdir(os.path.join(HERE, "zones"))):
         if name != "counts":
-            with open(os.path.join(HERE, "tokens", "zones", name), newline="") as f:
+            with open(os.path.join(HERE, "zones", name), newline="") as f:
                 answer = asked.tokens([f.read()])[0]
             words = answer.split(" ")
             counts = " ".join(f"{kind}{sum(word.startswith(kind) for word in words)}" for kind in KINDS)
@@ -302,7 +302,7 @@ def count_zones(asked):
 
 def cut(asked, text):
     cuts = [text[:i] for i in range(len(text) + 1)]
-    return f"cuts {hexed(text.encode())} = {checksum(asked.tokens(cuts))}"
+    return f"lex-cuts {hexed(text.encode())} = {checksum(asked.tokens(cuts))}"
 
 
 def main():
@@ -322,9 +322,9 @@ def main():
     times = sorted({time(r) for _ in range(4000)} | {"", "4294967295", "4294967296", "7101w", "7102w"})
     out += [f"time {hexed(t.encode())} = {a}" for t, a in zip(times, asked.times(times))]
     out += families(asked)
-    with open(os.path.join(HERE, "tokens", "list.txt"), "w") as f:
+    with open(os.path.join(HERE, "lists", "tokens.txt"), "w") as f:
         f.write("\n".join(out) + "\n")
-    with open(os.path.join(HERE, "tokens", "zones", "counts"), "w") as f:
+    with open(os.path.join(HERE, "zones", "counts"), "w") as f:
         f.write("\n".join(count_zones(asked)) + "\n")
     print(f"{asked.texts} texts, of which {asked.differ} differ by design")
 
@@ -342,7 +342,7 @@ def families(asked):
     for letters, longest in [(' \n\r();"\\$@0a', 4), ('a"\\0123 ', 5), ("(a;) \n\x7f\u2003", 4), ("$TLORIGNCUDE ", 3)]:
         for length in range(longest + 1):
             answers = asked.tokens(list(all_texts(letters, length)))
-            out.append(f"texts {hexed(letters.encode())} {length} = {checksum(answers)}")
+            out.append(f"lex-texts {hexed(letters.encode())} {length} = {checksum(answers)}")
     for letters, longest in [("019smHdWx", 4)]:
         for length in range(longest + 1):
             answers = asked.times(list(all_texts(letters, length)))

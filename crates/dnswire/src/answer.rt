@@ -106,6 +106,3 @@ fn octets(alloc: Global, text: &str) -> Result<Vec<u8>, Refusal> {
         _ => Refusal::Usage,
     })
 }
-
-#[cfg(test)]
-mod tests;

@@ -20,29 +20,3 @@ pub fn copy_name(from: &mut BinDecoder<'_>, to: &mut BinEncoder<'_>) -> ProtoRes
     name.emit(to)?;
     Ok(())
 }
-
-#[cfg(test)]
-mod tests {
-    use super::copy_name;
-    use dns_names_wire::decoder::BinDecoder;
-    use dns_names_wire::encoder::BinEncoder;
-    use std::test::Fail;
-
-    #[test]
-    fn a_name_is_copied_and_then_shared(rt: HostRuntime) -> Result<(), Fail> {
-        let alloc = rt.alloc();
-        // `b.a.` at offset 3, its last label by a pointer to 0.
-        let question = b"\x01a\x00\x01b\xc0\x00";
-        let mut answer = Vec::new(alloc);
-        let mut encoder = BinEncoder::new(&mut answer);
-        for _ in 0..2 {
-            let mut decoder = BinDecoder::new(question.as_slice());
-            decoder.skip(3).map_err(|_| "three bytes")?;
-            copy_name(&mut decoder, &mut encoder)?;
-            assert_eq!(rt; decoder.index(), 7);
-        }
-        drop(encoder);
-        assert_eq!(rt; answer.as_slice(), b"\x01b\x01a\x00\xc0\x00".as_slice());
-        Ok(())
-    }
-}

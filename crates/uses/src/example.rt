@@ -25,25 +25,3 @@ pub fn host(alloc: Global, zone: &Name, label: &str) -> ProtoResult<Vec<u8>> {
         .append_domain(zone)?;
     name.to_bytes(alloc)
 }
-
-#[cfg(test)]
-mod tests {
-    use super::{host, is_in_zone, name_text};
-    use dns_names_wire::decoder::BinDecoder;
-    use dns_names_wire::name::Name;
-    use std::test::Fail;
-
-    #[test]
-    fn the_example_runs(rt: HostRuntime) -> Result<(), Fail> {
-        let alloc = rt.alloc();
-        let zone = Name::from_ascii(alloc, "Example.")?;
-        let bytes = host(alloc, &zone, "www")?;
-        assert_eq!(rt; bytes.as_slice(), b"\x03www\x07Example\x00".as_slice());
-        let mut decoder = BinDecoder::new(bytes.as_slice());
-        let text = name_text(alloc, &mut decoder)?;
-        assert_eq!(rt; text.as_str(), "www.Example.");
-        let mut decoder = BinDecoder::new(bytes.as_slice());
-        assert!(rt; is_in_zone(&mut decoder, &zone).map_err(|_| "a name")?);
-        Ok(())
-    }
-}

@@ -60,23 +60,3 @@ fn read_answer(
     decoder.skip(len as usize)?;
     Ok(())
 }
-
-#[cfg(test)]
-mod tests {
-    use super::names_of;
-    use std::test::Fail;
-
-    #[test]
-    fn names_of_a_reply(rt: HostRuntime) -> Result<(), Fail> {
-        let alloc = rt.alloc();
-        // One question, `a.bc.`, and one answer, whose owner is a pointer to it.
-        let message =
-            b"\x00\x07\x84\x00\x00\x01\x00\x01\x00\x00\x00\x00\x01a\x02bc\x00\x00\x01\x00\x01\xc0\x0c\x00\x01\x00\x01\x00\x00\x00\x3c\x00\x04\x7f\x00\x00\x01";
-        let names = names_of(alloc, message.as_slice())?;
-        assert_eq!(rt; names.len(), 2);
-        for name in names.as_slice() {
-            assert_eq!(rt; name.as_wire(), b"\x01a\x02bc\x00".as_slice());
-        }
-        Ok(())
-    }
-}

@@ -114,35 +114,3 @@ fn write_name(encoder: &mut BinEncoder<'_>, name: &Name) -> ProtoResult<()>
     laws::names_stay_bounded();
     name.emit(encoder)
 }
-
-#[cfg(test)]
-mod tests {
-    use super::write_reply;
-    use dns_names_wire::name::Name;
-    use std::test::Fail;
-
-    #[test]
-    fn owners_are_pointers_to_the_question(rt: HostRuntime) -> Result<(), Fail> {
-        let alloc = rt.alloc();
-        let name = Name::from_ascii(alloc, "a.bc.")?;
-        let reply = write_reply(alloc, 7, &name, 60, &[0x7f00_0001])?;
-        let wanted =
-            b"\x00\x07\x84\x00\x00\x01\x00\x01\x00\x00\x00\x00\x01a\x02bc\x00\x00\x01\x00\x01\xc0\x0c\x00\x01\x00\x01\x00\x00\x00\x3c\x00\x04\x7f\x00\x00\x01";
-        assert_eq!(rt; reply.as_slice(), wanted.as_slice());
-        Ok(())
-    }
-
-    #[test]
-    fn answers_that_do_not_fit_are_an_error(rt: HostRuntime) -> Result<(), Fail> {
-        let alloc = rt.alloc();
-        let name = Name::from_ascii(alloc, "a.bc.")?;
-        // A header of 12 bytes, a question of 10, and 16 for each answer: 30 answers fit.
-        let addresses = [0_u32; 31];
-        assert_eq!(rt;
-            write_reply(alloc, 7, &name, 60, &addresses[..30])?.len(),
-            502
-        );
-        assert!(rt; write_reply(alloc, 7, &name, 60, addresses.as_slice()).is_err());
-        Ok(())
-    }
-}

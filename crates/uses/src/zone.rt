@@ -18,24 +18,3 @@ pub fn first_in_zone(names: &[Name], zone: &Name) -> Option<usize>
     }
     None
 }
-
-#[cfg(test)]
-mod tests {
-    use super::first_in_zone;
-    use dns_names_wire::name::Name;
-    use std::test::Fail;
-
-    #[test]
-    fn the_first_name_in_the_zone_is_found(rt: HostRuntime) -> Result<(), Fail> {
-        let alloc = rt.alloc();
-        let names = [
-            Name::from_ascii(alloc, "example.org.")?,
-            Name::from_ascii(alloc, "WWW.Example.COM.")?,
-            Name::from_ascii(alloc, "example.com.")?,
-        ];
-        let zone = Name::from_ascii(alloc, "example.com.")?;
-        assert_eq!(rt; first_in_zone(names.as_slice(), &zone), Some(1));
-        assert_eq!(rt; first_in_zone(&names[..1], &zone), None);
-        Ok(())
-    }
-}

@@ -1,0 +1,29 @@
+//! Tests of what only a caller's code can show: borrows that outlive what lent them, guards, closures with contracts of
+//! their own, items of a caller's own type, whole messages of records, the callers in `crates/uses`, and calls that no
+//! other test makes.
+//!
+//! Worked examples that a line can say are in `diff/rows`, which `crates/test_replay` runs.
+#![tactic(auto)]
+
+#[cfg(test)]
+mod borrowed;
+#[cfg(test)]
+mod callers;
+#[cfg(test)]
+mod closures;
+#[cfg(test)]
+mod guards;
+#[cfg(test)]
+mod items;
+#[cfg(test)]
+mod messages;
+#[cfg(test)]
+mod nets;
+#[cfg(test)]
+mod rows;
+#[cfg(test)]
+mod scripts;
+#[cfg(test)]
+mod sections;
+#[cfg(test)]
+mod values;

@@ -1,0 +1,83 @@
+//! Which module makes which request.
+
+use crate::notation::BAD_LINE;
+use crate::tally::Tally;
+use crate::{
+    codes, decoding, encoding, errors, labels, names, nets, ordering, readings, restrict, scripts,
+    texts, tokens,
+};
+use dns_names_wire::error::ProtoResult;
+use std::alloc::Global;
+
+/// Makes a request, which is its first word and the others, and returns the answer. The tally counts what an answer covers
+/// beyond one text.
+pub(crate) fn answer(
+    alloc: Global,
+    kind: &str,
+    words: &str,
+    tally: &mut Tally,
+) -> ProtoResult<String> {
+    match kind {
+        "readings" | "read" | "cuts" | "octets" | "pairs" | "chain" | "blocks" => {
+            readings::answer(alloc, kind, words)
+        }
+        "text" | "print" | "parse" | "origin" => texts::answer(alloc, kind, words),
+        "label" | "label-text" | "into-label" => labels::answer(alloc, kind, words),
+        "made"
+        | "name"
+        | "append"
+        | "append-octets"
+        | "append-name"
+        | "append-domain"
+        | "lower"
+        | "in-zone"
+        | "eq-name" => names::answer(alloc, kind, words),
+        "order"
+        | "label-order"
+        | "lower-order"
+        | "cmp"
+        | "edits"
+        | "from_labels"
+        | "base_name"
+        | "into_wildcard"
+        | "trim_to"
+        | "append_label"
+        | "prepend_label"
+        | "append_name"
+        | "append_domain"
+        | "back"
+        | "lower-name"
+        | "tests" => { ordering::answer(alloc, kind, words) }
+        "class"
+        | "class-cmp"
+        | "class-name"
+        | "classes"
+        | "data"
+        | "for-opt"
+        | "key-cmp"
+        | "serial"
+        | "set-cuts"
+        | "set-eq"
+        | "set-has"
+        | "set-new"
+        | "set-read"
+        | "set-under"
+        | "sets"
+        | "type"
+        | "type-cmp"
+        | "type-name"
+        | "types" => codes::answer(alloc, kind, words),
+        "decode" | "from-bytes" => decoding::answer(alloc, kind, words),
+        "restrict" => restrict::answer(alloc, words),
+        "encode" | "encode-numbered" | "to-bytes" => encoding::answer(alloc, kind, words),
+        "script" | "script-end" | "items" => scripts::answer(alloc, kind, words),
+        "error" => errors::answer(alloc, words),
+        "lex" | "lex-cuts" | "lex-texts" | "lex-zone" | "time" | "times" => {
+            tokens::answer(alloc, kind, words, tally)
+        }
+        "ip" | "arpa" | "net" | "zone" | "zone-made" | "zone-has" | "to-ip" | "into" => {
+            nets::answer(alloc, kind, words)
+        }
+        _ => Err(BAD_LINE),
+    }
+}
