@@ -232,7 +232,7 @@ uint32_t dnw_name_to_wildcard(const uint8_t *name, size_t name_len, uint8_t *for
 uint32_t dnw_type_print(uint16_t code, uint8_t *text, size_t text_size, size_t *len);
 
 /* Puts the code of the record type with a name in capitals; `*` is ANY. It fails with DNW_NOT_UTF8 or DNW_UNKNOWN_TEXT. No
-   text names IXFR, OPT, ZERO or a code without a name. It may allocate for a text that it rejects. */
+   text names IXFR, OPT, ZERO or a code without a name. */
 uint32_t dnw_type_parse(const uint8_t *text, size_t text_len, uint16_t *code);
 
 /* The same for classes. A code without a name is printed as `UNKNOWN`. */

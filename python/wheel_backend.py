@@ -10,6 +10,7 @@ import base64
 import hashlib
 import os
 import pathlib
+import re
 import subprocess
 import sys
 import sysconfig
@@ -18,10 +19,12 @@ import zipfile
 
 HERE = pathlib.Path(__file__).resolve().parent
 LIBRARY = "libdns_names_wire.so"
-NAME, VERSION = "dns_names_wire", "0.1.0"
-METADATA = """Metadata-Version: 2.1
+NAME = "dns_names_wire"
+# The version stands in rust/Cargo.toml alone.
+VERSION = re.search(r'^version = "(.+)"$', (HERE.parent / "rust/Cargo.toml").read_text(), re.M)[1]
+METADATA = f"""Metadata-Version: 2.1
 Name: dns-names-wire
-Version: 0.1.0
+Version: {VERSION}
 Summary: Domain names of DNS messages, read, written, printed and compared by a proved library
 License: MIT OR Apache-2.0
 Requires-Python: >=3.9

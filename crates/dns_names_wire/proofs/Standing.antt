@@ -1,330 +1,320 @@
--- What holds of an encoder in a run: its bytes are those of the chunks so far, the chunks' pieces stand in them, and the
--- candidates are usable, both whatever values stand in the places.
-use Rattle.std.proofs.Common.{◌≡◌, ℕ, ◌+◌, ◌&&◌, nat_lt, Bool, true, false, Option, Some, None, Ok, List, [], ◌∷◌, ◌++◌, ◌-◌, length, map, take, drop, replicate, refl, sym, ap, ◌∙◌, subst, append_assoc, arith}
-use Rattle.std.specs.List.{flat_map}
+-- What holds of an encoder in a run: its bytes are those of the chunks so far, the chunks' pieces are in them, and the
+-- candidates are usable, both whatever values are in the placeholders.
+use Rattle.std.proofs.Common.{◌≡◌, ℕ, ◌+◌, ◌-◌, ◌≤◌, ◌&&◌, nat_lt, Bool, true, false, Option, Some, None, Ok, List, [], ◌∷◌, ◌++◌, length, map, take, drop, replicate, refl, sym, ap, ◌∙◌, subst, append_assoc, arith}
 use Rattle.std.specs.Int.{w16, to_be_bytes}
 use Rattle.std.proofs.lemmas.List.{length-append, append-nil, drop_at, take_all, take_at}
-use Rattle.dnw_encoder.specs.declared.encoder.modes.NameEncoding.{NameEncoding}
-use Rattle.dnw_base.specs.Names.{NameValue, AreLabels, encoded_size, wire}
-use Rattle.dnw_reading.proofs.Back.{slice_range-middle}
+use Rattle.std.proofs.lemmas.List.Folds.{drop_split}
+use Rattle.dnw_base.specs.Limits.{max_message}
+use Rattle.dnw_base.specs.Names.{NameValue, encoded_size, wire}
 use Rattle.dnw_base.proofs.Wires.{length-wire}
-use Rattle.dnw_encoder.specs.Encoder.{Encoder, Writes, reserved}
 use Rattle.dnw_candidates.specs.Candidates.{Candidate}
-use Rattle.dnw_encoder.specs.Emitting.{Frame, InTurn}
-use Rattle.dnw_encoder.specs.EmittedName.{Chooses, EmitsAs, EmitsName, Share, form, in_mode, is_compressed, so_far}
-use Rattle.dnw_encoder.specs.EmittingLaws.{frame, take-all}
+use Rattle.dnw_encoder.specs.declared.encoder.modes.NameEncoding.{NameEncoding}
+use Rattle.dnw_encoder.specs.Encoder.{Encoder, Writes, filled, reserved, written}
+use Rattle.dnw_encoder.specs.EmittedName.{Chooses, EmitsName, Share, emitted, form, in_mode, is_compressed}
+use Rattle.dnw_encoder.specs.EmittingLaws.{frame-same, frames-follow, take-all}
+use Rattle.dnw_encoder.specs.Emitting.{Frame}
 use Rattle.dnw_encoder.specs.NameFrames.{frame-name}
 use Rattle.dnw_encoder.proofs.NameBack.{names_take_no_more, size-in_mode}
-use Rattle.dns_names_wire.specs.declared.script.Part.{Part}
-use Rattle.dns_names_wire.specs.declared.script.Part.TheVariants.{Name, U8, U16, I32, U32, Bytes, Text}
-use Rattle.dns_names_wire.specs.declared.script.Item.{Item}
-use Rattle.dns_names_wire.specs.Script.{EmitsPart, EmitsParts, EmitsScriptItem, in_encoding}
-use Rattle.dns_names_wire.specs.Pieces.{Piece, bytes_piece, place_piece, PieceAt, Spells, part_piece, item_pieces, mode_or}
-use Rattle.dns_names_wire.proofs.Agreeing.{Chunk, Content, SameFor, hole, of_part, piece_in, render-same, update, update-other, update-same, wrote, render, pieces_of, next, upto, ends_of, render-append, pieces_of-append, upto-append, ends_of-append, length-render}
-use Rattle.dns_names_wire.proofs.Spelling.{Spells-append, Spells-push}
-use Rattle.dns_names_wire.proofs.Keeping.{Buffers, AreKept, kept-longer}
-use Rattle.dns_names_wire.proofs.Naming.{Stands, written-end, whole_stands, shared_stands}
+use Rattle.dnw_record.specs.declared.record.WireRecord.{WireRecord}
+use Rattle.dnw_record.specs.declared.record.WireData.{WireData}
+use Rattle.dnw_record.specs.declared.record.WireData.TheVariants as rdata
+use Rattle.dnw_record.specs.Parts.{EmitsCounted, EmitsWirePart, EmitsWireParts, WirePart, bytes_part, in_encoding, name_part, text_part, with_length}
+use Rattle.dnw_record.specs.RecordFrames.{frame-wire_part}
+use Rattle.dnw_record.specs.WrittenRecords.{EmitsData, EmitsFields, NumbersFit, data_part, type_class_ttl}
+use Rattle.dnw_record.proofs.Laying.{added}
+use Rattle.dns_names_wire.specs.Pieces.{BytesStand, DataStand, PieceAt, RecordStands, Spells, bytes_piece, wire_piece}
+use Rattle.dns_names_wire.proofs.Chunks.{Begins, Chunk, Content, Standing, begins-first, begins-now, begins-others, begins-split, bytes-stand, ends_of, length-now, now, now-append, now-front, of_part, of_record, piece_in, piece_of, place, standing-join, standing-split, upto, upto-append, wrote}
+use Rattle.dns_names_wire.proofs.Naming.{AreUsable, name-read, usable-emitted}
 
--- the buffers that the chunks make, one for all values of the places
-abbrev pub buffer : List ℕ → List Chunk → Buffers
-buffer old cs = λ f. old ++ render f 0 cs
+pub record Sound (old : List ℕ) (cs : List Chunk) (b : List ℕ) (o : ℕ) (candidates : List Candidate) : Type 0 where
+  pub bytes : b ≡ now old cs
+  pub end : o ≡ length b
+  pub holds : (x : List ℕ) → Begins old cs x → Standing x (length old) cs × AreUsable x candidates
 
-pub record Sound (old : List ℕ) (cs : List Chunk) (f : ℕ → ℕ) (b : List ℕ) (o : ℕ) (candidates : List Candidate) : Type 0 where
-  pub bytes : b ≡ buffer old cs f
-  pub end : o ≡ upto (length old) cs
-  pub spells : (g : ℕ → ℕ) → Spells (buffer old cs g) (pieces_of g 0 cs) (length old) (upto (length old) cs)
-  pub useful : AreKept (buffer old cs) candidates
+abbrev pub SoundAt : List ℕ → List Chunk → Encoder → Type 0
+SoundAt old cs v = Sound old cs v.bytes v.offset v.candidates
 
-abbrev pub SoundAt : List ℕ → List Chunk → (ℕ → ℕ) → Encoder → Type 0
-SoundAt old cs f v = Sound old cs f v.bytes v.offset v.candidates
+pub sound-upto : (old : List ℕ) (cs : List Chunk) (v : Encoder) → SoundAt old cs v → v.offset ≡ upto (length old) cs
+sound-upto old cs v s = s.end ∙ (ap length s.bytes ∙ length-now old cs)
 
-pub length_buffer : (old : List ℕ) (cs : List Chunk) (f : ℕ → ℕ) → length (buffer old cs f) ≡ upto (length old) cs
-length_buffer old cs f = length-append old (render f 0 cs) ∙ length-render f 0 (length old) cs
+-- ---- more chunks
 
--- the offset is the end
-pub sound_end : (old : List ℕ) (cs : List Chunk) (f : ℕ → ℕ) (b : List ℕ) (o : ℕ) (candidates : List Candidate)
-    → Sound old cs f b o candidates → o ≡ length b
-sound_end old cs f b o candidates s = s.end ∙ sym (ap length s.bytes ∙ length_buffer old cs f)
-
--- ---- one more chunk
-
-pub buffer-push : (old : List ℕ) (cs : List Chunk) (c : Chunk) (f : ℕ → ℕ) → buffer old (cs ++ c ∷ []) f ≡ buffer old cs f ++ render f (next 0 cs) (c ∷ [])
-buffer-push old cs c f =
-    ap (λ (x : List ℕ). old ++ x) (render-append f 0 cs (c ∷ [])) ∙ sym (append_assoc old (render f 0 cs) (render f (next 0 cs) (c ∷ [])))
-
--- Its piece stands at the end.
-pub sound-push : (old : List ℕ) (cs : List Chunk) (f : ℕ → ℕ) (c : Chunk) (b : List ℕ) (o : ℕ) (candidates : List Candidate)
-    (piece : (ℕ → ℕ) → Piece) (e : ℕ) (more : List Candidate) (b' : List ℕ) (o' : ℕ)
-    → Sound old cs f b o candidates
-    → ((g : ℕ → ℕ) → pieces_of g (next 0 cs) (c ∷ []) ≡ piece g ∷ []) → upto o (c ∷ []) ≡ e
-    → ((g : ℕ → ℕ) → PieceAt (buffer old (cs ++ c ∷ []) g) (piece g) o e)
-    → AreKept (buffer old (cs ++ c ∷ [])) more → b' ≡ b ++ render f (next 0 cs) (c ∷ []) → o' ≡ e
-    → Sound old (cs ++ c ∷ []) f b' o' more
-sound-push old cs f c b o candidates piece e more b' o' s piece_is e_is stands useful b_is o_is =
-    let one : List Chunk = c ∷ [] in
-    let total : upto (length old) (cs ++ one) ≡ e = upto-append (length old) cs one ∙ (ap (λ n. upto n one) (sym s.end) ∙ e_is) in
+-- Chunks are written after the encoder's bytes: their pieces are there, and the candidates are usable then.
+sound-grow : (old : List ℕ) (cs ds : List Chunk) (v w : Encoder) → SoundAt old cs v → w.bytes ≡ now v.bytes ds → w.offset ≡ length w.bytes
+    → ((x y : List ℕ) → Begins y ds x → length y ≡ v.offset → AreUsable y v.candidates → AreUsable x v.candidates → Standing x v.offset ds × AreUsable x w.candidates)
+    → SoundAt old (cs ++ ds) w
+sound-grow old cs ds v w s bytes end on =
+    let start = sound-upto old cs v s in
     record {
-      bytes = b_is ∙ (ap (λ (x : List ℕ). x ++ render f (next 0 cs) one) s.bytes ∙ sym (buffer-push old cs c f));
-      end = o_is ∙ sym total;
-      spells = λ g.
-          let b2 = buffer old (cs ++ one) g in
-          let before = Spells-append (buffer old cs g) (render g (next 0 cs) one) (pieces_of g 0 cs) (length old) (upto (length old) cs) (s.spells g) in
-          let there : Spells b2 (pieces_of g 0 cs) (length old) (upto (length old) cs) =
-          subst (λ (x : List ℕ). Spells x (pieces_of g 0 cs) (length old) (upto (length old) cs)) (sym (buffer-push old cs c g)) before in
-          let here : PieceAt b2 (piece g) (upto (length old) cs) e = subst (λ n. PieceAt b2 (piece g) n e) s.end (stands g) in
-          let pushed = Spells-push b2 (pieces_of g 0 cs) (piece g) (length old) (upto (length old) cs) e there here in
-          let parts : pieces_of g 0 cs ++ piece g ∷ [] ≡ pieces_of g 0 (cs ++ one) =
-          sym (pieces_of-append g 0 cs one ∙ ap (λ (ps : List Piece). pieces_of g 0 cs ++ ps) (piece_is g)) in
-          subst (λ (ps : List Piece). Spells b2 ps (length old) (upto (length old) (cs ++ one))) parts
-          (subst (λ n. Spells b2 (pieces_of g 0 cs ++ piece g ∷ []) (length old) n) (sym total) pushed);
-      useful = useful;
+      bytes = bytes ∙ (ap (λ (x : List ℕ). now x ds) s.bytes ∙ sym (now-append old cs ds));
+      end = end;
+      holds = λ x h.
+          let (y, size, first, rest) = begins-split old x cs ds h in
+          let (stand, usable) = s.holds x (begins-first old x cs ds h) in
+          let (there, after) = on x y rest (size ∙ sym start) (s.holds y first).1 usable in
+          (standing-join x (length old) cs ds stand (subst (λ p. Standing x p ds) start there), after);
     }
 
--- candidates stay usable
-pub useful-push : (old : List ℕ) (cs : List Chunk) (c : Chunk) (candidates : List Candidate)
-    → AreKept (buffer old cs) candidates → AreKept (buffer old (cs ++ c ∷ [])) candidates
-useful-push old cs c candidates all =
-    kept-longer (buffer old cs) (buffer old (cs ++ c ∷ [])) (λ f. render f (next 0 cs) (c ∷ [])) candidates (buffer-push old cs c) all
+sound-bytes : (old : List ℕ) (cs : List Chunk) (v w : Encoder) (content : Content) (d : List ℕ) → SoundAt old cs v → piece_in content ≡ bytes_piece d
+    → Writes v d (Ok tt) w → SoundAt old (cs ++ wrote content d ∷ []) w
+sound-bytes old cs v w content d s piece_is h =
+    let bytes = added v w d s.end h.1 in
+    let end : w.offset ≡ length w.bytes = omega (arith, s.end, ap (λ (e : Encoder). e.offset) h.1, ap length bytes, length-append v.bytes d) in
+    sound-grow old cs (wrote content d ∷ []) v w s bytes end (λ x y (more, is) size before usable.
+    let there = bytes-stand x y d more v.offset (is ∙ append_assoc y d more) size in (
+      (subst (λ p. PieceAt x p v.offset (v.offset + length d)) (sym piece_is) there, tt),
+      subst (AreUsable x) (sym (ap (λ (e : Encoder). e.candidates) h.1)) usable,
+    ))
 
--- ---- a place
+-- the bytes of a name, whole or with a pointer
+emitted-bytes : (v : Encoder) (ls : List (List ℕ)) (choice : Option Share) → v.offset ≡ length v.bytes
+    → ((emitted v ls choice).bytes ≡ v.bytes ++ form ls choice) × ((emitted v ls choice).offset ≡ v.offset + length (form ls choice))
+emitted-bytes v ls None e = (added v (written v (wire ls)) (wire ls) e refl, refl)
+emitted-bytes v ls (Some share) e = (ap (λ (x : List ℕ). x ++ form ls (Some share)) (take-all v.offset v.bytes e), refl)
 
--- with other values the same bytes stand there
-pub sound-other : (old : List ℕ) (cs : List Chunk) (f g : ℕ → ℕ) (b b' : List ℕ) (o : ℕ) (candidates : List Candidate) → Sound old cs f b o candidates
-    → b' ≡ buffer old cs g → Sound old cs g b' o candidates
-sound-other old cs f g b b' o candidates s is = record { bytes = is; end = s.end; spells = s.spells; useful = s.useful }
-
--- two zero bytes stand at a new place
-reserved_bytes : (v : Encoder) → v.offset ≡ length v.bytes → (reserved v 2).bytes ≡ v.bytes ++ to_be_bytes w16 0
-reserved_bytes v at_end =
-    let two : v.offset + 2 - length v.bytes ≡ 2 = omega (arith, at_end) in
-    ap (λ (x : List ℕ). x ++ replicate (v.offset + 2 - length v.bytes) 0) (take_all (v.offset + 2) v.bytes (omega (arith, at_end)))
-    ∙ ap (λ n. v.bytes ++ replicate n 0) two
-
--- it is zero whatever the other places hold
-pub sound-reserved : (old : List ℕ) (cs : List Chunk) (f : ℕ → ℕ) (v : Encoder) → SoundAt old cs f v
-    → SoundAt old (cs ++ hole ∷ []) (update f (next 0 cs) 0) (reserved v 2)
-sound-reserved old cs f v s =
-    let n = next 0 cs in
-    let f' = update f n 0 in
-    let at_end = sound_end old cs f v.bytes v.offset v.candidates s in
-    let same : SameFor f f' 0 cs = λ i least less. sym (update-other f n 0 i (λ e. omega (arith, e, less))) in
-    let now : v.bytes ≡ buffer old cs f' = s.bytes ∙ ap (λ (x : List ℕ). old ++ x) (render-same f f' 0 cs same) in
-    let zeros : (reserved v 2).bytes ≡ v.bytes ++ render f' n (hole ∷ []) =
-    reserved_bytes v at_end
-    ∙ (ap (λ x. v.bytes ++ to_be_bytes w16 x) (sym (update-same f n 0 n refl))
-    ∙ ap (λ (x : List ℕ). v.bytes ++ x) (sym (append-nil (to_be_bytes w16 (f' n))))) in
-    let stands : (g : ℕ → ℕ) → PieceAt (buffer old (cs ++ hole ∷ []) g) (place_piece n (g n)) v.offset (v.offset + 2) =
-    λ g.
-    let start : v.offset ≡ length (buffer old cs g) = s.end ∙ sym (length_buffer old cs g) in
-    let all = buffer-push old cs hole g in (
-      rw all (slice_range-middle (buffer old cs g) (to_be_bytes w16 (g n)) [] v.offset (v.offset + 2) start refl),
-      refl,
-      omega (arith, start, ap length all, length-append (buffer old cs g) (to_be_bytes w16 (g n) ++ []), length-append (to_be_bytes w16 (g n)) []),
-    ) in
-    sound-push old cs f' hole v.bytes v.offset v.candidates (λ g. place_piece n (g n)) (v.offset + 2) v.candidates
-    (reserved v 2).bytes (v.offset + 2) (sound-other old cs f f' v.bytes v.bytes v.offset v.candidates s now) (λ g. refl) refl stands (useful-push old cs hole v.candidates s.useful) zeros refl
-
--- the bytes before a place, and those after it
-pub filled_bytes : (b before held behind d : List ℕ) (p : ℕ) → b ≡ before ++ (held ++ behind) → length held ≡ length d → p ≡ length before
-    → take p b ++ (d ++ drop (p + length d) b) ≡ before ++ (d ++ behind)
-filled_bytes b before held behind d p parts size p_is =
-    let front : take p b ≡ before = ap (take p) parts ∙ take_at before (held ++ behind) p (sym p_is) in
-    let far : p + length d ≡ length (before ++ held) = omega (arith, p_is, size, length-append before held) in
-    let back : drop (p + length d) b ≡ behind =
-    ap (drop (p + length d)) (parts ∙ sym (append_assoc before held behind)) ∙ drop_at (before ++ held) behind (p + length d) (sym far) in
-    ap (λ (x : List ℕ). x ++ (d ++ drop (p + length d) b)) front ∙ ap (λ (x : List ℕ). before ++ (d ++ x)) back
-
--- ---- what an encoder has grown by
-
--- Chunks without places were written, with these pieces.
-pub record Grown (old : List ℕ) (cs : List Chunk) (f : ℕ → ℕ) (v : Encoder) (pieces : List Piece) (w : Encoder) : Type 0 where
-  pub more : List Chunk
-  pub sound : SoundAt old (cs ++ more) f w
-  pub pieces_are : (g : ℕ → ℕ) (n : ℕ) → pieces_of g n more ≡ pieces
-  pub no_places : (p : ℕ) → ends_of p more ≡ []
-  pub mode : w.encoding ≡ v.encoding
-  pub canonical : w.canonical ≡ v.canonical
-  pub max_size : w.max_size ≡ v.max_size
-
-pub grown-none : (old : List ℕ) (cs : List Chunk) (f : ℕ → ℕ) (v w : Encoder) → SoundAt old cs f v → w ≡ v → Grown old cs f v [] w
-grown-none old cs f v w s same =
-    record {
-      more = [];
-      sound = subst (λ (x : Encoder). SoundAt old (cs ++ []) f x) (sym same) (subst (λ (ds : List Chunk). SoundAt old ds f v) (sym (append-nil cs)) s);
-      pieces_are = λ g n. refl;
-      no_places = λ p. refl;
-      mode = ap (λ (x : Encoder). x.encoding) same;
-      canonical = ap (λ (x : Encoder). x.canonical) same;
-      max_size = ap (λ (x : Encoder). x.max_size) same;
-    }
-
-pub grown-follows : (old : List ℕ) (cs : List Chunk) (f : ℕ → ℕ) (v m w : Encoder) (ps qs : List Piece) (one : Grown old cs f v ps m)
-    → Grown old (cs ++ one.more) f m qs w → Grown old cs f v (ps ++ qs) w
-grown-follows old cs f v m w ps qs one two =
-    record {
-      more = one.more ++ two.more;
-      sound = subst (λ (ds : List Chunk). SoundAt old ds f w) (append_assoc cs one.more two.more) two.sound;
-      pieces_are = λ g n. pieces_of-append g n one.more two.more
-          ∙ (ap (λ (x : List Piece). x ++ pieces_of g (next n one.more) two.more) (one.pieces_are g n)
-          ∙ ap (λ (x : List Piece). ps ++ x) (two.pieces_are g (next n one.more)));
-      no_places = λ p. ends_of-append p one.more two.more
-          ∙ (ap (λ (x : List ℕ). x ++ ends_of (upto p one.more) two.more) (one.no_places p) ∙ two.no_places (upto p one.more));
-      mode = two.mode ∙ one.mode;
-      canonical = two.canonical ∙ one.canonical;
-      max_size = two.max_size ∙ one.max_size;
-    }
-
--- ---- parts
-
--- the bytes of a part or a record
-pub grown-one : (old : List ℕ) (cs : List Chunk) (f : ℕ → ℕ) (v w : Encoder) (content : Content) (d : List ℕ) → SoundAt old cs f v
-    → ((g : ℕ → ℕ) → PieceAt (buffer old (cs ++ wrote content d ∷ []) g) (piece_in content) v.offset (v.offset + length d))
-    → AreKept (buffer old (cs ++ wrote content d ∷ [])) w.candidates → w.bytes ≡ v.bytes ++ d → w.offset ≡ v.offset + length d
-    → Frame v (Ok tt) w → Grown old cs f v (piece_in content ∷ []) w
-grown-one old cs f v w content d s stands useful b_is o_is framed =
-    let c = wrote content d in
-    record {
-      more = c ∷ [];
-      sound = sound-push old cs f c v.bytes v.offset v.candidates (λ g. piece_in content) (v.offset + length d) w.candidates w.bytes w.offset s
-          (λ g. refl) refl stands useful (b_is ∙ ap (λ (x : List ℕ). v.bytes ++ x) (sym (append-nil d))) o_is;
-      pieces_are = λ g n. refl;
-      no_places = λ p. refl;
-      mode = framed.encoding;
-      canonical = framed.canonical;
-      max_size = framed.max_size;
-    }
-
--- plain bytes
-grown-bytes : (old : List ℕ) (cs : List Chunk) (f : ℕ → ℕ) (v w : Encoder) (part : Part) (d : List ℕ) → SoundAt old cs f v
-    → part_piece v.encoding part ≡ bytes_piece d → Writes v d (Ok tt) w → Grown old cs f v (part_piece v.encoding part ∷ []) w
-grown-bytes old cs f v w part d s piece_is h =
-    let made = h.1 in
-    let c = wrote (of_part v.encoding part) d in
-    let at_end = sound_end old cs f v.bytes v.offset v.candidates s in
-    let stands : (g : ℕ → ℕ) → PieceAt (buffer old (cs ++ c ∷ []) g) (bytes_piece d) v.offset (v.offset + length d) =
-    λ g.
-    let start : v.offset ≡ length (buffer old cs g) = s.end ∙ sym (length_buffer old cs g) in
-    let all = buffer-push old cs c g in (
-      rw all (slice_range-middle (buffer old cs g) d [] v.offset (v.offset + length d) start refl),
-      refl,
-      omega (arith, start, ap length all, length-append (buffer old cs g) (d ++ []), length-append d []),
-    ) in
-    grown-one old cs f v w (of_part v.encoding part) d s
-    (λ g. subst (λ (p : Piece). PieceAt (buffer old (cs ++ c ∷ []) g) p v.offset (v.offset + length d)) (sym piece_is) (stands g))
-    (subst (λ (x : Encoder). AreKept (buffer old (cs ++ c ∷ [])) x.candidates) (sym made) (useful-push old cs c v.candidates s.useful))
-    (ap (λ (x : Encoder). x.bytes) made ∙ written-end v.offset v.bytes d at_end)
-    (ap (λ (x : Encoder). x.offset) made)
-    (frame v d (Ok tt) w at_end h)
-
--- no pointer is written in a mode without compression
-no_share : (v : Encoder) (labels : List (List ℕ)) (share : Share) → Chooses v labels (Some share) → is_compressed v.encoding ≡ false → ⊥
-no_share v labels share chosen not =
+-- a name has all its bytes in a mode without compression
+full_size : (v : Encoder) (ls : List (List ℕ)) (choice : Option Share) → Chooses v ls choice → is_compressed v.encoding ≡ false
+    → length (form ls choice) ≡ encoded_size ls
+full_size v ls None chosen not = length-wire ls
+full_size v ls (Some share) chosen not =
     let never : false ≡ true = sym (ap (λ (b : Bool). b && nat_lt v.names v.name_limit) not) ∙ chosen.0 in
     absurd cc
 
--- the bytes of a name, whole or with a pointer
-name_bytes : (old : List ℕ) (cs : List Chunk) (f : ℕ → ℕ) (v w : Encoder) (ls : List (List ℕ)) (c : Chunk) (choice : Option Share) → SoundAt old cs f v
-    → AreLabels ls → Chooses v ls choice → EmitsAs v ls choice (Ok tt) w → ((g : ℕ → ℕ) (n : ℕ) → render g n (c ∷ []) ≡ form ls choice)
-    → Stands (buffer old (cs ++ c ∷ [])) v.offset ls (v.offset + length (form ls choice)) w.candidates
-    × (w.bytes ≡ v.bytes ++ form ls choice) × (w.offset ≡ v.offset + length (form ls choice))
-name_bytes old cs f v w ls c None s are chosen h c_is =
-    let b = buffer old cs in
-    let m = buffer old (cs ++ c ∷ []) in
-    let at_end = sound_end old cs f v.bytes v.offset v.candidates s in
-    let start : (g : ℕ → ℕ) → v.offset ≡ length (b g) = λ g. s.end ∙ sym (length_buffer old cs g) in
-    let all : (g : ℕ → ℕ) → m g ≡ b g ++ wire ls = λ g. buffer-push old cs c g ∙ ap (λ (x : List ℕ). b g ++ x) (c_is g (next 0 cs)) in (
-      subst (λ (x : Encoder). Stands m v.offset ls (v.offset + length (wire ls)) x.candidates) (sym h.1) (whole_stands b m v ls are s.useful all start),
-      ap (λ (x : Encoder). x.bytes) h.1 ∙ written-end v.offset v.bytes (wire ls) at_end,
-      ap (λ (x : Encoder). x.offset) h.1,
-    )
-name_bytes old cs f v w ls c (Some share) s are chosen h c_is =
-    let b = buffer old cs in
-    let m = buffer old (cs ++ c ∷ []) in
-    let d = form ls (Some share) in
-    let at_end = sound_end old cs f v.bytes v.offset v.candidates s in
-    let now : so_far v ≡ v.bytes = take-all v.offset v.bytes at_end in
-    let start : (g : ℕ → ℕ) → v.offset ≡ length (b g) = λ g. s.end ∙ sym (length_buffer old cs g) in
-    let all : (g : ℕ → ℕ) → m g ≡ b g ++ d = λ g. buffer-push old cs c g ∙ ap (λ (x : List ℕ). b g ++ x) (c_is g (next 0 cs)) in (
-      subst (λ (x : Encoder). Stands m v.offset ls (v.offset + length d) x.candidates) (sym h.1) (shared_stands b m v ls are s.useful share f (now ∙ s.bytes) chosen.1 all start),
-      ap (λ (x : Encoder). x.bytes) h.1 ∙ ap (λ (x : List ℕ). x ++ d) now,
-      ap (λ (x : Encoder). x.offset) h.1,
-    )
-
--- it has all its bytes in a mode without compression
-full_size : (v : Encoder) (name : NameValue) (choice : Option Share) → Chooses v (in_mode v.encoding name.labels) choice → is_compressed v.encoding ≡ false
-    → v.offset + length (form (in_mode v.encoding name.labels) choice) ≡ v.offset + encoded_size name.labels
-full_size v name None chosen not =
-    ap (λ n. v.offset + n) (length-wire (in_mode v.encoding name.labels) ∙ size-in_mode v.encoding name.labels)
-full_size v name (Some share) chosen not = absurd (no_share v (in_mode v.encoding name.labels) share chosen not)
-
-grown-name : (old : List ℕ) (cs : List Chunk) (f : ℕ → ℕ) (v w : Encoder) (name : NameValue) → SoundAt old cs f v
-    → EmitsName name v (Ok tt) w → Grown old cs f v (part_piece v.encoding (Name name) ∷ []) w
-grown-name old cs f v w name s h =
-    let ls = in_mode v.encoding name.labels in
+sound-name : (old : List ℕ) (cs : List Chunk) (v w : Encoder) (mode : NameEncoding) (name : NameValue) → SoundAt old cs v
+    → EmitsName name (in_encoding v mode) (Ok tt) w → (d : List ℕ) × SoundAt old (cs ++ wrote (of_part (name_part mode name)) d ∷ []) w
+sound-name old cs v w mode name s h =
+    let u = in_encoding v mode in
+    let ls = in_mode mode name.labels in
     let d = form ls h.choice in
-    let c = wrote (of_part v.encoding (Name name)) d in
-    let (stands, b_is, o_is) = name_bytes old cs f v w ls c h.choice s h.are_labels h.chooses h.written_as (λ g n. append-nil d) in
-    grown-one old cs f v w (of_part v.encoding (Name name)) d s
-    (λ g. (stands.pointers, stands.name g, omega (arith, o_is, names_take_no_more name v w h), full_size v name h.choice h.chooses))
-    stands.useful b_is o_is (frame-name name v (Ok tt) w (sound_end old cs f v.bytes v.offset v.candidates s) h)
+    let made = h.written_as.1 in
+    let bytes = ap (λ (e : Encoder). e.bytes) made ∙ (emitted-bytes u ls h.choice s.end).0 in
+    let offset : w.offset ≡ v.offset + length d = ap (λ (e : Encoder). e.offset) made ∙ (emitted-bytes u ls h.choice s.end).1 in
+    let end : w.offset ≡ length w.bytes = omega (arith, s.end, offset, ap length bytes, length-append v.bytes d) in
+    let least : v.offset + length d ≤ v.offset + encoded_size name.labels = omega (arith, offset, names_take_no_more name u w h) in (
+      d,
+      sound-grow old cs (wrote (of_part (name_part mode name)) d ∷ []) v w s bytes end (λ x y (more, is) size before usable.
+          let parts = is ∙ append_assoc y d more in
+          let (k, read) = name-read x y more u ls h.choice parts size h.are_labels h.chooses before in
+          let full = λ (not : is_compressed mode ≡ false). ap (λ n. v.offset + n) (full_size u ls h.choice h.chooses not ∙ size-in_mode mode name.labels) in (
+            ((k, read, least, full), tt),
+            subst (AreUsable x) (sym (ap (λ (e : Encoder). e.candidates) made)) (usable-emitted x y more u ls h.choice parts size h.are_labels h.chooses before usable),
+          )),
+    )
 
--- each part
-pub grown-part : (old : List ℕ) (cs : List Chunk) (f : ℕ → ℕ) (v w : Encoder) (part : Part) → SoundAt old cs f v → EmitsPart part v (Ok tt) w
-    → Grown old cs f v (part_piece v.encoding part ∷ []) w
-grown-part old cs f v w (Name name) s h = grown-name old cs f v w name s h
-grown-part old cs f v w (U8 number) s h = grown-bytes old cs f v w (U8 number) _ s refl h
-grown-part old cs f v w (U16 number) s h = grown-bytes old cs f v w (U16 number) _ s refl h
-grown-part old cs f v w (I32 number) s h = grown-bytes old cs f v w (I32 number) _ s refl h
-grown-part old cs f v w (U32 number) s h = grown-bytes old cs f v w (U32 number) _ s refl h
-grown-part old cs f v w (Bytes bytes) s h = grown-bytes old cs f v w (Bytes bytes) _ s refl h
-grown-part old cs f v w (Text text) s h = grown-bytes old cs f v w (Text text) _ s refl h.1
+sound-part : (old : List ℕ) (cs : List Chunk) (v w : Encoder) (part : WirePart) → SoundAt old cs v → EmitsWirePart part v (Ok tt) w
+    → (d : List ℕ) × SoundAt old (cs ++ wrote (of_part part) d ∷ []) w
+sound-part old cs v w (bytes_part d) s h = (d, sound-bytes old cs v w (of_part (bytes_part d)) d s refl h)
+sound-part old cs v w (text_part d) s h = (length d ∷ d, sound-bytes old cs v w (of_part (text_part d)) (length d ∷ d) s refl h.1)
+sound-part old cs v w (name_part mode name) s (u, h, is) =
+    let (d, there) = sound-name old cs v u mode name s h in
+    (d, subst (λ x. SoundAt old (cs ++ wrote (of_part (name_part mode name)) d ∷ []) x) (sym is) there)
 
--- ---- parts and items in turn
+-- ---- parts in turn
 
-pub grown-parts : (old : List ℕ) (cs : List Chunk) (f : ℕ → ℕ) (v w : Encoder) (mode : NameEncoding) (parts : List Part) → SoundAt old cs f v
-    → v.encoding ≡ mode → EmitsParts parts v (Ok tt) w → Grown old cs f v (map (part_piece mode) parts) w
-grown-parts old cs f v w mode [] s mode_is h = grown-none old cs f v w s h
-grown-parts old cs f v w mode (part ∷ parts) s mode_is h =
-    let m = h.0 in
-    let one : Grown old cs f v (part_piece mode part ∷ []) m =
-    subst (λ (e : NameEncoding). Grown old cs f v (part_piece e part ∷ []) m) mode_is (grown-part old cs f v m part s h.1) in
-    let rest = grown-parts old (cs ++ one.more) f m w mode parts one.sound (one.mode ∙ mode_is) h.2 in
-    grown-follows old cs f v m w (part_piece mode part ∷ []) (map (part_piece mode) parts) one rest
+-- The chunks are of these parts.
+abbrev pub AreOf : List WirePart → List Chunk → Type 0
+AreOf [] [] = Unit {0}
+AreOf (part ∷ parts) (wrote content d ∷ cs) = (content ≡ of_part part) × AreOf parts cs
+AreOf parts cs = ⊥
 
-mode-in : (mode : Option NameEncoding) (v : Encoder) → (in_encoding mode v).encoding ≡ mode_or mode v.encoding
-mode-in None v = refl
-mode-in (Some mode) v = refl
+pub sound-parts : (old : List ℕ) (cs : List Chunk) (v w : Encoder) (parts : List WirePart) → SoundAt old cs v → EmitsWireParts parts v (Ok tt) w
+    → (ds : List Chunk) × AreOf parts ds × SoundAt old (cs ++ ds) w
+sound-parts old cs v w [] s h =
+    ([], tt, subst (λ x. SoundAt old (cs ++ []) x) (sym h) (subst (λ xs. SoundAt old xs v) (sym (append-nil cs)) s))
+sound-parts old cs v w (part ∷ parts) s (m, one, more) =
+    let (d, first) = sound-part old cs v m part s one in
+    let c = wrote (of_part part) d in
+    let (ds, are, all) = sound-parts old (cs ++ c ∷ []) m w parts first more in
+    (c ∷ ds, (refl, are), subst (λ xs. SoundAt old xs w) (append_assoc cs (c ∷ []) ds) all)
 
-settings-in : (mode : Option NameEncoding) (v : Encoder)
-    → ((in_encoding mode v).canonical ≡ v.canonical) × ((in_encoding mode v).max_size ≡ v.max_size)
-settings-in None v = (refl, refl)
-settings-in (Some mode) v = (refl, refl)
+pub pieces-of-parts : (parts : List WirePart) (cs : List Chunk) → AreOf parts cs → map piece_of cs ≡ map wire_piece parts
+pieces-of-parts [] [] are = refl
+pieces-of-parts (part ∷ parts) (wrote content d ∷ cs) are =
+    let one = ap piece_in are.0 in
+    let rest = pieces-of-parts parts cs are.1 in
+    cc
+pieces-of-parts parts cs are = absurd are
 
-sound-in : (old : List ℕ) (cs : List Chunk) (f : ℕ → ℕ) (mode : Option NameEncoding) (v : Encoder) → SoundAt old cs f v → SoundAt old cs f (in_encoding mode v)
-sound-in old cs f None v s = s
-sound-in old cs f (Some mode) v s = s
+pub no-ends : (p : ℕ) (parts : List WirePart) (cs : List Chunk) → AreOf parts cs → ends_of p cs ≡ []
+no-ends p [] [] are = refl
+no-ends p (part ∷ parts) (wrote content d ∷ cs) are = no-ends (p + length d) parts cs are.1
+no-ends p parts cs are = absurd are
 
-pub grown-item : (old : List ℕ) (cs : List Chunk) (f : ℕ → ℕ) (v w : Encoder) (item : Item) → SoundAt old cs f v
-    → EmitsScriptItem item v (Ok tt) w → Grown old cs f v (item_pieces v.encoding item) w
-grown-item old cs f v w item s h =
-    let start = in_encoding item.encoding v in
-    let grown = grown-parts old cs f start h.0 (mode_or item.encoding v.encoding) item.parts.items (sound-in old cs f item.encoding v s) (mode-in item.encoding v) h.1 in
+-- their pieces are there, one after the other
+spells-parts : (x : List ℕ) (p : ℕ) (parts : List WirePart) (cs : List Chunk) → AreOf parts cs → Standing x p cs → Spells x (map wire_piece parts) p (upto p cs)
+spells-parts x p [] [] are h = refl
+spells-parts x p (part ∷ parts) (wrote content d ∷ cs) are h =
+    (p + length d, subst (λ c. PieceAt x (piece_in c) p (p + length d)) are.0 h.0, spells-parts x (p + length d) parts cs are.1 h.1)
+spells-parts x p parts cs are h = absurd are
+
+pub frame-parts : (parts : List WirePart) (v w : Encoder) → v.offset ≡ length v.bytes → EmitsWireParts parts v (Ok tt) w → Frame v (Ok tt) w
+frame-parts [] v w e h = subst (Frame v (Ok tt)) (sym h) (frame-same v (Ok tt) e)
+frame-parts (part ∷ parts) v w e (m, one, more) =
+    let f = frame-wire_part part v (Ok tt) m e one in
+    frames-follow v m w (Ok tt) e f (frame-parts parts m w f.ends more)
+
+-- ---- placeholders
+
+-- two zero bytes are at a new one
+pub sound-reserved : (old : List ℕ) (cs : List Chunk) (v : Encoder) → SoundAt old cs v → SoundAt old (cs ++ place 0 ∷ []) (reserved v 2)
+sound-reserved old cs v s =
+    let two : v.offset + 2 - length v.bytes ≡ 2 = omega (arith, s.end) in
+    let zeros : (reserved v 2).bytes ≡ v.bytes ++ to_be_bytes w16 0 =
+    ap (λ (x : List ℕ). x ++ replicate (v.offset + 2 - length v.bytes) 0) (take_all (v.offset + 2) v.bytes (omega (arith, s.end)))
+    ∙ ap (λ n. v.bytes ++ replicate n 0) two in
+    let end : v.offset + 2 ≡ length (reserved v 2).bytes = omega (arith, s.end, ap length zeros, length-append v.bytes (to_be_bytes w16 0)) in
+    sound-grow old cs (place 0 ∷ []) v (reserved v 2) s zeros end (λ x y h size before usable. (tt, usable))
+
+-- A value is filled in: nothing else changes.
+pub sound-filled : (old : List ℕ) (front back : List Chunk) (held value : ℕ) (v : Encoder) (p : ℕ) → SoundAt old (front ++ place held ∷ back) v
+    → p ≡ upto (length old) front → SoundAt old (front ++ place value ∷ back) (filled v p (to_be_bytes w16 value))
+sound-filled old front back held value v p s p_is =
+    let b = now old front in
+    let two = to_be_bytes w16 value in
+    let rest = now [] back in
+    let made : (n : ℕ) → now old (front ++ place n ∷ back) ≡ b ++ (to_be_bytes w16 n ++ rest) = λ n.
+    now-append old front (place n ∷ back) ∙ (now-front (b ++ to_be_bytes w16 n) back ∙ append_assoc b (to_be_bytes w16 n) rest) in
+    let was = s.bytes ∙ made held in
+    let size : length b ≡ p = length-now old front ∙ sym p_is in
+    let before : take p v.bytes ≡ b = ap (take p) was ∙ take_at b (to_be_bytes w16 held ++ rest) p size in
+    let far : length (b ++ to_be_bytes w16 held) ≡ p + 2 = omega (arith, size, length-append b (to_be_bytes w16 held)) in
+    let after : drop (p + 2) v.bytes ≡ rest =
+    ap (drop (p + 2)) (was ∙ sym (append_assoc b (to_be_bytes w16 held) rest)) ∙ drop_at (b ++ to_be_bytes w16 held) rest (p + 2) far in
+    let bytes : (filled v p two).bytes ≡ now old (front ++ place value ∷ back) =
+    ap (λ (x : List ℕ). x ++ (two ++ drop (p + 2) v.bytes)) before ∙ (ap (λ (x : List ℕ). b ++ (two ++ x)) after ∙ sym (made value)) in
     record {
-      more = grown.more;
-      sound = subst (λ (x : Encoder). SoundAt old (cs ++ grown.more) f x) (sym h.2) grown.sound;
-      pieces_are = grown.pieces_are;
-      no_places = grown.no_places;
-      mode = ap (λ (x : Encoder). x.encoding) h.2;
-      canonical = ap (λ (x : Encoder). x.canonical) h.2 ∙ (grown.canonical ∙ (settings-in item.encoding v).0);
-      max_size = ap (λ (x : Encoder). x.max_size) h.2 ∙ (grown.max_size ∙ (settings-in item.encoding v).1);
+      bytes = bytes;
+      end = omega (arith, s.end, ap length bytes, ap length (made value), ap length was, length-append {A = ℕ});
+      holds = λ x h.
+          let (stand, usable) = s.holds x (begins-others old x front (place value ∷ back) (place held ∷ back) (λ y there. there) h) in
+          let (first, more) = standing-split x (length old) front (place held ∷ back) stand in
+          (standing-join x (length old) front (place value ∷ back) first more, usable);
     }
 
-pub grown-items : (old : List ℕ) (cs : List Chunk) (f : ℕ → ℕ) (v w : Encoder) (mode : NameEncoding) (items : List Item) → SoundAt old cs f v
-    → v.encoding ≡ mode → InTurn EmitsScriptItem v items w → Grown old cs f v (flat_map (item_pieces mode) items) w
-grown-items old cs f v w mode [] s mode_is h = grown-none old cs f v w s h
-grown-items old cs f v w mode (item ∷ items) s mode_is h =
-    let m = h.0 in
-    let one : Grown old cs f v (item_pieces mode item) m =
-    subst (λ (e : NameEncoding). Grown old cs f v (item_pieces e item) m) mode_is (grown-item old cs f v m item s h.1) in
-    let rest = grown-items old (cs ++ one.more) f m w mode items one.sound (one.mode ∙ mode_is) h.2 in
-    grown-follows old cs f v m w (item_pieces mode item) (flat_map (item_pieces mode) items) one rest
+-- ---- parts after the number of their octets
+
+-- Chunks become one chunk, if its piece is there with them.
+sound-joined : (old : List ℕ) (cs ds : List Chunk) (w : Encoder) (content : Content) (p : ℕ) → SoundAt old (cs ++ ds) w → p ≡ upto (length old) cs
+    → ((x y more : List ℕ) → x ≡ y ++ (now [] ds ++ more) → length y ≡ p → Standing x p ds → PieceAt x (piece_in content) p (p + length (now [] ds)))
+    → SoundAt old (cs ++ wrote content (now [] ds) ∷ []) w
+sound-joined old cs ds w content p s p_is piece =
+    let d = now [] ds in
+    let one : List Chunk = wrote content d ∷ [] in
+    record {
+      bytes = s.bytes ∙ (now-append old cs ds ∙ (now-front (now old cs) ds ∙ sym (now-append old cs one)));
+      end = s.end;
+      holds = λ x h.
+          let freeze : (y : List ℕ) → Begins y one x → Begins y ds x = λ y (more, is).
+          subst (Begins y ds) (sym (is ∙ ap (λ (z : List ℕ). z ++ more) (sym (now-front y ds)))) (begins-now y more ds) in
+          let (stand, usable) = s.holds x (begins-others old x cs one ds freeze h) in
+          let (first, rest) = standing-split x (length old) cs ds stand in
+          let (y, size, _, (more, is)) = begins-split old x cs one h in
+          let there = piece x y more (is ∙ append_assoc y d more) (size ∙ sym p_is) (subst (λ q. Standing x q ds) (sym p_is) rest) in
+          (standing-join x (length old) cs one first (subst (λ q. PieceAt x (piece_in content) q (q + length d)) p_is there, tt), usable);
+    }
+
+-- Parts are there, and others after the number of their octets, up to e.
+pub record Counted (x : List ℕ) (front back : List WirePart) (p e : ℕ) : Type 0 where
+  pub middle : ℕ
+  pub first : Spells x (map wire_piece front) p middle
+  pub len : BytesStand x (to_be_bytes w16 (e - (middle + 2))) middle (middle + 2)
+  pub rest : Spells x (map wire_piece back) (middle + 2) e
+
+pub sound-counted : (old : List ℕ) (cs : List Chunk) (v w : Encoder) (front back : List WirePart) (content : Content) → SoundAt old cs v
+    → EmitsCounted front back v (Ok tt) w
+    → ((x : List ℕ) → Counted x front back v.offset w.offset → PieceAt x (piece_in content) v.offset w.offset)
+    → (d : List ℕ) × SoundAt old (cs ++ wrote content d ∷ []) w
+sound-counted old cs v w front back content s (d, before, (room, u, after, made)) piece =
+    let (fs, f_are, f) = sound-parts old cs v d front s before in
+    let (bs, b_are, b) = sound-parts old ((cs ++ fs) ++ place 0 ∷ []) (reserved d 2) u back (sound-reserved old (cs ++ fs) d f) after in
+    let start = sound-upto old cs v s in
+    let middle = sound-upto old (cs ++ fs) d f in
+    let size = u.offset - (d.offset + 2) in
+    let two = to_be_bytes w16 size in
+    let all = fs ++ place size ∷ bs in
+    let filled_in = sound-filled old (cs ++ fs) bs 0 size u d.offset (subst (λ xs. SoundAt old xs u) (append_assoc (cs ++ fs) (place 0 ∷ []) bs) b) middle in
+    let whole : SoundAt old (cs ++ all) w =
+    subst (λ x. SoundAt old (cs ++ all) x) (sym made) (subst (λ xs. SoundAt old xs (with_length u d.offset)) (append_assoc cs fs (place size ∷ bs)) filled_in) in
+    let at : upto v.offset fs ≡ d.offset = ap (λ p. upto p fs) start ∙ (sym (upto-append (length old) cs fs) ∙ sym middle) in
+    let end : upto v.offset all ≡ w.offset =
+    ap (λ p. upto p all) start ∙ (sym (upto-append (length old) cs all) ∙ sym (sound-upto old (cs ++ all) w whole)) in
+    let far : upto (d.offset + 2) bs ≡ w.offset = ap (λ p. upto (p + 2) bs) (sym at) ∙ (sym (upto-append v.offset fs (place size ∷ bs)) ∙ end) in
+    let same : u.offset ≡ w.offset = sym (ap (λ (x : Encoder). x.offset) made) in
+    let parts : now [] all ≡ now [] fs ++ (two ++ now [] bs) =
+    now-append [] fs (place size ∷ bs) ∙ (now-front (now [] fs ++ two) bs ∙ append_assoc (now [] fs) two (now [] bs)) in
+    let there : (x y more : List ℕ) → x ≡ y ++ (now [] all ++ more) → length y ≡ v.offset → Standing x v.offset all
+    → PieceAt x (piece_in content) v.offset (v.offset + length (now [] all)) = λ x y more is y_size stand.
+    let (first, rest) = standing-split x v.offset fs (place size ∷ bs) stand in
+    let e : w.offset ≡ v.offset + length (now [] all) =
+    omega (arith, end, y_size, ap (λ p. upto p all) y_size, length-now y all, ap length (now-front y all), length-append y (now [] all)) in
+    let x_is : x ≡ (y ++ now [] fs) ++ (two ++ (now [] bs ++ more)) = is ∙ (ap (λ (z : List ℕ). y ++ (z ++ more)) parts ∙ simp append_assoc) in
+    let y_end : length (y ++ now [] fs) ≡ d.offset =
+    sym (ap length (now-front y fs)) ∙ (length-now y fs ∙ (ap (λ p. upto p fs) y_size ∙ at)) in
+    let counted : Counted x front back v.offset w.offset =
+    record {
+      middle = d.offset;
+      first = subst (Spells x (map wire_piece front) v.offset) at (spells-parts x v.offset front fs f_are first);
+      len = subst (λ n. BytesStand x (to_be_bytes w16 (n - (d.offset + 2))) d.offset (d.offset + 2)) same (bytes-stand x (y ++ now [] fs) two (now [] bs ++ more) d.offset x_is y_end);
+      rest = subst (Spells x (map wire_piece back) (d.offset + 2)) far
+          (spells-parts x (d.offset + 2) back bs b_are (subst (λ p. Standing x (p + 2) bs) at rest));
+    } in
+    subst (PieceAt x (piece_in content) v.offset) e (piece x counted) in
+    (now [] all, sound-joined old cs all w content v.offset whole start there)
+
+-- ---- records
+
+abbrev pub fields_parts : NameEncoding → WireRecord → List WirePart
+fields_parts mode r = name_part mode r.owner ∷ bytes_part (type_class_ttl r) ∷ []
+
+-- bytes that are there one after the other
+bytes-join : (b d e : List ℕ) (p q r : ℕ) → BytesStand b d p q → BytesStand b e q r → BytesStand b (d ++ e) p r
+bytes-join b d e p q r h more =
+    let front = drop_split b p q (omega (arith, h.1)) ∙ ap (λ (x : List ℕ). x ++ drop q b) h.0 in
+    let back = drop_split b q r (omega (arith, more.1)) ∙ ap (λ (x : List ℕ). x ++ drop r b) more.0 in
+    let whole : drop p b ≡ (d ++ e) ++ drop r b = front ∙ (ap (λ (x : List ℕ). d ++ x) back ∙ sym (append_assoc d e (drop r b))) in
+    let size : length (d ++ e) ≡ r - p = omega (arith, length-append d e, h.1, more.1) in
+    (ap (take (r - p)) whole ∙ take_at (d ++ e) (drop r b) (r - p) size, omega (arith, length-append d e, h.1, more.1), more.2)
+
+data-stands : (b : List ℕ) (mode : NameEncoding) (canonical : Bool) (d : WireData) (p e : ℕ) → PieceAt b (wire_piece (data_part mode canonical d)) p e
+    → DataStand b mode canonical d p e
+data-stands b mode canonical (rdata.Bytes bytes) p e h = h
+data-stands b mode canonical (rdata.Name name encoding) p e h = h
+
+record-stands : (x : List ℕ) (mode : NameEncoding) (canonical : Bool) (r : WireRecord) (p e : ℕ)
+    → Counted x (fields_parts mode r) (data_part mode canonical r.rdata ∷ []) p e → NumbersFit r → e ≤ max_message → RecordStands x mode canonical r p e
+record-stands x mode canonical r p e c fit few =
+    let o = c.first.0 in
+    let eight = c.first.2.1 in
+    let fixed = subst (BytesStand x (type_class_ttl r) o) c.first.2.2 eight in
+    let middle : c.middle ≡ o + 8 = omega (arith, fixed.1) in
+    let after : c.middle + 2 ≡ o + 10 = omega (arith, middle) in
+    let len : BytesStand x (to_be_bytes w16 (e - (o + 10))) c.middle (o + 10) = subst (λ n. BytesStand x (to_be_bytes w16 (e - n)) c.middle n) after c.len in
+    record {
+      owner_end = o;
+      owner = c.first.1;
+      fields = bytes-join x (type_class_ttl r) _ o c.middle (o + 10) fixed len;
+      rdata = data-stands x mode canonical r.rdata (o + 10) e
+          (subst (λ n. PieceAt x (wire_piece (data_part mode canonical r.rdata)) n e) after
+          (subst (PieceAt x (wire_piece (data_part mode canonical r.rdata)) (c.middle + 2)) c.rest.2 c.rest.1));
+      few = few;
+      fit = fit;
+    }
+
+data-part : (d : WireData) (v w : Encoder) → EmitsData d v (Ok tt) w → EmitsWirePart (data_part v.encoding v.canonical d) v (Ok tt) w
+data-part (rdata.Bytes bytes) v w h = h
+data-part (rdata.Name name encoding) v w h = h
+
+-- a record that is written at the end is there
+pub sound-record : (old : List ℕ) (cs : List Chunk) (v w : Encoder) (r : WireRecord) → SoundAt old cs v → EmitsFields r v (Ok tt) w → NumbersFit r → w.offset ≤ max_message
+    → (d : List ℕ) × SoundAt old (cs ++ wrote (of_record v.encoding v.canonical r) d ∷ []) w
+sound-record old cs v w r s (a, owner, (d, fixed, (room, u, one, made))) fit few =
+    let f = frame-name r.owner v (Ok tt) a s.end owner in
+    let mode : d.encoding ≡ v.encoding = ap (λ (x : Encoder). x.encoding) fixed.1 ∙ f.encoding in
+    let canonical : d.canonical ≡ v.canonical = ap (λ (x : Encoder). x.canonical) fixed.1 ∙ f.canonical in
+    let own : a ≡ in_encoding a v.encoding = ap (λ (m : NameEncoding). in_encoding a m) f.encoding in
+    let rest : EmitsWirePart (data_part v.encoding v.canonical r.rdata) (reserved d 2) (Ok tt) u =
+    subst (λ m. EmitsWirePart (data_part m v.canonical r.rdata) (reserved d 2) (Ok tt) u) mode
+    (subst (λ c. EmitsWirePart (data_part d.encoding c r.rdata) (reserved d 2) (Ok tt) u) canonical (data-part r.rdata (reserved d 2) u one)) in
+    sound-counted old cs v w (fields_parts v.encoding r) (data_part v.encoding v.canonical r.rdata ∷ []) (of_record v.encoding v.canonical r) s
+    (d, (a, (a, owner, own), (d, fixed, refl)), (room, u, (u, rest, refl), made))
+    (λ x counted. record-stands x v.encoding v.canonical r v.offset w.offset counted fit few)

@@ -1,276 +1,386 @@
--- Each step of a run keeps what holds of account and encoder.
-use Rattle.std.proofs.Common.{◌≡◌, ℕ, ◌+◌, ◌-◌, ◌≤◌, Option, Some, None, Err, List, [], ◌∷◌, ◌++◌, length, map, take, refl, sym, ap, ◌∙◌, subst, append_assoc, arith}
-use Rattle.std.specs.List.{flat_map}
+-- Each step of a run has its reply, and keeps what holds of account and encoder.
+use Rattle.std.proofs.Common.{◌≡◌, ℕ, zero, suc, ◌+◌, ◌-◌, ◌<◌, ◌≤◌, if◌then◌else◌, Bool, true, cond, Option, Some, None, Ok, Err, List, [], ◌∷◌, ◌++◌, length, map, take, drop, slice_get, inl, inr, refl, sym, ap, ◌∙◌, subst, arith}
 use Rattle.std.specs.Int.{w16, to_be_bytes}
-use Rattle.std.proofs.lemmas.List.{length-append, length-map, map-append, append-nil, take_all, take_at}
+use Rattle.std.proofs.lemmas.List.{append-nil, drop_at, length-append, map-append, take-append-le, take_all, take_at}
 use Rattle.dnw_error.specs.declared.error.ProtoError.{ProtoError}
-use Rattle.dnw_error.specs.declared.error.ProtoError.TheVariants.{MaxBufferSizeExceeded, Memory}
+use Rattle.dnw_error.specs.declared.error.ProtoError.TheVariants.{MaxBufferSizeExceeded, Memory, CharacterDataTooLong}
 use Rattle.dnw_base.specs.Limits.{max_message}
-use Rattle.dnw_encoder.specs.Encoder.{Encoder, TakesRoom, filled, moved_to, reserved}
-use Rattle.dnw_candidates.specs.Candidates.{Candidate}
-use Rattle.dnw_encoder.specs.Emitting.{rolled_back}
-use Rattle.dnw_encoder.specs.EmittingLaws.{fails-unchanged}
+use Rattle.dnw_reading.proofs.Counts.{Reads-own}
+use Rattle.dnw_candidates.specs.Candidates.{Candidate, candidates_before}
+use Rattle.dnw_encoder.specs.Encoder.{Encoder, filled, moved_to, reserved, TakesRoom, Writes, WritesText, written}
+use Rattle.dnw_encoder.specs.Emitting.{Frame, Outcome, rolled_back, list_error}
 use Rattle.dnw_encoder.specs.Marks.{mark_of, rewound}
 use Rattle.dnw_record.specs.declared.record.WireRecord.{WireRecord}
-use Rattle.dnw_record.specs.RecordFrames.{frame-fields}
+use Rattle.dnw_record.specs.Parts.{EmitsWirePart, EmitsWireParts, parts_size, WirePart, bytes_part, in_encoding, name_part, text_part}
+use Rattle.dnw_record.specs.RecordFrames.{frame-fields, frame-reserved, frame-wire_part}
+use Rattle.dnw_record.specs.RecordLaws.{record_size, FailsForSize}
+use Rattle.dnw_record.specs.WrittenRecords.{EmitsRecord}
+use Rattle.dnw_record.proofs.Parts.{done-fields, done-parts, Refuses, refused-fields, refused-part, refused-parts, refused-room, done-part, room-most}
 use Rattle.dns_names_wire.specs.declared.script.Part.{Part}
 use Rattle.dns_names_wire.specs.declared.script.Item.{Item}
 use Rattle.dns_names_wire.specs.declared.script.Reply.{Reply}
 use Rattle.dns_names_wire.specs.declared.script.Reply.TheVariants.{Done, Refused, Items}
-use Rattle.dns_names_wire.specs.Script.{Action, write, set_max, set_encoding, set_canonical, reserve, fill, write_record, write_items}
-use Rattle.dns_names_wire.specs.Pieces.{Account, Piece, Slot, place_piece, record_piece, after, filled_with, item_pieces, part_piece, spent}
-use Rattle.dns_names_wire.specs.Replies.{open_place}
-use Rattle.dns_names_wire.specs.Runs.{RunsFill, RunsItems, RunsStep}
-use Rattle.dns_names_wire.proofs.Agreeing.{Chunk, hole, SameFor, at, ends_of, ends_of-append, ends-spent, fills_at, length-ends_of, next, open_at, pieces_of, pieces_of-append, pieces_of-filled, pieces_of-same, update, update-other, update-same, upto}
-use Rattle.dns_names_wire.proofs.Keeping.{AreKept, kept-before}
-use Rattle.dns_names_wire.proofs.Recording.{grown-record}
-use Rattle.dns_names_wire.proofs.Standing.{Grown, SoundAt, buffer, filled_bytes, grown-items, grown-part, sound-other, sound-reserved, sound_end}
-use Rattle.dns_names_wire.proofs.Sizes.{part-same}
+use Rattle.dns_names_wire.specs.Script.{Action, EmitsPart, write, set_max, set_encoding, set_canonical, reserve, fill, write_record, write_items, item_parts, items_parts, wire_part}
+use Rattle.dns_names_wire.specs.Pieces.{Account, Piece, Slot, place_piece, record_piece, after, filled_in, spent, wire_piece, with_pieces}
+use Rattle.dns_names_wire.specs.Replies.{ItemFails, ReplyTo, ReplyToFill, ReplyToItems, ReplyToRecord, open_place, ReplyToBytes, ReplyToName, ReplyToPart, ReplyToText}
+use Rattle.dns_names_wire.specs.Runs.{GivesReply, RunsFill, RunsItems, RunsStep}
+use Rattle.dns_names_wire.proofs.Chunks.{Begins, Chunk, begins-now, ends-append, ends_of, now, of_record, piece_of, place, Splits, split_at, upto, upto-filled, wrote}
+use Rattle.dns_names_wire.proofs.Naming.{AreUsable, Has, by_test, has-filtered, less_test}
+use Rattle.dns_names_wire.proofs.Standing.{Sound, SoundAt, frame-parts, no-ends, pieces-of-parts, sound-filled, sound-parts, sound-record, sound-reserved, sound-upto}
+use Rattle.dns_names_wire.proofs.WireParts.{as_item_parts, as_items_parts, as_wire_part}
+use Rattle.dnw_base.specs.Names.{encoded_size}
+use Rattle.dnw_encoder.specs.declared.encoder.modes.NameEncoding.{NameEncoding}
+use Rattle.dnw_encoder.specs.EmittedName.{EmitsAs, Share, in_mode, room_for}
+use Rattle.dnw_encoder.specs.EmittingLaws.{frame-written}
+use Rattle.dnw_encoder.proofs.NameBack.{size-in_mode}
+use Rattle.dnw_encoder.proofs.Suffixes.{length-all}
 
--- Account and encoder agree on chunks, with these values in the places.
-pub record Good (old : List ℕ) (cs : List Chunk) (f : ℕ → ℕ) (a : Account) (v : Encoder) : Type 0 where
-  pub sound : SoundAt old cs f v
-  pub len : a.len ≡ v.offset
+-- ---- replies
+
+room-least : (ls : List (List ℕ)) (choice : Option Share) → encoded_size ls ≤ room_for ls choice + 1
+room-least ls None = omega arith
+room-least ls (Some share) = omega (arith, length-all ls)
+
+-- from an account that has the encoder's length, at the end of its buffer, and its maximum
+module _ (a : Account) (v w : Encoder) (at_end : v.offset ≡ length v.bytes) (len_is : a.len ≡ v.offset) (max_is : a.max ≡ v.max_size) where
+  reply-bytes : (done : Encoder) (n : ℕ) (reply : Reply) → length done.bytes ≡ v.offset + n → GivesReply (TakesRoom v n done) reply w
+      → ReplyToBytes a n reply
+  reply-bytes done n (Done len) size h = (omega (arith, h.0.0), omega (arith, size, h.1, ap (λ (x : Encoder). length x.bytes) h.0.1))
+  reply-bytes done n (Refused Memory len) size h = (omega (arith, h.0.0), omega (arith, h.1, ap (λ (x : Encoder). length x.bytes) h.0.2))
+  reply-bytes done n (Refused (MaxBufferSizeExceeded max) len) size h =
+      (omega (arith, h.0.0), h.0.1 ∙ sym max_is, omega (arith, h.1, ap (λ (x : Encoder). length x.bytes) h.0.2))
+  reply-bytes done n (Refused error len) size h = absurd h.0
+  reply-bytes done n reply size h = absurd h
+
+  reply-writes : (d : List ℕ) (reply : Reply) → GivesReply (Writes v d) reply w → ReplyToBytes a (length d) reply
+  reply-writes d reply h = reply-bytes (written v d) (length d) reply (sym (frame-written v d at_end).ends) h
+
+  reply-text : (text : List ℕ) (reply : Reply) → GivesReply (WritesText v text) reply w → ReplyToText a (length text) reply
+  reply-text text (Refused (CharacterDataTooLong max size) len) h =
+      (h.0.0, h.0.1, h.0.2, omega (arith, h.1, ap (λ (x : Encoder). length x.bytes) h.0.3))
+  reply-text text (Refused error len) h = (h.0.0, reply-writes (length text ∷ text) (Refused error len) (h.0.1, h.1))
+  reply-text text (Done len) h = (h.0.0, reply-writes (length text ∷ text) (Done len) (h.0.1, h.1))
+  reply-text text reply h = absurd h
+
+  refused-name : (mode : NameEncoding) (u : Encoder) (ls : List (List ℕ)) (choice : Option Share) (size len : ℕ) (error : ProtoError) → encoded_size ls ≡ size
+      → len ≡ length w.bytes → length w.bytes ≡ length v.bytes → EmitsAs (in_encoding v mode) ls choice (Err error) u → ReplyToName a size (Refused error len)
+  refused-name mode u ls choice size len Memory is tells same h = (omega (arith, is, h.0, room-least ls choice), omega (arith, tells, same))
+  refused-name mode u ls choice size len (MaxBufferSizeExceeded max) is tells same h =
+      (omega (arith, is, h.0, room-most ls choice), h.1 ∙ sym max_is, omega (arith, tells, same))
+  refused-name mode u ls choice size len error is tells same h = absurd h
+
+  reply-part : (part : WirePart) (reply : Reply) → GivesReply (EmitsWirePart part v) reply w → ReplyToPart a part reply
+  reply-part (bytes_part d) reply h = reply-writes d reply h
+  reply-part (text_part d) reply h = reply-text d reply h
+  reply-part (name_part mode name) (Done len) h =
+      let (u, em, is) = h.0 in
+      let f = frame-wire_part (name_part mode name) v (Ok tt) w at_end h.0 in
+      (omega (arith, em.written_as.0, room-least (in_mode mode name.labels) em.choice, size-in_mode mode name.labels), omega (arith, h.1, f.ends, (done-part (name_part mode name) v w h.0).0))
+  reply-part (name_part mode name) (Refused error len) h =
+      let (u, em, is) = h.0 in
+      let same = ap (λ (x : Encoder). length x.bytes) (refused-part (name_part mode name) [] v w error h.0).0 in
+      refused-name mode u (in_mode mode name.labels) em.choice (encoded_size name.labels) len error (size-in_mode mode name.labels) h.1 same em.written_as
+  reply-part (name_part mode name) reply h = absurd h
+
+  -- a record that is refused did not fit whole, or memory ran out
+  refused-record : (size len : ℕ) (error : ProtoError) → len ≡ a.len → FailsForSize v size error → ReplyToRecord a size (Refused error len)
+  refused-record size len error same (inl memory) = subst (λ e. ReplyToRecord a size (Refused e len)) (sym memory) same
+  refused-record size len error same (inr (is, less)) =
+      subst (λ e. ReplyToRecord a size (Refused e len)) (sym is) (omega (arith, less), sym max_is, same)
+
+  -- why an item is refused that begins at the length
+  refused-item : (count start : ℕ) (item : Item) (rest : List Item) (cause error : ProtoError) → error ≡ list_error count cause
+      → Refuses v.max_size start (item_parts a.mode item) cause → ItemFails a count start (item ∷ rest) error
+  refused-item count start item rest (MaxBufferSizeExceeded size) error is h =
+      subst (ItemFails a count start (item ∷ rest)) (sym is) (refl, omega (arith, h.1))
+  refused-item count start item rest (CharacterDataTooLong max n) error is h = subst (ItemFails a count start (item ∷ rest)) (sym is) h
+  refused-item count start item rest Memory error is h = subst (ItemFails a count start (item ∷ rest)) (sym is) tt
+  refused-item count start item rest cause error is h = absurd h
+
+-- ---- account and encoder
+
+-- Account and encoder agree on chunks.
+pub record Agrees (old : List ℕ) (cs : List Chunk) (len : ℕ) (pieces : List Piece) (slots : List Slot) (b : List ℕ) (o : ℕ) (candidates : List Candidate) : Type 0 where
+  pub sound : Sound old cs b o candidates
+  pub len_is : len ≡ o
+  pub pieces_are : pieces ≡ map piece_of cs
+  pub places : map (λ (s : Slot). s.end) slots ≡ ends_of (length old) cs
+
+abbrev pub AgreesAt : List ℕ → List Chunk → Account → Encoder → Type 0
+AgreesAt old cs a v = Agrees old cs a.len a.pieces a.places v.bytes v.offset v.candidates
+
+-- And they have the same settings.
+pub record Good (old : List ℕ) (cs : List Chunk) (a : Account) (v : Encoder) : Type 0 where
+  pub agrees : AgreesAt old cs a v
+  pub max : a.max ≡ v.max_size
   pub mode : a.mode ≡ v.encoding
   pub canonical : a.canonical ≡ v.canonical
   pub small : v.max_size ≤ max_message
-  pub pieces : a.pieces ≡ pieces_of f 0 cs
-  pub places : map (λ (s : Slot). s.end) a.places ≡ ends_of (length old) cs
 
--- The run has gone on from these chunks, and there may be more of them.
+-- The run has gone on from these chunks: there may be more of them, and the first ones end where they did.
 pub record Goes (old : List ℕ) (cs : List Chunk) (a : Account) (v : Encoder) : Type 0 where
-  pub more : List Chunk
-  pub values : ℕ → ℕ
-  pub good : Good old (cs ++ more) values a v
+  pub chunks : List Chunk
+  pub good : Good old chunks a v
+  pub longer : length cs ≤ length chunks
+  pub same : (k : ℕ) → k ≤ length cs → upto (length old) (take k chunks) ≡ upto (length old) (take k cs)
 
--- with no more chunks
-goes-on : (old : List ℕ) (cs : List Chunk) (f : ℕ → ℕ) (a : Account) (v : Encoder) → Good old cs f a v → Goes old cs a v
-goes-on old cs f a v good =
-    record { more = []; values = f; good = subst (λ (ds : List Chunk). Good old ds f a v) (sym (append-nil cs)) good }
+-- with the same chunks
+pub goes-same : (old : List ℕ) (cs : List Chunk) (a : Account) (v w : Encoder) → Good old cs a v → w ≡ v → Goes old cs a w
+goes-same old cs a v w good same = record { chunks = cs; good = subst (Good old cs a) (sym same) good; longer = omega arith; same = λ k le. refl }
 
--- nothing was changed
-pub goes-same : (old : List ℕ) (cs : List Chunk) (f : ℕ → ℕ) (a : Account) (v w : Encoder) → Good old cs f a v → w ≡ v → Goes old cs a w
-goes-same old cs f a v w good same = goes-on old cs f a w (subst (λ (x : Encoder). Good old cs f a x) (sym same) good)
+pub goes-then : (old : List ℕ) (cs : List Chunk) (a b : Account) (v w : Encoder) (one : Goes old cs a v) → Goes old one.chunks b w → Goes old cs b w
+goes-then old cs a b v w one two = record {
+  chunks = two.chunks;
+  good = two.good;
+  longer = omega (arith, one.longer, two.longer);
+  same = λ k le. two.same k (omega (arith, le, one.longer)) ∙ one.same k le;
+}
 
--- pieces without places were written
-goes-grown : (old : List ℕ) (cs : List Chunk) (f : ℕ → ℕ) (a : Account) (v w : Encoder) (ps : List Piece) (len : ℕ) → Good old cs f a v
-    → Grown old cs f v ps w → len ≡ length w.bytes → Goes old cs (record a { len = len; pieces = a.pieces ++ ps }) w
-goes-grown old cs f a v w ps len good grown len_is =
-    let all = cs ++ grown.more in
+-- Chunks were written with these pieces, and placeholders that end there.
+goes-more : (old : List ℕ) (cs ds : List Chunk) (a : Account) (v w : Encoder) (ps : List Piece) (len : ℕ) (slots : List Slot) → Good old cs a v
+    → SoundAt old (cs ++ ds) w → Frame v (Ok tt) w → len ≡ length w.bytes → map piece_of ds ≡ ps
+    → map (λ (s : Slot). s.end) slots ≡ map (λ (s : Slot). s.end) a.places ++ ends_of (upto (length old) cs) ds
+    → Goes old cs (record a { len = len; pieces = a.pieces ++ ps; places = slots }) w
+goes-more old cs ds a v w ps len slots good sound f len_is pieces ends =
     record {
-      more = grown.more;
-      values = f;
+      chunks = cs ++ ds;
       good = record {
-        sound = grown.sound;
-        len = len_is ∙ sym (sound_end old all f w.bytes w.offset w.candidates grown.sound);
-        mode = good.mode ∙ sym grown.mode;
-        canonical = good.canonical ∙ sym grown.canonical;
-        small = omega (arith, good.small, grown.max_size);
-        pieces = ap (λ (x : List Piece). x ++ ps) good.pieces
-            ∙ sym (pieces_of-append f 0 cs grown.more ∙ ap (λ (x : List Piece). pieces_of f 0 cs ++ x) (grown.pieces_are f (next 0 cs)));
-        places = good.places
-            ∙ sym (ends_of-append (length old) cs grown.more
-            ∙ (ap (λ (x : List ℕ). ends_of (length old) cs ++ x) (grown.no_places (upto (length old) cs)) ∙ append-nil (ends_of (length old) cs)));
+        agrees = record {
+          sound = sound;
+          len_is = len_is ∙ sym sound.end;
+          pieces_are = ap (λ (x : List Piece). x ++ ps) good.agrees.pieces_are
+              ∙ (ap (λ (x : List Piece). map piece_of cs ++ x) (sym pieces) ∙ sym (map-append piece_of cs ds));
+          places = ends ∙ (ap (λ (x : List ℕ). x ++ ends_of (upto (length old) cs) ds) good.agrees.places ∙ sym (ends-append (length old) cs ds));
+        };
+        max = good.max ∙ sym f.max_size;
+        mode = good.mode ∙ sym f.encoding;
+        canonical = good.canonical ∙ sym f.canonical;
+        small = omega (arith, good.small, f.max_size);
       };
+      longer = omega (arith, length-append cs ds);
+      same = λ k le. ap (upto (length old)) (take-append-le k cs ds le);
     }
 
--- ---- a part
+-- no placeholders among the chunks
+no-places : (slots : List Slot) (ends : List ℕ) → ends ≡ [] → map (λ (s : Slot). s.end) slots ≡ map (λ (s : Slot). s.end) slots ++ ends
+no-places slots ends none = sym (ap (λ (x : List ℕ). map (λ (s : Slot). s.end) slots ++ x) none ∙ append-nil (map (λ (s : Slot). s.end) slots))
 
-step-write : (old : List ℕ) (cs : List Chunk) (f : ℕ → ℕ) (a : Account) (v w : Encoder) (part : Part) (reply : Reply) → Good old cs f a v
-    → RunsStep a v (write part) reply w → Goes old cs (after a (write part) reply) w
-step-write old cs f a v w part (Done len) good h =
-    goes-grown old cs f a v w (part_piece a.mode part ∷ []) len good
-    (subst (λ m. Grown old cs f v (part_piece m part ∷ []) w) (sym good.mode) (grown-part old cs f v w part good.sound h.0)) h.1
-step-write old cs f a v w part (Refused error len) good h = goes-same old cs f a v w good (part-same part v w error h.0)
-step-write old cs f a v w part reply good h = absurd h
+goes-parts : (old : List ℕ) (cs : List Chunk) (a : Account) (v w : Encoder) (parts : List WirePart) (len : ℕ) → Good old cs a v → EmitsWireParts parts v (Ok tt) w
+    → len ≡ length w.bytes → Goes old cs (with_pieces a (map wire_piece parts) len) w
+goes-parts old cs a v w parts len good h len_is =
+    let (ds, are, sound) = sound-parts old cs v w parts good.agrees.sound h in
+    goes-more old cs ds a v w (map wire_piece parts) len a.places good sound (frame-parts parts v w good.agrees.sound.end h) len_is
+    (pieces-of-parts parts ds are) (no-places a.places (ends_of (upto (length old) cs) ds) (no-ends (upto (length old) cs) parts ds are))
 
--- ---- a place
+-- ---- what steps come to
 
--- the number of the next place
-places_so_far : (old : List ℕ) (cs : List Chunk) (f : ℕ → ℕ) (a : Account) (v : Encoder) → Good old cs f a v → length a.places ≡ next 0 cs
-places_so_far old cs f a v good =
-    sym (length-map a.places (λ (s : Slot). s.end)) ∙ (ap length good.places ∙ omega (arith, length-ends_of 0 (length old) cs))
+as_wire : (part : Part) (v w : Encoder) (reply : Reply) → v.offset ≡ length v.bytes → GivesReply (EmitsPart part v) reply w
+    → GivesReply (EmitsWirePart (wire_part v.encoding part) v) reply w
+as_wire part v w (Done len) e h = (as_wire_part part v w (Ok tt) e h.0, h.1)
+as_wire part v w (Refused error len) e h = (as_wire_part part v w (Err error) e h.0, h.1)
+as_wire part v w reply e h = absurd h
 
-refused-reserve : (v w : Encoder) (error : ProtoError) → TakesRoom {A = Unit {0}} v 2 (reserved v 2) (Err error) w → w ≡ v
-refused-reserve v w Memory h = h.2
-refused-reserve v w (MaxBufferSizeExceeded size) h = h.2
-refused-reserve v w error h = absurd h
+-- a refused part changes nothing
+pub part-same : (part : Part) (v w : Encoder) (error : ProtoError) → v.offset ≡ length v.bytes → EmitsPart part v (Err error) w → w ≡ v
+part-same part v w error e h = (refused-part (wire_part v.encoding part) [] v w error (as_wire_part part v w (Err error) e h)).0
 
-step-reserve : (old : List ℕ) (cs : List Chunk) (f : ℕ → ℕ) (a : Account) (v w : Encoder) (reply : Reply) → Good old cs f a v
-    → RunsStep a v reserve reply w → Goes old cs (after a reserve reply) w
-step-reserve old cs f a v w (Done len) good h =
-    let n = next 0 cs in
-    let f' = update f n 0 in
-    let one : List Chunk = hole ∷ [] in
-    let end = λ (s : Slot). s.end in
-    let sound = sound-reserved old cs f v good.sound in
-    let kept : SoundAt old (cs ++ one) f' w = subst (λ (x : Encoder). SoundAt old (cs ++ one) f' x) (sym h.0.1) sound in
-    let len_is : len ≡ w.offset = h.1 ∙ sym (sound_end old (cs ++ one) f' w.bytes w.offset w.candidates kept) in
-    let end_is : len ≡ upto (length old) cs + 2 = len_is ∙ (ap (λ (x : Encoder). x.offset) h.0.1 ∙ ap (λ k. k + 2) good.sound.end) in
-    let same : SameFor f f' 0 cs = λ i least less. sym (update-other f n 0 i (λ e. omega (arith, e, less))) in
-    record {
-      more = one;
-      values = f';
-      good = record {
-        sound = kept;
-        len = len_is;
-        mode = good.mode ∙ sym (ap (λ (x : Encoder). x.encoding) h.0.1);
-        canonical = good.canonical ∙ sym (ap (λ (x : Encoder). x.canonical) h.0.1);
-        small = omega (arith, good.small, ap (λ (x : Encoder). x.max_size) h.0.1);
-        pieces = ap (λ (x : List Piece). x ++ place_piece (length a.places) 0 ∷ []) (good.pieces ∙ pieces_of-same f f' 0 cs same)
-            ∙ (ap (λ k. pieces_of f' 0 cs ++ place_piece k 0 ∷ []) (places_so_far old cs f a v good)
-            ∙ (ap (λ k. pieces_of f' 0 cs ++ place_piece n k ∷ []) (sym (update-same f n 0 n refl)) ∙ sym (pieces_of-append f' 0 cs one)));
-        places = map-append end a.places _
-            ∙ (ap (λ (x : List ℕ). x ++ len ∷ []) good.places
-            ∙ (ap (λ k. ends_of (length old) cs ++ k ∷ []) end_is ∙ sym (ends_of-append (length old) cs one)));
-      };
-    }
-step-reserve old cs f a v w (Refused error len) good h = goes-same old cs f a v w good (refused-reserve v w error h.0)
-step-reserve old cs f a v w reply good h = absurd h
+-- a placeholder that is open is among them
+open_at : (i : ℕ) (slots : List Slot) (end : ℕ) → open_place i slots ≡ Some end → slice_get (map (λ (s : Slot). s.end) slots) i ≡ Some end
+open_at i [] end here = absurd cc
+open_at zero (slot ∷ slots) end here =
+    by_test (λ b. (if b then Some slot.end else None) ≡ Some end → Some slot.end ≡ Some end) slot.is_open (λ test e. e) (λ test e. absurd cc) here
+open_at (suc i) (slot ∷ slots) end here = open_at i slots end here
 
--- ---- a place is filled
+ends-spent : (i : ℕ) (slots : List Slot) → map (λ (s : Slot). s.end) (spent i slots) ≡ map (λ (s : Slot). s.end) slots
+ends-spent i [] = refl
+ends-spent zero (slot ∷ slots) = refl
+ends-spent (suc i) (slot ∷ slots) = ap (λ (es : List ℕ). slot.end ∷ es) (ends-spent i slots)
 
--- its value is all that changes
-good-filled : (old : List ℕ) (cs : List Chunk) (f : ℕ → ℕ) (a : Account) (v : Encoder) (place value end : ℕ) → Good old cs f a v
-    → open_place place a.places ≡ Some end
-    → Good old cs (update f place value) (record a { pieces = map (filled_with place value) a.pieces; places = spent place a.places }) (filled v (end - 2) (to_be_bytes w16 value))
-good-filled old cs f a v place value end good here =
-    let d = to_be_bytes w16 value in
-    let f' = update f place value in
-    let slot : at place (ends_of (length old) cs) ≡ Some end = ap (at place) (sym good.places) ∙ open_at place a.places end here in
-    let r = fills_at f place value 0 place (length old) cs end (omega arith) slot in
-    let parts : v.bytes ≡ (old ++ r.before) ++ (r.held ++ r.behind) =
-    good.sound.bytes ∙ (ap (λ (x : List ℕ). old ++ x) r.whole ∙ sym (append_assoc old r.before (r.held ++ r.behind))) in
-    let place_is : end - 2 ≡ length (old ++ r.before) = omega (arith, r.ends, length-append old r.before) in
-    let bytes : (filled v (end - 2) d).bytes ≡ buffer old cs f' =
-    filled_bytes v.bytes (old ++ r.before) r.held r.behind d (end - 2) parts r.size place_is
-    ∙ (append_assoc old r.before (d ++ r.behind) ∙ ap (λ (x : List ℕ). old ++ x) (sym r.filled)) in
-    record {
-      sound = sound-other old cs f f' v.bytes (filled v (end - 2) d).bytes v.offset v.candidates good.sound bytes;
-      len = good.len;
-      mode = good.mode;
-      canonical = good.canonical;
-      small = good.small;
-      pieces = ap (map (filled_with place value)) good.pieces ∙ pieces_of-filled f place value 0 cs;
-      places = ends-spent place a.places ∙ good.places;
-    }
+-- candidates that are usable are before the offset
+before-all : (o : ℕ) (cs : List Candidate) → ((c : Candidate) → Has cs c → c.0 < o) → candidates_before o cs ≡ cs
+before-all o [] less = refl
+before-all o (c ∷ cs) less =
+    let rest = candidates_before o cs in
+    ap (λ (b : Bool). cond b (c ∷ rest) rest) (less_test c.0 o (less c (inl refl)))
+    ∙ ap (λ (xs : List Candidate). c ∷ xs) (before-all o cs (λ d h. less d (inr h)))
 
--- a place that was not filled is spent
-good-spent : (old : List ℕ) (cs : List Chunk) (f : ℕ → ℕ) (a : Account) (v : Encoder) (place : ℕ) → Good old cs f a v
-    → Good old cs f (record a { places = spent place a.places }) v
-good-spent old cs f a v place good =
-    record {
-      sound = good.sound;
-      len = good.len;
-      mode = good.mode;
-      canonical = good.canonical;
-      small = good.small;
-      pieces = good.pieces;
-      places = ends-spent place a.places ∙ good.places;
-    }
+pub usable-now : (old : List ℕ) (cs : List Chunk) (v : Encoder) → SoundAt old cs v → AreUsable v.bytes v.candidates
+usable-now old cs v s =
+    (s.holds v.bytes (subst (Begins old cs) (append-nil (now old cs) ∙ sym s.bytes) (begins-now old [] cs))).1
 
-step-fill : (old : List ℕ) (cs : List Chunk) (f : ℕ → ℕ) (a : Account) (v w : Encoder) (place value : ℕ) (slot : Option ℕ) (reply : Reply) → Good old cs f a v
-    → open_place place a.places ≡ slot → RunsFill v slot value reply w → Goes old cs (after a (fill place value) reply) w
-step-fill old cs f a v w place value None reply good here h =
-    subst (λ r. Goes old cs (after a (fill place value) r) w) (sym h.0) (goes-same old cs f a v w good h.1)
-step-fill old cs f a v w place value (Some end) (Done len) good here h =
-    let d = to_be_bytes w16 value in
-    let b = record a { pieces = map (filled_with place value) a.pieces; places = spent place a.places } in
-    let made : w ≡ filled v (end - 2) d = h.0.2 ∙ ap (λ (x : Encoder). moved_to x v.offset) h.0.1.1 in
-    goes-same old cs (update f place value) b (filled v (end - 2) d) w (good-filled old cs f a v place value end good here) made
-step-fill old cs f a v w place value (Some end) (Refused error len) good here h =
-    let d = to_be_bytes w16 value in
-    let same : w ≡ v = h.0.2 ∙ ap (λ (x : Encoder). moved_to x v.offset) (fails-unchanged (moved_to v (end - 2)) d error h.0.0 h.0.1) in
-    goes-same old cs f (record a { places = spent place a.places }) v w (good-spent old cs f a v place good) same
-step-fill old cs f a v w place value (Some end) reply good here h = absurd h
+-- what kept the frame is undone
+undone : (v u : Encoder) (outcome : Outcome) → candidates_before v.offset v.candidates ≡ v.candidates → Frame v outcome u → rewound u (mark_of v) ≡ v
+undone v u outcome before f = rw (f.bytes, f.candidates, before, f.encoding, f.canonical, f.max_size, f.candidate_limit, f.name_limit) refl
 
--- ---- items
+pub record-undone : (old : List ℕ) (cs : List Chunk) (v w : Encoder) (r : WireRecord) (error : ProtoError) → SoundAt old cs v → EmitsRecord r v (Err error) w → w ≡ v
+record-undone old cs v w r error s (u, fields, made) =
+    let usable : AreUsable v.bytes v.candidates = usable-now old cs v s in
+    let less : (c : Candidate) → Has v.candidates c → c.0 < v.offset = λ c h. let own = Reads-own (usable c h).name.reads in omega (arith, own, s.end) in
+    made ∙ undone v u (Err error) (before-all v.offset v.candidates less) (frame-fields r v (Err error) u s.end fields)
 
-step-items : (old : List ℕ) (cs : List Chunk) (f : ℕ → ℕ) (a : Account) (v w : Encoder) (items : List Item) (reply : Reply) → Good old cs f a v
-    → RunsItems v items reply w → Goes old cs (after a (write_items items) reply) w
-step-items old cs f a v w items (Items count None len) good h =
-    let all : take count items ≡ items = take_all count items (omega (arith, h.1)) in
-    let grown : Grown old cs f v (flat_map (item_pieces a.mode) (take count items)) w =
-    subst (λ (xs : List Item). Grown old cs f v (flat_map (item_pieces a.mode) xs) w) (sym all) (grown-items old cs f v w a.mode items good.sound (sym good.mode) h.0) in
-    goes-grown old cs f a v w (flat_map (item_pieces a.mode) (take count items)) len good grown h.2
-step-items old cs f a v w items (Items count (Some error) len) good (first, item, rest, m, parts, count_is, in_turn, undone, len_is) =
-    let made = undone.3 in
-    let some : take count items ≡ first = ap (take count) parts ∙ take_at first (item ∷ rest) count (sym count_is) in
-    let ps = flat_map (item_pieces a.mode) (take count items) in
-    let grown : Grown old cs f v ps m =
-    subst (λ (xs : List Item). Grown old cs f v (flat_map (item_pieces a.mode) xs) m) (sym some) (grown-items old cs f v m a.mode first good.sound (sym good.mode) in_turn) in
-    let s = grown.sound in
-    let left : Grown old cs f v ps (rolled_back m undone.0) = record {
-      more = grown.more;
-      sound = record {
-        bytes = s.bytes;
-        end = s.end;
-        spells = s.spells;
-        useful = kept-before (buffer old (cs ++ grown.more)) m.offset m.candidates s.useful;
-      };
-      pieces_are = grown.pieces_are;
-      no_places = grown.no_places;
-      mode = grown.mode;
-      canonical = grown.canonical;
-      max_size = grown.max_size;
+good-rolled : (old : List ℕ) (cs : List Chunk) (a : Account) (m u : Encoder) → Good old cs a m → Good old cs a (rolled_back m u)
+good-rolled old cs a m u good =
+    let sound : SoundAt old cs (rolled_back m u) = record {
+      bytes = good.agrees.sound.bytes;
+      end = good.agrees.sound.end;
+      holds = λ x h. let (stand, usable) = good.agrees.sound.holds x h in (stand, λ c one. usable c (has-filtered m.offset m.candidates c one).0);
     } in
-    goes-grown old cs f a v w ps len good (subst (λ (x : Encoder). Grown old cs f v ps x) (sym made) left) len_is
-step-items old cs f a v w items reply good h = absurd h
-
--- ---- a record
-
-step-record : (old : List ℕ) (cs : List Chunk) (f : ℕ → ℕ) (a : Account) (v w : Encoder) (r : WireRecord) (reply : Reply) → Good old cs f a v
-    → RunsStep a v (write_record r) reply w → Goes old cs (after a (write_record r) reply) w
-step-record old cs f a v w r (Done len) good h =
-    let grown = grown-record old cs f v w r good.sound good.small h.0 in
-    goes-grown old cs f a v w (record_piece a.mode a.canonical r ∷ []) len good
-    (subst (λ m. Grown old cs f v (record_piece m a.canonical r ∷ []) w) (sym good.mode)
-    (subst (λ x. Grown old cs f v (record_piece v.encoding x r ∷ []) w) (sym good.canonical) grown)) h.1
-step-record old cs f a v w r (Refused error len) good h =
-    let s = good.sound in
-    let at_end = sound_end old cs f v.bytes v.offset v.candidates s in
-    let (u, fields, made) = h.0 in
-    let framed = frame-fields r v (Err error) u at_end fields in
-    let kept = kept-before (buffer old cs) v.offset v.candidates s.useful in
-    let undone : Good old cs f a (rewound u (mark_of v)) = record {
-      sound = record {
-        bytes = framed.bytes ∙ s.bytes;
-        end = s.end;
-        spells = s.spells;
-        useful = subst (λ (cands : List Candidate). AreKept (buffer old cs) cands) (sym framed.candidates) kept;
-      };
-      len = good.len;
-      mode = good.mode ∙ sym framed.encoding;
-      canonical = good.canonical ∙ sym framed.canonical;
-      small = omega (arith, good.small, framed.max_size);
-      pieces = good.pieces;
-      places = good.places;
-    } in
-    goes-same old cs f a (rewound u (mark_of v)) w undone made
-step-record old cs f a v w r reply good h = absurd h
+    let agrees : AgreesAt old cs a (rolled_back m u) = record { sound = sound; len_is = good.agrees.len_is; pieces_are = good.agrees.pieces_are; places = good.agrees.places } in
+    record { agrees = agrees; max = good.max; mode = good.mode; canonical = good.canonical; small = good.small }
 
 -- ---- each step
 
-pub step : (old : List ℕ) (cs : List Chunk) (f : ℕ → ℕ) (a : Account) (v w : Encoder) (action : Action) (reply : Reply) → Good old cs f a v
-    → RunsStep a v action reply w → Goes old cs (after a action reply) w
-step old cs f a v w (write part) reply good h = step-write old cs f a v w part reply good h
-step old cs f a v w (set_max size) reply good h =
-    let u = record v { max_size = size } in
-    let same : Good old cs f (record a { max = size }) u =
-    record { sound = good.sound; len = good.len; mode = good.mode; canonical = good.canonical; small = h.2; pieces = good.pieces; places = good.places } in
-    subst (λ r. Goes old cs (after a (set_max size) r) w) (sym h.0) (goes-same old cs f (record a { max = size }) u w same h.1)
-step old cs f a v w (set_encoding mode) reply good h =
-    let u = record v { encoding = mode } in
-    let same : Good old cs f (record a { mode = mode }) u =
-    record { sound = good.sound; len = good.len; mode = refl; canonical = good.canonical; small = good.small; pieces = good.pieces; places = good.places } in
-    subst (λ r. Goes old cs (after a (set_encoding mode) r) w) (sym h.0) (goes-same old cs f (record a { mode = mode }) u w same h.1)
-step old cs f a v w (set_canonical canonical) reply good h =
-    let u = record v { canonical = canonical } in
-    let b = record a { canonical = canonical } in
-    let same : Good old cs f b u =
-    record { sound = good.sound; len = good.len; mode = good.mode; canonical = refl; small = good.small; pieces = good.pieces; places = good.places } in
-    subst (λ r. Goes old cs (after a (set_canonical canonical) r) w) (sym h.0) (goes-same old cs f b u w same h.1)
-step old cs f a v w reserve reply good h = step-reserve old cs f a v w reply good h
-step old cs f a v w (fill place value) reply good h = step-fill old cs f a v w place value (open_place place a.places) reply good refl h
-step old cs f a v w (write_record r) reply good h = step-record old cs f a v w r reply good h
-step old cs f a v w (write_items items) reply good h = step-items old cs f a v w items reply good h
+module _ (old : List ℕ) (cs : List Chunk) (a : Account) (v w : Encoder) (good : Good old cs a v) where
+  -- What a step has to show.
+  abbrev Steps : Action → Reply → Type 0
+  Steps action reply = ReplyTo a action reply × Goes old cs (after a action reply) w
+
+  goes-write : (part : Part) (reply : Reply) → GivesReply (EmitsWirePart (wire_part a.mode part) v) reply w
+      → Goes old cs (after a (write part) reply) w
+  goes-write part (Done len) h = goes-parts old cs a v w (wire_part a.mode part ∷ []) len good (w, h.0, refl) h.1
+  goes-write part (Refused error len) h = goes-same old cs a v w good (refused-part (wire_part a.mode part) [] v w error h.0).0
+  goes-write part reply h = absurd h
+
+  goes-reserve : (reply : Reply) → RunsStep a v reserve reply w → Goes old cs (after a reserve reply) w
+  goes-reserve (Done len) h =
+      let s = good.agrees.sound in
+      let sound = subst (SoundAt old (cs ++ place 0 ∷ [])) (sym h.0.1) (sound-reserved old cs v s) in
+      let f = subst (Frame v (Ok tt)) (sym h.0.1) (frame-reserved v s.end) in
+      let end : upto (length old) cs + 2 ≡ len = omega (arith, h.1, sound.end, ap (λ (x : Encoder). x.offset) h.0.1, sound-upto old cs v s) in
+      let slot : Slot = record { end = len; is_open = true } in
+      goes-more old cs (place 0 ∷ []) a v w (place_piece 0 ∷ []) len (a.places ++ slot ∷ []) good sound f h.1 refl
+      (map-append (λ (s : Slot). s.end) a.places (slot ∷ []) ∙ ap (λ n. map (λ (s : Slot). s.end) a.places ++ n ∷ []) (sym end))
+  goes-reserve (Refused error len) h = goes-same old cs a v w good (refused-room v (reserved v 2) w 2 error h.0).0
+  goes-reserve reply h = absurd h
+
+  -- one is filled that ends among the chunks
+  fill-split : (number value end : ℕ) (reply : Reply) → Splits number value (length old) cs end → RunsFill v (Some end) value reply w
+      → ReplyToFill a (Some end) reply × Goes old cs (after a (fill number value) reply) w
+  fill-split number value end (Done len) (front, held, back, whole, ends, within, pieces) h =
+      let chunks = front ++ place value ∷ back in
+      let u = filled v (end - 2) (to_be_bytes w16 value) in
+      let start : end - 2 ≡ upto (length old) front = omega (arith, ends) in
+      let sound : SoundAt old chunks u = sound-filled old front back held value v (end - 2) (subst (λ xs. SoundAt old xs v) whole good.agrees.sound) start in
+      let made : w ≡ u = h.0.2 ∙ ap (λ (x : Encoder). moved_to x v.offset) h.0.1.1 in
+      let b = after a (fill number value) (Done len) in
+      let same_ends : ends_of (length old) chunks ≡ ends_of (length old) cs =
+      ends-append (length old) front (place value ∷ back) ∙ (sym (ends-append (length old) front (place held ∷ back)) ∙ ap (ends_of (length old)) (sym whole)) in
+      let agrees : AgreesAt old chunks b u = record {
+        sound = sound;
+        len_is = good.agrees.len_is;
+        pieces_are = ap (λ (ps : List Piece). filled_in ps number value) good.agrees.pieces_are ∙ pieces;
+        places = ends-spent number a.places ∙ (good.agrees.places ∙ sym same_ends);
+      } in
+      let good_now : Good old chunks b u = record { agrees = agrees; max = good.max; mode = good.mode; canonical = good.canonical; small = good.small } in (
+        (omega (arith, ends, h.0.1.0, good.max), omega (arith, h.1, ap (λ (x : Encoder). length x.bytes) made, sound.end, good.agrees.len_is)),
+        record {
+          chunks = chunks;
+          good = subst (Good old chunks b) (sym made) good_now;
+          longer = omega (arith, ap length whole, length-append front (place held ∷ back), length-append front (place value ∷ back));
+          same = λ k le. upto-filled (length old) k value held front back ∙ ap (λ (xs : List Chunk). upto (length old) (take k xs)) (sym whole);
+        },
+      )
+  fill-split number value end (Refused Memory len) (front, held, back, whole, ends, within, pieces) h =
+      absurd (omega (arith, ends, within, sound-upto old cs v good.agrees.sound, good.agrees.sound.end, h.0.1.1))
+  fill-split number value end (Refused (MaxBufferSizeExceeded size) len) (front, held, back, whole, ends, within, pieces) h =
+      let same : w ≡ v = h.0.2 ∙ ap (λ (x : Encoder). moved_to x v.offset) h.0.1.2 in
+      let b = record a { places = spent number a.places } in
+      let agrees : AgreesAt old cs b v =
+      record { sound = good.agrees.sound; len_is = good.agrees.len_is; pieces_are = good.agrees.pieces_are; places = ends-spent number a.places ∙ good.agrees.places } in
+      let spent_now : Good old cs b v = record { agrees = agrees; max = good.max; mode = good.mode; canonical = good.canonical; small = good.small } in (
+        (omega (arith, ends, h.0.1.0, good.max), h.0.1.1 ∙ sym good.max, omega (arith, h.1, ap (λ (x : Encoder). length x.bytes) same, good.agrees.sound.end, good.agrees.len_is)),
+        goes-same old cs b v w spent_now same,
+      )
+  fill-split number value end (Refused error len) r h = absurd h.0.1
+  fill-split number value end reply r h = absurd h
+
+  step-fill : (number value : ℕ) (slot : Option ℕ) (reply : Reply) → open_place number a.places ≡ slot → RunsFill v slot value reply w
+      → ReplyToFill a slot reply × Goes old cs (after a (fill number value) reply) w
+  step-fill number value None reply here h =
+      subst (λ r. ReplyToFill a None r × Goes old cs (after a (fill number value) r) w) (sym h.0) (refl, goes-same old cs a v w good h.1)
+  step-fill number value (Some end) reply here h =
+      let there = ap (λ (es : List ℕ). slice_get es number) (sym good.agrees.places) ∙ open_at number a.places end here in
+      fill-split number value end reply (split_at number value (length old) cs end there) h
+
+  step-record : (r : WireRecord) (reply : Reply) → GivesReply (EmitsRecord r v) reply w
+      → ReplyToRecord a (record_size r) reply × Goes old cs (after a (write_record r) reply) w
+  step-record r (Done len) h =
+      let s = good.agrees.sound in
+      let (le, within, _) = done-fields r v w h.0.1 in
+      let f = frame-fields r v (Ok tt) w s.end h.0.1 in
+      let (d, sound) = sound-record old cs v w r s h.0.1 h.0.0 (omega (arith, within, good.small)) in
+      let piece : record_piece v.encoding v.canonical r ≡ record_piece a.mode a.canonical r =
+      ap (λ m. record_piece m v.canonical r) (sym good.mode) ∙ ap (λ c. record_piece a.mode c r) (sym good.canonical) in (
+        (omega (arith, h.1, f.ends, within, good.max), omega (arith, h.1, f.ends, le, good.agrees.len_is)),
+        goes-more old cs (wrote (of_record v.encoding v.canonical r) d ∷ []) a v w (record_piece a.mode a.canonical r ∷ []) len a.places good sound f h.1
+            (ap (λ p. p ∷ []) piece) (no-places a.places [] refl),
+      )
+  step-record r (Refused error len) h =
+      let same = record-undone old cs v w r error good.agrees.sound h.0 in
+      let len_is : len ≡ a.len = omega (arith, h.1, ap (λ (x : Encoder). length x.bytes) same, good.agrees.sound.end, good.agrees.len_is) in (
+        refused-record a v w good.agrees.sound.end good.agrees.len_is good.max (record_size r) len error len_is (refused-fields r v h.0.0 error h.0.1),
+        goes-same old cs a v w good same,
+      )
+  step-record r reply h = absurd h
+
+  step-items : (items : List Item) (reply : Reply) → RunsItems v items reply w
+      → ReplyToItems a items reply × Goes old cs (after a (write_items items) reply) w
+  step-items items (Items count None len) h =
+      let parts = items_parts a.mode items in
+      let emits = as_items_parts a.mode items v w good.agrees.sound.end (sym good.mode) h.0 in
+      let go = goes-parts old cs a v w parts len good emits h.2 in (
+        (h.1, omega (arith, done-parts parts v w emits, h.2, go.good.agrees.sound.end, good.agrees.len_is)),
+        subst (λ xs. Goes old cs (with_pieces a (map wire_piece (items_parts a.mode xs)) len) w) (sym (take_all count items (omega (arith, h.1)))) go,
+      )
+  step-items items (Items count (Some error) len) h =
+      let (first, item, rest, m, split, many, in_turn, (u, cause, one, made, error_is), tells) = h in
+      let parts = items_parts a.mode first in
+      let emits = as_items_parts a.mode first v m good.agrees.sound.end (sym good.mode) in_turn in
+      let same : length w.bytes ≡ length m.bytes = ap (λ (x : Encoder). length x.bytes) made in
+      let go = goes-parts old cs a v m parts len good emits (tells ∙ same) in
+      let g = go.good in
+      let start : len ≡ m.offset = tells ∙ (same ∙ sym g.agrees.sound.end) in
+      let why = refused-parts (item_parts m.encoding item) m u cause (as_item_parts item m u (Err cause) g.agrees.sound.end one) in
+      let front : take count items ≡ first = ap (take count) split ∙ take_at first (item ∷ rest) count (sym many) in
+      let back : drop count items ≡ item ∷ rest = ap (drop count) split ∙ drop_at first (item ∷ rest) count (sym many) in
+      let fails = refused-item a v w good.agrees.sound.end good.agrees.len_is good.max count len item rest cause error error_is
+      (subst (λ n. Refuses n len (item_parts a.mode item) cause) (sym g.max ∙ good.max)
+      (subst (λ n. Refuses m.max_size n (item_parts a.mode item) cause) (sym start)
+      (subst (λ mode. Refuses m.max_size m.offset (item_parts mode item) cause) (sym g.mode) why))) in
+      let b = with_pieces a (map wire_piece parts) len in (
+        (
+          omega (arith, many, ap length split, length-append first (item ∷ rest)),
+          omega (arith, done-parts parts v m emits, start, good.agrees.len_is, ap (λ xs. parts_size (items_parts a.mode xs)) front),
+          subst (λ xs. ItemFails a count len xs error) (sym back) fails,
+        ),
+        subst (λ xs. Goes old cs (with_pieces a (map wire_piece (items_parts a.mode xs)) len) w) (sym front)
+            (goes-then old cs b b m w go (goes-same old go.chunks b (rolled_back m u) w (good-rolled old go.chunks b m u g) made)),
+      )
+  step-items items reply h = absurd h
+
+  -- a setting leaves the length
+  stays : length w.bytes ≡ length v.bytes → length w.bytes ≡ a.len
+  stays same = omega (arith, same, good.agrees.sound.end, good.agrees.len_is)
+
+  pub step : (action : Action) (reply : Reply) → RunsStep a v action reply w → Steps action reply
+  step (write part) reply h =
+      let s = good.agrees.sound in
+      let wire = subst (λ m. GivesReply (EmitsWirePart (wire_part m part) v) reply w) (sym good.mode) (as_wire part v w reply s.end h) in
+      (reply-part a v w s.end good.agrees.len_is good.max (wire_part a.mode part) reply wire, goes-write part reply wire)
+  step (set_max size) reply h =
+      let same : Good old cs (record a { max = size }) (record v { max_size = size }) =
+      record { agrees = good.agrees; max = refl; mode = good.mode; canonical = good.canonical; small = h.2 } in
+      subst (λ r. Steps (set_max size) r) (sym h.0) (stays (ap (λ (x : Encoder). length x.bytes) h.1), goes-same old cs _ _ w same h.1)
+  step (set_encoding mode) reply h =
+      let same : Good old cs (record a { mode = mode }) (record v { encoding = mode }) =
+      record { agrees = good.agrees; max = good.max; mode = refl; canonical = good.canonical; small = good.small } in
+      subst (λ r. Steps (set_encoding mode) r) (sym h.0) (stays (ap (λ (x : Encoder). length x.bytes) h.1), goes-same old cs _ _ w same h.1)
+  step (set_canonical canonical) reply h =
+      let same : Good old cs (record a { canonical = canonical }) (record v { canonical = canonical }) =
+      record { agrees = good.agrees; max = good.max; mode = good.mode; canonical = refl; small = good.small } in
+      subst (λ r. Steps (set_canonical canonical) r) (sym h.0) (stays (ap (λ (x : Encoder). length x.bytes) h.1), goes-same old cs _ _ w same h.1)
+  step reserve reply h =
+      (reply-bytes a v w good.agrees.sound.end good.agrees.len_is good.max (reserved v 2) 2 reply (sym (frame-reserved v good.agrees.sound.end).ends) h, goes-reserve reply h)
+  step (fill number value) reply h = step-fill number value (open_place number a.places) reply refl h
+  step (write_record r) reply h = step-record r reply h
+  step (write_items items) reply h = step-items items reply h

@@ -1,6 +1,5 @@
 -- What the finished bytes of a run hold, and how few they are.
 use Rattle.std.specs.Prelude.{◌≡◌, ◌≢◌, ℕ, ◌+◌, ◌≤◌, true, List, [], ◌∷◌, ◌++◌, length, take, ◌⊎◌}
-use Rattle.dnw_encoder.specs.declared.encoder.modes.NameEncoding.{NameEncoding}
 use Rattle.dnw_encoder.specs.EmittedName.{in_mode, is_compressed}
 use Rattle.dnw_base.specs.Limits.{max_name, pointer_reach}
 use Rattle.dnw_base.specs.Names.{NameValue, encoded_size}
@@ -22,10 +21,15 @@ pub record Finished (old : List ℕ) (actions : List Action) (replies : List Rep
 
 -- ---- the least length
 
--- one of the pieces is a name that ends in these labels, byte for byte as it is written
+-- the piece is a name that ends in these labels, byte for byte as it is written
+abbrev pub IsEndOf : List (List ℕ) → Piece → Type 0
+IsEndOf back (name_piece mode labels) = (front : List (List ℕ)) × (in_mode mode labels ≡ front ++ back)
+IsEndOf back piece = ⊥
+
+-- one of the pieces is
 abbrev pub EndsIn : List Piece → List (List ℕ) → Type 0
-EndsIn pieces back = (before : List Piece) × (mode : NameEncoding) × (labels : List (List ℕ)) × (after : List Piece) × (front : List (List ℕ))
-    × (pieces ≡ before ++ name_piece mode labels ∷ after) × (in_mode mode labels ≡ front ++ back)
+EndsIn [] back = ⊥
+EndsIn (piece ∷ pieces) back = IsEndOf back piece ⊎ EndsIn pieces back
 
 -- A name from p to e is as short as possible: its wire form, or if that is less, the wire form minus the longest suffix
 -- that an earlier name ends in, plus 2 for the pointer.

@@ -11,9 +11,10 @@ pub mod Words
 -- The files of the crates below that public clauses cite: callers name these as this crate's own.
 pub use Rattle.dnw_error.specs.Copies
 pub use Rattle.dnw_error.specs.Fault
-pub use Rattle.dnw_error.specs.TextTable
-pub use Rattle.dnw_error.specs.RecordTypes
-pub use Rattle.dnw_error.specs.DnsClasses
+pub use Rattle.dnw_error.specs.Naming
+pub use Rattle.dnw_codes.specs.Entries
+pub use Rattle.dnw_codes.specs.RecordTypes
+pub use Rattle.dnw_codes.specs.DnsClasses
 pub use Rattle.dnw_base.specs.Checked
 pub use Rattle.dnw_base.specs.Decoder
 pub use Rattle.dnw_base.specs.Labels
@@ -29,8 +30,8 @@ pub use Rattle.dnw_form.specs.Edits
 pub use Rattle.dnw_form.specs.NameText
 pub use Rattle.dnw_order.specs.Order
 pub use Rattle.dnw_order.specs.OrderLaws
-pub use Rattle.dnw_net.specs.Nets
-pub use Rattle.dnw_net.specs.NetTexts
+pub use Rattle.dnw_reverse.specs.Nets
+pub use Rattle.dnw_reverse.specs.NetTexts
 pub use Rattle.dnw_reverse.specs.Arpa
 pub use Rattle.dnw_reverse.specs.ArpaNets
 pub use Rattle.dnw_reverse.specs.ArpaLaws
@@ -57,6 +58,7 @@ pub use Rattle.dnw_kinds.specs.Serials
 pub use Rattle.dnw_kinds.specs.TypeSets
 pub use Rattle.dnw_kinds.specs.RecordData
 pub use Rattle.dnw_kinds.specs.SetLaws
+pub use Rattle.dnw_record.specs.Parts
 pub use Rattle.dnw_record.specs.Records
 pub use Rattle.dnw_record.specs.WrittenRecords
 pub use Rattle.dnw_record.specs.RecordFrames

@@ -1,16 +1,15 @@
 -- The reply to each step of a script, by what the steps and replies before it say.
-use Rattle.std.specs.Prelude.{◌≡◌, ℕ, zero, suc, ◌+◌, ◌<◌, ◌≤◌, if◌then◌else◌, List, [], ◌∷◌, length, take, drop, sum_by, Option, Some, None, ◌⊎◌}
+use Rattle.std.specs.Prelude.{◌≡◌, ℕ, zero, suc, ◌+◌, ◌<◌, ◌≤◌, if◌then◌else◌, List, [], ◌∷◌, length, take, drop, Option, Some, None}
 use Rattle.dnw_error.specs.declared.error.ProtoError.{ProtoError}
 use Rattle.dnw_error.specs.declared.error.ProtoError.TheVariants.{CharacterDataTooLong, MaxBufferSizeExceeded, NotAllRecordsWritten, Memory}
 use Rattle.dnw_base.specs.Limits.{max_character_data}
 use Rattle.dnw_base.specs.Names.{encoded_size}
+use Rattle.dnw_record.specs.Parts.{HasTextOfSize, WirePart, bytes_part, name_part, parts_size, text_part}
 use Rattle.dnw_record.specs.RecordLaws.{record_size}
-use Rattle.dns_names_wire.specs.declared.script.Part.{Part}
-use Rattle.dns_names_wire.specs.declared.script.Part.TheVariants.{Name, Text}
 use Rattle.dns_names_wire.specs.declared.script.Item.{Item}
 use Rattle.dns_names_wire.specs.declared.script.Reply.{Reply}
 use Rattle.dns_names_wire.specs.declared.script.Reply.TheVariants.{Done, Refused, NoPlace, Items}
-use Rattle.dns_names_wire.specs.Script.{Action, write, set_max, set_encoding, set_canonical, reserve, fill, write_record, write_items, part_size, item_size}
+use Rattle.dns_names_wire.specs.Script.{Action, write, set_max, set_encoding, set_canonical, reserve, fill, write_record, write_items, item_parts, items_parts, wire_part}
 use Rattle.dns_names_wire.specs.Pieces.{Account, Slot, after}
 
 -- n bytes are written if they fit, unless memory runs out
@@ -31,12 +30,12 @@ ReplyToName a size reply = ⊥
 abbrev pub ReplyToText : Account → ℕ → Reply → Type 0
 ReplyToText a n (Refused (CharacterDataTooLong max size) len) =
     (max_character_data < n) × (max ≡ max_character_data) × (size ≡ n) × (len ≡ a.len)
-ReplyToText a n reply = (n ≤ max_character_data) × ReplyToBytes a (n + 1) reply
+ReplyToText a n reply = (n ≤ max_character_data) × ReplyToBytes a (suc n) reply
 
-abbrev pub ReplyToPart : Account → Part → Reply → Type 0
-ReplyToPart a (Name name) reply = ReplyToName a (encoded_size name.labels) reply
-ReplyToPart a (Text text) reply = ReplyToText a (length text.items) reply
-ReplyToPart a part reply = ReplyToBytes a (part_size part) reply
+abbrev pub ReplyToPart : Account → WirePart → Reply → Type 0
+ReplyToPart a (name_part mode name) reply = ReplyToName a (encoded_size name.labels) reply
+ReplyToPart a (bytes_part bytes) reply = ReplyToBytes a (length bytes) reply
+ReplyToPart a (text_part text) reply = ReplyToText a (length text) reply
 
 abbrev pub Stays : Account → Reply → Type 0
 Stays a (Done len) = len ≡ a.len
@@ -63,30 +62,24 @@ ReplyToRecord a size (Refused (MaxBufferSizeExceeded max) len) = (a.max < a.len 
 ReplyToRecord a size (Refused Memory len) = len ≡ a.len
 ReplyToRecord a size reply = ⊥
 
--- one of the parts is a text of so many bytes
-abbrev pub HasTextOfSize : ℕ → List Part → Type 0
-HasTextOfSize n [] = ⊥
-HasTextOfSize n (Text text ∷ parts) = (length text.items ≡ n) ⊎ HasTextOfSize n parts
-HasTextOfSize n (part ∷ parts) = HasTextOfSize n parts
-
 -- why the item after so many others, which begins at the length, is refused
 abbrev pub ItemFails : Account → ℕ → ℕ → List Item → ProtoError → Type 0
 ItemFails a count len [] error = ⊥
-ItemFails a count len (item ∷ items) (NotAllRecordsWritten before) = (before ≡ count) × (a.max < len + item_size item)
+ItemFails a count len (item ∷ items) (NotAllRecordsWritten before) = (before ≡ count) × (a.max < len + parts_size (item_parts a.mode item))
 ItemFails a count len (item ∷ items) (CharacterDataTooLong max n) =
-    (max ≡ max_character_data) × (max_character_data < n) × HasTextOfSize n item.parts.items
+    (max ≡ max_character_data) × (max_character_data < n) × HasTextOfSize n (item_parts a.mode item)
 ItemFails a count len (item ∷ items) Memory = Unit {0}
 ItemFails a count len (item ∷ items) error = ⊥
 
 -- The first items are written, in no more bytes than with their names whole: all of them, or all up to a refused one.
 abbrev pub ReplyToItems : Account → List Item → Reply → Type 0
-ReplyToItems a items (Items count None len) = (count ≡ length items) × (len ≤ a.len + sum_by item_size items)
+ReplyToItems a items (Items count None len) = (count ≡ length items) × (len ≤ a.len + parts_size (items_parts a.mode items))
 ReplyToItems a items (Items count (Some error) len) =
-    (count < length items) × (len ≤ a.len + sum_by item_size (take count items)) × ItemFails a count len (drop count items) error
+    (count < length items) × (len ≤ a.len + parts_size (items_parts a.mode (take count items))) × ItemFails a count len (drop count items) error
 ReplyToItems a items reply = ⊥
 
 abbrev pub ReplyTo : Account → Action → Reply → Type 0
-ReplyTo a (write part) reply = ReplyToPart a part reply
+ReplyTo a (write part) reply = ReplyToPart a (wire_part a.mode part) reply
 ReplyTo a (set_max size) reply = Stays a reply
 ReplyTo a (set_encoding mode) reply = Stays a reply
 ReplyTo a (set_canonical canonical) reply = Stays a reply

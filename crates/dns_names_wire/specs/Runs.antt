@@ -61,13 +61,17 @@ Runs a v (action ∷ actions) (reply ∷ replies) w = (m : Encoder) × RunsStep 
 abbrev pub beginning : List ℕ → ℕ → ℕ → Encoder
 beginning old candidates names = record (fresh old (length old)) { candidate_limit = candidates; name_limit = names }
 
--- A candidate is usable: at its offset, the message that is written so far has a name whose labels have its bytes.
-pub record IsUseful (v : Encoder) (c : Candidate) : Type 0 where
+-- A candidate is usable in a message: at its offset, there is a name whose labels have its bytes.
+pub record IsUsefulIn (message : List ℕ) (c : Candidate) : Type 0 where
   pub labels : List (List ℕ)
   pub bytes : c.1 ≡ labels_wire labels
   pub end : ℕ
   pub pointers : ℕ
-  pub name : NameAt (so_far v) c.0 labels end pointers
+  pub name : NameAt message c.0 labels end pointers
+
+-- in the message that is written so far
+abbrev pub IsUseful : Encoder → Candidate → Type 0
+IsUseful v c = IsUsefulIn (so_far v) c
 
 -- A run of steps from the end of a buffer to finished bytes.
 pub record Run (old : List ℕ) (candidates names : ℕ) (actions : List Action) (replies : List Reply) (finished : List ℕ) : Type 0 where

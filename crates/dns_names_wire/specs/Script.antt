@@ -1,11 +1,12 @@
 -- What a script is made of, and what its parts and items write.
-use Rattle.std.specs.Prelude.{◌≡◌, ℕ, ◌+◌, ◌∷◌, Bool, List, [], length, Option, Some, None, Ok, Err, ◌⊎◌, sum_by}
+use Rattle.std.specs.Prelude.{◌≡◌, ℕ, ◌∷◌, Bool, List, [], map, Option, Some, None, Ok, Err, ◌⊎◌}
+use Rattle.std.specs.List.{flat_map}
 use Rattle.std.specs.Int.{w16, w32, to_be_bytes, cast_unsigned}
 use Rattle.dnw_encoder.specs.declared.encoder.modes.NameEncoding.{NameEncoding}
 use Rattle.dnw_encoder.specs.Encoder.{Encoder, Writes, WritesText}
 use Rattle.dnw_encoder.specs.Emitting.{Emits}
 use Rattle.dnw_encoder.specs.EmittedName.{EmitsName}
-use Rattle.dnw_base.specs.Names.{encoded_size}
+use Rattle.dnw_record.specs.Parts.{WirePart, bytes_part, name_part, text_part}
 use Rattle.dnw_record.specs.declared.record.WireRecord.{WireRecord}
 use Rattle.dns_names_wire.specs.declared.script.Part.{Part}
 use Rattle.dns_names_wire.specs.declared.script.Part.TheVariants.{Name, U8, U16, I32, U32, Bytes, Text}
@@ -66,17 +67,25 @@ abbrev pub EmitsScriptItem : Emits Item
 EmitsScriptItem item v outcome w =
     (u : Encoder) × EmitsParts item.parts.items (in_encoding item.encoding v) outcome u × (w ≡ record u { encoding = v.encoding })
 
--- ---- sizes
+-- ---- as parts of a message
 
--- the bytes of a part with its name whole
-abbrev pub part_size : Part → ℕ
-part_size (Name name) = encoded_size name.labels
-part_size (U8 number) = 1
-part_size (U16 number) = 2
-part_size (I32 number) = 4
-part_size (U32 number) = 4
-part_size (Bytes bytes) = length bytes.items
-part_size (Text text) = length text.items + 1
+-- the part of a message that a part is, by the mode in force
+abbrev pub wire_part : NameEncoding → Part → WirePart
+wire_part mode (Name name) = name_part mode name
+wire_part mode (U8 number) = bytes_part (number ∷ [])
+wire_part mode (U16 number) = bytes_part (to_be_bytes w16 number)
+wire_part mode (I32 number) = bytes_part (to_be_bytes w32 (cast_unsigned w32 number))
+wire_part mode (U32 number) = bytes_part (to_be_bytes w32 number)
+wire_part mode (Bytes bytes) = bytes_part bytes.items
+wire_part mode (Text text) = text_part text.items
 
-abbrev pub item_size : Item → ℕ
-item_size item = sum_by part_size item.parts.items
+abbrev pub mode_or : Option NameEncoding → NameEncoding → NameEncoding
+mode_or None mode = mode
+mode_or (Some own) mode = own
+
+-- those that an item is, in its own mode if it has one
+abbrev pub item_parts : NameEncoding → Item → List WirePart
+item_parts mode item = map (wire_part (mode_or item.encoding mode)) item.parts.items
+
+abbrev pub items_parts : NameEncoding → List Item → List WirePart
+items_parts mode items = flat_map (item_parts mode) items

@@ -1,9 +1,9 @@
 -- What follows from a run. Each is the clause of a public function, and so proved.
-use Rattle.std.specs.Prelude.{◌≡◌, ℕ, ◌+◌, ◌<◌, ◌^◌, Bool, true, List, length, slice_range}
+use Rattle.std.specs.Prelude.{◌≡◌, ℕ, ◌+◌, Bool, true, List, length, slice_range}
 use Rattle.std.specs.List.{AllByRecursion}
 use Rattle.dnw_error.specs.declared.error.ProtoError.{ProtoError}
-use Rattle.dnw_error.specs.RecordTypes.{type_code, type_of_code}
-use Rattle.dnw_error.specs.DnsClasses.{class_code, class_of_code}
+use Rattle.dnw_codes.specs.RecordTypes.{type_code, type_of_code}
+use Rattle.dnw_codes.specs.DnsClasses.{class_code, class_of_code}
 use Rattle.dnw_encoder.specs.declared.encoder.modes.NameEncoding.{NameEncoding}
 use Rattle.dnw_encoder.specs.Encoder.{Encoder, mode_of_rdata}
 use Rattle.dnw_encoder.specs.EmittedName.{in_mode}
@@ -51,11 +51,10 @@ HasData x mode canonical (rdata.Bytes bytes) = slice_range x.message x.start (x.
 HasData x mode canonical (rdata.Name name encoding) =
     HasDataName x (record { is_fqdn = true; labels = in_mode (mode_of_rdata encoding canonical mode) name.labels })
 
--- A record that stands in a message is read there as a record of its owner, with its type and class by their codes, if its
--- numbers fit their fields, and with its data.
+-- A record that stands in a message is read there as a record of its owner, with its type and class by their codes, its time
+-- to live, and its data.
 abbrev pub StandingRecordsAreRead : Type 0
 StandingRecordsAreRead = (b : List ℕ) (mode : NameEncoding) (canonical : Bool) (r : WireRecord) (p e : ℕ) → RecordStands b mode canonical r p e
     → (x : RecordValue) × RecordAt b p x e × (x.owner ≡ in_mode mode r.owner.labels)
-    × (type_code r.record_type < 2 ^ 16 → x.record_type ≡ type_of_code (type_code r.record_type))
-    × (class_code r.class < 2 ^ 16 → x.class ≡ class_of_code (class_code r.class)) × (r.ttl < 2 ^ 32 → x.ttl ≡ r.ttl)
+    × (x.record_type ≡ type_of_code (type_code r.record_type)) × (x.class ≡ class_of_code (class_code r.class)) × (x.ttl ≡ r.ttl)
     × HasData x mode canonical r.rdata

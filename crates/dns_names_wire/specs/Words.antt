@@ -25,17 +25,18 @@ pub use Rattle.dnw_name.specs.FromLabels.{JoinsItems, JoinsAll, RunsOutAt}
 -- Names in lower case.
 pub use Rattle.dnw_lower.specs.LowerNames.{lowered, IsLower, lower_name_from_text, lower_name_hash_input, TakesLowerName}
 -- Types and classes of records.
-pub use Rattle.dnw_error.specs.RecordTypes.{type_code, type_name, type_cmp, type_hash, is_dnssec, is_unknown, ReportsType}
-pub use Rattle.dnw_error.specs.DnsClasses.{class_code, class_name, class_cmp, class_hash, min_payload, ReportsClass}
+pub use Rattle.dnw_codes.specs.RecordTypes.{type_code, type_name, type_of_code, type_of_name, type_cmp, type_hash, is_dnssec, is_unknown}
+pub use Rattle.dnw_codes.specs.DnsClasses.{class_code, class_name, class_of_code, class_of_name, class_cmp, class_hash, min_payload}
+pub use Rattle.dnw_error.specs.Naming.{Looks, ReportsType, ReportsClass}
 -- Texts of labels and names.
 pub use Rattle.dnw_label.specs.LabelText.{dot, label_from_bytes, label_from_text, label_text}
 pub use Rattle.dnw_form.specs.NameText.{IsLabelText, name_from_text, name_from_text_at, name_text}
 -- Nets and reverse names.
-pub use Rattle.dnw_net.specs.Nets.{NetValue, ipv4_size, ipv6_size}
-pub use Rattle.dnw_net.specs.NetTexts.{net_addr, net_prefix_len, ip_size, IsPastSize, ip_net_text}
+pub use Rattle.dnw_reverse.specs.Nets.{NetValue, ipv4_size, ipv6_size}
+pub use Rattle.dnw_reverse.specs.NetTexts.{net_addr, net_prefix_len, ip_size, IsPastSize, ip_net_text}
 pub use Rattle.dnw_reverse.specs.Arpa.{ArpaPrefix, ArpaFault, IsArpaPrefix, arpa_labels, arpa_name, arpa_prefix, ip_prefix, reverse_name}
 pub use Rattle.dnw_reverse.specs.ArpaNets.{IsNetOf, ReadsNet}
-pub use Rattle.dnw_reverse.specs.ArpaLaws.{PrefixesComeBack, TextsComeBack, AddressesComeBack}
+pub use Rattle.dnw_reverse.specs.ArpaLaws.{IsIpAddr, PrefixesComeBack, TextsComeBack, AddressesArePrefixes, AddressesComeBack}
 -- Special-use zones, and what gives a name.
 pub use Rattle.dnw_usage.specs.Usages.{Zone}
 pub use Rattle.dnw_usage.specs.Zones.{reverse_zone, test_zone, localhost_zone, local_zone, invalid_zone, example_zone, usual_zone, onion_zone}
@@ -64,9 +65,10 @@ pub use Rattle.dnw_encoder.specs.EncoderLaws.{NameComesBack, NameIsRead, NamesTa
 pub use Rattle.dnw_encoder.specs.EncoderLaws.{FillsTakeNoMemory, FillsStayBounded, ItemsStayBounded, NamesStayBounded, PlacesStayBounded, WritesStayBounded}
 -- Resource records.
 pub use Rattle.dnw_record.specs.Records.{RecordValue, RecordAt, TakesRecord, FailsRecord, HasDataName, FailsDataName}
-pub use Rattle.dnw_record.specs.WrittenRecords.{EmitsData, EmitsRecord}
+pub use Rattle.dnw_record.specs.WrittenRecords.{EmitsData, EmitsRecord, NumbersFit}
 pub use Rattle.dnw_record.specs.RecordFrames.{frame-data, frame-record}
 pub use Rattle.dnw_record.specs.RecordLaws.{RefusedRecordsUndo, RefusedDataUndo}
+pub use Rattle.dnw_record.specs.Parts.{WirePart, EmitsWirePart, EmitsWireParts, EmitsCounted, HasTextOfSize, parts_size, wire_size}
 -- Scripts.
 pub use Rattle.dns_names_wire.specs.Script.{Action, action, EmitsPart, EmitsScriptItem}
 pub use Rattle.dns_names_wire.specs.Pieces.{Account, Piece, RecordStands, opening}

@@ -1,7 +1,29 @@
 //! The lowest layer of DNS, proved: names, labels and the binary wire format.
 //!
-//! Each module has what users of this layer call. The words of its contracts are those of `specs/Words.antt`.
+//! The types that callers name most stand at the root; each module has all that belongs together, by upstream's paths. The
+//! words of the contracts are those of `specs/Words.antt`, which is the file to read first.
 #![tactic(auto)]
+
+pub use dnw_base::decoder::BinDecoder;
+pub use dnw_base::restrict::Restrict;
+pub use dnw_codes::dns_class::DNSClass;
+pub use dnw_codes::record_type::RecordType;
+pub use dnw_encoder::binary::BinEncodable;
+pub use dnw_encoder::encoder::{BinEncoder, NameEncoding, Place, RDataEncoding};
+pub use dnw_error::error::{DecodeError, ProtoError, ProtoResult};
+pub use dnw_error::from_str::FromStr;
+pub use dnw_kinds::record_type_set::RecordTypeSet;
+pub use dnw_kinds::rr_key::RrKey;
+pub use dnw_kinds::serial_number::SerialNumber;
+pub use dnw_label::label::{IntoLabel, Label};
+pub use dnw_lower::lower_name::LowerName;
+pub use dnw_name::binary::BinDecodable;
+pub use dnw_name::name::Name;
+pub use dnw_name::name_ref::NameRef;
+pub use dnw_record::record::{RecordRef, WireData, WireRecord};
+pub use dnw_reverse::net::{IpNet, Ipv4Net, Ipv6Net};
+pub use dnw_usage::into_name::IntoName;
+pub use dnw_usage::usage::ZoneUsage;
 
 /// Types that are read from messages or written into them.
 pub mod binary {
@@ -14,14 +36,24 @@ pub mod record_data {
     pub use dnw_kinds::record_data::RecordDataDecodable;
 }
 
+/// Codes: types and classes of records, sets of types, and serial numbers.
+pub mod codes {
+    pub use dnw_codes::dns_class::DNSClass;
+    pub use dnw_codes::record_type::RecordType;
+    pub use dnw_error::from_str::FromStr;
+    pub use dnw_kinds::record_type_set::{RecordTypeSet, TypeIter};
+    pub use dnw_kinds::serial_number::SerialNumber;
+}
+
 /// A cursor over the bytes of a message.
 pub mod decoder {
     pub use dnw_base::decoder::BinDecoder;
 }
 
-/// The classes of records.
+/// The classes of records. `FromStr` is for their names in text.
 pub mod dns_class {
-    pub use dnw_error::dns_class::DNSClass;
+    pub use dnw_codes::dns_class::DNSClass;
+    pub use dnw_error::from_str::FromStr;
 }
 
 /// Writing messages of a bounded size, and what follows from the definitions of writing.
@@ -69,7 +101,7 @@ pub mod name_ref {
 
 /// Nets of IP addresses.
 pub mod net {
-    pub use dnw_net::net::{IpNet, Ipv4Net, Ipv6Net};
+    pub use dnw_reverse::net::{IpNet, Ipv4Net, Ipv6Net};
 }
 
 /// Resource records: written whole or not at all, and read without a copy.
@@ -77,9 +109,10 @@ pub mod record {
     pub use dnw_record::record::{RecordRef, WireData, WireRecord, laws};
 }
 
-/// The types of records.
+/// The types of records. `FromStr` is for their names in text.
 pub mod record_type {
-    pub use dnw_error::record_type::RecordType;
+    pub use dnw_codes::record_type::RecordType;
+    pub use dnw_error::from_str::FromStr;
 }
 
 /// Sets of record types, as NSEC, NSEC3 and CSYNC have them.

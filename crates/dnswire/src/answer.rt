@@ -2,9 +2,7 @@
 
 mod names;
 
-use dns_names_wire::decoder::BinDecoder;
-use dns_names_wire::error::{DecodeError, ProtoError};
-use dns_names_wire::name::Name;
+use dns_names_wire::{BinDecoder, DecodeError, Name, ProtoError};
 use hex::FromHexError;
 use std::alloc::{AllocError, Global};
 use std::io;

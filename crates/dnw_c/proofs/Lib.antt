@@ -1,6 +1,5 @@
 mod Forms
 mod Items
-pub mod Looking
 mod Starts
 mod Lists
 pub mod TextFaults

@@ -6,7 +6,7 @@ use Rattle.std.specs.declared.vec.IntoIter.{IntoIter}
 use Rattle.std.proofs.lemmas.Iterator.{items_from_drains}
 use Rattle.std.proofs.lemmas.Iterator.Adapters.{YieldsList-from_vec}
 use Rattle.std.proofs.lemmas.List.{map-id}
-use Rattle.dnw_error.specs.declared.record_type.RecordType.{RecordType}
+use Rattle.dnw_codes.specs.declared.record_type.RecordType.{RecordType}
 use Rattle.dnw_kinds.specs.TypeSets.{IsSetOf, bitmap_types, windows_of}
 
 -- the iterator of a vector gives its elements

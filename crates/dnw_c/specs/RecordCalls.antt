@@ -1,8 +1,8 @@
 -- The records of messages, and why none is read (RFC 1035, sections 3.2.1 and 4.1.3).
 use Rattle.std.specs.Prelude.{◌≡◌, ◌≢◌, ◌<◌, ◌⊎◌, ℕ, ◌+◌, List, length}
 use Rattle.dnw_error.specs.declared.error.DecodeError.{DecodeError}
-use Rattle.dnw_error.specs.RecordTypes.{type_code}
-use Rattle.dnw_error.specs.DnsClasses.{class_code}
+use Rattle.dnw_codes.specs.RecordTypes.{type_code}
+use Rattle.dnw_codes.specs.DnsClasses.{class_code}
 use Rattle.dnw_base.specs.Decoder.{Decoder}
 use Rattle.dnw_base.specs.Names.{wire}
 use Rattle.dnw_reading.specs.Reading.{NameAt}

@@ -4,8 +4,8 @@ use Rattle.std.specs.Net.Addr.{ipv4_octets, ipv6_octets, ipv6_segments, segments
 use Rattle.std.specs.declared.net.ip_addr.IpAddr.{IpAddr}
 use Rattle.std.specs.declared.net.ip_addr.IpAddr.TheVariants.{V4, V6}
 use Rattle.dnw_base.specs.Names.{NameValue, wire}
-use Rattle.dnw_net.specs.NetTexts.{net_addr, net_prefix_len}
-use Rattle.dnw_net.specs.declared.net.IpNet.{IpNet}
+use Rattle.dnw_reverse.specs.NetTexts.{net_addr, net_prefix_len}
+use Rattle.dnw_reverse.specs.declared.net.IpNet.{IpNet}
 use Rattle.dnw_reverse.specs.Arpa.{ArpaFault, ArpaPrefix, arpa_prefix, reverse_name}
 use Rattle.dnw_reverse.specs.ArpaNets.{IsNetOf}
 use Rattle.dnw_c.specs.Buffers.{put}

@@ -1,7 +1,7 @@
 -- Lists of type codes, and the bitmaps that stand for them (RFC 4034, section 4.1.2).
 use Rattle.std.specs.Prelude.{◌≡◌, ◌<◌, ◌≤◌, ◌⊎◌, ℕ, List, length, map, true, false}
-use Rattle.dnw_error.specs.declared.record_type.RecordType.{RecordType}
-use Rattle.dnw_error.specs.RecordTypes.{type_code, type_of_code}
+use Rattle.dnw_codes.specs.declared.record_type.RecordType.{RecordType}
+use Rattle.dnw_codes.specs.RecordTypes.{type_code, type_of_code}
 use Rattle.dnw_base.specs.Limits.{max_message}
 use Rattle.dnw_kinds.specs.TypeSets.{IsSetOf, Encodes, bitmap_types, in_bounds, set_codes, windows_of}
 use Rattle.dnw_c.specs.declared.failure.Failure.{Failure}

@@ -1,10 +1,10 @@
 //! The codes of types and classes, and serial numbers.
 ghost use Rattle.std.specs.Prelude.{◌≡◌, ◌≢◌, ◌≤◌, Some, None, length, IfOk, IfErr, OnErr};
 ghost use Rattle.std.specs.declared.cmp.Ordering.{Ordering};
-ghost use Rattle.dnw_error.specs.RecordTypes.{type_code, type_name, type_of_code, type_of_name};
-ghost use Rattle.dnw_error.specs.DnsClasses.{class_code, class_name, class_of_code, class_of_name};
-ghost use Rattle.dnw_error.specs.declared.record_type.RecordType.{RecordType};
-ghost use Rattle.dnw_error.specs.declared.dns_class.DNSClass.{DNSClass};
+ghost use Rattle.dnw_codes.specs.RecordTypes.{type_code, type_name, type_of_code, type_of_name};
+ghost use Rattle.dnw_codes.specs.DnsClasses.{class_code, class_name, class_of_code, class_of_name};
+ghost use Rattle.dnw_codes.specs.declared.record_type.RecordType.{RecordType};
+ghost use Rattle.dnw_codes.specs.declared.dns_class.DNSClass.{DNSClass};
 ghost use Rattle.dnw_kinds.specs.Serials.{serial_cmp, serial_sum};
 ghost use Rattle.dnw_c.specs.Buffers.{put};
 ghost use Rattle.dnw_c.specs.CodeCalls.{FailsToGive, FailsToPut};
@@ -18,7 +18,6 @@ use crate::order::sign_of;
 use dns_names_wire::dns_class::DNSClass;
 use dns_names_wire::record_type::RecordType;
 use dns_names_wire::serial_number::SerialNumber;
-use std::alloc::Global;
 
 /// Puts the name of the type with a code, and its length.
 #[unsafe(no_mangle)]
@@ -34,12 +33,12 @@ pub extern "C" fn dnw_type_print(code: u16, text: &mut [u8], len: &mut usize) ->
 
 /// Puts the code of the type with a name.
 #[unsafe(no_mangle)]
-pub extern "C" fn dnw_type_parse(alloc: Global, text: &[u8], code: &mut u16) -> u32
+pub extern "C" fn dnw_type_parse(text: &[u8], code: &mut u16) -> u32
     ensures ok { result ≡ 0 → (kind : RecordType) × (type_of_name text.now ≡ Some kind) × (code.new ≡ type_code kind) }
     ensures err { result ≢ 0 → NumberOf (FailsToGive type_of_name UnknownText text.now) result }
     ensures same { result ≢ 0 → code.new ≡ code.old }
 {
-    match type_named(alloc, text) {
+    match type_named(text) {
         Ok(kind) => {
             *code = u16::from(kind);
             0
@@ -62,12 +61,12 @@ pub extern "C" fn dnw_class_print(code: u16, text: &mut [u8], len: &mut usize) -
 
 /// Puts the code of the class with a name.
 #[unsafe(no_mangle)]
-pub extern "C" fn dnw_class_parse(alloc: Global, text: &[u8], code: &mut u16) -> u32
+pub extern "C" fn dnw_class_parse(text: &[u8], code: &mut u16) -> u32
     ensures ok { result ≡ 0 → (class : DNSClass) × (class_of_name text.now ≡ Some class) × (code.new ≡ class_code class) }
     ensures err { result ≢ 0 → NumberOf (FailsToGive class_of_name UnknownText text.now) result }
     ensures same { result ≢ 0 → code.new ≡ code.old }
 {
-    match class_named(alloc, text) {
+    match class_named(text) {
         Ok(class) => {
             *code = u16::from(class);
             0
@@ -117,31 +116,23 @@ pub(crate) fn put_all(buffer: &mut [u8], bytes: &[u8], len: &mut usize) -> u32
 }
 
 /// Returns the type with a name.
-#[tactic(auto, using(crate::proofs::Looking::looks_found, crate::proofs::Looking::looks_failed))]
-fn type_named(alloc: Global, text: &[u8]) -> Result<RecordType, Failure>
+fn type_named(text: &[u8]) -> Result<RecordType, Failure>
     ensures ok { IfOk result (λ kind. type_of_name text.now ≡ Some kind) }
     ensures err { IfErr result (FailsToGive type_of_name UnknownText text.now) }
 {
     let Ok(name) = str::from_utf8(text) else {
         return Err(Failure::NotUtf8);
     };
-    match RecordType::from_str(alloc, name) {
-        Ok(kind) => Ok(kind),
-        Err(_) => Err(Failure::UnknownText),
-    }
+    RecordType::from_name(name).ok_or(Failure::UnknownText)
 }
 
 /// Returns the class with a name.
-#[tactic(auto, using(crate::proofs::Looking::looks_found, crate::proofs::Looking::looks_failed))]
-fn class_named(alloc: Global, text: &[u8]) -> Result<DNSClass, Failure>
+fn class_named(text: &[u8]) -> Result<DNSClass, Failure>
     ensures ok { IfOk result (λ class. class_of_name text.now ≡ Some class) }
     ensures err { IfErr result (FailsToGive class_of_name UnknownText text.now) }
 {
     let Ok(name) = str::from_utf8(text) else {
         return Err(Failure::NotUtf8);
     };
-    match DNSClass::from_str(alloc, name) {
-        Ok(class) => Ok(class),
-        Err(_) => Err(Failure::UnknownText),
-    }
+    DNSClass::from_name(name).ok_or(Failure::UnknownText)
 }

@@ -64,6 +64,59 @@ pub enum Failure {
     BadItem,
 }
 
+/// The table of the failures: each with its number in C and a text about it. The rule that is named gets the rows, after
+/// what it is asked about.
+macro_rules! failures {
+    ($rule:ident $asked:expr) => {
+        $rule! { $asked =>
+            NoMemory = 1, "out of memory";
+            NoRoom = 2, "the buffer for the result is too short";
+            MessageCut = 3, "the message ends within the name";
+            PointerNotBack = 4, "a compression pointer does not point back";
+            ReservedOctet = 5, "an octet from 64 to 191 begins no label";
+            SegmentsOverlap = 6, "a name runs into the name that points to it";
+            NameTooLong = 7, "a name of more than 255 octets";
+            LabelTooLong = 8, "a label of more than 63 octets";
+            BadText = 9, "a label, a character or an escape of the text is not allowed";
+            NotUtf8 = 10, "the text is not UTF-8";
+            BytesLeft = 11, "bytes follow after the name";
+            MessageTooLong = 12, "the message would be longer than its maximum";
+            Other = 13, "another failure";
+            UnknownText = 14, "the text names no record type and no class";
+            NotOrdered = 15, "neither serial number comes after the other";
+            BadBitmap = 16, "the bitmap is out of bounds";
+            BadTime = 17, "the text is no time to live";
+            TextCut = 18, "the text ends within an escape or a line's end";
+            IllegalCharacter = 19, "a character stands where it may not";
+            ControlCharacter = 20, "the text has a control character";
+            UnclosedList = 21, "the text ends before the ) of a list";
+            UnclosedQuote = 22, "the text ends before a closing quote";
+            UnknownEntry = 23, "no control entry has this name";
+            WrongDataLength = 24, "the data of the record are not as long as their name";
+            BadAddress = 25, "an address has 4 or 16 bytes";
+            NotReverse = 26, "the name is no reverse name of an address or a net";
+            BadItem = 27, "an item of the list is malformed";
+        }
+    };
+}
+
+macro_rules! with_number {
+    ($number:expr => $($failure:ident = $code:literal, $text:literal;)*) => {
+        match $number {
+            $($code => Some(Failure::$failure),)*
+            _ => None,
+        }
+    };
+}
+
+macro_rules! text_about {
+    ($of:expr => $($failure:ident = $code:literal, $text:literal;)*) => {
+        match $of {
+            $(Failure::$failure => $text,)*
+        }
+    };
+}
+
 impl Failure {
     /// Returns its number in C.
     pub fn number(self) -> u32
@@ -77,37 +130,7 @@ impl Failure {
         ensures some { IfSome result (λ failure. number failure ≡ code) }
         ensures none { IfNone result ((failure : Failure) → number failure ≢ code) }
     {
-        let failure = match code {
-            1 => Failure::NoMemory,
-            2 => Failure::NoRoom,
-            3 => Failure::MessageCut,
-            4 => Failure::PointerNotBack,
-            5 => Failure::ReservedOctet,
-            6 => Failure::SegmentsOverlap,
-            7 => Failure::NameTooLong,
-            8 => Failure::LabelTooLong,
-            9 => Failure::BadText,
-            10 => Failure::NotUtf8,
-            11 => Failure::BytesLeft,
-            12 => Failure::MessageTooLong,
-            13 => Failure::Other,
-            14 => Failure::UnknownText,
-            15 => Failure::NotOrdered,
-            16 => Failure::BadBitmap,
-            17 => Failure::BadTime,
-            18 => Failure::TextCut,
-            19 => Failure::IllegalCharacter,
-            20 => Failure::ControlCharacter,
-            21 => Failure::UnclosedList,
-            22 => Failure::UnclosedQuote,
-            23 => Failure::UnknownEntry,
-            24 => Failure::WrongDataLength,
-            25 => Failure::BadAddress,
-            26 => Failure::NotReverse,
-            27 => Failure::BadItem,
-            _ => return None,
-        };
-        Some(failure)
+        failures!(with_number code)
     }
 
     /// Returns a text about it, for people.
@@ -115,35 +138,7 @@ impl Failure {
         ensures text { result.now ≡ failure_text self }
         ensures few { length result.now ≤ 64 }
     {
-        match self {
-            Failure::NoMemory => "out of memory",
-            Failure::NoRoom => "the buffer for the result is too short",
-            Failure::MessageCut => "the message ends within the name",
-            Failure::PointerNotBack => "a compression pointer does not point back",
-            Failure::ReservedOctet => "an octet from 64 to 191 begins no label",
-            Failure::SegmentsOverlap => "a name runs into the name that points to it",
-            Failure::NameTooLong => "a name of more than 255 octets",
-            Failure::LabelTooLong => "a label of more than 63 octets",
-            Failure::BadText => "a label, a character or an escape of the text is not allowed",
-            Failure::NotUtf8 => "the text is not UTF-8",
-            Failure::BytesLeft => "bytes follow after the name",
-            Failure::MessageTooLong => "the message would be longer than its maximum",
-            Failure::Other => "another failure",
-            Failure::UnknownText => "the text names no record type and no class",
-            Failure::NotOrdered => "neither serial number comes after the other",
-            Failure::BadBitmap => "the bitmap is out of bounds",
-            Failure::BadTime => "the text is no time to live",
-            Failure::TextCut => "the text ends within an escape or a line's end",
-            Failure::IllegalCharacter => "a character stands where it may not",
-            Failure::ControlCharacter => "the text has a control character",
-            Failure::UnclosedList => "the text ends before the ) of a list",
-            Failure::UnclosedQuote => "the text ends before a closing quote",
-            Failure::UnknownEntry => "no control entry has this name",
-            Failure::WrongDataLength => "the data of the record are not as long as their name",
-            Failure::BadAddress => "an address has 4 or 16 bytes",
-            Failure::NotReverse => "the name is no reverse name of an address or a net",
-            Failure::BadItem => "an item of the list is malformed",
-        }
+        failures!(text_about self)
     }
 }
 

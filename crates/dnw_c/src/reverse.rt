@@ -1,6 +1,6 @@
 //! Reverse names, of addresses that are bytes.
 ghost use Rattle.std.specs.Prelude.{◌≡◌, ◌≢◌, ◌<◌, length, IfOk, IfErr, OnErr};
-ghost use Rattle.dnw_net.specs.NetTexts.{net_addr};
+ghost use Rattle.dnw_reverse.specs.NetTexts.{net_addr};
 ghost use Rattle.dnw_c.specs.Buffers.{put};
 ghost use Rattle.dnw_c.specs.Failures.{NumberOf};
 ghost use Rattle.dnw_c.specs.ReverseCalls.{FailsToReadNet, FailsToReverse, IsAddress, IsNoAddress, IsNoReverse, IsReverseOf, PutsNet, PutsReverse, address_octets};

@@ -1,14 +1,13 @@
 //! The candidates of an encoder.
-ghost use Rattle.std.specs.Prelude.{◌≡◌, ◌≢◌, ℕ, ◌+◌, ◌<◌, ◌≤◌, ◌↔◌, List, [], ◌∷◌, ◌++◌, length, take, get_or, set, MatchOption, IfSome, IsTrue, OnOk, OnErr};
-ghost use Rattle.std.specs.List.{AllByRecursion};
+ghost use Rattle.std.specs.Prelude.{◌≡◌, ◌≢◌, ℕ, ◌+◌, ◌<◌, ◌≤◌, ◌↔◌, List, [], ◌∷◌, ◌++◌, length, take, None, IfSome, IsTrue, OnOk, OnErr};
 ghost use Rattle.dnw_base.specs.Limits.{max_message, pointer_reach};
-ghost use Rattle.dnw_candidates.specs.Candidates.{Finds, FindsUsable, candidates_before, suffixes};
-ghost use Rattle.dnw_candidates.specs.Inside.Marks.{CannotBe};
+ghost use Rattle.dnw_candidates.specs.Candidates.{Finds, FindsUsable, IsFirstUsable, candidates_before, suffixes};
+ghost use Rattle.dnw_candidates.specs.Inside.Marks.{NoneBefore};
 ghost use Rattle.dnw_base.specs.Names.{labels_wire};
 ghost use Rattle.dnw_reading.specs.Reading.{NameAt};
 
 use crate::marks::{Marks, tag};
-use crate::store::Store;
+use crate::store::{Store, labels_bytes};
 use crate::usable::stands_at;
 use dnw_form::wire_labels::WireLabels;
 use std::alloc::{AllocError, Global};
@@ -30,18 +29,39 @@ fn is_usable(start: u16, own: &[u8], bytes: &[u8], message: &[u8], labels: WireL
     is_same(own, bytes) && stands_at(message, start as usize, labels)
 }
 
+/// Returns the offset of this candidate if it is usable, when none before it is.
+#[inline(always)]
+fn usable_at(
+    held: &Store,
+    index: usize,
+    message: &[u8],
+    bytes: &[u8],
+    labels: WireLabels<'_>,
+) -> Option<u16>
+    requires index { index < length held.now }
+    requires bytes { bytes.now ≡ labels_wire labels }
+    requires passed { NoneBefore message.now labels held.now index }
+    ensures none { result ≡ None → NoneBefore message.now labels.entry held.now (index + 1) }
+    ensures finds { IfSome result (λ offset. IsFirstUsable message.now held.now labels.entry offset) }
+    ensures reached { IfSome result (λ offset. offset < pointer_reach) }
+{
+    let (start, own) = held.get(index);
+    if is_usable(start, own, bytes, message, labels) {
+        return Some(start);
+    }
+    None
+}
+
 /// Returns the offset of the first usable candidate from this index on, if none before it is usable.
 #[inline(always)]
 fn find_from(held: &Store, from: usize, message: &[u8], labels: WireLabels<'_>) -> Option<u16>
-    requires { AllByRecursion (CannotBe message.now labels) (take from held.now) }
+    requires { NoneBefore message.now labels held.now from }
     ensures finds { FindsUsable message.now labels.entry held.now result }
     ensures reached { IfSome result (λ offset. offset < pointer_reach) }
 {
-    let wire = labels.as_wire();
-    let bytes = &wire[..wire.len() - 1];
+    let bytes = labels_bytes(&labels);
     'search: for index in from..held.len() {
-        let (start, own) = held.get(index);
-        if is_usable(start, own, bytes, message, labels.clone()) {
+        if let Some(start) = usable_at(held, index, message, bytes, labels.clone()) {
             return Some(start);
         }
     }
@@ -115,13 +135,11 @@ impl Candidates {
         ensures finds { FindsUsable message.now labels.entry self.now result }
         ensures reached { IfSome result (λ offset. offset < pointer_reach) }
     {
-        let wire = labels.as_wire();
-        let bytes = &wire[..wire.len() - 1];
+        let bytes = labels_bytes(&labels);
         let tag = tag(bytes);
         let mut next = self.marks.first(tag);
         'search: while let Some(index) = next {
-            let (start, own) = self.held.get(index);
-            if is_usable(start, own, bytes, message, labels.clone()) {
+            if let Some(start) = usable_at(&self.held, index, message, bytes, labels.clone()) {
                 return Some(start);
             }
             next = self.marks.after(tag, index);
@@ -163,6 +181,7 @@ impl Candidates {
     }
 
     /// Keeps the candidates before an offset.
+    #[tactic(auto, using(crate::proofs::CandidateLists::kept_same))]
     pub fn trim(&mut self, offset: usize)
         ensures { self.new ≡ candidates_before offset self.old }
     {

@@ -1,6 +1,6 @@
 //! Marks, by which a search passes over most candidates.
-ghost use Rattle.std.specs.Prelude.{◌≡◌, ℕ, ◌+◌, ◌*◌, ◌^◌, ◌<◌, ◌≤◌, true, false, List, [], ◌∷◌, ◌++◌, get_or, length, MatchOption};
-ghost use Rattle.dnw_candidates.specs.Inside.Marks.{AreLinked, AreMarked, NoneBetween, NoneFrom, label_end, pair, tag};
+ghost use Rattle.std.specs.Prelude.{◌≡◌, ℕ, ◌+◌, ◌*◌, ◌^◌, ◌<◌, ◌≤◌, true, false, List, get_or};
+ghost use Rattle.dnw_candidates.specs.Inside.Marks.{AreLinked, AreMarked, FindsNext, label_end, pair, tag};
 
 use crate::store::Store;
 
@@ -77,8 +77,7 @@ impl Marks {
     /// Creates marks of no candidates.
     #[inline(always)]
     pub(crate) fn new() -> Self
-        ensures count { result.count ≡ 0 }
-        ensures linked { AreLinked result.last result.next [] }
+        ensures { (candidates : List (ℕ × List ℕ)) → AreMarked result.last result.next result.count candidates }
     {
         Marks {
             last: [0; 256],
@@ -109,12 +108,13 @@ impl Marks {
 
     /// Adds the next candidate, which has this tag.
     #[inline(always)]
+    #[tactic(auto, using(crate::proofs::Rings::linked_more, crate::proofs::Rings::begins, crate::proofs::Rings::grows))]
     fn add(&mut self, tag: usize)
         requires tag { tag < 256 }
         requires room { self.old.count < 255 }
         ensures count { self.new.count ≡ self.old.count + 1 }
-        ensures linked { (tags : List ℕ) → length tags ≡ self.old.count → AreLinked self.old.last self.old.next tags
-            → AreLinked self.new.last self.new.next (tags ++ tag ∷ []) }
+        ensures linked { (T : ℕ → ℕ) → T self.old.count ≡ tag → AreLinked self.old.last self.old.next self.old.count T
+            → AreLinked self.new.last self.new.next self.new.count T }
     {
         let index = self.count;
         let last = self.last[tag] as usize;
@@ -132,8 +132,7 @@ impl Marks {
     #[inline(always)]
     pub(crate) fn first(&self, tag: usize) -> Option<usize>
         requires { tag < 256 }
-        ensures { (tags : List ℕ) → AreLinked self.now.last self.now.next tags
-            → MatchOption result (NoneFrom tags tag 0) (λ i. (get_or tags i 256 ≡ tag) × NoneBetween tags tag 0 i) }
+        ensures { (T : ℕ → ℕ) → AreLinked self.now.last self.now.next self.now.count T → FindsNext T self.now.count tag 0 result }
     {
         let last = self.last[tag] as usize;
         if last == 0 {
@@ -146,9 +145,9 @@ impl Marks {
     #[inline(always)]
     pub(crate) fn after(&self, tag: usize, index: usize) -> Option<usize>
         requires tag { tag < 256 }
-        requires index { index < 256 }
-        ensures { (tags : List ℕ) → AreLinked self.now.last self.now.next tags → get_or tags index 256 ≡ tag
-            → MatchOption result (NoneFrom tags tag (index + 1)) (λ i. (index < i) × (get_or tags i 256 ≡ tag) × NoneBetween tags tag (index + 1) i) }
+        requires index { index < self.now.count }
+        ensures { (T : ℕ → ℕ) → AreLinked self.now.last self.now.next self.now.count T → T index ≡ tag
+            → FindsNext T self.now.count tag (index + 1) result }
     {
         if self.last[tag] as usize <= index + 1 {
             return None;

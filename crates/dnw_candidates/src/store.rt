@@ -1,9 +1,8 @@
 //! The store of the candidates' labels: the bytes of all of them, to which a name adds once.
-ghost use Rattle.std.specs.Prelude.{◌≡◌, ◌≢◌, ℕ, ◌+◌, ◌^◌, ◌<◌, ◌≤◌, vec_len, vec_capacity, List, [], ◌∷◌, ◌++◌, length, take, get_or, IsTrue, OnOk, OnErr};
-ghost use Rattle.std.specs.List.{AllByRecursion};
+ghost use Rattle.std.specs.Prelude.{◌≡◌, ◌≢◌, ℕ, ◌+◌, ◌^◌, ◌<◌, ◌≤◌, vec_len, vec_capacity, List, [], ◌∷◌, ◌++◌, length, take, drop, get_or, IsTrue, OnOk, OnErr};
 ghost use Rattle.dnw_base.specs.Limits.{max_message, pointer_reach};
 ghost use Rattle.dnw_candidates.specs.Candidates.{candidates_before, suffixes};
-ghost use Rattle.dnw_candidates.specs.Inside.Store.{AreWithin, entries_of};
+ghost use Rattle.dnw_candidates.specs.Inside.Store.{AreHeld, AreWithin, held};
 ghost use Rattle.dnw_base.specs.Names.{labels_wire};
 
 use dnw_form::wire_labels::WireLabels;
@@ -50,6 +49,16 @@ impl Model for Store {
     ghost invariant = { λ s. AreHeld (length s.bytes.items) s.end s.entries.items };
 }
 
+/// Returns the bytes of the labels that are left, without a closing zero.
+#[inline(always)]
+#[tactic(auto, using(dnw_form::proofs::Wires::front_of))]
+pub(crate) fn labels_bytes<'a>(labels: &WireLabels<'a>) -> &'a [u8]
+    ensures { result.now ≡ labels_wire labels.now }
+{
+    let wire = labels.as_wire();
+    &wire[..wire.len() - 1]
+}
+
 /// Returns the end of these entries' bytes.
 fn bytes_used(entries: &[Entry], len: usize) -> usize
     requires { AreWithin len entries.now }
@@ -63,40 +72,43 @@ fn bytes_used(entries: &[Entry], len: usize) -> usize
     used
 }
 
-/// Adds the entries of the first `most` suffixes of labels that are written at `start` and whose bytes begin at `from`.
-/// Returns the offset after these suffixes' first labels.
+/// Adds the entries of the first `most` suffixes of labels that are written at `start` and whose bytes are the last ones
+/// from `from` on. All entries are before `end`; returns the offset that all are before then.
 #[inline(always)]
 fn push_entries(
     entries: &mut Vec<Entry>,
+    bytes: &[u8],
     from: usize,
     start: usize,
+    end: usize,
     mut labels: WireLabels<'_>,
     most: usize,
 ) -> usize
     requires room { vec_len entries.old + most ≤ vec_capacity entries.old }
-    requires from { from + length (labels_wire labels) < 2 ^ 64 }
+    requires from { from ≤ length bytes.now }
+    requires bytes { drop from bytes.now ≡ labels_wire labels }
     requires reached { start + length (labels_wire labels) < pointer_reach }
-    ensures items { entries.new.items ≡ entries.old.items ++ entries_of most from start labels.entry }
-    ensures end { result ≡ start + length (labels_wire (take most labels.entry)) }
+    requires held { (to : ℕ) → end ≤ to → AreHeld (length bytes.now) to entries.old.items }
+    ensures items { held bytes.now entries.new.items ≡ held bytes.now entries.old.items ++ take most (suffixes start labels.entry) }
+    ensures held { AreHeld (length bytes.now) result entries.new.items }
 {
     let mut from = from;
     let mut start = start;
     let mut left = most;
     'suffixes: while left > 0 {
-        let size = labels.as_wire().len() - 1;
         let Some(label) = labels.next() else {
-            return start;
+            break;
         };
         entries.push_reserved(Entry {
             from,
-            size: size as u16,
+            size: (bytes.len() - from) as u16,
             start: start as u16,
         });
         from += 1 + label.len();
         start += 1 + label.len();
         left -= 1;
     }
-    start
+    end.max(start)
 }
 
 /// Appends bytes of labels. If they have no room, there is room for [`USUAL_SIZE`] more afterwards.
@@ -144,6 +156,7 @@ impl Store {
     }
 
     /// Adds a candidate at the end.
+    #[tactic(auto, using(crate::proofs::Held::held_one_more))]
     pub(crate) fn push(&mut self, start: u16, labels: &[u8]) -> Result<(), AllocError>
         requires reached { start < pointer_reach }
         requires size { length labels.now ≤ max_message }
@@ -164,6 +177,7 @@ impl Store {
 
     /// Adds the first `most` suffixes of labels that are written at `start`, the longest first. If memory runs out, none
     /// is added.
+    #[tactic(auto, using(crate::proofs::Held::no_suffix, crate::proofs::Held::some_suffix))]
     pub(crate) fn push_suffixes(
         &mut self,
         start: usize,
@@ -175,25 +189,50 @@ impl Store {
         ensures err { OnErr result (self.new ≡ self.old) }
         ensures needed { OnErr result (take most (suffixes start labels.entry) ≢ []) }
     {
-        let wire = labels.as_wire();
+        let bytes = labels_bytes(&labels);
         if most == 0 {
             return Ok(());
         }
         // The root has no suffix.
-        if wire.len() == 1 {
+        if bytes.len() == 0 {
             return Ok(());
         }
-        let bytes = &wire[..wire.len() - 1];
+        self.push_some(start, bytes, labels, most)
+    }
+
+    /// Adds the first `most` suffixes of labels that have these bytes.
+    #[inline(always)]
+    #[tactic(auto, using(crate::proofs::Held::held_more))]
+    fn push_some(
+        &mut self,
+        start: usize,
+        bytes: &[u8],
+        labels: WireLabels<'_>,
+        most: usize,
+    ) -> Result<(), AllocError>
+        requires bytes { bytes.now ≡ labels_wire labels }
+        requires reached { start + length (labels_wire labels) < pointer_reach }
+        ensures ok { OnOk result (self.new ≡ self.old ++ take most (suffixes start labels.entry)) }
+        ensures err { OnErr result (self.new ≡ self.old) }
+    {
         // At once for as many as are allowed: with the usual limit the entries grow only here.
         self.entries.reserve(most)?;
+        let from = self.bytes.len();
         append(&mut self.bytes, bytes)?;
-        let from = self.bytes.len() - bytes.len();
-        let end = push_entries(&mut self.entries, from, start, labels, most);
-        self.end = self.end.max(end);
+        self.end = push_entries(
+            &mut self.entries,
+            self.bytes.as_slice(),
+            from,
+            start,
+            self.end,
+            labels,
+            most,
+        );
         Ok(())
     }
 
     /// Keeps the first `len` candidates.
+    #[tactic(auto, using(crate::proofs::Held::held_first))]
     pub(crate) fn truncate(&mut self, len: usize)
         ensures { self.new ≡ take len self.old }
     {
@@ -203,6 +242,7 @@ impl Store {
 
     /// Keeps the candidates before an offset.
     #[inline]
+    #[tactic(auto, using(crate::proofs::Held::all_before))]
     pub(crate) fn retain_before(&mut self, offset: usize)
         ensures { self.new ≡ candidates_before offset self.old }
     {
@@ -214,6 +254,7 @@ impl Store {
     }
 
     /// Removes the bytes after those of the last entry.
+    #[tactic(auto, using(crate::proofs::Held::held_cut))]
     fn cut(&mut self)
         ensures { self.new ≡ self.old }
     {

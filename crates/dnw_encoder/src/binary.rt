@@ -3,8 +3,8 @@ ghost use Rattle.std.specs.Prelude.{◌≡◌, ◌≢◌, ℕ, ◌≤◌, List, 
 ghost use Rattle.std.specs.Int.{w16, w32, to_be_bytes};
 ghost use Rattle.std.specs.Int.{cast_unsigned as unsigned};
 ghost use Rattle.dnw_error.specs.declared.error.ProtoError.{ProtoError};
-ghost use Rattle.dnw_error.specs.RecordTypes.{type_code};
-ghost use Rattle.dnw_error.specs.DnsClasses.{class_code};
+ghost use Rattle.dnw_codes.specs.RecordTypes.{type_code};
+ghost use Rattle.dnw_codes.specs.DnsClasses.{class_code};
 ghost use Rattle.dnw_encoder.specs.Encoder.{Encoder, fresh, Writes};
 ghost use Rattle.dnw_encoder.specs.EncoderValue.{value, lender};
 ghost use Rattle.dnw_encoder.specs.Emitting.{Outcome, Frame, WritesLen, FailsUnchanged};
@@ -12,9 +12,9 @@ ghost use Rattle.dnw_encoder.specs.EmittingLaws.{frame, fails-unchanged};
 ghost use Rattle.std.proofs.Common.{lit≤};
 
 use crate::encoder::BinEncoder;
-use dnw_error::dns_class::DNSClass;
+use dnw_codes::dns_class::DNSClass;
+use dnw_codes::record_type::RecordType;
 use dnw_error::error::{ProtoError, ProtoResult};
-use dnw_error::record_type::RecordType;
 use std::alloc::Global;
 
 mod name;

@@ -1,7 +1,7 @@
 //! The errors of this layer.
 ghost use Rattle.std.specs.Prelude.{◌≡◌, IfOk, IfErr, IsOk};
 
-use crate::record_type::RecordType;
+use dnw_codes::record_type::RecordType;
 use std::alloc::{AllocError, AllocFailed};
 use thiserror::Error;
 

@@ -1,6 +1,7 @@
-//! The errors of the DNS wire layer, and the codes that they name.
+//! The errors of the DNS wire layer, and the texts of record types and classes, which fail with them.
+//!
+//! It stands on the codes. Read `specs/Fault.antt` first: why a call fails.
 #![tactic(auto)]
 
-pub mod dns_class;
 pub mod error;
-pub mod record_type;
+pub mod from_str;

@@ -3,7 +3,7 @@ use Rattle.std.proofs.Common.{◌≡◌, ℕ, ◌+◌, ◌<◌, ◌≤◌, List,
 use Rattle.std.proofs.lemmas.Bool.{le-ltb, lt-ltb}
 use Rattle.dnw_error.specs.declared.error.ProtoError.{ProtoError}
 use Rattle.dnw_error.specs.declared.error.ProtoError.TheVariants.{Memory}
-use Rattle.dnw_error.specs.Fault.{Fault, NameTooLong, Fails, FailsOr, NeedsErrorText, ◌>>=◌}
+use Rattle.dnw_error.specs.Fault.{Fault, NameTooLong, FailsOr, NeedsErrorText, ◌>>=◌}
 use Rattle.dnw_base.specs.Names.{encoded_size}
 use Rattle.dnw_form.specs.Edits.{with_label}
 use Rattle.dnw_base.proofs.Wires.{encoded_size_push}
@@ -18,18 +18,11 @@ with_label_fits ls l le =
     rw (le-ltb 255 (encoded_size (ls ++ l ∷ [])) (omega (arith, encoded_size_push ls l, le))) refl
 
 -- what the first part fails with, the whole fails with
-Fails-bind : {A B : Type 0} (r : Result A Fault) (f : A → Result B Fault) (e : ProtoError) → Fails r e → Fails (r >>= f) e
-Fails-bind (Ok x) f e h = absurd h
-Fails-bind (Err fault) f e h = h
-
-NeedsErrorText-bind : {A B : Type 0} (r : Result A Fault) (f : A → Result B Fault) → NeedsErrorText r → NeedsErrorText (r >>= f)
-NeedsErrorText-bind (Ok x) f h = absurd h
-NeedsErrorText-bind (Err fault) f h = h
-
 pub FailsOr-bind : {A B : Type 0} (r : Result A Fault) (f : A → Result B Fault) (e : ProtoError)
     → FailsOr r (NeedsErrorText r) e → FailsOr (r >>= f) (NeedsErrorText (r >>= f)) e
-FailsOr-bind r f Memory h = NeedsErrorText-bind r f h
-FailsOr-bind r f e h = Fails-bind r f e h
+FailsOr-bind (Ok x) f Memory h = absurd h
+FailsOr-bind (Ok x) f e h = absurd h
+FailsOr-bind (Err fault) f e h = h
 
 -- what fails without memory, fails whatever memory there is
 pub FailsOr-any : {A : Type 0} (r : Result A Fault) (e : ProtoError) → FailsOr r ⊥ e → FailsOr r (NeedsErrorText r) e

@@ -17,10 +17,8 @@ pub lower-wire : (ls : List (List ℕ)) → AllByRecursion IsLabel ls → map to
 lower-wire [] each = refl
 lower-wire (l ∷ ls) each =
     ap (map to_ascii_lowercase) (wire-cons l ls)
-    ∙ (ap (λ (n : ℕ). n ∷ map to_ascii_lowercase (l ++ wire ls)) (no_letter (length l) each.0.not_long ∙ sym (length-map l to_ascii_lowercase))
-    ∙ (ap (λ (bytes : List ℕ). length (map to_ascii_lowercase l) ∷ bytes)
-    (map-append to_ascii_lowercase l (wire ls) ∙ ap (λ (bytes : List ℕ). map to_ascii_lowercase l ++ bytes) (lower-wire ls each.1))
-    ∙ sym (wire-cons (map to_ascii_lowercase l) (lower ls))))
+    ∙ rw (no_letter (length l) each.0.not_long, map-append to_ascii_lowercase l (wire ls), lower-wire ls each.1, ← length-map l to_ascii_lowercase) refl
+    ∙ sym (wire-cons (map to_ascii_lowercase l) (lower ls))
 
 -- bytes that are written over all of a list
 pub refill-whole : (xs ws : List ℕ) → length ws ≡ length xs → refill (length xs) xs ws ≡ ws

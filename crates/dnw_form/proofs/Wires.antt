@@ -34,17 +34,19 @@ IsWire-wire ls h =
     let same = labels_of-wire ls h.each in
     record { spelled = ap wire (sym same); labels = subst AreLabels (sym same) h }
 
+-- octets that are the form of labels
+pub labels_of-form : (bytes : List ℕ) (ls : List (List ℕ)) → bytes ≡ wire ls → AreLabels ls → IsWire bytes × (labels_of bytes ≡ ls)
+labels_of-form bytes ls form h = (subst IsWire (sym form) (IsWire-wire ls h), ap labels_of form ∙ labels_of-wire ls h.each)
+
 -- the size of a form is its length
-pub IsWire-size : (bytes : List ℕ) → IsWire bytes → encoded_size (labels_of bytes) ≡ length bytes
-IsWire-size bytes w = sym (length-wire (labels_of bytes)) ∙ ap length (sym w.spelled)
+pub size_of_wire : (bytes : List ℕ) → IsWire bytes → encoded_size (labels_of bytes) ≡ length bytes
+size_of_wire bytes w = sym (length-wire (labels_of bytes)) ∙ ap length (sym w.spelled)
 
-pub IsWire-short : (bytes : List ℕ) → IsWire bytes → length bytes ≤ 255
-IsWire-short bytes w = omega (arith, IsWire-size bytes w, w.labels.fit)
+pub few_octets : (bytes : List ℕ) → IsWire bytes → length bytes ≤ 255
+few_octets bytes w = omega (arith, size_of_wire bytes w, w.labels.fit)
 
-pub IsWire-one : (bytes : List ℕ) → IsWire bytes → (length bytes ≡ 1) ↔ (labels_of bytes ≡ [])
-IsWire-one bytes w =
-    let both = no_labels_size (labels_of bytes) in
-    (λ e. both.0 (IsWire-size bytes w ∙ e), λ e. sym (IsWire-size bytes w) ∙ both.1 e)
+pub one_octet : (bytes : List ℕ) → IsWire bytes → (length bytes ≡ 1) ↔ (labels_of bytes ≡ [])
+one_octet bytes w = rw (← size_of_wire bytes w) (no_labels_size (labels_of bytes))
 
 -- a label put before the closing zero is the last label
 pub IsWire-push : (bytes label : List ℕ) → IsWire bytes → IsLabel label → length bytes + 1 + length label ≤ 255
@@ -52,64 +54,63 @@ pub IsWire-push : (bytes label : List ℕ) → IsWire bytes → IsLabel label �
     × (labels_of (take (length bytes - 1) bytes ++ length label ∷ [] ++ label ++ 0 ∷ []) ≡ labels_of bytes ++ label ∷ [])
 IsWire-push bytes label w h room =
     let ls : List (List ℕ) = labels_of bytes in
-    let more : AreLabels (ls ++ label ∷ []) = record { each = AllByRecursion-push ls label w.labels.each h; fit = omega (arith, encoded_size_push ls label, IsWire-size bytes w, room) } in
+    let more : AreLabels (ls ++ label ∷ []) = record { each = AllByRecursion-push ls label w.labels.each h; fit = omega (arith, encoded_size_push ls label, size_of_wire bytes w, room) } in
     let front : take (length bytes - 1) bytes ≡ labels_wire ls = front_of ls bytes w.spelled in
     let form : take (length bytes - 1) bytes ++ length label ∷ [] ++ label ++ 0 ∷ [] ≡ wire (ls ++ label ∷ []) =
-    ap (λ (front : List ℕ). front ++ 0 ∷ [])
-    (ap (λ (front : List ℕ). front ++ length label ∷ [] ++ label) front
-    ∙ append_assoc (labels_wire ls) (length label ∷ []) label ∙ sym (labels_wire_push ls label)) in
-    (subst IsWire (sym form) (IsWire-wire (ls ++ label ∷ []) more), ap labels_of form ∙ labels_of-wire (ls ++ label ∷ []) more.each)
+    rw (front, labels_wire_push ls label, append_assoc (labels_wire ls) (length label ∷ []) label) refl in
+    labels_of-form _ (ls ++ label ∷ []) form more
 
 -- a form that begins with a zero is that of no labels
-zero_first : (ls : List (List ℕ)) (rest : List ℕ) → AreLabels ls → wire ls ≡ 0 ∷ rest → ls ≡ []
-zero_first [] rest h e = refl
-zero_first (l ∷ ls) rest h e =
-    let zero_length : length l ≡ 0 = cc in
-    absurd (omega (arith, h.each.0.not_empty, zero_length))
+pub begins_with_zero : (bytes : List ℕ) (c : ℕ) (rest : List ℕ) → bytes ≡ c ∷ rest → c ≡ 0 → labels_of bytes ≡ []
+unfolding labels_of
+begins_with_zero bytes c rest e z = rw (e, z) refl
 
-pub IsWire-zero : (bytes : List ℕ) (c : ℕ) (rest : List ℕ) → IsWire bytes → bytes ≡ c ∷ rest → c ≡ 0 → labels_of bytes ≡ []
-IsWire-zero bytes c rest w e z = zero_first (labels_of bytes) rest w.labels (sym w.spelled ∙ e ∙ ap (λ (n : ℕ). n ∷ rest) z)
-
--- any other begins with a label, and goes on with the form of the others
-pub record Front (ls : List (List ℕ)) (c : ℕ) (rest : List ℕ) : Type 0 where
+-- any other begins with a label, and goes on with the form of the others, but for what closes it
+pub record Front (close : List ℕ → List ℕ) (ls : List (List ℕ)) (c : ℕ) (rest : List ℕ) : Type 0 where
   pub fits : c ≤ length rest
   pub is_label : IsLabel (take c rest)
-  pub labels : ls ≡ take c rest ∷ labels_of (drop c rest)
-  pub others : IsWire (drop c rest)
+  pub labels : ls ≡ take c rest ∷ labels_of (close (drop c rest))
+  pub others : IsWire (close (drop c rest))
 
-label_first : (ls : List (List ℕ)) (c : ℕ) (rest : List ℕ) → AreLabels ls → wire ls ≡ c ∷ rest → (c ≡ 0 → ⊥) → Front ls c rest
-label_first [] c rest h e ne = absurd (ne (let zero_c : 0 ≡ c = cc in sym zero_c))
-label_first (l ∷ ls) c rest h e ne =
-    let whole : length l ∷ (l ++ wire ls) ≡ c ∷ rest = sym (wire-cons l ls) ∙ e in
+pub Front-cons : (close : List ℕ → List ℕ) (l : List ℕ) (ls : List (List ℕ)) (tail : List ℕ) (c : ℕ) (rest : List ℕ)
+    → AreLabels (l ∷ ls) → close tail ≡ wire ls → length l ∷ (l ++ tail) ≡ c ∷ rest → Front close (l ∷ ls) c rest
+Front-cons close l ls tail c rest h form e =
     let first : length l ≡ c = cc in
-    let after : l ++ wire ls ≡ rest = cc in
-    let label_is : take c rest ≡ l = rw (← after) (take_at l (wire ls) c first) in
-    let rest_is : drop c rest ≡ wire ls = rw (← after) (drop_at l (wire ls) c first) in
-    let more = AreLabels-rest l ls h in
+    let after : l ++ tail ≡ rest = cc in
+    let label_is : take c rest ≡ l = rw (← after) (take_at l tail c first) in
+    let rest_is : drop c rest ≡ tail = rw (← after) (drop_at l tail c first) in
+    let more = labels_of-form (close tail) ls form (AreLabels-rest l ls h) in
     record {
-      fits = omega (arith, ap length after, length-append l (wire ls), first);
+      fits = omega (arith, ap length after, length-append l tail, first);
       is_label = subst IsLabel (sym label_is) h.each.0;
-      labels = rw (label_is, rest_is, labels_of-wire ls more.each) refl;
-      others = subst IsWire (sym rest_is) (IsWire-wire ls more);
+      labels = rw (label_is, rest_is, more.1) refl;
+      others = rw rest_is more.0;
     }
 
-pub IsWire-front : (bytes : List ℕ) (c : ℕ) (rest : List ℕ) → IsWire bytes → bytes ≡ c ∷ rest → (c ≡ 0 → ⊥) → Front (labels_of bytes) c rest
+pub Front-splits : (close : List ℕ → List ℕ) (bytes : List ℕ) (c : ℕ) (rest label after : List ℕ) → Front close (labels_of bytes) c rest
+    → label ≡ take c rest → after ≡ drop c rest → SplitsLabel bytes label (close after)
+Front-splits close bytes c rest label after f label_is after_is =
+    rw (label_is, after_is) (record { labels = f.labels; is_label = f.is_label; others = f.others })
+
+-- with the closing zero
+abbrev pub whole : List ℕ → List ℕ
+whole bytes = bytes
+
+label_first : (ls : List (List ℕ)) (c : ℕ) (rest : List ℕ) → AreLabels ls → wire ls ≡ c ∷ rest → (c ≡ 0 → ⊥) → Front whole ls c rest
+label_first [] c rest h e ne = absurd (ne (let zero_c : 0 ≡ c = cc in sym zero_c))
+label_first (l ∷ ls) c rest h e ne = Front-cons whole l ls (wire ls) c rest h refl (sym (wire-cons l ls) ∙ e)
+
+pub IsWire-front : (bytes : List ℕ) (c : ℕ) (rest : List ℕ) → IsWire bytes → bytes ≡ c ∷ rest → (c ≡ 0 → ⊥) → Front whole (labels_of bytes) c rest
 IsWire-front bytes c rest w e ne = label_first (labels_of bytes) c rest w.labels (sym w.spelled ∙ e) ne
 
--- and so without that label
-pub Front-splits : (bytes : List ℕ) (c : ℕ) (rest label after : List ℕ) → Front (labels_of bytes) c rest → label ≡ take c rest → after ≡ drop c rest → SplitsLabel bytes label after
-Front-splits bytes c rest label after f label_is after_is = record {
-  labels = rw (label_is, after_is) f.labels;
-  is_label = subst IsLabel (sym label_is) f.is_label;
-  others = subst IsWire (sym after_is) f.others;
-}
-
-pub IsWire-few : (bytes : List ℕ) → IsWire bytes → length (labels_of bytes) ≤ 127
-IsWire-few bytes w = AreLabels-few (labels_of bytes) w.labels
+pub few_labels_of : (bytes : List ℕ) → IsWire bytes → length (labels_of bytes) ≤ 127
+few_labels_of bytes w = AreLabels-few (labels_of bytes) w.labels
 
 -- an asterisk in place of the first label
-pub AreLabels-wildcard : (first : List ℕ) (rest : List (List ℕ)) → AreLabels (first ∷ rest) → AreLabels (wildcard ∷ rest)
-AreLabels-wildcard first rest h = record {
-  each = (record { not_empty = omega arith; not_long = omega arith }, h.each.1);
-  fit = omega (arith, encoded_size-cons first rest, encoded_size-cons wildcard rest, h.each.0.not_empty, h.fit);
-}
+pub AreLabels-wildcard : (first : List ℕ) (rest ls : List (List ℕ)) → ls ≡ first ∷ rest → AreLabels ls → AreLabels (wildcard ∷ rest)
+AreLabels-wildcard first rest ls split are =
+    let h : AreLabels (first ∷ rest) = subst AreLabels split are in
+    record {
+      each = (record { not_empty = omega arith; not_long = omega arith }, h.each.1);
+      fit = omega (arith, encoded_size-cons first rest, encoded_size-cons wildcard rest, h.each.0.not_empty, h.fit);
+    }

@@ -68,6 +68,7 @@ impl WireForm {
 
     /// Returns the number of octets.
     #[inline(always)]
+    #[tactic(auto, using(crate::proofs::Wires::size_of_wire))]
     pub fn len(&self) -> usize
         ensures size { result ≡ encoded_size self.now }
         ensures labels { AreLabels self.now }
@@ -77,6 +78,7 @@ impl WireForm {
 
     /// Returns `true` if there are no labels.
     #[inline(always)]
+    #[tactic(auto, using(crate::proofs::Wires::one_octet))]
     pub fn has_no_labels(&self) -> bool
         ensures { IsTrue result ↔ (self.now ≡ []) }
     {
@@ -103,6 +105,7 @@ impl WireForm {
 
     /// Adds a label at the end. It fails with `DomainNameTooLong` and the size that the form would have, if that is
     /// past 255.
+    #[tactic(auto, using(crate::proofs::Wires::size_of_wire, crate::proofs::EditLemmas::with_label_long))]
     pub fn push(&mut self, label: &[u8]) -> ProtoResult<()>
         requires { IsLabel label.now }
         ensures updates { Updates (with_label self.old label.now) ⊥ self.old result self.new }
@@ -147,11 +150,12 @@ impl WireForm {
         let mut bytes = SmallVec::new(*self.bytes.allocator());
         bytes.push_reserved(1);
         bytes.push_reserved(b'*');
-        bytes.extend_from_slice(labels.as_wire()).unwrap();
+        extend(&mut bytes, labels.as_wire());
         Some(WireForm { bytes })
     }
 
     /// Returns the form with its ASCII letters in lower case (RFC 4343).
+    #[tactic(auto, using(crate::proofs::Wires::few_octets))]
     pub fn to_lowercase(&self) -> Self
         ensures { result ≡ lower self.now }
     {
@@ -163,13 +167,14 @@ impl WireForm {
 
     /// Copies the form.
     #[inline(always)]
+    #[tactic(auto, using(crate::proofs::Wires::few_octets))]
     pub fn clone(&self) -> Self
         ensures { result ≡ self.now }
     {
         let mut copy = WireForm {
             bytes: SmallVec::new(*self.bytes.allocator()),
         };
-        copy.bytes.extend_from_slice(self.bytes.as_slice()).unwrap();
+        extend(&mut copy.bytes, self.bytes.as_slice());
         copy
     }
 }
@@ -192,8 +197,19 @@ fn inline_copy(alloc: Global, octets: &[u8]) -> SmallVec<u8, MAX_NAME>
     ensures inline { result.capacity ≡ max_name }
 {
     let mut copy = SmallVec::new(alloc);
-    copy.extend_from_slice(octets).unwrap();
+    extend(&mut copy, octets);
     copy
+}
+
+/// Adds octets that fit inline.
+#[inline(always)]
+fn extend(bytes: &mut SmallVec<u8, MAX_NAME>, octets: &[u8])
+    requires inline { bytes.old.capacity ≡ max_name }
+    requires room { length bytes.old.items + length octets.now ≤ max_name }
+    ensures items { bytes.new.items ≡ bytes.old.items ++ octets.now }
+    ensures inline { bytes.new.capacity ≡ max_name }
+{
+    bytes.extend_from_slice(octets).unwrap();
 }
 
 /// Adds a label before the closing zero.
@@ -208,6 +224,6 @@ fn push_label(bytes: &mut SmallVec<u8, MAX_NAME>, label: &[u8])
 {
     bytes.pop();
     bytes.push_reserved(label.len() as u8);
-    bytes.extend_from_slice(label).unwrap();
+    extend(bytes, label);
     bytes.push_reserved(0);
 }

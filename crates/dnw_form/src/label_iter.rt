@@ -91,6 +91,7 @@ impl<'a> ExactSizeIterator for LabelIter<'a> {
 }
 
 /// Returns the number of labels.
+#[tactic(auto, using(crate::proofs::Wires::few_labels_of))]
 fn count_labels(labels: &[u8]) -> usize
     requires { IsWire (closed labels.now) }
     ensures { result ≡ length (labels_of (closed labels.now)) }
@@ -106,6 +107,7 @@ fn count_labels(labels: &[u8]) -> usize
 
 /// Returns the first label, and the others as they are on the wire.
 #[inline(always)]
+#[tactic(auto, using(crate::proofs::OpenWires::closed_none))]
 fn split_first_label(labels: &[u8]) -> Option<(&[u8], &[u8])>
     requires { IsWire (closed labels.now) }
     ensures { MatchOption result (labels_of (closed labels.now) ≡ []) (λ split. SplitsLabel (closed labels.now) split.0.now (closed split.1.now)) }

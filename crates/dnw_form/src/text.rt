@@ -1,15 +1,15 @@
 //! Names as text (RFC 1035, section 5.1, but with octal escapes).
-ghost use Rattle.std.specs.Prelude.{◌≡◌, ℕ, ◌+◌, ◌-◌, ◌*◌, ◌^◌, ◌<◌, ◌≤◌, List, [], ◌∷◌, ◌++◌, ◌==◌, length, get_or, map, take, true, false, IsTrue, Some, None, Ok, IfSome, IfOk, IfErr, OnOk, if◌then◌else◌, encode_utf8};
+ghost use Rattle.std.specs.Prelude.{◌≡◌, ℕ, ◌+◌, ◌-◌, ◌*◌, ◌^◌, ◌<◌, ◌≤◌, List, [], ◌∷◌, ◌++◌, ◌==◌, length, get_or, map, take, drop, true, false, IsTrue, Some, None, Ok, IfSome, IfOk, IfErr, OnOk, ⊤, if◌then◌else◌, encode_utf8};
 ghost use Rattle.std.specs.List.{AllByRecursion, join_with_byte, list_all};
 ghost use Rattle.std.specs.Str.{chars};
 ghost use Rattle.arrayvec.specs.ArrayString.{array_string_len};
 ghost use Rattle.dnw_base.specs.Limits.{max_label, max_name};
-ghost use Rattle.dnw_error.specs.Fault.{Follows, FailsOr, NeedsErrorText, Updates};
+ghost use Rattle.dnw_error.specs.Fault.{UnrecognizedChar, IllegalChar, Follows, FailsOr, NeedsErrorText, Updates};
 ghost use Rattle.dnw_base.specs.Labels.{IsLabel, asterisk};
 ghost use Rattle.dnw_base.specs.Names.{encoded_size};
 ghost use Rattle.dnw_label.specs.LabelText.{dot, label_from_text, label_text};
 ghost use Rattle.dnw_form.specs.NameText.{Outside, Escaped, is_numeric, is_octal_digit, elements, Stop, bad_digit, with_text, name_from_text};
-ghost use Rattle.dnw_form.specs.Inside.TextReader.{state_of, elements_from, escape_len, IsNoLonger, IsAlike, is_simple, IsSimpleLabel, IsDottedLabel, PutsLengths, BeginsWithEscape, name_from_rest, name_from, reader_len};
+ghost use Rattle.dnw_form.specs.Inside.TextReader.{state_of, elements_from, escape_len, IsNoLonger, IsAlike, is_simple, IsSimpleLabel, IsDottedLabel, PutsLengths, Begins, BeginsWithEscape, BeginsWithLabel, name_from_rest, name_from, reader_len, fails_with};
 
 use crate::form::WireForm;
 use crate::wire_labels::WireLabels;
@@ -180,6 +180,14 @@ fn octal_digit(c: char) -> Option<u8>
     }
 }
 
+/// The same, with what reading gives after the escape.
+#[inline(always)]
+fn escape(text: &str) -> Option<char>
+    ensures { IfSome result (λ char. Begins text.now 4 (encode_utf8 char)) }
+{
+    octal_escape(text.as_bytes())
+}
+
 /// Returns the character of the octal escape that a text begins with.
 fn octal_escape(text: &[u8]) -> Option<char>
     ensures { IfSome result (λ char. (rest : List ℕ) × BeginsWithEscape text.now char rest) }
@@ -206,6 +214,7 @@ fn digit_value(digit: u8) -> u8
 
 /// Returns `true` if all three are less than 8, by one comparison.
 #[inline(always)]
+#[tactic(auto, using(std::proofs::lemmas::Nat::le_or_l, std::proofs::lemmas::Nat::le_or_r))]
 fn are_octal(a: u8, b: u8, c: u8) -> bool
     ensures { IsTrue result → (a < 8) × (b < 8) × (c < 8) }
 {
@@ -262,7 +271,8 @@ impl Collected {
     /// Adds a run of characters.
     fn push_run(&mut self, run: &str)
         requires { length self.old + length run.now < 2 ^ 64 }
-        ensures { IsAlike self.new (self.old ++ run.now) }
+        ensures alike { IsAlike self.new (self.old ++ run.now) }
+        ensures len { length self.new ≡ length self.old + length run.now }
     {
         if self.text.try_push_str(run).is_err() {
             self.more += run.len();
@@ -273,7 +283,8 @@ impl Collected {
     #[inline(always)]
     fn push(&mut self, c: char)
         requires { length self.old + length (encode_utf8 c) < 2 ^ 64 }
-        ensures { IsAlike self.new (self.old ++ encode_utf8 c) }
+        ensures alike { IsAlike self.new (self.old ++ encode_utf8 c) }
+        ensures len { length self.new ≡ length self.old + length (encode_utf8 c) }
     {
         if c.is_ascii() && !self.text.is_full() {
             // The compiler stores one byte without a copy of a length that it does not know.
@@ -347,10 +358,8 @@ impl TextReader {
                 self.label = Collected::new();
                 self.state = State::Outside;
             }
-            Move::Unrecognized => {
-                return Err(ProtoError::Msg(format!(in alloc; "unrecognized char: {c}")?));
-            }
-            Move::Illegal => return Err(ProtoError::Msg(format!(in alloc; "illegal char: {c}")?)),
+            Move::Unrecognized => return Err(unrecognized(alloc, c)),
+            Move::Illegal => return Err(illegal(alloc, c)),
         }
         Ok(())
     }
@@ -365,7 +374,7 @@ impl TextReader {
         ensures len { IfOk result (λ rest. reader_len self.new + length rest.now ≤ reader_len self.old + length text.now) }
         ensures err { IfErr result (FailsOr (name_from self.old (chars text.now)) (NeedsErrorText (name_from self.old (chars text.now)))) }
     {
-        let len = self.whole_label_len(text.as_bytes());
+        let len = self.whole_label_len(text);
         if len == 0 {
             return self.advance_part(alloc, text);
         }
@@ -375,15 +384,15 @@ impl TextReader {
 
     /// Returns the length of the simple label that a text begins with, if a dot follows and no part of a label was read
     /// before it, or else 0.
-    fn whole_label_len(&self, text: &[u8]) -> usize
-        ensures label { 0 < result → IsDottedLabel text.now result }
+    fn whole_label_len(&self, text: &str) -> usize
+        ensures label { 0 < result → BeginsWithLabel text.now result }
         ensures fresh { 0 < result → (self.now.label ≡ []) × (self.now.state ≡ State.Outside) }
     {
         if !self.label.is_empty() {
             return 0;
         }
         match self.state {
-            State::Outside => dotted_len(text),
+            State::Outside => dotted_len(text.as_bytes()),
             _ => 0,
         }
     }
@@ -398,11 +407,11 @@ impl TextReader {
         ensures err { IfErr result (FailsOr (name_from self.old (chars text.now)) (NeedsErrorText (name_from self.old (chars text.now)))) }
     {
         if let State::Outside = self.state {
-            if let Some(c) = octal_escape(text.as_bytes()) {
+            if let Some(c) = escape(text) {
                 self.label.push(c);
                 return Ok(self.take_escapes(&text[4..]));
             }
-            let run = run_len(text.as_bytes());
+            let run = run_of(text);
             if run > 0 {
                 self.label.push_run(&text[..run]);
                 return Ok(&text[run..]);
@@ -423,7 +432,7 @@ impl TextReader {
         ensures len { reader_len self.new + length result.now ≤ reader_len self.old + length text.now }
     {
         let mut rest = text;
-        'escapes: while let Some(c) = octal_escape(rest.as_bytes()) {
+        'escapes: while let Some(c) = escape(rest) {
             self.label.push(c);
             rest = &rest[4..];
         }
@@ -431,9 +440,10 @@ impl TextReader {
     }
 
     /// Returns the name, if no more characters follow.
+    #[tactic(auto, using(crate::proofs::TextReading::unfinished))]
     fn finish(self, alloc: Global) -> ProtoResult<Parsed>
         requires { length self.label < 2 ^ 64 }
-        ensures follows { Follows (name_from self []) (NeedsErrorText (name_from self [])) result }
+        ensures follows { Follows (name_from self (chars [])) (NeedsErrorText (name_from self (chars []))) result }
     {
         let State::Outside = self.state else {
             return Err(ProtoError::Message("unfinished escape"));
@@ -450,6 +460,26 @@ impl TextReader {
             form,
             is_fqdn: false,
         })
+    }
+}
+
+/// Returns the error of a character that is not recognized.
+fn unrecognized(alloc: Global, c: char) -> ProtoError
+    ensures { FailsOr (fails_with (UnrecognizedChar c)) ⊤ result }
+{
+    match format!(in alloc; "unrecognized char: {c}") {
+        Ok(text) => ProtoError::Msg(text),
+        Err(error) => ProtoError::from(error),
+    }
+}
+
+/// Returns the error of a number that is not allowed there.
+fn illegal(alloc: Global, c: char) -> ProtoError
+    ensures { FailsOr (fails_with (IllegalChar c)) ⊤ result }
+{
+    match format!(in alloc; "illegal char: {c}") {
+        Ok(text) => ProtoError::Msg(text),
+        Err(error) => ProtoError::from(error),
     }
 }
 
@@ -514,7 +544,7 @@ fn put_lengths(wire: &mut [u8], text: &[u8]) -> Option<bool>
 {
     let mut start = 0;
     'labels: loop {
-        let len = simple_label_len(&text[start..]);
+        let len = label_len_at(text, start);
         if len == 0 {
             return None;
         }
@@ -532,6 +562,16 @@ fn put_lengths(wire: &mut [u8], text: &[u8]) -> Option<bool>
             return Some(true);
         }
     }
+}
+
+/// Returns the length of the simple label at an offset of a text, or else 0.
+#[inline(always)]
+fn label_len_at(text: &[u8], at: usize) -> usize
+    requires { at ≤ length text.now }
+    ensures few { at + result ≤ length text.now }
+    ensures label { 0 < result → IsSimpleLabel (take result (drop at text.now)) }
+{
+    simple_label_len(&text[at..])
 }
 
 /// Returns the length of the simple label that a text begins with, if a dot follows, or else 0.
@@ -585,6 +625,14 @@ fn simple_len(text: &[u8]) -> usize
         len += 1;
     }
     len
+}
+
+/// The same, with what reading gives after them.
+#[inline(always)]
+fn run_of(text: &str) -> usize
+    ensures { Begins text.now result (take result text.now) }
+{
+    run_len(text.as_bytes())
 }
 
 /// Returns the number of simple characters that a text begins with. For a long run this takes less than [`simple_len`], and

@@ -106,6 +106,7 @@ fn without_first(mut labels: WireLabels<'_>, count: usize) -> WireLabels<'_>
 }
 
 /// Returns the number of labels of a wire form.
+#[tactic(auto, using(crate::proofs::Wires::few_labels_of))]
 fn count_labels(wire: &[u8]) -> usize
     requires { IsWire wire.now }
     ensures { result ≡ length (labels_of wire.now) }

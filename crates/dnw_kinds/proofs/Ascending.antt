@@ -6,9 +6,9 @@ use Rattle.std.specs.List.Sorted.{IsStrictlySortedBy}
 use Rattle.std.specs.Option.{unwrap_or}
 use Rattle.std.proofs.lemmas.Bool.{eqb-true}
 use Rattle.std.proofs.lemmas.List.{append_assoc, length-take}
-use Rattle.dnw_error.specs.declared.record_type.RecordType.{RecordType}
-use Rattle.dnw_error.specs.declared.record_type.RecordType.TheVariants.{Unknown}
-use Rattle.dnw_error.specs.RecordTypes.{named_types, type_cmp, type_code, type_of_code}
+use Rattle.dnw_codes.specs.declared.record_type.RecordType.{RecordType}
+use Rattle.dnw_codes.specs.declared.record_type.RecordType.TheVariants.{Unknown}
+use Rattle.dnw_codes.specs.RecordTypes.{named_types, type_cmp, type_code, type_of_code}
 use Rattle.dnw_kinds.specs.TypeSets.{Window, bit_codes, octet_codes, octets_codes, windows_codes, NumbersFrom}
 use Rattle.dnw_kinds.specs.Inside.Bitmaps.{Above, code_if}
 use Rattle.dnw_kinds.proofs.Sets.{sorted-more}

@@ -14,9 +14,9 @@ use Rattle.std.proofs.lemmas.List.{drop_all, append-nil, at_drop_more}
 use Rattle.std.proofs.lemmas.List.Filters.{dedup_is}
 use Rattle.std.proofs.lemmas.List.Kept.{Contains-dedup, Contains-from_dedup, IsStrictlySortedBy-dedup}
 use Rattle.std.proofs.lemmas.List.Sorted.{Contains-permutation, IsPermutation-sym}
-use Rattle.dnw_error.specs.declared.record_type.RecordType.{RecordType}
-use Rattle.dnw_error.specs.RecordTypes.{type_cmp, type_code, is_unknown}
-use Rattle.dnw_error.specs.Inside.RecordTypeLaws.{types-tied}
+use Rattle.dnw_codes.specs.declared.record_type.RecordType.{RecordType}
+use Rattle.dnw_codes.specs.RecordTypes.{type_cmp, type_code, is_unknown}
+use Rattle.dnw_codes.specs.Inside.RecordTypeLaws.{types-tied}
 use Rattle.dnw_kinds.specs.TypeSets.{IsSetOf, YieldsSome, set_codes, Window, window, windows_of, windows_codes, window_bytes, in_bounds, ends_in_zeros, is_empty, IsWritten, bitmap_types}
 use Rattle.dnw_kinds.specs.SetLaws.{SetsComeBack}
 use Rattle.dnw_kinds.specs.Inside.Bitmaps.{Above}

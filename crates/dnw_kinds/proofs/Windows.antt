@@ -2,8 +2,8 @@
 use Rattle.std.proofs.Common.{◌≡◌, ◌*◌, true, false, ℕ, zero, suc, ◌==◌, ◌||◌, ◌&&◌, nat_le, ◌+◌, ◌<◌, ◌≤◌, List, [], ◌∷◌, length, take, drop, map, ◌++◌, refl, sym, ap, ◌∙◌, arith}
 use Rattle.std.proofs.lemmas.List.{length-drop, append_assoc, append-nil, map-append}
 use Rattle.std.proofs.Math.Dec.{eqb-suc-zero}
-use Rattle.dnw_error.specs.declared.record_type.RecordType.{RecordType}
-use Rattle.dnw_error.specs.RecordTypes.{type_of_code}
+use Rattle.dnw_codes.specs.declared.record_type.RecordType.{RecordType}
+use Rattle.dnw_codes.specs.RecordTypes.{type_of_code}
 use Rattle.dnw_kinds.specs.TypeSets.{bits, octets_codes, window_codes, windows_codes, max_octets, window_size, window, windows_within, windows_of, is_empty, ends_in_zeros, in_bounds}
 use Rattle.dnw_kinds.specs.Inside.Bitmaps.{SplitsWindow, window_fits}
 

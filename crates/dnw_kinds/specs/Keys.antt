@@ -3,7 +3,7 @@ use Rattle.std.specs.Prelude.{Bool, ◌++◌}
 use Rattle.std.specs.Ordering.{on, then_cmp, eq_of_both, eq_by_cmp}
 use Rattle.std.specs.Hash.{HashWrites}
 use Rattle.std.specs.declared.cmp.Ordering.{Ordering}
-use Rattle.dnw_error.specs.RecordTypes.{type_cmp, type_hash}
+use Rattle.dnw_codes.specs.RecordTypes.{type_cmp, type_hash}
 use Rattle.dnw_order.specs.Order.{name_cmp_case, name_eq_case}
 use Rattle.dnw_lower.specs.LowerNames.{lower_name_hash_input}
 use Rattle.dnw_kinds.specs.declared.rr_key.RrKey.{RrKey}

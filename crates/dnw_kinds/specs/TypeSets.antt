@@ -3,8 +3,8 @@ use Rattle.std.specs.Prelude.{◌≡◌, ◌≢◌, ℕ, zero, suc, ◌+◌, ◌
 use Rattle.std.specs.List.{flat_map, list_all, dedup, AllByRecursion}
 use Rattle.std.specs.List.Sorted.{IsStrictlySortedBy}
 use Rattle.std.specs.Int.{bit_at}
-use Rattle.dnw_error.specs.declared.record_type.RecordType.{RecordType}
-use Rattle.dnw_error.specs.RecordTypes.{type_cmp, type_code, type_of_code}
+use Rattle.dnw_codes.specs.declared.record_type.RecordType.{RecordType}
+use Rattle.dnw_codes.specs.RecordTypes.{type_cmp, type_code, type_of_code}
 
 -- A set of record types: its types in ascending order, and the bytes that it is written as.
 pub record TypeSet : Type 0 where

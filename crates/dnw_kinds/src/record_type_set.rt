@@ -4,8 +4,8 @@ ghost use Rattle.std.specs.List.Sorted.{IsStrictlySortedBy};
 ghost use Rattle.std.specs.Cmp.Lexicographic.{pointwise};
 ghost use Rattle.std.specs.Iterator.{IsFinite, Drains};
 ghost use Rattle.std.specs.Ordering.{eq_by_cmp, on};
-ghost use Rattle.dnw_error.specs.RecordTypes.{type_cmp, type_code, type_of_code};
-ghost use Rattle.dnw_error.specs.declared.record_type.RecordType.{RecordType};
+ghost use Rattle.dnw_codes.specs.RecordTypes.{type_cmp, type_code, type_of_code};
+ghost use Rattle.dnw_codes.specs.declared.record_type.RecordType.{RecordType};
 ghost use Rattle.dnw_error.specs.declared.error.DecodeError.{DecodeError};
 ghost use Rattle.dnw_encoder.specs.Encoder.{Writes};
 ghost use Rattle.dnw_encoder.specs.EmittingLaws.{frame};
@@ -17,10 +17,10 @@ ghost use Rattle.dnw_kinds.specs.Inside.SetLaws.{sets-equal, sets-per, sets-hash
 use crate::record_data::RecordDataDecodable;
 use dnw_base::decoder::BinDecoder;
 use dnw_base::restrict::Restrict;
+use dnw_codes::record_type::RecordType;
 use dnw_encoder::binary::BinEncodable;
 use dnw_encoder::encoder::BinEncoder;
 use dnw_error::error::{DecodeError, ProtoError, ProtoResult};
-use dnw_error::record_type::RecordType;
 use smallvec::SmallVec;
 use std::alloc::{AllocError, Global};
 use std::fmt;
@@ -59,7 +59,7 @@ pub struct RecordTypeSet {
 
 impl Model for RecordTypeSet {
     ghost use Rattle.std.specs.List.Sorted.{IsStrictlySortedBy};
-    ghost use Rattle.dnw_error.specs.RecordTypes.{type_cmp};
+    ghost use Rattle.dnw_codes.specs.RecordTypes.{type_cmp};
     ghost use Rattle.dnw_kinds.specs.TypeSets.{TypeSet};
 
     ghost Value = { TypeSet };

@@ -4,8 +4,8 @@ ghost use Rattle.std.specs.Ordering.{as_partial_cmp};
 ghost use Rattle.dnw_kinds.specs.Keys.{key_cmp, key_eq, key_hash};
 ghost use Rattle.dnw_kinds.specs.Inside.KeyLaws.{keys-total, keys-equal, keys-per, keys-tied, keys-ordered, keys-hash_alike};
 
+use dnw_codes::record_type::RecordType;
 use dnw_error::error::ProtoResult;
-use dnw_error::record_type::RecordType;
 use dnw_lower::lower_name::LowerName;
 use std::cmp::Ordering;
 use std::hash::{Hash, Hasher};

@@ -5,10 +5,10 @@ use Rattle.std.specs.Int.{w16, w32, from_be_bytes, cast_signed}
 use Rattle.dnw_base.specs.Decoder.{Decoder, HasLeft, next_bytes, advanced}
 use Rattle.dnw_error.specs.declared.error.DecodeError.{DecodeError}
 use Rattle.dnw_error.specs.declared.error.DecodeError.TheVariants.{InsufficientBytes}
-use Rattle.dnw_error.specs.declared.record_type.RecordType.{RecordType}
-use Rattle.dnw_error.specs.declared.dns_class.DNSClass.{DNSClass}
-use Rattle.dnw_error.specs.RecordTypes.{type_of_code}
-use Rattle.dnw_error.specs.DnsClasses.{class_of_code}
+use Rattle.dnw_codes.specs.declared.record_type.RecordType.{RecordType}
+use Rattle.dnw_codes.specs.declared.dns_class.DNSClass.{DNSClass}
+use Rattle.dnw_codes.specs.RecordTypes.{type_of_code}
+use Rattle.dnw_codes.specs.DnsClasses.{class_of_code}
 use Rattle.dnw_base.specs.Names.{NameValue}
 use Rattle.dnw_reading.specs.Reading.{TakesName, StopsAt}
 

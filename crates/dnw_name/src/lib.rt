@@ -1,4 +1,7 @@
-//! Names, owned and borrowed from a message.
+//! Names, owned and borrowed from a message, and what can be read from one.
+//!
+//! It stands on reading, order and reverse names. Read `specs/Decodable.antt` first: what is in a message as a name or
+//! a number.
 #![tactic(auto)]
 
 pub mod binary;

@@ -299,6 +299,13 @@ impl Name {
         order::is_zone_of(self.wire_labels(), name.wire_labels())
     }
 
+    /// Returns `true` if this name is in the zone: `zone.zone_of(self)`.
+    pub fn is_in(&self, zone: &Self) -> bool
+        ensures { IsTrue result ↔ IsZoneOf zone.now.labels self.now.labels }
+    {
+        zone.zone_of(self)
+    }
+
     /// Returns the number of labels, without a `*` at the start.
     pub fn num_labels(&self) -> u8
         ensures wildcard { IsWildcard self.now.labels → result + 1 ≡ length self.now.labels }

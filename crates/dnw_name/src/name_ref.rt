@@ -13,7 +13,7 @@ use dnw_base::decoder::BinDecoder;
 use dnw_base::limits::MAX_NAME;
 use dnw_error::error::{DecodeError, ProtoResult};
 use dnw_form::form::WireForm;
-use dnw_form::wire_labels::WireLabels;
+use dnw_form::wire_labels::{self, WireLabels};
 use dnw_reading::copy;
 use dnw_reading::ref_labels::RefLabels;
 use dnw_reading::walk::{self, ReadSteps};
@@ -150,11 +150,19 @@ impl<'a> NameRef<'a> {
         compare::cmp_labels(self.labels(), other.wire_labels())
     }
 
+    /// Returns `true` if this name is the zone of `name`: its labels are the last ones of `name`, ignoring ASCII case (RFC
+    /// 1034, section 4.2, and RFC 4343). Whether `name` is fully qualified is ignored.
+    pub fn zone_of(&self, name: &Name) -> bool
+        ensures { IsTrue result ↔ IsZoneOf self.now name.now.labels }
+    {
+        let labels = self.labels();
+        let last = wire_labels::last_labels(name.wire_labels(), labels.len());
+        compare::eq_labels(labels, last)
+    }
+
     /// Returns `true` if this name is in the zone: its last labels are those of `zone`, ignoring ASCII case (RFC 1034,
-    /// section 4.2, and RFC 4343).
-    ///
-    /// The argument is the zone. `Name::zone_of` asks the other way round: there `self` is the zone.
-    pub fn zone_of(&self, zone: &Name) -> bool
+    /// section 4.2, and RFC 4343). Whether `zone` is fully qualified is ignored.
+    pub fn is_in(&self, zone: &Name) -> bool
         ensures { IsTrue result ↔ IsZoneOf zone.now.labels self.now }
     {
         let zone_labels = zone.wire_labels();

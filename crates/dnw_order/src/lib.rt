@@ -1,4 +1,6 @@
 //! The order, equality and hash of names over their labels, without regard to whether a name is fully qualified.
+//!
+//! It stands on the wire form. Read `specs/Order.antt` first: the order of names.
 #![tactic(auto)]
 
 mod from_last;

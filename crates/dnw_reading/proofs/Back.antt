@@ -1,11 +1,11 @@
 -- An uncompressed form is read back, whatever stands before and after it.
 use Rattle.std.proofs.Common.{◌≡◌, ℕ, ◌+◌, ◌-◌, ◌≤◌, take, drop, Some, None, List, [], ◌∷◌, ◌++◌, length, slice_get, slice_range, refl, subst, ap, sym, ◌∙◌, append_assoc, arith, length-append, drop_at}
 use Rattle.std.specs.List.{AllByRecursion}
-use Rattle.std.proofs.lemmas.List.{take_at, take-append-drop, length-take-le}
+use Rattle.std.proofs.lemmas.List.{append-nil, take_at, take-append-drop, length-take-le}
 use Rattle.dnw_base.specs.Labels.{IsLabel}
 use Rattle.dnw_base.specs.Names.{AreLabels, encoded_size, labels_wire, wire}
 use Rattle.dnw_reading.specs.Reading.{NameAt, Reads, zero_octet, label}
-use Rattle.dnw_reading.proofs.Sizes.{octets-cons}
+use Rattle.dnw_base.proofs.Wires.{length-wire}
 
 -- the octet at a seam
 pub slice_get-seam : (xs ys : List ℕ) (y p : ℕ) → p ≡ length xs → slice_get (xs ++ (y ∷ ys)) p ≡ Some y
@@ -18,26 +18,6 @@ pub slice_range-middle : (xs ys zs : List ℕ) (i j : ℕ) → i ≡ length xs �
 slice_range-middle xs ys zs i j i_is j_is =
     let many : length ys ≡ j - i = omega arith in
     rw (drop_at xs (ys ++ zs) i (sym i_is)) (take_at ys zs (j - i) many)
-
--- an uncompressed form in any message is read, in a segment with no limit
-pub Reads-wire : (b before behind : List ℕ) (ls : List (List ℕ)) (p s e : ℕ) → p ≡ length before
-    → e ≡ p + encoded_size ls → b ≡ before ++ (wire ls ++ behind) → AllByRecursion IsLabel ls
-    → Reads b p s None ls e 0
-Reads-wire b before behind [] p s e p_is e_is b_is all =
-    rw (e_is, b_is) (zero_octet tt (slice_get-seam before behind 0 p p_is))
-Reads-wire b before behind (l ∷ ls) p s e p_is e_is b_is all =
-    let start = before ++ (length l ∷ []) in
-    let start_is : p + 1 ≡ length start = omega (arith, length-append before (length l ∷ [])) in
-    let parts : b ≡ start ++ (l ++ (wire ls ++ behind)) = b_is ∙ simp append_assoc in
-    let rest : b ≡ (start ++ l) ++ (wire ls ++ behind) = parts ∙ sym (append_assoc start l (wire ls ++ behind)) in
-    let rest_is : p + 1 + length l ≡ length (start ++ l) = omega (arith, length-append start l) in
-    let total : length b ≡ length (start ++ l) + length (wire ls ++ behind) = ap length rest ∙ length-append (start ++ l) (wire ls ++ behind) in
-    let part : slice_range b (p + 1) (p + 1 + length l) ≡ l = rw parts (slice_range-middle start l (wire ls ++ behind) (p + 1) (p + 1 + length l) start_is refl) in
-    let here : slice_get b p ≡ Some (length l) = rw b_is (slice_get-seam before _ (length l) p p_is) in
-    let end : e ≡ p + 1 + length l + encoded_size ls = omega (arith, octets-cons l ls) in
-    subst (λ x. Reads b p s None (x ∷ ls) e 0)
-    part
-    (label (length l) tt here all.0.not_empty all.0.not_long (omega arith) (Reads-wire b (start ++ l) behind ls (p + 1 + length l) s e rest_is end rest all.1))
 
 -- labels that are written in a row are read, and what is read after them follows
 pub Reads-front : (b before behind : List ℕ) (front back : List (List ℕ)) (p q s e k : ℕ) → p ≡ length before
@@ -52,13 +32,25 @@ Reads-front b before behind (l ∷ front) back p q s e k p_is q_is b_is all r =
     let parts : b ≡ start ++ (l ++ (labels_wire front ++ behind)) = b_is ∙ simp append_assoc in
     let rest : b ≡ (start ++ l) ++ (labels_wire front ++ behind) = parts ∙ sym (append_assoc start l (labels_wire front ++ behind)) in
     let rest_is : p + 1 + length l ≡ length (start ++ l) = omega (arith, length-append start l) in
-    let total : length b ≡ length (start ++ l) + length (labels_wire front ++ behind) = ap length rest ∙ length-append (start ++ l) (labels_wire front ++ behind) in
+    let total = ap length rest ∙ length-append (start ++ l) (labels_wire front ++ behind) in
     let part : slice_range b (p + 1) (p + 1 + length l) ≡ l = rw parts (slice_range-middle start l (labels_wire front ++ behind) (p + 1) (p + 1 + length l) start_is refl) in
     let here : slice_get b p ≡ Some (length l) = rw b_is (slice_get-seam before _ (length l) p p_is) in
     let next : q ≡ p + 1 + length l + length (labels_wire front) = omega (arith, q_is, length-append l (labels_wire front)) in
     subst (λ x. Reads b p s None (x ∷ (front ++ back)) e k)
     part
     (label (length l) tt here all.0.not_empty all.0.not_long (omega arith) (Reads-front b (start ++ l) behind front back (p + 1 + length l) q s e k rest_is next rest all.1 r))
+
+-- an uncompressed form in any message is read, in a segment with no limit
+pub Reads-wire : (b before behind : List ℕ) (ls : List (List ℕ)) (p s e : ℕ) → p ≡ length before
+    → e ≡ p + encoded_size ls → b ≡ before ++ (wire ls ++ behind) → AllByRecursion IsLabel ls
+    → Reads b p s None ls e 0
+Reads-wire b before behind ls p s e p_is e_is b_is all =
+    let many : length before + length (labels_wire ls) ≡ length (before ++ labels_wire ls) = sym (length-append before (labels_wire ls)) in
+    let end : e ≡ p + length (labels_wire ls) + 1 = omega (arith, length-wire ls, length-append (labels_wire ls) (0 ∷ [])) in
+    let parts : b ≡ before ++ (labels_wire ls ++ (0 ∷ behind)) = b_is ∙ simp append_assoc in
+    let here : slice_get b (p + length (labels_wire ls)) ≡ Some 0 =
+    rw (parts, ← append_assoc before (labels_wire ls) (0 ∷ behind)) (slice_get-seam (before ++ labels_wire ls) behind 0 _ (omega arith)) in
+    rw end (rw append-nil at (Reads-front b before (0 ∷ behind) ls [] p _ s _ 0 p_is refl parts all (zero_octet tt here)))
 
 -- an uncompressed form that stands at a place is read there
 pub NameAt-form : (b form : List ℕ) (p : ℕ) (ls : List (List ℕ)) → p ≤ length b → take (length form) (drop p b) ≡ form → form ≡ wire ls → AreLabels ls

@@ -1,56 +1,74 @@
--- What follows an element of a reading.
-use Rattle.std.proofs.Common.{◌≡◌, ℕ, ◌+◌, ◌<◌, ◌≤◌, Option, Some, List, [], ◌∷◌, length, get_or, slice_get, slice_range, refl, arith}
+-- What follows an element of a name that is read.
+use Rattle.std.proofs.Common.{◌≡◌, ℕ, ◌+◌, ◌<◌, ◌≤◌, Option, List, [], ◌∷◌, length, get_or, slice_range, refl, sym, ap, ◌∙◌, arith}
 use Rattle.std.proofs.lemmas.Option.{get_or_from_slice_get, slice_get_within}
 use Rattle.dnw_reading.specs.Reading.{target, Reads, zero_octet, label, pointer}
+use Rattle.dnw_reading.specs.Inside.Found.{labels_at, StandsAt, ReadsOn}
+use Rattle.dnw_reading.proofs.Counts.{Reads-own}
+use Rattle.dnw_reading.proofs.Found.{NameAt-few, labels_at-Reads}
 
 -- an element lies within the message
 pub Reads-inside : {b : List ℕ} {p s e k : ℕ} {limit : Option ℕ} {ls : List (List ℕ)} → Reads b p s limit ls e k → p < length b
-Reads-inside {b} {p} (zero_octet w g) = slice_get_within b p 0 g
-Reads-inside (label c w g one most fit r) = omega arith
-Reads-inside {b} {p} (pointer high low w g least g' prior r) = slice_get_within b p high g
+Reads-inside r = let (after, inside) = Reads-own r in omega arith
 
--- at a zero octet the name ends
-pub Reads-end : {b : List ℕ} {p s e k : ℕ} {limit : Option ℕ} {ls : List (List ℕ)} → Reads b p s limit ls e k → get_or b p 0 ≡ 0
-    → (ls ≡ []) × (slice_get b p ≡ Some 0)
-Reads-end (zero_octet w g) z = (refl, g)
-Reads-end {b} {p} (label c w g one most fit r) z = absurd (omega (arith, get_or_from_slice_get b p c 0 g))
-Reads-end {b} {p} (pointer high low w g least g' prior r) z = absurd (omega (arith, get_or_from_slice_get b p high 0 g))
+-- the labels that are read at p are read on from there
+reads-on : {b : List ℕ} {p s e k : ℕ} {limit : Option ℕ} {ls : List (List ℕ)} → Reads b p s limit ls e k → s ≤ p → length ls ≤ 127
+    → (labels_at b p ≡ ls) × ReadsOn b s p
+reads-on {b} {p} {s} {e} {k} {limit} {ls} r back few =
+    let same : labels_at b p ≡ ls = labels_at-Reads b p s e k limit ls r back few in (
+      same,
+      record { limit = limit; end = e; pointers = k; reads = rw same r; back = back; few = rw same few; inside = Reads-inside r },
+    )
 
--- after a label
-pub record BehindLabel (b : List ℕ) (p c s : ℕ) (limit : Option ℕ) (ls : List (List ℕ)) (e k : ℕ) : Type 0 where
-  pub rest : List (List ℕ)
-  pub labels : ls ≡ slice_range b (p + 1) (p + 1 + c) ∷ rest
-  pub octet : slice_get b p ≡ Some c
+-- a label of c octets is at p
+pub record LabelHere (b : List ℕ) (s p c : ℕ) : Type 0 where
   pub there : p + 1 + c ≤ length b
-  pub reads : Reads b (p + 1 + c) s limit rest e k
+  pub labels : labels_at b p ≡ slice_range b (p + 1) (p + 1 + c) ∷ labels_at b (p + 1 + c)
+  pub on : ReadsOn b s (p + 1 + c)
 
-pub Reads-label : {b : List ℕ} {p s e k : ℕ} {limit : Option ℕ} {ls : List (List ℕ)} → Reads b p s limit ls e k
-    → (get_or b p 0 ≡ 0 → ⊥) → get_or b p 0 < 192 → BehindLabel b p (get_or b p 0) s limit ls e k
-Reads-label {b} {p} (zero_octet w g) ne less = absurd (ne (get_or_from_slice_get b p 0 0 g))
-Reads-label {b} {p} (label {ls = rest} c w g one most fit r) ne less =
-    rw (get_or_from_slice_get b p c 0 g) (record { rest = rest; labels = refl; octet = g; there = fit; reads = r })
-Reads-label {b} {p} (pointer high low w g least g' prior r) ne less = absurd (omega (arith, get_or_from_slice_get b p high 0 g))
-
--- after a pointer
-pub record BehindPointer (b : List ℕ) (p s : ℕ) (ls : List (List ℕ)) : Type 0 where
-  pub to : ℕ
-  pub end : ℕ
-  pub followed : ℕ
-  pub leads : target (get_or b p 0) (get_or b (p + 1) 0) ≡ to
+-- a pointer at p leads to t
+pub record PointerHere (b : List ℕ) (s p t : ℕ) : Type 0 where
   pub there : p + 1 < length b
-  pub prior : to < s
-  pub reads : Reads b to to (Some s) ls end followed
+  pub prior : t < s
+  pub labels : labels_at b t ≡ labels_at b p
+  pub on : ReadsOn b t t
 
-pub Reads-pointer : {b : List ℕ} {p s e k : ℕ} {limit : Option ℕ} {ls : List (List ℕ)} → Reads b p s limit ls e k
-    → 192 ≤ get_or b p 0 → BehindPointer b p s ls
-Reads-pointer {b} {p} (zero_octet w g) high = absurd (omega (arith, get_or_from_slice_get b p 0 0 g))
-Reads-pointer {b} {p} (label c w g one most fit r) high = absurd (omega (arith, get_or_from_slice_get b p c 0 g))
-Reads-pointer {b} {p} (pointer {e = end} {k = followed} high low w g least g' prior r) marked = record {
-  to = target high low;
-  end = end;
-  followed = followed;
-  leads = rw (get_or_from_slice_get b p high 0 g, get_or_from_slice_get b (p + 1) low 0 g') refl;
-  there = slice_get_within b (p + 1) low g';
-  prior = prior;
-  reads = r;
-}
+-- the element at p, by its first octet
+pub record Here (b : List ℕ) (s p : ℕ) : Type 0 where
+  pub end : get_or b p 0 ≡ 0 → labels_at b p ≡ []
+  pub label : (get_or b p 0 ≡ 0 → ⊥) → get_or b p 0 < 192 → LabelHere b s p (get_or b p 0)
+  pub pointer : 192 ≤ get_or b p 0 → PointerHere b s p (target (get_or b p 0) (get_or b (p + 1) 0))
+
+Reads-here : {b : List ℕ} {p s e k : ℕ} {limit : Option ℕ} {ls : List (List ℕ)} → Reads b p s limit ls e k
+    → labels_at b p ≡ ls → s ≤ p → length ls ≤ 127 → Here b s p
+Reads-here {b} {p} (zero_octet w g) is back few =
+    let octet = get_or_from_slice_get b p 0 0 g in
+    record { end = λ _. is; label = λ ne. absurd (ne octet); pointer = λ high. absurd (omega arith) }
+Reads-here {b} {p} (label c w g one most fit r) is back few =
+    let octet = get_or_from_slice_get b p c 0 g in
+    let (same, on) = reads-on r (omega arith) (omega arith) in
+    record {
+      end = λ none. absurd (omega arith);
+      label = λ ne less. rw octet (record {
+        there = fit;
+        labels = is ∙ ap (λ (others : List (List ℕ)). slice_range b (p + 1) (p + 1 + c) ∷ others) (sym same);
+        on = on;
+      });
+      pointer = λ high. absurd (omega arith);
+    }
+Reads-here {b} {p} (pointer high low w g least g' prior r) is back few =
+    let octet = get_or_from_slice_get b p high 0 g in
+    let (same, on) = reads-on r (omega arith) few in
+    record {
+      end = λ none. absurd (omega arith);
+      label = λ ne less. absurd (omega arith);
+      pointer = λ _. rw (octet, get_or_from_slice_get b (p + 1) low 0 g')
+          (record { there = slice_get_within b (p + 1) low g'; prior = prior; labels = same ∙ sym is; on = on });
+    }
+
+pub here : {b : List ℕ} {s p : ℕ} → ReadsOn b s p → Here b s p
+here on = Reads-here on.reads refl on.back on.few
+
+-- a name's labels are read at its start
+pub StandsAt-reads : (b : List ℕ) (p end size count pointers : ℕ) → StandsAt b p end size count pointers → ReadsOn b p p
+StandsAt-reads b p end size count pointers h =
+    (reads-on h.name.reads (omega arith) (NameAt-few b p (labels_at b p) end pointers h.name)).1

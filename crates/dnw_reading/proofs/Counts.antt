@@ -1,12 +1,29 @@
--- How many pointers and labels a reading or a fault takes, and where a name's own octets lie.
-use Rattle.std.proofs.Common.{◌≡◌, ℕ, ◌+◌, ◌*◌, ◌<◌, ◌≤◌, Option, Some, List, [], ◌∷◌, length, slice_get, arith}
+-- How many octets, pointers and labels a reading or a fault takes, and where a name's own octets lie.
+use Rattle.std.proofs.Common.{◌≡◌, ℕ, ◌+◌, ◌*◌, ◌<◌, ◌≤◌, min, Option, Some, List, ◌∷◌, length, slice_get, slice_range, sum_by, arith}
 use Rattle.std.specs.List.{AllByRecursion}
+use Rattle.std.proofs.lemmas.List.Edits.{length-between}
+use Rattle.std.proofs.lemmas.List.Sums.{sum_by-cons}
 use Rattle.std.proofs.lemmas.Option.{get_or_from_slice_get, slice_get_within}
 use Rattle.dnw_base.specs.Labels.{IsLabel}
+use Rattle.dnw_base.specs.Names.{AreLabels}
+use Rattle.dnw_base.proofs.Wires.{AreLabels-few}
 use Rattle.dnw_error.specs.declared.error.DecodeError.{DecodeError}
-use Rattle.dnw_reading.specs.Reading.{target, Reads, Stops, zero_octet, label, pointer}
-use Rattle.dnw_reading.specs.ReadingLaws.{AreBytes}
-use Rattle.dnw_reading.proofs.Sizes.{octets, octets-cons, length-label}
+use Rattle.dnw_reading.specs.Reading.{target, Reads, Stops, NameAt, zero_octet, label, pointer}
+use Rattle.dnw_reading.specs.ReadingLaws.{AreBytes, NameSteps, FaultSteps}
+
+-- the octets of labels in a message, without the closing zero
+abbrev pub octets : List (List ℕ) → ℕ
+octets ls = sum_by (λ l. length l + 1) ls
+
+-- a label's octets are as many as its length octet says
+pub length-label : (b : List ℕ) (p c : ℕ) → p + 1 + c ≤ length b → length (slice_range b (p + 1) (p + 1 + c)) ≡ c
+length-label b p c fit = omega (arith, length-between b (p + 1) (p + 1 + c) fit)
+
+-- a label takes its length octet and its own
+pub octets-label : (b : List ℕ) (p c : ℕ) (ls : List (List ℕ)) → p + 1 + c ≤ length b
+    → octets (slice_range b (p + 1) (p + 1 + c) ∷ ls) ≡ 1 + c + octets ls
+octets-label b p c ls fit =
+    omega (arith, sum_by-cons (λ (l : List ℕ). length l + 1) (slice_range b (p + 1) (p + 1 + c)) ls, length-label b p c fit)
 
 -- a pointer of bytes leads to one of the first 16384 octets
 target-below : (b : List ℕ) (p high low : ℕ) → AreBytes b → slice_get b p ≡ Some high → slice_get b (p + 1) ≡ Some low
@@ -21,31 +38,22 @@ Reads-back (label c w g one most fit r) = Reads-back r
 Reads-back (pointer high low w g least g' prior r) = omega (arith, Reads-back r)
 
 -- and in bytes to one of the first 16384 octets; explicit: that all are bytes, and the reading
-pub Reads-pointers : {b : List ℕ} {p s e k : ℕ} {limit : Option ℕ} {ls : List (List ℕ)} → AreBytes b
-    → Reads b p s limit ls e k → (k ≤ s) × (k ≤ 16384)
-Reads-pointers bytes (zero_octet w g) = (omega arith, omega arith)
+Reads-pointers : {b : List ℕ} {p s e k : ℕ} {limit : Option ℕ} {ls : List (List ℕ)} → AreBytes b
+    → Reads b p s limit ls e k → k ≤ min s 16384
+Reads-pointers bytes (zero_octet w g) = omega arith
 Reads-pointers bytes (label c w g one most fit r) = Reads-pointers bytes r
 Reads-pointers {b} {p} bytes (pointer high low w g least g' prior r) =
-    let (within, _) = Reads-pointers bytes r in
-    let below = target-below b p high low bytes g g' in
-    (omega arith, omega arith)
+    omega (arith, target-below b p high low bytes g g', Reads-back r)
 
--- the same of a fault
-pub Stops-pointers : {b : List ℕ} {p s n k j : ℕ} {limit : Option ℕ} {error : DecodeError} → AreBytes b
-    → Stops b p s limit n error k j → (k ≤ s) × (k ≤ 16384)
-Stops-pointers {b} {p} bytes (pointer high low w g least g' prior f) =
-    let (within, _) = Stops-pointers bytes f in
-    let below = target-below b p high low bytes g g' in
-    (omega arith, omega arith)
-Stops-pointers bytes (label c w g one most fit short f) = Stops-pointers bytes f
-Stops-pointers bytes f = (omega arith, omega arith)
-
--- each label that a fault counts takes two octets or more
-pub Stops-labels : {b : List ℕ} {p s n k j : ℕ} {limit : Option ℕ} {error : DecodeError} → n ≤ 255
-    → Stops b p s limit n error k j → n + 2 * j ≤ 257
-Stops-labels fits (pointer high low w g least g' prior f) = Stops-labels fits f
-Stops-labels fits (label c w g one most fit short f) = omega (arith, Stops-labels short f)
-Stops-labels fits f = omega arith
+-- the same of a fault, and each label that it counts takes two octets or more
+Stops-counts : {b : List ℕ} {p s n k j : ℕ} {limit : Option ℕ} {error : DecodeError} → AreBytes b → n ≤ 255
+    → Stops b p s limit n error k j → (k ≤ min s 16384) × (n + 2 * j ≤ 257)
+Stops-counts {b} {p} bytes fits (pointer high low w g least g' prior f) =
+    let (followed, found) = Stops-counts bytes fits f in
+    (omega (arith, target-below b p high low bytes g g'), found)
+Stops-counts bytes fits (label c w g one most fit short f) =
+    let (followed, found) = Stops-counts bytes short f in (followed, omega arith)
+Stops-counts bytes fits f = (omega arith, omega arith)
 
 -- the labels that are read are labels; explicit: the reading
 pub Reads-labels : {b : List ℕ} {p s e k : ℕ} {limit : Option ℕ} {ls : List (List ℕ)} → Reads b p s limit ls e k
@@ -64,9 +72,14 @@ Reads-own (label c w g one most fit r) = let (after, inside) = Reads-own r in (o
 Reads-own {b} {p} (pointer high low w g least g' prior r) =
     let inside = slice_get_within b (p + 1) low g' in (omega arith, omega arith)
 
--- a label takes two octets or more
-pub labels-octets : (ls : List (List ℕ)) → AllByRecursion IsLabel ls → 2 * length ls ≤ octets ls
-labels-octets [] all = omega arith
-labels-octets (l ∷ ls) all =
-    let least = all.0.not_empty in
-    omega (arith, octets-cons l ls, labels-octets ls all.1)
+-- a name has labels, which fit into it, and so few
+pub NameAt-labels : {b : List ℕ} {p e k : ℕ} {ls : List (List ℕ)} → NameAt b p ls e k → AreLabels ls
+NameAt-labels name = record { each = Reads-labels name.reads; fit = name.fits }
+
+-- a name and a fault take few steps
+pub name_steps : NameSteps
+name_steps b p ls e k bytes name = (Reads-pointers bytes name.reads, AreLabels-few ls (NameAt-labels name))
+
+pub fault_steps : FaultSteps
+fault_steps b p error k j bytes fault =
+    let (followed, found) = Stops-counts bytes (omega arith) fault in (followed, omega arith)

@@ -1,5 +1,5 @@
 -- A buffer of which the front is written, run by run or at once.
-use Rattle.std.proofs.Common.{◌≡◌, ℕ, ◌+◌, List, ◌++◌, length, take, drop, refl, sym, ap, ◌∙◌, append_assoc, arith, length-append}
+use Rattle.std.proofs.Common.{◌≡◌, ℕ, ◌+◌, List, ◌++◌, length, take, drop, refl, ap, ◌∙◌, append_assoc, arith, length-append}
 use Rattle.std.proofs.lemmas.List.{take_at}
 use Rattle.std.proofs.lemmas.Slice.{drop-append-drop}
 use Rattle.dnw_base.specs.Names.{encoded_size, wire}
@@ -10,13 +10,9 @@ use Rattle.dnw_reading.specs.Buffers.{put}
 pub put_more : (buffer out after written run : List ℕ) (filled : ℕ) → filled ≡ length written → out ≡ put buffer written
     → after ≡ take filled out ++ (run ++ drop (filled + length run) out) → after ≡ put buffer (written ++ run)
 put_more buffer out after written run filled size is more =
-    let front : take filled (put buffer written) ≡ written = take_at written (drop (length written) buffer) filled (sym size) in
-    let back : drop (filled + length run) (put buffer written) ≡ drop (filled + length run) buffer =
-    drop-append-drop (length written) buffer written (filled + length run) (omega (arith, size)) refl in
-    let end : filled + length run ≡ length (written ++ run) = omega (arith, size, length-append written run) in
-    let whole : after ≡ written ++ (run ++ drop (filled + length run) buffer) =
-    more ∙ rw is (ap (λ (xs : List ℕ). xs ++ (run ++ drop (filled + length run) (put buffer written))) front ∙ ap (λ (xs : List ℕ). written ++ (run ++ xs)) back) in
-    whole ∙ sym (append_assoc written run (drop (filled + length run) buffer)) ∙ ap (λ (n : ℕ). (written ++ run) ++ drop n buffer) end
+    let back : drop (length written + length run) (written ++ drop (length written) buffer) ≡ drop (length written + length run) buffer =
+    drop-append-drop (length written) buffer written (length written + length run) (omega arith) refl in
+    more ∙ rw (is, size, take_at written (drop (length written) buffer) (length written) refl, back, length-append, append_assoc) refl
 
 -- what is taken of a buffer that a wire form was put into
 pub wire_taken : (ls : List (List ℕ)) (size : ℕ) (buffer out : List ℕ) → size ≡ encoded_size ls → out ≡ put buffer (wire ls) → take size out ≡ wire ls

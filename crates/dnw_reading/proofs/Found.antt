@@ -1,13 +1,12 @@
 -- The labels that a place in a message gives are those that are read there.
-use Rattle.std.proofs.Common.{◌≡◌, ℕ, zero, suc, ◌+◌, ◌<◌, ◌≤◌, Option, Some, None, List, ◌∷◌, length, slice_range, min, refl, ap, arith}
+use Rattle.std.proofs.Common.{◌≡◌, ℕ, zero, suc, ◌+◌, ◌<◌, ◌≤◌, Option, Some, None, List, ◌∷◌, length, slice_range, refl, ap, arith}
 use Rattle.std.proofs.lemmas.Bool.{ne_eqb, le-leb, lt-leb}
 use Rattle.std.proofs.lemmas.Option.{get_or_from_slice_get}
-use Rattle.dnw_error.specs.declared.error.DecodeError.{DecodeError}
 use Rattle.dnw_base.specs.Names.{AreLabels, encoded_size}
-use Rattle.dnw_reading.specs.Reading.{target, Reads, NameAt, FaultAt, zero_octet, label, pointer}
-use Rattle.dnw_reading.specs.ReadingLaws.{AreBytes}
+use Rattle.dnw_reading.specs.Reading.{target, Reads, NameAt, zero_octet, label, pointer}
 use Rattle.dnw_reading.specs.Inside.Found.{labels_in_steps, labels_at, StandsAt}
-use Rattle.dnw_reading.proofs.Counts.{Reads-back, Reads-pointers, Reads-labels, labels-octets, Stops-pointers, Stops-labels}
+use Rattle.dnw_base.proofs.Wires.{AreLabels-few}
+use Rattle.dnw_reading.proofs.Counts.{Reads-back, NameAt-labels}
 
 labels_in_steps-Reads : (n : ℕ) (b : List ℕ) (p s e k : ℕ) (limit : Option ℕ) (ls : List (List ℕ))
     → Reads b p s limit ls e k → length ls + k < n → labels_in_steps n b p ≡ ls
@@ -28,10 +27,7 @@ labels_at-Reads b p s e k limit ls r back few = let pointers = Reads-back r in l
 
 -- a name has few labels
 pub NameAt-few : (b : List ℕ) (p : ℕ) (ls : List (List ℕ)) (e k : ℕ) → NameAt b p ls e k → length ls ≤ 127
-NameAt-few b p ls e k name =
-    let labels = labels-octets ls (Reads-labels name.reads) in
-    let fits = name.fits in
-    omega arith
+NameAt-few b p ls e k name = AreLabels-few ls (NameAt-labels name)
 
 pub labels_at-NameAt : (b : List ℕ) (p : ℕ) (ls : List (List ℕ)) (e k : ℕ) → NameAt b p ls e k → labels_at b p ≡ ls
 labels_at-NameAt b p ls e k name = labels_at-Reads b p p e k None ls name.reads (omega arith) (NameAt-few b p ls e k name)
@@ -45,19 +41,4 @@ StandsAt-found b p e size count k (ls, name, size_is, count_is) =
 
 -- it has labels, which fit into a name
 pub StandsAt-labels : {b : List ℕ} {p e size count k : ℕ} → StandsAt b p e size count k → AreLabels (labels_at b p)
-StandsAt-labels h = record { each = Reads-labels h.name.reads; fit = h.name.fits }
-
--- and it took few steps
-pub StandsAt-few : (b : List ℕ) (p e size count k : ℕ) → AreBytes b → StandsAt b p e size count k → (k ≤ min p 16384) × (count ≤ 128)
-StandsAt-few b p e size count k bytes h =
-    let pointers = Reads-pointers bytes h.name.reads in
-    let labels = NameAt-few b p (labels_at b p) e k h.name in
-    let count_is = h.count_is in
-    (omega arith, omega arith)
-
-pub FaultAt-few : (b : List ℕ) (p k j : ℕ) (error : DecodeError) → AreBytes b → FaultAt b p error k j → (k ≤ min p 16384) × (j ≤ 128)
-FaultAt-few b p k j error bytes fault =
-    let one : 1 ≤ 255 = omega arith in
-    let pointers = Stops-pointers bytes fault in
-    let labels = Stops-labels one fault in
-    (omega arith, omega arith)
+StandsAt-labels h = NameAt-labels h.name

@@ -1,15 +1,11 @@
-pub mod Sizes
 pub mod Steps
 pub mod Unique
-pub mod Walks
 pub mod Back
 pub mod Stand
 pub mod Counts
-pub mod Going
 pub mod Found
 pub mod Filling
-pub mod Leading
-pub mod Onward
+pub mod Walking
 pub mod Takes
 pub mod Behind
 pub mod Copying

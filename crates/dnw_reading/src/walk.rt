@@ -1,9 +1,8 @@
 //! The walk over the elements of a name in a message, which copies nothing (RFC 1035, section 4.1.4).
-ghost use Rattle.std.specs.Prelude.{◌≡◌, ℕ, List, ◌+◌, ◌<◌, ◌≤◌, min, length, slice_get, Some, IsTrue, IfOk, IfErr, OnOk};
-ghost use Rattle.dnw_reading.specs.Reading.{IsWithin, NameAt, FaultAt, target};
+ghost use Rattle.std.specs.Prelude.{◌≡◌, ℕ, ◌+◌, ◌<◌, ◌≤◌, min, length, slice_get, Some, unwrap_or, IfOk, IfErr, OnOk};
+ghost use Rattle.dnw_reading.specs.Reading.{IsWithin, Stops, FaultAt, target};
 ghost use Rattle.dnw_base.specs.Limits.{max_label, max_labels, pointer_mark, pointer_offsets};
-ghost use Rattle.dnw_base.specs.Names.{encoded_size};
-ghost use Rattle.dnw_reading.specs.Inside.Walking.{IsElement, IsNoElement, IsPast, ReadsFrom};
+ghost use Rattle.dnw_reading.specs.Inside.Walking.{IsElement, IsNoElement, once_followed};
 ghost use Rattle.dnw_reading.specs.Inside.Found.{IsFound};
 
 use dnw_base::limits::{MAX_LABEL, MAX_NAME, POINTER_MARK};
@@ -53,10 +52,7 @@ pub fn walk(message: &[u8], start: usize, steps: &mut ReadSteps) -> Result<Walke
 }
 
 fn walk_elements(message: &[u8], start: usize, steps: &mut ReadSteps) -> Result<Walked, DecodeError>
-    ensures ok { IfOk result (λ walked. (ls : List (List ℕ))
-        × NameAt message.now start ls walked.end steps.new.pointers
-        × (walked.size ≡ encoded_size ls) × (steps.new.labels ≡ length ls)
-        × (more : ℕ) × ReadsFrom message.now walked.first ls more × (IsTrue walked.in_one_piece → more ≡ 0)) }
+    ensures ok { IfOk result (λ walked. IsFound message.now start walked steps.new.labels steps.new.pointers) }
     ensures err { IfErr result (λ e. FaultAt message.now start e steps.new.pointers steps.new.labels) }
 {
     *steps = ReadSteps::default();
@@ -67,8 +63,7 @@ fn walk_elements(message: &[u8], start: usize, steps: &mut ReadSteps) -> Result<
     let mut end = start;
     let mut size = 1;
     'elements: loop {
-        check_limit(position, segment, limit, steps.pointers)?;
-        match element_at(message, position, segment)? {
+        match next_element(message, position, segment, limit, steps.pointers)? {
             Element::End => {
                 return Ok(Walked {
                     first,
@@ -100,26 +95,30 @@ fn walk_elements(message: &[u8], start: usize, steps: &mut ReadSteps) -> Result<
 /// Returns where the name's own octets end: after the first pointer if one was followed, else here.
 #[inline(always)]
 fn own_end(pointers: usize, end: usize, here: usize) -> usize
-    ensures none { pointers ≡ 0 → result ≡ here }
-    ensures some { 1 ≤ pointers → result ≡ end }
+    ensures { result ≡ unwrap_or (once_followed pointers end) here }
 {
     if pointers == 0 { here } else { end }
 }
 
-/// Tests that an element may begin at an offset, in a segment that began at `segment`. `limit` is the end of the
-/// message until a pointer is followed, and then the start of the segment before.
+/// Returns the element at an offset, in a segment that began at `segment`, if one may begin there. `limit` is the end of
+/// the message until a pointer is followed, and then the start of the segment before.
 #[inline(always)]
-fn check_limit(
+fn next_element(
+    message: &[u8],
     position: usize,
     segment: usize,
     limit: usize,
     pointers: usize,
-) -> Result<(), DecodeError>
-    ensures ok { OnOk result (position < limit) }
-    ensures err { IfErr result (IsPast position segment limit pointers) }
+) -> Result<Element, DecodeError>
+    requires inside { limit ≤ length message.now }
+    requires whole { pointers ≡ 0 → limit ≡ length message.now }
+    ensures within { OnOk result (IsWithin position (once_followed pointers limit)) }
+    ensures there { OnOk result (position < length message.now) }
+    ensures ok { IfOk result (IsElement message.now position segment) }
+    ensures err { IfErr result (λ e. (n : ℕ) → Stops message.now position segment (once_followed pointers limit) n e 0 0) }
 {
     if position < limit {
-        return Ok(());
+        return element_at(message, position, segment);
     }
     if pointers == 0 {
         return Err(DecodeError::InsufficientBytes);
@@ -132,6 +131,7 @@ fn check_limit(
 
 /// Returns the element at an offset, in a segment that began at `segment`.
 #[inline(always)]
+#[tactic(auto, using(std::proofs::lemmas::Option::gets))]
 pub fn element_at(message: &[u8], position: usize, segment: usize) -> Result<Element, DecodeError>
     requires { position < length message.now }
     ensures ok { IfOk result (IsElement message.now position segment) }

@@ -1,4 +1,3 @@
 pub mod Reading
-pub mod Fitting
-pub mod Writing
+pub mod Parts
 pub mod Laying

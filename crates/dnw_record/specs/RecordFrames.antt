@@ -7,20 +7,21 @@ use Rattle.dnw_error.specs.declared.error.ProtoError.TheVariants.{MaxBufferSizeE
 use Rattle.dnw_encoder.specs.declared.encoder.modes.NameEncoding.{NameEncoding}
 use Rattle.dnw_encoder.specs.Encoder.{Encoder, TakesRoom, Writes, filled, mode_of_rdata, reserved}
 use Rattle.dnw_encoder.specs.Emitting.{Outcome, Frame}
-use Rattle.dnw_encoder.specs.EmittingLaws.{candidates_before-twice, frame, frame-moved, frame-same, frames-follow, take-all}
+use Rattle.dnw_encoder.specs.EmittingLaws.{candidates_before-twice, frame, frame-moved, frame-same, frame-text, frames-follow, take-all}
 use Rattle.dnw_encoder.specs.EmittedName.{EmitsName}
 use Rattle.dnw_encoder.specs.NameFrames.{frame-name}
 use Rattle.dnw_encoder.specs.Marks.{mark_of, rewound}
 use Rattle.dnw_record.specs.declared.record.WireRecord.{WireRecord}
 use Rattle.dnw_record.specs.declared.record.WireData.{WireData}
 use Rattle.dnw_record.specs.declared.record.WireData.TheVariants.{Bytes, Name}
-use Rattle.dnw_record.specs.WrittenRecords.{Write, Then, EmitsData, EmitsSized, EmitsFields, EmitsRecord, type_class_ttl, in_encoding}
+use Rattle.dnw_record.specs.Parts.{EmitsSized, EmitsWirePart, Then, WirePart, Write, bytes_part, in_encoding, name_part, text_part}
+use Rattle.dnw_record.specs.WrittenRecords.{EmitsData, EmitsFields, EmitsRecord, type_class_ttl}
 
 -- what writes keep that begin at the buffer's end
 abbrev pub KeepsFrame : Write → Type 0
 KeepsFrame write = (v : Encoder) (outcome : Outcome) (w : Encoder) → v.offset ≡ length v.bytes → write v outcome w → Frame v outcome w
 
-frame-then : (first second : Write) → KeepsFrame first → KeepsFrame second → KeepsFrame (Then first second)
+pub frame-then : (first second : Write) → KeepsFrame first → KeepsFrame second → KeepsFrame (Then first second)
 frame-then first second keeps follows v (Ok tt) w e h =
     let one = keeps v (Ok tt) h.0 e h.1 in
     frames-follow v h.0 w (Ok tt) e one (follows h.0 (Ok tt) w one.ends h.2)
@@ -45,12 +46,17 @@ frame-in_mode v mode outcome u f =
       ends = f.ends;
     }
 
-pub frame-data : (rdata : WireData) (v : Encoder) (outcome : Outcome) (w : Encoder) → v.offset ≡ length v.bytes → EmitsData rdata v outcome w → Frame v outcome w
-frame-data (Bytes bytes) v outcome w e h = frame v bytes.items outcome w e h
-frame-data (Name name encoding) v outcome w e h =
-    let mode = mode_of_rdata encoding v.canonical v.encoding in
+pub frame-wire_part : (part : WirePart) (v : Encoder) (outcome : Outcome) (w : Encoder) → v.offset ≡ length v.bytes → EmitsWirePart part v outcome w → Frame v outcome w
+frame-wire_part (bytes_part bytes) v outcome w e h = frame v bytes outcome w e h
+frame-wire_part (text_part text) v outcome w e h = frame-text v text outcome w e h
+frame-wire_part (name_part mode name) v outcome w e h =
     let P : Encoder → Type 0 = λ x. Frame v outcome x in
     subst P (sym h.2) (frame-in_mode v mode outcome h.0 (frame-name name (in_encoding v mode) outcome h.0 e h.1))
+
+pub frame-data : (rdata : WireData) (v : Encoder) (outcome : Outcome) (w : Encoder) → v.offset ≡ length v.bytes → EmitsData rdata v outcome w → Frame v outcome w
+frame-data (Bytes bytes) v outcome w e h = frame-wire_part (bytes_part bytes.items) v outcome w e h
+frame-data (Name name encoding) v outcome w e h =
+    frame-wire_part (name_part (mode_of_rdata encoding v.canonical v.encoding) name) v outcome w e h
 
 -- ---- the length
 
@@ -95,25 +101,25 @@ frame-room v (MaxBufferSizeExceeded size) w e h =
     subst P (sym h.2) (frame-same v (Err (MaxBufferSizeExceeded size)) e)
 frame-room v error w e h = absurd h
 
-frame-sized : (rdata : WireData) → KeepsFrame (EmitsSized rdata)
-frame-sized rdata v (Ok tt) w e (room, u, one, is) =
+pub frame-sized : (write : Write) → KeepsFrame write → KeepsFrame (EmitsSized write)
+frame-sized write keeps v (Ok tt) w e (room, u, one, is) =
     let first = frame-reserved v e in
-    let second = frame-data rdata (reserved v 2) (Ok tt) u first.ends one in
+    let second = keeps (reserved v 2) (Ok tt) u first.ends one in
     let both = frames-follow v (reserved v 2) u (Ok tt) e first second in
     let le : v.offset + 2 ≤ u.offset = omega (arith, second.ends, frame-grows (reserved v 2) u (Ok tt) first.ends second) in
     let P : Encoder → Type 0 = λ x. Frame v (Ok tt) x in
     subst P (sym is) (frame-filled v u (to_be_bytes w16 (u.offset - (v.offset + 2))) refl both le)
-frame-sized rdata v (Err error) w e (inl h) = frame-room v error w e h
-frame-sized rdata v (Err error) w e (inr h) =
+frame-sized write keeps v (Err error) w e (inl h) = frame-room v error w e h
+frame-sized write keeps v (Err error) w e (inr h) =
     let first = frame-reserved v e in
-    frames-follow v (reserved v 2) w (Err error) e first (frame-data rdata (reserved v 2) (Err error) w first.ends h.1)
+    frames-follow v (reserved v 2) w (Err error) e first (keeps (reserved v 2) (Err error) w first.ends h.1)
 
 -- ---- records
 
 pub frame-fields : (r : WireRecord) → KeepsFrame (EmitsFields r)
 frame-fields r =
     let fields : KeepsFrame (λ v. Writes v (type_class_ttl r)) = λ v outcome w e h. frame v (type_class_ttl r) outcome w e h in
-    let last = frame-then (λ v. Writes v (type_class_ttl r)) (EmitsSized r.rdata) fields (frame-sized r.rdata) in
+    let last = frame-then (λ v. Writes v (type_class_ttl r)) (EmitsSized (EmitsData r.rdata)) fields (frame-sized (EmitsData r.rdata) (frame-data r.rdata)) in
     frame-then (EmitsName r.owner) _ (λ v outcome w e h. frame-name r.owner v outcome w e h) last
 
 frame-rewound : (v u : Encoder) (error : ProtoError) → Frame v (Err error) u → Frame v (Err error) (rewound u (mark_of v))
@@ -130,7 +136,7 @@ frame-rewound v u error f =
     }
 
 pub frame-record : (r : WireRecord) (v : Encoder) (outcome : Outcome) (w : Encoder) → v.offset ≡ length v.bytes → EmitsRecord r v outcome w → Frame v outcome w
-frame-record r v (Ok tt) w e h = frame-fields r v (Ok tt) w e h
+frame-record r v (Ok tt) w e h = frame-fields r v (Ok tt) w e h.1
 frame-record r v (Err error) w e (u, fields, is) =
     let P : Encoder → Type 0 = λ x. Frame v (Err error) x in
     subst P (sym is) (frame-rewound v u error (frame-fields r v (Err error) u e fields))

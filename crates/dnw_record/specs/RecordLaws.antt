@@ -1,10 +1,10 @@
 -- What follows from the definitions of records. Each is the clause of a public function, and so proved.
-use Rattle.std.specs.Prelude.{◌≡◌, ℕ, ◌+◌, ◌-◌, ◌^◌, ◌<◌, ◌≤◌, List, ◌++◌, length, slice_range, Ok, Err, ◌⊎◌}
+use Rattle.std.specs.Prelude.{◌≡◌, ℕ, ◌+◌, ◌-◌, ◌<◌, ◌≤◌, List, ◌++◌, length, slice_range, Ok, Err, ◌⊎◌}
 use Rattle.std.specs.Int.{w16, w32, to_be_bytes}
 use Rattle.dnw_error.specs.declared.error.ProtoError.{ProtoError}
 use Rattle.dnw_error.specs.declared.error.ProtoError.TheVariants.{MaxBufferSizeExceeded, Memory}
-use Rattle.dnw_error.specs.RecordTypes.{type_code, type_of_code}
-use Rattle.dnw_error.specs.DnsClasses.{class_code, class_of_code}
+use Rattle.dnw_codes.specs.RecordTypes.{type_code, type_of_code}
+use Rattle.dnw_codes.specs.DnsClasses.{class_code, class_of_code}
 use Rattle.dnw_base.specs.Limits.{max_message}
 use Rattle.dnw_base.specs.Names.{encoded_size}
 use Rattle.dnw_reading.specs.Reading.{NameAt}
@@ -16,7 +16,7 @@ use Rattle.dnw_record.specs.declared.record.WireRecord.{WireRecord}
 use Rattle.dnw_record.specs.declared.record.WireData.{WireData}
 use Rattle.dnw_record.specs.declared.record.WireData.TheVariants.{Bytes, Name}
 use Rattle.dnw_record.specs.Records.{RecordAt, RecordValue, fields_at, fixed_size}
-use Rattle.dnw_record.specs.WrittenRecords.{EmitsData, EmitsRecord}
+use Rattle.dnw_record.specs.WrittenRecords.{EmitsData, EmitsRecord, NumbersFit}
 
 -- A refused record, begun at the buffer's end with every candidate before it, leaves the whole encoder.
 abbrev pub RefusedRecordsUndo : Type 0
@@ -61,7 +61,7 @@ HasBytes b (Bytes bytes) p e = slice_range b p e ≡ bytes.items
 HasBytes b (Name name encoding) p e = Unit {0}
 
 -- A record is there from p to e: its owner is read at p, the ten octets after it are its fields with the number of octets
--- of its data, and its data follow.
+-- of its data, and its data follow. Its numbers fit their fields.
 pub record LiesAt (b : List ℕ) (mode : NameEncoding) (r : WireRecord) (p e : ℕ) : Type 0 where
   pub owner_end : ℕ
   pub pointers : ℕ
@@ -70,6 +70,7 @@ pub record LiesAt (b : List ℕ) (mode : NameEncoding) (r : WireRecord) (p e : �
   pub few : e ≤ max_message
   pub fields : fields_at b owner_end ≡ fields_of (type_code r.record_type) (class_code r.class) r.ttl (e - (owner_end + fixed_size))
   pub rdata : HasBytes b r.rdata (owner_end + fixed_size) e
+  pub fit : NumbersFit r
   pub ends : e ≡ length b
 
 -- A record that is written at the buffer's end is there at once, up to the new end.
@@ -77,11 +78,10 @@ abbrev pub RecordsLie : Type 0
 RecordsLie = (r : WireRecord) (v w : Encoder) → v.offset ≡ length v.bytes → v.max_size ≤ max_message → EmitsRecord r v (Ok tt) w
     → LiesAt w.bytes v.encoding r v.offset w.offset
 
--- What lies there is read as a record of its owner, with its type and class by their codes and the octets of its data, if
--- its numbers fit their fields.
+-- What lies there is read as a record of its owner, with its type and class by their codes, its time to live, and the octets
+-- of its data.
 abbrev pub RecordsAreRead : Type 0
 RecordsAreRead = (b : List ℕ) (mode : NameEncoding) (r : WireRecord) (p e : ℕ) → LiesAt b mode r p e
     → (x : RecordValue) × RecordAt b p x e × (x.owner ≡ in_mode mode r.owner.labels)
-    × (type_code r.record_type < 2 ^ 16 → x.record_type ≡ type_of_code (type_code r.record_type))
-    × (class_code r.class < 2 ^ 16 → x.class ≡ class_of_code (class_code r.class)) × (r.ttl < 2 ^ 32 → x.ttl ≡ r.ttl)
+    × (x.record_type ≡ type_of_code (type_code r.record_type)) × (x.class ≡ class_of_code (class_code r.class)) × (x.ttl ≡ r.ttl)
     × HasBytes b r.rdata x.start e

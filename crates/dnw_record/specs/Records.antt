@@ -4,10 +4,10 @@ use Rattle.std.specs.Prelude.{◌≡◌, ◌≢◌, ℕ, ◌+◌, ◌-◌, ◌�
 use Rattle.std.specs.Int.{w16, w32, from_be_bytes}
 use Rattle.dnw_error.specs.declared.error.DecodeError.{DecodeError}
 use Rattle.dnw_error.specs.declared.error.DecodeError.TheVariants.{IncorrectRDataLengthRead, InsufficientBytes}
-use Rattle.dnw_error.specs.declared.record_type.RecordType.{RecordType}
-use Rattle.dnw_error.specs.declared.dns_class.DNSClass.{DNSClass}
-use Rattle.dnw_error.specs.RecordTypes.{type_of_code}
-use Rattle.dnw_error.specs.DnsClasses.{class_of_code}
+use Rattle.dnw_codes.specs.declared.record_type.RecordType.{RecordType}
+use Rattle.dnw_codes.specs.declared.dns_class.DNSClass.{DNSClass}
+use Rattle.dnw_codes.specs.RecordTypes.{type_of_code}
+use Rattle.dnw_codes.specs.DnsClasses.{class_of_code}
 use Rattle.dnw_base.specs.Decoder.{Decoder}
 use Rattle.dnw_base.specs.Names.{NameValue}
 use Rattle.dnw_reading.specs.Reading.{NameAt, FaultAt}

@@ -1,7 +1,7 @@
 //! Resource records (RFC 1035, sections 3.2.1 and 4.1.3): `WireRecord` is written, `RecordRef` is read.
+use dnw_codes::dns_class::DNSClass;
+use dnw_codes::record_type::RecordType;
 use dnw_encoder::encoder::RDataEncoding;
-use dnw_error::dns_class::DNSClass;
-use dnw_error::record_type::RecordType;
 use dnw_name::name::Name;
 
 pub mod laws;

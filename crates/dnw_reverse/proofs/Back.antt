@@ -1,5 +1,5 @@
 -- Names of prefixes are read as the prefixes, and so are their texts; names of addresses are read as the addresses.
-use Rattle.std.proofs.Common.{◌≡◌, ℕ, zero, suc, ◌+◌, ◌*◌, ◌^◌, ◌<◌, ◌≤◌, ◌/◌, ◌%◌, true, List, [], ◌∷◌, ◌++◌, length, map, reverse, slice_index, Ok, refl, sym, ap, ◌∙◌, subst, arith}
+use Rattle.std.proofs.Common.{◌≡◌, ℕ, zero, suc, ◌+◌, ◌*◌, ◌^◌, ◌<◌, ◌≤◌, ◌/◌, ◌%◌, true, List, [], ◌∷◌, ◌++◌, length, map, reverse, slice_index, Ok, Err, refl, sym, ap, ◌∙◌, subst, arith}
 use Rattle.std.specs.List.{AllByRecursion}
 use Rattle.std.specs.Net.Addr.{ipv4_octets, ipv6_segments}
 use Rattle.std.specs.Str.{IsAscii, chars, is_utf8}
@@ -12,10 +12,10 @@ use Rattle.dnw_base.specs.Labels.{IsLabel}
 use Rattle.dnw_base.specs.Names.{AreLabels, encoded_size}
 use Rattle.dnw_form.specs.NameText.{IsLabelText, name_from_text, name_text}
 use Rattle.dnw_form.proofs.ReadBack.{read_back}
-use Rattle.dnw_net.specs.NetTexts.{net_addr, net_prefix_len, ip_size}
-use Rattle.dnw_net.specs.declared.net.IpNet.{IpNet}
+use Rattle.dnw_reverse.specs.NetTexts.{net_addr, net_prefix_len, ip_size}
+use Rattle.dnw_reverse.specs.declared.net.IpNet.{IpNet}
 use Rattle.dnw_reverse.specs.Arpa.{ArpaPrefix, IsArpaPrefix, arpa, arpa_labels, arpa_name, arpa_prefix, family_label, nibbles, ip_prefix, most_values, padded, prefix_below, prefix_from_end, prefix_of, reverse_name, value_bits, value_label}
-use Rattle.dnw_reverse.specs.ArpaLaws.{IsIpAddr}
+use Rattle.dnw_reverse.specs.ArpaLaws.{IsIpAddr, AddressesArePrefixes, AddressesComeBack}
 use Rattle.dnw_reverse.specs.ArpaNets.{IsNetOf}
 use Rattle.dnw_reverse.specs.declared.reading.Family.{Family}
 use Rattle.dnw_reverse.specs.declared.reading.Family.TheVariants.{Ipv4, Ipv6}
@@ -121,9 +121,9 @@ halves_length : (segments : List ℕ) → length (nibbles segments) ≡ 4 * leng
 halves_length [] = refl
 halves_length (s ∷ segments) = omega (arith, halves_length segments)
 
-is_prefix : (ip : IpAddr) → IsIpAddr ip → IsArpaPrefix (ip_prefix ip)
-is_prefix (V4 a) h = record { few = omega (arith, h.0); fit = all_below (2 ^ 8) (ipv4_octets a) h.1 }
-is_prefix (V6 a) h = record {
+pub addresses_are_prefixes : AddressesArePrefixes
+addresses_are_prefixes (V4 a) h = record { few = omega (arith, h.0); fit = all_below (2 ^ 8) (ipv4_octets a) h.1 }
+addresses_are_prefixes (V6 a) h = record {
   few = omega (arith, h.0, halves_length (ipv6_segments a));
   fit = halves_fit (ipv6_segments a) (all_below (2 ^ 16) (ipv6_segments a) h.1);
 }
@@ -175,12 +175,18 @@ all_bits : (ip : IpAddr) → value_bits (ip_prefix ip).family * most_values (ip_
 all_bits (V4 a) = refl
 all_bits (V6 a) = refl
 
-pub addresses_come_back : (ip : IpAddr) → IsIpAddr ip → (p : ArpaPrefix) (net : IpNet) → arpa_prefix (reverse_name ip) ≡ Ok p → IsNetOf p net
-    → (net_addr net ≡ ip) × (net_prefix_len net ≡ ip_size ip)
-addresses_come_back ip h p net reads of =
-    let back : arpa_prefix (reverse_name ip) ≡ Ok (ip_prefix ip) = prefixes_come_back (ip_prefix ip) (is_prefix ip h) in
+pub addresses_come_back : AddressesComeBack
+addresses_come_back ip h (Ok net) (p, reads, of) =
+    let back : arpa_prefix (reverse_name ip) ≡ Ok (ip_prefix ip) = prefixes_come_back (ip_prefix ip) (addresses_are_prefixes ip h) in
     let same : p ≡ ip_prefix ip = cc in
     let own : IsNetOf (ip_prefix ip) net = subst (λ (q : ArpaPrefix). IsNetOf q net) same of in
     let size = whole ip h in
-    let filled = ap (λ (vs : List ℕ). record { family = (ip_prefix ip).family; values = vs }) (padded-whole (most_values (ip_prefix ip).family) (ip_prefix ip).values size) in
-    (same_ip (net_addr net) ip (own.addr ∙ filled), own.bits ∙ ap (λ (n : ℕ). value_bits (ip_prefix ip).family * n) size ∙ all_bits ip)
+    let filled = ap (λ (vs : List ℕ). record { family = (ip_prefix ip).family; values = vs }) (padded-whole (most_values (ip_prefix ip).family) (ip_prefix ip).values size) in (
+      net,
+      refl,
+      same_ip (net_addr net) ip (own.addr ∙ filled),
+      own.bits ∙ ap (λ (n : ℕ). value_bits (ip_prefix ip).family * n) size ∙ all_bits ip,
+    )
+addresses_come_back ip h (Err e) (fault, fails, reports) =
+    let back : arpa_prefix (reverse_name ip) ≡ Ok (ip_prefix ip) = prefixes_come_back (ip_prefix ip) (addresses_are_prefixes ip h) in
+    absurd cc

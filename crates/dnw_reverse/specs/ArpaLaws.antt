@@ -1,13 +1,14 @@
 -- What follows from the definitions of reverse names. Each is the clause of a public function, and so proved.
-use Rattle.std.specs.Prelude.{◌≡◌, Ok}
+use Rattle.std.specs.Prelude.{◌≡◌, Result, Ok}
 use Rattle.std.specs.Net.Addr.{MatchIp, IsIpv4Addr, IsIpv6Addr}
 use Rattle.std.specs.Str.{chars}
 use Rattle.std.specs.declared.net.ip_addr.IpAddr.{IpAddr}
+use Rattle.dnw_error.specs.declared.error.ProtoError.{ProtoError}
 use Rattle.dnw_form.specs.NameText.{name_from_text, name_text}
-use Rattle.dnw_net.specs.NetTexts.{net_addr, net_prefix_len, ip_size}
-use Rattle.dnw_net.specs.declared.net.IpNet.{IpNet}
-use Rattle.dnw_reverse.specs.Arpa.{ArpaPrefix, arpa_name, IsArpaPrefix, arpa_prefix, reverse_name}
-use Rattle.dnw_reverse.specs.ArpaNets.{IsNetOf}
+use Rattle.dnw_reverse.specs.NetTexts.{net_addr, net_prefix_len, ip_size}
+use Rattle.dnw_reverse.specs.declared.net.IpNet.{IpNet}
+use Rattle.dnw_reverse.specs.Arpa.{ArpaPrefix, arpa_name, IsArpaPrefix, arpa_prefix, ip_prefix, reverse_name}
+use Rattle.dnw_reverse.specs.ArpaNets.{ReadsNet}
 
 -- what the types of addresses keep
 abbrev pub IsIpAddr : IpAddr → Type 0
@@ -20,7 +21,11 @@ PrefixesComeBack = (p : ArpaPrefix) → IsArpaPrefix p → arpa_prefix (arpa_nam
 abbrev pub TextsComeBack : Type 0
 TextsComeBack = (p : ArpaPrefix) → IsArpaPrefix p → name_from_text (chars (name_text (arpa_name p))) ≡ Ok (arpa_name p)
 
--- the net that is read from the reverse name of an address has that address, and all of its bits are the prefix
+-- The values of an address are a prefix.
+abbrev pub AddressesArePrefixes : Type 0
+AddressesArePrefixes = (ip : IpAddr) → IsIpAddr ip → IsArpaPrefix (ip_prefix ip)
+
+-- The reverse name of an address is read, and the net that is read has that address and all of its bits.
 abbrev pub AddressesComeBack : Type 0
-AddressesComeBack = (ip : IpAddr) → IsIpAddr ip → (p : ArpaPrefix) (net : IpNet) → arpa_prefix (reverse_name ip) ≡ Ok p → IsNetOf p net
-    → (net_addr net ≡ ip) × (net_prefix_len net ≡ ip_size ip)
+AddressesComeBack = (ip : IpAddr) → IsIpAddr ip → (outcome : Result IpNet ProtoError) → ReadsNet (arpa_prefix (reverse_name ip)) outcome
+    → (net : IpNet) × (outcome ≡ Ok net) × (net_addr net ≡ ip) × (net_prefix_len net ≡ ip_size ip)

@@ -1,8 +1,8 @@
 -- The net that a reverse name stands for: its prefix, and zeros in the place of what the name leaves out.
 use Rattle.std.specs.Prelude.{◌≡◌, ◌*◌, length, Result, Ok, Err}
 use Rattle.dnw_error.specs.declared.error.ProtoError.{ProtoError}
-use Rattle.dnw_net.specs.NetTexts.{net_addr, net_prefix_len}
-use Rattle.dnw_net.specs.declared.net.IpNet.{IpNet}
+use Rattle.dnw_reverse.specs.NetTexts.{net_addr, net_prefix_len}
+use Rattle.dnw_reverse.specs.declared.net.IpNet.{IpNet}
 use Rattle.dnw_reverse.specs.Arpa.{ArpaPrefix, ArpaFault, FailsArpa, ip_prefix, padded, most_values, value_bits}
 
 -- the prefix with zeros up to the number of octets or nibbles that an address has

@@ -1,3 +1,5 @@
+pub mod Nets
+pub mod NetTexts
 pub mod Arpa
 pub mod ArpaNets
 pub mod ArpaLaws

@@ -7,10 +7,10 @@ ghost use Rattle.dnw_label.specs.LabelOrder.{label_eq};
 ghost use Rattle.dnw_reverse.specs.Arpa.{TooManyLabels, prefix_from_end, prefix_below, prefix_of, octet_of, nibble_of, value_of, most_values, value_bits, nibbles, padded, IsNibble, IsArpaPrefix, FollowsArpa, FailsArpa, ReportsArpa};
 ghost use Rattle.dnw_reverse.specs.ArpaNets.{ReadsNet};
 
+use crate::net::{IpNet, Ipv4Net, Ipv6Net};
 use arrayvec::ArrayVec;
 use dnw_error::error::{ProtoError, ProtoResult};
 use dnw_form::label_iter::LabelIter;
-use dnw_net::net::{IpNet, Ipv4Net, Ipv6Net};
 use std::net::{Ipv4Addr, Ipv6Addr};
 
 /// The most octets or nibbles of an address.

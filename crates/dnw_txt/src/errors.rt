@@ -2,8 +2,8 @@
 ghost use Rattle.std.specs.Prelude.{◌≡◌, IfOk, IfErr};
 
 use crate::zone_lex::Token;
+use dnw_codes::record_type::RecordType;
 use dnw_error::error::{DecodeError, ProtoError};
-use dnw_error::record_type::RecordType;
 use std::alloc::{AllocError, AllocFailed};
 use thiserror::Error;
 

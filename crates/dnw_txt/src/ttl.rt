@@ -58,7 +58,7 @@ fn seconds(text: &[u8]) -> Option<u32>
 fn take_group(text: &[u8], start: usize) -> Option<(u64, usize)>
     requires { start < length text.now }
     ensures goes_on { IfSome result (λ x. (total : ℕ) → seconds_after total None (drop start text.now) ≡ seconds_after (total + x.0) None (drop x.1 text.now)) }
-    ensures fits { IfSome result (λ x. x.0 ≤ 604800 * (10 * max_ttl)) }
+    ensures fits { IfSome result (λ x. x.0 ≤ 604800 * max_ttl) }
     ensures ends { IfSome result (λ x. (start < x.1) × (x.1 ≤ length text.now)) }
     ensures none { IfNone result ((total : ℕ) → IsNoTtl (seconds_after total None (drop start text.now))) }
 {
@@ -74,7 +74,7 @@ fn take_group(text: &[u8], start: usize) -> Option<(u64, usize)>
 fn take_number(text: &[u8], start: usize) -> Option<(u64, Option<usize>)>
     requires { start < length text.now }
     ensures goes_on { IfSome result (λ x. (total : ℕ) → seconds_after total None (drop start text.now) ≡ seconds_after total (Some x.0) (rest_from text.now x.1)) }
-    ensures fits { IfSome result (λ x. x.0 ≤ 10 * max_ttl) }
+    ensures fits { IfSome result (λ x. x.0 ≤ max_ttl) }
     ensures unit { IfSome result (λ x. IfSome x.1 (λ unit. (start < unit) × (unit < length text.now))) }
     ensures ends { IfSome result (λ x. BeginsNoDigit (rest_from text.now x.1)) }
     ensures none { IfNone result ((total : ℕ) → IsNoTtl (seconds_after total None (drop start text.now))) }
@@ -88,10 +88,10 @@ fn take_number(text: &[u8], start: usize) -> Option<(u64, Option<usize>)>
         if !text[end].is_ascii_digit() {
             return Some((number, Some(end)));
         }
-        if number > MAX_TTL / 10 {
+        number = 10 * number + u64::from(text[end] - b'0');
+        if number > MAX_TTL {
             return None;
         }
-        number = 10 * number + u64::from(text[end] - b'0');
         end += 1;
     }
     Some((number, None))

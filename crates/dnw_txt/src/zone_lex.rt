@@ -1,11 +1,12 @@
 //! The tokens of a master file (RFC 1035, section 5.1).
 ghost use Rattle.std.specs.Prelude.{◌≡◌, not, true, false, slice_index, ℕ, ◌+◌, ◌-◌, ◌*◌, ◌<◌, ◌≤◌, ⊤, Bool, List, [], ◌∷◌, ◌++◌, length, take, Some, None, Ok, Err, IfOk, IfErr, IfSome, MatchOption, MatchResult};
-ghost use Rattle.std.specs.Char.{IsScalar};
-ghost use Rattle.std.specs.Str.{chars};
+ghost use Rattle.std.specs.Char.{IsScalar, is_whitespace};
+ghost use Rattle.std.specs.Str.{chars, IsUtf8};
 ghost use Rattle.std.specs.List.{list_all};
-ghost use Rattle.dnw_txt.specs.Tokens.{Step, Gives, CharData, StartLine, RestOfLine, Between, Plain, Escaped, is_numeric, is_line_end, ends_word, line_end, start_line, rest_of_line, entry, word_before, list_after, quoted_after, control_entry, after_comment, before, from, is_no_capital, next, next_from};
-ghost use Rattle.dnw_txt.specs.Lexing.{token_value, Lexes, EndsInTime, Reports, IsToken};
-ghost use Rattle.dnw_txt.specs.Inside.Finds.{state_of, Finds, CutsBefore, BeginsWith, IsShorter, Escapes, ReadsDigit, is_plain, is_no_gap, ends_run};
+ghost use Rattle.dnw_txt.specs.Tokens.{Step, Gives, CharData, StartLine, RestOfLine, Between, Plain, Escaped, AfterOne, is_numeric, is_line_end, ends_word, line_end, start_line, rest_of_line, entry, word_before, list_after, quoted_after, control_entry, after_comment, before, from, is_no_capital, next, next_from};
+ghost use Rattle.dnw_txt.specs.Lexing.{characters, token_value, Lexes, EndsInTime, Reports, IsToken};
+ghost use Rattle.dnw_txt.specs.Inside.Finds.{state_of, Finds, CutsBefore, BeginsWith, StopsRun, IsShorter, Escapes, EscapesFrom, ReadsDigit, is_plain, is_either, ends_run};
+ghost use Rattle.dnw_txt.specs.declared.errors.LexerError.TheVariants.{Memory};
 
 use crate::errors::LexerError;
 use std::alloc::Global;
@@ -40,6 +41,7 @@ impl Token {
     ghost use Rattle.dnw_txt.specs.declared.errors.LexerError.TheVariants.{Memory};
 
     /// Copies the token. It allocates only if the token has a text or a list, and then may fail with `Memory`.
+    #[tactic(auto, using(crate::proofs::Steps::same_characters))]
     pub fn clone(&self) -> Result<Self, LexerError>
         ensures ok { IfOk result (IsTokenCopyOf self.now) }
         ensures err { IfErr result (λ e. (e ≡ Memory) × OwnsTokenText self.now) }
@@ -92,6 +94,7 @@ impl<'a> Model for Lexer<'a> {
 
 impl<'a> Lexer<'a> {
     /// Creates a lexer at the start of a text.
+    #[tactic(auto, using(crate::proofs::EachTakes::ends_in_time))]
     pub fn new(txt: &'a str) -> Self
         ensures value { result ≡ record { rest = chars txt.now; state = StartLine } }
         ensures ends { EndsInTime result }
@@ -183,14 +186,17 @@ fn start_line<'t>(alloc: Global, text: &'t str) -> LexerResult<Option<Found<'t>>
 fn rest_of_line<'t>(alloc: Global, text: &'t str) -> LexerResult<Option<Found<'t>>>
     ensures { Finds (rest_of_line (chars text.now)) result }
 {
-    let text = after_gap(text);
-    let Some((c, rest)) = split_first_char(text) else {
-        return Ok(None);
-    };
-    if is_line_end(c) {
-        return line_end(text);
+    let mut text = text;
+    while let Some((c, rest)) = split_first_char(text) {
+        if is_line_end(c) {
+            return line_end(text);
+        }
+        if !is_space(c) {
+            return entry(alloc, text, c, rest);
+        }
+        text = rest;
     }
-    entry(alloc, text, c, rest)
+    Ok(None)
 }
 
 /// Finds what a text begins with that begins with neither white space nor the end of a line: its first character, and
@@ -242,9 +248,9 @@ fn comment<'t>(text: &'t str) -> LexerResult<Option<Found<'t>>>
     ensures { Finds (after_comment (from is_line_end (chars text.now))) result }
 {
     let rest = &text[comment_len(text)..];
-    if rest.is_empty() {
+    let Some(_) = split_first_char(rest) else {
         return Ok(None);
-    }
+    };
     line_end(rest)
 }
 
@@ -275,8 +281,15 @@ fn control_entry<'t>(alloc: Global, text: &'t str) -> LexerResult<Option<Found<'
     ensures { Finds (control_entry (before is_no_capital (chars text.now)) (from is_no_capital (chars text.now))) result }
 {
     let len = capitals_len(text);
-    let word = &text[..len];
-    let rest = &text[len..];
+    control_word(alloc, &text[..len], &text[len..])
+}
+
+/// Finds what the capital letters after a `$` stand for.
+#[inline(always)]
+fn control_word<'t>(alloc: Global, word: &str, rest: &'t str) -> LexerResult<Option<Found<'t>>>
+    requires { chars word.now ≡ word.now }
+    ensures { Finds (control_entry word.now (chars rest.now)) result }
+{
     if word == "INCLUDE" {
         return on_line(Token::Include, rest);
     }
@@ -320,9 +333,8 @@ fn quoted<'t>(alloc: Global, text: &'t str) -> LexerResult<Option<Found<'t>>>
     let mut collected = String::new(alloc);
     let mut left = text;
     'runs: loop {
-        let len = quoted_len(left);
-        collected.push_str(&left[..len])?;
-        match split_first_char(&left[len..]) {
+        let rest = take_run(&mut collected, left)?;
+        match split_first_char(rest) {
             None => return Err(LexerError::UnclosedQuotedString),
             Some(('"', rest)) => return on_line(Token::CharData(collected), rest),
             Some((_, rest)) => {
@@ -332,6 +344,19 @@ fn quoted<'t>(alloc: Global, text: &'t str) -> LexerResult<Option<Found<'t>>>
             }
         }
     }
+}
+
+/// Appends the characters before the next quote or backslash to a text. Returns what is after them.
+#[inline(always)]
+fn take_run<'t>(collected: &mut String, left: &'t str) -> LexerResult<&'t str>
+    ensures goes_on { IfOk result (λ rest. quoted_after (characters collected.new) Plain (chars rest.now) ≡ quoted_after (characters collected.old) Plain (chars left.now)) }
+    ensures stops { IfOk result (λ rest. StopsRun (chars rest.now)) }
+    ensures rest { IfOk result (λ rest. (length rest.now ≤ length left.now) × IsUtf8 rest.now) }
+    ensures err { IfErr result (λ e. e ≡ Memory) }
+{
+    let len = quoted_len(left);
+    collected.push_str(&left[..len])?;
+    Ok(&left[len..])
 }
 
 /// Reads an escape, after its backslash. Returns the character that it stands for, and what is after it.
@@ -350,7 +375,19 @@ fn escape(text: &str) -> LexerResult<(char, &str)>
         return Ok((c, rest));
     }
     let (a, _) = decimal_digit(text)?;
-    let (b, rest) = decimal_digit(rest)?;
+    escape_after(a, rest)
+}
+
+/// Reads the second and the third digit of an escape, after the first. Returns the character that they stand for, and what
+/// is after them.
+#[inline(always)]
+fn escape_after(a: u32, text: &str) -> LexerResult<(char, &str)>
+    requires { a < 10 }
+    ensures escapes { EscapesFrom (AfterOne a) (chars text.now) result }
+    ensures scalar { IfOk result (λ x. IsScalar x.0) }
+    ensures rest { IfOk result (λ x. IsShorter x.1.now text.now) }
+{
+    let (b, rest) = decimal_digit(text)?;
     let (c, rest) = decimal_digit(rest)?;
     Ok((char::from_u32(65536 * a + 256 * b + c).unwrap(), rest))
 }
@@ -390,35 +427,27 @@ fn split_first_char(text: &str) -> Option<(char, &str)>
     Some((first, chars.as_str()))
 }
 
-/// Returns what is after the white space that a text begins with, up to the end of the line.
-fn after_gap(text: &str) -> &str
-    ensures { chars result.now ≡ from is_no_gap (chars text.now) }
-{
-    let mut text = text;
-    while let Some((c, rest)) = split_first_char(text) {
-        if !is_gap(c) {
-            return text;
-        }
-        text = rest;
-    }
-    text
-}
-
 /// Returns the number of bytes of the word that a text begins with.
 fn word_len(text: &str) -> usize
     ensures { CutsBefore ends_word text.now result }
 {
     let bytes = text.as_bytes();
-    let mut len = plain_len(bytes);
-    if len < bytes.len() && bytes[len] < 128 {
-        return len;
-    }
-    while let Some((c, _)) = split_first_char(&text[len..]) {
+    let mut len = 0;
+    while len < bytes.len() {
+        if is_plain(bytes[len]) {
+            len += 1;
+            continue;
+        }
+        if bytes[len] < 128 {
+            return len;
+        }
+        let Some((c, _)) = split_first_char(&text[len..]) else {
+            return len;
+        };
         if ends_word(c) {
             return len;
         }
         len += c.len_utf8();
-        len += plain_len(text[len..].as_bytes());
     }
     len
 }
@@ -430,19 +459,6 @@ fn ends_word(c: char) -> bool
     c.is_whitespace() || c.is_control() || c == ';' || c == ')'
 }
 
-/// Returns the number of plain bytes of a word that a text begins with.
-fn plain_len(text: &[u8]) -> usize
-    ensures within { result ≤ length text.now }
-    ensures plain { list_all is_plain (take result text.now) ≡ true }
-    ensures end { result < length text.now → is_plain (slice_index text.now result) ≡ false }
-{
-    let mut len = 0;
-    while len < text.len() && is_plain(text[len]) {
-        len += 1;
-    }
-    len
-}
-
 /// Returns `true` if a byte is a plain one of a word: printable, and neither `;` nor `)`.
 #[inline(always)]
 fn is_plain(byte: u8) -> bool
@@ -451,14 +467,14 @@ fn is_plain(byte: u8) -> bool
     b' ' < byte && byte < 127 && byte != b';' && byte != b')'
 }
 
-/// Returns `true` if a character is white space that does not end a line.
-fn is_gap(c: char) -> bool
-    ensures { result ≡ not (is_no_gap c) }
+/// Returns `true` if a character is white space.
+fn is_space(c: char) -> bool
+    ensures { result ≡ is_whitespace c }
 {
     if ' ' < c && c <= '~' {
         return false;
     }
-    !is_line_end(c) && c.is_whitespace()
+    c.is_whitespace()
 }
 
 /// Returns the number of capital letters that a text begins with.
@@ -476,27 +492,41 @@ fn capitals_len(text: &str) -> usize
 }
 
 /// Returns the number of bytes before the end of the line.
+#[inline(always)]
 fn comment_len(text: &str) -> usize
     ensures { CutsBefore is_line_end text.now result }
 {
+    len_before(text, b'\r', b'\n')
+}
+
+/// Returns the number of bytes before a quote or a backslash.
+#[inline(always)]
+fn quoted_len(text: &str) -> usize
+    ensures { CutsBefore ends_run text.now result }
+{
+    len_before(text, b'"', b'\\')
+}
+
+/// Returns the number of bytes before the first of two ASCII characters.
+#[inline(always)]
+fn len_before(text: &str, a: u8, b: u8) -> usize
+    requires ascii { (a < 128) × (b < 128) }
+    ensures { CutsBefore (is_either a b) text.now result }
+{
     let bytes = text.as_bytes();
     let mut len = 0;
-    while len < bytes.len() && !is_line_end(char::from(bytes[len])) {
+    while len < bytes.len() && !is_either(a, b, bytes[len]) {
         len += 1;
     }
     len
 }
 
-/// Returns the number of bytes before a quote or a backslash.
-fn quoted_len(text: &str) -> usize
-    ensures { CutsBefore ends_run text.now result }
+/// Returns `true` if a byte is one of the two.
+#[inline(always)]
+fn is_either(a: u8, b: u8, byte: u8) -> bool
+    ensures { result ≡ is_either a b byte }
 {
-    let bytes = text.as_bytes();
-    let mut len = 0;
-    while len < bytes.len() && !ends_run(bytes[len]) {
-        len += 1;
-    }
-    len
+    byte == a || byte == b
 }
 
 /// Returns `true` if a character is a carriage return or a line feed.
@@ -505,12 +535,4 @@ fn is_line_end(c: char) -> bool
     ensures { result ≡ is_line_end c }
 {
     c == '\r' || c == '\n'
-}
-
-/// Returns `true` if a byte is a quote or a backslash.
-#[inline(always)]
-fn ends_run(byte: u8) -> bool
-    ensures { result ≡ ends_run byte }
-{
-    byte == b'"' || byte == b'\\'
 }

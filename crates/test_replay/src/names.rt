@@ -21,12 +21,25 @@ pub(crate) fn answer(alloc: Global, kind: &str, words: &str) -> ProtoResult<Stri
             match kind {
                 "append-name" => shown(alloc, name.append_name(&other)),
                 "append-domain" => shown(alloc, name.append_domain(&other)),
-                "in-zone" => Ok(format!(in alloc; "{}", name.as_name_ref().zone_of(&other))?),
+                "in-zone" => in_zone(alloc, &name, &other),
                 "eq-name" => Ok(format!(in alloc; "{}", name.as_name_ref().eq_name(&other))?),
                 _ => Err(BAD_LINE),
             }
         }
     }
+}
+
+/// Returns whether a name is in a zone, by each of the calls that test it.
+fn in_zone(alloc: Global, name: &Name, zone: &Name) -> ProtoResult<String> {
+    let is_in = name.is_in(zone);
+    let borrowed = name.as_name_ref().is_in(zone);
+    if is_in != borrowed
+        || is_in != zone.zone_of(name)
+        || is_in != zone.as_name_ref().zone_of(name)
+    {
+        return Err(ProtoError::Message("the calls do not agree"));
+    }
+    Ok(format!(in alloc; "{is_in}")?)
 }
 
 /// Returns a name's Debug text and whether it is fully qualified, or the error's Debug text.

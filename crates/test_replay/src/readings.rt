@@ -118,6 +118,7 @@ fn collected(alloc: Global, name: &NameRef<'_>) -> ProtoResult<Name> {
     }
     let same = name.eq_name(&copy)
         && name.zone_of(&copy)
+        && name.is_in(&copy)
         && copy.as_wire() == name.to_name(alloc)?.as_wire()
         && copy.encoded_len() == name.encoded_len()
         && usize::from(name.num_labels()) == name.labels().len()

@@ -2,11 +2,7 @@
 ghost use Rattle.std.specs.Prelude.{◌≡◌, ℕ, List, true, Ok, OnOk, OnErr};
 ghost use Rattle.dns_names_wire.specs.Words.{TakesName, EmitsName, value, lender};
 
-use dns_names_wire::binary::BinEncodable;
-use dns_names_wire::decoder::BinDecoder;
-use dns_names_wire::encoder::BinEncoder;
-use dns_names_wire::error::ProtoResult;
-use dns_names_wire::name_ref::NameRef;
+use dns_names_wire::{BinDecoder, BinEncodable, BinEncoder, NameRef, ProtoResult};
 
 /// Copies the name at the cursor of one message to the offset of another, as a server does with a question's name. No
 /// `Name` is made between them. If it fails, the other message is unchanged.

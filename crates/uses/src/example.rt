@@ -1,10 +1,6 @@
 //! The example of the README.
 
-use dns_names_wire::binary::BinEncodable;
-use dns_names_wire::decoder::BinDecoder;
-use dns_names_wire::error::{DecodeError, ProtoResult};
-use dns_names_wire::name::Name;
-use dns_names_wire::name_ref::NameRef;
+use dns_names_wire::{BinDecoder, BinEncodable, DecodeError, Name, NameRef, ProtoResult};
 use std::alloc::Global;
 
 /// Returns the name at the cursor of a message as text. If there is none, the cursor is unchanged.
@@ -15,7 +11,7 @@ pub fn name_text(alloc: Global, decoder: &mut BinDecoder<'_>) -> ProtoResult<Str
 
 /// Returns `true` if the name at the cursor is in a zone. It does not copy the name.
 pub fn is_in_zone(decoder: &mut BinDecoder<'_>, zone: &Name) -> Result<bool, DecodeError> {
-    Ok(NameRef::read(decoder)?.zone_of(zone))
+    Ok(NameRef::read(decoder)?.is_in(zone))
 }
 
 /// Returns the octets of a host's name in a zone.

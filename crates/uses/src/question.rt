@@ -3,9 +3,7 @@ ghost use Rattle.std.specs.Prelude.{◌≡◌, IfOk};
 ghost use Rattle.std.specs.List.{AllByRecursion};
 ghost use Rattle.uses.specs.Standing.{StandsIn};
 
-use dns_names_wire::decoder::BinDecoder;
-use dns_names_wire::error::ProtoResult;
-use dns_names_wire::name::Name;
+use dns_names_wire::{BinDecoder, Name, ProtoResult};
 use std::alloc::Global;
 
 /// Returns the names of the questions, and after them the owners of the answers. Each stands in the message.

@@ -3,10 +3,8 @@ ghost use Rattle.std.specs.Prelude.{◌≡◌, ◌≤◌, length, IfOk, OnOk};
 ghost use Rattle.dns_names_wire.specs.Words.{value, lender};
 ghost use Rattle.uses.specs.Bounded.{IsBounded, max_reply};
 
-use dns_names_wire::binary::BinEncodable;
-use dns_names_wire::encoder::{BinEncoder, laws};
-use dns_names_wire::error::ProtoResult;
-use dns_names_wire::name::Name;
+use dns_names_wire::encoder::laws;
+use dns_names_wire::{BinEncodable, BinEncoder, Name, ProtoResult};
 use std::alloc::Global;
 
 /// The most bytes of a message over UDP without EDNS (RFC 1035, section 4.2.1).

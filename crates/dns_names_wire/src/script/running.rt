@@ -1,18 +1,16 @@
 //! Running a script.
-ghost use Rattle.std.specs.Prelude.{◌≡◌, ℕ, ◌+◌, ◌<◌, ◌≤◌, ◌^◌, List, [], length, map, IfOk, IfErr, OnErr, vec_len};
+ghost use Rattle.std.specs.Prelude.{◌≡◌, ℕ, ◌+◌, ◌<◌, ◌≤◌, ◌^◌, List, [], None, get_or, length, map, set, IfOk, IfErr, OnErr, vec_len};
 ghost use Rattle.std.specs.Vec.{vec_capacity};
 ghost use Rattle.std.specs.List.{AllByRecursion};
-ghost use Rattle.dnw_base.specs.Limits.{max_message};
 ghost use Rattle.dnw_error.specs.declared.error.ProtoError.{ProtoError};
-ghost use Rattle.dnw_encoder.specs.declared.encoder.modes.NameEncoding.{NameEncoding};
 ghost use Rattle.dnw_encoder.specs.Encoder.{TakesRoom, reserved, usual_candidates, usual_names};
 ghost use Rattle.dnw_encoder.specs.EncoderValue.{value, lender};
 ghost use Rattle.dns_names_wire.specs.Script.{action};
 ghost use Rattle.dns_names_wire.specs.Pieces.{Account, after, opening};
 ghost use Rattle.dns_names_wire.specs.Finished.{Finished, Shortest};
 ghost use Rattle.dns_names_wire.specs.Replies.{RepliesTo};
-ghost use Rattle.dns_names_wire.specs.Runs.{Run, Runs, RunsStep, RunsItems, GivesReply};
-ghost use Rattle.dns_names_wire.specs.Inside.Running.{FillsKept, HoldsPlace, KeepsPlace, Tracks, kept_at, reply_to, without};
+ghost use Rattle.dns_names_wire.specs.Runs.{Run, Runs, RunsStep, RunsItems, GivesReply, beginning};
+ghost use Rattle.dns_names_wire.specs.Inside.Running.{FillsKept, HoldsPlace, KeepsPlace, Tracks, reply_to};
 
 use super::{Item, Reply, Step};
 use dnw_encoder::binary::BinEncodable;
@@ -25,14 +23,15 @@ type Places = Vec<Option<Place<u16>>>;
 
 /// Writes the steps after what the buffer has, and returns a reply to each. If a step fails, those after it go on.
 ///
-/// The buffer's length must fit in 32 bits. Memory for the replies is allocated first: if it runs out, nothing is written.
+/// The buffer's length must fit in 32 bits. Memory for the replies is allocated first: if it runs out, nothing is written. A
+/// run of no steps does not allocate.
 pub fn run(alloc: Global, buf: &mut Vec<u8>, steps: &[Step]) -> ProtoResult<Vec<Reply>>
     requires { length buf.old.items < 2 ^ 32 }
     ensures replies { IfOk result (λ replies. RepliesTo (opening (length buf.old.items)) (map action steps.now) replies.items) }
     ensures finished { IfOk result (λ replies. Finished buf.old.items (map action steps.now) replies.items buf.new.items) }
     ensures shortest { IfOk result (λ replies. Shortest (length buf.old.items) usual_candidates usual_names (map action steps.now) replies.items) }
     ensures runs { IfOk result (λ replies. Run buf.old.items usual_candidates usual_names (map action steps.now) replies.items buf.new.items) }
-    ensures err { IfErr result (λ e. e ≡ ProtoError.Memory) }
+    ensures err { IfErr result (λ e. (1 ≤ length steps.now) × (e ≡ ProtoError.Memory)) }
     ensures same { OnErr result (buf.new.items ≡ buf.old.items) }
 {
     run_limited(alloc, buf, steps, CANDIDATE_LIMIT, NAME_LIMIT)
@@ -52,7 +51,7 @@ pub fn run_limited(
     ensures finished { IfOk result (λ replies. Finished buf.old.items (map action steps.now) replies.items buf.new.items) }
     ensures shortest { IfOk result (λ replies. Shortest (length buf.old.items) candidates names (map action steps.now) replies.items) }
     ensures runs { IfOk result (λ replies. Run buf.old.items candidates names (map action steps.now) replies.items buf.new.items) }
-    ensures err { IfErr result (λ e. e ≡ ProtoError.Memory) }
+    ensures err { IfErr result (λ e. (1 ≤ length steps.now) × (e ≡ ProtoError.Memory)) }
     ensures same { OnErr result (buf.new.items ≡ buf.old.items) }
 {
     run_all(alloc, buf, steps, candidates, names)
@@ -68,7 +67,7 @@ fn run_all(
 ) -> ProtoResult<Vec<Reply>>
     requires { length buf.old.items < 2 ^ 32 }
     ensures runs { IfOk result (λ replies. Run buf.old.items candidates names (map action steps.now) replies.items buf.new.items) }
-    ensures err { IfErr result (λ e. e ≡ ProtoError.Memory) }
+    ensures err { IfErr result (λ e. (1 ≤ length steps.now) × (e ≡ ProtoError.Memory)) }
     ensures same { OnErr result (buf.new.items ≡ buf.old.items) }
 {
     let mut replies = Vec::with_capacity(alloc, steps.len())?;
@@ -87,9 +86,7 @@ fn run_steps(
     places: &mut Places,
     replies: &mut Vec<Reply>,
 )
-    requires at_end { (value encoder.old).offset ≡ length (value encoder.old).bytes }
-    requires whole { (value encoder.old).max_size ≡ max_message }
-    requires compressed { (value encoder.old).encoding ≡ NameEncoding.Compressed }
+    requires begins { value encoder.old ≡ beginning (value encoder.old).bytes (value encoder.old).candidate_limit (value encoder.old).name_limit }
     requires no_places { places.old.items ≡ [] }
     requires no_replies { replies.old.items ≡ [] }
     requires room_for_places { length steps.now ≤ vec_capacity places.old }
@@ -189,8 +186,8 @@ fn reserve(encoder: &mut BinEncoder<'_>, places: &mut Places) -> Reply
 /// Fills a placeholder, which is used up also if this fails.
 fn fill(encoder: &mut BinEncoder<'_>, places: &mut Places, number: usize, filling: u16) -> Reply
     requires holds { AllByRecursion (HoldsPlace (value encoder.old)) places.old.items }
-    ensures fills { FillsKept (value encoder.old) (kept_at number places.old.items) filling result (value encoder.new) }
-    ensures spends { places.new.items ≡ without number places.old.items }
+    ensures fills { FillsKept (value encoder.old) (get_or places.old.items number None) filling result (value encoder.new) }
+    ensures spends { places.new.items ≡ set places.old.items number None }
     ensures len { vec_len places.new ≡ vec_len places.old }
     ensures room { vec_capacity places.new ≡ vec_capacity places.old }
     ensures lender { lender encoder.new ≡ lender encoder.old }
@@ -204,8 +201,8 @@ fn fill(encoder: &mut BinEncoder<'_>, places: &mut Places, number: usize, fillin
 
 /// Takes the placeholder of this number, if there is one that is not used up.
 fn take_place(places: &mut Places, number: usize) -> Option<Place<u16>>
-    ensures place { result ≡ kept_at number places.old.items }
-    ensures spends { places.new.items ≡ without number places.old.items }
+    ensures place { result ≡ get_or places.old.items number None }
+    ensures spends { places.new.items ≡ set places.old.items number None }
     ensures len { vec_len places.new ≡ vec_len places.old }
     ensures room { vec_capacity places.new ≡ vec_capacity places.old }
 {

@@ -1,5 +1,6 @@
 -- Marks: candidates that share a tag are linked in a ring, so that a search passes over all others.
-use Rattle.std.specs.Prelude.{◌≡◌, ℕ, ◌+◌, ◌-◌, ◌*◌, ◌/◌, ◌%◌, ◌<◌, ◌≤◌, ◌&&◌, nat_lt, if◌then◌else◌, List, ◌∷◌, get_or, length, map, take}
+use Rattle.std.specs.Prelude.{◌≡◌, ℕ, ◌+◌, ◌-◌, ◌*◌, ◌/◌, ◌%◌, ◌<◌, ◌≤◌, ◌&&◌, nat_lt, if◌then◌else◌, Option, Some, None, IfSome, List, [], ◌∷◌, get_or, length, take}
+use Rattle.std.specs.List.{AllWithin}
 use Rattle.dnw_base.specs.Names.{labels_wire}
 use Rattle.dnw_reading.specs.Reading.{NameAt}
 use Rattle.dnw_candidates.specs.Candidates.{Candidate}
@@ -23,42 +24,55 @@ tag (len ∷ first ∷ second ∷ rest) =
     (length bytes % 256 * 51 + (pair first second * 18191 + (label_end bytes 0 len + label_end bytes (len + 1) (get_or bytes (len + 1) 0) * 5)) / 256) % 256
 tag bytes = length bytes % 256
 
-abbrev pub tags : List Candidate → List ℕ
-tags candidates = map (λ c. tag c.1) candidates
+-- the tag of the i-th candidate
+abbrev pub tag_at : List Candidate → ℕ → ℕ
+tag_at candidates i = tag (get_or candidates i (0, [])).1
 
--- ---- rings
-
--- No candidate from this one on has the tag.
-abbrev pub NoneFrom : List ℕ → ℕ → ℕ → Type 0
-NoneFrom tags t from = (i : ℕ) → from ≤ i → get_or tags i 256 ≡ t → ⊥
+-- ---- rings: T is the tag of each candidate, and the first n are linked
 
 -- No candidate from this one on and before the other has the tag.
-abbrev pub NoneBetween : List ℕ → ℕ → ℕ → ℕ → Type 0
-NoneBetween tags t from to = (i : ℕ) → from ≤ i → i < to → get_or tags i 256 ≡ t → ⊥
+abbrev pub NoneBetween : (ℕ → ℕ) → ℕ → ℕ → ℕ → Type 0
+NoneBetween T t from to = (i : ℕ) → from ≤ i → i < to → T i ≡ t → ⊥
 
--- The i-th candidate leads to the n-th, the next one of its tag; the last one, whose number is given, to the first.
-pub record LeadsTo (tags : List ℕ) (t last i n : ℕ) : Type 0 where
-  pub same : get_or tags n 256 ≡ t
-  pub onward : i + 1 < last → (i < n) × NoneBetween tags t (i + 1) n
-  pub round : last ≤ i + 1 → NoneBetween tags t 0 n
+-- the candidate that was found, or n
+abbrev pub place : ℕ → Option ℕ → ℕ
+place n None = n
+place n (Some i) = i
 
--- The candidates of a tag are linked, and the number of the last one is given, counted from 1; it is 0 if there is none.
-pub record IsRing (tags next : List ℕ) (t last : ℕ) : Type 0 where
-  pub some : 1 ≤ last → get_or tags (last - 1) 256 ≡ t
-  pub none : NoneFrom tags t last
-  pub each : (i : ℕ) → get_or tags i 256 ≡ t → LeadsTo tags t last i (get_or next i 0)
+-- The first candidate from this one on that has the tag, if there is one.
+pub record FindsNext (T : ℕ → ℕ) (n t from : ℕ) (found : Option ℕ) : Type 0 where
+  pub some : IfSome found (λ i. (i < n) × (T i ≡ t))
+  pub order : from ≤ place n found
+  pub none : NoneBetween T t from (place n found)
 
--- The candidates with these tags are linked.
-abbrev pub AreLinked : List ℕ → List ℕ → List ℕ → Type 0
-AreLinked last next tags = (t : ℕ) → t < 256 → IsRing tags next t (get_or last t 0)
+-- The candidates of a tag are linked, each to the next one and the last to the first. The number of the last one is given,
+-- counted from 1; it is 0 if there is none.
+pub record IsRing (T : ℕ → ℕ) (next : List ℕ) (n t last : ℕ) : Type 0 where
+  pub few : last ≤ n
+  pub some : 1 ≤ last → T (last - 1) ≡ t
+  pub none : NoneBetween T t last n
+  pub first : 1 ≤ last → FindsNext T n t 0 (Some (get_or next (last - 1) 0))
+  pub each : (i : ℕ) → i + 1 < last → T i ≡ t → FindsNext T n t (i + 1) (Some (get_or next i 0))
+
+-- The first n are linked.
+abbrev pub AreLinked : List ℕ → List ℕ → ℕ → (ℕ → ℕ) → Type 0
+AreLinked last next n T = (t : ℕ) → t < 256 → IsRing T next n t (get_or last t 0)
+
+-- The first ones of the candidates, these, are linked, whatever follows them.
+pub record IsLinkedFront (last next : List ℕ) (count : ℕ) (front : List Candidate) : Type 0 where
+  pub whatever : (all : List Candidate) → take count all ≡ front → AreLinked last next count (tag_at all)
 
 -- The first ones of the candidates are linked, so many.
 pub record AreMarked (last next : List ℕ) (count : ℕ) (candidates : List Candidate) : Type 0 where
   pub few : count ≤ length candidates
-  pub linked : AreLinked last next (tags (take count candidates))
+  pub linked : IsLinkedFront last next count (take count candidates)
 
 -- ---- the search
 
 -- The candidate does not have the bytes of the labels, or they are not read at its offset.
 abbrev pub CannotBe : List ℕ → List (List ℕ) → Candidate → Type 0
 CannotBe message labels c = c.1 ≡ labels_wire labels → (end pointers : ℕ) → NameAt message c.0 labels end pointers → ⊥
+
+-- None of the first n candidates is usable.
+abbrev pub NoneBefore : List ℕ → List (List ℕ) → List Candidate → ℕ → Type 0
+NoneBefore message labels candidates n = AllWithin (CannotBe message labels) candidates 0 n

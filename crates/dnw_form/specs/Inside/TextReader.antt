@@ -1,12 +1,13 @@
 -- What the reader of a name's text holds, and labels that are read whole.
-use Rattle.std.specs.Prelude.{◌≡◌, ℕ, ◌+◌, ◌-◌, ◌*◌, ◌<◌, ◌≤◌, ◌⊎◌, ⊤, Bool, true, ◌||◌, ◌&&◌, ◌==◌, nat_lt, if◌then◌else◌, List, [], ◌∷◌, ◌++◌, length, take, get_or, Result, Ok, encode_utf8}
+use Rattle.std.specs.Prelude.{◌≡◌, ℕ, ◌+◌, ◌-◌, ◌*◌, ◌<◌, ◌≤◌, ◌⊎◌, ⊤, Bool, true, ◌||◌, ◌&&◌, ◌==◌, nat_lt, if◌then◌else◌, List, [], ◌∷◌, ◌++◌, length, take, drop, get_or, Result, Ok, Err, encode_utf8}
 use Rattle.std.specs.List.{list_all}
-use Rattle.std.specs.Str.{chars}
-use Rattle.dnw_error.specs.Fault.{Fault, UnrecognizedChar, IllegalChar}
+use Rattle.std.specs.Str.{chars, IsCharBoundary}
+use Rattle.dnw_error.specs.Fault.{Fault, UnrecognizedChar, IllegalChar, ◌>>=◌}
 use Rattle.dnw_base.specs.Labels.{IsLabel}
 use Rattle.dnw_base.specs.Labels.{asterisk}
 use Rattle.dnw_label.specs.LabelText.{backslash, dash, dot, is_safe, label_from_text}
 use Rattle.dnw_base.specs.Names.{NameValue, AreLabels, wire}
+use Rattle.dnw_form.specs.Edits.{with_label}
 use Rattle.dnw_form.specs.NameText.{State, Outside, Escaped, AfterOne, AfterTwo, TextElement, Char, Dot, Stop, elements, is_octal_digit, name_from_elements}
 use Rattle.dnw_form.specs.declared.text.State.{State as Held}
 use Rattle.dnw_form.specs.declared.text.State.TheVariants.{Outside as HeldOutside, Escaped as HeldEscaped, AfterOne as HeldAfterOne, AfterTwo as HeldAfterTwo}
@@ -50,6 +51,11 @@ IsAlike a b = (a ≡ b) ⊎ ((63 < length a) × (length a ≡ length b))
 abbrev pub is_simple : ℕ → Bool
 is_simple c = nat_lt c 128 && (is_safe c || c == dash)
 
+-- The text begins with n simple characters.
+pub record IsRun (text : List ℕ) (n : ℕ) : Type 0 where
+  pub few : n ≤ length text
+  pub simple : list_all is_simple (take n text) ≡ true
+
 -- the same, or `*`
 abbrev pub is_own : ℕ → Bool
 is_own c = nat_lt c 128 && (is_safe c || c == dash || c == asterisk)
@@ -63,8 +69,12 @@ pub record IsSimpleLabel (label : List ℕ) : Type 0 where
 -- The text begins with a simple label of n bytes, and a dot follows.
 pub record IsDottedLabel (text : List ℕ) (n : ℕ) : Type 0 where
   pub inside : n < length text
-  pub label : IsSimpleLabel (take n text)
+  pub simple : IsSimpleLabel (take n text)
   pub dotted : get_or text n 0 ≡ dot
+
+-- what reading gives if it stops
+abbrev pub fails_with : Fault → Result NameValue Fault
+fails_with fault = Err fault
 
 -- what reading the characters gives, after the labels so far and the text collected for the next one
 unfoldable pub name_from_rest : List (List ℕ) → List ℕ → State → List ℕ → Result NameValue Fault
@@ -84,6 +94,22 @@ pub record PutsLengths (text octets : List ℕ) (is_fqdn : Bool) : Type 0 where
   pub are_labels : AreLabels labels
   pub name : name_from_rest [] [] Outside (chars text) ≡ Ok (record { is_fqdn = is_fqdn; labels = labels })
   pub form : octets ≡ wire labels ++ (if is_fqdn then 0 ∷ [] else [])
+
+-- The text begins with n bytes that add these bytes to the label that is next, and may be cut after them.
+pub record Begins (text : List ℕ) (n : ℕ) (bytes : List ℕ) : Type 0 where
+  pub inside : n ≤ length text
+  pub cut : IsCharBoundary text n
+  pub few : length bytes ≤ n
+  pub read : (ls : List (List ℕ)) (label : List ℕ)
+      → name_from_rest ls label Outside (chars text) ≡ name_from_rest ls (label ++ bytes) Outside (chars (drop n text))
+
+-- The text begins with a label of n bytes and a dot, and may be cut after them.
+pub record BeginsWithLabel (text : List ℕ) (n : ℕ) : Type 0 where
+  pub inside : n < length text
+  pub cut : IsCharBoundary text (n + 1)
+  pub label : IsLabel (take n text)
+  pub read : (ls : List (List ℕ)) → name_from_rest ls [] Outside (chars text)
+      ≡ (with_label ls (take n text) >>= (λ longer. name_from_rest longer [] Outside (chars (drop (n + 1) text))))
 
 -- The text begins with an octal escape of this character, and goes on with the rest.
 pub record BeginsWithEscape (text : List ℕ) (char : ℕ) (rest : List ℕ) : Type 0 where

@@ -4,8 +4,8 @@ use Rattle.std.proofs.Common.{IsTrue, refl, ap, ◌∙◌}
 use Rattle.std.specs.Ordering.{eq_by_cmp, as_partial_cmp}
 use Rattle.std.specs.Cmp.{IsTotalOrder, IsPartialOrder, IsEquivalence, IsPartialEquivalence, po, then_total, on_total, and_equiv, on_equiv, partial_equiv_from_equiv, both_tied, first_so, second_so}
 use Rattle.std.specs.Hash.{HashWrites}
-use Rattle.dnw_error.specs.RecordTypes.{type_cmp, type_hash}
-use Rattle.dnw_error.specs.Inside.RecordTypeLaws.{types-hash_alike}
+use Rattle.dnw_codes.specs.RecordTypes.{type_cmp, type_hash}
+use Rattle.dnw_codes.specs.Inside.RecordTypeLaws.{types-hash_alike}
 use Rattle.dnw_order.specs.Order.{name_cmp_case, name_eq_case}
 use Rattle.dnw_order.specs.OrderLaws.{name_cmp_case_total, name_eq_case_equiv, name_case_ties}
 use Rattle.dnw_lower.specs.LowerNames.{lower_name_hash_input, lower_name_hash_alike}

@@ -6,8 +6,8 @@ use Rattle.std.specs.Cmp.{IsTotalOrder, IsEquivalence, IsPartialEquivalence, on_
 use Rattle.std.specs.Cmp.Lexicographic.{pointwise, lists_equiv}
 use Rattle.std.specs.Hash as fed
 use Rattle.std.specs.Hash.{HashWrites, on_Alike, items_Alike}
-use Rattle.dnw_error.specs.RecordTypes.{type_cmp, type_code, is_unknown, type_hash}
-use Rattle.dnw_error.specs.Inside.RecordTypeLaws.{types-hash_alike}
+use Rattle.dnw_codes.specs.RecordTypes.{type_cmp, type_code, is_unknown, type_hash}
+use Rattle.dnw_codes.specs.Inside.RecordTypeLaws.{types-hash_alike}
 use Rattle.dnw_kinds.specs.TypeSets.{TypeSet}
 
 pub types-total : IsTotalOrder type_cmp

@@ -1,11 +1,11 @@
 //! Reading type bitmaps (RFC 4034, section 4.1.2).
 ghost use Rattle.std.specs.Prelude.{◌≡◌, ◌↔◌, [], ◌∷◌, MatchOption, ◌+◌, ◌*◌, ◌≤◌, ◌<◌, ◌++◌, length, map, take, drop, ◌==◌, ◌-◌, IsTrue, IfOk, OnOk, OnErr, vec_len, vec_capacity};
 ghost use Rattle.std.specs.Int.{bit_at};
-ghost use Rattle.dnw_error.specs.RecordTypes.{type_of_code};
+ghost use Rattle.dnw_codes.specs.RecordTypes.{type_of_code};
 ghost use Rattle.dnw_kinds.specs.TypeSets.{windows_of, in_bounds, NumbersFrom, ends_in_zeros, bit_codes, octet_codes, octets_codes, window_codes, windows_codes};
 ghost use Rattle.dnw_kinds.specs.Inside.Bitmaps.{SplitsWindow, window_fits};
 
-use dnw_error::record_type::RecordType;
+use dnw_codes::record_type::RecordType;
 use std::alloc::AllocError;
 
 /// The most octets of a window: one bit for each of its 256 codes.

@@ -2,7 +2,7 @@
 ghost use Rattle.std.specs.Prelude.{◌≡◌};
 ghost use Rattle.std.specs.Iterator.{YieldsFirst, item_count};
 
-use dnw_error::record_type::RecordType;
+use dnw_codes::record_type::RecordType;
 use std::marker::Model;
 
 /// An iterator over the types of a set, in ascending order.
@@ -15,7 +15,7 @@ pub struct TypeIter<'a> {
 
 impl<'a> Model for TypeIter<'a> {
     ghost use Rattle.std.specs.Prelude.{List};
-    ghost use Rattle.dnw_error.specs.declared.record_type.RecordType.{RecordType};
+    ghost use Rattle.dnw_codes.specs.declared.record_type.RecordType.{RecordType};
 
     ghost Value = { List RecordType };
 

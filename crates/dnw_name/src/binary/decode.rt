@@ -7,9 +7,9 @@ ghost use Rattle.dnw_name.specs.Decodable.{TakesU16, TakesU32, TakesI32, TakesTy
 use crate::name::Name;
 use dnw_base::decoder::BinDecoder;
 use dnw_base::restrict::Restrict;
-use dnw_error::dns_class::DNSClass;
+use dnw_codes::dns_class::DNSClass;
+use dnw_codes::record_type::RecordType;
 use dnw_error::error::DecodeError;
-use dnw_error::record_type::RecordType;
 use std::alloc::Global;
 
 /// Types that can be read from a message. Each says which octets are one of its values, so generic callers know what

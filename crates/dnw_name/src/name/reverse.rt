@@ -6,7 +6,7 @@ ghost use Rattle.dnw_reverse.specs.ArpaNets.{ReadsNet};
 
 use crate::name::Name;
 use dnw_error::error::{ProtoError, ProtoResult};
-use dnw_net::net::IpNet;
+use dnw_reverse::net::IpNet;
 use dnw_reverse::reading::read_net;
 use dnw_reverse::writing::{ipv4_form, ipv6_form};
 use std::alloc::Global;

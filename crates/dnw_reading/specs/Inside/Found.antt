@@ -37,18 +37,24 @@ pub record IsFound (b : List ℕ) (p : ℕ) (walked : Walked) (count pointers : 
   pub lies : LiesAt b walked.first walked.size count walked.in_one_piece
   pub same : labels_at b walked.first ≡ labels_at b p
 
--- A copy has come to position, with the octets from run on still to be written: what is written, these octets and the
--- wire form of the labels that follow make the wire form of the whole name.
-pub record Copies (b : List ℕ) (start run position : ℕ) (written : List ℕ) : Type 0 where
-  pub labels : List (List ℕ)
-  pub segment : ℕ
+-- The labels at p are read there, in a segment that began at s.
+pub record ReadsOn (b : List ℕ) (s p : ℕ) : Type 0 where
   pub limit : Option ℕ
   pub end : ℕ
   pub pointers : ℕ
-  pub reads : Reads b position segment limit labels end pointers
+  pub reads : Reads b p s limit (labels_at b p) end pointers
+  pub back : s ≤ p
+  pub few : length (labels_at b p) ≤ max_labels
+  pub inside : p < length b
+
+-- A copy has come to position, with the octets from run on still to be written: what is written, these octets and the
+-- wire form of the labels that follow make the wire form of the whole name.
+pub record Copies (b : List ℕ) (start run position : ℕ) (written : List ℕ) : Type 0 where
+  pub segment : ℕ
+  pub on : ReadsOn b segment position
   pub order : run ≤ position
   pub back : segment ≤ run
-  pub whole : written ++ (slice_range b run position ++ wire labels) ≡ wire (labels_at b start)
+  pub whole : written ++ (slice_range b run position ++ wire (labels_at b position)) ≡ wire (labels_at b start)
   pub short : length (wire (labels_at b start)) ≤ max_name
 
 -- A copy has put what is written at the front of a buffer.
@@ -58,15 +64,10 @@ pub record IsFilled (b : List ℕ) (start run position : ℕ) (buffer out : List
   pub size : filled ≡ length written
   pub is : out ≡ put buffer written
 
--- Labels are read at p, in a segment that began there or before.
+-- The labels at p are read there.
 pub record MoreAt (b : List ℕ) (p : ℕ) : Type 0 where
   pub segment : ℕ
-  pub limit : Option ℕ
-  pub end : ℕ
-  pub pointers : ℕ
-  pub reads : Reads b p segment limit (labels_at b p) end pointers
-  pub back : segment ≤ p
-  pub few : length (labels_at b p) ≤ max_labels
+  pub on : ReadsOn b segment p
 
 -- Pointers lead from p to t, the offset of a label or of the end of the name.
 pub record LeadsTo (b : List ℕ) (p t : ℕ) : Type 0 where

@@ -6,9 +6,9 @@ ghost use Rattle.dnw_record.specs.Records.{TakesRecord, FailsRecord, HasDataName
 ghost use Rattle.dnw_record.specs.Fields.{FieldsOf};
 
 use dnw_base::decoder::BinDecoder;
-use dnw_error::dns_class::DNSClass;
+use dnw_codes::dns_class::DNSClass;
+use dnw_codes::record_type::RecordType;
 use dnw_error::error::DecodeError;
-use dnw_error::record_type::RecordType;
 use dnw_name::binary::BinDecodable;
 use dnw_name::name::Name;
 use dnw_name::name_ref::NameRef;

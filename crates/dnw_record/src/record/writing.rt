@@ -1,8 +1,9 @@
 //! Records are written.
-ghost use Rattle.std.specs.Prelude.{◌≡◌};
+ghost use Rattle.std.specs.Prelude.{◌≡◌, OnOk};
 ghost use Rattle.dnw_encoder.specs.Encoder.{mode_of_rdata};
 ghost use Rattle.dnw_encoder.specs.EncoderValue.{value, lender};
-ghost use Rattle.dnw_record.specs.WrittenRecords.{EmitsData, EmitsDataName, EmitsSized, EmitsFields, EmitsRecord, type_class_ttl};
+ghost use Rattle.dnw_record.specs.WrittenRecords.{EmitsData, EmitsDataName, EmitsFields, EmitsRecord, NumbersFit, type_class_ttl};
+ghost use Rattle.dnw_record.specs.Parts.{EmitsSized};
 ghost use Rattle.dnw_record.specs.RecordFrames.{frame-data, frame-record};
 
 use super::{WireData, WireRecord};
@@ -45,6 +46,7 @@ impl BinEncodable for WireRecord {
 /// Writes the fields of a record in turn, up to the first that fails.
 fn emit_fields(item: &WireRecord, encoder: &mut BinEncoder<'_>) -> ProtoResult<()>
     ensures writes { EmitsFields item.now (value encoder.old) result (value encoder.new) }
+    ensures fit { OnOk result (NumbersFit item.now) }
     ensures lender { lender encoder.new ≡ lender encoder.old }
 {
     item.owner.emit(encoder)?;
@@ -55,7 +57,8 @@ fn emit_fields(item: &WireRecord, encoder: &mut BinEncoder<'_>) -> ProtoResult<(
 /// Returns the type, the class and the time to live, as they are written.
 #[inline(always)]
 fn type_class_ttl(item: &WireRecord) -> [u8; 8]
-    ensures { result ≡ type_class_ttl item.now }
+    ensures octets { result ≡ type_class_ttl item.now }
+    ensures fit { NumbersFit item.now }
 {
     let kind = u16::to_be_bytes(u16::from(item.record_type));
     let class = u16::to_be_bytes(u16::from(item.class));
@@ -67,7 +70,7 @@ fn type_class_ttl(item: &WireRecord) -> [u8; 8]
 
 /// Writes data after their length.
 fn emit_sized(rdata: &WireData, encoder: &mut BinEncoder<'_>) -> ProtoResult<()>
-    ensures writes { EmitsSized rdata.now (value encoder.old) result (value encoder.new) }
+    ensures writes { EmitsSized (EmitsData rdata.now) (value encoder.old) result (value encoder.new) }
     ensures lender { lender encoder.new ≡ lender encoder.old }
 {
     let place = encoder.place::<u16>()?;

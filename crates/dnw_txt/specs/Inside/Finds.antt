@@ -1,9 +1,9 @@
 -- What the parts of a lexer find, and what is left of a time.
 use Rattle.std.specs.Prelude.{◌≡◌, ℕ, ◌+◌, ◌-◌, ◌<◌, ◌≤◌, ⊤, Bool, true, false, ◌&&◌, ◌||◌, ◌==◌, not, nat_lt, List, [], ◌∷◌, ◌++◌, length, take, drop, Option, Some, None, option_map, Result, Ok, Err}
-use Rattle.std.specs.Char.{is_whitespace, is_ascii_digit}
+use Rattle.std.specs.Char.{is_ascii_digit}
 use denote.Ref.{Bor}
 use Rattle.std.specs.Str.{chars, IsUtf8, IsCharBoundary}
-use Rattle.dnw_txt.specs.Tokens.{LexState, StartLine, RestOfLine, Failed, Step, Gives, Ends, before, from, is_line_end, quote, backslash, semicolon, close_paren, Plain, Escaped, quoted_after}
+use Rattle.dnw_txt.specs.Tokens.{LexState, StartLine, RestOfLine, Failed, Step, Gives, Ends, before, from, quote, backslash, semicolon, close_paren, QuoteState, Plain, Escaped, quoted_after}
 use Rattle.dnw_txt.specs.Times.{groups_after, total_seconds}
 use Rattle.dnw_txt.specs.Lexing.{token_value, Fails}
 use Rattle.dnw_txt.specs.declared.zone_lex.State.{State}
@@ -30,10 +30,6 @@ pub record CutsBefore (p : ℕ → Bool) (text : List ℕ) (n : ℕ) : Type 0 wh
   pub front : chars (take n text) ≡ before p (chars text)
   pub back : chars (drop n text) ≡ from p (chars text)
 
--- no white space, or the end of the line
-abbrev pub is_no_gap : ℕ → Bool
-is_no_gap c = is_line_end c || not (is_whitespace c)
-
 -- a character of a word that is a byte
 abbrev pub is_plain : ℕ → Bool
 is_plain c = nat_lt 32 c && nat_lt c 127 && not (c == semicolon) && not (c == close_paren)
@@ -47,10 +43,14 @@ abbrev pub BeginsWith : List ℕ → Option (ℕ × Bor (List ℕ)) → Type 0
 BeginsWith text None = chars text ≡ []
 BeginsWith text (Some (c, rest)) = (chars text ≡ c ∷ chars rest.now) × IsShorter rest.now text
 
--- An escape is read after its backslash: its character joins the text, and the rest is read on.
+-- The rest of an escape is read: its character joins the text, and what is after it is read on.
+abbrev pub EscapesFrom : QuoteState → List ℕ → Result (ℕ × Bor (List ℕ)) LexerError → Type 0
+EscapesFrom state cs (Ok (c, rest)) = (text : List ℕ) → quoted_after text state cs ≡ quoted_after (text ++ c ∷ []) Plain (chars rest.now)
+EscapesFrom state cs (Err e) = (text : List ℕ) → Fails (quoted_after text state cs) e
+
+-- An escape is read after its backslash.
 abbrev pub Escapes : List ℕ → Result (ℕ × Bor (List ℕ)) LexerError → Type 0
-Escapes cs (Ok (c, rest)) = (text : List ℕ) → quoted_after text Escaped cs ≡ quoted_after (text ++ c ∷ []) Plain (chars rest.now)
-Escapes cs (Err e) = (text : List ℕ) → Fails (quoted_after text Escaped cs) e
+Escapes cs result = EscapesFrom Escaped cs result
 
 -- the first character is a decimal digit, or a fault
 abbrev pub ReadsDigit : List ℕ → Result (ℕ × Bor (List ℕ)) LexerError → Type 0
@@ -58,9 +58,18 @@ ReadsDigit cs (Ok (d, rest)) = (c : ℕ) × (cs ≡ c ∷ chars rest.now) × (is
 ReadsDigit [] (Err e) = e ≡ EOF
 ReadsDigit (c ∷ cs) (Err e) = (is_ascii_digit c ≡ false) × (e ≡ IllegalCharacter c)
 
+-- one of two characters
+abbrev pub is_either : ℕ → ℕ → ℕ → Bool
+is_either a b c = c == a || c == b
+
 -- a quote or a backslash
 abbrev pub ends_run : ℕ → Bool
 ends_run c = c == quote || c == backslash
+
+-- the text ends, or begins with a quote or a backslash
+abbrev pub StopsRun : List ℕ → Type 0
+StopsRun [] = ⊤
+StopsRun (c ∷ cs) = ends_run c ≡ true
 
 -- the seconds of a time after groups of so many seconds and the digits of a number
 abbrev pub seconds_after : ℕ → Option ℕ → List ℕ → Option ℕ

@@ -1,16 +1,21 @@
-use Rattle.std.proofs.Common.{◌≡◌, ◌+◌, ◌^◌, ◌<◌, ◌≤◌, ◌++◌, length, take, vec_len, vec_capacity}
+use Rattle.std.proofs.Common.{ℕ, ◌≡◌, ◌+◌, ◌<◌, ◌≤◌, ◌++◌, length, take, drop, vec_len, vec_capacity}
 use Rattle.dnw_base.specs.Limits.{pointer_reach}
 use Rattle.dnw_base.specs.Names.{labels_wire}
-use Rattle.dnw_candidates.specs.Inside.Store.{entries_of}
+use Rattle.dnw_candidates.specs.Candidates.{suffixes}
+use Rattle.dnw_candidates.specs.Inside.Store.{AreHeld, held}
 use Rattle.dnw_candidates.proofs.store.push_entries.Given as goal
 
 -- what is left, put after what was added, is what was to be added
 abbrev pub invariant-suffixes : goal.invariant-suffixes
-invariant-suffixes l =
-    (vec_len l.entries + l.left ≤ vec_capacity l.entries) × (l.from + length (labels_wire l.labels) < 2 ^ 64)
-    × (l.start + length (labels_wire l.labels) < pointer_reach)
-    × (l.entries.items ++ entries_of l.left l.from l.start l.labels ≡ l.initial.entries.items ++ entries_of l.fn.most l.fn.from l.fn.start l.fn.labels)
-    × (l.start + length (labels_wire (take l.left l.labels)) ≡ l.fn.start + length (labels_wire (take l.fn.most l.fn.labels)))
+invariant-suffixes l = record {
+  room : vec_len l.entries + l.left ≤ vec_capacity l.entries;
+  from : l.from ≤ length l.bytes;
+  bytes : drop l.from l.bytes ≡ labels_wire l.labels;
+  reached : l.start + length (labels_wire l.labels) < pointer_reach;
+  kept : (to : ℕ) → l.end ≤ to → l.start ≤ to → AreHeld (length l.bytes) to l.entries.items;
+  items : held l.bytes l.entries.items ++ take l.left (suffixes l.start l.labels)
+      ≡ held l.bytes l.initial.entries.items ++ take l.fn.most (suffixes l.fn.start l.fn.labels);
+}
 
 abbrev pub decreases-suffixes : goal.decreases-suffixes
 decreases-suffixes l = l.left

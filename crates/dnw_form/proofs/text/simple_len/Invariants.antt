@@ -1,13 +1,9 @@
-use Rattle.std.proofs.Common.{◌≡◌, ◌-◌, ◌≤◌, length, take, true}
-use Rattle.std.specs.List.{list_all}
-use Rattle.dnw_form.specs.Inside.TextReader.{is_simple}
+use Rattle.std.proofs.Common.{◌-◌, length}
+use Rattle.dnw_form.specs.Inside.TextReader.{IsRun}
 use Rattle.dnw_form.proofs.text.simple_len.Given as goal
 
 abbrev pub invariant-loop-len : goal.invariant-loop-len
-invariant-loop-len l = record {
-  few : l.len ≤ length l.text;
-  simple : list_all is_simple (take l.len l.text) ≡ true;
-}
+invariant-loop-len l = IsRun l.text l.len
 
 abbrev pub decreases-loop-len : goal.decreases-loop-len
 decreases-loop-len l = length l.text - l.len

@@ -1,5 +1,5 @@
 use Rattle.std.proofs.Common.{◌≡◌, ◌++◌, map, drop}
-use Rattle.dnw_error.specs.RecordTypes.{type_code}
+use Rattle.dnw_codes.specs.RecordTypes.{type_code}
 use Rattle.dnw_kinds.proofs.record_type_set.codes.Given as goal
 
 -- what is left, from here, gives what all gives from the start

@@ -1,6 +1,6 @@
 use Rattle.std.proofs.Common.{◌∷◌, drop}
 use Rattle.std.specs.List.Sorted.{IsStrictlySortedBy}
-use Rattle.dnw_error.specs.RecordTypes.{type_cmp}
+use Rattle.dnw_codes.specs.RecordTypes.{type_cmp}
 use Rattle.dnw_kinds.proofs.record_type_set.is_ascending.Given as goal
 
 -- if the last type and those that are left ascend, all do

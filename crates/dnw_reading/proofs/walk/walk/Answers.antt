@@ -1,23 +1,24 @@
 -- What stands at the start is a name or a fault, and each takes few steps.
-use Rattle.std.proofs.Common.{◌≤◌, min, arith}
-use Rattle.std.proofs.lemmas.Result.{IfOk-weaker}
+use Rattle.std.proofs.Common.{ℕ, ◌≤◌, min, List, Result, Ok, Err, IfOk, IfErr, arith}
+use Rattle.dnw_error.specs.declared.error.DecodeError.{DecodeError}
+use Rattle.dnw_reading.specs.declared.walk.Walked.{Walked}
+use Rattle.dnw_reading.specs.Reading.{FaultAt}
 use Rattle.dnw_reading.specs.ReadingLaws.{AreBytes}
-use Rattle.dnw_reading.proofs.Leading.{IsFound-walked, Walk-few}
+use Rattle.dnw_reading.specs.Inside.Found.{IsFound, labels_at}
+use Rattle.dnw_reading.proofs.Counts.{name_steps, fault_steps}
 use Rattle.dnw_reading.proofs.walk.walk.Goals as goal
-use Rattle.dnw_reading.proofs.walk.walk.Goals.{After-walk_elements}
 
-bytes : (c : After-walk_elements) → AreBytes c.args.message.now
-bytes c i = omega (arith, c.type_inv.message i)
-
-pub returns-clause-ok : goal.returns-clause-ok
-returns-clause-ok c =
-    IfOk-weaker _ _ _ (λ w found. IsFound-walked _ _ _ _ w found) c.walk_elements.ensures.ok
-
-few : (c : After-walk_elements) → (c.walk_elements.new.steps.pointers ≤ min c.args.start 16384) × (c.walk_elements.new.steps.labels ≤ 128)
-few c = Walk-few _ _ _ _ c.walk_elements.result (bytes c) (returns-clause-ok c) c.walk_elements.ensures.err
+few : (b : List ℕ) (p k j : ℕ) (answer : Result Walked DecodeError) → AreBytes b → IfOk answer (λ w. IsFound b p w j k)
+    → IfErr answer (λ e. FaultAt b p e k j) → (k ≤ min p 16384) × (j ≤ 128)
+few b p k j (Ok w) bytes ok err =
+    let (pointers, labels) = name_steps b p (labels_at b p) w.end k bytes ok.stands.name in
+    (pointers, omega (arith, ok.stands.count_is))
+few b p k j (Err e) bytes ok err = fault_steps b p e k j bytes err
 
 pub returns-clause-few_pointers : goal.returns-clause-few_pointers
-returns-clause-few_pointers c = (few c).0
+returns-clause-few_pointers c =
+    (few _ _ _ _ c.walk_elements.result (λ i. omega (arith, c.type_inv.message i)) c.walk_elements.ensures.ok c.walk_elements.ensures.err).0
 
 pub returns-clause-few_labels : goal.returns-clause-few_labels
-returns-clause-few_labels c = (few c).1
+returns-clause-few_labels c =
+    (few _ _ _ _ c.walk_elements.result (λ i. omega (arith, c.type_inv.message i)) c.walk_elements.ensures.ok c.walk_elements.ensures.err).1

@@ -1,12 +1,12 @@
 use Rattle.std.proofs.Common.{◌≡◌, ◌≤◌, ◌<◌, ◌-◌, None, length, drop}
-use Rattle.dnw_txt.specs.Times.{max_ttl}
+use Rattle.dnw_txt.specs.Times.{max_ttl, time_seconds}
 use Rattle.dnw_txt.specs.Inside.Finds.{seconds_after}
 use Rattle.dnw_txt.proofs.ttl.seconds.Given as goal
 
 -- what is left, after the groups so far, gives what all gives
 abbrev pub invariant-loop-seconds : goal.invariant-loop-seconds
 invariant-loop-seconds l = record {
-  value : seconds_after l.total None (drop l.index l.text) ≡ seconds_after 0 None l.text;
+  value : seconds_after l.total None (drop l.index l.text) ≡ time_seconds l.text;
   total : l.total ≤ max_ttl;
   within : l.index < length l.text;
 }

@@ -1,4 +1,4 @@
-use Rattle.std.proofs.Common.{◌≡◌, ◌≤◌, ◌<◌, ◌*◌, ◌-◌, ℕ, None, Some, length, drop}
+use Rattle.std.proofs.Common.{◌≡◌, ◌≤◌, ◌<◌, ◌-◌, ℕ, None, Some, length, drop}
 use Rattle.dnw_txt.specs.Times.{max_ttl}
 use Rattle.dnw_txt.specs.Inside.Finds.{seconds_after}
 use Rattle.dnw_txt.proofs.ttl.take_number.Given as goal
@@ -7,7 +7,7 @@ use Rattle.dnw_txt.proofs.ttl.take_number.Given as goal
 abbrev pub invariant-loop-end : goal.invariant-loop-end
 invariant-loop-end l = record {
   value : (total : ℕ) → seconds_after total None (drop l.start l.text) ≡ seconds_after total (Some l.number) (drop l.end l.text);
-  number : l.number ≤ 10 * max_ttl;
+  number : l.number ≤ max_ttl;
   begins : l.start < l.end;
   ends : l.end ≤ length l.text;
 }

@@ -1,37 +1,26 @@
 -- Each turn of the loop takes white space, a comment or a word.
-use Rattle.std.proofs.Common.{◌≡◌, ℕ, List, [], ◌∷◌, ◌++◌, map, sym, ap, ◌∙◌, arith}
+use Rattle.std.proofs.Common.{◌≡◌, ℕ, List, [], ◌∷◌, ◌++◌, map, refl, sym, ap, ◌∙◌, arith}
 use Rattle.std.proofs.Math.Nat.{sub-zero}
 use Rattle.std.proofs.lemmas.List.{map-append}
-use Rattle.std.proofs.lemmas.Result.{err_from_is_err_and}
 use Rattle.std.specs.Str.{chars}
 use Rattle.dnw_txt.specs.Tokens.{list_after, Between, before, from, ends_word}
 use Rattle.dnw_txt.specs.Lexing.{characters}
 use Rattle.dnw_txt.proofs.Cuts.{cut_some}
-use Rattle.dnw_txt.proofs.Steps.{list_after-close, list_after-remark, list_after-taken, list_after-may, no_end}
+use Rattle.dnw_txt.proofs.EachTakes.{list_after-may}
+use Rattle.dnw_txt.proofs.Steps.{list_after-remark, list_after-begin, no_end}
 use Rattle.dnw_txt.proofs.zone_lex.list.Goals as goal
 
-pub returns-then-c-eq41 : goal.returns-then-c-eq41
-returns-then-c-eq41 c =
-    let step = sym c.loop-c.invariant.step ∙ list_after-close _ _ _ _ c.in-Some.ensures.0 c.if-c-eq41.true in
-    rw step c.on_line.ensures
+pub loop-c-init : goal.loop-c-init
+loop-c-init c = record { step = rw c.new-words.ensures.items refl; may = list_after-may (chars c.args.text.now) [] Between; utf8 = c.utf8.text }
 
 pub loop-c-preserved-then-c-eq59 : goal.loop-c-preserved-then-c-eq59
 loop-c-preserved-then-c-eq59 c = record {
   step =
       ap (list_after (map characters c.loop-c.words.items) Between) (ap chars c.range_from-left.ensures.value ∙ c.comment_len.ensures.back)
       ∙ list_after-remark _ _ _ _ c.in-Some.ensures.0 c.if-c-eq59.true ∙ c.loop-c.invariant.step;
+  may = c.loop-c.invariant.may;
   utf8 = c.range_from-left.utf8;
 }
-
-pub returns-in_err-from_str : goal.returns-in_err-from_str
-returns-in_err-from_str c =
-    let p = err_from_is_err_and c.from_residual.result c.from_residual.ensures.1 in
-    rw (p.1, p.2) (list_after-may (chars c.args.text.now) [] Between)
-
-pub returns-in_err-push : goal.returns-in_err-push
-returns-in_err-push c =
-    let p = err_from_is_err_and c.from_residual-in_err-push.result c.from_residual-in_err-push.ensures.1 in
-    rw (p.1, p.2) (list_after-may (chars c.args.text.now) [] Between)
 
 pub loop-c-smaller : goal.loop-c-smaller
 loop-c-smaller c =
@@ -50,6 +39,7 @@ loop-c-preserved c =
     in
     let back : chars c.range_from-left-else-is_control.result.now ≡ from ends_word left = ap chars c.range_from-left-else-is_control.ensures.value ∙ c.word_len-len.ensures.back in
     record {
-      step = rw (words, back) (list_after-taken items left _ _ c.in-Some.ensures.0 inside ∙ c.loop-c.invariant.step);
+      step = rw (words, back) (list_after-begin items left _ _ c.in-Some.ensures.0 inside ∙ c.loop-c.invariant.step);
+      may = c.loop-c.invariant.may;
       utf8 = c.range_from-left-else-is_control.utf8;
     }

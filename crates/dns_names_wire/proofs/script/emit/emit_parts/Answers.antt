@@ -1,7 +1,7 @@
 use Rattle.std.proofs.Common.{◌∙◌}
 use Rattle.std.proofs.lemmas.Result.{err_from_is_err_and}
 use Rattle.dnw_encoder.specs.EncoderValue.{value}
-use Rattle.dns_names_wire.proofs.PartLists.{part_written, part_refused}
+use Rattle.dns_names_wire.proofs.Lists.{part_written, part_refused}
 use Rattle.dns_names_wire.proofs.script.emit.emit_parts.Goals as goal
 
 pub returns-in_err-emit-clause-writes : goal.returns-in_err-emit-clause-writes

@@ -4,7 +4,7 @@ use Rattle.dnw_encoder.specs.EncoderValue.{value}
 use Rattle.dns_names_wire.specs.Script.{action}
 use Rattle.dns_names_wire.specs.Pieces.{opening}
 use Rattle.dns_names_wire.specs.Runs.{Runs, beginning}
-use Rattle.dns_names_wire.proofs.Running.{runs_stay_useful}
+use Rattle.dns_names_wire.proofs.Running.{runs_useful}
 use Rattle.dns_names_wire.proofs.script.running.run_all.Goals as goal
 use Rattle.dns_names_wire.proofs.script.running.run_all.Goals.{After-drop-places}
 
@@ -22,6 +22,6 @@ returns-clause-runs c =
       last = value c.run_steps.new.encoder;
       runs = ran c;
       bytes = search rules;
-      useful = runs_stay_useful c.args.buf.now.items c.args.candidates c.args.names (map action c.args.steps.now) c.run_steps.new.replies.items
+      useful = runs_useful c.args.buf.now.items c.args.candidates c.args.names (map action c.args.steps.now) c.run_steps.new.replies.items
           (value c.run_steps.new.encoder) (ran c);
     }

@@ -1,20 +1,31 @@
 -- What a run comes to is what is promised of it.
-use Rattle.std.proofs.Common.{map}
-use Rattle.dns_names_wire.specs.Script.{action}
-use Rattle.dns_names_wire.proofs.Outcomes.{given, finished, of_ok, shortest}
+use Rattle.std.proofs.Common.{ℕ, List, length, map, Result, Ok, Err, sym, subst}
+use Rattle.std.specs.Prelude.{IfOk}
+use Rattle.dns_names_wire.specs.declared.script.Reply.{Reply}
+use Rattle.dns_names_wire.specs.Script.{Action, action}
+use Rattle.dns_names_wire.specs.Finished.{Finished, Shortest}
+use Rattle.dns_names_wire.specs.Pieces.{opening}
+use Rattle.dns_names_wire.specs.Replies.{RepliesTo}
+use Rattle.dns_names_wire.specs.Runs.{Run}
+use Rattle.dns_names_wire.proofs.Running.{runs_finish, runs_reply}
+use Rattle.dns_names_wire.proofs.ShortestNames.{names_are_shortest}
 use Rattle.dns_names_wire.proofs.script.running.run_limited.Goals as goal
 
-pub returns-clause-replies : goal.returns-clause-replies
-returns-clause-replies c =
-    let a = c.args in
-    of_ok c.run_all.result (λ replies run. given a.buf.now.items a.candidates a.names (map action a.steps.now) replies.items c.run_all.new.buf.items run) c.run_all.ensures.runs
+outcomes : {A E : Type 0} (of : A → List Reply) (old : List ℕ) (candidates names : ℕ) (actions : List Action) (bytes : List ℕ) (r : Result A E)
+    → IfOk r (λ x. Run old candidates names actions (of x) bytes)
+    → IfOk r (λ x. RepliesTo (opening (length old)) actions (of x)) × IfOk r (λ x. Finished old actions (of x) bytes)
+    × IfOk r (λ x. Shortest (length old) candidates names actions (of x))
+outcomes of old candidates names actions bytes (Ok x) run = (
+  runs_reply old candidates names actions (of x) run.last run.runs,
+  subst (Finished old actions (of x)) (sym run.bytes) (runs_finish old candidates names actions (of x) run.last run.runs),
+  names_are_shortest old candidates names actions (of x) run.last run.runs,
+)
+outcomes of old candidates names actions bytes (Err e) run = (tt, tt, tt)
 
-pub returns-clause-finished : goal.returns-clause-finished
-returns-clause-finished c =
+pub returns : goal.returns
+returns c =
     let a = c.args in
-    of_ok c.run_all.result (λ replies run. finished a.buf.now.items a.candidates a.names (map action a.steps.now) replies.items c.run_all.new.buf.items run) c.run_all.ensures.runs
-
-pub returns-clause-shortest : goal.returns-clause-shortest
-returns-clause-shortest c =
-    let a = c.args in
-    of_ok c.run_all.result (λ replies run. shortest a.buf.now.items a.candidates a.names (map action a.steps.now) replies.items c.run_all.new.buf.items run) c.run_all.ensures.runs
+    let e = c.run_all.ensures in
+    let (replies, finished, shortest) =
+    outcomes (λ v. v.items) a.buf.now.items a.candidates a.names (map action a.steps.now) c.run_all.new.buf.items c.run_all.result e.runs in
+    record { replies = replies; finished = finished; shortest = shortest; runs = e.runs; err = e.err; same = e.same }

@@ -5,16 +5,15 @@ use Rattle.dns_names_wire.specs.Script.{action, fill}
 use Rattle.dns_names_wire.specs.Pieces.{after}
 use Rattle.dns_names_wire.specs.Runs.{RunsStep}
 use Rattle.dns_names_wire.specs.Inside.Running.{Tracks}
-use Rattle.dns_names_wire.proofs.Placing.{ends_behind, open_kept, tracks_fill, tracks_reserve}
+use Rattle.dns_names_wire.proofs.Placing.{open_kept, tracks_fill, tracks_reserve}
 use Rattle.dns_names_wire.proofs.script.running.run_step.Goals as goal
 
 pub returns-in-Reserve-clause-tracks : goal.returns-in-Reserve-clause-tracks
 returns-in-Reserve-clause-tracks c a t =
     let v = value c.args.encoder.now in
     let within : v.offset ≤ length v.bytes = omega arith in
-    let behind = ends_behind v c.reserve.result (value c.reserve.new.encoder) within c.reserve.ensures.reply in
     subst (λ s. Tracks c.reserve.new.places.items (after a (action s) c.reserve.result).places) (sym c.in-Reserve.is)
-    (tracks_reserve c.args.places.now.items c.reserve.new.places.items a v.offset c.reserve.result t c.reserve.ensures.place behind)
+    (tracks_reserve c.args.places.now.items c.reserve.new.places.items a v (value c.reserve.new.encoder) c.reserve.result within t c.reserve.ensures.place c.reserve.ensures.reply)
 
 pub returns-in-Fill-clause-runs : goal.returns-in-Fill-clause-runs
 returns-in-Fill-clause-runs c a t =

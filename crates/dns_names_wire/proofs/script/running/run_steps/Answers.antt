@@ -5,9 +5,11 @@ use Rattle.dns_names_wire.specs.Script.{action}
 use Rattle.dns_names_wire.proofs.RunningOn.{HasRun, has_run_holds, has_run_more}
 use Rattle.dns_names_wire.proofs.script.running.run_steps.Goals as goal
 
-pub run_step-reply-requires-clause-holds : goal.run_step-reply-requires-clause-holds
-run_step-reply-requires-clause-holds c =
-    has_run_holds (value c.args.encoder.now) (value c.loop-step.encoder) _ c.loop-step.replies.items c.loop-step.places.items c.loop-step.invariant.0
+pub run_step-reply-requires : goal.run_step-reply-requires
+run_step-reply-requires c =
+    let (has, few, room, _, _, _) = c.loop-step.invariant in
+    let (at_end, holds) = has_run_holds (value c.args.encoder.now) (value c.loop-step.encoder) _ c.loop-step.replies.items c.loop-step.places.items c.requires.begins has in
+    record { at_end = at_end; holds = holds; room = omega (arith, few, room, c.loop-step-test.true) }
 
 pub loop-step-preserved : goal.loop-step-preserved
 loop-step-preserved c =

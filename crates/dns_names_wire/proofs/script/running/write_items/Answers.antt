@@ -5,7 +5,7 @@ use Rattle.dnw_encoder.specs.EncoderValue.{value}
 use Rattle.dns_names_wire.specs.declared.script.Reply.TheVariants.{Items}
 use Rattle.dns_names_wire.specs.Runs.{RunsItems}
 use Rattle.std.proofs.Common.{ℕ, Some, None}
-use Rattle.dns_names_wire.proofs.ItemLists.{all_written, some_written, written_before}
+use Rattle.dns_names_wire.proofs.Lists.{all_written, some_written, written_before}
 use Rattle.dns_names_wire.proofs.script.running.write_items.Goals as goal
 use Rattle.dns_names_wire.proofs.script.running.write_items.Goals.{After-len-in-Err}
 

@@ -1,6 +1,6 @@
 use Rattle.std.proofs.Common.{◌≡◌, ◌+◌, ◌≤◌, ◌++◌, map, drop, vec_len, vec_capacity}
 use Rattle.std.specs.List.{flat_map}
-use Rattle.dnw_error.specs.RecordTypes.{type_of_code}
+use Rattle.dnw_codes.specs.RecordTypes.{type_of_code}
 use Rattle.dnw_kinds.specs.TypeSets.{bits, bit_codes, octet_codes}
 use Rattle.dnw_kinds.proofs.record_type_set.bitmap.push_octet.Given as goal
 

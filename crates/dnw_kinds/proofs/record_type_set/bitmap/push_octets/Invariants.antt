@@ -1,5 +1,5 @@
 use Rattle.std.proofs.Common.{◌≡◌, ◌+◌, ◌*◌, ◌++◌, map, drop}
-use Rattle.dnw_error.specs.RecordTypes.{type_of_code}
+use Rattle.dnw_codes.specs.RecordTypes.{type_of_code}
 use Rattle.dnw_kinds.specs.TypeSets.{octets_codes}
 use Rattle.dnw_kinds.proofs.record_type_set.bitmap.push_octets.Given as goal
 

@@ -1,5 +1,5 @@
 use Rattle.std.proofs.Common.{◌≡◌, ◌++◌, true, map, length}
-use Rattle.dnw_error.specs.RecordTypes.{type_of_code}
+use Rattle.dnw_codes.specs.RecordTypes.{type_of_code}
 use Rattle.dnw_kinds.specs.TypeSets.{windows_of, windows_codes, NumbersFrom}
 use Rattle.dnw_kinds.proofs.record_type_set.bitmap.push_windows.Given as goal
 

@@ -1,15 +1,18 @@
 use Rattle.std.proofs.Common.{length, sym, ap, ◌∙◌, arith}
-use Rattle.dnw_reading.proofs.Lending.{LeadsTo-lends}
+use Rattle.dnw_reading.proofs.Lending.{LeadsTo-label}
 use Rattle.dnw_reading.proofs.ref_labels.RefLabelsIterator.next.Goals as goal
-
-pub invariant_of-self : goal.invariant_of-self
-invariant_of-self c =
-    let lends = LeadsTo-lends c.follow_pointers-start.ensures (omega (arith, c.self.invariant.counted)) in
-    record { more = lends.others; counted = omega (arith, ap length lends.labels, c.self.invariant.counted) }
 
 pub returns-clause-steps : goal.returns-clause-steps
 returns-clause-steps c =
-    sym c.self.view_is ∙ (LeadsTo-lends c.follow_pointers-start.ensures (omega (arith, c.self.invariant.counted))).labels
+    sym c.self.view_is ∙ (sym c.follow_pointers-start.ensures.same ∙ (LeadsTo-label c.follow_pointers-start.ensures (omega (arith, c.self.invariant.counted))).labels)
+
+pub invariant_of-self : goal.invariant_of-self
+invariant_of-self c =
+    let label = LeadsTo-label c.follow_pointers-start.ensures (omega (arith, c.self.invariant.counted)) in
+    record {
+      more = record { segment = _; on = label.on };
+      counted = omega (arith, ap length label.labels, ap length c.follow_pointers-start.ensures.same, c.self.invariant.counted);
+    }
 
 pub returns-clause-goes : goal.returns-clause-goes
 returns-clause-goes c =

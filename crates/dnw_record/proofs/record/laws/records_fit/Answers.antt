@@ -1,4 +1,4 @@
-use Rattle.dnw_record.proofs.Fitting.{records_fit}
+use Rattle.dnw_record.proofs.Parts.{records_fit}
 use Rattle.dnw_record.proofs.record.laws.records_fit.Goals as goal
 
 pub returns : goal.returns

@@ -3,7 +3,7 @@ use Rattle.std.proofs.Common.{unwrap_or, ap, ◌∙◌, subst}
 use Rattle.dnw_encoder.specs.declared.encoder.modes.NameEncoding.{NameEncoding}
 use Rattle.dnw_encoder.specs.EncoderValue.{value}
 use Rattle.dns_names_wire.specs.Script.{EmitsParts}
-use Rattle.dns_names_wire.proofs.PartLists.{own_mode}
+use Rattle.dns_names_wire.proofs.Lists.{own_mode}
 use Rattle.dns_names_wire.proofs.script.emit.ItemBinEncodable.emit.Goals as goal
 
 pub returns-clause-emits : goal.returns-clause-emits

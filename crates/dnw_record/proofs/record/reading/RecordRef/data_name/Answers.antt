@@ -1,5 +1,5 @@
 -- The name is read where the data start, and the definition allows no other answer.
-use Rattle.std.proofs.Common.{refl}
+use Rattle.std.proofs.Common.{refl, rules}
 use Rattle.std.proofs.lemmas.Result.{err_from_is_err_and}
 use Rattle.dnw_record.specs.Records.{FailsDataName}
 use Rattle.dnw_record.proofs.Reading.{HasDataName-unique, HasDataName-not-Fails, FailsDataName-unique, data-name-read, data-name-stops}
@@ -24,38 +24,28 @@ overflow_sub-read c =
     (data-name-read _ _ c.self.view_is c.new-reader.result c.skip.result c.skip.new.self c.read.new.decoder c.in_ok-name.name
     c.index.result c.new-reader.ensures c.self.invariant c.skip.ensures.takes c.in_ok-name.ensures.ok c.index.ensures.index).0
 
-pub returns-then-read-self-clause-accepts : goal.returns-then-read-self-clause-accepts
-returns-then-read-self-clause-accepts c name h =
+pub returns-then-read-self : goal.returns-then-read-self
+returns-then-read-self c =
     let (_, _, fails) = data-name-read _ _ c.self.view_is c.new-reader.result c.skip.result c.skip.new.self c.read.new.decoder c.in_ok-name.name
     c.index.result c.new-reader.ensures c.self.invariant c.skip.ensures.takes c.in_ok-name.ensures.ok c.index.ensures.index in
-    HasDataName-not-Fails c.args.self.now name _ h (fails c.if-read-self.true)
+    let f = fails c.if-read-self.true in
+    record {
+      ok = tt;
+      err = f;
+      accepts = λ name h. HasDataName-not-Fails c.args.self.now name _ h f;
+      fails = λ error h. rw (FailsDataName-unique c.args.self.now _ error f h) refl;
+      no_memory = search rules;
+    }
 
-pub returns-then-read-self-clause-fails : goal.returns-then-read-self-clause-fails
-returns-then-read-self-clause-fails c error h =
-    let (_, _, fails) = data-name-read _ _ c.self.view_is c.new-reader.result c.skip.result c.skip.new.self c.read.new.decoder c.in_ok-name.name
-    c.index.result c.new-reader.ensures c.self.invariant c.skip.ensures.takes c.in_ok-name.ensures.ok c.index.ensures.index in
-    rw (FailsDataName-unique c.args.self.now _ error (fails c.if-read-self.true) h) refl
-
-pub returns-then-read-self-clause-err : goal.returns-then-read-self-clause-err
-returns-then-read-self-clause-err c =
-    let (_, _, fails) = data-name-read _ _ c.self.view_is c.new-reader.result c.skip.result c.skip.new.self c.read.new.decoder c.in_ok-name.name
-    c.index.result c.new-reader.ensures c.self.invariant c.skip.ensures.takes c.in_ok-name.ensures.ok c.index.ensures.index in
-    fails c.if-read-self.true
-
-pub returns-clause-ok : goal.returns-clause-ok
-returns-clause-ok c =
+pub returns : goal.returns
+returns c =
     let (_, has, _) = data-name-read _ _ c.self.view_is c.new-reader.result c.skip.result c.skip.new.self c.read.new.decoder c.in_ok-name.name
     c.index.result c.new-reader.ensures c.self.invariant c.skip.ensures.takes c.in_ok-name.ensures.ok c.index.ensures.index in
-    has c.if-read-self.false
-
-pub returns-clause-accepts : goal.returns-clause-accepts
-returns-clause-accepts c name h =
-    let (_, has, _) = data-name-read _ _ c.self.view_is c.new-reader.result c.skip.result c.skip.new.self c.read.new.decoder c.in_ok-name.name
-    c.index.result c.new-reader.ensures c.self.invariant c.skip.ensures.takes c.in_ok-name.ensures.ok c.index.ensures.index in
-    HasDataName-unique c.args.self.now c.in_ok-name.name name (has c.if-read-self.false) h
-
-pub returns-clause-fails : goal.returns-clause-fails
-returns-clause-fails c error h =
-    let (_, has, _) = data-name-read _ _ c.self.view_is c.new-reader.result c.skip.result c.skip.new.self c.read.new.decoder c.in_ok-name.name
-    c.index.result c.new-reader.ensures c.self.invariant c.skip.ensures.takes c.in_ok-name.ensures.ok c.index.ensures.index in
-    absurd (HasDataName-not-Fails c.args.self.now _ error (has c.if-read-self.false) h)
+    let h = has c.if-read-self.false in
+    record {
+      ok = h;
+      err = tt;
+      accepts = λ name g. HasDataName-unique c.args.self.now c.in_ok-name.name name h g;
+      fails = λ error g. absurd (HasDataName-not-Fails c.args.self.now _ error h g);
+      no_memory = search rules;
+    }

@@ -1,0 +1,4 @@
+pub mod Entries
+pub mod RecordTypes
+pub mod DnsClasses
+pub mod Inside

@@ -1,0 +1,8 @@
+//! Record types and classes, with one table of each: the codes on the wire and the names in text.
+//!
+//! It stands on no other crate of the library. Read `specs/RecordTypes.antt` first: the table of types.
+#![tactic(auto)]
+
+pub mod dns_class;
+pub mod record_type;
+mod table;

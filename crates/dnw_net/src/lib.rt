@@ -1,4 +1,0 @@
-//! Nets: addresses with the length of a prefix.
-#![tactic(auto)]
-
-pub mod net;

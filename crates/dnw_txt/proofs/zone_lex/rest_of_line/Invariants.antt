@@ -1,0 +1,15 @@
+use Rattle.std.proofs.Common.{◌≡◌, length}
+use Rattle.std.specs.Str.{chars}
+use denote.Shadow.{shadow}
+use denote.Text.{Utf8}
+use Rattle.dnw_txt.specs.Tokens.{rest_of_line}
+use Rattle.dnw_txt.proofs.zone_lex.rest_of_line.Given as goal
+
+abbrev pub invariant-loop-c : goal.invariant-loop-c
+invariant-loop-c l = record {
+  step : rest_of_line (chars l.text) ≡ rest_of_line (chars l.initial.text);
+  utf8 : shadow (Utf8 l.text);
+}
+
+abbrev pub decreases-loop-c : goal.decreases-loop-c
+decreases-loop-c l = length l.text
