@@ -9,7 +9,7 @@ ghost use Rattle.dnw_base.specs.Labels.{IsLabel, asterisk};
 ghost use Rattle.dnw_base.specs.Names.{encoded_size};
 ghost use Rattle.dnw_label.specs.LabelText.{dot, label_from_text, label_text};
 ghost use Rattle.dnw_text.specs.NameText.{Outside, Escaped, is_numeric, is_octal_digit, elements, Stop, bad_digit, with_text, name_from_text};
-ghost use Rattle.dnw_text.specs.Inside.TextReader.{state_of, elements_from, escape_len, IsNoLonger, IsAlike, is_simple, IsSimpleLabel, IsDottedLabel, PutsLengths, Begins, BeginsWithEscape, BeginsWithLabel, name_from_rest, name_from, reader_len, fails_with};
+ghost use Rattle.dnw_text.specs.Inside.TextReader.{state_of, elements_from, escape_len, IsNoLonger, IsAlike, is_simple, IsRun, IsSimpleLabel, IsDottedLabel, PutsLengths, Begins, BeginsWithEscape, BeginsWithLabel, name_from_rest, name_from, reader_len, fails_with};
 
 use arrayvec::ArrayString;
 use dnw_base::limits::{MAX_LABEL, MAX_NAME};
@@ -591,7 +591,7 @@ fn simple_label_len(text: &[u8]) -> usize
     ensures few { result ≤ length text.now }
     ensures label { 0 < result → IsSimpleLabel (take result text.now) }
 {
-    let len = simple_len(text);
+    let len = simple_len(text, 0);
     if len == 0 {
         return asterisk_len(text);
     }
@@ -614,13 +614,14 @@ fn asterisk_len(text: &[u8]) -> usize
     }
 }
 
-/// Returns the number of simple characters that a text begins with.
-fn simple_len(text: &[u8]) -> usize
-    ensures few { result ≤ length text.now }
-    ensures simple { list_all is_simple (take result text.now) ≡ true }
+/// Returns the number of simple characters that a text begins with, of which `known` are known.
+#[inline(always)]
+fn simple_len(text: &[u8], known: usize) -> usize
+    requires { IsRun text.now known }
+    ensures run { IsRun text.now result }
     ensures longest { result < length text.now → is_simple (get_or text.now result 0) ≡ false }
 {
-    let mut len = 0;
+    let mut len = known;
     while len < text.len() && is_simple(text[len]) {
         len += 1;
     }
@@ -638,18 +639,14 @@ fn run_of(text: &str) -> usize
 /// Returns the number of simple characters that a text begins with. For a long run this takes less than [`simple_len`], and
 /// for a short one more.
 fn run_len(text: &[u8]) -> usize
-    ensures few { result ≤ length text.now }
-    ensures simple { list_all is_simple (take result text.now) ≡ true }
+    ensures run { IsRun text.now result }
     ensures longest { result < length text.now → is_simple (get_or text.now result 0) ≡ false }
 {
     let mut len = 0;
     'fours: while text.len() - len >= 4 && four_are_simple(text, len) {
         len += 4;
     }
-    while len < text.len() && is_simple(text[len]) {
-        len += 1;
-    }
-    len
+    simple_len(text, len)
 }
 
 /// Returns `true` if the four bytes at an index are simple characters.

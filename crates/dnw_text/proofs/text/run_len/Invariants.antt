@@ -7,9 +7,3 @@ invariant-fours l = IsRun l.text l.len
 
 abbrev pub decreases-fours : goal.decreases-fours
 decreases-fours l = length l.text - l.len
-
-abbrev pub invariant-loop-len : goal.invariant-loop-len
-invariant-loop-len l = IsRun l.text l.len
-
-abbrev pub decreases-loop-len : goal.decreases-loop-len
-decreases-loop-len l = length l.text - l.len
