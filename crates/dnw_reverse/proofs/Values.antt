@@ -69,10 +69,6 @@ prefix_after-more family vs l ls e =
     let many : nat_lt (most_values family) (length vs + length (l ∷ ls)) ≡ true = grind (arith, nat_tests) in
     rw (none, many) refl
 
-pub prefix_after-start : (family : Family) (ls : List (List ℕ)) → prefix_after family [] ls ≡ prefix_of family ls
-prefix_after-start Ipv4 ls = let same : 0 + length ls ≡ length ls = omega arith in rw same refl
-prefix_after-start Ipv6 ls = let same : 0 + length ls ≡ length ls = omega arith in rw same refl
-
 -- each fault of an octet
 pub octet_of-octet : (l : List ℕ) → is_utf8 l ≡ true → IsNumeral 10 (without_leading_plus l) → digits_value 10 (without_leading_plus l) < 256
     → octet_of l ≡ Ok (digits_value 10 (without_leading_plus l))
