@@ -19,20 +19,29 @@ import zipfile
 
 HERE = pathlib.Path(__file__).resolve().parent
 LIBRARY = "libdns_names_wire.so"
+LICENCES = ["NOTICE", "LICENSE-APACHE", "LICENSE-MIT"]
 NAME = "dns_names_wire"
 # The version stands in rust/Cargo.toml alone.
 VERSION = re.search(r'^version = "(.+)"$', (HERE.parent / "rust/Cargo.toml").read_text(), re.M)[1]
 METADATA = f"""Metadata-Version: 2.1
 Name: dns-names-wire
 Version: {VERSION}
-Summary: Domain names of DNS messages, read, written, printed and compared by a proved library
+Summary: Names, records and messages of DNS, and master files, read and written by a proved library
 License: MIT OR Apache-2.0
-Requires-Python: >=3.9
-"""
+{"".join(f"License-File: {licence}" + chr(10) for licence in LICENCES)}Requires-Python: >=3.9
+Description-Content-Type: text/markdown
+
+{(HERE / "README.md").read_text()}"""
 
 
-def platform_tag():
-    return sysconfig.get_platform().replace("-", "_").replace(".", "_")
+def platform_tag(library):
+    """Of Linux, with the version of glibc that the library asks for (PEP 600); of other systems that of Python."""
+    platform = sysconfig.get_platform().replace("-", "_").replace(".", "_")
+    wanted = [int(version) for version in re.findall(rb"GLIBC_2\.(\d+)", library)]
+    if platform.startswith("linux_") and wanted:
+        # No system in use has a glibc before 2.17 (manylinux2014).
+        return platform.replace("linux_", f"manylinux_2_{max(17, *wanted)}_", 1)
+    return platform
 
 
 def shared_library():
@@ -44,15 +53,16 @@ def shared_library():
         return (pathlib.Path(room) / LIBRARY).read_bytes()
 
 
-def contents(tag):
+def contents(tag, library):
     """The files of the wheel, by name, but for the list of them."""
     package = HERE / NAME
     files = {f"{NAME}/{path.name}": path.read_bytes() for path in sorted(package.glob("*.py"))}
     files[f"{NAME}/py.typed"] = b""
-    files[f"{NAME}/{LIBRARY}"] = shared_library()
+    files[f"{NAME}/{LIBRARY}"] = library
     info = f"{NAME}-{VERSION}.dist-info"
     files[f"{info}/METADATA"] = METADATA.encode()
     files[f"{info}/WHEEL"] = f"Wheel-Version: 1.0\nGenerator: wheel_backend\nRoot-Is-Purelib: false\nTag: {tag}\n".encode()
+    files.update({f"{info}/{licence}": (HERE.parent / licence).read_bytes() for licence in LICENCES})
     return files
 
 
@@ -68,8 +78,9 @@ def record(files):
 
 def build_wheel(wheel_directory, config_settings=None, metadata_directory=None):
     """Builds the wheel and returns its file name (PEP 517). The same files give the same wheel."""
-    tag = f"py3-none-{platform_tag()}"
-    files = contents(tag)
+    library = shared_library()
+    tag = f"py3-none-{platform_tag(library)}"
+    files = contents(tag, library)
     own, lines = record(files)
     files[own] = lines
     wheel = f"{NAME}-{VERSION}-{tag}.whl"
