@@ -10,6 +10,7 @@ It exits with 1 if the input is rejected and with 2 on a usage error.
 import ipaddress
 import pathlib
 import re
+import signal
 import sys
 
 from dns_names_wire import DnsError, Name, TypeSet, class_text, read_name, read_record, type_text
@@ -48,7 +49,7 @@ class Cursor:
         try:
             name, end = read_name(self.message, self.at)
         except DnsError as error:
-            raise Rejected(self.at, error) from error
+            raise Rejected(self.at, error.reason) from error
         if end > self.end:
             raise Rejected(self.at, "the message or the record ends too early")
         self.at = end
@@ -84,7 +85,7 @@ def types_text(data):
     try:
         return " ".join(type_text(code) for code in TypeSet.from_bitmap(data.rest()))
     except DnsError as error:
-        raise Rejected(at, error) from error
+        raise Rejected(at, error.reason) from error
 
 
 FIELDS = {
@@ -117,11 +118,11 @@ def record_text(cursor):
     try:
         record = read_record(cursor.message, cursor.at)
     except DnsError as error:
-        raise Rejected(cursor.at, error) from error
+        raise Rejected(cursor.at, error.reason) from error
     cursor.at = record.end
     kind, klass, ttl = type_text(record.record_type), record.record_class, record.ttl
     if kind == "OPT":  # RFC 6891: its class is a size, and its TTL has a version and flags
-        return f"; EDNS: version: {ttl >> 16 & 255}, flags:{' do' if ttl & 0x8000 else ''}; udp: {klass}"
+        return f"; EDNS: version: {ttl >> 16 & 255}, flags:{' do' if ttl & 0x8000 else ''}; udp: {int(klass)}"
     data = data_text(Cursor(cursor.message, record.data_offset, record.end), kind)
     return f"{record.owner}\t{ttl}\t{class_text(klass)}\t{kind}\t{data}"
 
@@ -161,7 +162,9 @@ def show_sorted(text):
         try:
             # by its wire form it is fully qualified
             names.append(Name.from_wire(Name(line.rstrip(b"\n").decode()).wire))
-        except (DnsError, UnicodeDecodeError) as error:
+        except DnsError as error:
+            raise Rejected(at, error.reason) from error
+        except UnicodeDecodeError as error:
             raise Rejected(at, error) from error
         at += len(line)
     for name in sorted(names):
@@ -202,4 +205,6 @@ def main(words):
 
 
 if __name__ == "__main__":
+    # A reader of the output that closes it, as `head` does, ends this program without a word.
+    signal.signal(signal.SIGPIPE, signal.SIG_DFL)
     sys.exit(main(sys.argv[1:]))

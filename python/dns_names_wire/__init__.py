@@ -1,12 +1,15 @@
-"""The lowest layer of DNS, by a library whose every function is proved: domain names are read, written, parsed, printed and
-compared; messages are read record by record, and written; types, bitmaps of types, serial numbers and master files are read.
+"""The lowest layer of DNS: domain names, the records of messages, record types and classes, and master files, read and written
+by a library whose every function is proved.
 
 The library is the shared library of the C library of `dns-names-wire`, which the wheel has. Its reader accepts exactly the
-names of RFC 1035, section 4.1.4, and no input makes it read outside the message, loop or crash. This package adds types to it
-over ctypes, and is not proved itself. It uses the standard library of Python alone.
+names of RFC 1035, section 4.1.4, and no input makes it read outside the message, loop or crash. This package gives it Python's
+types, over ctypes. The package itself is not proved. It uses the standard library of Python alone.
 
 The shared library is looked for in the folder that the environment variable DNW_LIB_DIR names, and if that is not set
 beside this file.
+
+Failures are exceptions below `DnsError`, which say why and, if that is known, where. An argument of a wrong type raises
+`TypeError`, and one that is out of bounds `ValueError`, with the argument's name.
 
 >>> message = bytes.fromhex("123401000001000000000000 0377777707 6578616d706c65 03636f6d 00 0001 0001")
 >>> name, end = read_name(message, 12)
@@ -14,6 +17,7 @@ beside this file.
 www.example.com. 00010001
 """
 
+from ._codes import RecordClass, RecordType, class_code, class_text, type_code, type_text
 from ._errors import (
     BadBitmap,
     BadText,
@@ -43,7 +47,7 @@ from ._names import Name, NameAt, names, read_name
 from ._records import Record, read_record, records
 from ._reverse import parse_reverse_name, reverse_name
 from ._text import Token, TokenKind, parse_ttl, tokens
-from ._types import TypeSet, class_code, class_text, serial_add, serial_compare, type_code, type_text
+from ._types import TypeSet, serial_add, serial_compare
 from ._writer import MessageWriter, Truncated
 
 __all__ = [
@@ -66,6 +70,8 @@ __all__ = [
     "NotUtf8",
     "PointerNotBack",
     "Record",
+    "RecordClass",
+    "RecordType",
     "ReservedOctet",
     "SegmentsOverlap",
     "TextCut",

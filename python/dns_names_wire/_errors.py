@@ -1,15 +1,34 @@
 """Why a call fails: an exception for each failure of the C library."""
 
-import ctypes
-from typing import Dict, Type
+from typing import Dict, Optional, Type
 
-from ._library import ERROR_TEXT_SIZE, library
+from ._library import ErrorText, library, taken
 
 
 class DnsError(ValueError):
-    """A call failed. Each failure is a class below this one; `number` is its number in `dns_names_wire.h`."""
+    """A call failed. Each failure is a class below this one.
+
+    `number` is its number in `dns_names_wire.h`, `reason` says in words what is wrong, and `offset` says where, or is None
+    if that is not known: the octet of a message at which a name or a record begins that is none, or the character of a
+    text of a master file at which no token stands next.
+
+    >>> from dns_names_wire import read_name
+    >>> try:
+    ...     read_name(bytes.fromhex("000000c005"), 3)
+    ... except DnsError as error:
+    ...     print(error)
+    ...     print(error.offset, error.reason)
+    at offset 3: a compression pointer does not point back
+    3 a compression pointer does not point back
+    """
 
     number = 13
+    reason: str
+    offset: Optional[int]
+
+    def __init__(self, reason: str = "", offset: Optional[int] = None) -> None:
+        super().__init__(reason if offset is None else f"at offset {offset}: {reason}")
+        self.reason, self.offset = reason, offset
 
 
 class MessageCut(DnsError):
@@ -150,15 +169,15 @@ _CLASSES: Dict[int, Type[DnsError]] = {error.number: error for error in DnsError
 
 def error_text(number: int) -> str:
     """The C library's text for a number, which is empty for one that stands for nothing."""
-    room = ctypes.create_string_buffer(ERROR_TEXT_SIZE)
-    length = library.dnw_error_text(number, room, ERROR_TEXT_SIZE)
-    return room.raw[:length].decode("ascii")
+    room = ErrorText()
+    length = library.dnw_error_text(number, room, len(room))
+    return taken(room, length).decode("ascii")
 
 
-def check(number: int) -> None:
+def check(number: int, offset: Optional[int] = None) -> None:
     """Raises the exception for a number other than 0: `MemoryError` if the library could not allocate."""
     if number == 0:
         return
     if number == _NO_MEMORY:
         raise MemoryError(error_text(number))
-    raise _CLASSES.get(number, DnsError)(error_text(number) or f"failure {number}")
+    raise _CLASSES.get(number, DnsError)(error_text(number) or f"failure {number}", offset)

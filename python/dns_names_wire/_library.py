@@ -3,14 +3,26 @@
 import ctypes
 import os
 import pathlib
-from ctypes import POINTER, c_bool, c_char_p, c_int32, c_size_t, c_uint8, c_uint16, c_uint32
+from ctypes import POINTER, c_bool, c_char, c_char_p, c_int32, c_size_t, c_uint8, c_uint16, c_uint32
+from typing import Any
 
 LIBRARY = "libdns_names_wire.so"
 
 FORM_SIZE = 255
 TEXT_SIZE = 1004
 CODE_SIZE = 10
-ERROR_TEXT_SIZE = 64
+
+# Buffers that are always large enough for a wire form, for the text of a name, of a code, and of an error.
+Form = c_char * FORM_SIZE
+Text = c_char * TEXT_SIZE
+CodeText = c_char * CODE_SIZE
+ErrorText = c_char * 64
+
+
+def taken(buffer: "ctypes.Array[c_char]", length: int) -> bytes:
+    """The first bytes of a buffer. No others are copied."""
+    octets: Any = buffer[:length]
+    return bytes(octets)
 
 
 class ReadName(ctypes.Structure):
@@ -83,10 +95,25 @@ _FUNCTIONS = {
 }
 
 
-def _load() -> ctypes.CDLL:
+_HOW = """\
+Install the wheel, which has it: out/dist/python of the repository, after tools/dist. Or build it in a checkout by
+`tools/c-library FOLDER`, for which the Rattle toolchain has to be there, and set DNW_LIB_DIR to that folder."""
+
+
+def _open() -> ctypes.CDLL:
     folder = os.environ.get("DNW_LIB_DIR")
-    path = pathlib.Path(folder) if folder else pathlib.Path(__file__).resolve().parent
-    library = ctypes.CDLL(str(path / LIBRARY))
+    path = (pathlib.Path(folder) if folder else pathlib.Path(__file__).resolve().parent) / LIBRARY
+    which = "the folder that DNW_LIB_DIR names" if folder else "the folder of the package, since DNW_LIB_DIR is not set"
+    if not path.is_file():
+        raise ImportError(f"there is no {path}; it was looked for in {which}.\n{_HOW}")
+    try:
+        return ctypes.CDLL(str(path))
+    except OSError as error:
+        raise ImportError(f"{path} cannot be loaded: {error}. It is for Linux on x86-64.\n{_HOW}") from error
+
+
+def _load() -> ctypes.CDLL:
+    library = _open()
     for name, arguments in _FUNCTIONS.items():
         function = getattr(library, name)
         function.argtypes = arguments

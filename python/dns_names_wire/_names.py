@@ -1,13 +1,13 @@
 """Names: read, parsed, printed, compared."""
 
 import ctypes
-from ctypes import byref, create_string_buffer
-from typing import Iterator, NamedTuple, Tuple, Union
+from ctypes import byref
+from typing import Iterable, Iterator, NamedTuple, Tuple
 
-from ._errors import BytesLeft, check
-from ._library import FORM_SIZE, TEXT_SIZE, ParsedName, ReadName, library
-
-Bytes = Union[bytes, bytearray, memoryview]
+from . import _checks
+from ._checks import Bytes
+from ._errors import BytesLeft, DnsError, check
+from ._library import FORM_SIZE, TEXT_SIZE, Form, ParsedName, ReadName, Text, library, taken
 
 
 class Name:
@@ -16,11 +16,17 @@ class Name:
     It does not change. Case is kept, and ignored when names are compared and hashed (RFC 4343). The order is canonical
     (RFC 4034, section 6.1), after all names that are not fully qualified.
 
+    Its items are its labels: `len(name)` is their number, and `for label in name` goes from the first to the one before the
+    root. `a + b` appends, `bytes(name)` is the wire form, and `name in zone` is `name.is_in(zone)`. Every name is true, the
+    root also.
+
     >>> name, zone = Name("www.Example.com."), Name("example.com.")
-    >>> name.is_in(zone), zone < name, name == Name("WWW.example.com.")
+    >>> name in zone, zone < name, name == Name("WWW.example.com.")
     (True, True, True)
-    >>> name.wire
-    b'\\x03www\\x07Example\\x03com\\x00'
+    >>> len(name), list(name), bytes(zone)
+    (3, [b'www', b'Example', b'com'], b'\\x07example\\x03com\\x00')
+    >>> Name("www") + zone, name.parent
+    (Name('www.example.com.'), Name('Example.com.'))
     >>> sorted([Name("b.a."), Name("z."), Name("a.")])
     [Name('a.'), Name('b.a.'), Name('z.')]
     """
@@ -37,10 +43,10 @@ class Name:
         A label has ASCII letters, digits, `_`, `-` if it does not begin with it, `*` if it begins with it, and dots that are
         escaped. Raises `BadText`, `LabelTooLong` or `NameTooLong` if there is none.
         """
-        encoded = text.encode("utf-8", "surrogatepass")
-        form, parsed = create_string_buffer(FORM_SIZE), ParsedName()
+        encoded = _checks.text("text", text)
+        form, parsed = Form(), ParsedName()
         check(library.dnw_name_parse(encoded, len(encoded), form, FORM_SIZE, byref(parsed)))
-        return cls._of(form.raw[: parsed.len], parsed.is_fqdn)
+        return cls._of(taken(form, parsed.len), parsed.is_fqdn)
 
     @classmethod
     def _of(cls, wire: bytes, is_fqdn: bool) -> "Name":
@@ -50,15 +56,30 @@ class Name:
         return name
 
     @classmethod
-    def from_wire(cls, wire: Bytes) -> "Name":
-        """The fully qualified name with a wire form. Raises as `read_name`, and `BytesLeft` if more follows after it.
+    def from_wire(cls, wire: Bytes, *, is_fqdn: bool = True) -> "Name":
+        """The name with a wire form, fully qualified or not. Raises as `read_name`, and `BytesLeft` if more follows after it.
 
         >>> Name.from_wire(b"\\x01a\\x00")
         Name('a.')
         """
-        name, end = read_name(wire, 0)
-        if end != len(wire):
-            check(BytesLeft.number)
+        whole = _checks.octets("wire", wire)
+        name, end = read_name(whole, 0)
+        if end != len(whole):
+            check(BytesLeft.number, end)
+        return cls._of(name._wire, bool(is_fqdn))
+
+    @classmethod
+    def from_labels(cls, labels: Iterable[Bytes]) -> "Name":
+        """The fully qualified name with some labels, each of any 1 to 63 octets.
+
+        Raises `BadText` if a label is empty, `LabelTooLong` or `NameTooLong`: that of the first label that does not fit.
+
+        >>> Name.from_labels([b"www", b"example", b"com"])
+        Name('www.example.com.')
+        """
+        root = name = cls._of(b"\0", True)
+        for label in labels:
+            name = name.append(root.prepend_label(label))
         return name
 
     def __setattr__(self, name: str, value: object) -> None:
@@ -75,10 +96,27 @@ class Name:
         """The wire form, without compression: each label after its length octet, and a zero octet."""
         return self._wire
 
+    def __bytes__(self) -> bytes:
+        return self._wire
+
     @property
     def is_fqdn(self) -> bool:
         """Whether the name is fully qualified."""
         return self._is_fqdn
+
+    @property
+    def is_root(self) -> bool:
+        """Whether the name has no labels and is fully qualified.
+
+        >>> Name(".").is_root, Name("").is_root
+        (True, False)
+        """
+        return self._is_fqdn and len(self._wire) == 1
+
+    @property
+    def is_wildcard(self) -> bool:
+        """Whether the first label is `*` (RFC 4592, section 2.1.1)."""
+        return self._wire.startswith(b"\x01*")
 
     @property
     def labels(self) -> Tuple[bytes, ...]:
@@ -87,24 +125,50 @@ class Name:
         >>> Name("www.example.com.").labels
         (b'www', b'example', b'com')
         """
-        labels, at = [], 0
+        return tuple(self)
+
+    def __iter__(self) -> Iterator[bytes]:
+        at = 0
         while self._wire[at]:
             end = at + 1 + self._wire[at]
-            labels.append(self._wire[at + 1 : end])
+            yield self._wire[at + 1 : end]
             at = end
-        return tuple(labels)
+
+    def __len__(self) -> int:
+        return sum(1 for _ in self)
+
+    def __bool__(self) -> bool:
+        return True
+
+    def __contains__(self, name: object) -> bool:
+        if not isinstance(name, Name):
+            raise _checks.wrong_type("name", "a Name is", name)
+        return name.is_in(self)
 
     def is_in(self, zone: "Name") -> bool:
-        """Whether the name's last labels are those of the zone, ignoring case (RFC 1034, section 4.2)."""
+        """Whether the name's last labels are those of the zone, ignoring case (RFC 1034, section 4.2).
+
+        >>> Name("www.Example.com.").is_in(Name("example.com."))
+        True
+        """
         is_in = ctypes.c_bool()
-        check(library.dnw_name_in_zone(*self._slice(), *zone._slice(), byref(is_in)))
+        check(library.dnw_name_in_zone(*self._slice(), *wire_of("zone", zone), byref(is_in)))
         return is_in.value
+
+    @property
+    def parent(self) -> "Name":
+        """The name without its first label: the name above it. A name without labels stays as it is.
+
+        >>> Name("www.example.com.").parent
+        Name('example.com.')
+        """
+        return self.trim_to(max(len(self) - 1, 0))
 
     def lower(self) -> "Name":
         """The name with its ASCII letters in lower case."""
-        form, length = create_string_buffer(FORM_SIZE), ctypes.c_size_t()
+        form, length = Form(), ctypes.c_size_t()
         check(library.dnw_name_to_lowercase(*self._slice(), form, FORM_SIZE, byref(length)))
-        return Name._of(form.raw[: length.value], self._is_fqdn)
+        return Name._of(taken(form, length.value), self._is_fqdn)
 
     def append(self, suffix: "Name") -> "Name":
         """The name with the labels of another after its own, fully qualified if the other is. May raise `NameTooLong`.
@@ -112,11 +176,16 @@ class Name:
         >>> Name("www").append(Name("example.com."))
         Name('www.example.com.')
         """
-        form, length = create_string_buffer(FORM_SIZE), ctypes.c_size_t()
-        check(library.dnw_name_append(*self._slice(), *suffix._slice(), form, FORM_SIZE, byref(length)))
-        return Name._of(form.raw[: length.value], suffix._is_fqdn)
+        form, length = Form(), ctypes.c_size_t()
+        check(library.dnw_name_append(*self._slice(), *wire_of("suffix", suffix), form, FORM_SIZE, byref(length)))
+        return Name._of(taken(form, length.value), suffix._is_fqdn)
 
-    def prepend_label(self, label: bytes) -> "Name":
+    def __add__(self, suffix: object) -> "Name":
+        if not isinstance(suffix, Name):
+            return NotImplemented
+        return self.append(suffix)
+
+    def prepend_label(self, label: Bytes) -> "Name":
         """The name with a label, of any 1 to 63 octets, before its own.
 
         Raises `BadText` if the label is empty, `LabelTooLong` or `NameTooLong`.
@@ -124,9 +193,10 @@ class Name:
         >>> Name("com.").prepend_label(b"example")
         Name('example.com.')
         """
-        form, length = create_string_buffer(FORM_SIZE), ctypes.c_size_t()
-        check(library.dnw_name_prepend_label(label, len(label), *self._slice(), form, FORM_SIZE, byref(length)))
-        return Name._of(form.raw[: length.value], self._is_fqdn)
+        octets = _checks.octets("label", label)
+        form, length = Form(), ctypes.c_size_t()
+        check(library.dnw_name_prepend_label(octets, len(octets), *self._slice(), form, FORM_SIZE, byref(length)))
+        return Name._of(taken(form, length.value), self._is_fqdn)
 
     def trim_to(self, labels: int) -> "Name":
         """The name of the last labels, as many as this, or the whole name if it has fewer.
@@ -134,11 +204,10 @@ class Name:
         >>> Name("www.example.com.").trim_to(2)
         Name('example.com.')
         """
-        if labels < 0:
-            raise ValueError("a negative number of labels")
-        form, length = create_string_buffer(FORM_SIZE), ctypes.c_size_t()
-        check(library.dnw_name_trim(*self._slice(), min(labels, FORM_SIZE), form, FORM_SIZE, byref(length)))
-        return Name._of(form.raw[: length.value], self._is_fqdn)
+        count = min(_checks.number("labels", labels), FORM_SIZE)
+        form, length = Form(), ctypes.c_size_t()
+        check(library.dnw_name_trim(*self._slice(), count, form, FORM_SIZE, byref(length)))
+        return Name._of(taken(form, length.value), self._is_fqdn)
 
     def to_wildcard(self) -> "Name":
         """The name with `*` in place of its first label (RFC 4592, section 2.1.1). The root stays the root.
@@ -146,34 +215,49 @@ class Name:
         >>> Name("www.example.com.").to_wildcard()
         Name('*.example.com.')
         """
-        form, length = create_string_buffer(FORM_SIZE), ctypes.c_size_t()
+        form, length = Form(), ctypes.c_size_t()
         check(library.dnw_name_to_wildcard(*self._slice(), form, FORM_SIZE, byref(length)))
-        return Name._of(form.raw[: length.value], self._is_fqdn)
+        return Name._of(taken(form, length.value), self._is_fqdn)
 
     def compare(self, other: "Name") -> int:
         """-1, 0 or 1 if this name is before, equal to or after the other."""
+        others = wire_of("other", other)
         if self._is_fqdn != other._is_fqdn:
             return 1 if self._is_fqdn else -1
         order = ctypes.c_int32()
-        check(library.dnw_name_compare(*self._slice(), *other._slice(), byref(order)))
+        check(library.dnw_name_compare(*self._slice(), *others, byref(order)))
         return order.value
 
     def _slice(self) -> Tuple[bytes, int]:
         return self._wire, len(self._wire)
 
     def __str__(self) -> str:
-        text, length = create_string_buffer(TEXT_SIZE), ctypes.c_size_t()
+        text, length = Text(), ctypes.c_size_t()
         check(library.dnw_name_print(*self._slice(), self._is_fqdn, text, TEXT_SIZE, byref(length)))
-        return text.raw[: length.value].decode("ascii")
+        return taken(text, length.value).decode("ascii")
+
+    def __format__(self, spec: str) -> str:
+        return format(str(self), spec)
 
     def __repr__(self) -> str:
-        return f"Name({str(self)!r})"
+        """An expression with this value: by its text if that is read back, else by its wire form."""
+        text = str(self)
+        try:
+            back = Name(text)
+        except DnsError:
+            back = None
+        if back is not None and (back._wire, back._is_fqdn) == (self._wire, self._is_fqdn):
+            return f"Name({text!r})"
+        return f"Name.from_wire({self._wire!r}{'' if self._is_fqdn else ', is_fqdn=False'})"
 
     def __eq__(self, other: object) -> bool:
         if not isinstance(other, Name):
             return NotImplemented
-        if self._is_fqdn != other._is_fqdn:
+        # Equal names have wire forms of one length, and a form equals itself.
+        if self._is_fqdn != other._is_fqdn or len(self._wire) != len(other._wire):
             return False
+        if self._wire == other._wire:
+            return True
         is_equal = ctypes.c_bool()
         check(library.dnw_name_equal(*self._slice(), *other._slice(), byref(is_equal)))
         return is_equal.value
@@ -182,20 +266,36 @@ class Name:
         try:
             return self._hash
         except AttributeError:
-            object.__setattr__(self, "_hash", hash((self.lower()._wire, self._is_fqdn)))
+            # A length octet is at most 63, which is no letter, so the whole form is lowered at once.
+            object.__setattr__(self, "_hash", hash((self._wire.lower(), self._is_fqdn)))
             return self._hash
 
     def __lt__(self, other: object) -> bool:
-        return self.compare(other) < 0 if isinstance(other, Name) else NotImplemented
+        if not isinstance(other, Name):
+            return NotImplemented
+        return self.compare(other) < 0
 
     def __le__(self, other: object) -> bool:
-        return self.compare(other) <= 0 if isinstance(other, Name) else NotImplemented
+        if not isinstance(other, Name):
+            return NotImplemented
+        return self.compare(other) <= 0
 
     def __gt__(self, other: object) -> bool:
-        return self.compare(other) > 0 if isinstance(other, Name) else NotImplemented
+        if not isinstance(other, Name):
+            return NotImplemented
+        return self.compare(other) > 0
 
     def __ge__(self, other: object) -> bool:
-        return self.compare(other) >= 0 if isinstance(other, Name) else NotImplemented
+        if not isinstance(other, Name):
+            return NotImplemented
+        return self.compare(other) >= 0
+
+
+def wire_of(what: str, name: object) -> Tuple[bytes, int]:
+    """The wire form of an argument that is a name, and its length."""
+    if not isinstance(name, Name):
+        raise _checks.wrong_type(what, "a Name is", name)
+    return name._slice()
 
 
 class NameAt(NamedTuple):
@@ -205,12 +305,10 @@ class NameAt(NamedTuple):
     end: int
 
 
-def _placed(message: Bytes, start: int) -> Tuple[bytes, int]:
+def placed(message: Bytes, start: int) -> Tuple[bytes, int]:
     """The message as `bytes`, and the offset for the library: one octet past the message if it is past it at all."""
-    if start < 0:
-        raise ValueError("a negative offset")
-    whole = message if isinstance(message, bytes) else bytes(message)
-    return whole, min(start, len(whole) + 1)
+    whole = _checks.octets("message", message)
+    return whole, min(_checks.number("start", start), len(whole) + 1)
 
 
 def read_name(message: Bytes, start: int = 0) -> NameAt:
@@ -222,10 +320,10 @@ def read_name(message: Bytes, start: int = 0) -> NameAt:
     >>> read_name(b"\\x01b\\x00\\x01a\\xc0\\x00", 3)
     NameAt(name=Name('a.b.'), end=7)
     """
-    whole, offset = _placed(message, start)
-    form, read = create_string_buffer(FORM_SIZE), ReadName()
-    check(library.dnw_name_read(whole, len(whole), offset, form, FORM_SIZE, byref(read)))
-    return NameAt(Name._of(form.raw[: read.len], True), read.end)
+    whole, offset = placed(message, start)
+    form, read = Form(), ReadName()
+    check(library.dnw_name_read(whole, len(whole), offset, form, FORM_SIZE, byref(read)), start)
+    return NameAt(Name._of(taken(form, read.len), True), read.end)
 
 
 def names(message: Bytes, start: int = 0) -> Iterator[NameAt]:
@@ -234,7 +332,7 @@ def names(message: Bytes, start: int = 0) -> Iterator[NameAt]:
     >>> [str(name) for name, _ in names(b"\\x01b\\x00\\x01a\\xc0\\x00")]
     ['b.', 'a.b.']
     """
-    whole = bytes(message)
+    whole = _checks.octets("message", message)
     while start != len(whole):
         read = read_name(whole, start)
         yield read

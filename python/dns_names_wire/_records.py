@@ -1,29 +1,29 @@
 """The records of messages."""
 
-from ctypes import byref, c_size_t, create_string_buffer
+from ctypes import byref, c_size_t
 from typing import Iterator
 
+from . import _checks
+from ._checks import Bytes
+from ._codes import RecordClass, RecordType
 from ._errors import MessageCut, check
-from ._library import FORM_SIZE, library
+from ._library import FORM_SIZE, Form, library, taken
 from ._library import Record as Read
-from ._names import Bytes, Name, _placed
-from ._types import class_text, type_text
+from ._names import Name, placed
 
 
 class Record:
     """A record that was read in a message (RFC 1035, section 4.1.3). Its data are not looked into.
 
-    It does not change, and keeps its message. `read_record` makes it.
+    It keeps its message. `read_record` makes it.
     """
 
-    __slots__ = ("_message", "_owner", "_read")
-
-    _message: bytes
-    _owner: Name
-    _read: Read
+    __slots__ = ("_class", "_data_offset", "_end", "_message", "_owner", "_ttl", "_type")
 
     def __init__(self, message: bytes, owner: Name, read: Read) -> None:
-        self._message, self._owner, self._read = message, owner, read
+        self._message, self._owner = message, owner
+        self._type, self._class, self._ttl = RecordType(read.record_type), RecordClass(read.record_class), int(read.ttl)
+        self._data_offset, self._end = int(read.data_offset), int(read.end)
 
     @property
     def owner(self) -> Name:
@@ -31,34 +31,34 @@ class Record:
         return self._owner
 
     @property
-    def record_type(self) -> int:
-        """The code of the type; `type_text` has its name."""
-        return self._read.record_type
+    def record_type(self) -> RecordType:
+        """The type, by its code."""
+        return self._type
 
     @property
-    def record_class(self) -> int:
-        """The code of the class; `class_text` has its name."""
-        return self._read.record_class
+    def record_class(self) -> RecordClass:
+        """The class, by its code."""
+        return self._class
 
     @property
     def ttl(self) -> int:
         """The time to live, in seconds."""
-        return self._read.ttl
+        return self._ttl
 
     @property
     def data(self) -> bytes:
         """The octets of the data, in which names may be compressed."""
-        return self._message[self._read.data_offset : self._read.end]
+        return self._message[self._data_offset : self._end]
 
     @property
     def data_offset(self) -> int:
         """The offset of the data in the message, at which their names are read."""
-        return self._read.data_offset
+        return self._data_offset
 
     @property
     def end(self) -> int:
         """The offset after the record, where the next one begins."""
-        return self._read.end
+        return self._end
 
     def data_name(self, skip: int = 0) -> Name:
         """Reads the data as a name, or what is left of them after some octets: two for MX, six for SRV.
@@ -66,19 +66,16 @@ class Record:
         Raises as `read_name`, `WrongDataLength` if the name's own octets are not as many, and `MessageCut` if the data have
         fewer octets than are skipped.
         """
-        if skip < 0:
-            raise ValueError("a negative number of octets")
-        if skip > self._read.data_len:
-            check(MessageCut.number)
-        form, length = create_string_buffer(FORM_SIZE), c_size_t()
-        start, left = self._read.data_offset + skip, self._read.data_len - skip
-        message = self._message
-        check(library.dnw_record_data_name(message, len(message), start, left, form, FORM_SIZE, byref(length)))
-        return Name._of(form.raw[: length.value], True)
+        start = self._data_offset + _checks.number("skip", skip)
+        if start > self._end:
+            check(MessageCut.number, self._end)
+        form, length = Form(), c_size_t()
+        arguments = self._message, len(self._message), start, self._end - start, form, FORM_SIZE, byref(length)
+        check(library.dnw_record_data_name(*arguments), start)
+        return Name._of(taken(form, length.value), True)
 
     def __repr__(self) -> str:
-        shown = f"{self.owner} {self.ttl} {class_text(self.record_class)} {type_text(self.record_type)}"
-        return f"<Record {shown} {self.data.hex()}>"
+        return f"<Record {self.owner} {self.ttl} {self.record_class} {self.record_type} {self.data.hex()}>"
 
 
 def read_record(message: Bytes, start: int = 0) -> Record:
@@ -93,10 +90,10 @@ def read_record(message: Bytes, start: int = 0) -> Record:
     >>> record.data_name(), record.end
     (Name('a.b.'), 17)
     """
-    whole, offset = _placed(message, start)
-    form, read = create_string_buffer(FORM_SIZE), Read()
-    check(library.dnw_record_read(whole, len(whole), offset, form, FORM_SIZE, byref(read)))
-    return Record(whole, Name._of(form.raw[: read.owner_len], True), read)
+    whole, offset = placed(message, start)
+    form, read = Form(), Read()
+    check(library.dnw_record_read(whole, len(whole), offset, form, FORM_SIZE, byref(read)), start)
+    return Record(whole, Name._of(taken(form, read.owner_len), True), read)
 
 
 def records(message: Bytes, start: int) -> Iterator[Record]:
@@ -105,7 +102,7 @@ def records(message: Bytes, start: int) -> Iterator[Record]:
     >>> [record.data.hex() for record in records(bytes.fromhex("00 0001 0001 00000000 0004 c0000201"), 0)]
     ['c0000201']
     """
-    whole = bytes(message)
+    whole = _checks.octets("message", message)
     while start != len(whole):
         record = read_record(whole, start)
         yield record

@@ -1,12 +1,12 @@
 """Reverse names of addresses."""
 
 import ipaddress
-from ctypes import byref, c_size_t, create_string_buffer
+from ctypes import byref, c_char, c_size_t
 from typing import Union
 
 from ._errors import NotReverse, check
-from ._library import FORM_SIZE, Net, library
-from ._names import Name
+from ._library import FORM_SIZE, Form, Net, library, taken
+from ._names import Name, wire_of
 
 Address = Union[ipaddress.IPv4Address, ipaddress.IPv6Address]
 Network = Union[ipaddress.IPv4Network, ipaddress.IPv6Network]
@@ -21,9 +21,9 @@ def reverse_name(address: Union[Address, str]) -> Name:
     Name('1.2.0.192.in-addr.arpa.')
     """
     octets = ipaddress.ip_address(address).packed
-    form, length = create_string_buffer(FORM_SIZE), c_size_t()
+    form, length = Form(), c_size_t()
     check(library.dnw_reverse_name(octets, len(octets), form, FORM_SIZE, byref(length)))
-    return Name._of(form.raw[: length.value], True)
+    return Name._of(taken(form, length.value), True)
 
 
 def parse_reverse_name(name: Name) -> Network:
@@ -35,8 +35,9 @@ def parse_reverse_name(name: Name) -> Network:
     >>> parse_reverse_name(Name("168.192.in-addr.arpa."))
     IPv4Network('192.168.0.0/16')
     """
+    wire, length = wire_of("name", name)
     if not name.is_fqdn:
         check(NotReverse.number)
-    address, net = create_string_buffer(16), Net()
-    check(library.dnw_reverse_parse(name.wire, len(name.wire), address, 16, byref(net)))
-    return ipaddress.ip_network((address.raw[: net.len], net.prefix_len))
+    address, net = (c_char * 16)(), Net()
+    check(library.dnw_reverse_parse(wire, length, address, 16, byref(net)))
+    return ipaddress.ip_network((taken(address, net.len), net.prefix_len))

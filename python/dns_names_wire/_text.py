@@ -1,11 +1,12 @@
 """Texts of master files: times to live and tokens."""
 
 import enum
-from ctypes import byref, c_uint32, create_string_buffer
+from ctypes import byref, c_char, c_uint32
 from typing import Iterator, NamedTuple, Tuple
 
+from . import _checks
 from ._errors import check
-from ._library import Lexer, library
+from ._library import Lexer, library, taken
 from ._library import Token as _Token
 
 
@@ -17,13 +18,16 @@ def parse_ttl(text: str) -> int:
     >>> parse_ttl("1h30m"), parse_ttl("300")
     (5400, 300)
     """
-    encoded, seconds = text.encode("utf-8", "surrogatepass"), c_uint32()
+    encoded, seconds = _checks.text("text", text), c_uint32()
     check(library.dnw_ttl_parse(encoded, len(encoded), byref(seconds)))
     return seconds.value
 
 
 class TokenKind(enum.Enum):
     """What a token is."""
+
+    def __repr__(self) -> str:
+        return str(self)
 
     BLANK = 1
     """White space at the start of a line: the record has the owner of the last one."""
@@ -63,13 +67,19 @@ def tokens(text: str) -> Iterator[Token]:
     TEXT MX
     LIST 10 a.
     """
-    encoded = text.encode("utf-8", "surrogatepass")
-    lexer, token, words = Lexer(0, True), _Token(), create_string_buffer(max(len(encoded), 1))
+    encoded = _checks.text("text", text)
+    return _tokens(encoded)
+
+
+def _tokens(text: bytes) -> Iterator[Token]:
+    lexer, token, words = Lexer(0, True), _Token(), (c_char * max(len(text), 1))()
     while True:
-        check(library.dnw_token_next(encoded, len(encoded), byref(lexer), words, len(encoded), byref(token)))
+        failure = library.dnw_token_next(text, len(text), byref(lexer), words, len(text), byref(token))
+        if failure:
+            check(failure, len(text[: lexer.offset].decode("utf-8", "surrogatepass")))
         if token.kind == 0:
             return
-        kind, bytes_ = TokenKind(token.kind), words.raw[: token.len].decode()
+        kind, bytes_ = TokenKind(token.kind), taken(words, token.len).decode()
         if kind is TokenKind.TEXT:
             yield Token(kind, (bytes_,))
         elif kind is TokenKind.LIST:

@@ -1,65 +1,13 @@
-"""Record types, classes, sets of types, and serial numbers."""
+"""Sets of record types, and serial numbers."""
 
-import re
-from ctypes import byref, c_int32, c_size_t, c_uint16, create_string_buffer
-from typing import AbstractSet, Callable, FrozenSet, Iterable, Iterator
+from ctypes import byref, c_char, c_int32, c_size_t, c_uint16
+from typing import AbstractSet, FrozenSet, Iterable, Iterator
 
+from . import _checks
+from ._checks import Bytes
+from ._codes import RecordType
 from ._errors import check
-from ._library import CODE_SIZE, library
-
-
-def _text(function: Callable[..., int], code: int, unknown: str, prefix: str) -> str:
-    if not 0 <= code <= 65535:
-        raise ValueError("a code that is not from 0 to 65535")
-    text, length = create_string_buffer(CODE_SIZE), c_size_t()
-    check(function(code, text, CODE_SIZE, byref(length)))
-    name = text.raw[: length.value].decode("ascii")
-    return f"{prefix}{code}" if name == unknown else name
-
-
-def _code(function: Callable[..., int], text: str, prefix: str) -> int:
-    number = re.fullmatch(f"{prefix}([0-9]{{1,5}})", text)
-    if number and int(number[1]) <= 65535:
-        return int(number[1])
-    encoded, code = text.encode("utf-8", "surrogatepass"), c_uint16()
-    check(function(encoded, len(encoded), byref(code)))
-    return code.value
-
-
-def type_text(code: int) -> str:
-    """The name of the record type with a code, or as RFC 3597, section 5, shows types without one.
-
-    >>> type_text(28), type_text(65280)
-    ('AAAA', 'TYPE65280')
-    """
-    return _text(library.dnw_type_print, code, "Unknown", "TYPE")
-
-
-def type_code(text: str) -> int:
-    """The code of the record type with a name in capitals, or of RFC 3597, section 5. Raises `UnknownText`.
-
-    >>> type_code("AAAA"), type_code("TYPE65280")
-    (28, 65280)
-    """
-    return _code(library.dnw_type_parse, text, "TYPE")
-
-
-def class_text(code: int) -> str:
-    """The name of the class with a code, shown as types are.
-
-    >>> class_text(1), class_text(7)
-    ('IN', 'CLASS7')
-    """
-    return _text(library.dnw_class_print, code, "UNKNOWN", "CLASS")
-
-
-def class_code(text: str) -> int:
-    """The code of the class with a name in capitals, or of RFC 3597, section 5. Raises `UnknownText`.
-
-    >>> class_code("CH")
-    3
-    """
-    return _code(library.dnw_class_parse, text, "CLASS")
+from ._library import library, taken
 
 
 class TypeSet(AbstractSet[int]):
@@ -68,8 +16,8 @@ class TypeSet(AbstractSet[int]):
     It does not change, and is equal to other sets of the same codes. It is iterated by ascending codes.
 
     >>> types = TypeSet.from_bitmap(bytes.fromhex("0006400100000003"))
-    >>> [type_text(code) for code in types], 15 in types
-    (['A', 'MX', 'RRSIG', 'NSEC'], True)
+    >>> [str(kind) for kind in types], RecordType.MX in types, 15 in types
+    (['A', 'MX', 'RRSIG', 'NSEC'], True, True)
     >>> TypeSet([47, 1, 15, 46]).to_bitmap().hex()
     '0006400100000003'
     """
@@ -80,20 +28,19 @@ class TypeSet(AbstractSet[int]):
 
     def __init__(self, codes: Iterable[int] = ()) -> None:
         """The set of some codes, from 0 to 65535."""
-        self._codes = frozenset(codes)
-        if not all(0 <= code <= 65535 for code in self._codes):
-            raise ValueError("a code that is not from 0 to 65535")
+        self._codes = frozenset(_checks.number("codes", code, 65535) for code in codes)
 
     @classmethod
-    def from_bitmap(cls, bitmap: bytes) -> "TypeSet":
+    def from_bitmap(cls, bitmap: Bytes) -> "TypeSet":
         """The set that a bitmap lists. The last window may be cut anywhere.
 
         Raises `BadBitmap` if an octet follows a window of length 0, if a bit is set after the 32nd octet of a window, or if
         the bitmap has more than 65535 octets.
         """
-        size = 8 * len(bitmap)
+        octets = _checks.octets("bitmap", bitmap)
+        size = 8 * len(octets)
         codes, count = (c_uint16 * max(size, 1))(), c_size_t()
-        check(library.dnw_types_read(bitmap, len(bitmap), codes, size, byref(count)))
+        check(library.dnw_types_read(octets, len(octets), codes, size, byref(count)))
         return cls(codes[: count.value])
 
     def to_bitmap(self) -> bytes:
@@ -101,15 +48,15 @@ class TypeSet(AbstractSet[int]):
         codes = (c_uint16 * max(len(self._codes), 1))(*self._codes)
         # A window has at most 34 octets.
         size = 34 * len({code >> 8 for code in self._codes})
-        bitmap, length = create_string_buffer(max(size, 1)), c_size_t()
+        bitmap, length = (c_char * max(size, 1))(), c_size_t()
         check(library.dnw_types_write(codes, len(self._codes), bitmap, size, byref(length)))
-        return bitmap.raw[: length.value]
+        return taken(bitmap, length.value)
 
     def __contains__(self, code: object) -> bool:
         return code in self._codes
 
-    def __iter__(self) -> Iterator[int]:
-        return iter(sorted(self._codes))
+    def __iter__(self) -> Iterator[RecordType]:
+        return map(RecordType, sorted(self._codes))
 
     def __len__(self) -> int:
         return len(self._codes)
@@ -121,9 +68,7 @@ class TypeSet(AbstractSet[int]):
         return f"TypeSet({sorted(self._codes)})"
 
 
-def _serials(*serials: int) -> None:
-    if not all(0 <= serial <= 4294967295 for serial in serials):
-        raise ValueError("a serial number that is not from 0 to 4294967295")
+_MOST_SERIAL = 4294967295
 
 
 def serial_compare(left: int, right: int) -> int:
@@ -134,9 +79,9 @@ def serial_compare(left: int, right: int) -> int:
     >>> serial_compare(4294967295, 0)
     -1
     """
-    _serials(left, right)
+    first, second = _checks.number("left", left, _MOST_SERIAL), _checks.number("right", right, _MOST_SERIAL)
     order = c_int32()
-    check(library.dnw_serial_compare(left, right, byref(order)))
+    check(library.dnw_serial_compare(first, second, byref(order)))
     return order.value
 
 
@@ -146,5 +91,5 @@ def serial_add(serial: int, other: int) -> int:
     >>> serial_add(4294967295, 2)
     1
     """
-    _serials(serial, other)
-    return int(library.dnw_serial_add(serial, other))
+    first, second = _checks.number("serial", serial, _MOST_SERIAL), _checks.number("other", other, _MOST_SERIAL)
+    return int(library.dnw_serial_add(first, second))

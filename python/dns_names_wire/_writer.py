@@ -1,11 +1,13 @@
 """Messages written with compression."""
 
-from ctypes import byref, create_string_buffer
+from ctypes import byref, c_char
 from typing import List, NamedTuple, Tuple, Union
 
+from . import _checks
+from ._checks import Bytes
 from ._errors import MessageTooLong, check
-from ._library import WrittenMessage, library
-from ._names import Name
+from ._library import WrittenMessage, library, taken
+from ._names import Name, wire_of
 
 # The kinds of items, in `dns_names_wire.h`.
 _BYTES, _NAME, _RECORD, _STANDARD_NAME, _CANONICAL_NAME, _OTHER_NAME = range(6)
@@ -21,10 +23,8 @@ class Truncated(NamedTuple):
     parts: int
 
 
-def _number(number: int, octets: int, what: str) -> bytes:
-    if not 0 <= number < 256**octets:
-        raise ValueError(f"a {what} that does not fit into {octets} octets")
-    return number.to_bytes(octets, "big")
+def _number(what: str, number: int, octets: int) -> bytes:
+    return _checks.number(what, number, 256**octets - 1).to_bytes(octets, "big")
 
 
 class MessageWriter:
@@ -33,9 +33,10 @@ class MessageWriter:
 
     The parts are collected, and written by `finish` from the message's first byte on.
 
+    >>> from dns_names_wire import RecordClass, RecordType
     >>> writer = MessageWriter()
     >>> writer.push(Name("www.de."))
-    >>> writer.record(Name("de."), 2, 1, 60, Name("ns.de."))
+    >>> writer.record(Name("de."), RecordType.NS, RecordClass.IN, 60, Name("ns.de."))
     >>> writer.finish().hex(" ", 1)
     '03 77 77 77 02 64 65 00 c0 04 00 02 00 01 00 00 00 3c 00 05 02 6e 73 c0 04'
     """
@@ -45,35 +46,37 @@ class MessageWriter:
 
         The names in records' data are written in canonical form or not (RFC 4034, section 6.2).
         """
-        if not 0 <= max_size <= 65535:
-            raise ValueError("a maximum that is not from 0 to 65535")
-        self._max_size, self._canonical = max_size, canonical
+        self._max_size, self._canonical = _checks.number("max_size", max_size, 65535), bool(canonical)
         # of each part its items, as `dnw_message_write` takes them
         self._parts: List[List[bytes]] = []
 
     def push(self, name: Name) -> None:
         """Adds a name. That it is fully qualified is not written."""
-        self._parts.append([bytes([_NAME]) + name.wire])
+        wire, _ = wire_of("name", name)
+        self._parts.append([bytes([_NAME]) + wire])
 
-    def raw(self, octets: bytes) -> None:
+    def raw(self, octets: Bytes) -> None:
         """Adds bytes as they are, as a message's header."""
-        chunks = [octets[at : at + 65535] for at in range(0, len(octets), 65535)]
-        self._parts.append([bytes([_BYTES]) + _number(len(chunk), 2, "length") + chunk for chunk in chunks])
+        whole = _checks.octets("octets", octets)
+        chunks = [whole[at : at + 65535] for at in range(0, len(whole), 65535)]
+        self._parts.append([bytes([_BYTES]) + len(chunk).to_bytes(2, "big") + chunk for chunk in chunks])
 
     def question(self, name: Name, record_type: int, record_class: int) -> None:
         """Adds a question (RFC 1035, section 4.1.2)."""
-        codes = _number(record_type, 2, "type") + _number(record_class, 2, "class")
-        self._parts.append([bytes([_NAME]) + name.wire, bytes([_BYTES, 0, len(codes)]) + codes])
+        wire, _ = wire_of("name", name)
+        codes = _number("record_type", record_type, 2) + _number("record_class", record_class, 2)
+        self._parts.append([bytes([_NAME]) + wire, bytes([_BYTES, 0, len(codes)]) + codes])
 
-    def record(self, owner: Name, record_type: int, record_class: int, ttl: int, data: Union[Name, bytes]) -> None:
+    def record(self, owner: Name, record_type: int, record_class: int, ttl: int, data: Union[Name, Bytes]) -> None:
         """Adds a record. Data that are a name are compressed if the type is one of RFC 1035 (RFC 3597, section 4); others are
-        written as they are."""
-        is_name = isinstance(data, Name)
-        kind = _KINDS.get(record_type, _OTHER_NAME) if is_name else _RECORD
-        octets = data.wire if isinstance(data, Name) else data
-        codes = _number(record_type, 2, "type") + _number(record_class, 2, "class")
-        fields = codes + _number(ttl, 4, "time to live") + _number(len(octets), 2, "length")
-        self._parts.append([bytes([kind]) + owner.wire + fields + octets])
+        written as they are. Raises `ValueError` for data of more than 65535 octets."""
+        wire, _ = wire_of("owner", owner)
+        fields = _number("record_type", record_type, 2) + _number("record_class", record_class, 2) + _number("ttl", ttl, 4)
+        kind, octets = _RECORD, data.wire if isinstance(data, Name) else _checks.octets("data", data)
+        if isinstance(data, Name):
+            kind = _KINDS.get(record_type, _OTHER_NAME)
+        length = _number("data: the number of octets", len(octets), 2)
+        self._parts.append([bytes([kind]) + wire + fields + length + octets])
 
     def finish(self) -> bytes:
         """The message. Raises `MessageTooLong` if it would be longer than the maximum."""
@@ -108,10 +111,10 @@ class MessageWriter:
         items = b"".join(item for part in self._parts[:parts] for item in part)
         # An item takes no more octets in a message than in the list.
         size = min(len(items), self._max_size)
-        message, written = create_string_buffer(max(size, 1)), WrittenMessage()
+        message, written = (c_char * max(size, 1))(), WrittenMessage()
         number = library.dnw_message_write(
             items, len(items), self._max_size, self._canonical, message, size, byref(written)
         )
         if number != MessageTooLong.number:
             check(number)
-        return message.raw[: written.len], written.count
+        return taken(message, written.len), written.count

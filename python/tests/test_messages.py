@@ -3,6 +3,7 @@ RFC 3596, section 2.5."""
 
 import doctest
 import ipaddress
+import pickle
 import unittest
 from importlib import import_module
 
@@ -36,6 +37,9 @@ class Messages(unittest.TestCase):
             self.assertEqual((ns.data_offset, ns.data, ns.end), (45, REFERRAL[45:50], 50))
             self.assertEqual(ns.data_name(), Name("ns.example.com."))
             self.assertEqual((a.owner, a.data, a.end), (Name("ns.example.com."), bytes([192, 0, 2, 1]), 66))
+            self.assertEqual((repr(ns.record_type), str(a.record_class)), ("RecordType.NS", "IN"))
+            copied = pickle.loads(pickle.dumps(ns))
+            self.assertEqual((repr(copied), copied.data_name()), (repr(ns), ns.data_name()))
 
     def test_what_does_not_fit_is_left_out_whole(self):
         for max_size, length, parts in [(65, 50, 3), (59, 33, 2), (33, 33, 2), (32, 12, 1), (12, 12, 1), (11, 0, 0)]:
@@ -70,8 +74,9 @@ class Messages(unittest.TestCase):
             (REFERRAL, 2**64, dnw.MessageCut),
             (REFERRAL, 2, dnw.ReservedOctet),
         ]:
-            with self.subTest(start=start), self.assertRaises(error):
+            with self.subTest(start=start), self.assertRaises(error) as raised:
                 read_record(message, start)
+            self.assertEqual(raised.exception.offset, start)
         with self.assertRaises(ValueError):
             read_record(REFERRAL, -1)
         mx = read_record(bytes.fromhex("00 000f 0001 00000000 0003 000a 00"))

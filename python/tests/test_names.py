@@ -3,7 +3,12 @@ hand."""
 
 import copy
 import doctest
+import os
+import pathlib
 import pickle
+import subprocess
+import sys
+import tempfile
 import unittest
 from importlib import import_module
 
@@ -130,7 +135,118 @@ class Values(unittest.TestCase):
     def test_copies_are_equal(self):
         for name in [Name("a.b"), Name("a.b.")]:
             self.assertEqual(copy.deepcopy(name), name)
-            self.assertEqual(pickle.loads(pickle.dumps(name)), name)
+            for protocol in range(pickle.HIGHEST_PROTOCOL + 1):
+                self.assertEqual(pickle.loads(pickle.dumps(name, protocol)), name)
+
+    def test_what_is_shown_is_an_expression(self):
+        forms = [b"\x00", b"\x01a\x00", b"\x01\xe4\x00", b"\x02a.\x01-\x00", b"\x01*\x01*\x00", b"\x01'\x01\\\x00"]
+        for name in [Name.from_wire(form, is_fqdn=is_fqdn) for form in forms for is_fqdn in (True, False)]:
+            back = eval(repr(name), {"Name": Name})
+            self.assertEqual((back.wire, back.is_fqdn), (name.wire, name.is_fqdn))
+        self.assertEqual(repr(Name.from_wire(b"\x01\xe4\x00")), "Name.from_wire(b'\\x01\\xe4\\x00')")
+        self.assertEqual(eval(repr(read_name(b"\x00")), vars(dnw)), (Name("."), 1))
+
+    def test_its_items_are_its_labels(self):
+        name = Name("www.example.com.")
+        self.assertEqual((len(name), list(name), bytes(name)), (3, [b"www", b"example", b"com"], name.wire))
+        self.assertEqual((len(Name(".")), list(Name("")), bool(Name("."))), (0, [], True))
+        self.assertEqual((name in Name("EXAMPLE.com."), Name("com.") in name, name in name), (True, False, True))
+        self.assertEqual((name.parent, Name("a").parent, Name(".").parent), (Name("example.com."), Name(""), Name(".")))
+        self.assertEqual((Name("www") + Name("a."), f"{Name('a.'):>4}|{Name('a.')}"), (Name("www.a."), "  a.|a."))
+        self.assertTrue(Name(".").is_root and not Name("").is_root and not name.is_root)
+        self.assertTrue(Name("*.a.").is_wildcard and not Name("a.*.").is_wildcard and not Name.from_wire(b"\x02.*\x00").is_wildcard)
+
+    def test_names_of_labels(self):
+        self.assertEqual(Name.from_labels([b"b.", bytearray(b"\xff")]).wire, b"\x02b.\x01\xff\x00")
+        self.assertEqual((Name.from_labels([]), Name.from_labels([b"a"] * 127).wire), (Name("."), b"\x01a" * 127 + b"\x00"))
+        for labels, error in [([b"a", b""], dnw.BadText), ([b"a" * 64], dnw.LabelTooLong), ([b"a"] * 128, dnw.NameTooLong)]:
+            with self.assertRaises(error):
+                Name.from_labels(labels)
+
+    def test_other_types_are_not_compared(self):
+        name = Name("a.")
+        for other in ["a.", b"\x01a\x00", None, 1]:
+            self.assertFalse(name == other)
+            self.assertTrue(name != other)
+            for method in ["__eq__", "__lt__", "__le__", "__gt__", "__ge__", "__add__"]:
+                self.assertIs(getattr(name, method)(other), NotImplemented)
+        with self.assertRaises(TypeError):
+            name + "b."
+
+    def test_exceptions_say_where_and_cross_processes(self):
+        with self.assertRaises(dnw.PointerNotBack) as raised:
+            read_name(b"\x00\xc0\x01", 1)
+        for error in [raised.exception, pickle.loads(pickle.dumps(raised.exception))]:
+            self.assertEqual((error.offset, error.number), (1, 4))
+            self.assertEqual(str(error), f"at offset 1: {error.reason}")
+        with self.assertRaises(dnw.BadText) as raised:
+            Name("a..b")
+        self.assertEqual((raised.exception.offset, str(raised.exception)), (None, raised.exception.reason))
+
+
+class Arguments(unittest.TestCase):
+    def test_a_wrong_argument_is_named(self):
+        name, writer = Name("a."), dnw.MessageWriter()
+        record = dnw.read_record(bytes.fromhex("00 0001 0001 00000000 0000"))
+        rows = [
+            (lambda: Name(b"a."), "text: a str is wanted, not bytes"),
+            (lambda: Name(name), "text: a str is wanted, not Name"),
+            (lambda: Name.from_wire("a."), "wire: bytes are wanted, not str"),
+            (lambda: Name.from_labels(["a"]), "label: bytes are wanted, not str"),
+            (lambda: name.is_in("a."), "zone: a Name is wanted, not str"),
+            (lambda: "a." in name, "name: a Name is wanted, not str"),
+            (lambda: name.append("a."), "suffix: a Name is wanted, not str"),
+            (lambda: name.compare("a."), "other: a Name is wanted, not str"),
+            (lambda: name.prepend_label("a"), "label: bytes are wanted, not str"),
+            (lambda: name.trim_to("a"), "labels: an int is wanted, not str"),
+            (lambda: name.trim_to(-1), "labels: -1 is negative"),
+            (lambda: read_name("a."), "message: bytes are wanted, not str"),
+            (lambda: read_name(b"", None), "start: an int is wanted, not NoneType"),
+            (lambda: read_name(b"", -1), "start: -1 is negative"),
+            (lambda: list(names(3)), "message: bytes are wanted, not int"),
+            (lambda: list(names(b"", 1.5)), "start: an int is wanted, not float"),
+            (lambda: dnw.read_record(None), "message: bytes are wanted, not NoneType"),
+            (lambda: list(dnw.records("", 0)), "message: bytes are wanted, not str"),
+            (lambda: record.data_name("2"), "skip: an int is wanted, not str"),
+            (lambda: writer.push("a."), "name: a Name is wanted, not str"),
+            (lambda: writer.raw("a"), "octets: bytes are wanted, not str"),
+            (lambda: writer.question("a.", 1, 1), "name: a Name is wanted, not str"),
+            (lambda: writer.question(name, "A", 1), "record_type: an int is wanted, not str"),
+            (lambda: writer.question(name, 1, 65536), "record_class: 65536 is not from 0 to 65535"),
+            (lambda: writer.record(b"", 1, 1, 0, b""), "owner: a Name is wanted, not bytes"),
+            (lambda: writer.record(name, 1, 1, -1, b""), "ttl: -1 is not from 0 to 4294967295"),
+            (lambda: writer.record(name, 1, 1, 0, "a."), "data: bytes are wanted, not str"),
+            (lambda: writer.record(name, 1, 1, 0, bytes(65536)), "data: the number of octets: 65536 is not from 0 to 65535"),
+            (lambda: dnw.MessageWriter(65536), "max_size: 65536 is not from 0 to 65535"),
+            (lambda: dnw.parse_reverse_name("a."), "name: a Name is wanted, not str"),
+            (lambda: dnw.parse_ttl(300), "text: a str is wanted, not int"),
+            (lambda: dnw.tokens(b""), "text: a str is wanted, not bytes"),
+            (lambda: dnw.type_code(1), "text: a str is wanted, not int"),
+            (lambda: dnw.class_text("IN"), "code: an int is wanted, not str"),
+            (lambda: dnw.TypeSet(["A"]), "codes: an int is wanted, not str"),
+            (lambda: dnw.TypeSet.from_bitmap(""), "bitmap: bytes are wanted, not str"),
+            (lambda: dnw.serial_add(0, 2**32), "other: 4294967296 is not from 0 to 4294967295"),
+            (lambda: dnw.serial_compare("0", 0), "left: an int is wanted, not str"),
+        ]
+        for call, text in rows:
+            with self.subTest(text=text), self.assertRaises((TypeError, ValueError)) as raised:
+                call()
+            self.assertEqual(str(raised.exception), text)
+            self.assertIs(type(raised.exception), TypeError if "wanted" in text else ValueError)
+
+    def test_a_missing_library_says_where_it_was_looked_for(self):
+        package = pathlib.Path(dnw.__file__).resolve().parent
+        with tempfile.TemporaryDirectory() as folder:
+            environment = {**os.environ, "DNW_LIB_DIR": folder, "PYTHONPATH": str(package.parent)}
+            for write, text in [(False, "there is no "), (True, "cannot be loaded")]:
+                if write:
+                    pathlib.Path(folder, "libdns_names_wire.so").write_text("no library")
+                ran = subprocess.run(
+                    [sys.executable, "-c", "import dns_names_wire"], env=environment, capture_output=True, text=True
+                )
+                self.assertIn("ImportError: ", ran.stderr)
+                for part in [text, folder, "DNW_LIB_DIR", "tools/c-library", "wheel"]:
+                    self.assertIn(part, ran.stderr)
 
 
 class Writing(unittest.TestCase):

@@ -1,12 +1,14 @@
 """Types, classes, bitmaps, serial numbers, master files, and names made of names. Expected values are from RFC 4034, section
 4.3, RFC 1982, section 5, RFC 1035, section 5.1, or counted by hand."""
 
+import copy
 import doctest
+import pickle
 import unittest
 from importlib import import_module
 
 import dns_names_wire as dnw
-from dns_names_wire import Name, Token, TokenKind, TypeSet, parse_ttl, tokens
+from dns_names_wire import Name, RecordClass, RecordType, Token, TokenKind, TypeSet, parse_ttl, tokens
 
 BITMAP = bytes.fromhex("0006400100000003041b") + bytes(26) + b"\x20"
 
@@ -38,11 +40,43 @@ class Types(unittest.TestCase):
             self.assertEqual((dnw.type_text(code), dnw.type_code(text)), (text, code))
         for code, text in [(1, "IN"), (3, "CH"), (4, "HS"), (254, "NONE"), (255, "ANY"), (7, "CLASS7")]:
             self.assertEqual((dnw.class_text(code), dnw.class_code(text)), (text, code))
-        for text in ["", "a", "TYPE", "TYPE65536", "NOTHING"]:
+        self.assertEqual((dnw.type_code("*"), dnw.class_code("*"), dnw.type_code("type00001")), (255, 255, 1))
+        for text in ["", "TYPE", "TYPE65536", "TYPE+1", "TYPE\u0661", "CLASS1", "NOTHING", "\u00e4", "\u0131xfr"]:
             with self.subTest(text=text), self.assertRaises(dnw.UnknownText):
                 dnw.type_code(text)
+        for text in ["", "CLASS65536", "TYPE1", "CLA\u017fS1"]:
+            with self.subTest(text=text), self.assertRaises(dnw.UnknownText):
+                dnw.class_code(text)
         with self.assertRaises(ValueError):
             dnw.type_text(65536)
+
+    def test_every_code_is_parsed_from_what_is_shown(self):
+        for code in range(65536):
+            kind, klass = dnw.type_text(code), dnw.class_text(code)
+            self.assertEqual((dnw.type_code(kind), dnw.class_code(klass)), (code, code))
+            self.assertEqual((dnw.type_code(kind.lower()), dnw.class_code(klass.lower())), (code, code))
+
+    def test_every_name_has_a_constant(self):
+        for kind, text, prefix in [(RecordType, dnw.type_text, "TYPE"), (RecordClass, dnw.class_text, "CLASS")]:
+            named = {text(code): code for code in range(65536) if not text(code).startswith(prefix)}
+            self.assertEqual({name: int(getattr(kind, name)) for name in kind.__annotations__}, named)
+            for name, code in named.items():
+                self.assertEqual((str(kind(code)), kind.from_text(name.lower())), (name, code))
+
+    def test_codes_are_ints(self):
+        kind = RecordType.MX
+        self.assertIsInstance(kind, int)
+        self.assertEqual((kind, kind + 1, {15: "x"}[kind], sorted([kind, 1])), (15, 16, "x", [1, 15]))
+        self.assertEqual((f"{kind:>4}", f"{RecordClass.IN}", f"{int(kind)}"), ("  MX", "IN", "15"))
+        for value in [kind, RecordType(1234), RecordClass.ANY, RecordClass(7)]:
+            self.assertEqual(eval(repr(value), {"RecordType": RecordType, "RecordClass": RecordClass}), value)
+            for copied in [pickle.loads(pickle.dumps(value)), copy.deepcopy(value)]:
+                self.assertEqual((copied, type(copied), repr(copied)), (value, type(value), repr(value)))
+        for code in [-1, 65536]:
+            with self.assertRaisesRegex(ValueError, "^code: .* is not from 0 to 65535$"):
+                RecordType(code)
+        with self.assertRaisesRegex(TypeError, "^code: an int is wanted, not str$"):
+            RecordType("A")
 
     def test_sets_are_bitmaps(self):
         types = TypeSet(dnw.type_code(text) for text in ["A", "MX", "RRSIG", "NSEC", "TYPE1234"])
@@ -55,6 +89,8 @@ class Types(unittest.TestCase):
         for bitmap in [b"\x00\x00\x01", b"\x00\x21" + bytes(32) + b"\x01"]:
             with self.assertRaises(dnw.BadBitmap):
                 TypeSet.from_bitmap(bitmap)
+        self.assertEqual((eval(repr(types), {"TypeSet": TypeSet}), pickle.loads(pickle.dumps(types))), (types, types))
+        self.assertEqual((RecordType.MX in types, "MX" in types, len(types)), (True, False, 5))
         every = TypeSet(range(65536))
         self.assertEqual(TypeSet.from_bitmap(every.to_bitmap()), every)
         with self.assertRaises(ValueError):
@@ -87,11 +123,16 @@ class Texts(unittest.TestCase):
         self.assertEqual(read[12].texts, ("c \u00e4",))
         self.assertEqual(list(tokens("")), [])
         for text, error in [("(a", dnw.UnclosedList), ('"a', dnw.UnclosedQuote), ("$FOO", dnw.UnknownEntry), ("\udc80", dnw.NotUtf8)]:
-            with self.subTest(text=text), self.assertRaises(error):
+            with self.subTest(text=text), self.assertRaises(error) as raised:
                 list(tokens(text))
+            self.assertEqual(raised.exception.offset, 0)
+        with self.assertRaises(dnw.IllegalCharacter) as raised:
+            list(tokens("\u00e4\n)"))
+        self.assertEqual((raised.exception.offset, str(raised.exception)[:13]), (2, "at offset 2: "))
+        self.assertEqual(eval(repr(read), {"Token": Token, "TokenKind": TokenKind}), read)
 
 
 def load_tests(loader, tests, pattern):
-    for module in ["_text", "_types"]:
+    for module in ["_codes", "_text", "_types"]:
         tests.addTests(doctest.DocTestSuite(import_module(f"dns_names_wire.{module}")))
     return tests

@@ -6,27 +6,174 @@ use std::fmt;
 use std::ops::Add;
 use std::str::FromStr;
 
-/// A record type, by its code. It is shown by its name, or as RFC 3597, section 5, shows types without one.
+/// A record type, by its code of 16 bits.
+///
+/// It is shown by its name, or as `TYPE` and its code if it has none (RFC 3597, section 5). Both texts are parsed, in upper
+/// or lower case, so that what is shown for any code is parsed as that code. `*` is parsed as `ANY`.
 ///
 /// ```
 /// use dns_names_wire::RecordType;
 ///
-/// let kind: RecordType = "AAAA".parse()?;
-/// assert_eq!(u16::from(kind), 28);
-/// assert_eq!(RecordType::from(28).to_string(), "AAAA");
+/// assert_eq!("aaaa".parse(), Ok(RecordType::AAAA));
+/// assert_eq!("TYPE65280".parse(), Ok(RecordType::from(65280)));
 /// assert_eq!(RecordType::from(65280).to_string(), "TYPE65280");
-/// # Ok::<(), dns_names_wire::Error>(())
+/// match RecordType::from(28) {
+///     RecordType::A | RecordType::AAAA => (),
+///     other => panic!("{other} is no address"),
+/// }
 /// ```
 #[derive(Clone, Copy, PartialEq, Eq, PartialOrd, Ord, Hash)]
 pub struct RecordType(u16);
 
-/// A class, by its code, shown as a [`RecordType`] is.
+/// A class, by its code of 16 bits. It is shown and parsed as a [`RecordType`] is, with `CLASS` in place of `TYPE`.
 ///
 /// ```
-/// assert_eq!(dns_names_wire::Class::from(1).to_string(), "IN");
+/// use dns_names_wire::Class;
+///
+/// assert_eq!(Class::IN.to_string(), "IN");
+/// assert_eq!("class7".parse(), Ok(Class::from(7)));
 /// ```
 #[derive(Clone, Copy, PartialEq, Eq, PartialOrd, Ord, Hash)]
 pub struct Class(u16);
+
+/// The constants of a kind of codes.
+macro_rules! constants {
+    ($code:ident { $($(#[doc = $doc:literal])* $name:ident = $number:literal,)* }) => {
+        impl $code {
+            $(
+                $(#[doc = $doc])*
+                pub const $name: $code = $code($number);
+            )*
+
+            /// All that have a name, by ascending codes.
+            pub const NAMED: &'static [$code] = &[$($code::$name),*];
+        }
+    };
+}
+
+constants! {
+    RecordType {
+        /// Code 0, which is the type of no record (RFC 6895, section 3.1).
+        ZERO = 0,
+        /// An IPv4 address (RFC 1035, section 3.4.1).
+        A = 1,
+        /// A name server of a zone (RFC 1035, section 3.3.11).
+        NS = 2,
+        /// The name that an alias stands for (RFC 1035, section 3.3.1).
+        CNAME = 5,
+        /// The start of a zone (RFC 1035, section 3.3.13).
+        SOA = 6,
+        /// Any data (RFC 1035, section 3.3.10).
+        NULL = 10,
+        /// Another name (RFC 1035, section 3.3.12).
+        PTR = 12,
+        /// What a host is (RFC 1035, section 3.3.2).
+        HINFO = 13,
+        /// Where mail goes (RFC 1035, section 3.3.9).
+        MX = 15,
+        /// Text (RFC 1035, section 3.3.14).
+        TXT = 16,
+        /// A signature of a message (RFC 2931).
+        SIG = 24,
+        /// A key of a host (RFC 2535 and RFC 2930).
+        KEY = 25,
+        /// An IPv6 address (RFC 3596, section 2.1).
+        AAAA = 28,
+        /// Where a service is (RFC 2782).
+        SRV = 33,
+        /// A rule that rewrites a name (RFC 3403).
+        NAPTR = 35,
+        /// A certificate (RFC 4398).
+        CERT = 37,
+        /// The name that a whole subtree is an alias of (RFC 6672).
+        DNAME = 39,
+        /// The options of a message (RFC 6891).
+        OPT = 41,
+        /// The digest of a child's key (RFC 4034, section 5).
+        DS = 43,
+        /// The fingerprint of an SSH key (RFC 4255).
+        SSHFP = 44,
+        /// A signature of records (RFC 4034, section 3).
+        RRSIG = 46,
+        /// The next name of a zone, and the types of this one (RFC 4034, section 4).
+        NSEC = 47,
+        /// A key of a zone (RFC 4034, section 2).
+        DNSKEY = 48,
+        /// As NSEC, over hashed names (RFC 5155, section 3).
+        NSEC3 = 50,
+        /// How the names of a zone are hashed (RFC 5155, section 4).
+        NSEC3PARAM = 51,
+        /// A certificate of a TLS server (RFC 6698).
+        TLSA = 52,
+        /// A certificate for mail (RFC 8162).
+        SMIMEA = 53,
+        /// The child's copy of a DS (RFC 7344).
+        CDS = 59,
+        /// The child's copy of a DNSKEY (RFC 7344).
+        CDNSKEY = 60,
+        /// A key of OpenPGP (RFC 7929).
+        OPENPGPKEY = 61,
+        /// What a parent may copy from its child (RFC 7477).
+        CSYNC = 62,
+        /// How to reach a service (RFC 9460).
+        SVCB = 64,
+        /// How to reach a service over HTTPS (RFC 9460).
+        HTTPS = 65,
+        /// The signature of a message by a shared key (RFC 8945).
+        TSIG = 250,
+        /// The transfer of what changed in a zone, in a question (RFC 1995).
+        IXFR = 251,
+        /// The transfer of a whole zone, in a question (RFC 5936).
+        AXFR = 252,
+        /// Any type, in a question (RFC 1035, section 3.2.3).
+        ANY = 255,
+        /// Which authorities may issue certificates (RFC 8659).
+        CAA = 257,
+        /// An alias at the top of a zone (draft-ietf-dnsop-aname). Its code was never assigned.
+        ANAME = 65305,
+    }
+}
+
+constants! {
+    Class {
+        /// The Internet (RFC 1035, section 3.2.4).
+        IN = 1,
+        /// Chaosnet (RFC 1035, section 3.2.4).
+        CH = 3,
+        /// Hesiod (RFC 1035, section 3.2.4).
+        HS = 4,
+        /// No class, in an update (RFC 2136, section 2.4).
+        NONE = 254,
+        /// Any class, in a question (RFC 1035, section 3.2.5).
+        ANY = 255,
+    }
+}
+
+/// The types whose names `dnw_type_parse` does not take.
+const UNPARSED_TYPES: [(&str, u16); 3] = [("ZERO", 0), ("OPT", 41), ("IXFR", 251)];
+
+fn type_code(name: &str) -> Result<u16, Error> {
+    door::type_code(name).or_else(|error| {
+        let found = UNPARSED_TYPES.iter().find(|(unparsed, _)| *unparsed == name);
+        found.map(|(_, code)| *code).ok_or(error)
+    })
+}
+
+/// Returns the code in a text of a prefix and its decimal digits, of which there may be zeros in front.
+fn numbered(text: &str, prefix: &str) -> Option<u16> {
+    let (start, digits) = (text.get(..prefix.len())?, text.get(prefix.len()..)?);
+    let is_numbered = start.eq_ignore_ascii_case(prefix) && digits.bytes().all(|byte| byte.is_ascii_digit());
+    digits.parse().ok().filter(|_| is_numbered)
+}
+
+/// Calls a function with a text in capitals, if that can be the name of a code.
+fn with_capitals<T>(text: &str, parse: impl FnOnce(&str) -> Result<T, Error>) -> Result<T, Error> {
+    let mut room = [0; CODE_SIZE];
+    let capitals = room.get_mut(..text.len()).ok_or(Error::UnknownText)?;
+    capitals.copy_from_slice(text.as_bytes());
+    capitals.make_ascii_uppercase();
+    parse(std::str::from_utf8(capitals).expect("ASCII letters alone were changed"))
+}
 
 macro_rules! code {
     ($code:ident, $text:path, $parse:path, $unknown:literal, $prefix:literal) => {
@@ -39,6 +186,14 @@ macro_rules! code {
         impl From<$code> for u16 {
             fn from(code: $code) -> u16 {
                 code.0
+            }
+        }
+
+        impl $code {
+            #[doc = concat!("Returns the code.\n\n```\nassert_eq!(dns_names_wire::", stringify!($code))]
+            #[doc = "::ANY.code(), 255);\n```"]
+            pub const fn code(self) -> u16 {
+                self.0
             }
         }
 
@@ -58,22 +213,30 @@ macro_rules! code {
             }
         }
 
-        /// Takes a name, or the text of RFC 3597, section 5. Fails with `UnknownText`.
+        /// Takes a name, or the text of RFC 3597, section 5, in upper or lower case. Fails with `UnknownText`.
         impl FromStr for $code {
             type Err = Error;
 
             fn from_str(text: &str) -> Result<Self, Error> {
-                let number = text.strip_prefix($prefix).filter(|digits| digits.bytes().all(|b| b.is_ascii_digit()));
-                match number.and_then(|digits| digits.parse().ok()) {
+                match numbered(text, $prefix) {
                     Some(code) => Ok($code(code)),
-                    None => $parse(text).map($code),
+                    None => with_capitals(text, $parse).map($code),
                 }
+            }
+        }
+
+        /// As `str::parse`.
+        impl TryFrom<&str> for $code {
+            type Error = Error;
+
+            fn try_from(text: &str) -> Result<Self, Error> {
+                text.parse()
             }
         }
     };
 }
 
-code!(RecordType, door::type_text, door::type_code, "Unknown", "TYPE");
+code!(RecordType, door::type_text, type_code, "Unknown", "TYPE");
 code!(Class, door::class_text, door::class_code, "UNKNOWN", "CLASS");
 
 /// A serial number of a zone, which starts again at 0 after 4294967295 (RFC 1982).
@@ -87,8 +250,27 @@ code!(Class, door::class_text, door::class_code, "UNKNOWN", "CLASS");
 /// assert!(last < last + SerialNumber(1));
 /// assert_eq!(SerialNumber(0).partial_cmp(&SerialNumber(1 << 31)), None);
 /// ```
-#[derive(Clone, Copy, Debug, PartialEq, Eq, Hash)]
+#[derive(Clone, Copy, Debug, Default, PartialEq, Eq, Hash)]
 pub struct SerialNumber(pub u32);
+
+/// Its decimal digits.
+impl fmt::Display for SerialNumber {
+    fn fmt(&self, f: &mut fmt::Formatter<'_>) -> fmt::Result {
+        fmt::Display::fmt(&self.0, f)
+    }
+}
+
+impl From<u32> for SerialNumber {
+    fn from(number: u32) -> Self {
+        SerialNumber(number)
+    }
+}
+
+impl From<SerialNumber> for u32 {
+    fn from(serial: SerialNumber) -> u32 {
+        serial.0
+    }
+}
 
 impl PartialOrd for SerialNumber {
     fn partial_cmp(&self, other: &Self) -> Option<Ordering> {

@@ -3,6 +3,14 @@ use crate::door;
 use std::fmt;
 
 /// Why a call fails. Its text is the C library's.
+///
+/// ```
+/// use dns_names_wire::{Error, Name};
+///
+/// let error = Name::read(b"\xC0\0", 0).unwrap_err();
+/// assert_eq!(error, Error::PointerNotBack);
+/// assert_eq!(error.to_string(), "a compression pointer does not point back");
+/// ```
 #[derive(Clone, Copy, Debug, PartialEq, Eq, Hash)]
 #[non_exhaustive]
 pub enum Error {
@@ -107,4 +115,22 @@ impl fmt::Display for Error {
     }
 }
 
+/// It has no source: the C library gives a failure's number alone.
 impl std::error::Error for Error {}
+
+/// An error of kind `InvalidData`, or `OutOfMemory` for `NoMemory`, from which this one can be had back.
+///
+/// ```
+/// let error: std::io::Error = dns_names_wire::Error::MessageCut.into();
+/// assert_eq!(error.kind(), std::io::ErrorKind::InvalidData);
+/// assert_eq!(error.to_string(), "the message ends within the name");
+/// ```
+impl From<Error> for std::io::Error {
+    fn from(error: Error) -> Self {
+        let kind = match error {
+            Error::NoMemory => std::io::ErrorKind::OutOfMemory,
+            _ => std::io::ErrorKind::InvalidData,
+        };
+        std::io::Error::new(kind, error)
+    }
+}

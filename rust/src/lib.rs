@@ -1,9 +1,9 @@
-//! The lowest layer of DNS, by a library whose every function is proved: domain names are read, written, parsed, printed and
-//! compared; messages are read record by record, and written; types, bitmaps of types, serial numbers and master files are read.
+//! The lowest layer of DNS: domain names, the records of messages, record types and classes, and master files, read and
+//! written by a library whose every function is proved.
 //!
 //! The library is the static archive of the C library of `dns-names-wire`. Its reader accepts exactly the names of RFC
-//! 1035, section 4.1.4, and no input makes it read outside the message, loop or panic. This crate adds types to it, and is
-//! not proved itself: it is small, has no dependency, and has `unsafe` in one module of declarations alone.
+//! 1035, section 4.1.4, and no input makes it read outside the message, loop or panic. This crate gives it Rust's types. The
+//! crate itself is not proved: it is small, has no dependency, and has `unsafe` in one module of declarations alone.
 //!
 //! ```
 //! use dns_names_wire::{Error, Name};
@@ -20,16 +20,18 @@
 //! |---|---|
 //! | read a name of a message, a text or a wire form | [`Name::read`], [`Name::from_ascii`] or `str::parse`, [`Name::from_wire`] |
 //! | pass over names, or walk their labels, without copying them | [`NameRef`], [`names()`] |
-//! | make names of names | [`Name::append`], [`Name::prepend_label`], [`Name::trim_to`], [`Name::to_wildcard`] |
+//! | make names of names and labels | [`Name::from_labels`], [`Name::append`], [`Name::prepend_label`], [`Name::base_name`], [`Name::trim_to`], [`Name::to_wildcard`] |
 //! | print, compare, sort, hash | `Display`, `Ord`, `Hash`, [`Name::zone_of`], [`Name::to_lowercase`] |
 //! | read the records of a message | [`Record`], [`records()`] |
 //! | write messages: questions, records and names, with compression | [`MessageWriter`] |
 //! | go from addresses to their reverse names, and back | [`Name::from_ip`], [`Name::parse_arpa_name`] |
-//! | name types and classes, read and write their bitmaps, compare serial numbers | [`RecordType`], [`Class`], [`TypeSet`], [`SerialNumber`] |
+//! | name types and classes, read and write bitmaps of types, compare serial numbers | [`RecordType`], [`Class`], [`TypeSet`], [`SerialNumber`] |
 //! | read master files | [`tokens`](tokens()), [`parse_ttl`] |
 //!
+//! Values may be sent to and shared by threads. Calls fail with an [`Error`], and never panic on input.
+//!
 //! Cargo finds the archive as `build.rs` says: in the folder that the environment variable `DNW_LIB_DIR` names, or in `lib`
-//! of this crate; in a checkout of the repository it is built if the Rattle toolchain is there.
+//! of this crate. In a checkout of the repository it is built if the Rattle toolchain is there.
 #![deny(unsafe_code)]
 #![warn(missing_docs)]
 

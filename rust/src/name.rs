@@ -22,6 +22,7 @@ use std::str::FromStr;
 /// assert_eq!(name, "WWW.example.COM.".parse()?);
 /// assert_eq!(name.to_string(), "www.Example.com.");
 /// assert_eq!(zone.as_wire(), b"\x07example\x03com\0");
+/// assert!(name.into_iter().rev().eq([&b"com"[..], b"Example", b"www"]));
 /// # Ok::<(), dns_names_wire::Error>(())
 /// ```
 #[derive(Clone)]
@@ -36,11 +37,19 @@ const VALID: &str = "the wire form of a name";
 
 impl Name {
     /// Returns the empty name that is not fully qualified.
+    ///
+    /// ```
+    /// assert_eq!(dns_names_wire::Name::new().to_string(), "");
+    /// ```
     pub fn new() -> Self {
         Name { form: [0; FORM_SIZE], len: 1, is_fqdn: false }
     }
 
     /// Returns the root: no labels, fully qualified.
+    ///
+    /// ```
+    /// assert_eq!(dns_names_wire::Name::root().to_string(), ".");
+    /// ```
     pub fn root() -> Self {
         Name { is_fqdn: true, ..Name::new() }
     }
@@ -123,6 +132,14 @@ impl Name {
     /// # Errors
     ///
     /// As [`Name::read`], and `BytesLeft` if bytes follow after it.
+    ///
+    /// ```
+    /// use dns_names_wire::{Error, Name};
+    ///
+    /// assert_eq!(Name::from_wire(b"\x01a\0")?.to_string(), "a.");
+    /// assert_eq!(Name::from_wire(b"\x01a\0\0"), Err(Error::BytesLeft));
+    /// # Ok::<(), Error>(())
+    /// ```
     pub fn from_wire(form: &[u8]) -> Result<Self, Error> {
         match Name::read(form, 0)? {
             (name, end) if end == form.len() => Ok(name),
@@ -154,48 +171,142 @@ impl Name {
         Ok(name)
     }
 
+    /// Returns the fully qualified name with some labels, each of any 1 to 63 octets.
+    ///
+    /// # Errors
+    ///
+    /// `BadText` if a label is empty, `LabelTooLong` if it has more than 63 octets, or `NameTooLong`: that of the first label
+    /// that does not fit.
+    ///
+    /// ```
+    /// use dns_names_wire::{Error, Name};
+    ///
+    /// assert_eq!(Name::from_labels(["www", "example", "com"])?.to_string(), "www.example.com.");
+    /// assert_eq!(Name::from_labels(["a", ""]), Err(Error::BadText));
+    /// # Ok::<(), Error>(())
+    /// ```
+    pub fn from_labels<I>(labels: I) -> Result<Self, Error>
+    where
+        I: IntoIterator,
+        I::Item: AsRef<[u8]>,
+    {
+        let root = Name::root();
+        labels.into_iter().try_fold(root.clone(), |name, label| name.append(&root.prepend_label(label.as_ref())?))
+    }
+
     /// Returns the wire form, without compression: each label after its length octet, and a zero octet.
+    ///
+    /// ```
+    /// let name: dns_names_wire::Name = "www.example.".parse()?;
+    /// assert_eq!(name.as_wire(), b"\x03www\x07example\0");
+    /// # Ok::<(), dns_names_wire::Error>(())
+    /// ```
     #[inline]
     pub fn as_wire(&self) -> &[u8] {
         &self.form[..usize::from(self.len)]
     }
 
     /// Returns whether the name is fully qualified.
+    ///
+    /// ```
+    /// use dns_names_wire::Name;
+    ///
+    /// assert!(Name::from_ascii("a.")?.is_fqdn() && !Name::from_ascii("a")?.is_fqdn());
+    /// # Ok::<(), dns_names_wire::Error>(())
+    /// ```
     #[inline]
     pub fn is_fqdn(&self) -> bool {
         self.is_fqdn
     }
 
     /// Sets whether the name is fully qualified.
+    ///
+    /// ```
+    /// let mut name: dns_names_wire::Name = "www.example.com".parse()?;
+    /// name.set_fqdn(true);
+    /// assert_eq!(name.to_string(), "www.example.com.");
+    /// # Ok::<(), dns_names_wire::Error>(())
+    /// ```
     #[inline]
     pub fn set_fqdn(&mut self, is_fqdn: bool) {
         self.is_fqdn = is_fqdn;
     }
 
     /// Returns whether the name has no labels and is fully qualified.
+    ///
+    /// ```
+    /// use dns_names_wire::Name;
+    ///
+    /// assert!(Name::root().is_root() && !Name::new().is_root());
+    /// ```
     #[inline]
     pub fn is_root(&self) -> bool {
         self.len == 1 && self.is_fqdn
     }
 
-    /// Returns the labels, from the first to the one before the root.
+    /// Returns whether the first label is `*` (RFC 4592, section 2.1.1).
+    ///
+    /// ```
+    /// use dns_names_wire::Name;
+    ///
+    /// assert!(Name::from_ascii("*.example.")?.is_wildcard() && !Name::from_ascii("a.*.example.")?.is_wildcard());
+    /// # Ok::<(), dns_names_wire::Error>(())
+    /// ```
+    pub fn is_wildcard(&self) -> bool {
+        self.as_wire().starts_with(b"\x01*")
+    }
+
+    /// Returns the number of labels, without a `*` at the start, as the Labels field of an RRSIG record has it (RFC 4034,
+    /// section 3.1.3). `labels().len()` is the number of all labels.
+    ///
+    /// ```
+    /// use dns_names_wire::Name;
+    ///
+    /// assert_eq!(Name::from_ascii("www.example.com.")?.num_labels(), 3);
+    /// assert_eq!(Name::from_ascii("*.example.com.")?.num_labels(), 2);
+    /// # Ok::<(), dns_names_wire::Error>(())
+    /// ```
+    pub fn num_labels(&self) -> u8 {
+        // A name has at most 127 labels.
+        (self.labels().len() - usize::from(self.is_wildcard())) as u8
+    }
+
+    /// Returns the labels, from the first to the one before the root, or from the other end.
     ///
     /// ```
     /// let name: dns_names_wire::Name = "www.example.com.".parse()?;
     /// let labels: Vec<&[u8]> = name.labels().collect();
     /// assert_eq!(labels, [b"www".as_slice(), b"example", b"com"]);
+    /// assert_eq!(name.labels().next_back(), Some(&b"com"[..]));
     /// # Ok::<(), dns_names_wire::Error>(())
     /// ```
     pub fn labels(&self) -> Labels<'_> {
-        Labels { message: self.as_wire(), at: 0 }
+        Labels::new(self.as_wire(), 0)
     }
 
     /// Returns whether `name` is in this zone: its last labels are those of the zone, ignoring case (RFC 1034, section 4.2).
+    ///
+    /// ```
+    /// use dns_names_wire::Name;
+    ///
+    /// let zone = Name::from_ascii("example.com.")?;
+    /// assert!(zone.zone_of(&"www.Example.com.".parse()?) && zone.zone_of(&zone));
+    /// assert!(!zone.zone_of(&"example.org.".parse()?));
+    /// # Ok::<(), dns_names_wire::Error>(())
+    /// ```
     pub fn zone_of(&self, name: &Name) -> bool {
         door::in_zone(name.as_wire(), self.as_wire()).expect(VALID)
     }
 
     /// Returns whether the labels are equal, ignoring case, whether the names are fully qualified or not.
+    ///
+    /// ```
+    /// use dns_names_wire::Name;
+    ///
+    /// let (absolute, relative) = (Name::from_ascii("a.b.")?, Name::from_ascii("A.b")?);
+    /// assert!(absolute.eq_ignore_root(&relative) && absolute != relative);
+    /// # Ok::<(), dns_names_wire::Error>(())
+    /// ```
     pub fn eq_ignore_root(&self, other: &Name) -> bool {
         // Equal names have wire forms of one length, and a form equals itself.
         self.len == other.len
@@ -203,6 +314,13 @@ impl Name {
     }
 
     /// Returns the name with its ASCII letters in lower case.
+    ///
+    /// ```
+    /// use dns_names_wire::Name;
+    ///
+    /// assert_eq!(Name::from_ascii("WWW.Example.com.")?.to_lowercase().to_string(), "www.example.com.");
+    /// # Ok::<(), dns_names_wire::Error>(())
+    /// ```
     pub fn to_lowercase(&self) -> Name {
         let mut lowered = Name { is_fqdn: self.is_fqdn, ..Name::new() };
         lowered.len = door::to_lowercase(self.as_wire(), &mut lowered.form).expect(VALID) as u8;
@@ -233,6 +351,13 @@ impl Name {
     /// # Errors
     ///
     /// `BadText` if the label is empty, `LabelTooLong` if it has more than 63 octets, or `NameTooLong`.
+    ///
+    /// ```
+    /// use dns_names_wire::Name;
+    ///
+    /// assert_eq!(Name::from_ascii("example.com.")?.prepend_label(b"www")?.to_string(), "www.example.com.");
+    /// # Ok::<(), dns_names_wire::Error>(())
+    /// ```
     pub fn prepend_label(&self, label: &[u8]) -> Result<Name, Error> {
         let mut name = Name { is_fqdn: self.is_fqdn, ..Name::new() };
         name.len = door::prepend_label(label, self.as_wire(), &mut name.form)? as u8;
@@ -252,7 +377,27 @@ impl Name {
         name
     }
 
+    /// Returns the name without its first label: the name above it. A name without labels stays as it is.
+    ///
+    /// ```
+    /// use dns_names_wire::Name;
+    ///
+    /// assert_eq!(Name::from_ascii("www.example.com.")?.base_name().to_string(), "example.com.");
+    /// assert!(Name::root().base_name().is_root());
+    /// # Ok::<(), dns_names_wire::Error>(())
+    /// ```
+    pub fn base_name(&self) -> Name {
+        self.trim_to(self.labels().len().saturating_sub(1))
+    }
+
     /// Returns the name with `*` in place of its first label (RFC 4592, section 2.1.1). The root stays the root.
+    ///
+    /// ```
+    /// use dns_names_wire::Name;
+    ///
+    /// assert_eq!(Name::from_ascii("www.example.com.")?.to_wildcard().to_string(), "*.example.com.");
+    /// # Ok::<(), dns_names_wire::Error>(())
+    /// ```
     pub fn to_wildcard(&self) -> Name {
         let mut name = Name { is_fqdn: self.is_fqdn, ..Name::new() };
         name.len = door::to_wildcard(self.as_wire(), &mut name.form).expect(VALID) as u8;
@@ -315,6 +460,33 @@ impl FromStr for Name {
     }
 }
 
+/// As [`Name::from_ascii`].
+impl TryFrom<&str> for Name {
+    type Error = Error;
+
+    fn try_from(text: &str) -> Result<Self, Error> {
+        Name::from_ascii(text)
+    }
+}
+
+/// The octets of [`Name::as_wire`]. There is no `Borrow<[u8]>`, since names that differ in case are equal, and their octets
+/// are not.
+impl AsRef<[u8]> for Name {
+    fn as_ref(&self) -> &[u8] {
+        self.as_wire()
+    }
+}
+
+/// The labels, as [`Name::labels`].
+impl<'a> IntoIterator for &'a Name {
+    type Item = &'a [u8];
+    type IntoIter = Labels<'a>;
+
+    fn into_iter(self) -> Labels<'a> {
+        self.labels()
+    }
+}
+
 /// The text of RFC 1035, section 5.1, in ASCII, with a last dot if the name is fully qualified: letters, digits, `_`, `-` and
 /// `*` as [`Name::from_ascii`] takes them, other graphic characters after a backslash, and any other octet as three octal
 /// digits. It fails only if the C library cannot allocate.
@@ -362,32 +534,74 @@ impl Hash for Name {
     }
 }
 
-/// The labels of a name, from the first. See [`Name::labels`] and [`NameRef::labels`](crate::NameRef::labels).
+/// The labels of a name, from either end. See [`Name::labels`] and [`NameRef::labels`](crate::NameRef::labels).
+///
+/// Their number is known. A step from the back walks over the labels that are left.
+///
+/// ```
+/// let name: dns_names_wire::Name = "www.example.com.".parse()?;
+/// let mut labels = name.labels();
+/// assert_eq!((labels.next(), labels.next_back()), (Some(&b"www"[..]), Some(&b"com"[..])));
+/// assert_eq!(labels.len(), 1);
+/// # Ok::<(), dns_names_wire::Error>(())
+/// ```
 #[derive(Clone, Debug)]
 pub struct Labels<'a> {
-    pub(crate) message: &'a [u8],
-    pub(crate) at: usize,
+    message: &'a [u8],
+    at: usize,
+    left: usize,
 }
 
-/// It walks over a name that the C library has accepted, so that each step is within the message, and each pointer goes
-/// back.
+impl<'a> Labels<'a> {
+    /// The labels of the name at an offset of a message, which the C library has accepted there.
+    pub(crate) fn new(message: &'a [u8], at: usize) -> Self {
+        let mut end = at;
+        let left = std::iter::from_fn(|| step(message, &mut end)).count();
+        Labels { message, at, left }
+    }
+}
+
+/// Returns the label at an offset of a message, or after pointers there, and moves the offset after it; or `None` at the end
+/// of the name. The C library has accepted a name there, so that each step is within the message, and each pointer goes back.
+fn step<'a>(message: &'a [u8], at: &mut usize) -> Option<&'a [u8]> {
+    loop {
+        let octet = usize::from(*message.get(*at)?);
+        match octet {
+            0 => return None,
+            1..=63 => {
+                let label = message.get(*at + 1..*at + 1 + octet)?;
+                *at += 1 + octet;
+                return Some(label);
+            }
+            _ => *at = (octet & 0x3F) << 8 | usize::from(*message.get(*at + 1)?),
+        }
+    }
+}
+
 impl<'a> Iterator for Labels<'a> {
     type Item = &'a [u8];
 
     fn next(&mut self) -> Option<&'a [u8]> {
-        loop {
-            let octet = usize::from(*self.message.get(self.at)?);
-            match octet {
-                0 => return None,
-                1..=63 => {
-                    let label = self.message.get(self.at + 1..self.at + 1 + octet)?;
-                    self.at += 1 + octet;
-                    return Some(label);
-                }
-                _ => self.at = (octet & 0x3F) << 8 | usize::from(*self.message.get(self.at + 1)?),
-            }
-        }
+        self.left = self.left.checked_sub(1)?;
+        step(self.message, &mut self.at)
+    }
+
+    fn size_hint(&self) -> (usize, Option<usize>) {
+        (self.left, Some(self.left))
     }
 }
+
+impl DoubleEndedIterator for Labels<'_> {
+    fn next_back(&mut self) -> Option<Self::Item> {
+        self.left = self.left.checked_sub(1)?;
+        let mut at = self.at;
+        (0..self.left).for_each(|_| {
+            step(self.message, &mut at);
+        });
+        step(self.message, &mut at)
+    }
+}
+
+impl ExactSizeIterator for Labels<'_> {}
 
 impl std::iter::FusedIterator for Labels<'_> {}

@@ -33,32 +33,70 @@ impl<'a> NameRef<'a> {
     /// # Errors
     ///
     /// As [`Name::read`].
+    ///
+    /// ```
+    /// use dns_names_wire::{Error, NameRef};
+    ///
+    /// assert_eq!(NameRef::read(b"\x01a\0", 0)?.to_string(), "a.");
+    /// assert_eq!(NameRef::read(b"\x01a", 0), Err(Error::MessageCut));
+    /// # Ok::<(), Error>(())
+    /// ```
     pub fn read(message: &'a [u8], start: usize) -> Result<Self, Error> {
         let read = door::read(message, start, &mut [0; FORM_SIZE])?;
         Ok(NameRef { message, start, end: read.end })
     }
 
     /// Returns the message.
+    ///
+    /// ```
+    /// let name = dns_names_wire::NameRef::read(b"\x01b\0\x01a\xC0\0", 3)?;
+    /// assert_eq!(name.message().len(), 7);
+    /// # Ok::<(), dns_names_wire::Error>(())
+    /// ```
     pub fn message(&self) -> &'a [u8] {
         self.message
     }
 
     /// Returns the offset of the name.
+    ///
+    /// ```
+    /// let name = dns_names_wire::NameRef::read(b"\x01b\0\x01a\xC0\0", 3)?;
+    /// assert_eq!(name.start(), 3);
+    /// # Ok::<(), dns_names_wire::Error>(())
+    /// ```
     pub fn start(&self) -> usize {
         self.start
     }
 
     /// Returns the offset after the name's own octets, which end at its first pointer or its zero octet.
+    ///
+    /// ```
+    /// let name = dns_names_wire::NameRef::read(b"\x01b\0\x01a\xC0\0", 3)?;
+    /// assert_eq!(name.end(), 7);
+    /// # Ok::<(), dns_names_wire::Error>(())
+    /// ```
     pub fn end(&self) -> usize {
         self.end
     }
 
     /// Returns the labels, borrowed from the message.
+    ///
+    /// ```
+    /// let name = dns_names_wire::NameRef::read(b"\x01b\0\x01a\xC0\0", 3)?;
+    /// assert!(name.labels().eq([b"a", b"b"]));
+    /// # Ok::<(), dns_names_wire::Error>(())
+    /// ```
     pub fn labels(&self) -> Labels<'a> {
-        Labels { message: self.message, at: self.start }
+        Labels::new(self.message, self.start)
     }
 
     /// Returns a copy that owns its wire form.
+    ///
+    /// ```
+    /// let name = dns_names_wire::NameRef::read(b"\x01b\0\x01a\xC0\0", 3)?;
+    /// assert_eq!(name.to_name().as_wire(), b"\x01a\x01b\0");
+    /// # Ok::<(), dns_names_wire::Error>(())
+    /// ```
     pub fn to_name(&self) -> Name {
         let (name, _) = Name::read(self.message, self.start).expect("a name that was read before");
         name
@@ -98,6 +136,16 @@ impl PartialEq<Name> for NameRef<'_> {
     }
 }
 
+/// The labels, as [`NameRef::labels`].
+impl<'a> IntoIterator for &NameRef<'a> {
+    type Item = &'a [u8];
+    type IntoIter = Labels<'a>;
+
+    fn into_iter(self) -> Labels<'a> {
+        self.labels()
+    }
+}
+
 impl PartialOrd for NameRef<'_> {
     fn partial_cmp(&self, other: &Self) -> Option<Ordering> {
         Some(self.cmp(other))
@@ -120,7 +168,8 @@ impl Hash for NameRef<'_> {
 #[derive(Clone, Debug)]
 pub struct Names<'a> {
     message: &'a [u8],
-    at: Option<usize>,
+    offset: usize,
+    has_failed: bool,
 }
 
 /// Returns the names that follow one another in a message, from an offset to its end. After an error it ends.
@@ -132,16 +181,34 @@ pub struct Names<'a> {
 /// assert_eq!(texts, ["b.", "a.b.", "."]);
 /// ```
 pub fn names(message: &[u8], start: usize) -> Names<'_> {
-    Names { message, at: Some(start) }
+    Names { message, offset: start, has_failed: false }
+}
+
+impl Names<'_> {
+    /// Returns the offset of the message at which the next name begins, or after an error the one at which there is none.
+    ///
+    /// ```
+    /// let mut names = dns_names_wire::names(b"\x01b\0\x40", 0);
+    /// assert!(names.next().unwrap().is_ok() && names.next().unwrap().is_err());
+    /// assert_eq!(names.offset(), 3);
+    /// ```
+    pub fn offset(&self) -> usize {
+        self.offset
+    }
 }
 
 impl<'a> Iterator for Names<'a> {
     type Item = Result<NameRef<'a>, Error>;
 
     fn next(&mut self) -> Option<Self::Item> {
-        let at = self.at.take().filter(|at| *at != self.message.len())?;
-        let name = NameRef::read(self.message, at);
-        self.at = name.as_ref().ok().map(NameRef::end);
+        if self.has_failed || self.offset == self.message.len() {
+            return None;
+        }
+        let name = NameRef::read(self.message, self.offset);
+        match &name {
+            Ok(name) => self.offset = name.end(),
+            Err(_) => self.has_failed = true,
+        }
         Some(name)
     }
 }

@@ -32,6 +32,15 @@ impl<'a> Record<'a> {
     /// # Errors
     ///
     /// As [`Name::read`] if no owner is there, and `MessageCut` if the message ends before the data do.
+    ///
+    /// ```
+    /// use dns_names_wire::{Error, Record};
+    ///
+    /// let record = Record::read(b"\0\0\x01\0\x01\0\0\0\0\0\x04\xC0\0\x02\x01", 0)?;
+    /// assert_eq!(record.data(), [192, 0, 2, 1]);
+    /// assert_eq!(Record::read(b"\0\0\x01", 0).err(), Some(Error::MessageCut));
+    /// # Ok::<(), Error>(())
+    /// ```
     pub fn read(message: &'a [u8], start: usize) -> Result<Self, Error> {
         let mut form = [0; FORM_SIZE];
         let read = door::read_record(message, start, &mut form)?;
@@ -39,36 +48,85 @@ impl<'a> Record<'a> {
     }
 
     /// Returns the name that owns the record.
+    ///
+    /// ```
+    /// // b. NS a.b., the data compressed
+    /// let record = dns_names_wire::Record::read(b"\x01b\0\0\x02\0\x01\0\0\0\x3C\0\x04\x01a\xC0\0", 0)?;
+    /// assert_eq!(record.owner().to_string(), "b.");
+    /// # Ok::<(), dns_names_wire::Error>(())
+    /// ```
     pub fn owner(&self) -> &Name {
         &self.owner
     }
 
     /// Returns the type.
+    ///
+    /// ```
+    /// // b. NS a.b., the data compressed
+    /// let record = dns_names_wire::Record::read(b"\x01b\0\0\x02\0\x01\0\0\0\x3C\0\x04\x01a\xC0\0", 0)?;
+    /// assert_eq!(record.record_type(), dns_names_wire::RecordType::NS);
+    /// # Ok::<(), dns_names_wire::Error>(())
+    /// ```
     pub fn record_type(&self) -> RecordType {
         self.read.record_type.into()
     }
 
     /// Returns the class.
+    ///
+    /// ```
+    /// // b. NS a.b., the data compressed
+    /// let record = dns_names_wire::Record::read(b"\x01b\0\0\x02\0\x01\0\0\0\x3C\0\x04\x01a\xC0\0", 0)?;
+    /// assert_eq!(record.class(), dns_names_wire::Class::IN);
+    /// # Ok::<(), dns_names_wire::Error>(())
+    /// ```
     pub fn class(&self) -> Class {
         self.read.record_class.into()
     }
 
     /// Returns the time to live, in seconds.
+    ///
+    /// ```
+    /// // b. NS a.b., the data compressed
+    /// let record = dns_names_wire::Record::read(b"\x01b\0\0\x02\0\x01\0\0\0\x3C\0\x04\x01a\xC0\0", 0)?;
+    /// assert_eq!(record.ttl(), 60);
+    /// # Ok::<(), dns_names_wire::Error>(())
+    /// ```
     pub fn ttl(&self) -> u32 {
         self.read.ttl
     }
 
     /// Returns the message.
+    ///
+    /// ```
+    /// // b. NS a.b., the data compressed
+    /// let record = dns_names_wire::Record::read(b"\x01b\0\0\x02\0\x01\0\0\0\x3C\0\x04\x01a\xC0\0", 0)?;
+    /// assert_eq!(record.message().len(), 17);
+    /// # Ok::<(), dns_names_wire::Error>(())
+    /// ```
     pub fn message(&self) -> &'a [u8] {
         self.message
     }
 
     /// Returns the octets of the data, in which names may be compressed.
+    ///
+    /// ```
+    /// // b. NS a.b., the data compressed
+    /// let record = dns_names_wire::Record::read(b"\x01b\0\0\x02\0\x01\0\0\0\x3C\0\x04\x01a\xC0\0", 0)?;
+    /// assert_eq!(record.data(), b"\x01a\xC0\0");
+    /// # Ok::<(), dns_names_wire::Error>(())
+    /// ```
     pub fn data(&self) -> &'a [u8] {
         &self.message[self.read.data_offset..self.read.end]
     }
 
     /// Returns the offset of the data in the message, at which their names are read.
+    ///
+    /// ```
+    /// // b. NS a.b., the data compressed
+    /// let record = dns_names_wire::Record::read(b"\x01b\0\0\x02\0\x01\0\0\0\x3C\0\x04\x01a\xC0\0", 0)?;
+    /// assert_eq!(record.data_offset(), 13);
+    /// # Ok::<(), dns_names_wire::Error>(())
+    /// ```
     pub fn data_offset(&self) -> usize {
         self.read.data_offset
     }
@@ -78,6 +136,13 @@ impl<'a> Record<'a> {
     /// # Errors
     ///
     /// As [`Name::read`], and `WrongDataLength` if the name's own octets are not as many as the data.
+    ///
+    /// ```
+    /// // b. NS a.b., the data compressed
+    /// let record = dns_names_wire::Record::read(b"\x01b\0\0\x02\0\x01\0\0\0\x3C\0\x04\x01a\xC0\0", 0)?;
+    /// assert_eq!(record.data_name()?.to_string(), "a.b.");
+    /// # Ok::<(), dns_names_wire::Error>(())
+    /// ```
     pub fn data_name(&self) -> Result<Name, Error> {
         self.data_name_after(0)
     }
@@ -87,6 +152,13 @@ impl<'a> Record<'a> {
     /// # Errors
     ///
     /// As [`data_name`](Record::data_name), and `MessageCut` if the data have fewer octets.
+    ///
+    /// ```
+    /// // the root, MX 10 a.
+    /// let record = dns_names_wire::Record::read(b"\0\0\x0F\0\x01\0\0\0\0\0\x05\0\x0A\x01a\0", 0)?;
+    /// assert_eq!(record.data_name_after(2)?.to_string(), "a.");
+    /// # Ok::<(), dns_names_wire::Error>(())
+    /// ```
     pub fn data_name_after(&self, octets: usize) -> Result<Name, Error> {
         let left = self.read.data_len.checked_sub(octets).ok_or(Error::MessageCut)?;
         let mut form = [0; FORM_SIZE];
@@ -95,6 +167,13 @@ impl<'a> Record<'a> {
     }
 
     /// Returns the offset after the record, where the next one begins.
+    ///
+    /// ```
+    /// // b. NS a.b., the data compressed
+    /// let record = dns_names_wire::Record::read(b"\x01b\0\0\x02\0\x01\0\0\0\x3C\0\x04\x01a\xC0\0", 0)?;
+    /// assert_eq!(record.end(), 17);
+    /// # Ok::<(), dns_names_wire::Error>(())
+    /// ```
     pub fn end(&self) -> usize {
         self.read.end
     }
@@ -123,7 +202,8 @@ impl fmt::Debug for Record<'_> {
 #[derive(Clone, Debug)]
 pub struct Records<'a> {
     message: &'a [u8],
-    at: Option<usize>,
+    offset: usize,
+    has_failed: bool,
 }
 
 /// Returns the records that follow one another in a message, from an offset to its end. After an error it ends.
@@ -138,16 +218,34 @@ pub struct Records<'a> {
 /// # Ok::<(), Error>(())
 /// ```
 pub fn records(message: &[u8], start: usize) -> Records<'_> {
-    Records { message, at: Some(start) }
+    Records { message, offset: start, has_failed: false }
+}
+
+impl Records<'_> {
+    /// Returns the offset of the message at which the next record begins, or after an error the one at which there is none.
+    ///
+    /// ```
+    /// let mut records = dns_names_wire::records(b"\0\0\x01\0\x01\0\0\0\0\0\0\x40", 0);
+    /// assert!(records.next().unwrap().is_ok() && records.next().unwrap().is_err());
+    /// assert_eq!(records.offset(), 11);
+    /// ```
+    pub fn offset(&self) -> usize {
+        self.offset
+    }
 }
 
 impl<'a> Iterator for Records<'a> {
     type Item = Result<Record<'a>, Error>;
 
     fn next(&mut self) -> Option<Self::Item> {
-        let at = self.at.take().filter(|at| *at != self.message.len())?;
-        let record = Record::read(self.message, at);
-        self.at = record.as_ref().ok().map(Record::end);
+        if self.has_failed || self.offset == self.message.len() {
+            return None;
+        }
+        let record = Record::read(self.message, self.offset);
+        match &record {
+            Ok(record) => self.offset = record.end(),
+            Err(_) => self.has_failed = true,
+        }
         Some(record)
     }
 }

@@ -21,7 +21,13 @@ pub fn parse_ttl(text: &str) -> Result<u32, Error> {
 }
 
 /// A token of a master file.
-#[derive(Clone, Debug, PartialEq, Eq)]
+///
+/// ```
+/// use dns_names_wire::{tokens, Token};
+///
+/// assert_eq!(tokens("$TTL").next(), Some(Ok(Token::Ttl)));
+/// ```
+#[derive(Clone, Debug, PartialEq, Eq, Hash)]
 pub enum Token {
     /// White space at the start of a line: the record has the owner of the last one.
     Blank,
@@ -74,6 +80,20 @@ pub fn tokens(text: &str) -> Tokens<'_> {
 }
 
 impl Tokens<'_> {
+    /// Returns the offset in the text of the next token, or of the white space before it. After an error it is the offset of
+    /// the token that there is not.
+    ///
+    /// ```
+    /// let text = "a 1h\nb $FOO";
+    /// let mut tokens = dns_names_wire::tokens(text);
+    /// assert!(tokens.any(|token| token.is_err()));
+    /// assert_eq!(text[..tokens.offset()].lines().count(), 2);
+    /// assert_eq!(&text[tokens.offset()..], " $FOO");
+    /// ```
+    pub fn offset(&self) -> usize {
+        self.lexer.offset
+    }
+
     /// The token of a kind with these texts, or none at the end of the text.
     fn token(&self, kind: u32, words: &[u8]) -> Option<Token> {
         let text = |bytes: &[u8]| String::from_utf8(bytes.to_vec()).expect("the C library's texts are UTF-8");

@@ -18,18 +18,18 @@ const USUAL_SIZE: usize = 512;
 /// Writes a message: its header, questions, records and names, each name compressed by those before it (RFC 1035, section
 /// 4.1.4).
 ///
-/// The parts are collected, and written by [`finish`](MessageWriter::finish) from the message's first byte on.
+/// The parts are collected, and written by [`finish`](MessageWriter::finish) from the message's first byte on. A part that
+/// does not fit, a record of too much data among them, is found there, and so no call that adds a part fails.
 ///
 /// ```
-/// use dns_names_wire::{records, MessageWriter, Name, RecordType};
+/// use dns_names_wire::{records, Class, MessageWriter, Name, RecordType};
 ///
-/// let (ns, class) = ("NS".parse()?, "IN".parse()?);
 /// let zone: Name = "example.com.".parse()?;
 /// let mut writer = MessageWriter::new();
 /// writer
 ///     .bytes(b"\x12\x34\x84\0\0\x01\0\x01\0\0\0\0")
-///     .question(&zone, ns, class)
-///     .name_record(&zone, ns, class, 300, &"ns1.example.com.".parse()?);
+///     .question(&zone, RecordType::NS, Class::IN)
+///     .name_record(&zone, RecordType::NS, Class::IN, 300, &"ns1.example.com.".parse()?);
 /// let message = writer.finish()?;
 /// assert_eq!(message.len(), 12 + 17 + 2 + 10 + 6);
 /// let record = records(&message, 29).next().unwrap()?;
@@ -45,6 +45,8 @@ pub struct MessageWriter {
     parts: usize,
     /// The parts that are not one item each.
     joined: Vec<Joined>,
+    /// Whether a part is longer than any message. Neither that part nor a later one is in the list.
+    is_over: bool,
     max_size: u16,
     is_canonical: bool,
 }
@@ -60,63 +62,109 @@ struct Joined {
 
 impl MessageWriter {
     /// Returns a writer of messages of at most 65535 bytes.
+    ///
+    /// ```
+    /// assert!(dns_names_wire::MessageWriter::new().finish()?.is_empty());
+    /// # Ok::<(), dns_names_wire::Error>(())
+    /// ```
     pub fn new() -> Self {
         MessageWriter::with_max_size(u16::MAX)
     }
 
     /// Returns a writer of messages of at most `max_size` bytes.
+    ///
+    /// ```
+    /// use dns_names_wire::{Error, MessageWriter};
+    ///
+    /// let mut writer = MessageWriter::with_max_size(512);
+    /// assert_eq!(writer.bytes(&[0; 513]).finish(), Err(Error::MessageTooLong));
+    /// ```
     pub fn with_max_size(max_size: u16) -> Self {
         let list = Vec::with_capacity(USUAL_SIZE);
-        MessageWriter { list, items: 0, parts: 0, joined: Vec::new(), max_size, is_canonical: false }
+        MessageWriter { list, items: 0, parts: 0, joined: Vec::new(), is_over: false, max_size, is_canonical: false }
     }
 
     /// Sets whether the names in records' data are written in canonical form (RFC 4034, section 6.2).
+    ///
+    /// ```
+    /// use dns_names_wire::{Class, MessageWriter, Name, RecordType};
+    ///
+    /// let name: Name = "A.".parse()?;
+    /// let mut writer = MessageWriter::new();
+    /// writer.set_canonical_form(true).name_record(&name, RecordType::NS, Class::IN, 0, &name);
+    /// assert!(writer.finish()?.ends_with(b"\x01a\0"));
+    /// # Ok::<(), dns_names_wire::Error>(())
+    /// ```
     pub fn set_canonical_form(&mut self, is_canonical: bool) -> &mut Self {
         self.is_canonical = is_canonical;
         self
     }
 
     /// Adds a name. That it is fully qualified is not written.
+    ///
+    /// ```
+    /// use dns_names_wire::{MessageWriter, Name};
+    ///
+    /// let name: Name = "a.".parse()?;
+    /// assert_eq!(MessageWriter::new().push(&name).push(&name).finish()?, b"\x01a\0\xC0\0");
+    /// # Ok::<(), dns_names_wire::Error>(())
+    /// ```
     pub fn push(&mut self, name: &Name) -> &mut Self {
-        self.add_name(name);
-        self.ends_part()
+        self.add_part(|list| add_name(list, name))
     }
 
     /// Adds bytes as they are, as a message's header.
+    ///
+    /// ```
+    /// assert_eq!(dns_names_wire::MessageWriter::new().bytes(b"\x12\x34").finish()?, b"\x12\x34");
+    /// # Ok::<(), dns_names_wire::Error>(())
+    /// ```
     pub fn bytes(&mut self, bytes: &[u8]) -> &mut Self {
-        let start = self.list.len();
-        let items = self.add_bytes(bytes);
-        self.ends_joined(start, items)
+        self.add_part(|list| add_bytes(list, bytes))
     }
 
     /// Adds a question (RFC 1035, section 4.1.2).
+    ///
+    /// ```
+    /// use dns_names_wire::{Class, MessageWriter, Name, RecordType};
+    ///
+    /// let mut writer = MessageWriter::new();
+    /// writer.question(&Name::root(), RecordType::NS, Class::IN);
+    /// assert_eq!(writer.finish()?, b"\0\0\x02\0\x01");
+    /// # Ok::<(), dns_names_wire::Error>(())
+    /// ```
     pub fn question(&mut self, name: &Name, record_type: RecordType, class: Class) -> &mut Self {
-        let start = self.list.len();
-        self.add_name(name);
-        let [type_high, type_low] = u16::from(record_type).to_be_bytes();
-        let [class_high, class_low] = u16::from(class).to_be_bytes();
-        let items = 1 + self.add_bytes(&[type_high, type_low, class_high, class_low]);
-        self.ends_joined(start, items)
+        let [type_high, type_low] = record_type.code().to_be_bytes();
+        let [class_high, class_low] = class.code().to_be_bytes();
+        self.add_part(|list| add_name(list, name) + add_bytes(list, &[type_high, type_low, class_high, class_low]))
     }
 
-    /// Adds a record, of which the data are written as they are.
+    /// Adds a record, of which the data are written as they are. One with more than 65535 octets of data is longer than any
+    /// message, so that [`finish`](MessageWriter::finish) then fails with `MessageTooLong`.
     ///
-    /// # Errors
+    /// ```
+    /// use dns_names_wire::{Class, MessageWriter, Name, RecordType};
     ///
-    /// `MessageTooLong` if the data have more than 65535 octets.
-    pub fn record(
-        &mut self,
-        owner: &Name,
-        record_type: RecordType,
-        class: Class,
-        ttl: u32,
-        data: &[u8],
-    ) -> Result<&mut Self, Error> {
-        let len = u16::try_from(data.len()).map_err(|_| Error::MessageTooLong)?;
-        Ok(self.add_record(RECORD, (owner, record_type, class, ttl), len, data))
+    /// let mut writer = MessageWriter::new();
+    /// writer.record(&Name::root(), RecordType::A, Class::IN, 60, &[192, 0, 2, 1]);
+    /// assert_eq!(writer.finish()?, b"\0\0\x01\0\x01\0\0\0\x3C\0\x04\xC0\0\x02\x01");
+    /// # Ok::<(), dns_names_wire::Error>(())
+    /// ```
+    pub fn record(&mut self, owner: &Name, record_type: RecordType, class: Class, ttl: u32, data: &[u8]) -> &mut Self {
+        self.add_record(RECORD, (owner, record_type, class, ttl), data)
     }
 
     /// Adds a record, of which the data are a name. It is compressed if the type is one of RFC 1035 (RFC 3597, section 4).
+    ///
+    /// ```
+    /// use dns_names_wire::{Class, MessageWriter, Name, RecordType};
+    ///
+    /// let (owner, host): (Name, Name) = ("b.".parse()?, "a.b.".parse()?);
+    /// let mut writer = MessageWriter::new();
+    /// writer.name_record(&owner, RecordType::NS, Class::IN, 60, &host);
+    /// assert_eq!(writer.finish()?, b"\x01b\0\0\x02\0\x01\0\0\0\x3C\0\x04\x01a\xC0\0");
+    /// # Ok::<(), dns_names_wire::Error>(())
+    /// ```
     pub fn name_record(
         &mut self,
         owner: &Name,
@@ -126,13 +174,12 @@ impl MessageWriter {
         data: &Name,
     ) -> &mut Self {
         // NS, MD, MF, CNAME, MB, MG, MR and PTR; and DNAME
-        let kind = match u16::from(record_type) {
+        let kind = match record_type.code() {
             2..=5 | 7..=9 | 12 => STANDARD_NAME,
             39 => CANONICAL_NAME,
             _ => OTHER_NAME,
         };
-        let form = data.as_wire();
-        self.add_record(kind, (owner, record_type, class, ttl), form.len() as u16, form)
+        self.add_record(kind, (owner, record_type, class, ttl), data.as_wire())
     }
 
     /// Returns the message.
@@ -140,6 +187,13 @@ impl MessageWriter {
     /// # Errors
     ///
     /// `MessageTooLong` if it would be longer than the maximum, or `NoMemory`.
+    ///
+    /// ```
+    /// use dns_names_wire::{Error, MessageWriter, Name};
+    ///
+    /// assert_eq!(MessageWriter::new().push(&Name::root()).finish(), Ok(vec![0]));
+    /// assert_eq!(MessageWriter::with_max_size(1).bytes(b"12").finish(), Err(Error::MessageTooLong));
+    /// ```
     pub fn finish(&self) -> Result<Vec<u8>, Error> {
         let mut message = Vec::new();
         self.finish_into(&mut message)?;
@@ -177,6 +231,15 @@ impl MessageWriter {
     /// # Errors
     ///
     /// `NoMemory`.
+    ///
+    /// ```
+    /// use dns_names_wire::MessageWriter;
+    ///
+    /// let mut writer = MessageWriter::with_max_size(3);
+    /// writer.push(&"a.".parse()?).push(&"b.".parse()?);
+    /// assert_eq!(writer.finish_truncated()?, (b"\x01a\0".to_vec(), 1));
+    /// # Ok::<(), dns_names_wire::Error>(())
+    /// ```
     pub fn finish_truncated(&self) -> Result<(Vec<u8>, usize), Error> {
         let mut message = Vec::new();
         let parts = self.put_whole_parts(&mut message)?;
@@ -196,14 +259,14 @@ impl MessageWriter {
     pub fn clear(&mut self) -> &mut Self {
         self.list.clear();
         self.joined.clear();
-        (self.items, self.parts) = (0, 0);
+        (self.items, self.parts, self.is_over) = (0, 0, false);
         self
     }
 
     /// Replaces `message` by as many of the first parts as fit into the maximum, and returns how many these are.
     fn put_whole_parts(&self, message: &mut Vec<u8>) -> Result<usize, Error> {
         let (items, is_whole) = self.write(self.list.len(), message)?;
-        if is_whole {
+        if is_whole && !self.is_over {
             return Ok(self.parts);
         }
         let (parts, cut) = self.whole_parts(items);
@@ -231,58 +294,67 @@ impl MessageWriter {
         door::write_message(&self.list[..end], self.max_size, self.is_canonical, message)
     }
 
-    fn add_name(&mut self, name: &Name) {
-        let form = name.as_wire();
-        self.list.reserve(1 + form.len());
-        self.list.push(NAME);
-        self.list.extend_from_slice(form);
-    }
-
-    /// Adds items of bytes, and returns how many.
-    fn add_bytes(&mut self, bytes: &[u8]) -> usize {
-        let chunks = bytes.chunks(u16::MAX.into());
-        let items = chunks.len();
-        for chunk in chunks {
-            self.list.push(BYTES);
-            self.list.extend_from_slice(&(chunk.len() as u16).to_be_bytes());
-            self.list.extend_from_slice(chunk);
-        }
-        items
-    }
-
     fn add_record(
         &mut self,
         kind: u8,
         (owner, record_type, class, ttl): (&Name, RecordType, Class, u32),
-        len: u16,
         data: &[u8],
     ) -> &mut Self {
-        self.list.push(kind);
-        self.list.extend_from_slice(owner.as_wire());
-        self.list.extend_from_slice(&u16::from(record_type).to_be_bytes());
-        self.list.extend_from_slice(&u16::from(class).to_be_bytes());
-        self.list.extend_from_slice(&ttl.to_be_bytes());
-        self.list.extend_from_slice(&len.to_be_bytes());
-        self.list.extend_from_slice(data);
-        self.ends_part()
-    }
-
-    /// A part of one item ends here.
-    fn ends_part(&mut self) -> &mut Self {
-        self.items += 1;
-        self.parts += 1;
-        self
-    }
-
-    /// A part of so many items ends here, which began at this byte of the list.
-    fn ends_joined(&mut self, start: usize, items: usize) -> &mut Self {
-        if items != 1 {
-            self.joined.push(Joined { before: self.items, start, items });
+        match u16::try_from(data.len()) {
+            Ok(len) => self.add_part(|list| {
+                list.push(kind);
+                list.extend_from_slice(owner.as_wire());
+                list.extend_from_slice(&record_type.code().to_be_bytes());
+                list.extend_from_slice(&class.code().to_be_bytes());
+                list.extend_from_slice(&ttl.to_be_bytes());
+                list.extend_from_slice(&len.to_be_bytes());
+                list.extend_from_slice(data);
+                1
+            }),
+            Err(_) => self.add_part_over(),
         }
-        self.items += items;
+    }
+
+    /// Adds a part. The function adds its items to the list, and returns how many.
+    fn add_part(&mut self, add: impl FnOnce(&mut Vec<u8>) -> usize) -> &mut Self {
+        if !self.is_over {
+            let (before, start) = (self.items, self.list.len());
+            let items = add(&mut self.list);
+            if items != 1 {
+                self.joined.push(Joined { before, start, items });
+            }
+            self.items += items;
+        }
         self.parts += 1;
         self
     }
+
+    /// Adds a part that is longer than any message.
+    fn add_part_over(&mut self) -> &mut Self {
+        self.is_over = true;
+        self.parts += 1;
+        self
+    }
+}
+
+fn add_name(list: &mut Vec<u8>, name: &Name) -> usize {
+    let form = name.as_wire();
+    list.reserve(1 + form.len());
+    list.push(NAME);
+    list.extend_from_slice(form);
+    1
+}
+
+/// Adds items of bytes, and returns how many.
+fn add_bytes(list: &mut Vec<u8>, bytes: &[u8]) -> usize {
+    let chunks = bytes.chunks(u16::MAX.into());
+    let items = chunks.len();
+    for chunk in chunks {
+        list.push(BYTES);
+        list.extend_from_slice(&(chunk.len() as u16).to_be_bytes());
+        list.extend_from_slice(chunk);
+    }
+    items
 }
 
 impl Default for MessageWriter {

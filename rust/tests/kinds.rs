@@ -17,9 +17,18 @@ fn names_of_names() {
     let long = name(&format!("{0}.{0}.{0}.{1}.", "a".repeat(63), "a".repeat(61)));
     assert_eq!(long.prepend_label(b"a"), Err(Error::NameTooLong));
     assert_eq!(long.append(&long), Err(Error::NameTooLong));
-    assert_eq!(long.append(&Name::root()), Ok(long));
+    assert_eq!(long.append(&Name::root()), Ok(long.clone()));
     assert_eq!(name("a.b.c").trim_to(2).to_string(), "b.c");
     assert_eq!((name("a.b.").trim_to(0), name("a.b.").trim_to(usize::MAX)), (Name::root(), name("a.b.")));
+    assert_eq!(
+        (name("a.b").base_name(), name("a.").base_name(), name("").base_name()),
+        (name("b"), name("."), name(""))
+    );
+    assert_eq!(Name::from_labels([&b"b."[..], b"\xFF"]).unwrap().as_wire(), b"\x02b.\x01\xFF\0");
+    assert_eq!(Name::from_labels(long.labels()), Ok(long.clone()));
+    assert_eq!(Name::from_labels(std::iter::empty::<&str>()), Ok(Name::root()));
+    assert_eq!(Name::from_labels(["a", &"b".repeat(64), ""]), Err(Error::LabelTooLong));
+    assert_eq!(Name::from_labels(long.labels().chain([&b"c"[..], b""])), Err(Error::NameTooLong));
     assert_eq!(name("a.b.").to_wildcard().to_string(), "*.b.");
     assert_eq!(Name::root().to_wildcard(), Name::root());
 }
@@ -34,10 +43,57 @@ fn codes_have_texts() {
         assert_eq!(Class::from(code).to_string(), text);
         assert_eq!(text.parse(), Ok(Class::from(code)));
     }
-    for text in ["", "a", "TYPE", "TYPE65536", "TYPE+1", "NOTHING"] {
+    assert_eq!((RecordType::try_from("*"), Class::try_from("*")), (Ok(RecordType::ANY), Ok(Class::ANY)));
+    assert_eq!("type00001".parse(), Ok(RecordType::A));
+    for text in
+        ["", "TYPE", "TYPE65536", "TYPE+1", "TYPE 1", "CLASS1", "NOTHING", "NSEC3PARAMS", "\u{e4}", "TYP\u{e4}1"]
+    {
         assert_eq!(text.parse::<RecordType>(), Err(Error::UnknownText), "{text}");
     }
+    for text in ["", "CLASS", "CLASS65536", "TYPE1", "INN"] {
+        assert_eq!(text.parse::<Class>(), Err(Error::UnknownText), "{text}");
+    }
     assert!(RecordType::from(1) < RecordType::from(2));
+}
+
+/// RFC 3597, section 5: also what has no name.
+#[test]
+fn every_code_is_parsed_from_what_is_shown() {
+    for code in 0..=u16::MAX {
+        let (kind, class) = (RecordType::from(code), Class::from(code));
+        let (kind_text, class_text) = (kind.to_string(), class.to_string());
+        assert_eq!((kind_text.parse(), class_text.parse()), (Ok(kind), Ok(class)));
+        assert_eq!((kind_text.to_lowercase().parse(), class_text.to_lowercase().parse()), (Ok(kind), Ok(class)));
+        assert_eq!((format!("TYPE{code}").parse(), format!("class{code}").parse()), (Ok(kind), Ok(class)));
+    }
+}
+
+/// The constants are the codes that the C library has names for, in the same order.
+#[test]
+fn every_name_has_a_constant() {
+    let is_named = |text: String, prefix: &str| !text.starts_with(prefix);
+    let kinds = (0..=u16::MAX).map(RecordType::from).filter(|kind| is_named(kind.to_string(), "TYPE"));
+    assert!(kinds.eq(RecordType::NAMED.iter().copied()));
+    let classes = (0..=u16::MAX).map(Class::from).filter(|class| is_named(class.to_string(), "CLASS"));
+    assert!(classes.eq(Class::NAMED.iter().copied()));
+    for (kind, text) in [(RecordType::ZERO, "ZERO"), (RecordType::IXFR, "IXFR"), (RecordType::NSEC3PARAM, "NSEC3PARAM")]
+    {
+        assert_eq!(kind.to_string(), text);
+    }
+    assert_eq!((Class::IN.code(), Class::CH.code(), Class::HS.code(), Class::NONE.code()), (1, 3, 4, 254));
+}
+
+#[test]
+fn sets_grow_and_shrink() {
+    let mut set: TypeSet = [RecordType::MX, RecordType::A].into();
+    set.extend([RecordType::NS, RecordType::A]);
+    set.extend(&[RecordType::from(1234)]);
+    assert_eq!((set.len(), set.to_string().as_str()), (4, "A NS MX TYPE1234"));
+    assert!(set.insert(RecordType::TXT) && !set.insert(RecordType::TXT) && set.remove(RecordType::A));
+    assert!(!set.remove(RecordType::A) && !set.contains(RecordType::A));
+    assert!((&set).into_iter().eq(set.iter()));
+    assert_eq!(set.into_iter().map(u16::from).collect::<Vec<_>>(), [2, 15, 16, 1234]);
+    assert!(TypeSet::new().is_empty() && TypeSet::new().to_string().is_empty());
 }
 
 #[test]
@@ -91,5 +147,8 @@ fn tokens_of_a_master_file() {
     for (text, error) in [("(a", Error::UnclosedList), ("\"a", Error::UnclosedQuote), ("$FOO", Error::UnknownEntry)] {
         let mut read = tokens(text);
         assert_eq!((read.next(), read.next()), (Some(Err(error)), None), "{text}");
+        assert_eq!(read.offset(), 0);
     }
+    let mut read = tokens("a\n)");
+    assert_eq!((read.by_ref().filter(Result::is_ok).count(), read.offset()), (2, 2));
 }

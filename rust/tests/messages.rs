@@ -13,14 +13,13 @@ fn name(text: &str) -> Name {
 }
 
 fn referral(max_size: u16) -> MessageWriter {
-    let (a, ns, class) = (RecordType::from(1), RecordType::from(2), Class::from(1));
+    let (a, ns, class) = (RecordType::A, RecordType::NS, Class::IN);
     let mut writer = MessageWriter::with_max_size(max_size);
     writer
         .bytes(&REFERRAL[..12])
         .question(&name("www.example.com."), a, class)
         .name_record(&name("example.com."), ns, class, 172_800, &name("ns.example.com."))
-        .record(&name("ns.example.com."), a, class, 172_800, &[192, 0, 2, 1])
-        .unwrap();
+        .record(&name("ns.example.com."), a, class, 172_800, &[192, 0, 2, 1]);
     writer
 }
 
@@ -47,9 +46,10 @@ fn what_does_not_fit_is_left_out_whole() {
         assert_eq!(referral(max_size).finish(), Err(Error::MessageTooLong));
     }
     assert_eq!(MessageWriter::new().finish_truncated(), Ok((vec![], 0)));
-    let (kind, class) = (RecordType::from(1), Class::from(1));
-    let long = MessageWriter::new().record(&Name::root(), kind, class, 0, &[0; 65536]).map(drop);
-    assert_eq!(long, Err(Error::MessageTooLong));
+    let mut long = MessageWriter::new();
+    long.push(&name("a.")).record(&Name::root(), RecordType::A, Class::IN, 0, &[0; 65536]).push(&name("b."));
+    assert_eq!((long.finish(), long.finish_truncated()), (Err(Error::MessageTooLong), Ok((b"\x01a\0".to_vec(), 1))));
+    assert_eq!(long.clear().push(&name("b.")).finish().as_deref(), Ok(&b"\x01b\0"[..]));
     let mut bytes = MessageWriter::new();
     bytes.bytes(&[7; 65535]).bytes(b"8");
     assert_eq!(bytes.finish_truncated(), Ok((vec![7; 65535], 1)));
@@ -59,7 +59,7 @@ fn what_does_not_fit_is_left_out_whole() {
 fn parts_of_two_items_and_of_none_are_whole_or_left_out() {
     let write = |max_size| {
         let mut writer = MessageWriter::with_max_size(max_size);
-        let (kind, class) = (RecordType::from(1), Class::from(1));
+        let (kind, class) = (RecordType::A, Class::IN);
         writer.bytes(&[0; 12]).question(&name("a."), kind, class).question(&name("b."), kind, class);
         writer.bytes(b"").push(&name("c."));
         writer.finish_truncated().map(|(message, parts)| (message.len(), parts))

@@ -1,6 +1,9 @@
 //! The crate as its users call it. Expected values are from RFC 1035, section 4.1.4, RFC 4034, section 6.1, or counted by
 //! hand.
-use dns_names_wire::{names, Error, MessageWriter, Name, NameRef};
+use dns_names_wire::{
+    names, records, tokens, Class, Error, Labels, MessageWriter, Name, NameRef, Names, Record, RecordType, Records,
+    SerialNumber, Token, Tokens, TypeSet,
+};
 use std::cmp::Ordering;
 use std::collections::hash_map::DefaultHasher;
 use std::collections::{BTreeSet, HashSet};
@@ -172,15 +175,65 @@ fn errors_have_texts_and_numbers() {
     let source: Box<dyn std::error::Error + Send + Sync> = Error::BadText.into();
     assert!(source.to_string().contains("text"));
     assert_eq!(Error::MessageTooLong.number(), 12);
+    assert!(std::error::Error::source(&Error::BadText).is_none());
+    let wrapped: std::io::Error = Error::NameTooLong.into();
+    assert_eq!(wrapped.get_ref().unwrap().downcast_ref(), Some(&Error::NameTooLong));
+    assert_eq!(std::io::Error::from(Error::NoMemory).kind(), std::io::ErrorKind::OutOfMemory);
 }
 
 #[test]
 fn values_cross_threads() {
-    fn is_shared<T: Send + Sync + 'static>() {}
+    fn is_shared<T: Send + Sync + Unpin + std::panic::UnwindSafe + 'static>() {}
     is_shared::<Name>();
     is_shared::<Error>();
-    is_shared::<NameRef<'static>>();
+    is_shared::<(NameRef<'static>, Names<'static>, Labels<'static>)>();
+    is_shared::<(Record<'static>, Records<'static>)>();
+    is_shared::<(Token, Tokens<'static>)>();
     is_shared::<MessageWriter>();
+    is_shared::<(RecordType, Class, SerialNumber, TypeSet)>();
+}
+
+#[test]
+fn labels_are_walked_from_both_ends() {
+    let message = message();
+    for name in [Name::read(&message, 40).unwrap().0, name("foo.f.isi.arpa")] {
+        let mut labels = name.labels();
+        assert_eq!(
+            (labels.len(), labels.next_back().map(<[u8]>::len), labels.next().map(<[u8]>::len)),
+            (4, Some(4), Some(3))
+        );
+        assert_eq!((labels.len(), labels.next_back().map(<[u8]>::len)), (2, Some(3)));
+        assert_eq!((labels.next_back().map(<[u8]>::len), labels.next_back(), labels.next()), (Some(1), None, None));
+    }
+    let borrowed = NameRef::read(&message, 40).unwrap();
+    assert!(borrowed.labels().rev().eq([&b"ARPA"[..], b"ISI", b"F", b"FOO"]));
+    assert_eq!((borrowed.labels().len(), NameRef::read(&message, 92).unwrap().labels().len()), (4, 0));
+    let mut count = 0;
+    for label in &name("a.b") {
+        count += label.len();
+    }
+    assert_eq!((count, (&borrowed).into_iter().count()), (2, 4));
+    let longest = Name::from_labels(std::iter::repeat("a").take(127)).unwrap();
+    assert_eq!((longest.num_labels(), longest.labels().rev().count()), (127, 127));
+    assert_eq!((Name::root().num_labels(), name("*").num_labels(), name("*.a").num_labels()), (0, 0, 1));
+    assert!(name("*.a").is_wildcard() && !name("a").is_wildcard() && !name("\\.").is_wildcard());
+}
+
+#[test]
+fn names_are_made_of_texts_and_lent_as_octets() {
+    assert_eq!(Name::try_from("a.b."), Ok(name("a.b.")));
+    assert_eq!(Name::try_from("a..b"), Err(Error::BadText));
+    assert_eq!(AsRef::<[u8]>::as_ref(&name("a.")), b"\x01a\0");
+}
+
+#[test]
+fn iterators_say_where_they_stand() {
+    let mut read = names(b"\0\x40", 0);
+    assert_eq!((read.next().map(|name| name.is_ok()), read.offset()), (Some(true), 1));
+    assert_eq!((read.next().map(|name| name.is_ok()), read.offset(), read.next()), (Some(false), 1, None));
+    let mut read = records(b"\0", 0);
+    assert_eq!((read.next().map(|record| record.err()), read.offset()), (Some(Some(Error::MessageCut)), 0));
+    assert_eq!(tokens("  ").offset(), 0);
 }
 
 /// A linear congruential generator.

@@ -100,7 +100,7 @@ fn write_records(records: &[(Record, Option<Name>)]) -> u64 {
         let (owner, kind, class, ttl) = (record.owner(), record.record_type(), record.class(), record.ttl());
         match name {
             Some(name) => writer.name_record(owner, kind, class, ttl, name),
-            None => writer.record(owner, kind, class, ttl, record.data()).expect("short data"),
+            None => writer.record(owner, kind, class, ttl, record.data()),
         };
     }
     writer.finish().map_or(FAILED, |message| black_box(message).len() as u64)

@@ -4,7 +4,7 @@ use Rattle.std.specs.List.{AllByRecursion}
 use Rattle.std.proofs.lemmas.List.{append-nil}
 use Rattle.dnw_base.specs.Labels.{IsLabel}
 use Rattle.dnw_base.specs.Names.{NameValue, AreLabels}
-use Rattle.dnw_form.specs.NameText.{TextElement, Char, Dot, Outside, name_text}
+use Rattle.dnw_text.specs.NameText.{TextElement, Char, Dot, Outside, name_text}
 use Rattle.dns_names_wire.specs.TextLaws.{AreByteLabels}
 use Rattle.dns_names_wire.proofs.TextElements.{decoded, rest_elements, name_elements, decoded-name_text}
 

@@ -5,7 +5,7 @@ use Rattle.dnw_base.specs.Names.{NameValue, AreLabels, wire}
 use Rattle.dnw_base.proofs.Wires.{length-wire}
 use Rattle.dnw_reading.specs.Reading.{NameAt}
 use Rattle.dnw_reading.proofs.Back.{Reads-wire}
-use Rattle.dnw_form.specs.NameText.{name_text}
+use Rattle.dnw_text.specs.NameText.{name_text}
 use Rattle.dns_names_wire.specs.TextLaws.{qualified, dotted_text}
 
 pub NameAt-wire : (ls : List (List ℕ)) → AreLabels ls → NameAt (wire ls) 0 ls (length (wire ls)) 0

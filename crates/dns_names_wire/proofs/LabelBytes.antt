@@ -6,8 +6,8 @@ use Rattle.std.proofs.lemmas.List.{get_or-drop}
 use Rattle.dnw_label.specs.LabelText.{may_begin, may_follow}
 use Rattle.dnw_reading.specs.Reading.{Reads, NameAt, zero_octet, label, pointer}
 use Rattle.dnw_reading.specs.ReadingLaws.{AreBytes}
-use Rattle.dnw_form.specs.NameText.{IsLabelText}
-use Rattle.dnw_form.proofs.ByteTexts.{IsRead-begin, IsRead-follow}
+use Rattle.dnw_text.specs.NameText.{IsLabelText}
+use Rattle.dnw_text.proofs.ByteTexts.{IsRead-begin, IsRead-follow}
 use Rattle.dns_names_wire.specs.TextLaws.{AreByteLabels}
 
 -- a part of bytes

@@ -6,9 +6,9 @@ use Rattle.std.proofs.lemmas.Bool.{agree_below, agree_below_at, and_parts, and_f
 use Rattle.dnw_base.specs.Names.{NameValue}
 use Rattle.dnw_label.specs.LabelText.{dot, backslash, is_plain, byte_text, octal_escape, label_text}
 use Rattle.dnw_reading.specs.ReadingLaws.{AreBytes}
-use Rattle.dnw_form.specs.NameText.{State, Outside, Escaped, AfterOne, AfterTwo, TextElement, Char, Dot, is_octal_digit, name_text}
+use Rattle.dnw_text.specs.NameText.{State, Outside, Escaped, AfterOne, AfterTwo, TextElement, Char, Dot, is_octal_digit, name_text}
 use Rattle.dns_names_wire.specs.TextLaws.{AreByteLabels}
-use Rattle.dnw_form.proofs.Joined.{dotted, joined-cons}
+use Rattle.dnw_text.proofs.Joined.{dotted, joined-cons}
 
 -- Decoding is reading without its refusals: an octal digit after a backslash begins three of them.
 abbrev pub decoded : State → List ℕ → List TextElement

@@ -27,7 +27,7 @@ pub use Rattle.dnw_reading.specs.Buffers
 pub use Rattle.dnw_reading.specs.Reading
 pub use Rattle.dnw_reading.specs.ReadingLaws
 pub use Rattle.dnw_form.specs.Edits
-pub use Rattle.dnw_form.specs.NameText
+pub use Rattle.dnw_text.specs.NameText
 pub use Rattle.dnw_order.specs.Order
 pub use Rattle.dnw_order.specs.OrderLaws
 pub use Rattle.dnw_reverse.specs.Nets

@@ -7,7 +7,7 @@ use Rattle.dnw_base.specs.Names.{NameValue, AreLabels, wire}
 use Rattle.dnw_label.specs.LabelText.{dot}
 use Rattle.dnw_reading.specs.Reading.{NameAt}
 use Rattle.dnw_reading.specs.ReadingLaws.{AreBytes}
-use Rattle.dnw_form.specs.NameText.{name_from_text, name_text, IsLabelText}
+use Rattle.dnw_text.specs.NameText.{name_from_text, name_text, IsLabelText}
 
 -- each octet of each label is below 256
 abbrev pub AreByteLabels : List (List ℕ) → Type 0

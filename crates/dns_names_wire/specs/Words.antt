@@ -30,7 +30,7 @@ pub use Rattle.dnw_codes.specs.DnsClasses.{class_code, class_name, class_of_code
 pub use Rattle.dnw_error.specs.Naming.{Looks, ReportsType, ReportsClass}
 -- Texts of labels and names.
 pub use Rattle.dnw_label.specs.LabelText.{dot, label_from_bytes, label_from_text, label_text}
-pub use Rattle.dnw_form.specs.NameText.{IsLabelText, name_from_text, name_from_text_at, name_text}
+pub use Rattle.dnw_text.specs.NameText.{IsLabelText, name_from_text, name_from_text_at, name_text}
 -- Nets and reverse names.
 pub use Rattle.dnw_reverse.specs.Nets.{NetValue, ipv4_size, ipv6_size}
 pub use Rattle.dnw_reverse.specs.NetTexts.{net_addr, net_prefix_len, ip_size, IsPastSize, ip_net_text}

@@ -4,7 +4,7 @@ use Rattle.dnw_error.specs.declared.error.ProtoError.{ProtoError}
 use Rattle.dnw_error.specs.declared.error.ProtoError.TheVariants.{Message, Msg, Memory}
 use Rattle.dnw_error.specs.Fault.{Fault, EmptyLabel, LabelTooLong, MalformedLabel, NameTooLong, UnrecognizedChar, IllegalChar, UnfinishedEscape, UnconvertedLabels, FailsOr, HasOwnText, NeedsErrorText, Reports}
 use Rattle.std.specs.Str.{chars}
-use Rattle.dnw_form.specs.NameText.{name_from_text}
+use Rattle.dnw_text.specs.NameText.{name_from_text}
 use Rattle.dnw_c.specs.Failures.{of_fault, of_proto}
 use Rattle.dnw_c.specs.declared.failure.Failure.TheVariants.{NoMemory}
 

@@ -6,7 +6,7 @@ use Rattle.dnw_error.specs.Fault.{Fault, HasOwnText}
 use Rattle.std.specs.declared.cmp.Ordering.{Ordering}
 use Rattle.std.specs.declared.cmp.Ordering.TheVariants.{Less, Equal, Greater}
 use Rattle.dnw_base.specs.Names.{NameValue, lower, wire}
-use Rattle.dnw_form.specs.NameText.{name_text, name_from_text}
+use Rattle.dnw_text.specs.NameText.{name_text, name_from_text}
 use Rattle.dnw_reading.specs.Reading.{NameAt, FaultAt}
 use Rattle.dnw_c.specs.Failures.{of_decode, of_fault}
 use Rattle.dnw_c.specs.declared.failure.Failure.{Failure}

@@ -4,7 +4,7 @@ ghost use Rattle.std.specs.Prelude.{IfOk, IfErr, OnOk, OnErr};
 ghost use Rattle.std.specs.Str.{chars};
 ghost use Rattle.dnw_error.specs.declared.error.DecodeError.{DecodeError};
 ghost use Rattle.dnw_base.specs.Names.{NameValue, wire};
-ghost use Rattle.dnw_form.specs.NameText.{name_text, name_from_text};
+ghost use Rattle.dnw_text.specs.NameText.{name_text, name_from_text};
 ghost use Rattle.dnw_reading.specs.Reading.{NameAt, FaultAt};
 ghost use Rattle.dnw_name.specs.Decodable.{TakesNameValue};
 ghost use Rattle.dnw_encoder.specs.Encoder.{Encoder};

@@ -1,5 +1,5 @@
 //! Marks, by which a search passes over most candidates.
-ghost use Rattle.std.specs.Prelude.{◌≡◌, ℕ, ◌+◌, ◌*◌, ◌^◌, ◌<◌, ◌≤◌, true, false, List, get_or};
+ghost use Rattle.std.specs.Prelude.{◌≡◌, ℕ, ◌+◌, ◌*◌, ◌^◌, ◌<◌, ◌≤◌, min, true, false, List, get_or, length};
 ghost use Rattle.dnw_candidates.specs.Inside.Marks.{AreLinked, AreMarked, FindsNext, label_end, pair, tag};
 
 use crate::store::Store;
@@ -98,7 +98,8 @@ impl Marks {
     #[inline(always)]
     pub(crate) fn add_all(&mut self, candidates: &Store)
         requires { AreMarked self.old.last self.old.next self.old.count candidates.now }
-        ensures { AreMarked self.new.last self.new.next self.new.count candidates.now }
+        ensures marked { AreMarked self.new.last self.new.next self.new.count candidates.now }
+        ensures count { self.new.count ≡ min (length candidates.now) 255 }
     {
         'marks: while self.count < candidates.len() && self.count < ROOM {
             let (_, labels) = candidates.get(self.count);

@@ -1,11 +1,4 @@
 pub mod Wires
 pub mod OpenWires
 pub mod EditLemmas
-pub mod Joined
-pub mod TextReading
-pub mod ByteTexts
-pub mod LabelTexts
 pub mod LowerWires
-pub mod ReadBack
-pub mod SimpleLabels
-pub mod PlainText

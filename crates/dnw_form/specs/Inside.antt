@@ -1,3 +1,2 @@
--- What no public clause of a higher crate cites: how wire forms and texts are kept and read.
+-- What no public clause of a higher crate cites: how wire forms are kept.
 pub mod WireBytes
-pub mod TextReader

@@ -1,32 +1,33 @@
 //! The labels of a name, from both ends.
-ghost use Rattle.std.specs.Prelude.{◌≡◌, [], length, Some, IfSome, MatchOption};
+ghost use Rattle.std.specs.Prelude.{◌≡◌, length, Some, IfSome};
 ghost use Rattle.std.specs.Iterator.{UpTo, YieldsFirstRef, YieldsLastRef, at_most, item_count};
 ghost use Rattle.std.specs.Iterator.SizeHint.{IsWithinCount};
-ghost use Rattle.dnw_form.specs.Inside.WireBytes.{closed, labels_of, IsWire, SplitsLabel, SplitsLast};
+ghost use Rattle.dnw_form.specs.Inside.WireBytes.{labels_of, IsWire};
 
+use crate::wire_labels::{WireLabels, without_first};
 use std::marker::Model;
 
 /// An iterator over the labels of a name, from the left or from the right, as their bytes. Its length is exact.
 ///
 /// The next label from the left is found at once. One from the right takes a walk over the labels that are left, and so
-/// does the length.
+/// does the iterator's creation.
 ///
 /// A contract sees it as the list of the labels that are left.
 #[derive(Drop)]
 pub struct LabelIter<'a> {
-    // The wire form of what is left, without a closing zero.
-    rest: &'a [u8],
+    labels: WireLabels<'a>,
+    // How many of them are left: the first ones.
+    left: usize,
 }
 
 impl<'a> Model for LabelIter<'a> {
-    ghost use Rattle.std.specs.Prelude.{ℕ, List};
-    ghost use Rattle.dnw_form.specs.Inside.WireBytes.{closed, labels_of, IsWire};
+    ghost use Rattle.std.specs.Prelude.{ℕ, ◌≤◌, List, length, take};
 
     ghost Value = { List (List ℕ) };
 
-    ghost view = { λ it. labels_of (closed it.rest.now) };
+    ghost view = { λ it. take it.left it.labels };
 
-    ghost invariant = { λ it. IsWire (closed it.rest.now) };
+    ghost invariant = { λ it. it.left ≤ length it.labels };
 }
 
 impl<'a> LabelIter<'a> {
@@ -36,9 +37,9 @@ impl<'a> LabelIter<'a> {
         requires { IsWire wire.now }
         ensures { result ≡ labels_of wire.now }
     {
-        LabelIter {
-            rest: &wire[..wire.len() - 1],
-        }
+        let labels = WireLabels::new(wire);
+        let left = labels.len();
+        LabelIter { labels, left }
     }
 
     /// Copies the iterator.
@@ -46,7 +47,10 @@ impl<'a> LabelIter<'a> {
     pub fn clone(&self) -> Self
         ensures { result ≡ self.now }
     {
-        LabelIter { rest: self.rest }
+        LabelIter {
+            labels: self.labels.clone(),
+            left: self.left,
+        }
     }
 }
 
@@ -62,15 +66,16 @@ impl<'a> Iterator for LabelIter<'a> {
         ensures upper { IfSome result.1 (UpTo (at_most (length self.now))) }
         ensures exact { result ≡ (length self.now, Some (length self.now)) }
     {
-        let left = self.len();
-        (left, Some(left))
+        (self.left, Some(self.left))
     }
 
     #[inline]
     fn next(&mut self) -> Option<&'a [u8]> {
-        let (label, rest) = split_first_label(self.rest)?;
-        self.rest = rest;
-        Some(label)
+        if self.left == 0 {
+            return None;
+        }
+        self.left -= 1;
+        self.labels.next()
     }
 }
 
@@ -78,55 +83,17 @@ impl<'a> DoubleEndedIterator for LabelIter<'a> {
     ghost next_back_gives = { YieldsLastRef (λ labels. labels) };
 
     fn next_back(&mut self) -> Option<&'a [u8]> {
-        let (rest, label) = split_last_label(self.rest)?;
-        self.rest = rest;
-        Some(label)
+        if self.left == 0 {
+            return None;
+        }
+        self.left -= 1;
+        without_first(self.labels.clone(), self.left).next()
     }
 }
 
 impl<'a> ExactSizeIterator for LabelIter<'a> {
+    #[inline(always)]
     fn len(&self) -> usize {
-        count_labels(self.rest)
+        self.left
     }
-}
-
-/// Returns the number of labels.
-#[tactic(auto, using(crate::proofs::Wires::few_labels_of))]
-fn count_labels(labels: &[u8]) -> usize
-    requires { IsWire (closed labels.now) }
-    ensures { result ≡ length (labels_of (closed labels.now)) }
-{
-    let mut count = 0;
-    let mut rest = labels;
-    'labels: while let Some((_, others)) = split_first_label(rest) {
-        count += 1;
-        rest = others;
-    }
-    count
-}
-
-/// Returns the first label, and the others as they are on the wire.
-#[inline(always)]
-#[tactic(auto, using(crate::proofs::OpenWires::closed_none))]
-fn split_first_label(labels: &[u8]) -> Option<(&[u8], &[u8])>
-    requires { IsWire (closed labels.now) }
-    ensures { MatchOption result (labels_of (closed labels.now) ≡ []) (λ split. SplitsLabel (closed labels.now) split.0.now (closed split.1.now)) }
-{
-    let (len, rest) = labels.split_first()?;
-    Some(rest.split_at(*len as usize))
-}
-
-/// Returns the labels before the last one as they are on the wire, and the last label.
-fn split_last_label(labels: &[u8]) -> Option<(&[u8], &[u8])>
-    requires { IsWire (closed labels.now) }
-    ensures { MatchOption result (labels_of (closed labels.now) ≡ []) (λ split. SplitsLast labels.now split.0.now split.1.now) }
-{
-    let (first, others) = split_first_label(labels)?;
-    let mut last = first;
-    let mut rest = others;
-    'labels: while let Some((label, others)) = split_first_label(rest) {
-        last = label;
-        rest = others;
-    }
-    Some((&labels[..labels.len() - 1 - last.len()], last))
 }

@@ -1,9 +1,8 @@
-//! The wire form of names, its labels and its texts, without regard to whether a name is fully qualified.
+//! The wire form of names and its labels, without regard to whether a name is fully qualified.
 //!
-//! It stands on labels. Read `specs/NameText.antt` first: the text of a name, both ways.
+//! It stands on the base. Read `specs/Edits.antt` first: names made of labels and of other names.
 #![tactic(auto)]
 
 pub mod form;
 pub mod label_iter;
-pub mod text;
 pub mod wire_labels;

@@ -96,7 +96,7 @@ pub fn last_labels(labels: WireLabels<'_>, count: usize) -> WireLabels<'_>
 }
 
 /// Returns the labels after the first `count`.
-fn without_first(mut labels: WireLabels<'_>, count: usize) -> WireLabels<'_>
+pub(crate) fn without_first(mut labels: WireLabels<'_>, count: usize) -> WireLabels<'_>
     ensures { result ≡ drop count labels.entry }
 {
     'passed: for _ in 0..count {

@@ -5,7 +5,7 @@ use Rattle.std.specs.Hash as fed
 use Rattle.dnw_error.specs.Fault.{Fault, ◌>>=◌}
 use Rattle.dnw_base.specs.Decoder.{Decoder}
 use Rattle.dnw_base.specs.Names.{NameValue, lower, wire}
-use Rattle.dnw_form.specs.NameText.{name_from_text}
+use Rattle.dnw_text.specs.NameText.{name_from_text}
 use Rattle.dnw_order.specs.Order.{name_eq_case}
 use Rattle.dnw_order.specs.OrderLaws.{name_eq_case_parts}
 use Rattle.dnw_name.specs.Decodable.{TakesNameValue}

@@ -7,7 +7,7 @@ ghost use Rattle.dnw_error.specs.Fault.{Follows, NeedsErrorText};
 ghost use Rattle.dnw_base.specs.Decoder.{Decoder};
 ghost use Rattle.dnw_base.specs.Names.{NameValue, encoded_size, IsWildcard};
 ghost use Rattle.dnw_form.specs.Edits.{base_name, into_wildcard};
-ghost use Rattle.dnw_form.specs.NameText.{name_text};
+ghost use Rattle.dnw_text.specs.NameText.{name_text};
 ghost use Rattle.dnw_order.specs.Order.{name_cmp_case, name_eq_case, IsZoneOfCase};
 ghost use Rattle.dnw_order.specs.OrderLaws.{name_cmp_case_total, name_eq_case_equiv, name_case_ties, name_case_order};
 ghost use Rattle.dnw_name.specs.Decodable.{StopsSomehow};

@@ -10,8 +10,8 @@ use Rattle.std.proofs.lemmas.List.{reverse-append, reverse-reverse, length-map, 
 use Rattle.std.proofs.lemmas.Str.Ascii.{IsAscii-nil, IsAscii-cons}
 use Rattle.dnw_base.specs.Labels.{IsLabel}
 use Rattle.dnw_base.specs.Names.{AreLabels, encoded_size}
-use Rattle.dnw_form.specs.NameText.{IsLabelText, name_from_text, name_text}
-use Rattle.dnw_form.proofs.ReadBack.{read_back}
+use Rattle.dnw_text.specs.NameText.{IsLabelText, name_from_text, name_text}
+use Rattle.dnw_text.proofs.ReadBack.{read_back}
 use Rattle.dnw_reverse.specs.NetTexts.{net_addr, net_prefix_len, ip_size}
 use Rattle.dnw_reverse.specs.declared.net.IpNet.{IpNet}
 use Rattle.dnw_reverse.specs.Arpa.{ArpaPrefix, IsArpaPrefix, arpa, arpa_labels, arpa_name, arpa_prefix, family_label, nibbles, ip_prefix, most_values, padded, prefix_below, prefix_from_end, prefix_of, reverse_name, value_bits, value_label}

@@ -12,7 +12,7 @@ use Rattle.dnw_base.specs.Labels.{IsLabel}
 use Rattle.dnw_base.specs.Names.{encoded_size}
 use Rattle.dnw_base.proofs.Wires.{encoded_size-cons}
 use Rattle.dnw_label.specs.LabelText.{may_begin, may_follow}
-use Rattle.dnw_form.specs.NameText.{IsLabelText}
+use Rattle.dnw_text.specs.NameText.{IsLabelText}
 use Rattle.dnw_reverse.specs.Arpa.{octet_of, value_bits, value_label, value_of, values_of}
 use Rattle.dnw_reverse.specs.declared.reading.Family.{Family}
 use Rattle.dnw_reverse.specs.declared.reading.Family.TheVariants.{Ipv4, Ipv6}

@@ -4,7 +4,7 @@ use Rattle.std.specs.Net.Addr.{MatchIp, IsIpv4Addr, IsIpv6Addr}
 use Rattle.std.specs.Str.{chars}
 use Rattle.std.specs.declared.net.ip_addr.IpAddr.{IpAddr}
 use Rattle.dnw_error.specs.declared.error.ProtoError.{ProtoError}
-use Rattle.dnw_form.specs.NameText.{name_from_text, name_text}
+use Rattle.dnw_text.specs.NameText.{name_from_text, name_text}
 use Rattle.dnw_reverse.specs.NetTexts.{net_addr, net_prefix_len, ip_size}
 use Rattle.dnw_reverse.specs.declared.net.IpNet.{IpNet}
 use Rattle.dnw_reverse.specs.Arpa.{ArpaPrefix, arpa_name, IsArpaPrefix, arpa_prefix, ip_prefix, reverse_name}

@@ -3,7 +3,7 @@ ghost use Rattle.std.specs.Prelude.{◌≡◌, None, Ok, string_bytes};
 ghost use Rattle.std.specs.Str.{chars};
 ghost use Rattle.std.specs.declared.net.ip_addr.IpAddr.TheVariants.{V4, V6};
 ghost use Rattle.dnw_error.specs.Fault.{Follows, NeedsErrorText};
-ghost use Rattle.dnw_form.specs.NameText.{name_from_text};
+ghost use Rattle.dnw_text.specs.NameText.{name_from_text};
 ghost use Rattle.dnw_reverse.specs.Arpa.{reverse_name};
 ghost use Rattle.dnw_usage.specs.AddressTexts.{ReadsIp};
 

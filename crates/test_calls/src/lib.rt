@@ -26,4 +26,6 @@ mod scripts;
 #[cfg(test)]
 mod sections;
 #[cfg(test)]
+mod sizes;
+#[cfg(test)]
 mod values;

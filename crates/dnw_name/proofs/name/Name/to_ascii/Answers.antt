@@ -1,5 +1,5 @@
 -- The labels fit together, so the text reads back.
-use Rattle.dnw_form.proofs.ReadBack.{read_back}
+use Rattle.dnw_text.proofs.ReadBack.{read_back}
 use Rattle.dnw_name.proofs.name.Name.to_ascii.Goals as goal
 
 pub returns-clause-reads_back : goal.returns-clause-reads_back

@@ -1,0 +1,15 @@
+use Rattle.std.proofs.Common.{eqb-true, refl, sym, ◌∙◌, arith}
+use Rattle.std.proofs.lemmas.List.{nil_from_length}
+use Rattle.dnw_text.specs.Inside.TextReader.{name_from}
+use Rattle.dnw_text.proofs.text.read_by_parts.Goals as goal
+
+pub loop-rest-init : goal.loop-rest-init
+unfolding name_from
+loop-rest-init c =
+    let new = c.new-reader.ensures in
+    record { name = rw (new.form, c.new.ensures, new.label, new.state) refl; len = rw (new.label, new.state) (omega arith); utf8 = c.utf8.text }
+
+pub returns : goal.returns
+returns c =
+    let none = eqb-true _ _ (sym c.is_empty.ensures ∙ c.loop-rest-test.false) in
+    rw (← c.loop-rest.invariant.name, nil_from_length _ none) (record { follows = c.finish.ensures.follows })

@@ -1,0 +1,39 @@
+"""Arguments: what is none raises TypeError or ValueError with the argument's name."""
+
+import operator
+from typing import Optional, Union
+
+Bytes = Union[bytes, bytearray, memoryview]
+
+
+def wrong_type(what: str, wanted: str, value: object) -> TypeError:
+    return TypeError(f"{what}: {wanted} wanted, not {type(value).__name__}")
+
+
+def text(what: str, value: object) -> bytes:
+    """The UTF-8 of a text. Half a surrogate pair stays, for the library to refuse."""
+    if not isinstance(value, str):
+        raise wrong_type(what, "a str is", value)
+    return value.encode("utf-8", "surrogatepass")
+
+
+def octets(what: str, value: object) -> bytes:
+    """Bytes; what is not `bytes` already is copied."""
+    if isinstance(value, bytes):
+        return value
+    if isinstance(value, (bytearray, memoryview)):
+        return bytes(value)
+    raise wrong_type(what, "bytes are", value)
+
+
+def number(what: str, value: object, most: Optional[int] = None) -> int:
+    """A number from 0 on, to `most` if there is a most."""
+    try:
+        whole = operator.index(value)  # type: ignore[arg-type]
+    except TypeError:
+        raise wrong_type(what, "an int is", value) from None
+    if whole < 0 and most is None:
+        raise ValueError(f"{what}: {whole} is negative")
+    if most is not None and not 0 <= whole <= most:
+        raise ValueError(f"{what}: {whole} is not from 0 to {most}")
+    return whole

@@ -1,0 +1,176 @@
+"""Record types and classes."""
+
+import re
+from ctypes import byref, c_size_t, c_uint16
+from typing import Callable, ClassVar, Dict, Type, TypeVar
+
+from . import _checks
+from ._errors import check
+from ._library import CODE_SIZE, CodeText, library, taken
+
+_MOST = 65535
+_Own = TypeVar("_Own", bound="_Code")
+
+
+def _text(function: Callable[..., int], code: int, unknown: str, prefix: str) -> str:
+    number = _checks.number("code", code, _MOST)
+    text, length = CodeText(), c_size_t()
+    check(function(number, text, CODE_SIZE, byref(length)))
+    name = taken(text, length.value).decode("ascii")
+    return f"{prefix}{number}" if name == unknown else name
+
+
+def _code(function: Callable[..., int], text: str, prefix: str, unparsed: Dict[bytes, int]) -> int:
+    capitals, code = _checks.text("text", text).upper(), c_uint16()
+    number = re.fullmatch(prefix + "0*([0-9]{1,5})", text, re.IGNORECASE | re.ASCII)
+    if number and int(number[1]) <= _MOST:
+        return int(number[1])
+    if capitals in unparsed:
+        return unparsed[capitals]
+    check(function(capitals, len(capitals), byref(code)))
+    return code.value
+
+
+# The types whose names dnw_type_parse does not take.
+_UNPARSED = {b"ZERO": 0, b"OPT": 41, b"IXFR": 251}
+
+
+def type_text(code: int) -> str:
+    """The name of the record type with a code, or `TYPE` and the code if it has none (RFC 3597, section 5).
+
+    >>> type_text(28), type_text(65280)
+    ('AAAA', 'TYPE65280')
+    """
+    return _text(library.dnw_type_print, code, "Unknown", "TYPE")
+
+
+def type_code(text: str) -> int:
+    """The code of the record type with a text as `type_text` gives it, in upper or lower case. Raises `UnknownText`.
+
+    >>> type_code("AAAA"), type_code("type65280")
+    (28, 65280)
+    """
+    return _code(library.dnw_type_parse, text, "TYPE", _UNPARSED)
+
+
+def class_text(code: int) -> str:
+    """The name of the class with a code, or `CLASS` and the code if it has none (RFC 3597, section 5).
+
+    >>> class_text(1), class_text(7)
+    ('IN', 'CLASS7')
+    """
+    return _text(library.dnw_class_print, code, "UNKNOWN", "CLASS")
+
+
+def class_code(text: str) -> int:
+    """The code of the class with a text as `class_text` gives it, in upper or lower case. Raises `UnknownText`.
+
+    >>> class_code("CH"), class_code("class7")
+    (3, 7)
+    """
+    return _code(library.dnw_class_parse, text, "CLASS", {})
+
+
+class _Code(int):
+    """A code from 0 to 65535, which is an `int`, and whose text is its name."""
+
+    _text_of: ClassVar[Callable[[int], str]]
+    _code_of: ClassVar[Callable[[str], int]]
+
+    def __new__(cls: Type[_Own], code: int) -> _Own:
+        return int.__new__(cls, _checks.number("code", code, _MOST))
+
+    @classmethod
+    def from_text(cls: Type[_Own], text: str) -> _Own:
+        """The code with a text, in upper or lower case. Raises `UnknownText`."""
+        return cls(cls._code_of(text))
+
+    def __str__(self) -> str:
+        return type(self)._text_of(int(self))
+
+    def __format__(self, spec: str) -> str:
+        return format(str(self), spec)
+
+    def __repr__(self) -> str:
+        text, own = str(self), type(self).__name__
+        return f"{own}.{text}" if hasattr(type(self), text) else f"{own}({int(self)})"
+
+
+class RecordType(_Code):
+    """A record type: its code, as an `int`, with constants for all that have a name.
+
+    >>> RecordType.AAAA, RecordType.AAAA == 28, str(RecordType.AAAA)
+    (RecordType.AAAA, True, 'AAAA')
+    >>> RecordType(65280), str(RecordType(65280)), RecordType.from_text("type65280")
+    (RecordType(65280), 'TYPE65280', RecordType(65280))
+    """
+
+    _text_of = staticmethod(type_text)
+    _code_of = staticmethod(type_code)
+
+    ZERO: ClassVar["RecordType"]
+    A: ClassVar["RecordType"]
+    NS: ClassVar["RecordType"]
+    CNAME: ClassVar["RecordType"]
+    SOA: ClassVar["RecordType"]
+    NULL: ClassVar["RecordType"]
+    PTR: ClassVar["RecordType"]
+    HINFO: ClassVar["RecordType"]
+    MX: ClassVar["RecordType"]
+    TXT: ClassVar["RecordType"]
+    SIG: ClassVar["RecordType"]
+    KEY: ClassVar["RecordType"]
+    AAAA: ClassVar["RecordType"]
+    SRV: ClassVar["RecordType"]
+    NAPTR: ClassVar["RecordType"]
+    CERT: ClassVar["RecordType"]
+    DNAME: ClassVar["RecordType"]
+    OPT: ClassVar["RecordType"]
+    DS: ClassVar["RecordType"]
+    SSHFP: ClassVar["RecordType"]
+    RRSIG: ClassVar["RecordType"]
+    NSEC: ClassVar["RecordType"]
+    DNSKEY: ClassVar["RecordType"]
+    NSEC3: ClassVar["RecordType"]
+    NSEC3PARAM: ClassVar["RecordType"]
+    TLSA: ClassVar["RecordType"]
+    SMIMEA: ClassVar["RecordType"]
+    CDS: ClassVar["RecordType"]
+    CDNSKEY: ClassVar["RecordType"]
+    OPENPGPKEY: ClassVar["RecordType"]
+    CSYNC: ClassVar["RecordType"]
+    SVCB: ClassVar["RecordType"]
+    HTTPS: ClassVar["RecordType"]
+    TSIG: ClassVar["RecordType"]
+    IXFR: ClassVar["RecordType"]
+    AXFR: ClassVar["RecordType"]
+    ANY: ClassVar["RecordType"]
+    CAA: ClassVar["RecordType"]
+    ANAME: ClassVar["RecordType"]
+
+
+class RecordClass(_Code):
+    """A class: its code, as an `int`, with constants for all that have a name.
+
+    >>> RecordClass.IN, RecordClass.IN == 1, RecordClass(7), str(RecordClass(7))
+    (RecordClass.IN, True, RecordClass(7), 'CLASS7')
+    """
+
+    _text_of = staticmethod(class_text)
+    _code_of = staticmethod(class_code)
+
+    IN: ClassVar["RecordClass"]
+    CH: ClassVar["RecordClass"]
+    HS: ClassVar["RecordClass"]
+    NONE: ClassVar["RecordClass"]
+    ANY: ClassVar["RecordClass"]
+
+
+def _set_constants(kind: Type[_Code]) -> None:
+    """Gives each declared constant its code, which is that of its name."""
+    for name in kind.__annotations__:
+        setattr(kind, name, kind.from_text(name))
+
+
+_set_constants(RecordType)
+_set_constants(RecordClass)
