@@ -54,7 +54,7 @@ then_Equal Less = refl
 then_Equal Equal = refl
 then_Equal Greater = refl
 
-then_assoc : (a b c : Ordering) → ordering_then (ordering_then a b) c ≡ ordering_then a (ordering_then b c)
+pub then_assoc : (a b c : Ordering) → ordering_then (ordering_then a b) c ≡ ordering_then a (ordering_then b c)
 then_assoc Less b c = refl
 then_assoc Equal b c = refl
 then_assoc Greater b c = refl
@@ -94,11 +94,11 @@ pairs_on {A} R x y xs ys xs' ys' order order' whole ex ey alike eo later =
     ∙ ap (λ (ls : List A). ordering_then (slice_cmp R (reverse xs) (reverse ls)) order) (sym ey)
     ∙ later
 
-none_before : {A : Type 0} (R : A → A → Ordering) (us : List A) → 0 < length us → slice_cmp R [] us ≡ Less
+pub none_before : {A : Type 0} (R : A → A → Ordering) (us : List A) → 0 < length us → slice_cmp R [] us ≡ Less
 none_before R [] some = absurd (omega (arith, some))
 none_before R (u ∷ us) some = refl
 
-some_after : {A : Type 0} (R : A → A → Ordering) (us : List A) → 0 < length us → slice_cmp R us [] ≡ Greater
+pub some_after : {A : Type 0} (R : A → A → Ordering) (us : List A) → 0 < length us → slice_cmp R us [] ≡ Greater
 some_after R [] some = absurd (omega (arith, some))
 some_after R (u ∷ us) some = refl
 

@@ -1,3 +1,5 @@
 pub mod Order
 pub mod OrderLaws
 pub mod Inside
+pub mod SortKeys
+pub mod SortKeyLaws

@@ -32,7 +32,8 @@ labels_Decides = pointwise_decides (pointwise_decides unsigned_Decides)
 unreversed : (xs ys : List (List ℕ)) → reverse xs ≡ reverse ys → xs ≡ ys
 unreversed xs ys e = sym (reverse-reverse xs) ∙ ap reverse e ∙ reverse-reverse ys
 
-lowered_last : (ls : List (List ℕ)) → canonical ls ≡ reverse (lower ls)
+-- lower case first, or the last label first: it is the same
+pub lowered_last : (ls : List (List ℕ)) → canonical ls ≡ reverse (lower ls)
 lowered_last [] = refl
 lowered_last (l ∷ ls) =
     ap lower (reverse-append (l ∷ []) ls) ∙ map-append (map to_ascii_lowercase) (reverse ls) (l ∷ [])

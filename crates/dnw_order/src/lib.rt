@@ -1,7 +1,8 @@
-//! The order, equality and hash of names over their labels, without regard to whether a name is fully qualified.
+//! The order, equality, hash and sort keys of names over their labels, without regard to whether a name is fully qualified.
 //!
 //! It stands on the wire form. Read `specs/Order.antt` first: the order of names.
 #![tactic(auto)]
 
 mod from_last;
 pub mod order;
+pub mod sort_key;

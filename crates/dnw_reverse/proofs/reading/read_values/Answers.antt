@@ -1,9 +1,13 @@
-use Rattle.std.proofs.Common.{◌≡◌, ◌<◌, length, reverse, refl, sym, ap, ◌∙◌, arith}
+use Rattle.std.proofs.Common.{◌≡◌, ◌<◌, length, reverse, refl, sym, ap, ◌∙◌, zero-add, arith}
+use Rattle.std.proofs.Math.Nat.{sub-zero}
 use Rattle.std.proofs.lemmas.Result.{err_from_is_err_and}
 use Rattle.dnw_reverse.specs.Arpa.{TooManyLabels, most_values}
 use Rattle.dnw_reverse.specs.Inside.Reading.{prefix_after}
 use Rattle.dnw_reverse.proofs.Values.{prefix_after-value, prefix_after-fault, prefix_after-more, IsArpaPrefix-push}
 use Rattle.dnw_reverse.proofs.reading.read_values.Goals as goal
+
+pub labels-init : goal.labels-init
+labels-init c = rw c.new-values.ensures (record { rest = simp (sub-zero, zero-add); prefix = record { few = omega arith; fit = tt }; same = refl })
 
 pub returns-then-len-most_values-clause-err : goal.returns-then-len-most_values-clause-err
 returns-then-len-most_values-clause-err c =

@@ -1,0 +1,41 @@
+//! Sort keys of names, by their wire forms.
+ghost use Rattle.std.specs.Prelude.{◌≡◌, ◌≢◌, List, ℕ, length, IfOk, IfErr, OnErr};
+ghost use Rattle.dnw_order.specs.SortKeys.{sort_key};
+ghost use Rattle.dnw_c.specs.Buffers.{put};
+ghost use Rattle.dnw_c.specs.Failures.{NumberOf};
+ghost use Rattle.dnw_c.specs.NameCalls.{IsFormOf};
+ghost use Rattle.dnw_c.specs.SortKeyCalls.{FailsToKey};
+
+use crate::failure::Failure;
+use crate::names::put;
+use crate::order::labels_of;
+use dnw_order::sort_key::{self, MAX_SORT_KEY_LENGTH};
+
+/// Puts the sort key of a name, and its length. It does not allocate.
+#[unsafe(no_mangle)]
+pub extern "C" fn dnw_name_sort_key(form: &[u8], key: &mut [u8], len: &mut usize) -> u32
+    ensures ok { result ≡ 0 → (labels : List (List ℕ)) × IsFormOf form.now labels
+        × (key.new ≡ put key.old (sort_key labels)) × (len.new ≡ length (sort_key labels)) }
+    ensures err { result ≢ 0 → NumberOf (FailsToKey form.now (length key.old)) result }
+    ensures same { result ≢ 0 → (key.new ≡ key.old) × (len.new ≡ len.old) }
+{
+    match put_key(form, key) {
+        Ok(put) => {
+            *len = put;
+            0
+        }
+        Err(failure) => failure.number(),
+    }
+}
+
+/// Puts the sort key of the name with a wire form, and returns its length.
+fn put_key(form: &[u8], key: &mut [u8]) -> Result<usize, Failure>
+    ensures ok { IfOk result (λ len. (labels : List (List ℕ)) × IsFormOf form.now labels
+        × (key.new ≡ put key.old (sort_key labels)) × (len ≡ length (sort_key labels))) }
+    ensures err { IfErr result (FailsToKey form.now (length key.old)) }
+    ensures same { OnErr result (key.new ≡ key.old) }
+{
+    let labels = labels_of(form)?;
+    let mut buffer = [0; MAX_SORT_KEY_LENGTH];
+    put(key, sort_key::of_labels(labels, &mut buffer))
+}

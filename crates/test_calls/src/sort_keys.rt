@@ -1,0 +1,132 @@
+//! Sort keys of names.
+
+use dns_names_wire::decoder::BinDecoder;
+use dns_names_wire::lower_name::LowerName;
+use dns_names_wire::name::Name;
+use dns_names_wire::name_ref::NameRef;
+use dns_names_wire::sort_key::MAX_SORT_KEY_LENGTH;
+use std::alloc::Global;
+use std::test::Fail;
+
+/// The names of RFC 4034, section 6.1, in their order. The RFC writes octets in decimal, so `\200` is 0xC8.
+const IN_ORDER: [&[u8]; 9] = [
+    b"\x07example\x00",
+    b"\x01a\x07example\x00",
+    b"\x08yljkjljk\x01a\x07example\x00",
+    b"\x01Z\x01a\x07example\x00",
+    b"\x04zABC\x01a\x07EXAMPLE\x00",
+    b"\x01z\x07example\x00",
+    b"\x01\x01\x01z\x07example\x00",
+    b"\x01*\x01z\x07example\x00",
+    b"\x01\xc8\x01z\x07example\x00",
+];
+
+/// Reads the name with a wire form.
+fn name_of(alloc: Global, wire: &[u8]) -> Result<Name, Fail> {
+    Ok(Name::read(alloc, &mut BinDecoder::new(wire)).map_err(|_| "a name")?)
+}
+
+#[test]
+fn keys_are_in_the_order_of_the_rfc(rt: HostRuntime) -> Result<(), Fail> {
+    for i in 1..IN_ORDER.len() {
+        let before = name_of(rt.alloc(), IN_ORDER[i - 1])?;
+        let after = name_of(rt.alloc(), IN_ORDER[i])?;
+        let mut before_key = [0; MAX_SORT_KEY_LENGTH];
+        let mut after_key = [0; MAX_SORT_KEY_LENGTH];
+        assert!(rt; before.sort_key(&mut before_key) < after.sort_key(&mut after_key));
+    }
+    Ok(())
+}
+
+#[test]
+fn labels_are_written_from_the_last_one(rt: HostRuntime) -> Result<(), Fail> {
+    let mut buffer = [0xff; MAX_SORT_KEY_LENGTH];
+    let name = name_of(rt.alloc(), b"\x04zABC\x01a\x07EXAMPLE\x00")?;
+    assert_eq!(rt;
+        name.sort_key(&mut buffer),
+        b"example\x00a\x00zabc\x00".as_slice()
+    );
+    Ok(())
+}
+
+#[test]
+fn octets_0_and_1_are_written_as_two(rt: HostRuntime) -> Result<(), Fail> {
+    let mut buffer = [0xff; MAX_SORT_KEY_LENGTH];
+    let name = name_of(rt.alloc(), b"\x04\x00\x01\x02\xff\x01a\x00")?;
+    assert_eq!(rt;
+        name.sort_key(&mut buffer),
+        b"a\x00\x01\x01\x01\x02\x02\xff\x00".as_slice()
+    );
+    Ok(())
+}
+
+#[test]
+fn the_root_has_the_empty_key(rt: HostRuntime) {
+    let mut buffer = [0xff; MAX_SORT_KEY_LENGTH];
+    assert_eq!(rt;
+        Name::root(rt.alloc()).sort_key(&mut buffer),
+        b"".as_slice()
+    );
+}
+
+#[test]
+fn whether_a_name_is_fully_qualified_is_ignored(rt: HostRuntime) -> Result<(), Fail> {
+    let mut buffer = [0xff; MAX_SORT_KEY_LENGTH];
+    let mut name = name_of(rt.alloc(), b"\x01b\x01a\x00")?;
+    name.set_fqdn(false);
+    assert_eq!(rt; name.sort_key(&mut buffer), b"a\x00b\x00".as_slice());
+    Ok(())
+}
+
+/// The longest key: a name of 255 octets, whose labels are all zeros.
+#[test]
+fn the_longest_key_fills_the_buffer(rt: HostRuntime) -> Result<(), Fail> {
+    let mut wire = [0; 255];
+    wire[0] = 63;
+    wire[64] = 63;
+    wire[128] = 63;
+    wire[192] = 61;
+    let mut expected = [1; MAX_SORT_KEY_LENGTH];
+    expected[122] = 0;
+    expected[249] = 0;
+    expected[376] = 0;
+    expected[503] = 0;
+    let mut buffer = [0xff; MAX_SORT_KEY_LENGTH];
+    let name = name_of(rt.alloc(), &wire)?;
+    assert_eq!(rt; name.sort_key(&mut buffer), expected.as_slice());
+    Ok(())
+}
+
+#[test]
+fn a_name_of_a_message_has_the_same_key(rt: HostRuntime) -> Result<(), Fail> {
+    let mut buffer = [0xff; MAX_SORT_KEY_LENGTH];
+    let mut decoder = BinDecoder::new(b"\x07EXAMPLE\x00\x03WWW\xc0\x00");
+    let zone = NameRef::read(&mut decoder).map_err(|_| "a name")?;
+    assert_eq!(rt; zone.sort_key(&mut buffer), b"example\x00".as_slice());
+    let host = NameRef::read(&mut decoder).map_err(|_| "a name")?;
+    assert_eq!(rt;
+        host.sort_key(&mut buffer),
+        b"example\x00www\x00".as_slice()
+    );
+    Ok(())
+}
+
+#[test]
+fn a_name_in_lower_case_has_the_same_key(rt: HostRuntime) -> Result<(), Fail> {
+    let mut buffer = [0xff; MAX_SORT_KEY_LENGTH];
+    let name = LowerName::from_str(rt.alloc(), "B.A.")?;
+    assert_eq!(rt; name.sort_key(&mut buffer), b"a\x00b\x00".as_slice());
+    Ok(())
+}
+
+#[test]
+fn names_are_denied_in_the_order_of_their_keys(rt: HostRuntime) -> Result<(), Fail> {
+    let denied = name_of(rt.alloc(), b"\x01b\x07example\x00")?;
+    assert!(rt; uses::denial::denies(b"example\x00a\x00", b"example\x00z\x00", &denied));
+    assert!(rt; !uses::denial::denies(b"example\x00b\x00", b"example\x00z\x00", &denied));
+    assert!(rt; !uses::denial::denies(b"example\x00a\x00", b"example\x00b\x00", &denied));
+    // The last record of a zone leads back to its apex.
+    assert!(rt; uses::denial::denies(b"example\x00a\x00", b"example\x00", &denied));
+    assert!(rt; !uses::denial::denies(b"example\x00z\x00", b"example\x00", &denied));
+    Ok(())
+}
