@@ -30,12 +30,19 @@
 //!
 //! Values may be sent to and shared by threads. Calls fail with an [`Error`], and never panic on input.
 //!
+//! Without its feature `std`, which is on by default, the crate needs `core`, `alloc` and the system's C library alone, and has
+//! neither reverse names nor the traits of errors.
+//!
 //! Cargo finds the archive as `build.rs` says: in the folder that the environment variable `DNW_LIB_DIR` names, or in `lib`
 //! of this crate. In a checkout of the repository it is built if the Rattle toolchain is there.
+#![cfg_attr(not(feature = "std"), no_std)]
 #![deny(unsafe_code)]
 #![warn(missing_docs)]
 
+extern crate alloc;
+
 #[allow(unsafe_code)]
+#[cfg_attr(not(feature = "std"), allow(dead_code))]
 mod door;
 
 mod codes;

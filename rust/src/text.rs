@@ -1,6 +1,8 @@
 //! Texts of master files: times to live and tokens.
 use crate::door;
 use crate::error::Error;
+use alloc::string::String;
+use alloc::vec::Vec;
 
 /// Returns the seconds of a time to live: groups of digits and a unit of `s`, `m`, `h`, `d` or `w`, of which the last may
 /// lack its unit.
@@ -161,4 +163,4 @@ impl Iterator for Tokens<'_> {
     }
 }
 
-impl std::iter::FusedIterator for Tokens<'_> {}
+impl core::iter::FusedIterator for Tokens<'_> {}
