@@ -2,25 +2,24 @@
 use Rattle.std.proofs.Common.{◌≡◌, ℕ, zero, suc, ◌+◌, ◌*◌, ◌^◌, ◌<◌, ◌≤◌, ◌/◌, ◌%◌, true, List, [], ◌∷◌, ◌++◌, length, map, reverse, slice_index, Ok, Err, refl, sym, ap, ◌∙◌, subst, arith}
 use Rattle.std.specs.List.{AllByRecursion}
 use Rattle.std.specs.Net.Addr.{ipv4_octets, ipv6_segments}
-use Rattle.std.specs.Str.{IsAscii, chars, is_utf8}
+use Rattle.std.specs.Str.{chars}
 use Rattle.std.specs.declared.net.ip_addr.IpAddr.{IpAddr}
 use Rattle.std.specs.declared.net.ip_addr.IpAddr.TheVariants.{V4, V6}
-use Rattle.std.proofs.lemmas.Bool.{le-ltb}
-use Rattle.std.proofs.lemmas.List.{reverse-append, reverse-reverse, length-map, length-reverse, map-append, take_all}
-use Rattle.std.proofs.lemmas.Str.Ascii.{IsAscii-nil, IsAscii-cons}
+use Rattle.std.proofs.lemmas.List.{reverse-append, reverse-reverse, length-map, length-reverse, map-append}
 use Rattle.dnw_base.specs.Labels.{IsLabel}
 use Rattle.dnw_base.specs.Names.{AreLabels, encoded_size}
 use Rattle.dnw_text.specs.NameText.{IsLabelText, name_from_text, name_text}
 use Rattle.dnw_text.proofs.ReadBack.{read_back}
-use Rattle.dnw_reverse.specs.NetTexts.{net_addr, net_prefix_len, ip_size}
-use Rattle.dnw_reverse.specs.declared.net.IpNet.{IpNet}
-use Rattle.dnw_reverse.specs.Arpa.{ArpaPrefix, IsArpaPrefix, arpa, arpa_labels, arpa_name, arpa_prefix, family_label, nibbles, ip_prefix, most_values, padded, prefix_below, prefix_from_end, prefix_of, reverse_name, value_bits, value_label}
+use Rattle.dnw_reverse.specs.NetTexts.{net_addr, ip_size}
+use Rattle.dnw_reverse.specs.Arpa.{ArpaPrefix, IsArpaPrefix, arpa, arpa_labels, arpa_name, arpa_prefix, family_label, nibbles, ip_prefix, most_values, padded, reverse_name, value_bits, value_label}
 use Rattle.dnw_reverse.specs.ArpaLaws.{IsIpAddr, AddressesArePrefixes, AddressesComeBack}
 use Rattle.dnw_reverse.specs.ArpaNets.{IsNetOf}
 use Rattle.dnw_reverse.specs.declared.reading.Family.{Family}
 use Rattle.dnw_reverse.specs.declared.reading.Family.TheVariants.{Ipv4, Ipv6}
+use Rattle.dnw_label.specs.LabelOrder.{label_eq}
+use Rattle.dnw_reverse.proofs.Prefixes.{names_give}
 use Rattle.dnw_reverse.proofs.Values.{all_push}
-use Rattle.dnw_reverse.proofs.ValueLabels.{ascii_text, values_back, value_labels, value_texts, value_sizes}
+use Rattle.dnw_reverse.proofs.ValueLabels.{values_back, value_labels, value_texts, value_sizes}
 
 -- the labels from the last one
 map-reverse : (f : ℕ → List ℕ) (xs : List ℕ) → reverse (map f xs) ≡ map f (reverse xs)
@@ -35,35 +34,23 @@ from_end p =
     ∙ ap (λ (ls : List (List ℕ)). arpa ∷ family_label p.family ∷ ls)
     (map-reverse (value_label p.family) (reverse p.values) ∙ ap (map (value_label p.family)) (reverse-reverse p.values))
 
-ascii_all : (l : List ℕ) → AllByRecursion (λ b. b < 128) l → IsAscii l
-ascii_all [] h = IsAscii-nil
-ascii_all (b ∷ l) h = IsAscii-cons b l h.0 (ascii_all l h.1)
-
-arpa_text : is_utf8 arpa ≡ true
-arpa_text = ascii_text arpa (ascii_all arpa (omega arith, (omega arith, (omega arith, (omega arith, tt)))))
-
-family_text : (family : Family) → is_utf8 (family_label family) ≡ true
-family_text Ipv4 =
-    ascii_text (family_label Ipv4)
-    (ascii_all (family_label Ipv4) (omega arith, (omega arith, (omega arith, (omega arith, (omega arith, (omega arith, (omega arith, tt))))))))
-family_text Ipv6 = ascii_text (family_label Ipv6) (ascii_all (family_label Ipv6) (omega arith, (omega arith, (omega arith, tt))))
-
-below_arpa : (family : Family) (ls : List (List ℕ)) → prefix_below (family_label family ∷ ls) ≡ prefix_of family ls
-below_arpa Ipv4 ls = rw (family_text Ipv4) refl
-below_arpa Ipv6 ls = rw (family_text Ipv6) refl
-
-below : (family : Family) (ls : List (List ℕ)) → prefix_from_end (arpa ∷ family_label family ∷ ls) ≡ prefix_of family ls
-below family ls = rw arpa_text (below_arpa family ls)
-
-prefix_back : (p : ArpaPrefix) → IsArpaPrefix p → prefix_of p.family (map (value_label p.family) p.values) ≡ Ok p
-prefix_back p h =
-    let size : length (map (value_label p.family) p.values) ≡ length p.values = length-map p.values (value_label p.family) in
-    let all = take_all (most_values p.family) (map (value_label p.family) p.values) (omega (arith, h.few)) in
-    rw (all, values_back p.family p.values h.fit, size, le-ltb (most_values p.family) (length p.values) h.few) refl
+family_itself : (family : Family) → label_eq (family_label family) (family_label family) ≡ true
+family_itself Ipv4 = refl
+family_itself Ipv6 = refl
 
 pub prefixes_come_back : (p : ArpaPrefix) → IsArpaPrefix p → arpa_prefix (arpa_name p) ≡ Ok p
 prefixes_come_back p h =
-    ap prefix_from_end (from_end p) ∙ below p.family (map (value_label p.family) p.values) ∙ prefix_back p h
+    (names_give (arpa_name p) p).1 (record {
+      fqdn = refl;
+      last = arpa;
+      second = family_label p.family;
+      others = map (value_label p.family) p.values;
+      order = from_end p;
+      below_arpa = refl;
+      of_family = family_itself p.family;
+      few = omega (arith, h.few, length-map p.values (value_label p.family));
+      each = values_back p.family p.values h.fit;
+    })
 
 -- texts
 all_reverse : (P : ℕ → Type 0) (vs : List ℕ) → AllByRecursion P vs → AllByRecursion P (reverse vs)

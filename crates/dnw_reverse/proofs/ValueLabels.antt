@@ -13,7 +13,7 @@ use Rattle.dnw_base.specs.Names.{encoded_size}
 use Rattle.dnw_base.proofs.Wires.{encoded_size-cons}
 use Rattle.dnw_label.specs.LabelText.{may_begin, may_follow}
 use Rattle.dnw_text.specs.NameText.{IsLabelText}
-use Rattle.dnw_reverse.specs.Arpa.{octet_of, value_bits, value_label, value_of, values_of}
+use Rattle.dnw_reverse.specs.Arpa.{GiveValues, octet_of, value_bits, value_label, value_of}
 use Rattle.dnw_reverse.specs.declared.reading.Family.{Family}
 use Rattle.dnw_reverse.specs.declared.reading.Family.TheVariants.{Ipv4, Ipv6}
 use Rattle.dnw_reverse.proofs.Decimals.{one_digit, two_digits, three_digits}
@@ -45,9 +45,9 @@ value_back Ipv6 v h =
     let text = ascii_text (digit_char v ∷ []) (IsAscii-cons (digit_char v) [] (digit_small v h) IsAscii-nil) in
     rw (text, digit_back v h, lt-ltb v 16 h) refl
 
-pub values_back : (family : Family) (vs : List ℕ) → AllByRecursion (λ v. v < 2 ^ value_bits family) vs → values_of family (map (value_label family) vs) ≡ Ok vs
-values_back family [] h = refl
-values_back family (v ∷ vs) h = rw (value_back family v h.0, values_back family vs h.1) refl
+pub values_back : (family : Family) (vs : List ℕ) → AllByRecursion (λ v. v < 2 ^ value_bits family) vs → GiveValues family (map (value_label family) vs) vs
+values_back family [] h = tt
+values_back family (v ∷ vs) h = (value_back family v h.0, values_back family vs h.1)
 
 -- what the label of an octet or a nibble is
 record IsShort (l : List ℕ) : Type 0 where

@@ -1,5 +1,5 @@
 -- What labels give as octets and nibbles.
-use Rattle.std.proofs.Common.{◌≡◌, ℕ, zero, suc, ◌+◌, ◌-◌, ◌<◌, ◌≤◌, ◌^◌, Bool, true, false, nat_lt, List, [], ◌∷◌, ◌++◌, length, take, slice_index, ◌&&◌, if◌then◌else◌, Result, Ok, Err, refl, sym, ap, ◌∙◌, append_assoc, arith}
+use Rattle.std.proofs.Common.{◌≡◌, ℕ, suc, ◌+◌, ◌-◌, ◌<◌, ◌^◌, Bool, true, false, nat_lt, List, [], ◌∷◌, ◌++◌, length, take, slice_index, ◌&&◌, if◌then◌else◌, Result, Ok, Err, refl, sym, ap, ◌∙◌, append_assoc, arith}
 use Rattle.std.specs.Char.{digit_value, is_digit}
 use Rattle.std.specs.List.{AllByRecursion, list_all}
 use Rattle.std.specs.Result.{OkIff}
@@ -8,7 +8,7 @@ use Rattle.std.specs.Str.Parse.{AllDigits, IsNumeral, ParsesUnsigned, digits_val
 use Rattle.std.proofs.lemmas.Str.{IsUtf8-from_is_utf8}
 use Rattle.std.proofs.lemmas.Bool.{and_parts, ltb-true, ne_eqb, false_from_ne_true, true≢false}
 use Rattle.std.proofs.lemmas.Bool.Decides.{nat_tests}
-use Rattle.std.proofs.lemmas.List.{append-nil, length-append}
+use Rattle.std.proofs.lemmas.List.{length-append}
 use Rattle.dnw_reverse.specs.Arpa.{ArpaFault, NotANumber, NotOneDigit, NotUtf8, IsArpaPrefix, TooManyLabels, is_octet_text, octet_of, nibble_of, value_bits, value_of, values_of, most_values, prefix_of, ◌>>=◌}
 use Rattle.dnw_reverse.specs.Inside.Reading.{ended, prefix_after}
 use Rattle.dnw_reverse.specs.declared.reading.Family.{Family}
@@ -68,20 +68,6 @@ prefix_after-more family vs l ls e =
     let none : most_values family - length vs ≡ 0 = omega arith in
     let many : nat_lt (most_values family) (length vs + length (l ∷ ls)) ≡ true = grind (arith, nat_tests) in
     rw (none, many) refl
-
-take_none : (n : ℕ) → take {A = List ℕ} n [] ≡ []
-take_none zero = refl
-take_none (suc n) = refl
-
-pub prefix_after-all : (family : Family) (vs : List ℕ)
-    → length vs ≤ most_values family → prefix_after family vs [] ≡ Ok (record { family = family; values = vs })
-prefix_after-all family vs h =
-    let few : nat_lt (most_values family) (length vs + 0) ≡ false = grind (arith, nat_tests) in
-    rw (take_none (most_values family - length vs), few, append-nil vs) refl
-
-pub prefix_after-start : (family : Family) (ls : List (List ℕ)) → prefix_after family [] ls ≡ prefix_of family ls
-prefix_after-start Ipv4 ls = let same : 0 + length ls ≡ length ls = omega arith in rw same refl
-prefix_after-start Ipv6 ls = let same : 0 + length ls ≡ length ls = omega arith in rw same refl
 
 -- each fault of an octet
 pub octet_of-octet : (l : List ℕ) → is_utf8 l ≡ true → IsNumeral 10 (without_leading_plus l) → digits_value 10 (without_leading_plus l) < 256

@@ -1,7 +1,7 @@
 -- Reverse names: the names below `in-addr.arpa` and `ip6.arpa` under which PTR queries find the domain names of an address
 -- (RFC 1035, section 3.5; RFC 3596, section 2.5). An address is written from its last octet, or from its last
 -- nibble of four bits, to its first, so the first labels from the end are the net.
-use Rattle.std.specs.Prelude.{◌≡◌, ℕ, zero, suc, ◌/◌, ◌%◌, ◌^◌, ◌<◌, ◌≤◌, ◌&&◌, ◌==◌, Bool, true, nat_lt, if◌then◌else◌, List, [], ◌∷◌, ◌++◌, length, take, map, reverse, slice_index, codes, decimal, Result, Ok, Err}
+use Rattle.std.specs.Prelude.{⊤, ◌≡◌, ℕ, zero, suc, ◌/◌, ◌%◌, ◌^◌, ◌<◌, ◌≤◌, ◌&&◌, ◌==◌, Bool, true, nat_lt, if◌then◌else◌, List, [], ◌∷◌, ◌++◌, length, take, map, reverse, slice_index, codes, decimal, Result, Ok, Err}
 use Rattle.std.specs.Char.{digit_char, digit_value, is_digit}
 use Rattle.std.specs.List.{AllByRecursion, list_all}
 use Rattle.std.specs.Net.Addr.{ipv4_octets, ipv6_segments}
@@ -153,9 +153,28 @@ prefix_from_end (l ∷ ls) = do
   text ← as_text l
   if label_eq text arpa then prefix_below ls else Err NotArpa
 
--- The prefix that a name stands for: the inverse of `arpa_name`, which ignores ASCII case.
+-- The prefix that a name gives, as `GivesPrefix` says, or the first rule that the name breaks.
 abbrev pub arpa_prefix : NameValue → Result ArpaPrefix ArpaFault
 arpa_prefix n = if n.is_fqdn then prefix_from_end (reverse n.labels) else Err Relative
+
+-- Each label gives the octet or nibble beside it.
+abbrev pub GiveValues : Family → List (List ℕ) → List ℕ → Type 0
+GiveValues family [] [] = ⊤
+GiveValues family (l ∷ ls) (v ∷ vs) = (value_of family l ≡ Ok v) × GiveValues family ls vs
+GiveValues family ls vs = ⊥
+
+-- The name gives the prefix: it is fully qualified, and its labels are, from the last one, `arpa` and that of the family,
+-- ignoring ASCII case, and then one for each octet or nibble, no more than an address has.
+pub record GivesPrefix (n : NameValue) (p : ArpaPrefix) : Type 0 where
+  pub fqdn : n.is_fqdn ≡ true
+  pub last : List ℕ
+  pub second : List ℕ
+  pub others : List (List ℕ)
+  pub order : reverse n.labels ≡ last ∷ second ∷ others
+  pub below_arpa : label_eq last arpa ≡ true
+  pub of_family : label_eq second (family_label p.family) ≡ true
+  pub few : length others ≤ most_values p.family
+  pub each : GiveValues p.family others p.values
 
 -- the error reports the fault
 abbrev pub ReportsArpa : ArpaFault → ProtoError → Type 0

@@ -1,14 +1,19 @@
 -- What follows from the definitions of reverse names. Each is the clause of a public function, and so proved.
-use Rattle.std.specs.Prelude.{◌≡◌, Result, Ok}
+use Rattle.std.specs.Prelude.{◌≡◌, ◌↔◌, Result, Ok}
 use Rattle.std.specs.Net.Addr.{MatchIp, IsIpv4Addr, IsIpv6Addr}
 use Rattle.std.specs.Str.{chars}
 use Rattle.std.specs.declared.net.ip_addr.IpAddr.{IpAddr}
 use Rattle.dnw_error.specs.declared.error.ProtoError.{ProtoError}
+use Rattle.dnw_base.specs.Names.{NameValue}
 use Rattle.dnw_text.specs.NameText.{name_from_text, name_text}
 use Rattle.dnw_reverse.specs.NetTexts.{net_addr, net_prefix_len, ip_size}
 use Rattle.dnw_reverse.specs.declared.net.IpNet.{IpNet}
-use Rattle.dnw_reverse.specs.Arpa.{ArpaPrefix, arpa_name, IsArpaPrefix, arpa_prefix, ip_prefix, reverse_name}
+use Rattle.dnw_reverse.specs.Arpa.{ArpaPrefix, arpa_name, GivesPrefix, IsArpaPrefix, arpa_prefix, ip_prefix, reverse_name}
 use Rattle.dnw_reverse.specs.ArpaNets.{ReadsNet}
+
+-- A name gives the prefix that it is said to give, and no other.
+abbrev pub NamesGivePrefixes : Type 0
+NamesGivePrefixes = (n : NameValue) (p : ArpaPrefix) → (arpa_prefix n ≡ Ok p) ↔ GivesPrefix n p
 
 -- what the types of addresses keep
 abbrev pub IsIpAddr : IpAddr → Type 0

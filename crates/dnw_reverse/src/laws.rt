@@ -1,7 +1,13 @@
 //! What follows from the definitions of reverse names, for callers' proofs.
 //!
 //! The functions do nothing: each exists for its clauses.
-ghost use Rattle.dnw_reverse.specs.ArpaLaws.{PrefixesComeBack, TextsComeBack, AddressesArePrefixes, AddressesComeBack};
+ghost use Rattle.dnw_reverse.specs.ArpaLaws.{NamesGivePrefixes, PrefixesComeBack, TextsComeBack, AddressesArePrefixes, AddressesComeBack};
+
+/// A name gives a prefix exactly if it is one of `in-addr.arpa.` or `ip6.arpa.`, ignoring ASCII case, with a label for each
+/// octet or nibble of the prefix (RFC 1035, section 3.5; RFC 3596, section 2.5).
+pub fn names_give_prefixes()
+    ensures { NamesGivePrefixes }
+{}
 
 /// The name of a prefix is read as that prefix, and so is its text. Each address is a prefix. The name of an address is read,
 /// and the net that is read has that address, and a prefix of all of its bits.
