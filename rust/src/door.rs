@@ -417,7 +417,7 @@ pub(crate) fn serial_compare(left: u32, right: u32) -> Result<i32, Error> {
 
 /// Returns the sum of two serial numbers.
 pub(crate) fn serial_add(serial: u32, other: u32) -> u32 {
-    // SAFETY: it takes numbers alone.
+    // SAFETY: it takes only numbers.
     unsafe { dnw_serial_add(serial, other) }
 }
 

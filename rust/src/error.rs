@@ -115,7 +115,7 @@ impl fmt::Display for Error {
     }
 }
 
-/// It has no source: the C library gives a failure's number alone.
+/// It has no source: all that the C library reports is a failure's number.
 #[cfg(feature = "std")]
 impl std::error::Error for Error {}
 

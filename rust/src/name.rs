@@ -33,7 +33,7 @@ pub struct Name {
     is_fqdn: bool,
 }
 
-/// Why `expect` holds: a `Name` is made by the C library alone, or is the root.
+/// Why `expect` holds: only the C library makes a `Name`, other than the root.
 const VALID: &str = "the wire form of a name";
 
 impl Name {
@@ -149,13 +149,13 @@ impl Name {
         }
     }
 
-    /// Returns the name that a text gives (RFC 1035, section 5.1): labels between dots, fully qualified if it ends in a dot.
+    /// Returns the name with a text (RFC 1035, section 5.1): labels between dots, fully qualified if it ends in a dot.
     /// A label has ASCII letters, digits, `_`, `-` if it does not begin with it, `*` if it begins with it, and dots that are
     /// escaped, as `\\.` or in octal digits.
     ///
     /// # Errors
     ///
-    /// `BadText`, `LabelTooLong` or `NameTooLong` if it gives none, or `NoMemory` in place of `BadText`.
+    /// `BadText`, `LabelTooLong` or `NameTooLong` if it is the text of no name, or `NoMemory` in place of `BadText`.
     ///
     /// ```
     /// use dns_names_wire::{Error, Name};

@@ -83,8 +83,8 @@ pub fn tokens(text: &str) -> Tokens<'_> {
 }
 
 impl Tokens<'_> {
-    /// Returns the offset in the text of the next token, or of the white space before it. After an error it is the offset of
-    /// the token that there is not.
+    /// Returns the offset in the text of the next token, or of the white space before it. After an error, no token begins
+    /// there.
     ///
     /// ```
     /// let text = "a 1h\nb $FOO";

@@ -63,7 +63,7 @@ impl TypeSet {
     ///
     /// # Errors
     ///
-    /// `NoMemory` alone.
+    /// Only `NoMemory`.
     ///
     /// ```
     /// use dns_names_wire::{RecordType, TypeSet};
