@@ -1,6 +1,8 @@
 //! Texts of master files: times to live and tokens.
 use crate::door;
 use crate::error::Error;
+use alloc::string::String;
+use alloc::vec::Vec;
 
 /// Returns the seconds of a time to live: groups of digits and a unit of `s`, `m`, `h`, `d` or `w`, of which the last may
 /// lack its unit.
@@ -81,8 +83,8 @@ pub fn tokens(text: &str) -> Tokens<'_> {
 }
 
 impl Tokens<'_> {
-    /// Returns the offset in the text of the next token, or of the white space before it. After an error it is the offset of
-    /// the token that there is not.
+    /// Returns the offset in the text of the next token, or of the white space before it. After an error, no token begins
+    /// there.
     ///
     /// ```
     /// let text = "a 1h\nb $FOO";
@@ -161,4 +163,4 @@ impl Iterator for Tokens<'_> {
     }
 }
 
-impl std::iter::FusedIterator for Tokens<'_> {}
+impl core::iter::FusedIterator for Tokens<'_> {}
