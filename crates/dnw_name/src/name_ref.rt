@@ -210,8 +210,11 @@ impl<'a> NameRef<'a> {
         ensures { result ≡ record { is_fqdn = true; labels = self.now } }
     {
         let size = self.encoded_len();
+        if let Some(octets) = self.piece() {
+            return Name::qualified(WireForm::from_octets(alloc, octets));
+        }
         let mut room = [0; MAX_NAME];
-        self.fill(&mut room);
+        copy::copy_runs(&mut room, self.message, self.first);
         Name::qualified(WireForm::from_wire(SmallVec::from_buf_and_len(alloc, room, size)))
     }
 

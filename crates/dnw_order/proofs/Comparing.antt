@@ -8,15 +8,11 @@ use Rattle.std.specs.declared.cmp.Ordering.TheVariants.{Less, Equal, Greater}
 use Rattle.std.proofs.lemmas.List.{drop_at, length-map, take-append-drop}
 use Rattle.dnw_base.specs.Names.{encoded_size, lower, IsZoneOf}
 use Rattle.dnw_base.proofs.Wires.{encoded_size-cons}
+use Rattle.dnw_form.proofs.LowerWires.{encoded_size-lower}
 use Rattle.dnw_label.specs.LabelOrder.{octets_cmp, octet_cmp_ignore_case}
 use Rattle.dnw_label.proofs.LabelOrders.{slice_cmp-on}
 
 -- lower case keeps the size
-encoded_size-lower : (ls : List (List ℕ)) → encoded_size (lower ls) ≡ encoded_size ls
-encoded_size-lower [] = refl
-encoded_size-lower (l ∷ ls) =
-    omega (arith, encoded_size-cons l ls, encoded_size-cons (map to_ascii_lowercase l) (lower ls), length-map l to_ascii_lowercase, encoded_size-lower ls)
-
 pub lower-size : (a b : List (List ℕ)) → lower a ≡ lower b → encoded_size a ≡ encoded_size b
 lower-size a b same = sym (encoded_size-lower a) ∙ ap encoded_size same ∙ encoded_size-lower b
 

@@ -1,7 +1,7 @@
 use Rattle.std.proofs.Common.{◌≡◌, List, ℕ, length, take, ap, ◌∙◌, arith}
 use Rattle.dnw_base.specs.Names.{wire}
 use Rattle.dnw_base.proofs.Wires.{length-wire}
-use Rattle.dnw_reading.proofs.Filling.{wire_taken}
+use Rattle.dnw_reading.proofs.Copying.{wire_taken}
 use Rattle.dnw_form.proofs.Wires.{labels_of-form}
 use Rattle.dnw_name.proofs.name_ref.NameRef.wire_labels.Goals as goal
 use Rattle.dnw_name.proofs.name_ref.NameRef.wire_labels.Goals.{After-copy_runs}
