@@ -4,6 +4,7 @@ mod Starts
 mod Lists
 pub mod TextFaults
 pub mod TokenParts
+pub mod TokenSizes
 pub mod TokenTexts
 pub mod TypeCodes
 mod RecordEnds

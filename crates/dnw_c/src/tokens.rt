@@ -1,11 +1,11 @@
 //! The tokens of master files, one after another, of which the caller keeps an offset.
-ghost use Rattle.std.specs.Prelude.{◌≡◌, ◌≢◌, ◌≤◌, ◌⊎◌, ◌||◌, ℕ, List, ◌++◌, length, map, drop, IsUtf8, IfOk, IfErr, IfSome, IfNone, OnErr, MatchOption};
+ghost use Rattle.std.specs.Prelude.{◌≡◌, ◌≢◌, ◌<◌, ◌≤◌, ◌⊎◌, ◌||◌, ℕ, List, ◌++◌, length, map, drop, IsUtf8, IfOk, IfErr, IfSome, IfNone, OnErr, MatchOption};
 ghost use Rattle.dnw_txt.specs.Lexing.{characters, line_state, token_value};
 ghost use Rattle.dnw_c.specs.Buffers.{put};
-ghost use Rattle.dnw_c.specs.Failures.{NumberOf};
+ghost use Rattle.dnw_c.specs.Failures.{NumberOf, number};
 ghost use Rattle.dnw_c.specs.TokenCalls.{is_decided, Advances, Decides, FailsToLex, FailsToPutToken, FailsToTake, HasError, HasNoToken, IsAtEnd, TakesToken, kind_number, list_bytes, of_lexer, read_token, token_bytes};
 ghost use Rattle.dnw_c.specs.Inside.TokenParts.{FindsIn, settles};
-ghost use Rattle.dnw_c.specs.declared.failure.Failure.TheVariants.{NoMemory, NotUtf8};
+ghost use Rattle.dnw_c.specs.declared.failure.Failure.TheVariants.{NoMemory, NoRoom, NotUtf8};
 
 use crate::failure::Failure;
 use crate::names::put;
@@ -40,6 +40,7 @@ pub extern "C" fn dnw_token_next(
 ) -> u32
     ensures ok { result ≡ 0 → TakesToken text.now lexer.old lexer.new words.old words.new token.new }
     ensures err { result ≢ 0 → NumberOf (FailsToTake text.now lexer.old (length words.old)) result }
+    ensures room { result ≡ number NoRoom → length words.old < length (drop lexer.old.offset text.now) }
     ensures same { result ≢ 0 → (words.new ≡ words.old) × (lexer.new ≡ lexer.old) × (token.new ≡ token.old) }
 {
     match take(alloc, text, *lexer, words) {
@@ -61,6 +62,7 @@ fn take(
 ) -> Result<(ReadToken, LexerState), Failure>
     ensures ok { IfOk result (λ r. TakesToken text.now at r.1 words.old words.new r.0) }
     ensures err { IfErr result (FailsToTake text.now at (length words.old)) }
+    ensures room { IfErr result (λ failure. failure ≡ NoRoom → length words.old < length (drop at.offset text.now)) }
     ensures same { OnErr result (words.new ≡ words.old) }
 {
     let (found, after) = advance(alloc, text, at)?;
