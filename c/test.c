@@ -575,9 +575,29 @@ static uint32_t lex(const uint8_t *text, size_t text_len)
     return answer;
 }
 
+/* A word of any length and what ends it, also if a part of the text that is looked at first ends within them. */
+static void long_tokens(void)
+{
+    static uint8_t text[1203], words[1203];
+    for (size_t len = 2; len <= 1200; len += 2) {
+        struct dnw_lexer lexer = {0, true};
+        struct dnw_token token;
+        for (size_t i = 0; i < len; i += 2)
+            memcpy(text + i, "\303\251", 2);
+        memcpy(text + len, ";\377\n", 3);
+        EXPECT(dnw_token_next(text, len + 3, &lexer, words, sizeof words, &token) == DNW_DONE);
+        EXPECT(token.kind == DNW_TOKEN_TEXT && token.count == 1 && token.len == len && memcmp(words, text, len) == 0);
+        EXPECT(lexer.offset == len && !lexer.at_line_start);
+        EXPECT(dnw_token_next(text, len + 3, &lexer, words, sizeof words, &token) == DNW_NOT_UTF8);
+        EXPECT(lexer.offset == len && lex(text, len - 1) == DNW_NOT_UTF8);
+        text[len] = ')';
+        EXPECT(lex(text, len + 3) == DNW_ILLEGAL_CHARACTER);
+    }
+}
+
 static void refuses_tokens(void)
 {
-    EXPECT(lex(BYTES("\377")) == DNW_NOT_UTF8);
+    EXPECT(lex(BYTES("\377")) == DNW_NOT_UTF8 && lex(BYTES("a\377")) == DNW_NOT_UTF8);
     EXPECT(lex(BYTES("\r")) == DNW_TEXT_CUT);
     EXPECT(lex(BYTES("\"\\")) == DNW_TEXT_CUT);
     EXPECT(lex(BYTES(")")) == DNW_ILLEGAL_CHARACTER);
@@ -631,6 +651,8 @@ static void lacks_memory(void)
     EXPECT(dnw_types_read(BYTES("\000\001\100"), codes, 1, &len) == DNW_NO_MEMORY && len == 0 && codes[0] == 9);
     code = 1;
     EXPECT(dnw_types_write(&code, 1, buffer, sizeof buffer, &len) == DNW_NO_MEMORY && len == 0);
+    EXPECT(lex(BYTES("\r")) == DNW_TEXT_CUT && lex(BYTES(")")) == DNW_ILLEGAL_CHARACTER && lex(BYTES("$")) == DNW_UNKNOWN_ENTRY);
+    EXPECT(lex(BYTES("(\001")) == DNW_CONTROL_CHARACTER && lex(BYTES("(a")) == DNW_NO_MEMORY);
     EXPECT(dnw_token_next(BYTES("a"), &lexer, buffer, sizeof buffer, &token) == DNW_NO_MEMORY && lexer.offset == 0);
     EXPECT(dnw_token_next(BYTES("$FOO"), &lexer, buffer, sizeof buffer, &token) == DNW_NO_MEMORY && token.kind == 99);
     EXPECT(untouched());
@@ -669,6 +691,7 @@ int main(void)
     times();
     tokens();
     refuses_tokens();
+    long_tokens();
     tells_failures();
     lacks_memory();
     return 0;

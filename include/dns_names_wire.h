@@ -297,10 +297,12 @@ struct dnw_token {
 
    It fails with DNW_NOT_UTF8, DNW_TEXT_CUT, DNW_ILLEGAL_CHARACTER, DNW_CONTROL_CHARACTER, DNW_UNCLOSED_LIST,
    DNW_UNCLOSED_QUOTE or DNW_UNKNOWN_ENTRY if no token stands next; with DNW_NO_ROOM if one does and its bytes are more than
-   `words_size`; and with DNW_NO_MEMORY. If it fails, the lexer is unchanged, so a call with a larger buffer goes on.
+   `words_size`; and with DNW_NO_MEMORY, but only if the token, a list or a quoted text has bytes of its own to keep. If it
+   fails, the lexer is unchanged, so a call with a larger buffer goes on.
 
-   Each call tests whether the text from the offset on is UTF-8. So the time of a call grows with what is left: pass a long
-   text in parts that end at a line's end outside of parentheses and quotes. */
+   A call looks no further than it has to: its time is that of a token and the white space and comment before it, not of what
+   is left. So it fails with DNW_NOT_UTF8 only once octets that are not UTF-8 stand before the end of the next token or right
+   after it; tokens before them are found. The offset after a token is the end of a character. */
 uint32_t dnw_token_next(const uint8_t *text, size_t text_len, struct dnw_lexer *lexer, uint8_t *words, size_t words_size,
                         struct dnw_token *token);
 
