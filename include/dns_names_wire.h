@@ -226,6 +226,22 @@ uint32_t dnw_name_trim(const uint8_t *name, size_t name_len, size_t labels, uint
    The root stays the root. It does not allocate. It fails as dnw_name_to_lowercase. */
 uint32_t dnw_name_to_wildcard(const uint8_t *name, size_t name_len, uint8_t *form, size_t form_size, size_t *len);
 
+/* The codes of the record types and of the classes that have names. Any other code is a type or class too, without a name. */
+enum dnw_type {
+    DNW_TYPE_ZERO = 0, DNW_TYPE_A = 1, DNW_TYPE_NS = 2, DNW_TYPE_CNAME = 5, DNW_TYPE_SOA = 6, DNW_TYPE_NULL = 10,
+    DNW_TYPE_PTR = 12, DNW_TYPE_HINFO = 13, DNW_TYPE_MX = 15, DNW_TYPE_TXT = 16, DNW_TYPE_SIG = 24, DNW_TYPE_KEY = 25,
+    DNW_TYPE_AAAA = 28, DNW_TYPE_SRV = 33, DNW_TYPE_NAPTR = 35, DNW_TYPE_CERT = 37, DNW_TYPE_DNAME = 39,
+    DNW_TYPE_OPT = 41, DNW_TYPE_DS = 43, DNW_TYPE_SSHFP = 44, DNW_TYPE_RRSIG = 46, DNW_TYPE_NSEC = 47,
+    DNW_TYPE_DNSKEY = 48, DNW_TYPE_NSEC3 = 50, DNW_TYPE_NSEC3PARAM = 51, DNW_TYPE_TLSA = 52, DNW_TYPE_SMIMEA = 53,
+    DNW_TYPE_CDS = 59, DNW_TYPE_CDNSKEY = 60, DNW_TYPE_OPENPGPKEY = 61, DNW_TYPE_CSYNC = 62, DNW_TYPE_SVCB = 64,
+    DNW_TYPE_HTTPS = 65, DNW_TYPE_TSIG = 250, DNW_TYPE_IXFR = 251, DNW_TYPE_AXFR = 252, DNW_TYPE_ANY = 255,
+    DNW_TYPE_CAA = 257, DNW_TYPE_ANAME = 65305
+};
+
+enum dnw_class {
+    DNW_CLASS_IN = 1, DNW_CLASS_CH = 3, DNW_CLASS_HS = 4, DNW_CLASS_NONE = 254, DNW_CLASS_ANY = 255
+};
+
 /* Puts the name of the record type with a code in capitals, `ZERO` for 0 and `Unknown` for a code without a name, and its
    length into `len`: DNW_CODE_SIZE bytes are always enough. It fails with DNW_NO_ROOM if the name is longer than
    `text_size`. */
