@@ -477,6 +477,50 @@ static void codes(void)
 }
 
 /* RFC 1982, sections 3.1, 3.2 and 5.2 */
+struct named_code {
+    uint32_t code;
+    const char *name;
+};
+
+/* The codes with names are those of the header, and no others. */
+static void print_all(uint32_t (*print)(uint16_t, uint8_t *, size_t, size_t *), const struct named_code *named, size_t count,
+                      const char *unnamed)
+{
+    for (uint32_t code = 0; code <= 65535; code++) {
+        const char *name = unnamed;
+        for (size_t i = 0; i < count; i++)
+            if (named[i].code == code)
+                name = named[i].name;
+        size_t len = 0;
+        clear();
+        EXPECT(print((uint16_t)code, buffer, DNW_CODE_SIZE, &len) == DNW_DONE);
+        EXPECT(len == strlen(name) && holds(name, len));
+    }
+}
+
+static void named_codes(void)
+{
+    static const struct named_code types[] = {
+        {DNW_TYPE_ZERO, "ZERO"}, {DNW_TYPE_A, "A"}, {DNW_TYPE_NS, "NS"}, {DNW_TYPE_CNAME, "CNAME"},
+        {DNW_TYPE_SOA, "SOA"}, {DNW_TYPE_NULL, "NULL"}, {DNW_TYPE_PTR, "PTR"}, {DNW_TYPE_HINFO, "HINFO"},
+        {DNW_TYPE_MX, "MX"}, {DNW_TYPE_TXT, "TXT"}, {DNW_TYPE_SIG, "SIG"}, {DNW_TYPE_KEY, "KEY"},
+        {DNW_TYPE_AAAA, "AAAA"}, {DNW_TYPE_SRV, "SRV"}, {DNW_TYPE_NAPTR, "NAPTR"}, {DNW_TYPE_CERT, "CERT"},
+        {DNW_TYPE_DNAME, "DNAME"}, {DNW_TYPE_OPT, "OPT"}, {DNW_TYPE_DS, "DS"}, {DNW_TYPE_SSHFP, "SSHFP"},
+        {DNW_TYPE_RRSIG, "RRSIG"}, {DNW_TYPE_NSEC, "NSEC"}, {DNW_TYPE_DNSKEY, "DNSKEY"}, {DNW_TYPE_NSEC3, "NSEC3"},
+        {DNW_TYPE_NSEC3PARAM, "NSEC3PARAM"}, {DNW_TYPE_TLSA, "TLSA"}, {DNW_TYPE_SMIMEA, "SMIMEA"},
+        {DNW_TYPE_CDS, "CDS"}, {DNW_TYPE_CDNSKEY, "CDNSKEY"}, {DNW_TYPE_OPENPGPKEY, "OPENPGPKEY"},
+        {DNW_TYPE_CSYNC, "CSYNC"}, {DNW_TYPE_SVCB, "SVCB"}, {DNW_TYPE_HTTPS, "HTTPS"}, {DNW_TYPE_TSIG, "TSIG"},
+        {DNW_TYPE_IXFR, "IXFR"}, {DNW_TYPE_AXFR, "AXFR"}, {DNW_TYPE_ANY, "ANY"}, {DNW_TYPE_CAA, "CAA"},
+        {DNW_TYPE_ANAME, "ANAME"},
+    };
+    static const struct named_code classes[] = {
+        {DNW_CLASS_IN, "IN"}, {DNW_CLASS_CH, "CH"}, {DNW_CLASS_HS, "HS"}, {DNW_CLASS_NONE, "NONE"},
+        {DNW_CLASS_ANY, "ANY"},
+    };
+    print_all(dnw_type_print, types, sizeof types / sizeof types[0], "Unknown");
+    print_all(dnw_class_print, classes, sizeof classes / sizeof classes[0], "UNKNOWN");
+}
+
 static void serials(void)
 {
     int32_t order = 7;
@@ -686,6 +730,7 @@ int main(void)
     compares();
     edits();
     codes();
+    named_codes();
     serials();
     type_lists();
     times();
