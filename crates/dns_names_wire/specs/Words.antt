@@ -15,12 +15,14 @@ pub use Rattle.dnw_base.specs.Labels.{IsLabel, wildcard}
 pub use Rattle.dnw_base.specs.Names.{NameValue, AreLabels, IsWildcard, IsZoneOf, encoded_size, lower, wire, labels_wire}
 pub use Rattle.dnw_form.specs.Edits.{append_label, prepend_label, append_name, append_domain, from_labels, with_label}
 pub use Rattle.dnw_form.specs.Edits.{base_name, trim_to, into_wildcard}
--- Order, equality and hash of labels and names.
+-- Order, equality, hash and sort keys of labels and names.
 pub use Rattle.dnw_label.specs.LabelOrder.{label_cmp, label_eq, label_hash_input, lower_label, octets_cmp}
 pub use Rattle.dnw_order.specs.Order.{labels_cmp, labels_cmp_case, name_cmp, name_cmp_case, name_eq, name_eq_case, name_hash_input}
 pub use Rattle.dnw_order.specs.Order.{IsZoneOfCase, IsLocalhost, localhost}
 pub use Rattle.dnw_label.specs.LabelOrder.{IsTotalPreorder, IsOctet, AreOctets, octet_cmp_ignore_case}
 pub use Rattle.dnw_order.specs.OrderLaws.{name_cmp_total, name_cmp_case_total, name_ties, name_case_ties, name_eq_parts, name_eq_case_parts}
+pub use Rattle.dnw_order.specs.SortKeys.{escape_octet, label_key, max_sort_key, sort_key}
+pub use Rattle.dnw_order.specs.SortKeyLaws.{KeysCompare, KeysCompareNames, KeysAreEqual, ZonesBegin, KeysAreShort}
 pub use Rattle.dnw_name.specs.FromLabels.{JoinsItems, JoinsAll, RunsOutAt}
 -- Names in lower case.
 pub use Rattle.dnw_lower.specs.LowerNames.{lowered, IsLower, lower_name_from_text, lower_name_hash_input, TakesLowerName}

@@ -138,6 +138,11 @@ pub mod serial_number {
     pub use dnw_kinds::serial_number::SerialNumber;
 }
 
+/// Sort keys of names, which compare as bytes as the names do in canonical order, and what follows from their definition.
+pub mod sort_key {
+    pub use dnw_order::sort_key::{MAX_SORT_KEY_LENGTH, laws};
+}
+
 /// What follows from the definitions of texts, for callers' proofs.
 pub mod text_laws;
 

@@ -3,6 +3,7 @@
 #![tactic(auto)]
 
 pub mod copying;
+pub mod denial;
 pub mod example;
 pub mod question;
 pub mod reply;
