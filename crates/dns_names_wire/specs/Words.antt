@@ -36,9 +36,9 @@ pub use Rattle.dnw_text.specs.NameText.{IsLabelText, name_from_text, name_from_t
 -- Nets and reverse names.
 pub use Rattle.dnw_reverse.specs.Nets.{NetValue, ipv4_size, ipv6_size}
 pub use Rattle.dnw_reverse.specs.NetTexts.{net_addr, net_prefix_len, ip_size, IsPastSize, ip_net_text}
-pub use Rattle.dnw_reverse.specs.Arpa.{ArpaPrefix, ArpaFault, IsArpaPrefix, arpa_labels, arpa_name, arpa_prefix, ip_prefix, reverse_name}
+pub use Rattle.dnw_reverse.specs.Arpa.{ArpaPrefix, ArpaFault, GivesPrefix, GiveValues, IsArpaPrefix, arpa_labels, arpa_name, arpa_prefix, ip_prefix, reverse_name}
 pub use Rattle.dnw_reverse.specs.ArpaNets.{IsNetOf, ReadsNet}
-pub use Rattle.dnw_reverse.specs.ArpaLaws.{IsIpAddr, PrefixesComeBack, TextsComeBack, AddressesArePrefixes, AddressesComeBack}
+pub use Rattle.dnw_reverse.specs.ArpaLaws.{IsIpAddr, NamesGivePrefixes, PrefixesComeBack, TextsComeBack, AddressesArePrefixes, AddressesComeBack}
 -- Special-use zones, and what gives a name.
 pub use Rattle.dnw_usage.specs.Usages.{Zone}
 pub use Rattle.dnw_usage.specs.Zones.{reverse_zone, test_zone, localhost_zone, local_zone, invalid_zone, example_zone, usual_zone, onion_zone}
@@ -92,11 +92,11 @@ pub use Rattle.dnw_txt.specs.Tokens.{TokenValue, LexFault, LexState, LexerValue}
 pub use Rattle.dnw_txt.specs.Lexing.{token_value, Lexes, Calls, EndsInTime}
 pub use Rattle.dnw_txt.specs.Times.{max_ttl, time_seconds, IsNoTtl, IsParseTime}
 -- Sets of record types, keys, serial numbers, and record data.
-pub use Rattle.dnw_kinds.specs.TypeSets.{set_codes, windows_within, bitmap_types, HasOwnMemory, YieldsSome}
+pub use Rattle.dnw_kinds.specs.TypeSets.{AreWindows, EndWithin, HasBit, set_codes, windows_within, bitmap_types, HasOwnMemory, YieldsSome}
 pub use Rattle.dnw_kinds.specs.Keys.{key_cmp, key_eq, key_hash}
 pub use Rattle.dnw_kinds.specs.Serials.{distance, serial_cmp, serial_sum}
 pub use Rattle.dnw_kinds.specs.RecordData.{TakesTypeSet, FailsTypeSet, TypeSetRunsOut, HasBitmap}
-pub use Rattle.dnw_kinds.specs.SetLaws.{SetsComeBack}
+pub use Rattle.dnw_kinds.specs.SetLaws.{BitmapsAreWindows, SetsComeBack, WindowsListBits}
 -- What follows from the definitions of texts.
 pub use Rattle.dns_names_wire.specs.TextLaws.{AreByteLabels, TextsDiffer, ReadLabelsAreBytes, TextLabelsAreBytes}
 pub use Rattle.dns_names_wire.specs.TextLaws.{AcceptedLabels, AcceptedReadBack, qualified, dotted_text, BytesAndTextsAgree}

@@ -89,7 +89,7 @@ pub mod name {
     pub use dnw_form::label_iter::LabelIter;
     pub use dnw_name::name::Name;
     pub use dnw_reading::laws;
-    pub use dnw_reverse::laws::reverse_names_come_back;
+    pub use dnw_reverse::laws::{names_give_prefixes, reverse_names_come_back};
 }
 
 /// Names within a message, which are walked without a copy.
@@ -117,7 +117,9 @@ pub mod record_type {
 
 /// Sets of record types, as NSEC, NSEC3 and CSYNC have them.
 pub mod record_type_set {
-    pub use dnw_kinds::record_type_set::{RecordTypeSet, TypeIter, sets_come_back};
+    pub use dnw_kinds::record_type_set::{
+        RecordTypeSet, TypeIter, bitmaps_list_bits, sets_come_back,
+    };
 }
 
 /// Untrusted values, which have to be verified.

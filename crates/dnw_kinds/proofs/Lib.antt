@@ -1,4 +1,4 @@
 pub mod Windows
 pub mod Writing
 pub mod Sets
-pub mod Ascending
+pub mod Listed

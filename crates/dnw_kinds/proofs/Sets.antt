@@ -1,27 +1,28 @@
 -- Sets of types: their lists, and their bytes read back.
-use Rattle.std.proofs.Common.{nat_lt, get_or, ◌≡◌, ℕ, ◌+◌, ◌<◌, ◌≤◌, ◌&&◌, ◌||◌, ◌==◌, Bool, true, false, nat_eq, List, [], ◌∷◌, ◌++◌, length, drop, map, cond, refl, sym, ap, ◌∙◌, subst, arith, Option, Some, Result, Ok, Err, IfErr, IsOkAnd}
+use Rattle.std.proofs.Common.{◌⊎◌, inl, inr, ◌↔◌, Contains, nat_lt, get_or, ◌≡◌, ℕ, ◌+◌, ◌<◌, ◌≤◌, ◌&&◌, ◌||◌, ◌==◌, Bool, true, false, nat_eq, List, [], ◌∷◌, ◌++◌, length, drop, map, cond, refl, sym, ap, ◌∙◌, subst, arith, Option, Some, Result, Ok, Err, IfErr, IsOkAnd}
 use Rattle.std.specs.Iterator.{Yields}
 use Rattle.std.specs.List.{flat_map, list_all, dedup, dedup_from, AllByRecursion}
 use Rattle.std.specs.List.Retain.{IsFiltered, DiffersFromLast}
-use Rattle.std.specs.List.Sorted.{IsStrictlySortedBy, IsSorted, IsPermutation}
-use Rattle.std.specs.Ordering.{eq_by_cmp, nat_cmp, bool_cmp, ordering_then, MatchOrdering}
+use Rattle.std.specs.List.Sorted.{IsBinarySearchResult, IsNonDecreasingBy, IsPartitionPoint, IsSearchInRange, IsStrictlySortedBy, IsSorted, IsPermutation}
+use Rattle.std.specs.Result.{is_ok}
+use Rattle.std.specs.Ordering.{eq_by_cmp, is_eq, ordering_index, nat_cmp, bool_cmp, ordering_then, MatchOrdering}
 use Rattle.std.specs.declared.cmp.Ordering.{Ordering}
 use Rattle.std.specs.declared.cmp.Ordering.TheVariants.{Less, Equal, Greater}
-use Rattle.std.proofs.Math.Seq.{take-append_seam, drop-append_seam}
-use Rattle.std.proofs.lemmas.Bool.{le-leb}
+use Rattle.std.proofs.lemmas.Bool.{cases_lt, le-leb}
 use Rattle.std.proofs.lemmas.Cmp.{ranked}
 use Rattle.std.proofs.lemmas.List.{drop_all, append-nil, at_drop_more}
 use Rattle.std.proofs.lemmas.List.Filters.{dedup_is}
 use Rattle.std.proofs.lemmas.List.Kept.{Contains-dedup, Contains-from_dedup, IsStrictlySortedBy-dedup}
-use Rattle.std.proofs.lemmas.List.Sorted.{Contains-permutation, IsPermutation-sym}
+use Rattle.std.proofs.lemmas.Map.Keys.{Less-from_sorted}
+use Rattle.std.proofs.lemmas.List.Sorted.{searchable_from_sorted, Contains-permutation, IsPermutation-sym}
 use Rattle.dnw_codes.specs.declared.record_type.RecordType.{RecordType}
 use Rattle.dnw_codes.specs.RecordTypes.{type_cmp, type_code, is_unknown}
 use Rattle.dnw_codes.specs.Inside.RecordTypeLaws.{types-tied}
-use Rattle.dnw_kinds.specs.TypeSets.{IsSetOf, YieldsSome, set_codes, Window, window, windows_of, windows_codes, window_bytes, in_bounds, ends_in_zeros, is_empty, IsWritten, bitmap_types}
+use Rattle.dnw_kinds.specs.TypeSets.{IsSetOf, YieldsSome, set_codes, Window, windows_of, windows_codes, window_bytes, in_bounds, ends_in_zeros, is_empty, IsWritten, bitmap_types}
 use Rattle.dnw_kinds.specs.SetLaws.{SetsComeBack}
 use Rattle.dnw_kinds.specs.Inside.Bitmaps.{Above}
 use Rattle.dnw_kinds.specs.Inside.SetLaws.{types-total, types-equal}
-use Rattle.dnw_kinds.proofs.Windows.{windows-next, windows-none}
+use Rattle.dnw_kinds.proofs.Windows.{windows-before, windows-none}
 use Rattle.std.proofs.lemmas.Bool.{lt-ltb, eqb-true, eqb-false}
 use Rattle.dnw_error.specs.declared.error.DecodeError.{DecodeError}
 
@@ -85,11 +86,7 @@ set_codes-above (kind ∷ types) h = dedup-above 0 (type_code kind) (map type_co
 
 windows-back : (ws : List Window) → AllByRecursion IsWritten ws → windows_of (flat_map window_bytes ws) ≡ ws
 windows-back [] h = windows-none
-windows-back (w ∷ ws) h =
-    let rest = flat_map window_bytes ws in
-    windows-next w.number (length w.octets) (w.octets ++ rest)
-    ∙ (ap (λ octets. window w.number octets ∷ windows_of (drop (length w.octets) (w.octets ++ rest))) (take-append_seam w.octets rest)
-    ∙ (ap (λ others. w ∷ windows_of others) (drop-append_seam w.octets rest) ∙ ap (λ others. w ∷ others) (windows-back ws h.1)))
+windows-back (w ∷ ws) h = windows-before w (flat_map window_bytes ws) ∙ ap (λ others. w ∷ others) (windows-back ws h.1)
 
 bounds-back : (ws : List Window) → AllByRecursion IsWritten ws → in_bounds ws ≡ true
 bounds-back [] h = refl
@@ -145,9 +142,6 @@ coded-above types index codes once done end kept ascending = rw (coded types ind
 
 -- ---- types that already ascend
 
-pub sorted-nothing : (types : List RecordType) → types ≡ [] → IsStrictlySortedBy type_cmp types
-sorted-nothing = empty-ascends
-
 pub sorted-end : (kind : RecordType) (types : List RecordType) (index : ℕ) → length types ≤ index → IsStrictlySortedBy type_cmp (kind ∷ drop index types)
 unfolding IsStrictlySortedBy
 sorted-end kind types index end = rw (drop_all index types end) (tt, tt)
@@ -174,3 +168,28 @@ sorted-on types others last index other within less all sorted =
     let next : drop index others ≡ get_or others index other ∷ drop (index + 1) others = at_drop_more (λ l. l) others index other within in
     let P : List RecordType → Type 0 = λ l. IsStrictlySortedBy type_cmp (last ∷ l) in
     all (subst P (sym next) (sorted-more last (get_or others index other) (drop (index + 1) others) less sorted))
+
+-- ---- a type that is looked for
+
+searchable : (types : List RecordType) (kind : RecordType) → IsStrictlySortedBy type_cmp types → IsNonDecreasingBy (λ y. ordering_index (type_cmp y kind)) types
+searchable types kind ascending =
+    searchable_from_sorted types-total (λ (t : RecordType). t) types kind
+    (λ k d low next. rw (types-total.antisymm (get_or types (k + 1) d) (get_or types k d), Less-from_sorted type_cmp types k (k + 1) d ascending (omega arith) next) refl)
+
+unequal : (o : Ordering) → is_eq o ≡ true → (o ≡ Less) ⊎ (o ≡ Greater) → ⊥
+unequal Less e h = cc
+unequal Equal e (inl h) = cc
+unequal Equal e (inr h) = cc
+unequal Greater e h = cc
+
+absent : (types : List RecordType) (kind : RecordType) (i : ℕ) → IsPartitionPoint (λ y. type_cmp y kind ≡ Less) (λ y. type_cmp y kind ≡ Greater) types i → Contains types kind → ⊥
+absent types kind i (before, after) (k, within, is) =
+    elim (cases_lt k i) [
+      | inl h ↦ unequal (type_cmp kind kind) (types-equal.refl kind) (inl (subst (λ t. type_cmp t kind ≡ Less) is (before k kind (omega arith) h)))
+      | inr h ↦ unequal (type_cmp kind kind) (types-equal.refl kind) (inr (subst (λ t. type_cmp t kind ≡ Greater) is (after k kind h within)))
+    ]
+
+pub searched : (types : List RecordType) (kind : RecordType) (r : Result ℕ ℕ) → IsStrictlySortedBy type_cmp types → IsSearchInRange r (length types)
+    → IsBinarySearchResult (λ y. type_cmp y kind) types r → (is_ok r ≡ true) ↔ Contains types kind
+searched types kind (Ok i) ascending within found = (λ yes. (i, within, types-tied (get_or types i kind) kind (rw (found kind) refl)), λ has. refl)
+searched types kind (Err i) ascending within found = (λ yes. absurd cc, λ has. absurd (absent types kind i (found (searchable types kind ascending)) has))

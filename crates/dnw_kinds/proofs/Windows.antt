@@ -1,10 +1,13 @@
--- Steps of reading a bitmap.
-use Rattle.std.proofs.Common.{◌≡◌, ◌*◌, true, false, ℕ, zero, suc, ◌==◌, ◌||◌, ◌&&◌, nat_le, ◌+◌, ◌<◌, ◌≤◌, List, [], ◌∷◌, length, take, drop, map, ◌++◌, refl, sym, ap, ◌∙◌, arith}
-use Rattle.std.proofs.lemmas.List.{length-drop, append_assoc, append-nil, map-append}
+-- The windows of a bitmap, and the steps of reading it.
+use Rattle.std.proofs.Common.{inl, inr, subst, ◌≡◌, ◌*◌, true, false, ℕ, zero, suc, ◌==◌, ◌||◌, ◌&&◌, nat_le, ◌+◌, ◌<◌, ◌≤◌, List, [], ◌∷◌, length, take, drop, map, ◌++◌, refl, sym, ap, ◌∙◌, arith}
+use Rattle.std.proofs.Math.Seq.{take-append_seam, drop-append_seam}
+use Rattle.std.proofs.lemmas.Bool.{cases_lt}
+use Rattle.std.proofs.lemmas.List.{drop_all, length-append, length-drop, length-take-le, take-append-drop, take_all, append_assoc, append-nil, map-append}
 use Rattle.std.proofs.Math.Dec.{eqb-suc-zero}
 use Rattle.dnw_codes.specs.declared.record_type.RecordType.{RecordType}
 use Rattle.dnw_codes.specs.RecordTypes.{type_of_code}
-use Rattle.dnw_kinds.specs.TypeSets.{bits, octets_codes, window_codes, windows_codes, max_octets, window_size, window, windows_within, windows_of, is_empty, ends_in_zeros, in_bounds}
+use Rattle.dnw_kinds.specs.SetLaws.{BitmapsAreWindows}
+use Rattle.dnw_kinds.specs.TypeSets.{AreWindows, Window, window_bytes, bits, octets_codes, window_codes, windows_codes, max_octets, window_size, window, windows_within, windows_of, is_empty, ends_in_zeros, in_bounds}
 use Rattle.dnw_kinds.specs.Inside.Bitmaps.{SplitsWindow, window_fits}
 
 -- the next bit
@@ -19,33 +22,69 @@ bits-next (suc (suc (suc (suc (suc (suc zero)))))) h = refl
 bits-next (suc (suc (suc (suc (suc (suc (suc zero))))))) h = refl
 bits-next (suc (suc (suc (suc (suc (suc (suc (suc bit)))))))) h = absurd (omega arith)
 
--- a bound on the octets that is high enough tells nothing
-within-enough : (n m : ℕ) (bytes : List ℕ) → length bytes ≤ n → length bytes ≤ m → windows_within n bytes ≡ windows_within m bytes
-within-enough zero zero bytes h k = refl
-within-enough zero (suc m) [] h k = refl
-within-enough zero (suc m) (b ∷ bytes) h k = absurd (omega arith)
-within-enough (suc n) zero [] h k = refl
-within-enough (suc n) zero (b ∷ bytes) h k = absurd (omega arith)
-within-enough (suc n) (suc m) [] h k = refl
-within-enough (suc n) (suc m) (number ∷ []) h k = refl
-within-enough (suc n) (suc m) (number ∷ len ∷ bytes) h k =
-    let shorter = length-drop len bytes in
-    ap (λ ws. window number (take len bytes) ∷ ws) (within-enough n m (drop len bytes) (omega arith) (omega arith))
+-- ---- the windows of a bitmap
+
+windows-empty : (n : ℕ) (bytes : List ℕ) → bytes ≡ [] → windows_within n bytes ≡ []
+windows-empty zero bytes none = refl
+windows-empty (suc n) bytes none = rw none refl
+
+windows-there : (n : ℕ) (bytes : List ℕ) → length bytes ≤ n → AreWindows (windows_within n bytes) bytes
+windows-there zero [] h = refl
+windows-there zero (b ∷ bytes) h = absurd (omega arith)
+windows-there (suc n) [] h = refl
+windows-there (suc n) (number ∷ []) h = inl (inl (refl, refl), refl)
+windows-there (suc n) (number ∷ len ∷ bytes) h =
+    elim (cases_lt (length bytes) len) [
+      | inl less ↦
+          let all = take_all len bytes (omega arith) in
+          inl (inr (len, sym (ap (λ octets. number ∷ len ∷ octets) all), omega (arith, ap length all)), windows-empty n (drop len bytes) (drop_all len bytes (omega arith)))
+      | inr enough ↦
+          let size = length-take-le len bytes enough in
+          inr (drop len bytes, rw (size, take-append-drop len bytes) refl, windows-there n (drop len bytes) (omega (arith, length-drop len bytes)))
+    ]
+
+windows-unique : (n : ℕ) (ws : List Window) (bytes : List ℕ) → length bytes ≤ n → AreWindows ws bytes → windows_within n bytes ≡ ws
+windows-unique n [] bytes h none = windows-empty n bytes none
+windows-unique zero (w ∷ ws) bytes h (inl (inl (whole, none), last)) = absurd (omega (arith, ap length whole))
+windows-unique zero (w ∷ ws) bytes h (inl (inr (len, whole, less), last)) = absurd (omega (arith, ap length whole))
+windows-unique zero (w ∷ ws) bytes h (inr (rest, whole, others)) = absurd (omega (arith, ap length whole))
+windows-unique (suc n) (w ∷ ws) bytes h (inl (inl (whole, none), last)) = rw (whole, last, ← none) refl
+windows-unique (suc n) (w ∷ ws) bytes h (inl (inr (len, whole, less), last)) =
+    rw (whole, last, take_all len w.octets (omega arith), drop_all len w.octets (omega arith), windows-empty n [] refl) refl
+windows-unique (suc n) (w ∷ ws) bytes h (inr (rest, whole, others)) =
+    let few : length rest ≤ n = omega (arith, ap length whole, length-append w.octets rest) in
+    rw (whole, take-append_seam w.octets rest, drop-append_seam w.octets rest, windows-unique n ws rest few others) refl
+
+pub bitmaps-are : BitmapsAreWindows
+unfolding windows_of
+bitmaps-are bytes ws =
+    let n = length bytes in
+    (windows-unique n ws bytes (omega arith), λ same. subst (λ xs. AreWindows xs bytes) same (windows-there n bytes (omega arith)))
+
+pub windows-are : (bytes : List ℕ) → AreWindows (windows_of bytes) bytes
+windows-are bytes = (bitmaps-are bytes (windows_of bytes)).1 refl
+
+-- what is after a window
+pub windows-before : (w : Window) (rest : List ℕ) → windows_of (window_bytes w ++ rest) ≡ w ∷ windows_of rest
+windows-before w rest = (bitmaps-are (window_bytes w ++ rest) (w ∷ windows_of rest)).0 (inr (rest, refl, windows-are rest))
 
 pub windows-none : windows_of [] ≡ []
-unfolding windows_of
-windows-none = refl
+windows-none = (bitmaps-are [] []).0 refl
+
+pub windows-cut : (number : ℕ) → windows_of (number ∷ []) ≡ window number [] ∷ []
+windows-cut number = (bitmaps-are (number ∷ []) (window number [] ∷ [])).0 (inl (inl (refl, refl), refl))
 
 pub windows-next : (number len : ℕ) (bytes : List ℕ) → windows_of (number ∷ len ∷ bytes) ≡ window number (take len bytes) ∷ windows_of (drop len bytes)
 unfolding windows_of
 windows-next number len bytes =
-    let shorter = length-drop len bytes in
-    ap (λ ws. window number (take len bytes) ∷ ws) (within-enough (suc (length bytes)) (length (drop len bytes)) (drop len bytes) (omega arith) (omega arith))
+    let others = drop len bytes in
+    ap (λ ws. window number (take len bytes) ∷ ws) (windows-unique (suc (length bytes)) (windows_of others) others (omega (arith, length-drop len bytes)) (windows-are others))
+
+-- ---- steps of reading
 
 -- a window that is cut after its number
 pub splits-cut : (bitmap bytes : List ℕ) (number : ℕ) → bitmap ≡ number ∷ bytes → bytes ≡ [] → SplitsWindow bitmap number bytes bytes
-unfolding windows_of
-splits-cut bitmap bytes number whole none = rw (whole, none) (refl, omega arith)
+splits-cut bitmap bytes number whole none = rw (whole, none) (windows-cut number ∙ sym (ap (λ ws. window number [] ∷ ws) windows-none), omega arith)
 
 pub splits-next : (bitmap bytes rest octets others : List ℕ) (number len : ℕ) → bitmap ≡ number ∷ bytes → bytes ≡ len ∷ rest
     → octets ≡ take len rest → others ≡ drop len rest → SplitsWindow bitmap number octets others

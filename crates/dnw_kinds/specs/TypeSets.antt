@@ -1,5 +1,5 @@
 -- Sets of record types, and the bitmaps that stand for them on the wire (RFC 4034, section 4.1.2).
-use Rattle.std.specs.Prelude.{◌≡◌, ◌≢◌, ℕ, zero, suc, ◌+◌, ◌-◌, ◌*◌, ◌≤◌, ◌⊎◌, ◌==◌, ◌||◌, ◌&&◌, Bool, true, false, nat_le, nat_eq, List, [], ◌∷◌, ◌++◌, length, map, Option, Some, ⊤, if◌then◌else◌, take, drop, Contains}
+use Rattle.std.specs.Prelude.{◌≡◌, ◌≢◌, ℕ, zero, suc, ◌+◌, ◌-◌, ◌*◌, ◌/◌, ◌%◌, ◌<◌, ◌≤◌, ◌⊎◌, ◌==◌, ◌||◌, ◌&&◌, Bool, true, false, nat_le, nat_eq, List, [], ◌∷◌, ◌++◌, length, map, Option, Some, ⊤, if◌then◌else◌, take, drop, slice_index, Contains}
 use Rattle.std.specs.List.{flat_map, list_all, dedup, AllByRecursion}
 use Rattle.std.specs.List.Sorted.{IsStrictlySortedBy}
 use Rattle.std.specs.Int.{bit_at}
@@ -70,10 +70,30 @@ window_codes w = octets_codes (window_size * w.number) (take max_octets w.octets
 abbrev pub windows_codes : List Window → List ℕ
 windows_codes ws = flat_map window_codes ws
 
+-- a window as it is written: its number, the number of its octets, and those
+abbrev pub window_bytes : Window → List ℕ
+window_bytes w = w.number ∷ length w.octets ∷ w.octets
+
+-- the bytes end within the window: after its number, or before the last of its octets
+abbrev pub EndWithin : Window → List ℕ → Type 0
+EndWithin w bytes =
+    ((bytes ≡ w.number ∷ []) × (w.octets ≡ [])) ⊎ ((len : ℕ) × (bytes ≡ w.number ∷ len ∷ w.octets) × (length w.octets < len))
+
+-- the bytes are these windows, one after the other, of which the last may be cut
+abbrev pub AreWindows : List Window → List ℕ → Type 0
+AreWindows [] bytes = bytes ≡ []
+AreWindows (w ∷ ws) bytes =
+    (EndWithin w bytes × (ws ≡ [])) ⊎ ((rest : List ℕ) × (bytes ≡ window_bytes w ++ rest) × AreWindows ws rest)
+
+-- The window has the bit of the code: it is the window of that code, its octets have eight codes each, and the first of
+-- them is the highest bit.
+pub record HasBit (code : ℕ) (w : Window) : Type 0 where
+  pub number : w.number ≡ code / window_size
+  pub bit : bit_at (slice_index w.octets (code % window_size / 8)) (7 - code % 8) ≡ 1
+
 -- ---- reading
 
--- the windows of at most so many octets, one after the other; the last may be cut after its number, after its length or
--- within its octets
+-- the windows of at most so many octets; `AreWindows` says what they are
 abbrev pub windows_within : ℕ → List ℕ → List Window
 windows_within zero bytes = []
 windows_within (suc n) [] = []
@@ -102,10 +122,6 @@ bitmap_types bytes = map type_of_code (windows_codes (windows_of bytes))
 
 -- ---- writing
 
--- a window as it is written: its number, the number of its octets, and those
-abbrev pub window_bytes : Window → List ℕ
-window_bytes w = w.number ∷ length w.octets ∷ w.octets
-
 -- the last octet has a bit, so no octet can be left out
 abbrev pub EndsInBit : List ℕ → Type 0
 EndsInBit [] = ⊤
@@ -117,7 +133,7 @@ abbrev pub NumbersFrom : ℕ → List Window → Type 0
 NumbersFrom least [] = ⊤
 NumbersFrom least (w ∷ ws) = (least ≤ w.number) × NumbersFrom (w.number + 1) ws
 
--- a window that is written: it lists a code, is not longer than needed, and its number is an octet
+-- a window that is written: it has octets, no more than its codes need, and the last of them has a bit, so it lists a code
 pub record IsWritten (w : Window) : Type 0 where
   pub some : 1 ≤ length w.octets
   pub few : length w.octets ≤ max_octets

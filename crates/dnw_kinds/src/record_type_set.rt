@@ -42,7 +42,7 @@ mod octets;
 mod type_iter;
 mod writing;
 
-pub use laws::sets_come_back;
+pub use laws::{bitmaps_list_bits, sets_come_back};
 pub use type_iter::TypeIter;
 
 /// A set of record types.
@@ -86,8 +86,7 @@ impl RecordTypeSet {
         for kind in types {
             listed.push(kind)?;
         }
-        let ascending = is_ascending(listed.as_slice());
-        settle(&mut listed, ascending);
+        settle(&mut listed);
         let codes = codes(alloc, listed.as_slice())?;
         let encoding = writing::write_windows(alloc, codes.as_slice())?;
         Ok(RecordTypeSet {
@@ -120,7 +119,7 @@ impl RecordTypeSet {
     pub fn contains(&self, kind: RecordType) -> bool
         ensures { IsTrue result ↔ Contains self.now.types kind }
     {
-        self.types.as_slice().contains(&kind)
+        self.types.as_slice().binary_search(&kind).is_ok()
     }
 }
 
@@ -144,12 +143,11 @@ fn kept(alloc: Global, bytes: &[u8]) -> Result<Encoding, AllocError>
     Ok(encoding)
 }
 
-/// Makes the list of a set: each type once, in ascending order. It may be known that they stand so.
-fn settle(types: &mut Vec<RecordType>, ascending: bool)
-    requires { IsTrue ascending → IsStrictlySortedBy type_cmp types.old.items }
+/// Makes the list of a set: each type once, in ascending order. Mostly they are listed so.
+fn settle(types: &mut Vec<RecordType>)
     ensures { IsSetOf types.old.items types.new.items }
 {
-    if ascending {
+    if is_ascending(types.as_slice()) {
         return;
     }
     types.sort_unstable();
@@ -201,8 +199,8 @@ fn read_bitmap(alloc: Global, bitmap: &[u8]) -> Result<RecordTypeSet, AllocError
         });
     }
     let mut types = Vec::with_capacity(alloc, USUAL_TYPES)?;
-    let ascending = bitmap::push_windows(&mut types, bitmap)?;
-    settle(&mut types, ascending);
+    bitmap::push_windows(&mut types, bitmap)?;
+    settle(&mut types);
     let encoding = kept(alloc, bitmap)?;
     Ok(RecordTypeSet { types, encoding })
 }

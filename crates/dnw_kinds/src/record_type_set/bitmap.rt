@@ -1,8 +1,7 @@
 //! Reading type bitmaps (RFC 4034, section 4.1.2).
-ghost use Rattle.std.specs.Prelude.{◌≡◌, ◌↔◌, [], ◌∷◌, MatchOption, ◌+◌, ◌*◌, ◌≤◌, ◌<◌, ◌++◌, length, map, take, drop, ◌==◌, ◌-◌, IsTrue, IfOk, OnOk, OnErr, vec_len, vec_capacity};
-ghost use Rattle.std.specs.Int.{bit_at};
+ghost use Rattle.std.specs.Prelude.{◌≡◌, [], MatchOption, ◌+◌, ◌*◌, ◌≤◌, ◌<◌, ◌++◌, length, map, take, drop, ◌==◌, ◌-◌, OnOk, vec_len, vec_capacity};
 ghost use Rattle.dnw_codes.specs.RecordTypes.{type_of_code};
-ghost use Rattle.dnw_kinds.specs.TypeSets.{windows_of, in_bounds, NumbersFrom, ends_in_zeros, bit_codes, octet_codes, octets_codes, window_codes, windows_codes};
+ghost use Rattle.dnw_kinds.specs.TypeSets.{windows_of, in_bounds, ends_in_zeros, bit_codes, octet_codes, octets_codes, windows_codes};
 ghost use Rattle.dnw_kinds.specs.Inside.Bitmaps.{SplitsWindow, window_fits};
 
 use dnw_codes::record_type::RecordType;
@@ -75,30 +74,17 @@ fn split_window(bitmap: &[u8]) -> Option<(u8, &[u8], &[u8])>
     Some((*number, octets, others))
 }
 
-/// Returns `true` if the numbers before ascend, and so does this one, which is at least `least`.
-#[inline(always)]
-fn goes_up(ascending: bool, least: u16, number: u8) -> bool
-    ensures { IsTrue result ↔ (IsTrue ascending × least ≤ number) }
-{
-    ascending && least <= u16::from(number)
-}
-
-/// Appends the types of a bitmap, window by window. If the result is `true`, the numbers of the windows ascend.
-pub fn push_windows(types: &mut Vec<RecordType>, bitmap: &[u8]) -> Result<bool, AllocError>
+/// Appends the types of a bitmap, window by window.
+pub fn push_windows(types: &mut Vec<RecordType>, bitmap: &[u8]) -> Result<(), AllocError>
     ensures ok { OnOk result (types.new.items ≡ types.old.items ++ map type_of_code (windows_codes (windows_of bitmap.now))) }
-    ensures ascending { IfOk result (λ ascending. IsTrue ascending → NumbersFrom 0 (windows_of bitmap.now)) }
 {
-    let mut ascending = true;
-    let mut least = 0;
     let mut rest = bitmap;
     while let Some((number, octets, others)) = split_window(rest) {
         let (octets, _) = split_at_most(octets, MAX_OCTETS);
         push_octets(types, 256 * number as u16, octets)?;
-        ascending = goes_up(ascending, least, number);
-        least = u16::from(number) + 1;
         rest = others;
     }
-    Ok(ascending)
+    Ok(())
 }
 
 /// Returns `true` if no window but the last is without octets, and none has a bit after its codes.

@@ -1,9 +1,9 @@
 use Rattle.std.proofs.lemmas.List.{nil_from_length}
-use Rattle.dnw_kinds.proofs.Sets.{sorted-nothing, sorted-end, sorted-on}
+use Rattle.dnw_kinds.proofs.Sets.{empty-ascends, sorted-end, sorted-on}
 use Rattle.dnw_kinds.proofs.record_type_set.is_ascending.Goals as goal
 
 pub returns-in_default : goal.returns-in_default
-returns-in_default c = λ t. sorted-nothing c.args.types.now (nil_from_length c.args.types.now c.in_default.ensures.cases)
+returns-in_default c = λ t. empty-ascends c.args.types.now (nil_from_length c.args.types.now c.in_default.ensures.cases)
 
 pub loop-kind-preserved : goal.loop-kind-preserved
 loop-kind-preserved c =

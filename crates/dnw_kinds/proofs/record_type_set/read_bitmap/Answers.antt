@@ -2,7 +2,6 @@ use Rattle.std.proofs.Common.{sym}
 use Rattle.std.proofs.lemmas.Bool.{eqb-true}
 use Rattle.std.proofs.lemmas.List.{nil_from_length}
 use Rattle.dnw_kinds.proofs.Sets.{empty-set, empty-ascends}
-use Rattle.dnw_kinds.proofs.Ascending.{windows-ascend}
 use Rattle.dnw_kinds.proofs.record_type_set.read_bitmap.Goals as goal
 
 pub invariant_of-result : goal.invariant_of-result
@@ -12,6 +11,3 @@ pub returns-then-is_empty-clause-types : goal.returns-then-is_empty-clause-types
 returns-then-is_empty-clause-types c =
     let none = nil_from_length c.args.bitmap.now (eqb-true _ 0 (sym c.if-is_empty.ensures)) in
     empty-set c.args.bitmap.now c.new.result.items none c.new.ensures.items
-
-pub settle-requires : goal.settle-requires
-settle-requires c = λ yes. windows-ascend _ _ _ c.in_ok-types.ensures.items c.in_ok-ascending.ensures.ok (c.in_ok-ascending.ensures.ascending yes)

@@ -1,3 +1,4 @@
+use Rattle.std.proofs.Common.{refl}
 use Rattle.dnw_kinds.proofs.Sets.{settled, settled-already}
 use Rattle.dnw_kinds.proofs.record_type_set.settle.Goals as goal
 
@@ -5,5 +6,5 @@ pub returns : goal.returns
 returns c =
     settled c.args.types.now.items c.sort_unstable.new.self.items c.dedup.new.self.items c.sort_unstable.ensures.permutation c.sort_unstable.ensures.sorted c.dedup.ensures.filtered
 
-pub returns-then-ascending : goal.returns-then-ascending
-returns-then-ascending c = settled-already c.args.types.now.items (c.requires c.if-ascending.true)
+pub returns-then-is_ascending : goal.returns-then-is_ascending
+returns-then-is_ascending c = settled-already c.args.types.now.items (rw c.as_slice.ensures.value at (c.if-is_ascending.ensures refl))

@@ -13,7 +13,7 @@ pub returns-in_err-codes-clause-err : goal.returns-in_err-codes-clause-err
 returns-in_err-codes-clause-err g c =
     let p = err_from_is_err_and c.from_residual-in_err-codes.result c.from_residual-in_err-codes.ensures.1 in
     let first = c.into_iter-kind-iterator in
-    let types = rw c.as_slice-2.ensures.value at c.in_err-codes.ensures.err in
+    let types = rw c.as_slice.ensures.value at c.in_err-codes.ensures.err in
     let listed = rw c.loop-kind.invariant at (listed-some _ c.settle.new.types.items c.settle.ensures types) in
     rw (p.1, p.2) (refl, first.result, first.ensures.into_iter_gives, began g.I.IntoIter.Iterator.next_gives c.loop-kind.yielded first.result c.loop-kind.kind-iterator c.loop-kind.yielded_by listed)
 
@@ -21,6 +21,6 @@ pub returns-in_err-encoding-clause-err : goal.returns-in_err-encoding-clause-err
 returns-in_err-encoding-clause-err g c =
     let p = err_from_is_err_and c.from_residual-in_err-encoding.result c.from_residual-in_err-encoding.ensures.1 in
     let first = c.into_iter-kind-iterator in
-    let codes = rw (c.as_slice-3.ensures.value, c.in_ok-codes.ensures.codes, c.as_slice-2.ensures.value) at c.in_err-encoding.ensures.err in
+    let codes = rw (c.as_slice-2.ensures.value, c.in_ok-codes.ensures.codes, c.as_slice.ensures.value) at c.in_err-encoding.ensures.err in
     let listed = rw c.loop-kind.invariant at (listed-some _ c.settle.new.types.items c.settle.ensures (codes-some _ codes)) in
     rw (p.1, p.2) (refl, first.result, first.ensures.into_iter_gives, began g.I.IntoIter.Iterator.next_gives c.loop-kind.yielded first.result c.loop-kind.kind-iterator c.loop-kind.yielded_by listed)
