@@ -1,2 +1,3 @@
 pub mod Standing
 pub mod Bounded
+pub mod Records
