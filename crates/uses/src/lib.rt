@@ -6,5 +6,6 @@ pub mod copying;
 pub mod denial;
 pub mod example;
 pub mod question;
+pub mod records;
 pub mod reply;
 pub mod zone;
