@@ -1,5 +1,5 @@
 -- One record more is written.
-use Rattle.std.proofs.Common.{◌≡◌, ◌+◌, ◌<◌, ◌≤◌, List, [], ◌∷◌, ◌++◌, length, take, sym, ap, ◌∙◌, subst, arith}
+use Rattle.std.proofs.Common.{◌≡◌, ◌+◌, ◌<◌, [], ◌∷◌, ◌++◌, length, take, sym, ap, ◌∙◌, subst, arith}
 use Rattle.std.proofs.lemmas.List.{take_more}
 use Rattle.dns_names_wire.specs.Words.{EmitsRecord, InTurn, WireRecord, value}
 use Rattle.uses.proofs.Written.{one_more}
