@@ -409,6 +409,46 @@ static void compares(void)
     EXPECT(holds("\001a\002bc\000", 6));
 }
 
+/* The names of RFC 4034, section 6.1, in their order; \310 is its octet 200. */
+static void sorts(void)
+{
+    static const struct {
+        const char *form;
+        size_t len;
+    } names[] = {
+        {"\007example", 9},
+        {"\001a\007example", 11},
+        {"\010yljkjljk\001a\007example", 20},
+        {"\001Z\001a\007example", 13},
+        {"\004zABC\001a\007EXAMPLE", 16},
+        {"\001z\007example", 11},
+        {"\001\001\001z\007example", 13},
+        {"\001*\001z\007example", 13},
+        {"\001\310\001z\007example", 13},
+    };
+    uint8_t before[DNW_SORT_KEY_SIZE] = {0}, key[DNW_SORT_KEY_SIZE], form[DNW_FORM_SIZE] = {0};
+    size_t before_len = 0, len = 7;
+    for (size_t i = 0; i < sizeof names / sizeof *names; i++) {
+        EXPECT(dnw_name_sort_key((const uint8_t *)names[i].form, names[i].len, key, sizeof key, &len) == DNW_DONE);
+        int order = memcmp(before, key, before_len < len ? before_len : len);
+        EXPECT(order < 0 || (order == 0 && before_len < len));
+        memcpy(before, key, len);
+        before_len = len;
+    }
+    clear();
+    EXPECT(dnw_name_sort_key(BYTES("\004B\000\001\002\001A\000"), buffer, 8, &len) == DNW_NO_ROOM && untouched());
+    EXPECT(dnw_name_sort_key(BYTES("\004B\000\001\002\001A\000"), buffer, 9, &len) == DNW_DONE && len == 9);
+    EXPECT(holds("a\000b\001\001\001\002\002\000", 9));
+    clear();
+    EXPECT(dnw_name_sort_key(BYTES("\000"), buffer, 0, &len) == DNW_DONE && len == 0 && untouched());
+    EXPECT(dnw_name_sort_key(BYTES("\000\000"), buffer, sizeof buffer, &len) == DNW_BYTES_LEFT);
+    EXPECT(dnw_name_sort_key(BYTES("\001"), buffer, sizeof buffer, &len) == DNW_MESSAGE_CUT && untouched() && len == 0);
+    form[0] = form[64] = form[128] = 63;
+    form[192] = 61;
+    EXPECT(dnw_name_sort_key(form, sizeof form, key, sizeof key - 1, &len) == DNW_NO_ROOM);
+    EXPECT(dnw_name_sort_key(form, sizeof form, key, sizeof key, &len) == DNW_DONE && len == DNW_SORT_KEY_SIZE);
+}
+
 /* RFC 4592, section 2.1.1, has wildcards; the sizes are those of RFC 1035, section 2.3.4. */
 static void edits(void)
 {
@@ -728,6 +768,7 @@ int main(void)
     refuses_messages();
     reverses();
     compares();
+    sorts();
     edits();
     codes();
     named_codes();

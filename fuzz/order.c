@@ -1,8 +1,8 @@
-/* Compares three names, and puts them in lower case. The first two octets of the input are the lengths of the first two
+/* Compares three names and their sort keys, and puts them in lower case. The first two octets of the input are the lengths of the first two
    wire forms, and the rest is the third. The answers are the model's, and the order is one. */
 #include "harness.h"
 
-static struct room lefts, rights, lowered;
+static struct room lefts, rights, lowered, left_keys, right_keys;
 
 static int32_t compare(struct part left, struct part right)
 {
@@ -10,6 +10,23 @@ static int32_t compare(struct part left, struct part right)
     uint32_t answer = dnw_name_compare(left.bytes, left.len, right.bytes, right.len, &order);
     CHECK(answer == DNW_DONE ? order >= -1 && order <= 1 : order == 7);
     return order;
+}
+
+static struct part key_of(struct room *room, struct part name)
+{
+    size_t len = 7;
+    uint8_t *key = clear(room, DNW_SORT_KEY_SIZE);
+    CHECK(dnw_name_sort_key(name.bytes, name.len, key, DNW_SORT_KEY_SIZE, &len) == DNW_DONE && len <= DNW_SORT_KEY_SIZE);
+    return (struct part){key, len};
+}
+
+/* Keys are in the order of the names, and begin with the keys of zones. */
+static void compares_keys(struct part left, struct part right, int32_t order, bool is_in_zone)
+{
+    struct part a = key_of(&left_keys, left), b = key_of(&right_keys, right);
+    int first = memcmp(a.bytes, b.bytes, a.len < b.len ? a.len : b.len);
+    CHECK(order == (first != 0 ? (first > 0) - (first < 0) : (a.len > b.len) - (a.len < b.len)));
+    CHECK(is_in_zone == (b.len <= a.len && memcmp(a.bytes, b.bytes, b.len) == 0));
 }
 
 static void compares(struct part left, struct part right)
@@ -34,6 +51,22 @@ static void compares(struct part left, struct part right)
     CHECK(is_equal == (order == 0));
     CHECK(is_in_zone == model_in_zone(&l, &r));
     CHECK(compare(right, left) == -order);
+    compares_keys(left, right, order, is_in_zone);
+}
+
+/* A key that does not fit, or of no name, is not put. */
+static void puts_no_key(struct part name)
+{
+    struct model_name own;
+    const uint8_t *form = put_at_end(&lefts, name.bytes, name.len);
+    uint32_t answer = model_form(form, name.len, &own);
+    size_t size = answer == DNW_DONE ? key_of(&left_keys, name).len : DNW_SORT_KEY_SIZE, len = 7;
+    if (size == 0)
+        return;
+    uint8_t *key = clear(&right_keys, size - 1);
+    refuse(1);
+    CHECK(dnw_name_sort_key(form, name.len, key, size - 1, &len) == (answer == DNW_DONE ? DNW_NO_ROOM : answer));
+    CHECK(!was_refused() && untouched(key, size - 1) && len == 7);
 }
 
 static void lowers(struct part name)
@@ -63,6 +96,7 @@ int LLVMFuzzerTestOneInput(const uint8_t *data, size_t size)
         return 0;
     for (size_t i = 0; i < 3; i++) {
         lowers(parts[i]);
+        puts_no_key(parts[i]);
         for (size_t j = 0; j < 3; j++)
             compares(parts[i], parts[j]);
     }

@@ -24,8 +24,9 @@
 extern "C" {
 #endif
 
-/* The sizes that are always enough for a wire form, for a text, and for the name of a type or a class. */
+/* The sizes that are always enough for a wire form, for a sort key, for a text, and for the name of a type or a class. */
 #define DNW_FORM_SIZE 255
+#define DNW_SORT_KEY_SIZE 504
 #define DNW_TEXT_SIZE 1004
 #define DNW_CODE_SIZE 10
 
@@ -204,6 +205,14 @@ uint32_t dnw_name_in_zone(const uint8_t *name, size_t name_len, const uint8_t *z
 /* Puts the wire form of a name with its ASCII letters in lower case, and its length into `len`. It does not allocate. It
    fails with DNW_NO_ROOM if the wire form has more than `lowered_size` octets. */
 uint32_t dnw_name_to_lowercase(const uint8_t *form, size_t form_len, uint8_t *lowered, size_t lowered_size, size_t *len);
+
+/* Puts the sort key of a name, and its length into `len`. Keys that are compared by memcmp over the shorter length, and then
+   by their lengths, are in the order of dnw_name_compare. They are equal if dnw_name_equal says that the names are, and else
+   not. A key begins with the key of a zone if dnw_name_in_zone says that its name is in the zone, and else not. It has the
+   labels from the last one, in lower case, with an octet 0 after each; in a label, 0 becomes 1 1, and 1 becomes 1 2. The root
+   has the empty key. It does not allocate. If the bytes are no wire form, it fails as dnw_name_compare. It fails with
+   DNW_NO_ROOM if the key has more than `key_size` octets: DNW_SORT_KEY_SIZE are always enough. */
+uint32_t dnw_name_sort_key(const uint8_t *form, size_t form_len, uint8_t *key, size_t key_size, size_t *len);
 
 /* Puts the wire form of a name with the labels of another after its own, and its length into `len`. It does not allocate.
    If one of them is no wire form, it fails as dnw_name_compare. Else it fails with DNW_NAME_TOO_LONG if both together take

@@ -10,3 +10,4 @@ pub mod ReverseCalls
 pub mod TokenCalls
 pub mod TypeLists
 pub mod Inside
+pub mod SortKeyCalls

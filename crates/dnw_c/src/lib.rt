@@ -19,6 +19,8 @@ pub mod order;
 pub mod records;
 /// Reverse names.
 pub mod reverse;
+/// Sort keys of names.
+pub mod sort_key;
 /// The tokens of master files.
 pub mod tokens;
 /// Times to live.

@@ -120,7 +120,7 @@ pub(crate) fn name_of(alloc: Global, form: &[u8]) -> Result<Name, Failure>
 /// Returns the labels of a wire form, without a copy. A name at offset 0 has no pointer, which would have to point before
 /// it, so its octets are its wire form.
 #[inline(always)]
-fn labels_of(form: &[u8]) -> Result<WireLabels<'_>, Failure>
+pub(crate) fn labels_of(form: &[u8]) -> Result<WireLabels<'_>, Failure>
     ensures ok { IfOk result (λ labels. IsFormOf form.now labels) }
     ensures err { IfErr result (IsNoForm form.now) }
 {
