@@ -9,11 +9,13 @@ from typing import Any
 LIBRARY = "libdns_names_wire.so"
 
 FORM_SIZE = 255
+SORT_KEY_SIZE = 504
 TEXT_SIZE = 1004
 CODE_SIZE = 10
 
-# Buffers that are always large enough for a wire form, for the text of a name, of a code, and of an error.
+# Buffers that are always large enough for a wire form, for a sort key, for the text of a name, of a code, and of an error.
 Form = c_char * FORM_SIZE
+SortKey = c_char * SORT_KEY_SIZE
 Text = c_char * TEXT_SIZE
 CodeText = c_char * CODE_SIZE
 ErrorText = c_char * 64
@@ -78,6 +80,7 @@ _FUNCTIONS = {
     "dnw_name_equal": (*_READ, *_READ, POINTER(c_bool)),
     "dnw_name_in_zone": (*_READ, *_READ, POINTER(c_bool)),
     "dnw_name_to_lowercase": (*_READ, *_WRITTEN, POINTER(c_size_t)),
+    "dnw_name_sort_key": (*_READ, *_WRITTEN, POINTER(c_size_t)),
     "dnw_name_append": (*_READ, *_READ, *_WRITTEN, POINTER(c_size_t)),
     "dnw_name_prepend_label": (*_READ, *_READ, *_WRITTEN, POINTER(c_size_t)),
     "dnw_name_trim": (*_READ, c_size_t, *_WRITTEN, POINTER(c_size_t)),

@@ -1,13 +1,15 @@
 """Names: read, parsed, printed, compared."""
 
 import ctypes
-from ctypes import byref
-from typing import Iterable, Iterator, NamedTuple, Tuple
+from ctypes import byref, c_size_t
+from typing import Any, Iterable, Iterator, NamedTuple, Tuple
 
 from . import _checks
 from ._checks import Bytes
 from ._errors import BytesLeft, DnsError, check
-from ._library import FORM_SIZE, TEXT_SIZE, Form, ParsedName, ReadName, Text, library, taken
+from ._library import FORM_SIZE, SORT_KEY_SIZE, TEXT_SIZE, Form, ParsedName, ReadName, SortKey, Text, library, taken
+
+_sort_key = library.dnw_name_sort_key
 
 
 class Name:
@@ -227,6 +229,26 @@ class Name:
         order = ctypes.c_int32()
         check(library.dnw_name_compare(*self._slice(), *others, byref(order)))
         return order.value
+
+    def sort_key(self) -> bytes:
+        """Octets whose order is the canonical order of names (RFC 4034, section 6.1), at most 504. It has the labels alone,
+        whether the name is fully qualified or not.
+
+        Keys are equal exactly if the labels are, ignoring case, and the keys of the names in a zone are those that begin
+        with the zone's key. To sort many names by it is much faster than without a key.
+
+        >>> sorted(map(Name, ["z.example.", "example.", "Z.a.example."]), key=Name.sort_key)
+        [Name('example.'), Name('Z.a.example.'), Name('z.example.')]
+        >>> Name("WWW.example.").sort_key()
+        b'example\\x00www\\x00'
+        """
+        # It is called once for each of many names, so it calls no more functions than it has to.
+        wire, key, length = self._wire, SortKey(), c_size_t()
+        failure = _sort_key(wire, len(wire), key, SORT_KEY_SIZE, byref(length))
+        if failure:
+            check(failure)
+        octets: Any = key[: length.value]
+        return bytes(octets)
 
     def _slice(self) -> Tuple[bytes, int]:
         return self._wire, len(self._wire)

@@ -110,6 +110,18 @@ class Order(unittest.TestCase):
         with self.assertRaises(TypeError):
             Name("a.") < "b."
 
+    def test_sort_keys_are_in_the_order_of_names(self):
+        ordered = [Name.from_wire(form) for form in ORDER]
+        self.assertEqual(sorted(reversed(ordered), key=Name.sort_key), ordered)
+        for left in ordered:
+            for right in ordered:
+                self.assertEqual(left.sort_key() < right.sort_key(), left < right)
+                self.assertEqual(left.sort_key().startswith(right.sort_key()), left in right)
+        self.assertEqual((Name("A.b.").sort_key(), Name("a.B").sort_key(), Name(".").sort_key()), (b"b\x00a\x00",) * 2 + (b"",))
+        self.assertEqual(Name.from_labels([b"\0\1\2"]).sort_key(), b"\1\1\1\2\2\0")
+        longest = Name.from_labels([b"\0" * 63, b"\1" * 63, b"\0" * 63, b"\1" * 61])
+        self.assertEqual((len(longest.wire), len(longest.sort_key())), (255, 504))
+
     def test_equal_names_have_one_hash(self):
         self.assertEqual({Name("WWW.a."): 1}[Name("www.A.")], 1)
         self.assertEqual(len({Name("WWW.a."), Name("www.A."), Name("www.a"), Name("b.")}), 3)

@@ -8,6 +8,8 @@ use alloc::vec::Vec;
 
 /// The octets of the longest wire form (RFC 1035, section 2.3.4).
 pub(crate) const FORM_SIZE: usize = 255;
+/// The octets of the longest sort key.
+pub(crate) const SORT_KEY_SIZE: usize = 504;
 /// The characters of the longest text of a name.
 pub(crate) const TEXT_SIZE: usize = 1004;
 /// The bytes of the longest name of a type or a class.
@@ -147,6 +149,7 @@ extern "C" {
         lowered_size: usize,
         len: *mut usize,
     ) -> u32;
+    fn dnw_name_sort_key(form: *const u8, form_len: usize, key: *mut u8, key_size: usize, len: *mut usize) -> u32;
     fn dnw_name_append(
         name: *const u8,
         name_len: usize,
@@ -335,6 +338,14 @@ pub(crate) fn to_lowercase(form: &[u8], lowered: &mut [u8; FORM_SIZE]) -> Result
     let mut len = 0;
     // SAFETY: pointers with their lengths, see the module.
     let number = unsafe { dnw_name_to_lowercase(form.as_ptr(), form.len(), lowered.as_mut_ptr(), FORM_SIZE, &mut len) };
+    outcome(number, len)
+}
+
+/// Puts the sort key of a name, and returns its length.
+pub(crate) fn sort_key(form: &[u8], key: &mut [u8; SORT_KEY_SIZE]) -> Result<usize, Error> {
+    let mut len = 0;
+    // SAFETY: pointers with their lengths, see the module.
+    let number = unsafe { dnw_name_sort_key(form.as_ptr(), form.len(), key.as_mut_ptr(), SORT_KEY_SIZE, &mut len) };
     outcome(number, len)
 }
 

@@ -21,7 +21,7 @@
 //! | read a name of a message, a text or a wire form | [`Name::read`], [`Name::from_ascii`] or `str::parse`, [`Name::from_wire`] |
 //! | pass over names, or walk their labels, without copying them | [`NameRef`], [`names()`] |
 //! | make names of names and labels | [`Name::from_labels`], [`Name::append`], [`Name::prepend_label`], [`Name::base_name`], [`Name::trim_to`], [`Name::to_wildcard`] |
-//! | print, compare, sort, hash | `Display`, `Ord`, `Hash`, [`Name::zone_of`], [`Name::to_lowercase`] |
+//! | print, compare, sort, hash | `Display`, `Ord`, `Hash`, [`Name::sort_key`], [`Name::zone_of`], [`Name::to_lowercase`] |
 //! | read the records of a message | [`Record`], [`records()`] |
 //! | write messages: questions, records and names, with compression | [`MessageWriter`] |
 //! | go from addresses to their reverse names, and back | [`Name::from_ip`], [`Name::parse_arpa_name`] |

@@ -1,6 +1,7 @@
 //! Names that own their wire form.
-use crate::door::{self, FORM_SIZE, TEXT_SIZE};
+use crate::door::{self, FORM_SIZE, SORT_KEY_SIZE, TEXT_SIZE};
 use crate::error::Error;
+use alloc::vec::Vec;
 use core::cmp::Ordering;
 use core::fmt;
 use core::hash::{Hash, Hasher};
@@ -313,6 +314,25 @@ impl Name {
         // Equal names have wire forms of one length, and a form equals itself.
         self.len == other.len
             && (self.as_wire() == other.as_wire() || door::equal(self.as_wire(), other.as_wire()).expect(VALID))
+    }
+
+    /// Returns octets whose order, as bytes, is the canonical order of names (RFC 4034, section 6.1), at most 504. It has the
+    /// labels alone, whether the name is fully qualified or not.
+    ///
+    /// Keys are equal exactly if the labels are, ignoring case, and the keys of the names in a zone are those that begin with
+    /// the zone's key. A database that orders its keys by `memcmp` so keeps names in canonical order.
+    ///
+    /// ```
+    /// use dns_names_wire::Name;
+    ///
+    /// let mut names = ["z.example.", "example.", "Z.a.example.", "a.example."].map(|text| text.parse::<Name>().unwrap());
+    /// names.sort_by_cached_key(Name::sort_key);
+    /// assert_eq!(names.map(|name| name.to_string()), ["example.", "a.example.", "Z.a.example.", "z.example."]);
+    /// ```
+    pub fn sort_key(&self) -> Vec<u8> {
+        let mut room = [0; SORT_KEY_SIZE];
+        let len = door::sort_key(self.as_wire(), &mut room).expect(VALID);
+        room[..len].to_vec()
     }
 
     /// Returns the name with its ASCII letters in lower case.

@@ -2,6 +2,7 @@
 use crate::door::{self, FORM_SIZE};
 use crate::error::Error;
 use crate::name::{Labels, Name};
+use alloc::vec::Vec;
 use core::cmp::Ordering;
 use core::fmt;
 use core::hash::{Hash, Hasher};
@@ -88,6 +89,17 @@ impl<'a> NameRef<'a> {
     /// ```
     pub fn labels(&self) -> Labels<'a> {
         Labels::new(self.message, self.start)
+    }
+
+    /// Returns the sort key of the name, as [`Name::sort_key`] does.
+    ///
+    /// ```
+    /// let name = dns_names_wire::NameRef::read(b"\x01b\0\x01a\xC0\0", 3)?;
+    /// assert_eq!(name.sort_key(), name.to_name().sort_key());
+    /// # Ok::<(), dns_names_wire::Error>(())
+    /// ```
+    pub fn sort_key(&self) -> Vec<u8> {
+        self.to_name().sort_key()
     }
 
     /// Returns a copy that owns its wire form.

@@ -118,6 +118,22 @@ fn the_order_is_canonical() {
 }
 
 #[test]
+fn sort_keys_are_in_the_order_of_names() {
+    let ordered: Vec<Name> = ORDER.iter().map(|form| Name::from_wire(form).unwrap()).collect();
+    for (i, left) in ordered.iter().enumerate() {
+        for (j, right) in ordered.iter().enumerate() {
+            assert_eq!(left.sort_key().cmp(&right.sort_key()), i.cmp(&j), "{left} {right}");
+            assert_eq!(left.sort_key().starts_with(&right.sort_key()), right.zone_of(left), "{left} {right}");
+        }
+    }
+    assert_eq!(name("A.b.").sort_key(), b"b\0a\0");
+    assert_eq!((name("a.B").sort_key(), Name::root().sort_key()), (name("A.b.").sort_key(), vec![]));
+    assert_eq!(Name::from_labels([[0, 1, 2]]).unwrap().sort_key(), b"\x01\x01\x01\x02\x02\0");
+    let longest = Name::from_labels([&[0; 63][..], &[1; 63], &[0; 63], &[1; 61]]).unwrap();
+    assert_eq!((longest.as_wire().len(), longest.sort_key().len()), (255, 504));
+}
+
+#[test]
 fn equal_names_have_one_hash() {
     let set: HashSet<Name> = ["WWW.a.", "www.A.", "b."].into_iter().map(name).collect();
     assert_eq!(set.len(), 2);
@@ -278,6 +294,7 @@ fn random_messages() {
         assert_eq!((name == last, name.cmp(&last) == Ordering::Equal), (same, same));
         assert!(!same || hash(&name) == hash(&last));
         assert_eq!(name.cmp(&last), last.cmp(&name).reverse());
+        assert_eq!(name.cmp(&last), name.sort_key().cmp(&last.sort_key()));
         (accepted, equal, last) = (accepted + 1, equal + usize::from(same), name);
     }
     assert!(accepted > 10_000 && equal > 1_000, "{accepted} {equal}");
