@@ -6,6 +6,7 @@ use Rattle.dnw_encoder.specs.Encoder.{Encoder}
 use Rattle.dnw_encoder.specs.Emitting.{Outcome, Frame}
 use Rattle.dnw_encoder.specs.EmittingLaws.{frame, frame-same, frame-text, frames-follow}
 use Rattle.dnw_encoder.specs.NameFrames.{frame-name}
+use Rattle.dnw_record.specs.RecordFrames.{frame-in_mode}
 use Rattle.dns_names_wire.specs.declared.script.Part.{Part}
 use Rattle.dns_names_wire.specs.declared.script.Part.TheVariants.{Name, U8, U16, I32, U32, Bytes, Text}
 use Rattle.dns_names_wire.specs.declared.script.Item.{Item}
@@ -33,21 +34,6 @@ frame-parts (part ∷ parts) v (Err error) w e h =
           let first = frame-part part v (Ok tt) r.0 e r.1 in
           frames-follow v r.0 w (Err error) e first (frame-parts parts r.0 (Err error) w first.ends r.2)
     ]
-
--- the mode makes no difference to the frame but for itself
-frame-in_mode : (v : Encoder) (mode : NameEncoding) (outcome : Outcome) (u : Encoder) → Frame (record v { encoding = mode }) outcome u
-    → Frame v outcome (record u { encoding = v.encoding })
-frame-in_mode v mode outcome u f =
-    record {
-      bytes = f.bytes;
-      candidates = f.candidates;
-      encoding = refl;
-      canonical = f.canonical;
-      max_size = f.max_size;
-      candidate_limit = f.candidate_limit;
-      name_limit = f.name_limit;
-      ends = f.ends;
-    }
 
 framed : (item : Item) (mode : Option NameEncoding) (v : Encoder) (outcome : Outcome) (u : Encoder) → v.offset ≡ length v.bytes
     → EmitsParts item.parts.items (in_encoding mode v) outcome u → Frame v outcome (record u { encoding = v.encoding })

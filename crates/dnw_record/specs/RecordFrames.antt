@@ -32,7 +32,8 @@ frame-then first second keeps follows v (Err error) w e (inr h) =
 
 -- ---- data
 
-frame-in_mode : (v : Encoder) (mode : NameEncoding) (outcome : Outcome) (u : Encoder) → Frame (in_encoding v mode) outcome u
+-- the mode makes no difference to the frame but for itself
+pub frame-in_mode : (v : Encoder) (mode : NameEncoding) (outcome : Outcome) (u : Encoder) → Frame (in_encoding v mode) outcome u
     → Frame v outcome (in_encoding u v.encoding)
 frame-in_mode v mode outcome u f =
     record {
