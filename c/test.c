@@ -477,6 +477,50 @@ static void codes(void)
 }
 
 /* RFC 1982, sections 3.1, 3.2 and 5.2 */
+struct named_code {
+    uint32_t code;
+    const char *name;
+};
+
+/* The codes with names are those of the header, and no others. */
+static void print_all(uint32_t (*print)(uint16_t, uint8_t *, size_t, size_t *), const struct named_code *named, size_t count,
+                      const char *unnamed)
+{
+    for (uint32_t code = 0; code <= 65535; code++) {
+        const char *name = unnamed;
+        for (size_t i = 0; i < count; i++)
+            if (named[i].code == code)
+                name = named[i].name;
+        size_t len = 0;
+        clear();
+        EXPECT(print((uint16_t)code, buffer, DNW_CODE_SIZE, &len) == DNW_DONE);
+        EXPECT(len == strlen(name) && holds(name, len));
+    }
+}
+
+static void named_codes(void)
+{
+    static const struct named_code types[] = {
+        {DNW_TYPE_ZERO, "ZERO"}, {DNW_TYPE_A, "A"}, {DNW_TYPE_NS, "NS"}, {DNW_TYPE_CNAME, "CNAME"},
+        {DNW_TYPE_SOA, "SOA"}, {DNW_TYPE_NULL, "NULL"}, {DNW_TYPE_PTR, "PTR"}, {DNW_TYPE_HINFO, "HINFO"},
+        {DNW_TYPE_MX, "MX"}, {DNW_TYPE_TXT, "TXT"}, {DNW_TYPE_SIG, "SIG"}, {DNW_TYPE_KEY, "KEY"},
+        {DNW_TYPE_AAAA, "AAAA"}, {DNW_TYPE_SRV, "SRV"}, {DNW_TYPE_NAPTR, "NAPTR"}, {DNW_TYPE_CERT, "CERT"},
+        {DNW_TYPE_DNAME, "DNAME"}, {DNW_TYPE_OPT, "OPT"}, {DNW_TYPE_DS, "DS"}, {DNW_TYPE_SSHFP, "SSHFP"},
+        {DNW_TYPE_RRSIG, "RRSIG"}, {DNW_TYPE_NSEC, "NSEC"}, {DNW_TYPE_DNSKEY, "DNSKEY"}, {DNW_TYPE_NSEC3, "NSEC3"},
+        {DNW_TYPE_NSEC3PARAM, "NSEC3PARAM"}, {DNW_TYPE_TLSA, "TLSA"}, {DNW_TYPE_SMIMEA, "SMIMEA"},
+        {DNW_TYPE_CDS, "CDS"}, {DNW_TYPE_CDNSKEY, "CDNSKEY"}, {DNW_TYPE_OPENPGPKEY, "OPENPGPKEY"},
+        {DNW_TYPE_CSYNC, "CSYNC"}, {DNW_TYPE_SVCB, "SVCB"}, {DNW_TYPE_HTTPS, "HTTPS"}, {DNW_TYPE_TSIG, "TSIG"},
+        {DNW_TYPE_IXFR, "IXFR"}, {DNW_TYPE_AXFR, "AXFR"}, {DNW_TYPE_ANY, "ANY"}, {DNW_TYPE_CAA, "CAA"},
+        {DNW_TYPE_ANAME, "ANAME"},
+    };
+    static const struct named_code classes[] = {
+        {DNW_CLASS_IN, "IN"}, {DNW_CLASS_CH, "CH"}, {DNW_CLASS_HS, "HS"}, {DNW_CLASS_NONE, "NONE"},
+        {DNW_CLASS_ANY, "ANY"},
+    };
+    print_all(dnw_type_print, types, sizeof types / sizeof types[0], "Unknown");
+    print_all(dnw_class_print, classes, sizeof classes / sizeof classes[0], "UNKNOWN");
+}
+
 static void serials(void)
 {
     int32_t order = 7;
@@ -575,9 +619,29 @@ static uint32_t lex(const uint8_t *text, size_t text_len)
     return answer;
 }
 
+/* A word of any length and what ends it, also if a part of the text that is looked at first ends within them. */
+static void long_tokens(void)
+{
+    static uint8_t text[1203], words[1203];
+    for (size_t len = 2; len <= 1200; len += 2) {
+        struct dnw_lexer lexer = {0, true};
+        struct dnw_token token;
+        for (size_t i = 0; i < len; i += 2)
+            memcpy(text + i, "\303\251", 2);
+        memcpy(text + len, ";\377\n", 3);
+        EXPECT(dnw_token_next(text, len + 3, &lexer, words, sizeof words, &token) == DNW_DONE);
+        EXPECT(token.kind == DNW_TOKEN_TEXT && token.count == 1 && token.len == len && memcmp(words, text, len) == 0);
+        EXPECT(lexer.offset == len && !lexer.at_line_start);
+        EXPECT(dnw_token_next(text, len + 3, &lexer, words, sizeof words, &token) == DNW_NOT_UTF8);
+        EXPECT(lexer.offset == len && lex(text, len - 1) == DNW_NOT_UTF8);
+        text[len] = ')';
+        EXPECT(lex(text, len + 3) == DNW_ILLEGAL_CHARACTER);
+    }
+}
+
 static void refuses_tokens(void)
 {
-    EXPECT(lex(BYTES("\377")) == DNW_NOT_UTF8);
+    EXPECT(lex(BYTES("\377")) == DNW_NOT_UTF8 && lex(BYTES("a\377")) == DNW_NOT_UTF8);
     EXPECT(lex(BYTES("\r")) == DNW_TEXT_CUT);
     EXPECT(lex(BYTES("\"\\")) == DNW_TEXT_CUT);
     EXPECT(lex(BYTES(")")) == DNW_ILLEGAL_CHARACTER);
@@ -631,6 +695,8 @@ static void lacks_memory(void)
     EXPECT(dnw_types_read(BYTES("\000\001\100"), codes, 1, &len) == DNW_NO_MEMORY && len == 0 && codes[0] == 9);
     code = 1;
     EXPECT(dnw_types_write(&code, 1, buffer, sizeof buffer, &len) == DNW_NO_MEMORY && len == 0);
+    EXPECT(lex(BYTES("\r")) == DNW_TEXT_CUT && lex(BYTES(")")) == DNW_ILLEGAL_CHARACTER && lex(BYTES("$")) == DNW_UNKNOWN_ENTRY);
+    EXPECT(lex(BYTES("(\001")) == DNW_CONTROL_CHARACTER && lex(BYTES("(a")) == DNW_NO_MEMORY);
     EXPECT(dnw_token_next(BYTES("a"), &lexer, buffer, sizeof buffer, &token) == DNW_NO_MEMORY && lexer.offset == 0);
     EXPECT(dnw_token_next(BYTES("$FOO"), &lexer, buffer, sizeof buffer, &token) == DNW_NO_MEMORY && token.kind == 99);
     EXPECT(untouched());
@@ -664,11 +730,13 @@ int main(void)
     compares();
     edits();
     codes();
+    named_codes();
     serials();
     type_lists();
     times();
     tokens();
     refuses_tokens();
+    long_tokens();
     tells_failures();
     lacks_memory();
     return 0;

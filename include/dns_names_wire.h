@@ -226,6 +226,57 @@ uint32_t dnw_name_trim(const uint8_t *name, size_t name_len, size_t labels, uint
    The root stays the root. It does not allocate. It fails as dnw_name_to_lowercase. */
 uint32_t dnw_name_to_wildcard(const uint8_t *name, size_t name_len, uint8_t *form, size_t form_size, size_t *len);
 
+/* The record types and the classes that have a name. Any other number up to 65535 is a code too. */
+enum dnw_type {
+    DNW_TYPE_ZERO = 0,        /* Code 0, which is the type of no record (RFC 6895, section 3.1) */
+    DNW_TYPE_A = 1,           /* An IPv4 address (RFC 1035, section 3.4.1) */
+    DNW_TYPE_NS = 2,          /* A name server of a zone (RFC 1035, section 3.3.11) */
+    DNW_TYPE_CNAME = 5,       /* The name that an alias stands for (RFC 1035, section 3.3.1) */
+    DNW_TYPE_SOA = 6,         /* The start of a zone (RFC 1035, section 3.3.13) */
+    DNW_TYPE_NULL = 10,       /* Any data (RFC 1035, section 3.3.10) */
+    DNW_TYPE_PTR = 12,        /* Another name (RFC 1035, section 3.3.12) */
+    DNW_TYPE_HINFO = 13,      /* What a host is (RFC 1035, section 3.3.2) */
+    DNW_TYPE_MX = 15,         /* Where mail goes (RFC 1035, section 3.3.9) */
+    DNW_TYPE_TXT = 16,        /* Text (RFC 1035, section 3.3.14) */
+    DNW_TYPE_SIG = 24,        /* A signature of a message (RFC 2931) */
+    DNW_TYPE_KEY = 25,        /* A key of a host (RFC 2535 and RFC 2930) */
+    DNW_TYPE_AAAA = 28,       /* An IPv6 address (RFC 3596, section 2.1) */
+    DNW_TYPE_SRV = 33,        /* Where a service is (RFC 2782) */
+    DNW_TYPE_NAPTR = 35,      /* A rule that rewrites a name (RFC 3403) */
+    DNW_TYPE_CERT = 37,       /* A certificate (RFC 4398) */
+    DNW_TYPE_DNAME = 39,      /* The name that a whole subtree is an alias of (RFC 6672) */
+    DNW_TYPE_OPT = 41,        /* The options of a message (RFC 6891) */
+    DNW_TYPE_DS = 43,         /* The digest of a child's key (RFC 4034, section 5) */
+    DNW_TYPE_SSHFP = 44,      /* The fingerprint of an SSH key (RFC 4255) */
+    DNW_TYPE_RRSIG = 46,      /* A signature of records (RFC 4034, section 3) */
+    DNW_TYPE_NSEC = 47,       /* The next name of a zone, and the types of this one (RFC 4034, section 4) */
+    DNW_TYPE_DNSKEY = 48,     /* A key of a zone (RFC 4034, section 2) */
+    DNW_TYPE_NSEC3 = 50,      /* As NSEC, over hashed names (RFC 5155, section 3) */
+    DNW_TYPE_NSEC3PARAM = 51, /* How the names of a zone are hashed (RFC 5155, section 4) */
+    DNW_TYPE_TLSA = 52,       /* A certificate of a TLS server (RFC 6698) */
+    DNW_TYPE_SMIMEA = 53,     /* A certificate for mail (RFC 8162) */
+    DNW_TYPE_CDS = 59,        /* The child's copy of a DS (RFC 7344) */
+    DNW_TYPE_CDNSKEY = 60,    /* The child's copy of a DNSKEY (RFC 7344) */
+    DNW_TYPE_OPENPGPKEY = 61, /* A key of OpenPGP (RFC 7929) */
+    DNW_TYPE_CSYNC = 62,      /* What a parent may copy from its child (RFC 7477) */
+    DNW_TYPE_SVCB = 64,       /* How to reach a service (RFC 9460) */
+    DNW_TYPE_HTTPS = 65,      /* How to reach a service over HTTPS (RFC 9460) */
+    DNW_TYPE_TSIG = 250,      /* The signature of a message by a shared key (RFC 8945) */
+    DNW_TYPE_IXFR = 251,      /* The transfer of what changed in a zone, in a question (RFC 1995) */
+    DNW_TYPE_AXFR = 252,      /* The transfer of a whole zone, in a question (RFC 5936) */
+    DNW_TYPE_ANY = 255,       /* Any type, in a question (RFC 1035, section 3.2.3) */
+    DNW_TYPE_CAA = 257,       /* Which authorities may issue certificates (RFC 8659) */
+    DNW_TYPE_ANAME = 65305,   /* An alias at the top of a zone (draft-ietf-dnsop-aname). Its code was never assigned */
+};
+
+enum dnw_class {
+    DNW_CLASS_IN = 1,     /* The Internet (RFC 1035, section 3.2.4) */
+    DNW_CLASS_CH = 3,     /* Chaosnet (RFC 1035, section 3.2.4) */
+    DNW_CLASS_HS = 4,     /* Hesiod (RFC 1035, section 3.2.4) */
+    DNW_CLASS_NONE = 254, /* No class, in an update (RFC 2136, section 2.4) */
+    DNW_CLASS_ANY = 255,  /* Any class, in a question (RFC 1035, section 3.2.5) */
+};
+
 /* Puts the name of the record type with a code in capitals, `ZERO` for 0 and `Unknown` for a code without a name, and its
    length into `len`: DNW_CODE_SIZE bytes are always enough. It fails with DNW_NO_ROOM if the name is longer than
    `text_size`. */
@@ -297,10 +348,12 @@ struct dnw_token {
 
    It fails with DNW_NOT_UTF8, DNW_TEXT_CUT, DNW_ILLEGAL_CHARACTER, DNW_CONTROL_CHARACTER, DNW_UNCLOSED_LIST,
    DNW_UNCLOSED_QUOTE or DNW_UNKNOWN_ENTRY if no token stands next; with DNW_NO_ROOM if one does and its bytes are more than
-   `words_size`; and with DNW_NO_MEMORY. If it fails, the lexer is unchanged, so a call with a larger buffer goes on.
+   `words_size`; and with DNW_NO_MEMORY, but only if the token, a list or a quoted text has bytes of its own to keep. If it
+   fails, the lexer is unchanged, so a call with a larger buffer goes on.
 
-   Each call tests whether the text from the offset on is UTF-8. So the time of a call grows with what is left: pass a long
-   text in parts that end at a line's end outside of parentheses and quotes. */
+   A call looks no further than it has to: its time is that of a token and the white space and comment before it, not of what
+   is left. So it fails with DNW_NOT_UTF8 only once octets that are not UTF-8 stand before the end of the next token or right
+   after it; tokens before them are found. The offset after a token is the end of a character. */
 uint32_t dnw_token_next(const uint8_t *text, size_t text_len, struct dnw_lexer *lexer, uint8_t *words, size_t words_size,
                         struct dnw_token *token);
 

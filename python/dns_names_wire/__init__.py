@@ -3,7 +3,7 @@ by a library whose every function is proved.
 
 The library is the shared library of the C library of `dns-names-wire`, which the wheel has. Its reader accepts exactly the
 names of RFC 1035, section 4.1.4, and no input makes it read outside the message, loop or crash. This package gives it Python's
-types, over ctypes. The package itself is not proved. It uses the standard library of Python alone.
+types, over ctypes. The package itself is not proved. It uses only the standard library of Python.
 
 The shared library is looked for in the folder that the environment variable DNW_LIB_DIR names, and if that is not set
 beside this file.

@@ -9,8 +9,8 @@ class DnsError(ValueError):
     """A call failed. Each failure is a class below this one.
 
     `number` is its number in `dns_names_wire.h`, `reason` says in words what is wrong, and `offset` says where, or is None
-    if that is not known: the octet of a message at which a name or a record begins that is none, or the character of a
-    text of a master file at which no token stands next.
+    if that is not known: the octet of the message at which the name or record should begin, or the character of the master
+    file's text after which there is no token.
 
     >>> from dns_names_wire import read_name
     >>> try:

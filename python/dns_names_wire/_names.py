@@ -38,10 +38,10 @@ class Name:
     _hash: int
 
     def __new__(cls, text: str = "") -> "Name":
-        """The name that a text gives (RFC 1035, section 5.1), fully qualified if it ends in a dot.
+        """The name with a text (RFC 1035, section 5.1), fully qualified if it ends in a dot.
 
         A label has ASCII letters, digits, `_`, `-` if it does not begin with it, `*` if it begins with it, and dots that are
-        escaped. Raises `BadText`, `LabelTooLong` or `NameTooLong` if there is none.
+        escaped. Raises `BadText`, `LabelTooLong` or `NameTooLong` if it is the text of no name.
         """
         encoded = _checks.text("text", text)
         form, parsed = Form(), ParsedName()

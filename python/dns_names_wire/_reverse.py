@@ -27,7 +27,7 @@ def reverse_name(address: Union[Address, str]) -> Name:
 
 
 def parse_reverse_name(name: Name) -> Network:
-    """The net that a reverse name stands for; of the reverse name of an address it is that address alone.
+    """The net that a reverse name stands for. For the reverse name of an address it has that one address.
 
     Raises `NotReverse` if the name is not fully qualified, or not below `in-addr.arpa.` or `ip6.arpa.`, or has a label that
     is no octet in decimal or no hexadecimal digit, or more labels than an address.

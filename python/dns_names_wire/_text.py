@@ -5,7 +5,7 @@ from ctypes import byref, c_char, c_uint32
 from typing import Iterator, NamedTuple, Tuple
 
 from . import _checks
-from ._errors import check
+from ._errors import NotUtf8, check
 from ._library import Lexer, library, taken
 from ._library import Token as _Token
 
@@ -47,6 +47,11 @@ class TokenKind(enum.Enum):
     """The end of a line."""
 
 
+# How many bytes of the text the library is given for a token, if these are enough. It tests each time whether they are UTF-8, so
+# that few are best; most tokens are much shorter.
+_WINDOW = 64
+
+
 class Token(NamedTuple):
     """A token: its kind, and its texts, which are one of a text, and the words of a list."""
 
@@ -58,8 +63,7 @@ def tokens(text: str) -> Iterator[Token]:
     """The tokens of a text of a master file (RFC 1035, section 5.1), one after another.
 
     Raises `TextCut`, `IllegalCharacter`, `ControlCharacter`, `UnclosedList`, `UnclosedQuote` or `UnknownEntry` if no token
-    stands next. The time of each token grows with what is left of the text: split a long text at ends of lines, outside of
-    parentheses and quotes.
+    stands next, and `NotUtf8`, before any token, if the text has half a surrogate pair.
 
     >>> for token in tokens("@ MX (10 a.)"):
     ...     print(token.kind.name, *token.texts)
@@ -68,22 +72,51 @@ def tokens(text: str) -> Iterator[Token]:
     LIST 10 a.
     """
     encoded = _checks.text("text", text)
+    try:
+        encoded.decode()
+    except UnicodeDecodeError as error:
+        check(NotUtf8.number, len(encoded[: error.start].decode()))
     return _tokens(encoded)
 
 
 def _tokens(text: bytes) -> Iterator[Token]:
-    lexer, token, words = Lexer(0, True), _Token(), (c_char * max(len(text), 1))()
+    offset, at_line_start = 0, True
     while True:
-        failure = library.dnw_token_next(text, len(text), byref(lexer), words, len(text), byref(token))
-        if failure:
-            check(failure, len(text[: lexer.offset].decode("utf-8", "surrogatepass")))
-        if token.kind == 0:
+        kind, words, offset, at_line_start = _next(text, offset, at_line_start)
+        if kind == 0:
             return
-        kind, bytes_ = TokenKind(token.kind), taken(words, token.len).decode()
-        if kind is TokenKind.TEXT:
-            yield Token(kind, (bytes_,))
-        elif kind is TokenKind.LIST:
-            # a zero byte ends each word
-            yield Token(kind, tuple(bytes_.split("\0")[:-1]))
-        else:
-            yield Token(kind)
+        yield _token(TokenKind(kind), words.decode())
+
+
+def _next(text: bytes, offset: int, at_line_start: bool) -> Tuple[int, bytes, int, bool]:
+    """The kind and the texts of the next token, and the lexer's state after it.
+
+    A token that ends before the window does is the same whatever follows. Else the window is doubled, up to the whole rest.
+    """
+    size = _WINDOW
+    while True:
+        window = _front(text, offset, size)
+        lexer, token, words = Lexer(0, at_line_start), _Token(), (c_char * max(len(window), 1))()
+        failure = library.dnw_token_next(window, len(window), byref(lexer), words, len(window), byref(token))
+        is_within = failure == 0 and token.kind != 0 and lexer.offset < len(window)
+        if is_within or offset + len(window) == len(text):
+            break
+        size *= 2
+    if failure:
+        check(failure, len(text[:offset].decode()))
+    return token.kind, taken(words, token.len), offset + lexer.offset, lexer.at_line_start
+
+
+def _front(text: bytes, offset: int, size: int) -> bytes:
+    """So many bytes of a text from an offset, and up to three more so that no character is cut."""
+    end = offset + size
+    while end < len(text) and text[end] & 0xC0 == 0x80:
+        end += 1
+    return text[offset:end]
+
+
+def _token(kind: TokenKind, words: str) -> Token:
+    if kind is TokenKind.TEXT:
+        return Token(kind, (words,))
+    # a zero byte ends each word of a list
+    return Token(kind, tuple(words.split("\0")[:-1]))

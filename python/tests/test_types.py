@@ -132,6 +132,24 @@ class Texts(unittest.TestCase):
         self.assertEqual(eval(repr(read), {"Token": Token, "TokenKind": TokenKind}), read)
 
 
+    def test_long_texts_have_the_tokens_of_their_parts(self):
+        for length in [*range(1, 70), 127, 128, 129, 1000, 10000]:
+            long = "\u00e4" * length
+            blanks = " " * length
+            text = f'{long} "{long} \\""({long} ; {long}\n{long}){blanks} ; {long}\r\n$ORIGIN'
+            wanted = [("TEXT", (long,)), ("TEXT", (f'{long} "',)), ("LIST", (long, long)), ("LINE_END", ()), ("ORIGIN", ())]
+            self.assertEqual([(token.kind.name, token.texts) for token in tokens(text)], wanted)
+            for cut, error in [("(", dnw.UnclosedList), ('"', dnw.UnclosedQuote), ("$", dnw.UnknownEntry)]:
+                read = tokens(f"{long} {cut}{long}")
+                self.assertEqual(next(read).texts, (long,))
+                with self.assertRaises(error) as raised:
+                    next(read)
+                self.assertEqual(raised.exception.offset, length)
+        with self.assertRaises(dnw.NotUtf8) as raised:
+            tokens("a" * 100 + "\udc80")
+        self.assertEqual(raised.exception.offset, 100)
+
+
 def load_tests(loader, tests, pattern):
     for module in ["_codes", "_text", "_types"]:
         tests.addTests(doctest.DocTestSuite(import_module(f"dns_names_wire.{module}")))

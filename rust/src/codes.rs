@@ -1,10 +1,11 @@
 //! Record types, classes and serial numbers.
 use crate::door::{self, CODE_SIZE};
 use crate::error::Error;
-use std::cmp::Ordering;
-use std::fmt;
-use std::ops::Add;
-use std::str::FromStr;
+use alloc::format;
+use core::cmp::Ordering;
+use core::fmt;
+use core::ops::Add;
+use core::str::FromStr;
 
 /// A record type, by its code of 16 bits.
 ///
@@ -172,7 +173,7 @@ fn with_capitals<T>(text: &str, parse: impl FnOnce(&str) -> Result<T, Error>) ->
     let capitals = room.get_mut(..text.len()).ok_or(Error::UnknownText)?;
     capitals.copy_from_slice(text.as_bytes());
     capitals.make_ascii_uppercase();
-    parse(std::str::from_utf8(capitals).expect("ASCII letters alone were changed"))
+    parse(core::str::from_utf8(capitals).expect("ASCII letters alone were changed"))
 }
 
 macro_rules! code {

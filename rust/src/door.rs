@@ -4,6 +4,7 @@
 //! never null, and its length; a result goes through a `&mut`, which overlaps nothing; the C library keeps no pointer, and
 //! is proved to read and write nothing outside its arguments, whatever the bytes are.
 use crate::error::Error;
+use alloc::vec::Vec;
 
 /// The octets of the longest wire form (RFC 1035, section 2.3.4).
 pub(crate) const FORM_SIZE: usize = 255;
@@ -416,7 +417,7 @@ pub(crate) fn serial_compare(left: u32, right: u32) -> Result<i32, Error> {
 
 /// Returns the sum of two serial numbers.
 pub(crate) fn serial_add(serial: u32, other: u32) -> u32 {
-    // SAFETY: it takes numbers alone.
+    // SAFETY: it takes only numbers.
     unsafe { dnw_serial_add(serial, other) }
 }
 
@@ -461,5 +462,5 @@ pub(crate) fn error_text(number: u32, text: &mut [u8; ERROR_TEXT_SIZE]) -> &str 
 }
 
 fn ascii(text: &[u8]) -> &str {
-    std::str::from_utf8(text).expect("the C library's texts are ASCII")
+    core::str::from_utf8(text).expect("the C library's texts are ASCII")
 }

@@ -1,6 +1,6 @@
 //! Why a call fails.
 use crate::door;
-use std::fmt;
+use core::fmt;
 
 /// Why a call fails. Its text is the C library's.
 ///
@@ -115,7 +115,8 @@ impl fmt::Display for Error {
     }
 }
 
-/// It has no source: the C library gives a failure's number alone.
+/// It has no source: all that the C library reports is a failure's number.
+#[cfg(feature = "std")]
 impl std::error::Error for Error {}
 
 /// An error of kind `InvalidData`, or `OutOfMemory` for `NoMemory`, from which this one can be had back.
@@ -125,6 +126,7 @@ impl std::error::Error for Error {}
 /// assert_eq!(error.kind(), std::io::ErrorKind::InvalidData);
 /// assert_eq!(error.to_string(), "the message ends within the name");
 /// ```
+#[cfg(feature = "std")]
 impl From<Error> for std::io::Error {
     fn from(error: Error) -> Self {
         let kind = match error {

@@ -3,7 +3,7 @@
 //!
 //! The library is the static archive of the C library of `dns-names-wire`. Its reader accepts exactly the names of RFC
 //! 1035, section 4.1.4, and no input makes it read outside the message, loop or panic. This crate gives it Rust's types. The
-//! crate itself is not proved: it is small, has no dependency, and has `unsafe` in one module of declarations alone.
+//! crate itself is not proved: it is small, has no dependency, and its only `unsafe` is in the module of the declarations.
 //!
 //! ```
 //! use dns_names_wire::{Error, Name};
@@ -30,12 +30,19 @@
 //!
 //! Values may be sent to and shared by threads. Calls fail with an [`Error`], and never panic on input.
 //!
+//! Without its feature `std`, which is on by default, the crate needs only `core`, `alloc` and the system's C library, and has
+//! neither reverse names nor the traits of errors.
+//!
 //! Cargo finds the archive as `build.rs` says: in the folder that the environment variable `DNW_LIB_DIR` names, or in `lib`
 //! of this crate. In a checkout of the repository it is built if the Rattle toolchain is there.
+#![cfg_attr(not(feature = "std"), no_std)]
 #![deny(unsafe_code)]
 #![warn(missing_docs)]
 
+extern crate alloc;
+
 #[allow(unsafe_code)]
+#[cfg_attr(not(feature = "std"), allow(dead_code))]
 mod door;
 
 mod codes;

@@ -1,11 +1,12 @@
 //! Names that own their wire form.
 use crate::door::{self, FORM_SIZE, TEXT_SIZE};
 use crate::error::Error;
-use std::cmp::Ordering;
-use std::fmt;
-use std::hash::{Hash, Hasher};
+use core::cmp::Ordering;
+use core::fmt;
+use core::hash::{Hash, Hasher};
+use core::str::FromStr;
+#[cfg(feature = "std")]
 use std::net::IpAddr;
-use std::str::FromStr;
 
 /// A domain name: at most 255 octets of wire form (RFC 1035, section 3.1), and whether it is fully qualified.
 ///
@@ -32,7 +33,7 @@ pub struct Name {
     is_fqdn: bool,
 }
 
-/// Why `expect` holds: a `Name` is made by the C library alone, or is the root.
+/// Why `expect` holds: only the C library makes a `Name`, other than the root.
 const VALID: &str = "the wire form of a name";
 
 impl Name {
@@ -67,6 +68,7 @@ impl Name {
     /// let name = dns_names_wire::Name::from_ip(Ipv4Addr::new(192, 0, 2, 1).into());
     /// assert_eq!(name.to_string(), "1.2.0.192.in-addr.arpa.");
     /// ```
+    #[cfg(feature = "std")]
     pub fn from_ip(address: IpAddr) -> Self {
         let mut form = [0; FORM_SIZE];
         let len = match address {
@@ -147,13 +149,13 @@ impl Name {
         }
     }
 
-    /// Returns the name that a text gives (RFC 1035, section 5.1): labels between dots, fully qualified if it ends in a dot.
+    /// Returns the name with a text (RFC 1035, section 5.1): labels between dots, fully qualified if it ends in a dot.
     /// A label has ASCII letters, digits, `_`, `-` if it does not begin with it, `*` if it begins with it, and dots that are
     /// escaped, as `\\.` or in octal digits.
     ///
     /// # Errors
     ///
-    /// `BadText`, `LabelTooLong` or `NameTooLong` if it gives none, or `NoMemory` in place of `BadText`.
+    /// `BadText`, `LabelTooLong` or `NameTooLong` if it is the text of no name, or `NoMemory` in place of `BadText`.
     ///
     /// ```
     /// use dns_names_wire::{Error, Name};
@@ -419,6 +421,7 @@ impl Name {
     /// assert_eq!(name.parse_arpa_name()?, ([192, 168, 0, 0].into(), 16));
     /// # Ok::<(), dns_names_wire::Error>(())
     /// ```
+    #[cfg(feature = "std")]
     pub fn parse_arpa_name(&self) -> Result<(IpAddr, u8), Error> {
         if !self.is_fqdn {
             return Err(Error::NotReverse);
@@ -445,6 +448,7 @@ impl Default for Name {
 }
 
 /// As [`Name::from_ip`].
+#[cfg(feature = "std")]
 impl From<IpAddr> for Name {
     fn from(address: IpAddr) -> Name {
         Name::from_ip(address)
@@ -556,7 +560,7 @@ impl<'a> Labels<'a> {
     /// The labels of the name at an offset of a message, which the C library has accepted there.
     pub(crate) fn new(message: &'a [u8], at: usize) -> Self {
         let mut end = at;
-        let left = std::iter::from_fn(|| step(message, &mut end)).count();
+        let left = core::iter::from_fn(|| step(message, &mut end)).count();
         Labels { message, at, left }
     }
 }
@@ -604,4 +608,4 @@ impl DoubleEndedIterator for Labels<'_> {
 
 impl ExactSizeIterator for Labels<'_> {}
 
-impl std::iter::FusedIterator for Labels<'_> {}
+impl core::iter::FusedIterator for Labels<'_> {}

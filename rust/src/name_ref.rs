@@ -2,9 +2,9 @@
 use crate::door::{self, FORM_SIZE};
 use crate::error::Error;
 use crate::name::{Labels, Name};
-use std::cmp::Ordering;
-use std::fmt;
-use std::hash::{Hash, Hasher};
+use core::cmp::Ordering;
+use core::fmt;
+use core::hash::{Hash, Hasher};
 
 /// A name that was read in a message and stays there: the message and two offsets. It is fully qualified.
 ///
@@ -213,4 +213,4 @@ impl<'a> Iterator for Names<'a> {
     }
 }
 
-impl std::iter::FusedIterator for Names<'_> {}
+impl core::iter::FusedIterator for Names<'_> {}

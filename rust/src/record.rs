@@ -3,7 +3,7 @@ use crate::codes::{Class, RecordType};
 use crate::door::{self, FORM_SIZE};
 use crate::error::Error;
 use crate::name::Name;
-use std::fmt;
+use core::fmt;
 
 /// A record that was read in a message (RFC 1035, section 4.1.3). Its data stay in the message, and are not looked into.
 ///
@@ -250,4 +250,4 @@ impl<'a> Iterator for Records<'a> {
     }
 }
 
-impl std::iter::FusedIterator for Records<'_> {}
+impl core::iter::FusedIterator for Records<'_> {}

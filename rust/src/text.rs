@@ -1,6 +1,8 @@
 //! Texts of master files: times to live and tokens.
 use crate::door;
 use crate::error::Error;
+use alloc::string::String;
+use alloc::vec::Vec;
 
 /// Returns the seconds of a time to live: groups of digits and a unit of `s`, `m`, `h`, `d` or `w`, of which the last may
 /// lack its unit.
@@ -47,6 +49,10 @@ pub enum Token {
     LineEnd,
 }
 
+/// How many bytes of the text the C library is given for a token, if these are enough. It tests each time whether they are
+/// UTF-8, so that few are best; most tokens are much shorter.
+const WINDOW: usize = 64;
+
 /// The tokens of a text. See [`tokens`].
 #[derive(Clone, Debug)]
 pub struct Tokens<'a> {
@@ -57,9 +63,6 @@ pub struct Tokens<'a> {
 }
 
 /// Returns the tokens of a text of a master file (RFC 1035, section 5.1), one after another. After an error it ends.
-///
-/// The time of each token grows with what is left of the text: split a long text at ends of lines, outside of parentheses
-/// and quotes.
 ///
 /// # Errors
 ///
@@ -76,12 +79,12 @@ pub struct Tokens<'a> {
 /// ```
 pub fn tokens(text: &str) -> Tokens<'_> {
     let lexer = door::Lexer { offset: 0, at_line_start: true };
-    Tokens { text, lexer, words: vec![0; text.len()], has_ended: false }
+    Tokens { text, lexer, words: Vec::new(), has_ended: false }
 }
 
 impl Tokens<'_> {
-    /// Returns the offset in the text of the next token, or of the white space before it. After an error it is the offset of
-    /// the token that there is not.
+    /// Returns the offset in the text of the next token, or of the white space before it. After an error, no token begins
+    /// there.
     ///
     /// ```
     /// let text = "a 1h\nb $FOO";
@@ -92,6 +95,30 @@ impl Tokens<'_> {
     /// ```
     pub fn offset(&self) -> usize {
         self.lexer.offset
+    }
+
+    /// Finds the next token and moves the lexer past it. If it fails, the lexer is unchanged.
+    ///
+    /// A token that ends before the window does is the same whatever follows. Else the window is doubled, up to the whole rest.
+    fn advance(&mut self) -> Result<door::Token, Error> {
+        let rest = &self.text[self.lexer.offset..];
+        let mut size = WINDOW;
+        loop {
+            let window = front(rest, size);
+            if self.words.len() < window.len() {
+                self.words.resize(window.len(), 0);
+            }
+            let mut lexer = door::Lexer { offset: 0, at_line_start: self.lexer.at_line_start };
+            let found = door::next_token(window, &mut lexer, &mut self.words);
+            let is_within = matches!(&found, Ok(token) if token.kind != 0) && lexer.offset < window.len();
+            if is_within || window.len() == rest.len() {
+                let token = found?;
+                lexer.offset += self.lexer.offset;
+                self.lexer = lexer;
+                return Ok(token);
+            }
+            size *= 2;
+        }
     }
 
     /// The token of a kind with these texts, or none at the end of the text.
@@ -114,6 +141,12 @@ impl Tokens<'_> {
     }
 }
 
+/// Returns the front of a text, of so many bytes and up to three more so that no character is cut.
+fn front(text: &str, size: usize) -> &str {
+    let end = (size..text.len()).find(|end| text.is_char_boundary(*end)).unwrap_or(text.len());
+    &text[..end]
+}
+
 impl Iterator for Tokens<'_> {
     type Item = Result<Token, Error>;
 
@@ -121,7 +154,7 @@ impl Iterator for Tokens<'_> {
         if self.has_ended {
             return None;
         }
-        let found = match door::next_token(self.text, &mut self.lexer, &mut self.words) {
+        let found = match self.advance() {
             Ok(token) => self.token(token.kind, &self.words[..token.len]).map(Ok),
             Err(error) => Some(Err(error)),
         };
@@ -130,4 +163,4 @@ impl Iterator for Tokens<'_> {
     }
 }
 
-impl std::iter::FusedIterator for Tokens<'_> {}
+impl core::iter::FusedIterator for Tokens<'_> {}

@@ -2,8 +2,10 @@
 use crate::codes::RecordType;
 use crate::door;
 use crate::error::Error;
-use std::fmt;
-use std::iter::FusedIterator;
+use alloc::string::{String, ToString};
+use alloc::vec::{self, Vec};
+use core::fmt;
+use core::iter::FusedIterator;
 
 /// A set of record types, as the bitmap of an NSEC or NSEC3 record lists it (RFC 4034, section 4.1.2).
 ///
@@ -52,7 +54,7 @@ impl TypeSet {
     pub fn from_bitmap(bitmap: &[u8]) -> Result<Self, Error> {
         // Each code is a bit that is set.
         let most = bitmap.iter().map(|octet| octet.count_ones() as usize).sum();
-        let mut codes = vec![0; most];
+        let mut codes = alloc::vec![0; most];
         let count = door::types_read(bitmap, &mut codes)?;
         Ok(TypeSet { types: codes[..count].iter().copied().map(RecordType::from).collect() })
     }
@@ -61,7 +63,7 @@ impl TypeSet {
     ///
     /// # Errors
     ///
-    /// `NoMemory` alone.
+    /// Only `NoMemory`.
     ///
     /// ```
     /// use dns_names_wire::{RecordType, TypeSet};
@@ -73,7 +75,7 @@ impl TypeSet {
         let codes: Vec<u16> = self.types.iter().map(|kind| kind.code()).collect();
         // A window has at most 34 octets, and there are as many as first octets of codes.
         let windows = codes.windows(2).filter(|pair| pair[0] >> 8 != pair[1] >> 8).count() + 1;
-        let mut bitmap = vec![0; 34 * windows];
+        let mut bitmap = alloc::vec![0; 34 * windows];
         let len = door::types_write(&codes, &mut bitmap)?;
         bitmap.truncate(len);
         Ok(bitmap)
@@ -194,7 +196,7 @@ impl<const N: usize> From<[RecordType; N]> for TypeSet {
 
 impl IntoIterator for TypeSet {
     type Item = RecordType;
-    type IntoIter = std::vec::IntoIter<RecordType>;
+    type IntoIter = vec::IntoIter<RecordType>;
 
     fn into_iter(self) -> Self::IntoIter {
         self.types.into_iter()
@@ -203,7 +205,7 @@ impl IntoIterator for TypeSet {
 
 impl<'a> IntoIterator for &'a TypeSet {
     type Item = RecordType;
-    type IntoIter = std::iter::Copied<std::slice::Iter<'a, RecordType>>;
+    type IntoIter = core::iter::Copied<core::slice::Iter<'a, RecordType>>;
 
     fn into_iter(self) -> Self::IntoIter {
         self.types.iter().copied()

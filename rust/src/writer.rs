@@ -3,6 +3,7 @@ use crate::codes::{Class, RecordType};
 use crate::door;
 use crate::error::Error;
 use crate::name::Name;
+use alloc::vec::Vec;
 
 /// The kinds of items, in `dns_names_wire.h`.
 const BYTES: u8 = 0;

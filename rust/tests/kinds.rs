@@ -152,3 +152,30 @@ fn tokens_of_a_master_file() {
     let mut read = tokens("a\n)");
     assert_eq!((read.by_ref().filter(Result::is_ok).count(), read.offset()), (2, 2));
 }
+
+/// Tokens of any length, at any offset, are found in a long text as in a short one.
+#[test]
+fn long_texts_have_the_tokens_of_their_parts() {
+    for len in (1..70).chain([127, 128, 129, 1000, 10_000]) {
+        let long = "\u{e4}".repeat(len);
+        let parts = [
+            format!("{long} "),
+            format!("\"{long} \\\"\""),
+            format!("({long} ; {long}\n{long})"),
+            format!("{} ; {long}\r\n", " ".repeat(len)),
+            "$ORIGIN".into(),
+        ];
+        let text = parts.concat();
+        let read: Vec<Token> = tokens(&text).map(|token| token.unwrap()).collect();
+        let list = Token::List(vec![long.clone(), long.clone()]);
+        let wanted =
+            [Token::Text(long.clone()), Token::Text(format!("{long} \"")), list, Token::LineEnd, Token::Origin];
+        assert_eq!(read, wanted, "{len}");
+        for (cut, error) in [("(", Error::UnclosedList), ("\"", Error::UnclosedQuote), ("$", Error::UnknownEntry)] {
+            let text = format!("{long} {cut}{long}");
+            let mut read = tokens(&text);
+            assert_eq!((read.next(), read.next()), (Some(Ok(Token::Text(long.clone()))), Some(Err(error))), "{len}");
+            assert_eq!(&text[read.offset()..read.offset() + 2], format!(" {cut}"), "{len}");
+        }
+    }
+}

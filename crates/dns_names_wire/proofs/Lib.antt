@@ -14,3 +14,4 @@ pub mod DottedTexts
 pub mod TextElements
 pub mod DifferentTexts
 pub mod LabelBytes
+pub mod Bounded

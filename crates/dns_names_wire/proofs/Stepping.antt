@@ -1,20 +1,22 @@
 -- Each step of a run has its reply, and keeps what holds of account and encoder.
-use Rattle.std.proofs.Common.{◌≡◌, ℕ, zero, suc, ◌+◌, ◌-◌, ◌<◌, ◌≤◌, if◌then◌else◌, Bool, true, cond, Option, Some, None, Ok, Err, List, [], ◌∷◌, ◌++◌, length, map, take, drop, slice_get, inl, inr, refl, sym, ap, ◌∙◌, subst, arith}
+use Rattle.std.proofs.Common.{◌≡◌, ℕ, zero, suc, ◌+◌, ◌-◌, ◌<◌, ◌≤◌, max, if◌then◌else◌, true, Option, Some, None, Ok, Err, List, [], ◌∷◌, ◌++◌, length, map, take, drop, slice_get, inl, inr, refl, sym, ap, ◌∙◌, subst, arith}
 use Rattle.std.specs.Int.{w16, to_be_bytes}
+use Rattle.std.proofs.lemmas.List.Elements.{All-from_recursion}
 use Rattle.std.proofs.lemmas.List.{append-nil, drop_at, length-append, map-append, take-append-le, take_all, take_at}
 use Rattle.dnw_error.specs.declared.error.ProtoError.{ProtoError}
 use Rattle.dnw_error.specs.declared.error.ProtoError.TheVariants.{MaxBufferSizeExceeded, Memory, CharacterDataTooLong}
 use Rattle.dnw_base.specs.Limits.{max_message}
 use Rattle.dnw_reading.proofs.Counts.{Reads-own}
-use Rattle.dnw_candidates.specs.Candidates.{Candidate, candidates_before}
+use Rattle.dnw_candidates.specs.Candidates.{Candidate}
 use Rattle.dnw_encoder.specs.Encoder.{Encoder, filled, moved_to, reserved, TakesRoom, Writes, WritesText, written}
 use Rattle.dnw_encoder.specs.Emitting.{Frame, Outcome, rolled_back, list_error}
-use Rattle.dnw_encoder.specs.Marks.{mark_of, rewound}
 use Rattle.dnw_record.specs.declared.record.WireRecord.{WireRecord}
 use Rattle.dnw_record.specs.Parts.{EmitsWirePart, EmitsWireParts, parts_size, WirePart, bytes_part, in_encoding, name_part, text_part}
 use Rattle.dnw_record.specs.RecordFrames.{frame-fields, frame-reserved, frame-wire_part}
 use Rattle.dnw_record.specs.RecordLaws.{record_size, FailsForSize}
 use Rattle.dnw_record.specs.WrittenRecords.{EmitsRecord}
+use Rattle.dnw_record.proofs.Bounded.{parts_stay_bounded}
+use Rattle.dnw_record.proofs.Preceding.{refused_records_undo}
 use Rattle.dnw_record.proofs.Parts.{done-fields, done-parts, Refuses, refused-fields, refused-part, refused-parts, refused-room, done-part, room-most}
 use Rattle.dns_names_wire.specs.declared.script.Part.{Part}
 use Rattle.dns_names_wire.specs.declared.script.Item.{Item}
@@ -25,7 +27,7 @@ use Rattle.dns_names_wire.specs.Pieces.{Account, Piece, Slot, place_piece, recor
 use Rattle.dns_names_wire.specs.Replies.{ItemFails, ReplyTo, ReplyToFill, ReplyToItems, ReplyToRecord, open_place, ReplyToBytes, ReplyToName, ReplyToPart, ReplyToText}
 use Rattle.dns_names_wire.specs.Runs.{GivesReply, RunsFill, RunsItems, RunsStep}
 use Rattle.dns_names_wire.proofs.Chunks.{Begins, Chunk, begins-now, ends-append, ends_of, now, of_record, piece_of, place, Splits, split_at, upto, upto-filled, wrote}
-use Rattle.dns_names_wire.proofs.Naming.{AreUsable, Has, by_test, has-filtered, less_test}
+use Rattle.dns_names_wire.proofs.Naming.{AreUsable, Has, by_test, has-all, has-filtered}
 use Rattle.dns_names_wire.proofs.Standing.{Sound, SoundAt, frame-parts, no-ends, pieces-of-parts, sound-filled, sound-parts, sound-record, sound-reserved, sound-upto}
 use Rattle.dns_names_wire.proofs.WireParts.{as_item_parts, as_items_parts, as_wire_part}
 use Rattle.dnw_base.specs.Names.{encoded_size}
@@ -75,12 +77,21 @@ module _ (a : Account) (v w : Encoder) (at_end : v.offset ≡ length v.bytes) (l
   reply-part (name_part mode name) (Done len) h =
       let (u, em, is) = h.0 in
       let f = frame-wire_part (name_part mode name) v (Ok tt) w at_end h.0 in
-      (omega (arith, em.written_as.0, room-least (in_mode mode name.labels) em.choice, size-in_mode mode name.labels), omega (arith, h.1, f.ends, (done-part (name_part mode name) v w h.0).0))
+      let (le, within, _, _) = done-part (name_part mode name) v w h.0 in
+      let fits = room-least (in_mode mode name.labels) em.choice in
+      (omega (arith, em.written_as.0, fits, size-in_mode mode name.labels), omega (arith, h.1, f.ends, le), omega (arith, h.1, f.ends, within, max_is))
   reply-part (name_part mode name) (Refused error len) h =
       let (u, em, is) = h.0 in
       let same = ap (λ (x : Encoder). length x.bytes) (refused-part (name_part mode name) [] v w error h.0).0 in
       refused-name mode u (in_mode mode name.labels) em.choice (encoded_size name.labels) len error (size-in_mode mode name.labels) h.1 same em.written_as
   reply-part (name_part mode name) reply h = absurd h
+
+  -- parts end within the maximum
+  parts-bounded : (parts : List WirePart) (u : Encoder) (len : ℕ) → EmitsWireParts parts v (Ok tt) u → len ≡ length u.bytes → len ≤ max a.len a.max
+  parts-bounded parts u len h is =
+      let le : length u.bytes ≤ max (length v.bytes) v.max_size = (parts_stay_bounded parts v u (omega (arith, at_end)) h).0 in
+      let bound : max (length v.bytes) v.max_size ≡ max a.len a.max = ap (λ n. max n v.max_size) (sym (len_is ∙ at_end)) ∙ ap (max a.len) (sym max_is) in
+      omega (arith, le, bound, is)
 
   -- a record that is refused did not fit whole, or memory ran out
   refused-record : (size len : ℕ) (error : ProtoError) → len ≡ a.len → FailsForSize v size error → ReplyToRecord a size (Refused error len)
@@ -196,27 +207,14 @@ ends-spent i [] = refl
 ends-spent zero (slot ∷ slots) = refl
 ends-spent (suc i) (slot ∷ slots) = ap (λ (es : List ℕ). slot.end ∷ es) (ends-spent i slots)
 
--- candidates that are usable are before the offset
-before-all : (o : ℕ) (cs : List Candidate) → ((c : Candidate) → Has cs c → c.0 < o) → candidates_before o cs ≡ cs
-before-all o [] less = refl
-before-all o (c ∷ cs) less =
-    let rest = candidates_before o cs in
-    ap (λ (b : Bool). cond b (c ∷ rest) rest) (less_test c.0 o (less c (inl refl)))
-    ∙ ap (λ (xs : List Candidate). c ∷ xs) (before-all o cs (λ d h. less d (inr h)))
-
 pub usable-now : (old : List ℕ) (cs : List Chunk) (v : Encoder) → SoundAt old cs v → AreUsable v.bytes v.candidates
 usable-now old cs v s =
     (s.holds v.bytes (subst (Begins old cs) (append-nil (now old cs) ∙ sym s.bytes) (begins-now old [] cs))).1
 
--- what kept the frame is undone
-undone : (v u : Encoder) (outcome : Outcome) → candidates_before v.offset v.candidates ≡ v.candidates → Frame v outcome u → rewound u (mark_of v) ≡ v
-undone v u outcome before f = rw (f.bytes, f.candidates, before, f.encoding, f.canonical, f.max_size, f.candidate_limit, f.name_limit) refl
-
 pub record-undone : (old : List ℕ) (cs : List Chunk) (v w : Encoder) (r : WireRecord) (error : ProtoError) → SoundAt old cs v → EmitsRecord r v (Err error) w → w ≡ v
-record-undone old cs v w r error s (u, fields, made) =
-    let usable : AreUsable v.bytes v.candidates = usable-now old cs v s in
-    let less : (c : Candidate) → Has v.candidates c → c.0 < v.offset = λ c h. let own = Reads-own (usable c h).name.reads in omega (arith, own, s.end) in
-    made ∙ undone v u (Err error) (before-all v.offset v.candidates less) (frame-fields r v (Err error) u s.end fields)
+record-undone old cs v w r error s h =
+    let less : (c : Candidate) → Has v.candidates c → c.0 < v.offset = λ c one. let own = Reads-own (usable-now old cs v s c one).name.reads in omega (arith, own, s.end) in
+    refused_records_undo r v w error s.end (All-from_recursion (λ c. c.0 < v.offset) v.candidates (has-all v.candidates less)) h
 
 good-rolled : (old : List ℕ) (cs : List Chunk) (a : Account) (m u : Encoder) → Good old cs a m → Good old cs a (rolled_back m u)
 good-rolled old cs a m u good =
@@ -329,7 +327,11 @@ module _ (old : List ℕ) (cs : List Chunk) (a : Account) (v w : Encoder) (good 
       let parts = items_parts a.mode items in
       let emits = as_items_parts a.mode items v w good.agrees.sound.end (sym good.mode) h.0 in
       let go = goes-parts old cs a v w parts len good emits h.2 in (
-        (h.1, omega (arith, done-parts parts v w emits, h.2, go.good.agrees.sound.end, good.agrees.len_is)),
+        (
+          h.1,
+          omega (arith, done-parts parts v w emits, h.2, go.good.agrees.sound.end, good.agrees.len_is),
+          parts-bounded a v w good.agrees.sound.end good.agrees.len_is good.max parts w len emits h.2,
+        ),
         subst (λ xs. Goes old cs (with_pieces a (map wire_piece (items_parts a.mode xs)) len) w) (sym (take_all count items (omega (arith, h.1)))) go,
       )
   step-items items (Items count (Some error) len) h =
@@ -351,6 +353,7 @@ module _ (old : List ℕ) (cs : List Chunk) (a : Account) (v w : Encoder) (good 
         (
           omega (arith, many, ap length split, length-append first (item ∷ rest)),
           omega (arith, done-parts parts v m emits, start, good.agrees.len_is, ap (λ xs. parts_size (items_parts a.mode xs)) front),
+          parts-bounded a v w good.agrees.sound.end good.agrees.len_is good.max parts m len emits (tells ∙ same),
           subst (λ xs. ItemFails a count len xs error) (sym back) fails,
         ),
         subst (λ xs. Goes old cs (with_pieces a (map wire_piece (items_parts a.mode xs)) len) w) (sym front)

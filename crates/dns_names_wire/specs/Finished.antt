@@ -1,12 +1,12 @@
 -- What the finished bytes of a run hold, and how few they are.
-use Rattle.std.specs.Prelude.{◌≡◌, ◌≢◌, ℕ, ◌+◌, ◌≤◌, true, List, [], ◌∷◌, ◌++◌, length, take, ◌⊎◌}
+use Rattle.std.specs.Prelude.{◌≡◌, ◌≢◌, ℕ, ◌+◌, ◌≤◌, max, true, List, [], ◌∷◌, ◌++◌, length, take, ◌⊎◌}
 use Rattle.dnw_encoder.specs.EmittedName.{in_mode, is_compressed}
 use Rattle.dnw_base.specs.Limits.{max_name, pointer_reach}
 use Rattle.dnw_base.specs.Names.{NameValue, encoded_size}
 use Rattle.dns_names_wire.specs.declared.script.Part.TheVariants.{Name}
 use Rattle.dns_names_wire.specs.declared.script.Reply.{Reply}
 use Rattle.dns_names_wire.specs.declared.script.Reply.TheVariants.{Done}
-use Rattle.dns_names_wire.specs.Script.{Action, write, set_encoding}
+use Rattle.dns_names_wire.specs.Script.{Action, write, set_encoding, set_max}
 use Rattle.dns_names_wire.specs.Pieces.{Piece, name_piece, Spells, opening, account_from}
 
 -- The finished bytes begin with the old ones, and the pieces follow, up to the end. Those of the first steps end at the
@@ -18,6 +18,19 @@ pub record Finished (old : List ℕ) (actions : List Action) (replies : List Rep
       → Spells bytes (take (length (account_from (opening (length old)) first given).pieces) (account_from (opening (length old)) actions replies).pieces)
       (length old) (account_from (opening (length old)) first given).len
   pub ends : (account_from (opening (length old)) actions replies).len ≡ length bytes
+
+-- ---- the most length
+
+-- the maximum after a step
+abbrev pub max_after : ℕ → Action → ℕ
+max_after most (set_max size) = size
+max_after most action = most
+
+-- the largest maximum in force during these steps, the first of which begins with this one; a new maximum counts from its
+-- step on
+abbrev pub largest_max : ℕ → List Action → ℕ
+largest_max most [] = 0
+largest_max most (action ∷ actions) = max (max_after most action) (largest_max (max_after most action) actions)
 
 -- ---- the least length
 

@@ -1,5 +1,5 @@
 -- The reply to each step of a script, by what the steps and replies before it say.
-use Rattle.std.specs.Prelude.{◌≡◌, ℕ, zero, suc, ◌+◌, ◌<◌, ◌≤◌, if◌then◌else◌, List, [], ◌∷◌, length, take, drop, Option, Some, None}
+use Rattle.std.specs.Prelude.{◌≡◌, ℕ, zero, suc, ◌+◌, ◌<◌, ◌≤◌, max, if◌then◌else◌, List, [], ◌∷◌, length, take, drop, Option, Some, None}
 use Rattle.dnw_error.specs.declared.error.ProtoError.{ProtoError}
 use Rattle.dnw_error.specs.declared.error.ProtoError.TheVariants.{CharacterDataTooLong, MaxBufferSizeExceeded, NotAllRecordsWritten, Memory}
 use Rattle.dnw_base.specs.Limits.{max_character_data}
@@ -19,9 +19,10 @@ ReplyToBytes a n (Refused (MaxBufferSizeExceeded max) len) = (a.max < a.len + n)
 ReplyToBytes a n (Refused Memory len) = (a.len + n ≤ a.max) × (len ≡ a.len)
 ReplyToBytes a n reply = ⊥
 
--- A name is written if its wire form fits, in no more bytes than that, and refused if not even its labels fit.
+-- A name is written if its wire form fits, in no more bytes than that and never past the maximum, and refused if not even
+-- its labels fit.
 abbrev pub ReplyToName : Account → ℕ → Reply → Type 0
-ReplyToName a size (Done len) = (a.len + size ≤ a.max + 1) × (len ≤ a.len + size)
+ReplyToName a size (Done len) = (a.len + size ≤ a.max + 1) × (len ≤ a.len + size) × (len ≤ a.max)
 ReplyToName a size (Refused (MaxBufferSizeExceeded max) len) = (a.max < a.len + size) × (max ≡ a.max) × (len ≡ a.len)
 ReplyToName a size (Refused Memory len) = (a.len + size ≤ a.max + 1) × (len ≡ a.len)
 ReplyToName a size reply = ⊥
@@ -71,11 +72,14 @@ ItemFails a count len (item ∷ items) (CharacterDataTooLong max n) =
 ItemFails a count len (item ∷ items) Memory = Unit {0}
 ItemFails a count len (item ∷ items) error = ⊥
 
--- The first items are written, in no more bytes than with their names whole: all of them, or all up to a refused one.
+-- The first items are written, in no more bytes than with their names whole and never past the maximum: all of them, or all
+-- up to a refused one.
 abbrev pub ReplyToItems : Account → List Item → Reply → Type 0
-ReplyToItems a items (Items count None len) = (count ≡ length items) × (len ≤ a.len + parts_size (items_parts a.mode items))
+ReplyToItems a items (Items count None len) =
+    (count ≡ length items) × (len ≤ a.len + parts_size (items_parts a.mode items)) × (len ≤ max a.len a.max)
 ReplyToItems a items (Items count (Some error) len) =
-    (count < length items) × (len ≤ a.len + parts_size (items_parts a.mode (take count items))) × ItemFails a count len (drop count items) error
+    (count < length items) × (len ≤ a.len + parts_size (items_parts a.mode (take count items))) × (len ≤ max a.len a.max)
+    × ItemFails a count len (drop count items) error
 ReplyToItems a items reply = ⊥
 
 abbrev pub ReplyTo : Account → Action → Reply → Type 0

@@ -1,23 +1,27 @@
 -- What follows from a run. Each is the clause of a public function, and so proved.
-use Rattle.std.specs.Prelude.{◌≡◌, ℕ, ◌+◌, Bool, true, List, length, slice_range}
+use Rattle.std.specs.Prelude.{◌≡◌, ℕ, ◌+◌, ◌≤◌, max, Bool, true, List, length, slice_range, Ok}
 use Rattle.std.specs.List.{AllByRecursion}
 use Rattle.dnw_error.specs.declared.error.ProtoError.{ProtoError}
 use Rattle.dnw_codes.specs.RecordTypes.{type_code, type_of_code}
 use Rattle.dnw_codes.specs.DnsClasses.{class_code, class_of_code}
 use Rattle.dnw_encoder.specs.declared.encoder.modes.NameEncoding.{NameEncoding}
 use Rattle.dnw_encoder.specs.Encoder.{Encoder, mode_of_rdata}
+use Rattle.dnw_encoder.specs.EncoderLaws.{StaysBounded}
 use Rattle.dnw_encoder.specs.EmittedName.{in_mode}
+use Rattle.dnw_base.specs.Limits.{max_message}
 use Rattle.dnw_record.specs.declared.record.WireRecord.{WireRecord}
 use Rattle.dnw_record.specs.declared.record.WireData.{WireData}
 use Rattle.dnw_record.specs.declared.record.WireData.TheVariants as rdata
 use Rattle.dnw_record.specs.Records.{HasDataName, RecordAt, RecordValue}
 use Rattle.dns_names_wire.specs.declared.script.Reply.{Reply}
 use Rattle.dns_names_wire.specs.declared.script.Reply.TheVariants.{Refused}
-use Rattle.dns_names_wire.specs.Script.{Action, write_record}
+use Rattle.dns_names_wire.specs.declared.script.Part.{Part}
+use Rattle.dns_names_wire.specs.declared.script.Item.{Item}
+use Rattle.dns_names_wire.specs.Script.{Action, EmitsPart, EmitsScriptItem, write_record}
 use Rattle.dns_names_wire.specs.Pieces.{RecordStands, account_from, opening}
 use Rattle.dns_names_wire.specs.Replies.{RepliesTo}
 use Rattle.dns_names_wire.specs.Runs.{Runs, RunsStep, IsUseful, beginning}
-use Rattle.dns_names_wire.specs.Finished.{Finished, Shortest}
+use Rattle.dns_names_wire.specs.Finished.{Finished, Shortest, largest_max}
 
 -- Each step has the reply that its definition says.
 abbrev pub RunsReply : Type 0
@@ -38,6 +42,19 @@ RunsStayUseful = (old : List ℕ) (candidates names : ℕ) (actions : List Actio
 abbrev pub RunsAreShortest : Type 0
 RunsAreShortest = (old : List ℕ) (candidates names : ℕ) (actions : List Action) (replies : List Reply) (w : Encoder)
     → Runs (opening (length old)) (beginning old candidates names) actions replies w → Shortest (length old) candidates names actions replies
+
+-- The finished bytes are no more than the old ones, or than the largest maximum that was in force: that of a message at first.
+abbrev pub RunsStayBounded : Type 0
+RunsStayBounded = (old : List ℕ) (candidates names : ℕ) (actions : List Action) (replies : List Reply) (w : Encoder)
+    → Runs (opening (length old)) (beginning old candidates names) actions replies w
+    → length w.bytes ≤ max (length old) (largest_max max_message actions)
+
+-- An accepted part of a script, and an accepted item, leaves the buffer no longer than it was, or than the maximum.
+abbrev pub PartsOfScriptsStayBounded : Type 0
+PartsOfScriptsStayBounded = (part : Part) (v w : Encoder) → v.offset ≡ length v.bytes → EmitsPart part v (Ok tt) w → StaysBounded v w
+
+abbrev pub ItemsOfScriptsStayBounded : Type 0
+ItemsOfScriptsStayBounded = (item : Item) (v w : Encoder) → v.offset ≡ length v.bytes → EmitsScriptItem item v (Ok tt) w → StaysBounded v w
 
 -- A record that is refused after any steps leaves the whole encoder, the count of names included.
 abbrev pub RunsUndoRecords : Type 0

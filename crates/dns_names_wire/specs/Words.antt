@@ -52,9 +52,10 @@ pub use Rattle.dnw_reading.specs.ReadingLaws.{NameOrFault, NotBoth, OneName, One
 pub use Rattle.dnw_reading.specs.ReadingLaws.{NameSteps, FaultSteps, OwnOctets}
 -- Writing a message.
 pub use Rattle.dnw_encoder.specs.EncoderValue.{value, lender}
-pub use Rattle.dnw_encoder.specs.Encoder.{Encoder, fresh, Writes, WritesText, TakesRoom, HasRoom, Holds, Stores}
+pub use Rattle.dnw_encoder.specs.Encoder.{CandidatesPrecede, Encoder, fresh, Writes, WritesText, TakesRoom, HasRoom, Holds, Stores}
 pub use Rattle.dnw_encoder.specs.Encoder.{reserved, trimmed, mode_of_rdata, usual_candidates, usual_names}
-pub use Rattle.dnw_encoder.specs.Emitting.{Outcome, Emits, Frame, EmitsAt, EmitsItem, EmitsItems, FillsPlace, WritesLen, FailsUnchanged}
+pub use Rattle.dnw_encoder.specs.Emitting.{Outcome, Emits, Frame, InTurn, EmitsAt, EmitsItem, EmitsItems, FillsPlace, WritesLen, FailsUnchanged}
+pub use Rattle.dnw_encoder.specs.declared.encoder.modes.NameEncoding.TheVariants.{Compressed, Uncompressed, UncompressedLowercase}
 pub use Rattle.dnw_encoder.specs.EmittingLaws.{frame, fails-unchanged}
 pub use Rattle.dnw_encoder.specs.EmittedName.{EmitsName, EmitsLabels, pointer_to}
 pub use Rattle.dnw_encoder.specs.NameFrames.{frame-name}
@@ -63,20 +64,27 @@ pub use Rattle.dnw_encoder.specs.Marks.{MarkValue, mark_of, rewound, RewindingUn
 pub use Rattle.dnw_candidates.specs.Candidates.{Finds, FindsUsable, suffixes}
 pub use Rattle.dnw_encoder.specs.EncoderLaws.{NameComesBack, NameIsRead, NamesTakeNoMore, PointersSave, FramesFollow, ItemsKeepFrame}
 pub use Rattle.dnw_encoder.specs.EncoderLaws.{FillsTakeNoMemory, FillsStayBounded, ItemsStayBounded, NamesStayBounded, PlacesStayBounded, WritesStayBounded}
+pub use Rattle.dnw_encoder.specs.EncoderLaws.{StaysBounded}
+pub use Rattle.dnw_encoder.specs.CandidateLaws.{KeepsPreceding, NewPrecede, WritesPrecede, TextsPrecede, PlacesPrecede, FillsPrecede, NamesPrecede}
+pub use Rattle.dnw_encoder.specs.CandidateLaws.{StoresPrecede, TrimsPrecede, RewindsPrecede, ItemsPrecede, ItemPrecedes}
 -- Resource records.
 pub use Rattle.dnw_record.specs.Records.{RecordValue, RecordAt, TakesRecord, FailsRecord, HasDataName, FailsDataName}
+pub use Rattle.dnw_record.specs.declared.record.WireRecord.{WireRecord}
 pub use Rattle.dnw_record.specs.WrittenRecords.{EmitsData, EmitsRecord, NumbersFit}
 pub use Rattle.dnw_record.specs.RecordFrames.{frame-data, frame-record}
 pub use Rattle.dnw_record.specs.RecordLaws.{RefusedRecordsUndo, RefusedDataUndo}
+pub use Rattle.dnw_record.specs.RecordLaws.{PartPrecedes, PartsPrecede, CountedPrecede, DataPrecede, RecordsPrecede}
+pub use Rattle.dnw_record.specs.RecordLaws.{KeepsBounded, PartStaysBounded, PartsStayBounded, CountedStayBounded, DataStayBounded, RecordsStayBounded}
 pub use Rattle.dnw_record.specs.Parts.{WirePart, EmitsWirePart, EmitsWireParts, EmitsCounted, HasTextOfSize, parts_size, wire_size}
 -- Scripts.
 pub use Rattle.dns_names_wire.specs.Script.{Action, action, EmitsPart, EmitsScriptItem}
 pub use Rattle.dns_names_wire.specs.Pieces.{Account, Piece, RecordStands, opening}
 pub use Rattle.dns_names_wire.specs.Replies.{RepliesTo}
-pub use Rattle.dns_names_wire.specs.Finished.{Finished, Shortest}
+pub use Rattle.dns_names_wire.specs.Finished.{Finished, Shortest, largest_max}
 pub use Rattle.dns_names_wire.specs.Runs.{Run}
 pub use Rattle.dns_names_wire.specs.ItemFrames.{frame-part, frame-item}
-pub use Rattle.dns_names_wire.specs.ScriptLaws.{RunsReply, RunsFinish, RunsStayUseful, RunsAreShortest, RunsUndoRecords, StandingRecordsAreRead}
+pub use Rattle.dns_names_wire.specs.ScriptLaws.{RunsReply, RunsFinish, RunsStayUseful, RunsAreShortest, RunsUndoRecords, HasData, StandingRecordsAreRead}
+pub use Rattle.dns_names_wire.specs.ScriptLaws.{RunsStayBounded, PartsOfScriptsStayBounded, ItemsOfScriptsStayBounded}
 -- Master files: tokens, and times to live.
 pub use Rattle.dnw_txt.specs.Tokens.{TokenValue, LexFault, LexState, LexerValue}
 pub use Rattle.dnw_txt.specs.Lexing.{token_value, Lexes, Calls, EndsInTime}

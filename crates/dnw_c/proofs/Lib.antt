@@ -3,7 +3,8 @@ mod Items
 mod Starts
 mod Lists
 pub mod TextFaults
-pub mod TokenEnds
+pub mod TokenParts
+pub mod TokenSizes
 pub mod TokenTexts
 pub mod TypeCodes
 mod RecordEnds

@@ -9,3 +9,4 @@ pub mod RecordCalls
 pub mod ReverseCalls
 pub mod TokenCalls
 pub mod TypeLists
+pub mod Inside

@@ -1,9 +1,9 @@
 -- Tokens of a text, of which a caller keeps an offset, and why there is none (RFC 1035, section 5.1).
-use Rattle.std.specs.Prelude.{◌≡◌, ◌<◌, ◌≤◌, ◌⊎◌, ℕ, false, List, [], ◌∷◌, ◌++◌, length, drop, encode_utf8_all, IsUtf8}
+use Rattle.std.specs.Prelude.{◌≡◌, ◌<◌, ◌≤◌, ◌⊎◌, ℕ, ◌+◌, Bool, true, false, IsTrue, List, [], ◌∷◌, ◌++◌, length, drop, encode_utf8_all, IsUtf8}
 use Rattle.std.specs.List.{flat_map}
 use Rattle.std.specs.Str.{chars}
-use Rattle.dnw_txt.specs.Tokens.{TokenValue, Blank, Grouped, CharData, AtSign, Include, Origin, Ttl, LineEnd, Gives, Ends, LexerValue, next}
-use Rattle.dnw_txt.specs.Lexing.{Fails, line_state}
+use Rattle.dnw_txt.specs.Tokens.{TokenValue, Blank, Grouped, CharData, AtSign, Include, Origin, Ttl, LineEnd, Gives, Ends, IsSettled, LexState, LexerValue, next, next_from}
+use Rattle.dnw_txt.specs.Lexing.{FailsNext, line_state}
 use Rattle.dnw_txt.specs.declared.errors.LexerError.{LexerError}
 use Rattle.dnw_txt.specs.declared.errors.LexerError.TheVariants.{EOF, IllegalCharacter as IllegalChar, UnclosedList as ListError, UnclosedQuotedString, UnrecognizedChar, UnrecognizedDollar, Memory}
 use Rattle.dnw_c.specs.declared.failure.Failure.{Failure}
@@ -46,20 +46,25 @@ word_count (Grouped words) = length words
 word_count (CharData text) = 1
 word_count token = 0
 
--- the token is a list
+-- the token is a list of words, which are joined
 abbrev pub IsList : TokenValue → Type 0
-IsList (Grouped words) = Unit {0}
+IsList (Grouped words) = 1 ≤ length words
 IsList token = ⊥
 
 -- what C learns of a token beside its texts
 abbrev pub read_token : TokenValue → ReadToken
 read_token value = record { kind = kind_number value; len = length (token_bytes value); count = word_count value }
 
+-- The token that stands next takes these first octets of what is left, which are UTF-8.
+abbrev pub Takes : List ℕ → LexState → TokenValue → ℕ → Bool → Type 0
+Takes left state value len at_line_start =
+    (own rest : List ℕ) × (left ≡ own ++ rest) × IsUtf8 own × (len ≡ length own)
+    × (next_from state (chars left) ≡ Gives value (chars rest) (line_state at_line_start))
+
 -- the token that stands next, and after it the lexer
 abbrev pub Advances : List ℕ → LexerState → TokenValue → LexerState → Type 0
 Advances text at value after =
-    IsUtf8 (drop at.offset text) × (after.offset ≤ length text)
-    × (next (lexer_at text at) ≡ Gives value (chars (drop after.offset text)) (line_state after.at_line_start))
+    (len : ℕ) × Takes (drop at.offset text) (line_state at.at_line_start) value len after.at_line_start × (after.offset ≡ at.offset + len)
 
 -- No token stands next, and the lexer is after the text.
 abbrev pub IsAtEnd : List ℕ → LexerState → LexerState → Type 0
@@ -84,11 +89,34 @@ of_lexer (UnrecognizedDollar word) = UnknownEntry
 of_lexer Memory = NoMemory
 of_lexer error = Other
 
--- No token is found: the rest of the text is not UTF-8, or has a fault next, or memory ran out for what is allocated.
+-- The first octets of what is left decide what stands next: they are UTF-8, and are all, or what stands next in them is the
+-- same whatever follows.
+pub record Decides (left : List ℕ) (state : LexState) (front : List ℕ) : Type 0 where
+  pub rest : List ℕ
+  pub begins : left ≡ front ++ rest
+  pub text : IsUtf8 front
+  pub settled : (rest ≡ []) ⊎ IsSettled (next_from state (chars front))
+
+-- An error is the same whatever follows: a character that may not stand where it is, and memory that ran out.
+abbrev pub is_decided : LexerError → Bool
+is_decided (IllegalChar char) = true
+is_decided (UnrecognizedChar char) = true
+is_decided Memory = true
+is_decided error = false
+
+-- An error stands next in the first octets of what is left, which are UTF-8: they are all, or it is the same whatever
+-- follows.
+abbrev pub HasError : List ℕ → LexState → Failure → Type 0
+HasError left state failure =
+    (front rest : List ℕ) × (error : LexerError) × (left ≡ front ++ rest) × IsUtf8 front
+    × FailsNext (record { rest = chars front; state = state }) error × ((rest ≡ []) ⊎ IsTrue (is_decided error)) × (failure ≡ of_lexer error)
+
+-- No token is found in what is left: no octets that are UTF-8 decide what stands next, or there is an error.
+abbrev pub HasNoToken : List ℕ → LexState → Failure → Type 0
+HasNoToken left state failure = (((front : List ℕ) → ¬ (Decides left state front)) × (failure ≡ NotUtf8)) ⊎ HasError left state failure
+
 abbrev pub FailsToLex : List ℕ → LexerState → Failure → Type 0
-FailsToLex text at failure =
-    ((¬ (IsUtf8 (drop at.offset text))) × (failure ≡ NotUtf8))
-    ⊎ ((error : LexerError) × IsUtf8 (drop at.offset text) × Fails (next (lexer_at text at)) error × (failure ≡ of_lexer error))
+FailsToLex text at failure = HasNoToken (drop at.offset text) (line_state at.at_line_start) failure
 
 -- The token's texts are not put into a buffer of this size: they are longer, or memory ran out.
 abbrev pub FailsToPutToken : TokenValue → ℕ → Failure → Type 0

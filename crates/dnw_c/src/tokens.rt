@@ -1,10 +1,11 @@
 //! The tokens of master files, one after another, of which the caller keeps an offset.
-ghost use Rattle.std.specs.Prelude.{◌≡◌, ◌≢◌, ◌≤◌, ℕ, List, length, map, drop, IsUtf8, IfOk, IfErr, OnErr, MatchOption};
-ghost use Rattle.dnw_txt.specs.Lexing.{characters, token_value};
+ghost use Rattle.std.specs.Prelude.{◌≡◌, ◌≢◌, ◌<◌, ◌≤◌, ◌⊎◌, ◌||◌, ℕ, List, ◌++◌, length, map, drop, IsUtf8, IfOk, IfErr, IfSome, IfNone, OnErr, MatchOption};
+ghost use Rattle.dnw_txt.specs.Lexing.{characters, line_state, token_value};
 ghost use Rattle.dnw_c.specs.Buffers.{put};
-ghost use Rattle.dnw_c.specs.Failures.{NumberOf};
-ghost use Rattle.dnw_c.specs.TokenCalls.{Advances, FailsToLex, FailsToPutToken, FailsToTake, IsAtEnd, TakesToken, kind_number, list_bytes, of_lexer, read_token, token_bytes};
-ghost use Rattle.dnw_c.specs.declared.failure.Failure.TheVariants.{NoMemory, NotUtf8};
+ghost use Rattle.dnw_c.specs.Failures.{NumberOf, number};
+ghost use Rattle.dnw_c.specs.TokenCalls.{is_decided, Advances, Decides, FailsToLex, FailsToPutToken, FailsToTake, HasError, HasNoToken, IsAtEnd, TakesToken, kind_number, list_bytes, of_lexer, read_token, token_bytes};
+ghost use Rattle.dnw_c.specs.Inside.TokenParts.{FindsIn, settles};
+ghost use Rattle.dnw_c.specs.declared.failure.Failure.TheVariants.{NoMemory, NoRoom, NotUtf8};
 
 use crate::failure::Failure;
 use crate::names::put;
@@ -39,6 +40,7 @@ pub extern "C" fn dnw_token_next(
 ) -> u32
     ensures ok { result ≡ 0 → TakesToken text.now lexer.old lexer.new words.old words.new token.new }
     ensures err { result ≢ 0 → NumberOf (FailsToTake text.now lexer.old (length words.old)) result }
+    ensures room { result ≡ number NoRoom → length words.old < length (drop lexer.old.offset text.now) }
     ensures same { result ≢ 0 → (words.new ≡ words.old) × (lexer.new ≡ lexer.old) × (token.new ≡ token.old) }
 {
     match take(alloc, text, *lexer, words) {
@@ -60,6 +62,7 @@ fn take(
 ) -> Result<(ReadToken, LexerState), Failure>
     ensures ok { IfOk result (λ r. TakesToken text.now at r.1 words.old words.new r.0) }
     ensures err { IfErr result (FailsToTake text.now at (length words.old)) }
+    ensures room { IfErr result (λ failure. failure ≡ NoRoom → length words.old < length (drop at.offset text.now)) }
     ensures same { OnErr result (words.new ≡ words.old) }
 {
     let (found, after) = advance(alloc, text, at)?;
@@ -79,6 +82,18 @@ fn take(
     }
 }
 
+/// A token that stands next: the number of its bytes, and `true` if the start of a line is after it.
+#[derive(Drop)]
+struct Taken {
+    token: Token,
+    len: usize,
+    at_line_start: bool,
+}
+
+/// The size of the first part of a text in which a token is looked for. Parts double until one has it, so that each byte is
+/// tested a few times, however long the text is.
+const FIRST_PART: usize = 64;
+
 /// Returns the next token of a text, and where the lexer is after it.
 fn advance(
     alloc: Global,
@@ -88,38 +103,113 @@ fn advance(
     ensures ok { IfOk result (λ r. MatchOption r.0 (IsAtEnd text.now at r.1) (λ token. Advances text.now at (token_value token) r.1)) }
     ensures err { IfErr result (FailsToLex text.now at) }
 {
-    let left = left_of(text, at.offset)?;
-    let mut lexer = Lexer::resume(left, at.at_line_start);
-    match lexer.next_token(alloc) {
-        Ok(Some(token)) => {
-            let offset = text.len() - lexer.rest().len();
+    match take_next(alloc, left_of(text, at.offset), at.at_line_start)? {
+        Some(taken) => {
             let after = LexerState {
-                offset,
-                at_line_start: lexer.is_at_line_start(),
+                offset: at.offset + taken.len,
+                at_line_start: taken.at_line_start,
             };
-            Ok((Some(token), after))
+            Ok((Some(taken.token), after))
         }
-        Ok(None) => {
+        None => {
             let after = LexerState {
                 offset: text.len(),
                 at_line_start: false,
             };
             Ok((None, after))
         }
-        Err(error) => Err(of_lexer(&error)),
     }
 }
 
-/// Returns the text from an offset on, which is empty past the end.
-fn left_of(text: &[u8], offset: usize) -> Result<&str, Failure>
-    ensures ok { IfOk result (λ left. (drop offset text.now ≡ left.now) × IsUtf8 left.now) }
-    ensures err { IfErr result (λ failure. (¬ (IsUtf8 (drop offset text.now))) × (failure ≡ NotUtf8)) }
+/// Returns what is left of a text from an offset on, which is nothing past the end.
+fn left_of(text: &[u8], offset: usize) -> &[u8]
+    ensures { result.now ≡ drop offset text.now }
 {
-    let offset = offset.min(text.len());
-    match str::from_utf8(&text[offset..]) {
-        Ok(left) => Ok(left),
-        Err(_) => Err(Failure::NotUtf8),
+    &text[offset.min(text.len())..]
+}
+
+/// Returns the token that stands next in what is left of a text.
+fn take_next(alloc: Global, left: &[u8], at_line_start: bool) -> Result<Option<Taken>, Failure>
+    ensures ok { IfOk result (λ found. FindsIn left.now at_line_start found) }
+    ensures err { IfErr result (HasNoToken left.now (line_state at_line_start)) }
+{
+    let mut size = left.len().min(FIRST_PART);
+    'parts: loop {
+        if let Some(found) = take_within(alloc, left, size, at_line_start) {
+            return found;
+        }
+        if size == left.len() {
+            return Err(Failure::NotUtf8);
+        }
+        size += size.min(left.len() - size);
     }
+}
+
+/// Returns what stands next in what is left of a text, if its first `size` bytes decide that.
+fn take_within(
+    alloc: Global,
+    left: &[u8],
+    size: usize,
+    at_line_start: bool,
+) -> Option<Result<Option<Taken>, Failure>>
+    requires { size ≤ length left.now }
+    ensures ok { IfSome result (λ found. IfOk found (λ taken. FindsIn left.now at_line_start taken)) }
+    ensures err { IfSome result (λ found. IfErr found (HasError left.now (line_state at_line_start))) }
+    ensures none { IfNone result ((front : List ℕ) → length front ≤ size → ¬ (Decides left.now (line_state at_line_start) front)) }
+{
+    let part = valid_part(left, size);
+    let is_whole = part.len() == left.len();
+    let mut lexer = Lexer::resume(part, at_line_start);
+    let found = lexer.next_token(alloc);
+    let rest = lexer.rest();
+    if !is_decided(is_whole, &found, rest) {
+        return None;
+    }
+    match found {
+        Ok(Some(token)) => Some(Ok(Some(Taken {
+            token,
+            len: part.len() - rest.len(),
+            at_line_start: lexer.is_at_line_start(),
+        }))),
+        Ok(None) => Some(Ok(None)),
+        Err(error) => Some(Err(of_lexer(&error))),
+    }
+}
+
+/// Returns the longest text that begins a text and ends in its first `size` bytes.
+fn valid_part(left: &[u8], size: usize) -> &str
+    requires { size ≤ length left.now }
+    ensures begins { (rest : List ℕ) × (left.now ≡ result.now ++ rest) }
+    ensures text { IsUtf8 result.now }
+    ensures longest { (front rest : List ℕ) → left.now ≡ front ++ rest → length front ≤ size → IsUtf8 front → length front ≤ length result.now }
+{
+    let part = &left[..size];
+    match str::from_utf8(part) {
+        Ok(text) => text,
+        Err(error) => str::from_utf8(&part[..error.valid_up_to()]).unwrap(),
+    }
+}
+
+/// Returns `true` if what was found is that of the whole text: it is the same whatever follows, or nothing does.
+fn is_decided(is_whole: bool, found: &Result<Option<Token>, LexerError>, rest: &str) -> bool
+    ensures { result ≡ (is_whole || settles found.now (length rest.now)) }
+{
+    is_whole
+        || match found {
+            Ok(Some(_)) => !rest.is_empty(),
+            Ok(None) => false,
+            Err(error) => is_same(error),
+        }
+}
+
+/// Returns `true` if an error is the same whatever follows after the text.
+fn is_same(error: &LexerError) -> bool
+    ensures { result ≡ is_decided error.now }
+{
+    matches!(
+        error,
+        LexerError::IllegalCharacter(_) | LexerError::UnrecognizedChar(_) | LexerError::Memory
+    )
 }
 
 /// Puts the texts of a token. Returns what C learns of it.
@@ -175,7 +265,8 @@ fn kind_of(token: &Token) -> u32
 
 /// Returns the words of a list, each with a zero byte after it.
 fn bytes_of(alloc: Global, words: &Vec<String>) -> Result<Vec<u8>, AllocError>
-    ensures { IfOk result (λ bytes. bytes.items ≡ list_bytes (map characters words.now.items)) }
+    ensures ok { IfOk result (λ bytes. bytes.items ≡ list_bytes (map characters words.now.items)) }
+    ensures err { OnErr result (1 ≤ length words.now.items) }
 {
     let mut bytes = Vec::new(alloc);
     for word in words {

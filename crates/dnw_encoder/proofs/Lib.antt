@@ -4,3 +4,4 @@ pub mod Bounds
 pub mod Suffixes
 pub mod Emission
 pub mod NameBack
+pub mod Preceding

@@ -1,5 +1,6 @@
 -- An encoder as a value, and what its calls do to it (RFC 1035, sections 2.3.2, 3.3, 4.1.4 and 4.2.1).
 use Rattle.std.specs.Prelude.{◌≡◌, ℕ, ◌+◌, ◌-◌, ◌<◌, ◌≤◌, Bool, true, false, ◌&&◌, nat_lt, if◌then◌else◌, List, [], ◌∷◌, ◌++◌, length, take, drop, replicate, Result, Ok, Err}
+use Rattle.std.specs.List.{All}
 use Rattle.dnw_base.specs.Limits.{max_character_data, max_message, pointer_reach}
 use Rattle.dnw_error.specs.declared.error.ProtoError.{ProtoError}
 use Rattle.dnw_error.specs.declared.error.ProtoError.TheVariants.{CharacterDataTooLong, MaxBufferSizeExceeded, Memory}
@@ -88,6 +89,10 @@ WritesText v text (Err (CharacterDataTooLong max len)) w =
 WritesText v text outcome w = (length text ≤ max_character_data) × Writes v (length text ∷ text) outcome w
 
 -- ---- candidates
+
+-- Every candidate is before the offset.
+abbrev pub CandidatesPrecede : Encoder → Type 0
+CandidatesPrecede v = All (λ c. c.0 < v.offset) v.candidates
 
 -- the encoder without the bytes and the candidates from its offset on
 abbrev pub trimmed : Encoder → Encoder

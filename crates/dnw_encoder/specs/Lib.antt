@@ -7,4 +7,5 @@ pub mod NameFrames
 pub mod Guards
 pub mod Marks
 pub mod EncoderLaws
+pub mod CandidateLaws
 pub mod Inside

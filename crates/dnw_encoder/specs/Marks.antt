@@ -1,7 +1,7 @@
 -- Marks: an encoder is put back to where it was.
 use Rattle.std.specs.Prelude.{◌≡◌, ℕ, take}
 use Rattle.dnw_candidates.specs.Candidates.{candidates_before}
-use Rattle.dnw_encoder.specs.Encoder.{Encoder}
+use Rattle.dnw_encoder.specs.Encoder.{CandidatesPrecede, Encoder}
 use Rattle.dnw_encoder.specs.Emitting.{Outcome, Frame}
 
 -- a mark: the offset of an encoder, and the number of its names that were counted
@@ -24,5 +24,4 @@ rewound v mark = record v {
 -- Rewinding undoes whatever kept the frame of `emit`, if the mark was set at the buffer's end with every candidate
 -- before it. The count of names is put back too.
 abbrev pub RewindingUndoes : Type 0
-RewindingUndoes = (v u : Encoder) (outcome : Outcome) → candidates_before v.offset v.candidates ≡ v.candidates → Frame v outcome u
-    → rewound u (mark_of v) ≡ v
+RewindingUndoes = (v u : Encoder) (outcome : Outcome) → CandidatesPrecede v → Frame v outcome u → rewound u (mark_of v) ≡ v

@@ -1,7 +1,8 @@
 -- Writing a name keeps the frame of `emit`.
-use Rattle.std.proofs.Common.{◌≡◌, ℕ, zero, suc, ◌+◌, ◌-◌, ◌≤◌, if◌then◌else◌, List, [], ◌∷◌, ◌++◌, length, take, Option, Some, None, Ok, Err, refl, sym, ap, ◌∙◌, subst, arith, rules, tests, Bool, true, false, cond, nat_lt}
-use Rattle.std.specs.List.{AllByRecursion}
+use Rattle.std.proofs.Common.{◌≡◌, ℕ, ◌+◌, ◌-◌, ◌<◌, ◌≤◌, if◌then◌else◌, List, [], ◌∷◌, ◌++◌, length, take, Option, Some, None, Ok, Err, refl, sym, ap, ◌∙◌, subst, arith, rules, tests, Bool, true, false, cond, nat_lt}
+use Rattle.std.specs.List.{All}
 use Rattle.std.proofs.lemmas.List.{length-append, take-append-le, append-nil}
+use Rattle.std.proofs.lemmas.List.Elements.{All-cons, All-nil, All-tail, All-take, filter-append}
 use Rattle.dnw_error.specs.declared.error.ProtoError.TheVariants.{MaxBufferSizeExceeded, Memory}
 use Rattle.dnw_base.specs.Names.{NameValue, labels_wire, wire}
 use Rattle.dnw_encoder.specs.Encoder.{Encoder}
@@ -10,30 +11,29 @@ use Rattle.dnw_encoder.specs.Emitting.{Outcome, Frame}
 use Rattle.dnw_encoder.specs.EmittedName.{EmitsAs, EmitsName, Share, counted, emitted, form, in_mode, kept, newly_kept}
 use Rattle.dnw_encoder.specs.EmittingLaws.{frame-moved, frame-written, frame-same, take-all, candidates_before-twice}
 
--- ---- what is kept lies after the start
+-- ---- what is kept is between the start and the end of the labels
 
-abbrev IsBehind : ℕ → List Candidate → Type 0
-IsBehind o cs = AllByRecursion (λ c. o ≤ c.0) cs
+abbrev IsWithin : ℕ → ℕ → List Candidate → Type 0
+IsWithin o e cs = All (λ c. (o ≤ c.0) × (c.0 < e)) cs
 
-behind-suffixes : (o p : ℕ) (ls : List (List ℕ)) → o ≤ p → IsBehind o (suffixes p ls)
-behind-suffixes o p [] le = tt
-behind-suffixes o p (l ∷ ls) le = (le, behind-suffixes o (p + 1 + length l) ls (omega (arith, le)))
+within-suffixes : (o p e : ℕ) (ls : List (List ℕ)) → o ≤ p → p + length (labels_wire ls) ≤ e → IsWithin o e (suffixes p ls)
+within-suffixes o p e [] le end = All-nil (λ c. (o ≤ c.0) × (c.0 < e))
+within-suffixes o p e (l ∷ ls) le end =
+    let size = length-append l (labels_wire ls) in
+    All-cons (λ c. (o ≤ c.0) × (c.0 < e)) (p, labels_wire (l ∷ ls)) (suffixes (p + 1 + length l) ls) (le, omega (arith, end, size))
+    (within-suffixes o (p + 1 + length l) e ls (omega (arith, le)) (omega (arith, end, size)))
 
-behind-take : (o n : ℕ) (cs : List Candidate) → IsBehind o cs → IsBehind o (take n cs)
-behind-take o zero cs all = tt
-behind-take o (suc n) [] all = tt
-behind-take o (suc n) (c ∷ cs) all = (all.0, behind-take o n cs all.1)
-
-behind-kept : (v : Encoder) (ls : List (List ℕ)) (n : ℕ) → IsBehind v.offset (kept v ls n)
-behind-kept v ls n =
-    let some = take (v.candidate_limit - length v.candidates) (take n (suffixes v.offset ls)) in
-    let all : IsBehind v.offset some =
-    behind-take v.offset (v.candidate_limit - length v.candidates) (take n (suffixes v.offset ls))
-    (behind-take v.offset n (suffixes v.offset ls) (behind-suffixes v.offset v.offset ls (omega arith))) in
-    let M : Bool → Type 0 = λ b. IsBehind v.offset (if b then some else []) in
+pub within-kept : (v : Encoder) (ls : List (List ℕ)) (n : ℕ) → All (λ c. (v.offset ≤ c.0) × (c.0 < v.offset + length (labels_wire ls))) (kept v ls n)
+within-kept v ls n =
+    let o = v.offset in
+    let e = v.offset + length (labels_wire ls) in
+    let P : Candidate → Type 0 = λ c. (o ≤ c.0) × (c.0 < e) in
+    let some = take (v.candidate_limit - length v.candidates) (take n (suffixes o ls)) in
+    let all : IsWithin o e some = All-take P _ _ (All-take P n (suffixes o ls) (within-suffixes o o e ls (omega arith) (omega arith))) in
+    let M : Bool → Type 0 = λ b. IsWithin o e (if b then some else []) in
     let cases : (b : Bool) → M b = λ b. elim b as M [
       | true ↦ all
-      | false ↦ tt
+      | false ↦ All-nil P
     ] in
     cases (nat_lt (v.offset + length (labels_wire ls)) 16383)
 
@@ -41,27 +41,18 @@ not_less : (o p : ℕ) → o ≤ p → nat_lt p o ≡ false
 not_less o p le = search (rules, tests)
 
 -- none of them is among the candidates before it
-before-none : (o : ℕ) (cs : List Candidate) → IsBehind o cs → candidates_before o cs ≡ []
-before-none o [] all = refl
-before-none o (c ∷ cs) all =
-    ap (λ (b : Bool). cond b (c ∷ candidates_before o cs) (candidates_before o cs)) (not_less o c.0 all.0) ∙ before-none o cs all.1
-
-before-append : (o : ℕ) (cs ds : List Candidate) → candidates_before o (cs ++ ds) ≡ candidates_before o cs ++ candidates_before o ds
-before-append o [] ds = refl
-before-append o (c ∷ cs) ds =
-    let M : Bool → Type 0 = λ b. cond b (c ∷ candidates_before o (cs ++ ds)) (candidates_before o (cs ++ ds))
-    ≡ cond b (c ∷ candidates_before o cs) (candidates_before o cs) ++ candidates_before o ds in
-    let cases : (b : Bool) → M b = λ b. elim b as M [
-      | true ↦ ap (λ (zs : List Candidate). c ∷ zs) (before-append o cs ds)
-      | false ↦ before-append o cs ds
-    ] in
-    cases (nat_lt c.0 o)
+before-none : (o e : ℕ) (cs : List Candidate) → IsWithin o e cs → candidates_before o cs ≡ []
+before-none o e [] all = refl
+before-none o e (c ∷ cs) all =
+    let (le, less) = all 0 c (omega arith) in
+    ap (λ (b : Bool). cond b (c ∷ candidates_before o cs) (candidates_before o cs)) (not_less o c.0 le)
+    ∙ before-none o e cs (All-tail (λ c. (o ≤ c.0) × (c.0 < e)) c cs all)
 
 same-before : (v : Encoder) (ls : List (List ℕ)) (n : ℕ)
     → candidates_before v.offset (v.candidates ++ kept v ls n) ≡ candidates_before v.offset v.candidates
 same-before v ls n =
-    before-append v.offset v.candidates (kept v ls n)
-    ∙ (ap (λ (zs : List Candidate). candidates_before v.offset v.candidates ++ zs) (before-none v.offset (kept v ls n) (behind-kept v ls n))
+    filter-append (λ c. nat_lt c.0 v.offset) v.candidates (kept v ls n)
+    ∙ (ap (λ (zs : List Candidate). candidates_before v.offset v.candidates ++ zs) (before-none v.offset (v.offset + length (labels_wire ls)) (kept v ls n) (within-kept v ls n))
     ∙ append-nil (candidates_before v.offset v.candidates))
 
 -- ---- the frame

@@ -120,7 +120,8 @@ impl BinEncodable for RecordType {
     ghost keeps_frame = { λ kind v outcome w. frame v (to_be_bytes w16 (type_code kind)) outcome w };
 
     fn emit(&self, encoder: &mut BinEncoder<'_>) -> ProtoResult<()> {
-        encoder.emit_u16(u16::from(*self))
+        let kind = u16::from(*self);
+        encoder.emit_u16(kind)
     }
 }
 
@@ -131,7 +132,8 @@ impl BinEncodable for DNSClass {
     ghost keeps_frame = { λ class v outcome w. frame v (to_be_bytes w16 (class_code class)) outcome w };
 
     fn emit(&self, encoder: &mut BinEncoder<'_>) -> ProtoResult<()> {
-        encoder.emit_u16(u16::from(*self))
+        let class = u16::from(*self);
+        encoder.emit_u16(class)
     }
 }
 

@@ -6,7 +6,7 @@ use Rattle.std.proofs.lemmas.List.{map-append, length-map}
 use Rattle.std.proofs.Math.Seq.{take-append_seam}
 use Rattle.dnw_base.specs.Labels.{IsLabel}
 use Rattle.dnw_base.specs.Names.{AreLabels, encoded_size, wire, lower}
-use Rattle.dnw_base.proofs.Wires.{wire-cons, length-wire}
+use Rattle.dnw_base.proofs.Wires.{wire-cons, encoded_size-cons, length-wire}
 use Rattle.dnw_form.specs.Inside.WireBytes.{labels_of}
 use Rattle.dnw_form.proofs.Wires.{labels_of-wire}
 
@@ -31,12 +31,14 @@ lower_each (l ∷ ls) each =
     let same = length-map l to_ascii_lowercase in
     (record { not_empty = omega (arith, same, each.0.not_empty); not_long = omega (arith, same, each.0.not_long) }, lower_each ls each.1)
 
-lower_size : (ls : List (List ℕ)) → AllByRecursion IsLabel ls → encoded_size (lower ls) ≡ encoded_size ls
-lower_size ls each =
-    sym (length-wire (lower ls)) ∙ (ap length (sym (lower-wire ls each)) ∙ (length-map (wire ls) to_ascii_lowercase ∙ length-wire ls))
+-- lower case keeps the size
+pub encoded_size-lower : (ls : List (List ℕ)) → encoded_size (lower ls) ≡ encoded_size ls
+encoded_size-lower [] = refl
+encoded_size-lower (l ∷ ls) =
+    omega (arith, encoded_size-cons l ls, encoded_size-cons (map to_ascii_lowercase l) (lower ls), length-map l to_ascii_lowercase, encoded_size-lower ls)
 
 pub AreLabels-lower : (ls : List (List ℕ)) → AreLabels ls → AreLabels (lower ls)
-AreLabels-lower ls h = record { each = lower_each ls h.each; fit = omega (arith, lower_size ls h.each, h.fit) }
+AreLabels-lower ls h = record { each = lower_each ls h.each; fit = omega (arith, encoded_size-lower ls, h.fit) }
 
 -- so labels are the same in lower case if their forms are
 pub lower-wires : (ls rs : List (List ℕ)) → AreLabels ls → AreLabels rs → (map to_ascii_lowercase (wire ls) ≡ map to_ascii_lowercase (wire rs)) ↔ (lower ls ≡ lower rs)
@@ -49,7 +51,7 @@ lower-wires ls rs h k = (
 )
 
 pub lower-long : (ls : List (List ℕ)) → AreLabels ls → length (wire (lower ls)) ≤ 255
-lower-long ls h = omega (arith, length-wire (lower ls), lower_size ls h.each, h.fit)
+lower-long ls h = omega (arith, length-wire (lower ls), encoded_size-lower ls, h.fit)
 
 -- octets of a wire form that are written over by the same in lower case
 pub refill-lowered : (ls : List (List ℕ)) (xs ws : List ℕ) → AllByRecursion IsLabel ls → xs ≡ wire ls → ws ≡ map to_ascii_lowercase xs → refill (length xs) xs ws ≡ wire (lower ls)

@@ -57,6 +57,18 @@ impl WireForm {
         WireForm { bytes }
     }
 
+    /// Copies octets that are a wire form.
+    #[inline(always)]
+    #[tactic(auto, using(crate::proofs::Wires::few_octets))]
+    pub fn from_octets(alloc: Global, octets: &[u8]) -> Self
+        requires { IsWire octets.now }
+        ensures { result ≡ labels_of octets.now }
+    {
+        WireForm {
+            bytes: inline_copy(alloc, octets),
+        }
+    }
+
     /// Returns the octets.
     #[inline(always)]
     pub fn as_bytes(&self) -> &[u8]

@@ -1,11 +1,11 @@
 -- One more item that is joined to others.
-use Rattle.std.proofs.Common.{◌≡◌, ℕ, ◌+◌, ◌<◌, ◌≤◌, false, true≢false, List, [], ◌∷◌, ◌++◌, length, map, Result, Ok, Err, refl, sym, ap, ◌∙◌, arith, length-append}
+use Rattle.std.proofs.Common.{◌≡◌, ℕ, ◌+◌, ◌≤◌, false, true≢false, List, [], ◌∷◌, ◌++◌, length, map, Result, Ok, Err, refl, sym, ap, ◌∙◌, arith, length-append}
 use Rattle.std.specs.Result.{is_ok, IsErr}
 use Rattle.std.specs.List.{list_all}
-use Rattle.dnw_error.specs.Fault.{Fault, NameTooLong, ◌>>=◌}
-use Rattle.dnw_base.specs.Names.{encoded_size}
+use Rattle.dnw_error.specs.declared.error.ProtoError.{ProtoError}
+use Rattle.dnw_error.specs.declared.error.ProtoError.TheVariants.{Memory}
+use Rattle.dnw_error.specs.Fault.{Fault, FailsOr, Follows, ◌>>=◌}
 use Rattle.dnw_form.specs.Edits.{made, with_label, with_labels}
-use Rattle.dnw_form.proofs.EditLemmas.{with_label_long}
 use Rattle.dnw_name.specs.Inside.Joined.{HasJoined}
 use Rattle.dnw_name.specs.declared.name.joining.Joining.{Joining}
 
@@ -14,20 +14,20 @@ made-push [] l = refl
 made-push (Ok k ∷ items) l = ap (λ (ls : List (List ℕ)). k ∷ ls) (made-push items l)
 made-push (Err fault ∷ items) l = made-push items l
 
-pub made-length : (items : List (Result (List ℕ) Fault)) (l : List ℕ) → length (made (items ++ Ok l ∷ [])) ≡ length (made items) + 1
+made-length : (items : List (Result (List ℕ) Fault)) (l : List ℕ) → length (made (items ++ Ok l ∷ [])) ≡ length (made items) + 1
 made-length items l = ap length (made-push items l) ∙ length-append (made items) (l ∷ [])
 
-pub made-fault : (items : List (Result (List ℕ) Fault)) (fault : Fault) → made (items ++ Err fault ∷ []) ≡ made items
+made-fault : (items : List (Result (List ℕ) Fault)) (fault : Fault) → made (items ++ Err fault ∷ []) ≡ made items
 made-fault [] fault = refl
 made-fault (Ok k ∷ items) fault = ap (λ (ls : List (List ℕ)). k ∷ ls) (made-fault items fault)
 made-fault (Err other ∷ items) fault = made-fault items fault
 
-pub all-made : (items : List (Result (List ℕ) Fault)) (l : List ℕ) → list_all is_ok (items ++ Ok l ∷ []) ≡ list_all is_ok items
+all-made : (items : List (Result (List ℕ) Fault)) (l : List ℕ) → list_all is_ok (items ++ Ok l ∷ []) ≡ list_all is_ok items
 all-made [] l = refl
 all-made (Ok k ∷ items) l = all-made items l
 all-made (Err fault ∷ items) l = refl
 
-pub all-fault : (items : List (Result (List ℕ) Fault)) (fault : Fault) → list_all is_ok (items ++ Err fault ∷ []) ≡ false
+all-fault : (items : List (Result (List ℕ) Fault)) (fault : Fault) → list_all is_ok (items ++ Err fault ∷ []) ≡ false
 all-fault [] fault = refl
 all-fault (Ok k ∷ items) fault = all-fault items fault
 all-fault (Err other ∷ items) fault = refl
@@ -50,19 +50,23 @@ with_labels-push ls (k ∷ more) l =
     bind-each (with_label ls k) (λ longer. with_labels longer (more ++ l ∷ [])) (λ longer. with_labels longer more >>= (λ all. with_label all l)) (λ longer. with_labels-push longer more l)
     ∙ sym (bind-assoc (with_label ls k) (λ longer. with_labels longer more) (λ all. with_label all l))
 
-pub joined-push : (items : List (Result (List ℕ) Fault)) (l : List ℕ) → with_labels [] (made (items ++ Ok l ∷ [])) ≡ (with_labels [] (made items) >>= (λ longer. with_label longer l))
+joined-push : (items : List (Result (List ℕ) Fault)) (l : List ℕ) → with_labels [] (made (items ++ Ok l ∷ [])) ≡ (with_labels [] (made items) >>= (λ longer. with_label longer l))
 joined-push items l = ap (with_labels []) (made-push items l) ∙ with_labels-push [] (made items) l
 
-pub still-long : (items : List (Result (List ℕ) Fault)) (l : List ℕ) (fault : Fault) → with_labels [] (made items) ≡ Err fault → with_labels [] (made (items ++ Ok l ∷ [])) ≡ Err fault
-still-long items l fault e = joined-push items l ∙ rw e refl
+-- what fails before the label fails with it
+pub fails-on : {A B : Type 0} (r : Result A Fault) (f : A → Result B Fault) (e : ProtoError) → FailsOr r ⊥ e → FailsOr (r >>= f) ⊥ e
+fails-on (Ok x) f Memory h = absurd h
+fails-on (Ok x) f e h = absurd h
+fails-on (Err fault) f e h = h
 
-pub now-long : (items : List (Result (List ℕ) Fault)) (l : List ℕ) (ls : List (List ℕ)) (n : ℕ) → with_labels [] (made items) ≡ Ok ls → n ≡ encoded_size ls + 1 + length l → 255 < n
-    → with_labels [] (made (items ++ Ok l ∷ [])) ≡ Err (NameTooLong n)
-now-long items l ls n e size lt = joined-push items l ∙ rw e (with_label_long ls l n size lt)
-
-pub now-fits : (items : List (Result (List ℕ) Fault)) (l : List ℕ) (ls more : List (List ℕ)) → with_labels [] (made items) ≡ Ok ls → with_label ls l ≡ Ok more
-    → with_labels [] (made (items ++ Ok l ∷ [])) ≡ Ok more
-now-fits items l ls more e fits = joined-push items l ∙ rw e fits
+-- an item with a label, with which the form goes on
+pub HasJoined-label : (j : Joining) (items : List (Result (List ℕ) Fault)) (l : List ℕ) (form : Result (List (List ℕ)) ProtoError) → HasJoined j items
+    → Follows (with_labels [] (made items) >>= (λ longer. with_label longer l)) ⊥ form → HasJoined (record j { form = form; made = j.made + 1 }) (items ++ Ok l ∷ [])
+HasJoined-label j items l form h now = record {
+  count = ap (λ (n : ℕ). n + 1) h.count ∙ sym (made-length items l);
+  all = h.all ∙ sym (all-made items l);
+  labels = rw (joined-push items l) now;
+}
 
 fault-made : (r : Result (List ℕ) Fault) → IsErr r → (items : List (Result (List ℕ) Fault)) → (made (items ++ r ∷ []) ≡ made items) × (list_all is_ok (items ++ r ∷ []) ≡ false)
 fault-made (Ok l) h items = absurd (true≢false (sym h))
@@ -75,8 +79,7 @@ HasJoined-fault j r items none h =
     record {
       count = h.count ∙ ap length (sym same);
       all = sym fault;
-      fits = λ e. ap (with_labels []) same ∙ h.fits e;
-      long = λ size e. ap (with_labels []) same ∙ h.long size e;
+      labels = rw same h.labels;
     }
 
 pub made-few : {L : Type 0} (label_of : L → Result (List ℕ) Fault) (items : List L) → length (made (map label_of items)) ≤ length items

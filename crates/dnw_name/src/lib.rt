@@ -7,3 +7,4 @@
 pub mod binary;
 pub mod name;
 pub mod name_ref;
+mod sort_key;

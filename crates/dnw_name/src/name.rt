@@ -114,8 +114,8 @@ impl Name {
         ensures fails { (error : DecodeError) (k j : ℕ) → StopsAt decoder.old error k j → IsErrOf result error }
         ensures no_memory { IsErrOf result DecodeError.Memory → ⊥ }
     {
-        let found = NameRef::read(decoder)?;
-        Ok(found.copied(alloc))
+        let mut steps = ReadSteps::default();
+        Name::read_counted(alloc, decoder, &mut steps)
     }
 
     /// Reads as `read` does, and counts the steps, also if it fails.

@@ -13,7 +13,8 @@ use dnw_base::decoder::BinDecoder;
 use dnw_base::limits::MAX_NAME;
 use dnw_error::error::{DecodeError, ProtoResult};
 use dnw_form::form::WireForm;
-use dnw_form::wire_labels::{self, WireLabels};
+use dnw_form::wire_labels::WireLabels;
+use dnw_order::order;
 use dnw_reading::copy;
 use dnw_reading::ref_labels::RefLabels;
 use dnw_reading::walk::{self, ReadSteps};
@@ -21,8 +22,6 @@ use smallvec::SmallVec;
 use std::alloc::Global;
 use std::cmp::Ordering;
 use std::marker::Model;
-
-mod compare;
 
 /// A name in a message. It borrows its labels from the message, and nothing here allocates.
 ///
@@ -137,17 +136,17 @@ impl<'a> NameRef<'a> {
         ensures { IsTrue result ↔ (lower self.now ≡ lower other.now.labels) }
     {
         self.encoded_len() == other.encoded_len()
-            && compare::eq_labels(self.labels(), other.wire_labels())
+            && order::eq_labels(self.wire_labels(&mut [0; MAX_NAME]), other.wire_labels())
     }
 
     /// Compares the labels with those of `other` in canonical order (RFC 4034, section 6.1): from the last one, and ignoring
     /// ASCII case. It ignores whether `other` is fully qualified.
     ///
-    /// So the names of a message can be looked up in a sorted store without a copy.
+    /// So the names of a message can be looked up in a sorted store without a `Name` for each.
     pub fn cmp_name(&self, other: &Name) -> Ordering
         ensures { result ≡ labels_cmp self.now other.now.labels }
     {
-        compare::cmp_labels(self.labels(), other.wire_labels())
+        order::cmp_labels(self.wire_labels(&mut [0; MAX_NAME]), other.wire_labels())
     }
 
     /// Returns `true` if this name is the zone of `name`: its labels are the last ones of `name`, ignoring ASCII case (RFC
@@ -155,9 +154,7 @@ impl<'a> NameRef<'a> {
     pub fn zone_of(&self, name: &Name) -> bool
         ensures { IsTrue result ↔ IsZoneOf self.now name.now.labels }
     {
-        let labels = self.labels();
-        let last = wire_labels::last_labels(name.wire_labels(), labels.len());
-        compare::eq_labels(labels, last)
+        order::is_zone_of(self.wire_labels(&mut [0; MAX_NAME]), name.wire_labels())
     }
 
     /// Returns `true` if this name is in the zone: its last labels are those of `zone`, ignoring ASCII case (RFC 1034,
@@ -165,9 +162,7 @@ impl<'a> NameRef<'a> {
     pub fn is_in(&self, zone: &Name) -> bool
         ensures { IsTrue result ↔ IsZoneOf zone.now.labels self.now }
     {
-        let zone_labels = zone.wire_labels();
-        let last = compare::last_labels(self.labels(), zone_labels.len());
-        compare::eq_labels(last, zone_labels)
+        order::is_zone_of(zone.wire_labels(), self.wire_labels(&mut [0; MAX_NAME]))
     }
 
     /// Copies the name. It is fully qualified. This does not allocate and cannot fail.
@@ -186,11 +181,12 @@ impl<'a> NameRef<'a> {
         'a: 'r,
         ensures { result ≡ self.now }
     {
-        if self.in_one_piece {
-            return WireLabels::new(&self.message[self.first..self.first + self.size]);
+        let size = self.encoded_len();
+        if let Some(octets) = self.piece() {
+            return WireLabels::new(octets);
         }
         copy::copy_runs(room, self.message, self.first);
-        WireLabels::new(&room[..self.size])
+        WireLabels::new(&room[..size])
     }
 
     /// Copies the wire form to the front of a buffer, and returns its length (RFC 1035, section 3.1). Returns `None` if it
@@ -213,38 +209,36 @@ impl<'a> NameRef<'a> {
     pub(crate) fn copied(&self, alloc: Global) -> Name
         ensures { result ≡ record { is_fqdn = true; labels = self.now } }
     {
-        Name::qualified(WireForm::from_wire(self.form(alloc)))
-    }
-
-    /// Returns the wire form: copied in one piece if no pointer follows the first label.
-    #[inline(always)]
-    fn form(&self, alloc: Global) -> SmallVec<u8, MAX_NAME>
-        ensures form { result.items ≡ wire self.now }
-        ensures labels { AreLabels self.now }
-        ensures inline { result.capacity ≡ max_name }
-    {
-        if self.in_one_piece {
-            let mut form = SmallVec::new(alloc);
-            form.extend_from_slice(&self.message[self.first..self.first + self.size])
-                .unwrap();
-            return form;
+        let size = self.encoded_len();
+        if let Some(octets) = self.piece() {
+            return Name::qualified(WireForm::from_octets(alloc, octets));
         }
         let mut room = [0; MAX_NAME];
         copy::copy_runs(&mut room, self.message, self.first);
-        SmallVec::from_buf_and_len(alloc, room, self.size)
+        Name::qualified(WireForm::from_wire(SmallVec::from_buf_and_len(alloc, room, size)))
     }
 
-    /// Puts the wire form at the front of a buffer: in one piece if no pointer follows the first label.
+    /// Puts the wire form at the front of a buffer.
     #[inline(always)]
     fn fill(&self, out: &mut [u8])
         requires { encoded_size self.now ≤ length out.old }
         ensures { out.new ≡ put out.old (wire self.now) }
     {
-        if self.in_one_piece {
-            out[..self.size].copy_from_slice(&self.message[self.first..self.first + self.size]);
-        } else {
-            copy::copy_runs(out, self.message, self.first);
+        match self.piece() {
+            Some(octets) => out[..octets.len()].copy_from_slice(octets),
+            None => copy::copy_runs(out, self.message, self.first),
         }
+    }
+
+    /// Returns the wire form if it is in the message in one piece: no pointer follows the first label.
+    #[inline(always)]
+    fn piece(&self) -> Option<&'a [u8]>
+        ensures { IfSome result (λ octets. octets.now ≡ wire self.now) }
+    {
+        if !self.in_one_piece {
+            return None;
+        }
+        Some(&self.message[self.first..self.first + self.size])
     }
 }
 

@@ -2,7 +2,7 @@
 use Rattle.std.proofs.Common.{◌≡◌, ℕ, ◌+◌, ◌<◌, ◌≤◌, Option, List, [], ◌∷◌, length, get_or, slice_range, refl, sym, ap, ◌∙◌, arith}
 use Rattle.std.proofs.lemmas.Option.{get_or_from_slice_get, slice_get_within}
 use Rattle.dnw_reading.specs.Reading.{target, Reads, zero_octet, label, pointer}
-use Rattle.dnw_reading.specs.Inside.Found.{labels_at, StandsAt, ReadsOn}
+use Rattle.dnw_reading.specs.Inside.Found.{labels_at, StandsAt, ReadsOn, MoreAt, LeadsTo}
 use Rattle.dnw_reading.proofs.Counts.{Reads-own}
 use Rattle.dnw_reading.proofs.Found.{NameAt-few, labels_at-Reads}
 
@@ -72,3 +72,13 @@ here on = Reads-here on.reads refl on.back on.few
 pub StandsAt-reads : (b : List ℕ) (p end size count pointers : ℕ) → StandsAt b p end size count pointers → ReadsOn b p p
 StandsAt-reads b p end size count pointers h =
     (reads-on h.name.reads (omega arith) (NameAt-few b p (labels_at b p) end pointers h.name)).1
+
+pub StandsAt-more : (b : List ℕ) (p end size count pointers : ℕ) → StandsAt b p end size count pointers → MoreAt b p
+StandsAt-more b p end size count pointers h = record { segment = p; on = StandsAt-reads b p end size count pointers h }
+
+-- a label is where the pointers lead, and the others are read after it
+pub LeadsTo-label : {b : List ℕ} {p t : ℕ} → (h : LeadsTo b p t) → 0 < length (labels_at b p) → LabelHere b h.more.segment t (get_or b t 0)
+LeadsTo-label {b} {p} {t} h some =
+    (here h.more.on).label
+    (λ z. let none : length (labels_at b p) ≡ 0 = ap length (sym h.same ∙ (here h.more.on).end z) in omega arith)
+    h.last

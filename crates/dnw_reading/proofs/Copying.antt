@@ -1,10 +1,12 @@
 -- A copy of a name, run by run.
-use Rattle.std.proofs.Common.{◌≡◌, ℕ, suc, Bool, IsTrue, ◌+◌, ◌-◌, ◌<◌, ◌≤◌, Option, List, [], ◌∷◌, ◌++◌, length, drop, get_or, slice_range, refl, ap, ◌∙◌, append_assoc, add-one, arith, length-append}
+use Rattle.std.proofs.Common.{◌≡◌, ℕ, suc, Bool, IsTrue, ◌+◌, ◌-◌, ◌<◌, ◌≤◌, Option, List, [], ◌∷◌, ◌++◌, length, take, drop, get_or, slice_range, refl, ap, ◌∙◌, append_assoc, add-one, arith, length-append}
 use Rattle.std.proofs.Math.Seq.{take-add, drop-cons}
-use Rattle.std.proofs.lemmas.List.{drop-drop}
+use Rattle.std.proofs.lemmas.List.{drop-drop, take_at}
+use Rattle.std.proofs.lemmas.Slice.{drop-append-drop}
 use Rattle.std.proofs.lemmas.List.Edits.{length-between, between_none}
 use Rattle.std.proofs.lemmas.Option.{get_or_from_slice_get, slice_get_within}
-use Rattle.dnw_base.specs.Names.{wire}
+use Rattle.dnw_base.specs.Names.{encoded_size, wire}
+use Rattle.dnw_reading.specs.Buffers.{put}
 use Rattle.dnw_reading.specs.Reading.{target, Reads, zero_octet, label, pointer}
 use Rattle.dnw_reading.specs.Inside.Found.{labels_at, StandsAt, LiesAt, Copies}
 use Rattle.dnw_reading.proofs.Counts.{length-label, Reads-own}
@@ -41,20 +43,14 @@ Reads-plain {b} {p} (label {e = end} {ls = rest} c w g one most fit r) none =
 Reads-plain (pointer high low w g least g' prior r) none = absurd (omega arith)
 
 -- such a name stands in one piece, as long as its uncompressed form
-pub record InOnePiece (b : List ℕ) (p size : ℕ) : Type 0 where
-  pub inside : p + size ≤ length b
-  pub form : slice_range b p (p + size) ≡ wire (labels_at b p)
-  pub short : size ≤ 255
-
 pub LiesAt-plain : {b : List ℕ} {p size count : ℕ} {in_one_piece : Bool} → LiesAt b p size count in_one_piece → IsTrue in_one_piece
-    → InOnePiece b p size
+    → (p + size ≤ length b) × (slice_range b p (p + size) ≡ wire (labels_at b p))
 LiesAt-plain {b} {p} {size} h whole =
     let (behind, inside) = Reads-own h.stands.name.reads in
     let form = Reads-plain h.stands.name.reads (h.plain whole) in
-    let fits = h.stands.name.fits in
     let size_is = h.stands.size_is in
     let end_is : h.end ≡ p + size = omega (arith, length-between b p h.end (omega arith), ap length form, length-wire (labels_at b p)) in
-    record { inside = omega arith; form = rw end_is at form; short = omega arith }
+    (omega arith, rw end_is at form)
 
 -- the copy of a name begins
 pub Copies-start : (b : List ℕ) (p end size count pointers : ℕ) → StandsAt b p end size count pointers → Copies b p p p []
@@ -115,3 +111,17 @@ module _ {b : List ℕ} {start run p : ℕ} {written : List ℕ} (h : Copies b s
         whole = rw (between_none, pointer.labels) (append_assoc written (slice_range b run p) (wire (labels_at b p)) ∙ h.whole);
         short = h.short;
       }
+
+-- one more run is put after what is written
+pub put_more : (buffer out after written run : List ℕ) (filled : ℕ) → filled ≡ length written → out ≡ put buffer written
+    → after ≡ take filled out ++ (run ++ drop (filled + length run) out) → after ≡ put buffer (written ++ run)
+put_more buffer out after written run filled size is more =
+    let back : drop (length written + length run) (written ++ drop (length written) buffer) ≡ drop (length written + length run) buffer =
+    drop-append-drop (length written) buffer written (length written + length run) (omega arith) refl in
+    more ∙ rw (is, size, take_at written (drop (length written) buffer) (length written) refl, back, length-append, append_assoc) refl
+
+-- what is taken of a buffer that a wire form was put into
+pub wire_taken : (ls : List (List ℕ)) (size : ℕ) (buffer out : List ℕ) → size ≡ encoded_size ls → out ≡ put buffer (wire ls) → take size out ≡ wire ls
+wire_taken ls size buffer out size_is is =
+    let all : length (wire ls) ≡ size = omega (arith, size_is, length-wire ls) in
+    ap (take size) is ∙ take_at (wire ls) (drop (length (wire ls)) buffer) size all

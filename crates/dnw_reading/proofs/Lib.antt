@@ -4,9 +4,7 @@ pub mod Back
 pub mod Stand
 pub mod Counts
 pub mod Found
-pub mod Filling
 pub mod Walking
 pub mod Takes
 pub mod Behind
 pub mod Copying
-pub mod Lending

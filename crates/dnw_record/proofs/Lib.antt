@@ -1,3 +1,5 @@
 pub mod Reading
 pub mod Parts
 pub mod Laying
+pub mod Bounded
+pub mod Preceding

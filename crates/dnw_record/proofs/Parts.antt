@@ -18,36 +18,39 @@ use Rattle.dnw_record.specs.RecordLaws.{FailsForSize, RecordsFit, data_size, rec
 
 -- ---- what is accepted
 
--- A write ends after n bytes at most, and within the maximum, which stays.
+-- A write goes on, ends after n bytes at most, and within the maximum, which stays.
 abbrev pub EndsWithin : Encoder → ℕ → Encoder → Type 0
-EndsWithin v n w = (w.offset ≤ v.offset + n) × (w.offset ≤ v.max_size) × (w.max_size ≡ v.max_size)
+EndsWithin v n w = (w.offset ≤ v.offset + n) × (w.offset ≤ v.max_size) × (w.max_size ≡ v.max_size) × (v.offset ≤ w.offset)
 
-done-bytes : (d : List ℕ) (v w : Encoder) → Writes v d (Ok tt) w → EndsWithin v (length d) w
+pub done-bytes : (d : List ℕ) (v w : Encoder) → Writes v d (Ok tt) w → EndsWithin v (length d) w
 done-bytes d v w h =
     let offset = ap (λ (x : Encoder). x.offset) h.1 in
-    (omega (arith, offset), omega (arith, offset, h.0), ap (λ (x : Encoder). x.max_size) h.1)
+    (omega (arith, offset), omega (arith, offset, h.0), ap (λ (x : Encoder). x.max_size) h.1, omega (arith, offset))
 
 done-as : (v w : Encoder) (ls : List (List ℕ)) (choice : Option Share) → AreLabels ls → Chooses v ls choice → EmitsAs v ls choice (Ok tt) w
-    → (w.offset ≤ v.max_size) × (w.max_size ≡ v.max_size)
+    → (w.offset ≤ v.max_size) × (w.max_size ≡ v.max_size) × (v.offset ≤ w.offset)
 done-as v w ls None are chosen h =
-    (omega (arith, h.0, ap (λ (x : Encoder). x.offset) h.1, length-wire ls), ap (λ (x : Encoder). x.max_size) h.1)
-done-as v w ls (Some share) are (_, points) h = (
-  omega (arith, h.0, ap (λ (x : Encoder). x.offset) h.1, pointers_save v ls share.front share.back share.target are points, length-all ls),
-  ap (λ (x : Encoder). x.max_size) h.1,
-)
+    let offset = ap (λ (x : Encoder). x.offset) h.1 in
+    (omega (arith, h.0, offset, length-wire ls), ap (λ (x : Encoder). x.max_size) h.1, omega (arith, offset))
+done-as v w ls (Some share) are (_, points) h =
+    let offset = ap (λ (x : Encoder). x.offset) h.1 in (
+      omega (arith, h.0, offset, pointers_save v ls share.front share.back share.target are points, length-all ls),
+      ap (λ (x : Encoder). x.max_size) h.1,
+      omega (arith, offset),
+    )
 
-done-name : (name : NameValue) (v w : Encoder) → EmitsName name v (Ok tt) w → EndsWithin v (encoded_size name.labels) w
+pub done-name : (name : NameValue) (v w : Encoder) → EmitsName name v (Ok tt) w → EndsWithin v (encoded_size name.labels) w
 done-name name v w h =
-    let (within, same) = done-as v w (in_mode v.encoding name.labels) h.choice h.are_labels h.chooses h.written_as in
-    (names_take_no_more name v w h, within, same)
+    let (within, same, on) = done-as v w (in_mode v.encoding name.labels) h.choice h.are_labels h.chooses h.written_as in
+    (names_take_no_more name v w h, within, same, on)
 
 pub done-part : (part : WirePart) (v w : Encoder) → EmitsWirePart part v (Ok tt) w → EndsWithin v (wire_size part) w
 done-part (bytes_part d) v w h = done-bytes d v w h
 done-part (text_part text) v w h = done-bytes (length text ∷ text) v w h.1
 done-part (name_part mode name) v w (u, h, is) =
-    let (le, within, same) = done-name name (in_encoding v mode) u h in
+    let (le, within, same, on) = done-name name (in_encoding v mode) u h in
     let offset = ap (λ (x : Encoder). x.offset) is in
-    (omega (arith, offset, le), omega (arith, offset, within), ap (λ (x : Encoder). x.max_size) is ∙ same)
+    (omega (arith, offset, le), omega (arith, offset, within), ap (λ (x : Encoder). x.max_size) is ∙ same, omega (arith, offset, on))
 
 pub done-parts : (parts : List WirePart) (v w : Encoder) → EmitsWireParts parts v (Ok tt) w → w.offset ≤ v.offset + parts_size parts
 done-parts [] v w h = omega (arith, ap (λ (x : Encoder). x.offset) h)
@@ -121,7 +124,7 @@ pub refused-parts : (parts : List WirePart) (v w : Encoder) (error : ProtoError)
 refused-parts [] v w error h = absurd h
 refused-parts (part ∷ parts) v w error (inl h) = (refused-part part parts v w error h).1
 refused-parts (part ∷ parts) v w error (inr (m, one, more)) =
-    let (le, _, same) = done-part part v m one in
+    let (le, _, same, _) = done-part part v m one in
     refuses-all part parts v.max_size v.offset m.offset error le (subst (λ n. Refuses n m.offset parts error) same (refused-parts parts m w error more))
 
 -- ---- records
@@ -135,11 +138,12 @@ refused-data (Bytes bytes) v w error h = (refused-room v (written v bytes.items)
 refused-data (Name name encoding) v w error (u, h, is) = (refused-name name _ u error h).1
 
 -- a record ends after as many bytes as with its names whole at most, and within the maximum
-pub done-fields : (r : WireRecord) (v w : Encoder) → EmitsFields r v (Ok tt) w → EndsWithin v (record_size r) w
+pub done-fields : (r : WireRecord) (v w : Encoder) → EmitsFields r v (Ok tt) w
+    → (w.offset ≤ v.offset + record_size r) × (w.offset ≤ v.max_size) × (w.max_size ≡ v.max_size)
 done-fields r v w (a, owner, (d, fixed, (room, u, one, is))) =
-    let (le, _, same) = done-name r.owner v a owner in
-    let (fit, _, still) = done-bytes (type_class_ttl r) a d fixed in
-    let (most, within, kept) = done-data r.rdata (reserved d 2) u one in
+    let (le, _, same, _) = done-name r.owner v a owner in
+    let (fit, _, still, _) = done-bytes (type_class_ttl r) a d fixed in
+    let (most, within, kept, _) = done-data r.rdata (reserved d 2) u one in
     let offset = ap (λ (x : Encoder). x.offset) is in (
       omega (arith, offset, le, fit, most),
       omega (arith, offset, within, still, same),
@@ -151,16 +155,16 @@ refused-rest : (r : WireRecord) (a w : Encoder) (error : ProtoError) → Then (�
     → FailsForSize a (10 + data_size r.rdata) error
 refused-rest r a w error (inl h) = fails-later a a _ 8 error (omega arith) refl (refused-room a (written a (type_class_ttl r)) w 8 error h).1
 refused-rest r a w error (inr (d, fixed, inl h)) =
-    let (le, _, same) = done-bytes (type_class_ttl r) a d fixed in
+    let (le, _, same, _) = done-bytes (type_class_ttl r) a d fixed in
     fails-later a d _ 2 error (omega (arith, le)) same (refused-room d (reserved d 2) w 2 error h).1
 refused-rest r a w error (inr (d, fixed, inr (room, h))) =
-    let (le, _, same) = done-bytes (type_class_ttl r) a d fixed in
+    let (le, _, same, _) = done-bytes (type_class_ttl r) a d fixed in
     fails-later a (reserved d 2) _ (data_size r.rdata) error (omega (arith, le)) same (refused-data r.rdata (reserved d 2) w error h)
 
 pub refused-fields : (r : WireRecord) (v w : Encoder) (error : ProtoError) → EmitsFields r v (Err error) w → FailsForSize v (record_size r) error
 refused-fields r v w error (inl h) = fails-later v v _ _ error (omega arith) refl (refused-name r.owner v w error h).1
 refused-fields r v w error (inr (a, owner, more)) =
-    let (le, _, same) = done-name r.owner v a owner in
+    let (le, _, same, _) = done-name r.owner v a owner in
     fails-later v a _ (10 + data_size r.rdata) error (omega (arith, le)) same (refused-rest r a w error more)
 
 pub records_fit : RecordsFit

@@ -10,24 +10,62 @@ use Rattle.dnw_base.specs.Names.{encoded_size}
 use Rattle.dnw_reading.specs.Reading.{NameAt}
 use Rattle.dnw_encoder.specs.declared.encoder.modes.NameEncoding.{NameEncoding}
 use Rattle.dnw_encoder.specs.EmittedName.{in_mode}
-use Rattle.dnw_candidates.specs.Candidates.{candidates_before}
-use Rattle.dnw_encoder.specs.Encoder.{Encoder}
+use Rattle.dnw_encoder.specs.Encoder.{CandidatesPrecede, Encoder}
+use Rattle.dnw_encoder.specs.EncoderLaws.{StaysBounded}
+use Rattle.dnw_encoder.specs.CandidateLaws.{KeepsPreceding}
 use Rattle.dnw_record.specs.declared.record.WireRecord.{WireRecord}
 use Rattle.dnw_record.specs.declared.record.WireData.{WireData}
 use Rattle.dnw_record.specs.declared.record.WireData.TheVariants.{Bytes, Name}
+use Rattle.dnw_record.specs.Parts.{EmitsCounted, EmitsWirePart, EmitsWireParts, WirePart, Write}
 use Rattle.dnw_record.specs.Records.{RecordAt, RecordValue, fields_at, fixed_size}
 use Rattle.dnw_record.specs.WrittenRecords.{EmitsData, EmitsRecord, NumbersFit}
 
 -- A refused record, begun at the buffer's end with every candidate before it, leaves the whole encoder.
 abbrev pub RefusedRecordsUndo : Type 0
 RefusedRecordsUndo = (r : WireRecord) (v w : Encoder) (error : ProtoError) → v.offset ≡ length v.bytes
-    → candidates_before v.offset v.candidates ≡ v.candidates → EmitsRecord r v (Err error) w → w ≡ v
+    → CandidatesPrecede v → EmitsRecord r v (Err error) w → w ≡ v
 
 -- Refused data leave it wherever they began.
 abbrev pub RefusedDataUndo : Type 0
 RefusedDataUndo = (rdata : WireData) (v w : Encoder) (error : ProtoError) → EmitsData rdata v (Err error) w → w ≡ v
 
+-- ---- candidates before the offset
+
+abbrev pub PartPrecedes : Type 0
+PartPrecedes = (part : WirePart) → KeepsPreceding (EmitsWirePart part)
+
+abbrev pub PartsPrecede : Type 0
+PartsPrecede = (parts : List WirePart) → KeepsPreceding (EmitsWireParts parts)
+
+abbrev pub CountedPrecede : Type 0
+CountedPrecede = (front back : List WirePart) → KeepsPreceding (EmitsCounted front back)
+
+abbrev pub DataPrecede : Type 0
+DataPrecede = (rdata : WireData) → KeepsPreceding (EmitsData rdata)
+
+abbrev pub RecordsPrecede : Type 0
+RecordsPrecede = (r : WireRecord) → KeepsPreceding (EmitsRecord r)
+
 -- ---- sizes
+
+-- If it is accepted, the write leaves the buffer no longer than it was, or than the maximum, and the offset within it.
+abbrev pub KeepsBounded : Write → Type 0
+KeepsBounded write = (v w : Encoder) → v.offset ≤ length v.bytes → write v (Ok tt) w → StaysBounded v w × (w.offset ≤ length w.bytes)
+
+abbrev pub PartStaysBounded : Type 0
+PartStaysBounded = (part : WirePart) → KeepsBounded (EmitsWirePart part)
+
+abbrev pub PartsStayBounded : Type 0
+PartsStayBounded = (parts : List WirePart) → KeepsBounded (EmitsWireParts parts)
+
+abbrev pub CountedStayBounded : Type 0
+CountedStayBounded = (front back : List WirePart) → KeepsBounded (EmitsCounted front back)
+
+abbrev pub DataStayBounded : Type 0
+DataStayBounded = (rdata : WireData) → KeepsBounded (EmitsData rdata)
+
+abbrev pub RecordsStayBounded : Type 0
+RecordsStayBounded = (r : WireRecord) → KeepsBounded (EmitsRecord r)
 
 -- the octets of data with a name whole
 abbrev pub data_size : WireData → ℕ

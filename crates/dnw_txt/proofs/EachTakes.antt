@@ -1,5 +1,5 @@
--- Each token takes at least one character. Lists, quoted texts and their faults may find no memory.
-use Rattle.std.proofs.Common.{◌≡◌, ℕ, ◌<◌, ◌≤◌, Bool, true, false, not, ◌==◌, if◌then◌else◌, Ok, Err, Some, None, Option, Result, List, [], ◌∷◌, length, refl, ap, subst, arith}
+-- Each token takes at least one character. A list or a quoted text that has kept something may find no memory.
+use Rattle.std.proofs.Common.{◌≡◌, ℕ, ◌<◌, ◌≤◌, Bool, true, false, not, ◌==◌, if◌then◌else◌, Ok, Err, Some, None, Option, Result, List, [], ◌∷◌, ◌++◌, length, refl, ap, subst, arith}
 use Rattle.std.specs.Prelude.{⊤}
 use Rattle.std.specs.List.{AllByRecursion}
 use Rattle.std.specs.Char.{is_whitespace, is_control, is_ascii_digit}
@@ -16,42 +16,48 @@ Leaves n (Gives token rest state) = length rest < n
 Leaves n Ends = ⊤
 Leaves n (Stops fault) = ⊤
 
--- and there may be no memory for it
-Takes : ℕ → Step → Type 0
-Takes n s = Leaves n s × MayRunOut s
+-- and there may be no memory for it, if k texts or characters are kept and k is not 0
+Takes : ℕ → ℕ → Step → Type 0
+Takes n k s = Leaves n s × (1 ≤ k → MayRunOut true s)
 
 by_if : (P : Step → Type 0) (b : Bool) (x y : Step) → (b ≡ true → P x) → (b ≡ false → P y) → P (if b then x else y)
 by_if P true x y hx hy = hx refl
 by_if P false x y hx hy = hy refl
 
-list_after-takes : (cs : List ℕ) (words : List (List ℕ)) (state : ListState) (n : ℕ) → length cs ≤ n → Takes n (list_after words state cs)
+list_after-takes : (cs : List ℕ) (words : List (List ℕ)) (state : ListState) (n k : ℕ) → length cs ≤ n → k ≤ length words → Takes n k (list_after words state cs)
 unfolding Leaves Takes
-list_after-takes [] words state n le = (tt, tt)
-list_after-takes (c ∷ cs) words Comment n le = search (arith, by_if (Takes n), list_after-takes cs)
-list_after-takes (c ∷ cs) words Between n le = search (arith, by_if (Takes n), list_after-takes cs)
-list_after-takes (c ∷ cs) words (Word word) n le = search (arith, by_if (Takes n), list_after-takes cs)
+list_after-takes [] words state n k le kept = (tt, λ _. refl)
+list_after-takes (c ∷ cs) words Comment n k le kept = search (arith, by_if (Takes n k), list_after-takes cs)
+list_after-takes (c ∷ cs) words Between n k le kept =
+    let on = λ (state : ListState). list_after-takes cs words state n k (omega arith) kept in
+    by_if (Takes n k) (is_whitespace c) _ _ (λ _. on Between)
+    (λ _. by_if (Takes n k) (c == close_paren) _ _ (λ _. (omega arith, λ some. omega arith))
+    (λ _. by_if (Takes n k) (c == semicolon) _ _ (λ _. on Comment)
+    (λ _. by_if (Takes n k) (is_control c) _ _ (λ _. (tt, λ _. refl)) (λ _. on (Word (c ∷ []))))))
+list_after-takes (c ∷ cs) words (Word word) n k le kept = search (arith, by_if (Takes n k), list_after-takes cs, length-append)
 
-quoted_after-takes : (cs text : List ℕ) (state : QuoteState) (n : ℕ) → length cs ≤ n → Takes n (quoted_after text state cs)
+quoted_after-takes : (cs text : List ℕ) (state : QuoteState) (n k : ℕ) → length cs ≤ n → k ≤ length text → Takes n k (quoted_after text state cs)
 unfolding Leaves Takes
-quoted_after-takes [] text Plain n le = (tt, tt)
-quoted_after-takes [] text Escaped n le = (tt, tt)
-quoted_after-takes [] text (AfterOne a) n le = (tt, tt)
-quoted_after-takes [] text (AfterTwo a b) n le = (tt, tt)
-quoted_after-takes (c ∷ cs) text Plain n le = search (arith, by_if (Takes n), quoted_after-takes cs)
-quoted_after-takes (c ∷ cs) text Escaped n le =
-    by_if (Takes n) (is_control c) _ _ (λ _. (tt, tt))
-    (λ _. by_if (Takes n) (not (is_numeric c)) _ _ (λ _. quoted_after-takes cs _ _ n (omega arith))
-    (λ _. by_if (Takes n) (is_ascii_digit c) _ _ (λ _. quoted_after-takes cs _ _ n (omega arith)) (λ _. (tt, tt))))
-quoted_after-takes (c ∷ cs) text (AfterOne a) n le = search (arith, by_if (Takes n), quoted_after-takes cs)
-quoted_after-takes (c ∷ cs) text (AfterTwo a b) n le = search (arith, by_if (Takes n), quoted_after-takes cs)
+quoted_after-takes [] text Plain n k le kept = (tt, λ _. refl)
+quoted_after-takes [] text Escaped n k le kept = (tt, λ _. refl)
+quoted_after-takes [] text (AfterOne a) n k le kept = (tt, λ _. refl)
+quoted_after-takes [] text (AfterTwo a b) n k le kept = (tt, λ _. refl)
+quoted_after-takes (c ∷ cs) text Plain n k le kept = search (arith, by_if (Takes n k), quoted_after-takes cs, length-append)
+quoted_after-takes (c ∷ cs) text Escaped n k le kept =
+    let longer : k ≤ length (text ++ c ∷ []) = omega (arith, length-append text (c ∷ [])) in
+    by_if (Takes n k) (is_control c) _ _ (λ _. (tt, λ _. refl))
+    (λ _. by_if (Takes n k) (not (is_numeric c)) _ _ (λ _. quoted_after-takes cs _ _ n k (omega arith) longer)
+    (λ _. by_if (Takes n k) (is_ascii_digit c) _ _ (λ _. quoted_after-takes cs _ _ n k (omega arith) kept) (λ _. (tt, λ _. refl))))
+quoted_after-takes (c ∷ cs) text (AfterOne a) n k le kept = search (arith, by_if (Takes n k), quoted_after-takes cs)
+quoted_after-takes (c ∷ cs) text (AfterTwo a b) n k le kept = search (arith, by_if (Takes n k), quoted_after-takes cs, length-append)
 
-pub list_after-may : (cs : List ℕ) (words : List (List ℕ)) (state : ListState) → MayRunOut (list_after words state cs)
+pub list_after-may : (cs : List ℕ) (words : List (List ℕ)) (state : ListState) → 1 ≤ length words → MayRunOut true (list_after words state cs)
 unfolding Takes
-list_after-may cs words state = (list_after-takes cs words state (length cs) (omega arith)).1
+list_after-may cs words state kept = (list_after-takes cs words state (length cs) 1 (omega arith) kept).1 (omega arith)
 
-pub quoted_after-may : (cs text : List ℕ) (state : QuoteState) → MayRunOut (quoted_after text state cs)
+pub quoted_after-may : (cs text : List ℕ) (state : QuoteState) → 1 ≤ length text → MayRunOut true (quoted_after text state cs)
 unfolding Takes
-quoted_after-may cs text state = (quoted_after-takes cs text state (length cs) (omega arith)).1
+quoted_after-may cs text state kept = (quoted_after-takes cs text state (length cs) 1 (omega arith) kept).1 (omega arith)
 
 line_end-leaves : (cs : List ℕ) (n : ℕ) → length cs ≤ n → Leaves n (line_end cs)
 unfolding Leaves
@@ -85,8 +91,8 @@ unfolding Leaves Takes
 entry-leaves c cs n w lt =
     let capitals : length (from is_no_capital cs) < n = omega (arith, length-from is_no_capital cs) in
     let comment : length (from is_line_end cs) ≤ n = omega (arith, length-from is_line_end cs) in
-    let list = (list_after-takes cs [] Between n (omega arith)).0 in
-    let text = (quoted_after-takes cs [] Plain n (omega arith)).0 in
+    let list = (list_after-takes cs [] Between n 0 (omega arith) (omega arith)).0 in
+    let text = (quoted_after-takes cs [] Plain n 0 (omega arith) (omega arith)).0 in
     let word = λ (control : is_control c ≡ false) (semi : (c == semicolon) ≡ false) (close : (c == close_paren) ≡ false). word_before-leaves (before ends_word (c ∷ cs)) (from ends_word (c ∷ cs)) n (omega (arith, length-word c cs w control semi close)) in
     search (arith, by_if (Leaves n), control_entry-leaves, after_comment-leaves)
 

@@ -1,17 +1,18 @@
 -- What stands next, by the parts in which a lexer reads it.
-use Rattle.std.proofs.Common.{◌≡◌, ℕ, Bool, true, false, if◌then◌else◌, ◌==◌, ◌||◌, arith, List, String, [], ◌∷◌, ◌++◌, take, drop, map, refl, sym, ap, subst, ◌∙◌, append_assoc, eqb-true}
+use Rattle.std.proofs.Common.{◌≡◌, ℕ, ◌≤◌, Bool, true, false, if◌then◌else◌, ◌==◌, ◌||◌, arith, List, String, [], ◌∷◌, ◌++◌, length, take, drop, map, refl, sym, ap, subst, ◌∙◌, append_assoc, eqb-true}
 use Rattle.std.specs.Char.{is_whitespace, is_control, IsScalar}
 use Rattle.std.specs.List.{AllZip}
 use Rattle.std.specs.String.{string_bytes}
-use lib.Utf8.{encode}
+use lib.Utf8.{encode, encodes}
 use Rattle.std.specs.Str.{chars, IsUtf8}
 use Rattle.std.specs.declared.alloc.Global.{Global}
 use Rattle.std.proofs.lemmas.Bool.{ne_eqb}
-use Rattle.std.proofs.lemmas.Str.{chars-append, chars_past_char, chars-nil, IsUtf8-encode}
-use Rattle.std.proofs.lemmas.List.{append-nil}
+use Rattle.std.proofs.lemmas.Str.{chars-append, chars_past_char, chars-nil, encodes-chars, IsUtf8-append, IsUtf8-encode, IsUtf8-take}
+use Rattle.std.proofs.lemmas.List.{append-nil, length-append}
 use Rattle.dnw_txt.specs.Tokens.{Step, before, from, is_line_end, ends_word, semicolon, close_paren, quote, backslash, list_after, Between, Comment, Word, Plain, Escaped, quoted_after}
-use Rattle.dnw_txt.specs.Lexing.{characters}
+use Rattle.dnw_txt.specs.Lexing.{characters, MayRunOut}
 use Rattle.dnw_txt.specs.Inside.Finds.{StopsRun, ends_run, CutsBefore}
+use Rattle.dnw_txt.proofs.EachTakes.{list_after-may, quoted_after-may}
 
 -- texts of the same bytes have the same characters
 pub same_characters : (xs ys : List (String Global)) → AllZip (λ s t. string_bytes t ≡ string_bytes s) xs ys → map characters ys ≡ map characters xs
@@ -105,3 +106,24 @@ pub quoted_after-escape : (text cs ds : List ℕ) (c : ℕ) → cs ≡ c ∷ ds 
 quoted_after-escape text cs ds c e other stops =
     let escape : c ≡ backslash = eqb-true c backslash (rw (ne_eqb c quote other) at (subst StopsRun e stops)) in
     rw (e, escape) refl
+
+-- a text that is not empty has a character
+has_chars : (text cs : List ℕ) → IsUtf8 text → 1 ≤ length text → chars text ≡ cs → 1 ≤ length cs
+has_chars text [] utf8 some e = absurd (omega (arith, ap length (sym (encodes-chars text utf8) ∙ ap encodes e)))
+has_chars text (c ∷ cs) utf8 some e = omega arith
+
+pub some_chars : (text : List ℕ) → IsUtf8 text → 1 ≤ length text → 1 ≤ length (chars text)
+some_chars text utf8 some = has_chars text (chars text) utf8 some refl
+
+-- A word of a list and the characters of a quoted text are kept, and may find no memory.
+pub word-may : (words : List (List ℕ)) (all cs ds : List ℕ) (c : ℕ) → cs ≡ c ∷ ds → ends_word c ≡ false
+    → list_after words Between cs ≡ list_after [] Between all → MayRunOut true (list_after [] Between all)
+word-may words all cs ds c e h step =
+    subst (MayRunOut true) (list_after-begin words cs ds c e h ∙ step)
+    (list_after-may (from ends_word cs) (words ++ before ends_word cs ∷ []) Between (omega (arith, length-append words (before ends_word cs ∷ []))))
+
+pub run-may : (text left : List ℕ) (n : ℕ) → CutsBefore ends_run left n → IsUtf8 text → IsUtf8 left → 1 ≤ length (text ++ take n left)
+    → MayRunOut true (quoted_after (chars text) Plain (chars left))
+run-may text left n cut utf8 whole some =
+    subst (MayRunOut true) (quoted_after-taken text left (text ++ take n left) n cut utf8 refl)
+    (quoted_after-may (chars (drop n left)) (chars (text ++ take n left)) Plain (some_chars _ (IsUtf8-append text (take n left) utf8 (IsUtf8-take left n whole cut.boundary)) some))

@@ -1,9 +1,10 @@
 -- What a lexer's calls return, and what any number of them do.
-use Rattle.std.specs.Prelude.{◌≡◌, ℕ, ◌≤◌, Bool, true, false, ⊤, List, [], ◌∷◌, length, map, Option, Some, None, Result, Ok, Err, String, string_bytes, codes}
+use Rattle.std.specs.Prelude.{◌≡◌, ℕ, ◌≤◌, Bool, true, false, ◌||◌, ◌==◌, if◌then◌else◌, IsTrue, ⊤, List, [], ◌∷◌, length, map, Option, Some, None, Result, Ok, Err, String, string_bytes, codes}
 use Rattle.std.specs.declared.alloc.Global.{Global}
+use Rattle.std.specs.Char.{is_whitespace}
 use Rattle.std.specs.Str.{chars}
 use Rattle.std.specs.List.{AllByRecursion}
-use Rattle.dnw_txt.specs.Tokens.{TokenValue, Blank, Grouped, CharData, AtSign, Include, Origin, Ttl, LineEnd, LexFault, EndOfText, IllegalCharacter, UnrecognizedChar, UnclosedList, UnclosedQuote, UnrecognizedDollar, HasFailed, LexState, StartLine, RestOfLine, Failed, Step, Gives, Ends, Stops, LexerValue, next}
+use Rattle.dnw_txt.specs.Tokens.{open_paren, quote, is_line_end, TokenValue, Blank, Grouped, CharData, AtSign, Include, Origin, Ttl, LineEnd, LexFault, EndOfText, IllegalCharacter, UnrecognizedChar, UnclosedList, UnclosedQuote, UnrecognizedDollar, HasFailed, LexState, StartLine, RestOfLine, Failed, Step, Gives, Ends, Stops, LexerValue, next}
 use Rattle.dnw_txt.specs.declared.zone_lex.Token.{Token}
 use Rattle.dnw_txt.specs.declared.zone_lex.Token.TheVariants.{Blank as BlankToken, List as ListToken, CharData as CharDataToken, At as AtToken, Include as IncludeToken, Origin as OriginToken, Ttl as TtlToken, EOL as EndToken}
 use Rattle.dnw_txt.specs.declared.errors.LexerError.{LexerError}
@@ -48,13 +49,27 @@ Reports UnclosedQuote e = e ≡ UnclosedQuotedString
 Reports (UnrecognizedDollar word) e = IsDollarError word e
 Reports HasFailed e = IsIllegalState (codes "the lexer has failed") e
 
--- what stands next has a text or a list, which are allocated
-abbrev pub MayRunOut : Step → Type 0
-MayRunOut (Gives (Grouped words) rest state) = ⊤
-MayRunOut (Gives (CharData text) rest state) = ⊤
-MayRunOut (Stops HasFailed) = ⊥
-MayRunOut (Stops fault) = ⊤
-MayRunOut step = ⊥
+-- a list or a quoted text begins with this character
+abbrev pub opens : ℕ → Bool
+opens c = c == open_paren || c == quote
+
+-- A list or a quoted text stands next, in the rest of a line after white space.
+abbrev pub opens_from : LexState → List ℕ → Bool
+opens_from StartLine (c ∷ cs) = opens c
+opens_from RestOfLine (c ∷ cs) =
+    if is_line_end c then false
+    else if is_whitespace c then opens_from RestOfLine cs
+    else opens c
+opens_from state rest = false
+
+-- What stands next keeps a text: a token with one, or an unrecognized word. A fault in a list or in a quoted text may stand
+-- after texts that were kept.
+abbrev pub MayRunOut : Bool → Step → Type 0
+MayRunOut opened (Gives (Grouped words) rest state) = 1 ≤ length words
+MayRunOut opened (Gives (CharData text) rest state) = 1 ≤ length text
+MayRunOut opened (Stops (UnrecognizedDollar word)) = 1 ≤ length word
+MayRunOut opened (Stops fault) = IsTrue opened
+MayRunOut opened step = ⊥
 
 -- the error reports the fault that stands next
 abbrev pub FailsWith : Step → LexerError → Type 0
@@ -62,16 +77,20 @@ FailsWith (Stops fault) e = Reports fault e
 FailsWith step e = ⊥
 
 -- the same, or memory ran out
-abbrev pub Fails : Step → LexerError → Type 0
-Fails step Memory = MayRunOut step
-Fails step e = FailsWith step e
+abbrev pub Fails : Bool → Step → LexerError → Type 0
+Fails opened step Memory = MayRunOut opened step
+Fails opened step e = FailsWith step e
+
+-- a lexer finds no token
+abbrev pub FailsNext : LexerValue → LexerError → Type 0
+FailsNext lexer e = Fails (opens_from lexer.state lexer.rest) (next lexer) e
 
 -- What a call returns, and the lexer after it. A lexer at the end of its text stays there, and one that has failed
 -- stays so.
 abbrev pub Lexes : LexerValue → Result (Option Token) LexerError → LexerValue → Type 0
 Lexes old (Ok (Some token)) new = next old ≡ Gives (token_value token) new.rest new.state
 Lexes old (Ok None) new = (next old ≡ Ends) × (new ≡ record { rest = []; state = RestOfLine })
-Lexes old (Err e) new = Fails (next old) e × (new ≡ record old { state = Failed })
+Lexes old (Err e) new = FailsNext old e × (new ≡ record old { state = Failed })
 
 -- any number of calls, one after the other, and what they return
 abbrev pub Calls : LexerValue → List (Result (Option Token) LexerError) → LexerValue → Type 0

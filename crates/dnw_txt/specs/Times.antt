@@ -1,6 +1,6 @@
 -- Times to live as text: groups of digits and a unit, as `1h30m`, and seconds where the last unit is left out (RFC 1035,
 -- section 5.1, has seconds alone; the units are those that name servers take).
-use Rattle.std.specs.Prelude.{ℕ, ◌+◌, ◌-◌, ◌*◌, ◌<◌, ◌≡◌, ◌==◌, ◌||◌, if◌then◌else◌, ⊤, Option, Some, None, option_map, List, [], ◌∷◌, sum_by, string_bytes}
+use Rattle.std.specs.Prelude.{ℕ, ◌+◌, ◌-◌, ◌*◌, ◌<◌, ◌≤◌, ◌≡◌, ◌==◌, ◌||◌, if◌then◌else◌, ⊤, Option, Some, None, option_map, List, [], ◌∷◌, length, sum_by, string_bytes}
 use Rattle.std.specs.Char.{is_ascii_digit}
 use Rattle.dnw_txt.specs.declared.errors.ParseError.{ParseError}
 use Rattle.dnw_txt.specs.declared.errors.ParseError.TheVariants.{ParseTime, Memory}
@@ -47,8 +47,8 @@ abbrev pub IsNoTtl : Option ℕ → Type 0
 IsNoTtl (Some seconds) = max_ttl < seconds
 IsNoTtl None = ⊤
 
--- the error reports this text
+-- the error reports this text, or memory ran out for it
 abbrev pub IsParseTime : List ℕ → ParseError → Type 0
 IsParseTime text (ParseTime own) = string_bytes own ≡ text
-IsParseTime text Memory = ⊤
+IsParseTime text Memory = 1 ≤ length text
 IsParseTime text error = ⊥

@@ -1,6 +1,6 @@
 -- The tokens of a master file (RFC 1035, section 5.1): what stands next in a text, by its characters. The file is made of
 -- lines; parentheses group what crosses a line's end, `;` begins a comment, and quotes hold a text with white space.
-use Rattle.std.specs.Prelude.{ℕ, ◌+◌, ◌-◌, ◌*◌, Bool, not, ◌||◌, ◌==◌, if◌then◌else◌, List, [], ◌∷◌, ◌++◌, codes}
+use Rattle.std.specs.Prelude.{ℕ, ◌+◌, ◌-◌, ◌*◌, Bool, not, ◌||◌, ◌==◌, if◌then◌else◌, ⊤, List, [], ◌∷◌, ◌++◌, codes}
 use Rattle.std.specs.Char.{is_control, is_whitespace, is_ascii_digit, is_ascii_uppercase}
 use Rattle.std.specs.Str.{bytes_eq}
 use Rattle.ucd_category.specs.declared.GeneralCategory.TheVariants.{DecimalNumber, LetterNumber, OtherNumber}
@@ -66,6 +66,14 @@ pub data Step : Type 0 where
   Gives : (token : TokenValue) (rest : List ℕ) (state : LexState) → Step
   Ends : Step
   Stops : (fault : LexFault) → Step
+
+-- What stands next is settled, whatever follows after the text: a token that ends before the text does, or a character that
+-- may not stand where it is.
+abbrev pub IsSettled : Step → Type 0
+IsSettled (Gives token (c ∷ rest) state) = ⊤
+IsSettled (Stops (IllegalCharacter char)) = ⊤
+IsSettled (Stops (UnrecognizedChar char)) = ⊤
+IsSettled step = ⊥
 
 -- the characters before the first that passes the test, and those from it on
 abbrev pub before : (ℕ → Bool) → List ℕ → List ℕ

@@ -1,10 +1,11 @@
 //! The errors of reading master files.
-ghost use Rattle.std.specs.Prelude.{◌≡◌, IfOk, IfErr};
+ghost use Rattle.std.specs.Prelude.{◌≡◌, ◌≤◌, length, string_bytes, IfOk, IfErr, OnErr};
+ghost use Rattle.std.specs.Str.{chars};
 
 use crate::zone_lex::Token;
 use dnw_codes::record_type::RecordType;
 use dnw_error::error::{DecodeError, ProtoError};
-use std::alloc::{AllocError, AllocFailed};
+use std::alloc::{AllocError, AllocFailed, Global};
 use thiserror::Error;
 
 /// What calls return that read a text.
@@ -236,4 +237,15 @@ impl LexerError {
             LexerError::Memory => Ok(LexerError::Memory),
         }
     }
+}
+
+/// Copies a text. An empty one takes no memory.
+#[tactic(auto, using(crate::proofs::Steps::some_chars))]
+pub(crate) fn copied(alloc: Global, text: &str) -> Result<String, AllocError>
+    ensures ok { IfOk result (λ copy. string_bytes copy ≡ text.now) }
+    ensures err { OnErr result ((1 ≤ length text.now) × (1 ≤ length (chars text.now))) }
+{
+    let mut copy = String::new(alloc);
+    copy.push_str(text)?;
+    Ok(copy)
 }

@@ -3,7 +3,7 @@ ghost use Rattle.std.specs.Prelude.{◌≡◌, ℕ, ◌+◌, ◌-◌, ◌*◌, �
 ghost use Rattle.dnw_txt.specs.Times.{max_ttl, unit_seconds, time_seconds, IsNoTtl, IsParseTime};
 ghost use Rattle.dnw_txt.specs.Inside.Finds.{BeginsNoDigit, rest_from, seconds_after};
 
-use crate::errors::{ParseError, ParseResult};
+use crate::errors::{ParseError, ParseResult, copied};
 use std::alloc::Global;
 
 /// Reads a time to live: one or more groups of digits and a unit, of which the last may lack its unit. The units are `s`
@@ -24,7 +24,7 @@ pub fn parse_ttl(alloc: Global, ttl_str: &str) -> ParseResult<u32>
 {
     match seconds(ttl_str.as_bytes()) {
         Some(seconds) => Ok(seconds),
-        None => Err(ParseError::ParseTime(String::from_str(alloc, ttl_str)?)),
+        None => Err(ParseError::ParseTime(copied(alloc, ttl_str)?)),
     }
 }
 

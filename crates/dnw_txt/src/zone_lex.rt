@@ -4,11 +4,11 @@ ghost use Rattle.std.specs.Char.{IsScalar, is_whitespace};
 ghost use Rattle.std.specs.Str.{chars, IsUtf8};
 ghost use Rattle.std.specs.List.{list_all};
 ghost use Rattle.dnw_txt.specs.Tokens.{Step, Gives, CharData, StartLine, RestOfLine, Between, Plain, Escaped, AfterOne, is_numeric, is_line_end, ends_word, line_end, start_line, rest_of_line, entry, word_before, list_after, quoted_after, control_entry, after_comment, before, from, is_no_capital, next, next_from};
-ghost use Rattle.dnw_txt.specs.Lexing.{characters, token_value, Lexes, EndsInTime, Reports, IsToken};
+ghost use Rattle.dnw_txt.specs.Lexing.{characters, token_value, Lexes, EndsInTime, MayRunOut, Reports, IsToken, opens, opens_from};
 ghost use Rattle.dnw_txt.specs.Inside.Finds.{state_of, Finds, CutsBefore, BeginsWith, StopsRun, IsShorter, Escapes, EscapesFrom, ReadsDigit, is_plain, is_either, ends_run};
 ghost use Rattle.dnw_txt.specs.declared.errors.LexerError.TheVariants.{Memory};
 
-use crate::errors::LexerError;
+use crate::errors::{LexerError, copied};
 use std::alloc::Global;
 use std::marker::Model;
 use unicode::properties::GeneralCategory;
@@ -108,7 +108,8 @@ impl<'a> Lexer<'a> {
     /// Returns the next token, or `None` at the end of the text. After the end each call returns `None`. A text of n
     /// characters has at most n tokens, since each takes at least one character.
     ///
-    /// Fails with the fault that stands next in the text, or with `Memory` if a text or a list could not be allocated.
+    /// Fails with the fault that stands next in the text, or with `Memory` if a text that is kept could not be allocated: of a
+    /// token, of an unrecognized word after a `$`, or of what a list or a quoted text begins with.
     /// After any error each call fails with `IllegalState("the lexer has failed")`.
     pub fn next_token(&mut self, alloc: Global) -> Result<Option<Token>, LexerError>
         ensures lexes { Lexes self.old result self.new }
@@ -146,7 +147,7 @@ struct Found<'t> {
 
 /// Returns a token after which the rest of a line follows.
 fn on_line(token: Token, rest: &str) -> LexerResult<Option<Found<'_>>>
-    ensures { Finds (Gives (token_value token) (chars rest.now) RestOfLine) result }
+    ensures { Finds false (Gives (token_value token) (chars rest.now) RestOfLine) result }
 {
     Ok(Some(Found {
         token,
@@ -157,7 +158,7 @@ fn on_line(token: Token, rest: &str) -> LexerResult<Option<Found<'_>>>
 
 /// Finds what stands next in a text.
 fn find<'t>(alloc: Global, state: State, text: &'t str) -> LexerResult<Option<Found<'t>>>
-    ensures { Finds (next_from (state_of state) (chars text.now)) result }
+    ensures { Finds (opens_from (state_of state) (chars text.now)) (next_from (state_of state) (chars text.now)) result }
 {
     match state {
         State::StartLine => start_line(alloc, text),
@@ -168,7 +169,7 @@ fn find<'t>(alloc: Global, state: State, text: &'t str) -> LexerResult<Option<Fo
 
 /// Finds the token at the start of a line.
 fn start_line<'t>(alloc: Global, text: &'t str) -> LexerResult<Option<Found<'t>>>
-    ensures { Finds (start_line (chars text.now)) result }
+    ensures { Finds (opens_from StartLine (chars text.now)) (start_line (chars text.now)) result }
 {
     let Some((c, rest)) = split_first_char(text) else {
         return Ok(None);
@@ -184,7 +185,7 @@ fn start_line<'t>(alloc: Global, text: &'t str) -> LexerResult<Option<Found<'t>>
 
 /// Finds the token in the rest of a line.
 fn rest_of_line<'t>(alloc: Global, text: &'t str) -> LexerResult<Option<Found<'t>>>
-    ensures { Finds (rest_of_line (chars text.now)) result }
+    ensures { Finds (opens_from RestOfLine (chars text.now)) (rest_of_line (chars text.now)) result }
 {
     let mut text = text;
     while let Some((c, rest)) = split_first_char(text) {
@@ -208,7 +209,7 @@ fn entry<'t>(
     rest: &'t str,
 ) -> LexerResult<Option<Found<'t>>>
     requires { chars text.now ≡ first ∷ chars rest.now }
-    ensures { Finds (entry first (chars rest.now)) result }
+    ensures { Finds (opens first) (entry first (chars rest.now)) result }
 {
     match first {
         '@' => on_line(Token::At, rest),
@@ -224,7 +225,7 @@ fn entry<'t>(
 
 /// Finds the end of a line.
 fn line_end<'t>(text: &'t str) -> LexerResult<Option<Found<'t>>>
-    ensures { Finds (line_end (chars text.now)) result }
+    ensures { Finds false (line_end (chars text.now)) result }
 {
     let mut text = text;
     while let Some((c, rest)) = split_first_char(text) {
@@ -245,7 +246,7 @@ fn line_end<'t>(text: &'t str) -> LexerResult<Option<Found<'t>>>
 
 /// Finds what is after a comment: the end of its line, or of the text.
 fn comment<'t>(text: &'t str) -> LexerResult<Option<Found<'t>>>
-    ensures { Finds (after_comment (from is_line_end (chars text.now))) result }
+    ensures { Finds false (after_comment (from is_line_end (chars text.now))) result }
 {
     let rest = &text[comment_len(text)..];
     let Some(_) = split_first_char(rest) else {
@@ -256,7 +257,7 @@ fn comment<'t>(text: &'t str) -> LexerResult<Option<Found<'t>>>
 
 /// Finds a word.
 fn word<'t>(alloc: Global, text: &'t str) -> LexerResult<Option<Found<'t>>>
-    ensures { Finds (word_before (before ends_word (chars text.now)) (from ends_word (chars text.now))) result }
+    ensures { Finds false (word_before (before ends_word (chars text.now)) (from ends_word (chars text.now))) result }
 {
     let len = word_len(text);
     let word = &text[..len];
@@ -271,14 +272,14 @@ fn word<'t>(alloc: Global, text: &'t str) -> LexerResult<Option<Found<'t>>>
 
 /// Returns a word as a token.
 fn char_data<'t>(alloc: Global, word: &str, rest: &'t str) -> LexerResult<Option<Found<'t>>>
-    ensures { Finds (Gives (CharData (chars word.now)) (chars rest.now) RestOfLine) result }
+    ensures { Finds false (Gives (CharData (chars word.now)) (chars rest.now) RestOfLine) result }
 {
-    on_line(Token::CharData(String::from_str(alloc, word)?), rest)
+    on_line(Token::CharData(copied(alloc, word)?), rest)
 }
 
 /// Finds what a `$` and the capital letters after it stand for.
 fn control_entry<'t>(alloc: Global, text: &'t str) -> LexerResult<Option<Found<'t>>>
-    ensures { Finds (control_entry (before is_no_capital (chars text.now)) (from is_no_capital (chars text.now))) result }
+    ensures { Finds false (control_entry (before is_no_capital (chars text.now)) (from is_no_capital (chars text.now))) result }
 {
     let len = capitals_len(text);
     control_word(alloc, &text[..len], &text[len..])
@@ -288,7 +289,7 @@ fn control_entry<'t>(alloc: Global, text: &'t str) -> LexerResult<Option<Found<'
 #[inline(always)]
 fn control_word<'t>(alloc: Global, word: &str, rest: &'t str) -> LexerResult<Option<Found<'t>>>
     requires { chars word.now ≡ word.now }
-    ensures { Finds (control_entry word.now (chars rest.now)) result }
+    ensures { Finds false (control_entry word.now (chars rest.now)) result }
 {
     if word == "INCLUDE" {
         return on_line(Token::Include, rest);
@@ -299,12 +300,12 @@ fn control_word<'t>(alloc: Global, word: &str, rest: &'t str) -> LexerResult<Opt
     if word == "TTL" {
         return on_line(Token::Ttl, rest);
     }
-    Err(LexerError::UnrecognizedDollar(String::from_str(alloc, word)?))
+    Err(LexerError::UnrecognizedDollar(copied(alloc, word)?))
 }
 
 /// Finds a list, after its `(`.
 fn list<'t>(alloc: Global, text: &'t str) -> LexerResult<Option<Found<'t>>>
-    ensures { Finds (list_after [] Between (chars text.now)) result }
+    ensures { Finds true (list_after [] Between (chars text.now)) result }
 {
     let mut words = Vec::new(alloc);
     let mut left = text;
@@ -319,7 +320,7 @@ fn list<'t>(alloc: Global, text: &'t str) -> LexerResult<Option<Found<'t>>>
             return Err(LexerError::UnrecognizedChar(c));
         } else {
             let len = word_len(left);
-            words.push(String::from_str(alloc, &left[..len])?)?;
+            words.push(copied(alloc, &left[..len])?)?;
             left = &left[len..];
         }
     }
@@ -328,7 +329,7 @@ fn list<'t>(alloc: Global, text: &'t str) -> LexerResult<Option<Found<'t>>>
 
 /// Finds a quoted text, after its opening quote.
 fn quoted<'t>(alloc: Global, text: &'t str) -> LexerResult<Option<Found<'t>>>
-    ensures { Finds (quoted_after [] Plain (chars text.now)) result }
+    ensures { Finds true (quoted_after [] Plain (chars text.now)) result }
 {
     let mut collected = String::new(alloc);
     let mut left = text;
@@ -352,7 +353,7 @@ fn take_run<'t>(collected: &mut String, left: &'t str) -> LexerResult<&'t str>
     ensures goes_on { IfOk result (λ rest. quoted_after (characters collected.new) Plain (chars rest.now) ≡ quoted_after (characters collected.old) Plain (chars left.now)) }
     ensures stops { IfOk result (λ rest. StopsRun (chars rest.now)) }
     ensures rest { IfOk result (λ rest. (length rest.now ≤ length left.now) × IsUtf8 rest.now) }
-    ensures err { IfErr result (λ e. e ≡ Memory) }
+    ensures err { IfErr result (λ e. (e ≡ Memory) × MayRunOut true (quoted_after (characters collected.old) Plain (chars left.now))) }
 {
     let len = quoted_len(left);
     collected.push_str(&left[..len])?;

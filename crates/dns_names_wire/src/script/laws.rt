@@ -1,7 +1,8 @@
 //! What follows from a run of a script, for callers' proofs.
 //!
 //! The functions do nothing. Each is there for its clauses.
-ghost use Rattle.dns_names_wire.specs.ScriptLaws.{RunsReply, RunsFinish, RunsStayUseful, RunsAreShortest, RunsUndoRecords, StandingRecordsAreRead};
+ghost use Rattle.dns_names_wire.specs.ScriptLaws.{RunsReply, RunsFinish, RunsStayUseful, RunsAreShortest, RunsStayBounded, RunsUndoRecords, StandingRecordsAreRead};
+ghost use Rattle.dns_names_wire.specs.ScriptLaws.{PartsOfScriptsStayBounded, ItemsOfScriptsStayBounded};
 
 use dnw_record::record::laws;
 
@@ -19,6 +20,14 @@ pub fn pieces_stand()
 /// Names are as short as possible.
 pub fn names_are_shortest()
     ensures { RunsAreShortest }
+{}
+
+/// The buffer is no longer at the end than it was, or than the largest maximum in force. An accepted part or item leaves it no
+/// longer than it was, or than the maximum.
+pub fn runs_stay_bounded()
+    ensures runs { RunsStayBounded }
+    ensures parts { PartsOfScriptsStayBounded }
+    ensures items { ItemsOfScriptsStayBounded }
 {}
 
 /// A record that is refused leaves the whole encoder unchanged, the count of names included.

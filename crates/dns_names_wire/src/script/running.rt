@@ -1,21 +1,24 @@
 //! Running a script.
-ghost use Rattle.std.specs.Prelude.{◌≡◌, ℕ, ◌+◌, ◌<◌, ◌≤◌, ◌^◌, List, [], None, get_or, length, map, set, IfOk, IfErr, OnErr, vec_len};
+ghost use Rattle.std.specs.Prelude.{◌≡◌, ℕ, ◌+◌, ◌<◌, ◌≤◌, max, ◌^◌, List, [], ◌∷◌, None, Ok, get_or, length, map, set, IfOk, IfErr, OnErr, vec_len};
 ghost use Rattle.std.specs.Vec.{vec_capacity};
 ghost use Rattle.std.specs.List.{AllByRecursion};
 ghost use Rattle.dnw_error.specs.declared.error.ProtoError.{ProtoError};
-ghost use Rattle.dnw_encoder.specs.Encoder.{TakesRoom, reserved, usual_candidates, usual_names};
+ghost use Rattle.dnw_base.specs.Limits.{max_message};
+ghost use Rattle.dnw_encoder.specs.Encoder.{TakesRoom, Writes, WritesText, reserved, usual_candidates, usual_names};
 ghost use Rattle.dnw_encoder.specs.EncoderValue.{value, lender};
+ghost use Rattle.dnw_record.specs.WrittenRecords.{EmitsRecord};
 ghost use Rattle.dns_names_wire.specs.Script.{action};
 ghost use Rattle.dns_names_wire.specs.Pieces.{Account, after, opening};
-ghost use Rattle.dns_names_wire.specs.Finished.{Finished, Shortest};
+ghost use Rattle.dns_names_wire.specs.Finished.{Finished, Shortest, largest_max};
 ghost use Rattle.dns_names_wire.specs.Replies.{RepliesTo};
 ghost use Rattle.dns_names_wire.specs.Runs.{Run, Runs, RunsStep, RunsItems, GivesReply, beginning};
 ghost use Rattle.dns_names_wire.specs.Inside.Running.{FillsKept, HoldsPlace, KeepsPlace, Tracks, reply_to};
 
 use super::{Item, Reply, Step};
 use dnw_encoder::binary::BinEncodable;
-use dnw_encoder::encoder::{BinEncoder, CANDIDATE_LIMIT, NAME_LIMIT, Place};
+use dnw_encoder::encoder::{BinEncoder, CANDIDATE_LIMIT, NAME_LIMIT, NameEncoding, Place};
 use dnw_error::error::ProtoResult;
+use dnw_record::record::WireRecord;
 use std::alloc::Global;
 
 /// The placeholders of a run, by their numbers: `None` if it is used up.
@@ -31,6 +34,7 @@ pub fn run(alloc: Global, buf: &mut Vec<u8>, steps: &[Step]) -> ProtoResult<Vec<
     ensures finished { IfOk result (λ replies. Finished buf.old.items (map action steps.now) replies.items buf.new.items) }
     ensures shortest { IfOk result (λ replies. Shortest (length buf.old.items) usual_candidates usual_names (map action steps.now) replies.items) }
     ensures runs { IfOk result (λ replies. Run buf.old.items usual_candidates usual_names (map action steps.now) replies.items buf.new.items) }
+    ensures bounded { length buf.new.items ≤ max (length buf.old.items) (largest_max max_message (map action steps.now)) }
     ensures err { IfErr result (λ e. (1 ≤ length steps.now) × (e ≡ ProtoError.Memory)) }
     ensures same { OnErr result (buf.new.items ≡ buf.old.items) }
 {
@@ -51,6 +55,7 @@ pub fn run_limited(
     ensures finished { IfOk result (λ replies. Finished buf.old.items (map action steps.now) replies.items buf.new.items) }
     ensures shortest { IfOk result (λ replies. Shortest (length buf.old.items) candidates names (map action steps.now) replies.items) }
     ensures runs { IfOk result (λ replies. Run buf.old.items candidates names (map action steps.now) replies.items buf.new.items) }
+    ensures bounded { length buf.new.items ≤ max (length buf.old.items) (largest_max max_message (map action steps.now)) }
     ensures err { IfErr result (λ e. (1 ≤ length steps.now) × (e ≡ ProtoError.Memory)) }
     ensures same { OnErr result (buf.new.items ≡ buf.old.items) }
 {
@@ -113,33 +118,18 @@ fn run_step(encoder: &mut BinEncoder<'_>, step: &Step, places: &mut Places) -> R
 {
     match step {
         Step::Name(name) => write(encoder, name),
-        Step::U8(number) => {
-            let outcome = encoder.emit_u8(*number);
-            reply_to(encoder, outcome)
-        }
+        Step::U8(number) => write_byte(encoder, *number),
         Step::U16(number) => write(encoder, number),
         Step::I32(number) => write(encoder, number),
         Step::U32(number) => write(encoder, number),
         Step::Bytes(bytes) => write(encoder, bytes),
-        Step::Text(text) => {
-            let outcome = encoder.emit_character_data(text.as_slice());
-            reply_to(encoder, outcome)
-        }
-        Step::Max(size) => {
-            encoder.set_max_size(*size);
-            reply_to(encoder, Ok(()))
-        }
-        Step::Encoding(mode) => {
-            encoder.set_name_encoding(*mode);
-            reply_to(encoder, Ok(()))
-        }
-        Step::Canonical(canonical) => {
-            encoder.set_canonical_form(*canonical);
-            reply_to(encoder, Ok(()))
-        }
+        Step::Text(text) => write_text(encoder, text.as_slice()),
+        Step::Max(size) => set_max(encoder, *size),
+        Step::Encoding(mode) => set_mode(encoder, *mode),
+        Step::Canonical(canonical) => set_canonical(encoder, *canonical),
         Step::Reserve => reserve(encoder, places),
         Step::Fill { place, value } => fill(encoder, places, *place, *value),
-        Step::Record(record) => write(encoder, record),
+        Step::Record(record) => write_record(encoder, record),
         Step::Items(items) => write_items(encoder, items.as_slice()),
     }
 }
@@ -152,6 +142,64 @@ fn write<E: BinEncodable>(encoder: &mut BinEncoder<'_>, item: &E) -> Reply
 {
     let outcome = item.emit(encoder);
     reply_to(encoder, outcome)
+}
+
+/// Writes a byte at the end.
+fn write_byte(encoder: &mut BinEncoder<'_>, number: u8) -> Reply
+    ensures reply { GivesReply (Writes (value encoder.old) (number ∷ [])) result (value encoder.new) }
+    ensures lender { lender encoder.new ≡ lender encoder.old }
+{
+    let outcome = encoder.emit_u8(number);
+    reply_to(encoder, outcome)
+}
+
+/// Writes character data at the end.
+fn write_text(encoder: &mut BinEncoder<'_>, text: &[u8]) -> Reply
+    ensures reply { GivesReply (WritesText (value encoder.old) text.now) result (value encoder.new) }
+    ensures lender { lender encoder.new ≡ lender encoder.old }
+{
+    let outcome = encoder.emit_character_data(text);
+    reply_to(encoder, outcome)
+}
+
+/// Writes a record at the end, or nothing of it.
+fn write_record(encoder: &mut BinEncoder<'_>, item: &WireRecord) -> Reply
+    requires at_end { (value encoder.old).offset ≡ length (value encoder.old).bytes }
+    ensures reply { GivesReply (EmitsRecord item.now (value encoder.old)) result (value encoder.new) }
+    ensures lender { lender encoder.new ≡ lender encoder.old }
+{
+    write(encoder, item)
+}
+
+/// Sets the maximum size.
+fn set_max(encoder: &mut BinEncoder<'_>, size: u16) -> Reply
+    ensures reply { result ≡ reply_to (Ok tt) (length (value encoder.new).bytes) }
+    ensures value { value encoder.new ≡ record (value encoder.old) { max_size = size } }
+    ensures small { size ≤ max_message }
+    ensures lender { lender encoder.new ≡ lender encoder.old }
+{
+    encoder.set_max_size(size);
+    reply_to(encoder, Ok(()))
+}
+
+/// Sets how names are written.
+fn set_mode(encoder: &mut BinEncoder<'_>, mode: NameEncoding) -> Reply
+    ensures reply { result ≡ reply_to (Ok tt) (length (value encoder.new).bytes) }
+    ensures value { value encoder.new ≡ record (value encoder.old) { encoding = mode } }
+    ensures lender { lender encoder.new ≡ lender encoder.old }
+{
+    encoder.set_name_encoding(mode);
+    reply_to(encoder, Ok(()))
+}
+
+/// Sets whether the data of records are written in canonical form.
+fn set_canonical(encoder: &mut BinEncoder<'_>, canonical: bool) -> Reply
+    ensures reply { result ≡ reply_to (Ok tt) (length (value encoder.new).bytes) }
+    ensures value { value encoder.new ≡ record (value encoder.old) { canonical = canonical } }
+    ensures lender { lender encoder.new ≡ lender encoder.old }
+{
+    encoder.set_canonical_form(canonical);
+    reply_to(encoder, Ok(()))
 }
 
 /// Returns the reply to a write.

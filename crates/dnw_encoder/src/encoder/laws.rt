@@ -1,6 +1,7 @@
 //! What follows from the definitions of writing, for callers' proofs.
 //!
 //! The functions do nothing. Each is there for its clauses.
+ghost use Rattle.dnw_encoder.specs.CandidateLaws.{NewPrecede, WritesPrecede, TextsPrecede, PlacesPrecede, FillsPrecede, NamesPrecede, StoresPrecede, TrimsPrecede, RewindsPrecede, ItemsPrecede, ItemPrecedes};
 ghost use Rattle.dnw_encoder.specs.EncoderLaws.{WritesStayBounded, PlacesStayBounded, FillsStayBounded, FillsTakeNoMemory, ItemsStayBounded, ItemsKeepFrame, FramesFollow, NameIsRead, NameComesBack, NamesStayBounded, NamesTakeNoMore, PointersSave};
 
 pub use super::mark::rewinding_undoes;
@@ -41,4 +42,24 @@ pub fn names_stay_bounded()
     ensures bounded { NamesStayBounded }
     ensures no_more { NamesTakeNoMore }
     ensures saves { PointersSave }
+{}
+
+/// Every candidate of a new encoder is before the offset, and each call below keeps that, whether it succeeds or fails: so
+/// rewinding undoes what was written.
+pub fn candidates_precede()
+    ensures new { NewPrecede }
+    ensures writes { WritesPrecede }
+    ensures texts { TextsPrecede }
+    ensures places { PlacesPrecede }
+    ensures fills { FillsPrecede }
+    ensures names { NamesPrecede }
+    ensures stores { StoresPrecede }
+    ensures trims { TrimsPrecede }
+    ensures rewinds { RewindsPrecede }
+{}
+
+/// So do items, if each of them does, and the one that is rolled back.
+pub fn items_precede<E: BinEncodable>()
+    ensures in_turn { ItemsPrecede E.emits }
+    ensures item { ItemPrecedes E.emits }
 {}

@@ -1,7 +1,7 @@
 -- What is known of labels that are joined one after another.
-use Rattle.std.specs.Prelude.{◌≡◌, ℕ, List, [], length, Some, None, Result, Ok, Err, is_ok}
+use Rattle.std.specs.Prelude.{◌≡◌, ℕ, List, [], length, Result, is_ok}
 use Rattle.std.specs.List.{list_all}
-use Rattle.dnw_error.specs.Fault.{Fault, NameTooLong}
+use Rattle.dnw_error.specs.Fault.{Fault, Follows}
 use Rattle.dnw_form.specs.Edits.{made, with_labels}
 use Rattle.dnw_name.specs.declared.name.joining.Joining.{Joining}
 
@@ -9,5 +9,4 @@ use Rattle.dnw_name.specs.declared.name.joining.Joining.{Joining}
 pub record HasJoined (joining : Joining) (items : List (Result (List ℕ) Fault)) : Type 0 where
   pub count : joining.made ≡ length (made items)
   pub all : joining.all_made ≡ list_all is_ok items
-  pub fits : joining.too_long ≡ None → with_labels [] (made items) ≡ Ok joining.form
-  pub long : (size : ℕ) → joining.too_long ≡ Some size → with_labels [] (made items) ≡ Err (NameTooLong size)
+  pub labels : Follows (with_labels [] (made items)) ⊥ joining.form

@@ -13,13 +13,12 @@ use std::alloc::Global;
 /// Labels that are joined into a name one after another.
 #[derive(Drop)]
 pub(crate) struct Joining {
-    form: WireForm,
+    /// The wire form of the labels, or the error of the first one that did not fit.
+    form: ProtoResult<WireForm>,
     /// How many labels were made.
     made: usize,
     /// Whether each label could be made.
     all_made: bool,
-    /// The size with the first label that did not fit.
-    too_long: Option<usize>,
 }
 
 impl Joining {
@@ -28,10 +27,9 @@ impl Joining {
         ensures joined { HasJoined result [] }
     {
         Joining {
-            form: WireForm::new(alloc),
+            form: Ok(WireForm::new(alloc)),
             made: 0,
             all_made: true,
-            too_long: None,
         }
     }
 
@@ -55,15 +53,11 @@ impl Joining {
         ensures { (items : List (Result (List ℕ) Fault)) → HasJoined self.old items → HasJoined self.new (items ++ Ok label.now ∷ []) }
     {
         self.made += 1;
-        if self.too_long.is_some() {
+        let Ok(form) = &mut self.form else {
             return;
-        }
-        let label = label.as_bytes();
-        let size = self.form.len() + 1 + label.len();
-        if size > MAX_NAME {
-            self.too_long = Some(size);
-        } else {
-            self.form.push(label).unwrap();
+        };
+        if let Err(error) = form.push(label.as_bytes()) {
+            self.form = Err(error);
         }
     }
 
@@ -78,10 +72,7 @@ impl Joining {
             let text = String::from_str(alloc, "error converting some labels")?;
             return Err(ProtoError::Msg(text));
         }
-        match self.too_long {
-            Some(size) => Err(ProtoError::Decode(DecodeError::DomainNameTooLong(size))),
-            None => Ok(self.form),
-        }
+        self.form
     }
 }
 

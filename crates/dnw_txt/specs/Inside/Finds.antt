@@ -17,11 +17,11 @@ state_of AtStart = StartLine
 state_of InLine = RestOfLine
 state_of HasStopped = Failed
 
--- a part finds what stands next
-abbrev pub Finds : Step → Result (Option Found) LexerError → Type 0
-Finds step (Ok (Some found)) = step ≡ Gives (token_value found.token) (chars found.rest.now) (state_of found.state)
-Finds step (Ok None) = step ≡ Ends
-Finds step (Err e) = Fails step e
+-- A part finds what stands next, which is opened as a list or a quoted text or not.
+abbrev pub Finds : Bool → Step → Result (Option Found) LexerError → Type 0
+Finds opened step (Ok (Some found)) = step ≡ Gives (token_value found.token) (chars found.rest.now) (state_of found.state)
+Finds opened step (Ok None) = step ≡ Ends
+Finds opened step (Err e) = Fails opened step e
 
 -- A text of these bytes is cut after n of them, before the first character that passes the test.
 pub record CutsBefore (p : ℕ → Bool) (text : List ℕ) (n : ℕ) : Type 0 where
@@ -46,7 +46,7 @@ BeginsWith text (Some (c, rest)) = (chars text ≡ c ∷ chars rest.now) × IsSh
 -- The rest of an escape is read: its character joins the text, and what is after it is read on.
 abbrev pub EscapesFrom : QuoteState → List ℕ → Result (ℕ × Bor (List ℕ)) LexerError → Type 0
 EscapesFrom state cs (Ok (c, rest)) = (text : List ℕ) → quoted_after text state cs ≡ quoted_after (text ++ c ∷ []) Plain (chars rest.now)
-EscapesFrom state cs (Err e) = (text : List ℕ) → Fails (quoted_after text state cs) e
+EscapesFrom state cs (Err e) = (text : List ℕ) → Fails true (quoted_after text state cs) e
 
 -- An escape is read after its backslash.
 abbrev pub Escapes : List ℕ → Result (ℕ × Bor (List ℕ)) LexerError → Type 0

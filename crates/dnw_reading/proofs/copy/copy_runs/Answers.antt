@@ -1,8 +1,7 @@
 use Rattle.std.proofs.Common.{[], ◌++◌, slice_range, refl, ap, ◌∙◌, arith, length-append}
 use Rattle.dnw_reading.specs.Buffers.{put}
 use Rattle.dnw_reading.proofs.Behind.{here}
-use Rattle.dnw_reading.proofs.Copying.{Copies-start, Copies-run, Copies-size, Copies-end, Copies-label, Copies-pointer}
-use Rattle.dnw_reading.proofs.Filling.{put_more}
+use Rattle.dnw_reading.proofs.Copying.{Copies-start, Copies-run, Copies-size, Copies-end, Copies-label, Copies-pointer, put_more}
 use Rattle.dnw_reading.proofs.copy.copy_runs.Goals as goal
 
 pub elements-init : goal.elements-init

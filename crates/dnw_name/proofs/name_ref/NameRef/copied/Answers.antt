@@ -1,13 +1,34 @@
-use Rattle.std.proofs.Common.{List, ℕ, true, sym, ap, ◌∙◌, subst}
-use Rattle.dnw_base.specs.Names.{NameValue}
+use Rattle.std.proofs.Common.{◌≡◌, List, ℕ, length, true, ap, ◌∙◌, arith}
+use Rattle.dnw_base.specs.Names.{NameValue, wire}
+use Rattle.dnw_base.proofs.Wires.{length-wire}
+use Rattle.dnw_reading.proofs.Copying.{wire_taken}
 use Rattle.dnw_form.specs.Inside.WireBytes.{IsWire, labels_of}
-use Rattle.dnw_form.proofs.Wires.{IsWire-wire, labels_of-wire}
+use Rattle.dnw_form.proofs.Wires.{labels_of-form}
 use Rattle.dnw_name.proofs.name_ref.NameRef.copied.Goals as goal
+use Rattle.dnw_name.proofs.name_ref.NameRef.copied.Goals.{After-from_buf_and_len}
+
+abbrev qualified : List (List ℕ) → NameValue
+qualified ls = record { is_fqdn = true; labels = ls }
+
+pub from_octets-requires : goal.from_octets-requires
+from_octets-requires c = (labels_of-form _ _ c.in-Some.ensures c.encoded_len-size.ensures.labels).0
+
+pub returns-in-Some : goal.returns-in-Some
+returns-in-Some c =
+    c.qualified.ensures ∙ ap qualified (c.from_octets.ensures ∙ (labels_of-form _ _ c.in-Some.ensures c.encoded_len-size.ensures.labels).1)
+
+pub copy_runs-requires-clause-fits : goal.copy_runs-requires-clause-fits
+copy_runs-requires-clause-fits c =
+    omega (arith, ap (λ (ls : List (List ℕ)). length (wire ls)) c.self.view_is, length-wire c.args.self.now, c.encoded_len-size.ensures.labels.fit)
+
+form : (c : After-from_buf_and_len) → IsWire c.from_buf_and_len.result.items × (labels_of c.from_buf_and_len.result.items ≡ c.args.self.now)
+form c =
+    labels_of-form _ _ (c.from_buf_and_len.ensures.items
+    ∙ wire_taken c.args.self.now c.encoded_len-size.result _ c.copy_runs.new.out c.encoded_len-size.ensures.size (rw c.self.view_is at c.copy_runs.ensures))
+    c.encoded_len-size.ensures.labels
 
 pub from_wire-requires-clause-form : goal.from_wire-requires-clause-form
-from_wire-requires-clause-form c = subst IsWire (sym c.form.ensures.form) (IsWire-wire _ c.form.ensures.labels)
+from_wire-requires-clause-form c = (form c).0
 
 pub returns : goal.returns
-returns c =
-    let qualified : List (List ℕ) → NameValue = λ ls. record { is_fqdn = true; labels = ls } in
-    c.qualified.ensures ∙ ap qualified (c.from_wire.ensures ∙ ap labels_of c.form.ensures.form ∙ labels_of-wire _ c.form.ensures.labels.each)
+returns c = c.qualified-2.ensures ∙ ap qualified (c.from_wire.ensures ∙ (form (goal.at.returns c).After-from_buf_and_len).1)

@@ -1,35 +1,26 @@
-use Rattle.std.proofs.Common.{sym, ap, ◌∙◌, subst, arith}
+use Rattle.std.proofs.Common.{◌≡◌, List, ℕ, length, take, ap, ◌∙◌, arith}
+use Rattle.dnw_base.specs.Names.{wire}
 use Rattle.dnw_base.proofs.Wires.{length-wire}
-use Rattle.dnw_reading.specs.Inside.Found.{labels_at}
-use Rattle.dnw_reading.proofs.Found.{StandsAt-labels}
-use Rattle.dnw_reading.proofs.Copying.{LiesAt-plain}
-use Rattle.dnw_reading.proofs.Filling.{wire_taken}
-use Rattle.dnw_form.specs.Inside.WireBytes.{IsWire, labels_of}
-use Rattle.dnw_form.proofs.Wires.{IsWire-wire, labels_of-wire}
+use Rattle.dnw_reading.proofs.Copying.{wire_taken}
+use Rattle.dnw_form.proofs.Wires.{labels_of-form}
 use Rattle.dnw_name.proofs.name_ref.NameRef.wire_labels.Goals as goal
-
-pub slice_bounds-new-end : goal.slice_bounds-new-end
-slice_bounds-new-end c = (LiesAt-plain c.self.invariant c.if-self.true).inside
+use Rattle.dnw_name.proofs.name_ref.NameRef.wire_labels.Goals.{After-copy_runs}
 
 pub new-requires : goal.new-requires
-new-requires c = subst IsWire (sym (LiesAt-plain c.self.invariant c.if-self.true).form) (IsWire-wire _ (StandsAt-labels c.self.invariant.stands))
+new-requires c = (labels_of-form _ _ c.in-Some.ensures c.encoded_len-size.ensures.labels).0
 
-pub returns-then-self : goal.returns-then-self
-returns-then-self c =
-    c.new.ensures ∙ ap labels_of (LiesAt-plain c.self.invariant c.if-self.true).form ∙ labels_of-wire _ (StandsAt-labels c.self.invariant.stands).each ∙ c.self.view_is
+pub returns-in-Some : goal.returns-in-Some
+returns-in-Some c = c.new.ensures ∙ (labels_of-form _ _ c.in-Some.ensures c.encoded_len-size.ensures.labels).1
 
 pub copy_runs-requires-clause-fits : goal.copy_runs-requires-clause-fits
 copy_runs-requires-clause-fits c =
-    let ls = labels_at c.self.inside.message.now c.self.inside.first in
-    omega (arith, length-wire ls, (StandsAt-labels c.self.invariant.stands).fit, c.told-room)
+    omega (arith, c.told-room, ap (λ (ls : List (List ℕ)). length (wire ls)) c.self.view_is, length-wire c.args.self.now, c.encoded_len-size.ensures.labels.fit)
+
+written : (c : After-copy_runs) → take c.encoded_len-size.result c.copy_runs.new.out ≡ wire c.args.self.now
+written c = wire_taken c.args.self.now c.encoded_len-size.result c.args.room.now c.copy_runs.new.out c.encoded_len-size.ensures.size (rw c.self.view_is at c.copy_runs.ensures)
 
 pub new-requires-2 : goal.new-requires-2
-new-requires-2 c =
-    let stands = c.self.invariant.stands in
-    subst IsWire (sym (wire_taken _ c.self.inside.size c.args.room.now c.copy_runs.new.out stands.size_is c.copy_runs.ensures)) (IsWire-wire _ (StandsAt-labels stands))
+new-requires-2 c = (labels_of-form _ _ (written (goal.at.new-requires-2 c).After-copy_runs) c.encoded_len-size.ensures.labels).0
 
 pub returns : goal.returns
-returns c =
-    let stands = c.self.invariant.stands in
-    c.new-2.ensures ∙ ap labels_of (wire_taken _ c.self.inside.size c.args.room.now c.copy_runs.new.out stands.size_is c.copy_runs.ensures)
-    ∙ labels_of-wire _ (StandsAt-labels stands).each ∙ c.self.view_is
+returns c = c.new-2.ensures ∙ (labels_of-form _ _ (written (goal.at.returns c).After-copy_runs) c.encoded_len-size.ensures.labels).1

@@ -1,5 +1,5 @@
 use Rattle.std.proofs.Common.{length, sym, ap, ◌∙◌, arith}
-use Rattle.dnw_reading.proofs.Lending.{LeadsTo-label}
+use Rattle.dnw_reading.proofs.Behind.{LeadsTo-label}
 use Rattle.dnw_reading.proofs.ref_labels.RefLabelsIterator.next.Goals as goal
 
 pub returns-clause-steps : goal.returns-clause-steps

@@ -7,5 +7,5 @@ use Rattle.dnw_record.proofs.record.writing.emit_sized.Goals as goal
 pub prove-unreachable-requires : goal.prove-unreachable-requires
 prove-unreachable-requires c =
     let w = value c.emit.new.encoder in
-    let (_, within, same) = done-data c.args.rdata.now (value c.place.new.self) w c.in_ok-emit.ensures.emits in
+    let (_, within, same, _) = done-data c.args.rdata.now (value c.place.new.self) w c.in_ok-emit.ensures.emits in
     omega (arith, within, same, c.len_since_place-len.ensures, c.max_size-most.ensures)

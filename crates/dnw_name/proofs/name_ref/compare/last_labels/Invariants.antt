@@ -1,9 +1,0 @@
-use Rattle.std.proofs.Common.{◌≡◌, ◌-◌, length, drop}
-use Rattle.dnw_name.proofs.name_ref.compare.last_labels.Given as goal
-
--- the last ones of what is left are those of all
-abbrev pub invariant-passed : goal.invariant-passed
-invariant-passed l = drop (length l.labels - l.count) l.labels ≡ drop (length l.fn.labels - l.count) l.fn.labels
-
-abbrev pub decreases-passed : goal.decreases-passed
-decreases-passed l = length l.labels
