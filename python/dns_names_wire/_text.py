@@ -47,11 +47,6 @@ class TokenKind(enum.Enum):
     """The end of a line."""
 
 
-# How many bytes of the text the library is given for a token, if these are enough. It tests each time whether they are UTF-8, so
-# that few are best; most tokens are much shorter.
-_WINDOW = 64
-
-
 class Token(NamedTuple):
     """A token: its kind, and its texts, which are one of a text, and the words of a list."""
 
@@ -80,39 +75,14 @@ def tokens(text: str) -> Iterator[Token]:
 
 
 def _tokens(text: bytes) -> Iterator[Token]:
-    offset, at_line_start = 0, True
+    lexer, token, words = Lexer(0, True), _Token(), (c_char * max(len(text), 1))()
     while True:
-        kind, words, offset, at_line_start = _next(text, offset, at_line_start)
-        if kind == 0:
+        failure = library.dnw_token_next(text, len(text), byref(lexer), words, len(text), byref(token))
+        if failure:
+            check(failure, len(text[: lexer.offset].decode()))
+        if token.kind == 0:
             return
-        yield _token(TokenKind(kind), words.decode())
-
-
-def _next(text: bytes, offset: int, at_line_start: bool) -> Tuple[int, bytes, int, bool]:
-    """The kind and the texts of the next token, and the lexer's state after it.
-
-    A token that ends before the window does is the same whatever follows. Else the window is doubled, up to the whole rest.
-    """
-    size = _WINDOW
-    while True:
-        window = _front(text, offset, size)
-        lexer, token, words = Lexer(0, at_line_start), _Token(), (c_char * max(len(window), 1))()
-        failure = library.dnw_token_next(window, len(window), byref(lexer), words, len(window), byref(token))
-        is_within = failure == 0 and token.kind != 0 and lexer.offset < len(window)
-        if is_within or offset + len(window) == len(text):
-            break
-        size *= 2
-    if failure:
-        check(failure, len(text[:offset].decode()))
-    return token.kind, taken(words, token.len), offset + lexer.offset, lexer.at_line_start
-
-
-def _front(text: bytes, offset: int, size: int) -> bytes:
-    """So many bytes of a text from an offset, and up to three more so that no character is cut."""
-    end = offset + size
-    while end < len(text) and text[end] & 0xC0 == 0x80:
-        end += 1
-    return text[offset:end]
+        yield _token(TokenKind(token.kind), taken(words, token.len).decode())
 
 
 def _token(kind: TokenKind, words: str) -> Token:

@@ -2,6 +2,7 @@
 use crate::door;
 use crate::error::Error;
 use alloc::string::String;
+use alloc::vec;
 use alloc::vec::Vec;
 
 /// Returns the seconds of a time to live: groups of digits and a unit of `s`, `m`, `h`, `d` or `w`, of which the last may
@@ -49,10 +50,6 @@ pub enum Token {
     LineEnd,
 }
 
-/// How many bytes of the text the C library is given for a token, if these are enough. It tests each time whether they are
-/// UTF-8, so that few are best; most tokens are much shorter.
-const WINDOW: usize = 64;
-
 /// The tokens of a text. See [`tokens`].
 #[derive(Clone, Debug)]
 pub struct Tokens<'a> {
@@ -79,7 +76,7 @@ pub struct Tokens<'a> {
 /// ```
 pub fn tokens(text: &str) -> Tokens<'_> {
     let lexer = door::Lexer { offset: 0, at_line_start: true };
-    Tokens { text, lexer, words: Vec::new(), has_ended: false }
+    Tokens { text, lexer, words: vec![0; text.len()], has_ended: false }
 }
 
 impl Tokens<'_> {
@@ -95,30 +92,6 @@ impl Tokens<'_> {
     /// ```
     pub fn offset(&self) -> usize {
         self.lexer.offset
-    }
-
-    /// Finds the next token and moves the lexer past it. If it fails, the lexer is unchanged.
-    ///
-    /// A token that ends before the window does is the same whatever follows. Else the window is doubled, up to the whole rest.
-    fn advance(&mut self) -> Result<door::Token, Error> {
-        let rest = &self.text[self.lexer.offset..];
-        let mut size = WINDOW;
-        loop {
-            let window = front(rest, size);
-            if self.words.len() < window.len() {
-                self.words.resize(window.len(), 0);
-            }
-            let mut lexer = door::Lexer { offset: 0, at_line_start: self.lexer.at_line_start };
-            let found = door::next_token(window, &mut lexer, &mut self.words);
-            let is_within = matches!(&found, Ok(token) if token.kind != 0) && lexer.offset < window.len();
-            if is_within || window.len() == rest.len() {
-                let token = found?;
-                lexer.offset += self.lexer.offset;
-                self.lexer = lexer;
-                return Ok(token);
-            }
-            size *= 2;
-        }
     }
 
     /// The token of a kind with these texts, or none at the end of the text.
@@ -141,12 +114,6 @@ impl Tokens<'_> {
     }
 }
 
-/// Returns the front of a text, of so many bytes and up to three more so that no character is cut.
-fn front(text: &str, size: usize) -> &str {
-    let end = (size..text.len()).find(|end| text.is_char_boundary(*end)).unwrap_or(text.len());
-    &text[..end]
-}
-
 impl Iterator for Tokens<'_> {
     type Item = Result<Token, Error>;
 
@@ -154,7 +121,7 @@ impl Iterator for Tokens<'_> {
         if self.has_ended {
             return None;
         }
-        let found = match self.advance() {
+        let found = match door::next_token(self.text, &mut self.lexer, &mut self.words) {
             Ok(token) => self.token(token.kind, &self.words[..token.len]).map(Ok),
             Err(error) => Some(Err(error)),
         };

@@ -12,15 +12,17 @@ pub use Rattle.dnw_base.specs.Checked.{difference}
 pub use Rattle.dnw_base.specs.Verified.{verified_value, verified_verdict}
 -- Labels, names and their wire form.
 pub use Rattle.dnw_base.specs.Labels.{IsLabel, wildcard}
-pub use Rattle.dnw_base.specs.Names.{NameValue, AreLabels, IsWildcard, IsZoneOf, encoded_size, lower, wire, labels_wire}
+pub use Rattle.dnw_base.specs.Names.{NameValue, AreLabels, IsWildcard, encoded_size, lower, wire, labels_wire}
 pub use Rattle.dnw_form.specs.Edits.{append_label, prepend_label, append_name, append_domain, from_labels, with_label}
 pub use Rattle.dnw_form.specs.Edits.{base_name, trim_to, into_wildcard}
--- Order, equality and hash of labels and names.
+-- Order, equality, hash and sort keys of labels and names.
 pub use Rattle.dnw_label.specs.LabelOrder.{label_cmp, label_eq, label_hash_input, lower_label, octets_cmp}
-pub use Rattle.dnw_order.specs.Order.{labels_cmp, labels_cmp_case, name_cmp, name_cmp_case, name_eq, name_eq_case, name_hash_input}
+pub use Rattle.dnw_order.specs.Order.{labels_cmp, labels_cmp_case, name_cmp, name_cmp_case, name_eq, name_eq_case, name_hash_input, IsZoneOf}
 pub use Rattle.dnw_order.specs.Order.{IsZoneOfCase, IsLocalhost, localhost}
 pub use Rattle.dnw_label.specs.LabelOrder.{IsTotalPreorder, IsOctet, AreOctets, octet_cmp_ignore_case}
 pub use Rattle.dnw_order.specs.OrderLaws.{name_cmp_total, name_cmp_case_total, name_ties, name_case_ties, name_eq_parts, name_eq_case_parts}
+pub use Rattle.dnw_order.specs.SortKeys.{escape_octet, label_key, max_sort_key, sort_key}
+pub use Rattle.dnw_order.specs.SortKeyLaws.{KeysCompare, KeysCompareNames, KeysAreEqual, ZonesBegin, KeysAreShort}
 pub use Rattle.dnw_name.specs.FromLabels.{JoinsItems, JoinsAll, RunsOutAt}
 -- Names in lower case.
 pub use Rattle.dnw_lower.specs.LowerNames.{lowered, IsLower, lower_name_from_text, lower_name_hash_input, TakesLowerName}
@@ -42,7 +44,7 @@ pub use Rattle.dnw_usage.specs.Usages.{Zone}
 pub use Rattle.dnw_usage.specs.Zones.{reverse_zone, test_zone, localhost_zone, local_zone, invalid_zone, example_zone, usual_zone, onion_zone}
 pub use Rattle.dnw_usage.specs.Zones.{default_value, localhost_value, in_addr_arpa_127_value, ip6_arpa_1_value, local_value, in_addr_arpa_169_254_value}
 pub use Rattle.dnw_usage.specs.Zones.{ip6_arpa_fe_8_value, ip6_arpa_fe_9_value, ip6_arpa_fe_b_value, invalid_value, onion_value}
-pub use Rattle.dnw_usage.specs.AddressTexts.{ReadsIp}
+pub use Rattle.dnw_lower.specs.AddressTexts.{ReadsIp}
 -- Reading a message.
 pub use Rattle.dnw_base.specs.Decoder.{Decoder, Takes, TakesCopy, advanced, next_bytes}
 pub use Rattle.dnw_reading.specs.Reading.{Reads, Stops, NameAt, FaultAt, TakesName, StopsAt, target}
@@ -90,11 +92,11 @@ pub use Rattle.dnw_txt.specs.Tokens.{TokenValue, LexFault, LexState, LexerValue}
 pub use Rattle.dnw_txt.specs.Lexing.{token_value, Lexes, Calls, EndsInTime}
 pub use Rattle.dnw_txt.specs.Times.{max_ttl, time_seconds, IsNoTtl, IsParseTime}
 -- Sets of record types, keys, serial numbers, and record data.
-pub use Rattle.dnw_kinds.specs.TypeSets.{AreWindows, EndWithin, HasBit, set_codes, windows_within, bitmap_types, HasOwnMemory, YieldsSome}
-pub use Rattle.dnw_kinds.specs.Keys.{key_cmp, key_eq, key_hash}
-pub use Rattle.dnw_kinds.specs.Serials.{distance, serial_cmp, serial_sum}
-pub use Rattle.dnw_kinds.specs.RecordData.{TakesTypeSet, FailsTypeSet, TypeSetRunsOut, HasBitmap}
-pub use Rattle.dnw_kinds.specs.SetLaws.{BitmapsAreWindows, SetsComeBack, WindowsListBits}
+pub use Rattle.dnw_sets.specs.TypeSets.{AreWindows, EndWithin, HasBit, set_codes, windows_within, bitmap_types, HasOwnMemory, YieldsSome}
+pub use Rattle.dnw_sets.specs.Keys.{key_cmp, key_eq, key_hash}
+pub use Rattle.dnw_codes.specs.Serials.{distance, serial_cmp, serial_sum}
+pub use Rattle.dnw_sets.specs.RecordData.{TakesTypeSet, FailsTypeSet, TypeSetRunsOut, HasBitmap}
+pub use Rattle.dnw_sets.specs.SetLaws.{BitmapsAreWindows, SetsComeBack, WindowsListBits}
 -- What follows from the definitions of texts.
 pub use Rattle.dns_names_wire.specs.TextLaws.{AreByteLabels, TextsDiffer, ReadLabelsAreBytes, TextLabelsAreBytes}
 pub use Rattle.dns_names_wire.specs.TextLaws.{AcceptedLabels, AcceptedReadBack, qualified, dotted_text, BytesAndTextsAgree}

@@ -8,21 +8,21 @@ pub use dnw_base::decoder::BinDecoder;
 pub use dnw_base::restrict::Restrict;
 pub use dnw_codes::dns_class::DNSClass;
 pub use dnw_codes::record_type::RecordType;
+pub use dnw_codes::serial_number::SerialNumber;
 pub use dnw_encoder::binary::BinEncodable;
 pub use dnw_encoder::encoder::{BinEncoder, NameEncoding, Place, RDataEncoding};
 pub use dnw_error::error::{DecodeError, ProtoError, ProtoResult};
 pub use dnw_error::from_str::FromStr;
-pub use dnw_kinds::record_type_set::RecordTypeSet;
-pub use dnw_kinds::rr_key::RrKey;
-pub use dnw_kinds::serial_number::SerialNumber;
 pub use dnw_label::label::{IntoLabel, Label};
+pub use dnw_lower::into_name::IntoName;
 pub use dnw_lower::lower_name::LowerName;
 pub use dnw_name::binary::BinDecodable;
 pub use dnw_name::name::Name;
 pub use dnw_name::name_ref::NameRef;
 pub use dnw_record::record::{RecordRef, WireData, WireRecord};
 pub use dnw_reverse::net::{IpNet, Ipv4Net, Ipv6Net};
-pub use dnw_usage::into_name::IntoName;
+pub use dnw_sets::record_type_set::RecordTypeSet;
+pub use dnw_sets::rr_key::RrKey;
 pub use dnw_usage::usage::ZoneUsage;
 
 /// Types that are read from messages or written into them.
@@ -33,16 +33,16 @@ pub mod binary {
 
 /// Types that are read from the data of a record.
 pub mod record_data {
-    pub use dnw_kinds::record_data::RecordDataDecodable;
+    pub use dnw_sets::record_data::RecordDataDecodable;
 }
 
 /// Codes: types and classes of records, sets of types, and serial numbers.
 pub mod codes {
     pub use dnw_codes::dns_class::DNSClass;
     pub use dnw_codes::record_type::RecordType;
+    pub use dnw_codes::serial_number::SerialNumber;
     pub use dnw_error::from_str::FromStr;
-    pub use dnw_kinds::record_type_set::{RecordTypeSet, TypeIter};
-    pub use dnw_kinds::serial_number::SerialNumber;
+    pub use dnw_sets::record_type_set::{RecordTypeSet, TypeIter};
 }
 
 /// A cursor over the bytes of a message.
@@ -71,7 +71,7 @@ pub mod error {
 
 /// Types that give a name: names, texts and addresses.
 pub mod into_name {
-    pub use dnw_usage::into_name::IntoName;
+    pub use dnw_lower::into_name::IntoName;
 }
 
 /// Labels, of which names are made.
@@ -117,7 +117,7 @@ pub mod record_type {
 
 /// Sets of record types, as NSEC, NSEC3 and CSYNC have them.
 pub mod record_type_set {
-    pub use dnw_kinds::record_type_set::{
+    pub use dnw_sets::record_type_set::{
         RecordTypeSet, TypeIter, bitmaps_list_bits, sets_come_back,
     };
 }
@@ -129,7 +129,7 @@ pub mod restrict {
 
 /// Keys of sets of records: a name and a type.
 pub mod rr_key {
-    pub use dnw_kinds::rr_key::RrKey;
+    pub use dnw_sets::rr_key::RrKey;
 }
 
 /// Scripts: messages written step by step.
@@ -137,7 +137,12 @@ pub mod script;
 
 /// Serial numbers of zones (RFC 1982).
 pub mod serial_number {
-    pub use dnw_kinds::serial_number::SerialNumber;
+    pub use dnw_codes::serial_number::SerialNumber;
+}
+
+/// Sort keys of names, which compare as bytes as the names do in canonical order, and what follows from their definition.
+pub mod sort_key {
+    pub use dnw_order::sort_key::{MAX_SORT_KEY_LENGTH, laws};
 }
 
 /// What follows from the definitions of texts, for callers' proofs.

@@ -36,7 +36,3 @@ lower ls = map (map to_ascii_lowercase) ls
 -- the first label is `*` (RFC 4592, section 2.1.1)
 abbrev pub IsWildcard : List (List ℕ) → Type 0
 IsWildcard ls = (rest : List (List ℕ)) × (ls ≡ wildcard ∷ rest)
-
--- The zone's labels are the last ones, but for ASCII case (RFC 1034, section 4.2, and RFC 4343).
-abbrev pub IsZoneOf : List (List ℕ) → List (List ℕ) → Type 0
-IsZoneOf zone ls = (front : List (List ℕ)) × (rest : List (List ℕ)) × (ls ≡ front ++ rest) × (lower rest ≡ lower zone)

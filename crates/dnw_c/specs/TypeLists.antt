@@ -3,7 +3,7 @@ use Rattle.std.specs.Prelude.{◌≡◌, ◌<◌, ◌≤◌, ◌⊎◌, ℕ, Lis
 use Rattle.dnw_codes.specs.declared.record_type.RecordType.{RecordType}
 use Rattle.dnw_codes.specs.RecordTypes.{type_code, type_of_code}
 use Rattle.dnw_base.specs.Limits.{max_message}
-use Rattle.dnw_kinds.specs.TypeSets.{IsSetOf, Encodes, bitmap_types, in_bounds, set_codes, windows_of}
+use Rattle.dnw_sets.specs.TypeSets.{IsSetOf, Encodes, bitmap_types, in_bounds, set_codes, windows_of}
 use Rattle.dnw_c.specs.declared.failure.Failure.{Failure}
 use Rattle.dnw_c.specs.declared.failure.Failure.TheVariants.{NoMemory, NoRoom, BadBitmap}
 

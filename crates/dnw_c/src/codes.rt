@@ -5,7 +5,7 @@ ghost use Rattle.dnw_codes.specs.RecordTypes.{type_code, type_name, type_of_code
 ghost use Rattle.dnw_codes.specs.DnsClasses.{class_code, class_name, class_of_code, class_of_name};
 ghost use Rattle.dnw_codes.specs.declared.record_type.RecordType.{RecordType};
 ghost use Rattle.dnw_codes.specs.declared.dns_class.DNSClass.{DNSClass};
-ghost use Rattle.dnw_kinds.specs.Serials.{serial_cmp, serial_sum};
+ghost use Rattle.dnw_codes.specs.Serials.{serial_cmp, serial_sum};
 ghost use Rattle.dnw_c.specs.Buffers.{put};
 ghost use Rattle.dnw_c.specs.CodeCalls.{FailsToGive, FailsToPut};
 ghost use Rattle.dnw_c.specs.Failures.{NumberOf, number};

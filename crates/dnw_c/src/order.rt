@@ -1,7 +1,7 @@
 //! Names compared, by their wire forms.
 ghost use Rattle.std.specs.Prelude.{◌≡◌, ◌≢◌, ◌↔◌, List, ℕ, length, IsTrue, IfOk, IfErr};
-ghost use Rattle.dnw_base.specs.Names.{IsZoneOf, lower, wire};
-ghost use Rattle.dnw_order.specs.Order.{labels_cmp};
+ghost use Rattle.dnw_base.specs.Names.{lower, wire};
+ghost use Rattle.dnw_order.specs.Order.{labels_cmp, IsZoneOf};
 ghost use Rattle.dnw_c.specs.Buffers.{put};
 ghost use Rattle.dnw_c.specs.Failures.{NumberOf};
 ghost use Rattle.dnw_c.specs.NameCalls.{FailsAsForms, FailsToLower, IsFormOf, IsNoForm, sign};

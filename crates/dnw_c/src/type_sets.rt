@@ -1,7 +1,7 @@
 //! Bitmaps of types, as NSEC, NSEC3 and CSYNC records have them, and lists of their codes.
 ghost use Rattle.std.specs.Prelude.{◌≡◌, ◌≢◌, ◌≤◌, ◌<◌, ◌⊎◌, ℕ, List, length, map, IfOk, IfErr, OnErr};
 ghost use Rattle.dnw_codes.specs.RecordTypes.{type_code, type_of_code};
-ghost use Rattle.dnw_kinds.specs.TypeSets.{Encodes, IsSetOf, bitmap_types, set_codes};
+ghost use Rattle.dnw_sets.specs.TypeSets.{Encodes, IsSetOf, bitmap_types, set_codes};
 ghost use Rattle.dnw_c.specs.Buffers.{put};
 ghost use Rattle.dnw_c.specs.Failures.{NumberOf};
 ghost use Rattle.dnw_c.specs.TypeLists.{AreListed, FailsToBitmap, FailsToList, IsBitmap, IsBitmapOf, IsNoBitmap};

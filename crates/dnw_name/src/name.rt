@@ -8,11 +8,11 @@ ghost use Rattle.dnw_base.specs.Limits.{max_labels, pointer_offsets};
 ghost use Rattle.dnw_error.specs.Fault.{Follows, NeedsErrorText};
 ghost use Rattle.dnw_base.specs.Decoder.{Decoder};
 ghost use Rattle.dnw_base.specs.Labels.{wildcard};
-ghost use Rattle.dnw_base.specs.Names.{NameValue, AreLabels, encoded_size, IsWildcard, IsZoneOf, lower, wire};
+ghost use Rattle.dnw_base.specs.Names.{NameValue, AreLabels, encoded_size, IsWildcard, lower, wire};
 ghost use Rattle.dnw_reading.specs.Reading.{TakesName, StopsAt};
 ghost use Rattle.dnw_form.specs.Edits.{append_label, prepend_label, append_name, append_domain, base_name, trim_to, into_wildcard};
 ghost use Rattle.dnw_text.specs.NameText.{name_text, name_from_text, name_from_text_at, IsLabelText};
-ghost use Rattle.dnw_order.specs.Order.{IsLocalhost, IsZoneOfCase};
+ghost use Rattle.dnw_order.specs.Order.{IsLocalhost, IsZoneOfCase, IsZoneOf};
 ghost use Rattle.dnw_name.specs.FromLabels.{JoinsItems};
 
 use crate::name::joining::Joining;

@@ -4,9 +4,9 @@ ghost use Rattle.dnw_base.specs.Decoder.{Decoder};
 ghost use Rattle.dnw_base.specs.Limits.{max_labels, max_name, pointer_offsets};
 ghost use Rattle.dnw_reading.specs.Buffers.{put};
 ghost use Rattle.dnw_reading.specs.Reading.{TakesName, StopsAt};
-ghost use Rattle.dnw_base.specs.Names.{AreLabels, IsZoneOf, encoded_size, lower, wire};
+ghost use Rattle.dnw_base.specs.Names.{AreLabels, encoded_size, lower, wire};
 ghost use Rattle.dnw_reading.specs.Inside.Found.{labels_at};
-ghost use Rattle.dnw_order.specs.Order.{labels_cmp};
+ghost use Rattle.dnw_order.specs.Order.{labels_cmp, IsZoneOf};
 
 use crate::name::Name;
 use dnw_base::decoder::BinDecoder;
@@ -38,7 +38,8 @@ pub struct NameRef<'a> {
 
 impl<'a> Model for NameRef<'a> {
     ghost use Rattle.std.specs.Prelude.{List, ℕ};
-    ghost use Rattle.dnw_base.specs.Names.{AreLabels, IsZoneOf, encoded_size, lower, wire};
+    ghost use Rattle.dnw_base.specs.Names.{AreLabels, encoded_size, lower, wire};
+    ghost use Rattle.dnw_order.specs.Order.{IsZoneOf};
     ghost use Rattle.dnw_reading.specs.Inside.Found.{labels_at, LiesAt};
 
     ghost Value = { List (List ℕ) };

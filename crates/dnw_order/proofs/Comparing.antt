@@ -6,7 +6,8 @@ use Rattle.std.specs.Ordering.{ordering_then, nat_cmp}
 use Rattle.std.specs.declared.cmp.Ordering.{Ordering}
 use Rattle.std.specs.declared.cmp.Ordering.TheVariants.{Less, Equal, Greater}
 use Rattle.std.proofs.lemmas.List.{drop_at, length-map, take-append-drop}
-use Rattle.dnw_base.specs.Names.{encoded_size, lower, IsZoneOf}
+use Rattle.dnw_base.specs.Names.{encoded_size, lower}
+use Rattle.dnw_order.specs.Order.{IsZoneOf}
 use Rattle.dnw_base.proofs.Wires.{encoded_size-cons}
 use Rattle.dnw_form.proofs.LowerWires.{encoded_size-lower}
 use Rattle.dnw_label.specs.LabelOrder.{octets_cmp, octet_cmp_ignore_case}

@@ -10,10 +10,10 @@ use Rattle.std.specs.declared.cmp.Ordering.TheVariants.{Less, Equal, Greater}
 use Rattle.std.proofs.lemmas.Grind.{flat_map-append}
 use Rattle.std.proofs.lemmas.List.{append-nil, drop-map, drop_at, drop_more, length-map, map-append, reverse-append, reverse-reverse}
 use Rattle.dnw_base.specs.Labels.{IsLabel}
-use Rattle.dnw_base.specs.Names.{IsZoneOf, encoded_size, lower}
+use Rattle.dnw_base.specs.Names.{encoded_size, lower}
 use Rattle.dnw_base.proofs.Wires.{encoded_size-cons}
 use Rattle.dnw_label.specs.LabelOrder.{lower_label, octets_cmp}
-use Rattle.dnw_order.specs.Order.{canonical}
+use Rattle.dnw_order.specs.Order.{canonical, IsZoneOf}
 use Rattle.dnw_order.specs.OrderLaws.{lowered_last}
 use Rattle.dnw_order.specs.SortKeys.{escape_octet, label_key, sort_key}
 use Rattle.dnw_order.specs.SortKeyLaws.{KeysCompare, KeysCompareNames, KeysAreEqual, ZonesBegin, KeysAreShort}

@@ -3,7 +3,7 @@ use Rattle.std.specs.Prelude.{◌≡◌, ℕ, Bool, nat_eq, if◌then◌else◌,
 use Rattle.std.specs.Cmp.Lexicographic.{pointwise, slice_cmp}
 use Rattle.std.specs.Ordering.{on, then_cmp, bool_cmp, eq_of_both, eq_by_cmp}
 use Rattle.std.specs.declared.cmp.Ordering.{Ordering}
-use Rattle.dnw_base.specs.Names.{NameValue, IsZoneOf, lower, wire}
+use Rattle.dnw_base.specs.Names.{NameValue, lower, wire}
 use Rattle.dnw_label.specs.LabelOrder.{octets_cmp}
 
 -- the labels from the last one, with each octet by its order, and a name before those that end in it
@@ -48,7 +48,11 @@ name_eq_case = eq_of_both (eq_by_cmp flags_cmp) (on (λ n. n.labels) labels_eq)
 abbrev pub name_hash_input : NameValue → List (List ℕ)
 name_hash_input n = (wire (lower n.labels) ++ (if n.is_fqdn then 1 else 0) ∷ []) ∷ []
 
--- the zone's labels are the last ones (RFC 1034, section 4.2), with capitals as they are
+-- the zone's labels are the last ones (RFC 1034, section 4.2), but for ASCII case (RFC 4343)
+abbrev pub IsZoneOf : List (List ℕ) → List (List ℕ) → Type 0
+IsZoneOf zone ls = (front : List (List ℕ)) × (rest : List (List ℕ)) × (ls ≡ front ++ rest) × (lower rest ≡ lower zone)
+
+-- the same with capitals as they are
 abbrev pub IsZoneOfCase : List (List ℕ) → List (List ℕ) → Type 0
 IsZoneOfCase zone ls = (front : List (List ℕ)) × (ls ≡ front ++ zone)
 

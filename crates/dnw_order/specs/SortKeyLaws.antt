@@ -1,8 +1,8 @@
 -- What follows from the definition of sort keys. Each is the clause of a public function, and so proved.
 use Rattle.std.specs.Prelude.{◌≡◌, ◌↔◌, ◌≤◌, ℕ, List, ◌++◌, length}
-use Rattle.dnw_base.specs.Names.{AreLabels, IsZoneOf, NameValue, lower}
+use Rattle.dnw_base.specs.Names.{AreLabels, NameValue, lower}
 use Rattle.dnw_label.specs.LabelOrder.{octets_cmp}
-use Rattle.dnw_order.specs.Order.{labels_cmp, name_cmp}
+use Rattle.dnw_order.specs.Order.{labels_cmp, name_cmp, IsZoneOf}
 use Rattle.dnw_order.specs.SortKeys.{max_sort_key, sort_key}
 
 -- The plain order of keys is the canonical order of labels.

@@ -1,8 +1,8 @@
 //! The order, equality and hash of the labels of names, and which are the last ones of others.
 ghost use Rattle.std.specs.Prelude.{◌≡◌, ℕ, ◌↔◌, if◌then◌else◌, List, [], ◌∷◌, ◌++◌, length, reverse, fold, IsTrue};
 ghost use Rattle.std.specs.Cmp.Lexicographic.{slice_cmp};
-ghost use Rattle.dnw_base.specs.Names.{IsZoneOf, encoded_size, lower, wire};
-ghost use Rattle.dnw_order.specs.Order.{labels_cmp, labels_cmp_by, labels_cmp_case, name_hash_input, IsZoneOfCase};
+ghost use Rattle.dnw_base.specs.Names.{encoded_size, lower, wire};
+ghost use Rattle.dnw_order.specs.Order.{labels_cmp, labels_cmp_by, labels_cmp_case, name_hash_input, IsZoneOfCase, IsZoneOf};
 
 use crate::from_last::FromLast;
 use arrayvec::ArrayVec;

@@ -1,3 +1,2 @@
-pub mod AddressTexts
 pub mod Usages
 pub mod Zones

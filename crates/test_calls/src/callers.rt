@@ -1,12 +1,15 @@
 //! The callers in `crates/uses`, which README.md and CALLING.md show.
 
+use crate::sections::{Data, Row, record_of};
 use dns_names_wire::decoder::BinDecoder;
 use dns_names_wire::encoder::BinEncoder;
 use dns_names_wire::name::Name;
+use dns_names_wire::record_type::RecordType;
 use std::test::Fail;
 use uses::copying::copy_name;
 use uses::example::{host, is_in_zone, name_text};
 use uses::question::names_of;
+use uses::records::write_records;
 use uses::reply::write_reply;
 use uses::zone::first_in_zone;
 
@@ -92,5 +95,28 @@ fn the_first_name_in_the_zone_is_found(rt: HostRuntime) -> Result<(), Fail> {
     let zone = Name::from_ascii(alloc, "example.com.")?;
     assert_eq!(rt; first_in_zone(names.as_slice(), &zone), Some(1));
     assert_eq!(rt; first_in_zone(&names[..1], &zone), None);
+    Ok(())
+}
+
+/// An address of the root, which takes 15 octets.
+const ADDRESS: Row<'static> = Row {
+    owner: ".",
+    kind: RecordType::A,
+    data: Data::Bytes(b"\x01\x02\x03\x04"),
+};
+
+#[test]
+fn records_are_written_as_many_as_fit(rt: HostRuntime) -> Result<(), Fail> {
+    let alloc = rt.alloc();
+    let records = [
+        record_of(alloc, ADDRESS)?,
+        record_of(alloc, ADDRESS)?,
+        record_of(alloc, ADDRESS)?,
+    ];
+    for (max, wanted) in [(14, 0), (15, 1), (44, 2), (45, 3), (65_535, 3)] {
+        let (message, count) = write_records(alloc, max, records.as_slice());
+        assert_eq!(rt; count, wanted);
+        assert_eq!(rt; message.len(), 15 * wanted);
+    }
     Ok(())
 }

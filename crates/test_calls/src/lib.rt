@@ -28,4 +28,6 @@ mod sections;
 #[cfg(test)]
 mod sizes;
 #[cfg(test)]
+mod sort_keys;
+#[cfg(test)]
 mod values;

@@ -1,2 +1,4 @@
 pub mod Standing
 pub mod Bounded
+pub mod Denial
+pub mod Records

@@ -3,7 +3,9 @@
 #![tactic(auto)]
 
 pub mod copying;
+pub mod denial;
 pub mod example;
 pub mod question;
+pub mod records;
 pub mod reply;
 pub mod zone;

@@ -1,0 +1,9 @@
+use Rattle.dnw_sets.proofs.Listed.{windows-list}
+use Rattle.dnw_sets.proofs.Windows.{bitmaps-are}
+use Rattle.dnw_sets.proofs.record_type_set.laws.bitmaps_list_bits.Goals as goal
+
+pub returns-clause-windows : goal.returns-clause-windows
+returns-clause-windows c = bitmaps-are
+
+pub returns-clause-bits : goal.returns-clause-bits
+returns-clause-bits c = windows-list

@@ -1,0 +1,32 @@
+-- The laws of equality and hashes of type sets.
+use Rattle.std.specs.Prelude.{Bool}
+use Rattle.std.proofs.Common.{IsTrue, ◌≡◌}
+use Rattle.std.specs.Ordering.{eq_by_cmp}
+use Rattle.std.specs.Cmp.{IsTotalOrder, IsEquivalence, IsPartialEquivalence, on_total, then_total, on_equiv, eq_by_cmp_equiv, partial_equiv_from_equiv, nat_cmp_total, bool_cmp_total}
+use Rattle.std.specs.Cmp.Lexicographic.{pointwise, lists_equiv}
+use Rattle.std.specs.Hash as fed
+use Rattle.std.specs.Hash.{HashWrites, on_Alike, items_Alike}
+use Rattle.dnw_codes.specs.RecordTypes.{type_cmp, type_code, is_unknown, type_hash}
+use Rattle.dnw_codes.specs.Inside.RecordTypeLaws.{types-hash_alike}
+use Rattle.dnw_sets.specs.TypeSets.{TypeSet}
+
+pub types-total : IsTotalOrder type_cmp
+types-total = then_total (on_total type_code nat_cmp_total) (on_total is_unknown bool_cmp_total)
+
+pub types-equal : IsEquivalence (eq_by_cmp type_cmp)
+types-equal = eq_by_cmp_equiv types-total
+
+abbrev pub sets_eq : TypeSet → TypeSet → Bool
+sets_eq a b = pointwise (eq_by_cmp type_cmp) a.types b.types
+
+pub sets-equal : IsEquivalence sets_eq
+sets-equal = on_equiv (λ (s : TypeSet). s.types) (lists_equiv types-equal)
+
+pub sets-per : IsPartialEquivalence sets_eq
+sets-per = partial_equiv_from_equiv sets-equal
+
+abbrev pub sets-hash : TypeSet → HashWrites
+sets-hash s = fed.slice type_hash s.types
+
+pub sets-hash_alike : (a b : TypeSet) → IsTrue (sets_eq a b) → sets-hash a ≡ sets-hash b
+sets-hash_alike = (on_Alike (λ (s : TypeSet). s.types) (items_Alike (record { fed = types-hash_alike }))).fed

@@ -1,0 +1,5 @@
+pub mod TypeSets
+pub mod RecordData
+pub mod SetLaws
+pub mod Keys
+pub mod Inside
