@@ -1,7 +1,6 @@
 -- A run leaves the buffer no longer than it was, or than the largest maximum in force.
-use Rattle.std.proofs.Common.{◌≡◌, ℕ, ◌+◌, ◌≤◌, max, List, [], ◌∷◌, length, map, Option, Some, None, Ok, refl, ◌∙◌, subst, arith}
+use Rattle.std.proofs.Common.{◌≡◌, ℕ, ◌≤◌, max, List, [], ◌∷◌, length, Some, None, Ok, refl, subst, arith}
 use Rattle.std.proofs.Math.Nat.{le-max_left, le-max_right, max-le}
-use Rattle.dnw_encoder.specs.Encoder.{Encoder}
 use Rattle.dnw_record.specs.Parts.{WirePart, bytes_part, name_part, text_part}
 use Rattle.dnw_record.proofs.Bounded.{part_stays_bounded, parts_stay_bounded}
 use Rattle.dns_names_wire.specs.declared.script.Reply.{Reply}

@@ -9,7 +9,7 @@ use Rattle.dnw_base.specs.Limits.{max_message}
 use Rattle.dnw_reading.proofs.Counts.{Reads-own}
 use Rattle.dnw_candidates.specs.Candidates.{Candidate}
 use Rattle.dnw_encoder.specs.Encoder.{Encoder, filled, moved_to, reserved, TakesRoom, Writes, WritesText, written}
-use Rattle.dnw_encoder.specs.Emitting.{Frame, Outcome, rolled_back, list_error}
+use Rattle.dnw_encoder.specs.Emitting.{Frame, rolled_back, list_error}
 use Rattle.dnw_record.specs.declared.record.WireRecord.{WireRecord}
 use Rattle.dnw_record.specs.Parts.{EmitsWirePart, EmitsWireParts, parts_size, WirePart, bytes_part, in_encoding, name_part, text_part}
 use Rattle.dnw_record.specs.RecordFrames.{frame-fields, frame-reserved, frame-wire_part}
