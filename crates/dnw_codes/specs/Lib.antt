@@ -1,4 +1,5 @@
 pub mod Entries
+pub mod CodeTexts
 pub mod RecordTypes
 pub mod DnsClasses
 pub mod Serials

@@ -1,13 +1,15 @@
 -- Record types, with their codes and names (RFC 6895, section 3.1, and the IANA registry "Resource Record (RR) TYPEs").
-use Rattle.std.specs.Prelude.{ℕ, Bool, true, false, ◌==◌, ◌&&◌, List, [], ◌∷◌, ◌++◌, Option, Some, find, codes, unwrap_or, if◌then◌else◌}
+use Rattle.std.specs.Prelude.{ℕ, Bool, true, false, ◌==◌, ◌&&◌, List, [], ◌∷◌, ◌++◌, Option, Some, find, codes, unwrap_or, option_map, if◌then◌else◌}
+use Rattle.std.specs.Option.{option_or}
 use Rattle.std.specs.Ordering.{nat_cmp, bool_cmp, on, then_cmp}
 use Rattle.std.specs.declared.cmp.Ordering.{Ordering}
-use Rattle.std.specs.Str.{bytes_eq}
+use Rattle.std.specs.Str.{bytes_eq, str_eq_ignore_ascii_case}
 use Rattle.std.specs.Hash as fed
 use Rattle.std.specs.Hash.{HashWrites}
 use Rattle.dnw_codes.specs.declared.record_type.RecordType.{RecordType}
 use Rattle.dnw_codes.specs.declared.record_type.RecordType.TheVariants as rr
 use Rattle.dnw_codes.specs.Entries.{Entry, entry}
+use Rattle.dnw_codes.specs.CodeTexts.{numbered, code_after}
 
 -- the table of the types
 abbrev pub type_entry : RecordType → Entry
@@ -89,6 +91,20 @@ find_named types name = find (λ kind. is_written kind && bytes_eq (type_name ki
 -- the type that a text gives, if any: any type for `*` (RFC 1035, section 3.2.3), else the one with this name
 unfoldable pub type_of_name : List ℕ → Option RecordType
 type_of_name name = if bytes_eq name (codes "*") then Some rr.ANY else find_named named_types name
+
+-- the text of a type in a zone file: its name, or `TYPE` and its code if it has none (RFC 3597, section 5)
+abbrev pub type_text : RecordType → List ℕ
+type_text kind = if is_unknown kind then numbered (codes "TYPE") (type_code kind) else type_name kind
+
+-- the type with this name, in upper or lower case, if any; `*` is any type
+abbrev pub type_of_any_case : List ℕ → Option RecordType
+type_of_any_case text =
+    if bytes_eq text (codes "*") then Some rr.ANY
+    else find (λ kind. str_eq_ignore_ascii_case (type_name kind) text) named_types
+
+-- the type that a text gives, by its code or its name, if any
+unfoldable pub type_of_text : List ℕ → Option RecordType
+type_of_text text = option_or (option_map type_of_code (code_after (codes "TYPE") text)) (type_of_any_case text)
 
 -- by code; of two types with one code, the named one first
 abbrev pub type_cmp : RecordType → RecordType → Ordering

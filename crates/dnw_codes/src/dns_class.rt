@@ -1,8 +1,10 @@
 //! Classes of records.
-ghost use Rattle.std.specs.Prelude.{◌≡◌, ◌↔◌, max, Some, IsTrue};
+ghost use Rattle.std.specs.Prelude.{◌≡◌, ◌↔◌, max, Some, IsTrue, find};
 ghost use Rattle.std.specs.Ordering.{eq_by_cmp};
-ghost use Rattle.dnw_codes.specs.DnsClasses.{class_name, class_rank, class_number, class_of_name, find_class, class_cmp, min_payload};
+ghost use Rattle.std.specs.Str.{str_eq_ignore_ascii_case};
+ghost use Rattle.dnw_codes.specs.DnsClasses.{class_code, class_name, class_of_code, class_text, class_of_text, class_rank, class_number, class_of_name, find_class, class_cmp, min_payload};
 
+use crate::code_text::{CodeText, code_after, is_alike, named, numbered};
 use crate::table::of_table;
 use std::cmp::Ordering;
 use std::fmt;
@@ -66,6 +68,45 @@ impl DNSClass {
         find_class(NAMED, name)
     }
 
+    /// Returns the class that a text gives in a zone file, in upper or lower case: a name, `*` for `ANY`, or `CLASS` and a
+    /// code in decimal digits, also for a class with a name (RFC 3597, section 5). No text gives `OPT`.
+    ///
+    /// ```
+    /// DNSClass::from_text("ch"); // Some(DNSClass::CH)
+    /// DNSClass::from_text("CLASS3"); // Some(DNSClass::CH)
+    /// ```
+    #[tactic(auto, unfolding(crate::specs::DnsClasses::class_of_text))]
+    pub fn from_text(text: &str) -> Option<Self>
+        ensures { result ≡ class_of_text text.now }
+    {
+        if let Some(code) = code_after("CLASS", text) {
+            return Some(DNSClass::from(code));
+        }
+        if text == "*" {
+            return Some(DNSClass::ANY);
+        }
+        find_any_case(NAMED, text)
+    }
+
+    /// Returns the text of the class in a zone file: its name in capitals, or `CLASS` and its code for `OPT` and `Unknown`
+    /// (RFC 3597, section 5). [`from_text`](DNSClass::from_text) gives the class of the same code for it.
+    ///
+    /// ```
+    /// DNSClass::IN.to_text(); // "IN"
+    /// DNSClass::Unknown(7).to_text(); // "CLASS7"
+    /// ```
+    #[tactic(auto, using(crate::proofs::PrintedClasses::names_fit, crate::proofs::PrintedClasses::classes_come_back))]
+    pub fn to_text(self) -> CodeText
+        ensures text { result.bytes ≡ class_text self }
+        ensures back { class_of_text (class_text self) ≡ Some (class_of_code (class_code self)) }
+    {
+        if self.rank() == 0 {
+            named(Into::<&str>::into(self))
+        } else {
+            numbered("CLASS", u16::from(self))
+        }
+    }
+
     /// Returns the class of an `OPT` record whose sender accepts messages of `value` octets. A size below 512 is taken
     /// as 512 (RFC 6891, section 6.2.3).
     pub fn for_opt(value: u16) -> Self
@@ -95,6 +136,15 @@ impl DNSClass {
             _ => 0,
         }
     }
+}
+
+fn find_any_case(classes: &[DNSClass], text: &str) -> Option<DNSClass>
+    ensures { result ≡ find (λ class. str_eq_ignore_ascii_case (class_name class) text.now) classes.now }
+{
+    classes.iter().copied().find(|class| is_alike(
+        Into::<&str>::into(*class).as_bytes(),
+        text.as_bytes(),
+    ))
 }
 
 fn find_class(classes: &[DNSClass], name: &str) -> Option<DNSClass>

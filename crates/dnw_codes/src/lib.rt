@@ -3,6 +3,7 @@
 //! It stands on no other crate of the library. Read `specs/RecordTypes.antt` first: the table of types.
 #![tactic(auto)]
 
+pub mod code_text;
 pub mod dns_class;
 pub mod record_type;
 pub mod serial_number;

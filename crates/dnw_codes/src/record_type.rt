@@ -1,8 +1,10 @@
 //! Record types.
-ghost use Rattle.std.specs.Prelude.{◌≡◌, ◌⊎◌, ◌↔◌, Some, IsTrue};
+ghost use Rattle.std.specs.Prelude.{◌≡◌, ◌⊎◌, ◌↔◌, Some, IsTrue, find};
 ghost use Rattle.std.specs.Ordering.{eq_by_cmp};
-ghost use Rattle.dnw_codes.specs.RecordTypes.{type_name, find_named, type_of_name, type_cmp, is_unknown, is_written, is_dnssec};
+ghost use Rattle.std.specs.Str.{str_eq_ignore_ascii_case};
+ghost use Rattle.dnw_codes.specs.RecordTypes.{type_code, type_name, type_of_code, type_text, type_of_text, find_named, type_of_name, type_cmp, is_unknown, is_written, is_dnssec};
 
+use crate::code_text::{CodeText, code_after, is_alike, named, numbered};
 use crate::table::of_table;
 use std::cmp::Ordering;
 use std::fmt;
@@ -274,6 +276,57 @@ impl RecordType {
         }
         find_named(NAMED, name)
     }
+
+    /// Returns the type that a text gives in a zone file, in upper or lower case: a name, `*` for `ANY`, or `TYPE` and a
+    /// code in decimal digits, also for a type with a name (RFC 3597, section 5).
+    ///
+    /// Unlike [`from_name`](RecordType::from_name) it takes all names, those of `IXFR`, `OPT` and `ZERO` too.
+    ///
+    /// ```
+    /// RecordType::from_text("aaaa"); // Some(RecordType::AAAA)
+    /// RecordType::from_text("TYPE28"); // Some(RecordType::AAAA)
+    /// RecordType::from_text("TYPE65536"); // None
+    /// ```
+    #[tactic(auto, unfolding(crate::specs::RecordTypes::type_of_text))]
+    pub fn from_text(text: &str) -> Option<Self>
+        ensures { result ≡ type_of_text text.now }
+    {
+        if let Some(code) = code_after("TYPE", text) {
+            return Some(RecordType::from(code));
+        }
+        if text == "*" {
+            return Some(RecordType::ANY);
+        }
+        find_any_case(NAMED, text)
+    }
+
+    /// Returns the text of the type in a zone file: its name in capitals, or `TYPE` and its code for `Unknown` (RFC 3597,
+    /// section 5). [`from_text`](RecordType::from_text) gives the type of the same code for it.
+    ///
+    /// ```
+    /// RecordType::AAAA.to_text(); // "AAAA"
+    /// RecordType::Unknown(65280).to_text(); // "TYPE65280"
+    /// ```
+    #[tactic(auto, using(crate::proofs::PrintedTypes::names_fit, crate::proofs::PrintedTypes::types_come_back))]
+    pub fn to_text(self) -> CodeText
+        ensures text { result.bytes ≡ type_text self }
+        ensures back { type_of_text (type_text self) ≡ Some (type_of_code (type_code self)) }
+    {
+        if self.is_unknown() {
+            numbered("TYPE", u16::from(self))
+        } else {
+            named(Into::<&str>::into(self))
+        }
+    }
+}
+
+fn find_any_case(types: &[RecordType], text: &str) -> Option<RecordType>
+    ensures { result ≡ find (λ kind. str_eq_ignore_ascii_case (type_name kind) text.now) types.now }
+{
+    types.iter().copied().find(|kind| is_alike(
+        Into::<&str>::into(*kind).as_bytes(),
+        text.as_bytes(),
+    ))
 }
 
 fn find_named(types: &[RecordType], name: &str) -> Option<RecordType>
