@@ -1,7 +1,11 @@
 pub mod Joined
+pub mod TextSizes
 pub mod TextReading
 pub mod ByteTexts
 pub mod LabelTexts
 pub mod ReadBack
 pub mod SimpleLabels
 pub mod PlainText
+pub mod Elements
+pub mod Units
+pub mod Wrong

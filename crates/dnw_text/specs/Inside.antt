@@ -1,2 +1,2 @@
--- What no public clause of a higher crate cites: how texts are read.
 pub mod TextReader
+pub mod TextProgress

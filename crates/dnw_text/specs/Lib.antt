@@ -1,2 +1,3 @@
 pub mod NameText
+pub mod TextFaults
 pub mod Inside

@@ -89,6 +89,11 @@ completed (Some origin) n = if n.is_fqdn then Ok n else append_domain n origin
 abbrev pub name_from_text_at : List ℕ → Option NameValue → Result NameValue Fault
 name_from_text_at text origin = name_from_text text >>= completed origin
 
+-- The most octets of a name's text. A name of 255 octets has four labels or more, and so at most 250 octets in them. Each may
+-- become four, and a dot is after each label. More labels take more length octets, so their text is shorter.
+abbrev pub max_text : ℕ
+max_text = 1004
+
 -- A name as text: its labels as text joined by dots, and a last dot if it is fully qualified.
 abbrev pub name_text : NameValue → List ℕ
 name_text n = join_with_byte dot (map label_text n.labels) ++ (if n.is_fqdn then dot ∷ [] else [])

@@ -8,8 +8,8 @@ ghost use Rattle.dnw_error.specs.Fault.{UnrecognizedChar, IllegalChar, Follows, 
 ghost use Rattle.dnw_base.specs.Labels.{IsLabel, asterisk};
 ghost use Rattle.dnw_base.specs.Names.{encoded_size};
 ghost use Rattle.dnw_label.specs.LabelText.{dot, label_from_text, label_text};
-ghost use Rattle.dnw_text.specs.NameText.{Outside, Escaped, is_numeric, is_octal_digit, elements, Stop, bad_digit, with_text, name_from_text};
-ghost use Rattle.dnw_text.specs.Inside.TextReader.{state_of, elements_from, escape_len, IsNoLonger, IsAlike, is_simple, IsRun, IsSimpleLabel, IsDottedLabel, PutsLengths, Begins, BeginsWithEscape, BeginsWithLabel, name_from_rest, name_from, reader_len, fails_with};
+ghost use Rattle.dnw_text.specs.NameText.{Outside, Escaped, is_numeric, is_octal_digit, elements, Stop, bad_digit, max_text, with_text, name_from_text};
+ghost use Rattle.dnw_text.specs.Inside.TextReader.{state_of, elements_from, LeadsInside, escape_len, IsNoLonger, IsAlike, is_simple, IsRun, IsSimpleLabel, IsDottedLabel, PutsLengths, Begins, BeginsWithEscape, BeginsWithLabel, name_from_rest, name_from, reader_len, fails_with};
 
 use arrayvec::ArrayString;
 use dnw_base::limits::{MAX_LABEL, MAX_NAME};
@@ -22,8 +22,11 @@ use std::alloc::Global;
 use std::marker::Model;
 use unicode::properties::GeneralCategory;
 
-/// The room for a name's text: four bytes for each octet of its wire form are enough.
-pub const MAX_TEXT: usize = 4 * (MAX_NAME + 1);
+/// The most bytes of a name's text.
+///
+/// A name of 255 octets has four labels or more, and so at most 250 octets in them. Each may become four bytes, and a dot is
+/// after each label.
+pub const MAX_TEXT: usize = 1004;
 
 /// What a text gives: the wire form of a name, and whether the name is fully qualified.
 ///
@@ -70,7 +73,7 @@ pub fn push_labels_text(out: &mut ArrayString<MAX_TEXT>, mut labels: WireLabels<
     requires labels { AllByRecursion IsLabel labels }
     requires fit { encoded_size labels ≤ max_name }
     ensures text { out.new.bytes ≡ join_with_byte dot (map label_text labels.entry) }
-    ensures room { array_string_len out.new ≤ 4 * max_name }
+    ensures room { array_string_len out.new < max_text }
 {
     let Some(first) = labels.next() else {
         return;
@@ -84,7 +87,7 @@ pub fn push_labels_text(out: &mut ArrayString<MAX_TEXT>, mut labels: WireLabels<
 
 /// Where the next character is: outside an escape, after its backslash, or after one or two of its digits.
 #[derive(Clone, Copy)]
-enum State {
+pub(crate) enum State {
     Outside,
     Escaped,
     AfterOne(u8),
@@ -92,7 +95,7 @@ enum State {
 }
 
 /// What a character does: it leads to another state, adds a character to the label, ends the label, or is an error.
-enum Move {
+pub(crate) enum Move {
     Enter(State),
     Char(char),
     Dot,
@@ -101,8 +104,9 @@ enum Move {
 }
 
 /// Returns what the character does in this state.
-fn step(state: State, c: char) -> Move
+pub(crate) fn step(state: State, c: char) -> Move
     ensures elements { (cs : List ℕ) → elements (state_of state) (c ∷ cs) ≡ elements_from result c cs }
+    ensures inside { LeadsInside result }
     ensures longer { IsNoLonger (escape_len state + length (encode_utf8 c)) result }
 {
     match state {
@@ -122,6 +126,7 @@ fn step(state: State, c: char) -> Move
 /// The same outside an escape.
 fn step_outside(c: char) -> Move
     ensures elements { (cs : List ℕ) → elements Outside (c ∷ cs) ≡ elements_from result c cs }
+    ensures inside { LeadsInside result }
     ensures longer { IsNoLonger (length (encode_utf8 c)) result }
 {
     if c == '.' {
@@ -138,6 +143,7 @@ fn step_outside(c: char) -> Move
 /// The same after a backslash.
 fn step_escaped(c: char) -> Move
     ensures elements { (cs : List ℕ) → elements Escaped (c ∷ cs) ≡ elements_from result c cs }
+    ensures inside { LeadsInside result }
     ensures longer { IsNoLonger (1 + length (encode_utf8 c)) result }
 {
     match octal_digit(c) {
@@ -150,6 +156,7 @@ fn step_escaped(c: char) -> Move
 /// Returns why a character is not the second or third digit of an escape.
 fn bad_digit(c: char) -> Move
     ensures elements { (cs : List ℕ) → Stop (bad_digit c) ∷ [] ≡ elements_from result c cs }
+    ensures inside { LeadsInside result }
     ensures longer { (n : ℕ) → IsNoLonger n result }
 {
     if is_numeric(c) {

@@ -30,6 +30,11 @@ elements_from End c cs = Dot ∷ elements Outside cs
 elements_from Unrecognized c cs = Stop (UnrecognizedChar c) ∷ []
 elements_from Illegal c cs = Stop (IllegalChar c) ∷ []
 
+-- a state that a move leads to is within an escape
+abbrev pub LeadsInside : Move → Type 0
+LeadsInside (Enter HeldOutside) = ⊥
+LeadsInside move = ⊤
+
 -- the bytes of the escape so far
 abbrev pub escape_len : Held → ℕ
 escape_len HeldOutside = 0

@@ -1,8 +1,22 @@
-use Rattle.std.proofs.Common.{sym, ap, ◌∙◌, List, ℕ, ◌++◌}
+use Rattle.std.proofs.Common.{sym, ap, ◌∙◌, List, ℕ, ◌++◌, length, refl, arith}
 use Rattle.std.specs.List.{flat_map}
 use Rattle.std.proofs.lemmas.List.{append-nil}
 use Rattle.dnw_text.proofs.Joined.{dotted, joined-cons}
+use Rattle.dnw_text.proofs.TextSizes.{text_room, text_room-cons, room_short}
 use Rattle.dnw_text.proofs.text.push_labels_text.Goals as goal
+
+pub loop-label-init : goal.loop-label-init
+loop-label-init c = record {
+  text = refl;
+  room = omega (
+    arith,
+    ap length c.requires.empty,
+    ap text_room c.in-Some.ensures.steps,
+    text_room-cons c.in-Some.first.now c.next.new.self,
+    room_short c.args.labels c.requires.labels c.requires.fit,
+    c.push_label_text.ensures.room,
+  );
+}
 
 pub returns-clause-text : goal.returns-clause-text
 returns-clause-text c =

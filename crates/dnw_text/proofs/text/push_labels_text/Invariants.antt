@@ -1,8 +1,9 @@
-use Rattle.std.proofs.Common.{◌≡◌, ◌+◌, ◌*◌, ◌≤◌, List, ◌∷◌, ◌++◌, ℕ, length}
+use Rattle.std.proofs.Common.{◌≡◌, ◌+◌, ◌<◌, List, ◌∷◌, ◌++◌, ℕ, length}
 use Rattle.std.specs.List.{flat_map}
 use Rattle.arrayvec.specs.ArrayString.{array_string_len}
 use Rattle.dnw_label.specs.LabelText.{dot, label_text}
-use Rattle.dnw_base.specs.Names.{encoded_size}
+use Rattle.dnw_text.specs.NameText.{max_text}
+use Rattle.dnw_text.proofs.TextSizes.{text_room}
 use Rattle.dnw_text.proofs.text.push_labels_text.Given as goal
 
 -- what is written, and what is left, make what the labels after the first are written as
@@ -10,7 +11,7 @@ abbrev pub invariant-loop-label : goal.invariant-loop-label
 invariant-loop-label l = record {
   text : l.out.bytes ++ flat_map (λ (label : List ℕ). dot ∷ label_text label) l.labels
       ≡ l.initial.out.bytes ++ flat_map (λ (label : List ℕ). dot ∷ label_text label) l.initial.labels;
-  room : array_string_len l.out + 4 * encoded_size l.labels ≤ 1020;
+  room : array_string_len l.out + text_room l.labels < max_text;
 }
 
 abbrev pub decreases-loop-label : goal.decreases-loop-label

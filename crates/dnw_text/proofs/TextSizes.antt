@@ -1,0 +1,100 @@
+-- How long the texts of names are.
+use Rattle.std.proofs.Common.{◌≡◌, ℕ, ◌+◌, ◌*◌, ◌≤◌, Bool, true, false, List, [], ◌∷◌, ◌++◌, length, map, sum_by, if◌then◌else◌, refl, ap, arith}
+use Rattle.std.specs.List.{AllByRecursion, flat_map, join_with_byte}
+use Rattle.std.proofs.lemmas.List.{length-append}
+use Rattle.std.proofs.lemmas.List.Sums.{sum_by-cons}
+use Rattle.dnw_base.specs.Limits.{max_name}
+use Rattle.dnw_base.specs.Labels.{IsLabel}
+use Rattle.dnw_base.specs.Names.{AreLabels, NameValue, encoded_size}
+use Rattle.dnw_base.proofs.Wires.{encoded_size-cons}
+use Rattle.dnw_label.specs.LabelText.{dot, label_text, byte_text}
+use Rattle.dnw_text.specs.NameText.{max_text, name_text}
+use Rattle.dnw_text.proofs.Joined.{dotted, joined-cons}
+
+-- four octets for each octet of the labels, and a dot for each of them
+abbrev pub text_room : List (List ℕ) → ℕ
+text_room ls = sum_by (λ l. 4 * length l + 1) ls
+
+pub text_room-cons : (l : List ℕ) (ls : List (List ℕ)) → text_room (l ∷ ls) ≡ 4 * length l + 1 + text_room ls
+text_room-cons l ls = sum_by-cons (λ (m : List ℕ). 4 * length m + 1) l ls
+
+-- The room of a text and the size of a wire form, by the number of labels.
+record Sizes (ls : List (List ℕ)) : Type 0 where
+  room : text_room ls + 3 * length ls + 4 ≡ 4 * encoded_size ls
+  labels : encoded_size ls ≤ 64 * length ls + 1
+
+sizes : (ls : List (List ℕ)) → AllByRecursion IsLabel ls → Sizes ls
+sizes [] each = record { room = refl; labels = omega arith }
+sizes (l ∷ ls) each =
+    let others = sizes ls each.1 in
+    record {
+      room = omega (arith, others.room, text_room-cons l ls, encoded_size-cons l ls);
+      labels = omega (arith, others.labels, each.0.not_long, encoded_size-cons l ls);
+    }
+
+pub room_short : (ls : List (List ℕ)) → AllByRecursion IsLabel ls → encoded_size ls ≤ max_name → text_room ls ≤ max_text
+room_short ls each fit = let s = sizes ls each in omega (arith, s.room, s.labels, fit)
+
+few_bytes : (first : Bool) (b : ℕ) → length (byte_text first b) ≤ 4
+few_bytes first b = grind arith
+
+some_bytes : (first : Bool) (b : ℕ) → 1 ≤ length (byte_text first b)
+some_bytes first b = grind arith
+
+few_following : (bs : List ℕ) → length (flat_map (byte_text false) bs) ≤ 4 * length bs
+few_following [] = omega arith
+few_following (b ∷ bs) = omega (arith, few_bytes false b, few_following bs, length-append (byte_text false b) (flat_map (byte_text false) bs))
+
+few_in_label : (l : List ℕ) → length (label_text l) ≤ 4 * length l
+few_in_label [] = omega arith
+few_in_label (b ∷ bs) = omega (arith, few_bytes true b, few_following bs, length-append (byte_text true b) (flat_map (byte_text false) bs))
+
+some_in_label : (l : List ℕ) → IsLabel l → 1 ≤ length (label_text l)
+some_in_label [] h = absurd (omega (arith, h.not_empty))
+some_in_label (b ∷ bs) h = omega (arith, some_bytes true b, length-append (byte_text true b) (flat_map (byte_text false) bs))
+
+few_dotted : (ls : List (List ℕ)) → length (flat_map dotted ls) ≤ text_room ls
+few_dotted [] = omega arith
+few_dotted (l ∷ ls) = omega (arith, few_in_label l, few_dotted ls, text_room-cons l ls, length-append (dotted l) (flat_map dotted ls))
+
+few_at_end : (is_fqdn : Bool) → length (if is_fqdn then dot ∷ [] else []) ≤ 1
+few_at_end true = omega arith
+few_at_end false = omega arith
+
+short : (is_fqdn : Bool) (ls : List (List ℕ)) → AreLabels ls → length (name_text (record { is_fqdn = is_fqdn; labels = ls })) ≤ max_text
+short is_fqdn [] h = omega (arith, few_at_end is_fqdn)
+short is_fqdn (l ∷ ls) h =
+    let last = if is_fqdn then dot ∷ [] else [] in
+    let joined = join_with_byte dot (map label_text (l ∷ ls)) in
+    omega (
+      arith,
+      few_at_end is_fqdn,
+      length-append joined last,
+      ap length (joined-cons l ls),
+      length-append (label_text l) (flat_map dotted ls),
+      few_in_label l,
+      few_dotted ls,
+      text_room-cons l ls,
+      room_short (l ∷ ls) h.each h.fit,
+    )
+
+some : (is_fqdn : Bool) (ls : List (List ℕ)) → AreLabels ls → (ls ≡ [] → is_fqdn ≡ true) → 1 ≤ length (name_text (record { is_fqdn = is_fqdn; labels = ls }))
+some true [] h named = omega arith
+some false [] h named = let e = named refl in absurd cc
+some is_fqdn (l ∷ ls) h named =
+    let last = if is_fqdn then dot ∷ [] else [] in
+    let joined = join_with_byte dot (map label_text (l ∷ ls)) in
+    omega (
+      arith,
+      length-append joined last,
+      ap length (joined-cons l ls),
+      length-append (label_text l) (flat_map dotted ls),
+      some_in_label l h.each.0,
+    )
+
+pub texts_are_short : (n : NameValue) → AreLabels n.labels → length (name_text n) ≤ max_text
+texts_are_short n h = short n.is_fqdn n.labels h
+
+-- Only the relative name without labels has the empty text.
+pub some_text : (n : NameValue) → AreLabels n.labels → (n.labels ≡ [] → n.is_fqdn ≡ true) → 1 ≤ length (name_text n)
+some_text n h named = some n.is_fqdn n.labels h named
