@@ -4,7 +4,6 @@ use Rattle.std.specs.List.{All}
 use Rattle.std.proofs.lemmas.List.{length-append}
 use Rattle.std.proofs.lemmas.List.Elements.{All-tail}
 use Rattle.std.proofs.lemmas.List.Sums.{count_by-le-length, length-filter}
-use Rattle.std.proofs.lemmas.Bool.{cases_Bool}
 use Rattle.std.proofs.lemmas.Bool.Decides.{leb_tells}
 use Rattle.std.proofs.Math.Seq.{get_or-append_seam, split_at}
 use Rattle.dnw_base.specs.Names.{labels_wire}
@@ -48,15 +47,9 @@ not_nil (x ∷ xs) ys y e = absurd cc
 -- if each passes, all are left
 pub kept_all : {X : Type 0} (p : X → Bool) (xs : List X) → All (λ x. p x ≡ true) xs → filter p xs ≡ xs
 kept_all p [] all = refl
-kept_all p (x ∷ xs) all =
-    let here : p x ≡ true = all 0 x (omega arith) in
-    rw here (ap (λ ys. x ∷ ys) (kept_all p xs (All-tail (λ y. p y ≡ true) x xs all)))
+kept_all p (x ∷ xs) all = grind (arith, all 0 x, kept_all p xs (All-tail (λ y. p y ≡ true) x xs all))
 
 -- if as many are left as there were, they are the same
 pub kept_same : {X : Type 0} (p : X → Bool) (xs : List X) → length xs ≤ length (filter p xs) → filter p xs ≡ xs
 kept_same p [] le = refl
-kept_same p (x ∷ xs) le =
-    ⊎_elim
-    (λ yes. let fewer = rw yes at le in rw (yes, kept_same p xs (omega (arith, fewer))) refl)
-    (λ no. let fewer = rw no at le in absurd (omega (arith, fewer, length-filter p xs, count_by-le-length p xs)))
-    (cases_Bool (p x))
+kept_same p (x ∷ xs) le = grind (arith, kept_same p xs, length-filter p xs, count_by-le-length p xs)

@@ -1,8 +1,7 @@
 -- Candidates whose bytes are kept one after the other.
-use Rattle.std.proofs.Common.{rules, tests, ◌≡◌, ◌≢◌, ℕ, zero, suc, ◌+◌, ◌-◌, ◌<◌, ◌≤◌, Bool, true, nat_lt, List, [], ◌∷◌, ◌++◌, length, take, drop, filter, refl, sym, ap, ◌∙◌, subst, ⊎_elim, arith}
+use Rattle.std.proofs.Common.{rules, tests, ◌≡◌, ◌≢◌, ℕ, zero, suc, ◌+◌, ◌-◌, ◌<◌, ◌≤◌, Bool, true, nat_lt, List, [], ◌∷◌, ◌++◌, length, take, drop, filter, refl, sym, ap, ◌∙◌, subst, arith}
 use Rattle.std.specs.List.{All}
 use Rattle.std.proofs.lemmas.List.{take-append-le, drop-append-le, take-append-drop, take-map, take_all, append-nil, map-append, length-drop, length-take-le, drop-drop, drop_at}
-use Rattle.std.proofs.lemmas.Bool.{cases_Bool}
 use Rattle.std.proofs.lemmas.List.Elements.{All-filter, All-map, All-tail, filter_passes}
 use Rattle.dnw_base.specs.Names.{labels_wire}
 use Rattle.dnw_candidates.specs.Candidates.{Candidate, candidates_before, suffixes}
@@ -47,12 +46,6 @@ held_one_more bytes own es from start at within =
     held_push (bytes ++ own) own es from (length own) start (drop_at bytes own from (sym at)) (omega arith)
     ∙ ap (λ (cs : List Candidate). cs ++ (start, own) ∷ []) (held_more bytes own es within)
 
--- more bytes are there, and the end is later
-pub are_held_more : (n m end to : ℕ) (es : List Entry) → n ≤ m → end ≤ to → AreHeld n end es → AreHeld m to es
-are_held_more n m end to es more further all = λ k d less.
-    let e = all k d less in
-    record { within = omega (arith, e.within); before = omega (arith, e.before); reached = e.reached }
-
 -- ---- suffixes that are added
 
 -- labels without bytes have none, and others do
@@ -70,10 +63,7 @@ some_suffix start (suc most) (l ∷ ls) some bytes e = absurd cc
 pub suffixes-next : (n start : ℕ) (l : List ℕ) (ls : List (List ℕ)) → 0 < n
     → take n (suffixes start (l ∷ ls)) ≡ (start, labels_wire (l ∷ ls)) ∷ take (n - 1) (suffixes (start + (1 + length l)) ls)
 suffixes-next zero start l ls some = absurd (omega arith)
-suffixes-next (suc n) start l ls some =
-    let less : suc n - 1 ≡ n = omega arith in
-    let at : start + 1 + length l ≡ start + (1 + length l) = omega arith in
-    rw (less, at) refl
+suffixes-next (suc n) start l ls some = grind arith
 
 -- the bytes of labels without the first one's
 pub rest-bytes : (bytes : List ℕ) (from : ℕ) (l : List ℕ) (ls : List (List ℕ)) → drop from bytes ≡ labels_wire (l ∷ ls)
@@ -95,10 +85,7 @@ are_held_before n end offset es all = λ k d less.
 pub held_before : (bytes : List ℕ) (offset : ℕ) (es : List Entry)
     → held bytes (filter (λ (e : Entry). nat_lt e.start offset) es) ≡ candidates_before offset (held bytes es)
 held_before bytes offset [] = refl
-held_before bytes offset (e ∷ es) =
-    let rest = held_before bytes offset es in
-    ⊎_elim (λ yes. rw yes (ap (λ (cs : List Candidate). candidate_of bytes e ∷ cs) rest)) (λ no. rw no rest)
-    (cases_Bool (nat_lt e.start offset))
+held_before bytes offset (e ∷ es) = grind (arith, held_before bytes offset es)
 
 pub all_before : (bytes : List ℕ) (offset : ℕ) (es : List Entry) → All (λ (e : Entry). e.start < offset) es
     → candidates_before offset (held bytes es) ≡ held bytes es

@@ -1,5 +1,5 @@
 -- Every candidate stays before the offset.
-use Rattle.std.proofs.Common.{◌≡◌, ℕ, ◌+◌, ◌<◌, ◌≤◌, Bool, true, false, nat_lt, List, [], ◌∷◌, ◌++◌, length, Option, Some, None, Result, Ok, Err, refl, sym, ap, ◌∙◌, subst, if◌then◌else◌, arith, rules, tests}
+use Rattle.std.proofs.Common.{◌≡◌, ℕ, ◌+◌, ◌<◌, ◌≤◌, Bool, true, false, nat_lt, List, [], ◌∷◌, ◌++◌, length, Option, Some, None, Result, Ok, Err, refl, sym, subst, if◌then◌else◌, arith, rules, tests}
 use Rattle.std.specs.List.{All}
 use Rattle.std.proofs.lemmas.List.{length-append}
 use Rattle.std.proofs.lemmas.List.Elements.{All-append, All-nil, All-push, All-weaker, filter_passes}
@@ -8,12 +8,12 @@ use Rattle.dnw_error.specs.declared.error.ProtoError.TheVariants.{CharacterDataT
 use Rattle.dnw_base.specs.Names.{labels_wire, wire}
 use Rattle.dnw_candidates.specs.Candidates.{Candidate, candidates_before}
 use Rattle.dnw_candidates.proofs.CandidateLists.{kept_all}
-use Rattle.dnw_encoder.specs.Encoder.{CandidatesPrecede, Encoder, TakesRoom, reserved, takes_candidate, trimmed, with_candidate, written}
-use Rattle.dnw_encoder.specs.Emitting.{Emits, Frame, InTurn, Outcome, rolled_back}
+use Rattle.dnw_encoder.specs.Encoder.{CandidatesPrecede, Encoder, TakesRoom, takes_candidate, written}
+use Rattle.dnw_encoder.specs.Emitting.{Emits, Outcome}
 use Rattle.dnw_encoder.specs.EmittedName.{EmitsAs, Share, emitted, in_mode, kept, newly_kept, pointer_to}
-use Rattle.dnw_encoder.specs.Marks.{RewindingUndoes, mark_of, rewound}
+use Rattle.dnw_encoder.specs.Marks.{RewindingUndoes}
 use Rattle.dnw_encoder.specs.NameFrames.{within-kept}
-use Rattle.dnw_encoder.specs.CandidateLaws.{FillsPrecede, ItemPrecedes, ItemsPrecede, KeepsPreceding, NamesPrecede, NewPrecede, PlacesPrecede, RewindsPrecede, StoresPrecede, TextsPrecede, TrimsPrecede, WritesPrecede}
+use Rattle.dnw_encoder.specs.CandidateLaws.{FillsPrecede, ItemPrecedes, ItemsPrecede, NamesPrecede, NewPrecede, PlacesPrecede, RewindsPrecede, StoresPrecede, TextsPrecede, TrimsPrecede, WritesPrecede}
 
 abbrev AreBefore : ℕ → List Candidate → Type 0
 AreBefore o cs = All (λ c. c.0 < o) cs

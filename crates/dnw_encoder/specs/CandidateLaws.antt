@@ -1,6 +1,6 @@
 -- Every candidate stays before the offset, as the laws of rewinding and of refused records ask. Each is the clause of a
 -- public function, and so proved.
-use Rattle.std.specs.Prelude.{ℕ, ◌<◌, List, Ok}
+use Rattle.std.specs.Prelude.{ℕ, ◌<◌, List}
 use Rattle.dnw_base.specs.Names.{NameValue}
 use Rattle.dnw_candidates.specs.Candidates.{Candidate}
 use Rattle.dnw_encoder.specs.Encoder.{CandidatesPrecede, Encoder, Stores, Writes, WritesText, fresh, reserved, trimmed}

@@ -11,7 +11,7 @@ ghost use Rattle.dnw_base.specs.Labels.{wildcard};
 ghost use Rattle.dnw_base.specs.Names.{NameValue, AreLabels, encoded_size, IsWildcard, lower, wire};
 ghost use Rattle.dnw_reading.specs.Reading.{TakesName, StopsAt};
 ghost use Rattle.dnw_form.specs.Edits.{append_label, prepend_label, append_name, append_domain, base_name, trim_to, into_wildcard};
-ghost use Rattle.dnw_text.specs.NameText.{name_text, name_from_text, name_from_text_at, IsLabelText};
+ghost use Rattle.dnw_text.specs.NameText.{max_text, name_text, name_from_text, name_from_text_at, IsLabelText};
 ghost use Rattle.dnw_order.specs.Order.{IsLocalhost, IsZoneOfCase, IsZoneOf};
 ghost use Rattle.dnw_name.specs.FromLabels.{JoinsItems};
 
@@ -412,15 +412,32 @@ impl Name {
     }
 
     /// Returns the name as text: its labels with a dot between them, and one at the end if it is fully qualified. If each
-    /// label stands for itself as text, `from_ascii` gives the name back.
+    /// label stands for itself as text, `from_ascii` gives the name back. It has at most 1004 bytes.
+    ///
+    /// It fails with `Memory`, but not for the relative name without labels, whose text is empty.
+    #[tactic(auto, using(dnw_text::proofs::ReadBack::read_back, dnw_text::proofs::TextSizes::texts_are_short))]
     pub fn to_ascii(&self, alloc: Global) -> ProtoResult<String>
         ensures ok { IfOk result (λ text. string_bytes text ≡ name_text self.now) }
         ensures reads_back { AllByRecursion IsLabelText self.now.labels → IfOk result (λ text. name_from_text (chars (string_bytes text)) ≡ Ok self.now) }
-        ensures err { IfErr result (λ e. e ≡ ProtoError.Memory) }
+        ensures short { length (name_text self.now) ≤ max_text }
+        ensures err { IfErr result (λ e. (1 ≤ length (name_text self.now)) × (e ≡ ProtoError.Memory)) }
     {
         // The proof reads here that the labels fit together.
         let _size = self.encoded_len();
+        if self.has_no_text() {
+            return Ok(String::new(alloc));
+        }
         Ok(self.to_string(alloc)?)
+    }
+
+    /// Returns `true` if the text is empty: the name is relative and has no labels.
+    fn has_no_text(&self) -> bool
+        ensures none { IsTrue result → name_text self.now ≡ [] }
+        ensures some { result ≡ false → 1 ≤ length (name_text self.now) }
+    {
+        // The proof reads here that each label has bytes.
+        let _size = self.encoded_len();
+        !self.is_fqdn && self.form.has_no_labels()
     }
 
     /// Returns `true` if the last label is `localhost`, ignoring ASCII case (RFC 6761, section 6.3).

@@ -135,25 +135,12 @@ halves_injective : (xs ys : List ℕ) → nibbles xs ≡ nibbles ys → xs ≡ y
 halves_injective [] [] e = refl
 halves_injective [] (y ∷ ys) e = absurd (cc)
 halves_injective (x ∷ xs) [] e = absurd (cc)
-halves_injective (x ∷ xs) (y ∷ ys) e =
-    let first : x / 4096 ≡ y / 4096 = cc in
-    let second : x / 256 % 16 ≡ y / 256 % 16 = cc in
-    let third : x / 16 % 16 ≡ y / 16 % 16 = cc in
-    let fourth : x % 16 ≡ y % 16 = cc in
-    let rest : nibbles xs ≡ nibbles ys = cc in
-    let same : x ≡ y = same_segment x y first second third fourth in
-    rw (same, halves_injective xs ys rest) refl
+halves_injective (x ∷ xs) (y ∷ ys) e = grind (arith, same_segment x y, halves_injective xs ys)
 
 same_ip : (a b : IpAddr) → ip_prefix a ≡ ip_prefix b → a ≡ b
 same_ip (V4 a) (V4 b) e = let same = ap (λ (p : ArpaPrefix). p.values) e in λ i. V4 (record { octets = same i })
-same_ip (V4 a) (V6 b) e = absurd (ipv4_not_ipv6 (ap (λ (p : ArpaPrefix). p.family) e))
-  where
-    ipv4_not_ipv6 : Ipv4 ≡ Ipv6 → ⊥
-    ipv4_not_ipv6 h = cc
-same_ip (V6 a) (V4 b) e = absurd (ipv6_not_ipv4 (ap (λ (p : ArpaPrefix). p.family) e))
-  where
-    ipv6_not_ipv4 : Ipv6 ≡ Ipv4 → ⊥
-    ipv6_not_ipv4 h = cc
+same_ip (V4 a) (V6 b) e = let other : Ipv4 ≡ Ipv6 = ap (λ (p : ArpaPrefix). p.family) e in absurd cc
+same_ip (V6 a) (V4 b) e = let other : Ipv6 ≡ Ipv4 = ap (λ (p : ArpaPrefix). p.family) e in absurd cc
 same_ip (V6 a) (V6 b) e =
     let same = halves_injective (ipv6_segments a) (ipv6_segments b) (ap (λ (p : ArpaPrefix). p.values) e) in
     λ i. V6 (record { segments = same i })

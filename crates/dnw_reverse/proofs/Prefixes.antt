@@ -34,7 +34,7 @@ same-length : (l m : List ℕ) → label_eq l m ≡ true → length l ≡ length
 same-length [] [] e = refl
 same-length [] (b ∷ m) e = cc
 same-length (a ∷ l) [] e = cc
-same-length (a ∷ l) (b ∷ m) e = let rest = same-length l m (and_parts (to_ascii_lowercase a == to_ascii_lowercase b) (label_eq l m) e).1 in omega arith
+same-length (a ∷ l) (b ∷ m) e = grind (arith, same-length l m)
 
 -- ---- what succeeds
 

@@ -1,7 +1,7 @@
 -- The labels of octets and nibbles: how they are read back, and that they are labels and stand for themselves as text.
 use Rattle.std.proofs.Common.{◌≡◌, ℕ, ◌+◌, ◌*◌, ◌^◌, ◌<◌, ◌≤◌, ◌/◌, ◌%◌, true, List, [], ◌∷◌, ◌++◌, length, map, Ok, refl, sym, subst, arith, decimal, inl, inr}
 use Rattle.std.specs.Char.{digit_char, digit_value}
-use Rattle.std.specs.List.{AllByRecursion}
+use Rattle.std.specs.List.{AllByRecursion, list_all}
 use Rattle.std.specs.Str.{IsAscii, is_utf8}
 use Rattle.std.proofs.lemmas.Bool.{agree_below_at, cases_lt, lt-ltb}
 use Rattle.std.proofs.lemmas.Bool.Decides.{nat_tests}
@@ -55,43 +55,29 @@ record IsShort (l : List ℕ) : Type 0 where
   text : IsLabelText l
   short : length l ≤ 3
 
-one_char : (a : ℕ) → may_begin a ≡ true → IsShort (a ∷ [])
-one_char a h = record {
+short_label : (a : ℕ) (rest : List ℕ) → may_begin a ≡ true → list_all may_follow rest ≡ true → length rest ≤ 2 → IsShort (a ∷ rest)
+short_label a rest h all few = record {
   label = record { not_empty = omega arith; not_long = omega arith };
-  text = rw h refl;
-  short = omega arith;
-}
-
-two_chars : (a b : ℕ) → may_begin a ≡ true → may_follow b ≡ true → IsShort (a ∷ b ∷ [])
-two_chars a b h k = record {
-  label = record { not_empty = omega arith; not_long = omega arith };
-  text = rw (h, k) refl;
-  short = omega arith;
-}
-
-three_chars : (a b c : ℕ) → may_begin a ≡ true → may_follow b ≡ true → may_follow c ≡ true → IsShort (a ∷ b ∷ c ∷ [])
-three_chars a b c h k m = record {
-  label = record { not_empty = omega arith; not_long = omega arith };
-  text = rw (h, k, m) refl;
+  text = rw (h, all) refl;
   short = omega arith;
 }
 
 octet_label : (v : ℕ) → v < 256 → IsShort (decimal v)
 octet_label v h =
     elim (cases_lt v 10) [
-      | inl small ↦ subst IsShort (sym (one_digit v small)) (one_char _ (decimal_begins (v % 10) (omega arith)))
+      | inl small ↦ subst IsShort (sym (one_digit v small)) (short_label _ [] (decimal_begins (v % 10) (omega arith)) refl (omega arith))
       | inr more ↦
           elim (cases_lt v 100) [
-            | inl small ↦ subst IsShort (sym (two_digits v more small)) (two_chars _ _ (decimal_begins (v / 10 % 10) (omega arith)) (decimal_follows (v % 10) (omega arith)))
+            | inl small ↦ subst IsShort (sym (two_digits v more small)) (short_label _ _ (decimal_begins (v / 10 % 10) (omega arith)) (rw (decimal_follows (v % 10) (omega arith)) refl) (omega arith))
             | inr many ↦
                 subst IsShort (sym (three_digits v many (omega arith)))
-                (three_chars _ _ _ (decimal_begins (v / 100) (omega arith)) (decimal_follows (v / 10 % 10) (omega arith)) (decimal_follows (v % 10) (omega arith)))
+                (short_label _ _ (decimal_begins (v / 100) (omega arith)) (rw (decimal_follows (v / 10 % 10) (omega arith), decimal_follows (v % 10) (omega arith)) refl) (omega arith))
           ]
     ]
 
 value_short : (family : Family) (v : ℕ) → v < 2 ^ value_bits family → IsShort (value_label family v)
 value_short Ipv4 v h = octet_label v h
-value_short Ipv6 v h = one_char (digit_char v) (digit_begins v h)
+value_short Ipv6 v h = short_label (digit_char v) [] (digit_begins v h) refl (omega arith)
 
 -- the labels of values before others
 pub value_labels : (family : Family) (vs : List ℕ) (tail : List (List ℕ)) → AllByRecursion (λ v. v < 2 ^ value_bits family) vs

@@ -9,22 +9,17 @@ use Rattle.std.proofs.lemmas.Str.{IsUtf8-from_is_utf8}
 use Rattle.std.proofs.lemmas.Bool.{and_parts, ltb-true, ne_eqb, false_from_ne_true, true≢false}
 use Rattle.std.proofs.lemmas.Bool.Decides.{nat_tests}
 use Rattle.std.proofs.lemmas.List.{length-append}
-use Rattle.dnw_reverse.specs.Arpa.{ArpaFault, NotANumber, NotOneDigit, NotUtf8, IsArpaPrefix, TooManyLabels, is_octet_text, octet_of, nibble_of, value_bits, value_of, values_of, most_values, prefix_of, ◌>>=◌}
+use Rattle.dnw_reverse.specs.Arpa.{ArpaFault, NotANumber, NotOneDigit, NotUtf8, IsArpaPrefix, TooManyLabels, is_octet_text, octet_of, nibble_of, value_bits, value_of, values_of, most_values, ◌>>=◌}
 use Rattle.dnw_reverse.specs.Inside.Reading.{ended, prefix_after}
 use Rattle.dnw_reverse.specs.declared.reading.Family.{Family}
-use Rattle.dnw_reverse.specs.declared.reading.Family.TheVariants.{Ipv4, Ipv6}
 
 pub not_utf8 : (bs : List ℕ) → ¬ (IsUtf8 bs) → is_utf8 bs ≡ false
-not_utf8 bs h = by_test (is_utf8 bs) (IsUtf8-from_is_utf8 bs)
-  where
-    by_test : (b : Bool) → (b ≡ true → IsUtf8 bs) → b ≡ false
-    by_test false f = refl
-    by_test true f = absurd (h (f refl))
+not_utf8 bs h = false_from_ne_true (is_utf8 bs) (λ e. h (IsUtf8-from_is_utf8 bs e))
 
 -- a test of digits
 digits_tested : (ds : List ℕ) → AllDigits 10 ds → list_all (λ c. is_digit c 10) ds ≡ true
 digits_tested [] h = refl
-digits_tested (d ∷ ds) h = let first : is_digit d 10 ≡ true = grind (arith, nat_tests) in rw (first, digits_tested ds h.1) refl
+digits_tested (d ∷ ds) h = grind (arith, nat_tests, digits_tested ds)
 
 tested_digits : (ds : List ℕ) → list_all (λ c. is_digit c 10) ds ≡ true → AllDigits 10 ds
 tested_digits [] h = tt

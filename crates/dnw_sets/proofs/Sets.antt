@@ -193,3 +193,5 @@ pub searched : (types : List RecordType) (kind : RecordType) (r : Result ℕ ℕ
     → IsBinarySearchResult (λ y. type_cmp y kind) types r → (is_ok r ≡ true) ↔ Contains types kind
 searched types kind (Ok i) ascending within found = (λ yes. (i, within, types-tied (get_or types i kind) kind (rw (found kind) refl)), λ has. refl)
 searched types kind (Err i) ascending within found = (λ yes. absurd cc, λ has. absurd (absent types kind i (found (searchable types kind ascending)) has))
+
+pub ruleset ascending_steps = (empty-ascends, sorted-end, sorted-on)

@@ -136,3 +136,5 @@ pushed-window old new whole bytes others octets first number split front e h =
 pub pushed-all : (types whole : List RecordType) (bytes : List ℕ) → bytes ≡ [] → types ++ map type_of_code (windows_codes (windows_of bytes)) ≡ whole → types ≡ whole
 unfolding windows_of
 pushed-all types whole bytes none h = sym (append-nil types) ∙ rw none at h
+
+pub ruleset bits_steps = (bits-next, pushed-on)

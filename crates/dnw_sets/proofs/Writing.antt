@@ -1,11 +1,10 @@
 -- Steps of writing a bitmap.
-use Rattle.std.proofs.Common.{◌≡◌, ◌≢◌, ◌*◌, ◌/◌, ◌-◌, ◌^◌, ◌%◌, Bool, true, false, ℕ, zero, suc, ◌+◌, ◌<◌, ◌≤◌, List, [], ◌∷◌, ◌++◌, length, take, get_or, refl, sym, ap, ◌∙◌, subst, arith, bit_or, add-zero, add-one}
-use Rattle.std.proofs.Math.Seq.{take-length}
+use Rattle.std.proofs.Common.{◌≡◌, ◌≢◌, ◌*◌, ◌/◌, ◌-◌, ◌^◌, ◌%◌, Bool, true, false, ℕ, zero, suc, ◌+◌, ◌<◌, ◌≤◌, List, [], ◌∷◌, ◌++◌, length, take, get_or, refl, sym, ap, ◌∙◌, subst, arith, bit_or, add-one}
 use Rattle.std.specs.Int.{bit_at, w8}
 use Rattle.std.specs.List.{flat_map, AllByRecursion}
 use Rattle.std.proofs.lemmas.Grind.{flat_map-append}
 use Rattle.std.proofs.lemmas.List.{append_assoc, append-nil, length-append, take_more, take_all}
-use Rattle.std.proofs.lemmas.Nat.Bits.{bit_at_set_same, bit_at_set_other, bit_at-zero}
+use Rattle.std.proofs.lemmas.Nat.Bits.{bit_at_set_same, bit_at_set_other}
 use Rattle.dnw_sets.specs.TypeSets.{Window, window, bit_codes, octet_codes, octets_codes, window_codes, windows_codes, window_bytes, window_size, EndsInBit, NumbersFrom, IsWritten, Encodes}
 use Rattle.dnw_sets.specs.Inside.Bitmaps.{Above, code_if, with_bit, PushesWindow}
 
@@ -42,13 +41,6 @@ below-same first octet bit (suc n) within h =
 
 set-code : (first octet bit : ℕ) → bit < 8 → bit_codes first (bit_or octet (1 * 2 ^ (7 - bit) % 2 ^ 8)) bit ≡ (first + bit) ∷ []
 set-code first octet bit within = rw (bit_at_set_same w8 octet (7 - bit) (omega arith)) refl
-
-pub taken-none : (first bit : ℕ) (codes : List ℕ) → Above first codes → Taken first 0 0 codes codes
-taken-none first bit codes above = record {
-  taken = refl;
-  above = rw (add-zero first) above;
-  unset = λ k h below. bit_at-zero (7 - k);
-}
 
 pub taken-bit : (set : Bool) (first octet bit : ℕ) (codes rest others : List ℕ) → bit < 8 → Taken first octet bit codes rest
     → code_if set (first + bit) ++ others ≡ rest → Above (first + bit + 1) others → Taken first (with_bit set octet bit) (bit + 1) codes others
@@ -88,13 +80,6 @@ pub record TakenOctets (first index : ℕ) (octets codes rest : List ℕ) : Type
   pub above : Above (first + 8 * index) rest
   pub count : length octets ≡ index
 
-pub octets-none : (first : ℕ) (octets codes : List ℕ) → octets ≡ [] → Above first codes → TakenOctets first 0 octets codes codes
-octets-none first octets codes none above = record {
-  same = rw none refl;
-  above = let P : ℕ → Type 0 = λ n. Above n codes in subst P (let e : first ≡ first + 8 * 0 = omega arith in e) above;
-  count = rw none refl;
-}
-
 pub octets-next : (first index octet : ℕ) (octets more codes rest others : List ℕ) → TakenOctets first index octets codes rest
     → more ≡ octets ++ octet ∷ [] → octet_codes (first + 8 * index) octet ++ others ≡ rest → Above (first + 8 * index + 8) others
     → TakenOctets first (index + 1) more codes others
@@ -111,9 +96,6 @@ octets-next first index octet octets more codes rest others t e taken above = re
 pub record Used (octets : List ℕ) (len : ℕ) : Type 0 where
   pub within : len ≤ length octets
   pub codes : (first : ℕ) → octets_codes first (take len octets) ≡ octets_codes first octets
-
-pub used-all : (octets : List ℕ) → Used octets (length octets)
-used-all octets = record { within = omega arith; codes = λ first. ap (octets_codes first) (take-length octets) }
 
 pub used-less : (octets : List ℕ) (len : ℕ) → 0 < len → get_or octets (len - 1) 0 ≡ 0 → Used octets len → Used octets (len - 1)
 used-less octets len some zeros u = record {
@@ -166,9 +148,6 @@ pub record Written (codes bytes rest : List ℕ) : Type 0 where
   pub written : AllByRecursion IsWritten windows
   pub same : windows_codes windows ++ rest ≡ codes
   pub above : Above (window_size * bound) rest
-
-pub written-none : (codes : List ℕ) → Above 0 codes → Written codes [] codes
-written-none codes above = record { bound = 0; windows = []; spelled = refl; ascending = omega arith; written = tt; same = refl; above = above }
 
 pub written-all : (codes bytes rest : List ℕ) → Written codes bytes rest → rest ≡ [] → Encodes codes bytes
 written-all codes bytes rest w none = record {
@@ -224,3 +203,5 @@ pub fewer : (taken rest codes : List ℕ) (code bound : ℕ) → taken ++ rest �
 fewer taken rest codes code bound e above less =
     let some = some-taken taken rest codes code bound e above less in
     omega (arith, ap length e, length-append taken rest)
+
+pub ruleset used_steps = (used-less, used-ends)

@@ -155,6 +155,7 @@ fn settle(types: &mut Vec<RecordType>)
 }
 
 /// Returns `true` if the codes of the types ascend.
+#[tactic(auto, using(std::proofs::lemmas::List::nil_from_length, crate::proofs::Sets::ascending_steps))]
 fn is_ascending(types: &[RecordType]) -> bool
     ensures { IsTrue result → IsStrictlySortedBy type_cmp types.now }
 {

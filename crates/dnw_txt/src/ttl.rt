@@ -32,6 +32,7 @@ pub fn parse_ttl(alloc: Global, ttl_str: &str) -> ParseResult<u32>
 const MAX_TTL: u64 = 4294967295;
 
 /// Returns the seconds of a time, if the text is one and they are not too many.
+#[tactic(auto, using(crate::proofs::Sums::from_start, crate::proofs::Sums::too_many))]
 fn seconds(text: &[u8]) -> Option<u32>
     ensures { MatchOption result (IsNoTtl (time_seconds text.now)) (λ seconds. time_seconds text.now ≡ Some seconds) }
 {

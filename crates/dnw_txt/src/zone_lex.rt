@@ -94,7 +94,7 @@ impl<'a> Model for Lexer<'a> {
 
 impl<'a> Lexer<'a> {
     /// Creates a lexer at the start of a text.
-    #[tactic(auto, using(crate::proofs::EachTakes::ends_in_time))]
+    #[tactic(auto, using(crate::proofs::Settled::ends_in_time))]
     pub fn new(txt: &'a str) -> Self
         ensures value { result ≡ record { rest = chars txt.now; state = StartLine } }
         ensures ends { EndsInTime result }
@@ -278,6 +278,7 @@ fn char_data<'t>(alloc: Global, word: &str, rest: &'t str) -> LexerResult<Option
 }
 
 /// Finds what a `$` and the capital letters after it stand for.
+#[tactic(auto, using(crate::proofs::Cuts::capitals_are_bytes))]
 fn control_entry<'t>(alloc: Global, text: &'t str) -> LexerResult<Option<Found<'t>>>
     ensures { Finds false (control_entry (before is_no_capital (chars text.now)) (from is_no_capital (chars text.now))) result }
 {
@@ -304,6 +305,7 @@ fn control_word<'t>(alloc: Global, word: &str, rest: &'t str) -> LexerResult<Opt
 }
 
 /// Finds a list, after its `(`.
+#[tactic(auto, using(crate::proofs::Steps::list_after_remark))]
 fn list<'t>(alloc: Global, text: &'t str) -> LexerResult<Option<Found<'t>>>
     ensures { Finds true (list_after [] Between (chars text.now)) result }
 {
@@ -349,6 +351,7 @@ fn quoted<'t>(alloc: Global, text: &'t str) -> LexerResult<Option<Found<'t>>>
 
 /// Appends the characters before the next quote or backslash to a text. Returns what is after them.
 #[inline(always)]
+#[tactic(auto, using(crate::proofs::Steps::stops_run))]
 fn take_run<'t>(collected: &mut String, left: &'t str) -> LexerResult<&'t str>
     ensures goes_on { IfOk result (λ rest. quoted_after (characters collected.new) Plain (chars rest.now) ≡ quoted_after (characters collected.old) Plain (chars left.now)) }
     ensures stops { IfOk result (λ rest. StopsRun (chars rest.now)) }
@@ -420,6 +423,7 @@ fn is_numeric(c: char) -> bool
 
 /// Returns the first character of a text, and what is after it.
 #[inline(always)]
+#[tactic(auto, using(crate::proofs::Cuts::begins))]
 fn split_first_char(text: &str) -> Option<(char, &str)>
     ensures { BeginsWith text.now result }
 {
@@ -429,6 +433,7 @@ fn split_first_char(text: &str) -> Option<(char, &str)>
 }
 
 /// Returns the number of bytes of the word that a text begins with.
+#[tactic(auto, using(crate::proofs::Cuts::scanned_plain, crate::proofs::Cuts::cut_at, crate::proofs::Cuts::cut_at_byte, crate::proofs::Cuts::cut_at_end))]
 fn word_len(text: &str) -> usize
     ensures { CutsBefore ends_word text.now result }
 {
@@ -479,6 +484,7 @@ fn is_space(c: char) -> bool
 }
 
 /// Returns the number of capital letters that a text begins with.
+#[tactic(auto, using(crate::proofs::Cuts::scanned_capital, crate::proofs::Cuts::cut_at))]
 fn capitals_len(text: &str) -> usize
     ensures { CutsBefore is_no_capital text.now result }
 {
@@ -510,6 +516,7 @@ fn quoted_len(text: &str) -> usize
 
 /// Returns the number of bytes before the first of two ASCII characters.
 #[inline(always)]
+#[tactic(auto, using(crate::proofs::Cuts::cut_at_either))]
 fn len_before(text: &str, a: u8, b: u8) -> usize
     requires ascii { (a < 128) × (b < 128) }
     ensures { CutsBefore (is_either a b) text.now result }

@@ -8,6 +8,7 @@ pub use super::mark::rewinding_undoes;
 use crate::binary::BinEncodable;
 
 /// A write, a placeholder and its filling leave the buffer no longer than it was, or than the maximum.
+#[tactic(auto, using(crate::proofs::Bounds::writes_stay_bounded, crate::proofs::Bounds::places_stay_bounded, crate::proofs::Bounds::fills_stay_bounded))]
 pub fn writes_stay_bounded()
     ensures writes { WritesStayBounded }
     ensures places { PlacesStayBounded }
@@ -15,11 +16,13 @@ pub fn writes_stay_bounded()
 {}
 
 /// So do items in turn, if each of them does.
+#[tactic(auto, using(crate::proofs::Bounds::items_stay_bounded))]
 pub fn items_stay_bounded<E: BinEncodable>()
     ensures { ItemsStayBounded E.emits }
 {}
 
 /// Filling a placeholder does not run out of memory.
+#[tactic(auto, using(crate::proofs::Bounds::fills_take_no_memory))]
 pub fn fills_take_no_memory()
     ensures { FillsTakeNoMemory }
 {}
@@ -31,6 +34,7 @@ pub fn frames_follow<E: BinEncodable>()
 {}
 
 /// A name that was written is read back.
+#[tactic(auto, using(crate::proofs::NameBack::name_is_read, crate::proofs::NameBack::name_comes_back))]
 pub fn names_come_back()
     ensures at_once { NameIsRead }
     ensures alone { NameComesBack }
@@ -59,6 +63,7 @@ pub fn candidates_precede()
 {}
 
 /// So do items, if each of them does, and the one that is rolled back.
+#[tactic(auto, using(crate::proofs::Preceding::item_precedes, crate::proofs::Preceding::items_precede))]
 pub fn items_precede<E: BinEncodable>()
     ensures in_turn { ItemsPrecede E.emits }
     ensures item { ItemPrecedes E.emits }

@@ -58,6 +58,7 @@ impl<'a> BinEncoder<'a> {
 /// was there, whatever was written by `emit`.
 ///
 /// The function does nothing: it is there for its clause.
+#[tactic(auto, using(crate::proofs::Preceding::rewinding_undoes))]
 pub fn rewinding_undoes()
     ensures { RewindingUndoes }
 {}

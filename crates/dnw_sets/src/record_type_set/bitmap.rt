@@ -26,6 +26,7 @@ fn push_bit(types: &mut Vec<RecordType>, first: u16, octet: u8, bit: u16)
 }
 
 /// Appends the types whose bits are set in an octet, of which the highest bit stands for the code `first`.
+#[tactic(auto, using(crate::proofs::Windows::bits_steps))]
 fn push_octet(types: &mut Vec<RecordType>, first: u16, octet: u8) -> Result<(), AllocError>
     requires { first + 7 < 65536 }
     ensures ok { OnOk result (types.new.items ≡ types.old.items ++ map type_of_code (octet_codes first octet)) }

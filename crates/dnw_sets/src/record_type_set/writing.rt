@@ -75,6 +75,7 @@ fn take_octets<'a>(
 }
 
 /// Returns how many octets there are up to the last one that has a bit.
+#[tactic(auto, using(crate::proofs::Writing::used_steps))]
 fn used_len(octets: &[u8]) -> usize
     ensures within { result ≤ length octets.now }
     ensures codes { (first : ℕ) → octets_codes first (take result octets.now) ≡ octets_codes first octets.now }

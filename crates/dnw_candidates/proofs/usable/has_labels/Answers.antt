@@ -1,7 +1,6 @@
 -- Each element tells whether the labels that are left can be read on.
 use Rattle.std.proofs.Common.{◌≡◌, Some, length, refl, rules, sym, ◌∙◌, eqb-true}
 use Rattle.std.proofs.lemmas.List.{nil_from_length}
-use Rattle.dnw_reading.specs.Reading.{overlap}
 use Rattle.dnw_candidates.proofs.Matching.{along-start, along-stops, along-end, along-label, along-pointer}
 use Rattle.dnw_candidates.proofs.usable.has_labels.Goals as goal
 
@@ -32,6 +31,3 @@ elements-preserved-in-Label c =
 pub elements-preserved : goal.elements-preserved
 elements-preserved c = along-pointer c.elements.invariant c.elements-test.true c.in-Pointer.target
     (rw c.in-Pointer.is at c.in-Ok.ensures.ok)
-
-pub returns : goal.returns
-returns c = (λ no. absurd cc, λ has. absurd (along-stops c.elements.invariant (overlap c.elements-test.false) has))

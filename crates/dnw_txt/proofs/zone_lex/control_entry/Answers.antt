@@ -5,11 +5,6 @@ use Rattle.std.specs.Str.{chars}
 use Rattle.dnw_txt.proofs.Cuts.{capitals_are_bytes}
 use Rattle.dnw_txt.proofs.zone_lex.control_entry.Goals as goal
 
-pub control_word-requires : goal.control_word-requires
-control_word-requires c =
-    let word = rw sub-zero at c.range.ensures.value in
-    ap chars word ∙ c.capitals_len-len.ensures.front ∙ sym (capitals_are_bytes _ _ c.utf8.text c.capitals_len-len.ensures) ∙ sym word
-
 pub returns : goal.returns
 returns c =
     let word = rw sub-zero at c.range.ensures.value ∙ capitals_are_bytes _ _ c.utf8.text c.capitals_len-len.ensures in

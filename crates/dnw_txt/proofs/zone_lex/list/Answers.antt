@@ -1,25 +1,14 @@
 -- Each turn of the loop takes white space, a comment or a word.
-use Rattle.std.proofs.Common.{◌≡◌, ℕ, List, [], ◌∷◌, ◌++◌, map, refl, sym, ap, ◌∙◌, arith}
+use Rattle.std.proofs.Common.{◌≡◌, ℕ, List, [], ◌∷◌, ◌++◌, map, sym, ap, ◌∙◌, arith}
 use Rattle.std.proofs.Math.Nat.{sub-zero}
 use Rattle.std.proofs.lemmas.List.{map-append}
 use Rattle.std.proofs.lemmas.Result.{err_from_is_err_and}
 use Rattle.std.specs.Str.{chars}
-use Rattle.dnw_txt.specs.Tokens.{list_after, Between, before, from, ends_word}
+use Rattle.dnw_txt.specs.Tokens.{before, from, ends_word}
 use Rattle.dnw_txt.specs.Lexing.{characters}
 use Rattle.dnw_txt.proofs.Cuts.{cut_some}
-use Rattle.dnw_txt.proofs.Steps.{list_after-remark, list_after-begin, no_end, word-may}
+use Rattle.dnw_txt.proofs.Steps.{list_after_begin, no_end, word_may}
 use Rattle.dnw_txt.proofs.zone_lex.list.Goals as goal
-
-pub loop-c-init : goal.loop-c-init
-loop-c-init c = record { step = rw c.new-words.ensures.items refl; utf8 = c.utf8.text }
-
-pub loop-c-preserved-then-c-eq59 : goal.loop-c-preserved-then-c-eq59
-loop-c-preserved-then-c-eq59 c = record {
-  step =
-      ap (list_after (map characters c.loop-c.words.items) Between) (ap chars c.range_from-left.ensures.value ∙ c.comment_len.ensures.back)
-      ∙ list_after-remark _ _ _ _ c.in-Some.ensures.0 c.if-c-eq59.true ∙ c.loop-c.invariant.step;
-  utf8 = c.range_from-left.utf8;
-}
 
 pub loop-c-smaller : goal.loop-c-smaller
 loop-c-smaller c =
@@ -38,7 +27,7 @@ loop-c-preserved c =
     in
     let back : chars c.range_from-left-else-is_control.result.now ≡ from ends_word left = ap chars c.range_from-left-else-is_control.ensures.value ∙ c.word_len-len.ensures.back in
     record {
-      step = rw (words, back) (list_after-begin items left _ _ c.in-Some.ensures.0 inside ∙ c.loop-c.invariant.step);
+      step = rw (words, back) (list_after_begin items left _ _ c.in-Some.ensures.0 inside ∙ c.loop-c.invariant.step);
       utf8 = c.range_from-left-else-is_control.utf8;
     }
 
@@ -46,10 +35,10 @@ pub returns-in_err-copied : goal.returns-in_err-copied
 returns-in_err-copied c =
     let inside = no_end c.in-Some.c (sym c.is_whitespace.ensures ∙ c.if-is_whitespace.false) c.if-c-eq41.false c.if-c-eq59.false (sym c.is_control.ensures ∙ c.if-is_control.false) in
     let (error, is, cause) = err_from_is_err_and c.from_residual.result c.from_residual.ensures.1 in
-    rw (is, cause) (word-may (map characters c.loop-c.words.items) (chars c.args.text.now) (chars c.loop-c.left.now) _ _ c.in-Some.ensures.0 inside c.loop-c.invariant.step)
+    rw (is, cause) (word_may (map characters c.loop-c.words.items) (chars c.args.text.now) (chars c.loop-c.left.now) _ _ c.in-Some.ensures.0 inside c.loop-c.invariant.step)
 
 pub returns-in_err-push : goal.returns-in_err-push
 returns-in_err-push c =
     let inside = no_end c.in-Some.c (sym c.is_whitespace.ensures ∙ c.if-is_whitespace.false) c.if-c-eq41.false c.if-c-eq59.false (sym c.is_control.ensures ∙ c.if-is_control.false) in
     let (error, is, cause) = err_from_is_err_and c.from_residual-in_err-push.result c.from_residual-in_err-push.ensures.1 in
-    rw (is, cause) (word-may (map characters c.loop-c.words.items) (chars c.args.text.now) (chars c.loop-c.left.now) _ _ c.in-Some.ensures.0 inside c.loop-c.invariant.step)
+    rw (is, cause) (word_may (map characters c.loop-c.words.items) (chars c.args.text.now) (chars c.loop-c.left.now) _ _ c.in-Some.ensures.0 inside c.loop-c.invariant.step)

@@ -1,3 +1,4 @@
+use Rattle.dnw_sets.proofs.Few.{bitmaps_list_few}
 use Rattle.dnw_sets.proofs.Listed.{windows-list}
 use Rattle.dnw_sets.proofs.Windows.{bitmaps-are}
 use Rattle.dnw_sets.proofs.record_type_set.laws.bitmaps_list_bits.Goals as goal
@@ -7,3 +8,6 @@ returns-clause-windows c = bitmaps-are
 
 pub returns-clause-bits : goal.returns-clause-bits
 returns-clause-bits c = windows-list
+
+pub returns-clause-few : goal.returns-clause-few
+returns-clause-few c = bitmaps_list_few

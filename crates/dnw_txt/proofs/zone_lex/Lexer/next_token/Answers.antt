@@ -4,7 +4,7 @@ use Rattle.std.proofs.lemmas.Str.{chars-nil}
 use Rattle.dnw_txt.specs.Tokens.{Gives, Ends, RestOfLine, LexerValue, next}
 use Rattle.dnw_txt.specs.Lexing.{token_value}
 use Rattle.dnw_txt.specs.Inside.Finds.{state_of}
-use Rattle.dnw_txt.proofs.EachTakes.{takes_one}
+use Rattle.dnw_txt.proofs.Settled.{takes_one}
 use Rattle.dnw_txt.proofs.zone_lex.Lexer.next_token.Goals as goal
 
 pub returns-in-Ok-Some-clause-takes : goal.returns-in-Ok-Some-clause-takes
