@@ -16,13 +16,13 @@ use Rattle.dnw_record.specs.RecordLaws.{CountedStayBounded, DataStayBounded, Kee
 use Rattle.dnw_record.proofs.Parts.{done-bytes, done-name}
 
 -- An accepted write goes on from the offset, within the greater of the buffer's old length and the maximum, which stays.
-record GoesOn (v w : Encoder) : Type 0 where
-  bounded : StaysBounded v w
-  inside : w.offset ≤ length w.bytes
-  on : v.offset ≤ w.offset
-  same : w.max_size ≡ v.max_size
+pub record GoesOn (v w : Encoder) : Type 0 where
+  pub bounded : StaysBounded v w
+  pub inside : w.offset ≤ length w.bytes
+  pub on : v.offset ≤ w.offset
+  pub same : w.max_size ≡ v.max_size
 
-abbrev Stays : Write → Type 0
+abbrev pub Stays : Write → Type 0
 Stays write = (v w : Encoder) → v.offset ≤ length v.bytes → write v (Ok tt) w → GoesOn v w
 
 goes-then : (v m w : Encoder) → GoesOn v m → GoesOn m w → GoesOn v w
@@ -30,20 +30,20 @@ goes-then v m w f g =
     let le : max (length m.bytes) m.max_size ≤ max (length v.bytes) v.max_size = max-le f.bounded (omega (arith, f.same, le-max_right (length v.bytes) v.max_size)) in
     record { bounded = omega (arith, g.bounded, le); inside = g.inside; on = omega (arith, f.on, g.on); same = g.same ∙ f.same }
 
-stays-then : (first second : Write) → Stays first → Stays second → Stays (Then first second)
+pub stays-then : (first second : Write) → Stays first → Stays second → Stays (Then first second)
 stays-then first second one two v w le (m, f, s) =
     let go = one v m le f in
     goes-then v m w go (two m w go.inside s)
 
 -- ---- each write
 
-stays-bytes : (d : List ℕ) → Stays (λ v. Writes v d)
+pub stays-bytes : (d : List ℕ) → Stays (λ v. Writes v d)
 stays-bytes d v w le h =
     let (bounded, inside) = writes_stay_bounded v w d le h in
     let (_, _, same, on) = done-bytes d v w h in
     record { bounded = bounded; inside = inside; on = on; same = same }
 
-stays-name : (name : NameValue) → Stays (EmitsName name)
+pub stays-name : (name : NameValue) → Stays (EmitsName name)
 stays-name name v w le h =
     let (bounded, inside) = names_stay_bounded name v w le h in
     let (_, _, same, on) = done-name name v w h in
@@ -79,7 +79,7 @@ stays-data (Name name encoding) v w le h = stays-part (data_part v.encoding v.ca
 
 -- ---- the laws
 
-keeps : (write : Write) → Stays write → KeepsBounded write
+pub keeps : (write : Write) → Stays write → KeepsBounded write
 keeps write stays v w le h = let go = stays v w le h in (go.bounded, go.inside)
 
 pub part_stays_bounded : PartStaysBounded

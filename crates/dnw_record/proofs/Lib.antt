@@ -3,3 +3,4 @@ pub mod Parts
 pub mod Laying
 pub mod Bounded
 pub mod Preceding
+pub mod Passing

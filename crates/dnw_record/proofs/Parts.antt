@@ -79,7 +79,7 @@ refused-as v w ls choice Memory h = (h.2, inl refl)
 refused-as v w ls choice (MaxBufferSizeExceeded size) h = (h.2, inr (ap MaxBufferSizeExceeded h.1, omega (arith, h.0, room-most ls choice)))
 refused-as v w ls choice error h = absurd h
 
-refused-name : (name : NameValue) (v w : Encoder) (error : ProtoError) → EmitsName name v (Err error) w
+pub refused-name : (name : NameValue) (v w : Encoder) (error : ProtoError) → EmitsName name v (Err error) w
     → (w ≡ v) × FailsForSize v (encoded_size name.labels) error
 refused-name name v w error h =
     let (same, why) = refused-as v w (in_mode v.encoding name.labels) h.choice error h.written_as in

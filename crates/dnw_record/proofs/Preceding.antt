@@ -13,7 +13,7 @@ use Rattle.dnw_record.specs.RecordLaws.{CountedPrecede, DataPrecede, PartPrecede
 use Rattle.dnw_record.specs.RecordFrames.{frame-fields}
 use Rattle.dnw_record.proofs.Parts.{refused-room}
 
-precede-then : (first second : Write) → KeepsPreceding first → KeepsPreceding second → KeepsPreceding (Then first second)
+pub precede-then : (first second : Write) → KeepsPreceding first → KeepsPreceding second → KeepsPreceding (Then first second)
 precede-then first second one two v w (Ok tt) p (m, f, s) = two m w (Ok tt) (one v m (Ok tt) p f) s
 precede-then first second one two v w (Err error) p (inl f) = one v w (Err error) p f
 precede-then first second one two v w (Err error) p (inr (m, f, s)) = two m w (Err error) (one v m (Ok tt) p f) s

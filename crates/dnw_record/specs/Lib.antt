@@ -1,6 +1,8 @@
 pub mod Records
-pub mod Fields
+pub mod FixedFields
+pub mod RecordFields
 pub mod Parts
 pub mod WrittenRecords
+pub mod PassedRecords
 pub mod RecordFrames
 pub mod RecordLaws

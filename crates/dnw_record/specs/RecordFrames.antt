@@ -15,6 +15,8 @@ use Rattle.dnw_record.specs.declared.record.WireRecord.{WireRecord}
 use Rattle.dnw_record.specs.declared.record.WireData.{WireData}
 use Rattle.dnw_record.specs.declared.record.WireData.TheVariants.{Bytes, Name}
 use Rattle.dnw_record.specs.Parts.{EmitsSized, EmitsWirePart, Then, WirePart, Write, bytes_part, in_encoding, name_part, text_part}
+use Rattle.dnw_record.specs.Records.{RecordValue, data_octets}
+use Rattle.dnw_record.specs.PassedRecords.{PassesFields, PassesRecord, fixed_octets, owner_name}
 use Rattle.dnw_record.specs.WrittenRecords.{EmitsData, EmitsFields, EmitsRecord, type_class_ttl}
 
 -- what writes keep that begin at the buffer's end
@@ -141,3 +143,15 @@ frame-record r v (Ok tt) w e h = frame-fields r v (Ok tt) w e h.1
 frame-record r v (Err error) w e (u, fields, is) =
     let P : Encoder → Type 0 = λ x. Frame v (Err error) x in
     subst P (sym is) (frame-rewound v u error (frame-fields r v (Err error) u e fields))
+
+pub frame-passed_fields : (x : RecordValue) → KeepsFrame (PassesFields x)
+frame-passed_fields x =
+    let octets : (d : List ℕ) → KeepsFrame (λ v. Writes v d) = λ d v outcome w e h. frame v d outcome w e h in
+    let rest = frame-then (λ v. Writes v (fixed_octets x)) (λ v. Writes v (data_octets x)) (octets (fixed_octets x)) (octets (data_octets x)) in
+    frame-then (EmitsName (owner_name x)) _ (λ v outcome w e h. frame-name (owner_name x) v outcome w e h) rest
+
+pub frame-passed : (x : RecordValue) (v : Encoder) (outcome : Outcome) (w : Encoder) → v.offset ≡ length v.bytes → PassesRecord x v outcome w → Frame v outcome w
+frame-passed x v (Ok tt) w e h = frame-passed_fields x v (Ok tt) w e h.1
+frame-passed x v (Err error) w e (u, fields, is) =
+    let P : Encoder → Type 0 = λ y. Frame v (Err error) y in
+    subst P (sym is) (frame-rewound v u error (frame-passed_fields x v (Err error) u e fields))

@@ -90,6 +90,10 @@ TakesRecord before r after = (e : ℕ) × RecordAt before.bytes before.index r e
 abbrev pub FailsRecord : Decoder → DecodeError → Type 0
 FailsRecord before error = StopsSomehow before error ⊎ (LacksRecord before.bytes before.index × (error ≡ InsufficientBytes))
 
+-- the octets of the data
+abbrev pub data_octets : RecordValue → List ℕ
+data_octets r = slice_range r.message r.start (r.start + r.len)
+
 -- ---- data that are a name
 
 -- The data are a name: it is read where they start, and its own octets end where they do.

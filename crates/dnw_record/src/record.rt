@@ -5,6 +5,7 @@ use dnw_encoder::encoder::RDataEncoding;
 use dnw_name::name::Name;
 
 pub mod laws;
+mod passing;
 mod reading;
 mod writing;
 

@@ -2,12 +2,14 @@
 ghost use Rattle.std.specs.Prelude.{◌≡◌, ℕ, ◌+◌, List, length, true, IfOk, IfErr, OnErr, IsErrOf, IsOkAnd, slice_range};
 ghost use Rattle.dnw_error.specs.declared.error.DecodeError.{DecodeError};
 ghost use Rattle.dnw_base.specs.Names.{NameValue};
-ghost use Rattle.dnw_record.specs.Records.{TakesRecord, FailsRecord, HasDataName, FailsDataName, fixed_size};
-ghost use Rattle.dnw_record.specs.Fields.{FieldsOf};
+ghost use Rattle.dnw_record.specs.Records.{TakesRecord, FailsRecord, HasDataName, FailsDataName, data_octets, fixed_size};
+ghost use Rattle.dnw_record.specs.RecordFields.{record_fields};
+ghost use Rattle.dnw_record.specs.FixedFields.{FieldsOf};
 
 use dnw_base::decoder::BinDecoder;
 use dnw_codes::dns_class::DNSClass;
 use dnw_codes::record_type::RecordType;
+use dnw_data::fields::Fields;
 use dnw_error::error::DecodeError;
 use dnw_name::binary::BinDecodable;
 use dnw_name::name::Name;
@@ -30,7 +32,7 @@ pub struct RecordRef<'r> {
     class: DNSClass,
     ttl: u32,
     start: usize,
-    len: usize,
+    len: u16,
 }
 
 impl<'r> Model for RecordRef<'r> {
@@ -53,7 +55,17 @@ impl<'r> Model for RecordRef<'r> {
 }
 
 impl<'r> RecordRef<'r> {
-    ghost use Rattle.std.specs.Prelude.{◌≡◌, ℕ, ◌+◌, slice_range};
+    ghost use Rattle.std.specs.Prelude.{◌≡◌, ℕ, length};
+    ghost use Rattle.dnw_record.specs.Records.{data_octets};
+
+    /// Reads the record at the cursor as `read` does, but needs no allocator. If it fails, the cursor may be past the owner.
+    #[inline(always)]
+    pub fn read_next(reader: &mut BinDecoder<'r>) -> Result<Self, DecodeError>
+        ensures ok { IfOk result (λ r. TakesRecord reader.old r reader.new) }
+        ensures err { IfErr result (FailsRecord reader.old) }
+    {
+        read_on(reader)
+    }
 
     /// Returns the name that owns the record.
     #[inline(always)]
@@ -90,9 +102,31 @@ impl<'r> RecordRef<'r> {
     /// Returns the octets of the data, borrowed from the message.
     #[inline(always)]
     pub fn rdata(&self) -> &'r [u8]
-        ensures { result.now ≡ slice_range self.now.message self.now.start (self.now.start + self.now.len) }
+        ensures octets { result.now ≡ data_octets self.now }
+        ensures len { length result.now ≡ self.now.len }
     {
-        &self.message[self.start..self.start + self.len]
+        &self.message[self.start..self.start + self.len as usize]
+    }
+
+    /// Returns the number of octets of the data.
+    #[inline(always)]
+    pub(super) fn rdata_len(&self) -> u16
+        ensures { result ≡ self.now.len }
+    {
+        self.len
+    }
+
+    /// Returns an iterator over the fields of the data, by the table of `dnw_data::table`. Nothing is copied, and nothing
+    /// here allocates.
+    ///
+    /// Names in the data may be compressed, whatever the type. Each item is a field, or the first error with the number of
+    /// its field; after that nothing follows. Data of a type that is not in the table are one field of octets.
+    #[inline(always)]
+    pub fn fields(&self) -> Fields<'r>
+        ensures { result ≡ record_fields self.now }
+    {
+        let message = &self.message[..self.start + self.len as usize];
+        Fields::new(message, self.start, self.record_type)
     }
 
     /// Reads the data as a name, fully qualified, which may be compressed (RFC 1035, section 4.1.4). It does not allocate.
@@ -113,11 +147,9 @@ impl<'r> RecordRef<'r> {
         reader.skip(self.start).unwrap();
         let name = Name::read(alloc, &mut reader)?;
         let read = reader.index() - self.start;
-        if read != self.len {
-            return Err(DecodeError::IncorrectRDataLengthRead {
-                read,
-                len: self.len,
-            });
+        let len = self.len as usize;
+        if read != len {
+            return Err(DecodeError::IncorrectRDataLengthRead { read, len });
         }
         Ok(name)
     }
@@ -125,7 +157,7 @@ impl<'r> RecordRef<'r> {
 
 /// The fields of a record between its owner and its data.
 #[derive(Clone, Copy)]
-struct Fields {
+struct FixedFields {
     record_type: RecordType,
     class: DNSClass,
     ttl: u32,
@@ -134,11 +166,11 @@ struct Fields {
 
 /// Returns the fields that these ten octets are.
 #[inline(always)]
-fn fields_of(octets: &[u8]) -> Fields
+fn fields_of(octets: &[u8]) -> FixedFields
     requires { length octets.now ≡ fixed_size }
     ensures { FieldsOf octets.now result }
 {
-    Fields {
+    FixedFields {
         record_type: RecordType::from(u16::from_be_bytes([octets[0], octets[1]])),
         class: DNSClass::from(u16::from_be_bytes([octets[2], octets[3]])),
         ttl: u32::from_be_bytes([octets[4], octets[5], octets[6], octets[7]]),
@@ -155,8 +187,7 @@ fn read_on<'r>(reader: &mut BinDecoder<'r>) -> Result<RecordRef<'r>, DecodeError
     let owner = NameRef::read(reader)?;
     let fields = fields_of(reader.read_slice(FIXED_SIZE)?.unverified());
     let start = reader.index();
-    let len = fields.len as usize;
-    reader.skip(len)?;
+    reader.skip(fields.len as usize)?;
     Ok(RecordRef {
         message: reader.message(),
         owner,
@@ -164,7 +195,7 @@ fn read_on<'r>(reader: &mut BinDecoder<'r>) -> Result<RecordRef<'r>, DecodeError
         class: fields.class,
         ttl: fields.ttl,
         start,
-        len,
+        len: fields.len,
     })
 }
 

@@ -1,4 +1,5 @@
 use Rattle.dnw_record.proofs.Laying.{records_are_read, records_lie}
+use Rattle.dnw_record.proofs.Passing.{passed_are_read}
 use Rattle.dnw_record.proofs.record.laws.records_come_back.Goals as goal
 
 pub returns-clause-lie : goal.returns-clause-lie
@@ -6,3 +7,6 @@ returns-clause-lie c = records_lie
 
 pub returns-clause-read : goal.returns-clause-read
 returns-clause-read c = records_are_read
+
+pub returns-clause-passed : goal.returns-clause-passed
+returns-clause-passed c = passed_are_read

@@ -1,4 +1,5 @@
 use Rattle.dnw_record.proofs.Bounded.{counted_stay_bounded, data_stay_bounded, part_stays_bounded, parts_stay_bounded, records_stay_bounded}
+use Rattle.dnw_record.proofs.Passing.{passed_stay_bounded}
 use Rattle.dnw_record.proofs.record.laws.records_stay_bounded.Goals as goal
 
 pub returns : goal.returns
@@ -8,4 +9,5 @@ returns c = record {
   counted = counted_stay_bounded;
   «data» = data_stay_bounded;
   records = records_stay_bounded;
+  passed = passed_stay_bounded;
 }

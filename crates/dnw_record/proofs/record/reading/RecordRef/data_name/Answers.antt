@@ -24,11 +24,11 @@ overflow_sub-read c =
     (data-name-read _ _ c.self.view_is c.new-reader.result c.skip.result c.skip.new.self c.read.new.decoder c.in_ok-name.name
     c.index.result c.new-reader.ensures c.self.invariant c.skip.ensures.takes c.in_ok-name.ensures.ok c.index.ensures.index).0
 
-pub returns-then-read-self : goal.returns-then-read-self
-returns-then-read-self c =
+pub returns-then-read-len : goal.returns-then-read-len
+returns-then-read-len c =
     let (_, _, fails) = data-name-read _ _ c.self.view_is c.new-reader.result c.skip.result c.skip.new.self c.read.new.decoder c.in_ok-name.name
     c.index.result c.new-reader.ensures c.self.invariant c.skip.ensures.takes c.in_ok-name.ensures.ok c.index.ensures.index in
-    let f = fails c.if-read-self.true in
+    let f = fails c.if-read-len.true in
     record {
       ok = tt;
       err = f;
@@ -41,7 +41,7 @@ pub returns : goal.returns
 returns c =
     let (_, has, _) = data-name-read _ _ c.self.view_is c.new-reader.result c.skip.result c.skip.new.self c.read.new.decoder c.in_ok-name.name
     c.index.result c.new-reader.ensures c.self.invariant c.skip.ensures.takes c.in_ok-name.ensures.ok c.index.ensures.index in
-    let h = has c.if-read-self.false in
+    let h = has c.if-read-len.false in
     record {
       ok = h;
       err = tt;

@@ -1,0 +1,89 @@
+-- A list is checked item by item: what is left is as wrong as the whole.
+use Rattle.std.proofs.Common.{◌≡◌, Bool, ℕ, zero, suc, ◌+◌, ◌≤◌, ◌==◌, true, false, Some, None, List, [], ◌∷◌, length, take, drop, nat_lt, ap, ◌-◌, if◌then◌else◌, refl, sym, ◌∙◌, arith, rules, tests, length-drop}
+use Rattle.std.proofs.Math.Seq.{take-length}
+use Rattle.std.proofs.lemmas.Option.{none-some}
+use Rattle.dnw_error.specs.declared.error.DecodeError.TheVariants.{InsufficientBytes}
+use Rattle.dnw_data.specs.declared.kind.ListKind.{ListKind}
+use Rattle.dnw_data.specs.declared.kind.ListKind.TheVariants.{Texts, Types, Params}
+use Rattle.dnw_data.specs.Inside.Checking.{Checks, IsChecked}
+use Rattle.dnw_data.specs.Lists.{tag_of, count_of, item_size, may_come, out_of_order, fault_within, list_fault}
+
+item-size-some : (kind : ListKind) (left : List ℕ) → 1 ≤ item_size kind left
+item-size-some Texts left = omega arith
+item-size-some Types left = omega arith
+item-size-some Params left = omega arith
+
+pub some-left : (left : List ℕ) → (length left == 0) ≡ false → 1 ≤ length left
+some-left [] e = search rules
+some-left (x ∷ xs) e = omega arith
+
+pub begins : (kind : ListKind) (octets : List ℕ) → Checks kind octets octets 0
+unfolding list_fault
+begins kind octets = record { steps = length octets; enough = omega arith; same = refl }
+
+pub ends : (kind : ListKind) (octets left : List ℕ) (least : ℕ) → Checks kind octets left least → length left ≡ 0 → list_fault kind octets ≡ None
+ends kind octets [] least c e = sym c.same
+ends kind octets (x ∷ xs) least c e = absurd (omega (arith, e))
+
+-- the first item decides, or what follows it
+at-first : (n : ℕ) (kind : ListKind) (least : ℕ) (left : List ℕ) → 1 ≤ length left → length left ≤ n
+    → (m : ℕ) × (n ≡ suc m)
+    × (fault_within n kind least left ≡ (if nat_lt (length left) (item_size kind left) then Some InsufficientBytes
+    else if may_come kind least (tag_of kind left) (count_of kind left)
+    then fault_within m kind (tag_of kind left + 1) (drop (item_size kind left) left) else Some (out_of_order kind)))
+at-first n kind least [] some enough = absurd (omega (arith, some))
+at-first zero kind least (x ∷ xs) some enough = absurd (omega (arith, enough))
+at-first (suc m) kind least (x ∷ xs) some enough = (m, refl, refl)
+
+-- what is after an item
+pub rest-is : (size : ℕ) (left : List ℕ) → take (length left - size) (drop size left) ≡ drop size left
+rest-is size left = ap (λ n. take n (drop size left)) (sym (length-drop size left)) ∙ take-length (drop size left)
+
+pub goes-on : (kind : ListKind) (octets left : List ℕ) (least : ℕ) → Checks kind octets left least → 1 ≤ length left
+    → (tag count size : ℕ) → tag ≡ tag_of kind left → count ≡ count_of kind left → size ≡ item_size kind left → size ≤ length left
+    → may_come kind least tag count ≡ true → Checks kind octets (take (length left - size) (drop size left)) (tag + 1)
+goes-on kind octets left least c some tag count size tag_is count_is size_is whole may =
+    let (m, is, step) = at-first c.steps kind least left some c.enough in
+    let long = item-size-some kind left in
+    let may = rw (tag_is, count_is) at may in
+    let whole = rw size_is at whole in
+    let test : nat_lt (length left) (item_size kind left) ≡ false = search (rules, tests) in
+    let on : fault_within m kind (tag_of kind left + 1) (drop (item_size kind left) left) ≡ list_fault kind octets =
+    sym (step ∙ rw (test, may) refl) ∙ c.same in
+    let rest = rest-is size left in
+    record {
+      steps = m;
+      enough = omega (arith, is, c.enough, ap length rest, length-drop size left, size_is, long);
+      same = ap (λ l. fault_within m kind (tag + 1) l) rest ∙ rw (tag_is, size_is) on;
+    }
+
+-- a list that is right is so from its start
+pub is-checked : (kind : ListKind) (octets : List ℕ) → list_fault kind octets ≡ None → IsChecked kind octets
+unfolding list_fault
+is-checked kind octets right = record { least = 0; steps = length octets; enough = omega arith; right = right }
+
+by-tests : (kind : ListKind) (left : List ℕ) (m least : ℕ) → 1 ≤ length left → length left ≤ m + 1 → (short may : Bool)
+    → nat_lt (length left) (item_size kind left) ≡ short
+    → (if short then Some InsufficientBytes
+    else if may then fault_within m kind (tag_of kind left + 1) (drop (item_size kind left) left) else Some (out_of_order kind)) ≡ None
+    → (item_size kind left ≤ length left) × IsChecked kind (drop (item_size kind left) left)
+by-tests kind left m least some enough true may is right = absurd (none-some _ (sym right))
+by-tests kind left m least some enough false false is right = absurd (none-some _ (sym right))
+by-tests kind left m least some enough false true is right =
+    let whole : item_size kind left ≤ length left = search (rules, tests) in (
+      whole,
+      record {
+        least = tag_of kind left + 1;
+        steps = m;
+        enough = omega (arith, enough, length-drop (item_size kind left) left, item-size-some kind left);
+        right = right;
+      },
+    )
+
+-- the first item is whole, and the others are a list
+pub first-item : (kind : ListKind) (left : List ℕ) → IsChecked kind left → 1 ≤ length left
+    → (item_size kind left ≤ length left) × IsChecked kind (drop (item_size kind left) left)
+first-item kind left c some =
+    let (m, is, step) = at-first c.steps kind c.least left some c.enough in
+    let right = sym step ∙ c.right in
+    by-tests kind left m c.least some (omega (arith, is, c.enough)) (nat_lt (length left) (item_size kind left)) (may_come kind c.least (tag_of kind left) (count_of kind left)) refl right

@@ -1,0 +1,103 @@
+-- The fields of the data of each record type, by the type's code. Each row names the RFC and its section.
+use Rattle.std.specs.Prelude.{ℕ, ◌==◌, List, [], ◌∷◌, find, unwrap_or}
+use Rattle.dnw_data.specs.declared.kind.Kind.{Kind}
+use Rattle.dnw_data.specs.declared.kind.Kind.TheVariants.{Name, U8, U16, U32, U48, U64, Ipv4, Ipv6, TypeCode, Time, Counted, Octets}
+use Rattle.dnw_data.specs.declared.kind.Kind.TheVariants as kinds
+use Rattle.dnw_data.specs.declared.kind.ListKind.TheVariants as lists
+use Rattle.dnw_data.specs.declared.kind.NameForm.TheVariants.{Compressible, Lowered, Plain}
+use Rattle.dnw_data.specs.declared.kind.Shown.TheVariants.{Text, Hex, Base32Hex, Base64}
+
+-- A row of the table: a type's code, and the kinds of its fields.
+pub record Row : Type 0 where
+  pub code : ℕ
+  pub fields : List Kind
+
+abbrev pub row : ℕ → List Kind → Row
+row code fields = record { code = code; fields = fields }
+
+-- names: those of RFC 1035's types may be compressed (RFC 3597, section 4); canonical form lowers these and those that RFC
+-- 4034, section 6.2, lists, but for the next name of NSEC (RFC 6840, section 5.1)
+abbrev pub name : Kind
+name = Name Compressible
+
+abbrev pub lowered : Kind
+lowered = Name Lowered
+
+abbrev pub plain : Kind
+plain = Name Plain
+
+abbrev pub text : Kind
+text = Counted Text
+
+abbrev pub hex : Kind
+hex = Octets Hex
+
+abbrev pub base64 : Kind
+base64 = Octets Base64
+
+abbrev pub texts : Kind
+texts = kinds.List lists.Texts
+
+abbrev pub types : Kind
+types = kinds.List lists.Types
+
+abbrev pub params : Kind
+params = kinds.List lists.Params
+
+-- the table of the types
+abbrev pub table : List Row
+table =
+    row 1 (Ipv4 ∷ [])  -- A (RFC 1035, section 3.4.1)
+    ∷ row 2 (name ∷ [])  -- NS (RFC 1035, section 3.3.11)
+    ∷ row 3 (name ∷ [])  -- MD (RFC 1035, section 3.3.4)
+    ∷ row 4 (name ∷ [])  -- MF (RFC 1035, section 3.3.5)
+    ∷ row 5 (name ∷ [])  -- CNAME (RFC 1035, section 3.3.1)
+    ∷ row 6 (name ∷ name ∷ U32 ∷ U32 ∷ U32 ∷ U32 ∷ U32 ∷ [])  -- SOA (RFC 1035, section 3.3.13)
+    ∷ row 7 (name ∷ [])  -- MB (RFC 1035, section 3.3.3)
+    ∷ row 8 (name ∷ [])  -- MG (RFC 1035, section 3.3.6)
+    ∷ row 9 (name ∷ [])  -- MR (RFC 1035, section 3.3.8)
+    ∷ row 10 (hex ∷ [])  -- NULL (RFC 1035, section 3.3.10)
+    ∷ row 12 (name ∷ [])  -- PTR (RFC 1035, section 3.3.12)
+    ∷ row 13 (text ∷ text ∷ [])  -- HINFO (RFC 1035, section 3.3.2)
+    ∷ row 14 (name ∷ name ∷ [])  -- MINFO (RFC 1035, section 3.3.7)
+    ∷ row 15 (U16 ∷ name ∷ [])  -- MX (RFC 1035, section 3.3.9)
+    ∷ row 16 (texts ∷ [])  -- TXT (RFC 1035, section 3.3.14)
+    ∷ row 17 (lowered ∷ lowered ∷ [])  -- RP (RFC 1183, section 2.2)
+    ∷ row 18 (U16 ∷ lowered ∷ [])  -- AFSDB (RFC 1183, section 1)
+    ∷ row 24 (TypeCode ∷ U8 ∷ U8 ∷ U32 ∷ Time ∷ Time ∷ U16 ∷ lowered ∷ base64 ∷ [])  -- SIG (RFC 2535, section 4.1)
+    ∷ row 25 (U16 ∷ U8 ∷ U8 ∷ base64 ∷ [])  -- KEY (RFC 2535, section 3.1)
+    ∷ row 28 (Ipv6 ∷ [])  -- AAAA (RFC 3596, section 2.2)
+    ∷ row 29 (hex ∷ [])  -- LOC (RFC 1876, section 2)
+    ∷ row 33 (U16 ∷ U16 ∷ U16 ∷ lowered ∷ [])  -- SRV (RFC 2782)
+    ∷ row 35 (U16 ∷ U16 ∷ text ∷ text ∷ text ∷ lowered ∷ [])  -- NAPTR (RFC 3403, section 4.1)
+    ∷ row 36 (U16 ∷ lowered ∷ [])  -- KX (RFC 2230, section 3)
+    ∷ row 37 (U16 ∷ U16 ∷ U8 ∷ base64 ∷ [])  -- CERT (RFC 4398, section 2)
+    ∷ row 39 (lowered ∷ [])  -- DNAME (RFC 6672, section 2.1)
+    ∷ row 43 (U16 ∷ U8 ∷ U8 ∷ hex ∷ [])  -- DS (RFC 4034, section 5.1)
+    ∷ row 44 (U8 ∷ U8 ∷ hex ∷ [])  -- SSHFP (RFC 4255, section 3.1)
+    ∷ row 45 (hex ∷ [])  -- IPSECKEY (RFC 4025, section 2.1)
+    ∷ row 46 (TypeCode ∷ U8 ∷ U8 ∷ U32 ∷ Time ∷ Time ∷ U16 ∷ lowered ∷ base64 ∷ [])  -- RRSIG (RFC 4034, section 3.1)
+    ∷ row 47 (plain ∷ types ∷ [])  -- NSEC (RFC 4034, section 4.1)
+    ∷ row 48 (U16 ∷ U8 ∷ U8 ∷ base64 ∷ [])  -- DNSKEY (RFC 4034, section 2.1)
+    ∷ row 50 (U8 ∷ U8 ∷ U16 ∷ Counted Hex ∷ Counted Base32Hex ∷ types ∷ [])  -- NSEC3 (RFC 5155, section 3.2)
+    ∷ row 51 (U8 ∷ U8 ∷ U16 ∷ Counted Hex ∷ [])  -- NSEC3PARAM (RFC 5155, section 4.2)
+    ∷ row 52 (U8 ∷ U8 ∷ U8 ∷ hex ∷ [])  -- TLSA (RFC 6698, section 2.1)
+    ∷ row 53 (U8 ∷ U8 ∷ U8 ∷ hex ∷ [])  -- SMIMEA (RFC 8162, section 2)
+    ∷ row 55 (hex ∷ [])  -- HIP (RFC 8005, section 5)
+    ∷ row 59 (U16 ∷ U8 ∷ U8 ∷ hex ∷ [])  -- CDS (RFC 7344, section 3.1)
+    ∷ row 60 (U16 ∷ U8 ∷ U8 ∷ base64 ∷ [])  -- CDNSKEY (RFC 7344, section 3.2)
+    ∷ row 61 (base64 ∷ [])  -- OPENPGPKEY (RFC 7929, section 2.1)
+    ∷ row 62 (U32 ∷ U16 ∷ types ∷ [])  -- CSYNC (RFC 7477, section 2.1.1)
+    ∷ row 63 (U32 ∷ U8 ∷ U8 ∷ hex ∷ [])  -- ZONEMD (RFC 8976, section 2.2)
+    ∷ row 64 (U16 ∷ plain ∷ params ∷ [])  -- SVCB (RFC 9460, section 2.2)
+    ∷ row 65 (U16 ∷ plain ∷ params ∷ [])  -- HTTPS (RFC 9460, section 9)
+    ∷ row 99 (texts ∷ [])  -- SPF (RFC 4408, section 3.1.1)
+    ∷ row 108 (U48 ∷ [])  -- EUI48 (RFC 7043, section 3.1)
+    ∷ row 109 (U64 ∷ [])  -- EUI64 (RFC 7043, section 4.1)
+    ∷ row 256 (U16 ∷ U16 ∷ Octets Text ∷ [])  -- URI (RFC 7553, section 4.2)
+    ∷ row 257 (U8 ∷ text ∷ Octets Text ∷ [])  -- CAA (RFC 8659, section 4.1)
+    ∷ []
+
+-- the fields of the type with this code: octets, if it is not in the table (RFC 3597)
+unfoldable pub fields_of : ℕ → List Kind
+fields_of code = (unwrap_or (find (λ row. row.code == code) table) (row code (hex ∷ []))).fields

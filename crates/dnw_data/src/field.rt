@@ -1,0 +1,171 @@
+//! Fields of the data of a record.
+ghost use Rattle.std.specs.Prelude.{◌≡◌, length, None, Some, IfOk, IfErr, OnErr, IsErrOf, IsOkAnd};
+ghost use Rattle.std.specs.Int.{w16, w32, from_be_bytes};
+ghost use Rattle.dnw_error.specs.declared.error.DecodeError.{DecodeError};
+ghost use Rattle.dnw_base.specs.Decoder.{Decoder};
+ghost use Rattle.dnw_data.specs.Values.{own_size, counted_size, own_fault, own_value, seen};
+ghost use Rattle.dnw_data.specs.Fields.{TakesNameField, FailsName, TakesOwn, FailsOwn};
+
+use crate::kind::{Kind, ListKind};
+use crate::lists::Items;
+use dnw_base::decoder::BinDecoder;
+use dnw_codes::record_type::RecordType;
+use dnw_codes::serial_number::SerialNumber;
+use dnw_error::error::DecodeError;
+use dnw_name::name_ref::NameRef;
+use std::net::{Ipv4Addr, Ipv6Addr};
+
+/// A field of the data of a record. It borrows from the message, and nothing here allocates.
+#[derive(Drop)]
+pub enum Field<'r> {
+    /// A name.
+    Name(NameRef<'r>),
+    /// A number of one octet.
+    U8(u8),
+    /// A number of two octets.
+    U16(u16),
+    /// A number of four octets.
+    U32(u32),
+    /// A number of six octets.
+    U48(u64),
+    /// A number of eight octets.
+    U64(u64),
+    /// An IPv4 address.
+    Ipv4(Ipv4Addr),
+    /// An IPv6 address.
+    Ipv6(Ipv6Addr),
+    /// A record type.
+    TypeCode(RecordType),
+    /// A time, in seconds since 1970, as a serial number.
+    Time(SerialNumber),
+    /// Octets, without the length octet that is before them.
+    Counted(&'r [u8]),
+    /// All octets that were left.
+    Octets(&'r [u8]),
+    /// Character strings.
+    Texts(Items<'r>),
+    /// Windows of record types.
+    Types(Items<'r>),
+    /// Service parameters.
+    Params(Items<'r>),
+}
+
+impl<'r> Field<'r> {
+    ghost use Rattle.dnw_data.specs.Values.{FieldValue, seen};
+    ghost use Rattle.dnw_data.specs.Fields.{TakesField, FailsField};
+
+    /// Reads a field of this kind at the cursor, and leaves the cursor after it. The reader's message must end where the
+    /// data do. If it fails, the cursor is unchanged. It does not allocate.
+    ///
+    /// It fails with the error of reading a name there, or with `InsufficientBytes` if the data end within the field.
+    pub fn read(kind: Kind, reader: &mut BinDecoder<'r>) -> Result<Self, DecodeError>
+        ensures ok { IfOk result (λ field. TakesField kind reader.old (seen field) reader.new) }
+        ensures err { IfErr result (FailsField kind reader.old) }
+        ensures same { OnErr result (reader.new ≡ reader.old) }
+
+        // It accepts what the definition accepts, and fails where the definition does.
+        ensures accepts { (value : FieldValue) (after : Decoder) → TakesField kind reader.old value after
+            → IsOkAnd result (λ field. seen field ≡ value) × (reader.new ≡ after) }
+        ensures fails { (error : DecodeError) → FailsField kind reader.old error → IsErrOf result error }
+    {
+        match kind {
+            Kind::Name(_) => read_name(reader),
+            _ => read_own(kind, reader),
+        }
+    }
+}
+
+/// Reads a field that is a name.
+fn read_name<'r>(reader: &mut BinDecoder<'r>) -> Result<Field<'r>, DecodeError>
+    ensures ok { IfOk result (λ field. TakesNameField reader.old (seen field) reader.new) }
+    ensures err { IfErr result (FailsName reader.old) }
+    ensures same { OnErr result (reader.new ≡ reader.old) }
+{
+    let name = NameRef::read(reader)?;
+    Ok(Field::Name(name))
+}
+
+/// Reads a field that is no name: it is its own octets.
+fn read_own<'r>(kind: Kind, reader: &mut BinDecoder<'r>) -> Result<Field<'r>, DecodeError>
+    ensures ok { IfOk result (λ field. TakesOwn kind reader.old (seen field) reader.new) }
+    ensures err { IfErr result (FailsOwn kind reader.old) }
+    ensures same { OnErr result (reader.new ≡ reader.old) }
+{
+    let left = &reader.message()[reader.index()..];
+    let size = own_size(kind, left);
+    if left.len() < size {
+        return Err(DecodeError::InsufficientBytes);
+    }
+    let field = of_octets(kind, &left[..size])?;
+    reader.skip(size).unwrap();
+    Ok(field)
+}
+
+/// Returns how many octets a field takes of those that are left. It is more than there are if the data end within it.
+fn own_size(kind: Kind, left: &[u8]) -> usize
+    ensures { result ≡ own_size kind left.now }
+{
+    match kind {
+        Kind::U8 => 1,
+        Kind::U16 | Kind::TypeCode => 2,
+        Kind::U32 | Kind::Ipv4 | Kind::Time => 4,
+        Kind::U48 => 6,
+        Kind::U64 => 8,
+        Kind::Ipv6 => 16,
+        Kind::Counted(_) => counted_size(left),
+        Kind::List(ListKind::Texts) => left.len().max(1),
+        Kind::Name(_) | Kind::Octets(_) | Kind::List(_) => left.len(),
+    }
+}
+
+/// Returns the size of a length octet and what it counts.
+fn counted_size(left: &[u8]) -> usize
+    ensures { result ≡ counted_size left.now }
+{
+    match left.first() {
+        Some(len) => 1 + *len as usize,
+        None => 1,
+    }
+}
+
+/// Returns the field that these octets are. Only a list may fail.
+fn of_octets<'r>(kind: Kind, own: &'r [u8]) -> Result<Field<'r>, DecodeError>
+    requires size { length own.now ≡ own_size kind own.now }
+    ensures ok { IfOk result (λ field. (own_fault kind own.now ≡ None) × (seen field ≡ own_value kind own.now)) }
+    ensures err { IfErr result (λ e. own_fault kind own.now ≡ Some e) }
+{
+    match kind {
+        Kind::U8 => Ok(Field::U8(own[0])),
+        Kind::U16 => Ok(Field::U16(u16_of(own))),
+        Kind::U32 => Ok(Field::U32(u32_of(own))),
+        Kind::U48 => Ok(Field::U48(u64::from_be_bytes([
+            0, 0, own[0], own[1], own[2], own[3], own[4], own[5],
+        ]))),
+        Kind::U64 => Ok(Field::U64(u64::from_be_bytes(*own.first_chunk::<8>().unwrap()))),
+        Kind::Ipv4 => Ok(Field::Ipv4(Ipv4Addr::from(*own.first_chunk::<4>().unwrap()))),
+        Kind::Ipv6 => Ok(Field::Ipv6(Ipv6Addr::from(*own.first_chunk::<16>().unwrap()))),
+        Kind::TypeCode => Ok(Field::TypeCode(RecordType::from(u16_of(own)))),
+        Kind::Time => Ok(Field::Time(SerialNumber::new(u32_of(own)))),
+        Kind::Counted(_) => Ok(Field::Counted(&own[1..])),
+        Kind::List(ListKind::Texts) => Ok(Field::Texts(Items::new(ListKind::Texts, own)?)),
+        Kind::List(ListKind::Types) => Ok(Field::Types(Items::new(ListKind::Types, own)?)),
+        Kind::List(ListKind::Params) => Ok(Field::Params(Items::new(ListKind::Params, own)?)),
+        Kind::Name(_) | Kind::Octets(_) => Ok(Field::Octets(own)),
+    }
+}
+
+/// Returns the number that two octets are.
+fn u16_of(own: &[u8]) -> u16
+    requires { length own.now ≡ 2 }
+    ensures { result ≡ from_be_bytes w16 own.now }
+{
+    u16::from_be_bytes([own[0], own[1]])
+}
+
+/// Returns the number that four octets are.
+fn u32_of(own: &[u8]) -> u32
+    requires { length own.now ≡ 4 }
+    ensures { result ≡ from_be_bytes w32 own.now }
+{
+    u32::from_be_bytes([own[0], own[1], own[2], own[3]])
+}

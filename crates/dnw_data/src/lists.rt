@@ -1,0 +1,172 @@
+//! Lists that the data of a record end with: character strings, windows of record types, service parameters.
+ghost use Rattle.std.specs.Prelude.{◌≡◌, ◌≤◌, ◌<◌, length, None, Some, IfOk, IfErr, IsTrue};
+ghost use Rattle.dnw_data.specs.Lists.{tag_of, count_of, item_size, may_come, out_of_order, list_fault};
+ghost use Rattle.dnw_data.specs.Inside.Heads.{IsHead};
+
+use crate::kind::ListKind;
+use dnw_error::error::DecodeError;
+use std::marker::Model;
+
+/// The most octets of a window of a bitmap (RFC 4034, section 4.1.2).
+const MAX_WINDOW: usize = 32;
+
+/// A list whose items are whole and in order.
+///
+/// A contract sees it as its kind and the octets that are left of it.
+#[derive(Drop)]
+pub struct Items<'r> {
+    kind: ListKind,
+    octets: &'r [u8],
+}
+
+impl<'r> Model for Items<'r> {
+    ghost use Rattle.dnw_data.specs.Lists.{ItemsValue};
+    ghost use Rattle.dnw_data.specs.Inside.Checking.{IsChecked};
+
+    ghost Value = { ItemsValue };
+
+    ghost view = { λ items. record { kind = items.kind; octets = items.octets.now } };
+
+    ghost invariant = { λ items. IsChecked items.kind items.octets.now };
+}
+
+impl<'r> Items<'r> {
+    /// Creates the list that these octets are. It fails with `InsufficientBytes` if they end within an item, with
+    /// `NsecBitmapOutOfBounds` if a window does not come after the one before or does not have 1 to 32 octets, and with
+    /// `SvcParamsOutOfOrder` if a parameter does not come after the one before.
+    pub fn new(kind: ListKind, octets: &'r [u8]) -> Result<Self, DecodeError>
+        ensures ok { IfOk result (λ items. (list_fault kind octets.now ≡ None) × (items ≡ record { kind = kind; octets = octets.now })) }
+        ensures err { IfErr result (λ e. list_fault kind octets.now ≡ Some e) }
+    {
+        check(kind, octets)?;
+        Ok(Items { kind, octets })
+    }
+
+    /// Returns an iterator over the items that are left, and leaves this one where it is.
+    #[inline(always)]
+    pub fn iter(&self) -> Items<'r>
+        ensures { result ≡ self.now }
+    {
+        Items {
+            kind: self.kind,
+            octets: self.octets,
+        }
+    }
+
+    /// Returns the octets of the items that are left, as they are in the message.
+    #[inline(always)]
+    pub fn as_bytes(&self) -> &'r [u8]
+        ensures { result.now ≡ self.now.octets }
+    {
+        self.octets
+    }
+}
+
+/// An item of a list: a character string, a window of record types, or a service parameter.
+#[derive(Clone, Copy, Debug)]
+pub struct Item<'r> {
+    /// The number of a window, or the key of a parameter. It is 0 for a character string.
+    pub tag: u16,
+    /// The octets of the string, of the window's bitmap, or of the parameter's value.
+    pub octets: &'r [u8],
+}
+
+impl<'r> Iterator for Items<'r> {
+    ghost use Rattle.std.specs.Prelude.{length};
+    ghost use Rattle.std.specs.Iterator.{at_most};
+    ghost use Rattle.dnw_data.specs.Items.{NextItem};
+
+    type Item = Item<'r>;
+
+    ghost next_gives = { NextItem };
+
+    ghost remaining = { λ items. at_most (length items.octets) };
+
+    fn next(&mut self) -> Option<Item<'r>> {
+        if self.octets.is_empty() {
+            return None;
+        }
+        let head = head_of(self.kind, self.octets).unwrap();
+        let octets = &self.octets[head.size - head.count..head.size];
+        self.octets = &self.octets[head.size..];
+        Some(Item {
+            tag: head.tag,
+            octets,
+        })
+    }
+}
+
+/// What is before the octets of an item.
+#[derive(Clone, Copy)]
+struct Head {
+    tag: u16,
+    count: usize,
+    size: usize,
+}
+
+/// Checks that the octets are items in order.
+fn check(kind: ListKind, octets: &[u8]) -> Result<(), DecodeError>
+    ensures ok { IfOk result (λ _. list_fault kind octets.now ≡ None) }
+    ensures err { IfErr result (λ e. list_fault kind octets.now ≡ Some e) }
+{
+    let mut left = octets;
+    let mut least = 0u32;
+    'items: while !left.is_empty() {
+        let head = head_of(kind, left)?;
+        if !may_come(kind, least, head) {
+            return Err(out_of_order(kind));
+        }
+        least = head.tag as u32 + 1;
+        left = &left[head.size..];
+    }
+    Ok(())
+}
+
+/// Returns what is before the octets of the first item. It fails if the octets end within the item.
+fn head_of(kind: ListKind, octets: &[u8]) -> Result<Head, DecodeError>
+    ensures ok { IfOk result (λ head. IsHead kind octets.now head × (item_size kind octets.now ≤ length octets.now)) }
+    ensures err { IfErr result (λ e. (length octets.now < item_size kind octets.now) × (e ≡ DecodeError.InsufficientBytes)) }
+{
+    let (tag, count, size) = match (kind, octets) {
+        (ListKind::Texts, [count, ..]) => (0, *count as usize, 1),
+        (ListKind::Types, [window, count, ..]) => (*window as u16, *count as usize, 2),
+        (ListKind::Params, [a, b, c, d, ..]) => (
+            u16::from_be_bytes([*a, *b]),
+            u16::from_be_bytes([*c, *d]) as usize,
+            4,
+        ),
+        _ => return Err(DecodeError::InsufficientBytes),
+    };
+    if octets.len() < size + count {
+        return Err(DecodeError::InsufficientBytes);
+    }
+    Ok(Head {
+        tag,
+        count,
+        size: size + count,
+    })
+}
+
+/// Returns `true` if an item with this head may come, and none below the least may.
+fn may_come(kind: ListKind, least: u32, head: Head) -> bool
+    ensures { result ≡ may_come kind least head.tag head.count }
+{
+    match kind {
+        ListKind::Texts => true,
+        ListKind::Types => {
+            least <= head.tag as u32 && 1 <= head.count && head.count <= MAX_WINDOW
+        }
+        ListKind::Params => least <= head.tag as u32,
+    }
+}
+
+/// Returns the error for an item that may not come.
+fn out_of_order(kind: ListKind) -> DecodeError
+    ensures { result ≡ out_of_order kind }
+{
+    match kind {
+        ListKind::Texts => DecodeError::InsufficientBytes,
+        ListKind::Types => DecodeError::NsecBitmapOutOfBounds,
+        ListKind::Params => DecodeError::SvcParamsOutOfOrder,
+    }
+}

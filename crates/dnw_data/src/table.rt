@@ -1,0 +1,134 @@
+//! The table of the fields of each record type.
+ghost use Rattle.std.specs.Prelude.{◌≡◌};
+ghost use Rattle.dnw_codes.specs.RecordTypes.{type_code};
+ghost use Rattle.dnw_data.specs.Table.{fields_of};
+
+use crate::kind::{Kind, ListKind, NameForm, Shown};
+use dnw_codes::record_type::RecordType;
+
+/// A name of a type of RFC 1035.
+const NAME: Kind = Kind::Name(NameForm::Compressible);
+
+/// A name that is never compressed, and that canonical form lowers.
+const LOWERED: Kind = Kind::Name(NameForm::Lowered);
+
+/// A name that is always written as it is.
+const PLAIN: Kind = Kind::Name(NameForm::Plain);
+
+/// A character string.
+const TEXT: Kind = Kind::Counted(Shown::Text);
+
+/// A salt.
+const SALT: Kind = Kind::Counted(Shown::Hex);
+
+/// A hashed name.
+const HASH: Kind = Kind::Counted(Shown::Base32Hex);
+
+/// Octets up to the end, shown in hexadecimal.
+const HEX: Kind = Kind::Octets(Shown::Hex);
+
+/// Octets up to the end, shown in base 64.
+const BASE64: Kind = Kind::Octets(Shown::Base64);
+
+/// Octets up to the end, shown as text.
+const VALUE: Kind = Kind::Octets(Shown::Text);
+
+/// Character strings up to the end.
+const TEXTS: Kind = Kind::List(ListKind::Texts);
+
+/// A set of record types up to the end.
+const TYPES: Kind = Kind::List(ListKind::Types);
+
+/// Service parameters up to the end.
+const PARAMS: Kind = Kind::List(ListKind::Params);
+
+/// Returns the kinds of the fields that the data of a type have, by its code. Data of a type that is not in the table are
+/// octets (RFC 3597).
+#[tactic(auto, unfolding(crate::specs::Table::fields_of))]
+pub fn fields_of(record_type: RecordType) -> &'static [Kind]
+    ensures { result.now ≡ fields_of (type_code record_type) }
+{
+    match u16::from(record_type) {
+        1 => &[Kind::Ipv4], // A
+        2 => &[NAME], // NS
+        3 => &[NAME], // MD
+        4 => &[NAME], // MF
+        5 => &[NAME], // CNAME
+        // SOA
+        6 => &[
+            NAME,
+            NAME,
+            Kind::U32,
+            Kind::U32,
+            Kind::U32,
+            Kind::U32,
+            Kind::U32,
+        ],
+        7 => &[NAME], // MB
+        8 => &[NAME], // MG
+        9 => &[NAME], // MR
+        10 => &[HEX], // NULL
+        12 => &[NAME], // PTR
+        13 => &[TEXT, TEXT], // HINFO
+        14 => &[NAME, NAME], // MINFO
+        15 => &[Kind::U16, NAME], // MX
+        16 => &[TEXTS], // TXT
+        17 => &[LOWERED, LOWERED], // RP
+        18 => &[Kind::U16, LOWERED], // AFSDB
+        // SIG
+        24 => &[
+            Kind::TypeCode,
+            Kind::U8,
+            Kind::U8,
+            Kind::U32,
+            Kind::Time,
+            Kind::Time,
+            Kind::U16,
+            LOWERED,
+            BASE64,
+        ],
+        25 => &[Kind::U16, Kind::U8, Kind::U8, BASE64], // KEY
+        28 => &[Kind::Ipv6], // AAAA
+        29 => &[HEX], // LOC
+        33 => &[Kind::U16, Kind::U16, Kind::U16, LOWERED], // SRV
+        35 => &[Kind::U16, Kind::U16, TEXT, TEXT, TEXT, LOWERED], // NAPTR
+        36 => &[Kind::U16, LOWERED], // KX
+        37 => &[Kind::U16, Kind::U16, Kind::U8, BASE64], // CERT
+        39 => &[LOWERED], // DNAME
+        43 => &[Kind::U16, Kind::U8, Kind::U8, HEX], // DS
+        44 => &[Kind::U8, Kind::U8, HEX], // SSHFP
+        45 => &[HEX], // IPSECKEY
+        // RRSIG
+        46 => &[
+            Kind::TypeCode,
+            Kind::U8,
+            Kind::U8,
+            Kind::U32,
+            Kind::Time,
+            Kind::Time,
+            Kind::U16,
+            LOWERED,
+            BASE64,
+        ],
+        47 => &[PLAIN, TYPES], // NSEC
+        48 => &[Kind::U16, Kind::U8, Kind::U8, BASE64], // DNSKEY
+        50 => &[Kind::U8, Kind::U8, Kind::U16, SALT, HASH, TYPES], // NSEC3
+        51 => &[Kind::U8, Kind::U8, Kind::U16, SALT], // NSEC3PARAM
+        52 => &[Kind::U8, Kind::U8, Kind::U8, HEX], // TLSA
+        53 => &[Kind::U8, Kind::U8, Kind::U8, HEX], // SMIMEA
+        55 => &[HEX], // HIP
+        59 => &[Kind::U16, Kind::U8, Kind::U8, HEX], // CDS
+        60 => &[Kind::U16, Kind::U8, Kind::U8, BASE64], // CDNSKEY
+        61 => &[BASE64], // OPENPGPKEY
+        62 => &[Kind::U32, Kind::U16, TYPES], // CSYNC
+        63 => &[Kind::U32, Kind::U8, Kind::U8, HEX], // ZONEMD
+        64 => &[Kind::U16, PLAIN, PARAMS], // SVCB
+        65 => &[Kind::U16, PLAIN, PARAMS], // HTTPS
+        99 => &[TEXTS], // SPF
+        108 => &[Kind::U48], // EUI48
+        109 => &[Kind::U64], // EUI64
+        256 => &[Kind::U16, Kind::U16, VALUE], // URI
+        257 => &[Kind::U8, TEXT, VALUE], // CAA
+        _ => &[HEX],
+    }
+}

@@ -1,0 +1,97 @@
+-- Records of messages that are passed on: they keep what records keep, and are read back.
+use Rattle.std.proofs.Common.{◌≡◌, ℕ, ◌+◌, ◌-◌, ◌≤◌, List, [], ◌++◌, length, slice_range, Ok, Err, inl, inr, refl, sym, ap, ◌∙◌, subst, append_assoc, arith}
+use Rattle.std.proofs.lemmas.List.{append-nil, length-append}
+use Rattle.dnw_error.specs.declared.error.ProtoError.{ProtoError}
+use Rattle.dnw_codes.specs.RecordTypes.{type_code}
+use Rattle.dnw_codes.specs.DnsClasses.{class_code}
+use Rattle.dnw_reading.specs.Reading.{NameAt}
+use Rattle.dnw_reading.proofs.Back.{slice_range-middle}
+use Rattle.dnw_reading.proofs.Stand.{Reads-append}
+use Rattle.dnw_encoder.specs.Encoder.{CandidatesPrecede, Encoder, Writes, written}
+use Rattle.dnw_encoder.specs.EmittedName.{EmitsName, in_mode}
+use Rattle.dnw_encoder.specs.EmittingLaws.{frame}
+use Rattle.dnw_encoder.specs.NameFrames.{frame-name}
+use Rattle.dnw_encoder.specs.Marks.{mark_of}
+use Rattle.dnw_encoder.proofs.NameBack.{name_is_read}
+use Rattle.dnw_encoder.proofs.Preceding.{names_precede, rewinding_undoes, rewinds_precede, writes_precede}
+use Rattle.dnw_record.specs.Parts.{Then, Write}
+use Rattle.dnw_record.specs.Records.{RecordValue, data_octets, fields_at, length_field, record_of}
+use Rattle.dnw_record.specs.PassedRecords.{PassesFields, fixed_octets, owner_name}
+use Rattle.dnw_record.specs.RecordFrames.{frame-passed_fields}
+use Rattle.dnw_record.specs.RecordLaws.{FailsForSize, PassedAreRead, PassedFit, PassedPrecede, PassedStayBounded, RefusedPassedUndo, fields_of, passed_size}
+use Rattle.dnw_record.proofs.Bounded.{keeps, stays-bytes, stays-name, stays-then}
+use Rattle.dnw_record.proofs.Laying.{added, read-after}
+use Rattle.dnw_record.proofs.Parts.{done-bytes, done-name, fails-later, refused-name, refused-room}
+use Rattle.dnw_record.proofs.Preceding.{precede-then}
+
+pub refused_passed_undo : RefusedPassedUndo
+refused_passed_undo x v w error at_end precede (u, fields, is) =
+    is ∙ rewinding_undoes v u (Err error) precede (frame-passed_fields x v (Err error) u at_end fields)
+
+pub passed_precede : PassedPrecede
+passed_precede x v w (Err error) p (u, fields, is) = subst CandidatesPrecede (sym is) (rewinds_precede u (mark_of v))
+passed_precede x v w (Ok tt) p h =
+    let rest = precede-then (λ v. Writes v (fixed_octets x)) (λ v. Writes v (data_octets x)) (writes_precede (fixed_octets x)) (writes_precede (data_octets x)) in
+    precede-then (EmitsName (owner_name x)) _ (names_precede (owner_name x)) rest v w (Ok tt) p h.1
+
+pub passed_stay_bounded : PassedStayBounded
+passed_stay_bounded x v w le h =
+    let fixed : Write = λ v. Writes v (fixed_octets x) in
+    let own : Write = λ v. Writes v (data_octets x) in
+    let rest = stays-then fixed own (stays-bytes (fixed_octets x)) (stays-bytes (data_octets x)) in
+    keeps (PassesFields x) (stays-then (EmitsName (owner_name x)) (Then fixed own) (stays-name (owner_name x)) rest) v w le h.1
+
+-- a record that is passed on ends after as many bytes as with its owner whole at most, and within the maximum
+pub done-passed : (x : RecordValue) (v w : Encoder) → PassesFields x v (Ok tt) w
+    → (w.offset ≤ v.offset + passed_size x) × (w.offset ≤ v.max_size) × (w.max_size ≡ v.max_size)
+done-passed x v w (a, owner, (d, fixed, one)) =
+    let (le, _, same, _) = done-name (owner_name x) v a owner in
+    let (fit, _, still, _) = done-bytes (fixed_octets x) a d fixed in
+    let (most, within, kept, _) = done-bytes (data_octets x) d w one in
+    (omega (arith, le, fit, most), omega (arith, within, still, same), kept ∙ (still ∙ same))
+
+refused-passed : (v w : Encoder) (x : RecordValue) (error : ProtoError) → PassesFields x v (Err error) w → FailsForSize v (passed_size x) error
+refused-passed v w x error (inl h) = fails-later v v _ _ error (omega arith) refl (refused-name (owner_name x) v w error h).1
+refused-passed v w x error (inr (a, owner, inl h)) =
+    let (le, _, same, _) = done-name (owner_name x) v a owner in
+    fails-later v a _ 10 error (omega (arith, le)) same (refused-room a (written a (fixed_octets x)) w 10 error h).1
+refused-passed v w x error (inr (a, owner, inr (d, fixed, h))) =
+    let (le, _, same, _) = done-name (owner_name x) v a owner in
+    let (fit, _, still, _) = done-bytes (fixed_octets x) a d fixed in
+    fails-later v d _ (length (data_octets x)) error (omega (arith, le, fit)) (still ∙ same)
+    (refused-room d (written d (data_octets x)) w (length (data_octets x)) error h).1
+
+pub passed_fit : PassedFit
+passed_fit x = (λ v w h. (done-passed x v w h.1).0, λ v w error (u, h, is). refused-passed v u x error h)
+
+pub passed_are_read : PassedAreRead
+passed_are_read x v w e small h =
+    let ((kind, class, ttl, len), octets) = h.0 in
+    let (a, owner, (d, fixed, one)) = h.1 in
+    let ten = fixed_octets x in
+    let own = data_octets x in
+    let fa = frame-name (owner_name x) v (Ok tt) a e owner in
+    let fd = frame a ten (Ok tt) d fa.ends fixed in
+    let laid : w.bytes ≡ a.bytes ++ (ten ++ own) =
+    added d w own fd.ends one.1 ∙ (ap (λ (y : List ℕ). y ++ own) (added a d ten fa.ends fixed.1) ∙ append_assoc a.bytes ten own) in
+    let od : d.offset ≡ a.offset + 10 = ap (λ (y : Encoder). y.offset) fixed.1 in
+    let ow : w.offset ≡ d.offset + length own = ap (λ (y : Encoder). y.offset) one.1 in
+    let number : x.len ≡ w.offset - (a.offset + 10) = omega (arith, od, ow, octets) in
+    let read = name_is_read (owner_name x) v a (omega (arith, e)) owner in
+    let labels = in_mode v.encoding x.owner in
+    let size : length w.bytes ≡ a.offset + 10 + length own =
+    omega (arith, ap length laid, length-append a.bytes (ten ++ own), length-append ten own, fa.ends) in
+    let name : NameAt w.bytes v.offset labels a.offset read.0 = rw laid (record { reads = Reads-append (ten ++ own) read.1.reads; fits = read.1.fits }) in
+    let fields : fields_at w.bytes a.offset ≡ fields_of (type_code x.record_type) (class_code x.class) x.ttl (w.offset - (a.offset + 10)) =
+    ap (λ y. slice_range y a.offset (a.offset + 10)) laid ∙ (slice_range-middle a.bytes ten own a.offset (a.offset + 10) fa.ends refl
+    ∙ ap (fields_of (type_code x.record_type) (class_code x.class) x.ttl) number) in
+    let (at, kind_is, class_is, ttl_is, ends) =
+    read-after w.bytes labels v.offset a.offset read.0 w.offset (type_code x.record_type) (class_code x.class) x.ttl name fields (kind, class, ttl)
+    (omega (arith, od, ow)) (omega (arith, od, ow, size)) (omega (arith, (done-passed x v w h.1).1, small)) in
+    let whole : w.bytes ≡ (a.bytes ++ ten) ++ (own ++ []) =
+    laid ∙ (sym (append_assoc a.bytes ten own) ∙ ap (λ (y : List ℕ). (a.bytes ++ ten) ++ y) (sym (append-nil own))) in
+    let front : a.offset + 10 ≡ length (a.bytes ++ ten) = omega (arith, fa.ends, length-append a.bytes ten) in
+    let same : slice_range w.bytes (a.offset + 10) (a.offset + 10 + length_field (fields_at w.bytes a.offset)) ≡ own =
+    ap (λ y. slice_range y (a.offset + 10) (a.offset + 10 + length_field (fields_at w.bytes a.offset))) whole
+    ∙ slice_range-middle (a.bytes ++ ten) own [] (a.offset + 10) (a.offset + 10 + length_field (fields_at w.bytes a.offset)) front (omega (arith, ends, od, ow)) in
+    (record_of w.bytes labels a.offset, at, refl, kind_is, class_is, ttl_is, same)
