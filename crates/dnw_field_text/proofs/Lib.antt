@@ -1,0 +1,4 @@
+pub mod ComeBack
+pub mod HexText
+pub mod StringText
+pub mod Calendar

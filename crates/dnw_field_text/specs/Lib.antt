@@ -1,0 +1,6 @@
+pub mod Spelling
+pub mod Numbers
+pub mod Octets
+pub mod Strings
+pub mod Times
+pub mod Inside

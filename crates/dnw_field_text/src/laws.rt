@@ -1,0 +1,41 @@
+//! What is printed of a value is parsed as the same value, for each kind.
+//!
+//! The functions do nothing. Each is there for its clauses.
+ghost use Rattle.std.specs.Prelude.{◌≡◌, ℕ, List, ◌≤◌, decimal};
+ghost use Rattle.std.specs.Net.Addr.{ipv4_octets, ipv6_segments, IsIpv4Addr, IsIpv6Addr};
+ghost use Rattle.std.specs.Net.Grammar.{IsIpv4Text, IsIpv6Text};
+ghost use Rattle.std.specs.Net.Text.{ipv4_text, ipv6_text};
+ghost use Rattle.dnw_field_text.specs.Spelling.{ComesBack};
+ghost use Rattle.dnw_field_text.specs.Numbers.{max_u32, max_u48, IsNumberText};
+ghost use Rattle.dnw_field_text.specs.Octets.{IsOctets, IsSalt, hex_text, base64_text, salt_text, IsHexText, IsBase64Text, IsSaltText};
+ghost use Rattle.dnw_field_text.specs.Strings.{IsString, string_text, IsStringText};
+ghost use Rattle.dnw_field_text.specs.Times.{IsDateText, IsTimeText};
+
+/// Numbers of up to six octets come back.
+pub fn numbers_come_back()
+    ensures { (max : ℕ) → max ≤ max_u48 → ComesBack (λ n. n ≤ max) decimal (IsNumberText max) }
+{}
+
+/// Octets come back, in hexadecimal and in base 64, and so do salts.
+pub fn octets_come_back()
+    ensures hexadecimal { ComesBack IsOctets hex_text IsHexText }
+    ensures base64 { ComesBack IsOctets base64_text IsBase64Text }
+    ensures salt { ComesBack IsSalt salt_text IsSaltText }
+{}
+
+/// Addresses come back.
+pub fn addresses_come_back()
+    ensures ipv4 { ComesBack IsIpv4Addr (λ a. ipv4_text (ipv4_octets a)) IsIpv4Text }
+    ensures ipv6 { ComesBack IsIpv6Addr (λ a. ipv6_text (ipv6_segments a)) IsIpv6Text }
+{}
+
+/// Character strings come back.
+pub fn strings_come_back()
+    ensures { ComesBack IsString string_text IsStringText }
+{}
+
+/// A text spells one time at most. What `time_text` returns spells its time, so it is parsed as that time.
+pub fn times_come_back()
+    ensures one { (text : List ℕ) (a b : ℕ) → IsTimeText text a → IsTimeText text b → a ≡ b }
+    ensures printed { (text : List ℕ) (seconds : ℕ) → seconds ≤ max_u32 → IsDateText text seconds → IsTimeText text seconds }
+{}
