@@ -1,49 +1,128 @@
--- Names with the same text are the same: they are built again from its elements.
-use Rattle.std.proofs.Common.{◌≡◌, ℕ, Bool, true, false, List, [], ◌∷◌, ◌++◌, map, refl, sym, ap, ◌∙◌, append_assoc, arith}
-use Rattle.std.specs.List.{AllByRecursion}
+-- Names with the same text are the same: they are built again from it.
+use Rattle.std.proofs.Common.{◌≡◌, ℕ, suc, ◌+◌, ◌-◌, ◌*◌, ◌/◌, ◌%◌, ◌<◌, ◌==◌, ◌&&◌, Bool, true, false, not, if◌then◌else◌, List, [], ◌∷◌, ◌++◌, inl, inr, refl, sym, ap, ◌∙◌, append_assoc, arith}
+use Rattle.std.specs.List.{AllByRecursion, flat_map}
+use Rattle.std.specs.Char.{is_ascii_graphic}
+use Rattle.std.proofs.lemmas.Bool.{agree_below_at, and_parts, not-true, eqb-true, cases_Bool}
 use Rattle.std.proofs.lemmas.List.{append-nil}
 use Rattle.dnw_base.specs.Labels.{IsLabel}
 use Rattle.dnw_base.specs.Names.{NameValue, AreLabels}
-use Rattle.dnw_text.specs.NameText.{TextElement, Char, Dot, Outside, name_text}
+use Rattle.dnw_label.specs.LabelText.{dot, backslash, is_plain, byte_text, octal_escape, label_text}
+use Rattle.dnw_reading.specs.ReadingLaws.{AreBytes}
+use Rattle.dnw_text.specs.NameText.{State, Outside, Escaped, AfterOne, AfterTwo, is_octal_digit, name_text}
+use Rattle.dnw_text.proofs.Joined.{dotted, joined-cons}
 use Rattle.dns_names_wire.specs.TextLaws.{AreByteLabels}
-use Rattle.dns_names_wire.proofs.TextElements.{decoded, rest_elements, name_elements, decoded-name_text}
 
 abbrev name_of : Bool → List (List ℕ) → NameValue
 name_of is_fqdn labels = record { is_fqdn = is_fqdn; labels = labels }
 
--- the name of the elements after the start of a label
-abbrev built : List ℕ → List TextElement → NameValue
-built [] [] = name_of true []
-built (b ∷ l) [] = name_of false ((b ∷ l) ∷ [])
-built l (Char c ∷ es) = built (l ++ c ∷ []) es
-built l (Dot ∷ es) = name_of (built [] es).is_fqdn (l ∷ (built [] es).labels)
-built l (element ∷ es) = name_of true []
+abbrev after_label : List ℕ → NameValue → NameValue
+after_label l n = name_of n.is_fqdn (l ∷ n.labels)
 
--- of all elements: none, or a dot alone, are names without labels
-abbrev name_from : List TextElement → NameValue
-name_from [] = name_of false []
-name_from (Dot ∷ es) = name_of true []
-name_from es = built [] es
+-- The name of a text, after a dot or not, and after the start of a label. This is reading without its refusals: an octal
+-- digit after a backslash begins three of them.
+abbrev built : Bool → State → List ℕ → List ℕ → NameValue
+built after Outside [] [] = name_of after []
+built after state l [] = name_of false (l ∷ [])
+built after Outside l (c ∷ cs) =
+    if c == dot then after_label l (built true Outside [] cs)
+    else if c == backslash then built after Escaped l cs else built after Outside (l ++ c ∷ []) cs
+built after Escaped l (c ∷ cs) =
+    if is_octal_digit c then built after (AfterOne (c - 48)) l cs else built after Outside (l ++ c ∷ []) cs
+built after (AfterOne a) l (c ∷ cs) = built after (AfterTwo a (c - 48)) l cs
+built after (AfterTwo a b) l (c ∷ cs) = built after Outside (l ++ (64 * a + 8 * b + (c - 48)) ∷ []) cs
 
-built-label : (m l : List ℕ) (es : List TextElement) → built m (map Char l ++ es) ≡ built (m ++ l) es
-built-label m [] es = ap (λ (x : List ℕ). built x es) (sym (append-nil m))
-built-label m (b ∷ l) es = built-label (m ++ b ∷ []) l es ∙ ap (λ (x : List ℕ). built x es) (append_assoc m (b ∷ []) l)
+-- a dot alone is the root
+abbrev settled : Bool → List (List ℕ) → NameValue
+settled is_fqdn ([] ∷ ls) = name_of true []
+settled is_fqdn ls = name_of is_fqdn ls
 
-built-rest : (f : Bool) (l : List ℕ) (ls : List (List ℕ)) → IsLabel l → AllByRecursion IsLabel ls → built l (rest_elements f ls) ≡ name_of f (l ∷ ls)
-built-rest true l [] one all = refl
-built-rest false [] [] one all = let some = one.not_empty in absurd (omega arith)
-built-rest false (b ∷ l) [] one all = refl
-built-rest f l (m ∷ ls) one all =
-    ap (λ (n : NameValue). name_of n.is_fqdn (l ∷ n.labels)) (built-label [] m (rest_elements f ls) ∙ built-rest f m ls all.0 all.1)
+abbrev name_from : List ℕ → NameValue
+name_from text = let n = built false Outside [] text in settled n.is_fqdn n.labels
 
-name-from-elements : (f : Bool) (ls : List (List ℕ)) → AllByRecursion IsLabel ls → name_from (name_elements f ls) ≡ name_of f ls
-name-from-elements true [] all = refl
-name-from-elements false [] all = refl
-name-from-elements f ([] ∷ ls) all = let some = all.0.not_empty in absurd (omega arith)
-name-from-elements f ((b ∷ l) ∷ ls) all = built-label (b ∷ []) l (rest_elements f ls) ∙ built-rest f (b ∷ l) ls all.0 all.1
+-- ---- a byte
+
+-- A plain byte is neither a dot nor a backslash, another visible one is no digit, and any other one is written as an octal
+-- number.
+abbrev is_octal : ℕ → Bool
+is_octal b = is_octal_digit (48 + b / 64) && (64 * (48 + b / 64 - 48) + 8 * (48 + b / 8 % 8 - 48) + (48 + b % 8 - 48) == b)
+
+abbrev is_read : Bool → ℕ → Bool
+is_read first b =
+    if is_plain first b then not (b == dot) && not (b == backslash)
+    else if is_ascii_graphic b then not (is_octal_digit b) else is_octal b
+
+all_read : (first : Bool) (b : ℕ) → b < 256 → is_read first b ≡ true
+all_read true b small = agree_below_at (is_read true) (λ n. true) 256 b refl small
+all_read false b small = agree_below_at (is_read false) (λ n. true) 256 b refl small
+
+module _ (after : Bool) (l : List ℕ) (b : ℕ) (cs : List ℕ) where
+  built-plain : (not (b == dot) && not (b == backslash)) ≡ true → built after Outside l (b ∷ cs) ≡ built after Outside (l ++ b ∷ []) cs
+  built-plain h = let parts = and_parts (not (b == dot)) _ h in rw (not-true (b == dot) parts.0, not-true (b == backslash) parts.1) refl
+
+  built-digits : (x y z : ℕ) → is_octal_digit x ≡ true
+      → built after Outside l (backslash ∷ x ∷ y ∷ z ∷ cs) ≡ built after Outside (l ++ (64 * (x - 48) + 8 * (y - 48) + (z - 48)) ∷ []) cs
+  built-digits x y z h = rw h refl
+
+  built-octal : is_octal b ≡ true → built after Outside l (octal_escape b ++ cs) ≡ built after Outside (l ++ b ∷ []) cs
+  built-octal h =
+      let parts = and_parts (is_octal_digit (48 + b / 64)) _ h in
+      built-digits (48 + b / 64) (48 + b / 8 % 8) (48 + b % 8) parts.0 ∙ ap (λ (c : ℕ). built after Outside (l ++ c ∷ []) cs) (eqb-true _ b parts.1)
+
+  built-byte : (first : Bool) → b < 256 → built after Outside l (byte_text first b ++ cs) ≡ built after Outside (l ++ b ∷ []) cs
+  built-byte first small =
+      let read = all_read first b small in
+      elim (cases_Bool (is_plain first b)) [
+        | inl plain ↦ rw plain (built-plain (rw plain at read))
+        | inr other ↦
+            let read = rw other at read in
+            elim (cases_Bool (is_ascii_graphic b)) [
+              | inl graphic ↦ rw (other, graphic, not-true (is_octal_digit b) (rw graphic at read)) refl
+              | inr hidden ↦ rw (other, hidden) (built-octal (rw hidden at read))
+            ]
+      ]
+
+-- ---- labels and names
+
+built-bytes : (after : Bool) (l bs cs : List ℕ) → AreBytes bs → built after Outside l (flat_map (byte_text false) bs ++ cs) ≡ built after Outside (l ++ bs) cs
+built-bytes after l [] cs h = ap (λ (x : List ℕ). built after Outside x cs) (sym (append-nil l))
+built-bytes after l (b ∷ bs) cs h =
+    let more = flat_map (byte_text false) bs in
+    ap (built after Outside l) (append_assoc (byte_text false b) more cs) ∙ built-byte after l b (more ++ cs) false (h 0)
+    ∙ built-bytes after (l ++ b ∷ []) bs cs (λ i. h (suc i)) ∙ ap (λ (x : List ℕ). built after Outside x cs) (append_assoc l (b ∷ []) bs)
+
+built-label : (after : Bool) (l cs : List ℕ) → AreBytes l → built after Outside [] (label_text l ++ cs) ≡ built after Outside l cs
+built-label after [] cs h = refl
+built-label after (b ∷ bs) cs h =
+    let more = flat_map (byte_text false) bs in
+    ap (built after Outside []) (append_assoc (byte_text true b) more cs) ∙ built-byte after [] b (more ++ cs) true (h 0)
+    ∙ built-bytes after (b ∷ []) bs cs (λ i. h (suc i))
+
+abbrev last_dot : Bool → List ℕ
+last_dot is_fqdn = if is_fqdn then dot ∷ [] else []
+
+built-rest : (before f : Bool) (l : List ℕ) (ls : List (List ℕ)) → IsLabel l → AllByRecursion IsLabel ls → AreByteLabels ls
+    → built before Outside l (flat_map dotted ls ++ last_dot f) ≡ name_of f (l ∷ ls)
+built-rest before true l [] one all bytes = refl
+built-rest before false [] [] one all bytes = let some = one.not_empty in absurd (omega arith)
+built-rest before false (b ∷ l) [] one all bytes = refl
+built-rest before f l (m ∷ ls) one all bytes =
+    let more = flat_map dotted ls in
+    ap (λ (x : List ℕ). after_label l (built true Outside [] x)) (append_assoc (label_text m) more (last_dot f))
+    ∙ ap (after_label l) (built-label true m (more ++ last_dot f) bytes.0 ∙ built-rest true f m ls all.0 all.1 bytes.1)
+
+name-from-text : (f : Bool) (ls : List (List ℕ)) → AllByRecursion IsLabel ls → AreByteLabels ls → name_from (name_text (name_of f ls)) ≡ name_of f ls
+name-from-text true [] all bytes = refl
+name-from-text false [] all bytes = refl
+name-from-text f ([] ∷ ls) all bytes = let some = all.0.not_empty in absurd (omega arith)
+name-from-text f ((b ∷ l) ∷ ls) all bytes =
+    let more = flat_map dotted ls in
+    let text = joined-cons (b ∷ l) ls in
+    let built_is : built false Outside [] (name_text (name_of f ((b ∷ l) ∷ ls))) ≡ name_of f ((b ∷ l) ∷ ls) =
+    ap (λ (x : List ℕ). built false Outside [] (x ++ last_dot f)) text ∙ ap (built false Outside []) (append_assoc (label_text (b ∷ l)) more (last_dot f))
+    ∙ built-label false (b ∷ l) (more ++ last_dot f) bytes.0 ∙ built-rest false f (b ∷ l) ls all.0 all.1 bytes.1 in
+    ap (λ (n : NameValue). settled n.is_fqdn n.labels) built_is
 
 pub texts_differ : (n m : NameValue) → AreLabels n.labels → AreLabels m.labels → AreByteLabels n.labels → AreByteLabels m.labels
     → name_text n ≡ name_text m → n ≡ m
 texts_differ n m n_are m_are n_bytes m_bytes e =
-    let same = sym (decoded-name_text n n_bytes) ∙ ap (decoded Outside) e ∙ decoded-name_text m m_bytes in
-    sym (name-from-elements n.is_fqdn n.labels n_are.each) ∙ (ap name_from same ∙ name-from-elements m.is_fqdn m.labels m_are.each)
+    sym (name-from-text n.is_fqdn n.labels n_are.each n_bytes) ∙ (ap name_from e ∙ name-from-text m.is_fqdn m.labels m_are.each m_bytes)

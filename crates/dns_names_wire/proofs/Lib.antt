@@ -1,17 +1,4 @@
-pub mod WireParts
-pub mod Lists
-pub mod Placing
-pub mod Chunks
-pub mod Naming
-pub mod Standing
-pub mod Stepping
-pub mod Running
-pub mod RunningOn
-pub mod ReadingBack
-pub mod ShortestNames
 pub mod AcceptedTexts
 pub mod DottedTexts
-pub mod TextElements
 pub mod DifferentTexts
 pub mod LabelBytes
-pub mod Bounded

@@ -5,6 +5,7 @@
 pub use Rattle.dnw_base.specs.Limits.{max_label, max_labels, max_name, max_character_data, max_message}
 pub use Rattle.dnw_base.specs.Limits.{pointer_mark, pointer_offsets, pointer_reach}
 -- Errors.
+pub use Rattle.dnw_error.specs.declared.error.ProtoError.{ProtoError}
 pub use Rattle.dnw_error.specs.Fault.{Fault, Follows, NeedsErrorText, Updates}
 pub use Rattle.dnw_error.specs.Copies.{IsCopyOf, IsDecodeCopyOf, OwnsText, OwnsDecodeText}
 -- Untrusted values.
@@ -27,13 +28,16 @@ pub use Rattle.dnw_name.specs.FromLabels.{JoinsItems, JoinsAll, RunsOutAt}
 -- Names in lower case.
 pub use Rattle.dnw_lower.specs.LowerNames.{lowered, IsLower, lower_name_from_text, lower_name_hash_input, TakesLowerName}
 -- Types and classes of records.
-pub use Rattle.dnw_codes.specs.RecordTypes.{type_code, type_name, type_of_code, type_of_name, type_cmp, type_hash, is_dnssec, is_unknown}
-pub use Rattle.dnw_codes.specs.DnsClasses.{class_code, class_name, class_of_code, class_of_name, class_cmp, class_hash, min_payload}
+pub use Rattle.dnw_codes.specs.declared.record_type.RecordType.{RecordType}
+pub use Rattle.dnw_codes.specs.RecordTypes.{type_code, type_name, type_text, type_of_code, type_of_name, type_of_text, type_cmp, type_hash, is_dnssec, is_unknown}
+pub use Rattle.dnw_codes.specs.DnsClasses.{class_code, class_name, class_text, class_of_code, class_of_name, class_of_text, class_cmp, class_hash, min_payload}
 pub use Rattle.dnw_error.specs.Naming.{Looks, ReportsType, ReportsClass}
 -- Texts of labels and names.
 pub use Rattle.dnw_label.specs.LabelText.{dot, label_from_bytes, label_from_text, label_text}
-pub use Rattle.dnw_text.specs.NameText.{IsLabelText, name_from_text, name_from_text_at, name_text}
+pub use Rattle.dnw_text.specs.NameText.{IsLabelText, max_text, name_from_text, name_from_text_at, name_text}
+pub use Rattle.dnw_text.specs.TextFaults.{Gives, GoesWrong, GoesWrongBy, IsNameText, rule_of}
 -- Nets and reverse names.
+pub use Rattle.dnw_reverse.specs.declared.net.IpNet.{IpNet}
 pub use Rattle.dnw_reverse.specs.Nets.{NetValue, ipv4_size, ipv6_size}
 pub use Rattle.dnw_reverse.specs.NetTexts.{net_addr, net_prefix_len, ip_size, IsPastSize, ip_net_text}
 pub use Rattle.dnw_reverse.specs.Arpa.{ArpaPrefix, ArpaFault, GivesPrefix, GiveValues, IsArpaPrefix, arpa_labels, arpa_name, arpa_prefix, ip_prefix, reverse_name}
@@ -70,33 +74,73 @@ pub use Rattle.dnw_encoder.specs.EncoderLaws.{StaysBounded}
 pub use Rattle.dnw_encoder.specs.CandidateLaws.{KeepsPreceding, NewPrecede, WritesPrecede, TextsPrecede, PlacesPrecede, FillsPrecede, NamesPrecede}
 pub use Rattle.dnw_encoder.specs.CandidateLaws.{StoresPrecede, TrimsPrecede, RewindsPrecede, ItemsPrecede, ItemPrecedes}
 -- Resource records.
-pub use Rattle.dnw_record.specs.Records.{RecordValue, RecordAt, TakesRecord, FailsRecord, HasDataName, FailsDataName}
+pub use Rattle.dnw_record.specs.Records.{RecordValue, RecordAt, TakesRecord, FailsRecord, HasDataName, FailsDataName, data_octets}
 pub use Rattle.dnw_record.specs.declared.record.WireRecord.{WireRecord}
 pub use Rattle.dnw_record.specs.WrittenRecords.{EmitsData, EmitsRecord, NumbersFit}
-pub use Rattle.dnw_record.specs.RecordFrames.{frame-data, frame-record}
-pub use Rattle.dnw_record.specs.RecordLaws.{RefusedRecordsUndo, RefusedDataUndo}
-pub use Rattle.dnw_record.specs.RecordLaws.{PartPrecedes, PartsPrecede, CountedPrecede, DataPrecede, RecordsPrecede}
-pub use Rattle.dnw_record.specs.RecordLaws.{KeepsBounded, PartStaysBounded, PartsStayBounded, CountedStayBounded, DataStayBounded, RecordsStayBounded}
+pub use Rattle.dnw_record.specs.PassedRecords.{IsSound, PassesFields, PassesRecord, fixed_octets, owner_name}
+pub use Rattle.dnw_record.specs.RecordFrames.{frame-data, frame-passed, frame-record}
+pub use Rattle.dnw_record.specs.RecordLaws.{RefusedRecordsUndo, RefusedDataUndo, RefusedPassedUndo, PassedFit, PassedAreRead}
+pub use Rattle.dnw_record.specs.RecordLaws.{PartPrecedes, PartsPrecede, CountedPrecede, DataPrecede, RecordsPrecede, PassedPrecede}
+pub use Rattle.dnw_record.specs.RecordLaws.{KeepsBounded, PartStaysBounded, PartsStayBounded, CountedStayBounded, DataStayBounded, RecordsStayBounded, PassedStayBounded}
 pub use Rattle.dnw_record.specs.Parts.{WirePart, EmitsWirePart, EmitsWireParts, EmitsCounted, HasTextOfSize, parts_size, wire_size}
+-- The fields of the data of records.
+pub use Rattle.dnw_record.specs.RecordFields.{record_fields}
 -- Scripts.
-pub use Rattle.dns_names_wire.specs.Script.{Action, action, EmitsPart, EmitsScriptItem}
-pub use Rattle.dns_names_wire.specs.Pieces.{Account, Piece, RecordStands, opening}
-pub use Rattle.dns_names_wire.specs.Replies.{RepliesTo}
-pub use Rattle.dns_names_wire.specs.Finished.{Finished, Shortest, largest_max}
-pub use Rattle.dns_names_wire.specs.Runs.{Run}
-pub use Rattle.dns_names_wire.specs.ItemFrames.{frame-part, frame-item}
-pub use Rattle.dns_names_wire.specs.ScriptLaws.{RunsReply, RunsFinish, RunsStayUseful, RunsAreShortest, RunsUndoRecords, HasData, StandingRecordsAreRead}
-pub use Rattle.dns_names_wire.specs.ScriptLaws.{RunsStayBounded, PartsOfScriptsStayBounded, ItemsOfScriptsStayBounded}
+pub use Rattle.dnw_script.specs.Script.{Action, action, write_record, EmitsPart, EmitsScriptItem}
+pub use Rattle.dnw_script.specs.declared.script.Reply.{Reply}
+pub use Rattle.dnw_script.specs.declared.script.Reply.TheVariants.{Done, Refused}
+pub use Rattle.dnw_script.specs.Pieces.{Account, Piece, RecordStands, opening}
+pub use Rattle.dnw_script.specs.Replies.{RepliesTo}
+pub use Rattle.dnw_script.specs.Finished.{Finished, Shortest, largest_max}
+pub use Rattle.dnw_script.specs.Runs.{Run}
+pub use Rattle.dnw_script.specs.Ran.{Ran}
+pub use Rattle.dnw_script.specs.ItemFrames.{frame-part, frame-item}
+pub use Rattle.dnw_script.specs.ScriptLaws.{RunsReply, RunsFinish, RunsStayUseful, RunsAreShortest, RunsUndoRecords, HasData, StandingRecordsAreRead}
+pub use Rattle.dnw_script.specs.ScriptLaws.{RunsStayBounded, PartsOfScriptsStayBounded, ItemsOfScriptsStayBounded}
 -- Master files: tokens, and times to live.
 pub use Rattle.dnw_txt.specs.Tokens.{TokenValue, LexFault, LexState, LexerValue}
 pub use Rattle.dnw_txt.specs.Lexing.{token_value, Lexes, Calls, EndsInTime}
 pub use Rattle.dnw_txt.specs.Times.{max_ttl, time_seconds, IsNoTtl, IsParseTime}
 -- Sets of record types, keys, serial numbers, and record data.
-pub use Rattle.dnw_sets.specs.TypeSets.{AreWindows, EndWithin, HasBit, set_codes, windows_within, bitmap_types, HasOwnMemory, YieldsSome}
+pub use Rattle.dnw_sets.specs.TypeSets.{AreWindows, EndWithin, HasBit, IsSetOf, Window, bitmap_types, set_codes, windows_codes, windows_of, windows_within}
+pub use Rattle.dnw_sets.specs.TypeSets.{HasOwnMemory, YieldsSome}
 pub use Rattle.dnw_sets.specs.Keys.{key_cmp, key_eq, key_hash}
 pub use Rattle.dnw_codes.specs.Serials.{distance, serial_cmp, serial_sum}
 pub use Rattle.dnw_sets.specs.RecordData.{TakesTypeSet, FailsTypeSet, TypeSetRunsOut, HasBitmap}
-pub use Rattle.dnw_sets.specs.SetLaws.{BitmapsAreWindows, SetsComeBack, WindowsListBits}
+pub use Rattle.dnw_sets.specs.SetLaws.{BitmapsAreWindows, BitmapsListFew, SetsComeBack, WindowsListBits, most_types}
 -- What follows from the definitions of texts.
 pub use Rattle.dns_names_wire.specs.TextLaws.{AreByteLabels, TextsDiffer, ReadLabelsAreBytes, TextLabelsAreBytes}
 pub use Rattle.dns_names_wire.specs.TextLaws.{AcceptedLabels, AcceptedReadBack, qualified, dotted_text, BytesAndTextsAgree}
+-- The data of records: kinds of field, the table of types, and reading by it.
+pub use Rattle.dnw_data.specs.DataLaws.{FieldsAreWalked, OneReading, SomeReading}
+pub use Rattle.dnw_data.specs.Fields.{FailsField, FailsName, FailsOwn, TakesField, TakesNameField, TakesOwn}
+pub use Rattle.dnw_data.specs.Items.{NextItem}
+pub use Rattle.dnw_data.specs.Lists.{ItemsValue, count_of, item_size, list_fault, may_come, out_of_order, tag_of}
+pub use Rattle.dnw_data.specs.Table.{fields_of}
+pub use Rattle.dnw_data.specs.Values.{FieldValue, counted_size, own_fault, own_size, own_value, seen}
+pub use Rattle.dnw_data.specs.Walks.{FieldsLeft, IsEnded, NextField, fields_at, steps_left}
+-- Texts of single values.
+pub use Rattle.dnw_field_text.specs.Numbers.{IsNumberText, max_u16, max_u32, max_u48, max_u8}
+pub use Rattle.dnw_field_text.specs.Octets.{IsBase64Text, IsHexText, IsOctets, IsSalt, IsSaltText, base64_text, hex_text, salt_text}
+pub use Rattle.dnw_field_text.specs.Spelling.{Appends, ComesBack}
+pub use Rattle.dnw_field_text.specs.Strings.{IsString, IsStringText, Plain, octet_text, octets_from, quote, string_octets, string_text}
+pub use Rattle.dnw_field_text.specs.Strings.{with_octet}
+pub use Rattle.dnw_field_text.specs.Times.{IsDateText, IsDay, IsMoment, IsTimeText, two_at}
+-- Whole messages: headers, sections and EDNS.
+pub use Rattle.dnw_message.specs.Edns.{EdnsValue, FailsEdns, FailsOpt, HasEdns, HasOptions, IsEdns, IsResponseCode, OptionValue}
+pub use Rattle.dnw_message.specs.Edns.{first_option, is_opt, opts_in}
+pub use Rattle.dnw_message.specs.HeaderLaws.{HeaderFits, HeadersReadBack, HeadersWriteBack}
+pub use Rattle.dnw_message.specs.Headers.{TakesHeader, flag, flags_of, header_of, header_size, header_wire, is_set, metadata_of}
+pub use Rattle.dnw_message.specs.MessageLaws.{MessagesDontFail, OneMessage, OneMessageError}
+pub use Rattle.dnw_message.specs.Messages.{FailsHere, FailsItem, FailsMessage, FailsWithin, Item, ItemAt, ItemsAt, MessageAt, MessageValue}
+pub use Rattle.dnw_message.specs.Messages.{QueryValue, no_header, part, question_rest, record_rest, rest_of}
+pub use Rattle.dnw_message.specs.OpCodes.{op_code, op_entry, op_of_code}
+pub use Rattle.dnw_message.specs.Queries.{FailsQuery, TakesQuery}
+pub use Rattle.dnw_message.specs.ResponseCodes.{response_code, response_entry, response_of_code}
+-- Whole messages that are written.
+pub use Rattle.dnw_message_writer.specs.Drafts.{Adds, AddsAll, AddsEntry, Begins, Closes, Draft, Ends, counted, cuts, is_open}
+pub use Rattle.dnw_message_writer.specs.QueryFrames.{frame-query}
+pub use Rattle.dnw_message_writer.specs.WireQueries.{EmitsQuery, EmitsQueryFields, QueryFits}
+pub use Rattle.dnw_message_writer.specs.WriterLaws.{MessagesAreWritten}
+pub use Rattle.dnw_message_writer.specs.Writers.{draft, lent}
+pub use Rattle.dnw_message_writer.specs.Written.{Written}

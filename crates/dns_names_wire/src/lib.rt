@@ -38,6 +38,7 @@ pub mod record_data {
 
 /// Codes: types and classes of records, sets of types, and serial numbers.
 pub mod codes {
+    pub use dnw_codes::code_text::{CodeText, MAX_CODE_TEXT};
     pub use dnw_codes::dns_class::DNSClass;
     pub use dnw_codes::record_type::RecordType;
     pub use dnw_codes::serial_number::SerialNumber;
@@ -69,6 +70,29 @@ pub mod error {
     pub use dnw_error::error::{DecodeError, ProtoError, ProtoResult};
 }
 
+/// Texts of single values in master files: numbers, octets, times, addresses and character strings.
+pub mod field_text {
+    pub use dnw_field_text::address::{parse_ipv4, parse_ipv6};
+    pub use dnw_field_text::error::FieldTextError;
+    pub use dnw_field_text::laws;
+    pub use dnw_field_text::number::{parse_u8, parse_u16, parse_u32, parse_u48};
+    pub use dnw_field_text::octets::{
+        Base64, Hexadecimal, Salt, parse_base64, parse_hexadecimal, parse_salt,
+    };
+    pub use dnw_field_text::string::{CharacterString, parse_string};
+    pub use dnw_field_text::time::{parse_time, time_text};
+}
+
+/// The fields of the data of records, by one table of record types, and what follows from their definitions.
+pub mod fields {
+    pub use dnw_data::field::Field;
+    pub use dnw_data::fields::{FieldError, Fields};
+    pub use dnw_data::kind::{Kind, ListKind, NameForm, Shown};
+    pub use dnw_data::laws::{fields_are_walked, one_reading};
+    pub use dnw_data::lists::{Item, Items};
+    pub use dnw_data::table::fields_of;
+}
+
 /// Types that give a name: names, texts and addresses.
 pub mod into_name {
     pub use dnw_lower::into_name::IntoName;
@@ -82,6 +106,22 @@ pub mod label {
 /// Domain names in lower case, as zones and caches are keyed.
 pub mod lower_name {
     pub use dnw_lower::lower_name::LowerName;
+}
+
+/// Whole messages, which are checked once and read without a copy, and written item by item: headers, sections and EDNS.
+pub mod message {
+    pub use dnw_message::edns::{EdnsError, EdnsOption, EdnsOptions, EdnsRef};
+    pub use dnw_message::error::{MessageError, MessageErrorKind, Section};
+    pub use dnw_message::header::{Header, HeaderCounts, MessageType, Metadata};
+    pub use dnw_message::items::{Queries, Records};
+    pub use dnw_message::laws;
+    pub use dnw_message::message::MessageRef;
+    pub use dnw_message::op_code::OpCode;
+    pub use dnw_message::query::QueryRef;
+    pub use dnw_message::response_code::ResponseCode;
+    pub use dnw_message_writer::laws::messages_are_written;
+    pub use dnw_message_writer::query::WireQuery;
+    pub use dnw_message_writer::writer::{AddError, Entry, MessageWriter, write};
 }
 
 /// Domain names, and what follows from the definitions of reading them.
@@ -133,7 +173,9 @@ pub mod rr_key {
 }
 
 /// Scripts: messages written step by step.
-pub mod script;
+pub mod script {
+    pub use dnw_script::script::{Item, Part, Reply, Step, laws, run, run_limited};
+}
 
 /// Serial numbers of zones (RFC 1982).
 pub mod serial_number {
@@ -143,6 +185,11 @@ pub mod serial_number {
 /// Sort keys of names, which compare as bytes as the names do in canonical order, and what follows from their definition.
 pub mod sort_key {
     pub use dnw_order::sort_key::{MAX_SORT_KEY_LENGTH, laws};
+}
+
+/// Where a text that gives no name goes wrong.
+pub mod text_fault {
+    pub use dnw_text::fault::{TextFault, TextRule, fault_of};
 }
 
 /// What follows from the definitions of texts, for callers' proofs.

@@ -4,12 +4,14 @@
 ghost use Rattle.dns_names_wire.specs.TextLaws.{TextsDiffer, ReadLabelsAreBytes, TextLabelsAreBytes, AcceptedLabels, AcceptedReadBack, BytesAndTextsAgree};
 
 /// Names with different labels or different flags have different texts, byte for byte.
+#[tactic(auto, using(crate::proofs::DifferentTexts::texts_differ))]
 pub fn texts_differ()
     ensures { TextsDiffer }
 {}
 
 /// The labels of names that are read in messages have octets below 256, and so have labels that stand for themselves as
 /// text.
+#[tactic(auto, using(crate::proofs::LabelBytes::read_labels_are_bytes, crate::proofs::LabelBytes::text_labels_are_bytes))]
 pub fn labels_are_bytes()
     ensures read { ReadLabelsAreBytes }
     ensures text { TextLabelsAreBytes }

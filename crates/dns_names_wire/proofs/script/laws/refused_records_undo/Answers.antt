@@ -1,5 +1,0 @@
-use Rattle.dns_names_wire.proofs.Running.{undoes}
-use Rattle.dns_names_wire.proofs.script.laws.refused_records_undo.Goals as goal
-
-pub returns : goal.returns
-returns c old candidates names actions replies v w r error len runs step = undoes old candidates names actions replies v runs w r error step.0

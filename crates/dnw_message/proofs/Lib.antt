@@ -1,0 +1,7 @@
+pub mod Headers
+pub mod Starts
+pub mod InTurn
+pub mod Whole
+pub mod Lending
+pub mod OneMessage
+pub mod Extension

@@ -1,0 +1,9 @@
+pub mod OpCodes
+pub mod ResponseCodes
+pub mod Headers
+pub mod HeaderLaws
+pub mod Edns
+pub mod Messages
+pub mod MessageLaws
+pub mod Queries
+pub mod Inside

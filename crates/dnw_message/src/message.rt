@@ -1,0 +1,220 @@
+//! Messages, which are read without copying.
+ghost use Rattle.std.specs.Prelude.{◌≡◌, ℕ, ◌<◌, ◌≤◌, length, drop, slice_range, IfOk, IfErr};
+ghost use Rattle.dnw_message.specs.Headers.{header_of, header_size};
+ghost use Rattle.dnw_message.specs.Edns.{FailsEdns, HasEdns, IsResponseCode};
+ghost use Rattle.dnw_message.specs.Messages.{MessageAt, FailsMessage, no_header};
+
+use crate::edns::{EdnsError, EdnsRef, next_opt};
+use crate::error::{MessageError, MessageErrorKind, Section};
+use crate::header::Header;
+use crate::items::{Queries, Records};
+use crate::passing::pass_section;
+use crate::response_code::ResponseCode;
+use dnw_base::decoder::BinDecoder;
+use dnw_error::error::DecodeError;
+use std::marker::Model;
+
+/// How many pointers the names of a message may follow in all, if no other number is given.
+const MAX_POINTERS: usize = 65536;
+
+/// A message (RFC 1035, section 4). It borrows all from the octets that it was read from, and nothing here allocates.
+///
+/// Reading checks that each question and each record is there. So the iterators over the sections can't fail. What the data of
+/// a record are is not looked into; see `RecordRef::data_name`.
+///
+/// A contract sees it as its octets, its header, its sections and the offset at which it ends.
+#[derive(Drop)]
+pub struct MessageRef<'m> {
+    message: &'m [u8],
+    header: Header,
+    answers: usize,
+    authorities: usize,
+    additionals: usize,
+    end: usize,
+}
+
+impl<'m> Model for MessageRef<'m> {
+    ghost use Rattle.dnw_message.specs.Messages.{MessageValue};
+    ghost use Rattle.dnw_message.specs.Inside.Kept.{message_in, IsKept};
+
+    ghost Value = { MessageValue };
+
+    ghost view = { λ m. message_in m.message.now m.header m.answers m.authorities m.additionals m.end };
+
+    ghost invariant = { λ m. IsKept m.message.now m.header m.answers m.authorities m.additionals m.end };
+}
+
+impl<'m> MessageRef<'m> {
+    /// Reads the message at the start of these octets, whatever follows it.
+    ///
+    /// It fails at the first item that is not there. The names of its questions and the owners of its records may follow 65,536
+    /// pointers in all; `read_limited` takes another number.
+    pub fn read(octets: &'m [u8]) -> Result<Self, MessageError>
+        ensures ok { IfOk result (λ m. (k : ℕ) × MessageAt octets.now m k × (k ≤ 65536)) }
+        ensures err { IfErr result (FailsMessage octets.now 65536) }
+    {
+        MessageRef::read_limited(octets, MAX_POINTERS)
+    }
+
+    /// Reads as `read` does, if the names follow no more than `max_pointers` in all.
+    ///
+    /// So the time that it takes is linear in the number of octets and in `max_pointers`: each item costs its own octets, the
+    /// pointers of its name, and at most 128 labels. Without a limit a chain of 8,000 pointers, with 4,000 records that each
+    /// begin at its end, would follow 32 million pointers in 64 KB.
+    pub fn read_limited(octets: &'m [u8], max_pointers: usize) -> Result<Self, MessageError>
+        ensures ok { IfOk result (λ m. (k : ℕ) × MessageAt octets.now m k × (k ≤ max_pointers)) }
+        ensures err { IfErr result (FailsMessage octets.now max_pointers) }
+    {
+        let header = read_header(octets)?;
+        let counts = header.counts;
+        let mut left = max_pointers;
+        let mut reader = reader_at(octets, Header::LEN);
+        pass_section(&mut reader, Section::Queries, counts.queries, &mut left)?;
+        let answers = reader.index();
+        pass_section(&mut reader, Section::Answers, counts.answers, &mut left)?;
+        let authorities = reader.index();
+        pass_section(
+            &mut reader,
+            Section::Authorities,
+            counts.authorities,
+            &mut left,
+        )?;
+        let additionals = reader.index();
+        pass_section(
+            &mut reader,
+            Section::Additionals,
+            counts.additionals,
+            &mut left,
+        )?;
+        Ok(MessageRef {
+            message: octets,
+            header,
+            answers,
+            authorities,
+            additionals,
+            end: reader.index(),
+        })
+    }
+
+    /// Returns the header.
+    #[inline(always)]
+    pub fn header(&self) -> &Header
+        ensures { result.now ≡ self.now.header }
+    {
+        &self.header
+    }
+
+    /// Returns the questions, one after another.
+    pub fn queries(&self) -> Queries<'m>
+        ensures { result ≡ self.now.queries }
+    {
+        Queries::new(
+            reader_at(self.message, Header::LEN),
+            self.header.counts.queries,
+        )
+    }
+
+    /// Returns the records that answer, one after another.
+    pub fn answers(&self) -> Records<'m>
+        ensures { result ≡ self.now.answers }
+    {
+        Records::new(
+            reader_at(self.message, self.answers),
+            self.header.counts.answers,
+        )
+    }
+
+    /// Returns the records that lead to an authority, one after another.
+    pub fn authorities(&self) -> Records<'m>
+        ensures { result ≡ self.now.authorities }
+    {
+        Records::new(
+            reader_at(self.message, self.authorities),
+            self.header.counts.authorities,
+        )
+    }
+
+    /// Returns the records that help, one after another. An `OPT` record is among them.
+    pub fn additionals(&self) -> Records<'m>
+        ensures { result ≡ self.now.additionals }
+    {
+        Records::new(
+            reader_at(self.message, self.additionals),
+            self.header.counts.additionals,
+        )
+    }
+
+    /// Returns what the message says by EDNS, or `None` without an `OPT` record in the additional section (RFC 6891).
+    ///
+    /// It fails with `DuplicateEdns` if there are two or more, with `OwnerNotRoot` if the only one is not owned by the root, or
+    /// else with `CutOption` if its data are not options up to their end.
+    pub fn edns(&self) -> Result<Option<EdnsRef<'m>>, EdnsError>
+        ensures ok { IfOk result (HasEdns self.now) }
+        ensures err { IfErr result (FailsEdns self.now) }
+    {
+        let mut records = self.additionals();
+        let Some(opt) = next_opt(&mut records) else {
+            return Ok(None);
+        };
+        if next_opt(&mut records).is_some() {
+            return Err(EdnsError::DuplicateEdns);
+        }
+        Ok(Some(EdnsRef::read(&opt)?))
+    }
+
+    /// Returns the response code, with the high bits that EDNS has (RFC 6891, section 6.1.3). It fails as `edns` does.
+    pub fn response_code(&self) -> Result<ResponseCode, EdnsError>
+        ensures ok { IfOk result (IsResponseCode self.now) }
+        ensures err { IfErr result (FailsEdns self.now) }
+    {
+        let high = match self.edns()? {
+            Some(edns) => edns.rcode_high(),
+            None => 0,
+        };
+        let low = u16::from(self.header.metadata.response_code) % 16;
+        Ok(ResponseCode::from(low + (u16::from(high) << 4)))
+    }
+
+    /// Returns the offset at which the message ends.
+    #[inline(always)]
+    pub fn end(&self) -> usize
+        ensures { result ≡ self.now.end }
+    {
+        self.end
+    }
+
+    /// Returns the octets after the message, if it was read from more.
+    #[inline(always)]
+    pub fn trailing(&self) -> &'m [u8]
+        ensures { result.now ≡ drop self.now.end self.now.octets }
+    {
+        &self.message[self.end..]
+    }
+}
+
+/// Reads the header at the start of these octets.
+fn read_header(octets: &[u8]) -> Result<Header, MessageError>
+    ensures ok { IfOk result (λ h. (header_size ≤ length octets.now) × (h ≡ header_of (slice_range octets.now 0 header_size))) }
+    ensures err { IfErr result (λ e. (length octets.now < header_size) × (e ≡ no_header)) }
+{
+    match octets.first_chunk() {
+        Some(head) => Ok(Header::from_octets(head)),
+        None => Err(MessageError {
+            section: Section::Header,
+            item: 0,
+            offset: 0,
+            kind: MessageErrorKind::Decode(DecodeError::InsufficientBytes),
+        }),
+    }
+}
+
+/// Returns a decoder of a message at an index.
+#[inline(always)]
+fn reader_at(message: &[u8], index: usize) -> BinDecoder<'_>
+    requires { index ≤ length message.now }
+    ensures { result ≡ record { bytes = message.now; index = index } }
+{
+    let mut reader = BinDecoder::new(message);
+    reader.skip(index).unwrap();
+    reader
+}

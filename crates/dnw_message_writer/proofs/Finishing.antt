@@ -1,0 +1,191 @@
+-- A message that was begun, to which items were added, and whose header was filled in, is what it was to be.
+use Rattle.std.proofs.Common.{◌≡◌, ℕ, ◌+◌, ◌≤◌, ◌||◌, Bool, true, false, List, [], ◌∷◌, ◌++◌, length, map, take, drop, replicate, Ok, Err, refl, sym, ap, ◌∙◌, subst, arith}
+use Rattle.std.proofs.lemmas.List.{append-nil, take-append-drop, take_all}
+use Rattle.dnw_error.specs.declared.error.ProtoError.TheVariants.{MaxBufferSizeExceeded, Memory}
+use Rattle.dnw_encoder.specs.declared.encoder.modes.NameEncoding.TheVariants.{Compressed}
+use Rattle.dnw_encoder.specs.Encoder.{Encoder, Writes, fresh, moved_to, usual_candidates, usual_names, written}
+use Rattle.dnw_encoder.specs.Emitting.{Outcome}
+use Rattle.dnw_encoder.proofs.Preceding.{new_precede, writes_precede}
+use Rattle.dnw_script.specs.declared.script.Reply.{Reply}
+use Rattle.dnw_script.specs.declared.script.Reply.TheVariants.{Done}
+use Rattle.dnw_script.specs.Script.{Action, reserve, set_max}
+use Rattle.dnw_script.specs.Pieces.{Account, Piece, RecordStands, Spells, account_from, after, opening, place_piece}
+use Rattle.dnw_script.specs.Runs.{Runs, beginning}
+use Rattle.dnw_script.specs.Finished.{Finished}
+use Rattle.dnw_script.proofs.Running.{runs_finish}
+use Rattle.dnw_message.specs.declared.header.Header.{Header}
+use Rattle.dnw_message.specs.declared.header.Metadata.{Metadata}
+use Rattle.dnw_message.specs.Headers.{flags_of, header_wire}
+use Rattle.dnw_message_writer.specs.declared.writer.Entry.{Entry}
+use Rattle.dnw_message_writer.specs.Drafts.{Added, AddsAll, Closes, Draft, first_header, limited}
+use Rattle.dnw_message_writer.specs.Written.{Contents, Holds, Written, contents_from, nothing}
+use Rattle.dnw_message_writer.specs.WriterLaws.{MessagesAreWritten}
+use Rattle.dnw_message_writer.proofs.Going.{action_of}
+use Rattle.dnw_message_writer.proofs.Holding.{Has, elements, records_of, steps}
+use Rattle.dnw_message_writer.proofs.Closing.{begun, filled_replies, fills, items-stand, no_pieces, piece_of, put-header, put_all, runs-fills, runs-then, stand-split, zeros}
+
+-- ---- the first steps
+
+abbrev head_actions : ℕ → List Action
+head_actions most = set_max most ∷ reserve ∷ reserve ∷ reserve ∷ reserve ∷ reserve ∷ reserve ∷ []
+
+abbrev head_replies : List Reply
+head_replies = Done 0 ∷ Done 2 ∷ Done 4 ∷ Done 6 ∷ Done 8 ∷ Done 10 ∷ Done 12 ∷ []
+
+runs-head : (most : ℕ) (more : List Action) (others : List Reply) (w : Encoder) → 12 ≤ most → most ≤ 65535
+    → Runs (begun most 12 no_pieces) (zeros most 12) more others w
+    → Runs (opening 0) (beginning [] usual_candidates usual_names) (head_actions most ++ more) (head_replies ++ others) w
+runs-head most more others w room small on = (
+  zeros most 0,
+  (refl, refl, small),
+  (
+    zeros most 2,
+    ((omega (arith, room), refl), refl),
+    (
+      zeros most 4,
+      ((omega (arith, room), refl), refl),
+      (
+        zeros most 6,
+        ((omega (arith, room), refl), refl),
+        (
+          zeros most 8,
+          ((omega (arith, room), refl), refl),
+          (
+            zeros most 10,
+            ((omega (arith, room), refl), refl),
+            (zeros most 12, ((omega (arith, room), refl), refl), on),
+          ),
+        ),
+      ),
+    ),
+  ),
+)
+
+same-lengths : (a : Account) (v w : Encoder) (actions : List Action) (replies : List Reply) → Runs a v actions replies w → length actions ≡ length replies
+same-lengths a v w [] [] h = refl
+same-lengths a v w (x ∷ xs) (r ∷ rs) h = omega (arith, same-lengths (after a x r) h.0 w xs rs h.2)
+same-lengths a v w xs rs h = absurd h
+
+-- ---- the last one
+
+-- There is room for the header, and it is where it was reserved.
+closed : (h : Header) (v w : Encoder) (rest : List ℕ) (outcome : Outcome) → v.bytes ≡ replicate 12 0 ++ rest → 12 ≤ length v.bytes → 12 ≤ v.max_size
+    → Writes (moved_to v 0) (header_wire h) outcome w → w.bytes ≡ header_wire h ++ rest
+closed h v w rest (Ok tt) is long room writes =
+    ap (λ (x : Encoder). x.bytes) writes.1 ∙ ap (λ (b : List ℕ). (written (moved_to (record v { bytes = b }) 0) (header_wire h)).bytes) is
+closed h v w rest (Err Memory) is long room writes = absurd (omega (arith, long, writes.1))
+closed h v w rest (Err (MaxBufferSizeExceeded size)) is long room writes = absurd (omega (arith, room, writes.0))
+closed h v w rest (Err error) is long room writes = absurd writes
+
+abbrev filled_pieces : Header → List Piece → List Piece
+filled_pieces h pieces =
+    place_piece h.metadata.id ∷ place_piece (flags_of h.metadata) ∷ place_piece h.counts.queries ∷ place_piece h.counts.answers
+    ∷ place_piece h.counts.authorities ∷ place_piece h.counts.additionals ∷ pieces
+
+module _ (metadata : Metadata) (most : ℕ) (room : 12 ≤ most) (c : Contents) (d : Draft) (w : Encoder)
+    (has : Has (begun most 12 no_pieces) (zeros most 12) metadata c d) (closes : Closes d.header d.encoder w) where
+  v : Encoder
+  v = d.encoder
+
+  rest : List ℕ
+  rest = drop 12 d.encoder.bytes
+
+  split : d.encoder.bytes ≡ replicate 12 0 ++ rest
+  unfolding rest
+  split = sym (take-append-drop 12 d.encoder.bytes) ∙ ap (λ (x : List ℕ). x ++ drop 12 d.encoder.bytes) has.front
+
+  bytes : w.bytes ≡ header_wire d.header ++ rest
+  bytes = closed d.header d.encoder w rest closes.0 split (omega (arith, has.on, has.at_end)) (omega (arith, room, has.most)) closes.1
+
+  pub same-length : length w.bytes ≡ d.encoder.offset
+  same-length = ap length bytes ∙ (sym (ap length split) ∙ sym has.at_end)
+
+  spelled : Spells w.bytes (filled_pieces d.header (map piece_of (elements c))) 0 (length w.bytes)
+  spelled =
+      let h = d.header in
+      let es = elements c in
+      let u = put_all h d.encoder in
+      let same : u.bytes ≡ w.bytes = put-header h d.encoder rest split ∙ sym bytes in
+      let more = map action_of es ++ fills h in
+      let others = map Done has.lens ++ filled_replies h d.encoder in
+      let (on, (n, account)) = runs-then most 12 no_pieces es has.lens (zeros most 12) d.encoder u (fills h) (filled_replies h d.encoder) has.runs
+      (λ n ps. runs-fills h most n ps d.encoder (omega (arith, room, has.most))) in
+      let xs = head_actions most ++ more in
+      let rs = head_replies ++ others in
+      let all = runs-head most more others u room has.small on in
+      let done : Finished [] xs rs u.bytes = runs_finish [] usual_candidates usual_names xs rs u all in
+      let a = account_from (opening 0) xs rs in
+      let pieces : a.pieces ≡ filled_pieces h (map piece_of es) = ap (λ (x : Account). x.pieces) account in
+      let spells = done.spells xs [] rs [] (sym (append-nil xs)) (sym (append-nil rs)) (same-lengths (opening 0) (beginning [] usual_candidates usual_names) u xs rs all) in
+      let whole : take (length a.pieces) a.pieces ≡ filled_pieces h (map piece_of es) = take_all (length a.pieces) a.pieces (omega arith) ∙ pieces in
+      let end : a.len ≡ length w.bytes = done.ends ∙ ap length same in
+      subst (λ (b : List ℕ). Spells b (filled_pieces h (map piece_of es)) 0 (length w.bytes)) same
+      (subst (λ (ps : List Piece). Spells u.bytes ps 0 (length w.bytes)) whole
+      (subst (λ (e : ℕ). Spells u.bytes (take (length a.pieces) a.pieces) 0 e) end spells))
+
+  pub finished : Holds metadata c w.bytes
+  finished =
+      let (e0, s0, (e1, s1, (e2, s2, (e3, s3, (e4, s4, (e5, s5, items)))))) = spelled in
+      let x0 : e0 ≡ 2 = s0.1 in
+      let x1 : e1 ≡ e0 + 2 = s1.1 in
+      let x2 : e2 ≡ e1 + 2 = s2.1 in
+      let x3 : e3 ≡ e2 + 2 = s3.1 in
+      let x4 : e4 ≡ e3 + 2 = s4.1 in
+      let x5 : e5 ≡ e4 + 2 = s5.1 in
+      let twelve : e5 ≡ 12 = omega (arith, x0, x1, x2, x3, x4, x5) in
+      let (m, queries, records) = items-stand w.bytes c.queries (records_of c) 12 (length w.bytes) has.fit
+      (subst (λ (p : ℕ). Spells w.bytes (map piece_of (elements c)) p (length w.bytes)) twelve items) in
+      let (n, answers, more) = stand-split (RecordStands w.bytes Compressed false) c.answers (c.authorities ++ c.additionals) m (length w.bytes) records in
+      let (o, authorities, additionals) = stand-split (RecordStands w.bytes Compressed false) c.authorities c.additionals n (length w.bytes) more in
+      record {
+        header = ap (take 12) bytes ∙ ap header_wire has.header;
+        answers_at = m;
+        authorities_at = n;
+        additionals_at = o;
+        queries = queries;
+        answers = answers;
+        authorities = authorities;
+        additionals = additionals;
+      }
+
+-- ---- the whole
+
+or-false : (b : Bool) → b ≡ (b || false)
+or-false true = refl
+or-false false = refl
+
+pub made : (metadata : Metadata) (most : ℕ) (entries : List Entry) (outcomes : List Added) (start : Encoder) (d : Draft) (w : Encoder) → most ≤ 65535
+    → Writes (limited (fresh [] 0) most) (replicate 12 0) (Ok tt) start → AddsAll entries (record { header = first_header metadata; encoder = start }) outcomes d
+    → Closes d.header d.encoder w → Written metadata most entries outcomes w.bytes
+made metadata most entries outcomes start d w small (room, is) adds closes =
+    let zero : start ≡ zeros most 12 = is in
+    let first : Draft = record { header = first_header metadata; encoder = zeros most 12 } in
+    let begins : Has (begun most 12 no_pieces) (zeros most 12) metadata nothing first =
+    record {
+      lens = [];
+      runs = refl;
+      header = ap (λ (x : Bool). record (first_header metadata) { metadata = record metadata { truncation = x } }) (or-false metadata.truncation);
+      front = refl;
+      at_end = refl;
+      precede = writes_precede (replicate 12 0) (limited (fresh [] 0) most) (zeros most 12) (Ok tt) (new_precede [] 0) (room, refl);
+      most = refl;
+      on = omega arith;
+      within = room;
+      small = small;
+      fit = tt;
+    } in
+    let added = subst (λ (x : Encoder). AddsAll entries (record { header = first_header metadata; encoder = x }) outcomes d) zero adds in
+    let (has, outcomes_are) = steps (begun most 12 no_pieces) (zeros most 12) metadata nothing first d entries outcomes begins added in
+    let c = contents_from nothing entries outcomes in
+    let len = same-length metadata most room c d w has closes in
+    record {
+      holds = finished metadata most room c d w has closes;
+      outcomes_are = rw len outcomes_are;
+      few = omega (arith, len, has.within);
+    }
+
+pub messages_are_written : MessagesAreWritten
+messages_are_written metadata most entries outcomes header start d octets small (first, begins) adds (w, closes, is) =
+    subst (Written metadata most entries outcomes) (sym is)
+    (made metadata most entries outcomes start d w small begins
+    (subst (λ (h : Header). AddsAll entries (record { header = h; encoder = start }) outcomes d) first adds) closes)

@@ -1,0 +1,5 @@
+pub mod Adding
+pub mod Going
+pub mod Holding
+pub mod Closing
+pub mod Finishing

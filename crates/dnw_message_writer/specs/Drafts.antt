@@ -1,0 +1,98 @@
+-- A message while it is written: how items are added to it, in the order of the sections (RFC 1035, section 4.1).
+use Rattle.std.specs.Prelude.{◌≡◌, ℕ, ◌+◌, min, Bool, true, false, ◌&&◌, ◌==◌, List, [], ◌∷◌, replicate, Result, Ok, Err}
+use Rattle.dnw_error.specs.declared.error.ProtoError.{ProtoError}
+use Rattle.dnw_error.specs.declared.error.ProtoError.TheVariants.{MaxBufferSizeExceeded}
+use Rattle.dnw_encoder.specs.Encoder.{Encoder, Writes, moved_to}
+use Rattle.dnw_encoder.specs.Emitting.{Emits, Outcome}
+use Rattle.dnw_message.specs.declared.header.Header.{Header}
+use Rattle.dnw_message.specs.declared.header.HeaderCounts.{HeaderCounts}
+use Rattle.dnw_message.specs.declared.header.Metadata.{Metadata}
+use Rattle.dnw_message.specs.Headers.{header_wire}
+use Rattle.dnw_record.specs.WrittenRecords.{EmitsRecord}
+use Rattle.dnw_message_writer.specs.WireQueries.{EmitsQuery}
+use Rattle.dnw_message_writer.specs.declared.writer.Entry.{Entry}
+use Rattle.dnw_message_writer.specs.declared.writer.Entry.TheVariants.{Query, Answer, Authority, Additional}
+use Rattle.dnw_message_writer.specs.declared.section.Section.{Section}
+use Rattle.dnw_message_writer.specs.declared.section.Section.TheVariants as section
+use Rattle.dnw_message_writer.specs.declared.section.AddError.{AddError}
+use Rattle.dnw_message_writer.specs.declared.section.AddError.TheVariants.{OutOfOrder, Proto}
+
+-- A message that is being written: its header as it would be now, and the encoder after the last item.
+pub record Draft : Type 0 where
+  pub header : Header
+  pub encoder : Encoder
+
+-- what an attempt to add an item comes to
+abbrev pub Added : Type 0
+Added = Result (Unit {0}) AddError
+
+-- No section after this one has items.
+abbrev pub is_open : Section → HeaderCounts → Bool
+is_open section.Queries c = c.answers == 0 && (c.authorities == 0 && c.additionals == 0)
+is_open section.Answers c = c.authorities == 0 && c.additionals == 0
+is_open section.Authorities c = c.additionals == 0
+is_open section.Additionals c = true
+
+-- the counts with one more item
+abbrev pub one_more : ℕ → ℕ
+one_more n = min (n + 1) 65535
+
+abbrev pub counted : Section → HeaderCounts → HeaderCounts
+counted section.Queries c = record c { queries = one_more c.queries }
+counted section.Answers c = record c { answers = one_more c.answers }
+counted section.Authorities c = record c { authorities = one_more c.authorities }
+counted section.Additionals c = record c { additionals = one_more c.additionals }
+
+-- A message without this item is truncated: an answer or an authority record did not fit (RFC 2181, section 9).
+abbrev pub cuts : Section → ProtoError → Bool
+cuts section.Answers (MaxBufferSizeExceeded size) = true
+cuts section.Authorities (MaxBufferSizeExceeded size) = true
+cuts section error = false
+
+abbrev pub cut_if : Bool → Header → Header
+cut_if true h = record h { metadata = record h.metadata { truncation = true } }
+cut_if false h = h
+
+-- An item is written after the others, or refused, and then nothing of it is.
+abbrev pub Adds : {X : Type 0} → Emits X → Section → X → Draft → Added → Draft → Type 0
+Adds emits s x d (Ok done) e =
+    (is_open s d.header.counts ≡ true) × emits x d.encoder (Ok tt) e.encoder × (e.header ≡ record d.header { counts = counted s d.header.counts })
+Adds emits s x d (Err OutOfOrder) e = (is_open s d.header.counts ≡ false) × (e ≡ d)
+Adds emits s x d (Err (Proto error)) e =
+    (is_open s d.header.counts ≡ true) × emits x d.encoder (Err error) e.encoder × (e.header ≡ cut_if (cuts s error) d.header)
+
+abbrev pub AddsEntry : Entry → Draft → Added → Draft → Type 0
+AddsEntry (Query q) d outcome e = Adds EmitsQuery section.Queries q d outcome e
+AddsEntry (Answer r) d outcome e = Adds EmitsRecord section.Answers r d outcome e
+AddsEntry (Authority r) d outcome e = Adds EmitsRecord section.Authorities r d outcome e
+AddsEntry (Additional r) d outcome e = Adds EmitsRecord section.Additionals r d outcome e
+
+-- Items are added in turn, each with its outcome.
+abbrev pub AddsAll : List Entry → Draft → List Added → Draft → Type 0
+AddsAll [] d [] e = e ≡ d
+AddsAll [] d (outcome ∷ outcomes) e = ⊥
+AddsAll (x ∷ xs) d [] e = ⊥
+AddsAll (x ∷ xs) d (outcome ∷ outcomes) e = (m : Draft) × AddsEntry x d outcome m × AddsAll xs m outcomes e
+
+-- the header of a message without items
+abbrev pub first_header : Metadata → Header
+first_header metadata = record {
+  metadata = metadata;
+  counts = record { queries = 0; answers = 0; authorities = 0; additionals = 0 };
+}
+
+abbrev pub limited : Encoder → ℕ → Encoder
+limited v most = record v { max_size = most }
+
+-- The maximum is set, and the octets of a header are reserved.
+abbrev pub Begins : Metadata → ℕ → Encoder → Result Header ProtoError → Encoder → Type 0
+Begins metadata most v (Ok header) w = (header ≡ first_header metadata) × Writes (limited v most) (replicate 12 0) (Ok tt) w
+Begins metadata most v (Err error) w = Writes (limited v most) (replicate 12 0) (Err error) w
+
+-- The header is written over the octets that were reserved for it.
+abbrev pub Closes : Header → Encoder → Encoder → Type 0
+Closes header v w = (outcome : Outcome) × Writes (moved_to v 0) (header_wire header) outcome w
+
+-- A message ends with these octets.
+abbrev pub Ends : Draft → List ℕ → Type 0
+Ends d bytes = (w : Encoder) × Closes d.header d.encoder w × (bytes ≡ w.bytes)

@@ -1,0 +1,6 @@
+pub mod WireQueries
+pub mod QueryFrames
+pub mod Drafts
+pub mod Written
+pub mod Writers
+pub mod WriterLaws

@@ -1,0 +1,137 @@
+-- What a written message is (RFC 1035, section 4): a header, and then exactly the items that were accepted, by their sections.
+use Rattle.std.specs.Prelude.{◌≡◌, ℕ, ◌+◌, ◌<◌, ◌≤◌, Bool, true, false, ◌||◌, List, [], ◌∷◌, ◌++◌, length, take, Ok, Err}
+use Rattle.std.specs.Int.{w16, to_be_bytes}
+use Rattle.dnw_error.specs.declared.error.ProtoError.TheVariants.{MaxBufferSizeExceeded, Memory}
+use Rattle.dnw_codes.specs.RecordTypes.{type_code}
+use Rattle.dnw_codes.specs.DnsClasses.{class_code}
+use Rattle.dnw_base.specs.Names.{encoded_size}
+use Rattle.dnw_encoder.specs.declared.encoder.modes.NameEncoding.TheVariants.{Compressed}
+use Rattle.dnw_record.specs.declared.record.WireRecord.{WireRecord}
+use Rattle.dnw_record.specs.RecordLaws.{record_size}
+use Rattle.dnw_script.specs.Pieces.{BytesStand, NameStands, RecordStands}
+use Rattle.dnw_message.specs.Headers.{header_size, header_wire}
+use Rattle.dnw_message.specs.declared.header.Header.{Header}
+use Rattle.dnw_message.specs.declared.header.HeaderCounts.{HeaderCounts}
+use Rattle.dnw_message.specs.declared.header.Metadata.{Metadata}
+use Rattle.dnw_message_writer.specs.declared.query.WireQuery.{WireQuery}
+use Rattle.dnw_message_writer.specs.declared.section.Section.{Section}
+use Rattle.dnw_message_writer.specs.declared.section.Section.TheVariants as section
+use Rattle.dnw_message_writer.specs.declared.section.AddError.TheVariants.{OutOfOrder, Proto}
+use Rattle.dnw_message_writer.specs.declared.writer.Entry.{Entry}
+use Rattle.dnw_message_writer.specs.declared.writer.Entry.TheVariants.{Query, Answer, Authority, Additional}
+use Rattle.dnw_message_writer.specs.WireQueries.{QueryFits}
+use Rattle.dnw_message_writer.specs.Drafts.{Added, is_open}
+
+-- ---- what the items and their outcomes say
+
+-- the items that were accepted, by their sections, and whether an answer or an authority record did not fit
+pub record Contents : Type 0 where
+  pub queries : List WireQuery
+  pub answers : List WireRecord
+  pub authorities : List WireRecord
+  pub additionals : List WireRecord
+  pub cut : Bool
+
+abbrev pub nothing : Contents
+nothing = record { queries = []; answers = []; authorities = []; additionals = []; cut = false }
+
+-- one more item, with its outcome
+abbrev pub and_then : Contents → Entry → Added → Contents
+and_then c (Query q) (Ok done) = record c { queries = c.queries ++ q ∷ [] }
+and_then c (Answer r) (Ok done) = record c { answers = c.answers ++ r ∷ [] }
+and_then c (Authority r) (Ok done) = record c { authorities = c.authorities ++ r ∷ [] }
+and_then c (Additional r) (Ok done) = record c { additionals = c.additionals ++ r ∷ [] }
+and_then c (Answer r) (Err (Proto (MaxBufferSizeExceeded size))) = record c { cut = true }
+and_then c (Authority r) (Err (Proto (MaxBufferSizeExceeded size))) = record c { cut = true }
+and_then c x outcome = c
+
+abbrev pub contents_from : Contents → List Entry → List Added → Contents
+contents_from c (x ∷ xs) (outcome ∷ outcomes) = contents_from (and_then c x outcome) xs outcomes
+contents_from c xs outcomes = c
+
+abbrev pub counts_of : Contents → HeaderCounts
+counts_of c = record {
+  queries = length c.queries;
+  answers = length c.answers;
+  authorities = length c.authorities;
+  additionals = length c.additionals;
+}
+
+-- The header counts the items, and says that the message is truncated if an item is missing that truncates it, or if the
+-- caller says so.
+abbrev pub header_for : Metadata → Contents → Header
+header_for metadata c = record {
+  metadata = record metadata { truncation = metadata.truncation || c.cut };
+  counts = counts_of c;
+}
+
+-- ---- why each item has its outcome
+
+abbrev pub section_of : Entry → Section
+section_of (Query q) = section.Queries
+section_of (Answer r) = section.Answers
+section_of (Authority r) = section.Authorities
+section_of (Additional r) = section.Additionals
+
+-- the octets of an item with its names whole
+abbrev pub entry_size : Entry → ℕ
+entry_size (Query q) = encoded_size q.name.labels + 4
+entry_size (Answer r) = record_size r
+entry_size (Authority r) = record_size r
+entry_size (Additional r) = record_size r
+
+-- After so many octets, an item is written in no more octets than with its names whole, and never past the maximum. It is
+-- refused if a later section has items, if it does not fit with its names whole, or if memory runs out; then nothing of it
+-- is written.
+abbrev pub HasOutcome : ℕ → Contents → ℕ → Entry → Added → ℕ → Type 0
+HasOutcome most c len x (Ok done) next =
+    (is_open (section_of x) (counts_of c) ≡ true) × (next ≤ len + entry_size x) × (next ≤ most)
+HasOutcome most c len x (Err OutOfOrder) next = (is_open (section_of x) (counts_of c) ≡ false) × (next ≡ len)
+HasOutcome most c len x (Err (Proto (MaxBufferSizeExceeded size))) next =
+    (is_open (section_of x) (counts_of c) ≡ true) × (most < len + entry_size x) × (size ≡ most) × (next ≡ len)
+HasOutcome most c len x (Err (Proto Memory)) next = (is_open (section_of x) (counts_of c) ≡ true) × (next ≡ len)
+HasOutcome most c len x (Err (Proto error)) next = ⊥
+
+-- each item has its outcome
+abbrev pub HaveOutcomes : ℕ → Contents → ℕ → List Entry → List Added → ℕ → Type 0
+HaveOutcomes most c len [] [] end = end ≡ len
+HaveOutcomes most c len [] (outcome ∷ outcomes) end = ⊥
+HaveOutcomes most c len (x ∷ xs) [] end = ⊥
+HaveOutcomes most c len (x ∷ xs) (outcome ∷ outcomes) end =
+    (next : ℕ) × HasOutcome most c len x outcome next × HaveOutcomes most (and_then c x outcome) next xs outcomes end
+
+-- ---- the octets
+
+-- A question is there from p to e (section 4.1.2): its name, its type and its class.
+pub record QueryStands (b : List ℕ) (q : WireQuery) (p e : ℕ) : Type 0 where
+  pub name_end : ℕ
+  pub name : NameStands b Compressed q.name.labels p name_end
+  pub query_type : BytesStand b (to_be_bytes w16 (type_code q.query_type)) name_end (name_end + 2)
+  pub query_class : BytesStand b (to_be_bytes w16 (class_code q.query_class)) (name_end + 2) e
+  pub fit : QueryFits q
+
+-- the items are there from p to e, one after the other
+abbrev pub Stand : {X : Type 0} → (X → ℕ → ℕ → Type 0) → List X → ℕ → ℕ → Type 0
+Stand one [] p e = p ≡ e
+Stand one (x ∷ xs) p e = (m : ℕ) × one x p m × Stand one xs m e
+
+abbrev pub RecordsStand : List ℕ → List WireRecord → ℕ → ℕ → Type 0
+RecordsStand b records p e = Stand (RecordStands b Compressed false) records p e
+
+-- The octets are a message with these contents: after the header, each section begins where the one before it ends, and
+-- nothing follows the last.
+pub record Holds (metadata : Metadata) (c : Contents) (bytes : List ℕ) : Type 0 where
+  pub header : take header_size bytes ≡ header_wire (header_for metadata c)
+  pub answers_at : ℕ
+  pub authorities_at : ℕ
+  pub additionals_at : ℕ
+  pub queries : Stand (QueryStands bytes) c.queries header_size answers_at
+  pub answers : RecordsStand bytes c.answers answers_at authorities_at
+  pub authorities : RecordsStand bytes c.authorities authorities_at additionals_at
+  pub additionals : RecordsStand bytes c.additionals additionals_at (length bytes)
+
+-- A message of at most so many octets was written from these items, with these outcomes.
+pub record Written (metadata : Metadata) (most : ℕ) (entries : List Entry) (outcomes : List Added) (bytes : List ℕ) : Type 0 where
+  pub holds : Holds metadata (contents_from nothing entries outcomes) bytes
+  pub outcomes_are : HaveOutcomes most nothing header_size entries outcomes (length bytes)
+  pub few : length bytes ≤ most

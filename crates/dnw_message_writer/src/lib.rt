@@ -1,0 +1,9 @@
+//! Whole messages, written (RFC 1035, section 4): a header, and then items of four sections, none past a maximum size.
+//!
+//! It stands on headers and scripts. Read `specs/Drafts.antt` first: what a message is while it is written.
+#![tactic(auto)]
+
+pub mod laws;
+pub mod query;
+mod section;
+pub mod writer;

@@ -1,0 +1,54 @@
+//! Questions, as they are written into messages (RFC 1035, section 4.1.2).
+ghost use Rattle.std.specs.Prelude.{◌≡◌, OnOk};
+ghost use Rattle.dnw_encoder.specs.EncoderValue.{value, lender};
+ghost use Rattle.dnw_message_writer.specs.WireQueries.{EmitsQuery, EmitsQueryFields, QueryFits};
+ghost use Rattle.dnw_message_writer.specs.QueryFrames.{frame-query};
+
+use dnw_codes::dns_class::DNSClass;
+use dnw_codes::record_type::RecordType;
+use dnw_encoder::binary::BinEncodable;
+use dnw_encoder::encoder::BinEncoder;
+use dnw_error::error::ProtoResult;
+use dnw_name::name::Name;
+
+/// A question to be written into a message (RFC 1035, section 4.1.2).
+///
+/// It is written whole or not at all, as a record is.
+#[derive(Debug, Drop)]
+pub struct WireQuery {
+    /// The name that is asked for, written in the encoder's mode.
+    pub name: Name,
+    /// The type of the records that are asked for.
+    pub query_type: RecordType,
+    /// Their class.
+    pub query_class: DNSClass,
+}
+
+impl BinEncodable for WireQuery {
+    ghost emits = { EmitsQuery };
+
+    ghost keeps_frame = { frame-query };
+
+    /// Writes the name, the type and the class. If one of them fails, the encoder is put back to where it was.
+    fn emit(&self, encoder: &mut BinEncoder<'_>) -> ProtoResult<()> {
+        let mark = encoder.mark();
+        let outcome = emit_fields(self, encoder);
+        if outcome.is_err() {
+            encoder.rewind(mark);
+        }
+        outcome
+    }
+}
+
+/// Writes the fields of a question in turn, up to the first that fails.
+fn emit_fields(item: &WireQuery, encoder: &mut BinEncoder<'_>) -> ProtoResult<()>
+    ensures writes { EmitsQueryFields item.now (value encoder.old) result (value encoder.new) }
+    ensures fit { OnOk result (QueryFits item.now) }
+    ensures lender { lender encoder.new ≡ lender encoder.old }
+{
+    let kind = u16::from(item.query_type);
+    let class = u16::from(item.query_class);
+    item.name.emit(encoder)?;
+    encoder.emit_u16(kind)?;
+    encoder.emit_u16(class)
+}

@@ -1,0 +1,120 @@
+//! Messages that are written item by item.
+ghost use Rattle.std.specs.Prelude.{◌≡◌, ◌<◌, ◌≤◌, ◌⊎◌, List, [], ◌∷◌, length, replicate, IfOk, IfErr, OnErr, OnOk};
+ghost use Rattle.std.specs.Prelude.{vec_len};
+ghost use Rattle.std.specs.Vec.{vec_capacity};
+ghost use Rattle.dnw_encoder.specs.Encoder.{Writes, fresh, moved_to};
+ghost use Rattle.dnw_encoder.specs.EncoderValue.{value, lender};
+ghost use Rattle.dnw_base.specs.Limits.{max_message};
+ghost use Rattle.dnw_error.specs.declared.error.ProtoError.{ProtoError};
+ghost use Rattle.dnw_message.specs.Headers.{header_size};
+ghost use Rattle.dnw_message_writer.specs.Written.{Written};
+ghost use Rattle.dnw_message_writer.specs.Drafts.{Begins, AddsEntry, AddsAll, Closes, Draft};
+
+use crate::query::WireQuery;
+use crate::section::{Section, add};
+use dnw_encoder::binary::BinEncodable;
+use dnw_encoder::encoder::BinEncoder;
+use dnw_error::error::ProtoResult;
+use dnw_message::header::{Header, HeaderCounts, Metadata};
+use dnw_record::record::WireRecord;
+use std::alloc::Global;
+
+mod one_by_one;
+
+pub use crate::section::AddError;
+pub use one_by_one::MessageWriter;
+
+/// An item of a message, and the section that it is for.
+#[derive(Debug, Drop)]
+pub enum Entry {
+    /// A question.
+    Query(WireQuery),
+    /// A record that answers.
+    Answer(WireRecord),
+    /// A record that leads to an authority.
+    Authority(WireRecord),
+    /// A record that helps.
+    Additional(WireRecord),
+}
+
+/// Writes a message into an empty buffer: the header, and of these items, in their order, each that is in the order of the
+/// sections and has room.
+pub fn write(
+    alloc: Global,
+    buffer: &mut Vec<u8>,
+    metadata: Metadata,
+    max_size: u16,
+    entries: &[Entry],
+) -> ProtoResult<Vec<Result<(), AddError>>>
+    requires { buffer.old.items ≡ [] }
+    ensures written { IfOk result (λ outcomes. Written metadata max_size entries.now outcomes.items buffer.new.items) }
+    ensures err { IfErr result (λ e. (e ≡ ProtoError.Memory) ⊎ ((e ≡ ProtoError.MaxBufferSizeExceeded max_size) × (max_size < header_size))) }
+    ensures same { OnErr result (buffer.new.items ≡ []) }
+{
+    let mut outcomes = Vec::with_capacity(alloc, entries.len())?;
+    let mut encoder = BinEncoder::new(buffer);
+    let mut header = begin(&mut encoder, metadata, max_size)?;
+    add_all(&mut encoder, &mut header, entries, &mut outcomes);
+    close(&mut encoder, &header);
+    drop(encoder);
+    Ok(outcomes)
+}
+
+/// Reserves the header's octets.
+fn begin(encoder: &mut BinEncoder<'_>, metadata: Metadata, max_size: u16) -> ProtoResult<Header>
+    ensures small { max_size ≤ max_message }
+    ensures begins { Begins metadata max_size (value encoder.old) result (value encoder.new) }
+    ensures lender { lender encoder.new ≡ lender encoder.old }
+{
+    encoder.set_max_size(max_size);
+    encoder.emit_vec(&[0; Header::LEN])?;
+    Ok(Header {
+        metadata,
+        counts: HeaderCounts::default(),
+    })
+}
+
+/// Adds the items in their order, and an outcome for each.
+fn add_all(
+    encoder: &mut BinEncoder<'_>,
+    header: &mut Header,
+    entries: &[Entry],
+    outcomes: &mut Vec<Result<(), AddError>>,
+)
+    requires none { outcomes.old.items ≡ [] }
+    requires room { length entries.now ≤ vec_capacity outcomes.old }
+    ensures adds { AddsAll entries.now (record { header = header.old; encoder = value encoder.old }) outcomes.new.items (record { header = header.new; encoder = value encoder.new }) }
+    ensures lender { lender encoder.new ≡ lender encoder.old }
+{
+    for entry in entries {
+        let outcome = add_entry(encoder, header, entry);
+        outcomes.push_reserved(outcome);
+    }
+}
+
+/// Adds an item.
+fn add_entry(
+    encoder: &mut BinEncoder<'_>,
+    header: &mut Header,
+    entry: &Entry,
+) -> Result<(), AddError>
+    ensures adds { AddsEntry entry.now (record { header = header.old; encoder = value encoder.old }) result (record { header = header.new; encoder = value encoder.new }) }
+    ensures lender { lender encoder.new ≡ lender encoder.old }
+{
+    match entry {
+        Entry::Query(query) => add(encoder, header, Section::Queries, query),
+        Entry::Answer(record) => add(encoder, header, Section::Answers, record),
+        Entry::Authority(record) => add(encoder, header, Section::Authorities, record),
+        Entry::Additional(record) => add(encoder, header, Section::Additionals, record),
+    }
+}
+
+/// Writes the header over the octets that were reserved for it.
+fn close(encoder: &mut BinEncoder<'_>, header: &Header)
+    ensures closes { Closes header.now (value encoder.old) (value encoder.new) }
+    ensures lender { lender encoder.new ≡ lender encoder.old }
+{
+    encoder.set_offset(0);
+    // As many octets are there, so it needs no room.
+    let _ = header.emit(encoder);
+}

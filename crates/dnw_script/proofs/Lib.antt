@@ -1,0 +1,12 @@
+pub mod WireParts
+pub mod Lists
+pub mod Placing
+pub mod Chunks
+pub mod Naming
+pub mod Standing
+pub mod Stepping
+pub mod Running
+pub mod RunningOn
+pub mod ReadingBack
+pub mod ShortestNames
+pub mod Bounded
