@@ -143,6 +143,46 @@ static void parses(void)
     EXPECT(parsed.len == 255);
 }
 
+static bool goes_wrong(const uint8_t *text, size_t len, size_t at, uint32_t rule)
+{
+    struct dnw_parsed_name parsed;
+    size_t offset = len + 1;
+    return dnw_name_text_fault(text, len, &offset) == rule && offset == at && parse(text, at, sizeof buffer, &parsed) == DNW_DONE;
+}
+
+/* What is before the offset is a name, and what goes on with the character or escape there is none. */
+static void texts_go_wrong(void)
+{
+    size_t offset = 7;
+    EXPECT(dnw_name_text_fault(BYTES("a.bc."), &offset) == DNW_DONE && offset == 7);
+    EXPECT(dnw_name_text_fault(BYTES("."), &offset) == DNW_DONE && offset == 7);
+    EXPECT(dnw_name_text_fault(BYTES(""), &offset) == DNW_DONE && offset == 7);
+    EXPECT(dnw_name_text_fault(BYTES("\\101\\.-."), &offset) == DNW_DONE && offset == 7);
+    EXPECT(goes_wrong(BYTES("a..b"), 2, DNW_EMPTY_LABEL));
+    EXPECT(goes_wrong(BYTES(".a"), 1, DNW_EMPTY_LABEL));
+    EXPECT(goes_wrong(BYTES(".."), 1, DNW_EMPTY_LABEL));
+    EXPECT(goes_wrong(BYTES("exa mple"), 3, DNW_ILLEGAL_CHARACTER));
+    EXPECT(goes_wrong(BYTES("a.-b"), 2, DNW_ILLEGAL_CHARACTER));
+    EXPECT(goes_wrong(BYTES("ab*c d"), 2, DNW_ILLEGAL_CHARACTER));
+    EXPECT(goes_wrong(BYTES("b\303\274cher"), 1, DNW_ILLEGAL_CHARACTER));
+    EXPECT(goes_wrong(BYTES("a\\;b"), 1, DNW_ILLEGAL_CHARACTER));
+    EXPECT(goes_wrong(BYTES("\\200"), 0, DNW_ILLEGAL_CHARACTER));
+    EXPECT(goes_wrong(BYTES("a\\18"), 1, DNW_BAD_ESCAPE));
+    EXPECT(goes_wrong(BYTES("a\\1x"), 1, DNW_ILLEGAL_CHARACTER));
+    EXPECT(goes_wrong(BYTES("a\\10"), 1, DNW_TEXT_CUT));
+    EXPECT(goes_wrong(BYTES("\\"), 0, DNW_TEXT_CUT));
+    EXPECT(goes_wrong(BYTES("a.b\377"), 3, DNW_NOT_UTF8));
+    uint8_t text[256];
+    memset(text, 'a', sizeof text);
+    EXPECT(dnw_name_text_fault(text, 63, &offset) == DNW_DONE);
+    EXPECT(goes_wrong(text, 64, 63, DNW_LABEL_TOO_LONG));
+    EXPECT(goes_wrong(text, 256, 63, DNW_LABEL_TOO_LONG));
+    text[63] = text[127] = text[191] = '.';
+    EXPECT(dnw_name_text_fault(text, 253, &offset) == DNW_DONE);
+    EXPECT(goes_wrong(text, 254, 253, DNW_NAME_TOO_LONG));
+    EXPECT(goes_wrong(text, 256, 253, DNW_NAME_TOO_LONG));
+}
+
 static void prints(void)
 {
     size_t len = 7;
@@ -307,6 +347,27 @@ static void writes_messages(void)
     EXPECT(write_items(ITEM("\002"), 512, true, 255, &written) == DNW_DONE);
     EXPECT(written.len == 18 && holds("\001A\000" FIELDS "\005\001B\001A\000", 18));
     EXPECT(write_items(BYTES(""), 0, false, 0, &written) == DNW_DONE && written.len == 0 && written.count == 0);
+}
+
+/* The data of a record, of any length, are put as they are, if the message has room for them. */
+static void passes_long_data(void)
+{
+    static const size_t lens[] = {0, 1, 255, 256, 512, 513, 65524, 65525, 65535};
+    static uint8_t list[12 + 65535], whole[65535];
+    memcpy(list, "\002\000\000\012\000\001\000\000\000\000", 10);
+    for (size_t i = 12; i < sizeof list; i++)
+        list[i] = (uint8_t)(i * 7);
+    for (size_t i = 0; i < sizeof lens / sizeof *lens; i++) {
+        size_t size = 11 + lens[i];
+        bool fits = size <= sizeof whole;
+        struct dnw_written_message written = {7, 9};
+        list[10] = (uint8_t)(lens[i] >> 8);
+        list[11] = (uint8_t)lens[i];
+        EXPECT(dnw_message_write(list, 1 + size, 65535, false, whole, sizeof whole, &written)
+               == (fits ? DNW_DONE : DNW_MESSAGE_TOO_LONG));
+        EXPECT(written.count == (fits ? 1 : 0) && written.len == (fits ? size : 0));
+        EXPECT(memcmp(whole, list + 1, written.len) == 0);
+    }
 }
 
 /* What goes past the maximum is left out whole, and all before it is there. */
@@ -500,18 +561,36 @@ static void codes(void)
     EXPECT(dnw_type_print(51, buffer, DNW_CODE_SIZE, &len) == DNW_DONE && len == 10 && holds("NSEC3PARAM", 10));
     clear();
     EXPECT(dnw_type_print(28, buffer, 3, &len) == DNW_NO_ROOM && untouched() && len == 10);
-    EXPECT(dnw_type_print(65280, buffer, 7, &len) == DNW_DONE && len == 7 && holds("Unknown", 7));
+    EXPECT(dnw_type_print(65280, buffer, 8, &len) == DNW_NO_ROOM && untouched() && len == 10);
+    EXPECT(dnw_type_print(65280, buffer, 9, &len) == DNW_DONE && len == 9 && holds("TYPE65280", 9));
     EXPECT(dnw_type_parse(BYTES("AAAA"), &code) == DNW_DONE && code == 28);
     EXPECT(dnw_type_parse(BYTES("*"), &code) == DNW_DONE && code == 255);
-    EXPECT(dnw_type_parse(BYTES("aaaa"), &code) == DNW_UNKNOWN_TEXT);
+    EXPECT(dnw_type_parse(BYTES("aaaa"), &code) == DNW_DONE && code == 28);
+    EXPECT(dnw_type_parse(BYTES("IXFR"), &code) == DNW_DONE && code == 251);
+    /* RFC 3597, section 5 */
+    EXPECT(dnw_type_parse(BYTES("TYPE731"), &code) == DNW_DONE && code == 731);
+    EXPECT(dnw_type_parse(BYTES("type62347"), &code) == DNW_DONE && code == 62347);
+    EXPECT(dnw_type_parse(BYTES("Type00001"), &code) == DNW_DONE && code == 1);
+    EXPECT(dnw_type_parse(BYTES("TYPE65535"), &code) == DNW_DONE && code == 65535);
+    EXPECT(dnw_type_parse(BYTES("TYPE65536"), &code) == DNW_UNKNOWN_TEXT);
+    EXPECT(dnw_type_parse(BYTES("TYPE131072"), &code) == DNW_UNKNOWN_TEXT);
+    EXPECT(dnw_type_parse(BYTES("TYPE"), &code) == DNW_UNKNOWN_TEXT);
+    EXPECT(dnw_type_parse(BYTES("TYPE+1"), &code) == DNW_UNKNOWN_TEXT);
+    EXPECT(dnw_type_parse(BYTES("TYPE 1"), &code) == DNW_UNKNOWN_TEXT);
+    EXPECT(dnw_type_parse(BYTES("TYPE1 "), &code) == DNW_UNKNOWN_TEXT);
+    EXPECT(dnw_type_parse(BYTES("CLASS1"), &code) == DNW_UNKNOWN_TEXT);
+    EXPECT(dnw_type_parse(BYTES("Unknown"), &code) == DNW_UNKNOWN_TEXT);
+    EXPECT(dnw_type_parse(BYTES("\304\261xfr"), &code) == DNW_UNKNOWN_TEXT);
     EXPECT(dnw_type_parse(BYTES(""), &code) == DNW_UNKNOWN_TEXT);
-    EXPECT(dnw_type_parse(BYTES("\377"), &code) == DNW_NOT_UTF8 && code == 255);
+    EXPECT(dnw_type_parse(BYTES("\377"), &code) == DNW_NOT_UTF8 && code == 65535);
     clear();
     EXPECT(dnw_class_print(254, buffer, 4, &len) == DNW_DONE && len == 4 && holds("NONE", 4));
     clear();
-    EXPECT(dnw_class_print(2, buffer, 6, &len) == DNW_NO_ROOM && untouched() && len == 4);
-    EXPECT(dnw_class_print(2, buffer, 7, &len) == DNW_DONE && len == 7 && holds("UNKNOWN", 7));
-    EXPECT(dnw_class_parse(BYTES("CH"), &code) == DNW_DONE && code == 3);
+    EXPECT(dnw_class_print(2, buffer, 5, &len) == DNW_NO_ROOM && untouched() && len == 4);
+    EXPECT(dnw_class_print(2, buffer, 6, &len) == DNW_DONE && len == 6 && holds("CLASS2", 6));
+    EXPECT(dnw_class_parse(BYTES("class32"), &code) == DNW_DONE && code == 32);
+    EXPECT(dnw_class_parse(BYTES("ch"), &code) == DNW_DONE && code == 3);
+    EXPECT(dnw_class_parse(BYTES("UNKNOWN"), &code) == DNW_UNKNOWN_TEXT);
     EXPECT(dnw_class_parse(BYTES("OPT"), &code) == DNW_UNKNOWN_TEXT);
     EXPECT(dnw_class_parse(BYTES("\377"), &code) == DNW_NOT_UTF8 && code == 3);
 }
@@ -523,11 +602,15 @@ struct named_code {
 };
 
 /* The codes with names are those of the header, and no others. */
-static void print_all(uint32_t (*print)(uint16_t, uint8_t *, size_t, size_t *), const struct named_code *named, size_t count,
-                      const char *unnamed)
+static void print_all(uint32_t (*print)(uint16_t, uint8_t *, size_t, size_t *),
+                      uint32_t (*parse)(const uint8_t *, size_t, uint16_t *), const struct named_code *named, size_t count,
+                      const char *word)
 {
     for (uint32_t code = 0; code <= 65535; code++) {
-        const char *name = unnamed;
+        char numbered[16];
+        snprintf(numbered, sizeof numbered, "%s%u", word, (unsigned)code);
+        const char *name = numbered;
+        uint16_t back = (uint16_t)~code;
         for (size_t i = 0; i < count; i++)
             if (named[i].code == code)
                 name = named[i].name;
@@ -535,6 +618,8 @@ static void print_all(uint32_t (*print)(uint16_t, uint8_t *, size_t, size_t *), 
         clear();
         EXPECT(print((uint16_t)code, buffer, DNW_CODE_SIZE, &len) == DNW_DONE);
         EXPECT(len == strlen(name) && holds(name, len));
+        EXPECT(parse((const uint8_t *)name, len, &back) == DNW_DONE && back == code);
+        EXPECT(parse((const uint8_t *)numbered, strlen(numbered), &back) == DNW_DONE && back == code);
     }
 }
 
@@ -557,8 +642,8 @@ static void named_codes(void)
         {DNW_CLASS_IN, "IN"}, {DNW_CLASS_CH, "CH"}, {DNW_CLASS_HS, "HS"}, {DNW_CLASS_NONE, "NONE"},
         {DNW_CLASS_ANY, "ANY"},
     };
-    print_all(dnw_type_print, types, sizeof types / sizeof types[0], "Unknown");
-    print_all(dnw_class_print, classes, sizeof classes / sizeof classes[0], "UNKNOWN");
+    print_all(dnw_type_print, dnw_type_parse, types, sizeof types / sizeof types[0], "TYPE");
+    print_all(dnw_class_print, dnw_class_parse, classes, sizeof classes / sizeof classes[0], "CLASS");
 }
 
 static void serials(void)
@@ -698,11 +783,11 @@ static void tells_failures(void)
     EXPECT(dnw_error_text(DNW_NO_MEMORY, buffer, 13) == 13 && holds("out of memory", 13));
     clear();
     EXPECT(dnw_error_text(DNW_DONE, buffer, sizeof buffer) == 7 && holds("success", 7));
-    for (uint32_t i = 0; i <= DNW_BAD_ITEM; i++) {
+    for (uint32_t i = 0; i <= DNW_BAD_ESCAPE; i++) {
         size_t len = dnw_error_text(i, buffer, sizeof buffer);
         EXPECT(0 < len && len <= 64);
     }
-    EXPECT(dnw_error_text(DNW_BAD_ITEM + 1, buffer, sizeof buffer) == 0);
+    EXPECT(dnw_error_text(DNW_BAD_ESCAPE + 1, buffer, sizeof buffer) == 0);
     EXPECT(dnw_error_text(UINT32_MAX, buffer, sizeof buffer) == 0);
 }
 
@@ -719,6 +804,8 @@ static void lacks_memory(void)
     EXPECT(parse(BYTES("a.bc."), sizeof buffer, &parsed) == DNW_DONE && parsed.len == 6);
     EXPECT(parse(BYTES("\\"), sizeof buffer, &parsed) == DNW_BAD_TEXT);
     EXPECT(parse(BYTES("a..b"), sizeof buffer, &parsed) == DNW_NO_MEMORY);
+    EXPECT(dnw_name_text_fault(BYTES("a..b"), &len) == DNW_EMPTY_LABEL && len == 2);
+    len = 7;
     clear();
     EXPECT(dnw_name_read_text(message, sizeof message, 40, buffer, sizeof buffer, &read) == DNW_NO_MEMORY);
     EXPECT(dnw_name_print(BYTES("\001a\000"), true, buffer, sizeof buffer, &len) == DNW_NO_MEMORY);
@@ -729,7 +816,7 @@ static void lacks_memory(void)
     struct dnw_lexer lexer = {0, true};
     struct dnw_token token = {99, 99, 99};
     EXPECT(dnw_type_parse(BYTES("none"), &code) == DNW_UNKNOWN_TEXT && code == 7);
-    EXPECT(dnw_class_parse(BYTES("none"), &code) == DNW_UNKNOWN_TEXT && code == 7);
+    EXPECT(dnw_class_parse(BYTES("nothing"), &code) == DNW_UNKNOWN_TEXT && code == 7);
     EXPECT(dnw_ttl_parse(BYTES("none"), &seconds) == DNW_BAD_TIME && seconds == 7);
     EXPECT(dnw_types_read(BYTES(""), codes, 0, &len) == DNW_DONE && len == 0);
     EXPECT(dnw_types_read(BYTES("\000\001\100"), codes, 1, &len) == DNW_NO_MEMORY && len == 0 && codes[0] == 9);
@@ -741,6 +828,7 @@ static void lacks_memory(void)
     EXPECT(dnw_token_next(BYTES("$FOO"), &lexer, buffer, sizeof buffer, &token) == DNW_NO_MEMORY && token.kind == 99);
     EXPECT(untouched());
     EXPECT(dnw_name_append(BYTES("\001a\000"), BYTES("\000"), buffer, sizeof buffer, &len) == DNW_DONE && len == 3);
+    EXPECT(dnw_name_print(BYTES("\000"), false, buffer, 0, &len) == DNW_DONE && len == 0);
     struct dnw_record record;
     struct dnw_net net;
     EXPECT(read_record(sizeof referral - 1, 33, 255, &record) == DNW_DONE && data_name(45, 5, 255, &len) == DNW_DONE);
@@ -758,12 +846,14 @@ int main(void)
     refuses_forms();
     reads_texts();
     parses();
+    texts_go_wrong();
     prints();
     writes();
     refuses_to_write();
     reads_records();
     refuses_records();
     writes_messages();
+    passes_long_data();
     cuts_messages();
     refuses_messages();
     reverses();

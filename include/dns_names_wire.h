@@ -8,7 +8,8 @@
 
    Each function but `dnw_error_text` and `dnw_serial_add` returns 0, or the number of a failure. If it fails, it has
    written nothing, neither into the buffer nor through a pointer; only `dnw_message_write` differs, if a message is too
-   long. Every input is tested, whatever it is: no byte outside the arguments is read or written.
+   long, and `dnw_name_text_fault`, which puts where the text is wrong. Every input is tested, whatever it is: no byte
+   outside the arguments is read or written.
 
    The wire form of a name (RFC 1035, section 3.1) is each label after its length octet, and a zero octet at the end. It
    takes at most 255 octets. The text of a name is that of RFC 1035, section 5.1, in ASCII but with octal escapes, and
@@ -24,7 +25,7 @@
 extern "C" {
 #endif
 
-/* The sizes that are always enough for a wire form, for a sort key, for a text, and for the name of a type or a class. */
+/* The sizes that are always enough for a wire form, for a sort key, for a text, and for the text of a type or a class. */
 #define DNW_FORM_SIZE 255
 #define DNW_SORT_KEY_SIZE 504
 #define DNW_TEXT_SIZE 1004
@@ -58,7 +59,9 @@ enum dnw_failure {
     DNW_WRONG_DATA_LENGTH = 24, /* a name in a record's data whose own octets are fewer or more than the data */
     DNW_BAD_ADDRESS = 25,      /* an address of neither 4 nor 16 bytes */
     DNW_NOT_REVERSE = 26,      /* a name that is not the reverse name of an address or a net */
-    DNW_BAD_ITEM = 27          /* a list with an item of no kind, or one that is cut, or a name or record that is none */
+    DNW_BAD_ITEM = 27,         /* a list with an item of no kind, or one that is cut, or a name or record that is none */
+    DNW_EMPTY_LABEL = 28,      /* a text with a label of no character */
+    DNW_BAD_ESCAPE = 29        /* an escape with a number that is no octal digit */
 };
 
 /* `len` bytes were put into the buffer, and the name's own octets end at offset `end` of the message. */
@@ -93,13 +96,21 @@ uint32_t dnw_name_read_text(const uint8_t *message, size_t message_len, size_t s
 
 /* Puts the wire form of the name that a text gives. It fails with DNW_NOT_UTF8, DNW_BAD_TEXT, DNW_LABEL_TOO_LONG or
    DNW_NAME_TOO_LONG if it gives none, or with DNW_NO_MEMORY in place of DNW_BAD_TEXT; and with DNW_NO_ROOM if it gives
-   one and the wire form has more than `form_size` octets. */
+   one and the wire form has more than `form_size` octets. dnw_name_text_fault says where it goes wrong. */
 uint32_t dnw_name_parse(const uint8_t *text, size_t text_len, uint8_t *form, size_t form_size,
                         struct dnw_parsed_name *parsed);
 
+/* Says where and why dnw_name_parse rejects a text. It returns 0 if the text gives a name. Else it returns the number of the
+   rule that the text breaks, and puts into `offset` where: what is before that octet gives a name, and with the character or
+   the escape there none is given, whatever follows. The rules are DNW_EMPTY_LABEL, DNW_LABEL_TOO_LONG, DNW_NAME_TOO_LONG,
+   DNW_ILLEGAL_CHARACTER, DNW_BAD_ESCAPE, DNW_TEXT_CUT if the text ends within the escape, and DNW_NOT_UTF8 if it is UTF-8 up to
+   that octet and no further. It does not allocate. */
+uint32_t dnw_name_text_fault(const uint8_t *text, size_t text_len, size_t *offset);
+
 /* Puts the text of the name with a wire form, fully qualified or not, and the text's length into `len`. If the bytes
    have no name at their start, it fails as dnw_name_read, and with DNW_BYTES_LEFT if more follows after it. Else it fails
-   with DNW_NO_ROOM if the text has more than `text_size` octets, or with DNW_NO_MEMORY. */
+   with DNW_NO_ROOM if the text has more than `text_size` octets, or with DNW_NO_MEMORY, but not for an empty text: that of
+   the relative name without labels. */
 uint32_t dnw_name_print(const uint8_t *form, size_t form_len, bool is_fqdn, uint8_t *text, size_t text_size,
                         size_t *len);
 
@@ -164,8 +175,9 @@ struct dnw_written_message {
    of its header (RFC 1035, section 4.1.1).
 
    It fails with DNW_BAD_ITEM at the first octet of the list that begins no item; with DNW_NO_MEMORY; and with DNW_NO_ROOM if
-   the message, whole or up to an item that would go past `max_size`, has more than `message_size` bytes. A buffer as long as
-   the list is always enough if its names are wire forms; others are read as names of a message that the list is. */
+   the message, whole or up to an item that would go past `max_size`, has more than `message_size` bytes. A buffer of
+   `max_size` bytes is always enough, and one as long as the list if its names are wire forms; others are read as names of a
+   message that the list is. */
 uint32_t dnw_message_write(const uint8_t *items, size_t items_len, uint16_t max_size, bool is_canonical, uint8_t *message,
                            size_t message_size, struct dnw_written_message *written);
 
@@ -286,16 +298,17 @@ enum dnw_class {
     DNW_CLASS_ANY = 255,  /* Any class, in a question (RFC 1035, section 3.2.5) */
 };
 
-/* Puts the name of the record type with a code in capitals, `ZERO` for 0 and `Unknown` for a code without a name, and its
-   length into `len`: DNW_CODE_SIZE bytes are always enough. It fails with DNW_NO_ROOM if the name is longer than
-   `text_size`. */
+/* Puts the text of a record type in zone files, and its length into `len`: the name of a code that has one, in capitals
+   (`ZERO` for 0), else `TYPE` and the code, as `TYPE65280` (RFC 3597, section 5). DNW_CODE_SIZE bytes are always enough. It
+   fails with DNW_NO_ROOM if the text is longer than `text_size`. */
 uint32_t dnw_type_print(uint16_t code, uint8_t *text, size_t text_size, size_t *len);
 
-/* Puts the code of the record type with a name in capitals; `*` is ANY. It fails with DNW_NOT_UTF8 or DNW_UNKNOWN_TEXT. No
-   text names IXFR, OPT, ZERO or a code without a name. */
+/* Puts the code of the record type that a text gives, in upper or lower case: a name, `*` for ANY, or `TYPE` and any code in
+   decimal digits (RFC 3597, section 5). What dnw_type_print puts for a code gives that code. It fails with DNW_NOT_UTF8 or
+   DNW_UNKNOWN_TEXT. */
 uint32_t dnw_type_parse(const uint8_t *text, size_t text_len, uint16_t *code);
 
-/* The same for classes. A code without a name is printed as `UNKNOWN`. */
+/* The same for classes, with `CLASS` in place of `TYPE`. */
 uint32_t dnw_class_print(uint16_t code, uint8_t *text, size_t text_size, size_t *len);
 uint32_t dnw_class_parse(const uint8_t *text, size_t text_len, uint16_t *code);
 

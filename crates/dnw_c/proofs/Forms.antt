@@ -1,13 +1,22 @@
 -- Octets that are a name's wire form, whole.
-use Rattle.std.proofs.Common.{◌≡◌, ℕ, ◌-◌, Option, List, length, refl, sym, ap, ◌∙◌, subst, arith}
+use Rattle.std.proofs.Common.{◌≡◌, ◌≤◌, ℕ, ◌-◌, Option, List, length, refl, sym, ap, ◌∙◌, subst, arith}
 use Rattle.std.proofs.lemmas.List.{take_all}
-use Rattle.dnw_base.specs.Names.{AreLabels, wire}
+use Rattle.dnw_base.specs.Limits.{max_name}
+use Rattle.dnw_base.specs.Names.{AreLabels, encoded_size, wire}
+use Rattle.dnw_base.proofs.Wires.{length-wire}
 use Rattle.dnw_base.specs.Decoder.{Decoder}
 use Rattle.dnw_reading.specs.Reading.{NameAt, Reads, TakesName, zero_octet, label, pointer}
 use Rattle.dnw_reading.proofs.Copying.{Reads-plain}
 use Rattle.dnw_reading.proofs.Counts.{Reads-labels}
 use Rattle.dnw_form.specs.Inside.WireBytes.{IsWire, labels_of}
 use Rattle.dnw_form.proofs.Wires.{IsWire-wire, labels_of-wire}
+
+-- the wire form of a name has as many octets as its size says
+pub form_size : (ls : List (List ℕ)) → length (wire ls) ≡ encoded_size ls
+form_size = length-wire
+
+pub form_fits : (ls : List (List ℕ)) → AreLabels ls → length (wire ls) ≤ max_name
+form_fits ls h = omega (arith, form_size ls, h.fit)
 
 -- in the segment that begins at offset 0 no pointer can be followed
 no-pointers : {b : List ℕ} {p e k : ℕ} {limit : Option ℕ} {ls : List (List ℕ)} → Reads b p 0 limit ls e k → k ≡ 0

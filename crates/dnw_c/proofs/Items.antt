@@ -8,12 +8,12 @@ use Rattle.dnw_encoder.specs.Encoder.{Encoder}
 use Rattle.dnw_encoder.specs.EmittedName.{EmitsAs, Share, in_mode}
 use Rattle.dnw_encoder.specs.EmittingLaws.{fails-unchanged, frame}
 use Rattle.dnw_encoder.specs.NameFrames.{frame-name}
-use Rattle.dnw_record.specs.RecordFrames.{frame-fields, frame-record}
+use Rattle.dnw_record.specs.RecordFrames.{frame-fields, frame-passed, frame-passed_fields, frame-record}
 use Rattle.dnw_c.specs.declared.messages.Kind.{Kind}
 use Rattle.dnw_c.specs.declared.messages.Kind.TheVariants as Kinds
 use Rattle.dnw_c.specs.Failures.{of_proto}
 use Rattle.dnw_c.specs.declared.failure.Failure.{Failure}
-use Rattle.dnw_c.specs.MessageItems.{Item, Bytes, Name, Record, EmitsItem, FailsToCopyOf, TakesOf, TakesItem, WritesItems, none, more}
+use Rattle.dnw_c.specs.MessageItems.{Item, Bytes, Name, Record, RecordOfName, EmitsItem, FailsToCopyOf, TakesOf, TakesItem, WritesItems, none, more}
 use Rattle.dnw_c.proofs.Starts.{takes-onward, takes-within}
 use Rattle.dnw_c.proofs.RecordEnds.{record-own}
 
@@ -21,7 +21,8 @@ use Rattle.dnw_c.proofs.RecordEnds.{record-own}
 pub item_ends : (item : Item) (v w : Encoder) → v.offset ≡ length v.bytes → EmitsItem item v (Ok tt) w → w.offset ≡ length w.bytes
 item_ends (Bytes bytes) v w e h = (frame v bytes (Ok tt) w e h).ends
 item_ends (Name labels) v w e h = (frame-name (record { is_fqdn = true; labels = labels }) v (Ok tt) w e h).ends
-item_ends (Record r) v w e h = (frame-record r v (Ok tt) w e h).ends
+item_ends (Record x) v w e h = (frame-passed x v (Ok tt) w e h).ends
+item_ends (RecordOfName r) v w e h = (frame-record r v (Ok tt) w e h).ends
 
 -- a name that is not written changes nothing
 name-unchanged : (v : Encoder) (labels : List (List ℕ)) (choice : Option Share) (error : ProtoError) (w : Encoder)
@@ -35,7 +36,9 @@ pub item_undone : (item : Item) (v w : Encoder) (error : ProtoError) → v.offse
     → w.bytes ≡ v.bytes
 item_undone (Bytes bytes) v w error e h = ap (λ (x : Encoder). x.bytes) (fails-unchanged v bytes error w h)
 item_undone (Name labels) v w error e h = ap (λ (x : Encoder). x.bytes) (name-unchanged v (in_mode v.encoding labels) h.choice error w h.written_as)
-item_undone (Record r) v w error e (u, fields, is) =
+item_undone (Record x) v w error e (u, fields, is) =
+    ap (λ (y : Encoder). y.bytes) is ∙ (frame-passed_fields x v (Err error) u e fields).bytes
+item_undone (RecordOfName r) v w error e (u, fields, is) =
     ap (λ (x : Encoder). x.bytes) is ∙ (frame-fields r v (Err error) u e fields).bytes
 
 -- an item's octets are within the list
@@ -46,7 +49,10 @@ taken-within Kinds.Bytes (Bytes bytes) d after (has, is, moved) =
 taken-within Kinds.Name (Name labels) d after (k, takes) =
     let further = takes-onward takes in
     (omega (arith, further), takes-within takes, ap (λ (x : Decoder). x.bytes) takes.moved)
-taken-within (Kinds.Record how) (Record r) d after (x, (e, at, moved), is) =
+taken-within Kinds.Record (Record x) d after (e, at, moved) =
+    let (further, inside) = record-own at in
+    rw moved (omega (arith, further), inside, refl)
+taken-within (Kinds.RecordOfName encoding) (RecordOfName r) d after (x, (e, at, moved), is) =
     let (further, inside) = record-own at in
     rw moved (omega (arith, further), inside, refl)
 taken-within kind item d after h = absurd h

@@ -8,3 +8,4 @@ pub mod TokenSizes
 pub mod TokenTexts
 pub mod TypeCodes
 mod RecordEnds
+pub mod MessageSizes

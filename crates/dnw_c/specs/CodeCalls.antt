@@ -4,6 +4,10 @@ use Rattle.dnw_c.specs.declared.failure.Failure.{Failure}
 use Rattle.dnw_txt.specs.Times.{IsNoTtl, time_seconds}
 use Rattle.dnw_c.specs.declared.failure.Failure.TheVariants.{NoRoom, NotUtf8, BadTime}
 
+-- the bytes of the longest texts of a type or a class, as `CLASS65535` (RFC 3597, section 5)
+abbrev pub max_code_text : ℕ
+max_code_text = 10
+
 -- Bytes are not put into a buffer of this size: they are more.
 abbrev pub FailsToPut : List ℕ → ℕ → Failure → Type 0
 FailsToPut bytes size failure = (size < length bytes) × (failure ≡ NoRoom)

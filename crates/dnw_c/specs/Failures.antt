@@ -42,6 +42,8 @@ failure_entry why.WrongDataLength = entry 24 (codes "the data of the record are 
 failure_entry why.BadAddress = entry 25 (codes "an address has 4 or 16 bytes")
 failure_entry why.NotReverse = entry 26 (codes "the name is no reverse name of an address or a net")
 failure_entry why.BadItem = entry 27 (codes "an item of the list is malformed")
+failure_entry why.EmptyLabel = entry 28 (codes "a label of the text is empty")
+failure_entry why.BadEscape = entry 29 (codes "an escape of the text has a number that is no octal digit")
 
 abbrev pub number : Failure → ℕ
 number failure = (failure_entry failure).code

@@ -8,6 +8,7 @@ pub mod NameLists
 pub mod RecordCalls
 pub mod ReverseCalls
 pub mod TokenCalls
+pub mod TextFaultCalls
 pub mod TypeLists
 pub mod Inside
 pub mod SortKeyCalls

@@ -2,12 +2,13 @@
 --
 -- A list has an octet for the kind of each item, and then the item: bytes after their number in two octets, or a name, or a
 -- record as it stands in a message. Names may be wire forms, which are names of any message.
-use Rattle.std.specs.Prelude.{◌≡◌, ◌≢◌, ◌<◌, ◌≤◌, ◌⊎◌, ℕ, ◌+◌, Bool, true, Option, Some, None, List, [], length, slice_get, slice_range, Ok, Err}
+use Rattle.std.specs.Prelude.{◌≡◌, ◌≢◌, ◌<◌, ◌≤◌, ◌⊎◌, ℕ, ◌+◌, ⊤, Bool, true, Some, List, [], length, slice_get, Ok, Err}
 use Rattle.std.specs.Int.{w16, from_be_bytes}
 use Rattle.dnw_error.specs.declared.error.DecodeError.{DecodeError}
 use Rattle.dnw_error.specs.declared.error.ProtoError.{ProtoError}
+use Rattle.dnw_base.specs.Names.{NameValue}
 use Rattle.dnw_base.specs.Decoder.{Decoder, HasLeft, next_bytes, advanced}
-use Rattle.dnw_reading.specs.Reading.{TakesName}
+use Rattle.dnw_reading.specs.Reading.{NameAt, TakesName}
 use Rattle.dnw_name.specs.Decodable.{StopsSomehow}
 use Rattle.dnw_encoder.specs.Encoder.{Encoder, Writes, fresh}
 use Rattle.dnw_encoder.specs.Emitting.{Outcome}
@@ -15,35 +16,37 @@ use Rattle.dnw_encoder.specs.EmittedName.{EmitsName}
 use Rattle.dnw_encoder.specs.declared.encoder.modes.RDataEncoding.{RDataEncoding}
 use Rattle.dnw_encoder.specs.declared.encoder.modes.RDataEncoding.TheVariants.{StandardRecord, Canonical, Other}
 use Rattle.dnw_record.specs.declared.record.WireRecord.{WireRecord}
-use Rattle.dnw_record.specs.declared.record.WireData.{WireData}
 use Rattle.dnw_record.specs.declared.record.WireData.TheVariants as Data
 use Rattle.dnw_record.specs.Records.{RecordValue, TakesRecord, FailsRecord, HasDataName, FailsDataName}
+use Rattle.dnw_record.specs.PassedRecords.{PassesRecord, owner_name}
 use Rattle.dnw_record.specs.WrittenRecords.{EmitsRecord}
 use Rattle.dnw_c.specs.Buffers.{put}
 use Rattle.dnw_c.specs.Failures.{of_proto}
 use Rattle.dnw_c.specs.RecordCalls.{at_offset}
 use Rattle.dnw_c.specs.declared.failure.Failure.{Failure}
-use Rattle.dnw_c.specs.declared.failure.Failure.TheVariants.{BadItem, MessageTooLong, NoMemory, NoRoom}
+use Rattle.dnw_c.specs.declared.failure.Failure.TheVariants.{BadItem, MessageTooLong, NoRoom}
 use Rattle.dnw_c.specs.declared.messages.Kind.{Kind}
 use Rattle.dnw_c.specs.declared.messages.Kind.TheVariants as Kinds
 use Rattle.dnw_c.specs.declared.messages.WrittenMessage.{WrittenMessage}
 
 -- ---- the items of a list
 
--- what is written into a message: bytes as they are, the labels of a name, or a record
+-- what is written into a message: bytes as they are, the labels of a name, a record as it is in the list, or a record whose
+-- data are a name
 pub data Item : Type 0 where
   Bytes : List ℕ → Item
   Name : List (List ℕ) → Item
-  Record : WireRecord → Item
+  Record : RecordValue → Item
+  RecordOfName : WireRecord → Item
 
 -- the octet for a kind
 abbrev pub kind_octet : Kind → ℕ
 kind_octet Kinds.Bytes = 0
 kind_octet Kinds.Name = 1
-kind_octet (Kinds.Record None) = 2
-kind_octet (Kinds.Record (Some StandardRecord)) = 3
-kind_octet (Kinds.Record (Some Canonical)) = 4
-kind_octet (Kinds.Record (Some Other)) = 5
+kind_octet Kinds.Record = 2
+kind_octet (Kinds.RecordOfName StandardRecord) = 3
+kind_octet (Kinds.RecordOfName Canonical) = 4
+kind_octet (Kinds.RecordOfName Other) = 5
 
 -- the greatest of them
 abbrev pub last_kind : ℕ
@@ -69,46 +72,41 @@ abbrev pub TakesBlock : Decoder → List ℕ → Decoder → Type 0
 TakesBlock d bytes after =
     HasBlock d × (bytes ≡ next_bytes (advanced d 2) (block_len d)) × (after ≡ advanced (advanced d 2) (block_len d))
 
--- the data of a record: bytes, or a name that is written in this way
-abbrev pub IsData : Option RDataEncoding → RecordValue → WireData → Type 0
-IsData None x (Data.Bytes bytes) = bytes.items ≡ slice_range x.message x.start (x.start + x.len)
-IsData (Some encoding) x (Data.Name name own) = (own ≡ encoding) × HasDataName x name
-IsData how x rdata = ⊥
-
--- the record that is written for a record of a list
-abbrev pub IsRecord : Option RDataEncoding → RecordValue → WireRecord → Type 0
-IsRecord how x r =
-    (r.owner ≡ record { is_fqdn = true; labels = x.owner }) × (r.record_type ≡ x.record_type) × (r.class ≡ x.class) × (r.ttl ≡ x.ttl)
-    × IsData how x r.rdata
+-- the record that is written for a record of a list whose data are a name, which is written in this way
+abbrev pub IsRecordOfName : RDataEncoding → RecordValue → WireRecord → Type 0
+IsRecordOfName encoding x r =
+    (r.owner ≡ owner_name x) × (r.record_type ≡ x.record_type) × (r.class ≡ x.class) × (r.ttl ≡ x.ttl)
+    × (name : NameValue) × (r.rdata ≡ Data.Name name encoding) × HasDataName x name
 
 -- After the octet for its kind an item is taken.
 abbrev pub TakesOf : Kind → Decoder → Item → Decoder → Type 0
 TakesOf Kinds.Bytes d (Bytes bytes) after = TakesBlock d bytes after
 TakesOf Kinds.Name d (Name labels) after = (k : ℕ) × TakesName d after labels k
-TakesOf (Kinds.Record how) d (Record r) after = (x : RecordValue) × TakesRecord d x after × IsRecord how x r
+TakesOf Kinds.Record d (Record x) after = TakesRecord d x after
+TakesOf (Kinds.RecordOfName encoding) d (RecordOfName r) after = (x : RecordValue) × TakesRecord d x after × IsRecordOfName encoding x r
 TakesOf kind d item after = ⊥
 
 -- The next item of a list is taken.
 abbrev pub TakesItem : Decoder → Item → Decoder → Type 0
 TakesItem d item after = (kind : Kind) × IsKind d kind × TakesOf kind (advanced d 1) item after
 
--- The data of a record are not taken: they are no name, or memory ran out for a copy.
-abbrev pub FailsToTakeData : Option RDataEncoding → RecordValue → Failure → Type 0
-FailsToTakeData None x failure = (1 ≤ x.len) × (failure ≡ NoMemory)
-FailsToTakeData (Some encoding) x failure = ((error : DecodeError) × FailsDataName x error) × (failure ≡ BadItem)
+-- no record is there
+abbrev pub HasNoRecord : Decoder → Type 0
+HasNoRecord d = (error : DecodeError) × FailsRecord d error
 
--- After the octet for its kind a record is not taken: there is none, or its data are not taken.
-abbrev pub FailsToTakeRecord : Option RDataEncoding → Decoder → Failure → Type 0
-FailsToTakeRecord how d failure =
-    (((error : DecodeError) × FailsRecord d error) × (failure ≡ BadItem))
-    ⊎ ((x : RecordValue) × (after : Decoder) × TakesRecord d x after × FailsToTakeData how x failure)
+-- a record is there, but its data are no name
+abbrev pub HasNoDataName : Decoder → Type 0
+HasNoDataName d = (x : RecordValue) × (after : Decoder) × TakesRecord d x after × (error : DecodeError) × FailsDataName x error
 
--- After the octet for its kind an item is not taken: what has to follow is not there, or memory ran out for a copy of a
--- record's data.
+-- After the octet for its kind an item is not taken: what has to follow is not there.
+abbrev pub LacksItem : Kind → Decoder → Type 0
+LacksItem Kinds.Bytes d = ¬ (HasBlock d)
+LacksItem Kinds.Name d = (error : DecodeError) × StopsSomehow d error
+LacksItem Kinds.Record d = HasNoRecord d
+LacksItem (Kinds.RecordOfName encoding) d = HasNoRecord d ⊎ HasNoDataName d
+
 abbrev pub FailsToTakeOf : Kind → Decoder → Failure → Type 0
-FailsToTakeOf Kinds.Bytes d failure = (¬ (HasBlock d)) × (failure ≡ BadItem)
-FailsToTakeOf Kinds.Name d failure = ((error : DecodeError) × StopsSomehow d error) × (failure ≡ BadItem)
-FailsToTakeOf (Kinds.Record how) d failure = FailsToTakeRecord how d failure
+FailsToTakeOf kind d failure = LacksItem kind d × (failure ≡ BadItem)
 
 -- ---- writing
 
@@ -116,7 +114,8 @@ FailsToTakeOf (Kinds.Record how) d failure = FailsToTakeRecord how d failure
 abbrev pub EmitsItem : Item → Encoder → Outcome → Encoder → Type 0
 EmitsItem (Bytes bytes) v outcome w = Writes v bytes outcome w
 EmitsItem (Name labels) v outcome w = EmitsName (record { is_fqdn = true; labels = labels }) v outcome w
-EmitsItem (Record r) v outcome w = EmitsRecord r v outcome w
+EmitsItem (Record x) v outcome w = PassesRecord x v outcome w
+EmitsItem (RecordOfName r) v outcome w = EmitsRecord r v outcome w
 
 -- a new encoder of a message of that size at most, in canonical form or not
 abbrev pub of_message : ℕ → Bool → Encoder
@@ -173,3 +172,31 @@ abbrev pub FailsToWriteMessage : List ℕ → Encoder → ℕ → Failure → Ty
 FailsToWriteMessage list first size failure =
     ((failure ≢ MessageTooLong) × (count : ℕ) × (v : Encoder) × StopsAfter list first count v failure)
     ⊎ ((whole : Bool) × (count : ℕ) × (v : Encoder) × WritesWhole whole list first count v × (size < length v.bytes) × (failure ≡ NoRoom))
+
+-- ---- how long a message is
+
+-- no name with a pointer is there
+abbrev pub HasNoPointer : List ℕ → ℕ → Type 0
+HasNoPointer list p = (labels : List (List ℕ)) (end k : ℕ) → NameAt list p labels end k → k ≡ 0
+
+-- After the octet for its kind the names of an item are wire forms: they have no pointers.
+abbrev pub HasWireForms : Kind → Decoder → Type 0
+HasWireForms Kinds.Bytes d = ⊤
+HasWireForms Kinds.Name d = HasNoPointer d.bytes d.index
+HasWireForms Kinds.Record d = HasNoPointer d.bytes d.index
+HasWireForms (Kinds.RecordOfName encoding) d =
+    HasNoPointer d.bytes d.index × ((x : RecordValue) (after : Decoder) → TakesRecord d x after → HasNoPointer d.bytes x.start)
+
+-- An item of a list begins at the decoder, after those before it.
+pub data ItemBegins (list : List ℕ) : Decoder → Type 0 where
+  at_start : ItemBegins list (at_offset list 0)
+  after_one : (d after : Decoder) (item : Item) → ItemBegins list d → TakesItem d item after → ItemBegins list after
+
+-- All names of a list are wire forms.
+abbrev pub AllWireForms : List ℕ → Type 0
+AllWireForms list = (d : Decoder) (kind : Kind) → ItemBegins list d → IsKind d kind → HasWireForms kind (advanced d 1)
+
+-- A buffer of this size may be too short for a message: it is shorter than the maximum, and than the list if all names of the
+-- list are wire forms.
+abbrev pub HasLittleRoom : List ℕ → ℕ → ℕ → Type 0
+HasLittleRoom list max_size size = (size < max_size) × (AllWireForms list → size < length list)

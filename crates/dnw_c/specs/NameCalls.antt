@@ -1,5 +1,5 @@
 -- Why the functions for C that take one name fail.
-use Rattle.std.specs.Prelude.{◌≡◌, ◌≢◌, ◌<◌, ◌⊎◌, ℕ, ℤ, pos, negsuc, Bool, true, List, length, Ok, Err, IsUtf8}
+use Rattle.std.specs.Prelude.{◌≡◌, ◌≢◌, ◌<◌, ◌≤◌, ◌⊎◌, ℕ, ℤ, pos, negsuc, Bool, true, List, length, Ok, Err, IsUtf8}
 use Rattle.std.specs.Str.{chars}
 use Rattle.dnw_error.specs.declared.error.DecodeError.{DecodeError}
 use Rattle.dnw_error.specs.Fault.{Fault, HasOwnText}
@@ -27,12 +27,16 @@ FailsToRead message start size failure =
     HasNoName message start failure
     ⊎ ((labels : List (List ℕ)) × (end : ℕ) × (k : ℕ) × NameAt message start labels end k × (size < length (wire labels)) × (failure ≡ NoRoom))
 
--- Nor as its text: there is none, or the text is longer, or memory ran out.
+-- A text is not put into a buffer of this size: it is longer, or memory ran out, which the empty text does not need.
+abbrev pub FailsToPutText : List ℕ → ℕ → Failure → Type 0
+FailsToPutText text size failure = ((size < length text) × (failure ≡ NoRoom)) ⊎ ((1 ≤ length text) × (failure ≡ NoMemory))
+
+-- Nor as its text: there is none, or its text is not put.
 abbrev pub FailsToReadText : List ℕ → ℕ → ℕ → Failure → Type 0
 FailsToReadText message start size failure =
     HasNoName message start failure
     ⊎ ((labels : List (List ℕ)) × (end : ℕ) × (k : ℕ) × NameAt message start labels end k
-    × (((size < length (absolute_text labels)) × (failure ≡ NoRoom)) ⊎ (failure ≡ NoMemory)))
+    × FailsToPutText (absolute_text labels) size failure)
 
 -- A text is not parsed into a buffer of this size: it is not UTF-8, or not a name's, or the wire form is longer. Memory may
 -- run out only for an error with a text of its own.
@@ -68,11 +72,10 @@ sign Less = negsuc 0
 sign Equal = pos 0
 sign Greater = pos 1
 
--- A wire form is not printed into a buffer of this size: it is none, or bytes follow after it, or the text is longer, or
--- memory ran out.
+-- A wire form is not printed into a buffer of this size: it is none, or bytes follow after it, or its text is not put.
 abbrev pub FailsToPrint : List ℕ → Bool → ℕ → Failure → Type 0
 FailsToPrint form is_fqdn size failure =
     HasNoName form 0 failure
     ⊎ ((labels : List (List ℕ)) × (end : ℕ) × (k : ℕ) × NameAt form 0 labels end k × (end ≢ length form) × (failure ≡ BytesLeft))
     ⊎ ((labels : List (List ℕ)) × (k : ℕ) × NameAt form 0 labels (length form) k
-    × (((size < length (name_text (record { is_fqdn = is_fqdn; labels = labels }))) × (failure ≡ NoRoom)) ⊎ (failure ≡ NoMemory)))
+    × FailsToPutText (name_text (record { is_fqdn = is_fqdn; labels = labels })) size failure)

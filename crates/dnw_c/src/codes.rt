@@ -1,16 +1,16 @@
 //! The codes of types and classes, and serial numbers.
-ghost use Rattle.std.specs.Prelude.{◌≡◌, ◌≢◌, ◌≤◌, Some, None, length, IfOk, IfErr, OnErr};
+ghost use Rattle.std.specs.Prelude.{◌≡◌, ◌≢◌, ◌<◌, ◌≤◌, Some, None, length, IfOk, IfErr, OnErr};
 ghost use Rattle.std.specs.declared.cmp.Ordering.{Ordering};
-ghost use Rattle.dnw_codes.specs.RecordTypes.{type_code, type_name, type_of_code, type_of_name};
-ghost use Rattle.dnw_codes.specs.DnsClasses.{class_code, class_name, class_of_code, class_of_name};
+ghost use Rattle.dnw_codes.specs.RecordTypes.{type_code, type_of_code, type_of_text, type_text};
+ghost use Rattle.dnw_codes.specs.DnsClasses.{class_code, class_of_code, class_of_text, class_text};
 ghost use Rattle.dnw_codes.specs.declared.record_type.RecordType.{RecordType};
 ghost use Rattle.dnw_codes.specs.declared.dns_class.DNSClass.{DNSClass};
 ghost use Rattle.dnw_codes.specs.Serials.{serial_cmp, serial_sum};
 ghost use Rattle.dnw_c.specs.Buffers.{put};
-ghost use Rattle.dnw_c.specs.CodeCalls.{FailsToGive, FailsToPut};
+ghost use Rattle.dnw_c.specs.CodeCalls.{FailsToGive, FailsToPut, max_code_text};
 ghost use Rattle.dnw_c.specs.Failures.{NumberOf, number};
 ghost use Rattle.dnw_c.specs.NameCalls.{sign};
-ghost use Rattle.dnw_c.specs.declared.failure.Failure.TheVariants.{NotOrdered, UnknownText};
+ghost use Rattle.dnw_c.specs.declared.failure.Failure.TheVariants.{NoRoom, NotOrdered, UnknownText};
 
 use crate::failure::Failure;
 use crate::names::put;
@@ -19,23 +19,24 @@ use dns_names_wire::dns_class::DNSClass;
 use dns_names_wire::record_type::RecordType;
 use dns_names_wire::serial_number::SerialNumber;
 
-/// Puts the name of the type with a code, and its length.
+/// Puts the text of the type with a code, and its length. It gives the code back.
 #[unsafe(no_mangle)]
 pub extern "C" fn dnw_type_print(code: u16, text: &mut [u8], len: &mut usize) -> u32
-    ensures ok { result ≡ 0 → (text.new ≡ put text.old (type_name (type_of_code code)))
-        × (len.new ≡ length (type_name (type_of_code code))) }
-    ensures err { result ≢ 0 → NumberOf (FailsToPut (type_name (type_of_code code)) (length text.old)) result }
+    ensures ok { result ≡ 0 → (text.new ≡ put text.old (type_text (type_of_code code)))
+        × (len.new ≡ length (type_text (type_of_code code))) }
+    ensures err { result ≢ 0 → NumberOf (FailsToPut (type_text (type_of_code code)) (length text.old)) result }
+    ensures room { result ≡ number NoRoom → length text.old < max_code_text }
     ensures same { result ≢ 0 → (text.new ≡ text.old) × (len.new ≡ len.old) }
+    ensures back { type_of_text (type_text (type_of_code code)) ≡ Some (type_of_code code) }
 {
-    let name = Into::<&str>::into(RecordType::from(code));
-    put_all(text, name.as_bytes(), len)
+    put_all(text, RecordType::from(code).to_text().as_bytes(), len)
 }
 
-/// Puts the code of the type with a name.
+/// Puts the code of the type that a text gives.
 #[unsafe(no_mangle)]
 pub extern "C" fn dnw_type_parse(text: &[u8], code: &mut u16) -> u32
-    ensures ok { result ≡ 0 → (kind : RecordType) × (type_of_name text.now ≡ Some kind) × (code.new ≡ type_code kind) }
-    ensures err { result ≢ 0 → NumberOf (FailsToGive type_of_name UnknownText text.now) result }
+    ensures ok { result ≡ 0 → (kind : RecordType) × (type_of_text text.now ≡ Some kind) × (code.new ≡ type_code kind) }
+    ensures err { result ≢ 0 → NumberOf (FailsToGive type_of_text UnknownText text.now) result }
     ensures same { result ≢ 0 → code.new ≡ code.old }
 {
     match type_named(text) {
@@ -47,23 +48,24 @@ pub extern "C" fn dnw_type_parse(text: &[u8], code: &mut u16) -> u32
     }
 }
 
-/// Puts the name of the class with a code, and its length.
+/// Puts the text of the class with a code, and its length. It gives the code back.
 #[unsafe(no_mangle)]
 pub extern "C" fn dnw_class_print(code: u16, text: &mut [u8], len: &mut usize) -> u32
-    ensures ok { result ≡ 0 → (text.new ≡ put text.old (class_name (class_of_code code)))
-        × (len.new ≡ length (class_name (class_of_code code))) }
-    ensures err { result ≢ 0 → NumberOf (FailsToPut (class_name (class_of_code code)) (length text.old)) result }
+    ensures ok { result ≡ 0 → (text.new ≡ put text.old (class_text (class_of_code code)))
+        × (len.new ≡ length (class_text (class_of_code code))) }
+    ensures err { result ≢ 0 → NumberOf (FailsToPut (class_text (class_of_code code)) (length text.old)) result }
+    ensures room { result ≡ number NoRoom → length text.old < max_code_text }
     ensures same { result ≢ 0 → (text.new ≡ text.old) × (len.new ≡ len.old) }
+    ensures back { class_of_text (class_text (class_of_code code)) ≡ Some (class_of_code code) }
 {
-    let name = Into::<&str>::into(DNSClass::from(code));
-    put_all(text, name.as_bytes(), len)
+    put_all(text, DNSClass::from(code).to_text().as_bytes(), len)
 }
 
-/// Puts the code of the class with a name.
+/// Puts the code of the class that a text gives.
 #[unsafe(no_mangle)]
 pub extern "C" fn dnw_class_parse(text: &[u8], code: &mut u16) -> u32
-    ensures ok { result ≡ 0 → (class : DNSClass) × (class_of_name text.now ≡ Some class) × (code.new ≡ class_code class) }
-    ensures err { result ≢ 0 → NumberOf (FailsToGive class_of_name UnknownText text.now) result }
+    ensures ok { result ≡ 0 → (class : DNSClass) × (class_of_text text.now ≡ Some class) × (code.new ≡ class_code class) }
+    ensures err { result ≢ 0 → NumberOf (FailsToGive class_of_text UnknownText text.now) result }
     ensures same { result ≢ 0 → code.new ≡ code.old }
 {
     match class_named(text) {
@@ -104,6 +106,7 @@ pub extern "C" fn dnw_serial_add(serial: u32, other: u32) -> u32
 pub(crate) fn put_all(buffer: &mut [u8], bytes: &[u8], len: &mut usize) -> u32
     ensures ok { result ≡ 0 → (buffer.new ≡ put buffer.old bytes.now) × (len.new ≡ length bytes.now) }
     ensures err { result ≢ 0 → NumberOf (FailsToPut bytes.now (length buffer.old)) result }
+    ensures room { result ≡ number NoRoom → length buffer.old < length bytes.now }
     ensures same { result ≢ 0 → (buffer.new ≡ buffer.old) × (len.new ≡ len.old) }
 {
     match put(buffer, bytes) {
@@ -115,24 +118,24 @@ pub(crate) fn put_all(buffer: &mut [u8], bytes: &[u8], len: &mut usize) -> u32
     }
 }
 
-/// Returns the type with a name.
+/// Returns the type that a text gives.
 fn type_named(text: &[u8]) -> Result<RecordType, Failure>
-    ensures ok { IfOk result (λ kind. type_of_name text.now ≡ Some kind) }
-    ensures err { IfErr result (FailsToGive type_of_name UnknownText text.now) }
+    ensures ok { IfOk result (λ kind. type_of_text text.now ≡ Some kind) }
+    ensures err { IfErr result (FailsToGive type_of_text UnknownText text.now) }
 {
     let Ok(name) = str::from_utf8(text) else {
         return Err(Failure::NotUtf8);
     };
-    RecordType::from_name(name).ok_or(Failure::UnknownText)
+    RecordType::from_text(name).ok_or(Failure::UnknownText)
 }
 
-/// Returns the class with a name.
+/// Returns the class that a text gives.
 fn class_named(text: &[u8]) -> Result<DNSClass, Failure>
-    ensures ok { IfOk result (λ class. class_of_name text.now ≡ Some class) }
-    ensures err { IfErr result (FailsToGive class_of_name UnknownText text.now) }
+    ensures ok { IfOk result (λ class. class_of_text text.now ≡ Some class) }
+    ensures err { IfErr result (FailsToGive class_of_text UnknownText text.now) }
 {
     let Ok(name) = str::from_utf8(text) else {
         return Err(Failure::NotUtf8);
     };
-    DNSClass::from_name(name).ok_or(Failure::UnknownText)
+    DNSClass::from_text(name).ok_or(Failure::UnknownText)
 }

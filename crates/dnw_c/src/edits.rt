@@ -1,13 +1,15 @@
 //! Names changed, by their wire forms.
-ghost use Rattle.std.specs.Prelude.{◌≡◌, ◌≢◌, ℕ, List, length, Result, IfOk, IfErr, OnErr};
+ghost use Rattle.std.specs.Prelude.{◌≡◌, ◌≢◌, ℕ, ◌<◌, List, length, Result, IfOk, IfErr, OnErr};
 ghost use Rattle.dnw_error.specs.Fault.{Fault, Follows};
+ghost use Rattle.dnw_base.specs.Limits.{max_name};
 ghost use Rattle.dnw_base.specs.Names.{NameValue};
 ghost use Rattle.dnw_form.specs.Edits.{into_wildcard, trim_to};
-ghost use Rattle.dnw_c.specs.Failures.{NumberOf};
+ghost use Rattle.dnw_c.specs.Failures.{NumberOf, number};
 ghost use Rattle.dnw_c.specs.NameEdits.{FailsToAppend, FailsToChange, FailsToEdit, FailsToPrepend, PutsAppended, PutsChanged, PutsEdited, PutsPrepended};
+ghost use Rattle.dnw_c.specs.declared.failure.Failure.TheVariants.{NoRoom};
 
 use crate::failure::{Failure, of_proto};
-use crate::names::put;
+use crate::names::put_form;
 use crate::order::{both_names, name_of};
 use dns_names_wire::error::ProtoResult;
 use dns_names_wire::name::Name;
@@ -24,6 +26,7 @@ pub extern "C" fn dnw_name_append(
 ) -> u32
     ensures ok { result ≡ 0 → PutsAppended name.now suffix.now form.old form.new len.new }
     ensures err { result ≢ 0 → NumberOf (FailsToAppend name.now suffix.now (length form.old)) result }
+    ensures room { result ≡ number NoRoom → length form.old < max_name }
     ensures same { result ≢ 0 → (form.new ≡ form.old) × (len.new ≡ len.old) }
 {
     match append(alloc, name, suffix, form) {
@@ -46,6 +49,7 @@ pub extern "C" fn dnw_name_prepend_label(
 ) -> u32
     ensures ok { result ≡ 0 → PutsPrepended name.now label.now form.old form.new len.new }
     ensures err { result ≢ 0 → NumberOf (FailsToPrepend name.now label.now (length form.old)) result }
+    ensures room { result ≡ number NoRoom → length form.old < max_name }
     ensures same { result ≢ 0 → (form.new ≡ form.old) × (len.new ≡ len.old) }
 {
     match prepend(alloc, label, name, form) {
@@ -68,6 +72,7 @@ pub extern "C" fn dnw_name_trim(
 ) -> u32
     ensures ok { result ≡ 0 → PutsChanged (λ n. trim_to n labels) name.now form.old form.new len.new }
     ensures err { result ≢ 0 → NumberOf (FailsToChange (λ n. trim_to n labels) name.now (length form.old)) result }
+    ensures room { result ≡ number NoRoom → length form.old < max_name }
     ensures same { result ≢ 0 → (form.new ≡ form.old) × (len.new ≡ len.old) }
 {
     match trim(alloc, name, labels, form) {
@@ -89,6 +94,7 @@ pub extern "C" fn dnw_name_to_wildcard(
 ) -> u32
     ensures ok { result ≡ 0 → PutsChanged into_wildcard name.now form.old form.new len.new }
     ensures err { result ≢ 0 → NumberOf (FailsToChange into_wildcard name.now (length form.old)) result }
+    ensures room { result ≡ number NoRoom → length form.old < max_name }
     ensures same { result ≢ 0 → (form.new ≡ form.old) × (len.new ≡ len.old) }
 {
     match wildcard(alloc, name, form) {
@@ -104,6 +110,7 @@ pub extern "C" fn dnw_name_to_wildcard(
 fn append(alloc: Global, name: &[u8], suffix: &[u8], form: &mut [u8]) -> Result<usize, Failure>
     ensures ok { IfOk result (PutsAppended name.now suffix.now form.old form.new) }
     ensures err { IfErr result (FailsToAppend name.now suffix.now (length form.old)) }
+    ensures room { IfErr result (λ failure. failure ≡ NoRoom → length form.old < max_name) }
     ensures same { OnErr result (form.new ≡ form.old) }
 {
     let (name, suffix) = both_names(alloc, name, suffix)?;
@@ -114,6 +121,7 @@ fn append(alloc: Global, name: &[u8], suffix: &[u8], form: &mut [u8]) -> Result<
 fn prepend(alloc: Global, label: &[u8], name: &[u8], form: &mut [u8]) -> Result<usize, Failure>
     ensures ok { IfOk result (PutsPrepended name.now label.now form.old form.new) }
     ensures err { IfErr result (FailsToPrepend name.now label.now (length form.old)) }
+    ensures room { IfErr result (λ failure. failure ≡ NoRoom → length form.old < max_name) }
     ensures same { OnErr result (form.new ≡ form.old) }
 {
     let name = name_of(alloc, name)?;
@@ -124,11 +132,12 @@ fn prepend(alloc: Global, label: &[u8], name: &[u8], form: &mut [u8]) -> Result<
 fn trim(alloc: Global, name: &[u8], labels: usize, form: &mut [u8]) -> Result<usize, Failure>
     ensures ok { IfOk result (PutsChanged (λ n. trim_to n labels) name.now form.old form.new) }
     ensures err { IfErr result (FailsToChange (λ n. trim_to n labels) name.now (length form.old)) }
+    ensures room { IfErr result (λ failure. failure ≡ NoRoom → length form.old < max_name) }
     ensures same { OnErr result (form.new ≡ form.old) }
 {
     let name = name_of(alloc, name)?;
     match name.trim_to(labels) {
-        Ok(name) => put(form, name.as_wire()),
+        Ok(name) => put_form(form, &name),
         Err(_) => Err(Failure::Other),
     }
 }
@@ -137,11 +146,12 @@ fn trim(alloc: Global, name: &[u8], labels: usize, form: &mut [u8]) -> Result<us
 fn wildcard(alloc: Global, name: &[u8], form: &mut [u8]) -> Result<usize, Failure>
     ensures ok { IfOk result (PutsChanged into_wildcard name.now form.old form.new) }
     ensures err { IfErr result (FailsToChange into_wildcard name.now (length form.old)) }
+    ensures room { IfErr result (λ failure. failure ≡ NoRoom → length form.old < max_name) }
     ensures same { OnErr result (form.new ≡ form.old) }
 {
     let name = name_of(alloc, name)?;
     match name.into_wildcard() {
-        Ok(name) => put(form, name.as_wire()),
+        Ok(name) => put_form(form, &name),
         Err(_) => Err(Failure::Other),
     }
 }
@@ -151,10 +161,11 @@ fn wildcard(alloc: Global, name: &[u8], form: &mut [u8]) -> Result<usize, Failur
 fn put_edited(form: &mut [u8], edited: ProtoResult<Name>) -> Result<usize, Failure>
     ensures ok { (edit : Result NameValue Fault) → Follows edit ⊥ edited → IfOk result (PutsEdited edit form.old form.new) }
     ensures err { (edit : Result NameValue Fault) → Follows edit ⊥ edited → IfErr result (FailsToEdit edit (length form.old)) }
+    ensures room { IfErr result (λ failure. failure ≡ NoRoom → length form.old < max_name) }
     ensures same { OnErr result (form.new ≡ form.old) }
 {
     match edited {
-        Ok(name) => put(form, name.as_wire()),
+        Ok(name) => put_form(form, &name),
         Err(error) => Err(of_proto(&error)),
     }
 }

@@ -62,6 +62,10 @@ pub enum Failure {
     NotReverse,
     /// A list of items has one of no kind, or one that is cut or that is no name or record.
     BadItem,
+    /// A label of a text has no character.
+    EmptyLabel,
+    /// An escape of a text has a number that is no octal digit.
+    BadEscape,
 }
 
 /// The table of the failures: each with its number in C and a text about it. The rule that is named gets the rows, after
@@ -96,6 +100,8 @@ macro_rules! failures {
             BadAddress = 25, "an address has 4 or 16 bytes";
             NotReverse = 26, "the name is no reverse name of an address or a net";
             BadItem = 27, "an item of the list is malformed";
+            EmptyLabel = 28, "a label of the text is empty";
+            BadEscape = 29, "an escape of the text has a number that is no octal digit";
         }
     };
 }

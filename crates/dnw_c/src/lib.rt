@@ -23,6 +23,8 @@ pub mod reverse;
 pub mod sort_key;
 /// The tokens of master files.
 pub mod tokens;
+/// Where the texts of names go wrong.
+pub mod text_faults;
 /// Times to live.
 pub mod ttl;
 /// Bitmaps of types, and lists of their codes.

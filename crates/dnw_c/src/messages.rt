@@ -5,9 +5,9 @@ ghost use Rattle.dnw_record.specs.Records.{RecordValue, TakesRecord};
 ghost use Rattle.dnw_encoder.specs.Encoder.{Encoder};
 ghost use Rattle.dnw_encoder.specs.EncoderValue.{value, lender};
 ghost use Rattle.dnw_c.specs.Failures.{NumberOf, number};
-ghost use Rattle.dnw_c.specs.MessageItems.{CopiesOf, EmitsItem, FailsToCopyItem, FailsToCopyOf, FailsToTakeData, FailsToTakeRecord, FailsToWriteMessage, HasBlock, IsData, IsKind, IsNoKind, IsRecord, Item, PutsMessage, StopsAfter, TakesBlock, TakesItem, WritesWhole, of_message};
-ghost use Rattle.dnw_c.specs.declared.messages.Kind.TheVariants.{Bytes, Name, Record};
-ghost use Rattle.dnw_c.specs.declared.failure.Failure.TheVariants.{BadItem, MessageTooLong, NoMemory};
+ghost use Rattle.dnw_c.specs.MessageItems.{CopiesOf, EmitsItem, FailsToCopyItem, FailsToCopyOf, FailsToTakeOf, FailsToWriteMessage, HasBlock, HasLittleRoom, IsKind, IsNoKind, IsRecordOfName, Item, PutsMessage, StopsAfter, TakesBlock, TakesItem, WritesWhole, of_message};
+ghost use Rattle.dnw_c.specs.declared.messages.Kind.TheVariants.{Bytes, Name, Record, RecordOfName};
+ghost use Rattle.dnw_c.specs.declared.failure.Failure.TheVariants.{BadItem, MessageTooLong, NoRoom};
 
 use crate::failure::{Failure, of_proto};
 use crate::names::put;
@@ -33,8 +33,10 @@ enum Kind {
     Bytes,
     /// A name.
     Name,
-    /// A record, of which the data are bytes, or a name that is written in this way.
-    Record(Option<RDataEncoding>),
+    /// A record, whose data are written as they are.
+    Record,
+    /// A record whose data are a name, which is written in this way.
+    RecordOfName(RDataEncoding),
 }
 
 /// A message of a list, and whether it has all of the items.
@@ -59,6 +61,7 @@ pub extern "C" fn dnw_message_write(
     ensures cut { result ≡ number MessageTooLong → PutsMessage false items.now (of_message max_size is_canonical) message.old message.new written.new }
     ensures err { result ≢ 0 → result ≢ number MessageTooLong
         → NumberOf (FailsToWriteMessage items.now (of_message max_size is_canonical) (length message.old)) result }
+    ensures room { result ≡ number NoRoom → HasLittleRoom items.now max_size (length message.old) }
     ensures same { result ≢ 0 → result ≢ number MessageTooLong → (message.new ≡ message.old) × (written.new ≡ written.old) }
 {
     match write(alloc, items, max_size, is_canonical, message) {
@@ -85,6 +88,7 @@ fn write(
     ensures ok { IfOk result (λ r. PutsMessage r.1 items.now (of_message max_size is_canonical) message.old message.new r.0) }
     ensures err { IfErr result (FailsToWriteMessage items.now (of_message max_size is_canonical) (length message.old)) }
     ensures other { IfErr result (λ failure. failure ≢ MessageTooLong) }
+    ensures room { IfErr result (λ failure. failure ≡ NoRoom → HasLittleRoom items.now max_size (length message.old)) }
     ensures same { OnErr result (message.new ≡ message.old) }
 {
     let written = write_all(alloc, items, max_size, is_canonical)?;
@@ -161,7 +165,8 @@ fn write_next(
     match read_kind(decoder)? {
         Kind::Bytes => write_bytes(decoder, encoder),
         Kind::Name => write_name(decoder, encoder),
-        Kind::Record(how) => write_record(alloc, how, decoder, encoder),
+        Kind::Record => write_record(alloc, decoder, encoder),
+        Kind::RecordOfName(encoding) => write_record_of_name(alloc, encoding, decoder, encoder),
     }
 }
 
@@ -195,22 +200,43 @@ fn write_name(decoder: &mut BinDecoder<'_>, encoder: &mut BinEncoder<'_>) -> Res
     }
 }
 
-/// Writes a record, of which the data are bytes, or a name that is written in a way. It is not inlined, since its names take
-/// room that the other kinds do not need.
-#[inline(never)]
+/// Writes a record from where it is in the list.
 fn write_record(
     alloc: Global,
-    how: Option<RDataEncoding>,
     decoder: &mut BinDecoder<'_>,
     encoder: &mut BinEncoder<'_>,
 ) -> Result<(), Failure>
     requires ends { (value encoder.old).offset ≡ length (value encoder.old).bytes }
-    ensures ok { OnOk result (CopiesOf (Record how) decoder.old (value encoder.old) decoder.new (value encoder.new)) }
-    ensures err { IfErr result (FailsToCopyOf (Record how) decoder.old (value encoder.old)) }
+    ensures ok { OnOk result (CopiesOf Record decoder.old (value encoder.old) decoder.new (value encoder.new)) }
+    ensures err { IfErr result (FailsToCopyOf Record decoder.old (value encoder.old)) }
     ensures undone { OnErr result ((value encoder.new).bytes ≡ (value encoder.old).bytes) }
     ensures lender { lender encoder.new ≡ lender encoder.old }
 {
-    let record = read_record(alloc, how, decoder)?;
+    let Ok(record) = RecordRef::read(alloc, decoder) else {
+        return Err(Failure::BadItem);
+    };
+    match record.emit(encoder) {
+        Ok(()) => Ok(()),
+        Err(error) => Err(of_proto(&error)),
+    }
+}
+
+/// Writes a record whose data are a name, which is written in a way. It is not inlined, since its names take room that the
+/// other kinds do not need.
+#[inline(never)]
+fn write_record_of_name(
+    alloc: Global,
+    encoding: RDataEncoding,
+    decoder: &mut BinDecoder<'_>,
+    encoder: &mut BinEncoder<'_>,
+) -> Result<(), Failure>
+    requires ends { (value encoder.old).offset ≡ length (value encoder.old).bytes }
+    ensures ok { OnOk result (CopiesOf (RecordOfName encoding) decoder.old (value encoder.old) decoder.new (value encoder.new)) }
+    ensures err { IfErr result (FailsToCopyOf (RecordOfName encoding) decoder.old (value encoder.old)) }
+    ensures undone { OnErr result ((value encoder.new).bytes ≡ (value encoder.old).bytes) }
+    ensures lender { lender encoder.new ≡ lender encoder.old }
+{
+    let record = read_record(alloc, encoding, decoder)?;
     match record.emit(encoder) {
         Ok(()) => Ok(()),
         Err(error) => Err(of_proto(&error)),
@@ -226,10 +252,10 @@ fn read_kind(decoder: &mut BinDecoder<'_>) -> Result<Kind, Failure>
     match decoder.pop().unwrap().unverified() {
         0 => Ok(Kind::Bytes),
         1 => Ok(Kind::Name),
-        2 => Ok(Kind::Record(None)),
-        3 => Ok(Kind::Record(Some(RDataEncoding::StandardRecord))),
-        4 => Ok(Kind::Record(Some(RDataEncoding::Canonical))),
-        5 => Ok(Kind::Record(Some(RDataEncoding::Other))),
+        2 => Ok(Kind::Record),
+        3 => Ok(Kind::RecordOfName(RDataEncoding::StandardRecord)),
+        4 => Ok(Kind::RecordOfName(RDataEncoding::Canonical)),
+        5 => Ok(Kind::RecordOfName(RDataEncoding::Other)),
         _ => Err(Failure::BadItem),
     }
 }
@@ -249,56 +275,26 @@ fn read_block<'a>(decoder: &mut BinDecoder<'a>) -> Result<&'a [u8], Failure>
     }
 }
 
-/// Reads a record, of which the data are bytes, or a name that is written in a way.
+/// Reads a record whose data are a name, which is to be written in a way.
 fn read_record(
     alloc: Global,
-    how: Option<RDataEncoding>,
+    encoding: RDataEncoding,
     decoder: &mut BinDecoder<'_>,
 ) -> Result<WireRecord, Failure>
-    ensures ok { IfOk result (λ r. (x : RecordValue) × TakesRecord decoder.old x decoder.new × IsRecord how x r) }
-    ensures err { IfErr result (FailsToTakeRecord how decoder.old) }
+    ensures ok { IfOk result (λ r. (x : RecordValue) × TakesRecord decoder.old x decoder.new × IsRecordOfName encoding x r) }
+    ensures err { IfErr result (FailsToTakeOf (RecordOfName encoding) decoder.old) }
 {
     let Ok(record) = RecordRef::read(alloc, decoder) else {
         return Err(Failure::BadItem);
     };
-    let rdata = data_of(alloc, how, &record)?;
-    Ok(WireRecord {
-        owner: record.owner().to_name(alloc).unwrap(),
-        record_type: record.record_type(),
-        class: record.class(),
-        ttl: record.ttl(),
-        rdata,
-    })
-}
-
-/// Returns the data of a record, to be written.
-fn data_of(
-    alloc: Global,
-    how: Option<RDataEncoding>,
-    found: &RecordRef<'_>,
-) -> Result<WireData, Failure>
-    ensures ok { IfOk result (IsData how found.now) }
-    ensures err { IfErr result (FailsToTakeData how found.now) }
-{
-    let Some(encoding) = how else {
-        return Ok(WireData::Bytes(copied(alloc, found.rdata())?));
-    };
-    match found.data_name(alloc) {
-        Ok(name) => Ok(WireData::Name { name, encoding }),
+    match record.data_name(alloc) {
+        Ok(name) => Ok(WireRecord {
+            owner: record.owner().to_name(alloc).unwrap(),
+            record_type: record.record_type(),
+            class: record.class(),
+            ttl: record.ttl(),
+            rdata: WireData::Name { name, encoding },
+        }),
         Err(_) => Err(Failure::BadItem),
-    }
-}
-
-/// Copies bytes. No bytes take no memory.
-fn copied(alloc: Global, bytes: &[u8]) -> Result<Vec<u8>, Failure>
-    ensures ok { IfOk result (λ copy. copy.items ≡ bytes.now) }
-    ensures err { IfErr result (λ failure. (1 ≤ length bytes.now) × (failure ≡ NoMemory)) }
-{
-    if bytes.is_empty() {
-        return Ok(Vec::new(alloc));
-    }
-    match Vec::from_slice(alloc, bytes) {
-        Ok(copy) => Ok(copy),
-        Err(_) => Err(Failure::NoMemory),
     }
 }

@@ -3,19 +3,20 @@ ghost use Rattle.std.specs.Prelude.{◌≡◌, ◌≢◌, ◌⊎◌, ℕ, ◌<�
 ghost use Rattle.std.specs.Prelude.{IfOk, IfErr, OnOk, OnErr};
 ghost use Rattle.std.specs.Str.{chars};
 ghost use Rattle.dnw_error.specs.declared.error.DecodeError.{DecodeError};
+ghost use Rattle.dnw_base.specs.Limits.{max_name};
 ghost use Rattle.dnw_base.specs.Names.{NameValue, wire};
-ghost use Rattle.dnw_text.specs.NameText.{name_text, name_from_text};
+ghost use Rattle.dnw_text.specs.NameText.{max_text, name_text, name_from_text};
 ghost use Rattle.dnw_reading.specs.Reading.{NameAt, FaultAt};
 ghost use Rattle.dnw_name.specs.Decodable.{TakesNameValue};
 ghost use Rattle.dnw_encoder.specs.Encoder.{Encoder};
 ghost use Rattle.dnw_encoder.specs.EncoderValue.{value, lender};
 ghost use Rattle.dnw_encoder.specs.EmittedName.{EmitsName};
 ghost use Rattle.dnw_c.specs.Buffers.{PutsIfFits, put};
-ghost use Rattle.dnw_c.specs.Failures.{HasText, NumberOf};
-ghost use Rattle.dnw_c.specs.NameCalls.{FailsToParse, FailsToPrint, FailsToRead, FailsToReadText, absolute_text};
+ghost use Rattle.dnw_c.specs.Failures.{HasText, NumberOf, number};
+ghost use Rattle.dnw_c.specs.NameCalls.{FailsToParse, FailsToPrint, FailsToPutText, FailsToRead, FailsToReadText, absolute_text};
 ghost use Rattle.dnw_c.specs.NameLists.{FailsToCopy, FailsToWrite, StopsWriting, WritesNames, at_first, limited_to};
 ghost use Rattle.dnw_c.specs.declared.failure.Failure.{Failure};
-ghost use Rattle.dnw_c.specs.declared.failure.Failure.TheVariants.{NoMemory, NoRoom};
+ghost use Rattle.dnw_c.specs.declared.failure.Failure.TheVariants.{NoRoom};
 
 use crate::failure::{Failure, of_decode, of_proto, text_of};
 use dns_names_wire::binary::BinEncodable;
@@ -61,6 +62,7 @@ pub extern "C" fn dnw_name_read(
     ensures ok { result ≡ 0 → (labels : List (List ℕ)) × (k : ℕ) × NameAt message.now start labels read.new.end k
         × (form.new ≡ put form.old (wire labels)) × (read.new.len ≡ length (wire labels)) }
     ensures err { result ≢ 0 → NumberOf (FailsToRead message.now start (length form.old)) result }
+    ensures room { result ≡ number NoRoom → length form.old < max_name }
     ensures same { result ≢ 0 → (form.new ≡ form.old) × (read.new ≡ read.old) }
 {
     match read_form(message, start, form) {
@@ -84,6 +86,7 @@ pub extern "C" fn dnw_name_read_text(
     ensures ok { result ≡ 0 → (labels : List (List ℕ)) × (k : ℕ) × NameAt message.now start labels read.new.end k
         × (text.new ≡ put text.old (absolute_text labels)) × (read.new.len ≡ length (absolute_text labels)) }
     ensures err { result ≢ 0 → NumberOf (FailsToReadText message.now start (length text.old)) result }
+    ensures room { result ≡ number NoRoom → length text.old < max_text }
     ensures same { result ≢ 0 → (text.new ≡ text.old) × (read.new ≡ read.old) }
 {
     match read_text(alloc, message, start, text) {
@@ -107,6 +110,7 @@ pub extern "C" fn dnw_name_parse(
         × (form.new ≡ put form.old (wire name.labels))
         × (parsed.new ≡ record { len = length (wire name.labels); is_fqdn = name.is_fqdn }) }
     ensures err { result ≢ 0 → NumberOf (FailsToParse text.now (length form.old)) result }
+    ensures room { result ≡ number NoRoom → length form.old < max_name }
     ensures same { result ≢ 0 → (form.new ≡ form.old) × (parsed.new ≡ parsed.old) }
 {
     match parse(alloc, text, form) {
@@ -131,6 +135,7 @@ pub extern "C" fn dnw_name_print(
         × (text.new ≡ put text.old (name_text (record { is_fqdn = is_fqdn; labels = labels })))
         × (len.new ≡ length (name_text (record { is_fqdn = is_fqdn; labels = labels }))) }
     ensures err { result ≢ 0 → NumberOf (FailsToPrint form.now is_fqdn (length text.old)) result }
+    ensures room { result ≡ number NoRoom → length text.old < max_text }
     ensures same { result ≢ 0 → (text.new ≡ text.old) × (len.new ≡ len.old) }
 {
     match print(alloc, form, is_fqdn, text) {
@@ -181,6 +186,7 @@ fn read_form(message: &[u8], start: usize, form: &mut [u8]) -> Result<ReadName, 
     ensures ok { IfOk result (λ r. (labels : List (List ℕ)) × (k : ℕ) × NameAt message.now start labels r.end k
         × (form.new ≡ put form.old (wire labels)) × (r.len ≡ length (wire labels))) }
     ensures err { IfErr result (FailsToRead message.now start (length form.old)) }
+    ensures room { IfErr result (λ failure. failure ≡ NoRoom → length form.old < max_name) }
     ensures same { OnErr result (form.new ≡ form.old) }
 {
     match name_ref_at(message, start) {
@@ -202,6 +208,7 @@ fn read_text(
     ensures ok { IfOk result (λ r. (labels : List (List ℕ)) × (k : ℕ) × NameAt message.now start labels r.end k
         × (text.new ≡ put text.old (absolute_text labels)) × (r.len ≡ length (absolute_text labels))) }
     ensures err { IfErr result (FailsToReadText message.now start (length text.old)) }
+    ensures room { IfErr result (λ failure. failure ≡ NoRoom → length text.old < max_text) }
     ensures same { OnErr result (text.new ≡ text.old) }
 {
     match name_at(alloc, message, start) {
@@ -219,6 +226,7 @@ fn parse(alloc: Global, text: &[u8], form: &mut [u8]) -> Result<ParsedName, Fail
         × (form.new ≡ put form.old (wire name.labels))
         × (r ≡ record { len = length (wire name.labels); is_fqdn = name.is_fqdn })) }
     ensures err { IfErr result (FailsToParse text.now (length form.old)) }
+    ensures room { IfErr result (λ failure. failure ≡ NoRoom → length form.old < max_name) }
     ensures same { OnErr result (form.new ≡ form.old) }
 {
     let Ok(chars) = str::from_utf8(text) else {
@@ -226,13 +234,13 @@ fn parse(alloc: Global, text: &[u8], form: &mut [u8]) -> Result<ParsedName, Fail
     };
     match Name::from_ascii(alloc, chars) {
         Ok(name) => {
-            let len = put(form, name.as_wire())?;
+            let len = put_form(form, &name)?;
             Ok(ParsedName {
                 len,
                 is_fqdn: name.is_fqdn(),
             })
         }
-        Err(error) => Err(of_proto(&error)),
+        Err(fault) => Err(of_proto(&fault)),
     }
 }
 
@@ -242,6 +250,7 @@ fn print(alloc: Global, form: &[u8], is_fqdn: bool, text: &mut [u8]) -> Result<u
         × (text.new ≡ put text.old (name_text (record { is_fqdn = is_fqdn; labels = labels })))
         × (len ≡ length (name_text (record { is_fqdn = is_fqdn; labels = labels })))) }
     ensures err { IfErr result (FailsToPrint form.now is_fqdn (length text.old)) }
+    ensures room { IfErr result (λ failure. failure ≡ NoRoom → length text.old < max_text) }
     ensures same { OnErr result (text.new ≡ text.old) }
 {
     match name_at(alloc, form, 0) {
@@ -362,25 +371,41 @@ pub(crate) fn put(buffer: &mut [u8], bytes: &[u8]) -> Result<usize, Failure>
     Ok(bytes.len())
 }
 
+/// Puts the wire form of a name, and returns its length.
+#[tactic(auto, using(crate::proofs::Forms::form_size, crate::proofs::Forms::form_fits))]
+pub(crate) fn put_form(form: &mut [u8], name: &Name) -> Result<usize, Failure>
+    ensures ok { IfOk result (λ len. (len ≡ length (wire name.now.labels)) × (form.new ≡ put form.old (wire name.now.labels))) }
+    ensures err { IfErr result (λ failure. (failure ≡ NoRoom) × (length form.old < length (wire name.now.labels))) }
+    ensures room { IfErr result (λ failure. failure ≡ NoRoom → length form.old < max_name) }
+    ensures same { OnErr result (form.new ≡ form.old) }
+{
+    if name.encoded_len() > form.len() {
+        return Err(Failure::NoRoom);
+    }
+    put(form, name.as_wire())
+}
+
 /// Puts the wire form of a name of a message, and returns its length.
+#[tactic(auto, using(crate::proofs::Forms::form_size))]
 #[inline(always)]
 pub(crate) fn put_name(form: &mut [u8], name: &NameRef<'_>) -> Result<usize, Failure>
     ensures ok { IfOk result (λ len. (len ≡ length (wire name.now)) × (form.new ≡ put form.old (wire name.now))) }
     ensures err { IfErr result (λ failure. (failure ≡ NoRoom) × (length form.old < length (wire name.now))) }
+    ensures room { IfErr result (λ failure. failure ≡ NoRoom → length form.old < max_name) }
     ensures same { OnErr result (form.new ≡ form.old) }
 {
-    match name.copy_wire(form) {
-        Some(len) => Ok(len),
-        None => Err(Failure::NoRoom),
+    if name.encoded_len() > form.len() {
+        return Err(Failure::NoRoom);
     }
+    Ok(name.copy_wire(form).unwrap())
 }
 
 /// Puts the text of a name, and returns its length.
 fn put_text(alloc: Global, buffer: &mut [u8], name: &Name) -> Result<usize, Failure>
     ensures ok { IfOk result (λ len. (len ≡ length (name_text name.now))
         × (buffer.new ≡ put buffer.old (name_text name.now))) }
-    ensures err { IfErr result (λ failure. (failure ≡ NoMemory)
-        ⊎ ((failure ≡ NoRoom) × (length buffer.old < length (name_text name.now)))) }
+    ensures err { IfErr result (FailsToPutText (name_text name.now) (length buffer.old)) }
+    ensures room { IfErr result (λ failure. failure ≡ NoRoom → length buffer.old < max_text) }
     ensures same { OnErr result (buffer.new ≡ buffer.old) }
 {
     match name.to_ascii(alloc) {

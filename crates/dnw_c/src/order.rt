@@ -1,13 +1,15 @@
 //! Names compared, by their wire forms.
-ghost use Rattle.std.specs.Prelude.{◌≡◌, ◌≢◌, ◌↔◌, List, ℕ, length, IsTrue, IfOk, IfErr};
+ghost use Rattle.std.specs.Prelude.{◌≡◌, ◌≢◌, ◌↔◌, List, ℕ, ◌<◌, length, IsTrue, IfOk, IfErr};
+ghost use Rattle.dnw_base.specs.Limits.{max_name};
 ghost use Rattle.dnw_base.specs.Names.{lower, wire};
 ghost use Rattle.dnw_order.specs.Order.{labels_cmp, IsZoneOf};
 ghost use Rattle.dnw_c.specs.Buffers.{put};
-ghost use Rattle.dnw_c.specs.Failures.{NumberOf};
+ghost use Rattle.dnw_c.specs.Failures.{NumberOf, number};
 ghost use Rattle.dnw_c.specs.NameCalls.{FailsAsForms, FailsToLower, IsFormOf, IsNoForm, sign};
+ghost use Rattle.dnw_c.specs.declared.failure.Failure.TheVariants.{NoRoom};
 
 use crate::failure::{Failure, of_decode};
-use crate::names::{name_at, put};
+use crate::names::{name_at, put_form};
 use dns_names_wire::decoder::BinDecoder;
 use dns_names_wire::name::Name;
 use dns_names_wire::name_ref::NameRef;
@@ -75,6 +77,7 @@ pub extern "C" fn dnw_name_to_lowercase(
     ensures ok { result ≡ 0 → (labels : List (List ℕ)) × IsFormOf form.now labels
         × (lowered.new ≡ put lowered.old (wire (lower labels))) × (len.new ≡ length (wire (lower labels))) }
     ensures err { result ≢ 0 → NumberOf (FailsToLower form.now (length lowered.old)) result }
+    ensures room { result ≡ number NoRoom → length lowered.old < max_name }
     ensures same { result ≢ 0 → (lowered.new ≡ lowered.old) × (len.new ≡ len.old) }
 {
     match lower_form(alloc, form, lowered) {
@@ -91,11 +94,12 @@ fn lower_form(alloc: Global, form: &[u8], lowered: &mut [u8]) -> Result<usize, F
     ensures ok { IfOk result (λ len. (labels : List (List ℕ)) × IsFormOf form.now labels
         × (lowered.new ≡ put lowered.old (wire (lower labels))) × (len ≡ length (wire (lower labels)))) }
     ensures err { IfErr result (FailsToLower form.now (length lowered.old)) }
+    ensures room { IfErr result (λ failure. failure ≡ NoRoom → length lowered.old < max_name) }
     ensures same { IfErr result (λ _. lowered.new ≡ lowered.old) }
 {
     let name = name_of(alloc, form)?;
     match name.to_lowercase() {
-        Ok(name) => put(lowered, name.as_wire()),
+        Ok(name) => put_form(lowered, &name),
         Err(_) => Err(Failure::Other),
     }
 }

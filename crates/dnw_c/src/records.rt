@@ -1,8 +1,10 @@
 //! The records of messages.
-ghost use Rattle.std.specs.Prelude.{◌≡◌, ◌≢◌, length, IfOk, IfErr, OnErr};
+ghost use Rattle.std.specs.Prelude.{◌≡◌, ◌≢◌, ◌<◌, length, IfOk, IfErr, OnErr};
+ghost use Rattle.dnw_base.specs.Limits.{max_name};
 ghost use Rattle.dnw_record.specs.Records.{FailsRecord, RecordAt};
-ghost use Rattle.dnw_c.specs.Failures.{NumberOf};
+ghost use Rattle.dnw_c.specs.Failures.{NumberOf, number};
 ghost use Rattle.dnw_c.specs.RecordCalls.{FailsToReadData, FailsToReadRecord, PutsDataName, PutsRecord, at_offset};
+ghost use Rattle.dnw_c.specs.declared.failure.Failure.TheVariants.{NoRoom};
 
 use crate::failure::{Failure, of_decode};
 use crate::names::{name_ref_at, put_name};
@@ -37,6 +39,7 @@ pub extern "C" fn dnw_record_read(
 ) -> u32
     ensures ok { result ≡ 0 → PutsRecord message.now start owner.old owner.new found.new }
     ensures err { result ≢ 0 → NumberOf (FailsToReadRecord message.now start (length owner.old)) result }
+    ensures room { result ≡ number NoRoom → length owner.old < max_name }
     ensures same { result ≢ 0 → (owner.new ≡ owner.old) × (found.new ≡ found.old) }
 {
     match read(alloc, message, start, owner) {
@@ -60,6 +63,7 @@ pub extern "C" fn dnw_record_data_name(
 ) -> u32
     ensures ok { result ≡ 0 → PutsDataName message.now data_offset data_len form.old form.new len.new }
     ensures err { result ≢ 0 → NumberOf (FailsToReadData message.now data_offset data_len (length form.old)) result }
+    ensures room { result ≡ number NoRoom → length form.old < max_name }
     ensures same { result ≢ 0 → (form.new ≡ form.old) × (len.new ≡ len.old) }
 {
     match data_name(message, data_offset, data_len, form) {
@@ -75,6 +79,7 @@ pub extern "C" fn dnw_record_data_name(
 fn read(alloc: Global, message: &[u8], start: usize, form: &mut [u8]) -> Result<ReadRecord, Failure>
     ensures ok { IfOk result (PutsRecord message.now start form.old form.new) }
     ensures err { IfErr result (FailsToReadRecord message.now start (length form.old)) }
+    ensures room { IfErr result (λ failure. failure ≡ NoRoom → length form.old < max_name) }
     ensures same { OnErr result (form.new ≡ form.old) }
 {
     let (record, end) = match record_at(alloc, message, start) {
@@ -118,6 +123,7 @@ fn data_name(
 ) -> Result<usize, Failure>
     ensures ok { IfOk result (PutsDataName message.now start data_len form.old form.new) }
     ensures err { IfErr result (FailsToReadData message.now start data_len (length form.old)) }
+    ensures room { IfErr result (λ failure. failure ≡ NoRoom → length form.old < max_name) }
     ensures same { OnErr result (form.new ≡ form.old) }
 {
     match name_ref_at(message, start) {

@@ -1,13 +1,14 @@
 //! Reverse names, of addresses that are bytes.
 ghost use Rattle.std.specs.Prelude.{◌≡◌, ◌≢◌, ◌<◌, length, IfOk, IfErr, OnErr};
+ghost use Rattle.dnw_base.specs.Limits.{max_name};
 ghost use Rattle.dnw_reverse.specs.NetTexts.{net_addr};
 ghost use Rattle.dnw_c.specs.Buffers.{put};
-ghost use Rattle.dnw_c.specs.Failures.{NumberOf};
+ghost use Rattle.dnw_c.specs.Failures.{NumberOf, number};
 ghost use Rattle.dnw_c.specs.ReverseCalls.{FailsToReadNet, FailsToReverse, IsAddress, IsNoAddress, IsNoReverse, IsReverseOf, PutsNet, PutsReverse, address_octets};
 ghost use Rattle.dnw_c.specs.declared.failure.Failure.TheVariants.{NoRoom};
 
 use crate::failure::Failure;
-use crate::names::put;
+use crate::names::{put, put_form};
 use crate::order::name_of;
 use dns_names_wire::name::Name;
 use dns_names_wire::net::IpNet;
@@ -32,6 +33,7 @@ pub extern "C" fn dnw_reverse_name(
 ) -> u32
     ensures ok { result ≡ 0 → PutsReverse address.now form.old form.new len.new }
     ensures err { result ≢ 0 → NumberOf (FailsToReverse address.now (length form.old)) result }
+    ensures room { result ≡ number NoRoom → length form.old < max_name }
     ensures same { result ≢ 0 → (form.new ≡ form.old) × (len.new ≡ len.old) }
 {
     match reverse(alloc, address, form) {
@@ -68,11 +70,12 @@ pub extern "C" fn dnw_reverse_parse(
 fn reverse(alloc: Global, address: &[u8], form: &mut [u8]) -> Result<usize, Failure>
     ensures ok { IfOk result (PutsReverse address.now form.old form.new) }
     ensures err { IfErr result (FailsToReverse address.now (length form.old)) }
+    ensures room { IfErr result (λ failure. failure ≡ NoRoom → length form.old < max_name) }
     ensures same { OnErr result (form.new ≡ form.old) }
 {
     let ip = address_of(address)?;
     match Name::from_ip(alloc, ip) {
-        Ok(name) => put(form, name.as_wire()),
+        Ok(name) => put_form(form, &name),
         Err(_) => Err(Failure::Other),
     }
 }

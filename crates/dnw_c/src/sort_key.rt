@@ -1,10 +1,11 @@
 //! Sort keys of names, by their wire forms.
-ghost use Rattle.std.specs.Prelude.{◌≡◌, ◌≢◌, List, ℕ, length, IfOk, IfErr, OnErr};
-ghost use Rattle.dnw_order.specs.SortKeys.{sort_key};
+ghost use Rattle.std.specs.Prelude.{◌≡◌, ◌≢◌, List, ℕ, ◌<◌, length, IfOk, IfErr, OnErr};
+ghost use Rattle.dnw_order.specs.SortKeys.{max_sort_key, sort_key};
 ghost use Rattle.dnw_c.specs.Buffers.{put};
-ghost use Rattle.dnw_c.specs.Failures.{NumberOf};
+ghost use Rattle.dnw_c.specs.Failures.{NumberOf, number};
 ghost use Rattle.dnw_c.specs.NameCalls.{IsFormOf};
 ghost use Rattle.dnw_c.specs.SortKeyCalls.{FailsToKey};
+ghost use Rattle.dnw_c.specs.declared.failure.Failure.TheVariants.{NoRoom};
 
 use crate::failure::Failure;
 use crate::names::put;
@@ -17,6 +18,7 @@ pub extern "C" fn dnw_name_sort_key(form: &[u8], key: &mut [u8], len: &mut usize
     ensures ok { result ≡ 0 → (labels : List (List ℕ)) × IsFormOf form.now labels
         × (key.new ≡ put key.old (sort_key labels)) × (len.new ≡ length (sort_key labels)) }
     ensures err { result ≢ 0 → NumberOf (FailsToKey form.now (length key.old)) result }
+    ensures room { result ≡ number NoRoom → length key.old < max_sort_key }
     ensures same { result ≢ 0 → (key.new ≡ key.old) × (len.new ≡ len.old) }
 {
     match put_key(form, key) {
@@ -33,6 +35,7 @@ fn put_key(form: &[u8], key: &mut [u8]) -> Result<usize, Failure>
     ensures ok { IfOk result (λ len. (labels : List (List ℕ)) × IsFormOf form.now labels
         × (key.new ≡ put key.old (sort_key labels)) × (len ≡ length (sort_key labels))) }
     ensures err { IfErr result (FailsToKey form.now (length key.old)) }
+    ensures room { IfErr result (λ failure. failure ≡ NoRoom → length key.old < max_sort_key) }
     ensures same { OnErr result (key.new ≡ key.old) }
 {
     let labels = labels_of(form)?;

@@ -2,8 +2,9 @@
 ghost use Rattle.std.specs.Prelude.{◌≡◌, ◌≢◌, ◌≤◌, ◌<◌, ◌⊎◌, ℕ, List, length, map, IfOk, IfErr, OnErr};
 ghost use Rattle.dnw_codes.specs.RecordTypes.{type_code, type_of_code};
 ghost use Rattle.dnw_sets.specs.TypeSets.{Encodes, IsSetOf, bitmap_types, set_codes};
+ghost use Rattle.dnw_sets.specs.SetLaws.{most_types};
 ghost use Rattle.dnw_c.specs.Buffers.{put};
-ghost use Rattle.dnw_c.specs.Failures.{NumberOf};
+ghost use Rattle.dnw_c.specs.Failures.{NumberOf, number};
 ghost use Rattle.dnw_c.specs.TypeLists.{AreListed, FailsToBitmap, FailsToList, IsBitmap, IsBitmapOf, IsNoBitmap};
 ghost use Rattle.dnw_c.specs.declared.failure.Failure.TheVariants.{BadBitmap, NoMemory, NoRoom};
 
@@ -28,6 +29,7 @@ pub extern "C" fn dnw_types_read(
     ensures ok { result ≡ 0 → (listed : List ℕ) × IsBitmap bitmap.now × AreListed bitmap.now listed
         × (codes.new ≡ put codes.old listed) × (count.new ≡ length listed) }
     ensures err { result ≢ 0 → NumberOf (FailsToList bitmap.now (length codes.old)) result }
+    ensures room { result ≡ number NoRoom → length codes.old < most_types bitmap.now }
     ensures same { result ≢ 0 → (codes.new ≡ codes.old) × (count.new ≡ count.old) }
 {
     match read(alloc, bitmap, codes) {
@@ -66,6 +68,7 @@ fn read(alloc: Global, bitmap: &[u8], codes: &mut [u16]) -> Result<usize, Failur
     ensures ok { IfOk result (λ count. (listed : List ℕ) × IsBitmap bitmap.now × AreListed bitmap.now listed
         × (codes.new ≡ put codes.old listed) × (count ≡ length listed)) }
     ensures err { IfErr result (FailsToList bitmap.now (length codes.old)) }
+    ensures room { IfErr result (λ failure. failure ≡ NoRoom → length codes.old < most_types bitmap.now) }
     ensures same { OnErr result (codes.new ≡ codes.old) }
 {
     let listed = listed(alloc, bitmap)?;
