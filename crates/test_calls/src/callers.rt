@@ -3,14 +3,19 @@
 use crate::sections::{Data, Row, record_of};
 use dns_names_wire::decoder::BinDecoder;
 use dns_names_wire::encoder::BinEncoder;
+use dns_names_wire::error::ProtoError;
 use dns_names_wire::name::Name;
 use dns_names_wire::record_type::RecordType;
+use dns_names_wire::restrict::Restrict;
 use std::test::Fail;
+use uses::bitmap::lists_type;
 use uses::copying::copy_name;
 use uses::example::{host, is_in_zone, name_text};
 use uses::question::names_of;
 use uses::records::write_records;
 use uses::reply::write_reply;
+use uses::reverse::net_of;
+use uses::scripts::append_record;
 use uses::zone::first_in_zone;
 
 #[test]
@@ -39,16 +44,19 @@ fn owners_are_pointers_to_the_question(rt: HostRuntime) -> Result<(), Fail> {
 }
 
 #[test]
-fn answers_that_do_not_fit_are_an_error(rt: HostRuntime) -> Result<(), Fail> {
+fn answers_that_do_not_fit_are_left_out(rt: HostRuntime) -> Result<(), Fail> {
     let alloc = rt.alloc();
     let name = Name::from_ascii(alloc, "a.bc.")?;
     // A header of 12 bytes, a question of 10, and 16 for each answer: 30 answers fit.
     let addresses = [0_u32; 31];
-    assert_eq!(rt;
-        write_reply(alloc, 7, &name, 60, &addresses[..30])?.len(),
-        502
-    );
-    assert!(rt; write_reply(alloc, 7, &name, 60, addresses.as_slice()).is_err());
+    let whole = write_reply(alloc, 7, &name, 60, &addresses[..30])?;
+    assert_eq!(rt; whole.len(), 502);
+    assert_eq!(rt; &whole[..8], b"\x00\x07\x84\x00\x00\x01\x00\x1e".as_slice());
+    // With the TC bit, and as many answers.
+    let cut = write_reply(alloc, 7, &name, 60, addresses.as_slice())?;
+    assert_eq!(rt; cut.len(), 502);
+    assert_eq!(rt; &cut[..8], b"\x00\x07\x86\x00\x00\x01\x00\x1e".as_slice());
+    assert_eq!(rt; &cut[8..], &whole[8..]);
     Ok(())
 }
 
@@ -117,6 +125,54 @@ fn records_are_written_as_many_as_fit(rt: HostRuntime) -> Result<(), Fail> {
         let (message, count) = write_records(alloc, max, records.as_slice());
         assert_eq!(rt; count, wanted);
         assert_eq!(rt; message.len(), 15 * wanted);
+    }
+    Ok(())
+}
+
+#[test]
+fn a_record_is_appended(rt: HostRuntime) -> Result<(), Fail> {
+    let alloc = rt.alloc();
+    let mut message = Vec::from_slice(alloc, b"\x00\x07")?;
+    let end = append_record(alloc, &mut message, record_of(alloc, ADDRESS)?)?;
+    assert_eq!(rt; end, 17);
+    let wanted = b"\x00\x07\x00\x00\x01\x00\x01\x00\x00\x01\x2c\x00\x04\x01\x02\x03\x04";
+    assert_eq!(rt; message.as_slice(), wanted.as_slice());
+    // No record fits after the largest message.
+    let mut full = vec![in alloc; 0; 65_535]?;
+    let refused = append_record(alloc, &mut full, record_of(alloc, ADDRESS)?);
+    assert!(rt; matches!(refused, Err(ProtoError::MaxBufferSizeExceeded(65_535))));
+    assert_eq!(rt; full.len(), 65_535);
+    Ok(())
+}
+
+#[test]
+fn a_reverse_name_gives_its_net(rt: HostRuntime) -> Result<(), Fail> {
+    let alloc = rt.alloc();
+    // The names of the examples of RFC 1035, section 3.5.
+    let gateway = Name::from_ascii(alloc, "52.0.2.10.IN-ADDR.ARPA.")?;
+    let net = net_of(&gateway).ok_or("a net")?;
+    assert_eq!(rt; net.to_string(alloc)?.as_str(), "10.2.0.52/32");
+    let net = net_of(&Name::from_ascii(alloc, "10.IN-ADDR.ARPA.")?).ok_or("a net")?;
+    assert_eq!(rt; net.to_string(alloc)?.as_str(), "10.0.0.0/8");
+    assert!(rt; net_of(&Name::from_ascii(alloc, "www.example.com.")?).is_none());
+    Ok(())
+}
+
+#[test]
+fn a_bitmap_lists_its_types(rt: HostRuntime) -> Result<(), Fail> {
+    let alloc = rt.alloc();
+    // A, MX, RRSIG and NSEC, as the example of RFC 4034, section 4.3, has them in the window of the first 256 types.
+    let bitmap = b"\x00\x06\x40\x01\x00\x00\x00\x03";
+    for (kind, wanted) in [
+        (RecordType::A, true),
+        (RecordType::MX, true),
+        (RecordType::NSEC, true),
+        (RecordType::AAAA, false),
+        (RecordType::NS, false),
+    ] {
+        let mut decoder = BinDecoder::new(bitmap.as_slice());
+        let listed = lists_type(alloc, &mut decoder, Restrict::new(8), kind);
+        assert_eq!(rt; listed.map_err(|_| "a bitmap")?, wanted);
     }
     Ok(())
 }

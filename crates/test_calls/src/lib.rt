@@ -1,5 +1,5 @@
 //! Tests of what only a caller's code can show: borrows that outlive what lent them, guards, closures with contracts of
-//! their own, items of a caller's own type, whole messages of records, the callers in `crates/uses`, and calls that no
+//! their own, items of a caller's own type, whole messages, the callers in `crates/uses`, texts of fields, and calls that no
 //! other test makes.
 //!
 //! Worked examples that a line can say are in `diff/rows`, which `crates/test_replay` runs.
@@ -11,6 +11,8 @@ mod borrowed;
 mod callers;
 #[cfg(test)]
 mod closures;
+#[cfg(test)]
+mod field_texts;
 #[cfg(test)]
 mod guards;
 #[cfg(test)]
@@ -31,3 +33,7 @@ mod sizes;
 mod sort_keys;
 #[cfg(test)]
 mod values;
+#[cfg(test)]
+mod whole_messages;
+#[cfg(test)]
+mod written_messages;

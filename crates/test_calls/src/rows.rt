@@ -2,6 +2,7 @@
 
 use crate::sections::{Data, Row, record_of};
 use dns_names_wire::binary::{BinDecodable, BinEncodable};
+use dns_names_wire::decoder::BinDecoder;
 use dns_names_wire::encoder::{BinEncoder, RDataEncoding};
 use dns_names_wire::error::{DecodeError, ProtoError};
 use dns_names_wire::name::Name;
@@ -45,6 +46,35 @@ fn records_are_written_after_their_owner(rt: HostRuntime) -> Result<(), Fail> {
     assert!(rt; bytes.as_slice().starts_with(head));
     assert!(rt; bytes.as_slice().ends_with(last));
     assert!(rt; &bytes.as_slice()[19..35] == next.as_slice());
+    Ok(())
+}
+
+#[test]
+fn a_record_of_a_message_is_passed_on(rt: HostRuntime) -> Result<(), Fail> {
+    let alloc = rt.alloc();
+    let tail = b"\x00\x01\x00\x01\x00\x00\x01\x2c\x00\x04\x01\x02\x03\x04";
+    let mut message = Vec::from_slice(alloc, b"\x01a\x00\x01b\xc0\x00")?;
+    message.extend_from_slice(tail)?;
+    let mut decoder = BinDecoder::new(message.as_slice());
+    decoder.skip(3)?;
+    let record = RecordRef::read(alloc, &mut decoder)?;
+    let mut bytes = Vec::new(alloc);
+    let mut encoder = BinEncoder::new(&mut bytes);
+    Name::from_ascii(alloc, "x.b.a.")?.emit(&mut encoder)?;
+    encoder.set_max_size(22);
+    assert!(rt;
+        matches!(
+            record.emit(&mut encoder),
+            Err(ProtoError::MaxBufferSizeExceeded(22))
+        )
+    );
+    assert_eq!(rt; encoder.len(), 7);
+    encoder.set_max_size(23);
+    record.emit(&mut encoder)?;
+    drop(encoder);
+    assert_eq!(rt; bytes.len(), 23);
+    assert!(rt; bytes.as_slice().starts_with(b"\x01x\x01b\x01a\x00\xc0\x02"));
+    assert!(rt; bytes.as_slice().ends_with(tail));
     Ok(())
 }
 

@@ -10,6 +10,7 @@ mod codes;
 mod decoding;
 mod encoding;
 mod errors;
+mod fields;
 mod labels;
 mod line;
 mod messages;

@@ -1,2 +1,5 @@
 pub mod Replies
 pub mod Written
+pub mod ScriptRecords
+pub mod ReverseNames
+pub mod Listed

@@ -2,3 +2,5 @@ pub mod Standing
 pub mod Bounded
 pub mod Denial
 pub mod Records
+pub mod Scripts
+pub mod Bitmaps

@@ -2,10 +2,13 @@
 //! no crate below it. README.md and CALLING.md show them.
 #![tactic(auto)]
 
+pub mod bitmap;
 pub mod copying;
 pub mod denial;
 pub mod example;
 pub mod question;
 pub mod records;
 pub mod reply;
+pub mod reverse;
+pub mod scripts;
 pub mod zone;

@@ -1,0 +1,221 @@
+//! Whole messages: those of `examples/responses`, which dnspython made and printed, and small ones that the RFCs rule out.
+
+use dns_names_wire::binary::{BinDecodable, BinEncodable};
+use dns_names_wire::decoder::BinDecoder;
+use dns_names_wire::dns_class::DNSClass;
+use dns_names_wire::error::DecodeError;
+use dns_names_wire::message::{
+    EdnsError, Header, MessageErrorKind, MessageRef, MessageType, OpCode, QueryRef, ResponseCode,
+    Section,
+};
+use dns_names_wire::name::Name;
+use dns_names_wire::record::RecordRef;
+use dns_names_wire::record_type::RecordType;
+use std::test::Fail;
+
+/// `examples/responses/mail.hex`.
+const MAIL: &str = "000784000001000600000002076578616d706c65036f72670000ff0001c00c00\
+    0f000100000e100009000a046d782d61c00cc00c000f000100000e10000e0014\
+    046d782d62046d61696cc00cc00c0010000100000e10003a24763d7370663120\
+    696e636c7564653a5f7370662e6578616d706c652e6f7267202d616c6c136120\
+    2271756f74656422205c20c8207061727400c00c0101000100000e1000160005\
+    69737375656c657473656e63727970742e6f7267c00c0101000100000e100024\
+    8005696f6465666d61696c746f3a686f73746d6173746572406578616d706c65\
+    2e6f7267065f696d617073045f746370c00c0021000100000e10000800000005\
+    03e1c02bc02b0001000100000e100004cb00711900002904d0000080000000";
+
+/// `examples/responses/nxdomain.hex`.
+const NXDOMAIN: &str = "ffff81b30001000000020001076e6f7468696e670468657265074578616d706c\
+    6500001c0001c01900060001000003840027036e7331c0190a686f73746d6173\
+    746572c01978c4052d00001c2000000e100012750000000384c019002f000100\
+    00038400140161076578616d706c650000072200000000038000002910000000\
+    00000000";
+
+/// The octets of `MAIL`, and the offset at which its last record but one begins: 16 octets before the 11 of `OPT`.
+const MAIL_LEN: usize = 287;
+
+const MAIL_ADDRESS: usize = 260;
+
+#[test]
+fn mail_exchangers_with_edns(rt: HostRuntime) -> Result<(), Fail> {
+    let alloc = rt.alloc();
+    let octets = hex::decode(alloc, MAIL)?;
+    let message = MessageRef::read(octets.as_slice())?;
+    let metadata = message.header().metadata;
+    assert_eq!(rt; metadata.id, 7);
+    assert_eq!(rt; metadata.message_type, MessageType::Response);
+    assert_eq!(rt; metadata.op_code, OpCode::Query);
+    assert!(rt; metadata.authoritative && !metadata.truncation && !metadata.recursion_desired);
+    let owner = Name::from_ascii(alloc, "example.org.")?;
+    let mut queries = message.queries();
+    let query = queries.next().unwrap();
+    assert!(rt; query.name().eq_name(&owner));
+    assert_eq!(rt; query.query_type(), RecordType::ANY);
+    assert_eq!(rt; query.query_class(), DNSClass::IN);
+    assert!(rt; queries.next().is_none());
+    let types = [
+        RecordType::MX,
+        RecordType::MX,
+        RecordType::TXT,
+        RecordType::CAA,
+        RecordType::CAA,
+        RecordType::SRV,
+    ];
+    let mut answers = message.answers();
+    for kind in types {
+        let record = answers.next().unwrap();
+        assert_eq!(rt; record.record_type(), kind);
+        assert_eq!(rt; record.ttl(), 3600);
+        assert_eq!(rt; record.owner().eq_name(&owner), kind != RecordType::SRV);
+    }
+    assert!(rt; answers.next().is_none());
+    assert!(rt; message.authorities().next().is_none());
+    let edns = message.edns()?.unwrap();
+    assert_eq!(rt; edns.max_payload(), 1232);
+    assert_eq!(rt; edns.version(), 0);
+    assert!(rt; edns.dnssec_ok() && edns.options().next().is_none());
+    assert_eq!(rt; message.response_code()?, ResponseCode::NoError);
+    assert_eq!(rt; message.end(), MAIL_LEN);
+    Ok(())
+}
+
+#[test]
+fn a_name_that_does_not_exist(rt: HostRuntime) -> Result<(), Fail> {
+    let alloc = rt.alloc();
+    let octets = hex::decode(alloc, NXDOMAIN)?;
+    let message = MessageRef::read(octets.as_slice())?;
+    let metadata = message.header().metadata;
+    assert_eq!(rt; metadata.id, 65535);
+    assert!(rt; metadata.recursion_desired && metadata.recursion_available);
+    assert!(rt; metadata.authentic_data && metadata.checking_disabled && !metadata.authoritative);
+    assert_eq!(rt; message.response_code()?, ResponseCode::NXDomain);
+    let mut authorities = message.authorities();
+    assert_eq!(rt; authorities.next().unwrap().record_type(), RecordType::SOA);
+    assert_eq!(rt; authorities.next().unwrap().record_type(), RecordType::NSEC);
+    assert!(rt; authorities.next().is_none());
+    let edns = message.edns()?.unwrap();
+    assert_eq!(rt; edns.max_payload(), 4096);
+    assert!(rt; !edns.dnssec_ok());
+    Ok(())
+}
+
+#[test]
+fn headers_are_written_as_they_were(rt: HostRuntime) -> Result<(), Fail> {
+    let alloc = rt.alloc();
+    for text in [MAIL, NXDOMAIN] {
+        let octets = hex::decode(alloc, text)?;
+        let header = Header::from_bytes(alloc, octets.as_slice())?;
+        assert_eq!(rt;
+            header.to_bytes(alloc)?.as_slice(),
+            &octets.as_slice()[..12]
+        );
+        let mut decoder = BinDecoder::new(octets.as_slice());
+        Header::read(alloc, &mut decoder)?;
+        QueryRef::read_next(&mut decoder)?;
+        RecordRef::read_next(&mut decoder)?;
+        assert_eq!(rt; u8::from(header.metadata.op_code), 0);
+    }
+    Ok(())
+}
+
+#[test]
+fn pointers_are_counted(rt: HostRuntime) -> Result<(), Fail> {
+    let octets = hex::decode(rt.alloc(), MAIL)?;
+    // Six owners follow one pointer, and the last address two; `OPT` follows none.
+    assert!(rt; MessageRef::read_limited(octets.as_slice(), 8).is_ok());
+    let Err(error) = MessageRef::read_limited(octets.as_slice(), 7) else {
+        return Err(Fail::from("seven pointers were enough"));
+    };
+    assert_eq!(rt; error.section, Section::Additionals);
+    assert_eq!(rt; error.item, 0);
+    assert_eq!(rt; error.offset, MAIL_ADDRESS);
+    assert!(rt; matches!(error.kind, MessageErrorKind::TooManyPointers));
+    Ok(())
+}
+
+#[test]
+fn cut_messages_say_where(rt: HostRuntime) -> Result<(), Fail> {
+    let octets = hex::decode(rt.alloc(), MAIL)?;
+    let ends = [
+        (11, Section::Header, 0, 0),
+        (28, Section::Queries, 0, 12),
+        (MAIL_LEN - 1, Section::Additionals, 1, MAIL_LEN - 11),
+    ];
+    for (end, section, item, offset) in ends {
+        let Err(error) = MessageRef::read(&octets.as_slice()[..end]) else {
+            return Err(Fail::from("a cut message was read"));
+        };
+        assert_eq!(rt; error.section, section);
+        assert_eq!(rt; error.item, item);
+        assert_eq!(rt; error.offset, offset);
+        assert!(rt;
+            matches!(
+                error.kind,
+                MessageErrorKind::Decode(DecodeError::InsufficientBytes)
+            )
+        );
+    }
+    Ok(())
+}
+
+#[test]
+fn octets_may_follow(rt: HostRuntime) -> Result<(), Fail> {
+    let mut octets = hex::decode(rt.alloc(), NXDOMAIN)?;
+    let end = octets.len();
+    octets.extend_from_slice(b"more")?;
+    let message = MessageRef::read(octets.as_slice())?;
+    assert_eq!(rt; message.end(), end);
+    assert_eq!(rt; message.trailing(), b"more".as_slice());
+    Ok(())
+}
+
+/// A header with two additional records, an `OPT` record of 4096 octets with an empty option of code 3 (NSID, RFC 5001), and
+/// a second one without options and with the high bits of `BADVERS` (RFC 6891, section 6.1.3).
+const TWO: &[u8] = b"\x00\x01\x80\x00\x00\x00\x00\x00\x00\x00\x00\x02\
+\x00\x00\x29\x10\x00\x00\x00\x00\x00\x00\x04\x00\x03\x00\x00\
+\x00\x00\x29\x01\x00\x01\x00\x00\x00\x00\x00";
+
+/// The octets of `TWO` with these at two offsets.
+fn with(changes: [(usize, u8); 2]) -> [u8; 38] {
+    let mut octets = [0; 38];
+    octets.copy_from_slice(TWO);
+    for (at, octet) in changes {
+        octets[at] = octet;
+    }
+    octets
+}
+
+#[test]
+fn rules_of_edns(rt: HostRuntime) -> Result<(), Fail> {
+    let message = MessageRef::read(TWO)?;
+    assert!(rt; matches!(message.edns(), Err(EdnsError::DuplicateEdns)));
+    assert!(rt; matches!(message.response_code(), Err(EdnsError::DuplicateEdns)));
+    let one = with([(11, 1), (0, 0)]);
+    let edns = MessageRef::read(&one)?.edns()?.unwrap();
+    let mut options = edns.options();
+    let option = options.next().unwrap();
+    assert_eq!(rt; option.code(), 3);
+    assert!(rt; option.octets().is_empty() && options.next().is_none());
+    let longer = with([(11, 1), (26, 1)]);
+    assert!(rt; matches!(MessageRef::read(&longer)?.edns(), Err(EdnsError::CutOption)));
+    // The first record becomes one of type 0x2a, so that the second is the only `OPT`.
+    let second = with([(14, 0x2a), (0, 0)]);
+    let message = MessageRef::read(&second)?;
+    assert_eq!(rt; message.edns()?.unwrap().max_payload(), 512);
+    assert_eq!(rt; message.response_code()?, ResponseCode::BADVERS);
+    assert_eq!(rt; u16::from(message.response_code()?), 16);
+    Ok(())
+}
+
+#[test]
+fn opt_belongs_to_the_root(rt: HostRuntime) -> Result<(), Fail> {
+    let octets =
+        b"\x00\x01\x00\x00\x00\x00\x00\x00\x00\x00\x00\x01\x01a\x00\x00\x29\x10\x00\x00\x00\x00\x00\x00\x00";
+    assert!(rt;
+        matches!(
+            MessageRef::read(octets)?.edns(),
+            Err(EdnsError::OwnerNotRoot)
+        )
+    );
+    Ok(())
+}
