@@ -146,27 +146,22 @@ static const char *data_of(unsigned code)
     return "";
 }
 
-/* Prints the name of a code, or as RFC 3597 does for one without a name. */
-static void show_code_text(uint32_t (*print)(uint16_t, uint8_t *, size_t, size_t *), const char *unknown,
-                           const char *prefix, unsigned code)
+static void show_code_text(uint32_t (*print)(uint16_t, uint8_t *, size_t, size_t *), unsigned code)
 {
     uint8_t text[DNW_CODE_SIZE];
     size_t len = 0;
     print((uint16_t)code, text, sizeof text, &len);
-    if (len == strlen(unknown) && memcmp(text, unknown, len) == 0)
-        printf("%s%u", prefix, code);
-    else
-        printf("%.*s", (int)len, (const char *)text);
+    printf("%.*s", (int)len, (const char *)text);
 }
 
 static void show_type(unsigned code)
 {
-    show_code_text(dnw_type_print, "Unknown", "TYPE", code);
+    show_code_text(dnw_type_print, code);
 }
 
 static void show_class(unsigned code)
 {
-    show_code_text(dnw_class_print, "UNKNOWN", "CLASS", code);
+    show_code_text(dnw_class_print, code);
 }
 
 static void show_hex(struct cursor *from)

@@ -57,7 +57,7 @@ impl<'a> Cursor<'a> {
                 Ok(name)
             }
             Ok(_) => Err(Rejected(self.at, CUT.into())),
-            Err(error) => Err(Rejected(self.at, error.to_string())),
+            Err(error) => Err(Rejected(self.at, error.kind().to_string())),
         }
     }
 
@@ -161,8 +161,8 @@ fn tagged_text(data: &mut Cursor) -> Result<String, Rejected> {
 
 fn types_text(data: &mut Cursor) -> Result<String, Rejected> {
     let at = data.at;
-    let types =
-        TypeSet::from_bitmap(data.rest()).map_err(|error| Rejected(at, error.to_string()))?;
+    let types = TypeSet::from_bitmap(data.rest())
+        .map_err(|error| Rejected(at, error.kind().to_string()))?;
     Ok(types
         .iter()
         .map(|kind| kind.to_string())
@@ -210,7 +210,7 @@ fn data_text(mut data: Cursor, kind: &str) -> Result<String, Rejected> {
 
 fn record_text(cursor: &mut Cursor) -> Result<String, Rejected> {
     let record = Record::read(cursor.message, cursor.at)
-        .map_err(|error| Rejected(cursor.at, error.to_string()))?;
+        .map_err(|error| Rejected(cursor.at, error.kind().to_string()))?;
     cursor.at = record.end();
     let (kind, class, ttl) = (
         record.record_type().to_string(),

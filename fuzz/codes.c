@@ -1,7 +1,10 @@
 /* Takes the input as a text of a type, of a class and of a time to live, and its first octets as a code and as two serial
-   numbers. A text with a code is what that code is printed as; a time is a sum in 128 bits; serial numbers are compared and
-   added as RFC 1982 says. */
+   numbers. What a code is printed as is parsed as that code; a text with a code is what that code is printed as, in upper or
+   lower case, or a word and its digits; a time is a sum in 128 bits; serial numbers are compared and added as RFC 1982
+   says. */
 #include "harness.h"
+
+#include <strings.h>
 
 static struct room input, texts;
 
@@ -16,12 +19,29 @@ static void prints_code(prints print, parses parse, uint16_t code)
     CHECK(print(code, text, DNW_CODE_SIZE, &len) == DNW_DONE);
     CHECK(len > 0 && holds(text, DNW_CODE_SIZE, text, len));
     uint32_t answer = parse(text, len, &back);
-    CHECK(answer == DNW_DONE ? back == code : answer == DNW_UNKNOWN_TEXT && back == 7);
+    CHECK(answer == DNW_DONE && back == code);
     text = clear(&texts, len - 1);
     CHECK(print(code, text, len - 1, &again) == DNW_NO_ROOM && again == 7 && untouched(text, len - 1));
 }
 
-static void parses_text(prints print, parses parse, const uint8_t *text, size_t len)
+static bool is_alike(const uint8_t *text, size_t len, const uint8_t *other, size_t other_len)
+{
+    return len == other_len && strncasecmp((const char *)text, (const char *)other, len) == 0;
+}
+
+/* A word and then the code in decimal digits, of which zeros may come first (RFC 3597, section 5). */
+static bool is_numbered(const uint8_t *text, size_t len, const char *word, uint16_t code)
+{
+    size_t at = strlen(word);
+    uint64_t number = 0;
+    if (len <= at || !is_alike(text, at, (const uint8_t *)word, at))
+        return false;
+    for (; at < len && '0' <= text[at] && text[at] <= '9'; at++)
+        number = number > 65535 ? number : 10 * number + (text[at] - '0');
+    return at == len && number == code;
+}
+
+static void parses_text(prints print, parses parse, const char *word, const uint8_t *text, size_t len)
 {
     size_t own_len = 7;
     uint16_t code = 7, without_memory = 7;
@@ -29,7 +49,7 @@ static void parses_text(prints print, parses parse, const uint8_t *text, size_t 
     uint32_t answer = parse(text, len, &code);
     if (answer == DNW_DONE) {
         CHECK(print(code, own, sizeof own, &own_len) == DNW_DONE);
-        CHECK((own_len == len && memcmp(own, text, len) == 0) || (code == 255 && len == 1 && text[0] == '*'));
+        CHECK(is_alike(own, own_len, text, len) || (code == 255 && len == 1 && text[0] == '*') || is_numbered(text, len, word, code));
     } else {
         CHECK(code == 7 && answer == (model_is_utf8(text, len) ? DNW_UNKNOWN_TEXT : DNW_NOT_UTF8));
     }
@@ -112,8 +132,8 @@ int LLVMFuzzerTestOneInput(const uint8_t *data, size_t size)
     memcpy(numbers, data, size < sizeof numbers ? size : sizeof numbers);
     prints_code(dnw_type_print, dnw_type_parse, (uint16_t)numbers[0]);
     prints_code(dnw_class_print, dnw_class_parse, (uint16_t)numbers[0]);
-    parses_text(dnw_type_print, dnw_type_parse, text, size);
-    parses_text(dnw_class_print, dnw_class_parse, text, size);
+    parses_text(dnw_type_print, dnw_type_parse, "TYPE", text, size);
+    parses_text(dnw_class_print, dnw_class_parse, "CLASS", text, size);
     parses_time(text, size);
     serials(numbers[0], numbers[1]);
     serials(numbers[0], numbers[0] + numbers[1] % 2 + 0x7FFFFFFF);

@@ -42,12 +42,31 @@ static void parses_without_memory(const uint8_t *text, size_t len, uint32_t answ
         CHECK(given == DNW_DONE);
 }
 
+/* A text that gives no name goes wrong after its longest beginning that gives one. */
+static void goes_wrong(const uint8_t *text, size_t len, uint32_t answer)
+{
+    size_t offset = len + 1;
+    struct model_text name;
+    refuse(1);
+    uint32_t rule = dnw_name_text_fault(text, len, &offset);
+    CHECK(!was_refused() && (rule == DNW_DONE) == (answer == DNW_DONE));
+    if (rule == DNW_DONE) {
+        CHECK(offset == len + 1);
+        return;
+    }
+    CHECK(offset < len && (rule == DNW_NOT_UTF8 || model_parse(text, offset, &name) == DNW_DONE));
+    size_t most = len < offset + 16 ? len : offset + 16;
+    for (size_t longer = offset + 1; rule != DNW_NOT_UTF8 && longer <= most; longer++)
+        CHECK(model_parse(text, longer, &name) != DNW_DONE);
+}
+
 static void parses(const uint8_t *text, size_t len)
 {
     struct model_text name;
     uint32_t answer = model_parse(text, len, &name);
     parses_into(text, len, DNW_FORM_SIZE, answer, &name);
     parses_without_memory(text, len, answer);
+    goes_wrong(text, len, answer);
     if (answer != DNW_DONE)
         return;
     parses_into(text, len, name.len, answer, &name);

@@ -26,7 +26,7 @@ VERSION = re.search(r'^version = "(.+)"$', (HERE.parent / "rust/Cargo.toml").rea
 METADATA = f"""Metadata-Version: 2.1
 Name: dns-names-wire
 Version: {VERSION}
-Summary: Names, records and messages of DNS, and master files, read and written by a proved library
+Summary: Names, records and messages of DNS read and written, and master files read, by a proved library
 License: MIT OR Apache-2.0
 {"".join(f"License-File: {licence}" + chr(10) for licence in LICENCES)}Requires-Python: >=3.9
 Description-Content-Type: text/markdown

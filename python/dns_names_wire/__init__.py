@@ -1,5 +1,5 @@
-"""The lowest layer of DNS: domain names, the records of messages, record types and classes, and master files, read and written
-by a library whose every function is proved.
+"""The lowest layer of DNS: domain names, the records of messages, and record types and classes are read and written, and
+the tokens of master files are read, by a library whose every function is proved.
 
 The library is the shared library of the C library of `dns-names-wire`, which the wheel has. Its reader accepts exactly the
 names of RFC 1035, section 4.1.4, and no input makes it read outside the message, loop or crash. This package gives it Python's
@@ -37,6 +37,7 @@ from ._errors import (
     ReservedOctet,
     SegmentsOverlap,
     TextCut,
+    TextRule,
     UnclosedList,
     UnclosedQuote,
     UnknownEntry,
@@ -75,6 +76,7 @@ __all__ = [
     "ReservedOctet",
     "SegmentsOverlap",
     "TextCut",
+    "TextRule",
     "Token",
     "TokenKind",
     "Truncated",

@@ -1,8 +1,7 @@
 """Record types and classes."""
 
-import re
 from ctypes import byref, c_size_t, c_uint16
-from typing import Callable, ClassVar, Dict, Type, TypeVar
+from typing import Callable, ClassVar, Type, TypeVar
 
 from . import _checks
 from ._errors import check
@@ -12,27 +11,16 @@ _MOST = 65535
 _Own = TypeVar("_Own", bound="_Code")
 
 
-def _text(function: Callable[..., int], code: int, unknown: str, prefix: str) -> str:
-    number = _checks.number("code", code, _MOST)
+def _text(function: Callable[..., int], code: int) -> str:
     text, length = CodeText(), c_size_t()
-    check(function(number, text, CODE_SIZE, byref(length)))
-    name = taken(text, length.value).decode("ascii")
-    return f"{prefix}{number}" if name == unknown else name
+    check(function(_checks.number("code", code, _MOST), text, CODE_SIZE, byref(length)))
+    return taken(text, length.value).decode("ascii")
 
 
-def _code(function: Callable[..., int], text: str, prefix: str, unparsed: Dict[bytes, int]) -> int:
-    capitals, code = _checks.text("text", text).upper(), c_uint16()
-    number = re.fullmatch(prefix + "0*([0-9]{1,5})", text, re.IGNORECASE | re.ASCII)
-    if number and int(number[1]) <= _MOST:
-        return int(number[1])
-    if capitals in unparsed:
-        return unparsed[capitals]
-    check(function(capitals, len(capitals), byref(code)))
+def _code(function: Callable[..., int], text: str) -> int:
+    octets, code = _checks.text("text", text), c_uint16()
+    check(function(octets, len(octets), byref(code)))
     return code.value
-
-
-# The types whose names dnw_type_parse does not take.
-_UNPARSED = {b"ZERO": 0, b"OPT": 41, b"IXFR": 251}
 
 
 def type_text(code: int) -> str:
@@ -41,7 +29,7 @@ def type_text(code: int) -> str:
     >>> type_text(28), type_text(65280)
     ('AAAA', 'TYPE65280')
     """
-    return _text(library.dnw_type_print, code, "Unknown", "TYPE")
+    return _text(library.dnw_type_print, code)
 
 
 def type_code(text: str) -> int:
@@ -50,7 +38,7 @@ def type_code(text: str) -> int:
     >>> type_code("AAAA"), type_code("type65280")
     (28, 65280)
     """
-    return _code(library.dnw_type_parse, text, "TYPE", _UNPARSED)
+    return _code(library.dnw_type_parse, text)
 
 
 def class_text(code: int) -> str:
@@ -59,7 +47,7 @@ def class_text(code: int) -> str:
     >>> class_text(1), class_text(7)
     ('IN', 'CLASS7')
     """
-    return _text(library.dnw_class_print, code, "UNKNOWN", "CLASS")
+    return _text(library.dnw_class_print, code)
 
 
 def class_code(text: str) -> int:
@@ -68,7 +56,7 @@ def class_code(text: str) -> int:
     >>> class_code("CH"), class_code("class7")
     (3, 7)
     """
-    return _code(library.dnw_class_parse, text, "CLASS", {})
+    return _code(library.dnw_class_parse, text)
 
 
 class _Code(int):

@@ -1,16 +1,38 @@
 """Why a call fails: an exception for each failure of the C library."""
 
+import enum
+from ctypes import byref, c_size_t
 from typing import Dict, Optional, Type
 
 from ._library import ErrorText, library, taken
+
+
+class TextRule(enum.IntEnum):
+    """A rule that the text of a name breaks, by its number in `dns_names_wire.h`. As a text it is a sentence.
+
+    >>> print(TextRule.EMPTY_LABEL)
+    a label of the text is empty
+    """
+
+    NAME_TOO_LONG = 7
+    LABEL_TOO_LONG = 8
+    UNFINISHED_ESCAPE = 18
+    CHARACTER = 19
+    EMPTY_LABEL = 28
+    DIGIT = 29
+
+    def __str__(self) -> str:
+        return error_text(int(self))
 
 
 class DnsError(ValueError):
     """A call failed. Each failure is a class below this one.
 
     `number` is its number in `dns_names_wire.h`, `reason` says in words what is wrong, and `offset` says where, or is None
-    if that is not known: the octet of the message at which the name or record should begin, or the character of the master
-    file's text after which there is no token.
+    if that is not known: the octet of the message at which the name or record should begin, the character of the master
+    file's text after which there is no token, or the character of a name's text with which it is no name, whatever follows.
+    There `rule` is the `TextRule` that is broken, and else None. Of a message that is too long, `part` is the number of the
+    parts that were added before the one that does not fit, and else None.
 
     >>> from dns_names_wire import read_name
     >>> try:
@@ -20,15 +42,32 @@ class DnsError(ValueError):
     ...     print(error.offset, error.reason)
     at offset 3: a compression pointer does not point back
     3 a compression pointer does not point back
+    >>> from dns_names_wire import Name
+    >>> try:
+    ...     Name("a..bc")
+    ... except DnsError as error:
+    ...     print(error)
+    ...     print(error.offset, error.rule is TextRule.EMPTY_LABEL)
+    at offset 2: a label of the text is empty
+    2 True
     """
 
     number = 13
     reason: str
     offset: Optional[int]
+    rule: Optional[TextRule]
+    part: Optional[int]
 
-    def __init__(self, reason: str = "", offset: Optional[int] = None) -> None:
-        super().__init__(reason if offset is None else f"at offset {offset}: {reason}")
-        self.reason, self.offset = reason, offset
+    def __init__(
+        self,
+        reason: str = "",
+        offset: Optional[int] = None,
+        rule: Optional[TextRule] = None,
+        part: Optional[int] = None,
+    ) -> None:
+        places = [f"at {word} {at}: " for word, at in [("offset", offset), ("part", part)] if at is not None]
+        super().__init__("".join(places) + reason)
+        self.reason, self.offset, self.rule, self.part = reason, offset, rule, part
 
 
 class MessageCut(DnsError):
@@ -181,3 +220,13 @@ def check(number: int, offset: Optional[int] = None) -> None:
     if number == _NO_MEMORY:
         raise MemoryError(error_text(number))
     raise _CLASSES.get(number, DnsError)(error_text(number) or f"failure {number}", offset)
+
+
+def check_text(number: int, text: bytes) -> None:
+    """The same for the text of a name: the exception says where the text goes wrong, and by which rule."""
+    offset = c_size_t()
+    broken = library.dnw_name_text_fault(text, len(text), byref(offset)) if number else 0
+    if broken == 0 or number == _NO_MEMORY:
+        return check(number)
+    rule = None if broken == NotUtf8.number else TextRule(broken)
+    raise _CLASSES.get(number, DnsError)(error_text(broken), len(text[: offset.value].decode()), rule)

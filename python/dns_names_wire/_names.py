@@ -6,7 +6,7 @@ from typing import Any, Iterable, Iterator, NamedTuple, Tuple
 
 from . import _checks
 from ._checks import Bytes
-from ._errors import BytesLeft, DnsError, check
+from ._errors import BytesLeft, DnsError, check, check_text
 from ._library import FORM_SIZE, SORT_KEY_SIZE, TEXT_SIZE, Form, ParsedName, ReadName, SortKey, Text, library, taken
 
 _sort_key = library.dnw_name_sort_key
@@ -43,11 +43,11 @@ class Name:
         """The name with a text (RFC 1035, section 5.1), fully qualified if it ends in a dot.
 
         A label has ASCII letters, digits, `_`, `-` if it does not begin with it, `*` if it begins with it, and dots that are
-        escaped. Raises `BadText`, `LabelTooLong` or `NameTooLong` if it is the text of no name.
+        escaped. Raises `BadText`, `LabelTooLong` or `NameTooLong` if it is the text of no name, with the offset and the rule.
         """
         encoded = _checks.text("text", text)
         form, parsed = Form(), ParsedName()
-        check(library.dnw_name_parse(encoded, len(encoded), form, FORM_SIZE, byref(parsed)))
+        check_text(library.dnw_name_parse(encoded, len(encoded), form, FORM_SIZE, byref(parsed)), encoded)
         return cls._of(taken(form, parsed.len), parsed.is_fqdn)
 
     @classmethod

@@ -5,7 +5,7 @@ from typing import List, NamedTuple, Tuple, Union
 
 from . import _checks
 from ._checks import Bytes
-from ._errors import MessageTooLong, check
+from ._errors import MessageTooLong, check, error_text
 from ._library import WrittenMessage, library, taken
 from ._names import Name, wire_of
 
@@ -79,10 +79,10 @@ class MessageWriter:
         self._parts.append([bytes([kind]) + wire + fields + length + octets])
 
     def finish(self) -> bytes:
-        """The message. Raises `MessageTooLong` if it would be longer than the maximum."""
+        """The message. Raises `MessageTooLong`, with the part that does not fit, if it would be longer than the maximum."""
         message, parts = self.finish_truncated()
         if parts != len(self._parts):
-            check(MessageTooLong.number)
+            raise MessageTooLong(error_text(MessageTooLong.number), part=parts)
         return message
 
     def finish_truncated(self) -> Truncated:

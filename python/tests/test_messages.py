@@ -45,8 +45,11 @@ class Messages(unittest.TestCase):
         for max_size, length, parts in [(65, 50, 3), (59, 33, 2), (33, 33, 2), (32, 12, 1), (12, 12, 1), (11, 0, 0)]:
             with self.subTest(max_size=max_size):
                 self.assertEqual(referral(max_size).finish_truncated(), (REFERRAL[:length], parts))
-                with self.assertRaises(dnw.MessageTooLong):
+                with self.assertRaises(dnw.MessageTooLong) as caught:
                     referral(max_size).finish()
+                error = caught.exception
+                self.assertEqual((error.part, error.offset, error.rule), (parts, None, None))
+                self.assertEqual(str(error), f"at part {parts}: {error.reason}")
         self.assertEqual(MessageWriter().finish_truncated(), (b"", 0))
         writer = MessageWriter()
         writer.raw(bytes(65535) + b"1")

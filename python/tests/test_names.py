@@ -13,7 +13,7 @@ import unittest
 from importlib import import_module
 
 import dns_names_wire as dnw
-from dns_names_wire import Name, names, read_name
+from dns_names_wire import Name, TextRule, names, read_name
 
 # F.ISI.ARPA at 20, FOO.F.ISI.ARPA at 40, ARPA at 64, the root at 92
 MESSAGE = b"".join([
@@ -94,6 +94,28 @@ class Texts(unittest.TestCase):
         for text, error in rows:
             with self.subTest(text=text), self.assertRaises(error):
                 Name(text)
+
+    def test_a_text_goes_wrong_where_no_name_begins_so(self):
+        rows = [
+            ("a..b", 2, TextRule.EMPTY_LABEL),
+            (".a", 1, TextRule.EMPTY_LABEL),
+            ("exa mple", 3, TextRule.CHARACTER),
+            ("a.-b", 2, TextRule.CHARACTER),
+            ("b\u00fccher \u00fc", 1, TextRule.CHARACTER),
+            ("a\\;b", 1, TextRule.CHARACTER),
+            ("a\\18", 1, TextRule.DIGIT),
+            ("a\\1", 1, TextRule.UNFINISHED_ESCAPE),
+            ("a" * 64, 63, TextRule.LABEL_TOO_LONG),
+            (".".join(["a" * 63] * 4), 253, TextRule.NAME_TOO_LONG),
+            ("ab\udc80", 2, None),
+        ]
+        for text, offset, rule in rows:
+            with self.subTest(text=text), self.assertRaises(dnw.DnsError) as raised:
+                Name(text)
+            error = raised.exception
+            self.assertEqual((error.offset, error.rule), (offset, rule))
+            self.assertEqual(str(error), f"at offset {offset}: {rule or 'the text is not UTF-8'}")
+            Name(text[:offset])
 
 
 class Order(unittest.TestCase):
@@ -193,6 +215,10 @@ class Values(unittest.TestCase):
             self.assertEqual(str(error), f"at offset 1: {error.reason}")
         with self.assertRaises(dnw.BadText) as raised:
             Name("a..b")
+        again = pickle.loads(pickle.dumps(raised.exception))
+        self.assertEqual((again.offset, again.rule, str(again)), (2, TextRule.EMPTY_LABEL, str(raised.exception)))
+        with self.assertRaises(dnw.BadText) as raised:
+            Name("a.").prepend_label(b"")
         self.assertEqual((raised.exception.offset, str(raised.exception)), (None, raised.exception.reason))
 
 

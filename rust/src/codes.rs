@@ -1,7 +1,6 @@
 //! Record types, classes and serial numbers.
 use crate::door::{self, CODE_SIZE};
 use crate::error::Error;
-use alloc::format;
 use core::cmp::Ordering;
 use core::fmt;
 use core::ops::Add;
@@ -150,34 +149,8 @@ constants! {
     }
 }
 
-/// The types whose names `dnw_type_parse` does not take.
-const UNPARSED_TYPES: [(&str, u16); 3] = [("ZERO", 0), ("OPT", 41), ("IXFR", 251)];
-
-fn type_code(name: &str) -> Result<u16, Error> {
-    door::type_code(name).or_else(|error| {
-        let found = UNPARSED_TYPES.iter().find(|(unparsed, _)| *unparsed == name);
-        found.map(|(_, code)| *code).ok_or(error)
-    })
-}
-
-/// Returns the code in a text of a prefix and its decimal digits, of which there may be zeros in front.
-fn numbered(text: &str, prefix: &str) -> Option<u16> {
-    let (start, digits) = (text.get(..prefix.len())?, text.get(prefix.len()..)?);
-    let is_numbered = start.eq_ignore_ascii_case(prefix) && digits.bytes().all(|byte| byte.is_ascii_digit());
-    digits.parse().ok().filter(|_| is_numbered)
-}
-
-/// Calls a function with a text in capitals, if that can be the name of a code.
-fn with_capitals<T>(text: &str, parse: impl FnOnce(&str) -> Result<T, Error>) -> Result<T, Error> {
-    let mut room = [0; CODE_SIZE];
-    let capitals = room.get_mut(..text.len()).ok_or(Error::UnknownText)?;
-    capitals.copy_from_slice(text.as_bytes());
-    capitals.make_ascii_uppercase();
-    parse(core::str::from_utf8(capitals).expect("ASCII letters alone were changed"))
-}
-
 macro_rules! code {
-    ($code:ident, $text:path, $parse:path, $unknown:literal, $prefix:literal) => {
+    ($code:ident, $text:path, $parse:path) => {
         impl From<u16> for $code {
             fn from(code: u16) -> Self {
                 $code(code)
@@ -201,10 +174,7 @@ macro_rules! code {
         /// The name of a code, in capitals, or the text of RFC 3597, section 5, for one without a name.
         impl fmt::Display for $code {
             fn fmt(&self, f: &mut fmt::Formatter<'_>) -> fmt::Result {
-                match $text(self.0, &mut [0; CODE_SIZE]).map_err(|_| fmt::Error)? {
-                    $unknown => f.pad(&format!("{}{}", $prefix, self.0)),
-                    name => f.pad(name),
-                }
+                f.pad($text(self.0, &mut [0; CODE_SIZE]).map_err(|_| fmt::Error)?)
             }
         }
 
@@ -219,10 +189,7 @@ macro_rules! code {
             type Err = Error;
 
             fn from_str(text: &str) -> Result<Self, Error> {
-                match numbered(text, $prefix) {
-                    Some(code) => Ok($code(code)),
-                    None => with_capitals(text, $parse).map($code),
-                }
+                $parse(text).map($code)
             }
         }
 
@@ -237,8 +204,8 @@ macro_rules! code {
     };
 }
 
-code!(RecordType, door::type_text, type_code, "Unknown", "TYPE");
-code!(Class, door::class_text, door::class_code, "UNKNOWN", "CLASS");
+code!(RecordType, door::type_text, door::type_code);
+code!(Class, door::class_text, door::class_code);
 
 /// A serial number of a zone, which starts again at 0 after 4294967295 (RFC 1982).
 ///

@@ -3,7 +3,7 @@
 //! This is the one module with `unsafe`. Each call is safe for the same reasons: a slice is passed as its pointer, which is
 //! never null, and its length; a result goes through a `&mut`, which overlaps nothing; the C library keeps no pointer, and
 //! is proved to read and write nothing outside its arguments, whatever the bytes are.
-use crate::error::Error;
+use crate::error::{Error, ErrorKind, TextFault, TextRule};
 use alloc::vec::Vec;
 
 /// The octets of the longest wire form (RFC 1035, section 2.3.4).
@@ -73,10 +73,10 @@ pub(crate) struct Lexer {
 /// `struct dnw_token`
 #[repr(C)]
 #[derive(Default)]
-pub(crate) struct Token {
-    pub(crate) kind: u32,
-    pub(crate) len: usize,
-    pub(crate) count: usize,
+struct Token {
+    kind: u32,
+    len: usize,
+    count: usize,
 }
 
 extern "C" {
@@ -95,6 +95,7 @@ extern "C" {
         form_size: usize,
         parsed: *mut ParsedName,
     ) -> u32;
+    fn dnw_name_text_fault(text: *const u8, text_len: usize, offset: *mut usize) -> u32;
     fn dnw_name_print(
         form: *const u8,
         form_len: usize,
@@ -223,7 +224,7 @@ pub(crate) fn read(message: &[u8], start: usize, form: &mut [u8; FORM_SIZE]) -> 
     // SAFETY: pointers with their lengths, see the module.
     let number =
         unsafe { dnw_name_read(message.as_ptr(), message.len(), start, form.as_mut_ptr(), FORM_SIZE, &mut read) };
-    outcome(number, read)
+    outcome(number, read).map_err(|error| error.at_offset(start))
 }
 
 /// Puts the wire form of the name that a text gives.
@@ -232,7 +233,18 @@ pub(crate) fn parse(text: &str, form: &mut [u8; FORM_SIZE]) -> Result<ParsedName
     let mut parsed = ParsedName::default();
     // SAFETY: pointers with their lengths, see the module.
     let number = unsafe { dnw_name_parse(text.as_ptr(), text.len(), form.as_mut_ptr(), FORM_SIZE, &mut parsed) };
-    outcome(number, parsed)
+    outcome(number, parsed).map_err(|error| match error.kind() {
+        ErrorKind::NoMemory => error,
+        _ => text_fault(text).map_or(error, |fault| error.at_fault(fault)),
+    })
+}
+
+/// Returns where a text that gives no name goes wrong.
+pub(crate) fn text_fault(text: &str) -> Option<TextFault> {
+    let mut offset = 0;
+    // SAFETY: a pointer with its length, and one to a number of this type.
+    let number = unsafe { dnw_name_text_fault(text.as_ptr(), text.len(), &mut offset) };
+    TextRule::from_number(number).map(|rule| TextFault { offset, rule })
 }
 
 /// Puts the text of the name with a wire form, and returns it.
@@ -251,7 +263,7 @@ pub(crate) fn read_record(message: &[u8], start: usize, owner: &mut [u8; FORM_SI
     let (mut record, room) = (Record::default(), owner.as_mut_ptr());
     // SAFETY: pointers with their lengths, see the module.
     let number = unsafe { dnw_record_read(message.as_ptr(), message.len(), start, room, FORM_SIZE, &mut record) };
-    outcome(number, record)
+    outcome(number, record).map_err(|error| error.at_offset(start))
 }
 
 /// Puts the wire form of the name that so many octets of a message are, and returns its length.
@@ -260,7 +272,7 @@ pub(crate) fn data_name(message: &[u8], at: usize, len: usize, form: &mut [u8; F
     let (mut put, room) = (0, form.as_mut_ptr());
     // SAFETY: pointers with their lengths, see the module.
     let number = unsafe { dnw_record_data_name(message.as_ptr(), message.len(), at, len, room, FORM_SIZE, &mut put) };
-    outcome(number, put)
+    outcome(number, put).map_err(|error| error.at_offset(at))
 }
 
 /// Replaces `message` by the items of a list, up to the first that would go past the maximum. Returns how many items it has,
@@ -281,7 +293,7 @@ pub(crate) fn write_message(
         unsafe { dnw_message_write(items.as_ptr(), items.len(), max_size, is_canonical, start, size, &mut written) };
     let is_whole = match outcome(number, ()) {
         Ok(()) => true,
-        Err(Error::MessageTooLong) => false,
+        Err(error) if error.kind() == ErrorKind::MessageTooLong => false,
         Err(error) => return Err(error),
     };
     // SAFETY: so many bytes of the room were written.
@@ -384,7 +396,7 @@ pub(crate) fn to_wildcard(name: &[u8], form: &mut [u8; FORM_SIZE]) -> Result<usi
     outcome(number, len)
 }
 
-/// Puts the name of a type, and returns it.
+/// Puts the text of a type, and returns it.
 pub(crate) fn type_text(code: u16, text: &mut [u8; CODE_SIZE]) -> Result<&str, Error> {
     let mut len = 0;
     // SAFETY: pointers with their lengths, see the module.
@@ -393,7 +405,7 @@ pub(crate) fn type_text(code: u16, text: &mut [u8; CODE_SIZE]) -> Result<&str, E
     Ok(ascii(&text[..len]))
 }
 
-/// Returns the code of the type with a name.
+/// Returns the code of the type that a text gives.
 pub(crate) fn type_code(text: &str) -> Result<u16, Error> {
     let mut code = 0;
     // SAFETY: pointers with their lengths, see the module.
@@ -401,7 +413,7 @@ pub(crate) fn type_code(text: &str) -> Result<u16, Error> {
     outcome(number, code)
 }
 
-/// Puts the name of a class, and returns it.
+/// Puts the text of a class, and returns it.
 pub(crate) fn class_text(code: u16, text: &mut [u8; CODE_SIZE]) -> Result<&str, Error> {
     let mut len = 0;
     // SAFETY: pointers with their lengths, see the module.
@@ -410,7 +422,7 @@ pub(crate) fn class_text(code: u16, text: &mut [u8; CODE_SIZE]) -> Result<&str, 
     Ok(ascii(&text[..len]))
 }
 
-/// Returns the code of the class with a name.
+/// Returns the code of the class that a text gives.
 pub(crate) fn class_code(text: &str) -> Result<u16, Error> {
     let mut code = 0;
     // SAFETY: pointers with their lengths, see the module.
@@ -456,13 +468,19 @@ pub(crate) fn ttl(text: &str) -> Result<u32, Error> {
     outcome(number, seconds)
 }
 
-/// Finds the next token of a text, and puts its texts.
-pub(crate) fn next_token(text: &str, lexer: &mut Lexer, words: &mut [u8]) -> Result<Token, Error> {
+/// Finds the next token of a text, and puts its texts. Returns its kind and these, each word of a list with a zero byte after
+/// it.
+#[inline]
+pub(crate) fn next_token<'a>(text: &str, lexer: &mut Lexer, words: &'a mut [u8]) -> Result<(u32, &'a str), Error> {
     let mut token = Token::default();
     // SAFETY: pointers with their lengths, see the module.
     let number =
         unsafe { dnw_token_next(text.as_ptr(), text.len(), lexer, words.as_mut_ptr(), words.len(), &mut token) };
-    outcome(number, token)
+    outcome(number, ())?;
+    let put = &words[..token.len];
+    debug_assert!(core::str::from_utf8(put).is_ok());
+    // SAFETY: the C library is proved to put texts in UTF-8.
+    Ok((token.kind, unsafe { core::str::from_utf8_unchecked(put) }))
 }
 
 /// Puts the text for a number, and returns it. It is empty if the number stands for nothing.

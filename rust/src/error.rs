@@ -2,18 +2,136 @@
 use crate::door;
 use core::fmt;
 
-/// Why a call fails. Its text is the C library's.
+/// Why a call fails, and where: [`kind`](Error::kind) and [`offset`](Error::offset). It is shown as a sentence.
 ///
 /// ```
-/// use dns_names_wire::{Error, Name};
+/// use dns_names_wire::{ErrorKind, Name};
 ///
-/// let error = Name::read(b"\xC0\0", 0).unwrap_err();
-/// assert_eq!(error, Error::PointerNotBack);
-/// assert_eq!(error.to_string(), "a compression pointer does not point back");
+/// let error = Name::read(b"\0\0\0\xC0\x05", 3).unwrap_err();
+/// assert_eq!((error.kind(), error.offset()), (ErrorKind::PointerNotBack, Some(3)));
+/// assert_eq!(error.to_string(), "at offset 3: a compression pointer does not point back");
+/// ```
+#[derive(Clone, Copy, Debug, PartialEq, Eq, Hash)]
+pub struct Error {
+    kind: ErrorKind,
+    place: Option<Place>,
+}
+
+/// Where a call fails.
+#[derive(Clone, Copy, Debug, PartialEq, Eq, Hash)]
+enum Place {
+    Offset(usize),
+    Text(TextFault),
+    Part(usize),
+}
+
+impl Error {
+    /// The failure with a number of `dns_names_wire.h` other than 0.
+    pub(crate) fn from_number(number: u32) -> Self {
+        let named = NUMBERS.iter().find(|(own, _)| *own == number);
+        named.map_or(ErrorKind::Other(number), |(_, kind)| *kind).into()
+    }
+
+    /// The same failure at an offset of the message or the text.
+    pub(crate) fn at_offset(self, offset: usize) -> Self {
+        Error { place: Some(Place::Offset(offset)), ..self }
+    }
+
+    /// The same failure at the fault of the text.
+    pub(crate) fn at_fault(self, fault: TextFault) -> Self {
+        Error { place: Some(Place::Text(fault)), ..self }
+    }
+
+    /// The same failure at a part of the message that is written.
+    pub(crate) fn at_part(self, part: usize) -> Self {
+        Error { place: Some(Place::Part(part)), ..self }
+    }
+
+    /// Returns what is wrong.
+    ///
+    /// ```
+    /// use dns_names_wire::{ErrorKind, Name};
+    ///
+    /// assert_eq!(Name::read(b"\x01a", 0).unwrap_err().kind(), ErrorKind::MessageCut);
+    /// ```
+    pub fn kind(self) -> ErrorKind {
+        self.kind
+    }
+
+    /// Returns the offset in octets at which the input goes wrong, if it is known:
+    ///
+    /// - in a message, at which the name or the record that was read should begin; or the end of a record whose data have fewer
+    ///   octets than were passed over;
+    /// - in a wire form, after its name, for `BytesLeft`;
+    /// - in the text of a name, at which it goes wrong. What is before it is a name by itself, and no longer beginning of the
+    ///   text is one. An escape counts as one character;
+    /// - in a master file, after which there is no token.
+    ///
+    /// ```
+    /// use dns_names_wire::{Name, TextRule};
+    ///
+    /// let error = Name::from_ascii("www.exa mple.").unwrap_err();
+    /// assert_eq!((error.offset(), error.rule()), (Some(7), Some(TextRule::Character)));
+    /// assert_eq!(error.to_string(), "at offset 7: a character stands where it may not");
+    /// ```
+    pub fn offset(self) -> Option<usize> {
+        match self.place? {
+            Place::Offset(offset) => Some(offset),
+            Place::Text(fault) => Some(fault.offset),
+            Place::Part(_) => None,
+        }
+    }
+
+    /// Returns the rule that the text of a name breaks, if it is one that was wrong.
+    ///
+    /// ```
+    /// let error = dns_names_wire::Name::from_ascii("a..bc").unwrap_err();
+    /// assert_eq!(error.rule(), Some(dns_names_wire::TextRule::EmptyLabel));
+    /// ```
+    pub fn rule(self) -> Option<TextRule> {
+        match self.place? {
+            Place::Text(fault) => Some(fault.rule),
+            _ => None,
+        }
+    }
+
+    /// Returns which part of a message that is written does not fit, for `MessageTooLong`: the number of the parts that were
+    /// added before it.
+    ///
+    /// ```
+    /// use dns_names_wire::MessageWriter;
+    ///
+    /// let error = MessageWriter::with_max_size(3).bytes(b"12").bytes(b"34").finish().unwrap_err();
+    /// assert_eq!(error.part(), Some(1));
+    /// assert_eq!(error.to_string(), "at part 1: the message would be longer than its maximum");
+    /// ```
+    pub fn part(self) -> Option<usize> {
+        match self.place? {
+            Place::Part(part) => Some(part),
+            _ => None,
+        }
+    }
+
+    /// Returns the kind's number in `dns_names_wire.h`.
+    ///
+    /// ```
+    /// assert_eq!(dns_names_wire::Name::read(b"", 0).unwrap_err().number(), 3);
+    /// ```
+    pub fn number(self) -> u32 {
+        self.kind.number()
+    }
+}
+
+/// What is wrong. It is shown as a sentence, which is the C library's.
+///
+/// ```
+/// use dns_names_wire::ErrorKind;
+///
+/// assert_eq!(ErrorKind::MessageCut.to_string(), "the message ends within the name");
 /// ```
 #[derive(Clone, Copy, Debug, PartialEq, Eq, Hash)]
 #[non_exhaustive]
-pub enum Error {
+pub enum ErrorKind {
     /// The C library could not allocate.
     NoMemory,
     /// The message ends within the name, or before it.
@@ -28,7 +146,7 @@ pub enum Error {
     NameTooLong,
     /// A label takes more than 63 octets.
     LabelTooLong,
-    /// A text has a label, a character or an escape that is not allowed.
+    /// A text has a label, a character or an escape that is not allowed; [`Error::rule`] says which rule it breaks.
     BadText,
     /// Bytes follow after a name that should be all there is.
     BytesLeft,
@@ -61,76 +179,160 @@ pub enum Error {
 }
 
 /// The failures that this crate names, each with its number in `dns_names_wire.h`.
-const NUMBERS: [(u32, Error); 21] = [
-    (1, Error::NoMemory),
-    (3, Error::MessageCut),
-    (4, Error::PointerNotBack),
-    (5, Error::ReservedOctet),
-    (6, Error::SegmentsOverlap),
-    (7, Error::NameTooLong),
-    (8, Error::LabelTooLong),
-    (9, Error::BadText),
-    (11, Error::BytesLeft),
-    (12, Error::MessageTooLong),
-    (14, Error::UnknownText),
-    (16, Error::BadBitmap),
-    (17, Error::BadTime),
-    (18, Error::TextCut),
-    (19, Error::IllegalCharacter),
-    (20, Error::ControlCharacter),
-    (21, Error::UnclosedList),
-    (22, Error::UnclosedQuote),
-    (23, Error::UnknownEntry),
-    (24, Error::WrongDataLength),
-    (26, Error::NotReverse),
+const NUMBERS: [(u32, ErrorKind); 21] = [
+    (1, ErrorKind::NoMemory),
+    (3, ErrorKind::MessageCut),
+    (4, ErrorKind::PointerNotBack),
+    (5, ErrorKind::ReservedOctet),
+    (6, ErrorKind::SegmentsOverlap),
+    (7, ErrorKind::NameTooLong),
+    (8, ErrorKind::LabelTooLong),
+    (9, ErrorKind::BadText),
+    (11, ErrorKind::BytesLeft),
+    (12, ErrorKind::MessageTooLong),
+    (14, ErrorKind::UnknownText),
+    (16, ErrorKind::BadBitmap),
+    (17, ErrorKind::BadTime),
+    (18, ErrorKind::TextCut),
+    (19, ErrorKind::IllegalCharacter),
+    (20, ErrorKind::ControlCharacter),
+    (21, ErrorKind::UnclosedList),
+    (22, ErrorKind::UnclosedQuote),
+    (23, ErrorKind::UnknownEntry),
+    (24, ErrorKind::WrongDataLength),
+    (26, ErrorKind::NotReverse),
 ];
 
-impl Error {
-    /// The failure with a number of `dns_names_wire.h` other than 0.
-    pub(crate) fn from_number(number: u32) -> Self {
-        let named = NUMBERS.iter().find(|(own, _)| *own == number);
-        named.map_or(Error::Other(number), |(_, error)| *error)
-    }
-
+impl ErrorKind {
     /// Returns its number in `dns_names_wire.h`.
     ///
     /// ```
-    /// assert_eq!(dns_names_wire::Error::NameTooLong.number(), 7);
+    /// assert_eq!(dns_names_wire::ErrorKind::NameTooLong.number(), 7);
     /// ```
     pub fn number(self) -> u32 {
         match self {
-            Error::Other(number) => number,
-            named => NUMBERS.iter().find(|(_, error)| *error == named).map_or(0, |(number, _)| *number),
+            ErrorKind::Other(number) => number,
+            named => NUMBERS.iter().find(|(_, kind)| *kind == named).map_or(0, |(number, _)| *number),
         }
+    }
+}
+
+/// An error without a place.
+impl From<ErrorKind> for Error {
+    fn from(kind: ErrorKind) -> Self {
+        Error { kind, place: None }
+    }
+}
+
+/// Where a text that gives no name goes wrong, and the rule that it breaks there. See [`Name::text_fault`].
+///
+/// [`Name::text_fault`]: crate::Name::text_fault
+///
+/// ```
+/// let fault = dns_names_wire::Name::text_fault("a..bc").unwrap();
+/// assert_eq!((fault.offset, fault.to_string()), (2, "at offset 2: a label of the text is empty".into()));
+/// ```
+#[derive(Clone, Copy, Debug, PartialEq, Eq, Hash)]
+pub struct TextFault {
+    /// The offset in octets of the character or escape with which the text is no name, whatever follows.
+    pub offset: usize,
+    /// The rule that is broken there.
+    pub rule: TextRule,
+}
+
+/// A rule for the text of a name. It is shown as a sentence, which is the C library's.
+///
+/// ```
+/// assert_eq!(dns_names_wire::TextRule::EmptyLabel.to_string(), "a label of the text is empty");
+/// ```
+#[derive(Clone, Copy, Debug, PartialEq, Eq, Hash)]
+#[non_exhaustive]
+pub enum TextRule {
+    /// A label has a character.
+    EmptyLabel = 28,
+    /// A label has at most 63 octets.
+    LabelTooLong = 8,
+    /// A name has at most 255 octets.
+    NameTooLong = 7,
+    /// A label begins with a letter, a digit, `_` or `*`, and goes on with letters, digits, `_` and `-`; other dots in it
+    /// are escaped.
+    Character = 19,
+    /// An escape of digits has three, from 0 to 7.
+    Digit = 29,
+    /// An escape is whole before the text ends.
+    UnfinishedEscape = 18,
+}
+
+impl TextRule {
+    const ALL: [TextRule; 6] = [
+        TextRule::EmptyLabel,
+        TextRule::LabelTooLong,
+        TextRule::NameTooLong,
+        TextRule::Character,
+        TextRule::Digit,
+        TextRule::UnfinishedEscape,
+    ];
+
+    /// The rule with a number of `dns_names_wire.h`, if there is one.
+    pub(crate) fn from_number(number: u32) -> Option<Self> {
+        Self::ALL.into_iter().find(|rule| *rule as u32 == number)
+    }
+}
+
+/// Shows the C library's text for a number.
+fn show(number: u32, f: &mut fmt::Formatter<'_>) -> fmt::Result {
+    let mut room = [0; door::ERROR_TEXT_SIZE];
+    match door::error_text(number, &mut room) {
+        "" => write!(f, "failure {number}"),
+        text => f.pad(text),
     }
 }
 
 impl fmt::Display for Error {
     fn fmt(&self, f: &mut fmt::Formatter<'_>) -> fmt::Result {
-        let mut room = [0; door::ERROR_TEXT_SIZE];
-        match door::error_text(self.number(), &mut room) {
-            "" => write!(f, "failure {}", self.number()),
-            text => f.pad(text),
+        match self.place {
+            Some(Place::Offset(offset)) => write!(f, "at offset {offset}: {}", self.kind),
+            Some(Place::Text(fault)) => fmt::Display::fmt(&fault, f),
+            Some(Place::Part(part)) => write!(f, "at part {part}: {}", self.kind),
+            None => fmt::Display::fmt(&self.kind, f),
         }
     }
 }
 
-/// It has no source: all that the C library reports is a failure's number.
+impl fmt::Display for ErrorKind {
+    fn fmt(&self, f: &mut fmt::Formatter<'_>) -> fmt::Result {
+        show(self.number(), f)
+    }
+}
+
+impl fmt::Display for TextFault {
+    fn fmt(&self, f: &mut fmt::Formatter<'_>) -> fmt::Result {
+        write!(f, "at offset {}: {}", self.offset, self.rule)
+    }
+}
+
+impl fmt::Display for TextRule {
+    fn fmt(&self, f: &mut fmt::Formatter<'_>) -> fmt::Result {
+        show(*self as u32, f)
+    }
+}
+
+/// It has no source: the C library reports no more than the kind.
 #[cfg(feature = "std")]
 impl std::error::Error for Error {}
 
 /// An error of kind `InvalidData`, or `OutOfMemory` for `NoMemory`, from which this one can be had back.
 ///
 /// ```
-/// let error: std::io::Error = dns_names_wire::Error::MessageCut.into();
+/// let error: std::io::Error = dns_names_wire::Name::read(b"", 0).unwrap_err().into();
 /// assert_eq!(error.kind(), std::io::ErrorKind::InvalidData);
-/// assert_eq!(error.to_string(), "the message ends within the name");
+/// assert_eq!(error.to_string(), "at offset 0: the message ends within the name");
 /// ```
 #[cfg(feature = "std")]
 impl From<Error> for std::io::Error {
     fn from(error: Error) -> Self {
-        let kind = match error {
-            Error::NoMemory => std::io::ErrorKind::OutOfMemory,
+        let kind = match error.kind {
+            ErrorKind::NoMemory => std::io::ErrorKind::OutOfMemory,
             _ => std::io::ErrorKind::InvalidData,
         };
         std::io::Error::new(kind, error)

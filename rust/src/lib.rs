@@ -1,5 +1,5 @@
-//! The lowest layer of DNS: domain names, the records of messages, record types and classes, and master files, read and
-//! written by a library whose every function is proved.
+//! The lowest layer of DNS: domain names, the records of messages, and record types and classes are read and written, and the
+//! tokens of master files are read, by a library whose every function is proved.
 //!
 //! The library is the static archive of the C library of `dns-names-wire`. Its reader accepts exactly the names of RFC
 //! 1035, section 4.1.4, and no input makes it read outside the message, loop or panic. This crate gives it Rust's types. The
@@ -28,7 +28,8 @@
 //! | name types and classes, read and write bitmaps of types, compare serial numbers | [`RecordType`], [`Class`], [`TypeSet`], [`SerialNumber`] |
 //! | read master files | [`tokens`](tokens()), [`parse_ttl`] |
 //!
-//! Values may be sent to and shared by threads. Calls fail with an [`Error`], and never panic on input.
+//! Values may be sent to and shared by threads. Calls fail with an [`Error`], which says what is wrong and
+//! where, and never panic on input.
 //!
 //! Without its feature `std`, which is on by default, the crate needs only `core`, `alloc` and the system's C library, and has
 //! neither reverse names nor the traits of errors.
@@ -55,7 +56,7 @@ mod type_set;
 mod writer;
 
 pub use codes::{Class, RecordType, SerialNumber};
-pub use error::Error;
+pub use error::{Error, ErrorKind, TextFault, TextRule};
 pub use name::{Labels, Name};
 pub use name_ref::{names, NameRef, Names};
 pub use record::{records, Record, Records};

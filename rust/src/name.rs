@@ -1,6 +1,6 @@
 //! Names that own their wire form.
 use crate::door::{self, FORM_SIZE, SORT_KEY_SIZE, TEXT_SIZE};
-use crate::error::Error;
+use crate::error::{Error, ErrorKind, TextFault};
 use alloc::vec::Vec;
 use core::cmp::Ordering;
 use core::fmt;
@@ -88,12 +88,13 @@ impl Name {
     /// `NameTooLong` if there is no name.
     ///
     /// ```
-    /// use dns_names_wire::{Error, Name};
+    /// use dns_names_wire::{Error, ErrorKind, Name};
     ///
     /// let message = b"\x01b\0\x01a\xC0\0";
     /// let (name, end) = Name::read(message, 3)?;
     /// assert_eq!((name.to_string().as_str(), end), ("a.b.", 7));
-    /// assert_eq!(Name::read(b"\xC0\0", 0), Err(Error::PointerNotBack));
+    /// let error = Name::read(b"\0\xC0\x05", 1).unwrap_err();
+    /// assert_eq!((error.kind(), error.offset()), (ErrorKind::PointerNotBack, Some(1)));
     /// # Ok::<(), Error>(())
     /// ```
     #[inline]
@@ -111,7 +112,7 @@ impl Name {
     /// As [`Name::read`]; the name is then unchanged.
     ///
     /// ```
-    /// use dns_names_wire::{Error, Name};
+    /// use dns_names_wire::{Error, ErrorKind, Name};
     ///
     /// let message = b"\x01b\0\x01a\xC0\0";
     /// let (mut name, mut end) = (Name::root(), 0);
@@ -119,7 +120,7 @@ impl Name {
     ///     end = name.read_from(message, end)?;
     /// }
     /// assert_eq!(name.to_string(), "a.b.");
-    /// assert_eq!(name.read_from(message, end), Err(Error::MessageCut));
+    /// assert_eq!(name.read_from(message, end).unwrap_err().kind(), ErrorKind::MessageCut);
     /// assert_eq!(name.to_string(), "a.b.");
     /// # Ok::<(), Error>(())
     /// ```
@@ -137,16 +138,16 @@ impl Name {
     /// As [`Name::read`], and `BytesLeft` if bytes follow after it.
     ///
     /// ```
-    /// use dns_names_wire::{Error, Name};
+    /// use dns_names_wire::{Error, ErrorKind, Name};
     ///
     /// assert_eq!(Name::from_wire(b"\x01a\0")?.to_string(), "a.");
-    /// assert_eq!(Name::from_wire(b"\x01a\0\0"), Err(Error::BytesLeft));
+    /// assert_eq!(Name::from_wire(b"\x01a\0\0").unwrap_err().kind(), ErrorKind::BytesLeft);
     /// # Ok::<(), Error>(())
     /// ```
     pub fn from_wire(form: &[u8]) -> Result<Self, Error> {
         match Name::read(form, 0)? {
             (name, end) if end == form.len() => Ok(name),
-            _ => Err(Error::BytesLeft),
+            (_, end) => Err(Error::from(ErrorKind::BytesLeft).at_offset(end)),
         }
     }
 
@@ -156,13 +157,15 @@ impl Name {
     ///
     /// # Errors
     ///
-    /// `BadText`, `LabelTooLong` or `NameTooLong` if it is the text of no name, or `NoMemory` in place of `BadText`.
+    /// `BadText`, `LabelTooLong` or `NameTooLong` if it is the text of no name, with the offset and the rule; or `NoMemory` in
+    /// place of `BadText`.
     ///
     /// ```
     /// use dns_names_wire::{Error, Name};
     ///
     /// assert!(!Name::from_ascii("a.bc")?.is_fqdn());
-    /// assert_eq!(Name::from_ascii("a..bc"), Err(Error::BadText));
+    /// let error = Name::from_ascii("a..bc").unwrap_err();
+    /// assert_eq!(error.to_string(), "at offset 2: a label of the text is empty");
     /// # Ok::<(), Error>(())
     /// ```
     #[inline]
@@ -174,6 +177,21 @@ impl Name {
         Ok(name)
     }
 
+    /// Returns where a text goes wrong and the rule that it breaks there, or `None` if it gives a name.
+    ///
+    /// What is before the offset is a name by itself, and no longer beginning of the text is one. An escape counts as one
+    /// character.
+    ///
+    /// ```
+    /// use dns_names_wire::{Name, TextFault, TextRule};
+    ///
+    /// assert_eq!(Name::text_fault("a.bc."), None);
+    /// assert_eq!(Name::text_fault("a.-bc"), Some(TextFault { offset: 2, rule: TextRule::Character }));
+    /// ```
+    pub fn text_fault(text: &str) -> Option<TextFault> {
+        door::text_fault(text)
+    }
+
     /// Returns the fully qualified name with some labels, each of any 1 to 63 octets.
     ///
     /// # Errors
@@ -182,10 +200,10 @@ impl Name {
     /// that does not fit.
     ///
     /// ```
-    /// use dns_names_wire::{Error, Name};
+    /// use dns_names_wire::{Error, ErrorKind, Name};
     ///
     /// assert_eq!(Name::from_labels(["www", "example", "com"])?.to_string(), "www.example.com.");
-    /// assert_eq!(Name::from_labels(["a", ""]), Err(Error::BadText));
+    /// assert_eq!(Name::from_labels(["a", ""]).unwrap_err().kind(), ErrorKind::BadText);
     /// # Ok::<(), Error>(())
     /// ```
     pub fn from_labels<I>(labels: I) -> Result<Self, Error>
@@ -444,7 +462,7 @@ impl Name {
     #[cfg(feature = "std")]
     pub fn parse_arpa_name(&self) -> Result<(IpAddr, u8), Error> {
         if !self.is_fqdn {
-            return Err(Error::NotReverse);
+            return Err(ErrorKind::NotReverse.into());
         }
         let mut room = [0; 16];
         let net = door::reverse_parse(self.as_wire(), &mut room)?;

@@ -1,7 +1,7 @@
 //! The records of messages.
 use crate::codes::{Class, RecordType};
 use crate::door::{self, FORM_SIZE};
-use crate::error::Error;
+use crate::error::{Error, ErrorKind};
 use crate::name::Name;
 use core::fmt;
 
@@ -34,11 +34,11 @@ impl<'a> Record<'a> {
     /// As [`Name::read`] if no owner is there, and `MessageCut` if the message ends before the data do.
     ///
     /// ```
-    /// use dns_names_wire::{Error, Record};
+    /// use dns_names_wire::{Error, ErrorKind, Record};
     ///
     /// let record = Record::read(b"\0\0\x01\0\x01\0\0\0\0\0\x04\xC0\0\x02\x01", 0)?;
     /// assert_eq!(record.data(), [192, 0, 2, 1]);
-    /// assert_eq!(Record::read(b"\0\0\x01", 0).err(), Some(Error::MessageCut));
+    /// assert_eq!(Record::read(b"\0\0\x01", 0).unwrap_err().kind(), ErrorKind::MessageCut);
     /// # Ok::<(), Error>(())
     /// ```
     pub fn read(message: &'a [u8], start: usize) -> Result<Self, Error> {
@@ -160,7 +160,8 @@ impl<'a> Record<'a> {
     /// # Ok::<(), dns_names_wire::Error>(())
     /// ```
     pub fn data_name_after(&self, octets: usize) -> Result<Name, Error> {
-        let left = self.read.data_len.checked_sub(octets).ok_or(Error::MessageCut)?;
+        let cut = || Error::from(ErrorKind::MessageCut).at_offset(self.read.end);
+        let left = self.read.data_len.checked_sub(octets).ok_or_else(cut)?;
         let mut form = [0; FORM_SIZE];
         let len = door::data_name(self.message, self.read.data_offset + octets, left, &mut form)?;
         Ok(Name::of_form(form, len))

@@ -13,11 +13,11 @@ use alloc::vec::Vec;
 /// `BadTime`, also past 4294967295 seconds, or `NoMemory` in its place.
 ///
 /// ```
-/// use dns_names_wire::{parse_ttl, Error};
+/// use dns_names_wire::{parse_ttl, ErrorKind};
 ///
 /// assert_eq!(parse_ttl("1h30m"), Ok(5400));
 /// assert_eq!(parse_ttl("300"), Ok(300));
-/// assert_eq!(parse_ttl("h"), Err(Error::BadTime));
+/// assert_eq!(parse_ttl("h").unwrap_err().kind(), ErrorKind::BadTime);
 /// ```
 pub fn parse_ttl(text: &str) -> Result<u32, Error> {
     door::ttl(text)
@@ -64,7 +64,7 @@ pub struct Tokens<'a> {
 /// # Errors
 ///
 /// `TextCut`, `IllegalCharacter`, `ControlCharacter`, `UnclosedList`, `UnclosedQuote` or `UnknownEntry` if no token stands
-/// next, or `NoMemory`.
+/// next, with the offset of [`Tokens::offset`]; or `NoMemory`.
 ///
 /// ```
 /// use dns_names_wire::{tokens, Token};
@@ -95,15 +95,12 @@ impl Tokens<'_> {
     }
 
     /// The token of a kind with these texts, or none at the end of the text.
-    fn token(&self, kind: u32, words: &[u8]) -> Option<Token> {
-        let text = |bytes: &[u8]| String::from_utf8(bytes.to_vec()).expect("the C library's texts are UTF-8");
+    #[inline]
+    fn token(kind: u32, words: &str) -> Option<Token> {
         match kind {
             1 => Some(Token::Blank),
-            // a zero byte ends each word
-            2 => Some(Token::List(
-                words.split_inclusive(|byte| *byte == 0).map(|word| text(&word[..word.len() - 1])).collect(),
-            )),
-            3 => Some(Token::Text(text(words))),
+            2 => Some(Token::List(words.split_terminator('\0').map(String::from).collect())),
+            3 => Some(Token::Text(words.into())),
             4 => Some(Token::At),
             5 => Some(Token::Include),
             6 => Some(Token::Origin),
@@ -122,8 +119,8 @@ impl Iterator for Tokens<'_> {
             return None;
         }
         let found = match door::next_token(self.text, &mut self.lexer, &mut self.words) {
-            Ok(token) => self.token(token.kind, &self.words[..token.len]).map(Ok),
-            Err(error) => Some(Err(error)),
+            Ok((kind, words)) => Self::token(kind, words).map(Ok),
+            Err(error) => Some(Err(error.at_offset(self.lexer.offset))),
         };
         self.has_ended = !matches!(found, Some(Ok(_)));
         found

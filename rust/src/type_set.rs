@@ -45,10 +45,10 @@ impl TypeSet {
     /// bitmap has more than 65535 octets; or `NoMemory`.
     ///
     /// ```
-    /// use dns_names_wire::{Error, TypeSet};
+    /// use dns_names_wire::{Error, ErrorKind, TypeSet};
     ///
     /// assert_eq!(TypeSet::from_bitmap(b"\x00\x01\x40")?.len(), 1);
-    /// assert_eq!(TypeSet::from_bitmap(b"\x00\x00\x01"), Err(Error::BadBitmap));
+    /// assert_eq!(TypeSet::from_bitmap(b"\x00\x00\x01").unwrap_err().kind(), ErrorKind::BadBitmap);
     /// # Ok::<(), Error>(())
     /// ```
     pub fn from_bitmap(bitmap: &[u8]) -> Result<Self, Error> {

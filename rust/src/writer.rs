@@ -1,7 +1,7 @@
 //! Messages written with compression.
 use crate::codes::{Class, RecordType};
 use crate::door;
-use crate::error::Error;
+use crate::error::{Error, ErrorKind};
 use crate::name::Name;
 use alloc::vec::Vec;
 
@@ -75,10 +75,10 @@ impl MessageWriter {
     /// Returns a writer of messages of at most `max_size` bytes.
     ///
     /// ```
-    /// use dns_names_wire::{Error, MessageWriter};
+    /// use dns_names_wire::{ErrorKind, MessageWriter};
     ///
     /// let mut writer = MessageWriter::with_max_size(512);
-    /// assert_eq!(writer.bytes(&[0; 513]).finish(), Err(Error::MessageTooLong));
+    /// assert_eq!(writer.bytes(&[0; 513]).finish().unwrap_err().kind(), ErrorKind::MessageTooLong);
     /// ```
     pub fn with_max_size(max_size: u16) -> Self {
         let list = Vec::with_capacity(USUAL_SIZE);
@@ -187,13 +187,14 @@ impl MessageWriter {
     ///
     /// # Errors
     ///
-    /// `MessageTooLong` if it would be longer than the maximum, or `NoMemory`.
+    /// `MessageTooLong` if it would be longer than the maximum, with [the part](Error::part) that does not fit; or `NoMemory`.
     ///
     /// ```
-    /// use dns_names_wire::{Error, MessageWriter, Name};
+    /// use dns_names_wire::{ErrorKind, MessageWriter, Name};
     ///
     /// assert_eq!(MessageWriter::new().push(&Name::root()).finish(), Ok(vec![0]));
-    /// assert_eq!(MessageWriter::with_max_size(1).bytes(b"12").finish(), Err(Error::MessageTooLong));
+    /// let error = MessageWriter::with_max_size(1).bytes(b"1").bytes(b"2").finish().unwrap_err();
+    /// assert_eq!((error.kind(), error.part()), (ErrorKind::MessageTooLong, Some(1)));
     /// ```
     pub fn finish(&self) -> Result<Vec<u8>, Error> {
         let mut message = Vec::new();
@@ -222,7 +223,7 @@ impl MessageWriter {
     pub fn finish_into(&self, message: &mut Vec<u8>) -> Result<(), Error> {
         match self.put_whole_parts(message)? {
             parts if parts == self.parts => Ok(()),
-            _ => Err(Error::MessageTooLong),
+            parts => Err(Error::from(ErrorKind::MessageTooLong).at_part(parts)),
         }
     }
 

@@ -1,6 +1,6 @@
 //! Types, classes, bitmaps, serial numbers, master files, and names made of names. Expected values are from RFC 4034,
 //! section 4.3, RFC 1982, section 5, RFC 1035, sections 5.1 and 5.3, or counted by hand.
-use dns_names_wire::{parse_ttl, tokens, Class, Error, Name, RecordType, SerialNumber, Token, TypeSet};
+use dns_names_wire::{parse_ttl, tokens, Class, ErrorKind, Name, RecordType, SerialNumber, Token, TypeSet};
 use std::cmp::Ordering;
 
 fn name(text: &str) -> Name {
@@ -12,11 +12,11 @@ fn names_of_names() {
     assert_eq!(name("a.b").append(&name("c.")).unwrap().to_string(), "a.b.c.");
     assert_eq!(name("a.").append(&name("c")).unwrap().to_string(), "a.c");
     assert_eq!(name("a.").prepend_label(b"b.\xFF").unwrap().as_wire(), b"\x03b.\xFF\x01a\0");
-    assert_eq!(name("a.").prepend_label(b""), Err(Error::BadText));
-    assert_eq!(name("a.").prepend_label(&[b'a'; 64]), Err(Error::LabelTooLong));
+    assert_eq!(name("a.").prepend_label(b"").unwrap_err().kind(), ErrorKind::BadText);
+    assert_eq!(name("a.").prepend_label(&[b'a'; 64]).unwrap_err().kind(), ErrorKind::LabelTooLong);
     let long = name(&format!("{0}.{0}.{0}.{1}.", "a".repeat(63), "a".repeat(61)));
-    assert_eq!(long.prepend_label(b"a"), Err(Error::NameTooLong));
-    assert_eq!(long.append(&long), Err(Error::NameTooLong));
+    assert_eq!(long.prepend_label(b"a").unwrap_err().kind(), ErrorKind::NameTooLong);
+    assert_eq!(long.append(&long).unwrap_err().kind(), ErrorKind::NameTooLong);
     assert_eq!(long.append(&Name::root()), Ok(long.clone()));
     assert_eq!(name("a.b.c").trim_to(2).to_string(), "b.c");
     assert_eq!((name("a.b.").trim_to(0), name("a.b.").trim_to(usize::MAX)), (Name::root(), name("a.b.")));
@@ -27,8 +27,8 @@ fn names_of_names() {
     assert_eq!(Name::from_labels([&b"b."[..], b"\xFF"]).unwrap().as_wire(), b"\x02b.\x01\xFF\0");
     assert_eq!(Name::from_labels(long.labels()), Ok(long.clone()));
     assert_eq!(Name::from_labels(std::iter::empty::<&str>()), Ok(Name::root()));
-    assert_eq!(Name::from_labels(["a", &"b".repeat(64), ""]), Err(Error::LabelTooLong));
-    assert_eq!(Name::from_labels(long.labels().chain([&b"c"[..], b""])), Err(Error::NameTooLong));
+    assert_eq!(Name::from_labels(["a", &"b".repeat(64), ""]).unwrap_err().kind(), ErrorKind::LabelTooLong);
+    assert_eq!(Name::from_labels(long.labels().chain([&b"c"[..], b""])).unwrap_err().kind(), ErrorKind::NameTooLong);
     assert_eq!(name("a.b.").to_wildcard().to_string(), "*.b.");
     assert_eq!(Name::root().to_wildcard(), Name::root());
 }
@@ -48,10 +48,10 @@ fn codes_have_texts() {
     for text in
         ["", "TYPE", "TYPE65536", "TYPE+1", "TYPE 1", "CLASS1", "NOTHING", "NSEC3PARAMS", "\u{e4}", "TYP\u{e4}1"]
     {
-        assert_eq!(text.parse::<RecordType>(), Err(Error::UnknownText), "{text}");
+        assert_eq!(text.parse::<RecordType>().unwrap_err().kind(), ErrorKind::UnknownText, "{text}");
     }
     for text in ["", "CLASS", "CLASS65536", "TYPE1", "INN"] {
-        assert_eq!(text.parse::<Class>(), Err(Error::UnknownText), "{text}");
+        assert_eq!(text.parse::<Class>().unwrap_err().kind(), ErrorKind::UnknownText, "{text}");
     }
     assert!(RecordType::from(1) < RecordType::from(2));
 }
@@ -106,7 +106,7 @@ fn sets_are_bitmaps() {
     assert_eq!(TypeSet::from_bitmap(&bitmap), Ok(set.clone()));
     assert!(set.contains(RecordType::from(1234)) && !set.contains(RecordType::from(2)));
     assert_eq!(set.iter().rev().map(u16::from).collect::<Vec<_>>(), [1234, 47, 46, 15, 1]);
-    assert_eq!(TypeSet::from_bitmap(b"\x00\x00\x01"), Err(Error::BadBitmap));
+    assert_eq!(TypeSet::from_bitmap(b"\x00\x00\x01").unwrap_err().kind(), ErrorKind::BadBitmap);
     assert_eq!(TypeSet::from_bitmap(b""), Ok(TypeSet::default()));
     assert_eq!(TypeSet::default().to_bitmap(), Ok(vec![]));
     let all: TypeSet = (0..=u16::MAX).map(RecordType::from).collect();
@@ -130,7 +130,7 @@ fn times_are_sums() {
         assert_eq!(parse_ttl(text), Ok(seconds));
     }
     for text in ["", "h", "4294967296", "1x"] {
-        assert_eq!(parse_ttl(text), Err(Error::BadTime), "{text}");
+        assert_eq!(parse_ttl(text).unwrap_err().kind(), ErrorKind::BadTime, "{text}");
     }
 }
 
@@ -144,13 +144,17 @@ fn tokens_of_a_master_file() {
     let third = vec![Token::Blank, text("b"), text("TXT"), text("c d"), Token::LineEnd];
     assert_eq!(read.unwrap(), [first, second, third].concat());
     assert_eq!(tokens("").next(), None);
-    for (text, error) in [("(a", Error::UnclosedList), ("\"a", Error::UnclosedQuote), ("$FOO", Error::UnknownEntry)] {
+    let faults =
+        [("(a", ErrorKind::UnclosedList), ("\"a", ErrorKind::UnclosedQuote), ("$FOO", ErrorKind::UnknownEntry)];
+    for (text, kind) in faults {
         let mut read = tokens(text);
-        assert_eq!((read.next(), read.next()), (Some(Err(error)), None), "{text}");
-        assert_eq!(read.offset(), 0);
+        let error = read.next().unwrap().unwrap_err();
+        assert_eq!((error.kind(), error.offset(), read.next(), read.offset()), (kind, Some(0), None, 0), "{text}");
     }
     let mut read = tokens("a\n)");
-    assert_eq!((read.by_ref().filter(Result::is_ok).count(), read.offset()), (2, 2));
+    assert_eq!((read.by_ref().take(2).filter(Result::is_ok).count(), read.offset()), (2, 2));
+    let error = read.next().unwrap().unwrap_err();
+    assert_eq!(error.to_string(), "at offset 2: a character stands where it may not");
 }
 
 /// Tokens of any length, at any offset, are found in a long text as in a short one.
@@ -171,10 +175,13 @@ fn long_texts_have_the_tokens_of_their_parts() {
         let wanted =
             [Token::Text(long.clone()), Token::Text(format!("{long} \"")), list, Token::LineEnd, Token::Origin];
         assert_eq!(read, wanted, "{len}");
-        for (cut, error) in [("(", Error::UnclosedList), ("\"", Error::UnclosedQuote), ("$", Error::UnknownEntry)] {
+        let faults = [("(", ErrorKind::UnclosedList), ("\"", ErrorKind::UnclosedQuote), ("$", ErrorKind::UnknownEntry)];
+        for (cut, kind) in faults {
             let text = format!("{long} {cut}{long}");
             let mut read = tokens(&text);
-            assert_eq!((read.next(), read.next()), (Some(Ok(Token::Text(long.clone()))), Some(Err(error))), "{len}");
+            assert_eq!(read.next(), Some(Ok(Token::Text(long.clone()))), "{len}");
+            let error = read.next().unwrap().unwrap_err();
+            assert_eq!((error.kind(), error.offset()), (kind, Some(long.len())), "{len}");
             assert_eq!(&text[read.offset()..read.offset() + 2], format!(" {cut}"), "{len}");
         }
     }

@@ -1,6 +1,6 @@
 //! Messages of records, and reverse names. Expected bytes are worked by hand from RFC 1035, sections 3.5 and 4.1.1 to 4.1.4,
 //! and RFC 3596, section 2.5.
-use dns_names_wire::{records, Class, Error, MessageWriter, Name, Record, RecordType};
+use dns_names_wire::{records, Class, Error, ErrorKind, MessageWriter, Name, Record, RecordType};
 use std::net::{IpAddr, Ipv4Addr, Ipv6Addr};
 
 /// A referral with glue: www.example.com has to be asked for at ns.example.com. The name of the question is at offset 12, so
@@ -43,12 +43,16 @@ fn what_does_not_fit_is_left_out_whole() {
         [(65, 50, 3), (59, 33, 2), (33, 33, 2), (32, 12, 1), (29, 12, 1), (12, 12, 1), (11, 0, 0)]
     {
         assert_eq!(referral(max_size).finish_truncated(), Ok((REFERRAL[..len].to_vec(), parts)), "{max_size}");
-        assert_eq!(referral(max_size).finish(), Err(Error::MessageTooLong));
+        let error = referral(max_size).finish().unwrap_err();
+        assert_eq!((error.kind(), error.part(), error.offset()), (ErrorKind::MessageTooLong, Some(parts), None));
+        assert_eq!(error.to_string(), format!("at part {parts}: the message would be longer than its maximum"));
     }
     assert_eq!(MessageWriter::new().finish_truncated(), Ok((vec![], 0)));
     let mut long = MessageWriter::new();
     long.push(&name("a.")).record(&Name::root(), RecordType::A, Class::IN, 0, &[0; 65536]).push(&name("b."));
-    assert_eq!((long.finish(), long.finish_truncated()), (Err(Error::MessageTooLong), Ok((b"\x01a\0".to_vec(), 1))));
+    let error = long.finish().unwrap_err();
+    assert_eq!((error.kind(), error.part()), (ErrorKind::MessageTooLong, Some(1)));
+    assert_eq!(long.finish_truncated(), Ok((b"\x01a\0".to_vec(), 1)));
     assert_eq!(long.clear().push(&name("b.")).finish().as_deref(), Ok(&b"\x01b\0"[..]));
     let mut bytes = MessageWriter::new();
     bytes.bytes(&[7; 65535]).bytes(b"8");
@@ -87,22 +91,27 @@ fn types_decide_how_their_names_are_written() {
     assert_eq!(write(65280, true), b"\x01B\x01A\0");
 }
 
+/// A record is wrong at the offset at which it should begin, and its data at which the name in them should, or at their end.
 #[test]
 fn each_fault_of_a_record_is_its_error() {
-    assert_eq!(Record::read(REFERRAL, 66).map(drop), Err(Error::MessageCut));
-    assert_eq!(Record::read(&REFERRAL[..65], 50).map(drop), Err(Error::MessageCut));
-    assert_eq!(Record::read(REFERRAL, usize::MAX).map(drop), Err(Error::MessageCut));
-    assert_eq!(Record::read(REFERRAL, 2).map(drop), Err(Error::ReservedOctet));
+    fn fault<T>(read: Result<T, Error>) -> Option<(ErrorKind, usize)> {
+        read.err().map(|error| (error.kind(), error.offset().unwrap()))
+    }
+    let cut = |offset| Some((ErrorKind::MessageCut, offset));
+    assert_eq!(fault(Record::read(REFERRAL, 66)), cut(66));
+    assert_eq!(fault(Record::read(&REFERRAL[..65], 50)), cut(50));
+    assert_eq!(fault(Record::read(REFERRAL, usize::MAX)), cut(usize::MAX));
+    assert_eq!(fault(Record::read(REFERRAL, 2)), Some((ErrorKind::ReservedOctet, 2)));
     let mx = b"\0\0\x0F\0\x01\0\0\0\0\0\x04\0\x0A\x01a";
-    assert_eq!(Record::read(mx, 0).unwrap().data_name_after(2), Err(Error::MessageCut));
+    assert_eq!(fault(Record::read(mx, 0).unwrap().data_name_after(2)), cut(13));
     let mx = b"\0\0\x0F\0\x01\0\0\0\0\0\x03\0\x0A\0";
     let record = Record::read(mx, 0).unwrap();
     assert_eq!(record.data_name_after(2), Ok(Name::root()));
-    assert_eq!((record.data_name(), record.data_name_after(4)), (Err(Error::WrongDataLength), Err(Error::MessageCut)));
-    assert_eq!(
-        records(&REFERRAL[..65], 33).map(|record| record.map(|r| r.end())).collect::<Vec<_>>(),
-        [Ok(50), Err(Error::MessageCut)]
-    );
+    assert_eq!(fault(record.data_name()), Some((ErrorKind::WrongDataLength, 11)));
+    assert_eq!(fault(record.data_name_after(4)), cut(14));
+    let read: Vec<_> =
+        records(&REFERRAL[..65], 33).map(|record| (record.as_ref().ok().map(Record::end), fault(record))).collect();
+    assert_eq!(read, [(Some(50), None), (None, cut(50))]);
 }
 
 #[test]
@@ -118,6 +127,6 @@ fn reverse_names_go_and_come_back() {
     );
     for text in ["1.2.0.192.in-addr.arpa", "arpa.", "256.in-addr.arpa.", "g.ip6.arpa.", "1.2.3.4.5.in-addr.arpa.", "."]
     {
-        assert_eq!(name(text).parse_arpa_name(), Err(Error::NotReverse), "{text}");
+        assert_eq!(name(text).parse_arpa_name().unwrap_err().kind(), ErrorKind::NotReverse, "{text}");
     }
 }

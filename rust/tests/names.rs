@@ -1,8 +1,8 @@
 //! The crate as its users call it. Expected values are from RFC 1035, section 4.1.4, RFC 4034, section 6.1, or counted by
 //! hand.
 use dns_names_wire::{
-    names, records, tokens, Class, Error, Labels, MessageWriter, Name, NameRef, Names, Record, RecordType, Records,
-    SerialNumber, Token, Tokens, TypeSet,
+    names, records, tokens, Class, Error, ErrorKind, Labels, MessageWriter, Name, NameRef, Names, Record, RecordType,
+    Records, SerialNumber, TextFault, TextRule, Token, Tokens, TypeSet,
 };
 use std::cmp::Ordering;
 use std::collections::hash_map::DefaultHasher;
@@ -42,22 +42,27 @@ fn each_fault_is_its_error() {
     let many = [&b"\x01a".repeat(127)[..], b"\0"].concat();
     let one_more = [&b"\x01a".repeat(128)[..], b"\0"].concat();
     assert_eq!(Name::read(&many, 0).map(|(name, end)| (name.labels().count(), end)), Ok((127, 255)));
-    let rows: [(&[u8], usize, Error); 7] = [
-        (b"", 0, Error::MessageCut),
-        (b"\0", 2, Error::MessageCut),
-        (b"\x05abc", 0, Error::MessageCut),
-        (b"\xC0\0", 0, Error::PointerNotBack),
-        (b"\x40", 0, Error::ReservedOctet),
-        (b"\x01a\xC0\0", 2, Error::SegmentsOverlap),
-        (&one_more, 0, Error::NameTooLong),
+    let rows: [(&[u8], usize, ErrorKind); 7] = [
+        (b"", 0, ErrorKind::MessageCut),
+        (b"\0", 2, ErrorKind::MessageCut),
+        (b"\x05abc", 0, ErrorKind::MessageCut),
+        (b"\xC0\0", 0, ErrorKind::PointerNotBack),
+        (b"\x40", 0, ErrorKind::ReservedOctet),
+        (b"\x01a\xC0\0", 2, ErrorKind::SegmentsOverlap),
+        (&one_more, 0, ErrorKind::NameTooLong),
     ];
-    for (message, start, error) in rows {
-        assert_eq!(Name::read(message, start), Err(error));
-        assert_eq!(NameRef::read(message, start), Err(error));
+    for (message, start, kind) in rows {
+        let error = Name::read(message, start).unwrap_err();
+        assert_eq!((error.kind(), error.offset(), error.rule()), (kind, Some(start), None));
+        assert_eq!(error.to_string(), format!("at offset {start}: {kind}"));
+        assert_eq!((NameRef::read(message, start), Name::root().read_from(message, start)), (Err(error), Err(error)));
     }
-    assert_eq!(Name::read(b"\0", usize::MAX), Err(Error::MessageCut));
-    assert_eq!(Name::from_wire(b"\x01a\0\0"), Err(Error::BytesLeft));
-    assert_eq!(Name::from_wire(b""), Err(Error::MessageCut));
+    assert_eq!(Name::read(b"\0", usize::MAX).unwrap_err().offset(), Some(usize::MAX));
+    let faults = [(&b"\x01a\0\0"[..], ErrorKind::BytesLeft, 3), (b"", ErrorKind::MessageCut, 0)];
+    for (form, kind, offset) in faults {
+        let error = Name::from_wire(form).unwrap_err();
+        assert_eq!((error.kind(), error.offset()), (kind, Some(offset)));
+    }
 }
 
 #[test]
@@ -73,17 +78,47 @@ fn texts_are_read_and_shown() {
     assert_eq!(format!("{:>6}|{:<4}|{:?}", name("a."), name("."), name("a.b.")), "    a.|.   |Name(\"a.b.\")");
     let label = "a".repeat(64);
     let long = [&"a".repeat(63)[..]; 4].join(".");
-    let rows = [
-        ("a..b", Error::BadText),
-        ("\\200", Error::BadText),
-        ("a b", Error::BadText),
-        ("\\", Error::BadText),
-        (&label, Error::LabelTooLong),
-        (&long, Error::NameTooLong),
-    ];
-    for (text, error) in rows {
-        assert_eq!(text.parse::<Name>(), Err(error), "{text}");
+    for (text, kind) in [(&label, ErrorKind::LabelTooLong), (&long, ErrorKind::NameTooLong)] {
+        assert_eq!(text.parse::<Name>().unwrap_err().kind(), kind, "{text}");
     }
+}
+
+#[test]
+fn texts_go_wrong_where_no_name_begins_so() {
+    let label = "a".repeat(64);
+    let long = [&"a".repeat(63)[..]; 4].join(".");
+    let rows = [
+        ("a..b", 2, TextRule::EmptyLabel),
+        (".a", 1, TextRule::EmptyLabel),
+        ("a b", 1, TextRule::Character),
+        ("a.-b", 2, TextRule::Character),
+        ("ab*c d", 2, TextRule::Character),
+        ("b\u{fc}cher.", 1, TextRule::Character),
+        ("a\\;b", 1, TextRule::Character),
+        ("\\200", 0, TextRule::Character),
+        ("a\\18", 1, TextRule::Digit),
+        ("a\\9", 1, TextRule::Digit),
+        ("a\\1", 1, TextRule::UnfinishedEscape),
+        ("\\", 0, TextRule::UnfinishedEscape),
+        (&label, 63, TextRule::LabelTooLong),
+        (&long, 253, TextRule::NameTooLong),
+    ];
+    for (text, offset, rule) in rows {
+        let fault = TextFault { offset, rule };
+        assert_eq!(Name::text_fault(text), Some(fault), "{text}");
+        assert!(text[..offset].parse::<Name>().is_ok(), "{text}");
+        let error = text.parse::<Name>().unwrap_err();
+        let kind = match rule {
+            TextRule::LabelTooLong => ErrorKind::LabelTooLong,
+            TextRule::NameTooLong => ErrorKind::NameTooLong,
+            _ => ErrorKind::BadText,
+        };
+        assert_eq!((error.kind(), error.offset(), error.rule()), (kind, Some(offset), Some(rule)), "{text}");
+        assert_eq!(error.to_string(), fault.to_string());
+        assert_eq!(fault.to_string(), format!("at offset {offset}: {rule}"));
+        assert!(!rule.to_string().starts_with("failure"), "{rule:?}");
+    }
+    assert_eq!((Name::text_fault("a.bc."), Name::text_fault(""), Name::text_fault(".")), (None, None, None));
 }
 
 /// The order of RFC 4034, section 6.1.
@@ -172,36 +207,43 @@ fn a_message_has_a_maximum() {
     writer.push(&name("."));
     assert_eq!(writer.finish().unwrap().len(), 7);
     writer.push(&name("."));
-    assert_eq!(writer.finish(), Err(Error::MessageTooLong));
+    assert_eq!(writer.finish().unwrap_err().kind(), ErrorKind::MessageTooLong);
 }
 
 #[test]
 fn names_of_a_message_end_after_an_error() {
     let mut read = names(b"\x01a\0\x40\0", 0);
     assert_eq!(read.next().unwrap().unwrap().to_name(), name("a."));
-    assert_eq!(read.next(), Some(Err(Error::ReservedOctet)));
-    assert_eq!(read.next(), None);
-    assert_eq!(names(b"\0", 2).next(), Some(Err(Error::MessageCut)));
+    let error = read.next().unwrap().unwrap_err();
+    assert_eq!((error.kind(), error.offset(), read.next()), (ErrorKind::ReservedOctet, Some(3), None));
+    let error = names(b"\0", 2).next().unwrap().unwrap_err();
+    assert_eq!((error.kind(), error.offset()), (ErrorKind::MessageCut, Some(2)));
 }
 
 #[test]
 fn errors_have_texts_and_numbers() {
-    assert_eq!(Error::NoMemory.to_string(), "out of memory");
-    assert_eq!(Error::Other(99).to_string(), "failure 99");
-    let source: Box<dyn std::error::Error + Send + Sync> = Error::BadText.into();
+    assert_eq!(ErrorKind::NoMemory.to_string(), "out of memory");
+    assert_eq!(ErrorKind::Other(99).to_string(), "failure 99");
+    let error = Error::from(ErrorKind::BadTime);
+    assert_eq!(
+        (error.kind(), error.number(), error.offset(), error.rule(), error.part()),
+        (ErrorKind::BadTime, 17, None, None, None)
+    );
+    assert_eq!(error.to_string(), ErrorKind::BadTime.to_string());
+    assert!(std::error::Error::source(&error).is_none());
+    let source: Box<dyn std::error::Error + Send + Sync> = error.into();
     assert!(source.to_string().contains("text"));
-    assert_eq!(Error::MessageTooLong.number(), 12);
-    assert!(std::error::Error::source(&Error::BadText).is_none());
-    let wrapped: std::io::Error = Error::NameTooLong.into();
-    assert_eq!(wrapped.get_ref().unwrap().downcast_ref(), Some(&Error::NameTooLong));
-    assert_eq!(std::io::Error::from(Error::NoMemory).kind(), std::io::ErrorKind::OutOfMemory);
+    let error = Name::read(b"", 0).unwrap_err();
+    let wrapped: std::io::Error = error.into();
+    assert_eq!(wrapped.get_ref().unwrap().downcast_ref(), Some(&error));
+    assert_eq!(std::io::Error::from(Error::from(ErrorKind::NoMemory)).kind(), std::io::ErrorKind::OutOfMemory);
 }
 
 #[test]
 fn values_cross_threads() {
     fn is_shared<T: Send + Sync + Unpin + std::panic::UnwindSafe + 'static>() {}
     is_shared::<Name>();
-    is_shared::<Error>();
+    is_shared::<(Error, ErrorKind)>();
     is_shared::<(NameRef<'static>, Names<'static>, Labels<'static>)>();
     is_shared::<(Record<'static>, Records<'static>)>();
     is_shared::<(Token, Tokens<'static>)>();
@@ -238,7 +280,7 @@ fn labels_are_walked_from_both_ends() {
 #[test]
 fn names_are_made_of_texts_and_lent_as_octets() {
     assert_eq!(Name::try_from("a.b."), Ok(name("a.b.")));
-    assert_eq!(Name::try_from("a..b"), Err(Error::BadText));
+    assert_eq!(Name::try_from("a..b").unwrap_err().offset(), Some(2));
     assert_eq!(AsRef::<[u8]>::as_ref(&name("a.")), b"\x01a\0");
 }
 
@@ -248,7 +290,7 @@ fn iterators_say_where_they_stand() {
     assert_eq!((read.next().map(|name| name.is_ok()), read.offset()), (Some(true), 1));
     assert_eq!((read.next().map(|name| name.is_ok()), read.offset(), read.next()), (Some(false), 1, None));
     let mut read = records(b"\0", 0);
-    assert_eq!((read.next().map(|record| record.err()), read.offset()), (Some(Some(Error::MessageCut)), 0));
+    assert_eq!((read.next().unwrap().unwrap_err().offset(), read.offset()), (Some(0), 0));
     assert_eq!(tokens("  ").offset(), 0);
 }
 
