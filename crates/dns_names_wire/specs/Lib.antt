@@ -1,3 +1,4 @@
+pub mod CodeLaws
 pub mod TextLaws
 pub mod Words
 -- The files of the crates below that public clauses cite: callers name these as this crate's own.

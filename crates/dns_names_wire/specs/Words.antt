@@ -30,7 +30,9 @@ pub use Rattle.dnw_lower.specs.LowerNames.{lowered, IsLower, lower_name_from_tex
 -- Types and classes of records.
 pub use Rattle.dnw_codes.specs.declared.record_type.RecordType.{RecordType}
 pub use Rattle.dnw_codes.specs.RecordTypes.{type_code, type_name, type_text, type_of_code, type_of_name, type_of_text, type_cmp, type_hash, is_dnssec, is_unknown}
-pub use Rattle.dnw_codes.specs.DnsClasses.{class_code, class_name, class_text, class_of_code, class_of_name, class_of_text, class_cmp, class_hash, min_payload}
+pub use Rattle.dnw_codes.specs.DnsClasses.{class_code, class_name, class_text, class_of_code, class_of_name, class_of_text, class_cmp, class_hash, class_rank, min_payload}
+pub use Rattle.dns_names_wire.specs.CodeLaws.{TypeCodesComeBack, NamedTypesComeBack, UnknownTypesComeBack}
+pub use Rattle.dns_names_wire.specs.CodeLaws.{ClassCodesComeBack, NamedClassesComeBack, UnknownClassesComeBack, SizesStayUnknown}
 pub use Rattle.dnw_error.specs.Naming.{Looks, ReportsType, ReportsClass}
 -- Texts of labels and names.
 pub use Rattle.dnw_label.specs.LabelText.{dot, label_from_bytes, label_from_text, label_text}

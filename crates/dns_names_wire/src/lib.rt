@@ -46,6 +46,9 @@ pub mod codes {
     pub use dnw_sets::record_type_set::{RecordTypeSet, TypeIter};
 }
 
+/// What follows from the tables of types and classes, for callers' proofs.
+pub mod code_laws;
+
 /// A cursor over the bytes of a message.
 pub mod decoder {
     pub use dnw_base::decoder::BinDecoder;

@@ -1,0 +1,46 @@
+-- Classes and their codes come back.
+use Rattle.std.proofs.Common.{◌≡◌, ℕ, ◌==◌, true, ◌<◌, max, inl, inr, refl, sym, ap, ◌∙◌, arith}
+use Rattle.std.specs.Prelude.{◌⊎◌}
+use Rattle.std.proofs.lemmas.Bool.{eqb-true}
+use Rattle.dnw_codes.specs.declared.dns_class.DNSClass.{DNSClass}
+use Rattle.dnw_codes.specs.declared.dns_class.DNSClass.TheVariants.{OPT, Unknown}
+use Rattle.dnw_codes.specs.DnsClasses.{class_code, class_of_code, class_rank, min_payload, named_classes}
+use Rattle.dns_names_wire.specs.CodeLaws.{ClassCodesComeBack, NamedClassesComeBack, SizesStayUnknown, UnknownClassesComeBack}
+use Rattle.dns_names_wire.proofs.Found.{every, found}
+
+pub codes : ClassCodesComeBack
+unfolding class_of_code
+codes code =
+    found (λ class. class_code class ≡ code) (λ class. class_code class == code) named_classes (Unknown code)
+    (every (λ class. (class_code class == code) ≡ true → class_code class ≡ code) (λ class. eqb-true (class_code class) code) named_classes) refl
+
+pub named : NamedClassesComeBack
+unfolding class_of_code
+named (OPT size) is = cc
+named (Unknown code) is = cc
+named class is = refl
+
+-- the class has a name, and so a small code
+abbrev HasName : DNSClass → Type 0
+HasName class = (class_rank class ≡ 0) × (class_code class < min_payload)
+
+-- a code gives a class with a name, or `Unknown`
+gives : (code : ℕ) → HasName (class_of_code code) ⊎ (class_of_code code ≡ Unknown code)
+unfolding class_of_code
+gives code =
+    found (λ class. HasName class ⊎ (class ≡ Unknown code)) (λ class. class_code class == code) named_classes (Unknown code)
+    (λ _. inl (refl, omega arith), (λ _. inl (refl, omega arith), (λ _. inl (refl, omega arith), (λ _. inl (refl, omega arith), (λ _. inl (refl, omega arith), tt))))) (inr refl)
+
+is_unknown : (code : ℕ) → HasName (class_of_code code) ⊎ (class_of_code code ≡ Unknown code) → (HasName (class_of_code code) → ⊥)
+    → class_of_code code ≡ Unknown code
+is_unknown code (inl has) not = absurd (not has)
+is_unknown code (inr is) not = is
+
+pub unknown : UnknownClassesComeBack
+unknown code = (
+  λ back kind is rank. omega (arith, ap class_rank (sym (named kind rank) ∙ (ap class_of_code is ∙ back)), rank),
+  λ all. is_unknown code (gives code) (λ named. all (class_of_code code) (codes code) named.0),
+)
+
+pub sizes : SizesStayUnknown
+sizes size = is_unknown (max size min_payload) (gives (max size min_payload)) (λ named. omega (arith, named.1, codes (max size min_payload)))

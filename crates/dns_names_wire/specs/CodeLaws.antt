@@ -1,0 +1,38 @@
+-- What follows from the tables of types and classes (RFC 6895, section 3). Each is the clause of a public function, and so proved.
+use Rattle.std.specs.Prelude.{◌≡◌, ◌≢◌, ◌↔◌, ℕ, max, true, false}
+use Rattle.dnw_codes.specs.declared.record_type.RecordType.{RecordType}
+use Rattle.dnw_codes.specs.declared.record_type.RecordType.TheVariants as rr
+use Rattle.dnw_codes.specs.declared.dns_class.DNSClass.{DNSClass}
+use Rattle.dnw_codes.specs.declared.dns_class.DNSClass.TheVariants as class
+use Rattle.dnw_codes.specs.RecordTypes.{is_unknown, type_code, type_of_code}
+use Rattle.dnw_codes.specs.DnsClasses.{class_code, class_of_code, class_rank, min_payload}
+
+-- Each code comes back from its type.
+abbrev pub TypeCodesComeBack : Type 0
+TypeCodesComeBack = (code : ℕ) → type_code (type_of_code code) ≡ code
+
+-- Each type with a name comes back from its code.
+abbrev pub NamedTypesComeBack : Type 0
+NamedTypesComeBack = (kind : RecordType) → is_unknown kind ≡ false → type_of_code (type_code kind) ≡ kind
+
+-- `Unknown` comes back from its code exactly if no type with a name has that code.
+abbrev pub UnknownTypesComeBack : Type 0
+UnknownTypesComeBack =
+    (code : ℕ) → (type_of_code code ≡ rr.Unknown code) ↔ ((kind : RecordType) → type_code kind ≡ code → is_unknown kind ≡ true)
+
+-- Each code comes back from its class.
+abbrev pub ClassCodesComeBack : Type 0
+ClassCodesComeBack = (code : ℕ) → class_code (class_of_code code) ≡ code
+
+-- Each class with a name comes back from its code.
+abbrev pub NamedClassesComeBack : Type 0
+NamedClassesComeBack = (kind : DNSClass) → class_rank kind ≡ 0 → class_of_code (class_code kind) ≡ kind
+
+-- `Unknown` comes back from its code exactly if no class with a name has that code.
+abbrev pub UnknownClassesComeBack : Type 0
+UnknownClassesComeBack =
+    (code : ℕ) → (class_of_code code ≡ class.Unknown code) ↔ ((kind : DNSClass) → class_code kind ≡ code → class_rank kind ≢ 0)
+
+-- The class of an OPT record never does: its code gives `Unknown` of the size, which is at least 512 (RFC 6891, section 6.2.3).
+abbrev pub SizesStayUnknown : Type 0
+SizesStayUnknown = (size : ℕ) → class_of_code (class_code (class.OPT size)) ≡ class.Unknown (max size min_payload)
