@@ -1,10 +1,12 @@
 //! What the program answers to its words.
 
+mod messages;
 mod names;
 
+use dns_names_wire::message::{EdnsError, MessageError};
 use dns_names_wire::{BinDecoder, DecodeError, Name, ProtoError};
 use hex::FromHexError;
-use std::alloc::{AllocError, Global};
+use std::alloc::{AllocError, AllocFailed, Global};
 use std::io;
 use std::io::Write;
 use thiserror::Error;
@@ -13,14 +15,20 @@ use thiserror::Error;
 #[derive(Debug, Drop, Error)]
 enum Refusal {
     /// The words ask for nothing that the program does.
-    #[error("usage: dnswire whole NAME | read START HEX | names NAME..")]
+    #[error("usage: dnswire whole NAME | read START HEX | names NAME.. | message HEX | query NAME TYPE [--edns]")]
     Usage,
     /// A name was refused, or memory ran out.
     #[error("refused: {0}")]
     Proto(ProtoError),
-    /// A message was refused.
+    /// A name within a message was refused.
     #[error("refused: {0}")]
     Decode(DecodeError),
+    /// A message was refused.
+    #[error("refused: {0}")]
+    Message(MessageError),
+    /// What a message says by EDNS was refused.
+    #[error("refused: {0}")]
+    Edns(EdnsError),
 }
 
 impl From<ProtoError> for Refusal {
@@ -32,6 +40,24 @@ impl From<ProtoError> for Refusal {
 impl From<DecodeError> for Refusal {
     fn from(e: DecodeError) -> Self {
         Refusal::Decode(e)
+    }
+}
+
+impl From<MessageError> for Refusal {
+    fn from(e: MessageError) -> Self {
+        Refusal::Message(e)
+    }
+}
+
+impl From<EdnsError> for Refusal {
+    fn from(e: EdnsError) -> Self {
+        Refusal::Edns(e)
+    }
+}
+
+impl<T: Drop> From<AllocFailed<T>> for Refusal {
+    fn from(_: AllocFailed<T>) -> Self {
+        Refusal::Proto(ProtoError::Memory)
     }
 }
 
@@ -66,6 +92,15 @@ fn reply(alloc: Global, words: &[String]) -> Result<String, Refusal> {
             read(alloc, start.as_str(), message.as_str())
         }
         [command, _, ..] if command.as_str() == "names" => names::shared(alloc, &words[1..]),
+        [command, message] if command.as_str() == "message" => {
+            messages::listing(alloc, octets(alloc, message.as_str())?.as_slice())
+        }
+        [command, name, kind] if command.as_str() == "query" => {
+            messages::query(alloc, name.as_str(), kind.as_str(), false)
+        }
+        [command, name, kind, edns] if command.as_str() == "query" && edns.as_str() == "--edns" => {
+            messages::query(alloc, name.as_str(), kind.as_str(), true)
+        }
         _ => Err(Refusal::Usage),
     }
 }

@@ -30,7 +30,8 @@ pub enum MessageErrorKind {
 }
 
 /// Why octets are no message, and where.
-#[derive(Debug, Drop)]
+#[derive(Debug, Drop, Error)]
+#[error("{section:?} {item} at offset {offset}: {kind}")]
 pub struct MessageError {
     /// The section of the item that could not be read.
     pub section: Section,
