@@ -1,5 +1,5 @@
 -- A message that was begun, to which items were added, and whose header was filled in, is what it was to be.
-use Rattle.std.proofs.Common.{◌≡◌, ℕ, ◌+◌, ◌≤◌, ◌||◌, Bool, true, false, List, [], ◌∷◌, ◌++◌, length, map, take, drop, replicate, Ok, Err, refl, sym, ap, ◌∙◌, subst, arith}
+use Rattle.std.proofs.Common.{◌≡◌, ℕ, ◌+◌, ◌^◌, ◌<◌, ◌≤◌, ◌||◌, Bool, true, false, List, [], ◌∷◌, ◌++◌, length, map, take, drop, replicate, Ok, Err, refl, sym, ap, ◌∙◌, subst, arith}
 use Rattle.std.proofs.lemmas.List.{append-nil, take-append-drop, take_all}
 use Rattle.dnw_error.specs.declared.error.ProtoError.TheVariants.{MaxBufferSizeExceeded, Memory}
 use Rattle.dnw_encoder.specs.declared.encoder.modes.NameEncoding.TheVariants.{Compressed}
@@ -21,7 +21,7 @@ use Rattle.dnw_message_writer.specs.Drafts.{Added, AddsAll, Closes, Draft, first
 use Rattle.dnw_message_writer.specs.Written.{Contents, Holds, Written, contents_from, nothing}
 use Rattle.dnw_message_writer.specs.WriterLaws.{MessagesAreWritten}
 use Rattle.dnw_message_writer.proofs.Going.{action_of}
-use Rattle.dnw_message_writer.proofs.Holding.{Has, elements, records_of, steps}
+use Rattle.dnw_message_writer.proofs.Holding.{Has, elements, records_of, size_of, steps}
 use Rattle.dnw_message_writer.proofs.Closing.{begun, filled_replies, fills, items-stand, no_pieces, piece_of, put-header, put_all, runs-fills, runs-then, stand-split, zeros}
 
 -- ---- the first steps
@@ -83,7 +83,7 @@ filled_pieces h pieces =
     ∷ place_piece h.counts.authorities ∷ place_piece h.counts.additionals ∷ pieces
 
 module _ (metadata : Metadata) (most : ℕ) (room : 12 ≤ most) (c : Contents) (d : Draft) (w : Encoder)
-    (has : Has (begun most 12 no_pieces) (zeros most 12) metadata c d) (closes : Closes d.header d.encoder w) where
+    (has : Has (begun most 12 no_pieces) (zeros most 12) metadata c d) (closes : Closes d.header d.encoder w) (id : metadata.id < 2 ^ 16) where
   v : Encoder
   v = d.encoder
 
@@ -137,6 +137,7 @@ module _ (metadata : Metadata) (most : ℕ) (room : 12 ≤ most) (c : Contents) 
       (subst (λ (p : ℕ). Spells w.bytes (map piece_of (elements c)) p (length w.bytes)) twelve items) in
       let (n, answers, more) = stand-split (RecordStands w.bytes Compressed false) c.answers (c.authorities ++ c.additionals) m (length w.bytes) records in
       let (o, authorities, additionals) = stand-split (RecordStands w.bytes Compressed false) c.authorities c.additionals n (length w.bytes) more in
+      let size : size_of c ≤ 65535 = omega (arith, has.on, has.within, has.small) in
       record {
         header = ap (take 12) bytes ∙ ap header_wire has.header;
         answers_at = m;
@@ -146,6 +147,8 @@ module _ (metadata : Metadata) (most : ℕ) (room : 12 ≤ most) (c : Contents) 
         answers = answers;
         authorities = authorities;
         additionals = additionals;
+        small = omega (arith, same-length, has.within, has.small);
+        fit = (id, omega (arith, size), omega (arith, size), omega (arith, size), omega (arith, size));
       }
 
 -- ---- the whole
@@ -155,9 +158,9 @@ or-false true = refl
 or-false false = refl
 
 pub made : (metadata : Metadata) (most : ℕ) (entries : List Entry) (outcomes : List Added) (start : Encoder) (d : Draft) (w : Encoder) → most ≤ 65535
-    → Writes (limited (fresh [] 0) most) (replicate 12 0) (Ok tt) start → AddsAll entries (record { header = first_header metadata; encoder = start }) outcomes d
+    → metadata.id < 2 ^ 16 → Writes (limited (fresh [] 0) most) (replicate 12 0) (Ok tt) start → AddsAll entries (record { header = first_header metadata; encoder = start }) outcomes d
     → Closes d.header d.encoder w → Written metadata most entries outcomes w.bytes
-made metadata most entries outcomes start d w small (room, is) adds closes =
+made metadata most entries outcomes start d w small id (room, is) adds closes =
     let zero : start ≡ zeros most 12 = is in
     let first : Draft = record { header = first_header metadata; encoder = zeros most 12 } in
     let begins : Has (begun most 12 no_pieces) (zeros most 12) metadata nothing first =
@@ -177,15 +180,15 @@ made metadata most entries outcomes start d w small (room, is) adds closes =
     let added = subst (λ (x : Encoder). AddsAll entries (record { header = first_header metadata; encoder = x }) outcomes d) zero adds in
     let (has, outcomes_are) = steps (begun most 12 no_pieces) (zeros most 12) metadata nothing first d entries outcomes begins added in
     let c = contents_from nothing entries outcomes in
-    let len = same-length metadata most room c d w has closes in
+    let len = same-length metadata most room c d w has closes id in
     record {
-      holds = finished metadata most room c d w has closes;
+      holds = finished metadata most room c d w has closes id;
       outcomes_are = rw len outcomes_are;
       few = omega (arith, len, has.within);
     }
 
 pub messages_are_written : MessagesAreWritten
-messages_are_written metadata most entries outcomes header start d octets small (first, begins) adds (w, closes, is) =
+messages_are_written metadata most entries outcomes header start d octets small (first, id, begins) adds (w, closes, is) =
     subst (Written metadata most entries outcomes) (sym is)
-    (made metadata most entries outcomes start d w small begins
+    (made metadata most entries outcomes start d w small id begins
     (subst (λ (h : Header). AddsAll entries (record { header = h; encoder = start }) outcomes d) first adds) closes)

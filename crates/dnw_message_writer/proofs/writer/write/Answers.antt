@@ -14,8 +14,8 @@ returns-clause-written c =
     let start = value c.begin.new.encoder in
     let d : Draft = record { header = c.add_all.new.header; encoder = value c.add_all.new.encoder } in
     let new : value c.new-encoder.result ≡ fresh [] 0 = c.new-encoder.ensures.value ∙ ap (λ (b : List ℕ). fresh b 0) c.requires in
-    let (header, begins) = c.in_ok-header.ensures.begins in
+    let (header, id, begins) = c.in_ok-header.ensures.begins in
     let writes = subst (λ (x : Encoder). Writes (limited x a.max_size) (replicate 12 0) (Ok tt) start) new begins in
     let adds = subst (λ (h : Header). AddsAll a.entries.now (record { header = h; encoder = start }) c.add_all.new.outcomes.items d) header c.add_all.ensures.adds in
     subst (Written a.metadata a.max_size a.entries.now c.add_all.new.outcomes.items) (search rules)
-    (made a.metadata a.max_size a.entries.now c.add_all.new.outcomes.items start d (value c.close.new.encoder) (omega (arith, c.in_ok-header.ensures.small)) writes adds c.close.ensures.closes)
+    (made a.metadata a.max_size a.entries.now c.add_all.new.outcomes.items start d (value c.close.new.encoder) (omega (arith, c.in_ok-header.ensures.small)) id writes adds c.close.ensures.closes)
