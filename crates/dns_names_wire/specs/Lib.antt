@@ -85,6 +85,7 @@ pub use Rattle.dnw_message.specs.Queries
 pub use Rattle.dnw_message.specs.ResponseCodes
 pub use Rattle.dnw_message_writer.specs.Drafts
 pub use Rattle.dnw_message_writer.specs.QueryFrames
+pub use Rattle.dnw_message_writer.specs.ReadBack
 pub use Rattle.dnw_message_writer.specs.WireQueries
 pub use Rattle.dnw_message_writer.specs.WriterLaws
 pub use Rattle.dnw_message_writer.specs.Writers

@@ -140,9 +140,13 @@ pub use Rattle.dnw_message.specs.OpCodes.{op_code, op_entry, op_of_code}
 pub use Rattle.dnw_message.specs.Queries.{FailsQuery, TakesQuery}
 pub use Rattle.dnw_message.specs.ResponseCodes.{response_code, response_entry, response_of_code}
 -- Whole messages that are written.
-pub use Rattle.dnw_message_writer.specs.Drafts.{Adds, AddsAll, AddsEntry, Begins, Closes, Draft, Ends, counted, cuts, is_open}
+pub use Rattle.dnw_message_writer.specs.Drafts.{Added, Adds, AddsAll, AddsEntry, Begins, Closes, Draft, Ends, counted, cuts, is_open}
 pub use Rattle.dnw_message_writer.specs.QueryFrames.{frame-query}
 pub use Rattle.dnw_message_writer.specs.WireQueries.{EmitsQuery, EmitsQueryFields, QueryFits}
-pub use Rattle.dnw_message_writer.specs.WriterLaws.{MessagesAreWritten}
+pub use Rattle.dnw_message_writer.specs.ReadBack.{IsReadAs, QueryIsRead, RecordIsRead}
+pub use Rattle.dnw_message_writer.specs.WriterLaws.{MessagesAreWritten, WrittenMessagesAreRead}
 pub use Rattle.dnw_message_writer.specs.Writers.{draft, lent}
-pub use Rattle.dnw_message_writer.specs.Written.{Written}
+pub use Rattle.dnw_message_writer.specs.Written.{Contents, Written, contents_from, counts_of, header_for, nothing}
+pub use Rattle.dnw_message_writer.specs.declared.writer.Entry.{Entry}
+pub use Rattle.dnw_message.specs.declared.header.HeaderCounts.{HeaderCounts}
+pub use Rattle.dnw_message.specs.declared.header.Metadata.{Metadata}

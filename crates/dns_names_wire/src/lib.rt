@@ -122,7 +122,7 @@ pub mod message {
     pub use dnw_message::op_code::OpCode;
     pub use dnw_message::query::QueryRef;
     pub use dnw_message::response_code::ResponseCode;
-    pub use dnw_message_writer::laws::messages_are_written;
+    pub use dnw_message_writer::laws::{messages_are_written, written_messages_are_read};
     pub use dnw_message_writer::query::WireQuery;
     pub use dnw_message_writer::writer::{AddError, Entry, MessageWriter, write};
 }

@@ -2,30 +2,27 @@
 use Rattle.std.proofs.Common.{◌≡◌, ℕ, ◌+◌, ◌-◌, ◌≤◌, false, true, List, [], ◌∷◌, ◌++◌, length, map, replicate, refl, sym, ap, ◌∙◌, append_assoc, subst, arith}
 use Rattle.std.specs.List.{AllByRecursion, flat_map}
 use Rattle.std.specs.Int.{w16, to_be_bytes}
-use Rattle.std.proofs.lemmas.List.{append-nil, map-append}
+use Rattle.std.proofs.lemmas.List.{append-nil}
+use Rattle.std.proofs.lemmas.Grind.{flat_map-append}
 use Rattle.dnw_encoder.specs.declared.encoder.modes.NameEncoding.TheVariants.{Compressed}
 use Rattle.dnw_encoder.specs.Encoder.{Encoder, fresh, moved_to, written}
 use Rattle.dnw_record.specs.declared.record.WireRecord.{WireRecord}
 use Rattle.dnw_script.specs.declared.script.Reply.{Reply}
 use Rattle.dnw_script.specs.declared.script.Reply.TheVariants.{Done}
-use Rattle.dnw_script.specs.Script.{Action, fill, wire_part}
+use Rattle.dnw_script.specs.Script.{Action, fill}
 use Rattle.dnw_codes.specs.RecordTypes.{type_code}
 use Rattle.dnw_codes.specs.DnsClasses.{class_code}
-use Rattle.dnw_script.specs.Pieces.{Account, BytesStand, Piece, RecordStands, Spells, account_from, place_piece, record_piece, wire_piece}
+use Rattle.dnw_script.specs.Pieces.{Account, BytesStand, Piece, RecordStands, Spells, account_from, place_piece}
 use Rattle.dnw_script.specs.Runs.{Runs}
 use Rattle.dnw_message.specs.declared.header.Header.{Header}
 use Rattle.dnw_message.specs.Headers.{flags_of, header_wire}
 use Rattle.dnw_message_writer.specs.declared.query.WireQuery.{WireQuery}
 use Rattle.dnw_message_writer.specs.WireQueries.{QueryFits}
 use Rattle.dnw_message_writer.specs.Written.{QueryStands, Stand}
-use Rattle.dnw_message_writer.proofs.Going.{Element, action_of, field, whole}
+use Rattle.dnw_message_writer.proofs.Going.{Element, action_of, field, limit, pieces_in, whole}
 use Rattle.dnw_message_writer.proofs.Holding.{query_elements}
 
 -- ---- items of the message
-
-abbrev pub piece_of : Element → Piece
-piece_of (field part) = wire_piece (wire_part Compressed part)
-piece_of (whole r) = record_piece Compressed false r
 
 spells-split : (b : List ℕ) (xs ys : List Piece) (p e : ℕ) → Spells b (xs ++ ys) p e → (m : ℕ) × Spells b xs p m × Spells b ys m e
 spells-split b [] ys p e h = (p, refl, h)
@@ -35,11 +32,11 @@ pub stand-split : {X : Type 0} (one : X → ℕ → ℕ → Type 0) (xs ys : Lis
 stand-split one [] ys p e h = (p, refl, h)
 stand-split one (x ∷ xs) ys p e (q, first, more) = let (m, front, rest) = stand-split one xs ys q e more in (m, (q, first, front), rest)
 
-records-stand : (b : List ℕ) (rs : List WireRecord) (p e : ℕ) → Spells b (map piece_of (map whole rs)) p e → Stand (RecordStands b Compressed false) rs p e
+records-stand : (b : List ℕ) (rs : List WireRecord) (p e : ℕ) → Spells b (flat_map pieces_in (map whole rs)) p e → Stand (RecordStands b Compressed false) rs p e
 records-stand b [] p e h = h
 records-stand b (r ∷ rs) p e (q, one, more) = (q, one, records-stand b rs q e more)
 
-queries-stand : (b : List ℕ) (qs : List WireQuery) (p e : ℕ) → AllByRecursion QueryFits qs → Spells b (map piece_of (flat_map query_elements qs)) p e
+queries-stand : (b : List ℕ) (qs : List WireQuery) (p e : ℕ) → AllByRecursion QueryFits qs → Spells b (flat_map pieces_in (flat_map query_elements qs)) p e
     → Stand (QueryStands b) qs p e
 queries-stand b [] p e fit h = h
 queries-stand b (q ∷ qs) p e fit (n, name, (k, kind, (c, class, more))) =
@@ -57,11 +54,11 @@ queries-stand b (q ∷ qs) p e fit (n, name, (k, kind, (c, class, more))) =
 
 -- from p to e, all items
 pub items-stand : (b : List ℕ) (qs : List WireQuery) (rs : List WireRecord) (p e : ℕ) → AllByRecursion QueryFits qs
-    → Spells b (map piece_of (flat_map query_elements qs ++ map whole rs)) p e
+    → Spells b (flat_map pieces_in (flat_map query_elements qs ++ map whole rs)) p e
     → (m : ℕ) × Stand (QueryStands b) qs p m × Stand (RecordStands b Compressed false) rs m e
 items-stand b qs rs p e fit h =
-    let parts = subst (λ (x : List Piece). Spells b x p e) (map-append piece_of (flat_map query_elements qs) (map whole rs)) h in
-    let (m, first, rest) = spells-split b (map piece_of (flat_map query_elements qs)) (map piece_of (map whole rs)) p e parts in
+    let parts = subst (λ (x : List Piece). Spells b x p e) (flat_map-append pieces_in (flat_map query_elements qs) (map whole rs)) h in
+    let (m, first, rest) = spells-split b (flat_map pieces_in (flat_map query_elements qs)) (flat_map pieces_in (map whole rs)) p e parts in
     (m, queries-stand b qs p m fit first, records-stand b rs m e rest)
 
 -- ---- the header
@@ -85,23 +82,26 @@ no_pieces = place_piece 0 ∷ place_piece 0 ∷ place_piece 0 ∷ place_piece 0 
 abbrev pub zeros : ℕ → ℕ → Encoder
 zeros most n = record (fresh [] 0) { bytes = replicate n 0; offset = n; max_size = most }
 
--- Elements are written, and then more is done, whatever the pieces so far.
+-- Elements are written, and then more is done, whatever the maximum and the pieces so far.
 pub runs-then : (most len : ℕ) (pieces : List Piece) (es : List Element) (lens : List ℕ) (v m w : Encoder) (more : List Action) (others : List Reply)
-    → Runs (begun most len pieces) v (map action_of es) (map Done lens) m → ((n : ℕ) (ps : List Piece) → Runs (begun most n ps) m more others w)
+    → Runs (begun most len pieces) v (map action_of es) (map Done lens) m → ((top n : ℕ) (ps : List Piece) → Runs (begun top n ps) m more others w)
     → Runs (begun most len pieces) v (map action_of es ++ more) (map Done lens ++ others) w
-    × ((n : ℕ) × (account_from (begun most len pieces) (map action_of es ++ more) (map Done lens ++ others) ≡ account_from (begun most n (pieces ++ map piece_of es)) more others))
+    × ((top : ℕ) × (n : ℕ) × (account_from (begun most len pieces) (map action_of es ++ more) (map Done lens ++ others) ≡ account_from (begun top n (pieces ++ flat_map pieces_in es)) more others))
 runs-then most len pieces [] [] v m w more others same on = (
-  subst (λ x. Runs (begun most len pieces) x more others w) same (on len pieces),
-  (len, ap (λ ps. account_from (begun most len ps) more others) (sym (append-nil pieces))),
+  subst (λ x. Runs (begun most len pieces) x more others w) same (on most len pieces),
+  (most, len, ap (λ ps. account_from (begun most len ps) more others) (sym (append-nil pieces))),
 )
 runs-then most len pieces (field part ∷ es) (n ∷ lens) v m w more others (u, one, rest) on =
-    let p = piece_of (field part) in
-    let (runs, (end, account)) = runs-then most n (pieces ++ p ∷ []) es lens u m w more others rest on in
-    ((u, one, runs), (end, account ∙ ap (λ ps. account_from (begun most end ps) more others) (append_assoc pieces (p ∷ []) (map piece_of es))))
+    let ps = pieces_in (field part) in
+    let (runs, (top, end, account)) = runs-then most n (pieces ++ ps) es lens u m w more others rest on in
+    ((u, one, runs), (top, end, account ∙ ap (λ xs. account_from (begun top end xs) more others) (append_assoc pieces ps (flat_map pieces_in es))))
 runs-then most len pieces (whole r ∷ es) (n ∷ lens) v m w more others (u, one, rest) on =
-    let p = piece_of (whole r) in
-    let (runs, (end, account)) = runs-then most n (pieces ++ p ∷ []) es lens u m w more others rest on in
-    ((u, one, runs), (end, account ∙ ap (λ ps. account_from (begun most end ps) more others) (append_assoc pieces (p ∷ []) (map piece_of es))))
+    let ps = pieces_in (whole r) in
+    let (runs, (top, end, account)) = runs-then most n (pieces ++ ps) es lens u m w more others rest on in
+    ((u, one, runs), (top, end, account ∙ ap (λ xs. account_from (begun top end xs) more others) (append_assoc pieces ps (flat_map pieces_in es))))
+runs-then most len pieces (limit size ∷ es) (n ∷ lens) v m w more others (u, one, rest) on =
+    let (runs, account) = runs-then size len pieces es lens u m w more others rest on in
+    ((u, one, runs), account)
 runs-then most len pieces es lens v m w more others h on = absurd h
 
 -- a number in two octets that end there

@@ -1,5 +1,6 @@
 -- A message that was begun, to which items were added, and whose header was filled in, is what it was to be.
-use Rattle.std.proofs.Common.{◌≡◌, ℕ, ◌+◌, ◌≤◌, ◌||◌, Bool, true, false, List, [], ◌∷◌, ◌++◌, length, map, take, drop, replicate, Ok, Err, refl, sym, ap, ◌∙◌, subst, arith}
+use Rattle.std.proofs.Common.{◌≡◌, ℕ, ◌+◌, ◌^◌, ◌<◌, ◌≤◌, ◌||◌, Bool, true, false, List, [], ◌∷◌, ◌++◌, length, map, take, drop, replicate, Ok, Err, refl, sym, ap, ◌∙◌, subst, arith}
+use Rattle.std.specs.List.{flat_map}
 use Rattle.std.proofs.lemmas.List.{append-nil, take-append-drop, take_all}
 use Rattle.dnw_error.specs.declared.error.ProtoError.TheVariants.{MaxBufferSizeExceeded, Memory}
 use Rattle.dnw_encoder.specs.declared.encoder.modes.NameEncoding.TheVariants.{Compressed}
@@ -17,12 +18,12 @@ use Rattle.dnw_message.specs.declared.header.Header.{Header}
 use Rattle.dnw_message.specs.declared.header.Metadata.{Metadata}
 use Rattle.dnw_message.specs.Headers.{flags_of, header_wire}
 use Rattle.dnw_message_writer.specs.declared.writer.Entry.{Entry}
-use Rattle.dnw_message_writer.specs.Drafts.{Added, AddsAll, Closes, Draft, first_header, limited}
-use Rattle.dnw_message_writer.specs.Written.{Contents, Holds, Written, contents_from, nothing}
+use Rattle.dnw_message_writer.specs.Drafts.{Added, AddsAll, Begins, Closes, Draft, first_header, limited}
+use Rattle.dnw_message_writer.specs.Written.{Contents, HaveOutcomes, Holds, Written, contents_from, nothing}
 use Rattle.dnw_message_writer.specs.WriterLaws.{MessagesAreWritten}
-use Rattle.dnw_message_writer.proofs.Going.{action_of}
-use Rattle.dnw_message_writer.proofs.Holding.{Has, elements, records_of, steps}
-use Rattle.dnw_message_writer.proofs.Closing.{begun, filled_replies, fills, items-stand, no_pieces, piece_of, put-header, put_all, runs-fills, runs-then, stand-split, zeros}
+use Rattle.dnw_message_writer.proofs.Going.{action_of, pieces_in}
+use Rattle.dnw_message_writer.proofs.Holding.{Has, elements, records_of, size_of, steps}
+use Rattle.dnw_message_writer.proofs.Closing.{begun, filled_replies, fills, items-stand, no_pieces, put-header, put_all, runs-fills, runs-then, stand-split, zeros}
 
 -- ---- the first steps
 
@@ -82,8 +83,8 @@ filled_pieces h pieces =
     place_piece h.metadata.id ∷ place_piece (flags_of h.metadata) ∷ place_piece h.counts.queries ∷ place_piece h.counts.answers
     ∷ place_piece h.counts.authorities ∷ place_piece h.counts.additionals ∷ pieces
 
-module _ (metadata : Metadata) (most : ℕ) (room : 12 ≤ most) (c : Contents) (d : Draft) (w : Encoder)
-    (has : Has (begun most 12 no_pieces) (zeros most 12) metadata c d) (closes : Closes d.header d.encoder w) where
+module _ (metadata : Metadata) (most top : ℕ) (room : 12 ≤ most) (least : most ≤ top) (c : Contents) (d : Draft) (w : Encoder)
+    (has : Has (begun most 12 no_pieces) (zeros most 12) metadata top c d) (closes : Closes d.header d.encoder w) (id : metadata.id < 2 ^ 16) where
   v : Encoder
   v = d.encoder
 
@@ -95,31 +96,32 @@ module _ (metadata : Metadata) (most : ℕ) (room : 12 ≤ most) (c : Contents) 
   split = sym (take-append-drop 12 d.encoder.bytes) ∙ ap (λ (x : List ℕ). x ++ drop 12 d.encoder.bytes) has.front
 
   bytes : w.bytes ≡ header_wire d.header ++ rest
-  bytes = closed d.header d.encoder w rest closes.0 split (omega (arith, has.on, has.at_end)) (omega (arith, room, has.most)) closes.1
+  bytes = closed d.header d.encoder w rest closes.0 split (omega (arith, has.on, has.at_end)) (omega (arith, room, least, has.most)) closes.1
 
   pub same-length : length w.bytes ≡ d.encoder.offset
   same-length = ap length bytes ∙ (sym (ap length split) ∙ sym has.at_end)
 
-  spelled : Spells w.bytes (filled_pieces d.header (map piece_of (elements c))) 0 (length w.bytes)
+  spelled : Spells w.bytes (filled_pieces d.header (flat_map pieces_in (elements c))) 0 (length w.bytes)
   spelled =
       let h = d.header in
-      let es = elements c in
+      let es = has.steps in
       let u = put_all h d.encoder in
       let same : u.bytes ≡ w.bytes = put-header h d.encoder rest split ∙ sym bytes in
       let more = map action_of es ++ fills h in
       let others = map Done has.lens ++ filled_replies h d.encoder in
-      let (on, (n, account)) = runs-then most 12 no_pieces es has.lens (zeros most 12) d.encoder u (fills h) (filled_replies h d.encoder) has.runs
-      (λ n ps. runs-fills h most n ps d.encoder (omega (arith, room, has.most))) in
+      let (on, (max, n, account)) = runs-then most 12 no_pieces es has.lens (zeros most 12) d.encoder u (fills h) (filled_replies h d.encoder) has.runs
+      (λ max n ps. runs-fills h max n ps d.encoder (omega (arith, room, least, has.most))) in
       let xs = head_actions most ++ more in
       let rs = head_replies ++ others in
-      let all = runs-head most more others u room has.small on in
+      let all = runs-head most more others u room (omega (arith, least, has.small)) on in
+      let written = ap (filled_pieces h) has.write in
       let done : Finished [] xs rs u.bytes = runs_finish [] usual_candidates usual_names xs rs u all in
       let a = account_from (opening 0) xs rs in
-      let pieces : a.pieces ≡ filled_pieces h (map piece_of es) = ap (λ (x : Account). x.pieces) account in
+      let pieces : a.pieces ≡ filled_pieces h (flat_map pieces_in es) = ap (λ (x : Account). x.pieces) account in
       let spells = done.spells xs [] rs [] (sym (append-nil xs)) (sym (append-nil rs)) (same-lengths (opening 0) (beginning [] usual_candidates usual_names) u xs rs all) in
-      let whole : take (length a.pieces) a.pieces ≡ filled_pieces h (map piece_of es) = take_all (length a.pieces) a.pieces (omega arith) ∙ pieces in
+      let whole : take (length a.pieces) a.pieces ≡ filled_pieces h (flat_map pieces_in (elements c)) = take_all (length a.pieces) a.pieces (omega arith) ∙ pieces ∙ written in
       let end : a.len ≡ length w.bytes = done.ends ∙ ap length same in
-      subst (λ (b : List ℕ). Spells b (filled_pieces h (map piece_of es)) 0 (length w.bytes)) same
+      subst (λ (b : List ℕ). Spells b (filled_pieces h (flat_map pieces_in (elements c))) 0 (length w.bytes)) same
       (subst (λ (ps : List Piece). Spells u.bytes ps 0 (length w.bytes)) whole
       (subst (λ (e : ℕ). Spells u.bytes (take (length a.pieces) a.pieces) 0 e) end spells))
 
@@ -134,9 +136,10 @@ module _ (metadata : Metadata) (most : ℕ) (room : 12 ≤ most) (c : Contents) 
       let x5 : e5 ≡ e4 + 2 = s5.1 in
       let twelve : e5 ≡ 12 = omega (arith, x0, x1, x2, x3, x4, x5) in
       let (m, queries, records) = items-stand w.bytes c.queries (records_of c) 12 (length w.bytes) has.fit
-      (subst (λ (p : ℕ). Spells w.bytes (map piece_of (elements c)) p (length w.bytes)) twelve items) in
+      (subst (λ (p : ℕ). Spells w.bytes (flat_map pieces_in (elements c)) p (length w.bytes)) twelve items) in
       let (n, answers, more) = stand-split (RecordStands w.bytes Compressed false) c.answers (c.authorities ++ c.additionals) m (length w.bytes) records in
       let (o, authorities, additionals) = stand-split (RecordStands w.bytes Compressed false) c.authorities c.additionals n (length w.bytes) more in
+      let size : size_of c ≤ 65535 = omega (arith, has.on, has.within, has.small) in
       record {
         header = ap (take 12) bytes ∙ ap header_wire has.header;
         answers_at = m;
@@ -146,6 +149,8 @@ module _ (metadata : Metadata) (most : ℕ) (room : 12 ≤ most) (c : Contents) 
         answers = answers;
         authorities = authorities;
         additionals = additionals;
+        small = omega (arith, same-length, has.within, has.small);
+        fit = (id, omega (arith, size), omega (arith, size), omega (arith, size), omega (arith, size));
       }
 
 -- ---- the whole
@@ -154,38 +159,56 @@ or-false : (b : Bool) → b ≡ (b || false)
 or-false true = refl
 or-false false = refl
 
-pub made : (metadata : Metadata) (most : ℕ) (entries : List Entry) (outcomes : List Added) (start : Encoder) (d : Draft) (w : Encoder) → most ≤ 65535
-    → Writes (limited (fresh [] 0) most) (replicate 12 0) (Ok tt) start → AddsAll entries (record { header = first_header metadata; encoder = start }) outcomes d
-    → Closes d.header d.encoder w → Written metadata most entries outcomes w.bytes
-made metadata most entries outcomes start d w small (room, is) adds closes =
+-- what was begun has no items
+begun-has : (metadata : Metadata) (most : ℕ) → 12 ≤ most → most ≤ 65535
+    → Has (begun most 12 no_pieces) (zeros most 12) metadata most nothing (record { header = first_header metadata; encoder = zeros most 12 })
+begun-has metadata most room small = record {
+  steps = [];
+  lens = [];
+  runs = refl;
+  write = refl;
+  header = ap (λ (x : Bool). record (first_header metadata) { metadata = record metadata { truncation = x } }) (or-false metadata.truncation);
+  front = refl;
+  at_end = refl;
+  precede = writes_precede (replicate 12 0) (limited (fresh [] 0) most) (zeros most 12) (Ok tt) (new_precede [] 0) (room, refl);
+  most = refl;
+  on = omega arith;
+  within = room;
+  small = small;
+  fit = tt;
+}
+
+-- Items were added to what was begun.
+pub record Begun (metadata : Metadata) (most : ℕ) (entries : List Entry) (outcomes : List Added) (d : Draft) : Type 0 where
+  pub id : metadata.id < 2 ^ 16
+  pub room : 12 ≤ most
+  pub has : Has (begun most 12 no_pieces) (zeros most 12) metadata most (contents_from nothing entries outcomes) d
+  pub outcomes_are : HaveOutcomes most nothing 12 entries outcomes d.encoder.offset
+
+pub begun-adds : (metadata : Metadata) (most : ℕ) (entries : List Entry) (outcomes : List Added) (header : Header) (start : Encoder) (d : Draft)
+    → most ≤ 65535 → Begins metadata most (fresh [] 0) (Ok header) start → AddsAll entries (record { header = header; encoder = start }) outcomes d
+    → Begun metadata most entries outcomes d
+begun-adds metadata most entries outcomes header start d small (first, id, (room, is)) adds =
     let zero : start ≡ zeros most 12 = is in
-    let first : Draft = record { header = first_header metadata; encoder = zeros most 12 } in
-    let begins : Has (begun most 12 no_pieces) (zeros most 12) metadata nothing first =
-    record {
-      lens = [];
-      runs = refl;
-      header = ap (λ (x : Bool). record (first_header metadata) { metadata = record metadata { truncation = x } }) (or-false metadata.truncation);
-      front = refl;
-      at_end = refl;
-      precede = writes_precede (replicate 12 0) (limited (fresh [] 0) most) (zeros most 12) (Ok tt) (new_precede [] 0) (room, refl);
-      most = refl;
-      on = omega arith;
-      within = room;
-      small = small;
-      fit = tt;
-    } in
-    let added = subst (λ (x : Encoder). AddsAll entries (record { header = first_header metadata; encoder = x }) outcomes d) zero adds in
-    let (has, outcomes_are) = steps (begun most 12 no_pieces) (zeros most 12) metadata nothing first d entries outcomes begins added in
+    let added = subst (λ (x : Encoder). AddsAll entries (record { header = first_header metadata; encoder = x }) outcomes d) zero
+    (subst (λ (h : Header). AddsAll entries (record { header = h; encoder = start }) outcomes d) first adds) in
+    let begins : Draft = record { header = first_header metadata; encoder = zeros most 12 } in
+    let (has, outcomes_are) = steps (begun most 12 no_pieces) (zeros most 12) metadata most nothing begins d entries outcomes (begun-has metadata most room small) added in
+    record { id = id; room = room; has = has; outcomes_are = outcomes_are }
+
+pub made : (metadata : Metadata) (most : ℕ) (entries : List Entry) (outcomes : List Added) (d : Draft) (w : Encoder)
+    → Begun metadata most entries outcomes d → Closes d.header d.encoder w → Written metadata most entries outcomes w.bytes
+made metadata most entries outcomes d w b closes =
     let c = contents_from nothing entries outcomes in
-    let len = same-length metadata most room c d w has closes in
+    let len = same-length metadata most most b.room (omega arith) c d w b.has closes b.id in
+    let has = b.has in
     record {
-      holds = finished metadata most room c d w has closes;
-      outcomes_are = rw len outcomes_are;
+      holds = finished metadata most most b.room (omega arith) c d w has closes b.id;
+      outcomes_are = rw len b.outcomes_are;
       few = omega (arith, len, has.within);
     }
 
 pub messages_are_written : MessagesAreWritten
-messages_are_written metadata most entries outcomes header start d octets small (first, begins) adds (w, closes, is) =
+messages_are_written metadata most entries outcomes header start d octets small begins adds (w, closes, is) =
     subst (Written metadata most entries outcomes) (sym is)
-    (made metadata most entries outcomes start d w small begins
-    (subst (λ (h : Header). AddsAll entries (record { header = h; encoder = start }) outcomes d) first adds) closes)
+    (made metadata most entries outcomes d w (begun-adds metadata most entries outcomes header start d small begins adds) closes)

@@ -1,5 +1,5 @@
 -- An accepted item goes on from the encoder, as steps of a script do. A refused one changes nothing.
-use Rattle.std.proofs.Common.{◌≡◌, ℕ, ◌+◌, ◌≤◌, List, [], ◌∷◌, length, map, Ok, Err, inl, inr, refl, ap, ◌∙◌, subst, arith}
+use Rattle.std.proofs.Common.{◌≡◌, ℕ, ◌+◌, ◌≤◌, false, List, [], ◌∷◌, length, map, Ok, Err, inl, inr, refl, ap, ◌∙◌, subst, arith}
 use Rattle.std.specs.Int.{w16, to_be_bytes}
 use Rattle.dnw_error.specs.declared.error.ProtoError.{ProtoError}
 use Rattle.dnw_error.specs.declared.error.ProtoError.TheVariants.{CharacterDataTooLong, MaxBufferSizeExceeded, Memory}
@@ -7,6 +7,7 @@ use Rattle.dnw_base.specs.Names.{encoded_size}
 use Rattle.dnw_codes.specs.RecordTypes.{type_code}
 use Rattle.dnw_codes.specs.DnsClasses.{class_code}
 use Rattle.dnw_encoder.specs.declared.encoder.modes.NameEncoding.{NameEncoding}
+use Rattle.dnw_encoder.specs.declared.encoder.modes.NameEncoding.TheVariants.{Compressed}
 use Rattle.dnw_encoder.specs.Encoder.{CandidatesPrecede, Encoder, reserved}
 use Rattle.dnw_encoder.specs.Emitting.{Outcome, Frame}
 use Rattle.dnw_encoder.proofs.Preceding.{rewinding_undoes}
@@ -21,8 +22,8 @@ use Rattle.dnw_script.specs.declared.script.Part.{Part}
 use Rattle.dnw_script.specs.declared.script.Part.TheVariants.{Name, U16}
 use Rattle.dnw_script.specs.declared.script.Reply.TheVariants.{Done}
 use Rattle.dnw_script.specs.ItemFrames.{frame-part}
-use Rattle.dnw_script.specs.Script.{Action, EmitsPart, EmitsParts, write, write_record, wire_part}
-use Rattle.dnw_script.specs.Pieces.{Account}
+use Rattle.dnw_script.specs.Script.{Action, EmitsPart, EmitsParts, set_max, write, write_record, wire_part}
+use Rattle.dnw_script.specs.Pieces.{Account, Piece, record_piece, wire_piece}
 use Rattle.dnw_script.specs.Runs.{Runs}
 use Rattle.dnw_script.proofs.WireParts.{as_wire_part}
 use Rattle.dnw_message_writer.specs.declared.query.WireQuery.{WireQuery}
@@ -31,14 +32,22 @@ use Rattle.dnw_message_writer.specs.QueryFrames.{frame-query, frame-query_fields
 
 -- ---- steps
 
--- A step of a script that writes part of an item.
+-- A step of a script that writes part of an item, or sets the maximum.
 pub data Element : Type 0 where
   field : Part → Element
   whole : WireRecord → Element
+  limit : ℕ → Element
 
 abbrev pub action_of : Element → Action
 action_of (field part) = write part
 action_of (whole r) = write_record r
+action_of (limit most) = set_max most
+
+-- what it writes
+abbrev pub pieces_in : Element → List Piece
+pieces_in (field part) = wire_piece (wire_part Compressed part) ∷ []
+pieces_in (whole r) = record_piece Compressed false r ∷ []
+pieces_in (limit most) = []
 
 abbrev pub query_parts : WireQuery → List Part
 query_parts q = Name q.name ∷ U16 (type_code q.query_type) ∷ U16 (class_code q.query_class) ∷ []

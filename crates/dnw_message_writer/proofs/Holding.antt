@@ -13,7 +13,7 @@ use Rattle.dnw_record.specs.RecordLaws.{record_size}
 use Rattle.dnw_script.specs.declared.script.Reply.{Reply}
 use Rattle.dnw_script.specs.declared.script.Reply.TheVariants.{Done}
 use Rattle.dnw_script.specs.Script.{Action}
-use Rattle.dnw_script.specs.Pieces.{Account, after}
+use Rattle.dnw_script.specs.Pieces.{Account, Piece, after}
 use Rattle.dnw_script.specs.Runs.{Runs}
 use Rattle.dnw_message.specs.declared.header.Header.{Header}
 use Rattle.dnw_message.specs.declared.header.Metadata.{Metadata}
@@ -24,9 +24,9 @@ use Rattle.dnw_message_writer.specs.declared.section.AddError.TheVariants.{OutOf
 use Rattle.dnw_message_writer.specs.declared.writer.Entry.{Entry}
 use Rattle.dnw_message_writer.specs.declared.writer.Entry.TheVariants.{Query, Answer, Authority, Additional}
 use Rattle.dnw_message_writer.specs.WireQueries.{QueryFits}
-use Rattle.dnw_message_writer.specs.Drafts.{Added, AddsAll, AddsEntry, Draft, counted, cut_if, cuts, is_open}
+use Rattle.dnw_message_writer.specs.Drafts.{Added, AddsAll, AddsEntry, Draft, counted, cut_if, cuts, is_open, limited}
 use Rattle.dnw_message_writer.specs.Written.{Contents, HasOutcome, HaveOutcomes, and_then, contents_from, counts_of, entry_size, header_for, section_of}
-use Rattle.dnw_message_writer.proofs.Going.{Element, Fails, Goes, action_of, fails-query, fails-record, field, goes-query, goes-record, query_parts, query_size, whole}
+use Rattle.dnw_message_writer.proofs.Going.{Element, Fails, Goes, action_of, fails-query, fails-record, field, goes-query, goes-record, limit, pieces_in, query_parts, query_size, whole}
 
 -- ---- the steps of a message
 
@@ -51,32 +51,40 @@ runs-on a v m w xs more rs others runs on = absurd runs
 abbrev pub size_of : Contents → ℕ
 size_of c = length c.queries + length c.answers + length c.authorities + length c.additionals
 
--- A draft has these contents: it is where a script that writes their elements is, from an account and an encoder on.
-pub record Has (a : Account) (start : Encoder) (metadata : Metadata) (c : Contents) (d : Draft) : Type 0 where
+-- A draft has these contents and this maximum: it is where a script that writes their elements is, from an account and an
+-- encoder on.
+pub record Has (a : Account) (start : Encoder) (metadata : Metadata) (top : ℕ) (c : Contents) (d : Draft) : Type 0 where
+  pub steps : List Element
   pub lens : List ℕ
-  pub runs : Runs a start (map action_of (elements c)) (map Done lens) d.encoder
+  pub runs : Runs a start (map action_of steps) (map Done lens) d.encoder
+  pub write : flat_map pieces_in steps ≡ flat_map pieces_in (elements c)
   pub header : d.header ≡ header_for metadata c
   pub front : take start.offset d.encoder.bytes ≡ start.bytes
   pub at_end : d.encoder.offset ≡ length d.encoder.bytes
   pub precede : CandidatesPrecede d.encoder
-  pub most : d.encoder.max_size ≡ start.max_size
+  pub most : d.encoder.max_size ≡ top
   pub on : start.offset + size_of c ≤ d.encoder.offset
-  pub within : d.encoder.offset ≤ start.max_size
-  pub small : start.max_size ≤ 65535
+  pub within : d.encoder.offset ≤ top
+  pub small : top ≤ 65535
   pub fit : AllByRecursion QueryFits c.queries
 
-module _ (a : Account) (start : Encoder) (metadata : Metadata) where
+module _ (a : Account) (start : Encoder) (metadata : Metadata) (top : ℕ) where
   -- more elements
-  has-more : (c x : Contents) (d e : Draft) (es : List Element) (n : ℕ) → Has a start metadata c d → Goes d.encoder es n e.encoder
+  has-more : (c x : Contents) (d e : Draft) (es : List Element) (n : ℕ) → Has a start metadata top c d → Goes d.encoder es n e.encoder
       → elements x ≡ elements c ++ es → size_of x ≡ size_of c + 1 → e.header ≡ header_for metadata x → AllByRecursion QueryFits x.queries
-      → Has a start metadata x e
+      → Has a start metadata top x e
   has-more c x d e es n h go are size header fit =
-      let actions : map action_of (elements x) ≡ map action_of (elements c) ++ map action_of es = ap (map action_of) are ∙ map-append action_of (elements c) es in
+      let pieces : flat_map pieces_in (h.steps ++ es) ≡ flat_map pieces_in (elements x) =
+      flat_map-append pieces_in h.steps es ∙ (ap (λ (ps : List Piece). ps ++ flat_map pieces_in es) h.write
+      ∙ (sym (flat_map-append pieces_in (elements c) es) ∙ sym (ap (flat_map pieces_in) are))) in
       let f = go.frame in
       let long : start.offset ≤ d.encoder.offset = omega (arith, h.on) in
       record {
+        steps = h.steps ++ es;
         lens = h.lens ++ go.lens;
-        runs = rw (actions, map-append Done h.lens go.lens) (runs-on a start d.encoder e.encoder (map action_of (elements c)) (map action_of es) (map Done h.lens) (map Done go.lens) h.runs go.runs);
+        runs = rw (map-append action_of h.steps es, map-append Done h.lens go.lens)
+            (runs-on a start d.encoder e.encoder (map action_of h.steps) (map action_of es) (map Done h.lens) (map Done go.lens) h.runs go.runs);
+        write = pieces;
         header = header;
         front = sym (take-take start.offset d.encoder.offset e.encoder.bytes long) ∙ (ap (take start.offset) f.bytes ∙ h.front);
         at_end = f.ends;
@@ -86,6 +94,29 @@ module _ (a : Account) (start : Encoder) (metadata : Metadata) where
         within = omega (arith, go.within, h.most);
         small = h.small;
         fit = fit;
+      }
+
+  -- another maximum, which is not past
+  pub has-limit : (c : Contents) (d : Draft) (n : ℕ) → Has a start metadata top c d → d.encoder.offset ≤ n → n ≤ 65535
+      → Has a start metadata n c (record d { encoder = limited d.encoder n })
+  has-limit c d n h within small =
+      let es : List Element = limit n ∷ [] in
+      let len = length d.encoder.bytes in
+      record {
+        steps = h.steps ++ es;
+        lens = h.lens ++ len ∷ [];
+        runs = rw (map-append action_of h.steps es, map-append Done h.lens (len ∷ []))
+            (runs-on a start d.encoder (limited d.encoder n) (map action_of h.steps) (map action_of es) (map Done h.lens) (Done len ∷ []) h.runs (λ b. (limited d.encoder n, (refl, refl, small), refl)));
+        write = flat_map-append pieces_in h.steps es ∙ (append-nil (flat_map pieces_in h.steps) ∙ h.write);
+        header = h.header;
+        front = h.front;
+        at_end = h.at_end;
+        precede = h.precede;
+        most = refl;
+        on = h.on;
+        within = within;
+        small = small;
+        fit = h.fit;
       }
 
 -- ---- the order of the sections
@@ -159,13 +190,13 @@ cut-by-size c (Answer r) size = refl
 cut-by-size c (Authority r) size = refl
 cut-by-size c (Additional r) size = refl
 
-module _ (a : Account) (start : Encoder) (metadata : Metadata) where
+module _ (a : Account) (start : Encoder) (metadata : Metadata) (top : ℕ) where
   abbrev Draws : Contents → Draft → Type 0
-  Draws c d = Has a start metadata c d
+  Draws c d = Has a start metadata top c d
 
   -- an item, with its outcome
   abbrev Steps : Contents → Draft → Entry → Added → Draft → Type 0
-  Steps c d x outcome e = Draws (and_then c x outcome) e × HasOutcome start.max_size c d.encoder.offset x outcome e.encoder.offset
+  Steps c d x outcome e = Draws (and_then c x outcome) e × HasOutcome top c d.encoder.offset x outcome e.encoder.offset
 
   open-now : (c : Contents) (d : Draft) (s : Section) (b : Bool) → Draws c d → is_open s d.header.counts ≡ b → is_open s (counts_of c) ≡ b
   open-now c d s b h free = sym (ap (λ (y : Header). is_open s y.counts) h.header) ∙ free
@@ -175,8 +206,10 @@ module _ (a : Account) (start : Encoder) (metadata : Metadata) where
       let P : Encoder → Type 0 = λ v. Draws (record c { cut = b }) (record { header = e.header; encoder = v }) in
       subst P (sym same)
       (record {
+        steps = h.steps;
         lens = h.lens;
         runs = h.runs;
+        write = h.write;
         header = header;
         front = h.front;
         at_end = h.at_end;
@@ -199,11 +232,11 @@ module _ (a : Account) (start : Encoder) (metadata : Metadata) where
       elim why [
         | inl memory ↦ (
           subst (λ y. Draws y e) (sym (ap (λ (y : ProtoError). and_then c x (Err (Proto y))) memory ∙ (cut-by-memory c x ∙ ap (λ (y : ProtoError). record c { cut = cuts s y || c.cut }) (sym memory)))) has,
-          subst (λ (y : ProtoError). HasOutcome start.max_size c d.encoder.offset x (Err (Proto y)) e.encoder.offset) (sym memory) (now, offset),
+          subst (λ (y : ProtoError). HasOutcome top c d.encoder.offset x (Err (Proto y)) e.encoder.offset) (sym memory) (now, offset),
         )
         | inr large ↦ (
           subst (λ y. Draws y e) (sym (ap (λ (y : ProtoError). and_then c x (Err (Proto y))) large.0 ∙ (cut-by-size c x d.encoder.max_size ∙ ap (λ (y : ProtoError). record c { cut = cuts s y || c.cut }) (sym large.0)))) has,
-          subst (λ (y : ProtoError). HasOutcome start.max_size c d.encoder.offset x (Err (Proto y)) e.encoder.offset) (sym large.0)
+          subst (λ (y : ProtoError). HasOutcome top c d.encoder.offset x (Err (Proto y)) e.encoder.offset) (sym large.0)
               (now, omega (arith, large.1, h.most), h.most, offset),
         )
       ]
@@ -212,12 +245,12 @@ module _ (a : Account) (start : Encoder) (metadata : Metadata) where
       → e.header ≡ record d.header { counts = counted s d.header.counts } → x.queries ≡ c.queries → records_of x ≡ records_of c ++ r ∷ []
       → size_of x ≡ size_of c + 1
       → (size_of c + 1 ≤ 65535 → record (header_for metadata c) { counts = counted s (counts_of c) } ≡ header_for metadata x)
-      → Draws x e × (e.encoder.offset ≤ d.encoder.offset + record_size r) × (e.encoder.offset ≤ start.max_size)
+      → Draws x e × (e.encoder.offset ≤ d.encoder.offset + record_size r) × (e.encoder.offset ≤ top)
   done-record c x d e r s h emits is same are size header =
       let go = goes-record d.encoder h.at_end h.precede r e.encoder emits in
       let small : size_of c + 1 ≤ 65535 = omega (arith, h.on, go.on, go.within, h.most, h.small) in
       let head : e.header ≡ header_for metadata x = is ∙ (ap (λ (y : Header). record y { counts = counted s y.counts }) h.header ∙ header small) in (
-        has-more a start metadata c x d e (whole r ∷ []) (record_size r) h go (elements-record c x r same are) size head (subst (AllByRecursion QueryFits) (sym same) h.fit),
+        has-more a start metadata top c x d e (whole r ∷ []) (record_size r) h go (elements-record c x r same are) size head (subst (AllByRecursion QueryFits) (sym same) h.fit),
         go.few,
         omega (arith, go.within, h.most),
       )
@@ -231,7 +264,7 @@ module _ (a : Account) (start : Encoder) (metadata : Metadata) where
       let head : e.header ≡ header_for metadata x =
       is ∙ (ap (λ (y : Header). record y { counts = counted section.Queries y.counts }) h.header
       ∙ ap (λ n. record (header_for metadata c) { counts = record (counts_of c) { queries = n } }) (one_more-is c.queries q small)) in (
-        has-more a start metadata c x d e (query_elements q) (query_size q) h go (elements-query c q (after-queries c now))
+        has-more a start metadata top c x d e (query_elements q) (query_size q) h go (elements-query c q (after-queries c now))
             (omega (arith, length-append c.queries (q ∷ []))) head (fit-push c.queries q h.fit emits.0),
         (now, go.few, omega (arith, go.within, h.most)),
       )
@@ -263,7 +296,7 @@ module _ (a : Account) (start : Encoder) (metadata : Metadata) where
 
   -- all items
   pub steps : (c : Contents) (d e : Draft) (xs : List Entry) (outcomes : List Added) → Draws c d → AddsAll xs d outcomes e
-      → Draws (contents_from c xs outcomes) e × HaveOutcomes start.max_size c d.encoder.offset xs outcomes e.encoder.offset
+      → Draws (contents_from c xs outcomes) e × HaveOutcomes top c d.encoder.offset xs outcomes e.encoder.offset
   steps c d e [] [] h same = (subst (Draws c) (sym same) h, ap (λ (y : Draft). y.encoder.offset) same)
   steps c d e [] (o ∷ os) h all = absurd all
   steps c d e (x ∷ xs) [] h all = absurd all

@@ -3,3 +3,4 @@ pub mod Going
 pub mod Holding
 pub mod Closing
 pub mod Finishing
+pub mod ReadBack

@@ -1,5 +1,5 @@
 -- A message while it is written: how items are added to it, in the order of the sections (RFC 1035, section 4.1).
-use Rattle.std.specs.Prelude.{◌≡◌, ℕ, ◌+◌, min, Bool, true, false, ◌&&◌, ◌==◌, List, [], ◌∷◌, replicate, Result, Ok, Err}
+use Rattle.std.specs.Prelude.{◌≡◌, ℕ, ◌+◌, ◌<◌, ◌^◌, min, Bool, true, false, ◌&&◌, ◌==◌, List, [], ◌∷◌, replicate, Result, Ok, Err}
 use Rattle.dnw_error.specs.declared.error.ProtoError.{ProtoError}
 use Rattle.dnw_error.specs.declared.error.ProtoError.TheVariants.{MaxBufferSizeExceeded}
 use Rattle.dnw_encoder.specs.Encoder.{Encoder, Writes, moved_to}
@@ -84,9 +84,10 @@ first_header metadata = record {
 abbrev pub limited : Encoder → ℕ → Encoder
 limited v most = record v { max_size = most }
 
--- The maximum is set, and the octets of a header are reserved.
+-- The maximum is set, and the octets of a header are reserved. Its id fits its field, as that of the code does.
 abbrev pub Begins : Metadata → ℕ → Encoder → Result Header ProtoError → Encoder → Type 0
-Begins metadata most v (Ok header) w = (header ≡ first_header metadata) × Writes (limited v most) (replicate 12 0) (Ok tt) w
+Begins metadata most v (Ok header) w =
+    (header ≡ first_header metadata) × (metadata.id < 2 ^ 16) × Writes (limited v most) (replicate 12 0) (Ok tt) w
 Begins metadata most v (Err error) w = Writes (limited v most) (replicate 12 0) (Err error) w
 
 -- The header is written over the octets that were reserved for it.

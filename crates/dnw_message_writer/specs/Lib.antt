@@ -2,5 +2,6 @@ pub mod WireQueries
 pub mod QueryFrames
 pub mod Drafts
 pub mod Written
+pub mod ReadBack
 pub mod Writers
 pub mod WriterLaws

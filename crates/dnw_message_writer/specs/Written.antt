@@ -4,11 +4,13 @@ use Rattle.std.specs.Int.{w16, to_be_bytes}
 use Rattle.dnw_error.specs.declared.error.ProtoError.TheVariants.{MaxBufferSizeExceeded, Memory}
 use Rattle.dnw_codes.specs.RecordTypes.{type_code}
 use Rattle.dnw_codes.specs.DnsClasses.{class_code}
+use Rattle.dnw_base.specs.Limits.{max_message}
 use Rattle.dnw_base.specs.Names.{encoded_size}
 use Rattle.dnw_encoder.specs.declared.encoder.modes.NameEncoding.TheVariants.{Compressed}
 use Rattle.dnw_record.specs.declared.record.WireRecord.{WireRecord}
 use Rattle.dnw_record.specs.RecordLaws.{record_size}
 use Rattle.dnw_script.specs.Pieces.{BytesStand, NameStands, RecordStands}
+use Rattle.dnw_message.specs.HeaderLaws.{HeaderFits}
 use Rattle.dnw_message.specs.Headers.{header_size, header_wire}
 use Rattle.dnw_message.specs.declared.header.Header.{Header}
 use Rattle.dnw_message.specs.declared.header.HeaderCounts.{HeaderCounts}
@@ -119,7 +121,7 @@ abbrev pub RecordsStand : List ℕ → List WireRecord → ℕ → ℕ → Type 
 RecordsStand b records p e = Stand (RecordStands b Compressed false) records p e
 
 -- The octets are a message with these contents: after the header, each section begins where the one before it ends, and
--- nothing follows the last.
+-- nothing follows the last. It is no longer than a message may be, and the numbers of its header fit their fields.
 pub record Holds (metadata : Metadata) (c : Contents) (bytes : List ℕ) : Type 0 where
   pub header : take header_size bytes ≡ header_wire (header_for metadata c)
   pub answers_at : ℕ
@@ -129,6 +131,8 @@ pub record Holds (metadata : Metadata) (c : Contents) (bytes : List ℕ) : Type 
   pub answers : RecordsStand bytes c.answers answers_at authorities_at
   pub authorities : RecordsStand bytes c.authorities authorities_at additionals_at
   pub additionals : RecordsStand bytes c.additionals additionals_at (length bytes)
+  pub small : length bytes ≤ max_message
+  pub fit : HeaderFits (header_for metadata c)
 
 -- A message of at most so many octets was written from these items, with these outcomes.
 pub record Written (metadata : Metadata) (most : ℕ) (entries : List Entry) (outcomes : List Added) (bytes : List ℕ) : Type 0 where

@@ -1,9 +1,18 @@
 //! What follows from the steps of a writer, for callers' proofs.
 //!
 //! The functions do nothing. Each is there for its clauses.
-ghost use Rattle.dnw_message_writer.specs.WriterLaws.{MessagesAreWritten};
+ghost use Rattle.dnw_message_writer.specs.WriterLaws.{MessagesAreWritten, WrittenMessagesAreRead};
 
 /// After any items, in any order and with any outcomes, a message holds exactly those that were accepted: see `writer::write`.
 pub fn messages_are_written()
     ensures { MessagesAreWritten }
+{}
+
+/// What is written is what is read: the octets are one message, with the header that was written and exactly the accepted items
+/// in their sections and order, and nothing follows. The header has the low four bits of the codes.
+///
+/// Of a message that `writer::write` or `writer::MessageWriter` wrote the premise holds, so reading it never fails, unless the limit of
+/// `MessageRef::read_limited` is below 65,535 times 65,535 pointers.
+pub fn written_messages_are_read()
+    ensures { WrittenMessagesAreRead }
 {}

@@ -3,3 +3,4 @@ pub mod Written
 pub mod ScriptRecords
 pub mod ReverseNames
 pub mod Listed
+pub mod ReadMessages

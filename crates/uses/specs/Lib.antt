@@ -4,3 +4,4 @@ pub mod Denial
 pub mod Records
 pub mod Scripts
 pub mod Bitmaps
+pub mod Messages

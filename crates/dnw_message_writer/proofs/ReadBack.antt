@@ -1,0 +1,138 @@
+-- A written message is read.
+use Rattle.std.proofs.Common.{◌≡◌, ℕ, ◌+◌, ◌*◌, ◌^◌, ◌<◌, ◌≤◌, false, List, [], ◌∷◌, length, map, slice_range, refl, sym, ap, ◌∙◌, subst, arith}
+use Rattle.std.specs.Int.{w16, from_be_bytes, to_be_bytes}
+use Rattle.std.specs.List.{AllZip}
+use Rattle.std.proofs.lemmas.Nat.{from_be_bytes-to_be_bytes_2}
+use Rattle.dnw_codes.specs.RecordTypes.{type_code, type_of_code}
+use Rattle.dnw_codes.specs.DnsClasses.{class_code, class_of_code}
+use Rattle.dnw_reading.proofs.Counts.{Reads-back, Reads-own}
+use Rattle.dnw_encoder.specs.declared.encoder.modes.NameEncoding.TheVariants.{Compressed}
+use Rattle.dnw_record.specs.declared.record.WireRecord.{WireRecord}
+use Rattle.dnw_record.specs.Records.{RecordValue, number_at}
+use Rattle.dnw_script.specs.Pieces.{BytesStand, RecordStands}
+use Rattle.dnw_script.proofs.ReadingBack.{records_are_read}
+use Rattle.dnw_message.specs.Headers.{header_of}
+use Rattle.dnw_message.specs.HeaderLaws.{with_low_codes}
+use Rattle.dnw_message.specs.Messages.{Item, ItemAt, ItemsAt, Rest, done, next, none, one_more, query_of, question_rest, record_in, record_rest}
+use Rattle.dnw_message.proofs.Headers.{headers_read_back}
+use Rattle.dnw_message_writer.specs.declared.query.WireQuery.{WireQuery}
+use Rattle.dnw_message_writer.specs.Written.{QueryStands, Stand, header_for}
+use Rattle.dnw_message_writer.specs.ReadBack.{QueryIsRead, RecordIsRead}
+use Rattle.dnw_message_writer.specs.WriterLaws.{WrittenMessagesAreRead}
+
+-- ---- items
+
+-- From p to e there is an item, which says the same as x.
+record IsRead {X Y : Type 0} (rest : Rest) (of : Item → Y) (same : X → Y → Type 0) (b : List ℕ) (x : X) (p e : ℕ) : Type 0 where
+  item : Item
+  pointers : ℕ
+  at : ItemAt rest b p item e pointers
+  is : same x (of item)
+
+-- So it is with items, and their names follow few pointers.
+record AreRead {X Y : Type 0} (rest : Rest) (of : Item → Y) (same : X → Y → Type 0) (b : List ℕ) (xs : List X) (p e : ℕ) : Type 0 where
+  items : List Item
+  pointers : ℕ
+  at : ItemsAt rest b p items e pointers
+  are : AllZip same xs (map of items)
+  counted : length items ≡ length xs
+  few : pointers + 65535 * p ≤ 65535 * e
+
+module _ {X Y : Type 0} (rest : Rest) (of : Item → Y) (same : X → Y → Type 0) (b : List ℕ) (small : length b ≤ 65535)
+    (one : X → ℕ → ℕ → Type 0) (read : (x : X) (p e : ℕ) → one x p e → IsRead rest of same b x p e) where
+  items-read : (xs : List X) (p e : ℕ) → Stand one xs p e → AreRead rest of same b xs p e
+  items-read [] p e h = record {
+    items = [];
+    pointers = 0;
+    at = subst (λ q. ItemsAt rest b p [] q 0) h none;
+    are = tt;
+    counted = refl;
+    few = omega (arith, h);
+  }
+  items-read (x ∷ xs) p e (m, stands, more) =
+      let first = read x p m stands in
+      let others = items-read xs m e more in
+      let own = Reads-own first.at.name.reads in
+      let back = Reads-back first.at.name.reads in
+      record {
+        items = first.item ∷ others.items;
+        pointers = first.pointers + others.pointers;
+        at = one_more first.at others.at;
+        are = (first.is, others.are);
+        counted = omega (arith, others.counted);
+        few = omega (arith, own.0, own.1, back, first.at.ends, first.at.inside, others.few, small);
+      }
+
+-- the number that two octets are
+number-read : (b : List ℕ) (n p e : ℕ) → n < 2 ^ 16 → BytesStand b (to_be_bytes w16 n) p e → number_at b p ≡ n
+number-read b n p e fits stands =
+    let end : e ≡ p + 2 = stands.1 in
+    ap (from_be_bytes w16) (subst (λ (x : ℕ). slice_range b p x ≡ to_be_bytes w16 n) end stands.0) ∙ from_be_bytes-to_be_bytes_2 n fits
+
+query-read : (b : List ℕ) (q : WireQuery) (p e : ℕ) → QueryStands b q p e → IsRead question_rest (query_of b) QueryIsRead b q p e
+query-read b q p e h =
+    record {
+      item = record { labels = q.name.labels; name_end = h.name_end };
+      pointers = h.name.0;
+      at = record { name = h.name.1; ends = omega (arith, h.query_class.1); inside = h.query_class.2 };
+      is = (
+        refl,
+        ap type_of_code (number-read b (type_code q.query_type) h.name_end (h.name_end + 2) h.fit.0 h.query_type),
+        ap class_of_code (number-read b (class_code q.query_class) (h.name_end + 2) e h.fit.1 h.query_class),
+      );
+    }
+
+record-read : (b : List ℕ) (r : WireRecord) (p e : ℕ) → RecordStands b Compressed false r p e → IsRead record_rest (record_in b) RecordIsRead b r p e
+record-read b r p e h =
+    let (x, at, owner, kind, class, ttl, rdata) = records_are_read b Compressed false r p e h in
+    let ends = at.ends ∙ ap (λ (y : RecordValue). y.start + y.len) at.is in
+    record {
+      item = record { labels = at.labels; name_end = at.owner_end };
+      pointers = at.pointers;
+      at = record { name = at.owner_read; ends = omega (arith, ends); inside = omega (arith, ends, at.rest) };
+      is = subst (RecordIsRead r) at.is (owner, kind, class, ttl, rdata);
+    }
+
+-- ---- the message
+
+pub written_messages_are_read : WrittenMessagesAreRead
+written_messages_are_read metadata c b h =
+    let records = items-read record_rest (record_in b) RecordIsRead b h.small (RecordStands b Compressed false) (record-read b) in
+    let q = items-read question_rest (query_of b) QueryIsRead b h.small (QueryStands b) (query-read b) c.queries 12 h.answers_at h.queries in
+    let a = records c.answers h.answers_at h.authorities_at h.answers in
+    let u = records c.authorities h.authorities_at h.additionals_at h.authorities in
+    let d = records c.additionals h.additionals_at (length b) h.additionals in
+    let header = ap header_of h.header ∙ headers_read_back (header_for metadata c) h.fit in
+    record {
+      message = record {
+        octets = b;
+        header = with_low_codes (header_for metadata c);
+        queries = map (query_of b) q.items;
+        answers = map (record_in b) a.items;
+        authorities = map (record_in b) u.items;
+        additionals = map (record_in b) d.items;
+        end = length b;
+      };
+      pointers = q.pointers + (a.pointers + (u.pointers + (d.pointers + 0)));
+      is = record {
+        whole = omega (arith, ap length h.header);
+        octets = refl;
+        header = sym header;
+        queries = q.items;
+        answers = a.items;
+        authorities = u.items;
+        additionals = d.items;
+        sections = next q.at q.counted (next a.at a.counted (next u.at u.counted (next d.at d.counted done)));
+        queries_are = refl;
+        answers_are = refl;
+        authorities_are = refl;
+        additionals_are = refl;
+      };
+      end = refl;
+      header = refl;
+      queries = q.are;
+      answers = a.are;
+      authorities = u.are;
+      additionals = d.are;
+      few = omega (arith, q.few, a.few, u.few, d.few, h.small);
+    }
