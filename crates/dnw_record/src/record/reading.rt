@@ -129,6 +129,17 @@ impl<'r> RecordRef<'r> {
         Fields::new(message, self.start, self.record_type)
     }
 
+    /// Returns a decoder of the message up to the end of the data, at their start. Names that are read from it may have
+    /// pointers to what is before the data.
+    #[inline(always)]
+    pub fn data_decoder(&self) -> BinDecoder<'r>
+        ensures { result ≡ (record_fields self.now).reader }
+    {
+        let mut reader = BinDecoder::new(&self.message[..self.start + self.len as usize]);
+        reader.skip(self.start).unwrap();
+        reader
+    }
+
     /// Reads the data as a name, fully qualified, which may be compressed (RFC 1035, section 4.1.4). It does not allocate.
     ///
     /// It fails with the error of reading the name there, or with `IncorrectRDataLengthRead` if the name's own octets are
