@@ -7,4 +7,6 @@
 pub mod error;
 pub mod generic;
 pub mod laws;
+mod name;
+mod printing;
 mod words;
