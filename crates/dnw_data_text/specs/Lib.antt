@@ -1,0 +1,7 @@
+pub mod Words
+pub mod Faults
+pub mod NameTexts
+pub mod Generic
+pub mod Printing
+pub mod Inside
+pub mod TextLaws

@@ -1,0 +1,130 @@
+//! The text of fields.
+ghost use Rattle.std.specs.Prelude.{◌≡◌, ◌++◌, ℕ, List, Bool, true, false, [], IfOk, MatchBool, string_bytes};
+ghost use Rattle.dnw_data.specs.Values.{seen};
+ghost use Rattle.std.specs.Option.{option_map};
+ghost use Rattle.dnw_data.specs.Walks.{IsAtEnd};
+ghost use Rattle.dnw_data_text.specs.Inside.Steps.{ReadsNext};
+ghost use Rattle.dnw_data_text.specs.Printing.{Prints, PrintsTime, PrintsCounted, PrintsOctets, PrintsStrings, Appended, AppendsFields};
+
+use crate::name::write_name;
+use dnw_data::field::Field;
+use dnw_data::fields::Fields;
+use dnw_data::kind::{Kind, Shown};
+use dnw_field_text::octets::{Base64, Hexadecimal, Salt};
+use dnw_field_text::string::CharacterString;
+use dnw_field_text::time::time_text;
+use std::alloc::AllocError;
+
+/// Appends the text of fields, each after a space. Returns `false` if one cannot be read or has no text.
+pub(crate) fn write_fields<'r>(
+    kinds: &[Kind],
+    fields: &mut Fields<'r>,
+    out: &mut String,
+) -> Result<bool, AllocError>
+    requires kinds { fields.old.kinds ≡ kinds.now }
+    ensures { IfOk result (AppendsFields kinds.now fields.old.reader (string_bytes out.old) (string_bytes out.new)) }
+{
+    let Some((kind, others)) = kinds.split_first() else {
+        return Ok(is_ended(fields));
+    };
+    let Some(field) = next_field(fields) else {
+        return Ok(false);
+    };
+    if !write_field(*kind, &field, out)? {
+        return Ok(false);
+    }
+    write_fields(others, fields, out)
+}
+
+/// Returns the next field, if it can be read.
+fn next_field<'r>(fields: &mut Fields<'r>) -> Option<Field<'r>>
+    ensures { ReadsNext fields.old (option_map seen result) fields.new }
+{
+    let read = fields.next()?;
+    read.ok()
+}
+
+/// Returns `true` if no octets are left after the last field.
+fn is_ended(fields: &mut Fields<'_>) -> bool
+    requires kinds { fields.old.kinds ≡ [] }
+    ensures { MatchBool result (IsAtEnd fields.old.reader) (¬ (IsAtEnd fields.old.reader)) }
+{
+    fields.next().is_none()
+}
+
+/// Appends the text of a field after a space. Returns `false` if it has none.
+fn write_field(kind: Kind, field: &Field<'_>, out: &mut String) -> Result<bool, AllocError>
+    ensures { IfOk result (Appended (Prints kind (seen field.now)) (string_bytes out.old) (string_bytes out.new)) }
+{
+    match field {
+        Field::Name(name) => {
+            out.push(' ')?;
+            write_name(name, out)?;
+        }
+        Field::U8(number) => write!(out, " {number}")?,
+        Field::U16(number) => write!(out, " {number}")?,
+        Field::U32(number) => write!(out, " {number}")?,
+        Field::Ipv4(address) => write!(out, " {address}")?,
+        Field::Ipv6(address) => write!(out, " {address}")?,
+        Field::TypeCode(code) => {
+            out.push(' ')?;
+            out.push_str(code.to_text().as_str())?;
+        }
+        Field::Time(seconds) => write_time(seconds.get(), out)?,
+        Field::Counted(octets) => return write_counted(kind, octets, out),
+        Field::Octets(octets) => return write_octets(kind, octets, out),
+        Field::Texts(items) => return write_strings(items.as_bytes(), out),
+        Field::U48(_) | Field::U64(_) | Field::Types(_) | Field::Params(_) => return Ok(false),
+    }
+    Ok(true)
+}
+
+/// Appends the text of a time after a space.
+fn write_time(seconds: u32, out: &mut String) -> Result<(), AllocError>
+    ensures { IfOk result (λ _. (text : List ℕ) × PrintsTime seconds text × (string_bytes out.new ≡ string_bytes out.old ++ text)) }
+{
+    out.push(' ')?;
+    out.push_str(time_text(seconds).as_str())?;
+    Ok(())
+}
+
+/// Appends the text of octets that have a length octet before them.
+fn write_counted(kind: Kind, octets: &[u8], out: &mut String) -> Result<bool, AllocError>
+    ensures { IfOk result (Appended (PrintsCounted kind octets.now) (string_bytes out.old) (string_bytes out.new)) }
+{
+    match kind {
+        Kind::Counted(Shown::Text) => write!(out, " {}", CharacterString(octets))?,
+        Kind::Counted(Shown::Hex) => write!(out, " {}", Salt(octets))?,
+        _ => return Ok(false),
+    }
+    Ok(true)
+}
+
+/// Appends the text of octets up to the end.
+fn write_octets(kind: Kind, octets: &[u8], out: &mut String) -> Result<bool, AllocError>
+    ensures { IfOk result (Appended (PrintsOctets kind octets.now) (string_bytes out.old) (string_bytes out.new)) }
+{
+    match kind {
+        Kind::Octets(Shown::Text) => write!(out, " {}", CharacterString(octets))?,
+        Kind::Octets(Shown::Hex) if !octets.is_empty() => write!(out, " {}", Hexadecimal(octets))?,
+        Kind::Octets(Shown::Base64) if !octets.is_empty() => write!(out, " {}", Base64(octets))?,
+        Kind::Octets(Shown::Hex | Shown::Base64) => {}
+        _ => return Ok(false),
+    }
+    Ok(true)
+}
+
+/// Appends the text of strings, each after a space. Returns `false` if the octets end within one.
+fn write_strings(octets: &[u8], out: &mut String) -> Result<bool, AllocError>
+    ensures { IfOk result (Appended (PrintsStrings octets.now) (string_bytes out.old) (string_bytes out.new)) }
+{
+    let mut left = octets;
+    while let Some((len, rest)) = left.split_first() {
+        let Some((string, after)) = rest.split_at_checked(usize::from(*len)) else {
+            return Ok(false);
+        };
+        write!(out, " {}", CharacterString(string))?;
+        left = after;
+    }
+    Ok(true)
+}
