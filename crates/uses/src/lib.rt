@@ -8,6 +8,7 @@ pub mod denial;
 pub mod example;
 pub mod question;
 pub mod records;
+pub mod referral;
 pub mod reply;
 pub mod reverse;
 pub mod scripts;
