@@ -2,6 +2,7 @@
 use Rattle.std.proofs.Common.{◌≡◌, ℕ, ◌+◌, ◌<◌, ◌≤◌, ◌==◌, ◌&&◌, Bool, true, false, List, [], ◌∷◌, ◌++◌, length, Result, Ok, Err, encode_utf8, refl, sym, ap, subst, ◌∙◌, arith, if◌then◌else◌, append_assoc, append-nil}
 use Rattle.std.specs.List.{list_all}
 use Rattle.std.proofs.lemmas.Bool.{lt-ltb, le-ltb, ltb-true, ltb-false, ne_eqb, and_parts}
+use Rattle.std.proofs.lemmas.Bool.Decides.{nat_tests}
 use Rattle.std.proofs.lemmas.List.{length-append}
 use Rattle.std.proofs.lemmas.List.Folds.{list_all-append}
 use Rattle.std.proofs.lemmas.Str.{encode_ascii, char_from_byte, length-encode, len_utf8_bounds}
@@ -13,7 +14,6 @@ use Rattle.dnw_label.specs.LabelText.{is_label_text, may_begin, may_follow}
 use Rattle.dnw_form.specs.Edits.{with_label}
 use Rattle.dnw_form.proofs.EditLemmas.{with_label_long, with_label_fits}
 use Rattle.dnw_text.specs.NameText.{TextElement, Char, Dot, Stop, with_text, name_from_elements}
-use Rattle.dnw_text.proofs.ByteTexts.{IsRead-begin, IsRead-follow}
 
 -- what fails at its first part fails
 binds : {A B : Type 0} (r : Result A Fault) (f : A → Result B Fault) → ((x : A) → r ≡ Ok x → ⊥) → (y : B) → (r >>= f) ≡ Ok y → ⊥
@@ -87,18 +87,10 @@ at_end_of ls (b ∷ bs) some = refl
 
 -- no character past ASCII may stand in a label
 begins_low : (c : ℕ) → 128 ≤ c → may_begin c ≡ false
-begins_low c high = by (may_begin c) (λ h. (IsRead-begin c h).small)
-  where
-    by : (b : Bool) → (b ≡ true → c < 128) → b ≡ false
-    by false h = refl
-    by true h = absurd (omega (arith, h refl))
+begins_low c high = grind (arith, nat_tests)
 
 follows_low : (c : ℕ) → 128 ≤ c → may_follow c ≡ false
-follows_low c high = by (may_follow c) (λ h. (IsRead-follow c h).small)
-  where
-    by : (b : Bool) → (b ≡ true → c < 128) → b ≡ false
-    by false h = refl
-    by true h = absurd (omega (arith, h refl))
+follows_low c high = grind (arith, nat_tests)
 
 -- the first byte of such a character
 high_byte : (c : ℕ) (x : ℕ) (xs : List ℕ) → encode_utf8 c ≡ x ∷ xs → 128 ≤ c → 128 ≤ x

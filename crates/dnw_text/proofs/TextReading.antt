@@ -11,7 +11,7 @@ use Rattle.dnw_label.specs.LabelText.{dot}
 use Rattle.dnw_text.specs.NameText.{TextElement, Char, Dot, Stop, Outside, elements, with_text, name_from_elements, name_from_text}
 use Rattle.dnw_text.specs.Inside.TextReader.{state_of, elements_from, IsAlike, Begins, name_from_rest, name_from}
 use Rattle.dnw_text.specs.declared.text.State.{State as Held}
-use Rattle.dnw_text.specs.declared.text.State.TheVariants.{Outside as HeldOutside, Escaped as HeldEscaped, AfterOne as HeldAfterOne, AfterTwo as HeldAfterTwo}
+use Rattle.dnw_text.specs.declared.text.State.TheVariants.{Outside as HeldOutside}
 use Rattle.dnw_text.specs.declared.text.Move.{Move}
 use Rattle.dnw_text.specs.declared.text.TextReader.{TextReader}
 
@@ -53,15 +53,13 @@ name_from-begins r label text bytes n state begins alike =
     rw state (name_from_elements-alike (elements Outside (chars (drop n text))) r.form label (r.label ++ bytes) alike ∙ sym (begins.read r.form r.label))
 
 -- when the characters end inside an escape
+pub no_end : (state : Held) → (state ≡ HeldOutside → ⊥) → elements (state_of state) [] ≡ Stop UnfinishedEscape ∷ []
+no_end HeldOutside ne = absurd (ne refl)
+no_end state ne = refl
+
 pub unfinished : (r : TextReader) → (r.state ≡ HeldOutside → ⊥) → name_from r (chars []) ≡ Err UnfinishedEscape
 unfolding chars name_from name_from_rest
 unfinished r ne = ap (name_from_elements r.form r.label) (no_end r.state ne)
-  where
-    no_end : (state : Held) → (state ≡ HeldOutside → ⊥) → elements (state_of state) [] ≡ Stop UnfinishedEscape ∷ []
-    no_end HeldOutside ne = absurd (ne refl)
-    no_end HeldEscaped ne = refl
-    no_end (HeldAfterOne a) ne = refl
-    no_end (HeldAfterTwo a b) ne = refl
 
 -- when they end after a dot
 pub at_end : (ls : List (List ℕ)) (text : List ℕ) → length text ≡ 0 → name_from_rest ls text Outside (chars []) ≡ Ok (record { is_fqdn = true; labels = ls })
