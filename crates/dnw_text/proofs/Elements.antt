@@ -103,31 +103,22 @@ high_byte c x xs e high = by (ltb x 128) refl
         let same : c ≡ x = char_from_byte (x ∷ xs) [] c (sym (append-nil (encode_utf8 c) ∙ e)) low (omega arith) in
         absurd (omega (arith, same))
 
--- the bytes of a character may follow if it may
-all_follow : (c : ℕ) → list_all may_follow (encode_utf8 c) ≡ may_follow c
-all_follow c = by (encode_utf8 c) refl (ltb c 128) refl
+-- a test of the first byte, and of those after it whether they may follow, is one of the character if it fails past ASCII
+alone : (first : ℕ → Bool) (test : List ℕ → Bool) → ((x : ℕ) (xs : List ℕ) → test (x ∷ xs) ≡ (first x && list_all may_follow xs))
+    → ((n : ℕ) → 128 ≤ n → first n ≡ false) → (c : ℕ) → test (encode_utf8 c) ≡ first c
+alone first test splits low c = by (encode_utf8 c) refl (ltb c 128) refl
   where
-    by : (bytes : List ℕ) → encode_utf8 c ≡ bytes → (b : Bool) → ltb c 128 ≡ b → list_all may_follow bytes ≡ may_follow c
-    by bytes e true h = subst (λ l. list_all may_follow l ≡ may_follow c) (sym (encode_ascii c (ltb-true c 128 h)) ∙ e) (and-true (may_follow c))
+    by : (bytes : List ℕ) → encode_utf8 c ≡ bytes → (b : Bool) → ltb c 128 ≡ b → test bytes ≡ first c
+    by bytes e true h = subst (λ l. test l ≡ first c) (sym (encode_ascii c (ltb-true c 128 h)) ∙ e) (splits c [] ∙ and-true (first c))
     by [] e false h = absurd (omega (arith, ap length e, length-encode c, (len_utf8_bounds c).0))
     by (x ∷ xs) e false h =
         let high : 128 ≤ c = ltb-false c 128 h in
-        rw (follows_low x (high_byte c x xs e high), follows_low c high) refl
-
-all_begin : (c : ℕ) → is_label_text (encode_utf8 c) ≡ may_begin c
-all_begin c = by (encode_utf8 c) refl (ltb c 128) refl
-  where
-    by : (bytes : List ℕ) → encode_utf8 c ≡ bytes → (b : Bool) → ltb c 128 ≡ b → is_label_text bytes ≡ may_begin c
-    by bytes e true h = subst (λ l. is_label_text l ≡ may_begin c) (sym (encode_ascii c (ltb-true c 128 h)) ∙ e) (and-true (may_begin c))
-    by [] e false h = absurd (omega (arith, ap length e, length-encode c, (len_utf8_bounds c).0))
-    by (x ∷ xs) e false h =
-        let high : 128 ≤ c = ltb-false c 128 h in
-        rw (begins_low x (high_byte c x xs e high), begins_low c high) refl
+        rw (splits x xs, low x (high_byte c x xs e high), low c high) refl
 
 -- a label with one more character
 pub longer_text : (label : List ℕ) (c : ℕ) → (0 < length label → is_label_text label ≡ true)
     → is_label_text (label ++ encode_utf8 c) ≡ (if length label == 0 then may_begin c else may_follow c)
-longer_text [] c good = all_begin c
+longer_text [] c good = alone may_begin is_label_text (λ x xs. refl) begins_low c
 longer_text (b ∷ bs) c good =
     let both = and_parts (may_begin b) (list_all may_follow bs) (good (omega arith)) in
-    rw (ne_eqb (length (b ∷ bs)) 0 (λ e. omega (arith, e)), list_all-append may_follow bs (encode_utf8 c), both.0, both.1) (all_follow c)
+    rw (ne_eqb (length (b ∷ bs)) 0 (λ e. omega (arith, e)), list_all-append may_follow bs (encode_utf8 c), both.0, both.1) (alone may_follow (list_all may_follow) (λ x xs. refl) follows_low c)

@@ -262,12 +262,13 @@ after_dot (c ∷ cs) some = record {
   hopeless = λ other more given. let is = given.1 in cc;
 }
 
-pub dotted : (text : List ℕ) → IsUtf8 text → 1 < length text → get_or text 0 0 ≡ dot → GoesWrong (chars text) (record { offset = 1; rule = EmptyLabel })
-dotted [] utf8 some is = absurd (omega (arith, some))
-dotted (b ∷ bs) utf8 some is =
-    let spelled : b ∷ bs ≡ encode_utf8 dot ++ bs = ap (λ (n : ℕ). n ∷ bs) is ∙ ap (λ l. l ++ bs) (sym (encode_ascii dot (omega arith))) in
-    let later : IsUtf8 bs = IsUtf8-past_char (b ∷ bs) bs dot utf8 spelled in
-    rw (chars_past_char (b ∷ bs) bs dot utf8 spelled) (after_dot (chars bs) (chars_some bs later (omega (arith, some))))
+pub dotted : (text : List ℕ) → IsUtf8 text → (length text ≡ 1 → ⊥) → get_or text 0 0 ≡ dot → GoesWrong (chars text) (record { offset = 1; rule = EmptyLabel })
+dotted [] utf8 other is = absurd (let none : 0 ≡ 46 = is in omega (arith, none))
+dotted (b ∷ []) utf8 other is = absurd (other refl)
+dotted (b ∷ c ∷ bs) utf8 other is =
+    let spelled : b ∷ c ∷ bs ≡ encode_utf8 dot ++ c ∷ bs = ap (λ (n : ℕ). n ∷ c ∷ bs) is ∙ ap (λ l. l ++ c ∷ bs) (sym (encode_ascii dot (omega arith))) in
+    let later : IsUtf8 (c ∷ bs) = IsUtf8-past_char (b ∷ c ∷ bs) (c ∷ bs) dot utf8 spelled in
+    rw (chars_past_char (b ∷ c ∷ bs) (c ∷ bs) dot utf8 spelled) (after_dot (chars (c ∷ bs)) (chars_some (c ∷ bs) later (omega arith)))
 
 -- any other text is read from its first character on
 plain : (c : ℕ) (cs : List ℕ) → (c ≡ dot → ⊥) → name_from_text (c ∷ cs) ≡ from_start (c ∷ cs)
