@@ -1,7 +1,7 @@
 -- When a label's text cannot become a label, whatever follows, and why.
 use Rattle.std.proofs.Common.{◌≡◌, ℕ, ◌+◌, ◌<◌, ◌≤◌, ◌==◌, ◌&&◌, Bool, true, false, List, [], ◌∷◌, ◌++◌, length, Result, Ok, Err, encode_utf8, refl, sym, ap, subst, ◌∙◌, arith, if◌then◌else◌, append_assoc, append-nil}
 use Rattle.std.specs.List.{list_all}
-use Rattle.std.proofs.lemmas.Bool.{lt-ltb, le-ltb, ltb-true, ltb-false, ne_eqb, and_parts}
+use Rattle.std.proofs.lemmas.Bool.{lt-ltb, le-ltb, ltb-true, ltb-false, ne_eqb, and_parts, both_ways}
 use Rattle.std.proofs.lemmas.Bool.Decides.{nat_tests}
 use Rattle.std.proofs.lemmas.List.{length-append}
 use Rattle.std.proofs.lemmas.List.Folds.{list_all-append}
@@ -43,12 +43,12 @@ never_long ls t long more x e =
     let fails = too_long ls (t ++ more) longer in
     cc
 
--- a text that is none fails by its length or by itself
-fails_by : (ls : List (List ℕ)) (t : List ℕ) (long good : Bool) (x : List (List ℕ)) → good ≡ false
+-- a text that is short and a label's is none if it does not fit
+never_by : (ls : List (List ℕ)) (t : List ℕ) (long good : Bool) (x : List (List ℕ)) → (good ≡ true → 255 < encoded_size ls + 1 + length t)
     → ((if long then Err (LabelTooLong (length t)) else if good then Ok t else Err (MalformedLabel t)) >>= (λ l. with_label ls l)) ≡ Ok x → ⊥
-fails_by ls t true good x bad e = cc
-fails_by ls t false true x bad e = cc
-fails_by ls t false false x bad e = cc
+never_by ls t true good x over e = cc
+never_by ls t false true x over e = let fails = with_label_long ls t _ refl (over refl) in cc
+never_by ls t false false x over e = cc
 
 still_bad : (b : Bool) (xs ys : List ℕ) → (b && list_all may_follow xs) ≡ false → (b && list_all may_follow (xs ++ ys)) ≡ false
 still_bad false xs ys bad = refl
@@ -56,16 +56,11 @@ still_bad true xs ys bad = rw (list_all-append may_follow xs ys, bad) refl
 
 pub never_bad : (ls : List (List ℕ)) (t : List ℕ) → 0 < length t → is_label_text t ≡ false → Never ls t
 never_bad ls [] some bad more x e = absurd (omega (arith, some))
-never_bad ls (b ∷ bs) some bad more x e = fails_by ls (b ∷ bs ++ more) _ (is_label_text (b ∷ bs ++ more)) x (still_bad (may_begin b) bs more bad) e
-
-over_by : (ls : List (List ℕ)) (t : List ℕ) (long good : Bool) (x : List (List ℕ)) → 255 < encoded_size ls + 1 + length t
-    → ((if long then Err (LabelTooLong (length t)) else if good then Ok t else Err (MalformedLabel t)) >>= (λ l. with_label ls l)) ≡ Ok x → ⊥
-over_by ls t true good x over e = cc
-over_by ls t false true x over e = let fails = with_label_long ls t _ refl over in cc
-over_by ls t false false x over e = cc
+never_bad ls (b ∷ bs) some bad more x e =
+    never_by ls (b ∷ bs ++ more) _ _ x (λ good. let is = still_bad (may_begin b) bs more bad in absurd (both_ways _ is good)) e
 
 pub never_fits : (ls : List (List ℕ)) (t : List ℕ) → 255 < encoded_size ls + 1 + length t → Never ls t
-never_fits ls t over more x e = over_by ls (t ++ more) _ _ x (omega (arith, over, length-append t more)) e
+never_fits ls t over more x e = never_by ls (t ++ more) _ _ x (λ good. omega (arith, over, length-append t more)) e
 
 -- and then no name is given
 pub no_name : (es : List TextElement) (ls : List (List ℕ)) (t : List ℕ) → 0 < length t → Never ls t → (name : NameValue) → name_from_elements ls t es ≡ Ok name → ⊥
@@ -94,14 +89,9 @@ follows_low c high = grind (arith, nat_tests)
 
 -- the first byte of such a character
 high_byte : (c : ℕ) (x : ℕ) (xs : List ℕ) → encode_utf8 c ≡ x ∷ xs → 128 ≤ c → 128 ≤ x
-high_byte c x xs e high = by (ltb x 128) refl
-  where
-    by : (b : Bool) → ltb x 128 ≡ b → 128 ≤ x
-    by false h = ltb-false x 128 h
-    by true h =
-        let low : x < 128 = ltb-true x 128 h in
-        let same : c ≡ x = char_from_byte (x ∷ xs) [] c (sym (append-nil (encode_utf8 c) ∙ e)) low (omega arith) in
-        absurd (omega (arith, same))
+high_byte c x xs e high =
+    let not_low : ¬ (x < 128) = λ low. let same : c ≡ x = char_from_byte (x ∷ xs) [] c (sym (append-nil (encode_utf8 c) ∙ e)) low (omega arith) in omega (arith, same, low, high) in
+    omega (arith, not_low)
 
 -- a test of the first byte, and of those after it whether they may follow, is one of the character if it fails past ASCII
 alone : (first : ℕ → Bool) (test : List ℕ → Bool) → ((x : ℕ) (xs : List ℕ) → test (x ∷ xs) ≡ (first x && list_all may_follow xs))

@@ -2,13 +2,13 @@
 use Rattle.std.proofs.Common.{◌≡◌, ℕ, ◌+◌, ◌≤◌, Bool, true, false, if◌then◌else◌, List, [], ◌∷◌, ◌++◌, length, Result, Ok, refl, ap, ◌∙◌, append_assoc, arith}
 use Rattle.std.specs.List.{AllByRecursion, flat_map}
 use Rattle.std.specs.Str.{chars}
-use Rattle.std.proofs.lemmas.Bool.{le-ltb, and_parts, ne_eqb}
+use Rattle.std.proofs.lemmas.Bool.{and_parts, ne_eqb}
 use Rattle.std.proofs.lemmas.Str.{chars-nil}
 use Rattle.dnw_error.specs.Fault.{Fault, ◌>>=◌}
 use Rattle.dnw_base.specs.Labels.{IsLabel}
 use Rattle.dnw_label.specs.LabelText.{dot, may_begin, label_text, byte_text}
 use Rattle.dnw_base.specs.Names.{NameValue, AreLabels, encoded_size}
-use Rattle.dnw_text.specs.NameText.{Char, Dot, Outside, elements, with_text, name_from_text, name_text, IsLabelText}
+use Rattle.dnw_text.specs.NameText.{Char, Dot, Outside, elements, name_from_text, name_text, IsLabelText}
 use Rattle.dnw_text.specs.Inside.TextReader.{name_from_rest}
 use Rattle.dnw_base.proofs.Wires.{encoded_size_push, encoded_size-cons}
 use Rattle.dnw_text.proofs.Joined.{dotted, joined-cons}

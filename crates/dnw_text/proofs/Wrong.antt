@@ -284,9 +284,10 @@ no_dot text utf8 other is = by (chars text) refl is
         let spelled : text ≡ encode_utf8 c ++ encodes cs = sym (encodes-chars text utf8) ∙ ap encodes e in
         other (byte_from_char text (encodes cs) c spelled (omega (arith, h)) ∙ h)
 
-pub any_text : (cs : List ℕ) → (get_or cs 0 0 ≡ dot → ⊥) → Gives from_start cs → IsNameText cs
-any_text [] other given = (record { is_fqdn = false; labels = [] }, refl)
-any_text (c ∷ cs) other given = (given.0, plain c cs other ∙ given.1)
+-- so is its beginning
+any_text : (cs rest : List ℕ) → (get_or (cs ++ rest) 0 0 ≡ dot → ⊥) → Gives from_start cs → IsNameText cs
+any_text [] rest other given = (record { is_fqdn = false; labels = [] }, refl)
+any_text (c ∷ cs) rest other given = (given.0, plain c cs other ∙ given.1)
 
 -- so is each that begins as it does
 plain_with : (front unit rest more : List ℕ) → 0 < length unit → (get_or (front ++ (unit ++ rest)) 0 0 ≡ dot → ⊥)
@@ -306,10 +307,6 @@ unit_some : (front unit : List ℕ) (fault : Fault) → Gives from_start front �
 unit_some front [] fault given fails = let same = sym given.1 ∙ (ap from_start (sym (append-nil front)) ∙ fails) in absurd cc
 unit_some front (x ∷ u) fault given fails = omega arith
 
-front_plain : (front rest : List ℕ) → (get_or (front ++ rest) 0 0 ≡ dot → ⊥) → Gives from_start front → IsNameText front
-front_plain [] rest other given = (record { is_fqdn = false; labels = [] }, refl)
-front_plain (c ∷ cs) rest other given = any_text (c ∷ cs) other given
-
 pub any_wrong : (cs : List ℕ) (w : TextFault) → (get_or cs 0 0 ≡ dot → ⊥) → GoesWrongBy from_start cs w → GoesWrong cs w
 any_wrong cs w other g =
     let some = unit_some g.front g.unit g.fault g.before g.fails in
@@ -321,7 +318,7 @@ any_wrong cs w other g =
       fault = g.fault;
       parts = g.parts;
       offset = g.offset;
-      before = front_plain g.front (g.unit ++ g.rest) first g.before;
+      before = any_text g.front (g.unit ++ g.rest) first g.before;
       within = λ n pos lt. plain_part g.front g.unit g.rest n pos some first ∙ g.within n pos lt;
       fails = subst (λ u. name_from_text (g.front ++ u) ≡ from_start (g.front ++ u)) (append-nil g.unit) (plain_with g.front g.unit g.rest [] some first) ∙ g.fails;
       rule = g.rule;
@@ -331,5 +328,5 @@ any_wrong cs w other g =
 
 pub any_outcome : (cs : List ℕ) (r : Option TextFault) → (get_or cs 0 0 ≡ dot → ⊥) → MatchOption r (Gives from_start cs) (GoesWrongBy from_start cs)
     → MatchOption r (IsNameText cs) (GoesWrong cs)
-any_outcome cs None other given = any_text cs other given
+any_outcome cs None other given = any_text cs [] (λ e. other (ap (λ l. get_or l 0 0) (sym (append-nil cs)) ∙ e)) given
 any_outcome cs (Some w) other goes = any_wrong cs w other goes

@@ -1,5 +1,4 @@
-use Rattle.std.proofs.Common.{◌≡◌, ℕ, ◌<◌, List, [], ◌∷◌, length, get_or, refl, eqb-true, eq-eqb, sym, ◌∙◌, arith}
-use Rattle.dnw_label.specs.LabelText.{dot}
+use Rattle.std.proofs.Common.{eqb-true, eq-eqb, sym, ◌∙◌}
 use Rattle.std.specs.Str.{chars}
 use Rattle.std.proofs.lemmas.Bool.{both_ways}
 use Rattle.dnw_text.proofs.Wrong.{lone_dot, dotted, no_dot, any_outcome}
