@@ -28,9 +28,6 @@ use Rattle.dnw_text.proofs.TextReading.{plain_chars, chars-dot, no_end}
 
 -- one character more
 module _ (text : List ℕ) (state : State) (rest after : List ℕ) (d : ℕ) (w : IsWithin text state rest) (first : chars rest ≡ d ∷ chars after) where
-  longer : List ℕ
-  longer = w.own ++ d ∷ []
-
   parts : chars text ≡ (w.own ++ d ∷ []) ++ chars after
   parts = w.parts ∙ ap (λ l. w.own ++ l) first ∙ sym (append_assoc w.own (d ∷ []) (chars after))
 
