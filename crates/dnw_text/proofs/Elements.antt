@@ -74,12 +74,6 @@ no_name (Dot ∷ es) ls t some never name e =
     binds (with_text ls t) _ (λ x h. never [] x (ap (with_text ls) (append-nil t) ∙ h)) name e
 no_name (Stop fault ∷ es) ls t some never name e = cc
 
--- what the end of a text gives after a label
-pub at_end_of : (ls : List (List ℕ)) (t : List ℕ) → 0 < length t
-    → name_from_elements ls t [] ≡ (with_text ls t >>= (λ all. Ok (record { is_fqdn = false; labels = all })))
-at_end_of ls [] some = absurd (omega (arith, some))
-at_end_of ls (b ∷ bs) some = refl
-
 -- no character past ASCII may stand in a label
 begins_low : (c : ℕ) → 128 ≤ c → may_begin c ≡ false
 begins_low c high = grind (arith, nat_tests)

@@ -21,12 +21,17 @@ with_text_alike ls a b lt e =
     let other : 63 < length b = omega arith in
     rw (lt-ltb 63 (length a) lt, lt-ltb 63 (length b) other, e) refl
 
+-- what the end of a text gives after a label
+pub at_end_of : (ls : List (List ℕ)) (t : List ℕ) → 0 < length t
+    → name_from_elements ls t [] ≡ (with_text ls t >>= (λ all. Ok (record { is_fqdn = false; labels = all })))
+at_end_of ls [] some = absurd (omega (arith, some))
+at_end_of ls (b ∷ bs) some = refl
+
 -- and all that follows is alike
 elements_alike : (es : List TextElement) (ls : List (List ℕ)) (a b : List ℕ) → 63 < length a → length a ≡ length b → name_from_elements ls a es ≡ name_from_elements ls b es
-elements_alike [] ls [] b lt e = absurd (omega (arith, lt))
-elements_alike [] ls (x ∷ a) [] lt e = absurd (omega (arith, lt, e))
-elements_alike [] ls (x ∷ a) (y ∷ b) lt e =
-    ap (λ r. r >>= (λ all. Ok (record { is_fqdn = false; labels = all }))) (with_text_alike ls (x ∷ a) (y ∷ b) lt e)
+elements_alike [] ls a b lt e =
+    at_end_of ls a (omega (arith, lt)) ∙ ap (λ r. r >>= (λ all. Ok (record { is_fqdn = false; labels = all }))) (with_text_alike ls a b lt e)
+    ∙ sym (at_end_of ls b (omega (arith, lt, e)))
 elements_alike (Char c ∷ es) ls a b lt e =
     elements_alike es ls (a ++ encode_utf8 c) (b ++ encode_utf8 c)
     (omega (arith, lt, length-append a (encode_utf8 c)))

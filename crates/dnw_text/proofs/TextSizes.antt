@@ -64,8 +64,7 @@ length_text true l ls = omega (arith, length-append (join_with_byte dot (map lab
 length_text false l ls = omega (arith, length-append (join_with_byte dot (map label_text (l ∷ ls))) [], ap length (joined-cons l ls), length-append (label_text l) (flat_map dotted ls))
 
 at_most_one : (b : Bool) → (if b then 1 else 0) ≤ 1
-at_most_one true = omega arith
-at_most_one false = omega arith
+at_most_one b = grind arith
 
 short : (is_fqdn : Bool) (ls : List (List ℕ)) → AreLabels ls → length (name_text (record { is_fqdn = is_fqdn; labels = ls })) ≤ max_text
 short true [] h = omega arith
