@@ -30,6 +30,7 @@ pub use Rattle.dnw_lower.specs.LowerNames.{lowered, IsLower, lower_name_from_tex
 -- Types and classes of records.
 pub use Rattle.dnw_codes.specs.declared.record_type.RecordType.{RecordType}
 pub use Rattle.dnw_codes.specs.RecordTypes.{type_code, type_name, type_text, type_of_code, type_of_name, type_of_text, type_cmp, type_hash, is_dnssec, is_unknown}
+pub use Rattle.dnw_codes.specs.declared.dns_class.DNSClass.{DNSClass}
 pub use Rattle.dnw_codes.specs.DnsClasses.{class_code, class_name, class_text, class_of_code, class_of_name, class_of_text, class_cmp, class_hash, class_rank, min_payload}
 pub use Rattle.dns_names_wire.specs.CodeLaws.{TypeCodesComeBack, NamedTypesComeBack, UnknownTypesComeBack}
 pub use Rattle.dns_names_wire.specs.CodeLaws.{ClassCodesComeBack, NamedClassesComeBack, UnknownClassesComeBack, SizesStayUnknown}
@@ -76,7 +77,7 @@ pub use Rattle.dnw_encoder.specs.EncoderLaws.{StaysBounded}
 pub use Rattle.dnw_encoder.specs.CandidateLaws.{KeepsPreceding, NewPrecede, WritesPrecede, TextsPrecede, PlacesPrecede, FillsPrecede, NamesPrecede}
 pub use Rattle.dnw_encoder.specs.CandidateLaws.{StoresPrecede, TrimsPrecede, RewindsPrecede, ItemsPrecede, ItemPrecedes}
 -- Resource records.
-pub use Rattle.dnw_record.specs.Records.{RecordValue, RecordAt, TakesRecord, FailsRecord, HasDataName, FailsDataName, data_octets}
+pub use Rattle.dnw_record.specs.Records.{RecordValue, RecordAt, record_of, TakesRecord, FailsRecord, HasDataName, FailsDataName, data_octets}
 pub use Rattle.dnw_record.specs.declared.record.WireRecord.{WireRecord}
 pub use Rattle.dnw_record.specs.WrittenRecords.{EmitsData, EmitsRecord, NumbersFit}
 pub use Rattle.dnw_record.specs.PassedRecords.{IsSound, PassesFields, PassesRecord, fixed_octets, owner_name}

@@ -1,7 +1,8 @@
 -- When a label's text cannot become a label, whatever follows, and why.
 use Rattle.std.proofs.Common.{◌≡◌, ℕ, ◌+◌, ◌<◌, ◌≤◌, ◌==◌, ◌&&◌, Bool, true, false, List, [], ◌∷◌, ◌++◌, length, Result, Ok, Err, encode_utf8, refl, sym, ap, subst, ◌∙◌, arith, if◌then◌else◌, append_assoc, append-nil}
 use Rattle.std.specs.List.{list_all}
-use Rattle.std.proofs.lemmas.Bool.{lt-ltb, le-ltb, ltb-true, ltb-false, ne_eqb, and_parts}
+use Rattle.std.proofs.lemmas.Bool.{lt-ltb, le-ltb, ltb-true, ltb-false, ne_eqb, and_parts, both_ways}
+use Rattle.std.proofs.lemmas.Bool.Decides.{nat_tests}
 use Rattle.std.proofs.lemmas.List.{length-append}
 use Rattle.std.proofs.lemmas.List.Folds.{list_all-append}
 use Rattle.std.proofs.lemmas.Str.{encode_ascii, char_from_byte, length-encode, len_utf8_bounds}
@@ -13,7 +14,6 @@ use Rattle.dnw_label.specs.LabelText.{is_label_text, may_begin, may_follow}
 use Rattle.dnw_form.specs.Edits.{with_label}
 use Rattle.dnw_form.proofs.EditLemmas.{with_label_long, with_label_fits}
 use Rattle.dnw_text.specs.NameText.{TextElement, Char, Dot, Stop, with_text, name_from_elements}
-use Rattle.dnw_text.proofs.ByteTexts.{IsRead-begin, IsRead-follow}
 
 -- what fails at its first part fails
 binds : {A B : Type 0} (r : Result A Fault) (f : A → Result B Fault) → ((x : A) → r ≡ Ok x → ⊥) → (y : B) → (r >>= f) ≡ Ok y → ⊥
@@ -43,12 +43,12 @@ never_long ls t long more x e =
     let fails = too_long ls (t ++ more) longer in
     cc
 
--- a text that is none fails by its length or by itself
-fails_by : (ls : List (List ℕ)) (t : List ℕ) (long good : Bool) (x : List (List ℕ)) → good ≡ false
+-- a text that is short and a label's is none if it does not fit
+never_by : (ls : List (List ℕ)) (t : List ℕ) (long good : Bool) (x : List (List ℕ)) → (good ≡ true → 255 < encoded_size ls + 1 + length t)
     → ((if long then Err (LabelTooLong (length t)) else if good then Ok t else Err (MalformedLabel t)) >>= (λ l. with_label ls l)) ≡ Ok x → ⊥
-fails_by ls t true good x bad e = cc
-fails_by ls t false true x bad e = cc
-fails_by ls t false false x bad e = cc
+never_by ls t true good x over e = cc
+never_by ls t false true x over e = let fails = with_label_long ls t _ refl (over refl) in cc
+never_by ls t false false x over e = cc
 
 still_bad : (b : Bool) (xs ys : List ℕ) → (b && list_all may_follow xs) ≡ false → (b && list_all may_follow (xs ++ ys)) ≡ false
 still_bad false xs ys bad = refl
@@ -56,16 +56,11 @@ still_bad true xs ys bad = rw (list_all-append may_follow xs ys, bad) refl
 
 pub never_bad : (ls : List (List ℕ)) (t : List ℕ) → 0 < length t → is_label_text t ≡ false → Never ls t
 never_bad ls [] some bad more x e = absurd (omega (arith, some))
-never_bad ls (b ∷ bs) some bad more x e = fails_by ls (b ∷ bs ++ more) _ (is_label_text (b ∷ bs ++ more)) x (still_bad (may_begin b) bs more bad) e
-
-over_by : (ls : List (List ℕ)) (t : List ℕ) (long good : Bool) (x : List (List ℕ)) → 255 < encoded_size ls + 1 + length t
-    → ((if long then Err (LabelTooLong (length t)) else if good then Ok t else Err (MalformedLabel t)) >>= (λ l. with_label ls l)) ≡ Ok x → ⊥
-over_by ls t true good x over e = cc
-over_by ls t false true x over e = let fails = with_label_long ls t _ refl over in cc
-over_by ls t false false x over e = cc
+never_bad ls (b ∷ bs) some bad more x e =
+    never_by ls (b ∷ bs ++ more) _ _ x (λ good. let is = still_bad (may_begin b) bs more bad in absurd (both_ways _ is good)) e
 
 pub never_fits : (ls : List (List ℕ)) (t : List ℕ) → 255 < encoded_size ls + 1 + length t → Never ls t
-never_fits ls t over more x e = over_by ls (t ++ more) _ _ x (omega (arith, over, length-append t more)) e
+never_fits ls t over more x e = never_by ls (t ++ more) _ _ x (λ good. omega (arith, over, length-append t more)) e
 
 -- and then no name is given
 pub no_name : (es : List TextElement) (ls : List (List ℕ)) (t : List ℕ) → 0 < length t → Never ls t → (name : NameValue) → name_from_elements ls t es ≡ Ok name → ⊥
@@ -79,63 +74,35 @@ no_name (Dot ∷ es) ls t some never name e =
     binds (with_text ls t) _ (λ x h. never [] x (ap (with_text ls) (append-nil t) ∙ h)) name e
 no_name (Stop fault ∷ es) ls t some never name e = cc
 
--- what the end of a text gives after a label
-pub at_end_of : (ls : List (List ℕ)) (t : List ℕ) → 0 < length t
-    → name_from_elements ls t [] ≡ (with_text ls t >>= (λ all. Ok (record { is_fqdn = false; labels = all })))
-at_end_of ls [] some = absurd (omega (arith, some))
-at_end_of ls (b ∷ bs) some = refl
-
 -- no character past ASCII may stand in a label
 begins_low : (c : ℕ) → 128 ≤ c → may_begin c ≡ false
-begins_low c high = by (may_begin c) (λ h. (IsRead-begin c h).small)
-  where
-    by : (b : Bool) → (b ≡ true → c < 128) → b ≡ false
-    by false h = refl
-    by true h = absurd (omega (arith, h refl))
+begins_low c high = grind (arith, nat_tests)
 
 follows_low : (c : ℕ) → 128 ≤ c → may_follow c ≡ false
-follows_low c high = by (may_follow c) (λ h. (IsRead-follow c h).small)
-  where
-    by : (b : Bool) → (b ≡ true → c < 128) → b ≡ false
-    by false h = refl
-    by true h = absurd (omega (arith, h refl))
+follows_low c high = grind (arith, nat_tests)
 
 -- the first byte of such a character
 high_byte : (c : ℕ) (x : ℕ) (xs : List ℕ) → encode_utf8 c ≡ x ∷ xs → 128 ≤ c → 128 ≤ x
-high_byte c x xs e high = by (ltb x 128) refl
-  where
-    by : (b : Bool) → ltb x 128 ≡ b → 128 ≤ x
-    by false h = ltb-false x 128 h
-    by true h =
-        let low : x < 128 = ltb-true x 128 h in
-        let same : c ≡ x = char_from_byte (x ∷ xs) [] c (sym (append-nil (encode_utf8 c) ∙ e)) low (omega arith) in
-        absurd (omega (arith, same))
+high_byte c x xs e high =
+    let not_low : ¬ (x < 128) = λ low. let same : c ≡ x = char_from_byte (x ∷ xs) [] c (sym (append-nil (encode_utf8 c) ∙ e)) low (omega arith) in omega (arith, same, low, high) in
+    omega (arith, not_low)
 
--- the bytes of a character may follow if it may
-all_follow : (c : ℕ) → list_all may_follow (encode_utf8 c) ≡ may_follow c
-all_follow c = by (encode_utf8 c) refl (ltb c 128) refl
+-- a test of the first byte, and of those after it whether they may follow, is one of the character if it fails past ASCII
+alone : (first : ℕ → Bool) (test : List ℕ → Bool) → ((x : ℕ) (xs : List ℕ) → test (x ∷ xs) ≡ (first x && list_all may_follow xs))
+    → ((n : ℕ) → 128 ≤ n → first n ≡ false) → (c : ℕ) → test (encode_utf8 c) ≡ first c
+alone first test splits low c = by (encode_utf8 c) refl (ltb c 128) refl
   where
-    by : (bytes : List ℕ) → encode_utf8 c ≡ bytes → (b : Bool) → ltb c 128 ≡ b → list_all may_follow bytes ≡ may_follow c
-    by bytes e true h = subst (λ l. list_all may_follow l ≡ may_follow c) (sym (encode_ascii c (ltb-true c 128 h)) ∙ e) (and-true (may_follow c))
+    by : (bytes : List ℕ) → encode_utf8 c ≡ bytes → (b : Bool) → ltb c 128 ≡ b → test bytes ≡ first c
+    by bytes e true h = subst (λ l. test l ≡ first c) (sym (encode_ascii c (ltb-true c 128 h)) ∙ e) (splits c [] ∙ and-true (first c))
     by [] e false h = absurd (omega (arith, ap length e, length-encode c, (len_utf8_bounds c).0))
     by (x ∷ xs) e false h =
         let high : 128 ≤ c = ltb-false c 128 h in
-        rw (follows_low x (high_byte c x xs e high), follows_low c high) refl
-
-all_begin : (c : ℕ) → is_label_text (encode_utf8 c) ≡ may_begin c
-all_begin c = by (encode_utf8 c) refl (ltb c 128) refl
-  where
-    by : (bytes : List ℕ) → encode_utf8 c ≡ bytes → (b : Bool) → ltb c 128 ≡ b → is_label_text bytes ≡ may_begin c
-    by bytes e true h = subst (λ l. is_label_text l ≡ may_begin c) (sym (encode_ascii c (ltb-true c 128 h)) ∙ e) (and-true (may_begin c))
-    by [] e false h = absurd (omega (arith, ap length e, length-encode c, (len_utf8_bounds c).0))
-    by (x ∷ xs) e false h =
-        let high : 128 ≤ c = ltb-false c 128 h in
-        rw (begins_low x (high_byte c x xs e high), begins_low c high) refl
+        rw (splits x xs, low x (high_byte c x xs e high), low c high) refl
 
 -- a label with one more character
 pub longer_text : (label : List ℕ) (c : ℕ) → (0 < length label → is_label_text label ≡ true)
     → is_label_text (label ++ encode_utf8 c) ≡ (if length label == 0 then may_begin c else may_follow c)
-longer_text [] c good = all_begin c
+longer_text [] c good = alone may_begin is_label_text (λ x xs. refl) begins_low c
 longer_text (b ∷ bs) c good =
     let both = and_parts (may_begin b) (list_all may_follow bs) (good (omega arith)) in
-    rw (ne_eqb (length (b ∷ bs)) 0 (λ e. omega (arith, e)), list_all-append may_follow bs (encode_utf8 c), both.0, both.1) (all_follow c)
+    rw (ne_eqb (length (b ∷ bs)) 0 (λ e. omega (arith, e)), list_all-append may_follow bs (encode_utf8 c), both.0, both.1) (alone may_follow (list_all may_follow) (λ x xs. refl) follows_low c)

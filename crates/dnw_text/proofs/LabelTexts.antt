@@ -2,7 +2,9 @@
 use Rattle.std.proofs.Common.{◌≡◌, ℕ, ◌<◌, ◌≤◌, Bool, true, false, List, [], ◌∷◌, ◌++◌, length, take, drop, refl, sym, ap, ◌∙◌, append_assoc, encode_utf8, arith}
 use Rattle.std.specs.List.{list_all, flat_map}
 use Rattle.std.specs.Str.{IsAscii, IsUtf8, chars}
-use Rattle.std.proofs.lemmas.Bool.{and_parts, and_from, leb-true}
+use Rattle.std.proofs.lemmas.Bool.{and_parts, leb-true}
+use Rattle.std.proofs.lemmas.List.Elements.{All-weaker}
+use Rattle.std.proofs.lemmas.List.Sums.{AllPass-from_list_all, list_all-from_AllPass}
 use Rattle.std.proofs.lemmas.Bool.Decides.{nat_tests}
 use Rattle.std.proofs.lemmas.List.{append-nil, take-append-drop, length-take-le}
 use Rattle.std.proofs.lemmas.Str.{encode_ascii, length-encode, len_utf8_bounds, chars-append, chars-IsAscii, IsAscii-append, IsUtf8-from_ascii, IsCharBoundary-from_take}
@@ -31,9 +33,7 @@ Reads-cons b bs cs more first rest = record {
 
 -- weaker tests pass too
 pub all_weaker : (p q : ℕ → Bool) → ((c : ℕ) → p c ≡ true → q c ≡ true) → (l : List ℕ) → list_all p l ≡ true → list_all q l ≡ true
-all_weaker p q each [] h = refl
-all_weaker p q each (c ∷ l) h =
-    let both = and_parts (p c) _ h in and_from (q c) _ (each c both.0) (all_weaker p q each l both.1)
+all_weaker p q each l h = list_all-from_AllPass q l (All-weaker _ _ each l (AllPass-from_list_all p l h))
 
 pub own_simple : (c : ℕ) → is_simple c ≡ true → is_own c ≡ true
 own_simple c h = grind (arith, nat_tests)

@@ -31,52 +31,47 @@ pub record Put (text octets : List ℕ) (start : ℕ) : Type 0 where
 pub Put-start : (text octets : List ℕ) → octets ≡ 0 ∷ text ++ 0 ∷ [] → Put text octets 0
 Put-start text octets e = record { labels = []; each = tt; octet = 0; shape = e; start_is = refl; within = omega arith; name = refl }
 
--- the next label and what follows it
-module _ {text octets : List ℕ} {start : ℕ} (h : Put text octets start) (few : length text ≤ 253) (label rest : List ℕ) (e : drop start text ≡ label ++ rest)
-    (s : IsSimpleLabel label) where
+-- the next label has n bytes
+module _ {text octets : List ℕ} {start : ℕ} (h : Put text octets start) (few : length text ≤ 253) (n : ℕ) (inside : start + n ≤ length text)
+    (s : IsSimpleLabel (take n (drop start text))) where
+  abbrev label : List ℕ
+  label = take n (drop start text)
+
+  size : length label ≡ n
+  size = length-take-le n (drop start text) (omega (arith, length-drop start text))
+
   room : encoded_size h.labels + 1 + length label ≤ 255
-  room = omega (arith, length-wire h.labels, length-append (labels_wire h.labels) (0 ∷ []), h.start_is, ap length e, length-append label rest, length-drop start text, h.within)
+  room = omega (arith, length-wire h.labels, length-append (labels_wire h.labels) (0 ∷ []), h.start_is, size)
 
   longer : AreLabels (h.labels ++ label ∷ [])
   longer = record { each = AllByRecursion-push h.labels label h.each s.is_label; fit = omega (arith, encoded_size_push h.labels label, room) }
 
   -- the octet before it is its length
-  put : set octets start (length label) ≡ labels_wire (h.labels ++ label ∷ []) ++ (rest ++ 0 ∷ [])
-  put =
-      rw h.shape (ap (λ (i : ℕ). set (labels_wire h.labels ++ h.octet ∷ (drop start text ++ 0 ∷ [])) i (length label)) h.start_is
+  put : (rest : List ℕ) → drop start text ≡ label ++ rest → set octets start n ≡ labels_wire (h.labels ++ label ∷ []) ++ (rest ++ 0 ∷ [])
+  put rest e =
+      ap (set octets start) (sym size) ∙ rw h.shape (ap (λ (i : ℕ). set (labels_wire h.labels ++ h.octet ∷ (drop start text ++ 0 ∷ [])) i (length label)) h.start_is
       ∙ set-append_seam (labels_wire h.labels) h.octet (drop start text ++ 0 ∷ []) (length label)
-      ∙ rw (e, append_assoc label rest (0 ∷ []), labels_wire_push h.labels label, append_assoc (labels_wire h.labels) (label_wire label) (rest ++ 0 ∷ [])) refl)
+      ∙ rw (ap (λ (l : List ℕ). l ++ 0 ∷ []) e ∙ append_assoc label rest (0 ∷ []), labels_wire_push h.labels label, append_assoc (labels_wire h.labels) (label_wire label) (rest ++ 0 ∷ [])) refl)
 
-  next_start : start + length label + 1 ≡ length (labels_wire (h.labels ++ label ∷ []))
-  next_start = omega (arith, h.start_is, ap length (labels_wire_push h.labels label), length-append (labels_wire h.labels) (label_wire label))
-
-  named : name_from_rest h.labels [] Outside (chars (label ++ rest)) ≡ name_from_rest [] [] Outside (chars text)
-  named = ap (λ (t : List ℕ). name_from_rest h.labels [] Outside (chars t)) (sym e) ∙ h.name
-
--- it has n bytes
-module _ {text octets : List ℕ} {start : ℕ} (h : Put text octets start) (few : length text ≤ 253) (n : ℕ) (inside : start + n ≤ length text)
-    (s : IsSimpleLabel (take n (drop start text))) where
-  size : length (take n (drop start text)) ≡ n
-  size = length-take-le n (drop start text) (omega (arith, length-drop start text))
+  named : (rest : List ℕ) → drop start text ≡ label ++ rest → name_from_rest h.labels [] Outside (chars (label ++ rest)) ≡ name_from_rest [] [] Outside (chars text)
+  named rest e = ap (λ (t : List ℕ). name_from_rest h.labels [] Outside (chars t)) (sym e) ∙ h.name
 
   -- it is the last one
   pub Put-last : start + n ≡ length text → PutsLengths text (set octets start n) false
   Put-last end =
-      let label = take n (drop start text) in
       let e : drop start text ≡ label ++ [] = sym (append-nil label ∙ take_all n (drop start text) (omega (arith, length-drop start text))) in
       record {
         labels = h.labels ++ label ∷ [];
-        are_labels = longer h few label [] e s;
+        are_labels = longer;
         name =
-            sym (named h few label [] e s) ∙ name_from_rest-last h.labels label s
-            ∙ ap (λ r. r >>= (λ all. Ok (record { is_fqdn = false; labels = all }))) (with_label_fits h.labels label (room h few label [] e s));
-        form = ap (set octets start) (sym size) ∙ put h few label [] e s ∙ sym (append-nil (wire (h.labels ++ label ∷ [])));
+            sym (named [] e) ∙ name_from_rest-last h.labels label s
+            ∙ ap (λ r. r >>= (λ all. Ok (record { is_fqdn = false; labels = all }))) (with_label_fits h.labels label room);
+        form = put [] e ∙ sym (append-nil (wire (h.labels ++ label ∷ [])));
       }
 
   -- or a dot follows
   pub Put-more : start + n < length text → get_or text (start + n) 0 ≡ dot → Put text (set octets start n) (start + n + 1)
   Put-more lt is =
-      let label = take n (drop start text) in
       let rest = drop (start + n + 1) text in
       let after : drop (n + 1) (drop start text) ≡ rest = drop-drop (n + 1) start text ∙ ap (λ (k : ℕ). drop k text) (omega arith) in
       let e : drop start text ≡ label ++ dot ∷ rest =
@@ -84,14 +79,14 @@ module _ {text octets : List ℕ} {start : ℕ} (h : Put text octets start) (few
       ∙ ap (λ (more : List ℕ). label ++ dot ∷ more) after in
       record {
         labels = h.labels ++ label ∷ [];
-        each = (longer h few label (dot ∷ rest) e s).each;
+        each = longer.each;
         octet = dot;
-        shape = ap (set octets start) (sym size) ∙ put h few label (dot ∷ rest) e s;
-        start_is = omega (arith, size, next_start h few label (dot ∷ rest) e s);
+        shape = put (dot ∷ rest) e;
+        start_is = omega (arith, size, h.start_is, ap length (labels_wire_push h.labels label), length-append (labels_wire h.labels) (label_wire label));
         within = omega arith;
         name =
-            sym (ap (λ r. r >>= (λ longer. name_from_rest longer [] Outside (chars rest))) (with_label_fits h.labels label (room h few label (dot ∷ rest) e s)))
-            ∙ sym (name_from_rest-label h.labels label rest s) ∙ named h few label (dot ∷ rest) e s;
+            sym (ap (λ r. r >>= (λ longer. name_from_rest longer [] Outside (chars rest))) (with_label_fits h.labels label room))
+            ∙ sym (name_from_rest-label h.labels label rest s) ∙ named (dot ∷ rest) e;
       }
 
 -- at the end of the text the last dot gives way to a zero

@@ -2,24 +2,20 @@
 use Rattle.std.proofs.Common.{◌≡◌, ℕ, ◌+◌, ◌≤◌, Bool, true, false, if◌then◌else◌, List, [], ◌∷◌, ◌++◌, length, Result, Ok, refl, ap, ◌∙◌, append_assoc, arith}
 use Rattle.std.specs.List.{AllByRecursion, flat_map}
 use Rattle.std.specs.Str.{chars}
-use Rattle.std.proofs.lemmas.Bool.{le-ltb, and_parts, ne_eqb}
+use Rattle.std.proofs.lemmas.Bool.{and_parts, ne_eqb}
 use Rattle.std.proofs.lemmas.Str.{chars-nil}
 use Rattle.dnw_error.specs.Fault.{Fault, ◌>>=◌}
 use Rattle.dnw_base.specs.Labels.{IsLabel}
 use Rattle.dnw_label.specs.LabelText.{dot, may_begin, label_text, byte_text}
 use Rattle.dnw_base.specs.Names.{NameValue, AreLabels, encoded_size}
-use Rattle.dnw_text.specs.NameText.{Char, Dot, Outside, elements, with_text, name_from_text, name_text, IsLabelText}
+use Rattle.dnw_text.specs.NameText.{Char, Dot, Outside, elements, name_from_text, name_text, IsLabelText}
 use Rattle.dnw_text.specs.Inside.TextReader.{name_from_rest}
-use Rattle.dnw_form.proofs.EditLemmas.{with_label_fits}
 use Rattle.dnw_base.proofs.Wires.{encoded_size_push, encoded_size-cons}
 use Rattle.dnw_text.proofs.Joined.{dotted, joined-cons}
+use Rattle.dnw_text.proofs.Elements.{fits}
 use Rattle.dnw_text.proofs.TextReading.{at_dot, at_end, at_last, plain_chars, chars-dot}
 use Rattle.dnw_text.proofs.ByteTexts.{IsRead-begin}
 use Rattle.dnw_text.proofs.LabelTexts.{Reads-label, Reads-chars, Reads-rest}
-
--- the label ends
-with_text-label : (ls : List (List ℕ)) (l : List ℕ) → IsLabel l → IsLabelText l → encoded_size ls + 1 + length l ≤ 255 → with_text ls l ≡ Ok (ls ++ l ∷ [])
-with_text-label ls l is_label is_text fit = rw (le-ltb 63 (length l) is_label.not_long, is_text) (with_label_fits ls l fit)
 
 -- what a name's text ends with
 abbrev last_dot : Bool → List ℕ
@@ -30,9 +26,9 @@ read_dotted : (more : List (List ℕ)) (is_fqdn : Bool) (ls : List (List ℕ)) (
     → AllByRecursion IsLabel (l ∷ more) → AllByRecursion IsLabelText (l ∷ more) → encoded_size ls + encoded_size (l ∷ more) ≤ 256
     → name_from_rest ls l Outside (chars (flat_map dotted more ++ last_dot is_fqdn)) ≡ Ok (record { is_fqdn = is_fqdn; labels = ls ++ l ∷ more })
 read_dotted [] true ls l labels texts fit =
-    at_dot ls l [] ∙ rw (with_text-label ls l labels.0 texts.0 (omega (arith, encoded_size-cons l [], fit))) (at_end (ls ++ l ∷ []) [] refl)
+    at_dot ls l [] ∙ rw (fits ls l labels.0.not_long texts.0 (omega (arith, encoded_size-cons l [], fit))) (at_end (ls ++ l ∷ []) [] refl)
 read_dotted [] false ls l labels texts fit =
-    at_last ls l (ne_eqb (length l) 0 (λ z. let some = labels.0.not_empty in omega arith)) ∙ rw (with_text-label ls l labels.0 texts.0 (omega (arith, encoded_size-cons l [], fit))) refl
+    at_last ls l (ne_eqb (length l) 0 (λ z. let some = labels.0.not_empty in omega arith)) ∙ rw (fits ls l labels.0.not_long texts.0 (omega (arith, encoded_size-cons l [], fit))) refl
 read_dotted (m ∷ more) is_fqdn ls l labels texts fit =
     let room : encoded_size ls + 1 + length l ≤ 255 = omega (arith, fit, encoded_size-cons l (m ∷ more), encoded_size-cons m more) in
     let rest : encoded_size (ls ++ l ∷ []) + encoded_size (m ∷ more) ≤ 256 = omega (arith, fit, encoded_size-cons l (m ∷ more), encoded_size_push ls l) in
@@ -40,7 +36,7 @@ read_dotted (m ∷ more) is_fqdn ls l labels texts fit =
     ap (λ (all : List ℕ). name_from_rest ls l Outside (chars (dot ∷ all))) (append_assoc (label_text m) (flat_map dotted more) (last_dot is_fqdn))
     ∙ at_dot ls l (label_text m ++ end)
     ∙ ap (λ (r : Result (List (List ℕ)) Fault). r >>= (λ longer. name_from_rest longer [] Outside (chars (label_text m ++ end))))
-    (with_text-label ls l labels.0 texts.0 room)
+    (fits ls l labels.0.not_long texts.0 room)
     ∙ Reads-rest (Reads-label m texts.1.0) (ls ++ l ∷ []) [] end
     ∙ read_dotted more is_fqdn (ls ++ l ∷ []) m labels.1 texts.1 rest
     ∙ ap (λ (all : List (List ℕ)). Ok (record { is_fqdn = is_fqdn; labels = all })) (append_assoc ls (l ∷ []) (m ∷ more))

@@ -11,7 +11,7 @@ use Rattle.dnw_label.specs.LabelText.{dot}
 use Rattle.dnw_text.specs.NameText.{TextElement, Char, Dot, Stop, Outside, elements, with_text, name_from_elements, name_from_text}
 use Rattle.dnw_text.specs.Inside.TextReader.{state_of, elements_from, IsAlike, Begins, name_from_rest, name_from}
 use Rattle.dnw_text.specs.declared.text.State.{State as Held}
-use Rattle.dnw_text.specs.declared.text.State.TheVariants.{Outside as HeldOutside, Escaped as HeldEscaped, AfterOne as HeldAfterOne, AfterTwo as HeldAfterTwo}
+use Rattle.dnw_text.specs.declared.text.State.TheVariants.{Outside as HeldOutside}
 use Rattle.dnw_text.specs.declared.text.Move.{Move}
 use Rattle.dnw_text.specs.declared.text.TextReader.{TextReader}
 
@@ -21,12 +21,17 @@ with_text_alike ls a b lt e =
     let other : 63 < length b = omega arith in
     rw (lt-ltb 63 (length a) lt, lt-ltb 63 (length b) other, e) refl
 
+-- what the end of a text gives after a label
+pub at_end_of : (ls : List (List ℕ)) (t : List ℕ) → 0 < length t
+    → name_from_elements ls t [] ≡ (with_text ls t >>= (λ all. Ok (record { is_fqdn = false; labels = all })))
+at_end_of ls [] some = absurd (omega (arith, some))
+at_end_of ls (b ∷ bs) some = refl
+
 -- and all that follows is alike
 elements_alike : (es : List TextElement) (ls : List (List ℕ)) (a b : List ℕ) → 63 < length a → length a ≡ length b → name_from_elements ls a es ≡ name_from_elements ls b es
-elements_alike [] ls [] b lt e = absurd (omega (arith, lt))
-elements_alike [] ls (x ∷ a) [] lt e = absurd (omega (arith, lt, e))
-elements_alike [] ls (x ∷ a) (y ∷ b) lt e =
-    ap (λ r. r >>= (λ all. Ok (record { is_fqdn = false; labels = all }))) (with_text_alike ls (x ∷ a) (y ∷ b) lt e)
+elements_alike [] ls a b lt e =
+    at_end_of ls a (omega (arith, lt)) ∙ ap (λ r. r >>= (λ all. Ok (record { is_fqdn = false; labels = all }))) (with_text_alike ls a b lt e)
+    ∙ sym (at_end_of ls b (omega (arith, lt, e)))
 elements_alike (Char c ∷ es) ls a b lt e =
     elements_alike es ls (a ++ encode_utf8 c) (b ++ encode_utf8 c)
     (omega (arith, lt, length-append a (encode_utf8 c)))
@@ -53,15 +58,13 @@ name_from-begins r label text bytes n state begins alike =
     rw state (name_from_elements-alike (elements Outside (chars (drop n text))) r.form label (r.label ++ bytes) alike ∙ sym (begins.read r.form r.label))
 
 -- when the characters end inside an escape
+pub no_end : (state : Held) → (state ≡ HeldOutside → ⊥) → elements (state_of state) [] ≡ Stop UnfinishedEscape ∷ []
+no_end HeldOutside ne = absurd (ne refl)
+no_end state ne = refl
+
 pub unfinished : (r : TextReader) → (r.state ≡ HeldOutside → ⊥) → name_from r (chars []) ≡ Err UnfinishedEscape
 unfolding chars name_from name_from_rest
 unfinished r ne = ap (name_from_elements r.form r.label) (no_end r.state ne)
-  where
-    no_end : (state : Held) → (state ≡ HeldOutside → ⊥) → elements (state_of state) [] ≡ Stop UnfinishedEscape ∷ []
-    no_end HeldOutside ne = absurd (ne refl)
-    no_end HeldEscaped ne = refl
-    no_end (HeldAfterOne a) ne = refl
-    no_end (HeldAfterTwo a b) ne = refl
 
 -- when they end after a dot
 pub at_end : (ls : List (List ℕ)) (text : List ℕ) → length text ≡ 0 → name_from_rest ls text Outside (chars []) ≡ Ok (record { is_fqdn = true; labels = ls })

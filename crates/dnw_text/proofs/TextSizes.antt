@@ -1,5 +1,5 @@
 -- How long the texts of names are.
-use Rattle.std.proofs.Common.{◌≡◌, ℕ, ◌+◌, ◌*◌, ◌≤◌, Bool, true, false, List, [], ◌∷◌, ◌++◌, length, map, sum_by, if◌then◌else◌, refl, ap, arith}
+use Rattle.std.proofs.Common.{◌≡◌, ℕ, ◌+◌, ◌*◌, ◌≤◌, Bool, true, false, List, [], ◌∷◌, length, map, sum_by, if◌then◌else◌, refl, ap, arith}
 use Rattle.std.specs.List.{AllByRecursion, flat_map, join_with_byte}
 use Rattle.std.proofs.lemmas.List.{length-append}
 use Rattle.std.proofs.lemmas.List.Sums.{sum_by-cons}
@@ -57,40 +57,25 @@ few_dotted : (ls : List (List ℕ)) → length (flat_map dotted ls) ≤ text_roo
 few_dotted [] = omega arith
 few_dotted (l ∷ ls) = omega (arith, few_in_label l, few_dotted ls, text_room-cons l ls, length-append (dotted l) (flat_map dotted ls))
 
-few_at_end : (is_fqdn : Bool) → length (if is_fqdn then dot ∷ [] else []) ≤ 1
-few_at_end true = omega arith
-few_at_end false = omega arith
+-- the text of a name with labels is that of the first, those of the others after dots, and maybe a last dot
+length_text : (is_fqdn : Bool) (l : List ℕ) (ls : List (List ℕ)) → length (name_text (record { is_fqdn = is_fqdn; labels = l ∷ ls }))
+    ≡ length (label_text l) + length (flat_map dotted ls) + (if is_fqdn then 1 else 0)
+length_text true l ls = omega (arith, length-append (join_with_byte dot (map label_text (l ∷ ls))) (dot ∷ []), ap length (joined-cons l ls), length-append (label_text l) (flat_map dotted ls))
+length_text false l ls = omega (arith, length-append (join_with_byte dot (map label_text (l ∷ ls))) [], ap length (joined-cons l ls), length-append (label_text l) (flat_map dotted ls))
+
+at_most_one : (b : Bool) → (if b then 1 else 0) ≤ 1
+at_most_one b = grind arith
 
 short : (is_fqdn : Bool) (ls : List (List ℕ)) → AreLabels ls → length (name_text (record { is_fqdn = is_fqdn; labels = ls })) ≤ max_text
-short is_fqdn [] h = omega (arith, few_at_end is_fqdn)
+short true [] h = omega arith
+short false [] h = omega arith
 short is_fqdn (l ∷ ls) h =
-    let last = if is_fqdn then dot ∷ [] else [] in
-    let joined = join_with_byte dot (map label_text (l ∷ ls)) in
-    omega (
-      arith,
-      few_at_end is_fqdn,
-      length-append joined last,
-      ap length (joined-cons l ls),
-      length-append (label_text l) (flat_map dotted ls),
-      few_in_label l,
-      few_dotted ls,
-      text_room-cons l ls,
-      room_short (l ∷ ls) h.each h.fit,
-    )
+    omega (arith, length_text is_fqdn l ls, at_most_one is_fqdn, few_in_label l, few_dotted ls, text_room-cons l ls, room_short (l ∷ ls) h.each h.fit)
 
 some : (is_fqdn : Bool) (ls : List (List ℕ)) → AreLabels ls → (ls ≡ [] → is_fqdn ≡ true) → 1 ≤ length (name_text (record { is_fqdn = is_fqdn; labels = ls }))
 some true [] h named = omega arith
 some false [] h named = let e = named refl in absurd cc
-some is_fqdn (l ∷ ls) h named =
-    let last = if is_fqdn then dot ∷ [] else [] in
-    let joined = join_with_byte dot (map label_text (l ∷ ls)) in
-    omega (
-      arith,
-      length-append joined last,
-      ap length (joined-cons l ls),
-      length-append (label_text l) (flat_map dotted ls),
-      some_in_label l h.each.0,
-    )
+some is_fqdn (l ∷ ls) h named = omega (arith, length_text is_fqdn l ls, some_in_label l h.each.0)
 
 pub texts_are_short : (n : NameValue) → AreLabels n.labels → length (name_text n) ≤ max_text
 texts_are_short n h = short n.is_fqdn n.labels h

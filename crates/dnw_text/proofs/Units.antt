@@ -14,68 +14,65 @@ use Rattle.dnw_text.specs.Inside.TextProgress.{Breaks, BreaksAt, GoesOn, Holds}
 use Rattle.dnw_text.specs.declared.fault.TextRule.{TextRule}
 use Rattle.dnw_text.specs.declared.fault.TextRule.TheVariants.{EmptyLabel, LabelTooLong, NameTooLong, Character}
 use Rattle.dnw_text.specs.declared.fault.Progress.{Progress}
-use Rattle.dnw_text.proofs.Elements.{Never, too_long, malformed, no_room, fits, never_long, never_bad, never_fits, no_name, at_end_of, longer_text}
-
-length_pushed : (label : List ℕ) (c : ℕ) → length (label ++ encode_utf8 c) ≡ length label + len_utf8 c
-length_pushed label c = length-append label (encode_utf8 c) ∙ ap (λ (n : ℕ). length label + n) (length-encode c)
-
-some_pushed : (label : List ℕ) (c : ℕ) → 0 < length (label ++ encode_utf8 c)
-some_pushed label c = omega (arith, length_pushed label c, (len_utf8_bounds c).0)
-
-breaks_char : (ls : List (List ℕ)) (label : List ℕ) (c : ℕ) (rule : TextRule) (fault : Fault) → rule ≡ rule_of fault → (fault ≡ UnfinishedEscape → ⊥)
-    → with_text ls (label ++ encode_utf8 c) ≡ Err fault → Never ls (label ++ encode_utf8 c) → Breaks ls label (Char c) rule
-breaks_char ls label c rule fault is other fails never = record {
-  fault = fault;
-  rule_is = is;
-  other = other;
-  fails = at_end_of ls (label ++ encode_utf8 c) (some_pushed label c) ∙ ap (λ r. r >>= (λ all. Ok (record { is_fqdn = false; labels = all }))) fails;
-  hopeless = λ es name e. no_name es ls (label ++ encode_utf8 c) (some_pushed label c) never name e;
-}
-
-pub label_too_long : (p : Progress) (c n : ℕ) → n ≡ len_utf8 c → 63 < p.label + n → BreaksAt (Char c) p LabelTooLong
-label_too_long p c n is over ls label h =
-    let long : 63 < length (label ++ encode_utf8 c) = omega (arith, is, over, h.len, length_pushed label c) in
-    breaks_char ls label c LabelTooLong (why.LabelTooLong (length (label ++ encode_utf8 c))) refl (λ e. cc) (too_long ls _ long) (never_long ls _ long)
-
--- the test of the reader is that of the label's text
-tested : (p : Progress) (c : ℕ) (b : Bool) (ls : List (List ℕ)) (label : List ℕ) → Holds p ls label
-    → b ≡ (if p.label == 0 then may_begin c else may_follow c) → is_label_text (label ++ encode_utf8 c) ≡ b
-tested p c b ls label h e =
-    longer_text label c h.text ∙ ap (λ (n : ℕ). if n == 0 then may_begin c else may_follow c) (sym h.len) ∙ sym e
+use Rattle.dnw_text.proofs.Elements.{Never, too_long, malformed, no_room, fits, never_long, never_bad, never_fits, no_name, longer_text}
+use Rattle.dnw_text.proofs.TextReading.{at_end_of}
 
 malformed_rule : (t : List ℕ) → 0 < length t → Character ≡ rule_of (why.MalformedLabel t)
 malformed_rule [] some = absurd (omega (arith, some))
 malformed_rule (b ∷ bs) some = refl
 
-pub bad_character : (p : Progress) (c n : ℕ) → n ≡ len_utf8 c → p.label + n ≤ 63 → false ≡ (if p.label == 0 then may_begin c else may_follow c) → BreaksAt (Char c) p Character
-bad_character p c n is few bad ls label h =
-    let text = tested p c false ls label h bad in
-    let short : length (label ++ encode_utf8 c) ≤ 63 = omega (arith, is, few, h.len, length_pushed label c) in
-    breaks_char ls label c Character (why.MalformedLabel (label ++ encode_utf8 c)) (malformed_rule _ (some_pushed label c)) (λ e. cc)
-    (malformed ls _ short text) (never_bad ls _ (some_pushed label c) text)
+-- a character of n bytes more
+module _ (p : Progress) (c n : ℕ) (is : n ≡ len_utf8 c) (ls : List (List ℕ)) (label : List ℕ) (h : Holds p ls label) where
+  abbrev text : List ℕ
+  text = label ++ encode_utf8 c
 
-pub name_too_long : (p : Progress) (c n : ℕ) → n ≡ len_utf8 c → p.label + n ≤ 63 → true ≡ (if p.label == 0 then may_begin c else may_follow c)
-    → 255 < p.size + 1 + (p.label + n) → BreaksAt (Char c) p NameTooLong
-name_too_long p c n is few good over ls label h =
-    let text = tested p c true ls label h good in
-    let short : length (label ++ encode_utf8 c) ≤ 63 = omega (arith, is, few, h.len, length_pushed label c) in
-    let past : 255 < encoded_size ls + 1 + length (label ++ encode_utf8 c) = omega (arith, is, over, h.len, h.size, length_pushed label c) in
-    breaks_char ls label c NameTooLong (why.NameTooLong (encoded_size ls + 1 + length (label ++ encode_utf8 c))) refl (λ e. cc)
-    (no_room ls _ _ short text refl past) (never_fits ls _ past)
+  size : length text ≡ p.label + n
+  size = omega (arith, is, h.len, length-append label (encode_utf8 c), length-encode c)
 
-pub pushed : (p : Progress) (c n : ℕ) → n ≡ len_utf8 c → p.label + n ≤ 63 → true ≡ (if p.label == 0 then may_begin c else may_follow c)
-    → p.size + 1 + (p.label + n) ≤ 255 → GoesOn (Char c) p (record { size = p.size; label = p.label + n })
-pushed p c n is few good room ls label h =
-    let held : Holds (record { size = p.size; label = p.label + n }) ls (label ++ encode_utf8 c) = record {
-      size = h.size;
-      most = h.most;
-      len = omega (arith, is, h.len, length_pushed label c);
-      few = omega (arith, is, few, h.len, length_pushed label c);
-      fits = λ some. omega (arith, is, room, h.len, h.size, length_pushed label c);
-      text = λ some. tested p c true ls label h good;
-    }
-    in
-    (ls, label ++ encode_utf8 c, held, λ es. refl)
+  some : 0 < length text
+  some = omega (arith, size, is, (len_utf8_bounds c).0)
+
+  -- the test of the reader is that of the label's text
+  tested : (b : Bool) → b ≡ (if p.label == 0 then may_begin c else may_follow c) → is_label_text text ≡ b
+  tested b e = longer_text label c h.text ∙ ap (λ (n : ℕ). if n == 0 then may_begin c else may_follow c) (sym h.len) ∙ sym e
+
+  breaks_char : (rule : TextRule) (fault : Fault) → rule ≡ rule_of fault → (fault ≡ UnfinishedEscape → ⊥) → with_text ls text ≡ Err fault → Never ls text
+      → Breaks ls label (Char c) rule
+  breaks_char rule fault is other fails never = record {
+    fault = fault;
+    rule_is = is;
+    other = other;
+    fails = at_end_of ls text some ∙ ap (λ r. r >>= (λ all. Ok (record { is_fqdn = false; labels = all }))) fails;
+    hopeless = λ es name e. no_name es ls text some never name e;
+  }
+
+  pub label_too_long : 63 < p.label + n → Breaks ls label (Char c) LabelTooLong
+  label_too_long over =
+      let long : 63 < length text = omega (arith, over, size) in
+      breaks_char LabelTooLong (why.LabelTooLong (length text)) refl (λ e. cc) (too_long ls text long) (never_long ls text long)
+
+  pub bad_character : p.label + n ≤ 63 → false ≡ (if p.label == 0 then may_begin c else may_follow c) → Breaks ls label (Char c) Character
+  bad_character few bad =
+      breaks_char Character (why.MalformedLabel text) (malformed_rule text some) (λ e. cc) (malformed ls text (omega (arith, few, size)) (tested false bad))
+      (never_bad ls text some (tested false bad))
+
+  pub name_too_long : p.label + n ≤ 63 → true ≡ (if p.label == 0 then may_begin c else may_follow c) → 255 < p.size + 1 + (p.label + n)
+      → Breaks ls label (Char c) NameTooLong
+  name_too_long few good over =
+      let past : 255 < encoded_size ls + 1 + length text = omega (arith, over, size, h.size) in
+      breaks_char NameTooLong (why.NameTooLong (encoded_size ls + 1 + length text)) refl (λ e. cc)
+      (no_room ls text _ (omega (arith, few, size)) (tested true good) refl past) (never_fits ls text past)
+
+  pub pushed : p.label + n ≤ 63 → true ≡ (if p.label == 0 then may_begin c else may_follow c) → p.size + 1 + (p.label + n) ≤ 255
+      → Holds (record { size = p.size; label = p.label + n }) ls text
+  pushed few good room = record {
+    size = h.size;
+    most = h.most;
+    len = sym size;
+    few = omega (arith, few, size);
+    fits = λ some. omega (arith, room, size, h.size);
+    text = λ some. tested true good;
+  }
 
 pub empty_label : (p : Progress) → p.label ≡ 0 → BreaksAt Dot p EmptyLabel
 empty_label p none ls [] h = record {

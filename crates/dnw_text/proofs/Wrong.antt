@@ -1,5 +1,5 @@
 -- What a reader that only counts has read: characters and escapes, and then the whole text.
-use Rattle.std.proofs.Common.{◌≡◌, ℕ, zero, suc, ◌+◌, ◌<◌, ◌≤◌, Bool, true, false, List, [], ◌∷◌, ◌++◌, length, take, get_or, Option, Some, None, Ok, Err, encode_utf8, refl, sym, ap, ◌∙◌, arith, append_assoc, append-nil}
+use Rattle.std.proofs.Common.{◌≡◌, ℕ, zero, suc, ◌+◌, ◌<◌, ◌≤◌, Bool, true, false, List, [], ◌∷◌, ◌++◌, length, take, get_or, Option, Some, None, Ok, Err, encode_utf8, refl, sym, ap, subst, ◌∙◌, arith, append_assoc, append-nil}
 use Rattle.std.specs.Prelude.{MatchOption}
 use Rattle.std.specs.Str.{chars, IsUtf8}
 use lib.Utf8.{encodes}
@@ -17,20 +17,17 @@ use Rattle.dnw_text.specs.TextFaults.{Gives, GoesWrong, GoesWrongBy, IsNameText,
 use Rattle.dnw_text.specs.Inside.TextReader.{LeadsInside, state_of}
 use Rattle.dnw_text.specs.Inside.TextProgress.{BeginsWithElement, BreaksAt, GoesOn, GoesWrongNext, HasRead, Holds, IsUnfinished, IsWithin, ReadsOn, Stops, from_start}
 use Rattle.dnw_text.specs.declared.text.State.{State}
-use Rattle.dnw_text.specs.declared.text.State.TheVariants.{Outside as HeldOutside, Escaped, AfterOne, AfterTwo}
+use Rattle.dnw_text.specs.declared.text.State.TheVariants.{Outside as HeldOutside}
 use Rattle.dnw_text.specs.declared.text.Move.TheVariants.{Enter}
 use Rattle.dnw_text.specs.declared.fault.TextFault.{TextFault}
 use Rattle.dnw_text.specs.declared.fault.TextRule.{TextRule}
 use Rattle.dnw_text.specs.declared.fault.TextRule.TheVariants.{EmptyLabel, UnfinishedEscape as Unfinished}
 use Rattle.dnw_text.specs.declared.fault.Progress.{Progress}
 use Rattle.dnw_text.proofs.Elements.{fits}
-use Rattle.dnw_text.proofs.TextReading.{plain_chars, chars-dot}
+use Rattle.dnw_text.proofs.TextReading.{plain_chars, chars-dot, no_end}
 
 -- one character more
 module _ (text : List ℕ) (state : State) (rest after : List ℕ) (d : ℕ) (w : IsWithin text state rest) (first : chars rest ≡ d ∷ chars after) where
-  longer : List ℕ
-  longer = w.own ++ d ∷ []
-
   parts : chars text ≡ (w.own ++ d ∷ []) ++ chars after
   parts = w.parts ∙ ap (λ l. w.own ++ l) first ∙ sym (append_assoc w.own (d ∷ []) (chars after))
 
@@ -79,18 +76,12 @@ module _ (text : List ℕ) (state : State) (rest after : List ℕ) (d : ℕ) (w 
     utf8 = utf8;
   }
     where
-      no_end : (s : State) → LeadsInside (Enter s) → elements (state_of s) [] ≡ Stop UnfinishedEscape ∷ []
-      no_end HeldOutside h = absurd h
-      no_end Escaped h = refl
-      no_end (AfterOne a) h = refl
-      no_end (AfterTwo a b) h = refl
-
       by : (n : ℕ) → 0 < n → n ≤ length (w.own ++ d ∷ []) → (t : Bool) → ltb (length w.own) n ≡ t → IsUnfinished (w.own ++ d ∷ []) n
       by n some le false h = before_end n some (ltb-false (length w.own) n h)
       by n some le true h =
           let past : length w.own < n = ltb-true (length w.own) n h in
           ap (elements Outside) (take_all n (w.own ++ d ∷ []) (omega (arith, past, one_more)) ∙ sym (append-nil (w.own ++ d ∷ [])))
-          ∙ (reads (λ more. elements (state_of next) more) goes [] ∙ no_end next inside)
+          ∙ (reads (λ more. elements (state_of next) more) goes [] ∙ no_end next (λ e. subst (λ s. LeadsInside (Enter s)) e inside))
 
 -- before the first character
 pub nothing_read : (text : List ℕ) → IsUtf8 text → IsWithin text HeldOutside text
@@ -103,9 +94,13 @@ nothing_read text utf8 = record {
   utf8 = utf8;
 }
 
-no_text : (text : List ℕ) → IsUtf8 text → chars text ≡ [] → 0 < length text → ⊥
+chars_some : (text : List ℕ) → IsUtf8 text → 0 < length text → 0 < length (chars text)
 unfolding lib.Utf8.encode
-no_text text utf8 none some = let empty : text ≡ [] = sym (encodes-chars text utf8) ∙ ap encodes none in omega (arith, ap length empty, some)
+chars_some text utf8 some = by (chars text) refl
+  where
+    by : (cs : List ℕ) → chars text ≡ cs → 0 < length cs
+    by [] e = absurd (omega (arith, ap length (sym (encodes-chars text utf8) ∙ ap encodes e), some))
+    by (c ∷ cs) e = omega arith
 
 pub text_ends : (text : List ℕ) (state : State) (rest : List ℕ) → IsWithin text state rest → IsUtf8 text → chars rest ≡ [] → 0 < length text → Stops text Unfinished
 text_ends text state rest w utf8 none some =
@@ -116,15 +111,11 @@ text_ends text state rest w utf8 none some =
       fault = UnfinishedEscape;
       parts = all ∙ sym (append-nil w.own);
       within = λ n some lt. w.within n some (omega (arith, lt));
-      ends = ap (elements Outside) (sym (take-length w.own)) ∙ w.within (length w.own) (by w.own (λ e. no_text text utf8 (all ∙ e) some)) (omega arith);
+      ends = ap (elements Outside) (sym (take-length w.own)) ∙ w.within (length w.own) (omega (arith, ap length all, chars_some text utf8 some)) (omega arith);
       rule_is = refl;
       last = λ e. refl;
       all = λ other. absurd (other refl);
     }
-  where
-    by : (l : List ℕ) → (l ≡ [] → ⊥) → 0 < length l
-    by [] h = absurd (h refl)
-    by (x ∷ xs) h = omega arith
 
 -- a character or an escape was read, or breaks a rule
 pub reads_on : (p q : Progress) (text rest : List ℕ) (e : TextElement) → BeginsWithElement text e rest → GoesOn e p q → ReadsOn p q text rest
@@ -268,24 +259,18 @@ after_dot (c ∷ cs) some = record {
   hopeless = λ other more given. let is = given.1 in cc;
 }
 
-chars_some : (text : List ℕ) → IsUtf8 text → 0 < length text → 0 < length (chars text)
-chars_some text utf8 some = by (chars text) (λ e. no_text text utf8 e some)
-  where
-    by : (l : List ℕ) → (l ≡ [] → ⊥) → 0 < length l
-    by [] h = absurd (h refl)
-    by (x ∷ xs) h = omega arith
-
-pub dotted : (text : List ℕ) → IsUtf8 text → 1 < length text → get_or text 0 0 ≡ dot → GoesWrong (chars text) (record { offset = 1; rule = EmptyLabel })
-dotted [] utf8 some is = absurd (omega (arith, some))
-dotted (b ∷ bs) utf8 some is =
-    let spelled : b ∷ bs ≡ encode_utf8 dot ++ bs = ap (λ (n : ℕ). n ∷ bs) is ∙ ap (λ l. l ++ bs) (sym (encode_ascii dot (omega arith))) in
-    let later : IsUtf8 bs = IsUtf8-past_char (b ∷ bs) bs dot utf8 spelled in
-    rw (chars_past_char (b ∷ bs) bs dot utf8 spelled) (after_dot (chars bs) (chars_some bs later (omega (arith, some))))
+pub dotted : (text : List ℕ) → IsUtf8 text → (length text ≡ 1 → ⊥) → get_or text 0 0 ≡ dot → GoesWrong (chars text) (record { offset = 1; rule = EmptyLabel })
+dotted [] utf8 other is = absurd (let none : 0 ≡ 46 = is in omega (arith, none))
+dotted (b ∷ []) utf8 other is = absurd (other refl)
+dotted (b ∷ c ∷ bs) utf8 other is =
+    let spelled : b ∷ c ∷ bs ≡ encode_utf8 dot ++ c ∷ bs = ap (λ (n : ℕ). n ∷ c ∷ bs) is ∙ ap (λ l. l ++ c ∷ bs) (sym (encode_ascii dot (omega arith))) in
+    let later : IsUtf8 (c ∷ bs) = IsUtf8-past_char (b ∷ c ∷ bs) (c ∷ bs) dot utf8 spelled in
+    rw (chars_past_char (b ∷ c ∷ bs) (c ∷ bs) dot utf8 spelled) (after_dot (chars (c ∷ bs)) (chars_some (c ∷ bs) later (omega arith)))
 
 -- any other text is read from its first character on
-plain : (cs : List ℕ) → 0 < length cs → (get_or cs 0 0 ≡ dot → ⊥) → name_from_text cs ≡ from_start cs
+plain : (c : ℕ) (cs : List ℕ) → (c ≡ dot → ⊥) → name_from_text (c ∷ cs) ≡ from_start (c ∷ cs)
 unfolding Rattle.dnw_text.specs.Inside.TextReader.name_from_rest
-plain cs some other = plain_chars cs (λ e. omega (arith, ap length e, some)) (λ e. other (ap (λ l. get_or l 0 0) e))
+plain c cs other = plain_chars (c ∷ cs) (λ e. cc) (λ e. other (ap (λ l. get_or l 0 0) e))
 
 pub no_dot : (text : List ℕ) → IsUtf8 text → (get_or text 0 0 ≡ dot → ⊥) → get_or (chars text) 0 0 ≡ dot → ⊥
 no_dot text utf8 other is = by (chars text) refl is
@@ -296,46 +281,28 @@ no_dot text utf8 other is = by (chars text) refl is
         let spelled : text ≡ encode_utf8 c ++ encodes cs = sym (encodes-chars text utf8) ∙ ap encodes e in
         other (byte_from_char text (encodes cs) c spelled (omega (arith, h)) ∙ h)
 
-pub any_text : (cs : List ℕ) → (get_or cs 0 0 ≡ dot → ⊥) → Gives from_start cs → IsNameText cs
-any_text [] other given = (record { is_fqdn = false; labels = [] }, refl)
-any_text (c ∷ cs) other given = (given.0, plain (c ∷ cs) (omega arith) other ∙ given.1)
+-- so is its beginning
+any_text : (cs rest : List ℕ) → (get_or (cs ++ rest) 0 0 ≡ dot → ⊥) → Gives from_start cs → IsNameText cs
+any_text [] rest other given = (record { is_fqdn = false; labels = [] }, refl)
+any_text (c ∷ cs) rest other given = (given.0, plain c cs other ∙ given.1)
 
-module _ (front unit rest : List ℕ) (some : 0 < length unit) (other : get_or (front ++ (unit ++ rest)) 0 0 ≡ dot → ⊥) where
-  same_first : (f u more : List ℕ) → 0 < length u → get_or (f ++ (u ++ more)) 0 0 ≡ get_or (f ++ (u ++ rest)) 0 0
-  same_first [] [] more s = absurd (omega (arith, s))
-  same_first [] (x ∷ u) more s = refl
-  same_first (y ∷ f) u more s = refl
+-- so is each that begins as it does
+plain_with : (front unit rest more : List ℕ) → 0 < length unit → (get_or (front ++ (unit ++ rest)) 0 0 ≡ dot → ⊥)
+    → name_from_text (front ++ (unit ++ more)) ≡ from_start (front ++ (unit ++ more))
+plain_with [] [] rest more some other = absurd (omega (arith, some))
+plain_with [] (x ∷ u) rest more some other = plain x (u ++ more) other
+plain_with (y ∷ f) u rest more some other = plain y (f ++ (u ++ more)) other
 
-  longer_some : (f u more : List ℕ) → 0 < length u → 0 < length (f ++ (u ++ more))
-  longer_some f u more s = omega (arith, s, length-append f (u ++ more), length-append u more)
-
-  pub plain_with : (more : List ℕ) → name_from_text (front ++ (unit ++ more)) ≡ from_start (front ++ (unit ++ more))
-  plain_with more = plain (front ++ (unit ++ more)) (longer_some front unit more some) (λ e. other (sym (same_first front unit more some) ∙ e))
-
-  pub plain_unit : name_from_text (front ++ unit) ≡ from_start (front ++ unit)
-  plain_unit = ap (λ l. name_from_text (front ++ l)) (sym (append-nil unit)) ∙ (plain_with [] ∙ ap (λ l. from_start (front ++ l)) (append-nil unit))
-
-  taken_first : (f u : List ℕ) (n : ℕ) → 0 < n → 0 < length u → get_or (f ++ take n u) 0 0 ≡ get_or (f ++ (u ++ rest)) 0 0
-  taken_first (y ∷ f) u n pos s = refl
-  taken_first [] [] n pos s = absurd (omega (arith, s))
-  taken_first [] (x ∷ u) zero pos s = absurd (omega (arith, pos))
-  taken_first [] (x ∷ u) (suc n) pos s = refl
-
-  taken_some : (f u : List ℕ) (n : ℕ) → 0 < n → 0 < length u → 0 < length (f ++ take n u)
-  taken_some f [] n pos s = absurd (omega (arith, s))
-  taken_some f (x ∷ u) zero pos s = absurd (omega (arith, pos))
-  taken_some f (x ∷ u) (suc n) pos s = omega (arith, length-append f (x ∷ take n u))
-
-  pub plain_part : (n : ℕ) → 0 < n → name_from_text (front ++ take n unit) ≡ from_start (front ++ take n unit)
-  plain_part n pos = plain (front ++ take n unit) (taken_some front unit n pos some) (λ e. other (sym (taken_first front unit n pos some) ∙ e))
+plain_part : (front unit rest : List ℕ) (n : ℕ) → 0 < n → 0 < length unit → (get_or (front ++ (unit ++ rest)) 0 0 ≡ dot → ⊥)
+    → name_from_text (front ++ take n unit) ≡ from_start (front ++ take n unit)
+plain_part (y ∷ f) u rest n pos some other = plain y (f ++ take n u) other
+plain_part [] [] rest n pos some other = absurd (omega (arith, some))
+plain_part [] (x ∷ u) rest zero pos some other = absurd (omega (arith, pos))
+plain_part [] (x ∷ u) rest (suc n) pos some other = plain x (take n u) other
 
 unit_some : (front unit : List ℕ) (fault : Fault) → Gives from_start front → from_start (front ++ unit) ≡ Err fault → 0 < length unit
 unit_some front [] fault given fails = let same = sym given.1 ∙ (ap from_start (sym (append-nil front)) ∙ fails) in absurd cc
 unit_some front (x ∷ u) fault given fails = omega arith
-
-front_plain : (front rest : List ℕ) → (get_or (front ++ rest) 0 0 ≡ dot → ⊥) → Gives from_start front → IsNameText front
-front_plain [] rest other given = (record { is_fqdn = false; labels = [] }, refl)
-front_plain (c ∷ cs) rest other given = any_text (c ∷ cs) other given
 
 pub any_wrong : (cs : List ℕ) (w : TextFault) → (get_or cs 0 0 ≡ dot → ⊥) → GoesWrongBy from_start cs w → GoesWrong cs w
 any_wrong cs w other g =
@@ -348,15 +315,15 @@ any_wrong cs w other g =
       fault = g.fault;
       parts = g.parts;
       offset = g.offset;
-      before = front_plain g.front (g.unit ++ g.rest) first g.before;
-      within = λ n pos lt. plain_part g.front g.unit g.rest some first n pos ∙ g.within n pos lt;
-      fails = plain_unit g.front g.unit g.rest some first ∙ g.fails;
+      before = any_text g.front (g.unit ++ g.rest) first g.before;
+      within = λ n pos lt. plain_part g.front g.unit g.rest n pos some first ∙ g.within n pos lt;
+      fails = subst (λ u. name_from_text (g.front ++ u) ≡ from_start (g.front ++ u)) (append-nil g.unit) (plain_with g.front g.unit g.rest [] some first) ∙ g.fails;
       rule = g.rule;
       last = g.last;
-      hopeless = λ not more given. g.hopeless not more (given.0, sym (plain_with g.front g.unit g.rest some first more) ∙ given.1);
+      hopeless = λ not more given. g.hopeless not more (given.0, sym (plain_with g.front g.unit g.rest more some first) ∙ given.1);
     }
 
 pub any_outcome : (cs : List ℕ) (r : Option TextFault) → (get_or cs 0 0 ≡ dot → ⊥) → MatchOption r (Gives from_start cs) (GoesWrongBy from_start cs)
     → MatchOption r (IsNameText cs) (GoesWrong cs)
-any_outcome cs None other given = any_text cs other given
+any_outcome cs None other given = any_text cs [] (λ e. other (ap (λ l. get_or l 0 0) (sym (append-nil cs)) ∙ e)) given
 any_outcome cs (Some w) other goes = any_wrong cs w other goes

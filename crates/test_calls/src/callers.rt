@@ -13,6 +13,7 @@ use uses::copying::copy_name;
 use uses::example::{host, is_in_zone, name_text};
 use uses::question::names_of;
 use uses::records::write_records;
+use uses::referral::write_referral;
 use uses::reply::write_reply;
 use uses::reverse::net_of;
 use uses::scripts::append_record;
@@ -142,6 +143,21 @@ fn a_record_is_appended(rt: HostRuntime) -> Result<(), Fail> {
     let refused = append_record(alloc, &mut full, record_of(alloc, ADDRESS)?);
     assert!(rt; matches!(refused, Err(ProtoError::MaxBufferSizeExceeded(65_535))));
     assert_eq!(rt; full.len(), 65_535);
+    Ok(())
+}
+
+#[test]
+fn a_referral_has_a_server_and_its_address(rt: HostRuntime) -> Result<(), Fail> {
+    let alloc = rt.alloc();
+    // As dnspython writes it: one record of authority and one that is additional.
+    let wanted =
+        b"\x00\x07\x80\x00\x00\x00\x00\x00\x00\x01\x00\x01\x07example\x03com\x00\x00\x02\x00\x01\x00\x00\x0e\x10\x00\x05\x02ns\xc0\x0c\xc0\x23\x00\x01\x00\x01\x00\x00\x0e\x10\x00\x04\xc0\x00\x02\x01";
+    let header = b"\x00\x07\x80\x00\x00\x00\x00\x00\x00\x01\x00\x01";
+    let zone = Name::from_ascii(alloc, "example.com.")?;
+    let server = Name::from_ascii(alloc, "ns.example.com.")?;
+    let (message, glue) = write_referral(alloc, header, zone, server, &[192, 0, 2, 1], 3600)?;
+    assert_eq!(rt; message.as_slice(), wanted.as_slice());
+    assert_eq!(rt; glue, 40);
     Ok(())
 }
 

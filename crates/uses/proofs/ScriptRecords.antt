@@ -11,7 +11,7 @@ stands old bytes r len finished =
     let (end, at, same) = finished.spells (write_record r ∷ []) [] (Done len ∷ []) [] refl refl refl in
     subst (RecordStands bytes Compressed false r (length old)) same at
 
-is_read : StandingRecordsAreRead → (bytes : List ℕ) (r : WireRecord) (p e : ℕ) → RecordStands bytes Compressed false r p e → IsReadAt bytes r p e
+pub is_read : StandingRecordsAreRead → (bytes : List ℕ) (r : WireRecord) (p e : ℕ) → RecordStands bytes Compressed false r p e → IsReadAt bytes r p e
 is_read law bytes r p e at =
     let (found, is, owner, record_type, class, ttl, rdata) = law bytes Compressed false r p e at in
     record { found = found; stands = is; owner = owner; record_type = record_type; class = class; ttl = ttl; rdata = rdata }

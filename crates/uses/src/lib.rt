@@ -9,6 +9,7 @@ pub mod example;
 pub mod messages;
 pub mod question;
 pub mod records;
+pub mod referral;
 pub mod reply;
 pub mod reverse;
 pub mod scripts;

@@ -1,5 +1,4 @@
-use Rattle.std.proofs.Common.{◌≡◌, ℕ, ◌<◌, List, [], ◌∷◌, length, get_or, refl, eqb-true, eq-eqb, sym, ◌∙◌, arith}
-use Rattle.dnw_label.specs.LabelText.{dot}
+use Rattle.std.proofs.Common.{eqb-true, eq-eqb, sym, ◌∙◌}
 use Rattle.std.specs.Str.{chars}
 use Rattle.std.proofs.lemmas.Bool.{both_ways}
 use Rattle.dnw_text.proofs.Wrong.{lone_dot, dotted, no_dot, any_outcome}
@@ -16,9 +15,4 @@ returns-then-text-eq1 c = lone_dot c.args.text.now c.if-text-eq1.true (eqb-true 
 pub returns : goal.returns
 returns c =
     let first = eqb-true _ _ (sym c.begins_with_dot.ensures ∙ c.if-not-begins_with_dot.false) in
-    dotted c.args.text.now c.utf8.text (by c.args.text.now first c.if-text-eq1.false) first
-  where
-    by : (text : List ℕ) → get_or text 0 0 ≡ dot → (length text ≡ 1 → ⊥) → 1 < length text
-    by [] is other = absurd (let none : 0 ≡ 46 = is in omega (arith, none))
-    by (b ∷ []) is other = absurd (other refl)
-    by (b ∷ c ∷ bs) is other = omega arith
+    dotted c.args.text.now c.utf8.text c.if-text-eq1.false first

@@ -1,5 +1,4 @@
-use Rattle.std.proofs.Common.{eqb-true, refl, sym, ◌∙◌, arith}
-use Rattle.std.proofs.lemmas.List.{nil_from_length}
+use Rattle.std.proofs.Common.{refl, arith}
 use Rattle.dnw_text.specs.Inside.TextReader.{name_from}
 use Rattle.dnw_text.proofs.text.read_by_parts.Goals as goal
 
@@ -8,8 +7,3 @@ unfolding name_from
 loop-rest-init c =
     let new = c.new-reader.ensures in
     record { name = rw (new.form, c.new.ensures, new.label, new.state) refl; len = rw (new.label, new.state) (omega arith); utf8 = c.utf8.text }
-
-pub returns : goal.returns
-returns c =
-    let none = eqb-true _ _ (sym c.is_empty.ensures ∙ c.loop-rest-test.false) in
-    rw (← c.loop-rest.invariant.name, nil_from_length _ none) (record { follows = c.finish.ensures.follows })
