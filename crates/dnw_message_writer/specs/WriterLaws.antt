@@ -11,7 +11,12 @@ use Rattle.dnw_message.specs.declared.header.Metadata.{Metadata}
 use Rattle.dnw_message_writer.specs.declared.writer.Entry.{Entry}
 use Rattle.dnw_message_writer.specs.Drafts.{Added, AddsAll, AddsLast, Begins, Draft, Ends}
 use Rattle.dnw_message_writer.specs.Written.{Contents, Holds, Written, WrittenWith}
-use Rattle.dnw_message_writer.specs.ReadBack.{IsReadAs}
+use Rattle.dnw_message_writer.specs.ReadBack.{IsReadAs, RecordIsRead}
+use Rattle.dnw_message_writer.specs.WireEdns.{IsOptOf, edns_value}
+use Rattle.dnw_message_writer.specs.declared.edns.WireEdns.{WireEdns}
+use Rattle.dnw_message.specs.Edns.{IsEdns}
+use Rattle.dnw_record.specs.Records.{RecordValue}
+use Rattle.dnw_codes.specs.declared.record_type.RecordType.TheVariants.{OPT}
 
 -- What was begun, to which items were added in turn, and which was ended, is written: exactly what was accepted.
 abbrev pub MessagesAreWritten : Type 0
@@ -30,3 +35,7 @@ MessagesEndWith = (metadata : Metadata) (most : ℕ) (entries : List Entry) (out
 -- What is written is what is read.
 abbrev pub WrittenMessagesAreRead : Type 0
 WrittenMessagesAreRead = (metadata : Metadata) (c : Contents) (bytes : List ℕ) → Holds metadata c bytes → IsReadAs metadata c bytes
+
+-- EDNS that is written is read as the same: its OPT record is read as a record that says so.
+abbrev pub EdnsComesBack : Type 0
+EdnsComesBack = (e : WireEdns) (r : WireRecord) (x : RecordValue) → IsOptOf e r → RecordIsRead r x → (x.record_type ≡ OPT) × IsEdns x (edns_value e)
