@@ -137,17 +137,19 @@ pub use Rattle.dnw_message.specs.Headers.{TakesHeader, flag, flags_of, header_of
 pub use Rattle.dnw_message.specs.MessageLaws.{MessagesDontFail, OneMessage, OneMessageError}
 pub use Rattle.dnw_message.specs.Messages.{FailsHere, FailsItem, FailsMessage, FailsWithin, Item, ItemAt, ItemsAt, MessageAt, MessageValue}
 pub use Rattle.dnw_message.specs.Messages.{QueryValue, no_header, part, question_rest, record_rest, rest_of}
+pub use Rattle.dnw_message.specs.Responses.{response_to}
 pub use Rattle.dnw_message.specs.OpCodes.{op_code, op_entry, op_of_code}
 pub use Rattle.dnw_message.specs.Queries.{FailsQuery, TakesQuery}
 pub use Rattle.dnw_message.specs.ResponseCodes.{response_code, response_entry, response_of_code}
 -- Whole messages that are written.
-pub use Rattle.dnw_message_writer.specs.Drafts.{Added, Adds, AddsAll, AddsEntry, Begins, Closes, Draft, Ends, counted, cuts, is_open}
+pub use Rattle.dnw_message_writer.specs.Drafts.{Added, Adds, AddsAll, AddsEntry, AddsLast, Begins, Closes, Draft, Ends, counted, cuts, is_open}
 pub use Rattle.dnw_message_writer.specs.QueryFrames.{frame-query}
 pub use Rattle.dnw_message_writer.specs.WireQueries.{EmitsQuery, EmitsQueryFields, QueryFits}
 pub use Rattle.dnw_message_writer.specs.ReadBack.{IsReadAs, QueryIsRead, RecordIsRead}
-pub use Rattle.dnw_message_writer.specs.WriterLaws.{MessagesAreWritten, WrittenMessagesAreRead}
-pub use Rattle.dnw_message_writer.specs.Writers.{draft, lent}
-pub use Rattle.dnw_message_writer.specs.Written.{Contents, Written, contents_from, counts_of, header_for, nothing}
+pub use Rattle.dnw_message_writer.specs.WriterLaws.{EdnsComesBack, MessagesAreWritten, MessagesEndWith, WrittenMessagesAreRead}
+pub use Rattle.dnw_message_writer.specs.Writers.{BeginsWith, Finishes, draft, last_of, lent}
+pub use Rattle.dnw_message_writer.specs.Written.{Contents, Written, WrittenWith, contents_from, counts_of, ending_with, header_for, nothing}
+pub use Rattle.dnw_message_writer.specs.WireEdns.{IsOptOf, OptionFits, edns_ttl, edns_value, option_wire, options_wire}
 pub use Rattle.dnw_message_writer.specs.declared.writer.Entry.{Entry}
 pub use Rattle.dnw_message.specs.declared.header.HeaderCounts.{HeaderCounts}
 pub use Rattle.dnw_message.specs.declared.header.Metadata.{Metadata}

@@ -122,7 +122,10 @@ pub mod message {
     pub use dnw_message::op_code::OpCode;
     pub use dnw_message::query::QueryRef;
     pub use dnw_message::response_code::ResponseCode;
-    pub use dnw_message_writer::laws::{messages_are_written, written_messages_are_read};
+    pub use dnw_message_writer::edns::{WireEdns, WireOption};
+    pub use dnw_message_writer::laws::{
+        edns_comes_back, messages_are_written, messages_end_with, written_messages_are_read,
+    };
     pub use dnw_message_writer::query::WireQuery;
     pub use dnw_message_writer::writer::{AddError, Entry, MessageWriter, write};
 }

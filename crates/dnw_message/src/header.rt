@@ -52,6 +52,31 @@ pub struct Metadata {
     pub response_code: ResponseCode,
 }
 
+impl Metadata {
+    ghost use Rattle.dnw_message.specs.Responses.{response_to};
+
+    /// Returns the metadata with which the response to a request begins: the id, the operation, RD and CD are those of the
+    /// request (RFC 1035, section 4.1.1, and RFC 4035, section 3.2.2), and what the server says is not set.
+    ///
+    /// A response repeats the question too: see `WireQuery::from_message`.
+    pub fn response_from_request(request: &Metadata) -> Self
+        ensures { result ≡ response_to request.now }
+    {
+        Metadata {
+            id: request.id,
+            message_type: MessageType::Response,
+            op_code: request.op_code,
+            authoritative: false,
+            truncation: false,
+            recursion_desired: request.recursion_desired,
+            recursion_available: false,
+            authentic_data: false,
+            checking_disabled: request.checking_disabled,
+            response_code: ResponseCode::NoError,
+        }
+    }
+}
+
 /// How many items each section of a message has (RFC 1035, section 4.1.1).
 #[derive(Debug, Clone, Copy, PartialEq, Eq, Default)]
 pub struct HeaderCounts {

@@ -1,5 +1,5 @@
 -- A message that was begun, to which items were added, and whose header was filled in, is what it was to be.
-use Rattle.std.proofs.Common.{◌≡◌, ℕ, ◌+◌, ◌^◌, ◌<◌, ◌≤◌, ◌||◌, Bool, true, false, List, [], ◌∷◌, ◌++◌, length, map, take, drop, replicate, Ok, Err, refl, sym, ap, ◌∙◌, subst, arith}
+use Rattle.std.proofs.Common.{◌≡◌, ℕ, ◌+◌, ◌-◌, ◌^◌, ◌<◌, ◌≤◌, ◌||◌, Bool, true, false, List, [], ◌∷◌, ◌++◌, length, map, take, drop, replicate, Some, Ok, Err, OnOk, IfErr, refl, sym, ap, ◌∙◌, subst, arith}
 use Rattle.std.specs.List.{flat_map}
 use Rattle.std.proofs.lemmas.List.{append-nil, take-append-drop, take_all}
 use Rattle.dnw_error.specs.declared.error.ProtoError.TheVariants.{MaxBufferSizeExceeded, Memory}
@@ -7,6 +7,8 @@ use Rattle.dnw_encoder.specs.declared.encoder.modes.NameEncoding.TheVariants.{Co
 use Rattle.dnw_encoder.specs.Encoder.{Encoder, Writes, fresh, moved_to, usual_candidates, usual_names, written}
 use Rattle.dnw_encoder.specs.Emitting.{Outcome}
 use Rattle.dnw_encoder.proofs.Preceding.{new_precede, writes_precede}
+use Rattle.dnw_record.specs.declared.record.WireRecord.{WireRecord}
+use Rattle.dnw_record.specs.RecordLaws.{record_size}
 use Rattle.dnw_script.specs.declared.script.Reply.{Reply}
 use Rattle.dnw_script.specs.declared.script.Reply.TheVariants.{Done}
 use Rattle.dnw_script.specs.Script.{Action, reserve, set_max}
@@ -17,12 +19,14 @@ use Rattle.dnw_script.proofs.Running.{runs_finish}
 use Rattle.dnw_message.specs.declared.header.Header.{Header}
 use Rattle.dnw_message.specs.declared.header.Metadata.{Metadata}
 use Rattle.dnw_message.specs.Headers.{flags_of, header_wire}
+use Rattle.dnw_message_writer.specs.declared.section.AddError.TheVariants.{Proto}
 use Rattle.dnw_message_writer.specs.declared.writer.Entry.{Entry}
-use Rattle.dnw_message_writer.specs.Drafts.{Added, AddsAll, Begins, Closes, Draft, first_header, limited}
-use Rattle.dnw_message_writer.specs.Written.{Contents, HaveOutcomes, Holds, Written, contents_from, nothing}
-use Rattle.dnw_message_writer.specs.WriterLaws.{MessagesAreWritten}
+use Rattle.dnw_message_writer.specs.declared.writer.Entry.TheVariants.{Additional}
+use Rattle.dnw_message_writer.specs.Drafts.{Added, AddsAll, AddsEntry, AddsLast, Begins, Closes, Draft, Ends, first_header, limited}
+use Rattle.dnw_message_writer.specs.Written.{Contents, HasOutcome, HaveOutcomes, Holds, Written, WrittenWith, and_then, contents_from, ending_with, nothing}
+use Rattle.dnw_message_writer.specs.WriterLaws.{MessagesAreWritten, MessagesEndWith}
 use Rattle.dnw_message_writer.proofs.Going.{action_of, pieces_in}
-use Rattle.dnw_message_writer.proofs.Holding.{Has, elements, records_of, size_of, steps}
+use Rattle.dnw_message_writer.proofs.Holding.{Has, elements, has-limit, records_of, size_of, step, steps}
 use Rattle.dnw_message_writer.proofs.Closing.{begun, filled_replies, fills, items-stand, no_pieces, put-header, put_all, runs-fills, runs-then, stand-split, zeros}
 
 -- ---- the first steps
@@ -212,3 +216,51 @@ pub messages_are_written : MessagesAreWritten
 messages_are_written metadata most entries outcomes header start d octets small begins adds (w, closes, is) =
     subst (Written metadata most entries outcomes) (sym is)
     (made metadata most entries outcomes d w (begun-adds metadata most entries outcomes header start d small begins adds) closes)
+
+-- ---- with a last record
+
+-- What is added last is an item of the additional section.
+abbrev added_as : Outcome → Added
+added_as (Ok done) = Ok tt
+added_as (Err error) = Err (Proto error)
+
+as-added : (last : WireRecord) (most : ℕ) (d e : Draft) (outcome : Outcome) → AddsLast (Some last) most d outcome e
+    → AddsEntry (Additional last) (record d { encoder = limited d.encoder most }) (added_as outcome) e
+as-added last most d e (Ok tt) h = (refl, h.0, h.1)
+as-added last most d e (Err error) h = (refl, h.0, h.1)
+
+last-ends : (metadata : Metadata) (most : ℕ) (entries : List Entry) (outcomes : List Added) (last : WireRecord) (d e : Draft) (outcome : Outcome)
+    → Begun metadata (most - record_size last) entries outcomes d → most ≤ 65535 → record_size last ≤ most
+    → Has (begun (most - record_size last) 12 no_pieces) (zeros (most - record_size last) 12) metadata most
+    (and_then (contents_from nothing entries outcomes) (Additional last) (added_as outcome)) e
+    → HasOutcome most (contents_from nothing entries outcomes) d.encoder.offset (Additional last) (added_as outcome) e.encoder.offset
+    → OnOk outcome ((bytes : List ℕ) → Ends e bytes → WrittenWith metadata most entries outcomes last bytes) × IfErr outcome (λ error. error ≡ Memory)
+last-ends metadata most entries outcomes last d e (Ok tt) b small fits has is = (
+  λ bytes (w, closes, octets).
+      let c = ending_with last (contents_from nothing entries outcomes) in
+      let len = same-length metadata (most - record_size last) most b.room (omega arith) c e w has closes b.id in
+      subst (WrittenWith metadata most entries outcomes last) (sym octets)
+      (record {
+        holds = finished metadata (most - record_size last) most b.room (omega arith) c e w has closes b.id;
+        last_at = d.encoder.offset;
+        outcomes_are = b.outcomes_are;
+        few = omega (arith, len, has.within);
+      }),
+  tt,
+)
+last-ends metadata most entries outcomes last d e (Err Memory) b small fits has is = (tt, refl)
+last-ends metadata most entries outcomes last d e (Err (MaxBufferSizeExceeded size)) b small fits has is =
+    let h = b.has in
+    absurd (omega (arith, is.1, h.within, fits))
+last-ends metadata most entries outcomes last d e (Err error) b small fits has is = absurd is
+
+pub messages_end_with : MessagesEndWith
+messages_end_with metadata most entries outcomes last header start d e outcome small fits begins adds ends =
+    let b = begun-adds metadata (most - record_size last) entries outcomes header start d (omega (arith, small)) begins adds in
+    let c = contents_from nothing entries outcomes in
+    let h = b.has in
+    let a = begun (most - record_size last) 12 no_pieces in
+    let wide = has-limit a (zeros (most - record_size last) 12) metadata (most - record_size last) c d most h (omega (arith, h.within)) small in
+    let (has, outcome_is) = step a (zeros (most - record_size last) 12) metadata most c (record d { encoder = limited d.encoder most }) e (Additional last) (added_as outcome) wide
+    (as-added last most d e outcome ends) in
+    last-ends metadata most entries outcomes last d e outcome b small fits has outcome_is

@@ -269,7 +269,7 @@ module _ (a : Account) (start : Encoder) (metadata : Metadata) (top : ℕ) where
         (now, go.few, omega (arith, go.within, h.most)),
       )
 
-  step : (c : Contents) (d e : Draft) (x : Entry) (outcome : Added) → Draws c d → AddsEntry x d outcome e → Steps c d x outcome e
+  pub step : (c : Contents) (d e : Draft) (x : Entry) (outcome : Added) → Draws c d → AddsEntry x d outcome e → Steps c d x outcome e
   step c d e (Query q) (Ok tt) h add = done-query c d e q h add
   step c d e (Answer r) (Ok tt) h (free, emits, is) =
       let now = open-now c d section.Answers true h free in

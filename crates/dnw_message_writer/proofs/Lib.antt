@@ -4,3 +4,4 @@ pub mod Holding
 pub mod Closing
 pub mod Finishing
 pub mod ReadBack
+pub mod EdnsBack

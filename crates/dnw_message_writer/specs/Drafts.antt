@@ -1,5 +1,5 @@
 -- A message while it is written: how items are added to it, in the order of the sections (RFC 1035, section 4.1).
-use Rattle.std.specs.Prelude.{◌≡◌, ℕ, ◌+◌, ◌<◌, ◌^◌, min, Bool, true, false, ◌&&◌, ◌==◌, List, [], ◌∷◌, replicate, Result, Ok, Err}
+use Rattle.std.specs.Prelude.{◌≡◌, ℕ, ◌+◌, ◌<◌, ◌^◌, min, Bool, true, false, ◌&&◌, ◌==◌, Option, Some, None, List, [], ◌∷◌, replicate, Result, Ok, Err}
 use Rattle.dnw_error.specs.declared.error.ProtoError.{ProtoError}
 use Rattle.dnw_error.specs.declared.error.ProtoError.TheVariants.{MaxBufferSizeExceeded}
 use Rattle.dnw_encoder.specs.Encoder.{Encoder, Writes, moved_to}
@@ -8,6 +8,7 @@ use Rattle.dnw_message.specs.declared.header.Header.{Header}
 use Rattle.dnw_message.specs.declared.header.HeaderCounts.{HeaderCounts}
 use Rattle.dnw_message.specs.declared.header.Metadata.{Metadata}
 use Rattle.dnw_message.specs.Headers.{header_wire}
+use Rattle.dnw_record.specs.declared.record.WireRecord.{WireRecord}
 use Rattle.dnw_record.specs.WrittenRecords.{EmitsRecord}
 use Rattle.dnw_message_writer.specs.WireQueries.{EmitsQuery}
 use Rattle.dnw_message_writer.specs.declared.writer.Entry.{Entry}
@@ -89,6 +90,14 @@ abbrev pub Begins : Metadata → ℕ → Encoder → Result Header ProtoError �
 Begins metadata most v (Ok header) w =
     (header ≡ first_header metadata) × (metadata.id < 2 ^ 16) × Writes (limited v most) (replicate 12 0) (Ok tt) w
 Begins metadata most v (Err error) w = Writes (limited v most) (replicate 12 0) (Err error) w
+
+-- The last record, if there is one, is added to the additional section, within the whole maximum: octets were held back for it.
+abbrev pub AddsLast : Option WireRecord → ℕ → Draft → Outcome → Draft → Type 0
+AddsLast None most d (Ok done) e = e ≡ d
+AddsLast None most d (Err error) e = ⊥
+AddsLast (Some r) most d (Ok done) e =
+    EmitsRecord r (limited d.encoder most) (Ok tt) e.encoder × (e.header ≡ record d.header { counts = counted section.Additionals d.header.counts })
+AddsLast (Some r) most d (Err error) e = EmitsRecord r (limited d.encoder most) (Err error) e.encoder × (e.header ≡ d.header)
 
 -- The header is written over the octets that were reserved for it.
 abbrev pub Closes : Header → Encoder → Encoder → Type 0

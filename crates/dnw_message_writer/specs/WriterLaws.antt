@@ -1,13 +1,22 @@
 -- What follows from the steps of a writer. Each is the clause of a public function, and so proved.
-use Rattle.std.specs.Prelude.{ℕ, ◌≤◌, List, [], Ok}
+use Rattle.std.specs.Prelude.{◌≡◌, ℕ, ◌-◌, ◌≤◌, List, [], Some, Ok, OnOk, IfErr}
 use Rattle.dnw_base.specs.Limits.{max_message}
+use Rattle.dnw_error.specs.declared.error.ProtoError.TheVariants.{Memory}
 use Rattle.dnw_encoder.specs.Encoder.{Encoder, fresh}
+use Rattle.dnw_encoder.specs.Emitting.{Outcome}
+use Rattle.dnw_record.specs.declared.record.WireRecord.{WireRecord}
+use Rattle.dnw_record.specs.RecordLaws.{record_size}
 use Rattle.dnw_message.specs.declared.header.Header.{Header}
 use Rattle.dnw_message.specs.declared.header.Metadata.{Metadata}
 use Rattle.dnw_message_writer.specs.declared.writer.Entry.{Entry}
-use Rattle.dnw_message_writer.specs.Drafts.{Added, AddsAll, Begins, Draft, Ends}
-use Rattle.dnw_message_writer.specs.Written.{Contents, Holds, Written}
-use Rattle.dnw_message_writer.specs.ReadBack.{IsReadAs}
+use Rattle.dnw_message_writer.specs.Drafts.{Added, AddsAll, AddsLast, Begins, Draft, Ends}
+use Rattle.dnw_message_writer.specs.Written.{Contents, Holds, Written, WrittenWith}
+use Rattle.dnw_message_writer.specs.ReadBack.{IsReadAs, RecordIsRead}
+use Rattle.dnw_message_writer.specs.WireEdns.{IsOptOf, edns_value}
+use Rattle.dnw_message_writer.specs.declared.edns.WireEdns.{WireEdns}
+use Rattle.dnw_message.specs.Edns.{IsEdns}
+use Rattle.dnw_record.specs.Records.{RecordValue}
+use Rattle.dnw_codes.specs.declared.record_type.RecordType.TheVariants.{OPT}
 
 -- What was begun, to which items were added in turn, and which was ended, is written: exactly what was accepted.
 abbrev pub MessagesAreWritten : Type 0
@@ -15,6 +24,18 @@ MessagesAreWritten = (metadata : Metadata) (most : ℕ) (entries : List Entry) (
     (bytes : List ℕ) → most ≤ max_message → Begins metadata most (fresh [] 0) (Ok header) start
     → AddsAll entries (record { header = header; encoder = start }) outcomes d → Ends d bytes → Written metadata most entries outcomes bytes
 
+-- If octets are held back for a last record, it is added, or memory runs out. Then the message ends with it.
+abbrev pub MessagesEndWith : Type 0
+MessagesEndWith = (metadata : Metadata) (most : ℕ) (entries : List Entry) (outcomes : List Added) (last : WireRecord) (header : Header) (start : Encoder)
+    (d e : Draft) (outcome : Outcome) → most ≤ max_message → record_size last ≤ most
+    → Begins metadata (most - record_size last) (fresh [] 0) (Ok header) start → AddsAll entries (record { header = header; encoder = start }) outcomes d
+    → AddsLast (Some last) most d outcome e
+    → OnOk outcome ((bytes : List ℕ) → Ends e bytes → WrittenWith metadata most entries outcomes last bytes) × IfErr outcome (λ error. error ≡ Memory)
+
 -- What is written is what is read.
 abbrev pub WrittenMessagesAreRead : Type 0
 WrittenMessagesAreRead = (metadata : Metadata) (c : Contents) (bytes : List ℕ) → Holds metadata c bytes → IsReadAs metadata c bytes
+
+-- EDNS that is written is read as the same: its OPT record is read as a record that says so.
+abbrev pub EdnsComesBack : Type 0
+EdnsComesBack = (e : WireEdns) (r : WireRecord) (x : RecordValue) → IsOptOf e r → RecordIsRead r x → (x.record_type ≡ OPT) × IsEdns x (edns_value e)

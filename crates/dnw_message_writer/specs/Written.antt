@@ -1,5 +1,5 @@
 -- What a written message is (RFC 1035, section 4): a header, and then exactly the items that were accepted, by their sections.
-use Rattle.std.specs.Prelude.{◌≡◌, ℕ, ◌+◌, ◌<◌, ◌≤◌, Bool, true, false, ◌||◌, List, [], ◌∷◌, ◌++◌, length, take, Ok, Err}
+use Rattle.std.specs.Prelude.{◌≡◌, ℕ, ◌+◌, ◌-◌, ◌<◌, ◌≤◌, Bool, true, false, ◌||◌, List, [], ◌∷◌, ◌++◌, length, take, Ok, Err}
 use Rattle.std.specs.Int.{w16, to_be_bytes}
 use Rattle.dnw_error.specs.declared.error.ProtoError.TheVariants.{MaxBufferSizeExceeded, Memory}
 use Rattle.dnw_codes.specs.RecordTypes.{type_code}
@@ -138,4 +138,18 @@ pub record Holds (metadata : Metadata) (c : Contents) (bytes : List ℕ) : Type 
 pub record Written (metadata : Metadata) (most : ℕ) (entries : List Entry) (outcomes : List Added) (bytes : List ℕ) : Type 0 where
   pub holds : Holds metadata (contents_from nothing entries outcomes) bytes
   pub outcomes_are : HaveOutcomes most nothing header_size entries outcomes (length bytes)
+  pub few : length bytes ≤ most
+
+-- ---- a last record
+
+-- with this record at the end of the additional section
+abbrev pub ending_with : WireRecord → Contents → Contents
+ending_with last c = record c { additionals = c.additionals ++ last ∷ [] }
+
+-- A message of at most so many octets was written from these items, with these outcomes, and ends with this record. The items
+-- had all octets but those of the record with its names whole.
+pub record WrittenWith (metadata : Metadata) (most : ℕ) (entries : List Entry) (outcomes : List Added) (last : WireRecord) (bytes : List ℕ) : Type 0 where
+  pub holds : Holds metadata (ending_with last (contents_from nothing entries outcomes)) bytes
+  pub last_at : ℕ
+  pub outcomes_are : HaveOutcomes (most - record_size last) nothing header_size entries outcomes last_at
   pub few : length bytes ≤ most

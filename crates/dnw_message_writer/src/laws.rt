@@ -1,11 +1,17 @@
 //! What follows from the steps of a writer, for callers' proofs.
 //!
 //! The functions do nothing. Each is there for its clauses.
-ghost use Rattle.dnw_message_writer.specs.WriterLaws.{MessagesAreWritten, WrittenMessagesAreRead};
+ghost use Rattle.dnw_message_writer.specs.WriterLaws.{EdnsComesBack, MessagesAreWritten, MessagesEndWith, WrittenMessagesAreRead};
 
 /// After any items, in any order and with any outcomes, a message holds exactly those that were accepted: see `writer::write`.
 pub fn messages_are_written()
     ensures { MessagesAreWritten }
+{}
+
+/// If octets are held back for a last record, as `writer::MessageWriter::with_last` does, it is added unless memory runs out, and the
+/// message ends with it.
+pub fn messages_end_with()
+    ensures { MessagesEndWith }
 {}
 
 /// What is written is what is read: the octets are one message, with the header that was written and exactly the accepted items
@@ -15,4 +21,9 @@ pub fn messages_are_written()
 /// `MessageRef::read_limited` is below 65,535 times 65,535 pointers.
 pub fn written_messages_are_read()
     ensures { WrittenMessagesAreRead }
+{}
+
+/// EDNS that is written is read as the same, with a payload size of at least 512.
+pub fn edns_comes_back()
+    ensures { EdnsComesBack }
 {}

@@ -3,6 +3,7 @@
 //! It stands on headers and scripts. Read `specs/Drafts.antt` first: what a message is while it is written.
 #![tactic(auto)]
 
+pub mod edns;
 pub mod laws;
 pub mod query;
 mod section;

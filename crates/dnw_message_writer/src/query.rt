@@ -9,7 +9,9 @@ use dnw_codes::record_type::RecordType;
 use dnw_encoder::binary::BinEncodable;
 use dnw_encoder::encoder::BinEncoder;
 use dnw_error::error::ProtoResult;
+use dnw_message::query::QueryRef;
 use dnw_name::name::Name;
+use std::alloc::Global;
 
 /// A question to be written into a message (RFC 1035, section 4.1.2).
 ///
@@ -22,6 +24,22 @@ pub struct WireQuery {
     pub query_type: RecordType,
     /// Their class.
     pub query_class: DNSClass,
+}
+
+impl WireQuery {
+    ghost use Rattle.std.specs.Prelude.{Ok, true};
+
+    /// Returns a question of a message, to be written into another, as a response repeats that of its request (RFC 1035,
+    /// section 6.2). This does not allocate and cannot fail.
+    pub fn from_message(alloc: Global, query: &QueryRef<'_>) -> ProtoResult<Self>
+        ensures { result ≡ Ok (record { name = record { is_fqdn = true; labels = query.now.name }; query_type = query.now.query_type; query_class = query.now.query_class }) }
+    {
+        Ok(WireQuery {
+            name: query.name().to_name(alloc)?,
+            query_type: query.query_type(),
+            query_class: query.query_class(),
+        })
+    }
 }
 
 impl BinEncodable for WireQuery {

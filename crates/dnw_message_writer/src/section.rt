@@ -75,7 +75,7 @@ fn is_open(counts: &HeaderCounts, section: Section) -> bool
 }
 
 /// Counts one more item. No message has room for more than a count holds.
-fn count(counts: &mut HeaderCounts, section: Section)
+pub(crate) fn count(counts: &mut HeaderCounts, section: Section)
     ensures { counts.new ≡ counted section counts.old }
 {
     match section {

@@ -1,13 +1,15 @@
 //! Messages against the octets that dnspython 2.3.0 writes for them.
 
 use dns_names_wire::message::{
-    AddError, Entry, MessageType, MessageWriter, Metadata, OpCode, ResponseCode, WireQuery, write,
+    AddError, Entry, MessageRef, MessageType, MessageWriter, Metadata, OpCode, ResponseCode,
+    WireEdns, WireOption, WireQuery, write,
 };
 use dns_names_wire::{
     DNSClass, Name, ProtoError, ProtoResult, RDataEncoding, RecordType, WireData, WireRecord,
 };
 use std::alloc::Global;
 use std::test::Fail;
+use uses::messages::write_and_read;
 
 /// A response of an authority for the servers of example.com, with one of their addresses.
 const REFERRAL: &[u8] =
@@ -20,6 +22,36 @@ const REFERRAL: &[u8] =
 const TRUNCATED: &[u8] =
     b"\x12\x34\x87\x80\x00\x01\x00\x01\x00\x00\x00\x00\x07example\x03com\x00\x00\x02\x00\x01\
 \xc0\x0c\x00\x02\x00\x01\x00\x00\x0e\x10\x00\x06\x03ns1\xc0\x0c";
+
+/// A query for the servers of example.com.
+const QUERY: &str = "123401000001000000000000076578616d706c6503636f6d0000020001";
+
+/// The response of an authority to it, with one answer, and an `OPT` record with the options COOKIE and NSID.
+const RESPONSE: &str =
+    "123485000001000100000001076578616d706c6503636f6d0000020001c00c0002000100000e100006036e7331c00c\
+    00002904d0000080000012000a00080102030405060708000300026e73";
+
+/// The octets of the `OPT` record.
+const OPT_LEN: u16 = 29;
+
+const OPTIONS: &[WireOption<'static>] = &[
+    WireOption {
+        code: 10,
+        octets: &[1, 2, 3, 4, 5, 6, 7, 8],
+    },
+    WireOption {
+        code: 3,
+        octets: b"ns",
+    },
+];
+
+const EDNS: WireEdns<'static> = WireEdns {
+    max_payload: 1232,
+    rcode_high: 0,
+    version: 0,
+    dnssec_ok: true,
+    options: OPTIONS,
+};
 
 const METADATA: Metadata = Metadata {
     id: 0x1234,
@@ -109,7 +141,7 @@ fn items_one_by_one(rt: HostRuntime) -> Result<(), Fail> {
     let late = writer.add_answer(&server(alloc, "com.", 172800, "a.gtld-servers.net.")?);
     assert!(rt; matches!(late, Err(AddError::OutOfOrder)));
     assert!(rt; writer.add_additional(&address(alloc)?).is_ok());
-    assert_eq!(rt; writer.finish().as_slice(), REFERRAL);
+    assert_eq!(rt; writer.finish()?.as_slice(), REFERRAL);
     Ok(())
 }
 
@@ -132,6 +164,91 @@ fn a_message_without_room(rt: HostRuntime) -> Result<(), Fail> {
             Err(AddError::Proto(ProtoError::MaxBufferSizeExceeded(57)))
         )
     );
-    assert_eq!(rt; writer.finish().as_slice(), TRUNCATED);
+    assert_eq!(rt; writer.finish()?.as_slice(), TRUNCATED);
+    Ok(())
+}
+
+#[test]
+fn a_response_with_edns(rt: HostRuntime) -> Result<(), Fail> {
+    let alloc = rt.alloc();
+    let query = hex::decode(alloc, QUERY)?;
+    let request = MessageRef::read(query.as_slice())?;
+    let mut metadata = Metadata::response_from_request(&request.header().metadata);
+    metadata.authoritative = true;
+    let mut bytes = Vec::new(alloc);
+    let mut writer = MessageWriter::with_last(&mut bytes, metadata, 512, EDNS.to_record(alloc)?)?;
+    let question = request.queries().next().unwrap();
+    assert!(rt;
+        writer
+            .add_query(&WireQuery::from_message(alloc, &question)?)
+            .is_ok()
+    );
+    assert!(rt;
+        writer
+            .add_answer(&server(alloc, "example.com.", 3600, "ns1.example.com.")?)
+            .is_ok()
+    );
+    let response = hex::decode(alloc, RESPONSE)?;
+    assert_eq!(rt; writer.finish()?.as_slice(), response.as_slice());
+    Ok(())
+}
+
+#[test]
+fn edns_in_a_message_without_room(rt: HostRuntime) -> Result<(), Fail> {
+    let alloc = rt.alloc();
+    let mut bytes = Vec::new(alloc);
+    // The header and the record alone.
+    let mut writer = MessageWriter::with_last(
+        &mut bytes,
+        METADATA,
+        12 + OPT_LEN,
+        EDNS.to_record(alloc)?,
+    )?;
+    let refused = writer.add_answer(&server(alloc, "example.com.", 3600, "ns1.example.com.")?);
+    assert!(rt;
+        matches!(
+            refused,
+            Err(AddError::Proto(ProtoError::MaxBufferSizeExceeded(12)))
+        )
+    );
+    let octets = writer.finish()?;
+    assert_eq!(rt; octets.len(), usize::from(12 + OPT_LEN));
+    let message = MessageRef::read(octets.as_slice())?;
+    assert!(rt; message.header().metadata.truncation);
+    let edns = message.edns()?.unwrap();
+    assert_eq!(rt; edns.max_payload(), 1232);
+    assert!(rt; edns.dnssec_ok());
+    let mut options = edns.options();
+    for option in OPTIONS {
+        let found = options.next().unwrap();
+        assert_eq!(rt; found.code(), option.code);
+        assert_eq!(rt; found.octets(), option.octets);
+    }
+    assert!(rt; options.next().is_none());
+    let mut small = Vec::new(alloc);
+    assert!(rt;
+        matches!(
+            MessageWriter::with_last(&mut small, METADATA, 11 + OPT_LEN, EDNS.to_record(alloc)?),
+            Err(ProtoError::MaxBufferSizeExceeded(40))
+        )
+    );
+    Ok(())
+}
+
+#[test]
+fn a_caller_reads_what_it_wrote(rt: HostRuntime) -> Result<(), Fail> {
+    let alloc = rt.alloc();
+    let entries = [
+        Entry::Query(question(alloc)?),
+        Entry::Answer(server(alloc, "example.com.", 3600, "ns1.example.com.")?),
+        Entry::Additional(address(alloc)?),
+        Entry::Answer(server(alloc, "example.com.", 3600, "ns2.example.com.")?),
+    ];
+    let mut bytes = Vec::new(alloc);
+    let counts = write_and_read(alloc, &mut bytes, METADATA, &entries)?;
+    assert_eq!(rt; counts.queries, 1);
+    assert_eq!(rt; counts.answers, 1);
+    assert_eq!(rt; counts.authorities, 0);
+    assert_eq!(rt; counts.additionals, 1);
     Ok(())
 }

@@ -1,8 +1,7 @@
 -- What was begun, added to and closed is what was to be written.
-use Rattle.std.proofs.Common.{◌≡◌, Ok, replicate, rules, ap, ◌∙◌, [], subst, arith, List, ℕ}
-use Rattle.dnw_encoder.specs.Encoder.{Encoder, Writes, fresh}
+use Rattle.std.proofs.Common.{◌≡◌, Ok, rules, ap, ◌∙◌, [], subst, arith, List, ℕ}
+use Rattle.dnw_encoder.specs.Encoder.{Encoder, fresh}
 use Rattle.dnw_encoder.specs.EncoderValue.{value}
-use Rattle.dnw_message.specs.declared.header.Header.{Header}
 use Rattle.dnw_message_writer.specs.Drafts.{Begins, Draft}
 use Rattle.dnw_message_writer.specs.Written.{Written}
 use Rattle.dnw_message_writer.proofs.Finishing.{begun-adds, made}

@@ -1,0 +1,120 @@
+-- EDNS that was written is read.
+use Rattle.std.proofs.Common.{◌≡◌, ℕ, ◌+◌, ◌*◌, ◌/◌, ◌%◌, ◌^◌, ◌<◌, ◌≤◌, ◌==◌, max, nat_le, cond, unwrap_or, Bool, true, false, Option, Some, None, List, [], ◌∷◌, ◌++◌, length, map, find, slice_range, drop, Any, Result, Ok, Err, IfErr, get_or, ◌⊎◌, inl, inr, refl, sym, ap, ◌∙◌, eqb-true, subst, arith}
+use Rattle.std.specs.Int.{w16, from_bool, to_be_bytes}
+use Rattle.std.specs.List.{AllByRecursion}
+use Rattle.std.specs.Result.{IsErrAnd}
+use Rattle.std.proofs.lemmas.Grind.{common_steps}
+use Rattle.std.proofs.lemmas.List.{drop_at, get_or_default, length-append}
+use Rattle.std.proofs.lemmas.Nat.{from_be_bytes-to_be_bytes_2}
+use Rattle.dnw_error.specs.declared.error.ProtoError.{ProtoError}
+use Rattle.dnw_error.specs.declared.error.ProtoError.TheVariants.{MaxBufferSizeExceeded, Memory}
+use Rattle.dnw_codes.specs.declared.record_type.RecordType.TheVariants.{OPT}
+use Rattle.dnw_codes.specs.declared.dns_class.DNSClass.{DNSClass}
+use Rattle.dnw_codes.specs.declared.dns_class.DNSClass.TheVariants.{Unknown}
+use Rattle.dnw_codes.specs.DnsClasses.{class_code, class_of_code, min_payload, named_classes}
+use Rattle.dnw_codes.specs.RecordTypes.{type_code, type_of_code}
+use Rattle.dnw_reading.proofs.Back.{slice_range-middle}
+use Rattle.dnw_record.specs.declared.record.WireData.{WireData}
+use Rattle.dnw_record.specs.declared.record.WireData.TheVariants as rdata
+use Rattle.dnw_record.specs.Records.{RecordValue, data_octets}
+use Rattle.dnw_encoder.specs.declared.encoder.modes.NameEncoding.TheVariants.{Compressed}
+use Rattle.dnw_script.specs.ScriptLaws.{HasData}
+use Rattle.dnw_message.specs.Headers.{flag}
+use Rattle.dnw_message.specs.Edns.{OptionsAre, first_option, none, one_more, option_of, option_size}
+use Rattle.dnw_message_writer.specs.declared.edns.WireOption.{WireOption}
+use Rattle.dnw_message_writer.specs.WireEdns.{AreOctets, OptionFits, edns_ttl, option_value, option_wire, options_wire}
+use Rattle.dnw_message_writer.specs.WriterLaws.{EdnsComesBack}
+
+-- ---- classes
+
+one-class : (n : ℕ) (x : DNSClass) (rest : Option DNSClass) (b : Bool) → (class_code x == n) ≡ b → class_code (unwrap_or rest (Unknown n)) ≡ n
+    → class_code (unwrap_or (cond b (Some x) rest) (Unknown n)) ≡ n
+one-class n x rest true is h = eqb-true (class_code x) n is
+one-class n x rest false is h = h
+
+among : (n : ℕ) (xs : List DNSClass) → class_code (unwrap_or (find (λ class. class_code class == n) xs) (Unknown n)) ≡ n
+among n [] = refl
+among n (x ∷ xs) = one-class n x (find (λ class. class_code class == n) xs) (class_code x == n) refl (among n xs)
+
+-- the class of a code has this code
+class-back : (n : ℕ) → class_code (class_of_code n) ≡ n
+unfolding class_of_code
+class-back n = among n named_classes
+
+opt-back : type_of_code (type_code OPT) ≡ OPT
+unfolding type_of_code
+opt-back = refl
+
+-- ---- options
+
+-- octets begin with an option, and others follow
+first-is : (o : WireOption) (rest : List ℕ) → OptionFits o → first_option (option_wire o ++ rest) ≡ Some (option_value o, rest)
+unfolding first_option
+first-is o rest (code, few) =
+    let octets = o.octets.now in
+    let head : List ℕ = to_be_bytes w16 o.code ++ to_be_bytes w16 (length octets) in
+    let d : List ℕ = option_wire o ++ rest in
+    let size : option_size d ≡ 4 + length octets = ap (λ n. 4 + n) (from_be_bytes-to_be_bytes_2 (length octets) (omega (arith, few))) in
+    let four : length (option_wire o) ≡ 4 + length octets = omega arith in
+    let long : length d ≡ 4 + length octets + length rest = omega (arith, length-append (option_wire o) rest, four) in
+    let fits : nat_le (option_size d) (length d) ≡ true = grind (arith, common_steps, size, long) in
+    let middle : slice_range d 4 (option_size d) ≡ octets =
+    ap (slice_range d 4) size ∙ slice_range-middle head octets rest 4 (4 + length octets) refl refl in
+    let after : drop (option_size d) d ≡ rest =
+    ap (λ n. drop n d) size ∙ drop_at (option_wire o) rest (4 + length octets) four in
+    let is : option_of d ≡ option_value o =
+    ap (λ n. record (option_of d) { code = n }) (from_be_bytes-to_be_bytes_2 o.code code) ∙ ap (λ x. record (option_value o) { octets = x }) middle in
+    ap (λ b. cond b (Some (option_of d, drop (option_size d) d)) None) fits ∙ (ap (λ x. Some (x, drop (option_size d) d)) is ∙ ap (λ x. Some (option_value o, x)) after)
+
+options-are : (os : List WireOption) → AllByRecursion OptionFits os → OptionsAre (options_wire os) (map option_value os)
+options-are [] fit = none
+options-are (o ∷ os) (one, fit) = one_more (first-is o (options_wire os) one) (options-are os fit)
+
+-- ---- the record
+
+data-are : (d : WireData) (x : RecordValue) (octets : List ℕ) → AreOctets d octets → HasData x Compressed false d → data_octets x ≡ octets
+data-are (rdata.Bytes bytes) x octets are h = h ∙ are
+data-are (rdata.Name name encoding) x octets are h = absurd are
+
+bit-of : (b : Bool) (n : ℕ) → n % 2 ≡ from_bool b → b ≡ (n % 2 == 1)
+bit-of true n h = rw h refl
+bit-of false n h = rw h refl
+
+flag-most : (b : Bool) → flag b 15 ≤ 2 ^ 15
+flag-most true = omega arith
+flag-most false = omega arith
+
+low-bit : (b : Bool) (high version : ℕ) → (high * 2 ^ 24 + version * 2 ^ 16 + flag b 15) / 2 ^ 15 % 2 ≡ from_bool b
+low-bit true high version = omega arith
+low-bit false high version = omega arith
+
+pub edns_comes_back : EdnsComesBack
+edns_comes_back e r x opt (owner, kind, class, ttl, rdata) =
+    let (version, high, payload) = opt.fit in
+    let t : x.ttl ≡ edns_ttl e = ttl ∙ opt.ttl in
+    let code : class_code x.class ≡ max e.max_payload min_payload = ap class_code class ∙ (class-back (class_code r.class) ∙ ap class_code opt.class) in
+    let bit : flag e.dnssec_ok 15 ≤ 2 ^ 15 = flag-most e.dnssec_ok in (
+      kind ∙ (ap (λ k. type_of_code (type_code k)) opt.record_type ∙ opt-back),
+      (
+        owner ∙ opt.owner,
+        omega (arith, code),
+        omega (arith, t, bit, version),
+        omega (arith, t, bit, version),
+        rw t (bit-of e.dnssec_ok (edns_ttl e / 2 ^ 15) (low-bit e.dnssec_ok e.rcode_high e.version)),
+        subst (λ d. OptionsAre d (map option_value e.options.now)) (sym (data-are r.rdata x (options_wire e.options.now) opt.rdata rdata)) (options-are e.options.now opt.options),
+      ),
+    )
+
+-- ---- options that are too long
+
+-- The one at an index is.
+any-long : (os : List WireOption) (k : ℕ) (d : WireOption) → k < length os → 65535 < length (get_or os k d).octets.now
+    → Any (λ o. 65535 < length o.octets.now) os
+any-long os k d below long = (k, get_or os k d, below, get_or_default os k (get_or os k d) d below, long)
+
+pub fails-long : {A : Type 0} (r : Result A ProtoError) (given : ProtoError) (os : List WireOption) (k : ℕ) (d : WireOption) → k < length os
+    → IsErrAnd r (λ e. e ≡ given) → (given ≡ Memory) ⊎ ((given ≡ MaxBufferSizeExceeded 65535) × (65535 < length (get_or os k d).octets.now))
+    → IfErr r (λ e. (e ≡ Memory) ⊎ ((e ≡ MaxBufferSizeExceeded 65535) × Any (λ o. 65535 < length o.octets.now) os))
+fails-long (Ok x) given os k d below is why = tt
+fails-long (Err e) given os k d below is (inl memory) = inl (is ∙ memory)
+fails-long (Err e) given os k d below is (inr long) = inr (is ∙ long.0, any-long os k d below long.1)
