@@ -1,3 +1,5 @@
 pub mod Pieces
 pub mod Copies
+pub mod RecordWriting
+pub mod RecordFrames
 pub mod Inside

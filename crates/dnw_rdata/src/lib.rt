@@ -4,3 +4,4 @@
 #![tactic(auto)]
 
 pub mod rdata;
+pub mod record;
