@@ -9,8 +9,8 @@ use Rattle.dnw_encoder.specs.EmittedName.{EmitsAs, EmitsName, Share, in_mode}
 use Rattle.dnw_record.specs.Parts.{EmitsSized, EmitsWirePart, EmitsWireParts, Then, WirePart, Write, bytes_part, name_part, text_part}
 use Rattle.dnw_record.proofs.Parts.{done-bytes, done-name, done-part, refused-name, refused-part, refused-room}
 use Rattle.dnw_rdata.specs.declared.record.Record.{Record}
-use Rattle.dnw_rdata.specs.Pieces.{DataValue}
-use Rattle.dnw_rdata.specs.RecordWriting.{EmitsData, EmitsFields, parts_of, type_class_ttl}
+use Rattle.dnw_rdata.specs.DataPieces.{DataValue}
+use Rattle.dnw_rdata.specs.AnyRecords.{EmitsRData, EmitsAnyFields, parts_of, type_class_ttl}
 
 abbrev pub offset_of : Encoder → ℕ
 offset_of v = v.offset
@@ -36,7 +36,7 @@ on-parts (part ∷ parts) v (Ok tt) w (m, one, more) = omega (arith, (done-part 
 on-parts (part ∷ parts) v (Err error) w (inl one) = same-offset v w (refused-part part parts v w error one).0
 on-parts (part ∷ parts) v (Err error) w (inr (m, one, more)) = omega (arith, (done-part part v m one).3, on-parts parts m (Err error) w more)
 
-pub on-data : (x : DataValue) → GoesOn (EmitsData x)
+pub on-data : (x : DataValue) → GoesOn (EmitsRData x)
 on-data x v outcome w (pieces, has, h) = on-parts (parts_of pieces v.encoding v.canonical) v outcome w h
 
 on-sized : (write : Write) → GoesOn write → GoesOn (EmitsSized write)
@@ -49,10 +49,10 @@ on-then first second one two v (Ok tt) w (m, f, s) = omega (arith, one v (Ok tt)
 on-then first second one two v (Err error) w (inl f) = one v (Err error) w f
 on-then first second one two v (Err error) w (inr (m, f, s)) = omega (arith, one v (Ok tt) m f, two m (Err error) w s)
 
-pub on-fields : (r : Record) → GoesOn (EmitsFields r)
+pub on-fields : (r : Record) → GoesOn (EmitsAnyFields r)
 on-fields r =
     on-then (EmitsName r.name) _ (on-name r.name)
-    (on-then (λ v. Writes v (type_class_ttl r)) (EmitsSized (EmitsData r.data)) (on-bytes (type_class_ttl r)) (on-sized (EmitsData r.data) (on-data r.data)))
+    (on-then (λ v. Writes v (type_class_ttl r)) (EmitsSized (EmitsRData r.data)) (on-bytes (type_class_ttl r)) (on-sized (EmitsRData r.data) (on-data r.data)))
 
 -- ---- within the maximum
 
@@ -64,7 +64,7 @@ within-parts (part ∷ parts) v w le (m, one, more) =
     let (all, still) = within-parts parts m w (omega (arith, within, same)) more in
     (all, still ∙ same)
 
-pub within-data : (x : DataValue) (v w : Encoder) → v.offset ≤ v.max_size → EmitsData x v (Ok tt) w → (w.offset ≤ w.max_size) × (w.max_size ≡ v.max_size)
+pub within-data : (x : DataValue) (v w : Encoder) → v.offset ≤ v.max_size → EmitsRData x v (Ok tt) w → (w.offset ≤ w.max_size) × (w.max_size ≡ v.max_size)
 within-data x v w le (pieces, has, h) = within-parts (parts_of pieces v.encoding v.canonical) v w le h
 
 -- ---- modes
@@ -89,13 +89,13 @@ parts-modes (part ∷ parts) v w (m, one, more) =
 -- ---- the length
 
 -- The length is written into its placeholder, which always has room.
-pub sized : (x : DataValue) (v p u w : Encoder) (place number : ℕ) (outcome : Outcome) → HasRoom v 2 → p ≡ reserved v 2 → EmitsData x p (Ok tt) u
+pub sized : (x : DataValue) (v p u w : Encoder) (place number : ℕ) (outcome : Outcome) → HasRoom v 2 → p ≡ reserved v 2 → EmitsRData x p (Ok tt) u
     → place ≡ v.offset → place + 2 + number ≡ u.offset → u.offset ≤ u.max_size → u.offset ≤ length u.bytes
-    → EmitsAt {X = ℕ} (λ n e. Writes e (to_be_bytes w16 n)) place number u outcome w → EmitsSized (EmitsData x) v outcome w
+    → EmitsAt {X = ℕ} (λ n e. Writes e (to_be_bytes w16 n)) place number u outcome w → EmitsSized (EmitsRData x) v outcome w
 sized x v p u w place number (Ok tt) room is one at size within inside (u', (fits, put), moved) =
     let many : number ≡ u.offset - (v.offset + 2) = omega (arith, at, size) in
     let filled : w ≡ moved_to (written (moved_to u place) (to_be_bytes w16 number)) u.offset = moved ∙ ap (λ e. moved_to e u.offset) put in
-    (room, u, subst (λ e. EmitsData x e (Ok tt) u) is one, filled ∙ rw (at, many) refl)
+    (room, u, subst (λ e. EmitsRData x e (Ok tt) u) is one, filled ∙ rw (at, many) refl)
 sized x v p u w place number (Err Memory) room is one at size within inside (u', (fits, grows, put), moved) = absurd (omega (arith, size, inside, grows))
 sized x v p u w place number (Err (MaxBufferSizeExceeded most)) room is one at size within inside (u', (over, same, put), moved) = absurd (omega (arith, size, within, over))
 sized x v p u w place number (Err error) room is one at size within inside (u', none, moved) = absurd none

@@ -3,3 +3,4 @@ pub mod Pieces
 pub mod Kept
 pub mod Going
 pub mod Walking
+pub mod AnyRecords

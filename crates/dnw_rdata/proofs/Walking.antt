@@ -14,9 +14,9 @@ use Rattle.dnw_data.specs.Fields.{own_at, size_at}
 use Rattle.dnw_encoder.specs.Encoder.{Encoder, Writes}
 use Rattle.dnw_encoder.specs.Emitting.{Outcome}
 use Rattle.dnw_record.specs.Parts.{EmitsWireParts, WirePart, bytes_part, name_part}
-use Rattle.dnw_rdata.specs.Pieces.{HasPieces, IsData, Piece, name_piece}
-use Rattle.dnw_rdata.specs.Copies.{TakesOwnPiece, TakesPiece, TakesPieces, alone}
-use Rattle.dnw_rdata.specs.RecordWriting.{mode_of, name_of, parts_after, parts_of}
+use Rattle.dnw_rdata.specs.DataPieces.{HasPieces, IsData, DataPiece, name_piece}
+use Rattle.dnw_rdata.specs.DataCopies.{TakesOwnPiece, TakesPiece, TakesPieces, alone}
+use Rattle.dnw_rdata.specs.AnyRecords.{mode_of, name_of, parts_after, parts_of}
 use Rattle.dnw_rdata.specs.Inside.Copying.{IsNoName}
 use Rattle.dnw_rdata.specs.Inside.Walking.{IsWriting}
 use Rattle.dnw_rdata.proofs.Going.{parts-modes}
@@ -40,10 +40,10 @@ begins kinds octets old (pieces, has) =
 -- What the octets of data are written as.
 abbrev pub IsWritten : List Kind → List ℕ → Encoder → Outcome → Encoder → Type 0
 IsWritten kinds octets old outcome w =
-    (pieces : List Piece) × HasPieces kinds octets pieces × EmitsWireParts (parts_of pieces old.encoding old.canonical) old outcome w
+    (pieces : List DataPiece) × HasPieces kinds octets pieces × EmitsWireParts (parts_of pieces old.encoding old.canonical) old outcome w
 
-first-piece : (kind : Kind) (others : List Kind) (d : Decoder) (more : List Piece) → TakesPieces (kind ∷ others) d more
-    → (piece : Piece) × (pieces : List Piece) × (after : Decoder) × (more ≡ piece ∷ pieces) × TakesPiece kind d piece after × TakesPieces others after pieces
+first-piece : (kind : Kind) (others : List Kind) (d : Decoder) (more : List DataPiece) → TakesPieces (kind ∷ others) d more
+    → (piece : DataPiece) × (pieces : List DataPiece) × (after : Decoder) × (more ≡ piece ∷ pieces) × TakesPiece kind d piece after × TakesPieces others after pieces
 first-piece kind others d [] takes = absurd takes
 first-piece kind others d (piece ∷ pieces) (after, one, rest) = (piece, pieces, after, refl, one, rest)
 
@@ -71,14 +71,14 @@ two-fail one two rest v w error (inr (a, first, inr (b, second, none))) = absurd
 -- the parts of what is left, at a name
 at-name : (kinds others : List Kind) (octets before : List ℕ) (form : NameForm) (old v : Encoder) (d after : Decoder) (labels : List (List ℕ)) (k run : ℕ)
     → IsWriting kinds octets old (Name form ∷ others) d run v → TakesName d after labels k → before ≡ slice_range octets run d.index
-    → (c : IsWriting kinds octets old (Name form ∷ others) d run v) × (pieces : List Piece) × TakesPieces others after pieces
+    → (c : IsWriting kinds octets old (Name form ∷ others) d run v) × (pieces : List DataPiece) × TakesPieces others after pieces
     × ((outcome : Outcome) (w : Encoder) → EmitsWireParts (bytes_part before ∷ name_part (mode_of form v.encoding v.canonical) (name_of labels) ∷ parts_after [] pieces old.encoding old.canonical) v outcome w
     → EmitsWireParts (parts_of c.pieces old.encoding old.canonical) old outcome w)
 at-name kinds others octets before form old v d after labels k run c takes before_is =
     let (piece, pieces, there, more_is, one, rest) = first-piece (Name form) others d c.more c.takes in
     let (labels', k', takes', is) = one in
     let (same, ends) = TakesName-unique takes' takes in
-    let parts : List Piece → List WirePart = λ more. parts_after (slice_range octets run d.index) more old.encoding old.canonical in
+    let parts : List DataPiece → List WirePart = λ more. parts_after (slice_range octets run d.index) more old.encoding old.canonical in
     let shape : parts c.more ≡ bytes_part before ∷ name_part (mode_of form v.encoding v.canonical) (name_of labels) ∷ parts_after [] pieces old.encoding old.canonical =
     ap parts (more_is ∙ ap (λ p. p ∷ pieces) (is ∙ ap (name_piece form) same))
     ∙ rw (before_is, c.mode, c.canonical) refl in
@@ -129,12 +129,12 @@ pub no-name : (kind : Kind) → ((form : NameForm) → kind ≡ Name form → �
 no-name (Name form) other = other form refl
 no-name kind other = tt
 
-as-own : (kind : Kind) → IsNoName kind → (d after : Decoder) (piece : Piece) → TakesPiece kind d piece after → TakesOwnPiece kind d piece after
+as-own : (kind : Kind) → IsNoName kind → (d after : Decoder) (piece : DataPiece) → TakesPiece kind d piece after → TakesOwnPiece kind d piece after
 as-own (Name form) other d after piece h = absurd other
 as-own kind other d after piece h = h
 
 pub some-own : (kinds others : List Kind) (octets : List ℕ) (kind : Kind) (old v : Encoder) (d : Decoder) (run : ℕ) → IsNoName kind
-    → IsWriting kinds octets old (kind ∷ others) d run v → (piece : Piece) × (after : Decoder) × TakesOwnPiece kind d piece after
+    → IsWriting kinds octets old (kind ∷ others) d run v → (piece : DataPiece) × (after : Decoder) × TakesOwnPiece kind d piece after
 some-own kinds others octets kind old v d run other c =
     let (piece, pieces, after, _, one, _) = first-piece kind others d c.more c.takes in
     (piece, after, as-own kind other d after piece one)
@@ -148,7 +148,7 @@ joined octets i j k first second within =
     let rest : drop (j - i) left ≡ drop j octets = drop-drop (j - i) i octets ∙ ap (λ n. drop n octets) sum in
     sym (ap (λ n. take n left) many ∙ take-add (j - i) (k - j) left ∙ ap (λ (x : List ℕ). take (j - i) left ++ take (k - j) x) rest)
 
-pub own-written : (kinds others : List Kind) (octets : List ℕ) (kind : Kind) (old v : Encoder) (d after : Decoder) (piece : Piece) (run : ℕ) → IsNoName kind
+pub own-written : (kinds others : List Kind) (octets : List ℕ) (kind : Kind) (old v : Encoder) (d after : Decoder) (piece : DataPiece) (run : ℕ) → IsNoName kind
     → IsWriting kinds octets old (kind ∷ others) d run v → TakesOwnPiece kind d piece after → IsWriting kinds octets old others after run v
 own-written kinds others octets kind old v d after piece run other c (enough, _, _, there) =
     let (piece', pieces, ends, more_is, one, rest) = first-piece kind others d c.more c.takes in
@@ -158,7 +158,7 @@ own-written kinds others octets kind old v d after piece run other c (enough, _,
     let within : after.index ≤ length octets = omega (arith, index, enough, ap length c.message) in
     let own : own_at kind d ≡ slice_range octets d.index after.index =
     ap (λ b. slice_range b d.index (d.index + size_at kind d)) c.message ∙ ap (slice_range octets d.index) (sym index) in
-    let parts : List ℕ → List Piece → List WirePart = λ run more. parts_after run more old.encoding old.canonical in
+    let parts : List ℕ → List DataPiece → List WirePart = λ run more. parts_after run more old.encoding old.canonical in
     let run_is : slice_range octets run d.index ++ own_at kind d ≡ slice_range octets run after.index =
     ap (λ (x : List ℕ). slice_range octets run d.index ++ x) own ∙ joined octets run d.index after.index c.order (omega (arith, index)) within in
     let shape : parts (slice_range octets run d.index) c.more ≡ parts (slice_range octets run after.index) pieces =
@@ -182,7 +182,7 @@ last-part : (d : List ℕ) (v w : Encoder) (outcome : Outcome) → Writes v d ou
 last-part d v w (Ok tt) h = (w, h, refl)
 last-part d v w (Err error) h = inl h
 
-none-more : (d : Decoder) (more : List Piece) → TakesPieces [] d more → (more ≡ []) × (d.index ≡ length d.bytes)
+none-more : (d : Decoder) (more : List DataPiece) → TakesPieces [] d more → (more ≡ []) × (d.index ≡ length d.bytes)
 none-more d [] end = (refl, end)
 none-more d (piece ∷ more) takes = absurd takes
 
@@ -192,7 +192,7 @@ ends kinds [] octets last old v w d run outcome none c last_is h =
     let (more, end) = none-more d c.more c.takes in
     let index : d.index ≡ length octets = end ∙ ap length c.message in
     let run_is : slice_range octets run d.index ≡ last = ap (slice_range octets run) index ∙ sym last_is in
-    let parts : List ℕ → List Piece → List WirePart = λ run more. parts_after run more old.encoding old.canonical in
+    let parts : List ℕ → List DataPiece → List WirePart = λ run more. parts_after run more old.encoding old.canonical in
     let shape : parts (slice_range octets run d.index) c.more ≡ bytes_part last ∷ [] =
     ap (parts (slice_range octets run d.index)) more ∙ ap (λ r. bytes_part r ∷ []) run_is in
     (c.pieces, c.has, c.rest outcome w (subst (λ ps. EmitsWireParts ps v outcome w) (sym shape) (last-part last v w outcome h)))

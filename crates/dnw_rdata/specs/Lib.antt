@@ -1,5 +1,6 @@
-pub mod Pieces
-pub mod Copies
-pub mod RecordWriting
-pub mod RecordFrames
+pub mod DataPieces
+pub mod DataCopies
+pub mod AnyRecords
+pub mod AnyRecordFrames
+pub mod AnyRecordLaws
 pub mod Inside

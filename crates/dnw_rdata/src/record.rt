@@ -4,10 +4,10 @@ ghost use Rattle.dnw_base.specs.Decoder.{Decoder};
 ghost use Rattle.dnw_encoder.specs.EncoderValue.{value, lender};
 ghost use Rattle.dnw_record.specs.Parts.{EmitsSized, EmitsWirePart, EmitsWireParts, bytes_part, name_part};
 ghost use Rattle.dnw_rdata.specs.Inside.Copying.{IsNoName};
-ghost use Rattle.dnw_rdata.specs.Copies.{TakesOwnPiece};
-ghost use Rattle.dnw_rdata.specs.Pieces.{Piece};
-ghost use Rattle.dnw_rdata.specs.RecordWriting.{EmitsData, EmitsFields, EmitsRecord, NumbersFit, encoding_of, mode_of, name_of, type_class_ttl};
-ghost use Rattle.dnw_rdata.specs.RecordFrames.{frame-record};
+ghost use Rattle.dnw_rdata.specs.DataCopies.{TakesOwnPiece};
+ghost use Rattle.dnw_rdata.specs.DataPieces.{DataPiece};
+ghost use Rattle.dnw_rdata.specs.AnyRecords.{EmitsRData, EmitsAnyFields, EmitsAnyRecord, AnyNumbersFit, encoding_of, mode_of, name_of, type_class_ttl};
+ghost use Rattle.dnw_rdata.specs.AnyRecordFrames.{frame-any_record};
 
 use crate::rdata::RData;
 use dnw_base::decoder::BinDecoder;
@@ -38,9 +38,9 @@ pub struct Record {
 }
 
 impl BinEncodable for Record {
-    ghost emits = { EmitsRecord };
+    ghost emits = { EmitsAnyRecord };
 
-    ghost keeps_frame = { frame-record };
+    ghost keeps_frame = { frame-any_record };
 
     /// Writes the owner, the type, the class, the time to live, the length and the data. If one of them fails, the encoder
     /// is put back to where it was.
@@ -59,8 +59,8 @@ impl BinEncodable for Record {
 
 /// Writes the fields of a record in turn, up to the first that fails.
 fn emit_fields(item: &Record, encoder: &mut BinEncoder<'_>) -> ProtoResult<()>
-    ensures writes { EmitsFields item.now (value encoder.old) result (value encoder.new) }
-    ensures fit { OnOk result (NumbersFit item.now) }
+    ensures writes { EmitsAnyFields item.now (value encoder.old) result (value encoder.new) }
+    ensures fit { OnOk result (AnyNumbersFit item.now) }
     ensures lender { lender encoder.new ≡ lender encoder.old }
 {
     item.name.emit(encoder)?;
@@ -72,7 +72,7 @@ fn emit_fields(item: &Record, encoder: &mut BinEncoder<'_>) -> ProtoResult<()>
 #[inline(always)]
 fn type_class_ttl(item: &Record) -> [u8; 8]
     ensures octets { result ≡ type_class_ttl item.now }
-    ensures fit { NumbersFit item.now }
+    ensures fit { AnyNumbersFit item.now }
 {
     let kind = u16::to_be_bytes(u16::from(item.data.record_type()));
     let class = u16::to_be_bytes(u16::from(item.dns_class));
@@ -84,7 +84,7 @@ fn type_class_ttl(item: &Record) -> [u8; 8]
 
 /// Writes data after their length.
 fn emit_sized(data: &RData, encoder: &mut BinEncoder<'_>) -> ProtoResult<()>
-    ensures writes { EmitsSized (EmitsData «data».now) (value encoder.old) result (value encoder.new) }
+    ensures writes { EmitsSized (EmitsRData «data».now) (value encoder.old) result (value encoder.new) }
     ensures lender { lender encoder.new ≡ lender encoder.old }
 {
     let place = encoder.place::<u16>()?;
@@ -98,7 +98,7 @@ fn emit_sized(data: &RData, encoder: &mut BinEncoder<'_>) -> ProtoResult<()>
 
 /// Writes data without their length: each name in its mode, and all octets from one name to the next at once.
 fn emit_data(data: &RData, encoder: &mut BinEncoder<'_>) -> ProtoResult<()>
-    ensures writes { EmitsData «data».now (value encoder.old) result (value encoder.new) }
+    ensures writes { EmitsRData «data».now (value encoder.old) result (value encoder.new) }
     ensures lender { lender encoder.new ≡ lender encoder.old }
 {
     let octets = data.octets();
@@ -123,8 +123,8 @@ fn emit_data(data: &RData, encoder: &mut BinEncoder<'_>) -> ProtoResult<()>
 /// Moves past a field that is no name.
 fn skip_own(kind: Kind, reader: &mut BinDecoder<'_>)
     requires other { IsNoName kind }
-    requires there { (piece : Piece) × (after : Decoder) × TakesOwnPiece kind reader.old piece after }
-    ensures { (piece : Piece) × TakesOwnPiece kind reader.old piece reader.new }
+    requires there { (piece : DataPiece) × (after : Decoder) × TakesOwnPiece kind reader.old piece after }
+    ensures { (piece : DataPiece) × TakesOwnPiece kind reader.old piece reader.new }
 {
     Field::read(kind, reader).unwrap();
 }

@@ -4,7 +4,7 @@ use Rattle.std.specs.Result.{IsOk, IsOkAnd}
 use Rattle.std.proofs.lemmas.Result.{err_from_is_err_and}
 use Rattle.dnw_error.specs.declared.error.DecodeError.{DecodeError}
 use Rattle.dnw_encoder.specs.EncoderValue.{value}
-use Rattle.dnw_rdata.specs.Pieces.{kinds_of}
+use Rattle.dnw_rdata.specs.DataPieces.{kinds_of}
 use Rattle.dnw_rdata.proofs.Walking.{begins, ends, name-fails, name-written, no-name, own-written, some-name}
 use Rattle.dnw_rdata.proofs.record.emit_data.Goals as goal
 

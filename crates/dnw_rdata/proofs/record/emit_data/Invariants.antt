@@ -1,7 +1,7 @@
 use Rattle.std.proofs.Common.{◌≡◌, length}
 use Rattle.dnw_encoder.specs.EncoderValue.{lender, value}
 use Rattle.dnw_rdata.specs.Inside.Walking.{IsWriting}
-use Rattle.dnw_rdata.specs.Pieces.{kinds_of}
+use Rattle.dnw_rdata.specs.DataPieces.{kinds_of}
 use Rattle.dnw_rdata.proofs.record.emit_data.Given as goal
 
 abbrev pub invariant-fields : goal.invariant-fields

@@ -6,12 +6,12 @@ use Rattle.dnw_encoder.specs.EmittedName.{EmitsName}
 use Rattle.dnw_encoder.specs.EncoderValue.{value}
 use Rattle.dnw_record.specs.Parts.{EmitsSized}
 use Rattle.dnw_rdata.specs.declared.record.Record.{Record}
-use Rattle.dnw_rdata.specs.RecordWriting.{EmitsData, EmitsFields, type_class_ttl}
+use Rattle.dnw_rdata.specs.AnyRecords.{EmitsRData, EmitsAnyFields, type_class_ttl}
 use Rattle.dnw_rdata.proofs.record.emit_fields.Goals as goal
 
 -- all fields but the last are written, and then the last
 fields-on : (r : Record) (v a d : Encoder) (outcome : Outcome) (w : Encoder) → EmitsName r.name v (Ok tt) a
-    → Writes a (type_class_ttl r) (Ok tt) d → EmitsSized (EmitsData r.data) d outcome w → EmitsFields r v outcome w
+    → Writes a (type_class_ttl r) (Ok tt) d → EmitsSized (EmitsRData r.data) d outcome w → EmitsAnyFields r v outcome w
 fields-on r v a d (Ok tt) w owner fixed rdata = (a, owner, (d, fixed, rdata))
 fields-on r v a d (Err error) w owner fixed rdata = inr (a, owner, inr (d, fixed, rdata))
 

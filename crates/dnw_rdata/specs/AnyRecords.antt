@@ -16,7 +16,7 @@ use Rattle.dnw_encoder.specs.EmittedName.{EmitsName}
 use Rattle.dnw_encoder.specs.Marks.{mark_of, rewound}
 use Rattle.dnw_record.specs.Parts.{EmitsSized, EmitsWireParts, Then, WirePart, bytes_part, name_part}
 use Rattle.dnw_rdata.specs.declared.record.Record.{Record}
-use Rattle.dnw_rdata.specs.Pieces.{DataValue, HasPieces, Piece, kinds_of, name_piece, octets_piece}
+use Rattle.dnw_rdata.specs.DataPieces.{DataValue, HasPieces, DataPiece, kinds_of, name_piece, octets_piece}
 
 -- ---- data
 
@@ -36,19 +36,19 @@ abbrev pub name_of : List (List ℕ) → NameValue
 name_of labels = record { is_fqdn = true; labels = labels }
 
 -- the parts of pieces that follow octets which are still to be written, by the mode in force, in canonical form or not
-abbrev pub parts_after : List ℕ → List Piece → NameEncoding → Bool → List WirePart
+abbrev pub parts_after : List ℕ → List DataPiece → NameEncoding → Bool → List WirePart
 parts_after run [] mode canonical = bytes_part run ∷ []
 parts_after run (octets_piece own ∷ pieces) mode canonical = parts_after (run ++ own) pieces mode canonical
 parts_after run (name_piece form labels ∷ pieces) mode canonical =
     bytes_part run ∷ name_part (mode_of form mode canonical) (name_of labels) ∷ parts_after [] pieces mode canonical
 
-abbrev pub parts_of : List Piece → NameEncoding → Bool → List WirePart
+abbrev pub parts_of : List DataPiece → NameEncoding → Bool → List WirePart
 parts_of pieces mode canonical = parts_after [] pieces mode canonical
 
 -- The octets are written as the parts of their pieces.
-abbrev pub EmitsData : Emits DataValue
-EmitsData x v outcome w =
-    (pieces : List Piece) × HasPieces (kinds_of x.record_type) x.octets pieces
+abbrev pub EmitsRData : Emits DataValue
+EmitsRData x v outcome w =
+    (pieces : List DataPiece) × HasPieces (kinds_of x.record_type) x.octets pieces
     × EmitsWireParts (parts_of pieces v.encoding v.canonical) v outcome w
 
 -- ---- records
@@ -59,14 +59,14 @@ type_class_ttl r =
     to_be_bytes w16 (type_code r.data.record_type) ++ (to_be_bytes w16 (class_code r.dns_class) ++ to_be_bytes w32 r.ttl)
 
 -- the owner, the type, the class, the time to live, and the data with their length
-abbrev pub EmitsFields : Emits Record
-EmitsFields r = Then (EmitsName r.name) (Then (λ v. Writes v (type_class_ttl r)) (EmitsSized (EmitsData r.data)))
+abbrev pub EmitsAnyFields : Emits Record
+EmitsAnyFields r = Then (EmitsName r.name) (Then (λ v. Writes v (type_class_ttl r)) (EmitsSized (EmitsRData r.data)))
 
 -- The numbers of a record fit their fields, as those of the code do.
-abbrev pub NumbersFit : Record → Type 0
-NumbersFit r = (type_code r.data.record_type < 2 ^ 16) × (class_code r.dns_class < 2 ^ 16) × (r.ttl < 2 ^ 32)
+abbrev pub AnyNumbersFit : Record → Type 0
+AnyNumbersFit r = (type_code r.data.record_type < 2 ^ 16) × (class_code r.dns_class < 2 ^ 16) × (r.ttl < 2 ^ 32)
 
 -- A record is written whole, or undone whole: then the encoder is back at its mark, whichever field failed.
-abbrev pub EmitsRecord : Emits Record
-EmitsRecord r v (Ok done) w = NumbersFit r × EmitsFields r v (Ok tt) w
-EmitsRecord r v (Err error) w = (u : Encoder) × EmitsFields r v (Err error) u × (w ≡ rewound u (mark_of v))
+abbrev pub EmitsAnyRecord : Emits Record
+EmitsAnyRecord r v (Ok done) w = AnyNumbersFit r × EmitsAnyFields r v (Ok tt) w
+EmitsAnyRecord r v (Err error) w = (u : Encoder) × EmitsAnyFields r v (Err error) u × (w ≡ rewound u (mark_of v))

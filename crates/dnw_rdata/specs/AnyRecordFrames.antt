@@ -8,8 +8,8 @@ use Rattle.dnw_encoder.specs.NameFrames.{frame-name}
 use Rattle.dnw_record.specs.Parts.{EmitsSized, EmitsWireParts, WirePart}
 use Rattle.dnw_record.specs.RecordFrames.{KeepsFrame, frame-rewound, frame-sized, frame-then, frame-wire_part}
 use Rattle.dnw_rdata.specs.declared.record.Record.{Record}
-use Rattle.dnw_rdata.specs.Pieces.{DataValue}
-use Rattle.dnw_rdata.specs.RecordWriting.{EmitsData, EmitsFields, EmitsRecord, parts_of, type_class_ttl}
+use Rattle.dnw_rdata.specs.DataPieces.{DataValue}
+use Rattle.dnw_rdata.specs.AnyRecords.{EmitsRData, EmitsAnyFields, EmitsAnyRecord, parts_of, type_class_ttl}
 
 pub frame-parts : (parts : List WirePart) → KeepsFrame (EmitsWireParts parts)
 frame-parts [] v (Ok tt) w e h = let P : Encoder → Type 0 = λ x. Frame v (Ok tt) x in subst P (sym h) (frame-same v (Ok tt) e)
@@ -22,17 +22,17 @@ frame-parts (part ∷ parts) v (Err error) w e (inr (m, one, more)) =
     let first = frame-wire_part part v (Ok tt) m e one in
     frames-follow v m w (Err error) e first (frame-parts parts m (Err error) w first.ends more)
 
-pub frame-data : (x : DataValue) → KeepsFrame (EmitsData x)
-frame-data x v outcome w e (pieces, has, h) = frame-parts (parts_of pieces v.encoding v.canonical) v outcome w e h
+pub frame-rdata : (x : DataValue) → KeepsFrame (EmitsRData x)
+frame-rdata x v outcome w e (pieces, has, h) = frame-parts (parts_of pieces v.encoding v.canonical) v outcome w e h
 
-pub frame-fields : (r : Record) → KeepsFrame (EmitsFields r)
-frame-fields r =
+pub frame-any_fields : (r : Record) → KeepsFrame (EmitsAnyFields r)
+frame-any_fields r =
     let fixed : KeepsFrame (λ v. Writes v (type_class_ttl r)) = λ v outcome w e h. frame v (type_class_ttl r) outcome w e h in
-    let last = frame-then (λ v. Writes v (type_class_ttl r)) (EmitsSized (EmitsData r.data)) fixed (frame-sized (EmitsData r.data) (frame-data r.data)) in
+    let last = frame-then (λ v. Writes v (type_class_ttl r)) (EmitsSized (EmitsRData r.data)) fixed (frame-sized (EmitsRData r.data) (frame-rdata r.data)) in
     frame-then (EmitsName r.name) _ (λ v outcome w e h. frame-name r.name v outcome w e h) last
 
-pub frame-record : (r : Record) (v : Encoder) (outcome : Outcome) (w : Encoder) → v.offset ≡ length v.bytes → EmitsRecord r v outcome w → Frame v outcome w
-frame-record r v (Ok tt) w e h = frame-fields r v (Ok tt) w e h.1
-frame-record r v (Err error) w e (u, fields, is) =
+pub frame-any_record : (r : Record) (v : Encoder) (outcome : Outcome) (w : Encoder) → v.offset ≡ length v.bytes → EmitsAnyRecord r v outcome w → Frame v outcome w
+frame-any_record r v (Ok tt) w e h = frame-any_fields r v (Ok tt) w e h.1
+frame-any_record r v (Err error) w e (u, fields, is) =
     let P : Encoder → Type 0 = λ x. Frame v (Err error) x in
-    subst P (sym is) (frame-rewound v u error (frame-fields r v (Err error) u e fields))
+    subst P (sym is) (frame-rewound v u error (frame-any_fields r v (Err error) u e fields))
