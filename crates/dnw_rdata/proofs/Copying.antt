@@ -13,12 +13,12 @@ use Rattle.dnw_data.specs.Walks.{FieldsAre, IsAtEnd}
 use Rattle.dnw_data.proofs.Taking.{moves-on}
 use Rattle.dnw_rdata.specs.declared.rdata.RDataError.{RDataError}
 use Rattle.dnw_rdata.specs.declared.rdata.RDataError.TheVariants.{Field, Memory}
-use Rattle.dnw_rdata.specs.Pieces.{Piece, octets_of, piece_octets}
-use Rattle.dnw_rdata.specs.Copies.{Copies, FailsPiece, FailsToCopy, TakesPiece, TakesPieces}
+use Rattle.dnw_rdata.specs.DataPieces.{DataPiece, octets_of, piece_octets}
+use Rattle.dnw_rdata.specs.DataCopies.{Copies, FailsPiece, FailsToCopy, TakesPiece, TakesPieces}
 use Rattle.dnw_rdata.specs.Inside.Copying.{IsCopying}
 
 -- a piece is that of a field
-pub field-of : (kind : Kind) (d after : Decoder) (piece : Piece) → TakesPiece kind d piece after → (v : FieldValue) × TakesField kind d v after
+pub field-of : (kind : Kind) (d after : Decoder) (piece : DataPiece) → TakesPiece kind d piece after → (v : FieldValue) × TakesField kind d v after
 field-of (Name form) d after piece (labels, k, takes, is) = (name labels, (labels, k, takes, refl))
 field-of kind d after piece (enough, right, is, there) = (own_value kind (own_at kind d), (enough, right, refl, there))
 
@@ -35,7 +35,7 @@ begins kinds d before =
       fields = λ more outcome h. h;
     }
 
-pub goes-on : (kinds others : List Kind) (kind : Kind) (start d after : Decoder) (before octets longer : List ℕ) (piece : Piece)
+pub goes-on : (kinds others : List Kind) (kind : Kind) (start d after : Decoder) (before octets longer : List ℕ) (piece : DataPiece)
     → IsCopying kinds start before (kind ∷ others) d octets → TakesPiece kind d piece after → longer ≡ octets ++ piece_octets piece
     → IsCopying kinds start before others after longer
 goes-on kinds others kind start d after before octets longer piece c takes more_is =

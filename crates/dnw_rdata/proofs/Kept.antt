@@ -6,8 +6,8 @@ use Rattle.dnw_codes.specs.declared.record_type.RecordType.{RecordType}
 use Rattle.dnw_data.proofs.Walking.{one-reading}
 use Rattle.dnw_rdata.specs.declared.rdata.RDataError.{RDataError}
 use Rattle.dnw_rdata.specs.declared.rdata.RDataError.TheVariants.{Field, Memory}
-use Rattle.dnw_rdata.specs.Pieces.{DataValue, IsData, kinds_of, octets_of}
-use Rattle.dnw_rdata.specs.Copies.{Copies, FailsToCopy, TakesPieces, alone}
+use Rattle.dnw_rdata.specs.DataPieces.{DataValue, IsData, kinds_of, octets_of}
+use Rattle.dnw_rdata.specs.DataCopies.{Copies, FailsToCopy, TakesPieces, alone}
 use Rattle.dnw_rdata.proofs.Pieces.{fields-of, pieces-again, pieces-unique}
 
 pub kept : (record_type : RecordType) (octets : List ℕ) (result : Result DataValue RDataError)

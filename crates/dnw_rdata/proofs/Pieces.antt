@@ -17,8 +17,8 @@ use Rattle.dnw_data.specs.declared.kind.NameForm.{NameForm}
 use Rattle.dnw_data.specs.Fields.{own_at, size_at}
 use Rattle.dnw_data.specs.Values.{FieldValue, own_fault, own_size}
 use Rattle.dnw_data.specs.Walks.{FieldsAre, IsAtEnd}
-use Rattle.dnw_rdata.specs.Pieces.{ArePiecesOf, IsPieceOf, Piece, name_piece, octets_of, octets_piece, piece_octets}
-use Rattle.dnw_rdata.specs.Copies.{TakesOwnPiece, TakesPiece, TakesPieces}
+use Rattle.dnw_rdata.specs.DataPieces.{ArePiecesOf, IsPieceOf, DataPiece, name_piece, octets_of, octets_piece, piece_octets}
+use Rattle.dnw_rdata.specs.DataCopies.{TakesOwnPiece, TakesPiece, TakesPieces}
 use Rattle.dnw_rdata.specs.Inside.Copying.{IsNoName}
 use Rattle.dnw_data.proofs.Taking.{moves-on}
 use Rattle.dnw_rdata.proofs.Copying.{field-of}
@@ -58,7 +58,7 @@ same-size kinds.Time other left own rest is le end = refl
 -- ---- pieces that are read
 
 -- a field other than a name, of these octets
-own-is : (kind : Kind) → IsNoName kind → (d after : Decoder) (piece : Piece) (rest : List ℕ) → TakesOwnPiece kind d piece after
+own-is : (kind : Kind) → IsNoName kind → (d after : Decoder) (piece : DataPiece) (rest : List ℕ) → TakesOwnPiece kind d piece after
     → (after.index ≡ length d.bytes → rest ≡ [])
     → (length (own_at kind d) ≡ own_size kind (own_at kind d ++ rest)) × (own_fault kind (own_at kind d) ≡ None) × (piece ≡ octets_piece (own_at kind d))
 own-is kind other d after piece rest (enough, right, is, there) end =
@@ -71,7 +71,7 @@ own-is kind other d after piece rest (enough, right, is, there) end =
     (λ (all : own_size kind (drop d.index d.bytes) ≡ length (drop d.index d.bytes)). end (omega (arith, index, all, left, enough))) in
     (omega (arith, length-between d.bytes d.index (d.index + size) enough, same), right, is)
 
-is-piece : (kind : Kind) (d after : Decoder) (piece : Piece) (rest : List ℕ) → TakesPiece kind d piece after
+is-piece : (kind : Kind) (d after : Decoder) (piece : DataPiece) (rest : List ℕ) → TakesPiece kind d piece after
     → (after.index ≡ length d.bytes → rest ≡ []) → IsPieceOf kind piece rest
 is-piece (Name form) d after piece rest (labels, k, takes, is) end =
     subst (λ p. IsPieceOf (Name form) p rest) (sym is) (refl, NameAt-labels takes.name)
@@ -84,7 +84,7 @@ no-octets [] e = refl
 no-octets (x ∷ xs) e = absurd (omega (arith, e))
 
 -- after the end there are no octets
-none-after : (kinds : List Kind) (d : Decoder) (pieces : List Piece) → TakesPieces kinds d pieces → IsAtEnd d → octets_of pieces ≡ []
+none-after : (kinds : List Kind) (d : Decoder) (pieces : List DataPiece) → TakesPieces kinds d pieces → IsAtEnd d → octets_of pieces ≡ []
 none-after [] d [] takes end = refl
 none-after [] d (piece ∷ pieces) takes end = absurd takes
 none-after (kind ∷ kinds) d [] takes end = absurd takes
@@ -98,7 +98,7 @@ none-after (kind ∷ kinds) d (piece ∷ pieces) (after, (enough, right, is, the
     ap (λ p. piece_octets p ++ octets_of pieces) is ∙ ap (λ (x : List ℕ). x ++ octets_of pieces) none ∙ none-after kinds after pieces more still
 
 -- the pieces that are read are fields of their kinds
-pub are-pieces : (kinds : List Kind) (d : Decoder) (pieces : List Piece) → TakesPieces kinds d pieces → ArePiecesOf kinds pieces
+pub are-pieces : (kinds : List Kind) (d : Decoder) (pieces : List DataPiece) → TakesPieces kinds d pieces → ArePiecesOf kinds pieces
 are-pieces [] d [] takes = tt
 are-pieces [] d (piece ∷ pieces) takes = absurd takes
 are-pieces (kind ∷ kinds) d [] takes = absurd takes
@@ -140,7 +140,7 @@ own-again kind own front rest size right =
       ap (λ (x : List ℕ). record { bytes = x; index = length (front ++ own) }) (append_assoc front own rest) ∙ ap (λ n. record { bytes = b; index = n }) next,
     )
 
-piece-again : (kind : Kind) (piece : Piece) (front rest : List ℕ) → IsPieceOf kind piece rest
+piece-again : (kind : Kind) (piece : DataPiece) (front rest : List ℕ) → IsPieceOf kind piece rest
     → TakesPiece kind (behind front (piece_octets piece ++ rest)) piece (behind (front ++ piece_octets piece) rest)
 piece-again (Name form) (name_piece own labels) front rest (is, are) =
     subst (λ f. TakesPiece (Name form) (behind front (wire labels ++ rest)) (name_piece f labels) (behind (front ++ wire labels) rest)) (sym is) (name-again form labels front rest are)
@@ -149,7 +149,7 @@ piece-again kind (name_piece form labels) front rest is = absurd is
 piece-again kind (octets_piece own) front rest (size, right) = own-again kind own front rest size right
 
 -- pieces that follow any front are read there, up to the end
-pub pieces-again : (kinds : List Kind) (pieces : List Piece) (front : List ℕ) → ArePiecesOf kinds pieces → TakesPieces kinds (behind front (octets_of pieces)) pieces
+pub pieces-again : (kinds : List Kind) (pieces : List DataPiece) (front : List ℕ) → ArePiecesOf kinds pieces → TakesPieces kinds (behind front (octets_of pieces)) pieces
 pieces-again [] [] front are = ap length (sym (append-nil front))
 pieces-again [] (piece ∷ pieces) front are = absurd are
 pieces-again (kind ∷ kinds) [] front are = absurd are
@@ -158,14 +158,14 @@ pieces-again (kind ∷ kinds) (piece ∷ pieces) front (one, more) =
 
 -- ---- in one way
 
-piece-unique : (kind : Kind) (d after after' : Decoder) (piece piece' : Piece) → TakesPiece kind d piece after → TakesPiece kind d piece' after'
+piece-unique : (kind : Kind) (d after after' : Decoder) (piece piece' : DataPiece) → TakesPiece kind d piece after → TakesPiece kind d piece' after'
     → (piece ≡ piece') × (after ≡ after')
 piece-unique (Name form) d after after' piece piece' (labels, k, takes, is) (labels', k', takes', is') =
     let (same, there) = TakesName-unique takes takes' in
     (is ∙ ap (name_piece form) same ∙ sym is', there)
 piece-unique kind d after after' piece piece' h h' = (h.2 ∙ sym h'.2, h.3 ∙ sym h'.3)
 
-pub pieces-unique : (kinds : List Kind) (d : Decoder) (pieces pieces' : List Piece) → TakesPieces kinds d pieces → TakesPieces kinds d pieces' → pieces ≡ pieces'
+pub pieces-unique : (kinds : List Kind) (d : Decoder) (pieces pieces' : List DataPiece) → TakesPieces kinds d pieces → TakesPieces kinds d pieces' → pieces ≡ pieces'
 pieces-unique [] d [] [] h h' = refl
 pieces-unique [] d [] (piece' ∷ pieces') h h' = absurd h'
 pieces-unique [] d (piece ∷ pieces) pieces' h h' = absurd h
@@ -177,7 +177,7 @@ pieces-unique (kind ∷ kinds) d (piece ∷ pieces) (piece' ∷ pieces') (after,
     ap (λ p. p ∷ pieces) same ∙ ap (λ ps. piece' ∷ ps) rest
 
 -- the fields whose pieces are read
-pub fields-of : (start : ℕ) (kinds : List Kind) (d : Decoder) (pieces : List Piece) → TakesPieces kinds d pieces → (values : List FieldValue) × FieldsAre start kinds d values None
+pub fields-of : (start : ℕ) (kinds : List Kind) (d : Decoder) (pieces : List DataPiece) → TakesPieces kinds d pieces → (values : List FieldValue) × FieldsAre start kinds d values None
 fields-of start [] d [] end = ([], (refl, end))
 fields-of start [] d (piece ∷ pieces) takes = absurd takes
 fields-of start (kind ∷ kinds) d [] takes = absurd takes

@@ -1,2 +1,3 @@
--- What no public clause cites: what the copy of data keeps true as it goes.
+-- What no public clause cites: what the copy of data, and writing them, keep true as they go.
 pub mod Copying
+pub mod Walking

@@ -1,3 +1,6 @@
-pub mod Pieces
-pub mod Copies
+pub mod DataPieces
+pub mod DataCopies
+pub mod AnyRecords
+pub mod AnyRecordFrames
+pub mod AnyRecordLaws
 pub mod Inside

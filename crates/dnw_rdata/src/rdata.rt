@@ -1,8 +1,8 @@
 //! The data of a record of any type.
 ghost use Rattle.std.specs.Prelude.{◌≡◌, ℕ, ◌≤◌, List, ◌++◌, length, IfOk, IfErr, MatchResult, OnOk};
-ghost use Rattle.dnw_rdata.specs.Pieces.{IsData, Piece, kinds_of, piece_octets};
+ghost use Rattle.dnw_rdata.specs.DataPieces.{IsData, DataPiece, kinds_of, piece_octets};
 ghost use Rattle.dnw_rdata.specs.Inside.Copying.{IsNoName};
-ghost use Rattle.dnw_rdata.specs.Copies.{Copies, FailsPiece, FailsToCopy, TakesNamePiece, TakesOwnPiece, TakesPiece, alone};
+ghost use Rattle.dnw_rdata.specs.DataCopies.{Copies, FailsPiece, FailsToCopy, TakesNamePiece, TakesOwnPiece, TakesPiece, alone};
 
 use dnw_base::decoder::BinDecoder;
 use dnw_base::limits::MAX_NAME;
@@ -61,7 +61,7 @@ pub struct RData {
 }
 
 impl Model for RData {
-    ghost use Rattle.dnw_rdata.specs.Pieces.{DataValue, IsData, kinds_of};
+    ghost use Rattle.dnw_rdata.specs.DataPieces.{DataValue, IsData, kinds_of};
 
     ghost Value = { DataValue };
 
@@ -72,8 +72,8 @@ impl Model for RData {
 
 impl RData {
     ghost use Rattle.dnw_data.specs.Walks.{fields_at};
-    ghost use Rattle.dnw_rdata.specs.Copies.{data_start};
-    ghost use Rattle.dnw_rdata.specs.Pieces.{IsDataOfType, kinds_of};
+    ghost use Rattle.dnw_rdata.specs.DataCopies.{data_start};
+    ghost use Rattle.dnw_rdata.specs.DataPieces.{IsDataOfType, kinds_of};
 
     /// Creates the data that these octets are, which are read as a message that holds nothing else: a name may have pointers
     /// to what is before it there.
@@ -180,7 +180,7 @@ fn copy_field(
     reader: &mut BinDecoder<'_>,
     octets: &mut Vec<u8>,
 ) -> Result<(), RDataError>
-    ensures ok { OnOk result ((piece : Piece) × TakesPiece kind reader.old piece reader.new
+    ensures ok { OnOk result ((piece : DataPiece) × TakesPiece kind reader.old piece reader.new
         × (octets.new.items ≡ octets.old.items ++ piece_octets piece)) }
     ensures err { IfErr result (FailsPiece kind field reader.old) }
 {
@@ -197,7 +197,7 @@ fn copy_name(
     reader: &mut BinDecoder<'_>,
     octets: &mut Vec<u8>,
 ) -> Result<(), RDataError>
-    ensures ok { OnOk result ((piece : Piece) × TakesNamePiece form reader.old piece reader.new
+    ensures ok { OnOk result ((piece : DataPiece) × TakesNamePiece form reader.old piece reader.new
         × (octets.new.items ≡ octets.old.items ++ piece_octets piece)) }
     ensures err { IfErr result (FailsPiece (Kind.Name form) field reader.old) }
 {
@@ -219,7 +219,7 @@ fn copy_own(
     octets: &mut Vec<u8>,
 ) -> Result<(), RDataError>
     requires { IsNoName kind }
-    ensures ok { OnOk result ((piece : Piece) × TakesOwnPiece kind reader.old piece reader.new
+    ensures ok { OnOk result ((piece : DataPiece) × TakesOwnPiece kind reader.old piece reader.new
         × (octets.new.items ≡ octets.old.items ++ piece_octets piece)) }
     ensures err { IfErr result (FailsPiece kind field reader.old) }
 {

@@ -56,7 +56,7 @@ stays-part (name_part mode name) v w le (u, h, is) =
     let go = stays-name name (in_encoding v mode) u le h in
     subst (GoesOn v) (sym is) (record { bounded = go.bounded; inside = go.inside; on = go.on; same = go.same })
 
-stays-parts : (parts : List WirePart) → Stays (EmitsWireParts parts)
+pub stays-parts : (parts : List WirePart) → Stays (EmitsWireParts parts)
 stays-parts [] v w le h =
     subst (GoesOn v) (sym h) (record { bounded = le-max_left (length v.bytes) v.max_size; inside = le; on = omega arith; same = refl })
 stays-parts (part ∷ parts) v w le (m, one, more) =
@@ -64,7 +64,7 @@ stays-parts (part ∷ parts) v w le (m, one, more) =
     goes-then v m w go (stays-parts parts m w go.inside more)
 
 -- the length is filled in where it was reserved
-stays-sized : (write : Write) → Stays write → Stays (EmitsSized write)
+pub stays-sized : (write : Write) → Stays write → Stays (EmitsSized write)
 stays-sized write stays v w le (room, u, one, is) =
     let (bounded, end) = places_stay_bounded v 2 le room in
     let first : GoesOn v (reserved v 2) = record { bounded = bounded; inside = omega (arith, end); on = omega arith; same = refl } in

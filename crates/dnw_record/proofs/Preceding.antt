@@ -18,7 +18,7 @@ precede-then first second one two v w (Ok tt) p (m, f, s) = two m w (Ok tt) (one
 precede-then first second one two v w (Err error) p (inl f) = one v w (Err error) p f
 precede-then first second one two v w (Err error) p (inr (m, f, s)) = two m w (Err error) (one v m (Ok tt) p f) s
 
-precede-sized : (write : Write) → KeepsPreceding write → KeepsPreceding (EmitsSized write)
+pub precede-sized : (write : Write) → KeepsPreceding write → KeepsPreceding (EmitsSized write)
 precede-sized write keeps v w (Ok tt) p (room, u, one, is) = subst CandidatesPrecede (sym is) (keeps (reserved v 2) u (Ok tt) (places_precede v 2 p) one)
 precede-sized write keeps v w (Err error) p (inl h) = subst CandidatesPrecede (sym (refused-room v (reserved v 2) w 2 error h).0) p
 precede-sized write keeps v w (Err error) p (inr (room, one)) = keeps (reserved v 2) w (Err error) (places_precede v 2 p) one

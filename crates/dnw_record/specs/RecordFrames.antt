@@ -125,7 +125,7 @@ frame-fields r =
     let last = frame-then (λ v. Writes v (type_class_ttl r)) (EmitsSized (EmitsData r.rdata)) fields (frame-sized (EmitsData r.rdata) (frame-data r.rdata)) in
     frame-then (EmitsName r.owner) _ (λ v outcome w e h. frame-name r.owner v outcome w e h) last
 
-frame-rewound : (v u : Encoder) (error : ProtoError) → Frame v (Err error) u → Frame v (Err error) (rewound u (mark_of v))
+pub frame-rewound : (v u : Encoder) (error : ProtoError) → Frame v (Err error) u → Frame v (Err error) (rewound u (mark_of v))
 frame-rewound v u error f =
     record {
       bytes = take-take v.offset v.offset u.bytes (omega arith) ∙ f.bytes;

@@ -6,8 +6,8 @@ use Rattle.dnw_data.specs.declared.kind.Kind.{Kind}
 use Rattle.dnw_data.specs.declared.kind.Kind.TheVariants.{Name}
 use Rattle.dnw_data.specs.Values.{FieldValue}
 use Rattle.dnw_data.specs.Walks.{FieldsAre}
-use Rattle.dnw_rdata.specs.Pieces.{Piece, octets_of}
-use Rattle.dnw_rdata.specs.Copies.{TakesPieces}
+use Rattle.dnw_rdata.specs.DataPieces.{DataPiece, octets_of}
+use Rattle.dnw_rdata.specs.DataCopies.{TakesPieces}
 
 -- a field of this kind is no name
 abbrev pub IsNoName : Kind → Type 0
@@ -16,12 +16,12 @@ IsNoName kind = Unit {0}
 
 -- Some pieces are copied. What is left from here on, after them, is what all is from the start.
 pub record IsCopying (kinds : List Kind) (start : Decoder) (before : List ℕ) (left : List Kind) (d : Decoder) (octets : List ℕ) : Type 0 where
-  pub done : List Piece
+  pub done : List DataPiece
   pub read : List FieldValue
   pub copied : octets ≡ before ++ octets_of done
   pub count : length read + length left ≡ length kinds
   pub order : start.index ≤ d.index
   pub same : d.bytes ≡ start.bytes
-  pub pieces : (more : List Piece) → TakesPieces left d more → TakesPieces kinds start (done ++ more)
+  pub pieces : (more : List DataPiece) → TakesPieces left d more → TakesPieces kinds start (done ++ more)
   pub fields : (more : List FieldValue) (outcome : Option DecodeError) → FieldsAre start.index left d more outcome
       → FieldsAre start.index kinds start (read ++ more) outcome

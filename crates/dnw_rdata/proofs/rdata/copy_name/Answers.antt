@@ -1,6 +1,6 @@
 use Rattle.std.proofs.Common.{◌++◌, ap, ◌∙◌, refl}
 use Rattle.dnw_reading.proofs.Copying.{wire_taken}
-use Rattle.dnw_rdata.specs.Pieces.{name_piece}
+use Rattle.dnw_rdata.specs.DataPieces.{name_piece}
 use Rattle.dnw_rdata.proofs.rdata.copy_name.Goals as goal
 
 pub returns-clause-ok : goal.returns-clause-ok

@@ -12,7 +12,7 @@ use Rattle.dnw_record.specs.Records.{RecordValue}
 use Rattle.dnw_record.specs.RecordFields.{record_fields}
 use Rattle.dnw_rdata.specs.declared.rdata.RDataError.{RDataError}
 use Rattle.dnw_rdata.specs.declared.rdata.RDataError.TheVariants.{Field, Memory}
-use Rattle.dnw_rdata.specs.Pieces.{Piece, name_piece, octets_of, octets_piece}
+use Rattle.dnw_rdata.specs.DataPieces.{DataPiece, name_piece, octets_of, octets_piece}
 
 -- data that stand alone, from their start
 abbrev pub alone : List ℕ → Decoder
@@ -23,22 +23,22 @@ abbrev pub data_start : RecordValue → Decoder
 data_start record_value = (record_fields record_value).reader
 
 -- A name is read, and this is its piece.
-abbrev pub TakesNamePiece : NameForm → Decoder → Piece → Decoder → Type 0
+abbrev pub TakesNamePiece : NameForm → Decoder → DataPiece → Decoder → Type 0
 TakesNamePiece form before piece after = (labels : List (List ℕ)) × (k : ℕ) × TakesName before after labels k × (piece ≡ name_piece form labels)
 
 -- The octets of a field of this kind are left, and they are this piece.
-abbrev pub TakesOwnPiece : Kind → Decoder → Piece → Decoder → Type 0
+abbrev pub TakesOwnPiece : Kind → Decoder → DataPiece → Decoder → Type 0
 TakesOwnPiece kind before piece after =
     HasLeft before (size_at kind before) × (own_fault kind (own_at kind before) ≡ None) × (piece ≡ octets_piece (own_at kind before))
     × (after ≡ advanced before (size_at kind before))
 
 -- The decoder was at a field of this kind, whose piece this is, and is after it now.
-abbrev pub TakesPiece : Kind → Decoder → Piece → Decoder → Type 0
+abbrev pub TakesPiece : Kind → Decoder → DataPiece → Decoder → Type 0
 TakesPiece (Name form) before piece after = TakesNamePiece form before piece after
 TakesPiece kind before piece after = TakesOwnPiece kind before piece after
 
 -- The fields of these kinds are read up to the end, and these are their pieces.
-abbrev pub TakesPieces : List Kind → Decoder → List Piece → Type 0
+abbrev pub TakesPieces : List Kind → Decoder → List DataPiece → Type 0
 TakesPieces [] d [] = IsAtEnd d
 TakesPieces [] d (piece ∷ pieces) = ⊥
 TakesPieces (kind ∷ kinds) d [] = ⊥
@@ -46,7 +46,7 @@ TakesPieces (kind ∷ kinds) d (piece ∷ pieces) = (after : Decoder) × TakesPi
 
 -- The octets are those of the fields that are read there, with every name in its wire form.
 abbrev pub Copies : List Kind → Decoder → List ℕ → Type 0
-Copies kinds d octets = (pieces : List Piece) × TakesPieces kinds d pieces × (octets ≡ octets_of pieces)
+Copies kinds d octets = (pieces : List DataPiece) × TakesPieces kinds d pieces × (octets ≡ octets_of pieces)
 
 -- There is no field of this kind, which has this number; or memory ran out.
 abbrev pub FailsPiece : Kind → ℕ → Decoder → RDataError → Type 0

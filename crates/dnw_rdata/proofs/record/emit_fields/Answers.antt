@@ -1,0 +1,21 @@
+-- The owner, the fixed fields and the data are written in turn, up to the first that fails.
+use Rattle.std.proofs.Common.{Ok, Err, inr}
+use Rattle.dnw_encoder.specs.Encoder.{Encoder, Writes}
+use Rattle.dnw_encoder.specs.Emitting.{Outcome}
+use Rattle.dnw_encoder.specs.EmittedName.{EmitsName}
+use Rattle.dnw_encoder.specs.EncoderValue.{value}
+use Rattle.dnw_record.specs.Parts.{EmitsSized}
+use Rattle.dnw_rdata.specs.declared.record.Record.{Record}
+use Rattle.dnw_rdata.specs.AnyRecords.{EmitsRData, EmitsAnyFields, type_class_ttl}
+use Rattle.dnw_rdata.proofs.record.emit_fields.Goals as goal
+
+-- all fields but the last are written, and then the last
+fields-on : (r : Record) (v a d : Encoder) (outcome : Outcome) (w : Encoder) → EmitsName r.name v (Ok tt) a
+    → Writes a (type_class_ttl r) (Ok tt) d → EmitsSized (EmitsRData r.data) d outcome w → EmitsAnyFields r v outcome w
+fields-on r v a d (Ok tt) w owner fixed rdata = (a, owner, (d, fixed, rdata))
+fields-on r v a d (Err error) w owner fixed rdata = inr (a, owner, inr (d, fixed, rdata))
+
+pub returns-clause-writes : goal.returns-clause-writes
+returns-clause-writes c =
+    fields-on c.args.item.now (value c.args.encoder.now) (value c.emit.new.encoder) (value c.emit_vec.new.self)
+    c.emit_sized.result (value c.emit_sized.new.encoder) c.in_ok-emit.ensures.emits (rw c.type_class_ttl.ensures.octets at c.in_ok-emit_vec.ensures.writes) c.emit_sized.ensures.writes

@@ -1,0 +1,72 @@
+-- How a record of any type is written (RFC 1035, section 4.1.3): its owner, type, class and time to live, and its data with
+-- their length. Data are written as parts: each name is one, and so are all octets from one name to the next.
+use Rattle.std.specs.Prelude.{◌≡◌, ℕ, ◌<◌, ◌^◌, Bool, true, List, [], ◌∷◌, ◌++◌, Ok, Err}
+use Rattle.std.specs.Int.{w16, w32, to_be_bytes}
+use Rattle.dnw_codes.specs.RecordTypes.{type_code}
+use Rattle.dnw_codes.specs.DnsClasses.{class_code}
+use Rattle.dnw_base.specs.Names.{NameValue}
+use Rattle.dnw_data.specs.declared.kind.NameForm.{NameForm}
+use Rattle.dnw_data.specs.declared.kind.NameForm.TheVariants.{Compressible, Lowered, Plain}
+use Rattle.dnw_encoder.specs.declared.encoder.modes.NameEncoding.{NameEncoding}
+use Rattle.dnw_encoder.specs.declared.encoder.modes.RDataEncoding.{RDataEncoding}
+use Rattle.dnw_encoder.specs.declared.encoder.modes.RDataEncoding.TheVariants.{StandardRecord, Canonical, Other}
+use Rattle.dnw_encoder.specs.Encoder.{Encoder, Writes, mode_of_rdata}
+use Rattle.dnw_encoder.specs.Emitting.{Emits}
+use Rattle.dnw_encoder.specs.EmittedName.{EmitsName}
+use Rattle.dnw_encoder.specs.Marks.{mark_of, rewound}
+use Rattle.dnw_record.specs.Parts.{EmitsSized, EmitsWireParts, Then, WirePart, bytes_part, name_part}
+use Rattle.dnw_rdata.specs.declared.record.Record.{Record}
+use Rattle.dnw_rdata.specs.DataPieces.{DataValue, HasPieces, DataPiece, kinds_of, name_piece, octets_piece}
+
+-- ---- data
+
+-- how names of this form are written: as other names; whole, and lowered in canonical form; or whole (RFC 3597, section 4,
+-- RFC 4034, section 6.2, and RFC 6840, section 5.1)
+abbrev pub encoding_of : NameForm → RDataEncoding
+encoding_of Compressible = StandardRecord
+encoding_of Lowered = Canonical
+encoding_of Plain = Other
+
+-- the mode that a name of this form is written in, by the mode in force, in canonical form or not
+abbrev pub mode_of : NameForm → NameEncoding → Bool → NameEncoding
+mode_of form mode canonical = mode_of_rdata (encoding_of form) canonical mode
+
+-- a name of data, which is fully qualified
+abbrev pub name_of : List (List ℕ) → NameValue
+name_of labels = record { is_fqdn = true; labels = labels }
+
+-- the parts of pieces that follow octets which are still to be written, by the mode in force, in canonical form or not
+abbrev pub parts_after : List ℕ → List DataPiece → NameEncoding → Bool → List WirePart
+parts_after run [] mode canonical = bytes_part run ∷ []
+parts_after run (octets_piece own ∷ pieces) mode canonical = parts_after (run ++ own) pieces mode canonical
+parts_after run (name_piece form labels ∷ pieces) mode canonical =
+    bytes_part run ∷ name_part (mode_of form mode canonical) (name_of labels) ∷ parts_after [] pieces mode canonical
+
+abbrev pub parts_of : List DataPiece → NameEncoding → Bool → List WirePart
+parts_of pieces mode canonical = parts_after [] pieces mode canonical
+
+-- The octets are written as the parts of their pieces.
+abbrev pub EmitsRData : Emits DataValue
+EmitsRData x v outcome w =
+    (pieces : List DataPiece) × HasPieces (kinds_of x.record_type) x.octets pieces
+    × EmitsWireParts (parts_of pieces v.encoding v.canonical) v outcome w
+
+-- ---- records
+
+-- the type, the class and the time to live
+abbrev pub type_class_ttl : Record → List ℕ
+type_class_ttl r =
+    to_be_bytes w16 (type_code r.data.record_type) ++ (to_be_bytes w16 (class_code r.dns_class) ++ to_be_bytes w32 r.ttl)
+
+-- the owner, the type, the class, the time to live, and the data with their length
+abbrev pub EmitsAnyFields : Emits Record
+EmitsAnyFields r = Then (EmitsName r.name) (Then (λ v. Writes v (type_class_ttl r)) (EmitsSized (EmitsRData r.data)))
+
+-- The numbers of a record fit their fields, as those of the code do.
+abbrev pub AnyNumbersFit : Record → Type 0
+AnyNumbersFit r = (type_code r.data.record_type < 2 ^ 16) × (class_code r.dns_class < 2 ^ 16) × (r.ttl < 2 ^ 32)
+
+-- A record is written whole, or undone whole: then the encoder is back at its mark, whichever field failed.
+abbrev pub EmitsAnyRecord : Emits Record
+EmitsAnyRecord r v (Ok done) w = AnyNumbersFit r × EmitsAnyFields r v (Ok tt) w
+EmitsAnyRecord r v (Err error) w = (u : Encoder) × EmitsAnyFields r v (Err error) u × (w ≡ rewound u (mark_of v))

@@ -1,0 +1,31 @@
+//! What follows from the definitions of records of any type, for callers' proofs.
+//!
+//! The functions do nothing. Each is there for its clauses.
+ghost use Rattle.dnw_rdata.specs.AnyRecordLaws.{AnyRecordsFit, AnyRecordsPrecede, AnyRecordsStayBounded, DataHaveFields, RefusedAnyUndo};
+
+/// A record that is refused leaves the whole encoder unchanged, the count of names included, if it began at the buffer's
+/// end with every candidate before it.
+pub fn refused_any_undo()
+    ensures { RefusedAnyUndo }
+{}
+
+/// A record keeps every candidate before the offset, whether it is written or refused.
+pub fn any_records_precede()
+    ensures { AnyRecordsPrecede }
+{}
+
+/// A record leaves the buffer no longer than it was, or than the maximum, and the offset within it.
+pub fn any_records_stay_bounded()
+    ensures { AnyRecordsStayBounded }
+{}
+
+/// A record is refused for its size only if it would go past the maximum size with its names whole, and takes no more bytes
+/// than that.
+pub fn any_records_fit()
+    ensures { AnyRecordsFit }
+{}
+
+/// The octets of data have pieces in one way, and their fields are the values of these, with no error.
+pub fn data_have_fields()
+    ensures { DataHaveFields }
+{}

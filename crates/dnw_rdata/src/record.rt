@@ -1,0 +1,170 @@
+//! Records of any type, which are written into messages.
+ghost use Rattle.std.specs.Prelude.{◌≡◌, [], ◌∷◌, OnOk};
+ghost use Rattle.dnw_base.specs.Decoder.{Decoder};
+ghost use Rattle.dnw_encoder.specs.EncoderValue.{value, lender};
+ghost use Rattle.dnw_record.specs.Parts.{EmitsSized, EmitsWirePart, EmitsWireParts, bytes_part, name_part};
+ghost use Rattle.dnw_rdata.specs.Inside.Copying.{IsNoName};
+ghost use Rattle.dnw_rdata.specs.DataCopies.{TakesOwnPiece};
+ghost use Rattle.dnw_rdata.specs.DataPieces.{DataPiece};
+ghost use Rattle.dnw_rdata.specs.AnyRecords.{EmitsRData, EmitsAnyFields, EmitsAnyRecord, AnyNumbersFit, encoding_of, mode_of, name_of, type_class_ttl};
+ghost use Rattle.dnw_rdata.specs.AnyRecordFrames.{frame-any_record};
+
+use crate::rdata::RData;
+use dnw_base::decoder::BinDecoder;
+use dnw_codes::dns_class::DNSClass;
+use dnw_data::field::Field;
+use dnw_data::kind::{Kind, NameForm};
+use dnw_data::table;
+use dnw_encoder::binary::BinEncodable;
+use dnw_encoder::encoder::{BinEncoder, RDataEncoding};
+use dnw_error::error::ProtoResult;
+use dnw_name::name::Name;
+use dnw_name::name_ref::NameRef;
+
+/// A record of any type, to be written into a message (RFC 1035, section 4.1.3). Its data have the type.
+///
+/// It is written whole or not at all: a write that fails leaves the encoder unchanged if it began at the buffer's end, as the
+/// writes of a message do.
+#[derive(Debug, Drop)]
+pub struct Record {
+    /// The name that owns the record, written in the encoder's mode.
+    pub name: Name,
+    /// The class.
+    pub dns_class: DNSClass,
+    /// The time to live, in seconds.
+    pub ttl: u32,
+    /// The data, after a length of two octets that is filled in once they are written.
+    pub data: RData,
+}
+
+impl BinEncodable for Record {
+    ghost emits = { EmitsAnyRecord };
+
+    ghost keeps_frame = { frame-any_record };
+
+    /// Writes the owner, the type, the class, the time to live, the length and the data. If one of them fails, the encoder
+    /// is put back to where it was.
+    ///
+    /// Names in the data are written as the table says: compressed if the encoder's mode compresses and the type is one of
+    /// RFC 1035 (RFC 3597, section 4), and in canonical form in lower case (RFC 4034, section 6.2, and RFC 6840, section 5.1).
+    fn emit(&self, encoder: &mut BinEncoder<'_>) -> ProtoResult<()> {
+        let mark = encoder.mark();
+        let outcome = emit_fields(self, encoder);
+        if outcome.is_err() {
+            encoder.rewind(mark);
+        }
+        outcome
+    }
+}
+
+/// Writes the fields of a record in turn, up to the first that fails.
+fn emit_fields(item: &Record, encoder: &mut BinEncoder<'_>) -> ProtoResult<()>
+    ensures writes { EmitsAnyFields item.now (value encoder.old) result (value encoder.new) }
+    ensures fit { OnOk result (AnyNumbersFit item.now) }
+    ensures lender { lender encoder.new ≡ lender encoder.old }
+{
+    item.name.emit(encoder)?;
+    encoder.emit_vec(&type_class_ttl(item))?;
+    emit_sized(&item.data, encoder)
+}
+
+/// Returns the type, the class and the time to live, as they are written.
+#[inline(always)]
+fn type_class_ttl(item: &Record) -> [u8; 8]
+    ensures octets { result ≡ type_class_ttl item.now }
+    ensures fit { AnyNumbersFit item.now }
+{
+    let kind = u16::to_be_bytes(u16::from(item.data.record_type()));
+    let class = u16::to_be_bytes(u16::from(item.dns_class));
+    let ttl = u32::to_be_bytes(item.ttl);
+    [
+        kind[0], kind[1], class[0], class[1], ttl[0], ttl[1], ttl[2], ttl[3],
+    ]
+}
+
+/// Writes data after their length.
+fn emit_sized(data: &RData, encoder: &mut BinEncoder<'_>) -> ProtoResult<()>
+    ensures writes { EmitsSized (EmitsRData «data».now) (value encoder.old) result (value encoder.new) }
+    ensures lender { lender encoder.new ≡ lender encoder.old }
+{
+    let place = encoder.place::<u16>()?;
+    emit_data(data, encoder)?;
+    let most = encoder.max_size();
+    let len = encoder.len_since_place(&place);
+    // No write ends past the maximum, so two octets hold the length.
+    prove!(len <= most as usize);
+    encoder.emit_at(place, len as u16)
+}
+
+/// Writes data without their length: each name in its mode, and all octets from one name to the next at once.
+fn emit_data(data: &RData, encoder: &mut BinEncoder<'_>) -> ProtoResult<()>
+    ensures writes { EmitsRData «data».now (value encoder.old) result (value encoder.new) }
+    ensures lender { lender encoder.new ≡ lender encoder.old }
+{
+    let octets = data.octets();
+    let mut reader = BinDecoder::new(octets);
+    let mut run = 0;
+    let mut left = table::fields_of(data.record_type());
+    'fields: while let Some((kind, others)) = left.split_first() {
+        match kind {
+            Kind::Name(form) => {
+                let before = &octets[run..reader.index()];
+                let name = NameRef::read(&mut reader).unwrap();
+                emit_data_name(before, &name, *form, encoder)?;
+                run = reader.index();
+            }
+            _ => skip_own(*kind, &mut reader),
+        }
+        left = others;
+    }
+    encoder.emit_vec(&octets[run..])
+}
+
+/// Moves past a field that is no name.
+fn skip_own(kind: Kind, reader: &mut BinDecoder<'_>)
+    requires other { IsNoName kind }
+    requires there { (piece : DataPiece) × (after : Decoder) × TakesOwnPiece kind reader.old piece after }
+    ensures { (piece : DataPiece) × TakesOwnPiece kind reader.old piece reader.new }
+{
+    Field::read(kind, reader).unwrap();
+}
+
+/// Writes octets, and after them a name in the mode for its form. The former mode is put back in any case.
+fn emit_data_name(
+    before: &[u8],
+    name: &NameRef<'_>,
+    form: NameForm,
+    encoder: &mut BinEncoder<'_>,
+) -> ProtoResult<()>
+    ensures writes { let v = value encoder.old in
+        EmitsWireParts (bytes_part before.now ∷ name_part (mode_of form v.encoding v.canonical) (name_of name.now) ∷ []) v result (value encoder.new) }
+    ensures lender { lender encoder.new ≡ lender encoder.old }
+{
+    encoder.emit_vec(before)?;
+    emit_name(name, form, encoder)
+}
+
+/// Writes a name in the mode for its form, and puts the former mode back in any case.
+fn emit_name(name: &NameRef<'_>, form: NameForm, encoder: &mut BinEncoder<'_>) -> ProtoResult<()>
+    ensures writes { let v = value encoder.old in
+        EmitsWirePart (name_part (mode_of form v.encoding v.canonical) (name_of name.now)) v result (value encoder.new) }
+    ensures lender { lender encoder.new ≡ lender encoder.old }
+{
+    let former = encoder.name_encoding();
+    let mode = encoding_of(form).name_encoding(encoder.is_canonical_form(), former);
+    encoder.set_name_encoding(mode);
+    let outcome = name.emit(encoder);
+    encoder.set_name_encoding(former);
+    outcome
+}
+
+/// Returns how names of this form are written.
+fn encoding_of(form: NameForm) -> RDataEncoding
+    ensures { result ≡ encoding_of form }
+{
+    match form {
+        NameForm::Compressible => RDataEncoding::StandardRecord,
+        NameForm::Lowered => RDataEncoding::Canonical,
+        NameForm::Plain => RDataEncoding::Other,
+    }
+}
