@@ -8,5 +8,6 @@ pub mod error;
 pub mod generic;
 pub mod laws;
 mod name;
+mod name_reading;
 mod printing;
 mod words;
