@@ -4,5 +4,6 @@ pub mod NameTexts
 pub mod Generic
 pub mod Printing
 pub mod NameReading
+pub mod Parsing
 pub mod Inside
 pub mod TextLaws

@@ -9,5 +9,6 @@ pub mod generic;
 pub mod laws;
 mod name;
 mod name_reading;
+mod parsing;
 mod printing;
 mod words;
