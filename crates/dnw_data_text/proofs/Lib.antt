@@ -1,3 +1,6 @@
 pub mod Plain
 pub mod GenericText
 pub mod Strings
+pub mod NumberKinds
+pub mod Rests
+pub mod FieldLists

@@ -3,5 +3,7 @@ pub mod Faults
 pub mod NameTexts
 pub mod Generic
 pub mod Printing
+pub mod NameReading
+pub mod Parsing
 pub mod Inside
 pub mod TextLaws

@@ -8,5 +8,7 @@ pub mod error;
 pub mod generic;
 pub mod laws;
 mod name;
+mod name_reading;
+mod parsing;
 mod printing;
 mod words;
