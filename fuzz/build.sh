@@ -3,8 +3,12 @@ cd "$(dirname "$0")/.."
 room=$PWD/out/fuzz
 mkdir -p "$room"
 flags=(-std=c11 -g -O1 -Wall -Wextra -Werror -Iinclude -Ifuzz)
-if [ ! -e crates/dnw_c/out/libdnw_c.a ]; then
-    echo "fuzz: proving and building crates/dnw_c"
-    (cd crates/dnw_c && rt lib) >"$room/said" 2>&1 || { tail -30 "$room/said" && exit 1; }
-fi
-archives=(crates/dnw_c/out/libdnw_c.a "$(dirname "$(rt doc)")/c/liblibc_c.a")
+archives=()
+for crate in dnw_c dnw_c_messages; do
+    if [ ! -e "crates/$crate/out/lib$crate.a" ]; then
+        echo "fuzz: proving and building crates/$crate"
+        (cd "crates/$crate" && rt lib) >"$room/said" 2>&1 || { tail -30 "$room/said" && exit 1; }
+    fi
+    archives+=("crates/$crate/out/lib$crate.a")
+done
+archives+=("$(dirname "$(rt doc)")/c/liblibc_c.a")

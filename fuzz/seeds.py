@@ -66,6 +66,11 @@ def inputs(words):
     kind, rest = words[0], words[1:]
     if kind in ("readings", "read", "cuts", "octets"):
         yield "names", octets(rest[-1])
+    elif kind == "fields":
+        code, start, whole = int(rest[0]), int(rest[1]), octets(rest[2])
+        record = b"\0" + struct.pack(">HHIH", code, 1, 0, len(whole) - start) + whole[start:]
+        yield "sections", b"\xff" + bytes(6) + b"\0\1" + bytes(4) + record
+        yield "sections", b"\xff" + struct.pack(">H", code) + whole[start:]
     elif kind in ("text", "print"):
         yield "texts", octets(rest[-1])
     elif kind in ("encode", "script"):
@@ -74,6 +79,8 @@ def inputs(words):
         if any(names):
             names = [name for name in names if name][:20]
             yield "records", bytes(12) + b"".join(records(names))
+            counts = struct.pack(">HHHH", 1, 0, 0, len(names))
+            yield "sections", b"\xff" + bytes(4) + counts + names[0] + b"\0\1\0\1" + b"".join(records(names))
             for settings in b"\xff\xff\0\0", b"\0\x60\1\0", b"\xff\xff\0\xff":
                 yield "messages", settings + message(names)
     elif kind == "order":

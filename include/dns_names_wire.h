@@ -8,8 +8,8 @@
 
    Each function but `dnw_error_text` and `dnw_serial_add` returns 0, or the number of a failure. If it fails, it has
    written nothing, neither into the buffer nor through a pointer; only `dnw_message_write` differs, if a message is too
-   long, and `dnw_name_text_fault`, which puts where the text is wrong. Every input is tested, whatever it is: no byte
-   outside the arguments is read or written.
+   long, and `dnw_name_text_fault` and `dnw_message_read`, which put where the input is wrong. Every input is tested,
+   whatever it is: no byte outside the arguments is read or written.
 
    The wire form of a name (RFC 1035, section 3.1) is each label after its length octet, and a zero octet at the end. It
    takes at most 255 octets. The text of a name is that of RFC 1035, section 5.1, in ASCII but with octal escapes, and
@@ -61,7 +61,12 @@ enum dnw_failure {
     DNW_NOT_REVERSE = 26,      /* a name that is not the reverse name of an address or a net */
     DNW_BAD_ITEM = 27,         /* a list with an item of no kind, or one that is cut, or a name or record that is none */
     DNW_EMPTY_LABEL = 28,      /* a text with a label of no character */
-    DNW_BAD_ESCAPE = 29        /* an escape with a number that is no octal digit */
+    DNW_BAD_ESCAPE = 29,       /* an escape with a number that is no octal digit */
+    DNW_TOO_MANY_POINTERS = 30, /* the names of a message follow more compression pointers than the caller allows */
+    DNW_DUPLICATE_EDNS = 31,   /* a message with more than one OPT record */
+    DNW_OWNER_NOT_ROOT = 32,   /* an OPT record that is not owned by the root */
+    DNW_CUT_OPTION = 33,       /* an option of an OPT record that is not all there */
+    DNW_BAD_PARAMS = 34        /* service parameters that are not in ascending order */
 };
 
 /* `len` bytes were put into the buffer, and the name's own octets end at offset `end` of the message. */
@@ -146,6 +151,126 @@ uint32_t dnw_record_read(const uint8_t *message, size_t message_len, size_t star
    `data_len`, and with DNW_NO_ROOM if the wire form has more than `form_size` octets. */
 uint32_t dnw_record_data_name(const uint8_t *message, size_t message_len, size_t data_offset, size_t data_len,
                               uint8_t *form, size_t form_size, size_t *len);
+
+/* The octets of a header (RFC 1035, section 4.1.1), after which the questions of a message begin; and how many compression
+   pointers its names may well follow in all. */
+#define DNW_HEADER_SIZE 12
+#define DNW_MAX_POINTERS 65536
+
+/* A message: the fields of its header (RFC 1035, section 4.1.1; RFC 4035, section 3.2), and where its sections are. The
+   questions begin at DNW_HEADER_SIZE, the sections of records at the offsets `answers`, `authorities` and `additionals`, each
+   where the one before ends, and the message ends at the offset `end`, whatever follows. A question is a name, which
+   dnw_name_read reads, and then two octets of type and two of class; a record is read by dnw_record_read. `op_code` and
+   `response_code` are the four bits of the header; dnw_edns_read puts the whole response code. */
+struct dnw_message {
+    uint16_t id;
+    bool is_response;         /* QR */
+    uint8_t op_code;          /* 0 for a query, 4 for NOTIFY, 5 for UPDATE */
+    bool authoritative;       /* AA */
+    bool truncation;          /* TC */
+    bool recursion_desired;   /* RD */
+    bool recursion_available; /* RA */
+    bool authentic_data;      /* AD */
+    bool checking_disabled;   /* CD */
+    uint16_t response_code;
+    uint16_t question_count;
+    uint16_t answer_count;
+    uint16_t authority_count;
+    uint16_t additional_count;
+    size_t answers;
+    size_t authorities;
+    size_t additionals;
+    size_t end;
+};
+
+enum dnw_section {
+    DNW_SECTION_HEADER = 0,
+    DNW_SECTION_QUESTIONS = 1,
+    DNW_SECTION_ANSWERS = 2,
+    DNW_SECTION_AUTHORITIES = 3,
+    DNW_SECTION_ADDITIONALS = 4
+};
+
+/* Where a message goes wrong: the section, the number of the item in it, from 0 on, and the offset at which the item begins. */
+struct dnw_message_fault {
+    uint32_t section;
+    uint16_t item;
+    size_t offset;
+};
+
+/* Checks that a message is whole (RFC 1035, section 4): its header, and as many questions and records in each section as the
+   header counts. The data of records are not looked into. It puts the header and where the sections are into `read`. It does
+   not allocate.
+
+   It stops at the first item that is not there, and puts into `fault` which one. It fails as dnw_name_read if the name of the
+   item is none; with DNW_MESSAGE_CUT if the message ends within the item or within the header; and with
+   DNW_TOO_MANY_POINTERS if the names of the questions and the owners of the records, up to that item, follow more than
+   `max_pointers` compression pointers in all. So its time is linear in `message_len` and `max_pointers`; DNW_MAX_POINTERS is
+   far more than ordinary messages have. If it fails, `read` is unchanged, and else `fault` is. */
+uint32_t dnw_message_read(const uint8_t *message, size_t message_len, size_t max_pointers, struct dnw_message *read,
+                          struct dnw_message_fault *fault);
+
+/* What a message says by EDNS (RFC 6891, section 6.1). The `options_len` octets at offset `options_offset` of the message are
+   options, each two octets of code, two of length, and as many octets as that. Without an OPT record, `is_present` is false,
+   `max_payload` is 512, and all others but the response code are 0. */
+struct dnw_edns {
+    bool is_present;
+    bool dnssec_ok;         /* DO: the sender accepts DNSSEC records (RFC 3225, section 3) */
+    uint8_t version;
+    uint16_t max_payload;   /* the octets of the largest message that the sender accepts, at least 512 */
+    uint16_t response_code; /* that of the header, with the high bits that EDNS has */
+    size_t options_offset;
+    size_t options_len;
+};
+
+/* Reads a message as dnw_message_read does, and puts what its additional section says by EDNS. It does not allocate. It fails
+   as dnw_message_read; with DNW_DUPLICATE_EDNS if there are two OPT records or more; with DNW_OWNER_NOT_ROOT if the only one is
+   not owned by the root; and else with DNW_CUT_OPTION if its data are not options up to their end. */
+uint32_t dnw_edns_read(const uint8_t *message, size_t message_len, size_t max_pointers, struct dnw_edns *edns);
+
+/* Where the next field of a record's data begins in the message, and how many were before it. A caller begins with
+   {record.data_offset, 0}, and leaves the rest to dnw_field_next. */
+struct dnw_fields {
+    size_t offset;
+    size_t number;
+};
+
+/* The kinds of the fields of data. */
+enum dnw_field_kind {
+    DNW_FIELD_END = 0,    /* there are no more fields */
+    DNW_FIELD_NAME = 1,   /* a name, which dnw_name_read reads at the offset */
+    DNW_FIELD_NUMBER = 2, /* a number of 1, 2, 4, 6 or 8 octets, the highest first */
+    DNW_FIELD_IPV4 = 3,   /* an address of 4 octets */
+    DNW_FIELD_IPV6 = 4,   /* an address of 16 octets */
+    DNW_FIELD_TYPE = 5,   /* the code of a record type, of 2 octets */
+    DNW_FIELD_TIME = 6,   /* a time of 4 octets, in seconds since 1970, as a serial number (RFC 4034, section 3.1.5) */
+    DNW_FIELD_TEXT = 7,   /* a text: the octets of a character string (RFC 1035, section 3.3) without its length octet, or the
+                             rest of the data if that is a text */
+    DNW_FIELD_OCTETS = 8, /* other octets: the rest of the data, or as many as the octet before them counts */
+    DNW_FIELD_TEXTS = 9,  /* character strings up to the end, one at least, each after its length octet */
+    DNW_FIELD_TYPES = 10, /* a bitmap of record types, which dnw_types_read reads (RFC 4034, section 4.1.2) */
+    DNW_FIELD_PARAMS = 11 /* service parameters with ascending keys, each two octets of key, two of length, and as many octets
+                             as that (RFC 9460, section 2.2) */
+};
+
+/* A field of a kind: the `len` octets at offset `offset` of the message. */
+struct dnw_field {
+    uint32_t kind;
+    size_t offset;
+    size_t len;
+};
+
+/* Puts the next field of the data of a record of type `record_type`, and moves `fields` past it. Pass the message up to where
+   the record ends, as `message` and `record.end`. Data of a type that the library has no fields for are one field of octets
+   (RFC 3597). Names may be compressed, whatever the type. It does not allocate.
+
+   If the fields of the type are all read and the data end, it puts DNW_FIELD_END, and `fields` is unchanged. If octets are
+   left there, it fails with DNW_WRONG_DATA_LENGTH. It fails with DNW_MESSAGE_CUT if the data end within the field, or begin
+   after `data_end`; as dnw_name_read if the field should be a name and is none; with DNW_BAD_BITMAP if a window of a bitmap
+   does not come after the one before or has not 1 to 32 octets; and with DNW_BAD_PARAMS if the key of a service parameter is
+   not greater than the one before. If it fails, `fields` is unchanged. */
+uint32_t dnw_field_next(const uint8_t *message, size_t data_end, uint16_t record_type, struct dnw_fields *fields,
+                        struct dnw_field *field);
 
 /* The kinds of items of a message, and what follows in a list after the octet for the kind. A record is as in a message: the
    owner's wire form, two octets of type, two of class, four of time to live, two of the length of the data, and the data. */

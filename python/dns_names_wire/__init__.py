@@ -20,11 +20,14 @@ www.example.com. 00010001
 from ._codes import RecordClass, RecordType, class_code, class_text, type_code, type_text
 from ._errors import (
     BadBitmap,
+    BadParams,
     BadText,
     BadTime,
     BytesLeft,
     ControlCharacter,
+    CutOption,
     DnsError,
+    DuplicateEdns,
     IllegalCharacter,
     LabelTooLong,
     MessageCut,
@@ -33,17 +36,21 @@ from ._errors import (
     NotOrdered,
     NotReverse,
     NotUtf8,
+    OwnerNotRoot,
     PointerNotBack,
     ReservedOctet,
     SegmentsOverlap,
     TextCut,
     TextRule,
+    TooManyPointers,
     UnclosedList,
     UnclosedQuote,
     UnknownEntry,
     UnknownText,
     WrongDataLength,
 )
+from ._fields import FieldValue
+from ._messages import Edns, Header, Message, Question
 from ._names import Name, NameAt, names, read_name
 from ._records import Record, read_record, records
 from ._reverse import parse_reverse_name, reverse_name
@@ -53,13 +60,20 @@ from ._writer import MessageWriter, Truncated
 
 __all__ = [
     "BadBitmap",
+    "BadParams",
     "BadText",
     "BadTime",
     "BytesLeft",
     "ControlCharacter",
+    "CutOption",
     "DnsError",
+    "DuplicateEdns",
+    "Edns",
+    "FieldValue",
+    "Header",
     "IllegalCharacter",
     "LabelTooLong",
+    "Message",
     "MessageCut",
     "MessageTooLong",
     "MessageWriter",
@@ -69,7 +83,9 @@ __all__ = [
     "NotOrdered",
     "NotReverse",
     "NotUtf8",
+    "OwnerNotRoot",
     "PointerNotBack",
+    "Question",
     "Record",
     "RecordClass",
     "RecordType",
@@ -79,6 +95,7 @@ __all__ = [
     "TextRule",
     "Token",
     "TokenKind",
+    "TooManyPointers",
     "Truncated",
     "TypeSet",
     "UnclosedList",

@@ -32,7 +32,9 @@ class DnsError(ValueError):
     if that is not known: the octet of the message at which the name or record should begin, the character of the master
     file's text after which there is no token, or the character of a name's text with which it is no name, whatever follows.
     There `rule` is the `TextRule` that is broken, and else None. Of a message that is too long, `part` is the number of the
-    parts that were added before the one that does not fit, and else None.
+    parts that were added before the one that does not fit, and else None. If a whole message was read, `section` is "header",
+    "question", "answer", "authority" or "additional" and `item` the number in its section of the first item that is not there,
+    from 0 on, and else None.
 
     >>> from dns_names_wire import read_name
     >>> try:
@@ -57,6 +59,8 @@ class DnsError(ValueError):
     offset: Optional[int]
     rule: Optional[TextRule]
     part: Optional[int]
+    section: Optional[str]
+    item: Optional[int]
 
     def __init__(
         self,
@@ -64,10 +68,14 @@ class DnsError(ValueError):
         offset: Optional[int] = None,
         rule: Optional[TextRule] = None,
         part: Optional[int] = None,
+        section: Optional[str] = None,
+        item: Optional[int] = None,
     ) -> None:
         places = [f"at {word} {at}: " for word, at in [("offset", offset), ("part", part)] if at is not None]
-        super().__init__("".join(places) + reason)
+        which = "" if section is None else f"{section} {item}, "
+        super().__init__(which + "".join(places) + reason)
         self.reason, self.offset, self.rule, self.part = reason, offset, rule, part
+        self.section, self.item = section, item
 
 
 class MessageCut(DnsError):
@@ -202,6 +210,39 @@ class NotReverse(DnsError):
     number = 26
 
 
+class TooManyPointers(DnsError):
+    """The names of a message follow more compression pointers than the caller allows."""
+
+    number = 30
+
+
+class DuplicateEdns(DnsError):
+    """A message with more than one OPT record."""
+
+    number = 31
+
+
+class OwnerNotRoot(DnsError):
+    """An OPT record that is not owned by the root."""
+
+    number = 32
+
+
+class CutOption(DnsError):
+    """An option of an OPT record that is not all there."""
+
+    number = 33
+
+
+class BadParams(DnsError):
+    """Service parameters that are not in ascending order."""
+
+    number = 34
+
+
+# What an item of each section is called, by the section's number in `dns_names_wire.h`.
+SECTIONS = ("header", "question", "answer", "authority", "additional")
+
 _NO_MEMORY = 1
 _CLASSES: Dict[int, Type[DnsError]] = {error.number: error for error in DnsError.__subclasses__()}
 
@@ -220,6 +261,13 @@ def check(number: int, offset: Optional[int] = None) -> None:
     if number == _NO_MEMORY:
         raise MemoryError(error_text(number))
     raise _CLASSES.get(number, DnsError)(error_text(number) or f"failure {number}", offset)
+
+
+def check_item(number: int, section: str, item: int, offset: int) -> None:
+    """The same for an item of a message."""
+    if number not in (0, _NO_MEMORY):
+        raise _CLASSES.get(number, DnsError)(error_text(number), offset, section=section, item=item)
+    check(number)
 
 
 def check_text(number: int, text: bytes) -> None:

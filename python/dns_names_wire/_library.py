@@ -47,6 +47,53 @@ class Record(ctypes.Structure):
     ]
 
 
+class Message(ctypes.Structure):
+    _fields_ = [
+        ("id", c_uint16),
+        ("is_response", c_bool),
+        ("op_code", c_uint8),
+        ("authoritative", c_bool),
+        ("truncation", c_bool),
+        ("recursion_desired", c_bool),
+        ("recursion_available", c_bool),
+        ("authentic_data", c_bool),
+        ("checking_disabled", c_bool),
+        ("response_code", c_uint16),
+        ("question_count", c_uint16),
+        ("answer_count", c_uint16),
+        ("authority_count", c_uint16),
+        ("additional_count", c_uint16),
+        ("answers", c_size_t),
+        ("authorities", c_size_t),
+        ("additionals", c_size_t),
+        ("end", c_size_t),
+    ]
+
+
+class MessageFault(ctypes.Structure):
+    _fields_ = [("section", c_uint32), ("item", c_uint16), ("offset", c_size_t)]
+
+
+class Edns(ctypes.Structure):
+    _fields_ = [
+        ("is_present", c_bool),
+        ("dnssec_ok", c_bool),
+        ("version", c_uint8),
+        ("max_payload", c_uint16),
+        ("response_code", c_uint16),
+        ("options_offset", c_size_t),
+        ("options_len", c_size_t),
+    ]
+
+
+class Fields(ctypes.Structure):
+    _fields_ = [("offset", c_size_t), ("number", c_size_t)]
+
+
+class Field(ctypes.Structure):
+    _fields_ = [("kind", c_uint32), ("offset", c_size_t), ("len", c_size_t)]
+
+
 class WrittenMessage(ctypes.Structure):
     _fields_ = [("len", c_size_t), ("count", c_size_t)]
 
@@ -74,6 +121,9 @@ _FUNCTIONS = {
     "dnw_name_print": (*_READ, c_bool, *_WRITTEN, POINTER(c_size_t)),
     "dnw_record_read": (*_READ, c_size_t, *_WRITTEN, POINTER(Record)),
     "dnw_record_data_name": (*_READ, c_size_t, c_size_t, *_WRITTEN, POINTER(c_size_t)),
+    "dnw_message_read": (*_READ, c_size_t, POINTER(Message), POINTER(MessageFault)),
+    "dnw_edns_read": (*_READ, c_size_t, POINTER(Edns)),
+    "dnw_field_next": (*_READ, c_uint16, POINTER(Fields), POINTER(Field)),
     "dnw_message_write": (*_READ, c_uint16, c_bool, *_WRITTEN, POINTER(WrittenMessage)),
     "dnw_reverse_name": (*_READ, *_WRITTEN, POINTER(c_size_t)),
     "dnw_reverse_parse": (*_READ, *_WRITTEN, POINTER(Net)),

@@ -1,12 +1,13 @@
 """The records of messages."""
 
 from ctypes import byref, c_size_t
-from typing import Iterator
+from typing import Iterator, Tuple
 
 from . import _checks
 from ._checks import Bytes
 from ._codes import RecordClass, RecordType
 from ._errors import MessageCut, check
+from ._fields import FieldValue, fields
 from ._library import FORM_SIZE, Form, library, taken
 from ._library import Record as Read
 from ._names import Name, placed
@@ -73,6 +74,18 @@ class Record:
         arguments = self._message, len(self._message), start, self._end - start, form, FORM_SIZE, byref(length)
         check(library.dnw_record_data_name(*arguments), start)
         return Name._of(taken(form, length.value), True)
+
+    def fields(self) -> Tuple[FieldValue, ...]:
+        """The fields of the data, by the table of the type: names, numbers, addresses, octets, tuples of texts, sets of types
+        and pairs of keys and values. Data of a type without fields are octets.
+
+        Raises as `read_name` if a field should be a name and is none; `MessageCut` if the data end within a field;
+        `WrongDataLength` if octets are left after the last one; and `BadBitmap` or `BadParams`.
+
+        >>> read_record(bytes.fromhex("00 000f 0001 00000000 0005 000a 016100")).fields()
+        (10, Name('a.'))
+        """
+        return tuple(fields(self._message, self._data_offset, self._end, self._type))
 
     def __repr__(self) -> str:
         return f"<Record {self.owner} {self.ttl} {self.record_class} {self.record_type} {self.data.hex()}>"

@@ -106,6 +106,6 @@ class Reverse(unittest.TestCase):
 
 
 def load_tests(loader, tests, pattern):
-    for module in ["_records", "_reverse"]:
+    for module in ["_messages", "_records", "_reverse"]:
         tests.addTests(doctest.DocTestSuite(import_module(f"dns_names_wire.{module}")))
     return tests

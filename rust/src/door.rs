@@ -3,7 +3,7 @@
 //! This is the one module with `unsafe`. Each call is safe for the same reasons: a slice is passed as its pointer, which is
 //! never null, and its length; a result goes through a `&mut`, which overlaps nothing; the C library keeps no pointer, and
 //! is proved to read and write nothing outside its arguments, whatever the bytes are.
-use crate::error::{Error, ErrorKind, TextFault, TextRule};
+use crate::error::{Error, ErrorKind, Section, TextFault, TextRule};
 use alloc::vec::Vec;
 
 /// The octets of the longest wire form (RFC 1035, section 2.3.4).
@@ -44,6 +44,69 @@ pub(crate) struct Record {
     pub(crate) data_offset: usize,
     pub(crate) data_len: usize,
     pub(crate) end: usize,
+}
+
+/// `struct dnw_message`
+#[repr(C)]
+#[derive(Clone, Default)]
+pub(crate) struct Message {
+    pub(crate) id: u16,
+    pub(crate) is_response: bool,
+    pub(crate) op_code: u8,
+    pub(crate) authoritative: bool,
+    pub(crate) truncation: bool,
+    pub(crate) recursion_desired: bool,
+    pub(crate) recursion_available: bool,
+    pub(crate) authentic_data: bool,
+    pub(crate) checking_disabled: bool,
+    pub(crate) response_code: u16,
+    pub(crate) question_count: u16,
+    pub(crate) answer_count: u16,
+    pub(crate) authority_count: u16,
+    pub(crate) additional_count: u16,
+    pub(crate) answers: usize,
+    pub(crate) authorities: usize,
+    pub(crate) additionals: usize,
+    pub(crate) end: usize,
+}
+
+/// `struct dnw_message_fault`
+#[repr(C)]
+#[derive(Default)]
+struct MessageFault {
+    section: u32,
+    item: u16,
+    offset: usize,
+}
+
+/// `struct dnw_edns`
+#[repr(C)]
+#[derive(Clone, Default)]
+pub(crate) struct Edns {
+    pub(crate) is_present: bool,
+    pub(crate) dnssec_ok: bool,
+    pub(crate) version: u8,
+    pub(crate) max_payload: u16,
+    pub(crate) response_code: u16,
+    pub(crate) options_offset: usize,
+    pub(crate) options_len: usize,
+}
+
+/// `struct dnw_fields`
+#[repr(C)]
+#[derive(Clone, Debug)]
+pub(crate) struct Fields {
+    pub(crate) offset: usize,
+    pub(crate) number: usize,
+}
+
+/// `struct dnw_field`
+#[repr(C)]
+#[derive(Default)]
+pub(crate) struct Field {
+    pub(crate) kind: u32,
+    pub(crate) offset: usize,
+    pub(crate) len: usize,
 }
 
 /// `struct dnw_written_message`
@@ -120,6 +183,21 @@ extern "C" {
         form: *mut u8,
         form_size: usize,
         len: *mut usize,
+    ) -> u32;
+    fn dnw_message_read(
+        message: *const u8,
+        message_len: usize,
+        max_pointers: usize,
+        read: *mut Message,
+        fault: *mut MessageFault,
+    ) -> u32;
+    fn dnw_edns_read(message: *const u8, message_len: usize, max_pointers: usize, edns: *mut Edns) -> u32;
+    fn dnw_field_next(
+        message: *const u8,
+        data_end: usize,
+        record_type: u16,
+        fields: *mut Fields,
+        field: *mut Field,
     ) -> u32;
     fn dnw_message_write(
         items: *const u8,
@@ -273,6 +351,31 @@ pub(crate) fn data_name(message: &[u8], at: usize, len: usize, form: &mut [u8; F
     // SAFETY: pointers with their lengths, see the module.
     let number = unsafe { dnw_record_data_name(message.as_ptr(), message.len(), at, len, room, FORM_SIZE, &mut put) };
     outcome(number, put).map_err(|error| error.at_offset(at))
+}
+
+/// Checks a whole message.
+pub(crate) fn read_message(message: &[u8], max_pointers: usize) -> Result<Message, Error> {
+    let (mut read, mut fault) = (Message::default(), MessageFault::default());
+    // SAFETY: a pointer with its length, see the module, and pointers to structs of these types.
+    let number = unsafe { dnw_message_read(message.as_ptr(), message.len(), max_pointers, &mut read, &mut fault) };
+    outcome(number, read).map_err(|error| error.at_item(Section::from_number(fault.section), fault.item, fault.offset))
+}
+
+/// Returns what a message says by EDNS.
+pub(crate) fn read_edns(message: &[u8], max_pointers: usize) -> Result<Edns, Error> {
+    let mut edns = Edns::default();
+    // SAFETY: a pointer with its length, see the module, and one to a struct of this type.
+    let number = unsafe { dnw_edns_read(message.as_ptr(), message.len(), max_pointers, &mut edns) };
+    outcome(number, edns)
+}
+
+/// Returns the next field of the data of a record, which end where `message` does.
+#[inline]
+pub(crate) fn next_field(message: &[u8], record_type: u16, fields: &mut Fields) -> Result<Field, Error> {
+    let mut field = Field::default();
+    // SAFETY: a pointer with its length, see the module, and pointers to structs of these types.
+    let number = unsafe { dnw_field_next(message.as_ptr(), message.len(), record_type, fields, &mut field) };
+    outcome(number, field).map_err(|error| error.at_offset(fields.offset))
 }
 
 /// Replaces `message` by the items of a list, up to the first that would go past the maximum. Returns how many items it has,

@@ -23,6 +23,7 @@ enum Place {
     Offset(usize),
     Text(TextFault),
     Part(usize),
+    Item(Section, u16, usize),
 }
 
 impl Error {
@@ -47,6 +48,11 @@ impl Error {
         Error { place: Some(Place::Part(part)), ..self }
     }
 
+    /// The same failure at an item of a message.
+    pub(crate) fn at_item(self, section: Section, item: u16, offset: usize) -> Self {
+        Error { place: Some(Place::Item(section, item, offset)), ..self }
+    }
+
     /// Returns what is wrong.
     ///
     /// ```
@@ -60,8 +66,8 @@ impl Error {
 
     /// Returns the offset in octets at which the input goes wrong, if it is known:
     ///
-    /// - in a message, at which the name or the record that was read should begin; or the end of a record whose data have fewer
-    ///   octets than were passed over;
+    /// - in a message, at which the name, the question, the record or the field that was read should begin; or the end of a
+    ///   record whose data have fewer octets than were passed over;
     /// - in a wire form, after its name, for `BytesLeft`;
     /// - in the text of a name, at which it goes wrong. What is before it is a name by itself, and no longer beginning of the
     ///   text is one. An escape counts as one character;
@@ -78,6 +84,7 @@ impl Error {
         match self.place? {
             Place::Offset(offset) => Some(offset),
             Place::Text(fault) => Some(fault.offset),
+            Place::Item(_, _, offset) => Some(offset),
             Place::Part(_) => None,
         }
     }
@@ -108,6 +115,35 @@ impl Error {
     pub fn part(self) -> Option<usize> {
         match self.place? {
             Place::Part(part) => Some(part),
+            _ => None,
+        }
+    }
+
+    /// Returns the section of the first item of a message that is not there, if a whole message was read.
+    ///
+    /// ```
+    /// use dns_names_wire::{Message, Section};
+    ///
+    /// // one answer, of which the owner alone is there
+    /// let error = Message::read(b"\0\0\x80\0\0\0\0\x01\0\0\0\0\0").unwrap_err();
+    /// assert_eq!((error.section(), error.item(), error.offset()), (Some(Section::Answers), Some(0), Some(12)));
+    /// assert_eq!(error.to_string(), "answer 0, at offset 12: the message ends within the name");
+    /// ```
+    pub fn section(self) -> Option<Section> {
+        match self.place? {
+            Place::Item(section, _, _) => Some(section),
+            _ => None,
+        }
+    }
+
+    /// Returns the number of that item in its section, from 0 on.
+    ///
+    /// ```
+    /// assert_eq!(dns_names_wire::Message::read(b"").unwrap_err().item(), Some(0));
+    /// ```
+    pub fn item(self) -> Option<u16> {
+        match self.place? {
+            Place::Item(_, item, _) => Some(item),
             _ => None,
         }
     }
@@ -174,12 +210,22 @@ pub enum ErrorKind {
     WrongDataLength,
     /// A name that is not the reverse name of an address or a net.
     NotReverse,
+    /// The names of a message follow more compression pointers than the caller allows.
+    TooManyPointers,
+    /// A message with more than one OPT record.
+    DuplicateEdns,
+    /// An OPT record that is not owned by the root.
+    OwnerNotRoot,
+    /// An option of an OPT record that is not all there.
+    CutOption,
+    /// Service parameters that are not in ascending order.
+    BadParams,
     /// Another failure, by its number in `dns_names_wire.h`.
     Other(u32),
 }
 
 /// The failures that this crate names, each with its number in `dns_names_wire.h`.
-const NUMBERS: [(u32, ErrorKind); 21] = [
+const NUMBERS: [(u32, ErrorKind); 26] = [
     (1, ErrorKind::NoMemory),
     (3, ErrorKind::MessageCut),
     (4, ErrorKind::PointerNotBack),
@@ -201,6 +247,11 @@ const NUMBERS: [(u32, ErrorKind); 21] = [
     (23, ErrorKind::UnknownEntry),
     (24, ErrorKind::WrongDataLength),
     (26, ErrorKind::NotReverse),
+    (30, ErrorKind::TooManyPointers),
+    (31, ErrorKind::DuplicateEdns),
+    (32, ErrorKind::OwnerNotRoot),
+    (33, ErrorKind::CutOption),
+    (34, ErrorKind::BadParams),
 ];
 
 impl ErrorKind {
@@ -279,6 +330,50 @@ impl TextRule {
     }
 }
 
+/// A part of a message (RFC 1035, section 4.1). One of its items is shown as a word.
+///
+/// ```
+/// assert_eq!(dns_names_wire::Section::Authorities.to_string(), "authority");
+/// ```
+#[derive(Clone, Copy, Debug, PartialEq, Eq, Hash)]
+pub enum Section {
+    /// The header.
+    Header,
+    /// The questions.
+    Questions,
+    /// The records that answer.
+    Answers,
+    /// The records that lead to an authority.
+    Authorities,
+    /// The records that help.
+    Additionals,
+}
+
+impl Section {
+    /// The section with a number of `dns_names_wire.h`.
+    pub(crate) fn from_number(number: u32) -> Self {
+        match number {
+            1 => Section::Questions,
+            2 => Section::Answers,
+            3 => Section::Authorities,
+            4 => Section::Additionals,
+            _ => Section::Header,
+        }
+    }
+}
+
+impl fmt::Display for Section {
+    fn fmt(&self, f: &mut fmt::Formatter<'_>) -> fmt::Result {
+        f.pad(match self {
+            Section::Header => "header",
+            Section::Questions => "question",
+            Section::Answers => "answer",
+            Section::Authorities => "authority",
+            Section::Additionals => "additional",
+        })
+    }
+}
+
 /// Shows the C library's text for a number.
 fn show(number: u32, f: &mut fmt::Formatter<'_>) -> fmt::Result {
     let mut room = [0; door::ERROR_TEXT_SIZE];
@@ -294,6 +389,9 @@ impl fmt::Display for Error {
             Some(Place::Offset(offset)) => write!(f, "at offset {offset}: {}", self.kind),
             Some(Place::Text(fault)) => fmt::Display::fmt(&fault, f),
             Some(Place::Part(part)) => write!(f, "at part {part}: {}", self.kind),
+            Some(Place::Item(section, item, offset)) => {
+                write!(f, "{section} {item}, at offset {offset}: {}", self.kind)
+            }
             None => fmt::Display::fmt(&self.kind, f),
         }
     }

@@ -22,7 +22,8 @@
 //! | pass over names, or walk their labels, without copying them | [`NameRef`], [`names()`] |
 //! | make names of names and labels | [`Name::from_labels`], [`Name::append`], [`Name::prepend_label`], [`Name::base_name`], [`Name::trim_to`], [`Name::to_wildcard`] |
 //! | print, compare, sort, hash | `Display`, `Ord`, `Hash`, [`Name::sort_key`], [`Name::zone_of`], [`Name::to_lowercase`] |
-//! | read the records of a message | [`Record`], [`records()`] |
+//! | check a whole message, and read its header, its sections and its EDNS | [`Message`] |
+//! | read the records of a message, and the fields of their data | [`Record`], [`records()`], [`Record::fields`] |
 //! | write messages: questions, records and names, with compression | [`MessageWriter`] |
 //! | go from addresses to their reverse names, and back | [`Name::from_ip`], [`Name::parse_arpa_name`] |
 //! | name types and classes, read and write bitmaps of types, compare serial numbers | [`RecordType`], [`Class`], [`TypeSet`], [`SerialNumber`] |
@@ -48,6 +49,8 @@ mod door;
 
 mod codes;
 mod error;
+mod field;
+mod message;
 mod name;
 mod name_ref;
 mod record;
@@ -56,7 +59,9 @@ mod type_set;
 mod writer;
 
 pub use codes::{Class, RecordType, SerialNumber};
-pub use error::{Error, ErrorKind, TextFault, TextRule};
+pub use error::{Error, ErrorKind, Section, TextFault, TextRule};
+pub use field::{Field, Fields, Items, Params};
+pub use message::{Edns, Header, Message, Question, Questions, SectionRecords};
 pub use name::{Labels, Name};
 pub use name_ref::{names, NameRef, Names};
 pub use record::{records, Record, Records};

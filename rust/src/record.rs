@@ -2,6 +2,7 @@
 use crate::codes::{Class, RecordType};
 use crate::door::{self, FORM_SIZE};
 use crate::error::{Error, ErrorKind};
+use crate::field::Fields;
 use crate::name::Name;
 use core::fmt;
 
@@ -165,6 +166,24 @@ impl<'a> Record<'a> {
         let mut form = [0; FORM_SIZE];
         let len = door::data_name(self.message, self.read.data_offset + octets, left, &mut form)?;
         Ok(Name::of_form(form, len))
+    }
+
+    /// Returns the fields of the data, one after another, by the table of the record's type. Data of a type without fields are
+    /// one field of octets. After an error it ends.
+    ///
+    /// ```
+    /// use dns_names_wire::{Field, Record};
+    ///
+    /// // the root, MX 10 a.
+    /// let record = Record::read(b"\0\0\x0F\0\x01\0\0\0\0\0\x05\0\x0A\x01a\0", 0)?;
+    /// let mut fields = record.fields();
+    /// assert!(matches!(fields.next(), Some(Ok(Field::Number(10)))));
+    /// assert!(matches!(fields.next(), Some(Ok(Field::Name(name))) if name.to_string() == "a."));
+    /// assert!(fields.next().is_none());
+    /// # Ok::<(), dns_names_wire::Error>(())
+    /// ```
+    pub fn fields(&self) -> Fields<'a> {
+        Fields::new(&self.message[..self.read.end], self.read.data_offset, self.record_type())
     }
 
     /// Returns the offset after the record, where the next one begins.

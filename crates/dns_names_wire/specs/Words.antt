@@ -136,7 +136,7 @@ pub use Rattle.dnw_message.specs.HeaderLaws.{HeaderFits, HeadersReadBack, Header
 pub use Rattle.dnw_message.specs.Headers.{TakesHeader, flag, flags_of, header_of, header_size, header_wire, is_set, metadata_of}
 pub use Rattle.dnw_message.specs.MessageLaws.{MessagesDontFail, OneMessage, OneMessageError}
 pub use Rattle.dnw_message.specs.Messages.{FailsHere, FailsItem, FailsMessage, FailsWithin, Item, ItemAt, ItemsAt, MessageAt, MessageValue}
-pub use Rattle.dnw_message.specs.Messages.{QueryValue, no_header, part, question_rest, record_rest, rest_of}
+pub use Rattle.dnw_message.specs.Messages.{QueryValue, SectionAt, SectionsBegin, no_header, part, question_rest, record_rest, rest_of}
 pub use Rattle.dnw_message.specs.Responses.{response_to}
 pub use Rattle.dnw_message.specs.OpCodes.{op_code, op_entry, op_of_code}
 pub use Rattle.dnw_message.specs.Queries.{FailsQuery, TakesQuery}

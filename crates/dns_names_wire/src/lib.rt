@@ -118,7 +118,7 @@ pub mod message {
     pub use dnw_message::header::{Header, HeaderCounts, MessageType, Metadata};
     pub use dnw_message::items::{Queries, Records};
     pub use dnw_message::laws;
-    pub use dnw_message::message::MessageRef;
+    pub use dnw_message::message::{MessageRef, SectionOffsets};
     pub use dnw_message::op_code::OpCode;
     pub use dnw_message::query::QueryRef;
     pub use dnw_message::response_code::ResponseCode;

@@ -11,8 +11,8 @@ use Rattle.dnw_encoder.specs.NameFrames.{frame-name}
 use Rattle.dnw_record.specs.RecordFrames.{frame-fields, frame-passed, frame-passed_fields, frame-record}
 use Rattle.dnw_c.specs.declared.messages.Kind.{Kind}
 use Rattle.dnw_c.specs.declared.messages.Kind.TheVariants as Kinds
-use Rattle.dnw_c.specs.Failures.{of_proto}
-use Rattle.dnw_c.specs.declared.failure.Failure.{Failure}
+use Rattle.dnw_failure.specs.Failures.{of_proto}
+use Rattle.dnw_failure.specs.declared.failure.Failure.{Failure}
 use Rattle.dnw_c.specs.MessageItems.{Item, Bytes, Name, Record, RecordOfName, EmitsItem, FailsToCopyOf, TakesOf, TakesItem, WritesItems, none, more}
 use Rattle.dnw_c.proofs.Starts.{takes-onward, takes-within}
 use Rattle.dnw_c.proofs.RecordEnds.{record-own}

@@ -7,7 +7,7 @@ use Rattle.dnw_name.specs.Decodable.{TakesNameValue}
 use Rattle.dnw_encoder.specs.Encoder.{Encoder}
 use Rattle.dnw_encoder.specs.EmittedName.{EmitsName}
 use Rattle.dnw_c.specs.NameLists.{at_first, WritesNames, none, more, FailsToCopy, StopsWriting, here, later}
-use Rattle.dnw_c.specs.declared.failure.Failure.{Failure}
+use Rattle.dnw_failure.specs.declared.failure.Failure.{Failure}
 
 -- So many names are read up to the decoder d, and written into v: what is left, from here, gives the whole.
 pub record HasWritten (names : List ℕ) (first : Encoder) (loan : GName) (d : Decoder) (v : Encoder) (lent : GName)

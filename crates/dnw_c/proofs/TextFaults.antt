@@ -5,8 +5,8 @@ use Rattle.dnw_error.specs.declared.error.ProtoError.TheVariants.{Message, Msg, 
 use Rattle.dnw_error.specs.Fault.{Fault, EmptyLabel, LabelTooLong, MalformedLabel, NameTooLong, UnrecognizedChar, IllegalChar, UnfinishedEscape, UnconvertedLabels, FailsOr, HasOwnText, NeedsErrorText, Reports}
 use Rattle.std.specs.Str.{chars}
 use Rattle.dnw_text.specs.NameText.{name_from_text}
-use Rattle.dnw_c.specs.Failures.{of_fault, of_proto}
-use Rattle.dnw_c.specs.declared.failure.Failure.TheVariants.{NoMemory}
+use Rattle.dnw_failure.specs.Failures.{of_fault, of_proto}
+use Rattle.dnw_failure.specs.declared.failure.Failure.TheVariants.{NoMemory}
 
 -- an error that reports a fault has the fault's failure
 of_reported : (fault : Fault) (e : ProtoError) → Reports fault e → of_proto e ≡ of_fault fault

@@ -8,8 +8,8 @@ use Rattle.std.proofs.lemmas.Str.{chars-append, encodes-append, encodes-chars, l
 use lib.Utf8.{encode, encodes}
 use Rattle.dnw_txt.specs.Tokens.{TokenValue, Step, Gives, Ends, Stops, LexState, StartLine, RestOfLine, Failed, before, from, is_line_end, line_end, line_feed, carriage_return, after_comment, word_before, ends_word, semicolon, close_paren, list_after, ListState, Between, Comment, Word, quoted_after, QuoteState, Plain, Escaped, AfterOne, AfterTwo, quote, backslash, is_numeric, control_entry, is_no_capital, at_sign, open_paren, dollar, entry, rest_of_line, next_from}
 use Rattle.dnw_txt.proofs.Cuts.{before-from}
-use Rattle.dnw_c.specs.declared.failure.Failure.{Failure}
-use Rattle.dnw_c.specs.declared.failure.Failure.TheVariants.{NoRoom}
+use Rattle.dnw_failure.specs.declared.failure.Failure.{Failure}
+use Rattle.dnw_failure.specs.declared.failure.Failure.TheVariants.{NoRoom}
 use Rattle.dnw_c.specs.TokenCalls.{FailsToPutToken, Takes, list_bytes, token_bytes, word_bytes}
 
 abbrev size : List ℕ → ℕ

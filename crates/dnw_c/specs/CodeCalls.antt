@@ -1,8 +1,8 @@
 -- Why the functions for C on codes, serial numbers and times fail.
 use Rattle.std.specs.Prelude.{◌≡◌, ◌<◌, ◌⊎◌, ℕ, List, length, Option, None, IsUtf8}
-use Rattle.dnw_c.specs.declared.failure.Failure.{Failure}
+use Rattle.dnw_failure.specs.declared.failure.Failure.{Failure}
 use Rattle.dnw_txt.specs.Times.{IsNoTtl, time_seconds}
-use Rattle.dnw_c.specs.declared.failure.Failure.TheVariants.{NoRoom, NotUtf8, BadTime}
+use Rattle.dnw_failure.specs.declared.failure.Failure.TheVariants.{NoRoom, NotUtf8, BadTime}
 
 -- the bytes of the longest texts of a type or a class, as `CLASS65535` (RFC 3597, section 5)
 abbrev pub max_code_text : ℕ

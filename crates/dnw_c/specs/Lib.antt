@@ -1,6 +1,5 @@
 pub mod Buffers
 pub mod CodeCalls
-pub mod Failures
 pub mod MessageItems
 pub mod NameCalls
 pub mod NameEdits

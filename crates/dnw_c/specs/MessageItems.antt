@@ -21,10 +21,10 @@ use Rattle.dnw_record.specs.Records.{RecordValue, TakesRecord, FailsRecord, HasD
 use Rattle.dnw_record.specs.PassedRecords.{PassesRecord, owner_name}
 use Rattle.dnw_record.specs.WrittenRecords.{EmitsRecord}
 use Rattle.dnw_c.specs.Buffers.{put}
-use Rattle.dnw_c.specs.Failures.{of_proto}
+use Rattle.dnw_failure.specs.Failures.{of_proto}
 use Rattle.dnw_c.specs.RecordCalls.{at_offset}
-use Rattle.dnw_c.specs.declared.failure.Failure.{Failure}
-use Rattle.dnw_c.specs.declared.failure.Failure.TheVariants.{BadItem, MessageTooLong, NoRoom}
+use Rattle.dnw_failure.specs.declared.failure.Failure.{Failure}
+use Rattle.dnw_failure.specs.declared.failure.Failure.TheVariants.{BadItem, MessageTooLong, NoRoom}
 use Rattle.dnw_c.specs.declared.messages.Kind.{Kind}
 use Rattle.dnw_c.specs.declared.messages.Kind.TheVariants as Kinds
 use Rattle.dnw_c.specs.declared.messages.WrittenMessage.{WrittenMessage}

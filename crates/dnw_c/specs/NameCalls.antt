@@ -8,9 +8,9 @@ use Rattle.std.specs.declared.cmp.Ordering.TheVariants.{Less, Equal, Greater}
 use Rattle.dnw_base.specs.Names.{NameValue, lower, wire}
 use Rattle.dnw_text.specs.NameText.{name_text, name_from_text}
 use Rattle.dnw_reading.specs.Reading.{NameAt, FaultAt}
-use Rattle.dnw_c.specs.Failures.{of_decode, of_fault}
-use Rattle.dnw_c.specs.declared.failure.Failure.{Failure}
-use Rattle.dnw_c.specs.declared.failure.Failure.TheVariants.{NoMemory, NoRoom, NotUtf8, BytesLeft}
+use Rattle.dnw_failure.specs.Failures.{of_decode, of_fault}
+use Rattle.dnw_failure.specs.declared.failure.Failure.{Failure}
+use Rattle.dnw_failure.specs.declared.failure.Failure.TheVariants.{NoMemory, NoRoom, NotUtf8, BytesLeft}
 
 -- the text of a name that is read from a message, which is fully qualified
 abbrev pub absolute_text : List (List ℕ) → List ℕ

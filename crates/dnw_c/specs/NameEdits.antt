@@ -5,10 +5,10 @@ use Rattle.dnw_base.specs.Names.{NameValue, wire}
 use Rattle.dnw_form.specs.Edits.{append_name, prepend_label}
 use Rattle.dnw_label.specs.LabelText.{label_from_bytes}
 use Rattle.dnw_c.specs.Buffers.{put}
-use Rattle.dnw_c.specs.Failures.{of_fault}
+use Rattle.dnw_failure.specs.Failures.{of_fault}
 use Rattle.dnw_c.specs.NameCalls.{FailsAsForms, IsFormOf, IsNoForm}
-use Rattle.dnw_c.specs.declared.failure.Failure.{Failure}
-use Rattle.dnw_c.specs.declared.failure.Failure.TheVariants.{NoRoom}
+use Rattle.dnw_failure.specs.declared.failure.Failure.{Failure}
+use Rattle.dnw_failure.specs.declared.failure.Failure.TheVariants.{NoRoom}
 
 -- The octets are the wire form of this name, whole. A wire form ends at the root.
 abbrev pub IsNameOf : List ℕ → NameValue → Type 0

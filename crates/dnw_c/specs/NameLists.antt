@@ -8,9 +8,9 @@ use Rattle.dnw_name.specs.Decodable.{TakesNameValue}
 use Rattle.dnw_reading.specs.Reading.{StopsAt}
 use Rattle.dnw_encoder.specs.Encoder.{Encoder, fresh}
 use Rattle.dnw_encoder.specs.EmittedName.{EmitsName}
-use Rattle.dnw_c.specs.Failures.{of_decode, of_proto}
-use Rattle.dnw_c.specs.declared.failure.Failure.{Failure}
-use Rattle.dnw_c.specs.declared.failure.Failure.TheVariants.{NoRoom}
+use Rattle.dnw_failure.specs.Failures.{of_decode, of_proto}
+use Rattle.dnw_failure.specs.declared.failure.Failure.{Failure}
+use Rattle.dnw_failure.specs.declared.failure.Failure.TheVariants.{NoRoom}
 
 -- a decoder at the first byte of a list
 abbrev pub at_first : List ℕ → Decoder

@@ -8,10 +8,10 @@ use Rattle.dnw_base.specs.Names.{wire}
 use Rattle.dnw_reading.specs.Reading.{NameAt}
 use Rattle.dnw_record.specs.Records.{RecordAt, RecordValue, FailsRecord}
 use Rattle.dnw_c.specs.Buffers.{put}
-use Rattle.dnw_c.specs.Failures.{of_decode}
+use Rattle.dnw_failure.specs.Failures.{of_decode}
 use Rattle.dnw_c.specs.NameCalls.{HasNoName}
-use Rattle.dnw_c.specs.declared.failure.Failure.{Failure}
-use Rattle.dnw_c.specs.declared.failure.Failure.TheVariants.{NoRoom, WrongDataLength}
+use Rattle.dnw_failure.specs.declared.failure.Failure.{Failure}
+use Rattle.dnw_failure.specs.declared.failure.Failure.TheVariants.{NoRoom, WrongDataLength}
 use Rattle.dnw_c.specs.declared.records.ReadRecord.{ReadRecord}
 
 -- a decoder at an offset of a message

@@ -11,8 +11,8 @@ use Rattle.dnw_reverse.specs.ArpaNets.{IsNetOf}
 use Rattle.dnw_c.specs.Buffers.{put}
 use Rattle.dnw_c.specs.NameCalls.{IsNoForm}
 use Rattle.dnw_c.specs.NameEdits.{IsNameOf, PutsName}
-use Rattle.dnw_c.specs.declared.failure.Failure.{Failure}
-use Rattle.dnw_c.specs.declared.failure.Failure.TheVariants.{NoRoom, BadAddress, NotReverse}
+use Rattle.dnw_failure.specs.declared.failure.Failure.{Failure}
+use Rattle.dnw_failure.specs.declared.failure.Failure.TheVariants.{NoRoom, BadAddress, NotReverse}
 use Rattle.dnw_c.specs.declared.reverse.ReadNet.{ReadNet}
 
 -- The bytes are an address: 4 for IPv4, 16 for IPv6, the highest first.

@@ -2,8 +2,8 @@
 use Rattle.std.specs.Prelude.{◌≡◌, ◌<◌, ◌⊎◌, ℕ, List, length}
 use Rattle.dnw_order.specs.SortKeys.{sort_key}
 use Rattle.dnw_c.specs.NameCalls.{IsFormOf, IsNoForm}
-use Rattle.dnw_c.specs.declared.failure.Failure.{Failure}
-use Rattle.dnw_c.specs.declared.failure.Failure.TheVariants.{NoRoom}
+use Rattle.dnw_failure.specs.declared.failure.Failure.{Failure}
+use Rattle.dnw_failure.specs.declared.failure.Failure.TheVariants.{NoRoom}
 
 -- The sort key of a name is not put into a buffer of this size: the octets are no wire form, or the key is longer.
 abbrev pub FailsToKey : List ℕ → ℕ → Failure → Type 0

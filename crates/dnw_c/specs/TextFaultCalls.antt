@@ -5,8 +5,8 @@ use Rattle.dnw_text.specs.TextFaults.{GoesWrong}
 use Rattle.dnw_text.specs.declared.fault.TextFault.{TextFault}
 use Rattle.dnw_text.specs.declared.fault.TextRule.{TextRule}
 use Rattle.dnw_text.specs.declared.fault.TextRule.TheVariants as rule
-use Rattle.dnw_c.specs.declared.failure.Failure.{Failure}
-use Rattle.dnw_c.specs.declared.failure.Failure.TheVariants as why
+use Rattle.dnw_failure.specs.declared.failure.Failure.{Failure}
+use Rattle.dnw_failure.specs.declared.failure.Failure.TheVariants as why
 
 -- the failure that stands for a rule
 abbrev pub of_rule : TextRule → Failure

@@ -6,8 +6,8 @@ use Rattle.dnw_txt.specs.Tokens.{TokenValue, Blank, Grouped, CharData, AtSign, I
 use Rattle.dnw_txt.specs.Lexing.{FailsNext, line_state}
 use Rattle.dnw_txt.specs.declared.errors.LexerError.{LexerError}
 use Rattle.dnw_txt.specs.declared.errors.LexerError.TheVariants.{EOF, IllegalCharacter as IllegalChar, UnclosedList as ListError, UnclosedQuotedString, UnrecognizedChar, UnrecognizedDollar, Memory}
-use Rattle.dnw_c.specs.declared.failure.Failure.{Failure}
-use Rattle.dnw_c.specs.declared.failure.Failure.TheVariants.{NoMemory, NoRoom, NotUtf8, Other, TextCut, IllegalCharacter, ControlCharacter, UnclosedList, UnclosedQuote, UnknownEntry}
+use Rattle.dnw_failure.specs.declared.failure.Failure.{Failure}
+use Rattle.dnw_failure.specs.declared.failure.Failure.TheVariants.{NoMemory, NoRoom, NotUtf8, Other, TextCut, IllegalCharacter, ControlCharacter, UnclosedList, UnclosedQuote, UnknownEntry}
 use Rattle.dnw_c.specs.Buffers.{put}
 use Rattle.dnw_c.specs.declared.tokens.LexerState.{LexerState}
 use Rattle.dnw_c.specs.declared.tokens.ReadToken.{ReadToken}

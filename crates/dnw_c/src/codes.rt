@@ -8,16 +8,16 @@ ghost use Rattle.dnw_codes.specs.declared.dns_class.DNSClass.{DNSClass};
 ghost use Rattle.dnw_codes.specs.Serials.{serial_cmp, serial_sum};
 ghost use Rattle.dnw_c.specs.Buffers.{put};
 ghost use Rattle.dnw_c.specs.CodeCalls.{FailsToGive, FailsToPut, max_code_text};
-ghost use Rattle.dnw_c.specs.Failures.{NumberOf, number};
+ghost use Rattle.dnw_failure.specs.Failures.{NumberOf, number};
 ghost use Rattle.dnw_c.specs.NameCalls.{sign};
-ghost use Rattle.dnw_c.specs.declared.failure.Failure.TheVariants.{NoRoom, NotOrdered, UnknownText};
+ghost use Rattle.dnw_failure.specs.declared.failure.Failure.TheVariants.{NoRoom, NotOrdered, UnknownText};
 
-use crate::failure::Failure;
 use crate::names::put;
 use crate::order::sign_of;
 use dns_names_wire::dns_class::DNSClass;
 use dns_names_wire::record_type::RecordType;
 use dns_names_wire::serial_number::SerialNumber;
+use dnw_failure::failure::Failure;
 
 /// Puts the text of the type with a code, and its length. It gives the code back.
 #[unsafe(no_mangle)]

@@ -4,15 +4,15 @@ ghost use Rattle.dnw_error.specs.Fault.{Fault, Follows};
 ghost use Rattle.dnw_base.specs.Limits.{max_name};
 ghost use Rattle.dnw_base.specs.Names.{NameValue};
 ghost use Rattle.dnw_form.specs.Edits.{into_wildcard, trim_to};
-ghost use Rattle.dnw_c.specs.Failures.{NumberOf, number};
+ghost use Rattle.dnw_failure.specs.Failures.{NumberOf, number};
 ghost use Rattle.dnw_c.specs.NameEdits.{FailsToAppend, FailsToChange, FailsToEdit, FailsToPrepend, PutsAppended, PutsChanged, PutsEdited, PutsPrepended};
-ghost use Rattle.dnw_c.specs.declared.failure.Failure.TheVariants.{NoRoom};
+ghost use Rattle.dnw_failure.specs.declared.failure.Failure.TheVariants.{NoRoom};
 
-use crate::failure::{Failure, of_proto};
 use crate::names::put_form;
 use crate::order::{both_names, name_of};
 use dns_names_wire::error::ProtoResult;
 use dns_names_wire::name::Name;
+use dnw_failure::failure::{Failure, of_proto};
 use std::alloc::Global;
 
 /// Puts the wire form of a name with the labels of another after its own, and its length.

@@ -8,7 +8,6 @@
 pub mod codes;
 /// Names changed, by their wire forms.
 pub mod edits;
-mod failure;
 /// Messages written, item by item.
 pub mod messages;
 /// Names read, written, parsed and printed.

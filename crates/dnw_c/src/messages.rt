@@ -4,18 +4,18 @@ ghost use Rattle.dnw_base.specs.Decoder.{advanced};
 ghost use Rattle.dnw_record.specs.Records.{RecordValue, TakesRecord};
 ghost use Rattle.dnw_encoder.specs.Encoder.{Encoder};
 ghost use Rattle.dnw_encoder.specs.EncoderValue.{value, lender};
-ghost use Rattle.dnw_c.specs.Failures.{NumberOf, number};
+ghost use Rattle.dnw_failure.specs.Failures.{NumberOf, number};
 ghost use Rattle.dnw_c.specs.MessageItems.{CopiesOf, EmitsItem, FailsToCopyItem, FailsToCopyOf, FailsToTakeOf, FailsToWriteMessage, HasBlock, HasLittleRoom, IsKind, IsNoKind, IsRecordOfName, Item, PutsMessage, StopsAfter, TakesBlock, TakesItem, WritesWhole, of_message};
 ghost use Rattle.dnw_c.specs.declared.messages.Kind.TheVariants.{Bytes, Name, Record, RecordOfName};
-ghost use Rattle.dnw_c.specs.declared.failure.Failure.TheVariants.{BadItem, MessageTooLong, NoRoom};
+ghost use Rattle.dnw_failure.specs.declared.failure.Failure.TheVariants.{BadItem, MessageTooLong, NoRoom};
 
-use crate::failure::{Failure, of_proto};
 use crate::names::put;
 use dns_names_wire::binary::{BinDecodable, BinEncodable};
 use dns_names_wire::decoder::BinDecoder;
 use dns_names_wire::encoder::{BinEncoder, RDataEncoding};
 use dns_names_wire::name_ref::NameRef;
 use dns_names_wire::record::{RecordRef, WireData, WireRecord};
+use dnw_failure::failure::{Failure, of_proto};
 use std::alloc::Global;
 
 /// A message that was written: the number of bytes that were put, and the number of items.

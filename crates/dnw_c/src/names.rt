@@ -12,19 +12,19 @@ ghost use Rattle.dnw_encoder.specs.Encoder.{Encoder};
 ghost use Rattle.dnw_encoder.specs.EncoderValue.{value, lender};
 ghost use Rattle.dnw_encoder.specs.EmittedName.{EmitsName};
 ghost use Rattle.dnw_c.specs.Buffers.{PutsIfFits, put};
-ghost use Rattle.dnw_c.specs.Failures.{HasText, NumberOf, number};
+ghost use Rattle.dnw_failure.specs.Failures.{HasText, NumberOf, number};
 ghost use Rattle.dnw_c.specs.NameCalls.{FailsToParse, FailsToPrint, FailsToPutText, FailsToRead, FailsToReadText, absolute_text};
 ghost use Rattle.dnw_c.specs.NameLists.{FailsToCopy, FailsToWrite, StopsWriting, WritesNames, at_first, limited_to};
-ghost use Rattle.dnw_c.specs.declared.failure.Failure.{Failure};
-ghost use Rattle.dnw_c.specs.declared.failure.Failure.TheVariants.{NoRoom};
+ghost use Rattle.dnw_failure.specs.declared.failure.Failure.{Failure};
+ghost use Rattle.dnw_failure.specs.declared.failure.Failure.TheVariants.{NoRoom};
 
-use crate::failure::{Failure, of_decode, of_proto, text_of};
 use dns_names_wire::binary::BinEncodable;
 use dns_names_wire::decoder::BinDecoder;
 use dns_names_wire::encoder::BinEncoder;
 use dns_names_wire::error::DecodeError;
 use dns_names_wire::name::Name;
 use dns_names_wire::name_ref::NameRef;
+use dnw_failure::failure::{Failure, of_decode, of_proto, text_of};
 use std::alloc::Global;
 
 /// A name that was read: the number of bytes that were put, and the offset after the name's own octets.

@@ -4,15 +4,15 @@ ghost use Rattle.dnw_base.specs.Limits.{max_name};
 ghost use Rattle.dnw_base.specs.Names.{lower, wire};
 ghost use Rattle.dnw_order.specs.Order.{labels_cmp, IsZoneOf};
 ghost use Rattle.dnw_c.specs.Buffers.{put};
-ghost use Rattle.dnw_c.specs.Failures.{NumberOf, number};
+ghost use Rattle.dnw_failure.specs.Failures.{NumberOf, number};
 ghost use Rattle.dnw_c.specs.NameCalls.{FailsAsForms, FailsToLower, IsFormOf, IsNoForm, sign};
-ghost use Rattle.dnw_c.specs.declared.failure.Failure.TheVariants.{NoRoom};
+ghost use Rattle.dnw_failure.specs.declared.failure.Failure.TheVariants.{NoRoom};
 
-use crate::failure::{Failure, of_decode};
 use crate::names::{name_at, put_form};
 use dns_names_wire::decoder::BinDecoder;
 use dns_names_wire::name::Name;
 use dns_names_wire::name_ref::NameRef;
+use dnw_failure::failure::{Failure, of_decode};
 use dnw_form::wire_labels::WireLabels;
 use dnw_order::order;
 use std::alloc::Global;

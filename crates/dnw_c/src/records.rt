@@ -2,16 +2,16 @@
 ghost use Rattle.std.specs.Prelude.{◌≡◌, ◌≢◌, ◌<◌, length, IfOk, IfErr, OnErr};
 ghost use Rattle.dnw_base.specs.Limits.{max_name};
 ghost use Rattle.dnw_record.specs.Records.{FailsRecord, RecordAt};
-ghost use Rattle.dnw_c.specs.Failures.{NumberOf, number};
+ghost use Rattle.dnw_failure.specs.Failures.{NumberOf, number};
 ghost use Rattle.dnw_c.specs.RecordCalls.{FailsToReadData, FailsToReadRecord, PutsDataName, PutsRecord, at_offset};
-ghost use Rattle.dnw_c.specs.declared.failure.Failure.TheVariants.{NoRoom};
+ghost use Rattle.dnw_failure.specs.declared.failure.Failure.TheVariants.{NoRoom};
 
-use crate::failure::{Failure, of_decode};
 use crate::names::{name_ref_at, put_name};
 use dns_names_wire::binary::BinDecodable;
 use dns_names_wire::decoder::BinDecoder;
 use dns_names_wire::error::DecodeError;
 use dns_names_wire::record::RecordRef;
+use dnw_failure::failure::{Failure, of_decode};
 use std::alloc::Global;
 
 /// A record that was read: the number of bytes of its owner that were put, its type, class and time to live, the offset and

@@ -2,14 +2,14 @@
 ghost use Rattle.std.specs.Prelude.{◌≡◌, ◌≢◌, List, ℕ, ◌<◌, length, IfOk, IfErr, OnErr};
 ghost use Rattle.dnw_order.specs.SortKeys.{max_sort_key, sort_key};
 ghost use Rattle.dnw_c.specs.Buffers.{put};
-ghost use Rattle.dnw_c.specs.Failures.{NumberOf, number};
+ghost use Rattle.dnw_failure.specs.Failures.{NumberOf, number};
 ghost use Rattle.dnw_c.specs.NameCalls.{IsFormOf};
 ghost use Rattle.dnw_c.specs.SortKeyCalls.{FailsToKey};
-ghost use Rattle.dnw_c.specs.declared.failure.Failure.TheVariants.{NoRoom};
+ghost use Rattle.dnw_failure.specs.declared.failure.Failure.TheVariants.{NoRoom};
 
-use crate::failure::Failure;
 use crate::names::put;
 use crate::order::labels_of;
+use dnw_failure::failure::Failure;
 use dnw_order::sort_key::{self, MAX_SORT_KEY_LENGTH};
 
 /// Puts the sort key of a name, and its length. It does not allocate.

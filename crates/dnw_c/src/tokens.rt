@@ -2,14 +2,14 @@
 ghost use Rattle.std.specs.Prelude.{◌≡◌, ◌≢◌, ◌<◌, ◌≤◌, ◌⊎◌, ◌||◌, ℕ, List, ◌++◌, length, map, drop, IsUtf8, IfOk, IfErr, IfSome, IfNone, OnErr, MatchOption};
 ghost use Rattle.dnw_txt.specs.Lexing.{characters, line_state, token_value};
 ghost use Rattle.dnw_c.specs.Buffers.{put};
-ghost use Rattle.dnw_c.specs.Failures.{NumberOf, number};
+ghost use Rattle.dnw_failure.specs.Failures.{NumberOf, number};
 ghost use Rattle.dnw_c.specs.TokenCalls.{is_decided, Advances, Decides, FailsToLex, FailsToPutToken, FailsToTake, HasError, HasNoToken, IsAtEnd, TakesToken, kind_number, list_bytes, of_lexer, read_token, token_bytes};
 ghost use Rattle.dnw_c.specs.Inside.TokenParts.{FindsIn, settles};
-ghost use Rattle.dnw_c.specs.declared.failure.Failure.TheVariants.{NoMemory, NoRoom, NotUtf8};
+ghost use Rattle.dnw_failure.specs.declared.failure.Failure.TheVariants.{NoMemory, NoRoom, NotUtf8};
 
-use crate::failure::Failure;
 use crate::names::put;
 use dns_names_wire::txt::{Lexer, LexerError, Token};
+use dnw_failure::failure::Failure;
 use std::alloc::{AllocError, Global};
 
 /// Where a lexer is: the offset of the next byte, and `true` if that is the start of a line.

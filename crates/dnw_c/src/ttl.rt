@@ -2,10 +2,10 @@
 ghost use Rattle.std.specs.Prelude.{◌≡◌, ◌≢◌, Some, IfOk, IfErr};
 ghost use Rattle.dnw_txt.specs.Times.{time_seconds};
 ghost use Rattle.dnw_c.specs.CodeCalls.{FailsAsTime};
-ghost use Rattle.dnw_c.specs.Failures.{NumberOf};
+ghost use Rattle.dnw_failure.specs.Failures.{NumberOf};
 
-use crate::failure::Failure;
 use dns_names_wire::txt::parse_ttl;
+use dnw_failure::failure::Failure;
 use std::alloc::Global;
 
 /// Puts the seconds of a time to live.

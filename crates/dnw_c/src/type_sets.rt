@@ -4,11 +4,10 @@ ghost use Rattle.dnw_codes.specs.RecordTypes.{type_code, type_of_code};
 ghost use Rattle.dnw_sets.specs.TypeSets.{Encodes, IsSetOf, bitmap_types, set_codes};
 ghost use Rattle.dnw_sets.specs.SetLaws.{most_types};
 ghost use Rattle.dnw_c.specs.Buffers.{put};
-ghost use Rattle.dnw_c.specs.Failures.{NumberOf, number};
+ghost use Rattle.dnw_failure.specs.Failures.{NumberOf, number};
 ghost use Rattle.dnw_c.specs.TypeLists.{AreListed, FailsToBitmap, FailsToList, IsBitmap, IsBitmapOf, IsNoBitmap};
-ghost use Rattle.dnw_c.specs.declared.failure.Failure.TheVariants.{BadBitmap, NoMemory, NoRoom};
+ghost use Rattle.dnw_failure.specs.declared.failure.Failure.TheVariants.{BadBitmap, NoMemory, NoRoom};
 
-use crate::failure::Failure;
 use crate::names::put;
 use dns_names_wire::decoder::BinDecoder;
 use dns_names_wire::error::DecodeError;
@@ -16,6 +15,7 @@ use dns_names_wire::record_data::RecordDataDecodable;
 use dns_names_wire::record_type::RecordType;
 use dns_names_wire::record_type_set::RecordTypeSet;
 use dns_names_wire::restrict::Restrict;
+use dnw_failure::failure::Failure;
 use std::alloc::{AllocError, Global};
 
 /// Puts the codes that a bitmap lists, in ascending order, and their number.

@@ -5,8 +5,8 @@ use Rattle.dnw_message.specs.declared.error.MessageError.{MessageError}
 use Rattle.dnw_message.specs.declared.error.Section.TheVariants as section
 use Rattle.dnw_message.specs.declared.header.Header.{Header}
 use Rattle.dnw_message.specs.Headers.{header_of, header_size}
-use Rattle.dnw_message.specs.Messages.{FailsFrom, FailsMessage, Item, ItemsAt, MessageAt, Part, PartsAt, Rest, done, next, none, one_more, part, parts_of, query_of, question_rest, record_in, record_rest, rest_of}
-use Rattle.dnw_message.specs.Inside.Kept.{AreLeft, IsKept, items_in, message_in}
+use Rattle.dnw_message.specs.Messages.{FailsFrom, FailsMessage, Item, ItemsAt, MessageAt, Part, PartsAt, Rest, SectionsBegin, done, next, none, one_more, part, parts_of, query_of, question_rest, record_in, record_rest, rest_of}
+use Rattle.dnw_message.specs.Inside.Kept.{AreLeft, EndAt, IsKept, items_in, message_in}
 use Rattle.dnw_message.specs.Inside.Passing.{PassesItems}
 use Rattle.dnw_message.proofs.InTurn.{are-left}
 
@@ -50,11 +50,13 @@ items-within none h = h
 items-within (one_more first more) h = items-within more first.inside
 
 section-left : (rest : Rest) (b : List ℕ) (n : ℕ) (d m : Decoder) (left now : ℕ) → d.bytes ≡ b → (h : PassesItems rest n d m left now)
-    → d.index ≤ length b → (h.items ≡ items_in rest b d.index n) × AreLeft rest b d.index n × (m.bytes ≡ b) × (m.index ≤ length b)
+    → d.index ≤ length b → (h.items ≡ items_in rest b d.index n) × AreLeft rest b d.index n × EndAt rest b d.index n m.index × (m.bytes ≡ b)
+    × (m.index ≤ length b)
 section-left rest b n d m left now is h inside =
     let at = subst (λ b. ItemsAt rest b d.index h.items m.index h.pointers) is h.at in
     let (same, kept) = are-left rest b d.index m.index h.pointers n h.items at h.counted in
-    (same, kept, h.same ∙ is, items-within at inside)
+    let ends = subst (λ xs. ItemsAt rest b d.index xs m.index h.pointers) same at in
+    (same, kept, (h.pointers, ends), h.same ∙ is, items-within at inside)
 
 pub message-passed : (b : List ℕ) (most : ℕ) (h : Header) (d d' d'' d''' end : Decoder) (l l' l'' l''' : ℕ) → header_size ≤ length b
     → h ≡ header_of (slice_range b 0 header_size) → d ≡ record { bytes = b; index = header_size }
@@ -65,10 +67,10 @@ pub message-passed : (b : List ℕ) (most : ℕ) (h : Header) (d d' d'' d''' end
 message-passed b most h d d' d'' d''' end l l' l'' l''' whole is start queries answers authorities additionals =
     let bytes = ap (λ (x : Decoder). x.bytes) start in
     let index = ap (λ (x : Decoder). x.index) start in
-    let (q, q_left, b1, i1) = section-left question_rest b h.counts.queries d d' most l bytes queries (omega (arith, whole, index)) in
-    let (a, a_left, b2, i2) = section-left record_rest b h.counts.answers d' d'' l l' b1 answers i1 in
-    let (n, n_left, b3, i3) = section-left record_rest b h.counts.authorities d'' d''' l' l'' b2 authorities i2 in
-    let (x, x_left, _, i4) = section-left record_rest b h.counts.additionals d''' end l'' l''' b3 additionals i3 in
+    let (q, q_left, q_ends, b1, i1) = section-left question_rest b h.counts.queries d d' most l bytes queries (omega (arith, whole, index)) in
+    let (a, a_left, a_ends, b2, i2) = section-left record_rest b h.counts.answers d' d'' l l' b1 answers i1 in
+    let (n, n_left, n_ends, b3, i3) = section-left record_rest b h.counts.authorities d'' d''' l' l'' b2 authorities i2 in
+    let (x, x_left, x_ends, _, i4) = section-left record_rest b h.counts.additionals d''' end l'' l''' b3 additionals i3 in
     let last = parts-on b (part section.Additionals h.counts.additionals) [] [] d''' end l'' l''' end.index 0 b3 additionals done in
     let third = parts-on b (part section.Authorities h.counts.authorities) _ _ d'' d''' l' l'' end.index _ b2 authorities last in
     let second = parts-on b (part section.Answers h.counts.answers) _ _ d' d'' l l' end.index _ b1 answers third in
@@ -97,9 +99,21 @@ message-passed b most h d d' d'' d''' end l l' l'' l''' whole is start queries a
         answers_left = a_left;
         authorities_left = n_left;
         additionals_left = x_left;
+        in_turn = (subst (λ p. EndAt question_rest b p h.counts.queries d'.index) index q_ends, a_ends, n_ends, x_ends);
         within = i4;
         starts = (whole, i1, i2, i3);
       },
+    )
+
+-- the sections of a message that is kept
+pub sections-begin : (b : List ℕ) (h : Header) (answers authorities additionals end : ℕ) → IsKept b h answers authorities additionals end
+    → SectionsBegin (message_in b h answers authorities additionals end) (record { answers = answers; authorities = authorities; additionals = additionals })
+sections-begin b h answers authorities additionals end kept =
+    let (q, a, n, x) = kept.in_turn in (
+      (items_in question_rest b header_size h.counts.queries, q.0, q.1, refl),
+      (items_in record_rest b answers h.counts.answers, a.0, a.1, refl),
+      (items_in record_rest b authorities h.counts.authorities, n.0, n.1, refl),
+      (items_in record_rest b additionals h.counts.additionals, x.0, x.1, refl),
     )
 
 -- the sections after a header fail

@@ -41,19 +41,22 @@ HasOptions d = (xs : List OptionValue) × OptionsAre d xs
 -- ---- OPT records
 
 -- What an OPT record says: the size of the messages that its sender accepts, the high bits of the response code, the
--- version, whether DNSSEC records are wanted, and the options (section 6.1.3).
+-- version, whether DNSSEC records are wanted, where the octets of the options are in the message and how many, and the
+-- options (section 6.1.3).
 pub record EdnsValue : Type 0 where
   pub max_payload : ℕ
   pub rcode_high : ℕ
   pub version : ℕ
   pub dnssec_ok : Bool
+  pub start : ℕ
+  pub len : ℕ
   pub options : List OptionValue
 
 -- A size below 512 is taken as 512 (section 6.2.3).
 abbrev pub IsEdns : RecordValue → EdnsValue → Type 0
 IsEdns r e =
     (r.owner ≡ []) × (e.max_payload ≡ max (class_code r.class) min_payload) × (e.rcode_high ≡ r.ttl / 2 ^ 24) × (e.version ≡ r.ttl / 2 ^ 16 % 256)
-    × (e.dnssec_ok ≡ (bit_at r.ttl 15 == 1)) × OptionsAre (data_octets r) e.options
+    × (e.dnssec_ok ≡ (bit_at r.ttl 15 == 1)) × (e.start ≡ r.start) × (e.len ≡ r.len) × OptionsAre (data_octets r) e.options
 
 -- The record is not owned by the root, or its data are no options.
 abbrev pub FailsOpt : RecordValue → EdnsError → Type 0

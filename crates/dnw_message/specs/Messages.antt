@@ -10,6 +10,7 @@ use Rattle.dnw_reading.specs.Reading.{FaultAt, NameAt}
 use Rattle.dnw_record.specs.Records.{RecordValue, fields_at, fixed_size, length_field, number_at, record_of}
 use Rattle.dnw_message.specs.Headers.{header_of, header_size}
 use Rattle.dnw_message.specs.declared.header.Header.{Header}
+use Rattle.dnw_message.specs.declared.message.SectionOffsets.{SectionOffsets}
 use Rattle.dnw_message.specs.declared.error.MessageError.{MessageError}
 use Rattle.dnw_message.specs.declared.error.MessageErrorKind.{MessageErrorKind}
 use Rattle.dnw_message.specs.declared.error.MessageErrorKind.TheVariants.{Decode, TooManyPointers}
@@ -122,6 +123,19 @@ pub record MessageAt (b : List ℕ) (m : MessageValue) (k : ℕ) : Type 0 where
   pub answers_are : m.answers ≡ map (record_in b) answers
   pub authorities_are : m.authorities ≡ map (record_in b) authorities
   pub additionals_are : m.additionals ≡ map (record_in b) additionals
+
+-- Items with these values go from p to e.
+abbrev pub SectionAt : {A : Type 0} → Rest → (List ℕ → Item → A) → List ℕ → ℕ → List A → ℕ → Type 0
+SectionAt rest of b p values e = (xs : List Item) × (k : ℕ) × ItemsAt rest b p xs e k × (values ≡ map (of b) xs)
+
+-- The records of a message begin at these offsets, each section where the one before ends: the answers after the questions,
+-- which come after the header.
+abbrev pub SectionsBegin : MessageValue → SectionOffsets → Type 0
+SectionsBegin m offsets =
+    SectionAt question_rest query_of m.octets header_size m.queries offsets.answers
+    × SectionAt record_rest record_in m.octets offsets.answers m.answers offsets.authorities
+    × SectionAt record_rest record_in m.octets offsets.authorities m.authorities offsets.additionals
+    × SectionAt record_rest record_in m.octets offsets.additionals m.additionals m.end
 
 -- ---- errors
 

@@ -36,10 +36,12 @@ pub struct EdnsRef<'m> {
     rcode_high: u8,
     version: u8,
     dnssec_ok: bool,
+    start: usize,
     options: &'m [u8],
 }
 
 impl<'m> Model for EdnsRef<'m> {
+    ghost use Rattle.std.specs.Prelude.{length};
     ghost use Rattle.dnw_message.specs.Edns.{EdnsValue, HasOptions};
     ghost use Rattle.dnw_message.specs.Inside.Options.{options_of};
 
@@ -50,6 +52,8 @@ impl<'m> Model for EdnsRef<'m> {
       rcode_high = e.rcode_high;
       version = e.version;
       dnssec_ok = e.dnssec_ok;
+      start = e.start;
+      len = length e.options.now;
       options = options_of e.options.now;
     } };
 
@@ -77,6 +81,7 @@ impl<'m> EdnsRef<'m> {
             rcode_high: (ttl >> 24) as u8,
             version: ((ttl >> 16) % 256) as u8,
             dnssec_ok: (ttl >> 15) % 2 == 1,
+            start: opt.rdata_offset(),
             options,
         })
     }
@@ -111,6 +116,22 @@ impl<'m> EdnsRef<'m> {
         ensures { result ≡ self.now.dnssec_ok }
     {
         self.dnssec_ok
+    }
+
+    /// Returns the offset at which the octets of the options begin in the message.
+    #[inline(always)]
+    pub fn options_offset(&self) -> usize
+        ensures { result ≡ self.now.start }
+    {
+        self.start
+    }
+
+    /// Returns the number of octets of all options.
+    #[inline(always)]
+    pub fn options_len(&self) -> usize
+        ensures { result ≡ self.now.len }
+    {
+        self.options.len()
     }
 
     /// Returns the options, one after another.

@@ -2,7 +2,7 @@
 ghost use Rattle.std.specs.Prelude.{◌≡◌, ℕ, ◌<◌, ◌≤◌, length, drop, slice_range, IfOk, IfErr};
 ghost use Rattle.dnw_message.specs.Headers.{header_of, header_size};
 ghost use Rattle.dnw_message.specs.Edns.{FailsEdns, HasEdns, IsResponseCode};
-ghost use Rattle.dnw_message.specs.Messages.{MessageAt, FailsMessage, no_header};
+ghost use Rattle.dnw_message.specs.Messages.{MessageAt, FailsMessage, SectionsBegin, no_header};
 
 use crate::edns::{EdnsError, EdnsRef, next_opt};
 use crate::error::{MessageError, MessageErrorKind, Section};
@@ -16,6 +16,17 @@ use std::marker::Model;
 
 /// How many pointers the names of a message may follow in all, if no other number is given.
 const MAX_POINTERS: usize = 65536;
+
+/// The offsets at which the sections of records of a message begin. The questions begin after the header, at `Header::LEN`.
+#[derive(Debug, Clone, Copy, PartialEq, Eq)]
+pub struct SectionOffsets {
+    /// The offset at which the questions end and the answers begin.
+    pub answers: usize,
+    /// The offset at which the answers end and the authorities begin.
+    pub authorities: usize,
+    /// The offset at which the authorities end and the additional records begin.
+    pub additionals: usize,
+}
 
 /// A message (RFC 1035, section 4). It borrows all from the octets that it was read from, and nothing here allocates.
 ///
@@ -173,6 +184,18 @@ impl<'m> MessageRef<'m> {
         };
         let low = u16::from(self.header.metadata.response_code) % 16;
         Ok(ResponseCode::from(low + (u16::from(high) << 4)))
+    }
+
+    /// Returns the offsets at which the sections begin. An empty section begins where the next one does.
+    #[inline(always)]
+    pub fn section_offsets(&self) -> SectionOffsets
+        ensures { SectionsBegin self.now result }
+    {
+        SectionOffsets {
+            answers: self.answers,
+            authorities: self.authorities,
+            additionals: self.additionals,
+        }
     }
 
     /// Returns the offset at which the message ends.

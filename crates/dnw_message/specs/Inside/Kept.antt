@@ -36,6 +36,10 @@ pub record AreLeft (rest : Rest) (b : List ℕ) (p n : ℕ) : Type 0 where
   pub pointers : ℕ
   pub items : ItemsAt rest b p (items_in rest b p n) end pointers
 
+-- and they end at e
+abbrev pub EndAt : Rest → List ℕ → ℕ → ℕ → ℕ → Type 0
+EndAt rest b p n e = (k : ℕ) × ItemsAt rest b p (items_in rest b p n) e k
+
 abbrev pub queries_in : List ℕ → ℕ → ℕ → List QueryValue
 queries_in b p n = map (query_of b) (items_in question_rest b p n)
 
@@ -54,11 +58,13 @@ message_in b h answers authorities additionals end = record {
   end = end;
 }
 
--- Each section of a message is left from its start on.
+-- Each section of a message is left from its start on, and ends where the next one begins.
 pub record IsKept (b : List ℕ) (h : Header) (answers authorities additionals end : ℕ) : Type 0 where
   pub queries : AreLeft question_rest b header_size h.counts.queries
   pub answers_left : AreLeft record_rest b answers h.counts.answers
   pub authorities_left : AreLeft record_rest b authorities h.counts.authorities
   pub additionals_left : AreLeft record_rest b additionals h.counts.additionals
+  pub in_turn : EndAt question_rest b header_size h.counts.queries answers × EndAt record_rest b answers h.counts.answers authorities
+      × EndAt record_rest b authorities h.counts.authorities additionals × EndAt record_rest b additionals h.counts.additionals end
   pub within : end ≤ length b
   pub starts : (header_size ≤ length b) × (answers ≤ length b) × (authorities ≤ length b) × (additionals ≤ length b)

@@ -108,6 +108,14 @@ impl<'r> RecordRef<'r> {
         &self.message[self.start..self.start + self.len as usize]
     }
 
+    /// Returns the offset at which the data begin in the message.
+    #[inline(always)]
+    pub fn rdata_offset(&self) -> usize
+        ensures { result ≡ self.now.start }
+    {
+        self.start
+    }
+
     /// Returns the number of octets of the data.
     #[inline(always)]
     pub(super) fn rdata_len(&self) -> u16

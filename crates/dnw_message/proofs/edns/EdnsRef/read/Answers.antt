@@ -12,5 +12,7 @@ returns-clause-ok c =
       ap (λ n. n / 2 ^ 24) ttl,
       ap (λ n. n / 2 ^ 16 % 256) ttl,
       ap (λ n. bit_at n 15 == 1) ttl,
+      c.rdata_offset.ensures,
+      c.rdata-options.ensures.len,
       options-there c.rdata-options.result.now _ c.rdata-options.ensures.octets (c.are_options.ensures.0 c.if-not-are_options.false),
     )

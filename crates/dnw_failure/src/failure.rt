@@ -1,9 +1,9 @@
 //! Why a call fails.
 ghost use Rattle.std.specs.Prelude.{◌≡◌, ◌≢◌, ◌≤◌, length, IfSome, IfNone};
-ghost use Rattle.dnw_c.specs.declared.failure.Failure.{Failure};
-ghost use Rattle.dnw_c.specs.Failures.{HasText, number, failure_text, of_decode, of_proto};
+ghost use Rattle.dnw_failure.specs.declared.failure.Failure.{Failure};
+ghost use Rattle.dnw_failure.specs.Failures.{HasText, number, failure_text, of_decode, of_proto};
 
-use dns_names_wire::error::{DecodeError, ProtoError};
+use dnw_error::error::{DecodeError, ProtoError};
 
 /// Why a call fails. In the header each has its number, from 1 on in this order.
 #[derive(Clone, Copy)]
@@ -66,6 +66,16 @@ pub enum Failure {
     EmptyLabel,
     /// An escape of a text has a number that is no octal digit.
     BadEscape,
+    /// The names of a message follow more pointers than the caller allows.
+    TooManyPointers,
+    /// A message has more than one `OPT` record.
+    DuplicateEdns,
+    /// An `OPT` record is not owned by the root.
+    OwnerNotRoot,
+    /// An option of an `OPT` record is not all there.
+    CutOption,
+    /// Service parameters are not in ascending order.
+    BadParams,
 }
 
 /// The table of the failures: each with its number in C and a text about it. The rule that is named gets the rows, after
@@ -102,6 +112,11 @@ macro_rules! failures {
             BadItem = 27, "an item of the list is malformed";
             EmptyLabel = 28, "a label of the text is empty";
             BadEscape = 29, "an escape of the text has a number that is no octal digit";
+            TooManyPointers = 30, "the names follow more pointers than the caller allows";
+            DuplicateEdns = 31, "the message has more than one OPT record";
+            OwnerNotRoot = 32, "the OPT record is not owned by the root";
+            CutOption = 33, "an option of the OPT record is cut";
+            BadParams = 34, "the service parameters are not in ascending order";
         }
     };
 }
@@ -148,7 +163,7 @@ impl Failure {
     }
 }
 
-/// Returns why a name of a message is rejected.
+/// Returns why a name or a field of a message is rejected.
 pub fn of_decode(error: &DecodeError) -> Failure
     ensures { result ≡ of_decode error.now }
 {
@@ -160,6 +175,9 @@ pub fn of_decode(error: &DecodeError) -> Failure
         DecodeError::DomainNameTooLong(_) => Failure::NameTooLong,
         DecodeError::LabelBytesTooLong(_) => Failure::LabelTooLong,
         DecodeError::Memory => Failure::NoMemory,
+        DecodeError::IncorrectRDataLengthRead { read: _, len: _ } => Failure::WrongDataLength,
+        DecodeError::NsecBitmapOutOfBounds => Failure::BadBitmap,
+        DecodeError::SvcParamsOutOfOrder => Failure::BadParams,
         _ => Failure::Other,
     }
 }

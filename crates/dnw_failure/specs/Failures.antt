@@ -5,13 +5,14 @@ use Rattle.dnw_error.specs.declared.error.DecodeError.TheVariants.{InsufficientB
 use Rattle.dnw_error.specs.declared.error.DecodeError.TheVariants.{UnrecognizedLabelCode, Memory}
 use Rattle.dnw_error.specs.declared.error.DecodeError.TheVariants.{LabelOverlapsWithOther}
 use Rattle.dnw_error.specs.declared.error.DecodeError.TheVariants.{DomainNameTooLong, LabelBytesTooLong}
+use Rattle.dnw_error.specs.declared.error.DecodeError.TheVariants.{IncorrectRDataLengthRead, NsecBitmapOutOfBounds, SvcParamsOutOfOrder}
 use Rattle.dnw_error.specs.declared.error.ProtoError.{ProtoError}
 use Rattle.dnw_error.specs.declared.error.ProtoError.TheVariants.{Decode, Message}
 use Rattle.dnw_error.specs.declared.error.ProtoError.TheVariants.{Msg, MaxBufferSizeExceeded, Memory as ProtoMemory}
 use Rattle.dnw_error.specs.Fault.{Fault, LabelTooLong as TextLabelTooLong, NameTooLong as TextNameTooLong}
 use Rattle.dnw_codes.specs.Entries.{Entry, entry}
-use Rattle.dnw_c.specs.declared.failure.Failure.{Failure}
-use Rattle.dnw_c.specs.declared.failure.Failure.TheVariants as why
+use Rattle.dnw_failure.specs.declared.failure.Failure.{Failure}
+use Rattle.dnw_failure.specs.declared.failure.Failure.TheVariants as why
 
 -- the table of the failures: the number in C, and a text for people
 abbrev pub failure_entry : Failure → Entry
@@ -44,6 +45,11 @@ failure_entry why.NotReverse = entry 26 (codes "the name is no reverse name of a
 failure_entry why.BadItem = entry 27 (codes "an item of the list is malformed")
 failure_entry why.EmptyLabel = entry 28 (codes "a label of the text is empty")
 failure_entry why.BadEscape = entry 29 (codes "an escape of the text has a number that is no octal digit")
+failure_entry why.TooManyPointers = entry 30 (codes "the names follow more pointers than the caller allows")
+failure_entry why.DuplicateEdns = entry 31 (codes "the message has more than one OPT record")
+failure_entry why.OwnerNotRoot = entry 32 (codes "the OPT record is not owned by the root")
+failure_entry why.CutOption = entry 33 (codes "an option of the OPT record is cut")
+failure_entry why.BadParams = entry 34 (codes "the service parameters are not in ascending order")
 
 abbrev pub number : Failure → ℕ
 number failure = (failure_entry failure).code
@@ -62,7 +68,7 @@ HasText code text =
     ⊎ ((failure : Failure) × (code ≡ number failure) × (text ≡ failure_text failure))
     ⊎ ((code ≢ 0) × ((failure : Failure) → number failure ≢ code) × (text ≡ []))
 
--- why a name of a message is rejected
+-- why a name or a field of a message is rejected
 abbrev pub of_decode : DecodeError → Failure
 of_decode InsufficientBytes = why.MessageCut
 of_decode (PointerNotPriorToLabel idx ptr) = why.PointerNotBack
@@ -71,6 +77,9 @@ of_decode (LabelOverlapsWithOther label other) = why.SegmentsOverlap
 of_decode (DomainNameTooLong size) = why.NameTooLong
 of_decode (LabelBytesTooLong size) = why.LabelTooLong
 of_decode Memory = why.NoMemory
+of_decode (IncorrectRDataLengthRead read len) = why.WrongDataLength
+of_decode NsecBitmapOutOfBounds = why.BadBitmap
+of_decode SvcParamsOutOfOrder = why.BadParams
 of_decode error = why.Other
 
 -- why a text is rejected or a write fails

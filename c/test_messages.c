@@ -1,0 +1,174 @@
+/* Calls each function of dns_names_wire.h that reads whole messages with good and with bad input. It prints nothing if all is
+   well, and exits with 1 at the first result that is not the expected one. Expected values are worked by hand from RFC 1035,
+   section 4.1, and RFC 6891, section 6.1. */
+#include "dns_names_wire.h"
+#include "expect.h"
+
+/* A referral with glue: www.example.com has to be asked for at ns.example.com. The question begins at offset 12, the authority
+   at 33, the glue at 50, and an OPT record of 1232 octets, DO, the response code's high bits 1 and a cookie at 66. */
+#define COUNTS "\000\001\000\000\000\001\000\002"
+#define WWW "\003www\007example\003com\000"
+#define TTL "\000\002\243\000"
+#define NS "\300\020\000\002\000\001" TTL "\000\005\002ns\300\020"
+#define GLUE "\300\055\000\001\000\001" TTL "\000\004\300\000\002\001"
+#define OPT "\000\000\051\004\320\001\000\200\000\000\006\000\012\000\002\253\315"
+
+static const char referral[] = "\022\064\205\247" COUNTS WWW "\000\001\000\001" NS GLUE OPT;
+
+static const struct dnw_message no_message = {.id = 7, .end = 7};
+static const struct dnw_message_fault no_fault = {7, 7, 7};
+
+/* Reads a message. What is not written is unchanged. */
+static uint32_t read_message(const uint8_t *octets, size_t len, size_t most, struct dnw_message *read,
+                             struct dnw_message_fault *fault)
+{
+    *read = no_message;
+    *fault = no_fault;
+    uint32_t answer = dnw_message_read(octets, len, most, read, fault);
+    if (answer == DNW_DONE)
+        EXPECT(fault->section == 7 && fault->item == 7 && fault->offset == 7);
+    else
+        EXPECT(memcmp(read, &no_message, sizeof *read) == 0);
+    return answer;
+}
+
+static void reads_messages(void)
+{
+    struct dnw_message read;
+    struct dnw_message_fault fault;
+    EXPECT(sizeof referral - 1 == 83);
+    EXPECT(read_message(BYTES(referral), DNW_MAX_POINTERS, &read, &fault) == DNW_DONE);
+    EXPECT(read.id == 0x1234 && read.is_response && read.op_code == 0 && read.authoritative && !read.truncation);
+    EXPECT(read.recursion_desired && read.recursion_available && read.authentic_data && !read.checking_disabled);
+    EXPECT(read.response_code == 7 && read.question_count == 1 && read.answer_count == 0);
+    EXPECT(read.authority_count == 1 && read.additional_count == 2);
+    EXPECT(read.answers == 33 && read.authorities == 33 && read.additionals == 50 && read.end == 83);
+    EXPECT(read_message(BYTES("\000\000\052\020\000\000\000\000\000\000\000\000more"), 0, &read, &fault) == DNW_DONE);
+    EXPECT(!read.is_response && read.op_code == 5 && read.truncation && read.checking_disabled && read.end == 12);
+    EXPECT(read.answers == 12 && read.authorities == 12 && read.additionals == 12);
+}
+
+static void refuses_messages(void)
+{
+    struct dnw_message read;
+    struct dnw_message_fault fault;
+    const uint8_t *octets = (const uint8_t *)referral;
+    const size_t starts[] = {0, 12, 33, 50, 66};
+    const uint32_t sections[] = {DNW_SECTION_HEADER, DNW_SECTION_QUESTIONS, DNW_SECTION_AUTHORITIES, DNW_SECTION_ADDITIONALS,
+                                 DNW_SECTION_ADDITIONALS};
+    size_t at = 0;
+    for (size_t len = 0; len < 83; len++) {
+        at += at < 4 && len == starts[at + 1];
+        EXPECT(read_message(octets, len, DNW_MAX_POINTERS, &read, &fault) == DNW_MESSAGE_CUT);
+        EXPECT(fault.section == sections[at] && fault.item == (at == 4) && fault.offset == starts[at]);
+    }
+    /* the owner of the glue follows two pointers */
+    EXPECT(read_message(BYTES(referral), 3, &read, &fault) == DNW_DONE);
+    EXPECT(read_message(BYTES(referral), 2, &read, &fault) == DNW_TOO_MANY_POINTERS);
+    EXPECT(fault.section == DNW_SECTION_ADDITIONALS && fault.item == 0 && fault.offset == 50);
+    EXPECT(read_message(BYTES("\000\000\000\000\000\001\000\000\000\000\000\000\100"), 9, &read, &fault) == DNW_RESERVED_OCTET);
+    EXPECT(read_message(BYTES("\000\000\000\000\000\001\000\000\000\000\000\000\300\014"), 9, &read, &fault) ==
+           DNW_POINTER_NOT_BACK);
+    EXPECT(fault.section == DNW_SECTION_QUESTIONS && fault.item == 0 && fault.offset == 12);
+    /* octets of 255, but for some names further on */
+    make_message();
+    EXPECT(read_message(message, sizeof message, 9, &read, &fault) == DNW_POINTER_NOT_BACK && fault.offset == 12);
+}
+
+#define NO_EDNS "\000\000\200\003\000\000\000\000\000\000\000\000"
+#define ONE_MORE(count) "\000\000\200\003\000\000\000\000\000\000\000" count
+#define EMPTY_OPT(owner) owner "\000\051\001\000\000\000\000\000\000\000"
+
+static void reads_edns(void)
+{
+    struct dnw_edns edns = {.version = 7, .options_len = 7};
+    EXPECT(dnw_edns_read(BYTES(referral), 3, &edns) == DNW_DONE);
+    EXPECT(edns.is_present && edns.dnssec_ok && edns.version == 0 && edns.max_payload == 1232);
+    EXPECT(edns.response_code == 23 && edns.options_offset == 77 && edns.options_len == 6);
+    EXPECT(dnw_edns_read(BYTES(ONE_MORE("\001") EMPTY_OPT("\000")), 0, &edns) == DNW_DONE);
+    EXPECT(edns.is_present && !edns.dnssec_ok && edns.max_payload == 512 && edns.response_code == 3);
+    EXPECT(edns.options_offset == 23 && edns.options_len == 0);
+    EXPECT(dnw_edns_read(BYTES(referral), 2, &edns) == DNW_TOO_MANY_POINTERS);
+    EXPECT(dnw_edns_read(BYTES(ONE_MORE("\002") EMPTY_OPT("\000")), 0, &edns) == DNW_MESSAGE_CUT);
+    EXPECT(dnw_edns_read(BYTES(ONE_MORE("\002") EMPTY_OPT("\000") EMPTY_OPT("\000")), 0, &edns) == DNW_DUPLICATE_EDNS);
+    EXPECT(dnw_edns_read(BYTES(ONE_MORE("\001") EMPTY_OPT("\001a\000")), 0, &edns) == DNW_OWNER_NOT_ROOT);
+    EXPECT(dnw_edns_read(BYTES(ONE_MORE("\001") "\000\000\051\001\000\000\000\000\000\000\004\000\003\000\001"), 0, &edns) ==
+           DNW_CUT_OPTION);
+    EXPECT(edns.is_present && edns.options_offset == 23);
+    EXPECT(dnw_edns_read(BYTES(NO_EDNS), 0, &edns) == DNW_DONE && !edns.is_present && !edns.dnssec_ok);
+    EXPECT(edns.version == 0 && edns.max_payload == 512 && edns.response_code == 3);
+    EXPECT(edns.options_offset == 0 && edns.options_len == 0);
+}
+
+/* Reads the next field of data. If that fails, what would be written is unchanged. */
+static uint32_t next_field(const uint8_t *octets, size_t len, uint16_t type, struct dnw_fields *fields, struct dnw_field *field)
+{
+    const struct dnw_fields before = *fields;
+    *field = (struct dnw_field){7, 7, 7};
+    uint32_t answer = dnw_field_next(octets, len, type, fields, field);
+    if (answer != DNW_DONE) {
+        EXPECT(fields->offset == before.offset && fields->number == before.number);
+        EXPECT(field->kind == 7 && field->offset == 7 && field->len == 7);
+    }
+    return answer;
+}
+
+static bool is_field(const struct dnw_field *field, uint32_t kind, size_t offset, size_t len)
+{
+    return field->kind == kind && field->offset == offset && field->len == len;
+}
+
+static void reads_fields(void)
+{
+    /* a name, and the data of an MX, which lead to it: MX 10 b.a. */
+    static const char mx[] = "\001a\000\000\012\001b\300\000";
+    struct dnw_fields fields = {3, 0};
+    struct dnw_field field;
+    EXPECT(next_field(BYTES(mx), DNW_TYPE_MX, &fields, &field) == DNW_DONE && is_field(&field, DNW_FIELD_NUMBER, 3, 2));
+    EXPECT(next_field(BYTES(mx), DNW_TYPE_MX, &fields, &field) == DNW_DONE && is_field(&field, DNW_FIELD_NAME, 5, 4));
+    EXPECT(next_field(BYTES(mx), DNW_TYPE_MX, &fields, &field) == DNW_DONE && is_field(&field, DNW_FIELD_END, 9, 0));
+    EXPECT(fields.offset == 9 && fields.number == 2);
+    /* NSEC3PARAM 1 0 12 AABB */
+    fields = (struct dnw_fields){0, 0};
+    for (int i = 0; i < 4; i++)
+        EXPECT(next_field(BYTES("\001\000\000\014\002\252\273"), DNW_TYPE_NSEC3PARAM, &fields, &field) == DNW_DONE);
+    EXPECT(is_field(&field, DNW_FIELD_OCTETS, 5, 2) && fields.offset == 7);
+    /* a type without fields */
+    fields = (struct dnw_fields){1, 0};
+    EXPECT(next_field(BYTES("abc"), 65280, &fields, &field) == DNW_DONE && is_field(&field, DNW_FIELD_OCTETS, 1, 2));
+}
+
+static uint32_t first_field(const uint8_t *octets, size_t len, uint16_t type, size_t offset)
+{
+    struct dnw_fields fields = {offset, 0};
+    struct dnw_field field;
+    return next_field(octets, len, type, &fields, &field);
+}
+
+static void refuses_fields(void)
+{
+    struct dnw_fields past = {4, SIZE_MAX};
+    struct dnw_field field;
+    EXPECT(first_field(BYTES("\300\000\002"), DNW_TYPE_A, 0) == DNW_MESSAGE_CUT);
+    EXPECT(first_field(BYTES("\300\000\002"), DNW_TYPE_A, 4) == DNW_MESSAGE_CUT);
+    EXPECT(first_field(BYTES(""), DNW_TYPE_A, SIZE_MAX) == DNW_MESSAGE_CUT);
+    EXPECT(first_field(BYTES("\100"), DNW_TYPE_NS, 0) == DNW_RESERVED_OCTET);
+    EXPECT(first_field(BYTES(""), DNW_TYPE_TXT, 0) == DNW_MESSAGE_CUT);
+    EXPECT(first_field(BYTES("\002a"), DNW_TYPE_HINFO, 0) == DNW_MESSAGE_CUT);
+    EXPECT(next_field(BYTES("\000\000\000\000\000"), DNW_TYPE_A, &past, &field) == DNW_WRONG_DATA_LENGTH);
+    EXPECT(next_field(BYTES("\000\000\000\000"), DNW_TYPE_A, &past, &field) == DNW_DONE && field.kind == DNW_FIELD_END);
+    past = (struct dnw_fields){1, 1};
+    EXPECT(next_field(BYTES("\000\000\000"), DNW_TYPE_NSEC, &past, &field) == DNW_BAD_BITMAP);
+    past = (struct dnw_fields){3, 2};
+    EXPECT(next_field(BYTES("\000\001\000\000\003\000\000\000\001\000\000"), DNW_TYPE_SVCB, &past, &field) == DNW_BAD_PARAMS);
+}
+
+int main(void)
+{
+    reads_messages();
+    refuses_messages();
+    reads_edns();
+    reads_fields();
+    refuses_fields();
+    return 0;
+}

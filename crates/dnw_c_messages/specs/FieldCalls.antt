@@ -1,0 +1,84 @@
+-- What the functions for C put of the fields of the data of a record, and why there is no next one.
+use Rattle.std.specs.Prelude.{◌≡◌, ◌<◌, ◌≤◌, ◌⊎◌, ℕ, ◌+◌, ◌-◌, Option, Some, None, List, length, slice_get}
+use Rattle.dnw_base.specs.Decoder.{Decoder}
+use Rattle.dnw_data.specs.Fields.{FailsField, TakesField}
+use Rattle.dnw_data.specs.Table.{fields_of}
+use Rattle.dnw_data.specs.Values.{FieldValue}
+use Rattle.dnw_data.specs.declared.kind.Kind.{Kind}
+use Rattle.dnw_data.specs.declared.kind.Kind.TheVariants as kinds
+use Rattle.dnw_data.specs.declared.kind.ListKind.TheVariants as lists
+use Rattle.dnw_data.specs.declared.kind.Shown.TheVariants.{Text}
+use Rattle.dnw_error.specs.declared.error.DecodeError.{DecodeError}
+use Rattle.dnw_failure.specs.Failures.{of_decode}
+use Rattle.dnw_failure.specs.declared.failure.Failure.{Failure}
+use Rattle.dnw_failure.specs.declared.failure.Failure.TheVariants.{MessageCut, WrongDataLength}
+use Rattle.dnw_c_messages.specs.declared.fields.FieldCursor.{FieldCursor}
+use Rattle.dnw_c_messages.specs.declared.fields.ReadField.{ReadField}
+
+-- The number of a kind. The end of the data has 0.
+abbrev pub field_kind : Kind → ℕ
+field_kind (kinds.Name form) = 1
+field_kind kinds.U8 = 2
+field_kind kinds.U16 = 2
+field_kind kinds.U32 = 2
+field_kind kinds.U48 = 2
+field_kind kinds.U64 = 2
+field_kind kinds.Ipv4 = 3
+field_kind kinds.Ipv6 = 4
+field_kind kinds.TypeCode = 5
+field_kind kinds.Time = 6
+field_kind (kinds.Counted Text) = 7
+field_kind (kinds.Octets Text) = 7
+field_kind (kinds.Counted shown) = 8
+field_kind (kinds.Octets shown) = 8
+field_kind (kinds.List lists.Texts) = 9
+field_kind (kinds.List lists.Types) = 10
+field_kind (kinds.List lists.Params) = 11
+
+-- how many octets of a field are before its value: the length octet of octets that are counted
+abbrev pub head_of : Kind → ℕ
+head_of (kinds.Counted shown) = 1
+head_of kind = 0
+
+-- what C learns of a field that goes from p to e
+abbrev pub read_field : Kind → ℕ → ℕ → ReadField
+read_field kind p e = record { kind = field_kind kind; offset = p + head_of kind; len = e - (p + head_of kind) }
+
+abbrev pub decoder_at : List ℕ → ℕ → Decoder
+decoder_at octets p = record { bytes = octets; index = p }
+
+-- A field of this kind is at the cursor, and the cursor is after it now.
+abbrev pub TakesAs : Kind → List ℕ → FieldCursor → FieldCursor → ReadField → Type 0
+TakesAs kind octets before after field =
+    (value : FieldValue) × TakesField kind (decoder_at octets before.offset) value (decoder_at octets after.offset)
+    × (after.number ≡ before.number + 1) × (field ≡ read_field kind before.offset after.offset)
+
+-- There is none.
+abbrev pub FailsToTake : Kind → List ℕ → ℕ → Failure → Type 0
+FailsToTake kind octets p failure = (error : DecodeError) × FailsField kind (decoder_at octets p) error × (failure ≡ of_decode error)
+
+-- A field of this kind is at the cursor; without a kind there are no more, and the data end there.
+abbrev pub TakesNext : Option Kind → List ℕ → FieldCursor → FieldCursor → ReadField → Type 0
+TakesNext None octets before after field =
+    (before.offset ≡ length octets) × (after ≡ before) × (field ≡ record { kind = 0; offset = before.offset; len = 0 })
+TakesNext (Some kind) octets before after field = TakesAs kind octets before after field
+
+-- It is not; without a kind, octets are left.
+abbrev pub FailsNext : Option Kind → List ℕ → ℕ → Failure → Type 0
+FailsNext None octets p failure = (p < length octets) × (failure ≡ WrongDataLength)
+FailsNext (Some kind) octets p failure = FailsToTake kind octets p failure
+
+-- the kind of the field with this number of the type with this code
+abbrev pub kind_at : ℕ → ℕ → Option Kind
+kind_at code number = slice_get (fields_of code) number
+
+-- The next field of data of the type with this code, which end where the octets do, is put, or there are no more.
+abbrev pub PutsField : List ℕ → ℕ → FieldCursor → FieldCursor → ReadField → Type 0
+PutsField octets code before after field =
+    (before.offset ≤ length octets) × TakesNext (kind_at code before.number) octets before after field
+
+-- The cursor is past the octets, or no such field is there.
+abbrev pub FailsToReadField : List ℕ → ℕ → FieldCursor → Failure → Type 0
+FailsToReadField octets code at failure =
+    ((length octets < at.offset) × (failure ≡ MessageCut))
+    ⊎ ((at.offset ≤ length octets) × FailsNext (kind_at code at.number) octets at.offset failure)

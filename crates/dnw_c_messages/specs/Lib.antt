@@ -1,0 +1,3 @@
+pub mod EdnsCalls
+pub mod FieldCalls
+pub mod MessageCalls

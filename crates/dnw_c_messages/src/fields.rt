@@ -1,0 +1,132 @@
+//! The fields of the data of records, of which the caller keeps an offset and a number.
+ghost use Rattle.std.specs.Prelude.{◌≡◌, ◌≢◌, ◌≤◌, ◌+◌, ◌-◌, ◌^◌, length, IfOk, IfErr};
+ghost use Rattle.dnw_failure.specs.Failures.{NumberOf};
+ghost use Rattle.dnw_c_messages.specs.FieldCalls.{FailsToReadField, FailsToTake, PutsField, TakesAs, field_kind, head_of};
+
+use dnw_base::decoder::BinDecoder;
+use dnw_codes::record_type::RecordType;
+use dnw_data::field::Field;
+use dnw_data::kind::{Kind, ListKind, Shown};
+use dnw_data::table::fields_of;
+use dnw_failure::failure::{Failure, of_decode};
+
+/// Where the next field of the data of a record is: its offset in the message, and the number of the fields before it.
+#[repr(C)]
+#[derive(Clone, Copy)]
+pub struct FieldCursor {
+    pub offset: usize,
+    pub number: usize,
+}
+
+/// A field: its kind, and the offset and number of its octets.
+#[repr(C)]
+#[derive(Clone, Copy)]
+pub struct ReadField {
+    pub kind: u32,
+    pub offset: usize,
+    pub len: usize,
+}
+
+/// Puts the next field of the data of a record of this type, which end where the message does, and moves the cursor past it.
+/// Its kind is 0 if there are no more. It does not allocate.
+#[unsafe(no_mangle)]
+pub extern "C" fn dnw_field_next(
+    message: &[u8],
+    record_type: u16,
+    cursor: &mut FieldCursor,
+    field: &mut ReadField,
+) -> u32
+    ensures ok { result ≡ 0 → PutsField message.now record_type cursor.old cursor.new field.new }
+    ensures err { result ≢ 0 → NumberOf (FailsToReadField message.now record_type cursor.old) result }
+    ensures same { result ≢ 0 → (cursor.new ≡ cursor.old) × (field.new ≡ field.old) }
+{
+    match next(message, record_type, *cursor) {
+        Ok((read, after)) => {
+            *field = read;
+            *cursor = after;
+            0
+        }
+        Err(failure) => failure.number(),
+    }
+}
+
+/// Returns the next field, and where the one after it is.
+fn next(
+    message: &[u8],
+    record_type: u16,
+    at: FieldCursor,
+) -> Result<(ReadField, FieldCursor), Failure>
+    ensures ok { IfOk result (λ r. PutsField message.now record_type at r.1 r.0) }
+    ensures err { IfErr result (FailsToReadField message.now record_type at) }
+{
+    if message.len() < at.offset {
+        return Err(Failure::MessageCut);
+    }
+    let kinds = fields_of(RecordType::from(record_type));
+    match kinds.get(at.number) {
+        Some(kind) => take(*kind, message, at),
+        None if at.offset < message.len() => Err(Failure::WrongDataLength),
+        None => {
+            let end = ReadField {
+                kind: 0,
+                offset: at.offset,
+                len: 0,
+            };
+            Ok((end, at))
+        }
+    }
+}
+
+/// Returns the field of a kind, and where the one after it is.
+fn take(kind: Kind, message: &[u8], at: FieldCursor) -> Result<(ReadField, FieldCursor), Failure>
+    requires within { at.offset ≤ length message.now }
+    requires few { at.number + 1 ≤ 2 ^ 64 - 1 }
+    ensures ok { IfOk result (λ r. TakesAs kind message.now at r.1 r.0) }
+    ensures err { IfErr result (FailsToTake kind message.now at.offset) }
+{
+    let mut reader = BinDecoder::new(message);
+    reader.skip(at.offset).unwrap();
+    if let Err(error) = Field::read(kind, &mut reader) {
+        return Err(of_decode(&error));
+    }
+    let after = FieldCursor {
+        offset: reader.index(),
+        number: at.number + 1,
+    };
+    let offset = at.offset + head_of(kind);
+    let field = ReadField {
+        kind: field_kind(kind),
+        offset,
+        len: after.offset - offset,
+    };
+    Ok((field, after))
+}
+
+/// Returns how many octets of a field are before its value.
+fn head_of(kind: Kind) -> usize
+    ensures { result ≡ head_of kind }
+{
+    match kind {
+        Kind::Counted(_) => 1,
+        _ => 0,
+    }
+}
+
+/// Returns the number of a kind in C.
+fn field_kind(kind: Kind) -> u32
+    ensures { result ≡ field_kind kind }
+{
+    match kind {
+        Kind::Name(_) => 1,
+        Kind::U8 | Kind::U16 | Kind::U32 | Kind::U48 | Kind::U64 => 2,
+        Kind::Ipv4 => 3,
+        Kind::Ipv6 => 4,
+        Kind::TypeCode => 5,
+        Kind::Time => 6,
+        Kind::Counted(Shown::Text) | Kind::Octets(Shown::Text) => 7,
+        Kind::Counted(_) | Kind::Octets(_) => 8,
+        Kind::List(ListKind::Texts) => 9,
+        Kind::List(ListKind::Types) => 10,
+        Kind::List(ListKind::Params) => 11,
+    }
+}

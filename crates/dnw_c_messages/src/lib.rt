@@ -1,0 +1,14 @@
+//! The functions of the C library that read whole messages. `include/dns_names_wire.h` says what each takes and returns, and
+//! `tools/c-library` joins them with those of `dnw_c`.
+//!
+//! A slice is passed as a pointer and then a length, and results are put into structs of the caller. Every input is tested,
+//! whatever the caller promises, nothing is kept from one call to the next, and nothing here allocates. Read
+//! `specs/MessageCalls.antt` first: what a call puts of a message.
+#![tactic(auto)]
+
+/// What messages say by EDNS.
+pub mod edns;
+/// The fields of the data of records.
+pub mod fields;
+/// Whole messages.
+pub mod message;

@@ -1,0 +1,357 @@
+//! Whole messages, which are checked once.
+use crate::codes::{Class, RecordType};
+use crate::door;
+use crate::error::Error;
+use crate::field::Params;
+use crate::name_ref::NameRef;
+use crate::record::Record;
+use core::fmt;
+use core::iter::FusedIterator;
+
+/// How many compression pointers the names of a message may follow in all, if no other number is given.
+const MAX_POINTERS: usize = 65536;
+
+/// The octets of a header (RFC 1035, section 4.1.1).
+const HEADER_SIZE: usize = 12;
+
+/// A message that was checked as a whole (RFC 1035, section 4): its header, its questions and its records are all there. It
+/// borrows the octets that it was read from.
+///
+/// ```
+/// use dns_names_wire::{Field, Message, RecordType};
+///
+/// // b. A, and the answer 192.0.2.1
+/// let octets = b"\x12\x34\x84\0\0\x01\0\x01\0\0\0\0\x01b\0\0\x01\0\x01\xC0\x0C\0\x01\0\x01\0\0\0\x3C\0\x04\xC0\0\x02\x01";
+/// let message = Message::read(octets)?;
+/// let header = message.header();
+/// assert!(header.id == 0x1234 && header.is_response && header.authoritative && !header.truncation);
+/// let question = message.questions().next().unwrap();
+/// assert_eq!((question.name.to_string(), question.question_type), ("b.".into(), RecordType::A));
+/// let answer = message.answers().next().unwrap();
+/// assert_eq!((answer.owner().to_string(), answer.ttl()), ("b.".into(), 60));
+/// assert_eq!(answer.fields().next(), Some(Ok(Field::Ipv4([192, 0, 2, 1]))));
+/// assert_eq!(message.to_string(), "b.\tIN\tA\nb.\t60\tIN\tA\n");
+/// # Ok::<(), dns_names_wire::Error>(())
+/// ```
+#[derive(Clone)]
+pub struct Message<'a> {
+    octets: &'a [u8],
+    max_pointers: usize,
+    read: door::Message,
+}
+
+/// The fields of a header but for the counts (RFC 1035, section 4.1.1; RFC 4035, section 3.2). See [`Message::header`].
+#[derive(Clone, Copy, Debug, PartialEq, Eq, Hash)]
+#[non_exhaustive]
+pub struct Header {
+    /// The number by which a requester knows the response to its request.
+    pub id: u16,
+    /// QR: whether the message is a response.
+    pub is_response: bool,
+    /// What is asked for, of four bits: 0 for a query, 4 for NOTIFY, 5 for UPDATE.
+    pub op_code: u8,
+    /// AA: the server is an authority for the name of the question.
+    pub authoritative: bool,
+    /// TC: the message was cut to the size that may be sent.
+    pub truncation: bool,
+    /// RD: the name server is to follow the query to other servers.
+    pub recursion_desired: bool,
+    /// RA: the name server can do so.
+    pub recursion_available: bool,
+    /// AD: the data are authentic by the rules of the server.
+    pub authentic_data: bool,
+    /// CD: the requester checks the data itself.
+    pub checking_disabled: bool,
+    /// The low four bits of the response code; [`Message::response_code`] has the others too.
+    pub response_code: u16,
+}
+
+impl<'a> Message<'a> {
+    /// Reads the message at the start of these octets, whatever follows it. The data of records are not looked into.
+    ///
+    /// # Errors
+    ///
+    /// The error of the first question or record that is not there, which [`Error::section`], [`Error::item`] and
+    /// [`Error::offset`] name: as [`Name::read`](crate::Name::read) if its name is none, `MessageCut` if the octets end within
+    /// it or within the header, and `TooManyPointers` if the names up to it follow more than 65,536 compression pointers.
+    ///
+    /// ```
+    /// use dns_names_wire::{ErrorKind, Message, Section};
+    ///
+    /// let error = Message::read(b"\0\0\0\0\0\x01\0\0\0\0\0\0\x01b\0\0\x01").unwrap_err();
+    /// assert_eq!((error.kind(), error.section()), (ErrorKind::MessageCut, Some(Section::Questions)));
+    /// ```
+    pub fn read(octets: &'a [u8]) -> Result<Self, Error> {
+        Message::read_limited(octets, MAX_POINTERS)
+    }
+
+    /// Reads as [`read`](Message::read) does, if the names follow no more than `max_pointers` compression pointers in all.
+    ///
+    /// # Errors
+    ///
+    /// As [`read`](Message::read).
+    ///
+    /// ```
+    /// use dns_names_wire::{ErrorKind, Message};
+    ///
+    /// let octets = b"\0\0\0\0\0\x02\0\0\0\0\0\0\x01b\0\0\x01\0\x01\xC0\x0C\0\x01\0\x01";
+    /// assert!(Message::read_limited(octets, 1).is_ok());
+    /// assert_eq!(Message::read_limited(octets, 0).unwrap_err().kind(), ErrorKind::TooManyPointers);
+    /// ```
+    pub fn read_limited(octets: &'a [u8], max_pointers: usize) -> Result<Self, Error> {
+        let read = door::read_message(octets, max_pointers)?;
+        Ok(Message { octets, max_pointers, read })
+    }
+
+    /// Returns the header.
+    ///
+    /// ```
+    /// let message = dns_names_wire::Message::read(b"\x12\x34\x01\0\0\0\0\0\0\0\0\0")?;
+    /// assert!(message.header().recursion_desired && !message.header().is_response);
+    /// # Ok::<(), dns_names_wire::Error>(())
+    /// ```
+    pub fn header(&self) -> Header {
+        let read = &self.read;
+        Header {
+            id: read.id,
+            is_response: read.is_response,
+            op_code: read.op_code,
+            authoritative: read.authoritative,
+            truncation: read.truncation,
+            recursion_desired: read.recursion_desired,
+            recursion_available: read.recursion_available,
+            authentic_data: read.authentic_data,
+            checking_disabled: read.checking_disabled,
+            response_code: read.response_code,
+        }
+    }
+
+    /// Returns the questions, one after another.
+    ///
+    /// ```
+    /// let message = dns_names_wire::Message::read(b"\0\0\0\0\0\x01\0\0\0\0\0\0\0\0\x02\0\x01")?;
+    /// assert_eq!(message.questions().next().unwrap().to_string(), ".\tIN\tNS");
+    /// # Ok::<(), dns_names_wire::Error>(())
+    /// ```
+    pub fn questions(&self) -> Questions<'a> {
+        Questions { message: self.octets, offset: HEADER_SIZE, left: self.read.question_count }
+    }
+
+    /// Returns the records that answer, one after another.
+    ///
+    /// ```
+    /// let message = dns_names_wire::Message::read(b"\0\0\0\0\0\0\0\0\0\0\0\0")?;
+    /// assert_eq!(message.answers().len(), 0);
+    /// # Ok::<(), dns_names_wire::Error>(())
+    /// ```
+    pub fn answers(&self) -> SectionRecords<'a> {
+        self.records_from(self.read.answers, self.read.answer_count)
+    }
+
+    /// Returns the records that lead to an authority, one after another.
+    ///
+    /// ```
+    /// let message = dns_names_wire::Message::read(b"\0\0\0\0\0\0\0\0\0\0\0\0")?;
+    /// assert_eq!(message.authorities().len(), 0);
+    /// # Ok::<(), dns_names_wire::Error>(())
+    /// ```
+    pub fn authorities(&self) -> SectionRecords<'a> {
+        self.records_from(self.read.authorities, self.read.authority_count)
+    }
+
+    /// Returns the records that help, one after another. An OPT record is among them.
+    ///
+    /// ```
+    /// let message = dns_names_wire::Message::read(b"\0\0\0\0\0\0\0\0\0\0\0\0")?;
+    /// assert_eq!(message.additionals().len(), 0);
+    /// # Ok::<(), dns_names_wire::Error>(())
+    /// ```
+    pub fn additionals(&self) -> SectionRecords<'a> {
+        self.records_from(self.read.additionals, self.read.additional_count)
+    }
+
+    fn records_from(&self, offset: usize, left: u16) -> SectionRecords<'a> {
+        SectionRecords { message: self.octets, offset, left }
+    }
+
+    /// Returns what the message says by EDNS, or `None` without an OPT record (RFC 6891).
+    ///
+    /// # Errors
+    ///
+    /// `DuplicateEdns` if there are two OPT records or more; `OwnerNotRoot` if the only one is not owned by the root; and
+    /// `CutOption` if its data are not options up to their end.
+    ///
+    /// ```
+    /// use dns_names_wire::Message;
+    ///
+    /// // an OPT record: 1232 octets, version 0, DO, and a cookie
+    /// let message = Message::read(b"\0\0\0\0\0\0\0\0\0\0\0\x01\0\0\x29\x04\xD0\0\0\x80\0\0\x06\0\x0A\0\x02\xAB\xCD")?;
+    /// let edns = message.edns()?.unwrap();
+    /// assert!(edns.max_payload == 1232 && edns.version == 0 && edns.dnssec_ok);
+    /// assert!(edns.options().eq([(10, &b"\xAB\xCD"[..])]));
+    /// # Ok::<(), dns_names_wire::Error>(())
+    /// ```
+    pub fn edns(&self) -> Result<Option<Edns<'a>>, Error> {
+        let read = door::read_edns(self.octets, self.max_pointers)?;
+        Ok(read.is_present.then(|| Edns {
+            max_payload: read.max_payload,
+            version: read.version,
+            dnssec_ok: read.dnssec_ok,
+            options: &self.octets[read.options_offset..read.options_offset + read.options_len],
+        }))
+    }
+
+    /// Returns the response code, with the high bits that EDNS has (RFC 6891, section 6.1.3).
+    ///
+    /// # Errors
+    ///
+    /// As [`edns`](Message::edns).
+    ///
+    /// ```
+    /// // BADVERS
+    /// let message = dns_names_wire::Message::read(b"\0\0\x80\0\0\0\0\0\0\0\0\x01\0\0\x29\x02\0\x01\0\0\0\0\0")?;
+    /// assert_eq!(message.response_code()?, 16);
+    /// # Ok::<(), dns_names_wire::Error>(())
+    /// ```
+    pub fn response_code(&self) -> Result<u16, Error> {
+        Ok(door::read_edns(self.octets, self.max_pointers)?.response_code)
+    }
+
+    /// Returns the octets of the message, without those after it.
+    ///
+    /// ```
+    /// let message = dns_names_wire::Message::read(b"\0\0\0\0\0\0\0\0\0\0\0\0and more")?;
+    /// assert_eq!((message.octets().len(), message.trailing()), (12, &b"and more"[..]));
+    /// # Ok::<(), dns_names_wire::Error>(())
+    /// ```
+    pub fn octets(&self) -> &'a [u8] {
+        &self.octets[..self.read.end]
+    }
+
+    /// Returns the octets after the message, if it was read from more.
+    ///
+    /// ```
+    /// assert!(dns_names_wire::Message::read(b"\0\0\0\0\0\0\0\0\0\0\0\0")?.trailing().is_empty());
+    /// # Ok::<(), dns_names_wire::Error>(())
+    /// ```
+    pub fn trailing(&self) -> &'a [u8] {
+        &self.octets[self.read.end..]
+    }
+}
+
+/// The questions and the records, each in a line.
+impl fmt::Display for Message<'_> {
+    fn fmt(&self, f: &mut fmt::Formatter<'_>) -> fmt::Result {
+        self.questions().try_for_each(|question| writeln!(f, "{question}"))?;
+        let mut records = self.answers().chain(self.authorities()).chain(self.additionals());
+        records.try_for_each(|record| writeln!(f, "{record}"))
+    }
+}
+
+impl fmt::Debug for Message<'_> {
+    fn fmt(&self, f: &mut fmt::Formatter<'_>) -> fmt::Result {
+        f.debug_struct("Message").field("header", &self.header()).field("octets", &self.octets()).finish()
+    }
+}
+
+/// A question (RFC 1035, section 4.1.2). It is shown as its name, its class and its type, with tabs between.
+#[derive(Clone, Copy, Debug, PartialEq, Eq)]
+#[non_exhaustive]
+pub struct Question<'a> {
+    /// The name that is asked for.
+    pub name: NameRef<'a>,
+    /// The type that is asked for.
+    pub question_type: RecordType,
+    /// The class that is asked for.
+    pub class: Class,
+}
+
+impl fmt::Display for Question<'_> {
+    fn fmt(&self, f: &mut fmt::Formatter<'_>) -> fmt::Result {
+        write!(f, "{}\t{}\t{}", self.name, self.class, self.question_type)
+    }
+}
+
+/// The questions of a message, one after another. See [`Message::questions`].
+#[derive(Clone, Debug)]
+pub struct Questions<'a> {
+    message: &'a [u8],
+    offset: usize,
+    left: u16,
+}
+
+impl<'a> Iterator for Questions<'a> {
+    type Item = Question<'a>;
+
+    fn next(&mut self) -> Option<Question<'a>> {
+        self.left = self.left.checked_sub(1)?;
+        // The message was checked, so that nothing is missing here.
+        let name = NameRef::read(self.message, self.offset).ok()?;
+        let fields = self.message.get(name.end()..name.end() + 4)?;
+        self.offset = name.end() + 4;
+        let number = |at: usize| u16::from_be_bytes([fields[at], fields[at + 1]]);
+        Some(Question { name, question_type: number(0).into(), class: number(2).into() })
+    }
+
+    fn size_hint(&self) -> (usize, Option<usize>) {
+        (self.left.into(), Some(self.left.into()))
+    }
+}
+
+impl ExactSizeIterator for Questions<'_> {}
+
+impl FusedIterator for Questions<'_> {}
+
+/// The records of a section of a message, one after another. See [`Message::answers`].
+#[derive(Clone, Debug)]
+pub struct SectionRecords<'a> {
+    message: &'a [u8],
+    offset: usize,
+    left: u16,
+}
+
+impl<'a> Iterator for SectionRecords<'a> {
+    type Item = Record<'a>;
+
+    fn next(&mut self) -> Option<Record<'a>> {
+        self.left = self.left.checked_sub(1)?;
+        // The message was checked, so that nothing is missing here.
+        let record = Record::read(self.message, self.offset).ok()?;
+        self.offset = record.end();
+        Some(record)
+    }
+
+    fn size_hint(&self) -> (usize, Option<usize>) {
+        (self.left.into(), Some(self.left.into()))
+    }
+}
+
+impl ExactSizeIterator for SectionRecords<'_> {}
+
+impl FusedIterator for SectionRecords<'_> {}
+
+/// What a message says by EDNS (RFC 6891, section 6.1). See [`Message::edns`].
+#[derive(Clone, Copy, Debug, PartialEq, Eq)]
+#[non_exhaustive]
+pub struct Edns<'a> {
+    /// The octets of the largest message that the sender accepts, at least 512.
+    pub max_payload: u16,
+    /// The version: 0 for RFC 6891.
+    pub version: u8,
+    /// DO: the sender accepts DNSSEC records (RFC 3225, section 3).
+    pub dnssec_ok: bool,
+    options: &'a [u8],
+}
+
+impl<'a> Edns<'a> {
+    /// Returns the options, each its code and its octets.
+    ///
+    /// ```
+    /// let message = dns_names_wire::Message::read(b"\0\0\0\0\0\0\0\0\0\0\0\x01\0\0\x29\x02\0\0\0\0\0\0\0")?;
+    /// assert_eq!(message.edns()?.unwrap().options().next(), None);
+    /// # Ok::<(), dns_names_wire::Error>(())
+    /// ```
+    pub fn options(&self) -> Params<'a> {
+        Params(self.options)
+    }
+}

@@ -1,0 +1,170 @@
+//! Whole messages. The message is written by dnspython 2.3.0, and what is expected of it is what it was written from; the others
+//! are worked by hand from RFC 1035, section 4.1, and RFC 6891, section 6.1.
+use dns_names_wire::{Error, ErrorKind, Field, Message, NameRef, Record, RecordType, Section, TypeSet};
+
+/// A response with thirteen records of as many types, and an OPT record.
+const RESPONSE: &str = "\
+    123485a7000100090004000103777777076578616d706c6503636f6d0000010001c00c000500010000012c000603776562c010c02d00\
+    0100010000003c0004c0000201c02d001c00010000003c001020010db8000000000000000000000001c010000f00010000003c000900\
+    0a046d61696cc010c010001000010000003c000f0b763d73706631202d616c6c000162c010010100010000003c001580056973737565\
+    63612e6578616d706c652e6e6574c010004100010000003c0010000100000100030268320003000220fbc010006c00010000003c0006\
+    00005e00532ac010ff0000010000003c0003010203c0100006000100000e100026026e73c0100a686f73746d6173746572c01078a3f1\
+    7500001c2000000e100012750000000e10c010002f000100000e1000340161076578616d706c6503636f6d000006400100000003041b\
+    000000000000000000000000000000000000000000000000000020c010002e000100000e10003a00010803000151803e7c9dd73e5510\
+    d70a52076578616d706c6503636f6d00a090755ba58d1affa576f4375831b4310920e481218d18a9f164eb203070396d686176657176\
+    6d36743776626c356c6f703275337432727033746f6dc0100032000100000e1000270101000c04aabbccdd14174eb2409fe28bcb4887\
+    a1836f957f0a8425e27b00072201000000029000002904d001008000000c000a00080102030405060708";
+
+fn octets(hex: &str) -> Vec<u8> {
+    let digits: Vec<char> = hex.chars().filter(|c| !c.is_whitespace()).collect();
+    digits.chunks(2).map(|two| u8::from_str_radix(&String::from_iter(two), 16).unwrap()).collect()
+}
+
+fn fields<'a>(records: &[Record<'a>], record_type: RecordType) -> Vec<Field<'a>> {
+    let record = records.iter().find(|record| record.record_type() == record_type).unwrap();
+    record.fields().collect::<Result<_, Error>>().unwrap()
+}
+
+fn names(fields: &[Field]) -> Vec<String> {
+    fields
+        .iter()
+        .filter_map(|field| if let Field::Name(name) = field { Some(name.to_string()) } else { None })
+        .collect()
+}
+
+#[test]
+fn a_response_is_read() {
+    let response = octets(RESPONSE);
+    let message = Message::read(&response).unwrap();
+    let header = message.header();
+    assert_eq!((header.id, header.op_code, header.response_code), (0x1234, 0, 7));
+    assert!(header.is_response && header.authoritative && header.recursion_desired && header.recursion_available);
+    assert!(header.authentic_data && !header.truncation && !header.checking_disabled);
+    let questions: Vec<String> = message.questions().map(|question| question.to_string()).collect();
+    assert_eq!(questions, ["www.example.com.\tIN\tA"]);
+    assert_eq!((message.answers().len(), message.authorities().len(), message.additionals().len()), (9, 4, 1));
+    let owners: Vec<String> = message.answers().map(|record| record.owner().to_string()).collect();
+    assert_eq!(owners[..3], ["www.example.com.", "web.example.com.", "web.example.com."]);
+    assert!(owners[3..].iter().all(|owner| owner == "example.com."));
+    assert!(message.answers().skip(1).all(|record| record.ttl() == 60));
+    assert!(message.authorities().all(|record| record.ttl() == 3600));
+    assert_eq!(message.to_string().lines().count(), 15);
+    assert_eq!((message.octets(), message.trailing().len()), (&response[..], 0));
+    let edns = message.edns().unwrap().unwrap();
+    assert_eq!((edns.max_payload, edns.version, edns.dnssec_ok), (1232, 0, true));
+    assert!(edns.options().eq([(10, &[1, 2, 3, 4, 5, 6, 7, 8][..])]));
+    assert_eq!(message.response_code(), Ok(23));
+}
+
+#[test]
+fn fields_are_read() {
+    let response = octets(RESPONSE);
+    let message = Message::read(&response).unwrap();
+    let records: Vec<Record> = message.answers().chain(message.authorities()).collect();
+    assert_eq!(names(&fields(&records, RecordType::CNAME)), ["web.example.com."]);
+    assert_eq!(fields(&records, RecordType::A), [Field::Ipv4([192, 0, 2, 1])]);
+    let address = std::net::Ipv6Addr::new(0x2001, 0xdb8, 0, 0, 0, 0, 0, 1);
+    assert_eq!(fields(&records, RecordType::AAAA), [Field::Ipv6(address.octets())]);
+    let mx = fields(&records, RecordType::MX);
+    assert_eq!((&mx[0], names(&mx)), (&Field::Number(10), vec!["mail.example.com.".to_string()]));
+    let [Field::Texts(texts)] = &fields(&records, RecordType::TXT)[..] else { panic!() };
+    assert!(texts.clone().eq([&b"v=spf1 -all"[..], b"", b"b"]));
+    let caa = fields(&records, RecordType::CAA);
+    assert_eq!(caa, [Field::Number(128), Field::Text(b"issue"), Field::Text(b"ca.example.net")]);
+    let [Field::Number(1), Field::Name(target), Field::Params(params)] = &fields(&records, RecordType::HTTPS)[..]
+    else {
+        panic!()
+    };
+    assert_eq!(target.to_string(), ".");
+    assert!(params.clone().eq([(1, &b"\x02h2"[..]), (3, &[0x20, 0xFB])]));
+    assert_eq!(fields(&records, RecordType::from(108)), [Field::Number(0x5E00_532A)]);
+    assert_eq!(fields(&records, RecordType::from(65280)), [Field::Octets(&[1, 2, 3])]);
+    let soa = fields(&records, RecordType::SOA);
+    assert_eq!(names(&soa), ["ns.example.com.", "hostmaster.example.com."]);
+    assert_eq!(soa[2..], [2_024_010_101, 7200, 3600, 1_209_600, 3600].map(Field::Number));
+    let nsec = fields(&records, RecordType::NSEC);
+    let types = [RecordType::A, RecordType::MX, RecordType::RRSIG, RecordType::NSEC, RecordType::from(1234)];
+    assert_eq!((names(&nsec), &nsec[1]), (vec!["a.example.com.".into()], &Field::Types(TypeSet::from(types))));
+    let rrsig = fields(&records, RecordType::RRSIG);
+    assert_eq!(rrsig[..3], [Field::Type(RecordType::A), Field::Number(8), Field::Number(3)]);
+    assert_eq!(rrsig[4..7], [Field::Time(1_048_354_263), Field::Time(1_045_762_263), Field::Number(2642)]);
+    assert_eq!((rrsig.len(), names(&rrsig)), (9, vec!["example.com.".to_string()]));
+    let nsec3 = fields(&records, RecordType::NSEC3);
+    assert_eq!(nsec3[2..4], [Field::Number(12), Field::Octets(&[0xAA, 0xBB, 0xCC, 0xDD])]);
+    assert!(matches!(nsec3[4], Field::Octets(hash) if hash.len() == 20));
+}
+
+#[test]
+fn each_beginning_of_a_message_fails_at_its_item() {
+    let response = octets(RESPONSE);
+    let starts: Vec<usize> = {
+        let message = Message::read(&response).unwrap();
+        let records = message.answers().chain(message.authorities()).chain(message.additionals());
+        [12, 33].into_iter().chain(records.map(|record| record.end())).collect()
+    };
+    for len in 0..response.len() {
+        let error = Message::read(&response[..len]).unwrap_err();
+        assert_eq!(error.kind(), ErrorKind::MessageCut);
+        // Offset 12 begins the question, and offset 33 the first answer.
+        let number = starts.iter().filter(|start| **start <= len).count();
+        let wanted = match number {
+            0 => (Section::Header, 0, 0),
+            1 => (Section::Questions, 0, 12),
+            2..=10 => (Section::Answers, number - 2, starts[number - 1]),
+            11..=14 => (Section::Authorities, number - 11, starts[number - 1]),
+            _ => (Section::Additionals, number - 15, starts[number - 1]),
+        };
+        let found = (error.section().unwrap(), error.item().unwrap().into(), error.offset().unwrap());
+        assert_eq!(found, wanted, "{len}");
+    }
+}
+
+#[test]
+fn pointers_are_counted() {
+    let response = octets(RESPONSE);
+    // The owners of A and AAAA lead over two pointers, the root over none, and the others over one each.
+    assert!(Message::read_limited(&response, 15).is_ok());
+    let error = Message::read_limited(&response, 14).unwrap_err();
+    assert_eq!(
+        (error.kind(), error.section(), error.item()),
+        (ErrorKind::TooManyPointers, Some(Section::Authorities), Some(3))
+    );
+}
+
+#[test]
+fn edns_breaks_its_rules() {
+    let opt = |owner: &str, data: &str| format!("{owner} 0029 0100 00000000 {:04x} {data}", data.len() / 2);
+    let message =
+        |records: &[String]| octets(&format!("0000 8000 0000 0000 0000 {:04x} {}", records.len(), records.concat()));
+    let kind = |records: &[String]| Message::read(&message(records)).unwrap().edns().map(|_| ()).map_err(Error::kind);
+    assert_eq!(kind(&[]), Ok(()));
+    assert_eq!(kind(&[opt("00", "")]), Ok(()));
+    assert_eq!(kind(&[opt("00", ""), opt("00", "")]), Err(ErrorKind::DuplicateEdns));
+    assert_eq!(kind(&[opt("016100", "")]), Err(ErrorKind::OwnerNotRoot));
+    assert_eq!(kind(&[opt("00", "00030001")]), Err(ErrorKind::CutOption));
+    // A size below 512 counts as 512 (RFC 6891, section 6.2.3).
+    let octets = message(&[opt("00", "")]);
+    assert_eq!(Message::read(&octets).unwrap().edns().unwrap().unwrap().max_payload, 512);
+}
+
+#[test]
+fn fields_that_are_none() {
+    let read = |record_type: u16, data: &str| {
+        let record = octets(&format!("00 {record_type:04x} 0001 00000000 {:04x} {data}", data.len() / 2));
+        let read: Vec<_> =
+            Record::read(&record, 0).unwrap().fields().map(|it| it.map(|_| ()).map_err(Error::kind)).collect();
+        read
+    };
+    assert_eq!(read(1, "c00002"), [Err(ErrorKind::MessageCut)]);
+    assert_eq!(read(1, "c000020100"), [Ok(()), Err(ErrorKind::WrongDataLength)]);
+    assert_eq!(read(15, "000a40"), [Ok(()), Err(ErrorKind::ReservedOctet)]);
+    assert_eq!(read(16, ""), [Err(ErrorKind::MessageCut)]);
+    assert_eq!(read(47, "00 0000".replace(' ', "").as_str()), [Ok(()), Err(ErrorKind::BadBitmap)]);
+    assert_eq!(
+        read(64, "000100 00030000 00010000".replace(' ', "").as_str()),
+        [Ok(()), Ok(()), Err(ErrorKind::BadParams)]
+    );
+    assert_eq!(read(0xFF00, ""), [Ok(())]);
+    let name = NameRef::read(b"\x01a\0", 0).unwrap();
+    assert_eq!(Field::Name(name), Field::Name(NameRef::read(b"\x01A\0", 0).unwrap()));
+}
