@@ -146,10 +146,10 @@ pub use Rattle.dnw_message_writer.specs.Drafts.{Added, Adds, AddsAll, AddsEntry,
 pub use Rattle.dnw_message_writer.specs.QueryFrames.{frame-query}
 pub use Rattle.dnw_message_writer.specs.WireQueries.{EmitsQuery, EmitsQueryFields, QueryFits}
 pub use Rattle.dnw_message_writer.specs.ReadBack.{IsReadAs, QueryIsRead, RecordIsRead}
-pub use Rattle.dnw_message_writer.specs.WriterLaws.{EdnsComesBack, MessagesAreWritten, MessagesEndWith, WrittenMessagesAreRead}
+pub use Rattle.dnw_message_writer.specs.WriterLaws.{EdnsComesBack, MessagesAreWritten, MessagesEndWith, MessagesHaveEdns, WrittenMessagesAreRead}
 pub use Rattle.dnw_message_writer.specs.Writers.{BeginsWith, Finishes, draft, last_of, lent}
 pub use Rattle.dnw_message_writer.specs.Written.{Contents, Written, WrittenWith, contents_from, counts_of, ending_with, header_for, nothing}
-pub use Rattle.dnw_message_writer.specs.WireEdns.{IsOptOf, OptionFits, edns_ttl, edns_value, option_wire, options_wire}
+pub use Rattle.dnw_message_writer.specs.WireEdns.{IsNoOpt, IsOptOf, OptionFits, edns_ttl, edns_value, option_wire, options_wire}
 pub use Rattle.dnw_message_writer.specs.declared.writer.Entry.{Entry}
 pub use Rattle.dnw_message.specs.declared.header.HeaderCounts.{HeaderCounts}
 pub use Rattle.dnw_message.specs.declared.header.Metadata.{Metadata}

@@ -20,7 +20,7 @@ use Rattle.dnw_record.specs.Records.{RecordValue, data_octets}
 use Rattle.dnw_encoder.specs.declared.encoder.modes.NameEncoding.TheVariants.{Compressed}
 use Rattle.dnw_script.specs.ScriptLaws.{HasData}
 use Rattle.dnw_message.specs.Headers.{flag}
-use Rattle.dnw_message.specs.Edns.{OptionsAre, first_option, none, one_more, option_of, option_size}
+use Rattle.dnw_message.specs.Edns.{OptionValue, OptionsAre, first_option, none, one_more, option_of, option_size}
 use Rattle.dnw_message_writer.specs.declared.edns.WireOption.{WireOption}
 use Rattle.dnw_message_writer.specs.WireEdns.{AreOctets, OptionFits, edns_ttl, option_value, option_wire, options_wire}
 use Rattle.dnw_message_writer.specs.WriterLaws.{EdnsComesBack}
@@ -47,6 +47,9 @@ opt-back = refl
 
 -- ---- options
 
+assembled : (b : Bool) (x y : OptionValue) (r s : List ℕ) → b ≡ true → x ≡ y → r ≡ s → cond {A = Option (OptionValue × List ℕ)} b (Some (x, r)) None ≡ Some (y, s)
+assembled b x y r s all is rest = cc
+
 -- octets begin with an option, and others follow
 first-is : (o : WireOption) (rest : List ℕ) → OptionFits o → first_option (option_wire o ++ rest) ≡ Some (option_value o, rest)
 unfolding first_option
@@ -64,7 +67,7 @@ first-is o rest (code, few) =
     ap (λ n. drop n d) size ∙ drop_at (option_wire o) rest (4 + length octets) four in
     let is : option_of d ≡ option_value o =
     ap (λ n. record (option_of d) { code = n }) (from_be_bytes-to_be_bytes_2 o.code code) ∙ ap (λ x. record (option_value o) { octets = x }) middle in
-    ap (λ b. cond b (Some (option_of d, drop (option_size d) d)) None) fits ∙ (ap (λ x. Some (x, drop (option_size d) d)) is ∙ ap (λ x. Some (option_value o, x)) after)
+    assembled (nat_le (option_size d) (length d)) (option_of d) (option_value o) (drop (option_size d) d) rest fits is after
 
 options-are : (os : List WireOption) → AllByRecursion OptionFits os → OptionsAre (options_wire os) (map option_value os)
 options-are [] fit = none

@@ -5,3 +5,4 @@ pub mod Closing
 pub mod Finishing
 pub mod ReadBack
 pub mod EdnsBack
+pub mod EdnsMessages

@@ -1,15 +1,16 @@
 -- EDNS as it is written: the OPT record that says it (RFC 6891, section 6.1).
-use Rattle.std.specs.Prelude.{◌≡◌, ℕ, ◌+◌, ◌*◌, ◌<◌, ◌≤◌, ◌^◌, max, List, [], ◌++◌, length, map}
+use Rattle.std.specs.Prelude.{◌≡◌, false, ℕ, ◌+◌, ◌*◌, ◌<◌, ◌≤◌, ◌^◌, max, List, [], ◌++◌, length, map}
 use Rattle.std.specs.Int.{w16, to_be_bytes}
 use Rattle.std.specs.List.{AllByRecursion, flat_map}
 use Rattle.dnw_codes.specs.declared.record_type.RecordType.TheVariants as kind
 use Rattle.dnw_codes.specs.declared.dns_class.DNSClass.TheVariants as class
+use Rattle.dnw_codes.specs.RecordTypes.{type_code, type_of_code}
 use Rattle.dnw_codes.specs.DnsClasses.{min_payload}
 use Rattle.dnw_base.specs.Limits.{max_message}
 use Rattle.dnw_record.specs.declared.record.WireRecord.{WireRecord}
 use Rattle.dnw_record.specs.declared.record.WireData.{WireData}
 use Rattle.dnw_record.specs.declared.record.WireData.TheVariants as rdata
-use Rattle.dnw_message.specs.Edns.{EdnsValue, OptionValue}
+use Rattle.dnw_message.specs.Edns.{EdnsValue, OptionValue, is_opt}
 use Rattle.dnw_message.specs.Headers.{flag}
 use Rattle.dnw_message_writer.specs.declared.edns.WireEdns.{WireEdns}
 use Rattle.dnw_message_writer.specs.declared.edns.WireOption.{WireOption}
@@ -57,3 +58,7 @@ edns_value e = record {
   dnssec_ok = e.dnssec_ok;
   options = map option_value e.options.now;
 }
+
+-- The record is not read as an OPT record.
+abbrev pub IsNoOpt : WireRecord → Type 0
+IsNoOpt r = is_opt (type_of_code (type_code r.record_type)) ≡ false

@@ -1,5 +1,6 @@
 -- What follows from the steps of a writer. Each is the clause of a public function, and so proved.
 use Rattle.std.specs.Prelude.{◌≡◌, ℕ, ◌-◌, ◌≤◌, List, [], Some, Ok, OnOk, IfErr}
+use Rattle.std.specs.List.{AllByRecursion}
 use Rattle.dnw_base.specs.Limits.{max_message}
 use Rattle.dnw_error.specs.declared.error.ProtoError.TheVariants.{Memory}
 use Rattle.dnw_encoder.specs.Encoder.{Encoder, fresh}
@@ -10,11 +11,12 @@ use Rattle.dnw_message.specs.declared.header.Header.{Header}
 use Rattle.dnw_message.specs.declared.header.Metadata.{Metadata}
 use Rattle.dnw_message_writer.specs.declared.writer.Entry.{Entry}
 use Rattle.dnw_message_writer.specs.Drafts.{Added, AddsAll, AddsLast, Begins, Draft, Ends}
-use Rattle.dnw_message_writer.specs.Written.{Contents, Holds, Written, WrittenWith}
+use Rattle.dnw_message_writer.specs.Written.{Contents, Holds, Written, WrittenWith, ending_with}
 use Rattle.dnw_message_writer.specs.ReadBack.{IsReadAs, RecordIsRead}
-use Rattle.dnw_message_writer.specs.WireEdns.{IsOptOf, edns_value}
+use Rattle.dnw_message_writer.specs.WireEdns.{IsNoOpt, IsOptOf, edns_value}
 use Rattle.dnw_message_writer.specs.declared.edns.WireEdns.{WireEdns}
-use Rattle.dnw_message.specs.Edns.{IsEdns}
+use Rattle.dnw_message.specs.Edns.{HasEdns, IsEdns}
+use Rattle.dnw_message.specs.Messages.{MessageAt, MessageValue}
 use Rattle.dnw_record.specs.Records.{RecordValue}
 use Rattle.dnw_codes.specs.declared.record_type.RecordType.TheVariants.{OPT}
 
@@ -39,3 +41,9 @@ WrittenMessagesAreRead = (metadata : Metadata) (c : Contents) (bytes : List ℕ)
 -- EDNS that is written is read as the same: its OPT record is read as a record that says so.
 abbrev pub EdnsComesBack : Type 0
 EdnsComesBack = (e : WireEdns) (r : WireRecord) (x : RecordValue) → IsOptOf e r → RecordIsRead r x → (x.record_type ≡ OPT) × IsEdns x (edns_value e)
+
+-- So a message that ends with this OPT record, and has no other in its additional section, is read with this EDNS.
+abbrev pub MessagesHaveEdns : Type 0
+MessagesHaveEdns = (metadata : Metadata) (c : Contents) (last : WireRecord) (e : WireEdns) (bytes : List ℕ) (m : MessageValue) (k : ℕ)
+    → Holds metadata (ending_with last c) bytes → IsOptOf e last → AllByRecursion IsNoOpt c.additionals → MessageAt bytes m k
+    → HasEdns m (Some (edns_value e))

@@ -1,7 +1,7 @@
 //! What follows from the steps of a writer, for callers' proofs.
 //!
 //! The functions do nothing. Each is there for its clauses.
-ghost use Rattle.dnw_message_writer.specs.WriterLaws.{EdnsComesBack, MessagesAreWritten, MessagesEndWith, WrittenMessagesAreRead};
+ghost use Rattle.dnw_message_writer.specs.WriterLaws.{EdnsComesBack, MessagesAreWritten, MessagesEndWith, MessagesHaveEdns, WrittenMessagesAreRead};
 
 /// After any items, in any order and with any outcomes, a message holds exactly those that were accepted: see `writer::write`.
 pub fn messages_are_written()
@@ -23,7 +23,9 @@ pub fn written_messages_are_read()
     ensures { WrittenMessagesAreRead }
 {}
 
-/// EDNS that is written is read as the same, with a payload size of at least 512.
+/// EDNS that is written is read as the same, with a payload size of at least 512: from its record, and from a message that
+/// ends with it and has no other `OPT` record among the additional ones.
 pub fn edns_comes_back()
-    ensures { EdnsComesBack }
+    ensures record { EdnsComesBack }
+    ensures message { MessagesHaveEdns }
 {}

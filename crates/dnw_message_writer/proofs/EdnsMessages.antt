@@ -1,0 +1,37 @@
+-- EDNS of a whole message that was written.
+use Rattle.std.proofs.Common.{◌≡◌, Bool, false, cond, Some, List, [], ◌∷◌, ◌++◌, ap, ◌∙◌, subst}
+use Rattle.std.specs.List.{AllByRecursion, AllZip}
+use Rattle.dnw_codes.specs.declared.record_type.RecordType.{RecordType}
+use Rattle.dnw_record.specs.declared.record.WireRecord.{WireRecord}
+use Rattle.dnw_record.specs.Records.{RecordValue}
+use Rattle.dnw_message.specs.Edns.{HasEdns, IsEdns, is_opt, opts_in}
+use Rattle.dnw_message.specs.Messages.{MessageValue}
+use Rattle.dnw_message.proofs.OneMessage.{one_message}
+use Rattle.dnw_message_writer.specs.declared.edns.WireEdns.{WireEdns}
+use Rattle.dnw_message_writer.specs.ReadBack.{RecordIsRead}
+use Rattle.dnw_message_writer.specs.WireEdns.{IsNoOpt, IsOptOf, edns_value}
+use Rattle.dnw_message_writer.specs.Written.{ending_with}
+use Rattle.dnw_message_writer.specs.WriterLaws.{MessagesHaveEdns}
+use Rattle.dnw_message_writer.proofs.ReadBack.{written_messages_are_read}
+use Rattle.dnw_message_writer.proofs.EdnsBack.{edns_comes_back}
+
+-- the last of these records is the only OPT record
+only : (e : WireEdns) (last : WireRecord) (rs : List WireRecord) (xs : List RecordValue) → IsOptOf e last → AllByRecursion IsNoOpt rs
+    → AllZip RecordIsRead (rs ++ last ∷ []) xs → (x : RecordValue) × (opts_in xs ≡ x ∷ []) × IsEdns x (edns_value e)
+only e last [] (x ∷ []) opt others (one, done) =
+    let (kind, edns) = edns_comes_back e last x opt one in
+    (x, ap (λ (k : RecordType). cond (is_opt k) (x ∷ []) []) kind, edns)
+only e last [] (x ∷ y ∷ xs) opt others (one, more) = absurd more
+only e last [] [] opt others h = absurd h
+only e last (r ∷ rs) (x ∷ xs) opt (not, others) (one, more) =
+    let (y, are, edns) = only e last rs xs opt others more in
+    let kind = one.1 in
+    let passed : is_opt x.record_type ≡ false = ap is_opt kind ∙ not in
+    (y, ap (λ (b : Bool). cond b (x ∷ opts_in xs) (opts_in xs)) passed ∙ are, edns)
+only e last (r ∷ rs) [] opt others h = absurd h
+
+pub messages_have_edns : MessagesHaveEdns
+messages_have_edns metadata c last e bytes m k holds opt others at =
+    let r = written_messages_are_read metadata (ending_with last c) bytes holds in
+    let same = one_message bytes r.message m r.pointers k r.is at in
+    subst (λ (x : MessageValue). HasEdns x (Some (edns_value e))) same.0 (only e last c.additionals r.message.additionals opt others r.additionals)
