@@ -71,6 +71,11 @@ pub use Rattle.dnw_data.specs.Lists
 pub use Rattle.dnw_data.specs.Table
 pub use Rattle.dnw_data.specs.Values
 pub use Rattle.dnw_data.specs.Walks
+pub use Rattle.dnw_rdata.specs.DataPieces
+pub use Rattle.dnw_rdata.specs.DataCopies
+pub use Rattle.dnw_rdata.specs.AnyRecords
+pub use Rattle.dnw_rdata.specs.AnyRecordFrames
+pub use Rattle.dnw_rdata.specs.AnyRecordLaws
 pub use Rattle.dnw_field_text.specs.Numbers
 pub use Rattle.dnw_field_text.specs.Octets
 pub use Rattle.dnw_field_text.specs.Spelling

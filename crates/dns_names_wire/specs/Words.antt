@@ -153,3 +153,13 @@ pub use Rattle.dnw_message_writer.specs.WireEdns.{IsNoOpt, IsOptOf, OptionFits, 
 pub use Rattle.dnw_message_writer.specs.declared.writer.Entry.{Entry}
 pub use Rattle.dnw_message.specs.declared.header.HeaderCounts.{HeaderCounts}
 pub use Rattle.dnw_message.specs.declared.header.Metadata.{Metadata}
+-- the data of records of any type, and records that are written from them
+pub use Rattle.dnw_rdata.specs.declared.record.Record.{Record}
+pub use Rattle.dnw_rdata.specs.declared.rdata.RDataError.{RDataError}
+pub use Rattle.dnw_rdata.specs.DataPieces.{ArePiecesOf, DataPiece, DataValue, HasPieces, IsData, IsDataOfType, kinds_of, octets_of, piece_octets}
+pub use Rattle.dnw_rdata.specs.DataCopies.{Copies, FailsToCopy, TakesPiece, TakesPieces, alone, data_start}
+pub use Rattle.dnw_rdata.specs.AnyRecords.{AnyNumbersFit, EmitsAnyRecord, EmitsRData, encoding_of, mode_of, parts_of}
+pub use Rattle.dnw_rdata.specs.AnyRecordFrames.{frame-any_record}
+pub use Rattle.dnw_rdata.specs.AnyRecordLaws.{AnyRecordsAreRead, AnyRecordsFit, AnyRecordsPrecede, AnyRecordsStayBounded, CandidatesAreRead, DataHaveFields}
+pub use Rattle.dnw_rdata.specs.AnyRecordLaws.{NamesKeepRead, NewAreRead, PlainDataAreOctets, ReadsAs, RefusedAnyUndo, WholeDataAreOctets, WritesKeepRead}
+pub use Rattle.dnw_rdata.specs.AnyRecordLaws.{any_record_size, value_of, values_of, written_piece, written_pieces}

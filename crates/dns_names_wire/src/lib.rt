@@ -150,6 +150,13 @@ pub mod net {
     pub use dnw_reverse::net::{IpNet, Ipv4Net, Ipv6Net};
 }
 
+/// The data of records of any type, and records that are written from them, by the table of `fields`.
+pub mod rdata {
+    pub use dnw_rdata::laws;
+    pub use dnw_rdata::rdata::{RData, RDataError};
+    pub use dnw_rdata::record::Record;
+}
+
 /// Resource records: written whole or not at all, and read without a copy.
 pub mod record {
     pub use dnw_record::record::{RecordRef, WireData, WireRecord, laws};

@@ -91,7 +91,7 @@ data-fail x v w error (pieces, has, h) =
     for-size parts v (length x.octets) error (omega (arith, parts-size [] pieces v.encoding v.canonical, ap length has.whole))
     (no-texts [] pieces v.encoding v.canonical) (refused-parts parts v w error h)
 
-fields-fit : (r : Record) (v w : Encoder) → EmitsAnyFields r v (Ok tt) w → w.offset ≤ v.offset + any_record_size r
+pub fields-fit : (r : Record) (v w : Encoder) → EmitsAnyFields r v (Ok tt) w → w.offset ≤ v.offset + any_record_size r
 fields-fit r v w (a, owner, (d, fixed, (room, u, one, is))) =
     let (le, _, _, _) = done-name r.name v a owner in
     let (fit, _, _, _) = done-bytes (type_class_ttl r) a d fixed in

@@ -29,7 +29,7 @@ on-name : (name : NameValue) → GoesOn (EmitsName name)
 on-name name v (Ok tt) w h = (done-name name v w h).3
 on-name name v (Err error) w h = same-offset v w (refused-name name v w error h).0
 
-on-parts : (parts : List WirePart) → GoesOn (EmitsWireParts parts)
+pub on-parts : (parts : List WirePart) → GoesOn (EmitsWireParts parts)
 on-parts [] v (Ok tt) w h = same-offset v w h
 on-parts [] v (Err error) w h = absurd h
 on-parts (part ∷ parts) v (Ok tt) w (m, one, more) = omega (arith, (done-part part v m one).3, on-parts parts m (Ok tt) w more)

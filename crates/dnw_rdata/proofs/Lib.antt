@@ -4,3 +4,7 @@ pub mod Kept
 pub mod Going
 pub mod Walking
 pub mod AnyRecords
+pub mod Reading
+pub mod ReadBack
+pub mod Records
+pub mod Octets

@@ -79,7 +79,7 @@ is-piece kind d after piece rest takes end =
     let (size, right, is) = own-is kind tt d after piece rest takes end in
     subst (λ p. IsPieceOf kind p rest) (sym is) (size, right)
 
-no-octets : (xs : List ℕ) → length xs ≡ 0 → xs ≡ []
+pub no-octets : (xs : List ℕ) → length xs ≡ 0 → xs ≡ []
 no-octets [] e = refl
 no-octets (x ∷ xs) e = absurd (omega (arith, e))
 
@@ -124,7 +124,7 @@ name-again form labels front rest are =
     ap (λ (x : List ℕ). record { bytes = x; index = length (front ++ wire labels) }) (append_assoc front (wire labels) rest) in
     (labels, 0, record { end = length (front ++ wire labels); name = record { reads = reads; fits = are.fit }; moved = moved }, refl)
 
-own-again : (kind : Kind) (own front rest : List ℕ) → length own ≡ own_size kind (own ++ rest) → own_fault kind own ≡ None
+pub own-again : (kind : Kind) (own front rest : List ℕ) → length own ≡ own_size kind (own ++ rest) → own_fault kind own ≡ None
     → TakesOwnPiece kind (behind front (own ++ rest)) (octets_piece own) (behind (front ++ own) rest)
 own-again kind own front rest size right =
     let b = front ++ (own ++ rest) in

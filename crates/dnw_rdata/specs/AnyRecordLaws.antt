@@ -1,18 +1,28 @@
 -- What follows from the definitions of records of any type. Each is the clause of a public function, and so proved.
-use Rattle.std.specs.Prelude.{◌≡◌, ℕ, ◌+◌, ◌≤◌, None, List, [], ◌∷◌, length, Ok, Err}
+use Rattle.std.specs.Prelude.{◌≡◌, ℕ, ◌+◌, ◌≤◌, Bool, false, None, List, [], ◌∷◌, ◌++◌, length, map, Ok, Err}
+use Rattle.std.specs.List.{All}
 use Rattle.dnw_error.specs.declared.error.ProtoError.{ProtoError}
-use Rattle.dnw_base.specs.Names.{encoded_size}
+use Rattle.dnw_codes.specs.RecordTypes.{type_code, type_of_code}
+use Rattle.dnw_codes.specs.DnsClasses.{class_code, class_of_code}
+use Rattle.dnw_base.specs.Limits.{max_message}
+use Rattle.dnw_base.specs.Names.{NameValue, encoded_size}
+use Rattle.dnw_reading.specs.Reading.{NameAt}
+use Rattle.dnw_encoder.specs.declared.encoder.modes.NameEncoding.{NameEncoding}
+use Rattle.dnw_encoder.specs.declared.encoder.modes.NameEncoding.TheVariants.{Uncompressed}
+use Rattle.dnw_data.specs.declared.kind.NameForm.TheVariants.{Compressible}
+use Rattle.dnw_encoder.specs.EmittedName.{EmitsName, in_mode, is_compressed, so_far}
 use Rattle.dnw_data.specs.declared.kind.Kind.{Kind}
 use Rattle.dnw_data.specs.Values.{FieldValue, name, own_value}
 use Rattle.dnw_data.specs.Walks.{FieldsAre}
 use Rattle.dnw_encoder.specs.CandidateLaws.{KeepsPreceding}
-use Rattle.dnw_encoder.specs.Encoder.{CandidatesPrecede, Encoder}
-use Rattle.dnw_record.specs.Records.{fixed_size}
+use Rattle.dnw_encoder.specs.Encoder.{CandidatesPrecede, Encoder, Writes, fresh}
+use Rattle.dnw_record.specs.RecordFields.{record_fields}
+use Rattle.dnw_record.specs.Records.{RecordAt, RecordValue, fixed_size}
 use Rattle.dnw_record.specs.RecordLaws.{FailsForSize, KeepsBounded}
 use Rattle.dnw_rdata.specs.declared.record.Record.{Record}
-use Rattle.dnw_rdata.specs.DataPieces.{DataPiece, HasPieces, name_piece, octets_piece}
+use Rattle.dnw_rdata.specs.DataPieces.{DataPiece, DataValue, HasPieces, kinds_of, name_piece, octets_of, octets_piece}
 use Rattle.dnw_rdata.specs.DataCopies.{alone}
-use Rattle.dnw_rdata.specs.AnyRecords.{EmitsAnyRecord}
+use Rattle.dnw_rdata.specs.AnyRecords.{EmitsAnyRecord, EmitsRData, mode_of}
 
 -- ---- the encoder
 
@@ -56,3 +66,57 @@ abbrev pub DataHaveFields : Type 0
 DataHaveFields = (kinds : List Kind) (octets : List ℕ) (pieces : List DataPiece) → HasPieces kinds octets pieces
     → FieldsAre 0 kinds (alone octets) (values_of kinds pieces) None
     × ((others : List DataPiece) → HasPieces kinds octets others → others ≡ pieces)
+
+-- ---- reading back
+
+-- A name is read at an offset.
+abbrev pub ReadsAs : List ℕ → ℕ → List (List ℕ) → Type 0
+ReadsAs b p labels = (end : ℕ) × (pointers : ℕ) × NameAt b p labels end pointers
+
+-- At the offset of every candidate a name is read in the message so far.
+abbrev pub CandidatesAreRead : Encoder → Type 0
+CandidatesAreRead v = All (λ c. (labels : List (List ℕ)) × ReadsAs (so_far v) c.0 labels) v.candidates
+
+-- a piece as it is written, by the mode in force, in canonical form or not: a name may be lowered
+abbrev pub written_piece : NameEncoding → Bool → DataPiece → DataPiece
+written_piece mode canonical (name_piece form labels) = name_piece form (in_mode (mode_of form mode canonical) labels)
+written_piece mode canonical (octets_piece own) = octets_piece own
+
+abbrev pub written_pieces : NameEncoding → Bool → List DataPiece → List DataPiece
+written_pieces mode canonical pieces = map (written_piece mode canonical) pieces
+
+-- So it is in a new encoder, and after bytes and names that are written at the buffer's end.
+abbrev pub NewAreRead : Type 0
+NewAreRead = (bytes : List ℕ) (offset : ℕ) → CandidatesAreRead (fresh bytes offset)
+
+abbrev pub WritesKeepRead : Type 0
+WritesKeepRead = (bytes : List ℕ) (v w : Encoder) → v.offset ≡ length v.bytes → CandidatesAreRead v → Writes v bytes (Ok tt) w → CandidatesAreRead w
+
+abbrev pub NamesKeepRead : Type 0
+NamesKeepRead = (x : NameValue) (v w : Encoder) → v.offset ≡ length v.bytes → CandidatesAreRead v → EmitsName x v (Ok tt) w → CandidatesAreRead w
+
+-- An accepted record that began at the buffer's end is read there at once: its owner in the encoder's mode, its type and class
+-- by their codes, and its time to live. The fields of its data are the values of its pieces as they are written, also through
+-- pointers. At the offset of every candidate a name is read again.
+abbrev pub AnyRecordsAreRead : Type 0
+AnyRecordsAreRead = (r : Record) (pieces : List DataPiece) (v w : Encoder) → v.offset ≡ length v.bytes → v.max_size ≤ max_message → CandidatesAreRead v
+    → HasPieces (kinds_of r.data.record_type) r.data.octets pieces → EmitsAnyRecord r v (Ok tt) w
+    → (x : RecordValue) × RecordAt w.bytes v.offset x w.offset × (x.owner ≡ in_mode v.encoding r.name.labels)
+    × (x.record_type ≡ type_of_code (type_code r.data.record_type)) × (x.class ≡ class_of_code (class_code r.dns_class)) × (x.ttl ≡ r.ttl)
+    × FieldsAre x.start (kinds_of r.data.record_type) (record_fields x).reader
+    (values_of (kinds_of r.data.record_type) (written_pieces v.encoding v.canonical pieces)) None
+    × CandidatesAreRead w
+
+-- ---- octets
+
+-- Where not even names of RFC 1035's types are compressed, data at the buffer's end are the octets of their pieces as they are
+-- written: so canonical form goes by the lowered labels of names and the other octets alone.
+abbrev pub WholeDataAreOctets : Type 0
+WholeDataAreOctets = (x : DataValue) (pieces : List DataPiece) (v w : Encoder) → v.offset ≡ length v.bytes
+    → HasPieces (kinds_of x.record_type) x.octets pieces → is_compressed (mode_of Compressible v.encoding v.canonical) ≡ false → EmitsRData x v (Ok tt) w
+    → w.bytes ≡ v.bytes ++ octets_of (written_pieces v.encoding v.canonical pieces)
+
+-- Without compression and canonical form these are the octets of the data.
+abbrev pub PlainDataAreOctets : Type 0
+PlainDataAreOctets = (x : DataValue) (v w : Encoder) → v.offset ≡ length v.bytes → v.encoding ≡ Uncompressed → v.canonical ≡ false
+    → EmitsRData x v (Ok tt) w → w.bytes ≡ v.bytes ++ x.octets
