@@ -4,3 +4,6 @@ pub mod ScriptRecords
 pub mod ReverseNames
 pub mod Listed
 pub mod ReadMessages
+pub mod TableNames
+pub mod TableOrder
+pub mod TablePush

@@ -5,3 +5,6 @@ pub mod Records
 pub mod Scripts
 pub mod Bitmaps
 pub mod Messages
+pub mod Tables
+pub mod TableErrors
+pub mod Inside

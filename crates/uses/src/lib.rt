@@ -12,4 +12,5 @@ pub mod records;
 pub mod reply;
 pub mod reverse;
 pub mod scripts;
+pub mod table;
 pub mod zone;

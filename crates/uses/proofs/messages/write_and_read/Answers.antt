@@ -1,7 +1,5 @@
 use Rattle.std.proofs.Common.{rules, arith}
-use Rattle.dns_names_wire.specs.Words.{Added, Written}
-use Rattle.uses.specs.Messages.{HasCounts}
-use Rattle.uses.proofs.ReadMessages.{has_counts, is_read}
+use Rattle.uses.proofs.ReadMessages.{is_read}
 use Rattle.uses.proofs.messages.write_and_read.Goals as goal
 
 pub unwrap-message-requires : goal.unwrap-message-requires
