@@ -5,3 +5,6 @@ pub mod ScriptPairs
 pub mod ReverseNames
 pub mod Listed
 pub mod ReadMessages
+pub mod TableNames
+pub mod TableOrder
+pub mod TablePush

@@ -6,3 +6,6 @@ pub mod Referrals
 pub mod Scripts
 pub mod Bitmaps
 pub mod Messages
+pub mod Tables
+pub mod TableErrors
+pub mod Inside

@@ -13,4 +13,5 @@ pub mod referral;
 pub mod reply;
 pub mod reverse;
 pub mod scripts;
+pub mod table;
 pub mod zone;
