@@ -6,11 +6,12 @@ ghost use Rattle.dnw_data.specs.Table.{fields_of};
 ghost use Rattle.dnw_data.specs.Values.{FieldValue, seen};
 ghost use Rattle.dnw_data_text.specs.declared.error.DataTextError.TheVariants.{Memory};
 ghost use Rattle.dnw_data_text.specs.Parsing.{field_wire, AreFieldTexts, FailsFields};
-ghost use Rattle.dnw_data_text.specs.DataTexts.{has_own_form, without_space, IsPlainData, IsDataText, IsTextOf, FailsText};
+ghost use Rattle.dnw_data_text.specs.DataTexts.{record_line, has_own_form, without_space, IsPlainData, IsDataText, IsTextOf, FailsText};
 ghost use Rattle.dnw_data_text.specs.Inside.Wires.{AppendsWire, AppendsWires};
 
 use crate::error::{DataTextError, Wanted};
 use crate::generic::{Generic, MARK, parse_sized};
+use crate::name::write_name;
 use crate::parsing::{Place, parse_fields};
 use crate::printing::{is_ended, next_field, write_fields};
 use crate::words::{after_spaces, split_word};
@@ -39,6 +40,36 @@ pub fn data_text(alloc: Global, record: &RecordRef<'_>) -> Result<String, AllocE
     }
     let octets = plain_octets(alloc, record, kinds)?;
     format!(in alloc; "{}", Generic(octets.as_slice()))
+}
+
+/// Returns a record as a line of a master file (RFC 1035, section 5.1): the owner, the time to live, the class, the type and
+/// the data, with a space between them.
+///
+/// It fails only if it runs out of memory.
+pub fn record_text(alloc: Global, record: &RecordRef<'_>) -> Result<String, AllocError>
+    ensures { IfOk result (λ line. (text : List ℕ) × IsDataText «record».now text × (string_bytes line ≡ record_line «record».now text)) }
+{
+    let text = data_text(alloc, record)?;
+    let line = line_of(alloc, record, text.as_str())?;
+    Ok(line)
+}
+
+/// Returns the line of a record whose data have this text.
+fn line_of(alloc: Global, record: &RecordRef<'_>, text: &str) -> Result<String, AllocError>
+    ensures { IfOk result (λ line. string_bytes line ≡ record_line «record».now text.now) }
+{
+    let ttl = record.ttl();
+    let class = record.class().to_text();
+    let record_type = record.record_type().to_text();
+    let mut line = String::new(alloc);
+    write_name(record.owner(), &mut line)?;
+    write!(
+        line,
+        " {ttl} {} {} {text}",
+        class.as_str(),
+        record_type.as_str()
+    )?;
+    Ok(line)
 }
 
 /// Returns the octets of the data that a text is, for a type, with names that are not compressed. The text is in the type's
