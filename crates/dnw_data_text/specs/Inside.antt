@@ -3,3 +3,4 @@ pub mod Steps
 pub mod Labels
 pub mod Reads
 pub mod StringWords
+pub mod Wires

@@ -5,5 +5,6 @@ pub mod Generic
 pub mod Printing
 pub mod NameReading
 pub mod Parsing
+pub mod DataTexts
 pub mod Inside
 pub mod TextLaws

@@ -8,6 +8,8 @@ use thiserror::Error;
 pub enum Wanted {
     /// A field of this kind.
     Field(Kind),
+    /// The form that any data have, which begins with `\#`: the type has no other.
+    Generic,
     /// The number of all octets, up to 65535 in decimal.
     Size,
     /// That many octets in hexadecimal.

@@ -14,7 +14,7 @@ use std::alloc::{AllocError, Global};
 use std::{fmt, str};
 
 /// The word that the form begins with.
-const MARK: &[u8] = b"\\#";
+pub(crate) const MARK: &[u8] = b"\\#";
 
 /// Data in the form that any data have: `\#`, the number of octets, and the octets in hexadecimal.
 #[derive(Clone, Copy, Debug)]

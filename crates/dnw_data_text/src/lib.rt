@@ -4,6 +4,7 @@
 //! It stands on fields and on the texts of single values. Read `specs/Words.antt` first: how a text is split into words.
 #![tactic(auto)]
 
+pub mod data_text;
 pub mod error;
 pub mod generic;
 pub mod laws;

@@ -37,7 +37,7 @@ pub(crate) fn write_fields<'r>(
 }
 
 /// Returns the next field, if it can be read.
-fn next_field<'r>(fields: &mut Fields<'r>) -> Option<Field<'r>>
+pub(crate) fn next_field<'r>(fields: &mut Fields<'r>) -> Option<Field<'r>>
     ensures { ReadsNext fields.old (option_map seen result) fields.new }
 {
     let read = fields.next()?;
@@ -45,7 +45,7 @@ fn next_field<'r>(fields: &mut Fields<'r>) -> Option<Field<'r>>
 }
 
 /// Returns `true` if no octets are left after the last field.
-fn is_ended(fields: &mut Fields<'_>) -> bool
+pub(crate) fn is_ended(fields: &mut Fields<'_>) -> bool
     requires kinds { fields.old.kinds ≡ [] }
     ensures { MatchBool result (IsAtEnd fields.old.reader) (¬ (IsAtEnd fields.old.reader)) }
 {

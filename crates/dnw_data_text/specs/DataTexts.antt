@@ -1,0 +1,105 @@
+-- The text of the data of a record: its fields' text, or the form that any data have (RFC 3597, section 5) if they are no
+-- fields of their type, or if a field or the type has no text.
+use Rattle.std.specs.Prelude.{decimal, ◌≡◌, ◌≢◌, ℕ, ◌<◌, ◌-◌, ◌==◌, ◌⊎◌, Bool, true, false, List, [], ◌∷◌, ◌++◌, length, flat_map, if◌then◌else◌, Option}
+use Rattle.dnw_error.specs.declared.error.DecodeError.{DecodeError}
+use Rattle.dnw_codes.specs.RecordTypes.{type_text}
+use Rattle.dnw_codes.specs.DnsClasses.{class_text}
+use Rattle.dnw_base.specs.Decoder.{Decoder}
+use Rattle.dnw_base.specs.Names.{NameValue}
+use Rattle.dnw_data.specs.declared.kind.Kind.{Kind}
+use Rattle.dnw_data.specs.declared.kind.Kind.TheVariants.{Octets}
+use Rattle.dnw_data.specs.declared.kind.Shown.TheVariants.{Hex}
+use Rattle.dnw_data.specs.Values.{FieldValue, counted}
+use Rattle.dnw_data.specs.Fields.{TakesField, FailsField}
+use Rattle.dnw_data.specs.Walks.{IsAtEnd, FieldsLeft}
+use Rattle.dnw_record.specs.Records.{RecordValue, data_octets}
+use Rattle.dnw_record.specs.RecordFields.{record_fields}
+use Rattle.dnw_data_text.specs.declared.error.DataTextError.{DataTextError}
+use Rattle.dnw_data_text.specs.declared.error.DataTextError.TheVariants.{Memory}
+use Rattle.dnw_data_text.specs.declared.error.Wanted.TheVariants.{Generic}
+use Rattle.dnw_data_text.specs.NameTexts.{full_name_text}
+use Rattle.dnw_data_text.specs.Faults.{fault}
+use Rattle.dnw_data_text.specs.Words.{after_spaces, word, after_word}
+use Rattle.dnw_data_text.specs.Generic.{mark, generic_text, IsSized, FailsSized}
+use Rattle.dnw_data_text.specs.Printing.{PrintsFields, HasNoText}
+use Rattle.dnw_data_text.specs.Parsing.{field_wire, AreFieldTexts, FailsFields}
+
+-- Data that are octets alone have no form of their own.
+abbrev pub has_own_form : List Kind → Bool
+has_own_form (Octets Hex ∷ []) = false
+has_own_form kinds = true
+
+-- ---- the octets of data, with names that are not compressed
+
+abbrev pub IsLong : FieldValue → Type 0
+IsLong (counted own) = 255 < length own
+IsLong value = ⊥
+
+-- The data are fields of these kinds, and these octets.
+abbrev pub AreWire : List Kind → Decoder → List ℕ → Type 0
+AreWire [] d own = IsAtEnd d × (own ≡ [])
+AreWire (kind ∷ kinds) d own =
+    (value : FieldValue) × (after : Decoder) × (others : List ℕ) × TakesField kind d value after × AreWire kinds after others
+    × (own ≡ field_wire value ++ others)
+
+-- A field cannot be read.
+abbrev pub AreNoFields : List Kind → Decoder → Type 0
+AreNoFields [] d = ¬ (IsAtEnd d)
+AreNoFields (kind ∷ kinds) d =
+    ((error : DecodeError) × FailsField kind d error)
+    ⊎ ((value : FieldValue) × (after : Decoder) × TakesField kind d value after × (IsLong value ⊎ AreNoFields kinds after))
+
+-- the octets of the fields, or those of the message if the data are no fields of their type
+abbrev pub IsPlainData : RecordValue → List ℕ → Type 0
+IsPlainData r own =
+    AreWire (record_fields r).kinds (record_fields r).reader own
+    ⊎ (AreNoFields (record_fields r).kinds (record_fields r).reader × (own ≡ data_octets r))
+
+-- ---- printing
+
+-- a text without the space that it may begin with
+abbrev pub without_space : List ℕ → List ℕ
+without_space [] = []
+without_space (c ∷ cs) = if c == 32 then cs else c ∷ cs
+
+-- the text of the fields
+abbrev pub IsOwnText : FieldsLeft → List ℕ → Type 0
+IsOwnText left text =
+    (has_own_form left.kinds ≡ true) × (own : List ℕ) × PrintsFields left.kinds left.reader own × (text ≡ without_space own)
+
+-- there is none
+abbrev pub LacksText : FieldsLeft → Type 0
+LacksText left = (has_own_form left.kinds ≡ false) ⊎ HasNoText left.kinds left.reader
+
+-- the text of the data of a record
+abbrev pub IsDataText : RecordValue → List ℕ → Type 0
+IsDataText r text =
+    IsOwnText (record_fields r) text
+    ⊎ (LacksText (record_fields r) × (own : List ℕ) × IsPlainData r own × (text ≡ generic_text own))
+
+-- a line of a master file: the owner, the time to live, the class, the type and the data
+abbrev pub record_line : RecordValue → List ℕ → List ℕ
+record_line r text =
+    full_name_text r.owner ++ 32 ∷ decimal r.ttl ++ 32 ∷ class_text r.class ++ 32 ∷ type_text r.record_type ++ 32 ∷ text
+
+-- ---- parsing
+
+-- the text is these octets of data of a type, in the form of any data
+abbrev pub IsGenericText : List ℕ → List ℕ → Type 0
+IsGenericText text own = (word (after_spaces text) ≡ mark) × IsSized (after_word (after_spaces text)) own
+
+-- the text is these octets, in the type's own form
+abbrev pub IsFieldsText : Option NameValue → List Kind → List ℕ → List ℕ → Type 0
+IsFieldsText origin kinds text own =
+    (word (after_spaces text) ≢ mark) × (has_own_form kinds ≡ true) × (values : List FieldValue) × AreFieldTexts origin kinds text values
+    × (own ≡ flat_map field_wire values)
+
+abbrev pub IsTextOf : Option NameValue → List Kind → List ℕ → List ℕ → Type 0
+IsTextOf origin kinds text own = IsGenericText text own ⊎ IsFieldsText origin kinds text own
+
+-- why a text is no data of a type
+abbrev pub FailsText : Option NameValue → List Kind → List ℕ → DataTextError → Type 0
+FailsText origin kinds text e =
+    ((word (after_spaces text) ≡ mark) × FailsSized (length text) (after_word (after_spaces text)) e)
+    ⊎ ((word (after_spaces text) ≢ mark) × (has_own_form kinds ≡ false) × (e ≡ fault 0 (length text - length (after_spaces text)) Generic))
+    ⊎ ((word (after_spaces text) ≢ mark) × (has_own_form kinds ≡ true) × ((e ≡ Memory) ⊎ FailsFields origin (length kinds) (length text) kinds text e))

@@ -1,0 +1,209 @@
+//! The text of the data of records, and of whole records.
+ghost use Rattle.std.specs.Prelude.{◌≡◌, ◌⊎◌, ◌++◌, ℕ, List, length, flat_map, IfOk, MatchResult, string_bytes};
+ghost use Rattle.std.specs.Option.{option_copied};
+ghost use Rattle.dnw_codes.specs.RecordTypes.{type_code};
+ghost use Rattle.dnw_data.specs.Table.{fields_of};
+ghost use Rattle.dnw_data.specs.Values.{FieldValue, seen};
+ghost use Rattle.dnw_data_text.specs.declared.error.DataTextError.TheVariants.{Memory};
+ghost use Rattle.dnw_data_text.specs.Parsing.{field_wire, AreFieldTexts, FailsFields};
+ghost use Rattle.dnw_data_text.specs.DataTexts.{record_line, has_own_form, without_space, IsPlainData, IsDataText, IsTextOf, FailsText};
+ghost use Rattle.dnw_data_text.specs.Inside.Wires.{AppendsWire, AppendsWires};
+
+use crate::error::{DataTextError, Wanted};
+use crate::generic::{Generic, MARK, parse_sized};
+use crate::name::write_name;
+use crate::parsing::{Place, parse_fields};
+use crate::printing::{is_ended, next_field, write_fields};
+use crate::words::{after_spaces, split_word};
+use dnw_codes::record_type::RecordType;
+use dnw_data::field::Field;
+use dnw_data::fields::Fields;
+use dnw_data::kind::{Kind, Shown};
+use dnw_data::table::fields_of;
+use dnw_name::name::Name;
+use dnw_record::record::RecordRef;
+use std::alloc::{AllocError, Global};
+
+/// Returns the text of the data of a record in a master file: its fields with a space between them, or the form that any data
+/// have, as `\# 4 0A000001`, if its type or a field has no text, or if the data are no fields of their type.
+///
+/// It fails only if it runs out of memory.
+pub fn data_text(alloc: Global, record: &RecordRef<'_>) -> Result<String, AllocError>
+    ensures { IfOk result (λ text. IsDataText «record».now (string_bytes text)) }
+{
+    let kinds = fields_of(record.record_type());
+    if has_own_form(kinds) {
+        let mut text = String::new(alloc);
+        if write_fields(kinds, &mut record.fields(), &mut text)? {
+            return without_space(alloc, text.as_str());
+        }
+    }
+    let octets = plain_octets(alloc, record, kinds)?;
+    format!(in alloc; "{}", Generic(octets.as_slice()))
+}
+
+/// Returns a record as a line of a master file (RFC 1035, section 5.1): the owner, the time to live, the class, the type and
+/// the data, with a space between them.
+///
+/// It fails only if it runs out of memory.
+pub fn record_text(alloc: Global, record: &RecordRef<'_>) -> Result<String, AllocError>
+    ensures { IfOk result (λ line. (text : List ℕ) × IsDataText «record».now text × (string_bytes line ≡ record_line «record».now text)) }
+{
+    let text = data_text(alloc, record)?;
+    let line = line_of(alloc, record, text.as_str())?;
+    Ok(line)
+}
+
+/// Returns the line of a record whose data have this text.
+fn line_of(alloc: Global, record: &RecordRef<'_>, text: &str) -> Result<String, AllocError>
+    ensures { IfOk result (λ line. string_bytes line ≡ record_line «record».now text.now) }
+{
+    let ttl = record.ttl();
+    let class = record.class().to_text();
+    let record_type = record.record_type().to_text();
+    let mut line = String::new(alloc);
+    write_name(record.owner(), &mut line)?;
+    write!(
+        line,
+        " {ttl} {} {} {text}",
+        class.as_str(),
+        record_type.as_str()
+    )?;
+    Ok(line)
+}
+
+/// Returns the octets of the data that a text is, for a type, with names that are not compressed. The text is in the type's
+/// own form or in that of any data; an origin completes names without a dot at their end.
+///
+/// Parentheses and comments are not part of a text. It fails with the number of the first field that is not as wanted, and
+/// where in the text it should be.
+pub fn parse(
+    alloc: Global,
+    record_type: RecordType,
+    text: &str,
+    origin: Option<&Name>,
+) -> Result<Vec<u8>, DataTextError>
+    ensures { MatchResult result (λ own. IsTextOf (option_copied origin.entry) (fields_of (type_code record_type)) text.now own.items)
+        (FailsText (option_copied origin.entry) (fields_of (type_code record_type)) text.now) }
+{
+    let bytes = text.as_bytes();
+    let start = after_spaces(bytes);
+    let (word, rest) = split_word(start);
+    if word == MARK {
+        return parse_sized(alloc, rest, bytes.len());
+    }
+    let kinds = fields_of(record_type);
+    if !has_own_form(kinds) {
+        return Err(DataTextError::Wanted {
+            field: 0,
+            offset: bytes.len() - start.len(),
+            wanted: Wanted::Generic,
+        });
+    }
+    parse_own(alloc, kinds, bytes, origin)
+}
+
+/// Returns the octets of the fields that a text is.
+fn parse_own(
+    alloc: Global,
+    kinds: &[Kind],
+    text: &[u8],
+    origin: Option<&Name>,
+) -> Result<Vec<u8>, DataTextError>
+    ensures { MatchResult result (λ own. (values : List FieldValue) × AreFieldTexts (option_copied origin.entry) kinds.now text.now values × (own.items ≡ flat_map field_wire values))
+        (λ e. (e ≡ Memory) ⊎ FailsFields (option_copied origin.entry) (length kinds.now) (length text.now) kinds.now text.now e) }
+{
+    let place = Place {
+        count: kinds.len(),
+        len: text.len(),
+    };
+    let mut octets = Vec::new(alloc);
+    parse_fields(alloc, place, kinds, text, origin, &mut octets)?;
+    Ok(octets)
+}
+
+/// Returns `true` if data of these kinds have a form of their own.
+fn has_own_form(kinds: &[Kind]) -> bool
+    ensures { result ≡ has_own_form kinds.now }
+{
+    !matches!(kinds, [Kind::Octets(Shown::Hex)])
+}
+
+/// Returns a text without the space that it begins with.
+fn without_space(alloc: Global, text: &str) -> Result<String, AllocError>
+    ensures { IfOk result (λ rest. string_bytes rest ≡ without_space text.now) }
+{
+    let bytes = text.as_bytes();
+    if !bytes.is_empty() && bytes[0] == b' ' {
+        return String::from_str(alloc, &text[1..]);
+    }
+    String::from_str(alloc, text)
+}
+
+/// Returns the octets of the data, with names that are not compressed.
+fn plain_octets(
+    alloc: Global,
+    record: &RecordRef<'_>,
+    kinds: &[Kind],
+) -> Result<Vec<u8>, AllocError>
+    requires { kinds.now ≡ fields_of (type_code «record».now.record_type) }
+    ensures { IfOk result (λ own. IsPlainData «record».now own.items) }
+{
+    let mut octets = Vec::new(alloc);
+    if append_fields(alloc, kinds, &mut record.fields(), &mut octets)? {
+        return Ok(octets);
+    }
+    Vec::from_slice(alloc, record.rdata())
+}
+
+/// Appends the octets of fields. Returns `false` if one cannot be read.
+fn append_fields<'r>(
+    alloc: Global,
+    kinds: &[Kind],
+    fields: &mut Fields<'r>,
+    out: &mut Vec<u8>,
+) -> Result<bool, AllocError>
+    requires kinds { fields.old.kinds ≡ kinds.now }
+    ensures { IfOk result (AppendsWires kinds.now fields.old.reader out.old.items out.new.items) }
+{
+    let Some((_, others)) = kinds.split_first() else {
+        return Ok(is_ended(fields));
+    };
+    let Some(field) = next_field(fields) else {
+        return Ok(false);
+    };
+    if !append_field(alloc, &field, out)? {
+        return Ok(false);
+    }
+    append_fields(alloc, others, fields, out)
+}
+
+/// Appends the octets of a field. Returns `false` if it has too many for its length octet.
+fn append_field(alloc: Global, field: &Field<'_>, out: &mut Vec<u8>) -> Result<bool, AllocError>
+    ensures { IfOk result (AppendsWire (seen field.now) out.old.items out.new.items) }
+{
+    match field {
+        Field::Name(name) => out.extend_from_slice(name.to_name(alloc).unwrap().as_wire())?,
+        Field::U8(number) => out.push(*number)?,
+        Field::U16(number) => out.extend_from_slice(&number.to_be_bytes())?,
+        Field::U32(number) => out.extend_from_slice(&number.to_be_bytes())?,
+        Field::U48(number) => out.extend_from_slice(&number.to_be_bytes()[2..])?,
+        Field::U64(number) => out.extend_from_slice(&number.to_be_bytes())?,
+        Field::Ipv4(address) => out.extend_from_slice(&address.octets())?,
+        Field::Ipv6(address) => out.extend_from_slice(&address.octets())?,
+        Field::TypeCode(code) => out.extend_from_slice(&u16::from(*code).to_be_bytes())?,
+        Field::Time(seconds) => out.extend_from_slice(&seconds.get().to_be_bytes())?,
+        Field::Counted(octets) => {
+            if octets.len() > 255 {
+                return Ok(false);
+            }
+            out.push(octets.len() as u8)?;
+            out.extend_from_slice(octets)?;
+        }
+        Field::Octets(octets) => out.extend_from_slice(octets)?,
+        Field::Texts(items) | Field::Types(items) | Field::Params(items) => {
+            out.extend_from_slice(items.as_bytes())?;
+        }
+    }
+    Ok(true)
+}
