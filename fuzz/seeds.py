@@ -89,6 +89,7 @@ def inputs(words):
             yield "edits", triple
     elif kind == "set-read":
         yield "types", b"\0" + octets(rest[-1])
+        yield "sections", b"\xff" + struct.pack(">H", 47) + b"\0" + octets(rest[-1])
     elif kind == "set-new":
         codes = [int(code) for code in rest[0].split(",") if code.isdigit()]
         yield "types", b"\0" + struct.pack(f"<{len(codes)}H", *codes)

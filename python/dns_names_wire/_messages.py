@@ -1,7 +1,7 @@
 """Whole messages, which are checked once."""
 
 from ctypes import byref
-from dataclasses import dataclass
+from dataclasses import dataclass, field
 from typing import Optional, Tuple
 
 from . import _checks
@@ -83,7 +83,8 @@ class Edns:
 class Message:
     """A message that was checked as a whole (RFC 1035, section 4). `Message.from_wire` reads it.
 
-    The data of its records are not looked into; `Record.fields` does. Octets after the message are its `trailing` ones.
+    The data of its records are not looked into; `Record.fields` does. Octets after the message are its `trailing` ones. Two
+    messages are equal if all their octets are.
 
     >>> message = Message.from_wire(bytes.fromhex("123484000001000100000000 016200 0001 0001 c00c 0001 0001 0000003c 0004 c0000201"))
     >>> message.id, message.flags
@@ -96,14 +97,14 @@ class Message:
     (IPv4Address('192.0.2.1'),)
     """
 
-    header: Header
-    questions: Tuple[Question, ...]
-    answers: Tuple[Record, ...]
-    authorities: Tuple[Record, ...]
-    additionals: Tuple[Record, ...]
+    header: Header = field(compare=False)
+    questions: Tuple[Question, ...] = field(compare=False)
+    answers: Tuple[Record, ...] = field(compare=False)
+    authorities: Tuple[Record, ...] = field(compare=False)
+    additionals: Tuple[Record, ...] = field(compare=False)
     wire: bytes
     trailing: bytes
-    _max_pointers: int
+    _max_pointers: int = field(compare=False)
 
     @classmethod
     def from_wire(cls, message: Bytes, *, max_pointers: int = _MAX_POINTERS) -> "Message":

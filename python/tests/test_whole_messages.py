@@ -51,6 +51,7 @@ class WholeMessages(unittest.TestCase):
         self.assertEqual(Message.from_wire(RESPONSE + b"more").trailing, b"more")
         copied = pickle.loads(pickle.dumps(message))
         self.assertEqual((copied.header, copied.questions, copied.wire), (message.header, message.questions, message.wire))
+        self.assertEqual((copied, hash(copied)), (message, hash(message)))
         with self.assertRaises(dataclasses.FrozenInstanceError):
             message.header.id = 1
 

@@ -27,14 +27,27 @@ pub enum Field<'a> {
     /// Other octets.
     Octets(&'a [u8]),
     /// Character strings up to the end.
-    Texts(Items<'a>),
+    Texts(Texts<'a>),
     /// Record types, as a bitmap lists them (RFC 4034, section 4.1.2).
     Types(TypeSet),
     /// Service parameters, each a key and its value (RFC 9460, section 2.2).
-    Params(Params<'a>),
+    Params(Pairs<'a>),
 }
 
 /// The fields of the data of a record, one after another. See [`Record::fields`](crate::Record::fields).
+///
+/// An item may be an error, after which nothing follows: as [`NameRef::read`] if the field should be a name and is none;
+/// `MessageCut` if the data end within the field; `WrongDataLength` if octets are left after the last field; `BadBitmap` or
+/// `BadParams` if the types or the parameters are out of order; or `NoMemory` for a set of types.
+///
+/// ```
+/// use dns_names_wire::{ErrorKind, Record};
+///
+/// // the root, A, with three octets of address
+/// let record = Record::read(b"\0\0\x01\0\x01\0\0\0\0\0\x03\xC0\0\x02", 0)?;
+/// assert_eq!(record.fields().next().unwrap().unwrap_err().kind(), ErrorKind::MessageCut);
+/// # Ok::<(), dns_names_wire::Error>(())
+/// ```
 #[derive(Clone, Debug)]
 pub struct Fields<'a> {
     /// the message up to where the data end
@@ -62,9 +75,9 @@ impl<'a> Fields<'a> {
             5 => Field::Type(RecordType::from(number(octets) as u16)),
             6 => Field::Time(number(octets) as u32),
             7 => Field::Text(octets),
-            9 => Field::Texts(Items(octets)),
+            9 => Field::Texts(Texts(octets)),
             10 => Field::Types(TypeSet::from_bitmap(octets)?),
-            11 => Field::Params(Params(octets)),
+            11 => Field::Params(Pairs(octets)),
             _ => Field::Octets(octets),
         }))
     }
@@ -102,14 +115,16 @@ impl FusedIterator for Fields<'_> {}
 ///
 /// // the root, TXT "a" "bc"
 /// let record = Record::read(b"\0\0\x10\0\x01\0\0\0\0\0\x05\x01a\x02bc", 0)?;
-/// let Some(Ok(Field::Texts(texts))) = record.fields().next() else { unreachable!() };
-/// assert!(texts.eq([&b"a"[..], b"bc"]));
+/// match record.fields().next() {
+///     Some(Ok(Field::Texts(texts))) => assert!(texts.eq([&b"a"[..], b"bc"])),
+///     other => panic!("{other:?}"),
+/// }
 /// # Ok::<(), dns_names_wire::Error>(())
 /// ```
 #[derive(Clone, Debug, PartialEq, Eq)]
-pub struct Items<'a>(&'a [u8]);
+pub struct Texts<'a>(&'a [u8]);
 
-impl<'a> Iterator for Items<'a> {
+impl<'a> Iterator for Texts<'a> {
     type Item = &'a [u8];
 
     fn next(&mut self) -> Option<&'a [u8]> {
@@ -121,23 +136,25 @@ impl<'a> Iterator for Items<'a> {
     }
 }
 
-impl FusedIterator for Items<'_> {}
+impl FusedIterator for Texts<'_> {}
 
-/// Service parameters, each a key and its value; or options of EDNS, each a code and its octets.
+/// Numbers with octets: service parameters, each a key and its value, or options of EDNS, each a code and its octets.
 ///
 /// ```
 /// use dns_names_wire::{Field, Record};
 ///
 /// // the root, SVCB 1 . port=53
 /// let record = Record::read(b"\0\0\x40\0\x01\0\0\0\0\0\x09\0\x01\0\0\x03\0\x02\0\x35", 0)?;
-/// let Some(Ok(Field::Params(mut params))) = record.fields().last() else { unreachable!() };
-/// assert_eq!(params.next(), Some((3, &b"\0\x35"[..])));
+/// match record.fields().last() {
+///     Some(Ok(Field::Params(mut params))) => assert_eq!(params.next(), Some((3, &b"\0\x35"[..]))),
+///     other => panic!("{other:?}"),
+/// }
 /// # Ok::<(), dns_names_wire::Error>(())
 /// ```
 #[derive(Clone, Debug, PartialEq, Eq)]
-pub struct Params<'a>(pub(crate) &'a [u8]);
+pub struct Pairs<'a>(pub(crate) &'a [u8]);
 
-impl<'a> Iterator for Params<'a> {
+impl<'a> Iterator for Pairs<'a> {
     type Item = (u16, &'a [u8]);
 
     fn next(&mut self) -> Option<(u16, &'a [u8])> {
@@ -149,4 +166,4 @@ impl<'a> Iterator for Params<'a> {
     }
 }
 
-impl FusedIterator for Params<'_> {}
+impl FusedIterator for Pairs<'_> {}

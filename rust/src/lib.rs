@@ -60,7 +60,7 @@ mod writer;
 
 pub use codes::{Class, RecordType, SerialNumber};
 pub use error::{Error, ErrorKind, Section, TextFault, TextRule};
-pub use field::{Field, Fields, Items, Params};
+pub use field::{Field, Fields, Pairs, Texts};
 pub use message::{Edns, Header, Message, Question, Questions, SectionRecords};
 pub use name::{Labels, Name};
 pub use name_ref::{names, NameRef, Names};

@@ -2,7 +2,7 @@
 use crate::codes::{Class, RecordType};
 use crate::door;
 use crate::error::Error;
-use crate::field::Params;
+use crate::field::Pairs;
 use crate::name_ref::NameRef;
 use crate::record::Record;
 use core::fmt;
@@ -351,7 +351,7 @@ impl<'a> Edns<'a> {
     /// assert_eq!(message.edns()?.unwrap().options().next(), None);
     /// # Ok::<(), dns_names_wire::Error>(())
     /// ```
-    pub fn options(&self) -> Params<'a> {
-        Params(self.options)
+    pub fn options(&self) -> Pairs<'a> {
+        Pairs(self.options)
     }
 }

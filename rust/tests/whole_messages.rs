@@ -67,16 +67,19 @@ fn fields_are_read() {
     assert_eq!(fields(&records, RecordType::AAAA), [Field::Ipv6(address.octets())]);
     let mx = fields(&records, RecordType::MX);
     assert_eq!((&mx[0], names(&mx)), (&Field::Number(10), vec!["mail.example.com.".to_string()]));
-    let [Field::Texts(texts)] = &fields(&records, RecordType::TXT)[..] else { panic!() };
-    assert!(texts.clone().eq([&b"v=spf1 -all"[..], b"", b"b"]));
+    match &fields(&records, RecordType::TXT)[..] {
+        [Field::Texts(texts)] => assert!(texts.clone().eq([&b"v=spf1 -all"[..], b"", b"b"])),
+        other => panic!("{other:?}"),
+    }
     let caa = fields(&records, RecordType::CAA);
     assert_eq!(caa, [Field::Number(128), Field::Text(b"issue"), Field::Text(b"ca.example.net")]);
-    let [Field::Number(1), Field::Name(target), Field::Params(params)] = &fields(&records, RecordType::HTTPS)[..]
-    else {
-        panic!()
-    };
-    assert_eq!(target.to_string(), ".");
-    assert!(params.clone().eq([(1, &b"\x02h2"[..]), (3, &[0x20, 0xFB])]));
+    match &fields(&records, RecordType::HTTPS)[..] {
+        [Field::Number(1), Field::Name(target), Field::Params(params)] => {
+            assert_eq!(target.to_string(), ".");
+            assert!(params.clone().eq([(1, &b"\x02h2"[..]), (3, &[0x20, 0xFB])]));
+        }
+        other => panic!("{other:?}"),
+    }
     assert_eq!(fields(&records, RecordType::from(108)), [Field::Number(0x5E00_532A)]);
     assert_eq!(fields(&records, RecordType::from(65280)), [Field::Octets(&[1, 2, 3])]);
     let soa = fields(&records, RecordType::SOA);

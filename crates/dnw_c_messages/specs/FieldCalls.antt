@@ -47,11 +47,14 @@ read_field kind p e = record { kind = field_kind kind; offset = p + head_of kind
 abbrev pub decoder_at : List ℕ → ℕ → Decoder
 decoder_at octets p = record { bytes = octets; index = p }
 
+-- A field of this kind goes from p to e.
+abbrev pub EndsAt : Kind → List ℕ → ℕ → ℕ → Type 0
+EndsAt kind octets p e = (value : FieldValue) × TakesField kind (decoder_at octets p) value (decoder_at octets e)
+
 -- A field of this kind is at the cursor, and the cursor is after it now.
 abbrev pub TakesAs : Kind → List ℕ → FieldCursor → FieldCursor → ReadField → Type 0
 TakesAs kind octets before after field =
-    (value : FieldValue) × TakesField kind (decoder_at octets before.offset) value (decoder_at octets after.offset)
-    × (after.number ≡ before.number + 1) × (field ≡ read_field kind before.offset after.offset)
+    EndsAt kind octets before.offset after.offset × (after.number ≡ before.number + 1) × (field ≡ read_field kind before.offset after.offset)
 
 -- There is none.
 abbrev pub FailsToTake : Kind → List ℕ → ℕ → Failure → Type 0

@@ -1,13 +1,15 @@
 //! The fields of the data of records, of which the caller keeps an offset and a number.
 ghost use Rattle.std.specs.Prelude.{◌≡◌, ◌≢◌, ◌≤◌, ◌+◌, ◌-◌, ◌^◌, length, IfOk, IfErr};
+ghost use Rattle.dnw_data.specs.Fields.{FailsField};
 ghost use Rattle.dnw_failure.specs.Failures.{NumberOf};
-ghost use Rattle.dnw_c_messages.specs.FieldCalls.{FailsToReadField, FailsToTake, PutsField, TakesAs, field_kind, head_of};
+ghost use Rattle.dnw_c_messages.specs.FieldCalls.{EndsAt, FailsToReadField, FailsToTake, PutsField, TakesAs, decoder_at, field_kind, head_of};
 
 use dnw_base::decoder::BinDecoder;
 use dnw_codes::record_type::RecordType;
 use dnw_data::field::Field;
 use dnw_data::kind::{Kind, ListKind, Shown};
 use dnw_data::table::fields_of;
+use dnw_error::error::DecodeError;
 use dnw_failure::failure::{Failure, of_decode};
 
 /// Where the next field of the data of a record is: its offset in the message, and the number of the fields before it.
@@ -84,22 +86,34 @@ fn take(kind: Kind, message: &[u8], at: FieldCursor) -> Result<(ReadField, Field
     ensures ok { IfOk result (λ r. TakesAs kind message.now at r.1 r.0) }
     ensures err { IfErr result (FailsToTake kind message.now at.offset) }
 {
-    let mut reader = BinDecoder::new(message);
-    reader.skip(at.offset).unwrap();
-    if let Err(error) = Field::read(kind, &mut reader) {
-        return Err(of_decode(&error));
-    }
-    let after = FieldCursor {
-        offset: reader.index(),
-        number: at.number + 1,
+    let end = match end_of(kind, message, at.offset) {
+        Ok(end) => end,
+        Err(error) => return Err(of_decode(&error)),
     };
     let offset = at.offset + head_of(kind);
     let field = ReadField {
         kind: field_kind(kind),
         offset,
-        len: after.offset - offset,
+        len: end - offset,
+    };
+    let after = FieldCursor {
+        offset: end,
+        number: at.number + 1,
     };
     Ok((field, after))
+}
+
+/// Returns where the field of a kind ends that begins at an offset.
+fn end_of(kind: Kind, message: &[u8], offset: usize) -> Result<usize, DecodeError>
+    requires { offset ≤ length message.now }
+    ensures ok { IfOk result (EndsAt kind message.now offset) }
+    ensures head { IfOk result (λ end. offset + head_of kind ≤ end) }
+    ensures err { IfErr result (FailsField kind (decoder_at message.now offset)) }
+{
+    let mut reader = BinDecoder::new(message);
+    reader.skip(offset).unwrap();
+    Field::read(kind, &mut reader)?;
+    Ok(reader.index())
 }
 
 /// Returns how many octets of a field are before its value.

@@ -76,11 +76,12 @@ fn mail_exchangers_with_edns(rt: HostRuntime) -> Result<(), Fail> {
     assert!(rt; edns.dnssec_ok() && edns.options().next().is_none());
     assert_eq!(rt; message.response_code()?, ResponseCode::NoError);
     assert_eq!(rt; message.end(), MAIL_LEN);
-    // The question takes 17 octets after the header, the owner of the first answer is a pointer, and the OPT record is last.
+    // The question takes 17 octets after the header, and the owner of the first answer is a pointer. The additional records are
+    // an address of 16 octets, whose owner is a pointer, and the OPT record of 11.
     let offsets = message.section_offsets();
     assert_eq!(rt; offsets.answers, 29);
     assert_eq!(rt; message.answers().next().unwrap().rdata_offset(), 41);
-    assert!(rt; offsets.authorities == MAIL_LEN - 11 && offsets.additionals == MAIL_LEN - 11);
+    assert!(rt; offsets.authorities == MAIL_LEN - 27 && offsets.additionals == MAIL_LEN - 27);
     assert!(rt; edns.options_offset() == MAIL_LEN && edns.options_len() == 0);
     Ok(())
 }
