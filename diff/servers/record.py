@@ -1,0 +1,131 @@
+#!/usr/bin/env python3
+"""Records what name servers reply over the loopback, and what dnspython reads in it: the lines of diff/servers/replies.txt.
+
+    apt-get install bind9 bind9-dnsutils nsd knot pdns-server pdns-backend-bind python3-dnspython
+    /usr/bin/python3 diff/servers/record.py
+
+BIND, NSD, Knot and PowerDNS serve example.zone; the first three serve it signed, by keys that are made for one run. Each is
+asked for each owner and type of the zone, with and without EDNS, and for what makes replies of other shapes: names that do not
+exist, a delegation, aliases, replies that are cut, and what they refuse. A line is SERVER HEX, and then the text that
+dnspython gives the message, in the layout of `dnswire message`, with // for the end of a line.
+"""
+
+import pathlib
+import socket
+import subprocess
+import sys
+import tempfile
+import time
+
+import dns.message
+import dns.opcode
+
+HERE = pathlib.Path(__file__).resolve().parent
+sys.path.insert(0, str(HERE.parent.parent / "examples" / "responses"))
+import make  # noqa: E402
+
+PORT = 5300
+
+
+def signed(folder):
+    """The zone, signed."""
+    key = ["dnssec-keygen", "-K", folder, "-a", "ECDSAP256SHA256"]
+    for words in ([*key, "example."], [*key, "-f", "KSK", "example."]):
+        subprocess.run(words, check=True, capture_output=True)
+    words = ["dnssec-signzone", "-S", "-K", folder, "-d", folder, "-o", "example.", "-f", f"{folder}/signed.zone"]
+    subprocess.run([*words, "-s", "20261101000000", "-e", "20361101000000", f"{folder}/example.zone"], check=True, capture_output=True)
+
+
+def commands(folder):
+    """How each server is started: its name, its configuration, and its words."""
+    yield "bind", "named.conf", ["named", "-f", "-c", f"{folder}/named.conf"], (
+        f'options {{ directory "{folder}"; listen-on port {PORT} {{ 127.0.0.1; }}; listen-on-v6 {{ none; }}; recursion no; '
+        f'pid-file none; session-keyfile none; dnssec-validation no; minimal-responses no; }}; controls {{ }};\n'
+        f'zone "example" {{ type primary; file "{folder}/signed.zone"; check-names ignore; }};\n'
+    )
+    yield "nsd", "nsd.conf", ["nsd", "-d", "-c", f"{folder}/nsd.conf"], (
+        f'server:\n ip-address: 127.0.0.1@{PORT + 1}\n username: ""\n zonesdir: "{folder}"\n database: ""\n pidfile: "{folder}/nsd.pid"\n'
+        f' logfile: "{folder}/nsd.log"\n xfrdfile: "{folder}/xfrd"\n zonelistfile: "{folder}/zones"\n server-count: 1\n minimal-responses: no\n'
+        f'remote-control:\n control-enable: no\nzone:\n name: "example"\n zonefile: "signed.zone"\n'
+    )
+    yield "knot", "knot.conf", ["knotd", "-c", f"{folder}/knot.conf"], (
+        f'server:\n  rundir: "{folder}"\n  listen: 127.0.0.1@{PORT + 2}\ndatabase:\n  storage: "{folder}/knot"\n'
+        f'zone:\n  - domain: example\n    file: "{folder}/signed.zone"\n'
+    )
+    bind = f"--bind-config={folder}/pdns.zones"
+    words = ["--no-config", "--launch=bind", bind, "--local-address=127.0.0.1", f"--local-port={PORT + 3}", f"--socket-dir={folder}"]
+    yield "powerdns", "pdns.zones", ["pdns_server", *words, "--guardian=no", "--daemon=no"], (
+        f'options {{ directory "{folder}"; }};\nzone "example" {{ type native; file "{folder}/example.zone"; }};\n'
+    )
+
+
+def questions():
+    """What the servers are asked: a name, a type, and what dnspython's `make_query` takes besides."""
+    with_edns = {"use_edns": 0, "payload": 1232}
+    lines = [line.split() for line in (HERE / "example.zone").read_text().split("\n") if line and line[0] not in ";$"]
+    for owner, kind in dict.fromkeys((words[0], words[1]) for words in lines):
+        yield "example." if owner == "@" else f"{owner}.example.", kind, with_edns
+    for name in ("example.", "a.example.", "cname.example."):
+        yield name, "ANY", {}
+    yield "example.", "SOA", {**with_edns, "want_dnssec": True}
+    yield "example.", "DNSKEY", {**with_edns, "want_dnssec": True}
+    yield "nothing.example.", "A", {}
+    yield "nothing.example.", "A", {**with_edns, "want_dnssec": True}
+    yield "a.example.", "MX", {**with_edns, "want_dnssec": True}
+    yield "x.sub.example.", "A", {}
+    yield "x.sub.example.", "A", {**with_edns, "want_dnssec": True}
+    yield "cname.example.", "A", {}
+    yield "y.z.old.example.", "TXT", with_edns
+    yield "q.wild.example.", "TXT", {}
+    yield "big.example.", "TXT", {}
+    yield "A.eXaMPle.", "a", {}
+    yield "elsewhere.net.", "A", {}
+
+
+def ask(port, query):
+    with socket.socket(socket.AF_INET, socket.SOCK_DGRAM) as asking:
+        asking.settimeout(2)
+        asking.sendto(query, ("127.0.0.1", port))
+        return asking.recv(65535)
+
+
+def replies(port):
+    """The replies of a server, in the order of the questions."""
+    for number, (name, kind, words) in enumerate(questions(), 1):
+        query = dns.message.make_query(name, kind, **words)
+        query.id = number
+        try:
+            yield ask(port, query.to_wire())
+        except socket.timeout:
+            print(f"no reply: {name} {kind}", file=sys.stderr)
+    other = dns.message.make_query("example.", "SOA")
+    other.id = 0xFFFF
+    other.set_opcode(dns.opcode.STATUS)
+    for query in (other.to_wire(), other.to_wire()[:16]):
+        try:
+            yield ask(port, query)
+        except socket.timeout:
+            print("no reply to what is no query", file=sys.stderr)
+
+
+def main():
+    lines = []
+    with tempfile.TemporaryDirectory() as folder:
+        pathlib.Path(folder, "example.zone").write_text((HERE / "example.zone").read_text())
+        pathlib.Path(folder, "knot").mkdir()
+        signed(folder)
+        for at, (server, file, words, text) in enumerate(commands(folder)):
+            pathlib.Path(folder, file).write_text(text)
+            with open(f"{folder}/{server}.log", "w") as log, subprocess.Popen(words, stdout=log, stderr=log) as running:
+                time.sleep(3)
+                if running.poll() is not None:
+                    sys.exit(f"{server} did not start: {pathlib.Path(log.name).read_text()[-500:]}")
+                for reply in replies(PORT + at):
+                    lines.append(f"{server} {reply.hex()} {make.text_of(reply).rstrip().replace(chr(10), '//')}")
+                running.kill()
+    (HERE / "replies.txt").write_text("\n".join(lines) + "\n")
+    print(f"{len(lines)} replies")
+
+
+if __name__ == "__main__":
+    main()
