@@ -19,12 +19,30 @@ import time
 
 import dns.message
 import dns.opcode
+import dns.rdata
+import dns.rdatatype
 
 HERE = pathlib.Path(__file__).resolve().parent
 sys.path.insert(0, str(HERE.parent.parent / "examples" / "responses"))
 import make  # noqa: E402
 
 PORT = 5300
+# The types whose data have a text of their own here. Those of the others are shown as RFC 3597 does.
+TEXTS = set("""A NS CNAME SOA PTR HINFO MX TXT RP AFSDB AAAA SRV NAPTR KX CERT DNAME DS SSHFP RRSIG DNSKEY
+    NSEC3PARAM TLSA SMIMEA CDS CDNSKEY OPENPGPKEY ZONEMD SPF URI CAA""".split())
+
+
+def data_text(record):
+    """The text of data as dnspython has it, in one piece, the type of a CERT as a number, and the tag of a CAA in quotes."""
+    kind = dns.rdatatype.to_text(record.rdtype)
+    if kind == "CAA":
+        return f'{record.flags} "{record.tag.decode()}" "{dns.rdata._escapify(record.value)}"'
+    if kind == "CERT":
+        return " ".join([str(int(record.certificate_type)), *record.to_text(chunksize=0).split()[1:]])
+    if kind in TEXTS and not isinstance(record, dns.rdata.GenericRdata):
+        return record.to_text(chunksize=0)
+    octets = record.to_wire()
+    return f"\\# {len(octets)} {octets.hex()}".rstrip()
 
 
 def signed(folder):
@@ -121,7 +139,7 @@ def main():
                 if running.poll() is not None:
                     sys.exit(f"{server} did not start: {pathlib.Path(log.name).read_text()[-500:]}")
                 for reply in replies(PORT + at):
-                    lines.append(f"{server} {reply.hex()} {make.text_of(reply).rstrip().replace(chr(10), '//')}")
+                    lines.append(f"{server} {reply.hex()} {make.text_of(reply, data_text).rstrip().replace(chr(10), '//')}")
                 running.kill()
     (HERE / "replies.txt").write_text("\n".join(lines) + "\n")
     print(f"{len(lines)} replies")

@@ -111,7 +111,7 @@ def sections(message):
     return zip(["QUESTION", "ANSWER", "AUTHORITY", "ADDITIONAL"], message.sections)
 
 
-def text_of(wire):
+def text_of(wire, data_text=data_text):
     message = dns.message.from_wire(wire, one_rr_per_rrset=True)
     counts = [len(section) for section in message.sections]
     counts[3] += message.edns >= 0
