@@ -1,6 +1,6 @@
 #!/usr/bin/env python3
-"""Writes rows of `fields` requests to standard output: the data of records that dnspython 2.3 makes of texts, and the fields
-that it has them as.
+"""Writes rows of `fields` and `record` requests to standard output: the data of records that dnspython 2.3 makes of texts, the
+fields that it has them as, and what it writes them as, as they are and in canonical form.
 
 usage: diff/make_fields.py > diff/lists/fields.txt
 
@@ -148,7 +148,7 @@ def word(kind, data, attribute):
     return f"{kind}={int(value) if kind not in ('ipv4', 'ipv6') else value}"
 
 
-def row(text):
+def rows(text):
     kind, text = text.split(" ", 1)
     code = dns.rdatatype.from_text(kind)
     data = dns.rdata.from_text("IN", code, text, origin=ORIGIN, relativize=False)
@@ -159,7 +159,9 @@ def row(text):
         words = [f"octets={wire.hex() or '-'}"]
     else:
         words = [word(of, data, attribute) for of, attribute in (field.split(":") for field in FIELDS[kind].split())]
-    return f"fields {int(code)} 0 {wire.hex() or '-'} = {' '.join(words)}"
+    canonical = data.to_digestable(origin=ORIGIN)
+    yield f"fields {int(code)} 0 {wire.hex() or '-'} = {' '.join(words)}"
+    yield f"record {int(code)} {wire.hex() or '-'} = {wire.hex() or '-'} {canonical.hex() or '-'}"
 
 
 def main():
@@ -167,7 +169,7 @@ def main():
     for source, *texts in TEXTS:
         print(f"\n# {source}.")
         for text in texts:
-            print(row(text))
+            print(*rows(text), sep="\n")
 
 
 main()

@@ -22,6 +22,8 @@ mod messages;
 #[cfg(test)]
 mod nets;
 #[cfg(test)]
+mod rdata;
+#[cfg(test)]
 mod rows;
 #[cfg(test)]
 mod scripts;

@@ -20,6 +20,7 @@ mod notation;
 mod ordering;
 mod read_back;
 mod readings;
+mod records;
 mod requests;
 mod restrict;
 mod scripts;

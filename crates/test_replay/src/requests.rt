@@ -3,8 +3,8 @@
 use crate::notation::BAD_LINE;
 use crate::tally::Tally;
 use crate::{
-    codes, decoding, encoding, errors, fields, labels, names, nets, ordering, readings, restrict,
-    scripts, texts, tokens,
+    codes, decoding, encoding, errors, fields, labels, names, nets, ordering, readings, records,
+    restrict, scripts, texts, tokens,
 };
 use dns_names_wire::error::ProtoResult;
 use std::alloc::Global;
@@ -73,6 +73,7 @@ pub(crate) fn answer(
         "script" | "script-end" | "items" => scripts::answer(alloc, kind, words),
         "error" => errors::answer(alloc, words),
         "fields" => fields::answer(alloc, words),
+        "record" => records::answer(alloc, words),
         "lex" | "lex-cuts" | "lex-texts" | "lex-zone" | "time" | "times" => {
             tokens::answer(alloc, kind, words, tally)
         }

@@ -1,0 +1,107 @@
+//! Data of any type, as they are read from messages and written into them.
+
+use dns_names_wire::binary::BinEncodable;
+use dns_names_wire::decoder::BinDecoder;
+use dns_names_wire::dns_class::DNSClass;
+use dns_names_wire::encoder::BinEncoder;
+use dns_names_wire::error::ProtoError;
+use dns_names_wire::fields::Field;
+use dns_names_wire::name::Name;
+use dns_names_wire::rdata::{RData, RDataError, Record};
+use dns_names_wire::record::RecordRef;
+use dns_names_wire::record_type::RecordType;
+use std::alloc::Global;
+use std::test::Fail;
+
+/// A record of the owner `a.` with data of a type.
+fn record_of(alloc: Global, kind: RecordType, octets: &[u8]) -> Result<Record, &'static str> {
+    let Ok(data) = RData::new(alloc, kind, octets) else {
+        return Err("data of the type");
+    };
+    let Ok(name) = Name::from_ascii(alloc, "a.") else {
+        return Err("a name");
+    };
+    Ok(Record {
+        name,
+        dns_class: DNSClass::IN,
+        ttl: 300,
+        data,
+    })
+}
+
+#[test]
+fn names_are_compressed_in_types_of_rfc_1035_alone(rt: HostRuntime) -> Result<(), Fail> {
+    let alloc = rt.alloc();
+    let mail = record_of(alloc, RecordType::MX, b"\x00\x0a\x01b\x01a\x00")?;
+    let server = record_of(
+        alloc,
+        RecordType::SRV,
+        b"\x00\x01\x00\x02\x00\x03\x01b\x01a\x00",
+    )?;
+    let mut bytes = Vec::new(alloc);
+    let mut encoder = BinEncoder::new(&mut bytes);
+    mail.emit(&mut encoder)?;
+    server.emit(&mut encoder)?;
+    drop(encoder);
+    let first = b"\x01a\x00\x00\x0f\x00\x01\x00\x00\x01\x2c\x00\x06\x00\x0a\x01b\xc0\x00";
+    let second =
+        b"\xc0\x00\x00\x21\x00\x01\x00\x00\x01\x2c\x00\x0b\x00\x01\x00\x02\x00\x03\x01b\x01a\x00";
+    assert!(rt; bytes.as_slice().starts_with(first));
+    assert!(rt; bytes.as_slice().ends_with(second));
+    assert_eq!(rt; bytes.len(), first.len() + second.len());
+    Ok(())
+}
+
+#[test]
+fn a_record_that_does_not_fit_is_undone(rt: HostRuntime) -> Result<(), Fail> {
+    let alloc = rt.alloc();
+    let mail = record_of(alloc, RecordType::MX, b"\x00\x0a\x01b\x01a\x00")?;
+    let mut bytes = Vec::new(alloc);
+    let mut encoder = BinEncoder::new(&mut bytes);
+    Name::from_ascii(alloc, "a.")?.emit(&mut encoder)?;
+    encoder.set_max_size(20);
+    assert!(rt;
+        matches!(
+            mail.emit(&mut encoder),
+            Err(ProtoError::MaxBufferSizeExceeded(20))
+        )
+    );
+    assert_eq!(rt; encoder.len(), 3);
+    encoder.set_max_size(21);
+    mail.emit(&mut encoder)?;
+    assert_eq!(rt; encoder.len(), 21);
+    Ok(())
+}
+
+#[test]
+fn data_of_a_message_are_copied_whole(rt: HostRuntime) -> Result<(), Fail> {
+    let alloc = rt.alloc();
+    let message = b"\x01a\x00\xc0\x00\x00\x0f\x00\x01\x00\x00\x01\x2c\x00\x06\x00\x0a\x01B\xc0\x00";
+    let mut decoder = BinDecoder::new(message.as_slice());
+    decoder.skip(3)?;
+    let found = RecordRef::read_next(&mut decoder)?;
+    let Ok(data) = RData::from_ref(alloc, &found) else {
+        return Err(Fail::from("data of the type"));
+    };
+    assert!(rt; data.record_type() == RecordType::MX);
+    assert!(rt; data.octets() == b"\x00\x0a\x01B\x01a\x00".as_slice());
+    let mut fields = data.fields();
+    assert!(rt; matches!(fields.next(), Some(Ok(Field::U16(10)))));
+    let Some(Ok(Field::Name(exchange))) = fields.next() else {
+        return Err(Fail::from("a name"));
+    };
+    assert!(rt; exchange.eq_name(&Name::from_ascii(alloc, "b.a.")?));
+    assert!(rt; fields.next().is_none());
+    Ok(())
+}
+
+#[test]
+fn octets_that_are_no_data_are_refused(rt: HostRuntime) -> Result<(), Fail> {
+    let alloc = rt.alloc();
+    let Err(RDataError::Field(error)) = RData::new(alloc, RecordType::A, b"\x01\x02\x03\x04\x05")
+    else {
+        return Err(Fail::from("an octet too many"));
+    };
+    assert_eq!(rt; error.field, 1);
+    Ok(())
+}
