@@ -1,3 +1,4 @@
+-- What was written is read.
 use Rattle.std.proofs.Common.{rules, arith}
 use Rattle.uses.proofs.ReadMessages.{is_read}
 use Rattle.uses.proofs.messages.write_and_read.Goals as goal
