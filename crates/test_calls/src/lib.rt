@@ -20,6 +20,8 @@ mod items;
 #[cfg(test)]
 mod messages;
 #[cfg(test)]
+mod name_tables;
+#[cfg(test)]
 mod nets;
 #[cfg(test)]
 mod rdata;

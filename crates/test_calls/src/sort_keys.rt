@@ -9,7 +9,7 @@ use std::alloc::Global;
 use std::test::Fail;
 
 /// The names of RFC 4034, section 6.1, in their order. The RFC writes octets in decimal, so `\200` is 0xC8.
-const IN_ORDER: [&[u8]; 9] = [
+pub(crate) const IN_ORDER: [&[u8]; 9] = [
     b"\x07example\x00",
     b"\x01a\x07example\x00",
     b"\x08yljkjljk\x01a\x07example\x00",
@@ -22,7 +22,7 @@ const IN_ORDER: [&[u8]; 9] = [
 ];
 
 /// Reads the name with a wire form.
-fn name_of(alloc: Global, wire: &[u8]) -> Result<Name, Fail> {
+pub(crate) fn name_of(alloc: Global, wire: &[u8]) -> Result<Name, Fail> {
     Ok(Name::read(alloc, &mut BinDecoder::new(wire)).map_err(|_| "a name")?)
 }
 
