@@ -25,7 +25,7 @@ use std::marker::Model;
 
 /// A name in a message. It borrows its labels from the message, and nothing here allocates.
 ///
-/// It takes 40 bytes, while a `Name` takes some 280 and is a copy: use this to compare a name or to pass over it, and
+/// It takes 48 bytes, while a `Name` takes some 280 and is a copy: use this to compare a name or to pass over it, and
 /// `to_name` to keep it. A contract sees it as the list of its labels.
 #[derive(Drop)]
 pub struct NameRef<'a> {
