@@ -33,12 +33,15 @@ TEXTS = set("""A NS CNAME SOA PTR HINFO MX TXT RP AFSDB AAAA SRV NAPTR KX CERT D
 
 
 def data_text(record):
-    """The text of data as dnspython has it, in one piece, the type of a CERT as a number, and the tag of a CAA in quotes."""
+    """The text of data as dnspython has it, in one piece, those of a CERT as numbers, and the tag of a CAA in quotes."""
     kind = dns.rdatatype.to_text(record.rdtype)
     if kind == "CAA":
         return f'{record.flags} "{record.tag.decode()}" "{dns.rdata._escapify(record.value)}"'
     if kind == "CERT":
-        return " ".join([str(int(record.certificate_type)), *record.to_text(chunksize=0).split()[1:]])
+        numbers = (record.certificate_type, record.key_tag, record.algorithm)
+        return " ".join([*(str(int(number)) for number in numbers), record.to_text(chunksize=0).split()[-1]])
+    if kind == "OPENPGPKEY":
+        return record.to_text()
     if kind in TEXTS and not isinstance(record, dns.rdata.GenericRdata):
         return record.to_text(chunksize=0)
     octets = record.to_wire()
@@ -138,9 +141,11 @@ def main():
                 time.sleep(3)
                 if running.poll() is not None:
                     sys.exit(f"{server} did not start: {pathlib.Path(log.name).read_text()[-500:]}")
-                for reply in replies(PORT + at):
-                    lines.append(f"{server} {reply.hex()} {make.text_of(reply, data_text).rstrip().replace(chr(10), '//')}")
-                running.kill()
+                try:
+                    for reply in replies(PORT + at):
+                        lines.append(f"{server} {reply.hex()} {make.text_of(reply, data_text).rstrip().replace(chr(10), '//')}")
+                finally:
+                    running.kill()
     (HERE / "replies.txt").write_text("\n".join(lines) + "\n")
     print(f"{len(lines)} replies")
 
