@@ -109,7 +109,7 @@ AnyRecordsAreRead = (r : Record) (pieces : List DataPiece) (v w : Encoder) → v
 
 -- ---- octets
 
--- Where not even names of RFC 1035's types are compressed, data at the buffer's end are the octets of their pieces as they are
+-- If not even names of RFC 1035's types are compressed, data at the buffer's end are the octets of their pieces as they are
 -- written: so canonical form goes by the lowered labels of names and the other octets alone.
 abbrev pub WholeDataAreOctets : Type 0
 WholeDataAreOctets = (x : DataValue) (pieces : List DataPiece) (v w : Encoder) → v.offset ≡ length v.bytes

@@ -32,7 +32,7 @@ pub fn data_have_fields()
 {}
 
 /// A record that is written at the buffer's end is read there at once, its fields through any pointers: they are the values
-/// of its pieces, with names lowered where they are written so. At the offset of every candidate a name must be read; so it is
+/// of its pieces, with names lowered if they are written so. At the offset of every candidate a name must be read; so it is
 /// again after the record.
 pub fn any_records_are_read()
     ensures { AnyRecordsAreRead }
