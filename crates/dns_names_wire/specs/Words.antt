@@ -129,6 +129,10 @@ pub use Rattle.dnw_field_text.specs.Spelling.{Appends, ComesBack}
 pub use Rattle.dnw_field_text.specs.Strings.{IsString, IsStringText, Plain, octet_text, octets_from, quote, string_octets, string_text}
 pub use Rattle.dnw_field_text.specs.Strings.{with_octet}
 pub use Rattle.dnw_field_text.specs.Times.{IsDateText, IsDay, IsMoment, IsTimeText, two_at}
+-- Texts of the data of records.
+pub use Rattle.dnw_data_text.specs.DataTexts.{FailsText, IsDataText, IsTextOf, record_line}
+pub use Rattle.dnw_data_text.specs.Generic.{generic_text, IsGeneric}
+pub use Rattle.dnw_data_text.specs.DataTextLaws.{GenericComesBack, IsData}
 -- Whole messages: headers, sections and EDNS.
 pub use Rattle.dnw_message.specs.Edns.{EdnsValue, FailsEdns, FailsOpt, HasEdns, HasOptions, IsEdns, IsResponseCode, OptionValue}
 pub use Rattle.dnw_message.specs.Edns.{first_option, is_opt, opts_in}

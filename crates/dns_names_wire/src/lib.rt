@@ -49,6 +49,14 @@ pub mod codes {
 /// What follows from the tables of types and classes, for callers' proofs.
 pub mod code_laws;
 
+/// The text of the data of records in master files, by the table of fields and in the form that any data have.
+pub mod data_text {
+    pub use dnw_data_text::data_text::{data_text, parse, record_text};
+    pub use dnw_data_text::error::{DataTextError, Wanted};
+    pub use dnw_data_text::generic::Generic;
+    pub use dnw_data_text::laws;
+}
+
 /// A cursor over the bytes of a message.
 pub mod decoder {
     pub use dnw_base::decoder::BinDecoder;

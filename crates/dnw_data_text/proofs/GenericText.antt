@@ -7,7 +7,7 @@ use Rattle.dnw_field_text.proofs.ComeBack.{numbers, hexadecimal}
 use Rattle.dnw_field_text.proofs.HexText.{hex_text-nil}
 use Rattle.dnw_data_text.specs.Words.{after_spaces, after_word, joined}
 use Rattle.dnw_data_text.specs.Generic.{hex_part, generic_text, AreOctets, IsSized, IsGeneric}
-use Rattle.dnw_data_text.specs.TextLaws.{GenericComesBack, IsData}
+use Rattle.dnw_data_text.specs.DataTextLaws.{GenericComesBack, IsData}
 use Rattle.dnw_data_text.proofs.Plain.{is_end, plain-starts, plain-word, plain-after, plain-joined, plain-utf8, decimal-plain, hex-plain}
 
 -- octets in one way at most

@@ -7,4 +7,4 @@ pub mod NameReading
 pub mod Parsing
 pub mod DataTexts
 pub mod Inside
-pub mod TextLaws
+pub mod DataTextLaws
