@@ -7,10 +7,11 @@
 BIND, NSD, Knot and PowerDNS serve example.zone; the first three serve it signed, by keys that are made for one run. Each is
 asked for each owner and type of the zone, with and without EDNS, and for what makes replies of other shapes: names that do not
 exist, a delegation, aliases, replies that are cut, and what they refuse. A line is SERVER HEX, and then the text that
-dnspython gives the message, in the layout of `dnswire message`, with // for the end of a line.
+dnspython gives the message, in the layout of `dnswire message`, with | for the end of a line.
 """
 
 import pathlib
+import re
 import socket
 import subprocess
 import sys
@@ -31,6 +32,18 @@ PORT = 5300
 TEXTS = set("""A NS CNAME SOA PTR HINFO MX TXT RP AFSDB AAAA SRV NAPTR KX CERT DNAME DS SSHFP RRSIG DNSKEY
     NSEC3PARAM TLSA SMIMEA CDS CDNSKEY OPENPGPKEY ZONEMD SPF URI CAA""".split())
 
+# Those whose letters are hexadecimal digits, which dnspython has in lower case.
+HEXADECIMAL = {"DS", "CDS", "SSHFP", "TLSA", "SMIMEA", "ZONEMD", "NSEC3PARAM"}
+
+# The types that have a name here, as the C header has them.
+HEADER = HERE.parent.parent / "include" / "dns_names_wire.h"
+NAMED = {int(code) for code in re.findall(r"DNW_TYPE_\w+ = (\d+)", HEADER.read_text())}
+
+
+def type_text(kind):
+    """The name of a type, if it has one here."""
+    return dns.rdatatype.to_text(kind) if kind in NAMED else f"TYPE{int(kind)}"
+
 
 def data_text(record):
     """The text of data as dnspython has it, in one piece, those of a CERT as numbers, and the tag of a CAA in quotes."""
@@ -43,9 +56,10 @@ def data_text(record):
     if kind == "OPENPGPKEY":
         return record.to_text()
     if kind in TEXTS and not isinstance(record, dns.rdata.GenericRdata):
-        return record.to_text(chunksize=0)
+        text = record.to_text(chunksize=0)
+        return text.upper() if kind in HEXADECIMAL else text
     octets = record.to_wire()
-    return f"\\# {len(octets)} {octets.hex()}".rstrip()
+    return f"\\# {len(octets)} {octets.hex().upper()}".rstrip()
 
 
 def signed(folder):
@@ -143,7 +157,7 @@ def main():
                     sys.exit(f"{server} did not start: {pathlib.Path(log.name).read_text()[-500:]}")
                 try:
                     for reply in replies(PORT + at):
-                        lines.append(f"{server} {reply.hex()} {make.text_of(reply, data_text).rstrip().replace(chr(10), '//')}")
+                        lines.append(f"{server} {reply.hex()} {make.text_of(reply, data_text, type_text).rstrip().replace(chr(10), '|')}")
                 finally:
                     running.kill()
     (HERE / "replies.txt").write_text("\n".join(lines) + "\n")

@@ -111,7 +111,7 @@ def sections(message):
     return zip(["QUESTION", "ANSWER", "AUTHORITY", "ADDITIONAL"], message.sections)
 
 
-def text_of(wire, data_text=data_text):
+def text_of(wire, data_text=data_text, type_text=dns.rdatatype.to_text):
     message = dns.message.from_wire(wire, one_rr_per_rrset=True)
     counts = [len(section) for section in message.sections]
     counts[3] += message.edns >= 0
@@ -125,7 +125,7 @@ def text_of(wire, data_text=data_text):
         if count:
             lines += ["", f";; {title} SECTION:"]
         for rrset in section:
-            kind, klass = dns.rdatatype.to_text(rrset.rdtype), dns.rdataclass.to_text(rrset.rdclass)
+            kind, klass = type_text(rrset.rdtype), dns.rdataclass.to_text(rrset.rdclass)
             if title == "QUESTION":
                 lines.append(f";{rrset.name}\t{klass}\t{kind}")
             for record in rrset:

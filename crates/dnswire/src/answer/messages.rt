@@ -1,6 +1,7 @@
 //! Whole messages in the layout of `dig`, and queries.
 
 use super::Refusal;
+use dns_names_wire::data_text::data_text;
 use dns_names_wire::dns_class::DNSClass;
 use dns_names_wire::error::ProtoError;
 use dns_names_wire::message::{
@@ -143,8 +144,7 @@ fn push_record(alloc: Global, text: &mut String, record: &RecordRef<'_>) -> Resu
         kind.as_str()
     )?;
     text.push_str(front.as_str())?;
-    let data = record.rdata();
-    text.push_str(format!(in alloc; "\\# {} {}", data.len(), hex::encode(alloc, data)?)?.as_str())?;
+    text.push_str(data_text(alloc, record)?.as_str())?;
     Ok(())
 }
 

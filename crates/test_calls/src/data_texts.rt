@@ -1,0 +1,163 @@
+//! The texts of the data of records. The octets and the texts are dnspython's (`rdata.to_wire()`, `rdata.to_text()`), but for
+//! digits in upper case, base 64 in one word, numbers in place of names of algorithms, and types that have no text of their own
+//! here, which are in the form of RFC 3597, section 5.
+
+use dns_names_wire::data_text::{DataTextError, Generic, Wanted, data_text, parse, record_text};
+use dns_names_wire::decoder::BinDecoder;
+use dns_names_wire::field_text::parse_hexadecimal;
+use dns_names_wire::fields::Kind;
+use dns_names_wire::name::Name;
+use dns_names_wire::record::RecordRef;
+use dns_names_wire::record_type::RecordType;
+use std::alloc::Global;
+use std::test::Fail;
+
+/// Type codes, data and their texts.
+const ROWS: &[(u16, &str, &str)] = &[
+    (1, "C0000201", "192.0.2.1"),
+    (2, "036E7331076578616D706C6503636F6D00", "ns1.example.com."),
+    (5, "0161076578616D706C6500", "a.example."),
+    (6, "026E73076578616D706C65000561646D696E076578616D706C650078A3F17500001C2000000E10001275000000012C", "ns.example. admin.example. 2024010101 7200 3600 1209600 300"),
+    (12, "04686F7374076578616D706C6500", "host.example."),
+    (13, "025043074C696E75782035", "\"PC\" \"Linux 5\""),
+    (15, "000A046D61696C076578616D706C6503636F6D00", "10 mail.example.com."),
+    (16, "0B763D73706631202D616C6C056122625C6302C878", "\"v=spf1 -all\" \"a\\\"b\\\\c\" \"\\200x\""),
+    (17, "046D626F78076578616D706C650003747874076578616D706C6500", "mbox.example. txt.example."),
+    (18, "000103616673076578616D706C6500", "1 afs.example."),
+    (36, "000A026B78076578616D706C6500", "10 kx.example."),
+    (28, "20010DB8000000000000000000000001", "2001:db8::1"),
+    (33, "0000000513C403736970076578616D706C6503636F6D00", "0 5 5060 sip.example.com."),
+    (35, "0064000A0175074532552B7369701B215E2E2A24217369703A696E666F406578616D706C652E636F6D2100", "100 10 \"u\" \"E2U+sip\" \"!^.*$!sip:info@example.com!\" ."),
+    (39, "0164076578616D706C6500", "d.example."),
+    (43, "EC4505012BB183AF5F22588179A53B0A98631FAD1A292118", "60485 5 1 2BB183AF5F22588179A53B0A98631FAD1A292118"),
+    (44, "0201123456789ABCDEF67890123456789ABCDEF67890", "2 1 123456789ABCDEF67890123456789ABCDEF67890"),
+    (48, "010003050103D22A6CA77F35B893206FD35E4C506D8378843709B97E041647E1BFF43D8D64C649AF1E371973C9E8", "256 3 5 AQPSKmynfzW4kyBv015MUG2DeIQ3Cbl+BBZH4b/0PY1kxkmvHjcZc8no"),
+    (46, "00010503000151803E7C9DD73E5510D70A52076578616D706C6503636F6D00A090755BA58D1AFFA576F4375831B4310920E481218D18A9F164EB", "A 5 3 86400 20030322173103 20030220173103 2642 example.com. oJB1W6WNGv+ldvQ3WDG0MQkg5IEhjRip8WTr"),
+    (52, "0301010123456789ABCDEF", "3 1 1 0123456789ABCDEF"),
+    (53, "0301010123456789ABCDEF", "3 1 1 0123456789ABCDEF"),
+    (59, "EC4505012BB183AF5F22588179A53B0A98631FAD1A292118", "60485 5 1 2BB183AF5F22588179A53B0A98631FAD1A292118"),
+    (60, "010003050103D22A6CA77F35B893206FD35E4C506D83", "256 3 5 AQPSKmynfzW4kyBv015MUG2D"),
+    (61, "0103D22A6CA77F35B893206FD35E4C506D83", "AQPSKmynfzW4kyBv015MUG2D"),
+    (63, "7848B91C0101C68090D90A7AED716BC459F9340E3D7C1370D4D24B7E2FC3A1DDC0B9A87153B9A9713B3C9AE5CC27777F98B8E730044C", "2018031900 1 1 C68090D90A7AED716BC459F9340E3D7C1370D4D24B7E2FC3A1DDC0B9A87153B9A9713B3C9AE5CC27777F98B8E730044C"),
+    (99, "0B763D73706631202D616C6C", "\"v=spf1 -all\""),
+    (257, "000569737375656C657473656E63727970742E6F7267", "0 issue \"letsencrypt.org\""),
+    (256, "000A00016674703A2F2F667470312E6578616D706C652E636F6D2F7075626C6963", "10 1 \"ftp://ftp1.example.com/public\""),
+    (51, "0100000C04AABBCCDD", "1 0 12 AABBCCDD"),
+    (51, "0100000000", "1 0 0 -"),
+    (37, "00010002030103D22A6CA77F35B8", "1 2 3 AQPSKmynfzW4"),
+    (2, "06612E622063C8076578616D706C6500", "a\\.b\\032c\\200.example."),
+    (47, "04686F7374076578616D706C6503636F6D000006400100000003041B000000000000000000000000000000000000000000000000000020", "\\# 55 04686F7374076578616D706C6503636F6D000006400100000003041B000000000000000000000000000000000000000000000000000020"),
+    (108, "00005E00532A", "\\# 6 00005E00532A"),
+    (64, "000103666F6F076578616D706C6503636F6D00000300020035", "\\# 25 000103666F6F076578616D706C6503636F6D00000300020035"),
+    (29, "002325238CE82360854A10A000989A68", "\\# 16 002325238CE82360854A10A000989A68"),
+];
+
+/// Returns the octets of a record with the root as its owner, and these data.
+fn record_octets(alloc: Global, code: u16, data: &[u8]) -> Result<Vec<u8>, Fail> {
+    let mut octets = Vec::from_slice(alloc, &[0])?;
+    octets.extend_from_slice(&code.to_be_bytes())?;
+    octets.extend_from_slice(&[0, 1, 0, 0, 1, 44])?;
+    octets.extend_from_slice(&(data.len() as u16).to_be_bytes())?;
+    octets.extend_from_slice(data)?;
+    Ok(octets)
+}
+
+#[test]
+fn data_have_the_texts_of_dnspython(rt: HostRuntime) -> Result<(), Fail> {
+    let alloc = rt.alloc();
+    for (code, digits, text) in ROWS {
+        let mut data = Vec::new(alloc);
+        parse_hexadecimal(digits, &mut data)?;
+        let octets = record_octets(alloc, *code, data.as_slice())?;
+        let record = RecordRef::read_next(&mut BinDecoder::new(octets.as_slice()))?;
+        assert_eq!(rt; data_text(alloc, &record)?.as_str(), *text);
+        let parsed = parse(alloc, RecordType::from(*code), text, None)?;
+        assert_eq!(rt; parsed.as_slice(), data.as_slice());
+        let generic = format!(in alloc; "{}", Generic(data.as_slice()))?;
+        let parsed = parse(alloc, RecordType::from(*code), generic.as_str(), None)?;
+        assert_eq!(rt; parsed.as_slice(), data.as_slice());
+    }
+    Ok(())
+}
+
+/// RFC 3597, section 5, has the first two texts.
+#[test]
+fn any_data_are_parsed_as_octets(rt: HostRuntime) -> Result<(), Fail> {
+    let alloc = rt.alloc();
+    let unknown = RecordType::from(731);
+    let parsed = parse(alloc, unknown, "\\# 6 abcd ef 01 23 45", None)?;
+    assert_eq!(rt; parsed.as_slice(), b"\xab\xcd\xef\x01\x23\x45".as_slice());
+    let parsed = parse(alloc, RecordType::A, "\\# 4 0A000001", None)?;
+    assert_eq!(rt; parsed.as_slice(), b"\x0a\x00\x00\x01".as_slice());
+    assert_eq!(rt; parse(alloc, unknown, "\\# 0", None)?.len(), 0);
+    Ok(())
+}
+
+#[test]
+fn names_are_completed_by_the_origin(rt: HostRuntime) -> Result<(), Fail> {
+    let alloc = rt.alloc();
+    let origin = Name::from_ascii(alloc, "example.")?;
+    let parsed = parse(alloc, RecordType::MX, "10 mail", Some(&origin))?;
+    assert_eq!(rt; parsed.as_slice(), b"\x00\x0a\x04mail\x07example\x00".as_slice());
+    let parsed = parse(alloc, RecordType::MX, "10 @", Some(&origin))?;
+    assert_eq!(rt; parsed.as_slice(), b"\x00\x0a\x07example\x00".as_slice());
+    Ok(())
+}
+
+#[test]
+fn a_wrong_text_has_its_field_and_offset(rt: HostRuntime) {
+    let alloc = rt.alloc();
+    assert!(rt;
+        matches!(
+            parse(alloc, RecordType::MX, "10  mail", None),
+            Err(DataTextError::Wanted {
+                field: 1,
+                offset: 4,
+                wanted: Wanted::Field(Kind::Name(_)),
+            })
+        )
+    );
+    assert!(rt;
+        matches!(
+            parse(alloc, RecordType::A, "192.0.2.1 x", None),
+            Err(DataTextError::Wanted {
+                field: 1,
+                offset: 10,
+                wanted: Wanted::End,
+            })
+        )
+    );
+    assert!(rt;
+        matches!(
+            parse(alloc, RecordType::A, "\\# 5 0A000001", None),
+            Err(DataTextError::Wanted {
+                field: 1,
+                offset: 5,
+                wanted: Wanted::Octets(5),
+            })
+        )
+    );
+    assert!(rt;
+        matches!(
+            parse(alloc, RecordType::NULL, "0A", None),
+            Err(DataTextError::Wanted {
+                field: 0,
+                offset: 0,
+                wanted: Wanted::Generic,
+            })
+        )
+    );
+}
+
+/// The data of the record point to its owner, and are printed as the whole name.
+#[test]
+fn a_record_is_one_line(rt: HostRuntime) -> Result<(), Fail> {
+    let alloc = rt.alloc();
+    let octets = b"\x01a\x00\x00\x0f\x00\x01\x00\x00\x01\x2c\x00\x04\x00\x0a\xc0\x00";
+    let record = RecordRef::read_next(&mut BinDecoder::new(octets.as_slice()))?;
+    assert_eq!(rt; record_text(alloc, &record)?.as_str(), "a. 300 IN MX 10 a.");
+    let octets = b"\x00\xff\x00\x00\x01\x00\x00\x01\x2c\x00\x01\x07";
+    let record = RecordRef::read_next(&mut BinDecoder::new(octets.as_slice()))?;
+    assert_eq!(rt; record_text(alloc, &record)?.as_str(), ". 300 IN TYPE65280 \\# 1 07");
+    Ok(())
+}
