@@ -104,6 +104,8 @@ edns_comes_back e r x opt (owner, kind, class, ttl, rdata) =
         omega (arith, t, bit, version),
         omega (arith, t, bit, version),
         rw t (bit-of e.dnssec_ok (edns_ttl e / 2 ^ 15) (low-bit e.dnssec_ok e.rcode_high e.version)),
+        refl,
+        refl,
         subst (λ d. OptionsAre d (map option_value e.options.now)) (sym (data-are r.rdata x (options_wire e.options.now) opt.rdata rdata)) (options-are e.options.now opt.options),
       ),
     )

@@ -17,7 +17,7 @@ use Rattle.dnw_message_writer.proofs.EdnsBack.{edns_comes_back}
 
 -- the last of these records is the only OPT record
 only : (e : WireEdns) (last : WireRecord) (rs : List WireRecord) (xs : List RecordValue) → IsOptOf e last → AllByRecursion IsNoOpt rs
-    → AllZip RecordIsRead (rs ++ last ∷ []) xs → (x : RecordValue) × (opts_in xs ≡ x ∷ []) × IsEdns x (edns_value e)
+    → AllZip RecordIsRead (rs ++ last ∷ []) xs → (x : RecordValue) × (opts_in xs ≡ x ∷ []) × IsEdns x (edns_value e x.start x.len)
 only e last [] (x ∷ []) opt others (one, done) =
     let (kind, edns) = edns_comes_back e last x opt one in
     (x, ap (λ (k : RecordType). cond (is_opt k) (x ∷ []) []) kind, edns)
@@ -34,4 +34,5 @@ pub messages_have_edns : MessagesHaveEdns
 messages_have_edns metadata c last e bytes m k holds opt others at =
     let r = written_messages_are_read metadata (ending_with last c) bytes holds in
     let same = one_message bytes r.message m r.pointers k r.is at in
-    subst (λ (x : MessageValue). HasEdns x (Some (edns_value e))) same.0 (only e last c.additionals r.message.additionals opt others r.additionals)
+    let (x, are, edns) = only e last c.additionals r.message.additionals opt others r.additionals in
+    (x.start, x.len, subst (λ (m : MessageValue). HasEdns m (Some (edns_value e x.start x.len))) same.0 (x, are, edns))

@@ -49,13 +49,15 @@ pub record IsOptOf (e : WireEdns) (r : WireRecord) : Type 0 where
 abbrev pub option_value : WireOption → OptionValue
 option_value o = record { code = o.code; octets = o.octets.now }
 
--- what it is read as
-abbrev pub edns_value : WireEdns → EdnsValue
-edns_value e = record {
+-- what it is read as, if its options are at this offset and take so many octets
+abbrev pub edns_value : WireEdns → ℕ → ℕ → EdnsValue
+edns_value e start len = record {
   max_payload = max e.max_payload min_payload;
   rcode_high = e.rcode_high;
   version = e.version;
   dnssec_ok = e.dnssec_ok;
+  start = start;
+  len = len;
   options = map option_value e.options.now;
 }
 

@@ -40,10 +40,11 @@ WrittenMessagesAreRead = (metadata : Metadata) (c : Contents) (bytes : List ℕ)
 
 -- EDNS that is written is read as the same: its OPT record is read as a record that says so.
 abbrev pub EdnsComesBack : Type 0
-EdnsComesBack = (e : WireEdns) (r : WireRecord) (x : RecordValue) → IsOptOf e r → RecordIsRead r x → (x.record_type ≡ OPT) × IsEdns x (edns_value e)
+EdnsComesBack = (e : WireEdns) (r : WireRecord) (x : RecordValue) → IsOptOf e r → RecordIsRead r x
+    → (x.record_type ≡ OPT) × IsEdns x (edns_value e x.start x.len)
 
 -- So a message that ends with this OPT record, and has no other in its additional section, is read with this EDNS.
 abbrev pub MessagesHaveEdns : Type 0
 MessagesHaveEdns = (metadata : Metadata) (c : Contents) (last : WireRecord) (e : WireEdns) (bytes : List ℕ) (m : MessageValue) (k : ℕ)
     → Holds metadata (ending_with last c) bytes → IsOptOf e last → AllByRecursion IsNoOpt c.additionals → MessageAt bytes m k
-    → HasEdns m (Some (edns_value e))
+    → (start : ℕ) × (len : ℕ) × HasEdns m (Some (edns_value e start len))

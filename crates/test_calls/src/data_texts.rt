@@ -1,5 +1,5 @@
 //! The texts of the data of records. The octets and the texts are dnspython's (`rdata.to_wire()`, `rdata.to_text()`), but for
-//! digits in upper case, base 64 in one word, numbers in place of names of algorithms, and types that have no text of their own
+//! digits in upper case, base 64 in one word, the tag of a CAA in quotes, and types that have no text of their own
 //! here, which are in the form of RFC 3597, section 5.
 
 use dns_names_wire::data_text::{DataTextError, Generic, Wanted, data_text, parse, record_text};
@@ -40,7 +40,7 @@ const ROWS: &[(u16, &str, &str)] = &[
     (61, "0103D22A6CA77F35B893206FD35E4C506D83", "AQPSKmynfzW4kyBv015MUG2D"),
     (63, "7848B91C0101C68090D90A7AED716BC459F9340E3D7C1370D4D24B7E2FC3A1DDC0B9A87153B9A9713B3C9AE5CC27777F98B8E730044C", "2018031900 1 1 C68090D90A7AED716BC459F9340E3D7C1370D4D24B7E2FC3A1DDC0B9A87153B9A9713B3C9AE5CC27777F98B8E730044C"),
     (99, "0B763D73706631202D616C6C", "\"v=spf1 -all\""),
-    (257, "000569737375656C657473656E63727970742E6F7267", "0 issue \"letsencrypt.org\""),
+    (257, "000569737375656C657473656E63727970742E6F7267", "0 \"issue\" \"letsencrypt.org\""),
     (256, "000A00016674703A2F2F667470312E6578616D706C652E636F6D2F7075626C6963", "10 1 \"ftp://ftp1.example.com/public\""),
     (51, "0100000C04AABBCCDD", "1 0 12 AABBCCDD"),
     (51, "0100000000", "1 0 0 -"),
