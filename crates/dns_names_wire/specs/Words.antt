@@ -132,7 +132,7 @@ pub use Rattle.dnw_field_text.specs.Times.{IsDateText, IsDay, IsMoment, IsTimeTe
 -- Texts of the data of records.
 pub use Rattle.dnw_data_text.specs.DataTexts.{FailsText, IsDataText, IsTextOf, record_line}
 pub use Rattle.dnw_data_text.specs.Generic.{generic_text, IsGeneric}
-pub use Rattle.dnw_data_text.specs.DataTextLaws.{GenericComesBack, IsData}
+pub use Rattle.dnw_data_text.specs.DataTextLaws.{GenericComesBack, IsData as IsDataOctets}
 -- Whole messages: headers, sections and EDNS.
 pub use Rattle.dnw_message.specs.Edns.{EdnsValue, FailsEdns, FailsOpt, HasEdns, HasOptions, IsEdns, IsResponseCode, OptionValue}
 pub use Rattle.dnw_message.specs.Edns.{first_option, is_opt, opts_in}
