@@ -3,21 +3,26 @@
 use super::Refusal;
 use dns_names_wire::data_text::data_text;
 use dns_names_wire::dns_class::DNSClass;
-use dns_names_wire::error::ProtoError;
 use dns_names_wire::message::{
-    AddError, EdnsRef, Entry, MessageRef, MessageType, Metadata, OpCode, Records, ResponseCode,
+    AddError, Entry, MessageRef, MessageType, Metadata, OpCode, Records, ResponseCode, WireEdns,
     WireQuery, write,
 };
 use dns_names_wire::name::Name;
-use dns_names_wire::record::{RecordRef, WireData, WireRecord};
+use dns_names_wire::record::RecordRef;
 use dns_names_wire::record_type::RecordType;
 use std::alloc::Global;
 
 /// The greatest query: a header, the longest name, a type and a class, and an `OPT` record without options.
 const MAX_QUERY: u16 = 12 + 255 + 4 + 11;
 
-/// The size of a response that a query asks for by EDNS, which passes the links of the internet in one piece (DNS flag day 2020).
-const PAYLOAD: u16 = 1232;
+/// What a query says by EDNS: the size of a response that passes most links in one piece (DNS flag day 2020), and no option.
+const EDNS: WireEdns<'static> = WireEdns {
+    max_payload: 1232,
+    rcode_high: 0,
+    version: 0,
+    dnssec_ok: false,
+    options: &[],
+};
 
 /// Returns a message as text: its header, what it says by EDNS, and each item of its sections in a line.
 pub fn listing(alloc: Global, octets: &[u8]) -> Result<String, Refusal> {
@@ -93,7 +98,7 @@ fn flags_of(metadata: &Metadata) -> [(bool, &'static str); 7] {
 fn op_text(alloc: Global, op: OpCode) -> Result<String, Refusal> {
     match op {
         OpCode::Unknown(code) => Ok(format!(in alloc; "RESERVED{code}")?),
-        _ => Ok(capitals(alloc, op.into())?),
+        _ => capitals(alloc, op.into()),
     }
 }
 
@@ -101,7 +106,7 @@ fn op_text(alloc: Global, op: OpCode) -> Result<String, Refusal> {
 fn response_text(alloc: Global, response: ResponseCode) -> Result<String, Refusal> {
     match response {
         ResponseCode::Unknown(code) => Ok(format!(in alloc; "RESERVED{code}")?),
-        _ => Ok(capitals(alloc, response.into())?),
+        _ => capitals(alloc, response.into()),
     }
 }
 
@@ -162,7 +167,7 @@ pub fn query(alloc: Global, name: &str, kind: &str, has_edns: bool) -> Result<St
         query_class: DNSClass::IN,
     }))?;
     if has_edns {
-        entries.push(Entry::Additional(opt(alloc)))?;
+        entries.push(Entry::Additional(EDNS.to_record(alloc)?))?;
     }
     let mut octets = Vec::new(alloc);
     for outcome in write(alloc, &mut octets, asking(), MAX_QUERY, entries.as_slice())? {
@@ -186,16 +191,5 @@ fn asking() -> Metadata {
         authentic_data: false,
         checking_disabled: false,
         response_code: ResponseCode::NoError,
-    }
-}
-
-/// An `OPT` record without options (RFC 6891, section 6.1.2).
-fn opt(alloc: Global) -> WireRecord {
-    WireRecord {
-        owner: Name::root(alloc),
-        record_type: RecordType::OPT,
-        class: DNSClass::for_opt(PAYLOAD),
-        ttl: 0,
-        rdata: WireData::Bytes(Vec::new(alloc)),
     }
 }
