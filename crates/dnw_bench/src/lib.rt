@@ -299,13 +299,13 @@ fn read_each_record(alloc: Global, msg: &[u8]) -> ProtoResult<u64> {
         let record = RecordRef::read(alloc, &mut decoder)?;
         let owner = record.owner().to_name(alloc)?;
         let data = if has_name(record.record_type()) {
-            record.data_name(alloc)?.encoded_len()
+            size(&record.data_name(alloc)?)
         } else {
-            record.rdata().len()
+            record.rdata().len() as u64
         };
         sum = sum
-            .wrapping_add(owner.encoded_len() as u64)
-            .wrapping_add(data as u64)
+            .wrapping_add(size(&owner))
+            .wrapping_add(data)
             .wrapping_add(record.ttl() as u64);
     }
     Ok(sum)
@@ -444,8 +444,25 @@ fn read_one(alloc: Global, msg: &[u8], start: u32) -> u64 {
         return FAILURE;
     }
     match Name::read(alloc, &mut decoder) {
-        Ok(name) => (decoder.index() as u64).wrapping_add(65536 * name.encoded_len() as u64),
+        Ok(name) => (decoder.index() as u64)
+            .wrapping_add(65536 * name.encoded_len() as u64)
+            .wrapping_add(closing(&name)),
         Err(_) => FAILURE,
+    }
+}
+
+/// Returns the size of a name's wire form.
+#[inline]
+fn size(name: &Name) -> u64 {
+    (name.encoded_len() as u64).wrapping_add(closing(name))
+}
+
+/// Returns the closing zero of a name: so its octets are needed, and LLVM leaves none of the work out.
+#[inline]
+fn closing(name: &Name) -> u64 {
+    match name.as_wire().last() {
+        Some(octet) => u64::from(*octet),
+        None => FAILURE,
     }
 }
 
@@ -466,7 +483,8 @@ fn emit_each(alloc: Global, names: &[Name], encoding: NameEncoding) -> u64 {
 fn clone_each(alloc: Global, names: &[Name]) -> ProtoResult<Vec<Name>> {
     let mut copies = Vec::with_capacity(alloc, names.len())?;
     for name in names {
-        copies.push(name.clone()?)?;
+        copies.reserve(1)?;
+        copies.push_reserved(name.clone()?);
     }
     Ok(copies)
 }
@@ -475,7 +493,7 @@ fn parse_each(alloc: Global, texts: &[&str]) -> u64 {
     let mut sum = 0u64;
     for text in texts {
         sum = sum.wrapping_add(match Name::from_ascii(alloc, text) {
-            Ok(name) => name.encoded_len() as u64,
+            Ok(name) => size(&name),
             Err(_) => FAILURE,
         });
     }

@@ -2,3 +2,4 @@ pub mod Wires
 pub mod OpenWires
 pub mod EditLemmas
 pub mod LowerWires
+pub mod LastLengths

@@ -1,2 +1,3 @@
 -- What no public clause of a higher crate cites: how wire forms are kept.
+pub mod Lengths
 pub mod WireBytes

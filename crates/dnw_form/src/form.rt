@@ -1,17 +1,19 @@
 //! The wire form of a name.
-ghost use Rattle.std.specs.Prelude.{◌≡◌, ◌≢◌, ℕ, ◌+◌, ◌-◌, ◌≤◌, ◌↔◌, List, [], ◌∷◌, ◌++◌, length, drop, Ok, IsTrue, IfErr, OnOk, MatchOption};
+ghost use Rattle.std.specs.Prelude.{◌≡◌, ◌≢◌, ℕ, ◌+◌, ◌-◌, ◌≤◌, ◌↔◌, List, [], ◌∷◌, ◌++◌, length, drop, reverse, Ok, IsTrue, IfErr, OnOk, MatchOption};
 ghost use Rattle.dnw_base.specs.Limits.{max_name};
 ghost use Rattle.dnw_error.specs.Fault.{FailsOr, Updates};
 ghost use Rattle.dnw_base.specs.Labels.{IsLabel, wildcard};
 ghost use Rattle.dnw_base.specs.Names.{AreLabels, encoded_size, lower, wire};
 ghost use Rattle.dnw_form.specs.Edits.{with_label, with_labels};
+ghost use Rattle.dnw_form.specs.Inside.Lengths.{HasLengths};
 ghost use Rattle.dnw_form.specs.Inside.WireBytes.{labels_of, IsWire};
 
 use crate::label_iter::LabelIter;
+use crate::lengths::{few_lengths, with_length};
+use crate::octets::Octets;
 use crate::wire_labels::{WireLabels, last_labels};
 use dnw_base::limits::MAX_NAME;
 use dnw_error::error::{DecodeError, ProtoError, ProtoResult};
-use smallvec::SmallVec;
 use std::alloc::Global;
 use std::marker::Model;
 
@@ -21,51 +23,54 @@ use std::marker::Model;
 /// A contract sees it as the list of its labels.
 #[derive(Drop)]
 pub struct WireForm {
-    bytes: SmallVec<u8, MAX_NAME>,
+    bytes: Octets,
+    // The lengths of the last labels, or 0 if they are not known: so two forms are compared without a walk over them.
+    lengths: u64,
 }
 
 impl Model for WireForm {
-    ghost use Rattle.std.specs.Prelude.{◌≡◌, ℕ, List};
-    ghost use Rattle.dnw_base.specs.Limits.{max_name};
+    ghost use Rattle.std.specs.Prelude.{ℕ, List, reverse};
+    ghost use Rattle.dnw_form.specs.Inside.Lengths.{HasLengths};
     ghost use Rattle.dnw_form.specs.Inside.WireBytes.{labels_of, IsWire};
 
     ghost Value = { List (List ℕ) };
 
-    ghost view = { λ form. labels_of form.bytes.items };
+    ghost view = { λ form. labels_of form.bytes };
 
-    ghost invariant = { λ form. IsWire form.bytes.items × (form.bytes.capacity ≡ max_name) };
+    ghost invariant = { λ form. IsWire form.bytes × HasLengths (reverse (labels_of form.bytes)) form.lengths };
 }
 
 impl WireForm {
     /// Creates the wire form of no labels.
     #[inline(always)]
-    pub fn new(alloc: Global) -> Self
+    pub fn new(_alloc: Global) -> Self
         ensures { result ≡ [] }
     {
-        let mut bytes = SmallVec::new(alloc);
-        bytes.push_reserved(0);
-        WireForm { bytes }
+        let mut bytes = Octets::new();
+        bytes.push(0);
+        WireForm { bytes, lengths: 0 }
     }
 
-    /// Takes octets that are a wire form.
+    /// Takes octets that are a wire form. They are not walked over, so no lengths are known.
     #[inline(always)]
-    pub fn from_wire(bytes: SmallVec<u8, MAX_NAME>) -> Self
-        requires form { IsWire bytes.items }
-        requires inline { bytes.capacity ≡ max_name }
-        ensures { result ≡ labels_of bytes.items }
+    #[tactic(auto, using(crate::proofs::LastLengths::none_known))]
+    pub fn from_wire(bytes: Octets) -> Self
+        requires { IsWire bytes }
+        ensures { result ≡ labels_of bytes }
     {
-        WireForm { bytes }
+        WireForm { bytes, lengths: 0 }
     }
 
     /// Copies octets that are a wire form.
     #[inline(always)]
     #[tactic(auto, using(crate::proofs::Wires::few_octets))]
-    pub fn from_octets(alloc: Global, octets: &[u8]) -> Self
+    pub fn from_octets(_alloc: Global, octets: &[u8]) -> Self
         requires { IsWire octets.now }
         ensures { result ≡ labels_of octets.now }
     {
         WireForm {
-            bytes: inline_copy(alloc, octets),
+            bytes: Octets::from_slice(octets),
+            lengths: few_lengths(octets),
         }
     }
 
@@ -86,6 +91,15 @@ impl WireForm {
         ensures labels { AreLabels self.now }
     {
         self.bytes.len()
+    }
+
+    /// Returns the lengths of the last labels, eight at most, in the octets of a number, that of the last one in the low octet.
+    /// It may be 0 if they are not known.
+    #[inline(always)]
+    pub fn lengths(&self) -> u64
+        ensures { HasLengths (reverse self.now) result }
+    {
+        self.lengths
     }
 
     /// Returns `true` if there are no labels.
@@ -127,6 +141,7 @@ impl WireForm {
             return Err(ProtoError::Decode(DecodeError::DomainNameTooLong(size)));
         }
         push_label(&mut self.bytes, label);
+        self.lengths = with_length(self.lengths, label.len() as u8);
         Ok(())
     }
 
@@ -145,12 +160,7 @@ impl WireForm {
     pub fn last(&self, count: usize) -> Self
         ensures { result ≡ drop (length self.now - count) self.now }
     {
-        WireForm {
-            bytes: inline_copy(
-                *self.bytes.allocator(),
-                last_labels(self.labels(), count).as_wire(),
-            ),
-        }
+        WireForm::from_wire(Octets::from_slice(last_labels(self.labels(), count).as_wire()))
     }
 
     /// Returns the form with `*` in place of the first label (RFC 4592, section 2.1.1), or `None` if there is no label.
@@ -159,83 +169,45 @@ impl WireForm {
     {
         let mut labels = self.labels();
         labels.next()?;
-        let mut bytes = SmallVec::new(*self.bytes.allocator());
-        bytes.push_reserved(1);
-        bytes.push_reserved(b'*');
-        extend(&mut bytes, labels.as_wire());
-        Some(WireForm { bytes })
+        let mut bytes = Octets::new();
+        bytes.push(1);
+        bytes.push(b'*');
+        bytes.extend(labels.as_wire());
+        Some(WireForm::from_wire(bytes))
     }
 
     /// Returns the form with its ASCII letters in lower case (RFC 4343).
-    #[tactic(auto, using(crate::proofs::Wires::few_octets))]
     pub fn to_lowercase(&self) -> Self
         ensures { result ≡ lower self.now }
     {
-        let mut bytes = copied(&self.bytes);
+        let mut bytes = self.bytes.clone();
         // Length octets are no letters.
-        bytes.as_mut_slice().make_ascii_lowercase();
-        WireForm { bytes }
+        bytes.make_ascii_lowercase();
+        WireForm::from_wire(bytes)
     }
 
     /// Copies the form.
     #[inline(always)]
-    #[tactic(auto, using(crate::proofs::Wires::few_octets))]
     pub fn clone(&self) -> Self
         ensures { result ≡ self.now }
     {
-        let mut copy = WireForm {
-            bytes: SmallVec::new(*self.bytes.allocator()),
-        };
-        extend(&mut copy.bytes, self.bytes.as_slice());
-        copy
+        WireForm {
+            bytes: self.bytes.clone(),
+            lengths: self.lengths,
+        }
     }
 }
 
-/// Copies the octets of a wire form.
-#[inline(always)]
-fn copied(bytes: &SmallVec<u8, MAX_NAME>) -> SmallVec<u8, MAX_NAME>
-    requires { length bytes.now.items ≤ max_name }
-    ensures items { result.items ≡ bytes.now.items }
-    ensures inline { result.capacity ≡ max_name }
-{
-    inline_copy(*bytes.allocator(), bytes.as_slice())
-}
-
-/// Copies octets that fit inline.
-#[inline(always)]
-fn inline_copy(alloc: Global, octets: &[u8]) -> SmallVec<u8, MAX_NAME>
-    requires { length octets.now ≤ max_name }
-    ensures items { result.items ≡ octets.now }
-    ensures inline { result.capacity ≡ max_name }
-{
-    let mut copy = SmallVec::new(alloc);
-    extend(&mut copy, octets);
-    copy
-}
-
-/// Adds octets that fit inline.
-#[inline(always)]
-fn extend(bytes: &mut SmallVec<u8, MAX_NAME>, octets: &[u8])
-    requires inline { bytes.old.capacity ≡ max_name }
-    requires room { length bytes.old.items + length octets.now ≤ max_name }
-    ensures items { bytes.new.items ≡ bytes.old.items ++ octets.now }
-    ensures inline { bytes.new.capacity ≡ max_name }
-{
-    bytes.extend_from_slice(octets).unwrap();
-}
-
 /// Adds a label before the closing zero.
-fn push_label(bytes: &mut SmallVec<u8, MAX_NAME>, label: &[u8])
-    requires inline { bytes.old.capacity ≡ max_name }
-    requires wire { IsWire bytes.old.items }
+fn push_label(bytes: &mut Octets, label: &[u8])
+    requires wire { IsWire bytes.old }
     requires label { IsLabel label.now }
-    requires room { length bytes.old.items + 1 + length label.now ≤ max_name }
-    ensures wire { IsWire bytes.new.items }
-    ensures labels { labels_of bytes.new.items ≡ labels_of bytes.old.items ++ label.now ∷ [] }
-    ensures inline { bytes.new.capacity ≡ max_name }
+    requires room { length bytes.old + 1 + length label.now ≤ max_name }
+    ensures wire { IsWire bytes.new }
+    ensures labels { labels_of bytes.new ≡ labels_of bytes.old ++ label.now ∷ [] }
 {
     bytes.pop();
-    bytes.push_reserved(label.len() as u8);
-    extend(bytes, label);
-    bytes.push_reserved(0);
+    bytes.push(label.len() as u8);
+    bytes.extend(label);
+    bytes.push(0);
 }

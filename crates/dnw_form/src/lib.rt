@@ -5,4 +5,6 @@
 
 pub mod form;
 pub mod label_iter;
+pub mod lengths;
+pub mod octets;
 pub mod wire_labels;

@@ -41,14 +41,15 @@ const LOCALHOST: &[u8] = b"\x09localhost\x00";
 
 /// A domain name: its labels, and whether it is fully qualified, so that it ends at the root (RFC 1034, section 3.1).
 ///
-/// It has at most 255 octets, which are kept inline. So a name takes some 280 bytes wherever it is, and neither reading
+/// It has at most 255 octets, which are kept inline. So a name takes some 270 bytes wherever it is, and neither reading
 /// nor copying one allocates.
 ///
 /// A contract sees it as the flag `is_fqdn` and the list of its labels, from the left.
 #[derive(Drop)]
 pub struct Name {
-    is_fqdn: bool,
+    // The larger field is first, so that a copy moves it at once.
     form: WireForm,
+    is_fqdn: bool,
 }
 
 impl Model for Name {

@@ -13,19 +13,19 @@ use dnw_base::decoder::BinDecoder;
 use dnw_base::limits::MAX_NAME;
 use dnw_error::error::{DecodeError, ProtoResult};
 use dnw_form::form::WireForm;
+use dnw_form::octets::Octets;
 use dnw_form::wire_labels::WireLabels;
 use dnw_order::order;
 use dnw_reading::copy;
 use dnw_reading::ref_labels::RefLabels;
 use dnw_reading::walk::{self, ReadSteps};
-use smallvec::SmallVec;
 use std::alloc::Global;
 use std::cmp::Ordering;
 use std::marker::Model;
 
 /// A name in a message. It borrows its labels from the message, and nothing here allocates.
 ///
-/// It takes 48 bytes, while a `Name` takes some 280 and is a copy: use this to compare a name or to pass over it, and
+/// It takes 48 bytes, while a `Name` takes some 270 and is a copy: use this to compare a name or to pass over it, and
 /// `to_name` to keep it. A contract sees it as the list of its labels.
 #[derive(Drop)]
 pub struct NameRef<'a> {
@@ -216,7 +216,7 @@ impl<'a> NameRef<'a> {
         }
         let mut room = [0; MAX_NAME];
         copy::copy_runs(&mut room, self.message, self.first);
-        Name::qualified(WireForm::from_wire(SmallVec::from_buf_and_len(alloc, room, size)))
+        Name::qualified(WireForm::from_wire(Octets::from_array(room, size)))
     }
 
     /// Puts the wire form at the front of a buffer.

@@ -1,39 +1,12 @@
--- The lengths of the last labels, and the last label by its length.
-use Rattle.std.proofs.Common.{◌≡◌, ℕ, zero, suc, ◌+◌, ◌-◌, ◌*◌, ◌/◌, ◌%◌, ◌^◌, ◌<◌, ◌≤◌, List, [], ◌∷◌, ◌++◌, inl, inr, length, take, drop, reverse, refl, sym, ap, ◌∙◌, subst, append_assoc, arith}
-use Rattle.std.proofs.Math.Nat.{one-le-pow, pow-suc, zero-mod}
-use Rattle.std.proofs.Math.Arith.{mod-mul}
-use Rattle.std.proofs.lemmas.Nat.{div-mul-add, mod-mul-add}
+-- The last label by its length.
+use Rattle.std.proofs.Common.{◌≡◌, ℕ, ◌+◌, ◌-◌, ◌/◌, ◌%◌, ◌≤◌, List, [], ◌∷◌, ◌++◌, inl, inr, length, take, drop, reverse, sym, ap, ◌∙◌, subst, append_assoc, arith}
 use Rattle.std.proofs.lemmas.List.{append_cancel_right, drop_at, length-append, reverse-append, reverse-reverse}
 use Rattle.dnw_base.specs.Names.{labels_wire}
 use Rattle.dnw_base.proofs.Wires.{labels_wire_push}
+use Rattle.dnw_form.specs.Inside.Lengths.{HasLengths}
 use Rattle.dnw_form.specs.Inside.WireBytes.{closed, labels_of, IsWire}
 use Rattle.dnw_form.proofs.OpenWires.{open_last}
-use Rattle.dnw_order.specs.Inside.Lengths.{HasLengths, SplitsBack}
-
-pub none_known : (ls : List (List ℕ)) → HasLengths ls 0
-none_known [] = refl
-none_known (l ∷ ls) = inl refl
-
--- fewer of the lengths
-fewer : (n : ℕ) (ls : List (List ℕ)) (lengths : ℕ) → HasLengths ls lengths → HasLengths ls (lengths % 256 ^ n)
-fewer zero ls lengths h = subst (HasLengths ls) (omega arith) (none_known ls)
-fewer (suc n) [] lengths h = rw h (zero-mod (256 ^ suc n))
-fewer (suc n) (l ∷ ls) lengths (inl none) = inl (rw none (zero-mod (256 ^ suc n)))
-fewer (suc n) (l ∷ ls) lengths (inr (low, others)) =
-    let parts : lengths % 256 ^ suc n ≡ (lengths / 256 % 256 ^ n) * 256 + lengths % 256 = rw (pow-suc 256 n) (mod-mul lengths (one-le-pow n 256 (omega arith)) (omega arith)) in
-    let small : lengths % 256 < 256 = omega arith in
-    inr (
-      ap (λ (x : ℕ). x % 256) parts ∙ mod-mul-add (lengths / 256 % 256 ^ n) 256 (lengths % 256) small ∙ low,
-      subst (HasLengths ls) (sym (ap (λ (x : ℕ). x / 256) parts ∙ div-mul-add (lengths / 256 % 256 ^ n) 256 (lengths % 256) small)) (fewer n ls (lengths / 256) others),
-    )
-
--- the length of one more label
-pub one_more : (l : List ℕ) (ls : List (List ℕ)) (lengths : ℕ) → length l < 256 → HasLengths ls lengths
-    → HasLengths (l ∷ ls) (lengths % 72057594037927936 * 256 + length l)
-one_more l ls lengths small h = inr (
-  mod-mul-add (lengths % 72057594037927936) 256 (length l) small,
-  subst (HasLengths ls) (sym (div-mul-add (lengths % 72057594037927936) 256 (length l) small)) (fewer 7 ls lengths h),
-)
+use Rattle.dnw_order.specs.Inside.Lengths.{SplitsBack}
 
 -- the last label, whose bytes are the last ones
 pub split_back : (bytes : List ℕ) (ls : List (List ℕ)) (lengths : ℕ) → IsWire (closed bytes) → reverse (labels_of (closed bytes)) ≡ ls → HasLengths ls lengths → 1 ≤ lengths

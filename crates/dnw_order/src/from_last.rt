@@ -1,13 +1,13 @@
 //! The labels of a wire form from the last one.
 ghost use Rattle.std.specs.Prelude.{◌≡◌, ◌≤◌, ◌/◌, length, reverse};
 ghost use Rattle.std.specs.Iterator.{YieldsFirstRef};
+ghost use Rattle.dnw_form.specs.Inside.Lengths.{HasLengths};
 ghost use Rattle.dnw_form.specs.Inside.WireBytes.{closed, labels_of, IsWire};
-ghost use Rattle.dnw_order.specs.Inside.Lengths.{HasLengths, SplitsBack};
+ghost use Rattle.dnw_order.specs.Inside.Lengths.{SplitsBack};
 
+use dnw_form::form::WireForm;
+use dnw_form::lengths::last_lengths;
 use std::marker::Model;
-
-/// Lengths below this are kept when another one comes: seven, of eight bits each.
-const KEPT: u64 = 1 << 56;
 
 /// Labels from the last one. The lengths of eight are known at a time, so each of these is found at once.
 ///
@@ -22,8 +22,8 @@ pub(crate) struct FromLast<'a> {
 
 impl<'a> Model for FromLast<'a> {
     ghost use Rattle.std.specs.Prelude.{ℕ, List, reverse};
+    ghost use Rattle.dnw_form.specs.Inside.Lengths.{HasLengths};
     ghost use Rattle.dnw_form.specs.Inside.WireBytes.{closed, labels_of, IsWire};
-    ghost use Rattle.dnw_order.specs.Inside.Lengths.{HasLengths};
 
     ghost Value = { List (List ℕ) };
 
@@ -43,6 +43,18 @@ impl<'a> FromLast<'a> {
         FromLast {
             rest,
             lengths: last_lengths(rest),
+        }
+    }
+
+    /// Finds the labels of a form, most of which are known to it.
+    #[inline(always)]
+    pub(crate) fn of_form(form: &'a WireForm) -> Self
+        ensures { result ≡ reverse form.now }
+    {
+        let wire = form.as_bytes();
+        FromLast {
+            rest: &wire[..wire.len() - 1],
+            lengths: form.lengths(),
         }
     }
 
@@ -76,23 +88,6 @@ fn split_last(labels: &[u8], lengths: u64) -> (&[u8], &[u8])
     let end = labels.len() - (lengths % 256) as usize;
     let (_, label) = labels.split_at(end);
     (&labels[..end - 1], label)
-}
-
-/// Returns the lengths of the last labels, eight at most.
-#[inline(always)]
-fn last_lengths(labels: &[u8]) -> u64
-    requires { IsWire (closed labels.now) }
-    ensures lengths { HasLengths (reverse (labels_of (closed labels.now))) result }
-    ensures some { 1 ≤ length labels.now → 1 ≤ result }
-{
-    let mut lengths = 0;
-    let mut rest = labels;
-    'labels: while let Some((len, others)) = rest.split_first() {
-        lengths = lengths % KEPT * 256 + u64::from(*len);
-        let (_, others) = others.split_at(*len as usize);
-        rest = others;
-    }
-    lengths
 }
 
 /// Returns the lengths as `last_lengths` does. It is a call of its own, since few names have more than eight labels.

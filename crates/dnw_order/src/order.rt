@@ -7,6 +7,7 @@ ghost use Rattle.dnw_order.specs.Order.{labels_cmp, labels_cmp_by, labels_cmp_ca
 use crate::from_last::FromLast;
 use arrayvec::ArrayVec;
 use dnw_base::limits::MAX_NAME;
+use dnw_form::form::WireForm;
 use dnw_form::wire_labels::WireLabels;
 use dnw_label::label::{CaseInsensitive, CaseSensitive, LabelCmp};
 use std::cmp::Ordering;
@@ -29,13 +30,43 @@ pub fn cmp_labels_case(left: WireLabels<'_>, right: WireLabels<'_>) -> Ordering
     cmp_labels_by::<CaseSensitive>(left, right)
 }
 
+/// Compares the labels of two forms as `cmp_labels` does. There is no walk if the lengths of the last labels are known to both.
+pub fn cmp_forms(left: &WireForm, right: &WireForm) -> Ordering
+    ensures { result ≡ labels_cmp left.now right.now }
+{
+    if left.lengths() == 0 || right.lengths() == 0 {
+        return cmp_labels(left.labels(), right.labels());
+    }
+    cmp_from_last::<CaseInsensitive>(FromLast::of_form(left), FromLast::of_form(right))
+}
+
+/// Compares the labels of two forms as `cmp_labels_case` does. There is no walk if the lengths of the last labels are known to
+/// both.
+pub fn cmp_forms_case(left: &WireForm, right: &WireForm) -> Ordering
+    ensures { result ≡ labels_cmp_case left.now right.now }
+{
+    if left.lengths() == 0 || right.lengths() == 0 {
+        return cmp_labels_case(left.labels(), right.labels());
+    }
+    cmp_from_last::<CaseSensitive>(FromLast::of_form(left), FromLast::of_form(right))
+}
+
 /// Compares labels from the last one, and their bytes as `F` does. Labels come before those that end in them.
 fn cmp_labels_by<F: LabelCmp>(left: WireLabels<'_>, right: WireLabels<'_>) -> Ordering
     requires { (n : ℕ) → F.order n n ≡ Ordering.Equal }
     ensures { result ≡ labels_cmp_by F.order left.entry right.entry }
 {
-    let mut lefts = FromLast::new(left.as_wire());
-    let mut rights = FromLast::new(right.as_wire());
+    let lefts = FromLast::new(left.as_wire());
+    let rights = FromLast::new(right.as_wire());
+    cmp_from_last::<F>(lefts, rights)
+}
+
+/// Compares labels as `cmp_labels_by` does.
+#[inline(always)]
+fn cmp_from_last<F: LabelCmp>(mut lefts: FromLast<'_>, mut rights: FromLast<'_>) -> Ordering
+    requires { (n : ℕ) → F.order n n ≡ Ordering.Equal }
+    ensures { result ≡ slice_cmp (slice_cmp F.order) lefts.entry rights.entry }
+{
     'labels: while let Some(left) = lefts.next() {
         let Some(right) = rights.next() else {
             return Ordering::Greater;

@@ -1,6 +1,6 @@
 -- A text of simple labels, in which each dot gives way to the length of the next label.
 use Rattle.std.proofs.Common.{◌≡◌, ℕ, ◌+◌, ◌-◌, ◌<◌, ◌≤◌, List, [], ◌∷◌, ◌++◌, length, take, drop, set, get_or, Bool, true, false, Ok, refl, sym, ap, ◌∙◌, append_assoc, arith}
-use Rattle.std.specs.List.{AllByRecursion, refill}
+use Rattle.std.specs.List.{AllByRecursion}
 use Rattle.std.specs.Str.{chars}
 use Rattle.std.proofs.Math.Seq.{set-append_seam, take-append_seam}
 use Rattle.std.proofs.lemmas.List.{append-nil, length-append, length-drop, length-take-le, take_all, drop_all, drop-drop, get_or-drop}
@@ -13,7 +13,6 @@ use Rattle.dnw_text.specs.NameText.{Outside}
 use Rattle.dnw_text.specs.Inside.TextReader.{IsSimpleLabel, PutsLengths, name_from_rest}
 use Rattle.dnw_form.specs.Inside.WireBytes.{IsWire, labels_of}
 use Rattle.dnw_form.proofs.Wires.{labels_of-form}
-use Rattle.dnw_form.proofs.LowerWires.{refill-whole}
 use Rattle.dnw_form.proofs.EditLemmas.{with_label_fits}
 use Rattle.dnw_text.proofs.SimpleLabels.{parts_at, name_from_rest-label, name_from_rest-last}
 use Rattle.dnw_text.proofs.TextReading.{at_end}
@@ -102,19 +101,19 @@ Put-end {text} {octets} {start} h few end =
     }
 
 -- What was put over all octets is a wire form, and the text gives its labels.
-pub PutsLengths-relative : (text xs ws : List ℕ) (is_fqdn : Bool) → length ws ≡ length xs → PutsLengths text ws is_fqdn → is_fqdn ≡ false
-    → IsWire (refill (length xs) xs ws) × (name_from_rest [] [] Outside (chars text) ≡ Ok (record { is_fqdn = false; labels = labels_of (refill (length xs) xs ws) }))
-PutsLengths-relative text xs ws is_fqdn size puts is =
-    let put : PutsLengths text ws false = rw is at puts in
-    let (wires, same) = labels_of-form _ put.labels (refill-whole xs ws size ∙ put.form ∙ append-nil (wire put.labels)) put.are_labels in
+pub PutsLengths-relative : (text octets : List ℕ) (is_fqdn : Bool) → PutsLengths text octets is_fqdn → is_fqdn ≡ false
+    → IsWire octets × (name_from_rest [] [] Outside (chars text) ≡ Ok (record { is_fqdn = false; labels = labels_of octets }))
+PutsLengths-relative text octets is_fqdn puts is =
+    let put : PutsLengths text octets false = rw is at puts in
+    let (wires, same) = labels_of-form _ put.labels (put.form ∙ append-nil (wire put.labels)) put.are_labels in
     (wires, rw same put.name)
 
-pub PutsLengths-fqdn : (text xs ws rest : List ℕ) (is_fqdn : Bool) → length ws ≡ length xs → PutsLengths text ws is_fqdn → is_fqdn ≡ true
-    → rest ≡ take (length (refill (length xs) xs ws) - 1) (refill (length xs) xs ws)
+pub PutsLengths-fqdn : (text octets rest : List ℕ) (is_fqdn : Bool) → PutsLengths text octets is_fqdn → is_fqdn ≡ true
+    → rest ≡ take (length octets - 1) octets
     → IsWire rest × (name_from_rest [] [] Outside (chars text) ≡ Ok (record { is_fqdn = true; labels = labels_of rest }))
-PutsLengths-fqdn text xs ws rest is_fqdn size puts is rest_is =
-    let put : PutsLengths text ws true = rw is at puts in
-    let long : length ws - 1 ≡ length (wire put.labels) = omega (arith, ap length put.form, length-append (wire put.labels) (0 ∷ [])) in
-    let form : rest ≡ wire put.labels = rest_is ∙ rw (refill-whole xs ws size, long, put.form) (take-append_seam (wire put.labels) (0 ∷ [])) in
+PutsLengths-fqdn text octets rest is_fqdn puts is rest_is =
+    let put : PutsLengths text octets true = rw is at puts in
+    let long : length octets - 1 ≡ length (wire put.labels) = omega (arith, ap length put.form, length-append (wire put.labels) (0 ∷ [])) in
+    let form : rest ≡ wire put.labels = rest_is ∙ rw (long, put.form) (take-append_seam (wire put.labels) (0 ∷ [])) in
     let (wires, same) = labels_of-form rest put.labels form put.are_labels in
     (wires, rw same put.name)

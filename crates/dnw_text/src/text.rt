@@ -15,9 +15,9 @@ use arrayvec::ArrayString;
 use dnw_base::limits::{MAX_LABEL, MAX_NAME};
 use dnw_error::error::{DecodeError, ProtoError, ProtoResult};
 use dnw_form::form::WireForm;
+use dnw_form::octets::Octets;
 use dnw_form::wire_labels::WireLabels;
 use dnw_label::label::{Label, is_label_text, push_label_text};
-use smallvec::SmallVec;
 use std::alloc::Global;
 use std::marker::Model;
 use unicode::properties::GeneralCategory;
@@ -523,11 +523,11 @@ fn read_plain(alloc: Global, text: &[u8]) -> Option<Parsed>
     if text.len() > MAX_NAME - 2 {
         return None;
     }
-    let mut bytes = SmallVec::new(alloc);
-    bytes.push_reserved(0);
-    bytes.extend_from_slice(text).unwrap();
-    bytes.push_reserved(0);
-    let is_fqdn = put_lengths(bytes.as_mut_slice(), text)?;
+    let mut bytes = Octets::new();
+    bytes.push(0);
+    bytes.extend(text);
+    bytes.push(0);
+    let is_fqdn = put_lengths(&mut bytes, text)?;
     if is_fqdn {
         bytes.pop();
         return Some(Parsed {
@@ -543,7 +543,7 @@ fn read_plain(alloc: Global, text: &[u8]) -> Option<Parsed>
 
 /// Puts the length of each label of a text into the octet before it, and a zero after the last one. Returns whether the
 /// text ends in a dot, or `None` if a label is not simple.
-fn put_lengths(wire: &mut [u8], text: &[u8]) -> Option<bool>
+fn put_lengths(wire: &mut Octets, text: &[u8]) -> Option<bool>
     requires copied { wire.old ≡ 0 ∷ text.now ++ 0 ∷ [] }
     requires some { 0 < length text.now }
     requires fits { length text.now ≤ 253 }
@@ -555,7 +555,7 @@ fn put_lengths(wire: &mut [u8], text: &[u8]) -> Option<bool>
         if len == 0 {
             return None;
         }
-        wire[start] = len as u8;
+        wire.set(start, len as u8);
         let end = start + len;
         if end == text.len() {
             return Some(false);
@@ -565,7 +565,7 @@ fn put_lengths(wire: &mut [u8], text: &[u8]) -> Option<bool>
         }
         start = end + 1;
         if start == text.len() {
-            wire[start] = 0;
+            wire.set(start, 0);
             return Some(true);
         }
     }

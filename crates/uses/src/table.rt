@@ -39,7 +39,7 @@ impl From<AllocError> for PushError {
 }
 
 /// Names in canonical order (RFC 4034, section 6.1), as those of a zone: their wire forms one after another in one buffer, and
-/// where each begins. So a name takes four bytes beyond its wire form, while a `Name` takes some 280.
+/// where each begins. So a name takes four bytes beyond its wire form, while a `Name` takes some 270.
 ///
 /// A contract sees it as the list of the names' labels. Whether a name is fully qualified is not kept.
 #[derive(Drop)]

@@ -20,7 +20,7 @@ impl Name {
         if flags.is_ne() {
             return flags;
         }
-        order::cmp_labels_case(self.wire_labels(), other.wire_labels())
+        order::cmp_forms_case(&self.form, &other.form)
     }
 
     /// Returns `true` if both names have the same labels, with capitals as they are, and are both fully qualified or both
@@ -91,7 +91,7 @@ impl Ord for Name {
         if flags.is_ne() {
             return flags;
         }
-        order::cmp_labels(self.wire_labels(), other.wire_labels())
+        order::cmp_forms(&self.form, &other.form)
     }
 }
 

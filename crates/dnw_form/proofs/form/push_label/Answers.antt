@@ -4,10 +4,10 @@ use Rattle.dnw_form.proofs.form.push_label.Goals as goal
 
 pub returns-clause-wire : goal.returns-clause-wire
 returns-clause-wire c =
-    rw (c.push_reserved-2.ensures.items, c.extend.ensures.items, c.push_reserved.ensures.items, c.pop.ensures.rest)
+    rw (c.push-2.ensures, c.extend.ensures, c.push.ensures, c.pop.ensures)
     (IsWire-push _ _ c.requires.wire c.requires.label c.requires.room).0
 
 pub returns-clause-labels : goal.returns-clause-labels
 returns-clause-labels c =
-    rw (c.push_reserved-2.ensures.items, c.extend.ensures.items, c.push_reserved.ensures.items, c.pop.ensures.rest)
+    rw (c.push-2.ensures, c.extend.ensures, c.push.ensures, c.pop.ensures)
     (IsWire-push _ _ c.requires.wire c.requires.label c.requires.room).1

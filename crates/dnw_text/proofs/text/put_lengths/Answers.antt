@@ -9,15 +9,15 @@ labels-init c = Put-start _ _ c.requires.copied
 pub returns-then-end-text : goal.returns-then-end-text
 returns-then-end-text c =
     let at = c.label_len_at-len.ensures in
-    Put-last c.labels.invariant c.requires.fits c.label_len_at-len.result at.few (at.label (omega arith)) (omega arith)
+    rw c.set.ensures (Put-last c.labels.invariant c.requires.fits c.label_len_at-len.result at.few (at.label (omega arith)) (omega arith))
 
 pub returns-then-start-text : goal.returns-then-start-text
 returns-then-start-text c =
     let at = c.label_len_at-len.ensures in
     let more = Put-more c.labels.invariant c.requires.fits c.label_len_at-len.result at.few (at.label (omega arith)) (omega arith) c.if-text-end-ne46.false in
-    Put-end more c.requires.fits (omega arith)
+    rw (c.set-then-start-text.ensures, c.set.ensures) (Put-end more c.requires.fits (omega arith))
 
 pub labels-preserved : goal.labels-preserved
 labels-preserved c =
     let at = c.label_len_at-len.ensures in
-    Put-more c.labels.invariant c.requires.fits c.label_len_at-len.result at.few (at.label (omega arith)) (omega arith) c.if-text-end-ne46.false
+    rw c.set.ensures (Put-more c.labels.invariant c.requires.fits c.label_len_at-len.result at.few (at.label (omega arith)) (omega arith) c.if-text-end-ne46.false)

@@ -5,11 +5,9 @@ use Rattle.dnw_form.proofs.Wires.{IsWire-wire}
 use Rattle.dnw_form.proofs.form.WireForm.new.Goals as goal
 
 pub invariant_of-result : goal.invariant_of-result
-invariant_of-result c = (
-  rw (c.push_reserved.ensures.items, c.new-bytes.ensures.items) (IsWire-wire [] (record { each = tt; fit = omega arith })),
-  rw c.push_reserved.ensures.capacity c.new-bytes.ensures.capacity,
-)
+unfolding labels_of
+invariant_of-result c = rw (c.push.ensures, c.new-bytes.ensures) (IsWire-wire [] (record { each = tt; fit = omega arith }), refl)
 
 pub returns : goal.returns
 unfolding labels_of
-returns c = rw (c.push_reserved.ensures.items, c.new-bytes.ensures.items) refl
+returns c = rw (c.push.ensures, c.new-bytes.ensures) refl

@@ -1,24 +1,22 @@
 -- Lower case changes no length octet, so what is lowered is the wire form of the lowered labels.
-use Rattle.std.proofs.Common.{◌≡◌, map, length, ap, ◌∙◌}
+use Rattle.std.proofs.Common.{◌≡◌, map, ap, ◌∙◌}
 use Rattle.std.specs.Char.{to_ascii_lowercase}
-use Rattle.std.specs.List.{refill}
 use Rattle.dnw_base.specs.Names.{lower}
 use Rattle.dnw_form.specs.Inside.WireBytes.{IsWire, labels_of}
 use Rattle.dnw_form.proofs.Wires.{labels_of-form}
-use Rattle.dnw_form.proofs.LowerWires.{refill-lowered, AreLabels-lower}
+use Rattle.dnw_form.proofs.LowerWires.{lower-wire, AreLabels-lower}
 use Rattle.dnw_form.proofs.form.WireForm.to_lowercase.Goals as goal
+use Rattle.dnw_form.proofs.form.WireForm.to_lowercase.Goals.{After-make_ascii_lowercase}
 
-lowered : (c : goal.After-bytes-2-1)
-    → IsWire (refill (length c.copied-bytes.result.items) c.copied-bytes.result.items c.make_ascii_lowercase.new.self)
-    × (labels_of (refill (length c.copied-bytes.result.items) c.copied-bytes.result.items c.make_ascii_lowercase.new.self) ≡ lower (labels_of c.self.inside.bytes.items))
+lowered : (c : After-make_ascii_lowercase)
+    → IsWire c.make_ascii_lowercase.new.self × (labels_of c.make_ascii_lowercase.new.self ≡ lower (labels_of c.self.inside.bytes))
 lowered c =
     let wire = c.self.invariant.0 in
     labels_of-form _ _
-    (refill-lowered _ _ _ wire.labels.each (c.copied-bytes.ensures.items ∙ wire.spelled)
-    (c.make_ascii_lowercase.ensures.after ∙ ap (map to_ascii_lowercase) c.as_mut_slice.ensures.value)) (AreLabels-lower _ wire.labels)
+    (c.make_ascii_lowercase.ensures ∙ ap (map to_ascii_lowercase) (c.clone-bytes.ensures ∙ wire.spelled) ∙ lower-wire _ wire.labels.each) (AreLabels-lower _ wire.labels)
 
-pub invariant_of-result : goal.invariant_of-result
-invariant_of-result c = ((lowered c).0, c.copied-bytes.ensures.inline)
+pub from_wire-requires : goal.from_wire-requires
+from_wire-requires c = (lowered c).0
 
 pub returns : goal.returns
-returns c = (lowered c).1 ∙ ap lower c.self.view_is
+returns c = c.from_wire.ensures ∙ (lowered (goal.at.returns c).After-make_ascii_lowercase).1 ∙ ap lower c.self.view_is

@@ -5,7 +5,7 @@ use Rattle.dnw_reading.proofs.Copying.{wire_taken}
 use Rattle.dnw_form.specs.Inside.WireBytes.{IsWire, labels_of}
 use Rattle.dnw_form.proofs.Wires.{labels_of-form}
 use Rattle.dnw_name.proofs.name_ref.NameRef.copied.Goals as goal
-use Rattle.dnw_name.proofs.name_ref.NameRef.copied.Goals.{After-from_buf_and_len}
+use Rattle.dnw_name.proofs.name_ref.NameRef.copied.Goals.{After-from_array}
 
 abbrev qualified : List (List ℕ) → NameValue
 qualified ls = record { is_fqdn = true; labels = ls }
@@ -21,14 +21,14 @@ pub copy_runs-requires-clause-fits : goal.copy_runs-requires-clause-fits
 copy_runs-requires-clause-fits c =
     omega (arith, ap (λ (ls : List (List ℕ)). length (wire ls)) c.self.view_is, length-wire c.args.self.now, c.encoded_len-size.ensures.labels.fit)
 
-form : (c : After-from_buf_and_len) → IsWire c.from_buf_and_len.result.items × (labels_of c.from_buf_and_len.result.items ≡ c.args.self.now)
+form : (c : After-from_array) → IsWire c.from_array.result × (labels_of c.from_array.result ≡ c.args.self.now)
 form c =
-    labels_of-form _ _ (c.from_buf_and_len.ensures.items
+    labels_of-form _ _ (c.from_array.ensures
     ∙ wire_taken c.args.self.now c.encoded_len-size.result _ c.copy_runs.new.out c.encoded_len-size.ensures.size (rw c.self.view_is at c.copy_runs.ensures))
     c.encoded_len-size.ensures.labels
 
-pub from_wire-requires-clause-form : goal.from_wire-requires-clause-form
-from_wire-requires-clause-form c = (form c).0
+pub from_wire-requires : goal.from_wire-requires
+from_wire-requires c = (form c).0
 
 pub returns : goal.returns
-returns c = c.qualified-2.ensures ∙ ap qualified (c.from_wire.ensures ∙ (form (goal.at.returns c).After-from_buf_and_len).1)
+returns c = c.qualified-2.ensures ∙ ap qualified (c.from_wire.ensures ∙ (form (goal.at.returns c).After-from_array).1)
