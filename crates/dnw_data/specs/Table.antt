@@ -5,7 +5,7 @@ use Rattle.dnw_data.specs.declared.kind.Kind.TheVariants.{Name, U8, U16, U32, U4
 use Rattle.dnw_data.specs.declared.kind.Kind.TheVariants as kinds
 use Rattle.dnw_data.specs.declared.kind.ListKind.TheVariants as lists
 use Rattle.dnw_data.specs.declared.kind.NameForm.TheVariants.{Compressible, Lowered, Plain}
-use Rattle.dnw_data.specs.declared.kind.Shown.TheVariants.{Text, Hex, Base32Hex, Base64}
+use Rattle.dnw_data.specs.declared.kind.Shown.TheVariants.{Text, Tag, Hex, Base32Hex, Base64}
 
 -- A row of the table: a type's code, and the kinds of its fields.
 pub record Row : Type 0 where
@@ -95,7 +95,7 @@ table =
     ∷ row 108 (U48 ∷ [])  -- EUI48 (RFC 7043, section 3.1)
     ∷ row 109 (U64 ∷ [])  -- EUI64 (RFC 7043, section 4.1)
     ∷ row 256 (U16 ∷ U16 ∷ Octets Text ∷ [])  -- URI (RFC 7553, section 4.2)
-    ∷ row 257 (U8 ∷ text ∷ Octets Text ∷ [])  -- CAA (RFC 8659, section 4.1)
+    ∷ row 257 (U8 ∷ Counted Tag ∷ Octets Text ∷ [])  -- CAA (RFC 8659, section 4.1)
     ∷ []
 
 -- the fields of the type with this code: octets, if it is not in the table (RFC 3597)

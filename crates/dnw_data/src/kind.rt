@@ -11,9 +11,9 @@ pub enum Kind {
     U16,
     /// A number of four octets.
     U32,
-    /// A number of six octets.
+    /// A number of six octets, an identifier of hardware (RFC 7043, section 3.1).
     U48,
-    /// A number of eight octets.
+    /// A number of eight octets, an identifier of hardware (RFC 7043, section 4.1).
     U64,
     /// An IPv4 address of four octets.
     Ipv4,
@@ -47,6 +47,8 @@ pub enum NameForm {
 pub enum Shown {
     /// As a character string (RFC 1035, section 5.1).
     Text,
+    /// As letters and digits, without quotes (RFC 8659, section 4.1.1).
+    Tag,
     /// In hexadecimal (RFC 4648, section 8).
     Hex,
     /// In base 32 with the extended hex alphabet, without padding (RFC 4648, section 7).

@@ -18,6 +18,9 @@ const PLAIN: Kind = Kind::Name(NameForm::Plain);
 /// A character string.
 const TEXT: Kind = Kind::Counted(Shown::Text);
 
+/// The tag of a property.
+const TAG: Kind = Kind::Counted(Shown::Tag);
+
 /// A salt.
 const SALT: Kind = Kind::Counted(Shown::Hex);
 
@@ -128,7 +131,7 @@ pub fn fields_of(record_type: RecordType) -> &'static [Kind]
         108 => &[Kind::U48], // EUI48
         109 => &[Kind::U64], // EUI64
         256 => &[Kind::U16, Kind::U16, VALUE], // URI
-        257 => &[Kind::U8, TEXT, VALUE], // CAA
+        257 => &[Kind::U8, TAG, VALUE], // CAA
         _ => &[HEX],
     }
 }

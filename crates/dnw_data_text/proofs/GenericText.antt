@@ -5,10 +5,10 @@ use Rattle.hex.specs.Hex.{upper_digits, decode_of}
 use Rattle.dnw_field_text.specs.Octets.{IsOctets, hex_text}
 use Rattle.dnw_field_text.proofs.ComeBack.{numbers, hexadecimal}
 use Rattle.dnw_field_text.proofs.HexText.{hex_text-nil}
-use Rattle.dnw_data_text.specs.Words.{after_spaces, after_word, joined}
+use Rattle.dnw_data_text.specs.Words.{is_end, after_spaces, after_word, joined}
 use Rattle.dnw_data_text.specs.Generic.{hex_part, generic_text, AreOctets, IsSized, IsGeneric}
 use Rattle.dnw_data_text.specs.DataTextLaws.{GenericComesBack, IsData}
-use Rattle.dnw_data_text.proofs.Plain.{is_end, plain-starts, plain-word, plain-after, plain-joined, plain-utf8, decimal-plain, hex-plain}
+use Rattle.dnw_data_text.proofs.Plain.{plain-starts, plain-word, plain-after, plain-joined, plain-utf8, decimal-plain, hex-plain}
 
 -- octets in one way at most
 pub one-sized : (left a b : List ℕ) → IsSized left a → IsSized left b → a ≡ b
@@ -18,7 +18,7 @@ pub one-generic : (text a b : List ℕ) → IsGeneric text a → IsGeneric text 
 one-generic text a b h k = one-sized (after_word (after_spaces text)) a b h.1 k.1
 
 -- a number, and what is after it
-hex-words : (octets : List ℕ) → IsOctets octets → AreOctets (length octets) (after_spaces (hex_part octets)) octets
+pub hex-words : (octets : List ℕ) → IsOctets octets → AreOctets (length octets) (after_spaces (hex_part octets)) octets
 hex-words [] h = (plain-utf8 [] refl, sym (ap decode_of hex_text-nil) ∙ (hexadecimal [] h).0, refl)
 hex-words (o ∷ octets) h =
     let text = hex_text (o ∷ octets) in

@@ -4,3 +4,6 @@ pub mod Strings
 pub mod NumberKinds
 pub mod Rests
 pub mod FieldLists
+pub mod TypeSteps
+pub mod Identifiers
+pub mod FieldsBack

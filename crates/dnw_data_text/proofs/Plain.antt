@@ -10,7 +10,7 @@ use Rattle.std.proofs.lemmas.List.{take_at, drop_at}
 use Rattle.std.proofs.lemmas.Fmt.{decimal_by_steps}
 use Rattle.hex.specs.Hex.{encode_with, upper_digits}
 use Rattle.dnw_field_text.specs.Octets.{IsOctets, hex_text}
-use Rattle.dnw_data_text.specs.Words.{is_space, word_len, word, after_word, after_spaces, joined}
+use Rattle.dnw_data_text.specs.Words.{is_space, is_end, word_len, word, after_word, after_spaces, joined}
 
 -- a printable character that is no space, quote or backslash
 abbrev pub is_plain : ℕ → Bool
@@ -18,11 +18,6 @@ is_plain c = nat_le 33 c && nat_le c 126 && not (c == 34) && not (c == 92)
 
 abbrev pub all_plain : List ℕ → Bool
 all_plain w = list_all is_plain w
-
--- a text that ends, or goes on with white space
-abbrev pub is_end : List ℕ → Bool
-is_end [] = true
-is_end (c ∷ cs) = is_space c
 
 plain-no_space : (c : ℕ) → is_plain c ≡ true → is_space c ≡ false
 plain-no_space c h = grind arith

@@ -1,13 +1,73 @@
 -- What follows from the definitions of texts of data. Each is the clause of a public function, and so proved.
-use Rattle.std.specs.Prelude.{ℕ, ◌≤◌, List, length}
-use Rattle.dnw_field_text.specs.Octets.{IsOctets}
+use Rattle.std.specs.Prelude.{◌≡◌, ℕ, ◌<◌, ◌≤◌, true, List, [], ◌++◌, length, Option}
+use Rattle.std.specs.Net.Addr.{ipv4_octets, IsIpv4Addr}
+use Rattle.std.specs.declared.net.Ipv4Addr.{Ipv4Addr}
+use Rattle.dnw_base.specs.Names.{NameValue}
+use Rattle.dnw_codes.specs.declared.record_type.RecordType.{RecordType}
+use Rattle.dnw_codes.specs.RecordTypes.{type_code as code_of, type_of_code}
+use Rattle.dnw_data.specs.declared.kind.Kind.{Kind}
+use Rattle.dnw_data.specs.declared.kind.Kind.TheVariants.{U8, U16, U32, Ipv4, TypeCode, Time, Counted, Octets}
+use Rattle.dnw_data.specs.declared.kind.Kind.TheVariants as kinds
+use Rattle.dnw_data.specs.declared.kind.ListKind.TheVariants as lists
+use Rattle.dnw_data.specs.declared.kind.Shown.TheVariants.{Text, Tag, Hex, Base32Hex}
+use Rattle.dnw_data.specs.Values.{FieldValue, u8, u16, u32, ipv4, type_code, time, counted, octets, texts, items}
+use Rattle.dnw_field_text.specs.Base32.{IsHash}
+use Rattle.dnw_field_text.specs.Numbers.{max_u8, max_u16, max_u32}
+use Rattle.dnw_field_text.specs.Octets.{IsOctets, IsSalt}
 use Rattle.dnw_field_text.specs.Spelling.{ComesBack}
+use Rattle.dnw_field_text.specs.Strings.{IsString, IsText}
 use Rattle.dnw_data_text.specs.Generic.{max_data, generic_text, IsGeneric}
+use Rattle.dnw_data_text.specs.Words.{is_end, after_spaces}
+use Rattle.dnw_data_text.specs.Printing.{Prints}
+use Rattle.dnw_data_text.specs.Parsing.{takes_all, ReadsField}
 
 -- octets of data: their number is written in two octets (RFC 1035, section 3.2.1)
 abbrev pub IsData : List ℕ → Type 0
-IsData octets = IsOctets octets × (length octets ≤ max_data)
+IsData own = IsOctets own × (length own ≤ max_data)
 
 -- What is printed of any octets in the form that any data have is those octets, and no others.
 abbrev pub GenericComesBack : Type 0
 GenericComesBack = ComesBack IsData generic_text IsGeneric
+
+-- what is after a field: white space or nothing, and nothing after a field that takes all words
+abbrev pub Follows : Kind → List ℕ → Type 0
+Follows kind rest = (takes_all kind ≡ true → rest ≡ []) × (is_end rest ≡ true)
+
+-- What is printed of a field of this kind with this value is read as it, and what follows is left.
+abbrev pub FieldComesBack : Kind → FieldValue → Type 0
+FieldComesBack kind value =
+    (origin : Option NameValue) (text rest : List ℕ) → Prints kind value text → Follows kind rest
+    → ReadsField origin kind (after_spaces (text ++ rest)) value rest
+
+-- a type as it is read from its code
+abbrev pub IsRead : RecordType → Type 0
+IsRead kind = (code_of kind < 65536) × (type_of_code (code_of kind) ≡ kind)
+
+-- Numbers, times, types and IPv4 addresses come back.
+abbrev pub NumbersComeBack : Type 0
+NumbersComeBack =
+    ((n : ℕ) → n ≤ max_u8 → FieldComesBack U8 (u8 n)) × ((n : ℕ) → n ≤ max_u16 → FieldComesBack U16 (u16 n))
+    × ((n : ℕ) → n ≤ max_u32 → FieldComesBack U32 (u32 n)) × ((n : ℕ) → n ≤ max_u32 → FieldComesBack Time (time n))
+
+abbrev pub TypesComeBack : Type 0
+TypesComeBack = (kind : RecordType) → IsRead kind → FieldComesBack TypeCode (type_code kind)
+
+abbrev pub AddressesComeBack : Type 0
+AddressesComeBack = (a : Ipv4Addr) → IsIpv4Addr a → FieldComesBack Ipv4 (ipv4 (ipv4_octets a))
+
+-- Octets come back that have a length octet before them: strings, tags, salts and hashed names.
+abbrev pub CountedComeBack : Type 0
+CountedComeBack =
+    ((own : List ℕ) → IsString own → FieldComesBack (Counted Text) (counted own)) × ((own : List ℕ) → FieldComesBack (Counted Tag) (counted own))
+    × ((own : List ℕ) → IsSalt own → FieldComesBack (Counted Hex) (counted own))
+    × ((own : List ℕ) → IsHash own → FieldComesBack (Counted Base32Hex) (counted own))
+
+-- Octets up to the end come back, in hexadecimal and as text.
+abbrev pub OctetsComeBack : Type 0
+OctetsComeBack =
+    ((own : List ℕ) → IsOctets own → FieldComesBack (Octets Hex) (octets own))
+    × ((own : List ℕ) → IsText own → FieldComesBack (Octets Text) (octets own))
+
+-- Strings up to the end come back, one or more.
+abbrev pub StringsComeBack : Type 0
+StringsComeBack = (own : List ℕ) → IsOctets own → 1 ≤ length own → FieldComesBack (kinds.List lists.Texts) (texts (items lists.Texts own))

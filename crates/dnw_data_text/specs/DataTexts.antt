@@ -20,7 +20,7 @@ use Rattle.dnw_data_text.specs.declared.error.Wanted.TheVariants.{Generic}
 use Rattle.dnw_data_text.specs.NameTexts.{full_name_text}
 use Rattle.dnw_data_text.specs.Faults.{fault}
 use Rattle.dnw_data_text.specs.Words.{after_spaces, word, after_word}
-use Rattle.dnw_data_text.specs.Generic.{mark, generic_text, IsSized, FailsSized}
+use Rattle.dnw_data_text.specs.Generic.{mark, generic_text, IsGeneric, FailsSized}
 use Rattle.dnw_data_text.specs.Printing.{PrintsFields, HasNoText}
 use Rattle.dnw_data_text.specs.Parsing.{field_wire, AreFieldTexts, FailsFields}
 
@@ -84,10 +84,6 @@ record_line r text =
 
 -- ---- parsing
 
--- the text is these octets of data of a type, in the form of any data
-abbrev pub IsGenericText : List ℕ → List ℕ → Type 0
-IsGenericText text own = (word (after_spaces text) ≡ mark) × IsSized (after_word (after_spaces text)) own
-
 -- the text is these octets, in the type's own form
 abbrev pub IsFieldsText : Option NameValue → List Kind → List ℕ → List ℕ → Type 0
 IsFieldsText origin kinds text own =
@@ -95,7 +91,7 @@ IsFieldsText origin kinds text own =
     × (own ≡ flat_map field_wire values)
 
 abbrev pub IsTextOf : Option NameValue → List Kind → List ℕ → List ℕ → Type 0
-IsTextOf origin kinds text own = IsGenericText text own ⊎ IsFieldsText origin kinds text own
+IsTextOf origin kinds text own = IsGeneric text own ⊎ IsFieldsText origin kinds text own
 
 -- why a text is no data of a type
 abbrev pub FailsText : Option NameValue → List Kind → List ℕ → DataTextError → Type 0

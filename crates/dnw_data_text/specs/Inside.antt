@@ -3,4 +3,5 @@ pub mod Steps
 pub mod Labels
 pub mod Reads
 pub mod StringWords
+pub mod TypeWords
 pub mod Wires

@@ -2,6 +2,7 @@ pub mod Words
 pub mod Faults
 pub mod NameTexts
 pub mod Generic
+pub mod TypeLists
 pub mod Printing
 pub mod NameReading
 pub mod Parsing

@@ -1,6 +1,6 @@
 -- Which fields texts give (RFC 1035, section 5.1), and the octets that fields are.
 use Rattle.std.specs.Prelude.{Bool, true, false, ◌≡◌, ◌≢◌, ℕ, ◌-◌, ◌⊎◌, Option, Some, List, [], ◌∷◌, length, drop, flat_map}
-use Rattle.std.specs.Int.{w16, w32, w64, to_be_bytes}
+use Rattle.std.specs.Int.{w16, w32, w64, from_be_bytes, to_be_bytes}
 use Rattle.std.specs.Net.Addr.{ipv4_octets, ipv6_segments, octets_of}
 use Rattle.std.specs.Net.Grammar.{IsIpv4Text, IsIpv6Text}
 use Rattle.std.specs.declared.net.Ipv4Addr.{Ipv4Addr}
@@ -14,17 +14,21 @@ use Rattle.dnw_data.specs.declared.kind.Kind.TheVariants as kinds
 use Rattle.dnw_data.specs.declared.kind.ListKind.{ListKind}
 use Rattle.dnw_data.specs.declared.kind.ListKind.TheVariants as lists
 use Rattle.dnw_data.specs.declared.kind.Shown.{Shown}
-use Rattle.dnw_data.specs.declared.kind.Shown.TheVariants.{Text, Hex, Base64}
+use Rattle.dnw_data.specs.declared.kind.Shown.TheVariants.{Text, Tag, Hex, Base32Hex, Base64}
 use Rattle.dnw_data.specs.Values.{FieldValue, name, u8, u16, u32, u48, u64, ipv4, ipv6, type_code, time, counted, octets, texts, types, params, items}
 use Rattle.dnw_field_text.specs.Numbers.{max_u8, max_u16, max_u32, IsNumberText}
 use Rattle.dnw_field_text.specs.Octets.{IsHexText, IsBase64Text, IsSaltText}
-use Rattle.dnw_field_text.specs.Strings.{IsStringText}
+use Rattle.dnw_field_text.specs.Strings.{IsStringText, IsLongText}
+use Rattle.dnw_field_text.specs.Tags.{IsTagText}
+use Rattle.dnw_field_text.specs.Base32.{IsHashText}
+use Rattle.dnw_field_text.specs.Pairs.{IsPairsText}
 use Rattle.dnw_field_text.specs.Times.{IsTimeText}
 use Rattle.dnw_data_text.specs.declared.error.DataTextError.{DataTextError}
 use Rattle.dnw_data_text.specs.declared.error.Wanted.TheVariants.{Field, End}
 use Rattle.dnw_data_text.specs.Words.{after_spaces, word, after_word, joined}
 use Rattle.dnw_data_text.specs.Faults.{fault}
 use Rattle.dnw_data_text.specs.NameReading.{name_at}
+use Rattle.dnw_data_text.specs.TypeLists.{AreTypes}
 
 -- ---- the octets of fields: names are not compressed
 
@@ -67,15 +71,28 @@ IsNumberOf kinds.U32 text value = IsNumber max_u32 u32 text value
 IsNumberOf kinds.Time text value = (n : ℕ) × IsUtf8 text × IsTimeText text n × (value ≡ time n)
 IsNumberOf kind text value = ⊥
 
+-- pairs of digits are so many octets, as the field that they make
+abbrev pub IsIdentifier : ℕ → (List ℕ → FieldValue) → List ℕ → FieldValue → Type 0
+IsIdentifier size field text value = (own : List ℕ) × IsUtf8 text × IsPairsText text own × (length own ≡ size) × (value ≡ field own)
+
+-- the numbers of identifiers, by their octets
+abbrev pub eui48 : List ℕ → FieldValue
+eui48 own = u48 (from_be_bytes w64 (0 ∷ 0 ∷ own))
+
+abbrev pub eui64 : List ℕ → FieldValue
+eui64 own = u64 (from_be_bytes w64 own)
+
 -- a word writes octets that have a length octet before them
 abbrev pub Spells : Shown → List ℕ → List ℕ → Type 0
 Spells Text text own = IsStringText text own
+Spells Tag text own = IsTagText text own
 Spells Hex text own = IsSaltText text own
+Spells Base32Hex text own = IsHashText text own
 Spells shown text own = ⊥
 
--- a word is octets up to the end, as a string
+-- a word is octets up to the end, written as a string is
 abbrev pub IsOctetsOf : Shown → List ℕ → FieldValue → Type 0
-IsOctetsOf Text text value = AreOctetsOf IsStringText octets text value
+IsOctetsOf Text text value = AreOctetsOf IsLongText octets text value
 IsOctetsOf shown text value = ⊥
 
 -- a word is a field of this kind
@@ -84,6 +101,8 @@ IsWord origin (kinds.Name form) text value = IsName origin text value
 IsWord origin kinds.Ipv4 text value = (a : Ipv4Addr) × IsUtf8 text × IsIpv4Text text a × (value ≡ ipv4 (ipv4_octets a))
 IsWord origin kinds.Ipv6 text value = (a : Ipv6Addr) × IsUtf8 text × IsIpv6Text text a × (value ≡ ipv6 (ipv6_segments a))
 IsWord origin kinds.TypeCode text value = (code : RecordType) × IsUtf8 text × (type_of_text text ≡ Some code) × (value ≡ type_code code)
+IsWord origin kinds.U48 text value = IsIdentifier 6 eui48 text value
+IsWord origin kinds.U64 text value = IsIdentifier 8 eui64 text value
 IsWord origin (kinds.Counted shown) text value = AreOctetsOf (Spells shown) counted text value
 IsWord origin (kinds.Octets shown) text value = IsOctetsOf shown text value
 IsWord origin kind text value = IsNumberOf kind text value
@@ -121,6 +140,7 @@ AllSpell shown left own = ⊥
 -- all words are the items of a list
 abbrev pub AreList : ListKind → List ℕ → FieldValue → Type 0
 AreList lists.Texts left value = AreTexts left value
+AreList lists.Types left value = AreTypes left value
 AreList list left value = ⊥
 
 -- all words are a field of this kind

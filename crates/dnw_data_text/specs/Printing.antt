@@ -1,5 +1,6 @@
 -- The text of fields: each after a space (RFC 1035, section 5.1).
-use Rattle.std.specs.Prelude.{◌≡◌, ℕ, ◌⊎◌, Bool, true, false, List, [], ◌∷◌, ◌++◌, flat_map, decimal}
+use Rattle.std.specs.Int.{w64, to_be_bytes}
+use Rattle.std.specs.Prelude.{◌≡◌, ◌≤◌, ℕ, ◌⊎◌, Bool, true, false, List, [], ◌∷◌, ◌++◌, length, drop, flat_map, decimal}
 use Rattle.std.specs.Net.Text.{ipv4_text, ipv6_text}
 use Rattle.dnw_error.specs.declared.error.DecodeError.{DecodeError}
 use Rattle.dnw_base.specs.Decoder.{Decoder}
@@ -7,14 +8,18 @@ use Rattle.dnw_base.specs.Names.{label_wire}
 use Rattle.dnw_codes.specs.RecordTypes.{type_text}
 use Rattle.dnw_data.specs.declared.kind.Kind.{Kind}
 use Rattle.dnw_data.specs.declared.kind.Kind.TheVariants.{Counted, Octets}
-use Rattle.dnw_data.specs.declared.kind.Shown.TheVariants.{Text, Hex, Base64}
-use Rattle.dnw_data.specs.Values.{FieldValue, name, u8, u16, u32, ipv4, ipv6, type_code, time, counted, octets, texts}
+use Rattle.dnw_data.specs.declared.kind.Shown.TheVariants.{Text, Tag, Hex, Base32Hex, Base64}
+use Rattle.dnw_data.specs.Values.{FieldValue, name, u8, u16, u32, u48, u64, ipv4, ipv6, type_code, time, counted, octets, texts, types}
 use Rattle.dnw_data.specs.Fields.{TakesField, FailsField}
 use Rattle.dnw_data.specs.Walks.{IsAtEnd}
 use Rattle.dnw_field_text.specs.Octets.{base64_text, salt_text}
 use Rattle.dnw_field_text.specs.Strings.{string_text}
+use Rattle.dnw_field_text.specs.Tags.{IsTag}
+use Rattle.dnw_field_text.specs.Base32.{base32_text}
+use Rattle.dnw_field_text.specs.Pairs.{pairs_text}
 use Rattle.dnw_field_text.specs.Times.{IsDateText}
 use Rattle.dnw_data_text.specs.NameTexts.{full_name_text}
+use Rattle.dnw_data_text.specs.TypeLists.{PrintsTypes}
 use Rattle.dnw_data_text.specs.Generic.{hex_part}
 
 -- nothing for no octets
@@ -28,7 +33,9 @@ PrintsTime seconds text = (date : List ℕ) × IsDateText date seconds × (text 
 -- octets with a length octet before them
 abbrev pub PrintsCounted : Kind → List ℕ → List ℕ → Type 0
 PrintsCounted (Counted Text) own text = text ≡ 32 ∷ string_text own
+PrintsCounted (Counted Tag) own text = IsTag own × (text ≡ 32 ∷ own)
 PrintsCounted (Counted Hex) own text = text ≡ 32 ∷ salt_text own
+PrintsCounted (Counted Base32Hex) own text = (1 ≤ length own) × (text ≡ 32 ∷ base32_text own)
 PrintsCounted kind own text = ⊥
 
 -- octets up to the end
@@ -55,6 +62,8 @@ Prints kind (name labels) text = text ≡ 32 ∷ full_name_text labels
 Prints kind (u8 n) text = text ≡ 32 ∷ decimal n
 Prints kind (u16 n) text = text ≡ 32 ∷ decimal n
 Prints kind (u32 n) text = text ≡ 32 ∷ decimal n
+Prints kind (u48 n) text = text ≡ 32 ∷ pairs_text (drop 2 (to_be_bytes w64 n))
+Prints kind (u64 n) text = text ≡ 32 ∷ pairs_text (to_be_bytes w64 n)
 Prints kind (ipv4 own) text = text ≡ 32 ∷ ipv4_text own
 Prints kind (ipv6 segments) text = text ≡ 32 ∷ ipv6_text segments
 Prints kind (type_code code) text = text ≡ 32 ∷ type_text code
@@ -62,6 +71,7 @@ Prints kind (time seconds) text = PrintsTime seconds text
 Prints kind (counted own) text = PrintsCounted kind own text
 Prints kind (octets own) text = PrintsOctets kind own text
 Prints kind (texts items) text = PrintsStrings items.octets text
+Prints kind (types items) text = PrintsTypes items.octets text
 Prints kind value text = ⊥
 
 -- The text is that of the fields of these kinds, which are read up to the end.

@@ -1,6 +1,6 @@
 -- How a text is split into words (RFC 1035, section 5.1): by white space that is neither in quotes nor after a backslash.
 -- Parentheses and comments are of the lines around a text, and are no part of it.
-use Rattle.std.specs.Prelude.{ℕ, ◌+◌, Bool, not, false, ◌&&◌, ◌||◌, ◌==◌, if◌then◌else◌, List, [], ◌∷◌, take, drop}
+use Rattle.std.specs.Prelude.{ℕ, ◌+◌, Bool, not, true, false, ◌&&◌, ◌||◌, ◌==◌, if◌then◌else◌, List, [], ◌∷◌, take, drop}
 use Rattle.std.specs.List.{filter}
 use Rattle.dnw_field_text.specs.Strings.{quote, backslash}
 
@@ -38,6 +38,11 @@ word text = take (word_len false false text) text
 
 abbrev pub after_word : List ℕ → List ℕ
 after_word text = drop (word_len false false text) text
+
+-- the text ends, or goes on with white space
+abbrev pub is_end : List ℕ → Bool
+is_end [] = true
+is_end (c ∷ cs) = is_space c
 
 -- all words of a text as one
 abbrev pub joined : List ℕ → List ℕ

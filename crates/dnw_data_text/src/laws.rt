@@ -1,7 +1,17 @@
-//! What is printed of data is parsed as the same octets.
+//! What is printed of data and of their fields is parsed as the same.
 //!
 //! The functions do nothing. Each is there for its clauses.
-ghost use Rattle.dnw_data_text.specs.DataTextLaws.{GenericComesBack};
+ghost use Rattle.dnw_data_text.specs.DataTextLaws.{GenericComesBack, NumbersComeBack, TypesComeBack, AddressesComeBack, CountedComeBack, OctetsComeBack, StringsComeBack};
+
+/// Fields of these kinds come back, whatever follows them.
+pub fn fields_come_back()
+    ensures numbers { NumbersComeBack }
+    ensures types { TypesComeBack }
+    ensures addresses { AddressesComeBack }
+    ensures counted { CountedComeBack }
+    ensures octets { OctetsComeBack }
+    ensures strings { StringsComeBack }
+{}
 
 /// Octets in the form that any data have come back.
 pub fn generic_comes_back()

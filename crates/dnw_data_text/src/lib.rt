@@ -12,4 +12,6 @@ mod name;
 mod name_reading;
 mod parsing;
 mod printing;
+mod spelling;
+mod types;
 mod words;

@@ -2,22 +2,20 @@
 ghost use Rattle.std.specs.Prelude.{◌≡◌, ◌≤◌, ◌⊎◌, ◌++◌, ℕ, List, Bool, [], length, flat_map, IfOk, IfErr, IfSome, MatchOption};
 ghost use Rattle.std.specs.Option.{option_copied, option_map};
 ghost use Rattle.dnw_data.specs.Values.{FieldValue, counted, octets};
-ghost use Rattle.dnw_field_text.specs.Octets.{IsHexText, IsBase64Text, IsSaltText};
-ghost use Rattle.dnw_field_text.specs.Strings.{IsStringText};
+ghost use Rattle.dnw_field_text.specs.Strings.{IsLongText};
 ghost use Rattle.dnw_data_text.specs.declared.error.DataTextError.TheVariants.{Memory};
-ghost use Rattle.dnw_data_text.specs.Parsing.{IsName, IsNumberOf, AreOctetsOf, IsOctetsOf, Spells, IsWord, IsStringWord, AreTexts, AreList, takes_all, AllSpell, AreAll, ReadsField, AreFieldTexts, FailsFields, field_wire};
+ghost use Rattle.dnw_data_text.specs.Parsing.{IsName, IsNumberOf, AreOctetsOf, IsOctetsOf, IsIdentifier, eui48, eui64, Spells, IsWord, AreTexts, AreList, takes_all, AllSpell, AreAll, ReadsField, AreFieldTexts, FailsFields, field_wire};
 ghost use Rattle.dnw_data_text.specs.Inside.Reads.{AppendsOne, AppendsRest, IsEndedBy};
 
 use crate::error::{DataTextError, Wanted};
 use crate::name_reading::read_name;
+use crate::spelling::{base64_of, hex_of, pairs_of, spelled, string_of_word, text_of};
+use crate::types::parse_types;
 use crate::words::{after_spaces, split_word, without_spaces};
 use dnw_codes::record_type::RecordType;
 use dnw_data::kind::{Kind, ListKind, Shown};
 use dnw_field_text::address::{parse_ipv4, parse_ipv6};
-use dnw_field_text::error::FieldTextError;
 use dnw_field_text::number::{parse_u8, parse_u16, parse_u32};
-use dnw_field_text::octets::{parse_base64, parse_hexadecimal, parse_salt};
-use dnw_field_text::string::parse_string;
 use dnw_field_text::time::parse_time;
 use dnw_name::name::Name;
 use std::alloc::{AllocError, Global};
@@ -145,31 +143,7 @@ fn joined_octets(alloc: Global, shown: Shown, left: &[u8]) -> Result<Option<Vec<
     match shown {
         Shown::Hex => hex_of(alloc, text),
         Shown::Base64 => base64_of(alloc, text),
-        Shown::Text | Shown::Base32Hex => Ok(None),
-    }
-}
-
-/// Returns the octets that a text writes in hexadecimal, if any.
-fn hex_of(alloc: Global, text: &str) -> Result<Option<Vec<u8>>, AllocError>
-    ensures { IfOk result (λ x. MatchOption x ((own : List ℕ) → ¬ (IsHexText text.now own)) (λ own. IsHexText text.now own.items)) }
-{
-    let mut own = Vec::new(alloc);
-    match parse_hexadecimal(text, &mut own) {
-        Ok(()) => Ok(Some(own)),
-        Err(FieldTextError::Memory) => Err(AllocError),
-        Err(_) => Ok(None),
-    }
-}
-
-/// Returns the octets that a text writes in base 64, if any.
-fn base64_of(alloc: Global, text: &str) -> Result<Option<Vec<u8>>, AllocError>
-    ensures { IfOk result (λ x. MatchOption x ((own : List ℕ) → ¬ (IsBase64Text text.now own)) (λ own. IsBase64Text text.now own.items)) }
-{
-    let mut own = Vec::new(alloc);
-    match parse_base64(text, &mut own) {
-        Ok(()) => Ok(Some(own)),
-        Err(FieldTextError::Memory) => Err(AllocError),
-        Err(_) => Ok(None),
+        Shown::Text | Shown::Tag | Shown::Base32Hex => Ok(None),
     }
 }
 
@@ -184,7 +158,8 @@ fn parse_list(
 {
     match list {
         ListKind::Texts => parse_texts(alloc, left, out),
-        ListKind::Types | ListKind::Params => Ok(false),
+        ListKind::Types => parse_types(alloc, left, out),
+        ListKind::Params => Ok(false),
     }
 }
 
@@ -207,17 +182,6 @@ fn parse_texts(alloc: Global, text: &[u8], out: &mut Vec<u8>) -> Result<bool, Al
         left = after_spaces(rest);
     }
     Ok(true)
-}
-
-/// Returns the octets of a word that is a string.
-fn string_of_word(alloc: Global, word: &[u8]) -> Result<Option<Vec<u8>>, AllocError>
-    ensures is { IfOk result (λ x. MatchOption x ((own : List ℕ) → ¬ (IsStringWord word.now own)) (λ own. IsStringWord word.now own.items)) }
-    ensures few { IfOk result (λ x. IfSome x (λ own. length own.items ≤ 255)) }
-{
-    let Ok(text) = str::from_utf8(word) else {
-        return Ok(None);
-    };
-    string_of(alloc, text)
 }
 
 /// Returns `true` for kinds that take all words that are left.
@@ -265,6 +229,8 @@ fn parse_word(
             };
             out.extend_from_slice(&u16::from(code).to_be_bytes())?;
         }
+        Kind::U48 => return parse_eui48(alloc, text, out),
+        Kind::U64 => return parse_eui64(alloc, text, out),
         Kind::Counted(shown) => return parse_counted(alloc, shown, text, out),
         Kind::Octets(shown) => return parse_octets(alloc, shown, text, out),
         _ => return parse_number(kind, text, out),
@@ -322,6 +288,28 @@ fn parse_number(kind: Kind, text: &str, out: &mut Vec<u8>) -> Result<bool, Alloc
     Ok(true)
 }
 
+/// Appends the octets of an identifier of six. Returns `false` if the text is none.
+fn parse_eui48(alloc: Global, text: &str, out: &mut Vec<u8>) -> Result<bool, AllocError>
+    ensures { IfOk result (AppendsOne (IsIdentifier 6 eui48 text.now) out.old.items out.new.items) }
+{
+    let Some(own) = pairs_of(alloc, 6, text)? else {
+        return Ok(false);
+    };
+    out.extend_from_slice(own.as_slice())?;
+    Ok(true)
+}
+
+/// Appends the octets of an identifier of eight. Returns `false` if the text is none.
+fn parse_eui64(alloc: Global, text: &str, out: &mut Vec<u8>) -> Result<bool, AllocError>
+    ensures { IfOk result (AppendsOne (IsIdentifier 8 eui64 text.now) out.old.items out.new.items) }
+{
+    let Some(own) = pairs_of(alloc, 8, text)? else {
+        return Ok(false);
+    };
+    out.extend_from_slice(own.as_slice())?;
+    Ok(true)
+}
+
 /// Appends a length octet and the octets that a text writes. Returns `false` if it writes none.
 fn parse_counted(
     alloc: Global,
@@ -351,54 +339,17 @@ fn parse_octets(
 {
     match shown {
         Shown::Text => parse_text(alloc, text, out),
-        Shown::Hex | Shown::Base32Hex | Shown::Base64 => Ok(false),
+        Shown::Tag | Shown::Hex | Shown::Base32Hex | Shown::Base64 => Ok(false),
     }
 }
 
-/// Appends the octets of a string. Returns `false` if the text is none.
+/// Appends the octets of a text of any length. Returns `false` if the text is none.
 fn parse_text(alloc: Global, text: &str, out: &mut Vec<u8>) -> Result<bool, AllocError>
-    ensures { IfOk result (AppendsOne (AreOctetsOf IsStringText octets text.now) out.old.items out.new.items) }
+    ensures { IfOk result (AppendsOne (AreOctetsOf IsLongText octets text.now) out.old.items out.new.items) }
 {
-    let Some(own) = string_of(alloc, text)? else {
+    let Some(own) = text_of(alloc, text)? else {
         return Ok(false);
     };
     out.extend_from_slice(own.as_slice())?;
     Ok(true)
-}
-
-/// Returns the octets that a text writes, if any.
-fn spelled(alloc: Global, shown: Shown, text: &str) -> Result<Option<Vec<u8>>, AllocError>
-    ensures is { IfOk result (λ x. MatchOption x ((own : List ℕ) → ¬ (Spells shown text.now own)) (λ own. Spells shown text.now own.items)) }
-    ensures few { IfOk result (λ x. IfSome x (λ own. length own.items ≤ 255)) }
-{
-    match shown {
-        Shown::Text => string_of(alloc, text),
-        Shown::Hex => salt_of(alloc, text),
-        Shown::Base32Hex | Shown::Base64 => Ok(None),
-    }
-}
-
-/// Returns the octets of a string, if the text is one.
-fn string_of(alloc: Global, text: &str) -> Result<Option<Vec<u8>>, AllocError>
-    ensures { IfOk result (λ x. MatchOption x ((own : List ℕ) → ¬ (IsStringText text.now own)) (λ own. IsStringText text.now own.items)) }
-{
-    let mut own = Vec::new(alloc);
-    match parse_string(text, &mut own) {
-        Ok(()) => Ok(Some(own)),
-        Err(FieldTextError::Memory) => Err(AllocError),
-        Err(_) => Ok(None),
-    }
-}
-
-/// Returns the octets of a salt, if the text is one.
-fn salt_of(alloc: Global, text: &str) -> Result<Option<Vec<u8>>, AllocError>
-    ensures is { IfOk result (λ x. MatchOption x ((own : List ℕ) → ¬ (IsSaltText text.now own)) (λ own. IsSaltText text.now own.items)) }
-    ensures few { IfOk result (λ x. IfSome x (λ own. length own.items ≤ 255)) }
-{
-    let mut own = Vec::new(alloc);
-    match parse_salt(text, &mut own) {
-        Ok(()) => Ok(Some(own)),
-        Err(FieldTextError::Memory) => Err(AllocError),
-        Err(_) => Ok(None),
-    }
 }

@@ -7,11 +7,15 @@ ghost use Rattle.dnw_data_text.specs.Inside.Steps.{ReadsNext};
 ghost use Rattle.dnw_data_text.specs.Printing.{Prints, PrintsTime, PrintsCounted, PrintsOctets, PrintsStrings, Appended, AppendsFields};
 
 use crate::name::write_name;
+use crate::types::write_types;
 use dnw_data::field::Field;
 use dnw_data::fields::Fields;
 use dnw_data::kind::{Kind, Shown};
+use dnw_field_text::base32::Base32Hex;
 use dnw_field_text::octets::{Base64, Hexadecimal, Salt};
+use dnw_field_text::pairs::Pairs;
 use dnw_field_text::string::CharacterString;
+use dnw_field_text::tag::tag_text;
 use dnw_field_text::time::time_text;
 use std::alloc::AllocError;
 
@@ -64,6 +68,8 @@ fn write_field(kind: Kind, field: &Field<'_>, out: &mut String) -> Result<bool, 
         Field::U8(number) => write!(out, " {number}")?,
         Field::U16(number) => write!(out, " {number}")?,
         Field::U32(number) => write!(out, " {number}")?,
+        Field::U48(number) => write!(out, " {}", Pairs(&number.to_be_bytes()[2..]))?,
+        Field::U64(number) => write!(out, " {}", Pairs(&number.to_be_bytes()))?,
         Field::Ipv4(address) => write!(out, " {address}")?,
         Field::Ipv6(address) => write!(out, " {address}")?,
         Field::TypeCode(code) => {
@@ -74,7 +80,8 @@ fn write_field(kind: Kind, field: &Field<'_>, out: &mut String) -> Result<bool, 
         Field::Counted(octets) => return write_counted(kind, octets, out),
         Field::Octets(octets) => return write_octets(kind, octets, out),
         Field::Texts(items) => return write_strings(items.as_bytes(), out),
-        Field::U48(_) | Field::U64(_) | Field::Types(_) | Field::Params(_) => return Ok(false),
+        Field::Types(items) => return write_types(items.as_bytes(), out),
+        Field::Params(_) => return Ok(false),
     }
     Ok(true)
 }
@@ -95,8 +102,23 @@ fn write_counted(kind: Kind, octets: &[u8], out: &mut String) -> Result<bool, Al
     match kind {
         Kind::Counted(Shown::Text) => write!(out, " {}", CharacterString(octets))?,
         Kind::Counted(Shown::Hex) => write!(out, " {}", Salt(octets))?,
+        Kind::Counted(Shown::Tag) => return write_tag(octets, out),
+        Kind::Counted(Shown::Base32Hex) if !octets.is_empty() => {
+            write!(out, " {}", Base32Hex(octets))?;
+        }
         _ => return Ok(false),
     }
+    Ok(true)
+}
+
+/// Appends a tag after a space. Returns `false` if the octets are none.
+fn write_tag(octets: &[u8], out: &mut String) -> Result<bool, AllocError>
+    ensures { IfOk result (Appended (PrintsCounted (Kind.Counted Shown.Tag) octets.now) (string_bytes out.old) (string_bytes out.new)) }
+{
+    let Some(tag) = tag_text(octets) else {
+        return Ok(false);
+    };
+    write!(out, " {tag}")?;
     Ok(true)
 }
 

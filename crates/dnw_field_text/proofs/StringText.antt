@@ -1,12 +1,12 @@
 -- Strings, octet by octet.
 use Rattle.std.proofs.Common.{◌≡◌, ℕ, suc, ◌*◌, ◌/◌, ◌%◌, inl, inr, ◌+◌, ◌-◌, ◌≤◌, ◌<◌, Bool, true, false, ◌==◌, ◌&&◌, List, [], ◌∷◌, ◌++◌, length, Option, Some, None, refl, sym, ap, ◌∙◌, arith, append_assoc, length-append}
-use Rattle.dnw_field_text.specs.Strings.{quote, backslash, Plain, octets_from, with_octet, octet_text, string_text, IsString, IsStringText}
+use Rattle.dnw_field_text.specs.Strings.{quote, backslash, Plain, octets_from, with_octet, octet_text, string_text, IsString, IsText, IsStringText, IsLongText}
 use Rattle.std.specs.Prelude.{flat_map, nat_le}
 use Rattle.std.specs.Char.{is_ascii_digit}
 use Rattle.std.proofs.lemmas.Bool.{cases_eq, cases_Bool, ne_eqb, lt-ltb}
 use Rattle.dnw_field_text.specs.Octets.{IsOctets}
 use Rattle.dnw_field_text.specs.Spelling.{ComesBack}
-use Rattle.dnw_field_text.specs.Inside.Takes.{after, octets_at, IsNoString}
+use Rattle.dnw_field_text.specs.Inside.Takes.{after, octets_at, IsNoText}
 
 -- one octet more
 pub after_more : (found : List ℕ) (o : ℕ) (octets : Option (List ℕ)) → after found (with_octet o octets) ≡ after (found ++ o ∷ []) octets
@@ -14,9 +14,9 @@ after_more found o None = refl
 after_more found o (Some own) = ap Some (sym (append_assoc found (o ∷ []) own))
 
 -- one octet too many
-pub too_many : (found : List ℕ) (o : ℕ) (octets : Option (List ℕ)) → 255 ≤ length found → IsNoString (after found (with_octet o octets))
-too_many found o None full = tt
-too_many found o (Some own) full = omega (arith, length-append found (o ∷ own))
+pub too_many : (found : List ℕ) (o : ℕ) (octets : Option (List ℕ)) → (max : ℕ) → max ≤ length found → IsNoText max (after found (with_octet o octets))
+too_many found o None max full = tt
+too_many found o (Some own) max full = omega (arith, length-append found (o ∷ own))
 
 -- the text goes on with an octet
 pub step : (quoted : Bool) (text left rest next found : List ℕ) (first o : ℕ)
@@ -54,6 +54,11 @@ read_string [] octets = refl
 read_string (o ∷ string) octets =
     rw (append_assoc (octet_text o) (flat_map octet_text string) (quote ∷ []))
     (read_octet o (flat_map octet_text string ++ quote ∷ []) (octets 0) ∙ ap (with_octet o) (read_string string (λ i. octets (suc i))))
+
+pub text : ComesBack IsText string_text IsLongText
+text own is =
+    let spells = read_string own is.0 in
+    ((spells, is.1), λ other also. let e : Some other ≡ Some own = sym also.0 ∙ spells in cc)
 
 pub string : ComesBack IsString string_text IsStringText
 string own is =

@@ -3,4 +3,7 @@ pub mod Numbers
 pub mod Octets
 pub mod Strings
 pub mod Times
+pub mod Tags
+pub mod Pairs
+pub mod Base32
 pub mod Inside

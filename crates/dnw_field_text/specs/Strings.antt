@@ -15,6 +15,10 @@ backslash = 92
 abbrev pub IsString : List ℕ → Type 0
 IsString string = IsOctets string × (length string ≤ 255)
 
+-- a text that has no length octet has at most as many octets as data have (RFC 1035, section 3.2.1)
+abbrev pub IsText : List ℕ → Type 0
+IsText text = IsOctets text × (length text ≤ 65535)
+
 -- An octet in quotes: a quote and a backslash after a backslash, a printable character as it is, any other in decimal.
 abbrev pub octet_text : ℕ → List ℕ
 octet_text o =
@@ -61,6 +65,15 @@ abbrev pub string_octets : List ℕ → Option (List ℕ)
 string_octets [] = None
 string_octets (c ∷ cs) = if c == quote then octets_from true Plain cs else octets_from false Plain (c ∷ cs)
 
+-- the text is these octets, of which there are at most so many
+abbrev pub IsTextWithin : ℕ → List ℕ → List ℕ → Type 0
+IsTextWithin max text octets = (string_octets text ≡ Some octets) × (length octets ≤ max)
+
 -- the text is this string
 abbrev pub IsStringText : List ℕ → List ℕ → Type 0
-IsStringText text string = (string_octets text ≡ Some string) × (length string ≤ 255)
+IsStringText text string = IsTextWithin 255 text string
+
+-- the text is this value, which has no length octet and ends with the data (RFC 8659, section 4.1.1, and RFC 7553, section
+-- 4.4); so it has at most as many octets as data have (RFC 1035, section 3.2.1)
+abbrev pub IsLongText : List ℕ → List ℕ → Type 0
+IsLongText text octets = IsTextWithin 65535 text octets

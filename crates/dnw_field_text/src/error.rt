@@ -23,6 +23,18 @@ pub enum FieldTextError {
     /// A character string of at most 255 octets was wanted.
     #[error("wanted a character string of at most 255 octets")]
     CharacterString,
+    /// A text of at most 65535 octets was wanted, written as a character string is.
+    #[error("wanted a text of at most 65535 octets")]
+    Text,
+    /// A tag was wanted: 1 to 255 letters and digits.
+    #[error("wanted 1 to 255 letters and digits")]
+    Tag,
+    /// A hashed name was wanted: 1 to 255 octets in base 32, without padding.
+    #[error("wanted 1 to 255 octets in base 32")]
+    Hash,
+    /// An identifier was wanted: pairs of hexadecimal digits with hyphens between them.
+    #[error("wanted pairs of hexadecimal digits with hyphens between them")]
+    Pairs,
     /// An IPv4 address was wanted.
     #[error("wanted an IPv4 address")]
     Ipv4,

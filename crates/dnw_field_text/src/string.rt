@@ -1,18 +1,21 @@
 //! Character strings (RFC 1035, sections 3.3 and 5.1).
-ghost use Rattle.std.specs.Prelude.{◌≡◌, ◌<◌, ◌≤◌, ◌==◌, ◌&&◌, Bool, false, ◌∷◌, Some, None, length, IfSome, IfNone, MatchOption, IsTrue};
+ghost use Rattle.std.specs.Prelude.{◌≡◌, ◌<◌, ◌≤◌, ◌==◌, ◌&&◌, Bool, false, ◌∷◌, Some, None, length, IfOk, IfErr, IfSome, IfNone, IsTrue};
 ghost use Rattle.std.specs.Char.{is_ascii_digit};
 ghost use Rattle.std.specs.Fmt.{WritesOnOk};
 ghost use Rattle.dnw_field_text.specs.Spelling.{Appends};
-ghost use Rattle.dnw_field_text.specs.Strings.{quote, Plain, octet_text, string_text, octets_from, with_octet, string_octets, IsStringText};
-ghost use Rattle.dnw_field_text.specs.Inside.Takes.{octets_at, decimal_octet, IsNoString};
-ghost use Rattle.dnw_field_text.specs.declared.error.FieldTextError.TheVariants.{CharacterString as StringWanted};
+ghost use Rattle.dnw_field_text.specs.Strings.{quote, Plain, octet_text, string_text, octets_from, with_octet, string_octets, IsTextWithin, IsStringText, IsLongText};
+ghost use Rattle.dnw_field_text.specs.Inside.Takes.{octets_at, decimal_octet, BeginsWith, Pushes};
+ghost use Rattle.dnw_field_text.specs.declared.error.FieldTextError.TheVariants.{CharacterString as StringWanted, Text as TextWanted};
 
 use crate::error::FieldTextError;
-use arrayvec::ArrayVec;
+use std::alloc::AllocError;
 use std::{fmt, str};
 
 /// The most octets that a character string has.
 const MAX_STRING: usize = 255;
+
+/// The most octets that the data of a record have (RFC 1035, section 3.2.1).
+const MAX_TEXT: usize = 65535;
 
 /// A character string, printed in quotes: a quote and a backslash after a backslash, and octets that are not printable
 /// ASCII as `\DDD` in decimal.
@@ -68,43 +71,84 @@ impl fmt::Display for StringOctet {
 pub fn parse_string(text: &str, octets: &mut Vec<u8>) -> Result<(), FieldTextError>
     ensures { Appends StringWanted IsStringText text.now octets.old.items octets.new.items result }
 {
-    let Some(string) = string_octets(text.as_bytes()) else {
-        return Err(FieldTextError::CharacterString);
-    };
-    octets.extend_from_slice(string.as_slice())?;
-    Ok(())
+    append_text(text, MAX_STRING, FieldTextError::CharacterString, octets)
 }
 
-/// Returns the octets of a character string, if there are at most 255.
-fn string_octets(text: &[u8]) -> Option<ArrayVec<u8, MAX_STRING>>
-    ensures { MatchOption result (IsNoString (string_octets text.now)) (λ string. string_octets text.now ≡ Some string.items) }
+/// Appends the octets of a text that is written as a character string is, and may have up to 65535 octets: the value of
+/// a CAA record (RFC 8659, section 4.1.1) or the target of a URI record (RFC 7553, section 4.4).
+///
+/// Fails with `Text` if the text is something else, and with `Memory`; `octets` is then unchanged.
+pub fn parse_text(text: &str, octets: &mut Vec<u8>) -> Result<(), FieldTextError>
+    ensures { Appends TextWanted IsLongText text.now octets.old.items octets.new.items result }
 {
-    let (first, rest) = text.split_first()?;
-    if *first == b'"' {
-        octets_from(rest, true)
-    } else {
-        octets_from(text, false)
+    append_text(text, MAX_TEXT, FieldTextError::Text, octets)
+}
+
+/// Appends the octets of a text, if there are at most so many. Fails with `wanted` if there are not.
+fn append_text(
+    text: &str,
+    max: usize,
+    wanted: FieldTextError,
+    octets: &mut Vec<u8>,
+) -> Result<(), FieldTextError>
+    ensures { Appends wanted (IsTextWithin max) text.now octets.old.items octets.new.items result }
+{
+    let start = octets.len();
+    match push_text(text.as_bytes(), max, octets) {
+        Ok(true) => Ok(()),
+        Ok(false) => {
+            octets.truncate(start);
+            Err(wanted)
+        }
+        Err(_) => {
+            octets.truncate(start);
+            Err(FieldTextError::Memory)
+        }
     }
 }
 
-/// Returns the octets of a text, after its opening quote if it is quoted, if there are at most 255.
-fn octets_from(text: &[u8], quoted: bool) -> Option<ArrayVec<u8, MAX_STRING>>
-    ensures { MatchOption result (IsNoString (octets_from quoted Plain text.now)) (λ string. octets_from quoted Plain text.now ≡ Some string.items) }
+/// Appends the octets of a text. Returns `false` if they are none, or more than so many; some may be appended then.
+fn push_text(text: &[u8], max: usize, octets: &mut Vec<u8>) -> Result<bool, AllocError>
+    ensures ok { IfOk result (Pushes max (string_octets text.now) octets.old.items octets.new.items) }
+    ensures err { IfErr result (λ _. (1 ≤ length text.now) × BeginsWith octets.old.items octets.new.items) }
 {
-    let mut octets = ArrayVec::new();
+    let Some((first, rest)) = text.split_first() else {
+        return Ok(false);
+    };
+    if *first == b'"' {
+        push_octets(rest, true, max, octets)
+    } else {
+        push_octets(text, false, max, octets)
+    }
+}
+
+/// Appends the octets of a text, after its opening quote if it is quoted. Returns `false` as `push_text` does.
+fn push_octets(
+    text: &[u8],
+    quoted: bool,
+    max: usize,
+    octets: &mut Vec<u8>,
+) -> Result<bool, AllocError>
+    ensures ok { IfOk result (Pushes max (octets_from quoted Plain text.now) octets.old.items octets.new.items) }
+    ensures err { IfErr result (λ _. BeginsWith octets.old.items octets.new.items) }
+{
+    let mut count = 0;
     let mut left = text;
     while let Some((first, rest)) = left.split_first() {
         if is_end(quoted, *first) {
-            return if rest.is_empty() { Some(octets) } else { None };
+            return Ok(rest.is_empty());
         }
-        let (octet, rest) = take_octet(*first, rest)?;
-        if octets.is_full() {
-            return None;
+        let Some((octet, rest)) = take_octet(*first, rest) else {
+            return Ok(false);
+        };
+        if count == max {
+            return Ok(false);
         }
-        octets.push(octet);
+        octets.push(octet)?;
+        count += 1;
         left = rest;
     }
-    if quoted { None } else { Some(octets) }
+    Ok(!quoted)
 }
 
 /// Returns `true` if a character is the quote that ends a quoted text.
@@ -147,7 +191,7 @@ fn decimal_octet(a: u8, b: u8, c: u8) -> Option<u8>
 }
 
 /// Writes ASCII characters.
-fn write_ascii<W: fmt::Write>(f: &mut fmt::Formatter<W>, text: &[u8]) -> fmt::Result
+pub(crate) fn write_ascii<W: fmt::Write>(f: &mut fmt::Formatter<W>, text: &[u8]) -> fmt::Result
     ensures { WritesOnOk W.Write.write_str_gives f.old result text.now f.new }
 {
     f.write_str(str::from_utf8(text).map_err(|_| fmt::Error)?)

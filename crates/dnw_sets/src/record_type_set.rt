@@ -115,6 +115,13 @@ impl RecordTypeSet {
         TypeIter::new(self.types.as_slice())
     }
 
+    /// Returns the bytes that the set is written as.
+    pub fn as_bytes(&self) -> &[u8]
+        ensures { result.now ≡ self.now.encoding }
+    {
+        self.encoding.as_slice()
+    }
+
     /// Returns `true` if the set has this type.
     pub fn contains(&self, kind: RecordType) -> bool
         ensures { IsTrue result ↔ Contains self.now.types kind }

@@ -1,5 +1,5 @@
 -- Strings, octet by octet.
-use Rattle.std.specs.Prelude.{◌<◌, ℕ, ◌+◌, ◌-◌, ◌*◌, Bool, ◌&&◌, ◌==◌, nat_lt, if◌then◌else◌, ⊤, List, ◌++◌, length, Option, Some, None, option_map}
+use Rattle.std.specs.Prelude.{◌≡◌, ◌<◌, ◌≤◌, ℕ, ◌+◌, ◌-◌, ◌*◌, Bool, true, false, ◌&&◌, ◌==◌, nat_lt, if◌then◌else◌, ⊤, List, ◌++◌, length, Option, Some, None, option_map}
 use Rattle.std.specs.Char.{is_ascii_digit}
 use Rattle.dnw_field_text.specs.Strings.{backslash, Plain, Escaped, octets_from, with_octet}
 
@@ -19,7 +19,20 @@ decimal_octet a b c =
 abbrev pub after : List ℕ → Option (List ℕ) → Option (List ℕ)
 after found octets = option_map (λ own. found ++ own) octets
 
--- no octets, or more than a string has
-abbrev pub IsNoString : Option (List ℕ) → Type 0
-IsNoString (Some string) = 255 < length string
-IsNoString None = ⊤
+-- no octets, or more than so many
+abbrev pub IsNoText : ℕ → Option (List ℕ) → Type 0
+IsNoText max (Some string) = max < length string
+IsNoText max None = ⊤
+
+abbrev pub BeginsWith : List ℕ → List ℕ → Type 0
+BeginsWith old new = (own : List ℕ) × (new ≡ old ++ own)
+
+-- At most so many octets of a text are appended; or it has none, and some may be appended.
+abbrev pub Pushes : ℕ → Option (List ℕ) → List ℕ → List ℕ → Bool → Type 0
+Pushes max text old new true = (own : List ℕ) × (text ≡ Some own) × (length own ≤ max) × (new ≡ old ++ own)
+Pushes max text old new false = IsNoText max text × BeginsWith old new
+
+-- The octets of a text are appended; or it has none, and some may be appended.
+abbrev pub PushesAll : Option (List ℕ) → List ℕ → List ℕ → Bool → Type 0
+PushesAll text old new true = (own : List ℕ) × (text ≡ Some own) × (new ≡ old ++ own)
+PushesAll text old new false = (text ≡ None) × BeginsWith old new

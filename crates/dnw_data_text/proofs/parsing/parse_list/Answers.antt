@@ -2,3 +2,6 @@ use Rattle.dnw_data_text.proofs.parsing.parse_list.Goals as goal
 
 pub returns-in-Texts : goal.returns-in-Texts
 returns-in-Texts c = rw c.in-Texts.is c.parse_texts.ensures
+
+pub returns-in-Types : goal.returns-in-Types
+returns-in-Types c = rw c.in-Types.is c.parse_types.ensures

@@ -1,9 +1,15 @@
 use Rattle.std.proofs.Common.{List, ℕ, subst, IfOk}
 use Rattle.std.specs.Prelude.{string_bytes}
 use Rattle.dnw_data_text.specs.Printing.{Appended, PrintsStrings}
+use Rattle.dnw_data_text.specs.TypeLists.{PrintsTypes}
 use Rattle.dnw_data_text.proofs.printing.write_field.Goals as goal
 
 pub returns-in-Texts : goal.returns-in-Texts
 returns-in-Texts c =
     let Is : List ℕ → Type 0 = λ own. IfOk c.write_strings.result (Appended (PrintsStrings own) (string_bytes c.args.out.now) (string_bytes c.write_strings.new.out)) in
     rw c.in-Texts.is (subst Is c.as_bytes.ensures c.write_strings.ensures)
+
+pub returns-in-Types : goal.returns-in-Types
+returns-in-Types c =
+    let Is : List ℕ → Type 0 = λ own. IfOk c.write_types.result (Appended (PrintsTypes own) (string_bytes c.args.out.now) (string_bytes c.write_types.new.out)) in
+    rw c.in-Types.is (subst Is c.as_bytes-in-Types.ensures c.write_types.ensures)

@@ -1,0 +1,20 @@
+use Rattle.dnw_data_text.proofs.FieldsBack.{u8-back, u16-back, u32-back, time-back, type-back, ipv4-back, string-back, tag-back, salt-back, hash-back, octets-back, text-back, strings-back}
+use Rattle.dnw_data_text.proofs.laws.fields_come_back.Goals as goal
+
+pub returns-clause-numbers : goal.returns-clause-numbers
+returns-clause-numbers c = (u8-back, u16-back, u32-back, time-back)
+
+pub returns-clause-types : goal.returns-clause-types
+returns-clause-types c = type-back
+
+pub returns-clause-addresses : goal.returns-clause-addresses
+returns-clause-addresses c = ipv4-back
+
+pub returns-clause-counted : goal.returns-clause-counted
+returns-clause-counted c = (string-back, tag-back, salt-back, hash-back)
+
+pub returns-clause-octets : goal.returns-clause-octets
+returns-clause-octets c = (octets-back, text-back)
+
+pub returns-clause-strings : goal.returns-clause-strings
+returns-clause-strings c = strings-back
