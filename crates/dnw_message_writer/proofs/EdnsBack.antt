@@ -1,10 +1,11 @@
 -- EDNS that was written is read.
-use Rattle.std.proofs.Common.{◌≡◌, ℕ, ◌+◌, ◌*◌, ◌/◌, ◌%◌, ◌^◌, ◌<◌, ◌≤◌, ◌==◌, max, nat_le, cond, unwrap_or, Bool, true, false, Option, Some, None, List, [], ◌∷◌, ◌++◌, length, map, find, slice_range, drop, Any, Result, Ok, Err, IfErr, get_or, ◌⊎◌, inl, inr, refl, sym, ap, ◌∙◌, eqb-true, subst, arith}
+use Rattle.std.proofs.Common.{◌≡◌, ℕ, ◌+◌, ◌-◌, ◌*◌, ◌/◌, ◌%◌, ◌^◌, ◌<◌, ◌≤◌, ◌==◌, max, nat_le, cond, unwrap_or, Bool, true, false, Option, Some, None, List, [], ◌∷◌, ◌++◌, length, map, find, slice_range, take, drop, Any, Result, Ok, Err, IfErr, get_or, ◌⊎◌, inl, inr, refl, sym, ap, ◌∙◌, eqb-true, subst, arith}
 use Rattle.std.specs.Int.{w16, from_bool, to_be_bytes}
 use Rattle.std.specs.List.{AllByRecursion}
 use Rattle.std.specs.Result.{IsErrAnd}
 use Rattle.std.proofs.lemmas.Grind.{common_steps}
-use Rattle.std.proofs.lemmas.List.{drop_at, get_or_default, length-append}
+use Rattle.std.proofs.lemmas.List.{append-nil, drop_at, drop-take, get_or_default, length-append}
+use Rattle.std.proofs.Math.Seq.{take-length}
 use Rattle.std.proofs.lemmas.Nat.{from_be_bytes-to_be_bytes_2}
 use Rattle.dnw_error.specs.declared.error.ProtoError.{ProtoError}
 use Rattle.dnw_error.specs.declared.error.ProtoError.TheVariants.{MaxBufferSizeExceeded, Memory}
@@ -14,15 +15,20 @@ use Rattle.dnw_codes.specs.declared.dns_class.DNSClass.TheVariants.{Unknown}
 use Rattle.dnw_codes.specs.DnsClasses.{class_code, class_of_code, min_payload, named_classes}
 use Rattle.dnw_codes.specs.RecordTypes.{type_code, type_of_code}
 use Rattle.dnw_reading.proofs.Back.{slice_range-middle}
-use Rattle.dnw_record.specs.declared.record.WireData.{WireData}
-use Rattle.dnw_record.specs.declared.record.WireData.TheVariants as rdata
+use Rattle.dnw_base.specs.Decoder.{Decoder}
+use Rattle.dnw_data.specs.declared.kind.Kind.TheVariants.{Octets}
+use Rattle.dnw_data.specs.declared.kind.Shown.{Shown}
+use Rattle.dnw_data.specs.declared.kind.Shown.TheVariants.{Hex}
+use Rattle.dnw_data.specs.Fields.{own_at}
+use Rattle.dnw_data.specs.Table.{fields_of}
 use Rattle.dnw_record.specs.Records.{RecordValue, data_octets}
-use Rattle.dnw_encoder.specs.declared.encoder.modes.NameEncoding.TheVariants.{Compressed}
-use Rattle.dnw_script.specs.ScriptLaws.{HasData}
+use Rattle.dnw_rdata.specs.declared.record.Record.{Record}
+use Rattle.dnw_rdata.specs.DataPieces.{IsData, kinds_of, octets_piece, piece_octets}
+use Rattle.dnw_rdata.specs.DataCopies.{Copies, data_start}
 use Rattle.dnw_message.specs.Headers.{flag}
 use Rattle.dnw_message.specs.Edns.{OptionValue, OptionsAre, first_option, none, one_more, option_of, option_size}
 use Rattle.dnw_message_writer.specs.declared.edns.WireOption.{WireOption}
-use Rattle.dnw_message_writer.specs.WireEdns.{AreOctets, OptionFits, edns_ttl, option_value, option_wire, options_wire}
+use Rattle.dnw_message_writer.specs.WireEdns.{OptionFits, edns_ttl, option_value, option_wire, options_wire}
 use Rattle.dnw_message_writer.specs.WriterLaws.{EdnsComesBack}
 
 -- ---- classes
@@ -75,9 +81,37 @@ options-are (o ∷ os) (one, fit) = one_more (first-is o (options_wire os) one) 
 
 -- ---- the record
 
-data-are : (d : WireData) (x : RecordValue) (octets : List ℕ) → AreOctets d octets → HasData x Compressed false d → data_octets x ≡ octets
-data-are (rdata.Bytes bytes) x octets are h = h ∙ are
-data-are (rdata.Name name encoding) x octets are h = absurd are
+-- the type is in no row of the table, so its data are octets
+opt-kinds : kinds_of OPT ≡ Octets Hex ∷ []
+unfolding fields_of
+opt-kinds = refl
+
+-- which any octets are
+pub opt-data : (octets : List ℕ) → IsData (kinds_of OPT) octets
+opt-data octets =
+    let all = append-nil octets in
+    subst (λ kinds. IsData kinds octets) (sym opt-kinds) (octets_piece octets ∷ [], record { are = ((ap length (sym all), refl), tt); whole = sym all })
+
+octets-copied : (shown : Shown) (d : Decoder) (octets : List ℕ) → Copies (Octets shown ∷ []) d octets → octets ≡ own_at (Octets shown) d
+octets-copied shown d octets ([], takes, is) = absurd takes
+octets-copied shown d octets (piece ∷ [], (after, (enough, right, own, there), end), is) =
+    is ∙ (ap (λ p. piece_octets p ++ []) own ∙ append-nil (own_at (Octets shown) d))
+octets-copied shown d octets (piece ∷ other ∷ pieces, (after, one, more), is) = absurd more
+
+-- all octets from an offset of a message up to another
+all-from : (shown : Shown) (m : List ℕ) (s n : ℕ) → own_at (Octets shown) (record { bytes = slice_range m 0 (s + n); index = s }) ≡ slice_range m s (s + n)
+all-from shown m s n =
+    let b = slice_range m 0 (s + n) in
+    let none : s + n - 0 ≡ s + n = omega arith in
+    let many : s + length (drop s b) - s ≡ length (drop s b) = omega arith in
+    let some : n ≡ s + n - s = omega arith in
+    ap (λ k. take k (drop s b)) many ∙ (take-length (drop s b) ∙ (ap (λ k. drop s (take k m)) none ∙ (drop-take s n m ∙ ap (λ k. take k (drop s m)) some)))
+
+data-are : (r : Record) (x : RecordValue) → r.data.record_type ≡ OPT → Copies (kinds_of r.data.record_type) (data_start x) r.data.octets
+    → data_octets x ≡ r.data.octets
+data-are r x opt copies =
+    let own = subst (λ kinds. Copies kinds (data_start x) r.data.octets) opt-kinds (subst (λ kind. Copies (kinds_of kind) (data_start x) r.data.octets) opt copies) in
+    sym (octets-copied Hex (data_start x) r.data.octets own ∙ all-from Hex x.message x.start x.len)
 
 bit-of : (b : Bool) (n : ℕ) → n % 2 ≡ from_bool b → b ≡ (n % 2 == 1)
 bit-of true n h = rw h refl
@@ -92,10 +126,10 @@ low-bit true high version = omega arith
 low-bit false high version = omega arith
 
 pub edns_comes_back : EdnsComesBack
-edns_comes_back e r x opt (owner, kind, class, ttl, rdata) =
+edns_comes_back e r x opt (owner, kind, class, ttl, copies) =
     let (version, high, payload) = opt.fit in
     let t : x.ttl ≡ edns_ttl e = ttl ∙ opt.ttl in
-    let code : class_code x.class ≡ max e.max_payload min_payload = ap class_code class ∙ (class-back (class_code r.class) ∙ ap class_code opt.class) in
+    let code : class_code x.class ≡ max e.max_payload min_payload = ap class_code class ∙ (class-back (class_code r.dns_class) ∙ ap class_code opt.class) in
     let bit : flag e.dnssec_ok 15 ≤ 2 ^ 15 = flag-most e.dnssec_ok in (
       kind ∙ (ap (λ k. type_of_code (type_code k)) opt.record_type ∙ opt-back),
       (
@@ -106,7 +140,7 @@ edns_comes_back e r x opt (owner, kind, class, ttl, rdata) =
         rw t (bit-of e.dnssec_ok (edns_ttl e / 2 ^ 15) (low-bit e.dnssec_ok e.rcode_high e.version)),
         refl,
         refl,
-        subst (λ d. OptionsAre d (map option_value e.options.now)) (sym (data-are r.rdata x (options_wire e.options.now) opt.rdata rdata)) (options-are e.options.now opt.options),
+        subst (λ d. OptionsAre d (map option_value e.options.now)) (sym (data-are r x opt.record_type copies ∙ opt.octets)) (options-are e.options.now opt.options),
       ),
     )
 

@@ -2,13 +2,13 @@
 use Rattle.std.proofs.Common.{◌≡◌, Bool, false, cond, Some, List, [], ◌∷◌, ◌++◌, ap, ◌∙◌, subst}
 use Rattle.std.specs.List.{AllByRecursion, AllZip}
 use Rattle.dnw_codes.specs.declared.record_type.RecordType.{RecordType}
-use Rattle.dnw_record.specs.declared.record.WireRecord.{WireRecord}
+use Rattle.dnw_rdata.specs.declared.record.Record.{Record}
 use Rattle.dnw_record.specs.Records.{RecordValue}
 use Rattle.dnw_message.specs.Edns.{HasEdns, IsEdns, is_opt, opts_in}
 use Rattle.dnw_message.specs.Messages.{MessageValue}
 use Rattle.dnw_message.proofs.OneMessage.{one_message}
 use Rattle.dnw_message_writer.specs.declared.edns.WireEdns.{WireEdns}
-use Rattle.dnw_message_writer.specs.ReadBack.{RecordIsRead}
+use Rattle.dnw_message_writer.specs.ReadRecords.{RecordIsRead}
 use Rattle.dnw_message_writer.specs.WireEdns.{IsNoOpt, IsOptOf, edns_value}
 use Rattle.dnw_message_writer.specs.Written.{ending_with}
 use Rattle.dnw_message_writer.specs.WriterLaws.{MessagesHaveEdns}
@@ -16,7 +16,7 @@ use Rattle.dnw_message_writer.proofs.ReadBack.{written_messages_are_read}
 use Rattle.dnw_message_writer.proofs.EdnsBack.{edns_comes_back}
 
 -- the last of these records is the only OPT record
-only : (e : WireEdns) (last : WireRecord) (rs : List WireRecord) (xs : List RecordValue) → IsOptOf e last → AllByRecursion IsNoOpt rs
+only : (e : WireEdns) (last : Record) (rs : List Record) (xs : List RecordValue) → IsOptOf e last → AllByRecursion IsNoOpt rs
     → AllZip RecordIsRead (rs ++ last ∷ []) xs → (x : RecordValue) × (opts_in xs ≡ x ∷ []) × IsEdns x (edns_value e x.start x.len)
 only e last [] (x ∷ []) opt others (one, done) =
     let (kind, edns) = edns_comes_back e last x opt one in

@@ -1,8 +1,9 @@
 pub mod Adding
+pub mod Standing
 pub mod Going
 pub mod Holding
-pub mod Closing
 pub mod Finishing
+pub mod Copying
 pub mod ReadBack
 pub mod EdnsBack
 pub mod EdnsMessages

@@ -1,23 +1,21 @@
 -- A written message is read.
-use Rattle.std.proofs.Common.{◌≡◌, ℕ, ◌+◌, ◌*◌, ◌^◌, ◌<◌, ◌≤◌, false, List, [], ◌∷◌, length, map, slice_range, refl, sym, ap, ◌∙◌, subst, arith}
+use Rattle.std.proofs.Common.{◌≡◌, ℕ, ◌+◌, ◌*◌, ◌^◌, ◌<◌, ◌≤◌, List, [], ◌∷◌, length, map, slice_range, refl, sym, ap, ◌∙◌, subst, arith}
 use Rattle.std.specs.Int.{w16, from_be_bytes, to_be_bytes}
 use Rattle.std.specs.List.{AllZip}
 use Rattle.std.proofs.lemmas.Nat.{from_be_bytes-to_be_bytes_2}
 use Rattle.dnw_codes.specs.RecordTypes.{type_code, type_of_code}
 use Rattle.dnw_codes.specs.DnsClasses.{class_code, class_of_code}
 use Rattle.dnw_reading.proofs.Counts.{Reads-back, Reads-own}
-use Rattle.dnw_encoder.specs.declared.encoder.modes.NameEncoding.TheVariants.{Compressed}
-use Rattle.dnw_record.specs.declared.record.WireRecord.{WireRecord}
+use Rattle.dnw_rdata.specs.declared.record.Record.{Record}
 use Rattle.dnw_record.specs.Records.{RecordValue, number_at}
-use Rattle.dnw_script.specs.Pieces.{BytesStand, RecordStands}
-use Rattle.dnw_script.proofs.ReadingBack.{records_are_read}
 use Rattle.dnw_message.specs.Headers.{header_of}
 use Rattle.dnw_message.specs.HeaderLaws.{with_low_codes}
 use Rattle.dnw_message.specs.Messages.{Item, ItemAt, ItemsAt, Rest, done, next, none, one_more, query_of, question_rest, record_in, record_rest}
 use Rattle.dnw_message.proofs.Headers.{headers_read_back}
 use Rattle.dnw_message_writer.specs.declared.query.WireQuery.{WireQuery}
 use Rattle.dnw_message_writer.specs.Written.{QueryStands, Stand, header_for}
-use Rattle.dnw_message_writer.specs.ReadBack.{QueryIsRead, RecordIsRead}
+use Rattle.dnw_message_writer.specs.ReadRecords.{RecordIsRead, RecordStands}
+use Rattle.dnw_message_writer.specs.ReadBack.{QueryIsRead}
 use Rattle.dnw_message_writer.specs.WriterLaws.{WrittenMessagesAreRead}
 
 -- ---- items
@@ -64,40 +62,38 @@ module _ {X Y : Type 0} (rest : Rest) (of : Item → Y) (same : X → Y → Type
       }
 
 -- the number that two octets are
-number-read : (b : List ℕ) (n p e : ℕ) → n < 2 ^ 16 → BytesStand b (to_be_bytes w16 n) p e → number_at b p ≡ n
-number-read b n p e fits stands =
-    let end : e ≡ p + 2 = stands.1 in
-    ap (from_be_bytes w16) (subst (λ (x : ℕ). slice_range b p x ≡ to_be_bytes w16 n) end stands.0) ∙ from_be_bytes-to_be_bytes_2 n fits
+number-read : (b : List ℕ) (n p : ℕ) → n < 2 ^ 16 → slice_range b p (p + 2) ≡ to_be_bytes w16 n → number_at b p ≡ n
+number-read b n p fits there = ap (from_be_bytes w16) there ∙ from_be_bytes-to_be_bytes_2 n fits
 
 query-read : (b : List ℕ) (q : WireQuery) (p e : ℕ) → QueryStands b q p e → IsRead question_rest (query_of b) QueryIsRead b q p e
 query-read b q p e h =
+    let end : h.name_end + 4 ≡ h.name_end + 2 + 2 = omega arith in
     record {
       item = record { labels = q.name.labels; name_end = h.name_end };
-      pointers = h.name.0;
-      at = record { name = h.name.1; ends = omega (arith, h.query_class.1); inside = h.query_class.2 };
+      pointers = h.pointers;
+      at = record { name = h.name; ends = h.ends; inside = h.inside };
       is = (
         refl,
-        ap type_of_code (number-read b (type_code q.query_type) h.name_end (h.name_end + 2) h.fit.0 h.query_type),
-        ap class_of_code (number-read b (class_code q.query_class) (h.name_end + 2) e h.fit.1 h.query_class),
+        ap type_of_code (number-read b (type_code q.query_type) h.name_end h.fit.0 h.query_type),
+        ap class_of_code (number-read b (class_code q.query_class) (h.name_end + 2) h.fit.1 (subst (λ e. slice_range b (h.name_end + 2) e ≡ to_be_bytes w16 (class_code q.query_class)) end h.query_class)),
       );
     }
 
-record-read : (b : List ℕ) (r : WireRecord) (p e : ℕ) → RecordStands b Compressed false r p e → IsRead record_rest (record_in b) RecordIsRead b r p e
-record-read b r p e h =
-    let (x, at, owner, kind, class, ttl, rdata) = records_are_read b Compressed false r p e h in
+record-read : (b : List ℕ) (r : Record) (p e : ℕ) → RecordStands b r p e → IsRead record_rest (record_in b) RecordIsRead b r p e
+record-read b r p e (x, at, says) =
     let ends = at.ends ∙ ap (λ (y : RecordValue). y.start + y.len) at.is in
     record {
       item = record { labels = at.labels; name_end = at.owner_end };
       pointers = at.pointers;
       at = record { name = at.owner_read; ends = omega (arith, ends); inside = omega (arith, ends, at.rest) };
-      is = subst (RecordIsRead r) at.is (owner, kind, class, ttl, rdata);
+      is = subst (RecordIsRead r) at.is says;
     }
 
 -- ---- the message
 
 pub written_messages_are_read : WrittenMessagesAreRead
 written_messages_are_read metadata c b h =
-    let records = items-read record_rest (record_in b) RecordIsRead b h.small (RecordStands b Compressed false) (record-read b) in
+    let records = items-read record_rest (record_in b) RecordIsRead b h.small (RecordStands b) (record-read b) in
     let q = items-read question_rest (query_of b) QueryIsRead b h.small (QueryStands b) (query-read b) c.queries 12 h.answers_at h.queries in
     let a = records c.answers h.answers_at h.authorities_at h.answers in
     let u = records c.authorities h.authorities_at h.additionals_at h.authorities in

@@ -8,8 +8,8 @@ use Rattle.dnw_message.specs.declared.header.Header.{Header}
 use Rattle.dnw_message.specs.declared.header.HeaderCounts.{HeaderCounts}
 use Rattle.dnw_message.specs.declared.header.Metadata.{Metadata}
 use Rattle.dnw_message.specs.Headers.{header_wire}
-use Rattle.dnw_record.specs.declared.record.WireRecord.{WireRecord}
-use Rattle.dnw_record.specs.WrittenRecords.{EmitsRecord}
+use Rattle.dnw_rdata.specs.declared.record.Record.{Record}
+use Rattle.dnw_rdata.specs.AnyRecords.{EmitsAnyRecord}
 use Rattle.dnw_message_writer.specs.WireQueries.{EmitsQuery}
 use Rattle.dnw_message_writer.specs.declared.writer.Entry.{Entry}
 use Rattle.dnw_message_writer.specs.declared.writer.Entry.TheVariants.{Query, Answer, Authority, Additional}
@@ -64,9 +64,9 @@ Adds emits s x d (Err (Proto error)) e =
 
 abbrev pub AddsEntry : Entry → Draft → Added → Draft → Type 0
 AddsEntry (Query q) d outcome e = Adds EmitsQuery section.Queries q d outcome e
-AddsEntry (Answer r) d outcome e = Adds EmitsRecord section.Answers r d outcome e
-AddsEntry (Authority r) d outcome e = Adds EmitsRecord section.Authorities r d outcome e
-AddsEntry (Additional r) d outcome e = Adds EmitsRecord section.Additionals r d outcome e
+AddsEntry (Answer r) d outcome e = Adds EmitsAnyRecord section.Answers r d outcome e
+AddsEntry (Authority r) d outcome e = Adds EmitsAnyRecord section.Authorities r d outcome e
+AddsEntry (Additional r) d outcome e = Adds EmitsAnyRecord section.Additionals r d outcome e
 
 -- Items are added in turn, each with its outcome.
 abbrev pub AddsAll : List Entry → Draft → List Added → Draft → Type 0
@@ -92,12 +92,12 @@ Begins metadata most v (Ok header) w =
 Begins metadata most v (Err error) w = Writes (limited v most) (replicate 12 0) (Err error) w
 
 -- The last record, if there is one, is added to the additional section, within the whole maximum: octets were held back for it.
-abbrev pub AddsLast : Option WireRecord → ℕ → Draft → Outcome → Draft → Type 0
+abbrev pub AddsLast : Option Record → ℕ → Draft → Outcome → Draft → Type 0
 AddsLast None most d (Ok done) e = e ≡ d
 AddsLast None most d (Err error) e = ⊥
 AddsLast (Some r) most d (Ok done) e =
-    EmitsRecord r (limited d.encoder most) (Ok tt) e.encoder × (e.header ≡ record d.header { counts = counted section.Additionals d.header.counts })
-AddsLast (Some r) most d (Err error) e = EmitsRecord r (limited d.encoder most) (Err error) e.encoder × (e.header ≡ d.header)
+    EmitsAnyRecord r (limited d.encoder most) (Ok tt) e.encoder × (e.header ≡ record d.header { counts = counted section.Additionals d.header.counts })
+AddsLast (Some r) most d (Err error) e = EmitsAnyRecord r (limited d.encoder most) (Err error) e.encoder × (e.header ≡ d.header)
 
 -- The header is written over the octets that were reserved for it.
 abbrev pub Closes : Header → Encoder → Encoder → Type 0

@@ -1,8 +1,10 @@
 pub mod WireQueries
 pub mod QueryFrames
 pub mod Drafts
+pub mod ReadRecords
 pub mod Written
 pub mod ReadBack
+pub mod Copies
 pub mod WireEdns
 pub mod Writers
 pub mod WriterLaws

@@ -1,30 +1,20 @@
 -- What a written message is read as (RFC 1035, section 4).
-use Rattle.std.specs.Prelude.{◌≡◌, ℕ, ◌*◌, ◌≤◌, false, List, length}
+use Rattle.std.specs.Prelude.{◌≡◌, ℕ, ◌*◌, ◌≤◌, List, length}
 use Rattle.std.specs.List.{AllZip}
 use Rattle.dnw_codes.specs.RecordTypes.{type_code, type_of_code}
 use Rattle.dnw_codes.specs.DnsClasses.{class_code, class_of_code}
 use Rattle.dnw_base.specs.Limits.{max_message}
-use Rattle.dnw_encoder.specs.declared.encoder.modes.NameEncoding.TheVariants.{Compressed}
-use Rattle.dnw_record.specs.declared.record.WireRecord.{WireRecord}
-use Rattle.dnw_record.specs.Records.{RecordValue}
-use Rattle.dnw_script.specs.ScriptLaws.{HasData}
 use Rattle.dnw_message.specs.HeaderLaws.{with_low_codes}
 use Rattle.dnw_message.specs.Messages.{MessageAt, MessageValue, QueryValue}
 use Rattle.dnw_message.specs.declared.header.Metadata.{Metadata}
 use Rattle.dnw_message_writer.specs.declared.query.WireQuery.{WireQuery}
+use Rattle.dnw_message_writer.specs.ReadRecords.{RecordIsRead}
 use Rattle.dnw_message_writer.specs.Written.{Contents, header_for}
 
 -- A question is read as it was written: its name, and its type and class by their codes.
 abbrev pub QueryIsRead : WireQuery → QueryValue → Type 0
 QueryIsRead q x =
     (x.name ≡ q.name.labels) × (x.query_type ≡ type_of_code (type_code q.query_type)) × (x.query_class ≡ class_of_code (class_code q.query_class))
-
--- A record is read as it was written: its owner, its type and class by their codes, its time to live, and its data, which are
--- the same bytes, or the same name.
-abbrev pub RecordIsRead : WireRecord → RecordValue → Type 0
-RecordIsRead r x =
-    (x.owner ≡ r.owner.labels) × (x.record_type ≡ type_of_code (type_code r.record_type)) × (x.class ≡ class_of_code (class_code r.class))
-    × (x.ttl ≡ r.ttl) × HasData x Compressed false r.rdata
 
 -- The octets are one message, and nothing follows it. Its header is the one that was written, with the low four bits of the
 -- codes, and its sections are exactly the accepted items, in their order. No name follows more pointers than a message has

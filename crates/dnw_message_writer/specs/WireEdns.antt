@@ -7,9 +7,7 @@ use Rattle.dnw_codes.specs.declared.dns_class.DNSClass.TheVariants as class
 use Rattle.dnw_codes.specs.RecordTypes.{type_code, type_of_code}
 use Rattle.dnw_codes.specs.DnsClasses.{min_payload}
 use Rattle.dnw_base.specs.Limits.{max_message}
-use Rattle.dnw_record.specs.declared.record.WireRecord.{WireRecord}
-use Rattle.dnw_record.specs.declared.record.WireData.{WireData}
-use Rattle.dnw_record.specs.declared.record.WireData.TheVariants as rdata
+use Rattle.dnw_rdata.specs.declared.record.Record.{Record}
 use Rattle.dnw_message.specs.Edns.{EdnsValue, OptionValue, is_opt}
 use Rattle.dnw_message.specs.Headers.{flag}
 use Rattle.dnw_message_writer.specs.declared.edns.WireEdns.{WireEdns}
@@ -30,19 +28,14 @@ OptionFits o = (o.code < 2 ^ 16) × (length o.octets.now ≤ max_message)
 abbrev pub edns_ttl : WireEdns → ℕ
 edns_ttl e = e.rcode_high * 2 ^ 24 + e.version * 2 ^ 16 + flag e.dnssec_ok 15
 
--- the data are these octets
-abbrev pub AreOctets : WireData → List ℕ → Type 0
-AreOctets (rdata.Bytes bytes) octets = bytes.items ≡ octets
-AreOctets (rdata.Name name encoding) octets = ⊥
-
 -- The record is the OPT record that says this (section 6.1.2): owned by the root, with the payload size as its class, and the
 -- options as its data. The numbers fit their fields.
-pub record IsOptOf (e : WireEdns) (r : WireRecord) : Type 0 where
-  pub owner : r.owner.labels ≡ []
-  pub record_type : r.record_type ≡ kind.OPT
-  pub class : r.class ≡ class.OPT e.max_payload
+pub record IsOptOf (e : WireEdns) (r : Record) : Type 0 where
+  pub owner : r.name.labels ≡ []
+  pub record_type : r.data.record_type ≡ kind.OPT
+  pub class : r.dns_class ≡ class.OPT e.max_payload
   pub ttl : r.ttl ≡ edns_ttl e
-  pub rdata : AreOctets r.rdata (options_wire e.options.now)
+  pub octets : r.data.octets ≡ options_wire e.options.now
   pub fit : (e.version < 2 ^ 8) × (e.rcode_high < 2 ^ 8) × (e.max_payload < 2 ^ 16)
   pub options : AllByRecursion OptionFits e.options.now
 
@@ -62,5 +55,5 @@ edns_value e start len = record {
 }
 
 -- The record is not read as an OPT record.
-abbrev pub IsNoOpt : WireRecord → Type 0
-IsNoOpt r = is_opt (type_of_code (type_code r.record_type)) ≡ false
+abbrev pub IsNoOpt : Record → Type 0
+IsNoOpt r = is_opt (type_of_code (type_code r.data.record_type)) ≡ false

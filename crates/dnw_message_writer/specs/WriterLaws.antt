@@ -5,14 +5,15 @@ use Rattle.dnw_base.specs.Limits.{max_message}
 use Rattle.dnw_error.specs.declared.error.ProtoError.TheVariants.{Memory}
 use Rattle.dnw_encoder.specs.Encoder.{Encoder, fresh}
 use Rattle.dnw_encoder.specs.Emitting.{Outcome}
-use Rattle.dnw_record.specs.declared.record.WireRecord.{WireRecord}
-use Rattle.dnw_record.specs.RecordLaws.{record_size}
+use Rattle.dnw_rdata.specs.declared.record.Record.{Record}
+use Rattle.dnw_rdata.specs.AnyRecordLaws.{any_record_size}
 use Rattle.dnw_message.specs.declared.header.Header.{Header}
 use Rattle.dnw_message.specs.declared.header.Metadata.{Metadata}
 use Rattle.dnw_message_writer.specs.declared.writer.Entry.{Entry}
 use Rattle.dnw_message_writer.specs.Drafts.{Added, AddsAll, AddsLast, Begins, Draft, Ends}
 use Rattle.dnw_message_writer.specs.Written.{Contents, Holds, Written, WrittenWith, ending_with}
-use Rattle.dnw_message_writer.specs.ReadBack.{IsReadAs, RecordIsRead}
+use Rattle.dnw_message_writer.specs.ReadRecords.{RecordIsRead}
+use Rattle.dnw_message_writer.specs.ReadBack.{IsReadAs}
 use Rattle.dnw_message_writer.specs.WireEdns.{IsNoOpt, IsOptOf, edns_value}
 use Rattle.dnw_message_writer.specs.declared.edns.WireEdns.{WireEdns}
 use Rattle.dnw_message.specs.Edns.{HasEdns, IsEdns}
@@ -28,9 +29,9 @@ MessagesAreWritten = (metadata : Metadata) (most : ℕ) (entries : List Entry) (
 
 -- If octets are held back for a last record, it is added, or memory runs out. Then the message ends with it.
 abbrev pub MessagesEndWith : Type 0
-MessagesEndWith = (metadata : Metadata) (most : ℕ) (entries : List Entry) (outcomes : List Added) (last : WireRecord) (header : Header) (start : Encoder)
-    (d e : Draft) (outcome : Outcome) → most ≤ max_message → record_size last ≤ most
-    → Begins metadata (most - record_size last) (fresh [] 0) (Ok header) start → AddsAll entries (record { header = header; encoder = start }) outcomes d
+MessagesEndWith = (metadata : Metadata) (most : ℕ) (entries : List Entry) (outcomes : List Added) (last : Record) (header : Header) (start : Encoder)
+    (d e : Draft) (outcome : Outcome) → most ≤ max_message → any_record_size last ≤ most
+    → Begins metadata (most - any_record_size last) (fresh [] 0) (Ok header) start → AddsAll entries (record { header = header; encoder = start }) outcomes d
     → AddsLast (Some last) most d outcome e
     → OnOk outcome ((bytes : List ℕ) → Ends e bytes → WrittenWith metadata most entries outcomes last bytes) × IfErr outcome (λ error. error ≡ Memory)
 
@@ -40,11 +41,11 @@ WrittenMessagesAreRead = (metadata : Metadata) (c : Contents) (bytes : List ℕ)
 
 -- EDNS that is written is read as the same: its OPT record is read as a record that says so.
 abbrev pub EdnsComesBack : Type 0
-EdnsComesBack = (e : WireEdns) (r : WireRecord) (x : RecordValue) → IsOptOf e r → RecordIsRead r x
+EdnsComesBack = (e : WireEdns) (r : Record) (x : RecordValue) → IsOptOf e r → RecordIsRead r x
     → (x.record_type ≡ OPT) × IsEdns x (edns_value e x.start x.len)
 
 -- So a message that ends with this OPT record, and has no other in its additional section, is read with this EDNS.
 abbrev pub MessagesHaveEdns : Type 0
-MessagesHaveEdns = (metadata : Metadata) (c : Contents) (last : WireRecord) (e : WireEdns) (bytes : List ℕ) (m : MessageValue) (k : ℕ)
+MessagesHaveEdns = (metadata : Metadata) (c : Contents) (last : Record) (e : WireEdns) (bytes : List ℕ) (m : MessageValue) (k : ℕ)
     → Holds metadata (ending_with last c) bytes → IsOptOf e last → AllByRecursion IsNoOpt c.additionals → MessageAt bytes m k
     → (start : ℕ) × (len : ℕ) × HasEdns m (Some (edns_value e start len))

@@ -1,15 +1,14 @@
 -- What a written message is (RFC 1035, section 4): a header, and then exactly the items that were accepted, by their sections.
-use Rattle.std.specs.Prelude.{◌≡◌, ℕ, ◌+◌, ◌-◌, ◌<◌, ◌≤◌, Bool, true, false, ◌||◌, List, [], ◌∷◌, ◌++◌, length, take, Ok, Err}
+use Rattle.std.specs.Prelude.{◌≡◌, ℕ, ◌+◌, ◌-◌, ◌<◌, ◌≤◌, Bool, true, false, ◌||◌, List, [], ◌∷◌, ◌++◌, length, slice_range, take, Ok, Err}
 use Rattle.std.specs.Int.{w16, to_be_bytes}
 use Rattle.dnw_error.specs.declared.error.ProtoError.TheVariants.{MaxBufferSizeExceeded, Memory}
 use Rattle.dnw_codes.specs.RecordTypes.{type_code}
 use Rattle.dnw_codes.specs.DnsClasses.{class_code}
 use Rattle.dnw_base.specs.Limits.{max_message}
 use Rattle.dnw_base.specs.Names.{encoded_size}
-use Rattle.dnw_encoder.specs.declared.encoder.modes.NameEncoding.TheVariants.{Compressed}
-use Rattle.dnw_record.specs.declared.record.WireRecord.{WireRecord}
-use Rattle.dnw_record.specs.RecordLaws.{record_size}
-use Rattle.dnw_script.specs.Pieces.{BytesStand, NameStands, RecordStands}
+use Rattle.dnw_reading.specs.Reading.{NameAt}
+use Rattle.dnw_rdata.specs.declared.record.Record.{Record}
+use Rattle.dnw_rdata.specs.AnyRecordLaws.{any_record_size}
 use Rattle.dnw_message.specs.HeaderLaws.{HeaderFits}
 use Rattle.dnw_message.specs.Headers.{header_size, header_wire}
 use Rattle.dnw_message.specs.declared.header.Header.{Header}
@@ -22,6 +21,7 @@ use Rattle.dnw_message_writer.specs.declared.section.AddError.TheVariants.{OutOf
 use Rattle.dnw_message_writer.specs.declared.writer.Entry.{Entry}
 use Rattle.dnw_message_writer.specs.declared.writer.Entry.TheVariants.{Query, Answer, Authority, Additional}
 use Rattle.dnw_message_writer.specs.WireQueries.{QueryFits}
+use Rattle.dnw_message_writer.specs.ReadRecords.{RecordStands}
 use Rattle.dnw_message_writer.specs.Drafts.{Added, is_open}
 
 -- ---- what the items and their outcomes say
@@ -29,9 +29,9 @@ use Rattle.dnw_message_writer.specs.Drafts.{Added, is_open}
 -- the items that were accepted, by their sections, and whether an answer or an authority record did not fit
 pub record Contents : Type 0 where
   pub queries : List WireQuery
-  pub answers : List WireRecord
-  pub authorities : List WireRecord
-  pub additionals : List WireRecord
+  pub answers : List Record
+  pub authorities : List Record
+  pub additionals : List Record
   pub cut : Bool
 
 abbrev pub nothing : Contents
@@ -78,9 +78,9 @@ section_of (Additional r) = section.Additionals
 -- the octets of an item with its names whole
 abbrev pub entry_size : Entry → ℕ
 entry_size (Query q) = encoded_size q.name.labels + 4
-entry_size (Answer r) = record_size r
-entry_size (Authority r) = record_size r
-entry_size (Additional r) = record_size r
+entry_size (Answer r) = any_record_size r
+entry_size (Authority r) = any_record_size r
+entry_size (Additional r) = any_record_size r
 
 -- After so many octets, an item is written in no more octets than with its names whole, and never past the maximum. It is
 -- refused if a later section has items, if it does not fit with its names whole, or if memory runs out; then nothing of it
@@ -107,9 +107,12 @@ HaveOutcomes most c len (x ∷ xs) (outcome ∷ outcomes) end =
 -- A question is there from p to e (section 4.1.2): its name, its type and its class.
 pub record QueryStands (b : List ℕ) (q : WireQuery) (p e : ℕ) : Type 0 where
   pub name_end : ℕ
-  pub name : NameStands b Compressed q.name.labels p name_end
-  pub query_type : BytesStand b (to_be_bytes w16 (type_code q.query_type)) name_end (name_end + 2)
-  pub query_class : BytesStand b (to_be_bytes w16 (class_code q.query_class)) (name_end + 2) e
+  pub pointers : ℕ
+  pub name : NameAt b p q.name.labels name_end pointers
+  pub query_type : slice_range b name_end (name_end + 2) ≡ to_be_bytes w16 (type_code q.query_type)
+  pub query_class : slice_range b (name_end + 2) (name_end + 4) ≡ to_be_bytes w16 (class_code q.query_class)
+  pub ends : e ≡ name_end + 4
+  pub inside : e ≤ length b
   pub fit : QueryFits q
 
 -- the items are there from p to e, one after the other
@@ -117,8 +120,8 @@ abbrev pub Stand : {X : Type 0} → (X → ℕ → ℕ → Type 0) → List X �
 Stand one [] p e = p ≡ e
 Stand one (x ∷ xs) p e = (m : ℕ) × one x p m × Stand one xs m e
 
-abbrev pub RecordsStand : List ℕ → List WireRecord → ℕ → ℕ → Type 0
-RecordsStand b records p e = Stand (RecordStands b Compressed false) records p e
+abbrev pub RecordsStand : List ℕ → List Record → ℕ → ℕ → Type 0
+RecordsStand b records p e = Stand (RecordStands b) records p e
 
 -- The octets are a message with these contents: after the header, each section begins where the one before it ends, and
 -- nothing follows the last. It is no longer than a message may be, and the numbers of its header fit their fields.
@@ -143,13 +146,13 @@ pub record Written (metadata : Metadata) (most : ℕ) (entries : List Entry) (ou
 -- ---- a last record
 
 -- with this record at the end of the additional section
-abbrev pub ending_with : WireRecord → Contents → Contents
+abbrev pub ending_with : Record → Contents → Contents
 ending_with last c = record c { additionals = c.additionals ++ last ∷ [] }
 
 -- A message of at most so many octets was written from these items, with these outcomes, and ends with this record. The items
 -- had all octets but those of the record with its names whole.
-pub record WrittenWith (metadata : Metadata) (most : ℕ) (entries : List Entry) (outcomes : List Added) (last : WireRecord) (bytes : List ℕ) : Type 0 where
+pub record WrittenWith (metadata : Metadata) (most : ℕ) (entries : List Entry) (outcomes : List Added) (last : Record) (bytes : List ℕ) : Type 0 where
   pub holds : Holds metadata (ending_with last (contents_from nothing entries outcomes)) bytes
   pub last_at : ℕ
-  pub outcomes_are : HaveOutcomes (most - record_size last) nothing header_size entries outcomes last_at
+  pub outcomes_are : HaveOutcomes (most - any_record_size last) nothing header_size entries outcomes last_at
   pub few : length bytes ≤ most

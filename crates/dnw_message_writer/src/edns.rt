@@ -10,7 +10,8 @@ use dnw_codes::dns_class::DNSClass;
 use dnw_codes::record_type::RecordType;
 use dnw_error::error::{ProtoError, ProtoResult};
 use dnw_name::name::Name;
-use dnw_record::record::{WireData, WireRecord};
+use dnw_rdata::rdata::RData;
+use dnw_rdata::record::Record;
 use std::alloc::Global;
 
 /// An option to be written into an `OPT` record (RFC 6891, section 6.1.2).
@@ -41,17 +42,21 @@ impl<'a> WireEdns<'a> {
     /// Returns the `OPT` record that says so: the last record of a message, by `MessageWriter::with_last`.
     ///
     /// It fails if an option has more octets than its length can say, or if memory runs out.
-    pub fn to_record(&self, alloc: Global) -> ProtoResult<WireRecord>
+    pub fn to_record(&self, alloc: Global) -> ProtoResult<Record>
         ensures ok { IfOk result (IsOptOf self.now) }
         ensures err { IfErr result (λ e. (e ≡ ProtoError.Memory) ⊎ ((e ≡ ProtoError.MaxBufferSizeExceeded max_message) × Any (λ o. max_message < length o.octets.now) self.now.options.now)) }
     {
         let options = wire_of(alloc, self.options)?;
-        Ok(WireRecord {
-            owner: Name::root(alloc),
-            record_type: RecordType::OPT,
-            class: DNSClass::OPT(self.max_payload),
+        let data = match RData::new(alloc, RecordType::OPT, options.as_slice()) {
+            Ok(data) => data,
+            // Any octets are data of this type, so no other error comes.
+            Err(_) => return Err(ProtoError::Memory),
+        };
+        Ok(Record {
+            name: Name::root(alloc),
+            dns_class: DNSClass::OPT(self.max_payload),
             ttl: ttl_of(self),
-            rdata: WireData::Bytes(options),
+            data,
         })
     }
 }

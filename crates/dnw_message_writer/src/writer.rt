@@ -16,12 +16,14 @@ use dnw_encoder::binary::BinEncodable;
 use dnw_encoder::encoder::BinEncoder;
 use dnw_error::error::ProtoResult;
 use dnw_message::header::{Header, HeaderCounts, Metadata};
-use dnw_record::record::WireRecord;
+use dnw_rdata::record::Record;
 use std::alloc::Global;
 
+mod copying;
 mod one_by_one;
 
 pub use crate::section::AddError;
+pub use copying::{CopyError, copy};
 pub use one_by_one::MessageWriter;
 
 /// An item of a message, and the section that it is for.
@@ -30,11 +32,11 @@ pub enum Entry {
     /// A question.
     Query(WireQuery),
     /// A record that answers.
-    Answer(WireRecord),
+    Answer(Record),
     /// A record that leads to an authority.
-    Authority(WireRecord),
+    Authority(Record),
     /// A record that helps.
-    Additional(WireRecord),
+    Additional(Record),
 }
 
 /// Writes a message into an empty buffer: the header, and of these items, in their order, each that is in the order of the

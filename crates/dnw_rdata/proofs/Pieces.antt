@@ -114,7 +114,7 @@ are-pieces (kind ∷ kinds) d (piece ∷ pieces) (after, one, more) =
 abbrev pub behind : List ℕ → List ℕ → Decoder
 behind front rest = record { bytes = front ++ rest; index = length front }
 
-name-again : (form : NameForm) (labels : List (List ℕ)) (front rest : List ℕ) → AreLabels labels
+pub name-again : (form : NameForm) (labels : List (List ℕ)) (front rest : List ℕ) → AreLabels labels
     → TakesPiece (Name form) (behind front (wire labels ++ rest)) (name_piece form labels) (behind (front ++ wire labels) rest)
 name-again form labels front rest are =
     let b = front ++ (wire labels ++ rest) in

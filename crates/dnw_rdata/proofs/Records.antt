@@ -1,33 +1,37 @@
 -- A record of any type is read where it was written.
-use Rattle.std.proofs.Common.{◌≡◌, ℕ, ◌+◌, ◌-◌, List, [], ◌++◌, length, take, drop, replicate, slice_range, Ok, refl, sym, ap, ◌∙◌, subst, append_assoc, arith}
+use Rattle.std.proofs.Common.{◌≡◌, ℕ, ◌+◌, ◌-◌, ◌^◌, ◌<◌, ◌≤◌, List, [], ◌++◌, length, take, drop, replicate, slice_range, Ok, refl, sym, ap, ◌∙◌, subst, append_assoc, arith}
 use Rattle.std.specs.Int.{w16, to_be_bytes}
 use Rattle.std.specs.List.{All}
-use Rattle.std.proofs.lemmas.List.{append-nil, drop_at, length-append, take_all, take_at}
+use Rattle.std.proofs.lemmas.List.{append-nil, drop_at, length-append, length-replicate, take_all, take_at}
 use Rattle.std.proofs.lemmas.List.Elements.{All-nil, All-weaker}
-use Rattle.dnw_codes.specs.RecordTypes.{type_code}
-use Rattle.dnw_codes.specs.DnsClasses.{class_code}
-use Rattle.dnw_base.specs.Decoder.{Decoder}
+use Rattle.dnw_codes.specs.RecordTypes.{type_code, type_of_code}
+use Rattle.dnw_codes.specs.DnsClasses.{class_code, class_of_code}
+use Rattle.dnw_base.specs.Limits.{max_message}
+use Rattle.dnw_candidates.specs.Candidates.{Candidate}
 use Rattle.dnw_reading.specs.Reading.{NameAt}
 use Rattle.dnw_reading.proofs.Back.{slice_range-middle}
 use Rattle.dnw_reading.proofs.Stand.{Reads-append}
-use Rattle.dnw_encoder.specs.Encoder.{Encoder, fresh, reserved}
-use Rattle.dnw_encoder.specs.EmittedName.{in_mode, so_far}
+use Rattle.dnw_reading.proofs.Unique.{Reads-unique}
+use Rattle.dnw_encoder.specs.Encoder.{Encoder, HasRoom, Writes, fresh, reserved}
+use Rattle.dnw_encoder.specs.EmittedName.{EmitsName, in_mode, so_far}
 use Rattle.dnw_encoder.specs.EmittingLaws.{frame, take-all}
 use Rattle.dnw_encoder.specs.NameFrames.{frame-name}
-use Rattle.dnw_record.specs.Records.{record_of}
+use Rattle.dnw_record.specs.Parts.{with_length}
+use Rattle.dnw_record.specs.Records.{RecordAt, RecordValue, fields_at, length_field, record_of}
 use Rattle.dnw_record.specs.RecordLaws.{fields_of}
 use Rattle.dnw_record.specs.RecordFrames.{frame-reserved}
 use Rattle.dnw_record.proofs.Laying.{added, read-after}
-use Rattle.dnw_rdata.specs.DataPieces.{kinds_of}
-use Rattle.dnw_rdata.specs.DataCopies.{TakesPieces}
-use Rattle.dnw_rdata.specs.AnyRecords.{parts_of, type_class_ttl}
-use Rattle.dnw_rdata.specs.AnyRecordFrames.{frame-parts}
+use Rattle.dnw_rdata.specs.declared.record.Record.{Record}
+use Rattle.dnw_rdata.specs.DataPieces.{DataPiece, HasPieces, kinds_of}
+use Rattle.dnw_rdata.specs.DataCopies.{TakesPieces, data_start}
+use Rattle.dnw_rdata.specs.AnyRecords.{AnyNumbersFit, EmitsAnyRecord, EmitsRData, parts_of, type_class_ttl}
+use Rattle.dnw_rdata.specs.AnyRecordFrames.{frame-any_record, frame-parts}
 use Rattle.dnw_rdata.specs.AnyRecordLaws.{AnyRecordsAreRead, CandidatesAreRead, NamesKeepRead, NewAreRead, ReadsAs, WritesKeepRead, written_pieces}
 use Rattle.dnw_rdata.proofs.AnyRecords.{data_have_fields, take-values}
-use Rattle.dnw_rdata.proofs.Going.{on-parts, within-parts}
+use Rattle.dnw_rdata.proofs.Going.{within-parts}
 use Rattle.dnw_rdata.proofs.Pieces.{behind}
 use Rattle.dnw_rdata.proofs.ReadBack.{laid}
-use Rattle.dnw_rdata.proofs.Reading.{InBoth, WrittenInBoth, append-both, name-both}
+use Rattle.dnw_rdata.proofs.Reading.{InBoth, append-both, name-both}
 
 -- a message is as much like itself as another is
 with-itself : (v : Encoder) → v.offset ≡ length v.bytes → CandidatesAreRead v → All (InBoth v.bytes v.bytes) v.candidates
@@ -58,79 +62,200 @@ names_keep_read x v w e all h =
 all-of : (b : List ℕ) (n : ℕ) → n ≡ length b → slice_range b 0 n ≡ b
 all-of b n is = let same : n - 0 ≡ n = omega arith in ap (λ k. take k b) same ∙ take_all n b (omega (arith, is))
 
--- the owner is read in what follows it
-owner-read : (v a w : Encoder) (owner labels : List (List ℕ)) (more : List ℕ) → (n : WrittenInBoth v a v.bytes labels) → v.offset ≡ length v.bytes
-    → a.offset ≡ length a.bytes → w.bytes ≡ a.bytes ++ more → NameAt w.bytes v.offset labels a.offset n.pointers
-owner-read v a w owner labels more n e end is =
-    let whole = sym n.bytes in
-    let at : NameAt (v.bytes ++ n.own) v.offset labels a.offset n.pointers =
-    subst (λ p. NameAt (v.bytes ++ n.own) p labels a.offset n.pointers) (sym e)
-    (subst (λ q. NameAt (v.bytes ++ n.own) (length v.bytes) labels q n.pointers) (ap length whole ∙ sym end) n.name) in
-    let here = subst (λ b. NameAt b v.offset labels a.offset n.pointers) whole at in
-    subst (λ b. NameAt b v.offset labels a.offset n.pointers) (sym is) (record { reads = Reads-append more here.reads; fits = here.fits })
+-- ---- in another message
 
-pub any_records_are_read : AnyRecordsAreRead
-any_records_are_read r pieces v w e small stand has (fit, (a, owner, (d, fixed, (room, u, (found, has', one), is)))) =
+-- A record is written at the end of a message. In another message of the same length, in which the candidates are the same
+-- names, it is read as well; and before its length is filled in, the candidates are these names too.
+record ReadIn (r : Record) (pieces : List DataPiece) (v u w : Encoder) (c : List ℕ) : Type 0 where
+  own : List ℕ
+  bytes : w.bytes ≡ v.bytes ++ own
+  value : RecordValue
+  at : RecordAt (c ++ own) (length c) value (length (c ++ own))
+  owner : value.owner ≡ in_mode v.encoding r.name.labels
+  record_type : value.record_type ≡ type_of_code (type_code r.data.record_type)
+  class : value.class ≡ class_of_code (class_code r.dns_class)
+  ttl : value.ttl ≡ r.ttl
+  takes : TakesPieces (kinds_of r.data.record_type) (data_start value) (written_pieces v.encoding v.canonical pieces)
+  candidates : All (InBoth u.bytes (c ++ own)) w.candidates
+
+-- the record of an owner that ends there, and of these ten octets after it
+record Found (b : List ℕ) (p o kind class ttl : ℕ) (labels : List (List ℕ)) : Type 0 where
+  value : RecordValue
+  at : RecordAt b p value (length b)
+  owner : value.owner ≡ labels
+  record_type : value.record_type ≡ type_of_code kind
+  class_is : value.class ≡ class_of_code class
+  ttl_is : value.ttl ≡ ttl
+  start : data_start value ≡ record { bytes = b; index = o + 10 }
+
+found : (b ca more : List ℕ) (labels : List (List ℕ)) (p kind class ttl len k : ℕ) → b ≡ ca ++ (fields_of kind class ttl len ++ more)
+    → NameAt b p labels (length ca) k → len ≡ length more → (kind < 2 ^ 16) × (class < 2 ^ 16) × (ttl < 2 ^ 32) → length b ≤ 65535
+    → Found b p (length ca) kind class ttl labels
+found b ca more labels p kind class ttl len k b_is name size fits small =
+    let fields = fields_of kind class ttl len in
+    let long : length b ≡ length ca + 10 + length more = omega (arith, ap length b_is, length-append ca (fields ++ more), length-append fields more) in
+    let number : len ≡ length b - (length ca + 10) = omega (arith, size, long) in
+    let there = ap (λ x. slice_range x (length ca) (length ca + 10)) b_is ∙ (slice_range-middle ca fields more (length ca) (length ca + 10) refl refl
+    ∙ ap (fields_of kind class ttl) number) in
+    let (at, kind_is, class_is, ttl_is, ends) = read-after b labels p (length ca) k (length b) kind class ttl name there fits (omega (arith, long)) (omega arith) small in
+    record {
+      value = record_of b labels (length ca);
+      at = at;
+      owner = refl;
+      record_type = kind_is;
+      class_is = class_is;
+      ttl_is = ttl_is;
+      start = ap (λ y. record { bytes = y; index = length ca + 10 }) (all-of b (length ca + 10 + length_field (fields_at b (length ca))) ends);
+    }
+
+behind-is : (twin more b : List ℕ) (i : ℕ) → twin ++ more ≡ b → length twin ≡ i → behind (twin ++ []) more ≡ record { bytes = b; index = i }
+behind-is twin more b i is size =
+    ap (λ f. behind f more) (append-nil twin) ∙ (ap (λ y. record { bytes = y; index = length twin }) is ∙ ap (λ n. record { bytes = b; index = n }) size)
+
+-- the octets of a record after its owner, in the other message
+read-rest : (r : Record) (pieces : List DataPiece) (v u w : Encoder) (c name more : List ℕ) (len k : ℕ)
+    → w.bytes ≡ (v.bytes ++ name) ++ (fields_of (type_code r.data.record_type) (class_code r.dns_class) r.ttl len ++ more)
+    → NameAt (c ++ name) (length c) (in_mode v.encoding r.name.labels) (length (c ++ name)) k → len ≡ length more → AnyNumbersFit r
+    → length c + length name + 10 + length more ≤ 65535
+    → TakesPieces (kinds_of r.data.record_type) (behind ((((c ++ name) ++ type_class_ttl r) ++ to_be_bytes w16 len) ++ []) more) (written_pieces v.encoding v.canonical pieces)
+    → All (InBoth u.bytes ((((c ++ name) ++ type_class_ttl r) ++ to_be_bytes w16 len) ++ more)) w.candidates → ReadIn r pieces v u w c
+read-rest r pieces v u w c name more len k bytes read size fits small takes candidates =
+    let fields = fields_of (type_code r.data.record_type) (class_code r.dns_class) r.ttl len in
     let eight = type_class_ttl r in
-    let m = reserved d 2 in
+    let two = to_be_bytes w16 len in
+    let own = name ++ (fields ++ more) in
+    let b_is : c ++ own ≡ (c ++ name) ++ (fields ++ more) = sym (append_assoc c name (fields ++ more)) in
+    let here : NameAt (c ++ own) (length c) (in_mode v.encoding r.name.labels) (length (c ++ name)) k =
+    subst (λ x. NameAt x (length c) (in_mode v.encoding r.name.labels) (length (c ++ name)) k) (sym b_is)
+    (record { reads = Reads-append (fields ++ more) read.reads; fits = read.fits }) in
+    let long : length (c ++ own) ≡ length c + length name + 10 + length more =
+    omega (arith, ap length b_is, length-append (c ++ name) (fields ++ more), length-append c name, length-append fields more) in
+    let f = found (c ++ own) (c ++ name) more (in_mode v.encoding r.name.labels) (length c) (type_code r.data.record_type) (class_code r.dns_class) r.ttl len k b_is here size fits (omega (arith, long, small)) in
+    let twin = ((c ++ name) ++ eight) ++ two in
+    let twin_is : twin ++ more ≡ c ++ own =
+    append_assoc ((c ++ name) ++ eight) two more ∙ (append_assoc (c ++ name) eight (two ++ more) ∙ sym b_is) in
+    let from = behind-is twin more (c ++ own) (length (c ++ name) + 10) twin_is (omega (arith, length-append ((c ++ name) ++ eight) two, length-append (c ++ name) eight)) in
+    record {
+      own = own;
+      bytes = bytes ∙ append_assoc v.bytes name (fields ++ more);
+      value = f.value;
+      at = f.at;
+      owner = f.owner;
+      record_type = f.record_type;
+      class = f.class_is;
+      ttl = f.ttl_is;
+      takes = subst (λ d. TakesPieces (kinds_of r.data.record_type) d (written_pieces v.encoding v.canonical pieces)) (from ∙ sym f.start) takes;
+      candidates = subst (λ y. All (InBoth u.bytes y) w.candidates) twin_is candidates;
+    }
+
+-- a length that is filled in
+filled-out : (d u w : Encoder) (more : List ℕ) → d.offset ≡ length d.bytes → u.bytes ≡ (reserved d 2).bytes ++ more → w ≡ with_length u d.offset
+    → w.bytes ≡ d.bytes ++ (to_be_bytes w16 (u.offset - (d.offset + 2)) ++ more)
+filled-out d u w more e is filled =
+    let zeros = replicate {A = ℕ} (d.offset + 2 - length d.bytes) 0 in
+    let two = to_be_bytes w16 (u.offset - (d.offset + 2)) in
+    let mb : (reserved d 2).bytes ≡ d.bytes ++ zeros = ap (λ (x : List ℕ). x ++ zeros) (take_all (d.offset + 2) d.bytes (omega (arith, e))) in
+    let ub : u.bytes ≡ (d.bytes ++ zeros) ++ more = is ∙ ap (λ (x : List ℕ). x ++ more) mb in
+    let front : take d.offset u.bytes ≡ d.bytes = ap (take d.offset) (ub ∙ append_assoc d.bytes zeros more) ∙ take_at d.bytes (zeros ++ more) d.offset (sym e) in
+    let size : length (d.bytes ++ zeros) ≡ d.offset + 2 = omega (arith, length-append d.bytes zeros, length-replicate {A = ℕ} (d.offset + 2 - length d.bytes) 0, e) in
+    let rest : drop (d.offset + 2) u.bytes ≡ more = ap (drop (d.offset + 2)) ub ∙ drop_at (d.bytes ++ zeros) more (d.offset + 2) size in
+    ap (λ (x : Encoder). x.bytes) filled ∙ (ap (λ (x : List ℕ). x ++ (two ++ drop (d.offset + 2) u.bytes)) front ∙ ap (λ (x : List ℕ). d.bytes ++ (two ++ x)) rest)
+
+-- what is written and reserved after an owner, in both messages
+reserved-both : (a d : Encoder) (ca eight two : List ℕ) → a.offset ≡ length a.bytes → d.offset ≡ length d.bytes → Writes a eight (Ok tt) d
+    → All (InBoth a.bytes ca) a.candidates → All (InBoth (reserved d 2).bytes ((ca ++ eight) ++ two)) (reserved d 2).candidates
+reserved-both a d ca eight two e end fixed all =
+    let zeros = replicate {A = ℕ} (d.offset + 2 - length d.bytes) 0 in
+    let mb : (reserved d 2).bytes ≡ d.bytes ++ zeros = ap (λ (x : List ℕ). x ++ zeros) (take_all (d.offset + 2) d.bytes (omega (arith, end))) in
+    let whole : (reserved d 2).bytes ≡ (a.bytes ++ eight) ++ zeros = mb ∙ ap (λ (x : List ℕ). x ++ zeros) (added a d eight e fixed.1) in
+    let longer = append-both (a.bytes ++ eight) (ca ++ eight) zeros two a.candidates (append-both a.bytes ca eight eight a.candidates all) in
+    subst (All (InBoth (reserved d 2).bytes ((ca ++ eight) ++ two))) (sym (ap (λ (x : Encoder). x.candidates) fixed.1))
+    (subst (λ b. All (InBoth b ((ca ++ eight) ++ two)) a.candidates) (sym whole) longer)
+
+read-in : (r : Record) (pieces : List DataPiece) (v a d u w : Encoder) (c : List ℕ) → v.offset ≡ length v.bytes → length v.bytes ≡ length c
+    → v.max_size ≤ max_message → All (InBoth v.bytes c) v.candidates → HasPieces (kinds_of r.data.record_type) r.data.octets pieces → AnyNumbersFit r
+    → EmitsName r.name v (Ok tt) a → Writes a (type_class_ttl r) (Ok tt) d → HasRoom d 2 → EmitsRData r.data (reserved d 2) (Ok tt) u
+    → w ≡ with_length u d.offset → ReadIn r pieces v u w c
+read-in r pieces v a d u w c e long small stand has fit owner fixed room (others, has', one) is =
+    let eight = type_class_ttl r in
     let kinds = kinds_of r.data.record_type in
-    let itself = with-itself v e stand in
-    let n = name-both r.name v a v.bytes e refl itself owner in
+    let n = name-both r.name v a c e long stand owner in
     let fa = frame-name r.name v (Ok tt) a e owner in
     let fd = frame a eight (Ok tt) d fa.ends fixed in
     let fr = frame-reserved d fd.ends in
-    let two = to_be_bytes w16 (u.offset - (d.offset + 2)) in
-    let zeros = replicate {A = ℕ} (d.offset + 2 - length d.bytes) 0 in
-    let db : d.bytes ≡ a.bytes ++ eight = added a d eight fa.ends fixed.1 in
-    let mb : m.bytes ≡ d.bytes ++ zeros = ap (λ (x : List ℕ). x ++ zeros) (take_all (d.offset + 2) d.bytes (omega (arith, fd.ends))) in
-    let twin = d.bytes ++ two in
-    let both : All (InBoth m.bytes twin) m.candidates =
-    let own = subst (λ b. All (InBoth a.bytes b) a.candidates) (sym n.bytes) n.candidates in
-    let longer = append-both (a.bytes ++ eight) (a.bytes ++ eight) zeros two a.candidates (append-both a.bytes a.bytes eight eight a.candidates own) in
-    subst (All (InBoth m.bytes twin)) (sym (ap (λ (x : Encoder). x.candidates) fixed.1))
-    (subst (λ b. All (InBoth b twin) a.candidates) (sym (mb ∙ ap (λ (x : List ℕ). x ++ zeros) db))
-    (subst (λ b. All (InBoth ((a.bytes ++ eight) ++ zeros) b) a.candidates) (sym (ap (λ (x : List ℕ). x ++ two) db)) longer)) in
-    let size : length m.bytes ≡ length twin = omega (arith, fr.ends, fd.ends, length-append d.bytes two) in
+    let len = u.offset - (d.offset + 2) in
+    let two = to_be_bytes w16 len in
+    let both = reserved-both a d (c ++ n.own) eight two fa.ends fd.ends fixed n.candidates in
+    let offset : d.offset ≡ a.offset + 8 = ap (λ (x : Encoder). x.offset) fixed.1 in
+    let ca_size : length (c ++ n.own) ≡ a.offset = omega (arith, length-append c n.own, ap length n.bytes, length-append v.bytes n.own, long, fa.ends) in
+    let size : length (reserved d 2).bytes ≡ length (((c ++ n.own) ++ eight) ++ two) =
+    omega (arith, fr.ends, offset, ca_size, length-append ((c ++ n.own) ++ eight) two, length-append (c ++ n.own) eight) in
+    let l = laid kinds others [] (((c ++ n.own) ++ eight) ++ two) (reserved d 2) u d.encoding d.canonical has'.are fr.ends size both one in
+    let fu = frame-parts (parts_of others d.encoding d.canonical) (reserved d 2) (Ok tt) u fr.ends one in
+    let (most, still) = within-parts (parts_of others d.encoding d.canonical) (reserved d 2) u (omega (arith, room)) one in
     let mode : d.encoding ≡ v.encoding = fd.encoding ∙ fa.encoding in
     let canonical : d.canonical ≡ v.canonical = fd.canonical ∙ fa.canonical in
-    let l = laid kinds found [] twin m u d.encoding d.canonical has'.are fr.ends size both one in
-    let ub : u.bytes ≡ (d.bytes ++ zeros) ++ l.more = l.bytes ∙ ap (λ (x : List ℕ). x ++ l.more) mb in
-    let fu = frame-parts (parts_of found d.encoding d.canonical) m (Ok tt) u fr.ends one in
-    let od : d.offset ≡ a.offset + 8 = ap (λ (x : Encoder). x.offset) fixed.1 in
-    let ow : w.offset ≡ u.offset = ap (λ (x : Encoder). x.offset) is in
-    let on = on-parts (parts_of found d.encoding d.canonical) m (Ok tt) u one in
-    let (most, still) = within-parts (parts_of found d.encoding d.canonical) m u (omega (arith, room)) one in
-    let front : take d.offset u.bytes ≡ d.bytes =
-    ap (take d.offset) (ub ∙ append_assoc d.bytes zeros l.more) ∙ take_at d.bytes (zeros ++ l.more) d.offset (sym fd.ends) in
-    let rest : drop (d.offset + 2) u.bytes ≡ l.more =
-    ap (drop (d.offset + 2)) ub ∙ drop_at (d.bytes ++ zeros) l.more (d.offset + 2) (omega (arith, fr.ends, ap length mb)) in
-    let wb : w.bytes ≡ d.bytes ++ (two ++ l.more) =
-    ap (λ (x : Encoder). x.bytes) is ∙ (ap (λ (x : List ℕ). x ++ (two ++ drop (d.offset + 2) u.bytes)) front ∙ ap (λ (x : List ℕ). d.bytes ++ (two ++ x)) rest) in
-    let fields = fields_of (type_code r.data.record_type) (class_code r.dns_class) r.ttl (u.offset - (d.offset + 2)) in
-    let all : w.bytes ≡ a.bytes ++ (fields ++ l.more) = wb ∙ (ap (λ (x : List ℕ). x ++ (two ++ l.more)) db ∙ append_assoc a.bytes eight (two ++ l.more)) in
-    let number : u.offset - (d.offset + 2) ≡ w.offset - (a.offset + 10) = omega (arith, od, ow) in
-    let labels = in_mode v.encoding r.name.labels in
-    let read : NameAt w.bytes v.offset labels a.offset n.pointers = owner-read v a w r.name.labels labels (fields ++ l.more) n e fa.ends all in
-    let length_is : length w.bytes ≡ w.offset =
-    omega (arith, ow, fu.ends, ap length ub, ap length wb, length-append d.bytes (two ++ l.more), length-append (d.bytes ++ zeros) l.more, length-append two l.more, fr.ends, ap length mb, fd.ends) in
-    let there = ap (λ x. slice_range x a.offset (a.offset + 10)) all ∙ (slice_range-middle a.bytes fields l.more a.offset (a.offset + 10) fa.ends refl
-    ∙ ap (fields_of (type_code r.data.record_type) (class_code r.dns_class) r.ttl) number) in
-    let (at, kind, class, ttl, ends) =
-    read-after w.bytes labels v.offset a.offset n.pointers w.offset (type_code r.data.record_type) (class_code r.dns_class) r.ttl read there fit
-    (omega (arith, od, ow, on)) (omega (arith, length_is)) (omega (arith, ow, most, still, fd.max_size, fa.max_size, small)) in
-    let x = record_of w.bytes labels a.offset in
-    let from : Decoder = record { bytes = slice_range w.bytes 0 (x.start + x.len); index = x.start } in
-    let same : behind (twin ++ []) l.more ≡ from =
-    ap (λ f. behind f l.more) (append-nil twin)
-    ∙ (ap (λ b. record { bytes = b; index = length twin }) (append_assoc d.bytes two l.more ∙ sym wb ∙ sym (all-of w.bytes (x.start + x.len) (omega (arith, ends, length_is))))
-    ∙ ap (λ i. record { bytes = slice_range w.bytes 0 (x.start + x.len); index = i }) (omega (arith, length-append d.bytes two, fd.ends, od))) in
-    let one_way = (data_have_fields kinds r.data.octets pieces has).1 found has' in
-    let takes = subst (λ ps. TakesPieces kinds from (written_pieces v.encoding v.canonical ps)) one_way
-    (subst (λ k. TakesPieces kinds from (written_pieces v.encoding k found)) canonical
-    (subst (λ k. TakesPieces kinds from (written_pieces k d.canonical found)) mode (subst (λ y. TakesPieces kinds y (written_pieces d.encoding d.canonical found)) same l.takes))) in
-    let whole : twin ++ l.more ≡ so_far w = append_assoc d.bytes two l.more ∙ sym wb ∙ sym (take-all w.offset w.bytes (sym length_is)) in
-    let left = subst (All (InBoth u.bytes (twin ++ l.more))) (sym (ap (λ (y : Encoder). y.candidates) is)) l.candidates in
+    let one_way = (data_have_fields kinds r.data.octets pieces has).1 others has' in
+    let from = behind ((((c ++ n.own) ++ eight) ++ two) ++ []) l.more in
+    let number : len ≡ length l.more = omega (arith, fu.ends, ap length l.bytes, length-append (reserved d 2).bytes l.more, fr.ends) in
+    let all : w.bytes ≡ a.bytes ++ (eight ++ (two ++ l.more)) =
+    filled-out d u w l.more fd.ends l.bytes is ∙ (ap (λ (x : List ℕ). x ++ (two ++ l.more)) (added a d eight fa.ends fixed.1) ∙ append_assoc a.bytes eight (two ++ l.more)) in
+    read-rest r pieces v u w c n.own l.more len n.pointers (all ∙ ap (λ (x : List ℕ). x ++ (eight ++ (two ++ l.more))) n.bytes) n.name number fit
+    (omega (arith, number, most, still, fd.max_size, fa.max_size, small, offset, ca_size, length-append c n.own, fu.ends, ap length l.bytes, length-append (reserved d 2).bytes l.more, fr.ends))
+    (subst (λ ps. TakesPieces kinds from (written_pieces v.encoding v.canonical ps)) one_way
+    (subst (λ k. TakesPieces kinds from (written_pieces v.encoding k others)) canonical (subst (λ k. TakesPieces kinds from (written_pieces k d.canonical others)) mode l.takes)))
+    (subst (All (InBoth u.bytes ((((c ++ n.own) ++ eight) ++ two) ++ l.more))) (sym (ap (λ (y : Encoder). y.candidates) is)) l.candidates)
+
+-- what is the same name in one message and in two others
+merged : (u b c : List ℕ) (cs : List Candidate) → All (InBoth u b) cs → All (InBoth u c) cs → All (InBoth b c) cs
+merged u b c cs one two =
+    All-weaker (λ x. InBoth u b x × InBoth u c x) (InBoth b c)
+    (λ x ((ls, here, in_b), (others, there, in_c)). (ls, in_b, subst (ReadsAs c x.0) (Reads-unique there.2.reads here.2.reads).0 in_c)) cs
+    (λ k y lt. (one k y lt, two k y lt))
+
+-- A record is written at the end of a message. It is read there, and so in another message of the same length in which the
+-- candidates are the same names; and these stay the same names in both.
+pub record RecordInBoth (r : Record) (pieces : List DataPiece) (v w : Encoder) (c : List ℕ) : Type 0 where
+  pub own : List ℕ
+  pub bytes : w.bytes ≡ v.bytes ++ own
+  pub value : RecordValue
+  pub at : RecordAt (c ++ own) (length c) value (length (c ++ own))
+  pub owner : value.owner ≡ in_mode v.encoding r.name.labels
+  pub record_type : value.record_type ≡ type_of_code (type_code r.data.record_type)
+  pub class : value.class ≡ class_of_code (class_code r.dns_class)
+  pub ttl : value.ttl ≡ r.ttl
+  pub takes : TakesPieces (kinds_of r.data.record_type) (data_start value) (written_pieces v.encoding v.canonical pieces)
+  pub candidates : All (InBoth w.bytes (c ++ own)) w.candidates
+
+pub record-both : (r : Record) (pieces : List DataPiece) (v w : Encoder) (c : List ℕ) → v.offset ≡ length v.bytes → length v.bytes ≡ length c
+    → v.max_size ≤ max_message → All (InBoth v.bytes c) v.candidates → HasPieces (kinds_of r.data.record_type) r.data.octets pieces
+    → EmitsAnyRecord r v (Ok tt) w → RecordInBoth r pieces v w c
+record-both r pieces v w c e long small stand has (fit, (a, owner, (d, fixed, (room, u, one, is)))) =
+    let itself : All (InBoth v.bytes v.bytes) v.candidates = All-weaker (InBoth v.bytes c) (InBoth v.bytes v.bytes) (λ x (ls, here, there). (ls, here, here)) v.candidates stand in
+    let first = read-in r pieces v a d u w v.bytes e refl small itself has fit owner fixed room one is in
+    let other = read-in r pieces v a d u w c e long small stand has fit owner fixed room one is in
+    record {
+      own = other.own;
+      bytes = other.bytes;
+      value = other.value;
+      at = other.at;
+      owner = other.owner;
+      record_type = other.record_type;
+      class = other.class;
+      ttl = other.ttl;
+      takes = other.takes;
+      candidates = merged u.bytes w.bytes (c ++ other.own) w.candidates (subst (λ b. All (InBoth u.bytes b) w.candidates) (sym first.bytes) first.candidates) other.candidates;
+    }
+
+pub any_records_are_read : AnyRecordsAreRead
+any_records_are_read r pieces v w e small stand has h =
+    let b = record-both r pieces v w v.bytes e refl small (with-itself v e stand) has h in
+    let ends = (frame-any_record r v (Ok tt) w e h).ends in
+    let whole = sym b.bytes in
+    let at : RecordAt w.bytes v.offset b.value w.offset =
+    subst (λ p. RecordAt w.bytes p b.value w.offset) (sym e)
+    (subst (λ q. RecordAt w.bytes (length v.bytes) b.value q) (ap length whole ∙ sym ends) (subst (λ x. RecordAt x (length v.bytes) b.value (length (v.bytes ++ b.own))) whole b.at)) in
+    let left = subst (λ y. All (InBoth w.bytes y) w.candidates) (whole ∙ sym (take-all w.offset w.bytes ends)) b.candidates in
     let keeps : CandidatesAreRead w =
-    All-weaker (InBoth u.bytes (twin ++ l.more)) (λ c. (ls : List (List ℕ)) × ReadsAs (so_far w) c.0 ls)
-    (λ c (ls, _, found). (ls, subst (λ b. ReadsAs b c.0 ls) whole found)) w.candidates left in
-    (x, at, refl, kind, class, ttl, take-values x.start kinds from (written_pieces v.encoding v.canonical pieces) takes, keeps)
+    All-weaker (InBoth w.bytes (so_far w)) (λ c. (ls : List (List ℕ)) × ReadsAs (so_far w) c.0 ls) (λ c (ls, _, found). (ls, found)) w.candidates left in
+    (b.value, at, b.owner, b.record_type, b.class, b.ttl, take-values b.value.start (kinds_of r.data.record_type) (data_start b.value) (written_pieces v.encoding v.canonical pieces) b.takes, keeps)

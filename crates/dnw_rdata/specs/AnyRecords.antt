@@ -14,8 +14,10 @@ use Rattle.dnw_encoder.specs.Encoder.{Encoder, Writes, mode_of_rdata}
 use Rattle.dnw_encoder.specs.Emitting.{Emits}
 use Rattle.dnw_encoder.specs.EmittedName.{EmitsName}
 use Rattle.dnw_encoder.specs.Marks.{mark_of, rewound}
+use Rattle.dnw_record.specs.Records.{RecordValue}
 use Rattle.dnw_record.specs.Parts.{EmitsSized, EmitsWireParts, Then, WirePart, bytes_part, name_part}
 use Rattle.dnw_rdata.specs.declared.record.Record.{Record}
+use Rattle.dnw_rdata.specs.DataCopies.{Copies, data_start}
 use Rattle.dnw_rdata.specs.DataPieces.{DataValue, HasPieces, DataPiece, kinds_of, name_piece, octets_piece}
 
 -- ---- data
@@ -57,6 +59,13 @@ EmitsRData x v outcome w =
 abbrev pub type_class_ttl : Record → List ℕ
 type_class_ttl r =
     to_be_bytes w16 (type_code r.data.record_type) ++ (to_be_bytes w16 (class_code r.dns_class) ++ to_be_bytes w32 r.ttl)
+
+-- The record is a copy of one of a message: with its owner, class and time to live, and its data, in which every name has its
+-- wire form.
+abbrev pub IsCopyOf : RecordValue → Record → Type 0
+IsCopyOf x r =
+    (r.name ≡ name_of x.owner) × (r.dns_class ≡ x.class) × (r.ttl ≡ x.ttl) × (r.data.record_type ≡ x.record_type)
+    × Copies (kinds_of x.record_type) (data_start x) r.data.octets
 
 -- the owner, the type, the class, the time to live, and the data with their length
 abbrev pub EmitsAnyFields : Emits Record

@@ -7,9 +7,9 @@ ghost use Rattle.dnw_rdata.specs.Inside.Copying.{IsNoName};
 ghost use Rattle.dnw_rdata.specs.DataCopies.{TakesOwnPiece};
 ghost use Rattle.dnw_rdata.specs.DataPieces.{DataPiece};
 ghost use Rattle.dnw_rdata.specs.AnyRecords.{EmitsRData, EmitsAnyFields, EmitsAnyRecord, AnyNumbersFit, encoding_of, mode_of, name_of, type_class_ttl};
-ghost use Rattle.dnw_rdata.specs.AnyRecordFrames.{frame-any_record};
+ghost use Rattle.dnw_rdata.specs.AnyRecordFrames.{frame-any_record, frame-rdata};
 
-use crate::rdata::RData;
+use crate::rdata::{RData, RDataError};
 use dnw_base::decoder::BinDecoder;
 use dnw_codes::dns_class::DNSClass;
 use dnw_data::field::Field;
@@ -20,6 +20,8 @@ use dnw_encoder::encoder::{BinEncoder, RDataEncoding};
 use dnw_error::error::ProtoResult;
 use dnw_name::name::Name;
 use dnw_name::name_ref::NameRef;
+use dnw_record::record::RecordRef;
+use std::alloc::Global;
 
 /// A record of any type, to be written into a message (RFC 1035, section 4.1.3). Its data have the type.
 ///
@@ -35,6 +37,29 @@ pub struct Record {
     pub ttl: u32,
     /// The data, after a length of two octets that is filled in once they are written.
     pub data: RData,
+}
+
+impl Record {
+    ghost use Rattle.std.specs.Prelude.{IfOk, IfErr};
+    ghost use Rattle.dnw_rdata.specs.DataPieces.{kinds_of};
+    ghost use Rattle.dnw_rdata.specs.DataCopies.{FailsToCopy, data_start};
+    ghost use Rattle.dnw_rdata.specs.AnyRecords.{IsCopyOf};
+
+    /// Copies a record of a message, in which names may have pointers. Its owner is fully qualified.
+    ///
+    /// It fails as `RData::from_ref` does.
+    pub fn from_ref(alloc: Global, item: &RecordRef<'_>) -> Result<Self, RDataError>
+        ensures ok { IfOk result (IsCopyOf item.now) }
+        ensures err { IfErr result (FailsToCopy (kinds_of item.now.record_type) (data_start item.now)) }
+    {
+        let data = RData::from_ref(alloc, item)?;
+        Ok(Record {
+            name: item.owner().to_name(alloc).unwrap(),
+            dns_class: item.class(),
+            ttl: item.ttl(),
+            data,
+        })
+    }
 }
 
 impl BinEncodable for Record {
@@ -54,6 +79,18 @@ impl BinEncodable for Record {
             encoder.rewind(mark);
         }
         outcome
+    }
+}
+
+/// Data are written without their type and length, up to the first name or run of octets that fails.
+impl BinEncodable for RData {
+    ghost emits = { EmitsRData };
+
+    ghost keeps_frame = { frame-rdata };
+
+    /// Writes the octets of the data, and each name among them as the table says, as `Record` does.
+    fn emit(&self, encoder: &mut BinEncoder<'_>) -> ProtoResult<()> {
+        emit_data(self, encoder)
     }
 }
 

@@ -2,7 +2,7 @@
 ghost use Rattle.std.specs.Prelude.{◌≡◌, ◌+◌, ◌-◌, ◌<◌, ◌≤◌, ◌^◌, ◌⊎◌, IfOk, IfErr};
 ghost use Rattle.dnw_error.specs.declared.error.ProtoError.{ProtoError};
 ghost use Rattle.dnw_encoder.specs.EncoderValue.{value, lender};
-ghost use Rattle.dnw_record.specs.RecordLaws.{record_size};
+ghost use Rattle.dnw_rdata.specs.AnyRecordLaws.{any_record_size};
 ghost use Rattle.dnw_message.specs.Headers.{header_size};
 ghost use Rattle.dnw_message_writer.specs.Drafts.{AddsLast, Draft};
 
@@ -13,7 +13,7 @@ use dnw_encoder::binary::BinEncodable;
 use dnw_encoder::encoder::BinEncoder;
 use dnw_error::error::{ProtoError, ProtoResult};
 use dnw_message::header::{Header, Metadata};
-use dnw_record::record::{WireData, WireRecord};
+use dnw_rdata::record::Record;
 
 /// How many octets of a record are between its owner and its data (RFC 1035, section 4.1.3).
 const RECORD_FIELDS: usize = 10;
@@ -29,14 +29,14 @@ const RECORD_FIELDS: usize = 10;
 pub struct MessageWriter<'a> {
     encoder: BinEncoder<'a>,
     header: Header,
-    last: Option<WireRecord>,
+    last: Option<Record>,
     max_size: u16,
 }
 
 impl<'a> MessageWriter<'a> {
     ghost use Rattle.std.specs.Prelude.{replicate, Ok, Err, Some, None, List, []};
     ghost use Rattle.dnw_encoder.specs.Encoder.{Encoder, fresh};
-    ghost use Rattle.dnw_record.specs.WrittenRecords.{EmitsRecord};
+    ghost use Rattle.dnw_rdata.specs.AnyRecords.{EmitsAnyRecord};
     ghost use Rattle.dnw_message_writer.specs.declared.section.Section.TheVariants.{Queries, Answers, Authorities, Additionals};
     ghost use Rattle.dnw_message_writer.specs.WireQueries.{EmitsQuery};
     ghost use Rattle.dnw_message_writer.specs.Drafts.{Adds, Begins};
@@ -69,11 +69,11 @@ impl<'a> MessageWriter<'a> {
         buffer: &'a mut Vec<u8>,
         metadata: Metadata,
         max_size: u16,
-        last: WireRecord,
+        last: Record,
     ) -> ProtoResult<Self>
         requires { buffer.old.items ≡ [] }
         ensures begins { IfOk result (BeginsWith metadata max_size last) }
-        ensures err { IfErr result (λ e. (e ≡ ProtoError.Memory) ⊎ ((e ≡ ProtoError.MaxBufferSizeExceeded max_size) × (max_size < header_size + record_size last))) }
+        ensures err { IfErr result (λ e. (e ≡ ProtoError.Memory) ⊎ ((e ≡ ProtoError.MaxBufferSizeExceeded max_size) × (max_size < header_size + any_record_size last))) }
         ensures lender { IfOk result (λ writer. lent writer ≡ buffer.entry.ghost_name) }
     {
         let least = without(max_size, &last)?;
@@ -98,8 +98,8 @@ impl<'a> MessageWriter<'a> {
 
     /// Adds a record that answers, if there is no authority or additional record yet. Without room for it, the message is
     /// truncated.
-    pub fn add_answer(&mut self, item: &WireRecord) -> Result<(), AddError>
-        ensures adds { Adds EmitsRecord Answers item.now (draft self.old) result (draft self.new) }
+    pub fn add_answer(&mut self, item: &Record) -> Result<(), AddError>
+        ensures adds { Adds EmitsAnyRecord Answers item.now (draft self.old) result (draft self.new) }
         ensures last { last_of self.new ≡ last_of self.old }
         ensures lender { lent self.new ≡ lent self.old }
     {
@@ -108,8 +108,8 @@ impl<'a> MessageWriter<'a> {
 
     /// Adds a record that leads to an authority, if there is no additional record yet. Without room for it, the message is
     /// truncated.
-    pub fn add_authority(&mut self, item: &WireRecord) -> Result<(), AddError>
-        ensures adds { Adds EmitsRecord Authorities item.now (draft self.old) result (draft self.new) }
+    pub fn add_authority(&mut self, item: &Record) -> Result<(), AddError>
+        ensures adds { Adds EmitsAnyRecord Authorities item.now (draft self.old) result (draft self.new) }
         ensures last { last_of self.new ≡ last_of self.old }
         ensures lender { lent self.new ≡ lent self.old }
     {
@@ -122,8 +122,8 @@ impl<'a> MessageWriter<'a> {
     }
 
     /// Adds a record that helps. Without room for it, it is left out (RFC 2181, section 9).
-    pub fn add_additional(&mut self, item: &WireRecord) -> Result<(), AddError>
-        ensures adds { Adds EmitsRecord Additionals item.now (draft self.old) result (draft self.new) }
+    pub fn add_additional(&mut self, item: &Record) -> Result<(), AddError>
+        ensures adds { Adds EmitsAnyRecord Additionals item.now (draft self.old) result (draft self.new) }
         ensures last { last_of self.new ≡ last_of self.old }
         ensures lender { lent self.new ≡ lent self.old }
     {
@@ -154,9 +154,9 @@ impl<'a> MessageWriter<'a> {
 }
 
 /// Returns a maximum without the octets of a record with its names whole, or fails if a header has no room beside them.
-fn without(max_size: u16, last: &WireRecord) -> ProtoResult<u16>
-    ensures ok { IfOk result (λ least. (header_size + record_size last.now ≤ max_size) × (least ≡ max_size - record_size last.now)) }
-    ensures err { IfErr result (λ e. (e ≡ ProtoError.MaxBufferSizeExceeded max_size) × (max_size < header_size + record_size last.now)) }
+pub(super) fn without(max_size: u16, last: &Record) -> ProtoResult<u16>
+    ensures ok { IfOk result (λ least. (header_size + any_record_size last.now ≤ max_size) × (least ≡ max_size - any_record_size last.now)) }
+    ensures err { IfErr result (λ e. (e ≡ ProtoError.MaxBufferSizeExceeded max_size) × (max_size < header_size + any_record_size last.now)) }
 {
     let size = record_size(last);
     let most = usize::from(max_size);
@@ -167,22 +167,18 @@ fn without(max_size: u16, last: &WireRecord) -> ProtoResult<u16>
 }
 
 /// Returns the number of octets of a record with its names whole.
-fn record_size(item: &WireRecord) -> usize
-    ensures size { result ≡ record_size item.now }
+fn record_size(item: &Record) -> usize
+    ensures size { result ≡ any_record_size item.now }
     ensures most { result + header_size < 2 ^ 64 }
 {
-    let rdata = match &item.rdata {
-        WireData::Bytes(bytes) => bytes.len(),
-        WireData::Name { name, .. } => name.encoded_len(),
-    };
-    item.owner.encoded_len() + RECORD_FIELDS + rdata
+    item.name.encoded_len() + RECORD_FIELDS + item.data.octets().len()
 }
 
 /// Adds the last record, if there is one, within the whole maximum.
-fn add_last(
+pub(super) fn add_last(
     encoder: &mut BinEncoder<'_>,
     header: &mut Header,
-    last: &Option<WireRecord>,
+    last: &Option<Record>,
     max_size: u16,
 ) -> ProtoResult<()>
     ensures adds { AddsLast last.now max_size (record { header = header.old; encoder = value encoder.old }) result (record { header = header.new; encoder = value encoder.new }) }

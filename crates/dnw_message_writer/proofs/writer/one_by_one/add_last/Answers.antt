@@ -2,14 +2,14 @@
 use Rattle.std.proofs.Common.{Option, Err, refl, sym, subst}
 use Rattle.dnw_encoder.specs.Encoder.{Encoder}
 use Rattle.dnw_encoder.specs.EncoderValue.{value}
-use Rattle.dnw_record.specs.declared.record.WireRecord.{WireRecord}
-use Rattle.dnw_record.specs.WrittenRecords.{EmitsRecord}
+use Rattle.dnw_rdata.specs.declared.record.Record.{Record}
+use Rattle.dnw_rdata.specs.AnyRecords.{EmitsAnyRecord}
 use Rattle.dnw_message_writer.specs.Drafts.{AddsLast}
 use Rattle.dnw_message_writer.proofs.writer.one_by_one.add_last.Goals as goal
 
 pub returns-in-Err-clause-adds : goal.returns-in-Err-clause-adds
 returns-in-Err-clause-adds c =
     let w = value c.emit.new.encoder in
-    let emits = subst (λ (v : Encoder). EmitsRecord c.in-Some.last v (Err c.in-Err.error) w) c.set_max_size.ensures.value c.in-Err.ensures.emits in
-    subst (λ (x : Option WireRecord). AddsLast x c.args.max_size (record { header = c.args.header.now; encoder = value c.args.encoder.now }) (Err c.in-Err.error) (record { header = c.args.header.now; encoder = w }))
+    let emits = subst (λ (v : Encoder). EmitsAnyRecord c.in-Some.last v (Err c.in-Err.error) w) c.set_max_size.ensures.value c.in-Err.ensures.emits in
+    subst (λ (x : Option Record). AddsLast x c.args.max_size (record { header = c.args.header.now; encoder = value c.args.encoder.now }) (Err c.in-Err.error) (record { header = c.args.header.now; encoder = w }))
     (sym c.in-Some.is) (emits, refl)

@@ -1,0 +1,8 @@
+use Rattle.dnw_encoder.specs.EncoderValue.{value}
+use Rattle.dnw_message_writer.proofs.Copying.{if-settled}
+use Rattle.dnw_message_writer.proofs.writer.copying.copy_record.Goals as goal
+
+pub returns-clause-ok : goal.returns-clause-ok
+returns-clause-ok c =
+    if-settled c.settled.result c.args.section c.args.item.now c.in_ok-record.record (record { header = c.args.header.now; encoder = value c.args.encoder.now })
+    (record { header = c.add.new.header; encoder = value c.add.new.encoder }) c.add.result c.requires c.in_ok-record.ensures.ok c.add.ensures.adds c.settled.ensures.ok
