@@ -1,0 +1,119 @@
+-- Sets of keys: lists in strictly ascending order that have the same elements are the same list, and a sort and a `dedup` make one.
+use Rattle.std.proofs.Common.{◌≡◌, suc, zero, List, [], ◌∷◌, map, ◌⊎◌, inl, inr, refl, sym, ap, ◌∙◌, subst, arith, Bool, true, rules, tests}
+use Rattle.std.specs.Cmp.{IsTotalOrder, IsEquivalence}
+use Rattle.std.specs.List.{All, AllByRecursion, Contains, dedup}
+use Rattle.std.specs.List.Sorted.{IsPermutation, IsSorted, IsStrictlySortedBy}
+use Rattle.std.specs.Ordering.{on, eq_by_cmp}
+use Rattle.std.specs.declared.cmp.Ordering.{Ordering}
+use Rattle.std.specs.declared.cmp.Ordering.TheVariants.{Less}
+use Rattle.std.proofs.lemmas.Cmp.{tied_itself}
+use Rattle.std.proofs.lemmas.List.Kept.{Any-dedup, Contains-from_dedup, IsStrictlySortedBy-dedup}
+use Rattle.std.proofs.lemmas.List.Sorted.{Contains-permutation, IsPermutation-sym}
+use Rattle.std.proofs.lemmas.Map.Keys.{sorted_tail}
+use Rattle.std.proofs.lemmas.Map.Views.{All-after_first}
+use Rattle.std.proofs.lemmas.List.Elements.{All-cons, All-contains, All-nil, All-weaker, Contains-append_cases, Contains-append_left, Contains-append_right, Contains-push}
+
+pub first-of : {X : Type 0} (x : X) (xs : List X) → Contains (x ∷ xs) x
+first-of x xs = Contains-append_left (x ∷ []) xs x (Contains-push [] x)
+
+pub later-of : {X : Type 0} (x : X) (xs : List X) (q : X) → Contains xs q → Contains (x ∷ xs) q
+later-of x xs q h = Contains-append_right (x ∷ []) xs q h
+
+pub none-of : {X : Type 0} (q : X) → Contains [] q → ⊥
+none-of q (k, less, is) = omega (arith, less)
+
+one-of : {X : Type 0} (x q : X) → Contains (x ∷ []) q → x ≡ q
+one-of x q (zero, less, is) = is
+one-of x q (suc k, less, is) = absurd (omega (arith, less))
+
+pub cases-of : {X : Type 0} (x : X) (xs : List X) (q : X) → Contains (x ∷ xs) q → (x ≡ q) ⊎ Contains xs q
+cases-of {X} x xs q h = either (Contains-append_cases (x ∷ []) xs q h)
+  where
+    either : Contains (x ∷ []) q ⊎ Contains xs q → (x ≡ q) ⊎ Contains xs q
+    either (inl one) = inl (one-of x q one)
+    either (inr more) = inr more
+
+-- where the first element is not the one looked for, it is a later one
+but-first : {X : Type 0} (x : X) (xs : List X) (q : X) → (x ≡ q → ⊥) → Contains (x ∷ xs) q → Contains xs q
+but-first {X} x xs q other h = either (cases-of x xs q h)
+  where
+    either : (x ≡ q) ⊎ Contains xs q → Contains xs q
+    either (inl one) = absurd (other one)
+    either (inr more) = more
+
+module _ {X : Type 0} {R : X → X → Ordering} (o : IsTotalOrder R) where
+  not-below-itself : (x : X) → R x x ≡ Less → ⊥
+  not-below-itself x less = search (rules, tests, tied_itself o x, less)
+
+  above : (x : X) (xs : List X) (q : X) → IsStrictlySortedBy R (x ∷ xs) → Contains xs q → R x q ≡ Less
+  above x xs q up h = All-contains (λ y. R x y ≡ Less) xs q (All-after_first R x xs up) h
+
+  same-first : (x y : X) (xs ys : List X) → IsStrictlySortedBy R (x ∷ xs) → IsStrictlySortedBy R (y ∷ ys) → (y ≡ x) ⊎ Contains ys x → (x ≡ y) ⊎ Contains xs y → x ≡ y
+  same-first x y xs ys up up' (inl is) other = sym is
+  same-first x y xs ys up up' (inr later) (inl is) = is
+  same-first x y xs ys up up' (inr later) (inr later') = absurd (not-below-itself x (o.trans x y x (above x xs y up later') (above y ys x up' later)))
+
+  pub same_elements : (xs ys : List X) → IsStrictlySortedBy R xs → IsStrictlySortedBy R ys
+      → ((q : X) → Contains xs q → Contains ys q) → ((q : X) → Contains ys q → Contains xs q) → xs ≡ ys
+  same_elements [] [] up up' to back = refl
+  same_elements [] (y ∷ ys) up up' to back = absurd (none-of y (back y (first-of y ys)))
+  same_elements (x ∷ xs) [] up up' to back = absurd (none-of x (to x (first-of x xs)))
+  same_elements (x ∷ xs) (y ∷ ys) up up' to back =
+      let first = same-first x y xs ys up up' (cases-of y ys x (to x (first-of x xs))) (cases-of x xs y (back y (first-of y ys))) in
+      let later : (q : X) → Contains xs q → Contains ys q = λ q h. but-first y ys q (λ is. not-below-itself x (subst (λ z. R x z ≡ Less) (sym (first ∙ is)) (above x xs q up h))) (to q (later-of x xs q h)) in
+      let earlier : (q : X) → Contains ys q → Contains xs q = λ q h. but-first x xs q (λ is. not-below-itself y (subst (λ z. R y z ≡ Less) (sym (sym first ∙ is)) (above y ys q up' h))) (back q (later-of y ys q h)) in
+      ap (λ z. z ∷ xs) first ∙ ap (λ zs. y ∷ zs) (same_elements xs ys (sorted_tail R x xs up) (sorted_tail R y ys up') later earlier)
+
+-- ---- what a list of values has of their keys
+
+Contains-keys : {X Y : Type 0} (f : X → Y) (xs : List X) → All (λ x. Contains (map f xs) (f x)) xs
+Contains-keys {X} f [] = All-nil (λ (x : X). Contains [] (f x))
+Contains-keys f (x ∷ xs) =
+    All-cons (λ y. Contains (f x ∷ map f xs) (f y)) x xs (first-of (f x) (map f xs))
+    (All-weaker _ _ (λ z h. later-of (f x) (map f xs) (f z) h) xs (Contains-keys f xs))
+
+Contains-map : {X Y : Type 0} (f : X → Y) (xs : List X) (x : X) → Contains xs x → Contains (map f xs) (f x)
+Contains-map f xs x h = All-contains (λ y. Contains (map f xs) (f y)) xs x (Contains-keys f xs) h
+
+-- an element of the keys is the key of an element
+abbrev HasKey : {X Y : Type 0} (f : X → Y) → List X → Y → Type 0
+HasKey {X} f xs q = (x : X) × Contains xs x × (f x ≡ q)
+
+has-key : {X Y : Type 0} (f : X → Y) (x : X) (xs : List X) (q : Y) → (f x ≡ q) ⊎ HasKey f xs q → HasKey f (x ∷ xs) q
+has-key f x xs q (inl is) = (x, first-of x xs, is)
+has-key f x xs q (inr (z, has, is)) = (z, later-of x xs z has, is)
+
+or-later : {A B C : Type 0} → (B → C) → A ⊎ B → A ⊎ C
+or-later f (inl a) = inl a
+or-later f (inr b) = inr (f b)
+
+Contains-from_map : {X Y : Type 0} (f : X → Y) (xs : List X) (q : Y) → Contains (map f xs) q → HasKey f xs q
+Contains-from_map f [] q h = absurd (none-of q h)
+Contains-from_map f (x ∷ xs) q h = has-key f x xs q (or-later (Contains-from_map f xs q) (cases-of (f x) (map f xs) q h))
+
+AllByRecursion-map : {X Y : Type 0} (f : X → Y) (P : Y → Type 0) (xs : List X) → AllByRecursion (λ x. P (f x)) xs → AllByRecursion P (map f xs)
+AllByRecursion-map f P [] h = tt
+AllByRecursion-map f P (x ∷ xs) (one, more) = (one, AllByRecursion-map f P xs more)
+
+IsStrictlySortedBy-map : {X Y : Type 0} (f : X → Y) (R : Y → Y → Ordering) (xs : List X) → IsStrictlySortedBy (on f R) xs → IsStrictlySortedBy R (map f xs)
+unfolding IsStrictlySortedBy
+IsStrictlySortedBy-map f R [] h = tt
+IsStrictlySortedBy-map f R (x ∷ xs) (one, more) = (AllByRecursion-map f (λ y. R (f x) y ≡ Less) xs one, IsStrictlySortedBy-map f R xs more)
+
+-- ---- a set: sorted by keys, and without duplicates
+
+module _ {X Y : Type 0} (f : X → Y) (R : Y → Y → Ordering) (o : IsTotalOrder (on f R)) {E : X → X → Bool} (e : IsEquivalence E)
+    (ties : (x y : X) → E x y ≡ eq_by_cmp (on f R) x y) (exact : (x y : X) → E x y ≡ true → f x ≡ f y) where
+  pub set-ascends : (xs : List X) → IsSorted (on f R) xs → IsStrictlySortedBy R (map f (dedup E xs))
+  set-ascends xs up = IsStrictlySortedBy-map f R (dedup E xs) (IsStrictlySortedBy-dedup o ties xs up)
+
+  pub set-each : (all xs : List X) → IsPermutation all xs → (q : Y) → Contains (map f (dedup E xs)) q → Contains (map f all) q
+  set-each all xs moved q h =
+      let (x, has, is) = Contains-from_map f (dedup E xs) q h in
+      subst (Contains (map f all)) is (Contains-map f all x (Contains-permutation xs all x (IsPermutation-sym all xs moved) (Contains-from_dedup E xs x has)))
+
+  pub set-every : (all xs : List X) → IsPermutation all xs → (q : Y) → Contains (map f all) q → Contains (map f (dedup E xs)) q
+  set-every all xs moved q h =
+      let (x, has, is) = Contains-from_map f all q h in
+      let (k, y, less, at, same) = Any-dedup e xs x (Contains-permutation all xs x moved has) in
+      subst (Contains (map f (dedup E xs))) (sym (exact x y same) ∙ is) (Contains-map f (dedup E xs) y (k, less, at))

@@ -1,0 +1,5 @@
+pub mod CanonicalData
+pub mod RecordSets
+pub mod SignedFields
+pub mod CanonicalLaws
+pub mod Inside
