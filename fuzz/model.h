@@ -55,6 +55,13 @@ uint32_t model_record(const uint8_t *message, size_t len, size_t start, struct m
 uint32_t model_form(const uint8_t *form, size_t len, struct model_name *name);
 uint32_t model_parse(const uint8_t *text, size_t len, struct model_text *parsed);
 
+/* The fields of a type: `n` a name, a digit a number of so many octets, `i` and `I` addresses, `t` a type, `T` a time, `s` a
+   character string, `c` octets after their number, `x` a text and `o` octets up to the end, and `S`, `B` and `P` lists. */
+const char *model_fields_of(uint16_t type);
+
+/* The next field of data that end at `end`, or their end. */
+uint32_t model_next(const uint8_t *message, size_t end, uint16_t type, struct dnw_fields *fields, struct dnw_field *field);
+
 /* Puts the text of a wire form into `text`, which has DNW_TEXT_SIZE bytes, and returns its length. */
 size_t model_print(const struct model_name *name, bool is_fqdn, uint8_t *text);
 

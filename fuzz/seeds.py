@@ -1,10 +1,12 @@
 #!/usr/bin/env python3
 """Writes the inputs that the fuzzer begins with: `seeds.py FOLDER` makes a folder in it for each harness.
 
-They are the messages, texts, wire forms, names, bitmaps and times of the lists and rows in diff/, each once.
+They are the messages, texts, wire forms, names, bitmaps and times of the lists and rows in diff/, and the replies of name
+servers there, each once.
 """
 
 import hashlib
+import itertools
 import pathlib
 import re
 import struct
@@ -71,6 +73,7 @@ def inputs(words):
         record = b"\0" + struct.pack(">HHIH", code, 1, 0, len(whole) - start) + whole[start:]
         yield "sections", b"\xff" + bytes(6) + b"\0\1" + bytes(4) + record
         yield "sections", b"\xff" + struct.pack(">H", code) + whole[start:]
+        yield "printing", struct.pack(">H", code) + whole[start:]
     elif kind in ("text", "print"):
         yield "texts", octets(rest[-1])
     elif kind in ("encode", "script"):
@@ -79,6 +82,7 @@ def inputs(words):
         if any(names):
             names = [name for name in names if name][:20]
             yield "records", bytes(12) + b"".join(records(names))
+            yield "printing", b"".join(records(names))
             counts = struct.pack(">HHHH", 1, 0, 0, len(names))
             yield "sections", b"\xff" + bytes(4) + counts + names[0] + b"\0\1\0\1" + b"".join(records(names))
             for settings in b"\xff\xff\0\0", b"\0\x60\1\0", b"\xff\xff\0\xff":
@@ -99,13 +103,20 @@ def inputs(words):
         yield "codes" if kind == "time" else "tokens", octets(rest[-1])
 
 
+def replies():
+    """The inputs that the replies of name servers give."""
+    for line in (DIFF / "servers" / "replies.txt").read_text(encoding="utf-8").splitlines():
+        whole = line.split(" ", 2)[1]
+        yield "sections", b"\xff" + octets(whole)
+        yield "printing", octets(whole)
+
+
 def main():
     folder = pathlib.Path(sys.argv[1])
-    for words in requests():
-        for harness, octets_of_it in inputs(words):
-            place = folder / harness
-            place.mkdir(parents=True, exist_ok=True)
-            (place / hashlib.sha1(octets_of_it).hexdigest()).write_bytes(octets_of_it)
+    for harness, octets_of_it in itertools.chain(*map(inputs, requests()), replies()):
+        place = folder / harness
+        place.mkdir(parents=True, exist_ok=True)
+        (place / hashlib.sha1(octets_of_it).hexdigest()).write_bytes(octets_of_it)
 
 
 if __name__ == "__main__":

@@ -272,6 +272,22 @@ struct dnw_field {
 uint32_t dnw_field_next(const uint8_t *message, size_t data_end, uint16_t record_type, struct dnw_fields *fields,
                         struct dnw_field *field);
 
+/* `len` bytes of text were put into the buffer, and the record ends at offset `end` of the message. */
+struct dnw_printed_record {
+    size_t len;
+    size_t end;
+};
+
+/* Puts the record at offset `start` of a message as one line of a master file (RFC 1035, section 5.1), without the line's end:
+   the owner, the time to live, the class, the type and the data, with a space between them. Names are fully qualified, and
+   codes are as dnw_type_print and dnw_class_print put them. Data of a type that has no text of its own, or that are no fields of
+   their type, are put as any data are: as `\# 4 0A000001` (RFC 3597, section 5). So each record has a text.
+
+   It fails with DNW_MESSAGE_CUT if `start` is past the message, and as dnw_record_read if no record is there, but not for the
+   room of an owner. Else it fails with DNW_NO_ROOM if the text has more than `text_size` octets, or with DNW_NO_MEMORY. */
+uint32_t dnw_record_print(const uint8_t *message, size_t message_len, size_t start, uint8_t *text, size_t text_size,
+                          struct dnw_printed_record *printed);
+
 /* The kinds of items of a message, and what follows in a list after the octet for the kind. A record is as in a message: the
    owner's wire form, two octets of type, two of class, four of time to live, two of the length of the data, and the data. */
 enum dnw_item_kind {

@@ -7,7 +7,7 @@ use Rattle.dnw_data.specs.Values.{FieldValue}
 use Rattle.dnw_data.specs.declared.kind.Kind.{Kind}
 use Rattle.dnw_data.specs.declared.kind.Kind.TheVariants as kinds
 use Rattle.dnw_data.specs.declared.kind.ListKind.TheVariants as lists
-use Rattle.dnw_data.specs.declared.kind.Shown.TheVariants.{Text}
+use Rattle.dnw_data.specs.declared.kind.Shown.TheVariants.{Text, Tag}
 use Rattle.dnw_error.specs.declared.error.DecodeError.{DecodeError}
 use Rattle.dnw_failure.specs.Failures.{of_decode}
 use Rattle.dnw_failure.specs.declared.failure.Failure.{Failure}
@@ -28,6 +28,7 @@ field_kind kinds.Ipv6 = 4
 field_kind kinds.TypeCode = 5
 field_kind kinds.Time = 6
 field_kind (kinds.Counted Text) = 7
+field_kind (kinds.Counted Tag) = 7
 field_kind (kinds.Octets Text) = 7
 field_kind (kinds.Counted shown) = 8
 field_kind (kinds.Octets shown) = 8

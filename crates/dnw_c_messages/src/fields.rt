@@ -137,7 +137,7 @@ fn field_kind(kind: Kind) -> u32
         Kind::Ipv6 => 4,
         Kind::TypeCode => 5,
         Kind::Time => 6,
-        Kind::Counted(Shown::Text) | Kind::Octets(Shown::Text) => 7,
+        Kind::Counted(Shown::Text | Shown::Tag) | Kind::Octets(Shown::Text) => 7,
         Kind::Counted(_) | Kind::Octets(_) => 8,
         Kind::List(ListKind::Texts) => 9,
         Kind::List(ListKind::Types) => 10,

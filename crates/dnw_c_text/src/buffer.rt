@@ -1,0 +1,19 @@
+//! Results that are put into buffers.
+ghost use Rattle.std.specs.Prelude.{◌≡◌, ◌<◌, ◌≤◌, length, IfOk, IfErr, OnErr};
+ghost use Rattle.dnw_reading.specs.Buffers.{put};
+ghost use Rattle.dnw_failure.specs.declared.failure.Failure.TheVariants.{NoRoom};
+
+use dnw_failure::failure::Failure;
+
+/// Puts bytes at the front of a buffer if they fit, and returns their number.
+pub(crate) fn put(buffer: &mut [u8], bytes: &[u8]) -> Result<usize, Failure>
+    ensures ok { IfOk result (λ len. (len ≡ length bytes.now) × (buffer.new ≡ put buffer.old bytes.now)) }
+    ensures err { IfErr result (λ failure. (failure ≡ NoRoom) × (length buffer.old < length bytes.now)) }
+    ensures same { OnErr result (buffer.new ≡ buffer.old) }
+{
+    if bytes.len() > buffer.len() {
+        return Err(Failure::NoRoom);
+    }
+    buffer[..bytes.len()].copy_from_slice(bytes);
+    Ok(bytes.len())
+}

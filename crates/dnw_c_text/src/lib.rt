@@ -1,0 +1,12 @@
+//! The functions of the C library for the texts of records in master files. `include/dns_names_wire.h` says what each takes and
+//! returns, and `tools/c-library` joins them with those of `dnw_c`.
+//!
+//! A slice is passed as a pointer and then a length, and results are put into structs and buffers of the caller. Every input is
+//! tested, whatever the caller promises, and nothing is kept from one call to the next. Read `specs/PrintCalls.antt` first: what
+//! a call puts of a record.
+#![tactic(auto)]
+
+/// Results that are put into buffers.
+mod buffer;
+/// Records as text.
+pub mod printing;
