@@ -1,10 +1,10 @@
 """Record types and classes."""
 
 from ctypes import byref, c_size_t, c_uint16
-from typing import Callable, ClassVar, Type, TypeVar
+from typing import Any, Callable, ClassVar, Dict, Optional, Type, TypeVar
 
 from . import _checks
-from ._errors import check
+from ._errors import UnknownText, check, error_text
 from ._library import CODE_SIZE, CodeText, library, taken
 
 _MOST = 65535
@@ -60,13 +60,26 @@ def class_code(text: str) -> int:
 
 
 class _Code(int):
-    """A code from 0 to 65535, which is an `int`, and whose text is its name."""
+    """A code from 0 on, which is an `int`, and whose text is its name."""
 
     _text_of: ClassVar[Callable[[int], str]]
     _code_of: ClassVar[Callable[[str], int]]
+    _most: ClassVar[int] = _MOST
+    _made: ClassVar[Dict[int, Any]]
 
     def __new__(cls: Type[_Own], code: int) -> _Own:
-        return int.__new__(cls, _checks.number("code", code, _MOST))
+        return int.__new__(cls, _checks.number("code", code, cls._most))
+
+    def __init_subclass__(cls) -> None:
+        cls._made = {}
+
+    @classmethod
+    def of(cls: Type[_Own], code: int) -> _Own:
+        """The code with a number, which is made once."""
+        made: Optional[_Own] = cls._made.get(code)
+        if made is None:
+            made = cls._made[code] = cls(code)
+        return made
 
     @classmethod
     def from_text(cls: Type[_Own], text: str) -> _Own:
@@ -154,11 +167,110 @@ class RecordClass(_Code):
     ANY: ClassVar["RecordClass"]
 
 
+def _named(names: Dict[int, str]) -> Callable[[int], str]:
+    return lambda code: names.get(code, f"RESERVED{code}")
+
+
+def _numbered(names: Dict[int, str], most: int) -> Callable[[str], int]:
+    codes = {name: code for code, name in names.items()}
+    codes.update((f"RESERVED{code}", code) for code in range(most + 1))
+
+    def code_of(text: str) -> int:
+        code = codes.get(text.upper())
+        if code is None:
+            raise UnknownText(error_text(UnknownText.number))
+        return code
+
+    return code_of
+
+
+_OP_CODES = {0: "QUERY", 1: "IQUERY", 2: "STATUS", 4: "NOTIFY", 5: "UPDATE"}
+_RESPONSE_CODES = {
+    0: "NOERROR",
+    1: "FORMERR",
+    2: "SERVFAIL",
+    3: "NXDOMAIN",
+    4: "NOTIMP",
+    5: "REFUSED",
+    6: "YXDOMAIN",
+    7: "YXRRSET",
+    8: "NXRRSET",
+    9: "NOTAUTH",
+    10: "NOTZONE",
+    11: "DSOTYPENI",
+    16: "BADVERS",
+    17: "BADKEY",
+    18: "BADTIME",
+    19: "BADMODE",
+    20: "BADNAME",
+    21: "BADALG",
+    22: "BADTRUNC",
+    23: "BADCOOKIE",
+}
+
+
+class OpCode(_Code):
+    """What a message is for, of four bits: a code, as an `int`, with constants for all that have a name (RFC 1035, section 4.1.1;
+    RFC 1996; RFC 2136).
+
+    >>> OpCode.UPDATE, OpCode.UPDATE == 5, str(OpCode(7)), OpCode.from_text("notify")
+    (OpCode.UPDATE, True, 'RESERVED7', OpCode.NOTIFY)
+    """
+
+    _text_of = staticmethod(_named(_OP_CODES))
+    _code_of = staticmethod(_numbered(_OP_CODES, 15))
+    _most = 15
+
+    QUERY: ClassVar["OpCode"]
+    IQUERY: ClassVar["OpCode"]
+    STATUS: ClassVar["OpCode"]
+    NOTIFY: ClassVar["OpCode"]
+    UPDATE: ClassVar["OpCode"]
+
+
+class ResponseCode(_Code):
+    """What became of a request, of four bits, or of twelve with EDNS: a code, as an `int`, with constants for all that have a name
+    (RFC 1035, section 4.1.1; RFC 2136, section 2.2; RFC 6891, section 9; RFC 8945, section 3; RFC 2930, section 2.6; RFC
+    7873, section 8).
+
+    >>> ResponseCode.NXDOMAIN, ResponseCode.NXDOMAIN == 3, str(ResponseCode(23)), ResponseCode.from_text("refused")
+    (ResponseCode.NXDOMAIN, True, 'BADCOOKIE', ResponseCode.REFUSED)
+    """
+
+    _text_of = staticmethod(_named(_RESPONSE_CODES))
+    _code_of = staticmethod(_numbered(_RESPONSE_CODES, 4095))
+    _most = 4095
+
+    NOERROR: ClassVar["ResponseCode"]
+    FORMERR: ClassVar["ResponseCode"]
+    SERVFAIL: ClassVar["ResponseCode"]
+    NXDOMAIN: ClassVar["ResponseCode"]
+    NOTIMP: ClassVar["ResponseCode"]
+    REFUSED: ClassVar["ResponseCode"]
+    YXDOMAIN: ClassVar["ResponseCode"]
+    YXRRSET: ClassVar["ResponseCode"]
+    NXRRSET: ClassVar["ResponseCode"]
+    NOTAUTH: ClassVar["ResponseCode"]
+    NOTZONE: ClassVar["ResponseCode"]
+    DSOTYPENI: ClassVar["ResponseCode"]
+    BADVERS: ClassVar["ResponseCode"]
+    BADKEY: ClassVar["ResponseCode"]
+    BADTIME: ClassVar["ResponseCode"]
+    BADMODE: ClassVar["ResponseCode"]
+    BADNAME: ClassVar["ResponseCode"]
+    BADALG: ClassVar["ResponseCode"]
+    BADTRUNC: ClassVar["ResponseCode"]
+    BADCOOKIE: ClassVar["ResponseCode"]
+
+
 def _set_constants(kind: Type[_Code]) -> None:
     """Gives each declared constant its code, which is that of its name."""
     for name in kind.__annotations__:
-        setattr(kind, name, kind.from_text(name))
+        if name.isupper():
+            setattr(kind, name, kind.from_text(name))
 
 
 _set_constants(RecordType)
 _set_constants(RecordClass)
+_set_constants(OpCode)
+_set_constants(ResponseCode)

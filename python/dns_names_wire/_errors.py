@@ -240,6 +240,12 @@ class BadParams(DnsError):
     number = 34
 
 
+class DataTooLong(DnsError):
+    """Data of a record of more than 65535 octets, or a character string of more than 255."""
+
+    number = 39
+
+
 # What an item of each section is called, by the section's number in `dns_names_wire.h`.
 SECTIONS = ("header", "question", "answer", "authority", "additional")
 

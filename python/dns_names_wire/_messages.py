@@ -1,21 +1,24 @@
 """Whole messages, which are checked once."""
 
+import struct
 from ctypes import byref
 from dataclasses import dataclass, field
-from typing import Optional, Tuple
+from typing import Dict, Optional, Tuple
 
 from . import _checks
 from ._checks import Bytes
-from ._codes import RecordClass, RecordType
+from ._codes import OpCode, RecordClass, RecordType, ResponseCode
 from ._errors import SECTIONS, check, check_item
-from ._fields import pairs
+from ._fields import checked_name, pairs
 from ._library import Edns as ReadEdns
 from ._library import Message as Read
 from ._library import MessageFault, library
-from ._names import Name, read_name
-from ._records import Record, read_record
+from ._names import Name, NameAt
+from ._records import Record, section_records
 
 _HEADER_SIZE = 12
+# The type and the class of a question.
+_CODES = struct.Struct("!HH")
 _MAX_POINTERS = 65536
 _MOST_POINTERS = 2**64 - 1
 
@@ -27,16 +30,16 @@ class Header:
     `response_code` is the low four bits of the response code; `Message.response_code` has the others too.
     """
 
-    id: int
-    is_response: bool
-    op_code: int
-    authoritative: bool
-    truncation: bool
-    recursion_desired: bool
-    recursion_available: bool
-    authentic_data: bool
-    checking_disabled: bool
-    response_code: int
+    id: int = 0
+    is_response: bool = False
+    op_code: OpCode = OpCode.QUERY
+    authoritative: bool = False
+    truncation: bool = False
+    recursion_desired: bool = False
+    recursion_available: bool = False
+    authentic_data: bool = False
+    checking_disabled: bool = False
+    response_code: ResponseCode = ResponseCode.NOERROR
 
     @property
     def flags(self) -> Tuple[str, ...]:
@@ -52,7 +55,6 @@ class Header:
         ]
         return tuple(name for name, is_set in named if is_set)
 
-
 @dataclass(frozen=True)
 class Question:
     """A question (RFC 1035, section 4.1.2): a name, a type and a class. As a text it is these, with spaces between."""
@@ -64,7 +66,6 @@ class Question:
     def __str__(self) -> str:
         return f"{self.name} {self.question_class} {self.question_type}"
 
-
 @dataclass(frozen=True)
 class Edns:
     """What a message says by EDNS (RFC 6891, section 6.1).
@@ -73,11 +74,10 @@ class Edns:
     and its octets.
     """
 
-    max_payload: int
-    version: int
-    dnssec_ok: bool
-    options: Tuple[Tuple[int, bytes], ...]
-
+    max_payload: int = 1232
+    version: int = 0
+    dnssec_ok: bool = False
+    options: Tuple[Tuple[int, bytes], ...] = ()
 
 @dataclass(frozen=True)
 class Message:
@@ -93,8 +93,8 @@ class Message:
     b. IN A
     >>> message.answers
     (<Record b. 60 IN A c0000201>,)
-    >>> message.answers[0].fields()
-    (IPv4Address('192.0.2.1'),)
+    >>> message.answers[0].data
+    A(address=IPv4Address('192.0.2.1'))
     """
 
     header: Header = field(compare=False)
@@ -120,12 +120,13 @@ class Message:
         number = library.dnw_message_read(whole, len(whole), most, byref(read), byref(fault))
         if number:
             check_item(number, SECTIONS[fault.section], fault.item, fault.offset)
+        names: Dict[int, NameAt] = {}
         return cls(
             header=_header(read),
-            questions=_questions(whole, read.question_count),
-            answers=_records(whole, read.answers, read.answer_count),
-            authorities=_records(whole, read.authorities, read.authority_count),
-            additionals=_records(whole, read.additionals, read.additional_count),
+            questions=_questions(whole, read.question_count, names),
+            answers=section_records(whole, read.answers, read.answer_count, names),
+            authorities=section_records(whole, read.authorities, read.authority_count, names),
+            additionals=section_records(whole, read.additionals, read.additional_count, names),
             wire=whole[: read.end],
             trailing=whole[read.end :],
             _max_pointers=most,
@@ -155,9 +156,9 @@ class Message:
         return Edns(int(read.max_payload), int(read.version), bool(read.dnssec_ok), pairs(options))
 
     @property
-    def response_code(self) -> int:
+    def response_code(self) -> ResponseCode:
         """The response code, with the high bits that EDNS has (RFC 6891, section 6.1.3). Raises as `edns`."""
-        return int(self._read_edns().response_code)
+        return ResponseCode.of(self._read_edns().response_code)
 
     def _read_edns(self) -> ReadEdns:
         read = ReadEdns()
@@ -173,31 +174,22 @@ def _header(read: Read) -> Header:
     return Header(
         id=int(read.id),
         is_response=bool(read.is_response),
-        op_code=int(read.op_code),
+        op_code=OpCode.of(read.op_code),
         authoritative=bool(read.authoritative),
         truncation=bool(read.truncation),
         recursion_desired=bool(read.recursion_desired),
         recursion_available=bool(read.recursion_available),
         authentic_data=bool(read.authentic_data),
         checking_disabled=bool(read.checking_disabled),
-        response_code=int(read.response_code),
+        response_code=ResponseCode.of(read.response_code),
     )
 
 
-def _questions(whole: bytes, count: int) -> Tuple[Question, ...]:
+def _questions(whole: bytes, count: int, names: Dict[int, NameAt]) -> Tuple[Question, ...]:
     questions, offset = [], _HEADER_SIZE
     for _ in range(count):
-        name, end = read_name(whole, offset)
-        kind, record_class = (int.from_bytes(whole[at : at + 2], "big") for at in (end, end + 2))
-        questions.append(Question(name, RecordType(kind), RecordClass(record_class)))
+        name, end = checked_name(whole, offset, names)
+        kind, record_class = _CODES.unpack_from(whole, end)
+        questions.append(Question(name, RecordType.of(kind), RecordClass.of(record_class)))
         offset = end + 4
     return tuple(questions)
-
-
-def _records(whole: bytes, offset: int, count: int) -> Tuple[Record, ...]:
-    found = []
-    for _ in range(count):
-        record = read_record(whole, offset)
-        found.append(record)
-        offset = record.end
-    return tuple(found)

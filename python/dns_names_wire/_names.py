@@ -2,7 +2,7 @@
 
 import ctypes
 from ctypes import byref, c_size_t
-from typing import Any, Iterable, Iterator, NamedTuple, Tuple
+from typing import Any, Callable, Iterable, Iterator, NamedTuple, Tuple
 
 from . import _checks
 from ._checks import Bytes
@@ -53,8 +53,8 @@ class Name:
     @classmethod
     def _of(cls, wire: bytes, is_fqdn: bool) -> "Name":
         name = object.__new__(cls)
-        object.__setattr__(name, "_wire", wire)
-        object.__setattr__(name, "_is_fqdn", is_fqdn)
+        _set_wire(name, wire)
+        _set_is_fqdn(name, is_fqdn)
         return name
 
     @classmethod
@@ -311,6 +311,11 @@ class Name:
         if not isinstance(other, Name):
             return NotImplemented
         return self.compare(other) >= 0
+
+
+# A Name is made by its slots, which are set nowhere else.
+_set_wire: Callable[[Name, bytes], None] = Name.__dict__["_wire"].__set__
+_set_is_fqdn: Callable[[Name, bool], None] = Name.__dict__["_is_fqdn"].__set__
 
 
 def wire_of(what: str, name: object) -> Tuple[bytes, int]:

@@ -1,45 +1,102 @@
 """The records of messages."""
 
+import struct
 from ctypes import byref, c_size_t
-from typing import Iterator, Tuple
+from typing import Any, Dict, Iterator, Optional, Tuple
 
 from . import _checks
 from ._checks import Bytes
 from ._codes import RecordClass, RecordType
-from ._errors import MessageCut, check
-from ._fields import FieldValue, fields
+from ._errors import DataTooLong, MessageCut, check, error_text
+from ._fields import FieldValue, checked_name, fields, plain_values
 from ._library import FORM_SIZE, Form, library, taken
 from ._library import Record as Read
-from ._names import Name, placed
+from ._names import Name, NameAt, placed, wire_of
+from ._rdata import CLASSES, Data, Unknown
+
+# What is between the owner and the data: the type, the class, the time to live and the number of octets of data.
+_FIXED = struct.Struct("!HHIH")
+_MOST = 65535
+
+
+class _NoNames(Dict[int, NameAt]):
+    """The names that were read in the wire form of a record, in which none is compressed: none is kept."""
+
+    def __setitem__(self, offset: int, name: NameAt) -> None:
+        """Keeps nothing."""
+
+
+_NO_NAMES = _NoNames()
 
 
 class Record:
-    """A record that was read in a message (RFC 1035, section 4.1.3). Its data are not looked into.
+    """A record that was read in a message, or that was made (RFC 1035, section 4.1.3).
 
-    It keeps its message. `read_record` makes it.
+    It keeps its message, and reads its owner and its data when they are asked for. `Record(owner, ttl, data)` makes one of class
+    IN.
+
+    >>> from dns_names_wire import MX, Name, Record
+    >>> record = Record(Name("a."), 60, MX(preference=10, exchange=Name("b.a.")))
+    >>> record.to_wire().hex()
+    '016100000f00010000003c0007000a0162016100'
     """
 
-    __slots__ = ("_class", "_data_offset", "_end", "_message", "_owner", "_ttl", "_type")
+    __slots__ = ("_message", "_start", "_type", "_class", "_ttl", "_data_offset", "_end", "_names", "_owner", "_data")
 
-    def __init__(self, message: bytes, owner: Name, read: Read) -> None:
-        self._message, self._owner = message, owner
-        self._type, self._class, self._ttl = RecordType(read.record_type), RecordClass(read.record_class), int(read.ttl)
-        self._data_offset, self._end = int(read.data_offset), int(read.end)
+    _message: bytes
+    _start: int
+    _type: int
+    _class: int
+    _ttl: int
+    _data_offset: int
+    _end: int
+    _names: Dict[int, NameAt]
+    _owner: Optional[Name]
+    _data: Optional[Data]
+
+    def __init__(self, owner: Name, ttl: int, data: Data, record_class: int = RecordClass.IN) -> None:
+        """Raises `DataTooLong` if the data have more than 65535 octets, or a text in it more than 255."""
+        if not isinstance(data, Data):
+            raise _checks.wrong_type("data", "a class of data is", data)
+        form, _ = wire_of("owner", owner)
+        octets, code = data.to_wire(), data.record_type
+        if len(octets) > _MOST:
+            raise DataTooLong(error_text(DataTooLong.number))
+        codes = _checks.number("record_class", record_class, _MOST), _checks.number("ttl", ttl, 2**32 - 1)
+        wire = form + _FIXED.pack(code, *codes, len(octets)) + octets
+        self._set(wire, 0, len(form), _NO_NAMES)
+
+    def _set(self, message: bytes, start: int, owner_end: int, names: Dict[int, NameAt]) -> None:
+        self._message, self._start, self._names, self._owner, self._data = message, start, names, None, None
+        self._type, self._class, self._ttl, length = _FIXED.unpack_from(message, owner_end)
+        self._data_offset = owner_end + 10
+        self._end = owner_end + 10 + length
+
+    @classmethod
+    def _of(cls, message: bytes, start: int, owner_end: int, names: Dict[int, NameAt]) -> "Record":
+        """The record that is in a message, where its owner ends at an offset; and the names that were read there before."""
+        record = cls.__new__(cls)
+        record._set(message, start, owner_end, names)
+        return record
 
     @property
     def owner(self) -> Name:
         """The name that owns the record."""
-        return self._owner
+        name = self._owner
+        if name is None:
+            # It was checked when the record was read.
+            name = self._owner = checked_name(self._message, self._start, self._names).name
+        return name
 
     @property
     def record_type(self) -> RecordType:
         """The type, by its code."""
-        return self._type
+        return RecordType.of(self._type)
 
     @property
     def record_class(self) -> RecordClass:
         """The class, by its code."""
-        return self._class
+        return RecordClass.of(self._class)
 
     @property
     def ttl(self) -> int:
@@ -47,7 +104,26 @@ class Record:
         return self._ttl
 
     @property
-    def data(self) -> bytes:
+    def data(self) -> Data:
+        """The data: the class of its type, as `MX`, or `Unknown`. Raises as `fields`.
+
+        >>> read_record(bytes.fromhex("00 000f 0001 00000000 0005 000a 016100")).data
+        MX(preference=10, exchange=Name('a.'))
+        """
+        data = self._data
+        if data is None:
+            data = self._data = self._read_data()
+        return data
+
+    def _read_data(self) -> Data:
+        kind = CLASSES.get(self._type)
+        if kind is None:
+            return Unknown(self.record_type, self.raw_data)
+        values: Any = plain_values(self._message, self._data_offset, self._end, kind._kinds, self._names)
+        return kind(*(self.fields() if values is None else values))
+
+    @property
+    def raw_data(self) -> bytes:
         """The octets of the data, in which names may be compressed."""
         return self._message[self._data_offset : self._end]
 
@@ -60,6 +136,13 @@ class Record:
     def end(self) -> int:
         """The offset after the record, where the next one begins."""
         return self._end
+
+    def to_wire(self) -> bytes:
+        """The octets of the record, names not compressed."""
+        if self._names is _NO_NAMES:
+            return self._message
+        data = self.data.to_wire() if "n" in getattr(CLASSES.get(self._type), "_kinds", "") else self.raw_data
+        return self.owner.wire + _FIXED.pack(self._type, self._class, self._ttl, len(data)) + data
 
     def data_name(self, skip: int = 0) -> Name:
         """Reads the data as a name, or what is left of them after some octets: two for MX, six for SRV.
@@ -88,7 +171,25 @@ class Record:
         return tuple(fields(self._message, self._data_offset, self._end, self._type))
 
     def __repr__(self) -> str:
-        return f"<Record {self.owner} {self.ttl} {self.record_class} {self.record_type} {self.data.hex()}>"
+        return f"<Record {self.owner} {self.ttl} {self.record_class} {self.record_type} {self.raw_data.hex()}>"
+
+
+def section_records(whole: bytes, offset: int, count: int, names: Dict[int, NameAt]) -> Tuple[Record, ...]:
+    """So many records from an offset of a message on, which was checked; and the names that were read there before."""
+    found, make, unpack, size = [], Record.__new__, _FIXED.unpack_from, _FIXED.size
+    for _ in range(count):
+        at, length = offset, whole[offset]
+        while 0 < length < 64:
+            at += 1 + length
+            length = whole[at]
+        at += 1 if length == 0 else 2
+        record = make(Record)
+        record._message, record._start, record._names, record._owner, record._data = whole, offset, names, None, None
+        record._type, record._class, record._ttl, length = unpack(whole, at)
+        record._data_offset = at + size
+        record._end = offset = at + size + length
+        found.append(record)
+    return tuple(found)
 
 
 def read_record(message: Bytes, start: int = 0) -> Record:
@@ -106,13 +207,15 @@ def read_record(message: Bytes, start: int = 0) -> Record:
     whole, offset = placed(message, start)
     form, read = Form(), Read()
     check(library.dnw_record_read(whole, len(whole), offset, form, FORM_SIZE, byref(read)), start)
-    return Record(whole, Name._of(taken(form, read.owner_len), True), read)
+    record = Record._of(whole, offset, read.data_offset - 10, {})
+    record._owner = Name._of(taken(form, read.owner_len), True)
+    return record
 
 
 def records(message: Bytes, start: int) -> Iterator[Record]:
     """The records that follow one another in a message, from an offset to its end. Raises as `read_record`.
 
-    >>> [record.data.hex() for record in records(bytes.fromhex("00 0001 0001 00000000 0004 c0000201"), 0)]
+    >>> [record.raw_data.hex() for record in records(bytes.fromhex("00 0001 0001 00000000 0004 c0000201"), 0)]
     ['c0000201']
     """
     whole = _checks.octets("message", message)

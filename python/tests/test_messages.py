@@ -34,9 +34,9 @@ class Messages(unittest.TestCase):
         for message in [REFERRAL, bytearray(REFERRAL), memoryview(REFERRAL)]:
             ns, a = records(message, 33)
             self.assertEqual((ns.owner, ns.record_type, ns.record_class, ns.ttl), (Name("example.com."), 2, 1, 172800))
-            self.assertEqual((ns.data_offset, ns.data, ns.end), (45, REFERRAL[45:50], 50))
+            self.assertEqual((ns.data_offset, ns.raw_data, ns.end), (45, REFERRAL[45:50], 50))
             self.assertEqual(ns.data_name(), Name("ns.example.com."))
-            self.assertEqual((a.owner, a.data, a.end), (Name("ns.example.com."), bytes([192, 0, 2, 1]), 66))
+            self.assertEqual((a.owner, a.raw_data, a.end), (Name("ns.example.com."), bytes([192, 0, 2, 1]), 66))
             self.assertEqual((repr(ns.record_type), str(a.record_class)), ("RecordType.NS", "IN"))
             copied = pickle.loads(pickle.dumps(ns))
             self.assertEqual((repr(copied), copied.data_name()), (repr(ns), ns.data_name()))
@@ -106,6 +106,6 @@ class Reverse(unittest.TestCase):
 
 
 def load_tests(loader, tests, pattern):
-    for module in ["_messages", "_records", "_reverse"]:
+    for module in ["_messages", "_rdata", "_records", "_reverse"]:
         tests.addTests(doctest.DocTestSuite(import_module(f"dns_names_wire.{module}")))
     return tests

@@ -220,12 +220,22 @@ pub enum ErrorKind {
     CutOption,
     /// Service parameters that are not in ascending order.
     BadParams,
+    /// A word of a record's text that is not the field that is wanted there.
+    BadField,
+    /// A text of data in no form of any data (`\# 4 0A000001`), for a type that has no other.
+    NoOwnText,
+    /// `\#` without the number of octets and as many octets in hexadecimal after it.
+    BadGeneric,
+    /// A text that goes on after the last field of the data.
+    TextLeft,
+    /// Data of a record of more than 65535 octets, or a character string of more than 255.
+    DataTooLong,
     /// Another failure, by its number in `dns_names_wire.h`.
     Other(u32),
 }
 
 /// The failures that this crate names, each with its number in `dns_names_wire.h`.
-const NUMBERS: [(u32, ErrorKind); 26] = [
+const NUMBERS: [(u32, ErrorKind); 31] = [
     (1, ErrorKind::NoMemory),
     (3, ErrorKind::MessageCut),
     (4, ErrorKind::PointerNotBack),
@@ -252,6 +262,11 @@ const NUMBERS: [(u32, ErrorKind); 26] = [
     (32, ErrorKind::OwnerNotRoot),
     (33, ErrorKind::CutOption),
     (34, ErrorKind::BadParams),
+    (35, ErrorKind::BadField),
+    (36, ErrorKind::NoOwnText),
+    (37, ErrorKind::BadGeneric),
+    (38, ErrorKind::TextLeft),
+    (39, ErrorKind::DataTooLong),
 ];
 
 impl ErrorKind {

@@ -4,6 +4,8 @@ use crate::door;
 use crate::error::{Error, ErrorKind};
 use crate::name_ref::NameRef;
 use crate::type_set::TypeSet;
+use crate::{Ipv4Addr, Ipv6Addr};
+use alloc::vec::Vec;
 use core::iter::FusedIterator;
 
 /// A field of the data of a record. All but the set of types is borrowed from the message.
@@ -68,7 +70,7 @@ impl<'a> Fields<'a> {
         let octets = &self.message[field.offset..field.offset + field.len];
         Ok(Some(match field.kind {
             0 => return Ok(None),
-            1 => Field::Name(NameRef::read(self.message, field.offset)?),
+            1 => Field::Name(NameRef::checked(self.message, field.offset, field.offset + field.len)),
             2 => Field::Number(number(octets)),
             3 => Field::Ipv4(array(octets, field.offset)?),
             4 => Field::Ipv6(array(octets, field.offset)?),
@@ -80,6 +82,184 @@ impl<'a> Fields<'a> {
             11 => Field::Params(Pairs(octets)),
             _ => Field::Octets(octets),
         }))
+    }
+}
+
+/// One field after another, each of a kind that the table of the type has at its place. See [`RData`](crate::RData).
+impl<'a> Fields<'a> {
+    /// Reads the next field, and returns where it is.
+    #[inline]
+    fn place(&mut self) -> Result<door::Field, Error> {
+        match door::next_field(self.message, self.record_type.code(), &mut self.next)? {
+            field if field.kind != 0 => Ok(field),
+            _ => Err(Error::from(ErrorKind::MessageCut).at_offset(self.next.offset)),
+        }
+    }
+
+    #[inline]
+    fn octets(&mut self) -> Result<&'a [u8], Error> {
+        let field = self.place()?;
+        Ok(&self.message[field.offset..field.offset + field.len])
+    }
+
+    #[inline]
+    fn array<const N: usize>(&mut self) -> Result<[u8; N], Error> {
+        let field = self.place()?;
+        array(&self.message[field.offset..field.offset + field.len], field.offset)
+    }
+
+    #[inline]
+    pub(crate) fn name(&mut self) -> Result<NameRef<'a>, Error> {
+        let field = self.place()?;
+        Ok(NameRef::checked(self.message, field.offset, field.offset + field.len))
+    }
+
+    #[inline]
+    pub(crate) fn u8(&mut self) -> Result<u8, Error> {
+        self.array().map(u8::from_be_bytes)
+    }
+
+    #[inline]
+    pub(crate) fn u16(&mut self) -> Result<u16, Error> {
+        self.array().map(u16::from_be_bytes)
+    }
+
+    #[inline]
+    pub(crate) fn u32(&mut self) -> Result<u32, Error> {
+        self.array().map(u32::from_be_bytes)
+    }
+
+    pub(crate) fn eui48(&mut self) -> Result<[u8; 6], Error> {
+        self.array()
+    }
+
+    pub(crate) fn eui64(&mut self) -> Result<[u8; 8], Error> {
+        self.array()
+    }
+
+    #[inline]
+    pub(crate) fn ipv4(&mut self) -> Result<Ipv4Addr, Error> {
+        self.array::<4>().map(Ipv4Addr::from)
+    }
+
+    #[inline]
+    pub(crate) fn ipv6(&mut self) -> Result<Ipv6Addr, Error> {
+        self.array::<16>().map(Ipv6Addr::from)
+    }
+
+    pub(crate) fn record_type(&mut self) -> Result<RecordType, Error> {
+        self.u16().map(RecordType::from)
+    }
+
+    pub(crate) fn string(&mut self) -> Result<&'a [u8], Error> {
+        self.octets()
+    }
+
+    pub(crate) fn counted(&mut self) -> Result<&'a [u8], Error> {
+        self.octets()
+    }
+
+    pub(crate) fn rest(&mut self) -> Result<&'a [u8], Error> {
+        self.octets()
+    }
+
+    pub(crate) fn texts(&mut self) -> Result<Texts<'a>, Error> {
+        self.octets().map(Texts)
+    }
+
+    pub(crate) fn types(&mut self) -> Result<TypeSet, Error> {
+        TypeSet::from_bitmap(self.octets()?)
+    }
+
+    pub(crate) fn params(&mut self) -> Result<Pairs<'a>, Error> {
+        self.octets().map(Pairs)
+    }
+
+    /// Returns the octets that are left.
+    #[inline]
+    pub(crate) fn left(&self) -> &'a [u8] {
+        &self.message[self.next.offset..]
+    }
+
+    /// Fails with `WrongDataLength` if octets are left.
+    #[inline]
+    pub(crate) fn end(&mut self) -> Result<(), Error> {
+        match self.next.offset == self.message.len() {
+            true => Ok(()),
+            false => Err(Error::from(ErrorKind::WrongDataLength).at_offset(self.next.offset)),
+        }
+    }
+}
+
+/// Appends a field of a kind, as [`Fields`] reads it.
+pub(crate) mod put {
+    use super::{Error, ErrorKind, Ipv4Addr, Ipv6Addr, NameRef, Pairs, RecordType, Texts, TypeSet, Vec};
+
+    type Put = Result<(), Error>;
+
+    /// Appends octets that the library checks when the message is packed.
+    pub(crate) fn rest(octets: &mut Vec<u8>, value: &[u8]) -> Put {
+        octets.extend_from_slice(value);
+        Ok(())
+    }
+
+    /// Appends octets after their number, which is one octet.
+    pub(crate) fn string(octets: &mut Vec<u8>, value: &[u8]) -> Put {
+        octets.push(u8::try_from(value.len()).map_err(|_| Error::from(ErrorKind::DataTooLong))?);
+        rest(octets, value)
+    }
+
+    pub(crate) fn counted(octets: &mut Vec<u8>, value: &[u8]) -> Put {
+        string(octets, value)
+    }
+
+    pub(crate) fn name(octets: &mut Vec<u8>, value: &NameRef<'_>) -> Put {
+        value.put(octets);
+        Ok(())
+    }
+
+    pub(crate) fn u8(octets: &mut Vec<u8>, value: &u8) -> Put {
+        rest(octets, &[*value])
+    }
+
+    pub(crate) fn u16(octets: &mut Vec<u8>, value: &u16) -> Put {
+        rest(octets, &value.to_be_bytes())
+    }
+
+    pub(crate) fn u32(octets: &mut Vec<u8>, value: &u32) -> Put {
+        rest(octets, &value.to_be_bytes())
+    }
+
+    pub(crate) fn eui48(octets: &mut Vec<u8>, value: &[u8; 6]) -> Put {
+        rest(octets, value)
+    }
+
+    pub(crate) fn eui64(octets: &mut Vec<u8>, value: &[u8; 8]) -> Put {
+        rest(octets, value)
+    }
+
+    pub(crate) fn ipv4(octets: &mut Vec<u8>, value: &Ipv4Addr) -> Put {
+        rest(octets, &value.octets())
+    }
+
+    pub(crate) fn ipv6(octets: &mut Vec<u8>, value: &Ipv6Addr) -> Put {
+        rest(octets, &value.octets())
+    }
+
+    pub(crate) fn record_type(octets: &mut Vec<u8>, value: &RecordType) -> Put {
+        u16(octets, &value.code())
+    }
+
+    pub(crate) fn texts(octets: &mut Vec<u8>, value: &Texts<'_>) -> Put {
+        rest(octets, value.0)
+    }
+
+    pub(crate) fn types(octets: &mut Vec<u8>, value: &TypeSet) -> Put {
+        rest(octets, &value.to_bitmap()?)
+    }
+
+    pub(crate) fn params(octets: &mut Vec<u8>, value: &Pairs<'_>) -> Put {
+        rest(octets, value.0)
     }
 }
 
@@ -124,6 +304,52 @@ impl FusedIterator for Fields<'_> {}
 #[derive(Clone, Debug, PartialEq, Eq)]
 pub struct Texts<'a>(&'a [u8]);
 
+impl<'a> Texts<'a> {
+    /// Returns the character strings that octets are, each after its length octet.
+    ///
+    /// # Errors
+    ///
+    /// `MessageCut` if the last one is not all there, or there is none.
+    ///
+    /// ```
+    /// use dns_names_wire::Texts;
+    ///
+    /// assert!(Texts::from_wire(b"\x01a\x02bc")?.eq([&b"a"[..], b"bc"]));
+    /// assert!(Texts::from_wire(b"\x02b").is_err() && Texts::from_wire(b"").is_err());
+    /// # Ok::<(), dns_names_wire::Error>(())
+    /// ```
+    pub fn from_wire(octets: &'a [u8]) -> Result<Self, Error> {
+        let mut at = 0;
+        while at < octets.len() {
+            at += 1 + usize::from(octets[at]);
+        }
+        match at == octets.len() && at > 0 {
+            true => Ok(Texts(octets)),
+            false => Err(Error::from(ErrorKind::MessageCut).at_offset(octets.len())),
+        }
+    }
+
+    /// Returns the octets of some texts, each after its length octet, of which [`Texts::from_wire`] makes texts again.
+    ///
+    /// # Errors
+    ///
+    /// `DataTooLong` if one has more than 255 octets.
+    ///
+    /// ```
+    /// use dns_names_wire::{RData, Texts};
+    ///
+    /// let octets = Texts::to_wire(["v=spf1", "-all"])?;
+    /// assert_eq!(octets, b"\x06v=spf1\x04-all");
+    /// assert_eq!(RData::TXT(Texts::from_wire(&octets)?).to_wire()?, octets);
+    /// # Ok::<(), dns_names_wire::Error>(())
+    /// ```
+    pub fn to_wire<T: AsRef<[u8]>>(texts: impl IntoIterator<Item = T>) -> Result<Vec<u8>, Error> {
+        let mut octets = Vec::new();
+        texts.into_iter().try_for_each(|text| put::string(&mut octets, text.as_ref()))?;
+        Ok(octets)
+    }
+}
+
 impl<'a> Iterator for Texts<'a> {
     type Item = &'a [u8];
 
@@ -153,6 +379,56 @@ impl FusedIterator for Texts<'_> {}
 /// ```
 #[derive(Clone, Debug, PartialEq, Eq)]
 pub struct Pairs<'a>(pub(crate) &'a [u8]);
+
+impl<'a> Pairs<'a> {
+    /// Returns the pairs that octets are: each two octets of number, two of length, and as many octets as that.
+    ///
+    /// # Errors
+    ///
+    /// `MessageCut` if the last one is not all there.
+    ///
+    /// ```
+    /// use dns_names_wire::Pairs;
+    ///
+    /// assert!(Pairs::from_wire(b"\0\x03\0\x02\0\x35")?.eq([(3, &b"\0\x35"[..])]));
+    /// assert!(Pairs::from_wire(b"\0\x03\0\x02\0").is_err());
+    /// # Ok::<(), dns_names_wire::Error>(())
+    /// ```
+    pub fn from_wire(octets: &'a [u8]) -> Result<Self, Error> {
+        let mut left = octets;
+        while !left.is_empty() {
+            let cut = || Error::from(ErrorKind::MessageCut).at_offset(octets.len());
+            let head = left.get(2..4).ok_or_else(cut)?;
+            let len = usize::from(u16::from_be_bytes([head[0], head[1]]));
+            left = left.get(4 + len..).ok_or_else(cut)?;
+        }
+        Ok(Pairs(octets))
+    }
+
+    /// Returns the octets of some pairs, of which [`Pairs::from_wire`] makes pairs again.
+    ///
+    /// # Errors
+    ///
+    /// `DataTooLong` if a value has more than 65535 octets.
+    ///
+    /// ```
+    /// use dns_names_wire::Pairs;
+    ///
+    /// assert_eq!(Pairs::to_wire([(3, [0, 53])])?, b"\0\x03\0\x02\0\x35");
+    /// # Ok::<(), dns_names_wire::Error>(())
+    /// ```
+    pub fn to_wire<T: AsRef<[u8]>>(pairs: impl IntoIterator<Item = (u16, T)>) -> Result<Vec<u8>, Error> {
+        let mut octets = Vec::new();
+        for (number, value) in pairs {
+            let value = value.as_ref();
+            let len = u16::try_from(value.len()).map_err(|_| Error::from(ErrorKind::DataTooLong))?;
+            octets.extend_from_slice(&number.to_be_bytes());
+            octets.extend_from_slice(&len.to_be_bytes());
+            octets.extend_from_slice(value);
+        }
+        Ok(octets)
+    }
+}
 
 impl<'a> Iterator for Pairs<'a> {
     type Item = (u16, &'a [u8]);

@@ -23,7 +23,7 @@
 //! | make names of names and labels | [`Name::from_labels`], [`Name::append`], [`Name::prepend_label`], [`Name::base_name`], [`Name::trim_to`], [`Name::to_wildcard`] |
 //! | print, compare, sort, hash | `Display`, `Ord`, `Hash`, [`Name::sort_key`], [`Name::zone_of`], [`Name::to_lowercase`] |
 //! | check a whole message, and read its header, its sections and its EDNS | [`Message`] |
-//! | read the records of a message, and the fields of their data | [`Record`], [`records()`], [`Record::fields`] |
+//! | read the records of a message, and their data by type or field by field | [`Record`], [`records()`], [`Record::data`] and [`RData`], [`Record::fields`] |
 //! | write messages: questions, records and names, with compression | [`MessageWriter`] |
 //! | go from addresses to their reverse names, and back | [`Name::from_ip`], [`Name::parse_arpa_name`] |
 //! | name types and classes, read and write bitmaps of types, compare serial numbers | [`RecordType`], [`Class`], [`TypeSet`], [`SerialNumber`] |
@@ -32,8 +32,8 @@
 //! Values may be sent to and shared by threads. Calls fail with an [`Error`], which says what is wrong and
 //! where, and never panic on input.
 //!
-//! Without its feature `std`, which is on by default, the crate needs only `core`, `alloc` and the system's C library, and has
-//! neither reverse names nor the traits of errors.
+//! Without its feature `std`, which is on by default, the crate needs only `core`, `alloc`, Rust 1.77 and the system's C library,
+//! and has neither reverse names nor the traits of errors.
 //!
 //! Cargo finds the archive as `build.rs` says: in the folder that the environment variable `DNW_LIB_DIR` names, or in `lib`
 //! of this crate. In a checkout of the repository it is built if the Rattle toolchain is there.
@@ -47,12 +47,19 @@ extern crate alloc;
 #[cfg_attr(not(feature = "std"), allow(dead_code))]
 mod door;
 
+#[cfg(not(feature = "std"))]
+use core::net::{IpAddr, Ipv4Addr, Ipv6Addr};
+#[cfg(feature = "std")]
+use std::net::{IpAddr, Ipv4Addr, Ipv6Addr};
+
 mod codes;
 mod error;
 mod field;
+mod header;
 mod message;
 mod name;
 mod name_ref;
+pub mod rdata;
 mod record;
 mod text;
 mod type_set;
@@ -61,9 +68,11 @@ mod writer;
 pub use codes::{Class, RecordType, SerialNumber};
 pub use error::{Error, ErrorKind, Section, TextFault, TextRule};
 pub use field::{Field, Fields, Pairs, Texts};
-pub use message::{Edns, Header, Message, Question, Questions, SectionRecords};
+pub use header::{Header, OpCode, ResponseCode};
+pub use message::{Edns, Message, Question, Questions, SectionRecords};
 pub use name::{Labels, Name};
 pub use name_ref::{names, NameRef, Names};
+pub use rdata::RData;
 pub use record::{records, Record, Records};
 pub use text::{parse_ttl, tokens, Token, Tokens};
 pub use type_set::TypeSet;

@@ -3,8 +3,10 @@ use crate::codes::{Class, RecordType};
 use crate::door;
 use crate::error::Error;
 use crate::field::Pairs;
-use crate::name_ref::NameRef;
+use crate::header::{Header, ResponseCode};
+use crate::name_ref::{pass_name, NameRef};
 use crate::record::Record;
+use alloc::vec::Vec;
 use core::fmt;
 use core::iter::FusedIterator;
 
@@ -13,6 +15,8 @@ const MAX_POINTERS: usize = 65536;
 
 /// The octets of a header (RFC 1035, section 4.1.1).
 const HEADER_SIZE: usize = 12;
+/// Of which the last are the counts.
+const COUNTS_SIZE: usize = 8;
 
 /// A message that was checked as a whole (RFC 1035, section 4): its header, its questions and its records are all there. It
 /// borrows the octets that it was read from.
@@ -38,32 +42,6 @@ pub struct Message<'a> {
     octets: &'a [u8],
     max_pointers: usize,
     read: door::Message,
-}
-
-/// The fields of a header but for the counts (RFC 1035, section 4.1.1; RFC 4035, section 3.2). See [`Message::header`].
-#[derive(Clone, Copy, Debug, PartialEq, Eq, Hash)]
-#[non_exhaustive]
-pub struct Header {
-    /// The number by which a requester knows the response to its request.
-    pub id: u16,
-    /// QR: whether the message is a response.
-    pub is_response: bool,
-    /// What is asked for, of four bits: 0 for a query, 4 for NOTIFY, 5 for UPDATE.
-    pub op_code: u8,
-    /// AA: the server is an authority for the name of the question.
-    pub authoritative: bool,
-    /// TC: the message was cut to the size that may be sent.
-    pub truncation: bool,
-    /// RD: the name server is to follow the query to other servers.
-    pub recursion_desired: bool,
-    /// RA: the name server can do so.
-    pub recursion_available: bool,
-    /// AD: the data are authentic by the rules of the server.
-    pub authentic_data: bool,
-    /// CD: the requester checks the data itself.
-    pub checking_disabled: bool,
-    /// The low four bits of the response code; [`Message::response_code`] has the others too.
-    pub response_code: u16,
 }
 
 impl<'a> Message<'a> {
@@ -115,14 +93,18 @@ impl<'a> Message<'a> {
         Header {
             id: read.id,
             is_response: read.is_response,
-            op_code: read.op_code,
+            op_code: read.op_code.into(),
             authoritative: read.authoritative,
             truncation: read.truncation,
             recursion_desired: read.recursion_desired,
             recursion_available: read.recursion_available,
             authentic_data: read.authentic_data,
             checking_disabled: read.checking_disabled,
-            response_code: read.response_code,
+            response_code: read.response_code.into(),
+            question_count: read.question_count,
+            answer_count: read.answer_count,
+            authority_count: read.authority_count,
+            additional_count: read.additional_count,
         }
     }
 
@@ -192,13 +174,36 @@ impl<'a> Message<'a> {
     /// # Ok::<(), dns_names_wire::Error>(())
     /// ```
     pub fn edns(&self) -> Result<Option<Edns<'a>>, Error> {
-        let read = door::read_edns(self.octets, self.max_pointers)?;
-        Ok(read.is_present.then(|| Edns {
+        let (read, options_start) = match self.read_edns()? {
+            Some(read) => read,
+            None => return Ok(None),
+        };
+        Ok(Some(Edns {
             max_payload: read.max_payload,
             version: read.version,
             dnssec_ok: read.dnssec_ok,
-            options: &self.octets[read.options_offset..read.options_offset + read.options_len],
+            options: &self.octets[options_start..options_start + read.options_len],
         }))
+    }
+
+    /// What is said by EDNS, and the offset of the options; nothing without an OPT record.
+    fn read_edns(&self) -> Result<Option<(door::Edns, usize)>, Error> {
+        let mut records = self.additionals().filter(|record| record.record_type() == RecordType::OPT);
+        let opt = match (records.next(), records.next()) {
+            (None, _) => return Ok(None),
+            (Some(opt), None) if self.octets.get(opt.owner().start()) == Some(&0) => opt,
+            _ => {
+                let read = door::read_edns(self.octets, self.max_pointers)?;
+                return Ok(Some((read.clone(), read.options_offset)));
+            }
+        };
+        // The record alone, after a header, says the same, so that the whole message is not read again.
+        let (start, mut alone) = (opt.owner().start(), Vec::new());
+        alone.extend_from_slice(&self.octets[..HEADER_SIZE]);
+        alone[HEADER_SIZE - COUNTS_SIZE..].copy_from_slice(&[0, 0, 0, 0, 0, 0, 0, 1]);
+        alone.extend_from_slice(&self.octets[start..opt.end()]);
+        let read = door::read_edns(&alone, self.max_pointers)?;
+        Ok(Some((read, opt.data_offset())))
     }
 
     /// Returns the response code, with the high bits that EDNS has (RFC 6891, section 6.1.3).
@@ -208,13 +213,14 @@ impl<'a> Message<'a> {
     /// As [`edns`](Message::edns).
     ///
     /// ```
-    /// // BADVERS
-    /// let message = dns_names_wire::Message::read(b"\0\0\x80\0\0\0\0\0\0\0\0\x01\0\0\x29\x02\0\x01\0\0\0\0\0")?;
-    /// assert_eq!(message.response_code()?, 16);
+    /// use dns_names_wire::{Message, ResponseCode};
+    ///
+    /// let message = Message::read(b"\0\0\x80\0\0\0\0\0\0\0\0\x01\0\0\x29\x02\0\x01\0\0\0\0\0")?;
+    /// assert_eq!(message.response_code()?, ResponseCode::BADVERS);
     /// # Ok::<(), dns_names_wire::Error>(())
     /// ```
-    pub fn response_code(&self) -> Result<u16, Error> {
-        Ok(door::read_edns(self.octets, self.max_pointers)?.response_code)
+    pub fn response_code(&self) -> Result<ResponseCode, Error> {
+        Ok(self.read_edns()?.map_or(self.read.response_code, |(read, _)| read.response_code).into())
     }
 
     /// Returns the octets of the message, without those after it.
@@ -286,7 +292,8 @@ impl<'a> Iterator for Questions<'a> {
     fn next(&mut self) -> Option<Question<'a>> {
         self.left = self.left.checked_sub(1)?;
         // The message was checked, so that nothing is missing here.
-        let name = NameRef::read(self.message, self.offset).ok()?;
+        let (end, _) = pass_name(self.message, self.offset)?;
+        let name = NameRef::checked(self.message, self.offset, end);
         let fields = self.message.get(name.end()..name.end() + 4)?;
         self.offset = name.end() + 4;
         let number = |at: usize| u16::from_be_bytes([fields[at], fields[at + 1]]);
@@ -316,7 +323,7 @@ impl<'a> Iterator for SectionRecords<'a> {
     fn next(&mut self) -> Option<Record<'a>> {
         self.left = self.left.checked_sub(1)?;
         // The message was checked, so that nothing is missing here.
-        let record = Record::read(self.message, self.offset).ok()?;
+        let record = Record::checked(self.message, self.offset)?;
         self.offset = record.end();
         Some(record)
     }

@@ -47,6 +47,21 @@ impl<'a> NameRef<'a> {
         Ok(NameRef { message, start, end: read.end })
     }
 
+    /// The name at an offset of a message, where it was read before, with the offset after its own octets.
+    #[inline]
+    pub(crate) fn checked(message: &'a [u8], start: usize, end: usize) -> Self {
+        NameRef { message, start, end }
+    }
+
+    /// Appends the wire form.
+    pub(crate) fn put(&self, octets: &mut Vec<u8>) {
+        match pass_name(self.message, self.start) {
+            // A name without a pointer is its wire form.
+            Some((end, false)) => octets.extend_from_slice(&self.message[self.start..end]),
+            _ => octets.extend_from_slice(self.to_name().as_wire()),
+        }
+    }
+
     /// Returns the message.
     ///
     /// ```
@@ -115,6 +130,20 @@ impl<'a> NameRef<'a> {
     }
 }
 
+/// Returns the offset after the own octets of a name that was read before, and whether they end in a pointer; or nothing, if
+/// the message ends before them.
+#[inline]
+pub(crate) fn pass_name(message: &[u8], start: usize) -> Option<(usize, bool)> {
+    let mut at = start;
+    loop {
+        match *message.get(at)? {
+            0 => return Some((at + 1, false)),
+            len @ 1..=63 => at += 1 + usize::from(len),
+            _ => return Some((at + 2, true)),
+        }
+    }
+}
+
 impl fmt::Display for NameRef<'_> {
     fn fmt(&self, f: &mut fmt::Formatter<'_>) -> fmt::Result {
         fmt::Display::fmt(&self.to_name(), f)
@@ -130,6 +159,14 @@ impl fmt::Debug for NameRef<'_> {
 impl From<NameRef<'_>> for Name {
     fn from(name: NameRef<'_>) -> Name {
         name.to_name()
+    }
+}
+
+/// The name in its own wire form.
+impl<'a> From<&'a Name> for NameRef<'a> {
+    fn from(name: &'a Name) -> Self {
+        let form = name.as_wire();
+        NameRef { message: form, start: 0, end: form.len() }
     }
 }
 

@@ -4,27 +4,36 @@ use crate::door::{self, FORM_SIZE};
 use crate::error::{Error, ErrorKind};
 use crate::field::Fields;
 use crate::name::Name;
+use crate::name_ref::{pass_name, NameRef};
+use crate::rdata::RData;
 use core::fmt;
 
-/// A record that was read in a message (RFC 1035, section 4.1.3). Its data stay in the message, and are not looked into.
+/// The octets of a record between its owner and its data: type, class, time to live and the data's length.
+const FIXED_SIZE: usize = 10;
+
+/// A record that was read in a message (RFC 1035, section 4.1.3). Its owner and its data stay in the message, and the data are
+/// not looked into before [`data`](Record::data) or [`fields`](Record::fields).
 ///
 /// ```
-/// use dns_names_wire::Record;
+/// use dns_names_wire::{RData, Record};
 ///
 /// // b. NS a.b., the data compressed
 /// let message = b"\x01b\0\0\x02\0\x01\0\0\0\x3C\0\x04\x01a\xC0\0";
 /// let record = Record::read(message, 0)?;
 /// assert_eq!(record.to_string(), "b.\t60\tIN\tNS");
-/// assert_eq!(record.data(), b"\x01a\xC0\0");
-/// assert_eq!(record.data_name()?.to_string(), "a.b.");
+/// assert_eq!(record.raw_data(), b"\x01a\xC0\0");
+/// assert!(matches!(record.data()?, RData::NS(host) if host.to_string() == "a.b."));
 /// assert_eq!(record.end(), message.len());
 /// # Ok::<(), dns_names_wire::Error>(())
 /// ```
-#[derive(Clone)]
+#[derive(Clone, Copy)]
 pub struct Record<'a> {
     message: &'a [u8],
-    owner: Name,
-    read: door::Record,
+    owner: NameRef<'a>,
+    record_type: u16,
+    class: u16,
+    ttl: u32,
+    end: usize,
 }
 
 impl<'a> Record<'a> {
@@ -38,14 +47,32 @@ impl<'a> Record<'a> {
     /// use dns_names_wire::{Error, ErrorKind, Record};
     ///
     /// let record = Record::read(b"\0\0\x01\0\x01\0\0\0\0\0\x04\xC0\0\x02\x01", 0)?;
-    /// assert_eq!(record.data(), [192, 0, 2, 1]);
+    /// assert_eq!(record.raw_data(), [192, 0, 2, 1]);
     /// assert_eq!(Record::read(b"\0\0\x01", 0).unwrap_err().kind(), ErrorKind::MessageCut);
     /// # Ok::<(), Error>(())
     /// ```
     pub fn read(message: &'a [u8], start: usize) -> Result<Self, Error> {
-        let mut form = [0; FORM_SIZE];
-        let read = door::read_record(message, start, &mut form)?;
-        Ok(Record { message, owner: Name::of_form(form, read.owner_len), read })
+        let read = door::read_record(message, start, &mut [0; FORM_SIZE])?;
+        let owner = NameRef::checked(message, start, read.data_offset - FIXED_SIZE);
+        let (record_type, class) = (read.record_type, read.record_class);
+        Ok(Record { message, owner, record_type, class, ttl: read.ttl, end: read.end })
+    }
+
+    /// The record at an offset of a message that was checked as a whole, so that it is there.
+    #[inline]
+    pub(crate) fn checked(message: &'a [u8], start: usize) -> Option<Self> {
+        let (owner_end, _) = pass_name(message, start)?;
+        let fixed: &[u8; FIXED_SIZE] = message.get(owner_end..owner_end + FIXED_SIZE)?.try_into().ok()?;
+        let [t, u, c, d, l0, l1, l2, l3, n, m] = *fixed;
+        Some(Record {
+            message,
+            owner: NameRef::checked(message, start, owner_end),
+            record_type: u16::from_be_bytes([t, u]),
+            class: u16::from_be_bytes([c, d]),
+            ttl: u32::from_be_bytes([l0, l1, l2, l3]),
+            end: owner_end + FIXED_SIZE + usize::from(u16::from_be_bytes([n, m])),
+        })
+        .filter(|record| record.end <= message.len())
     }
 
     /// Returns the name that owns the record.
@@ -56,8 +83,9 @@ impl<'a> Record<'a> {
     /// assert_eq!(record.owner().to_string(), "b.");
     /// # Ok::<(), dns_names_wire::Error>(())
     /// ```
-    pub fn owner(&self) -> &Name {
-        &self.owner
+    #[inline]
+    pub fn owner(&self) -> NameRef<'a> {
+        self.owner
     }
 
     /// Returns the type.
@@ -69,7 +97,7 @@ impl<'a> Record<'a> {
     /// # Ok::<(), dns_names_wire::Error>(())
     /// ```
     pub fn record_type(&self) -> RecordType {
-        self.read.record_type.into()
+        self.record_type.into()
     }
 
     /// Returns the class.
@@ -81,7 +109,7 @@ impl<'a> Record<'a> {
     /// # Ok::<(), dns_names_wire::Error>(())
     /// ```
     pub fn class(&self) -> Class {
-        self.read.record_class.into()
+        self.class.into()
     }
 
     /// Returns the time to live, in seconds.
@@ -93,7 +121,7 @@ impl<'a> Record<'a> {
     /// # Ok::<(), dns_names_wire::Error>(())
     /// ```
     pub fn ttl(&self) -> u32 {
-        self.read.ttl
+        self.ttl
     }
 
     /// Returns the message.
@@ -108,16 +136,35 @@ impl<'a> Record<'a> {
         self.message
     }
 
+    /// Returns the data, by their type.
+    ///
+    /// # Errors
+    ///
+    /// As [`fields`](Record::fields): that of the first field that is not there.
+    ///
+    /// ```
+    /// use dns_names_wire::{RData, Record};
+    ///
+    /// let record = Record::read(b"\0\0\x01\0\x01\0\0\0\0\0\x04\xC0\0\x02\x01", 0)?;
+    /// assert_eq!(record.data()?, RData::A([192, 0, 2, 1].into()));
+    /// assert!(Record::read(b"\0\0\x01\0\x01\0\0\0\0\0\x03\xC0\0\x02", 0)?.data().is_err());
+    /// # Ok::<(), dns_names_wire::Error>(())
+    /// ```
+    #[inline]
+    pub fn data(&self) -> Result<RData<'a>, Error> {
+        RData::take(self.record_type(), self.fields())
+    }
+
     /// Returns the octets of the data, in which names may be compressed.
     ///
     /// ```
     /// // b. NS a.b., the data compressed
     /// let record = dns_names_wire::Record::read(b"\x01b\0\0\x02\0\x01\0\0\0\x3C\0\x04\x01a\xC0\0", 0)?;
-    /// assert_eq!(record.data(), b"\x01a\xC0\0");
+    /// assert_eq!(record.raw_data(), b"\x01a\xC0\0");
     /// # Ok::<(), dns_names_wire::Error>(())
     /// ```
-    pub fn data(&self) -> &'a [u8] {
-        &self.message[self.read.data_offset..self.read.end]
+    pub fn raw_data(&self) -> &'a [u8] {
+        &self.message[self.data_offset()..self.end]
     }
 
     /// Returns the offset of the data in the message, at which their names are read.
@@ -129,7 +176,7 @@ impl<'a> Record<'a> {
     /// # Ok::<(), dns_names_wire::Error>(())
     /// ```
     pub fn data_offset(&self) -> usize {
-        self.read.data_offset
+        self.owner.end() + FIXED_SIZE
     }
 
     /// Reads the data as a name, as those of NS, CNAME and PTR are.
@@ -161,10 +208,10 @@ impl<'a> Record<'a> {
     /// # Ok::<(), dns_names_wire::Error>(())
     /// ```
     pub fn data_name_after(&self, octets: usize) -> Result<Name, Error> {
-        let cut = || Error::from(ErrorKind::MessageCut).at_offset(self.read.end);
-        let left = self.read.data_len.checked_sub(octets).ok_or_else(cut)?;
+        let cut = || Error::from(ErrorKind::MessageCut).at_offset(self.end);
+        let left = (self.end - self.data_offset()).checked_sub(octets).ok_or_else(cut)?;
         let mut form = [0; FORM_SIZE];
-        let len = door::data_name(self.message, self.read.data_offset + octets, left, &mut form)?;
+        let len = door::data_name(self.message, self.data_offset() + octets, left, &mut form)?;
         Ok(Name::of_form(form, len))
     }
 
@@ -183,7 +230,7 @@ impl<'a> Record<'a> {
     /// # Ok::<(), dns_names_wire::Error>(())
     /// ```
     pub fn fields(&self) -> Fields<'a> {
-        Fields::new(&self.message[..self.read.end], self.read.data_offset, self.record_type())
+        Fields::new(&self.message[..self.end], self.data_offset(), self.record_type())
     }
 
     /// Returns the offset after the record, where the next one begins.
@@ -195,7 +242,7 @@ impl<'a> Record<'a> {
     /// # Ok::<(), dns_names_wire::Error>(())
     /// ```
     pub fn end(&self) -> usize {
-        self.read.end
+        self.end
     }
 }
 
@@ -213,7 +260,7 @@ impl fmt::Debug for Record<'_> {
             .field("record_type", &self.record_type())
             .field("class", &self.class())
             .field("ttl", &self.ttl())
-            .field("data", &self.data())
+            .field("data", &self.raw_data())
             .finish()
     }
 }
@@ -233,7 +280,7 @@ pub struct Records<'a> {
 ///
 /// let message = b"\x12\x34\x84\0\0\x01\0\x01\0\0\0\0\x01b\0\0\x01\0\x01\xC0\x0C\0\x01\0\x01\0\0\0\0\0\x04\xC0\0\x02\x01";
 /// let (_question, end) = Name::read(message, 12)?;
-/// let data: Result<Vec<&[u8]>, Error> = records(message, end + 4).map(|record| Ok(record?.data())).collect();
+/// let data: Result<Vec<&[u8]>, Error> = records(message, end + 4).map(|record| Ok(record?.raw_data())).collect();
 /// assert_eq!(data?, [[192, 0, 2, 1]]);
 /// # Ok::<(), Error>(())
 /// ```

@@ -1,6 +1,10 @@
 //! Whole messages. The message is written by dnspython 2.3.0, and what is expected of it is what it was written from; the others
 //! are worked by hand from RFC 1035, section 4.1, and RFC 6891, section 6.1.
-use dns_names_wire::{Error, ErrorKind, Field, Message, NameRef, Record, RecordType, Section, TypeSet};
+use dns_names_wire::rdata::{CAA, DS, MX, NSEC3, RRSIG, SOA, SRV, SVCB, TLSA};
+use dns_names_wire::{
+    Error, ErrorKind, Field, Message, Name, NameRef, OpCode, Pairs, RData, Record, RecordType, ResponseCode, Section,
+    Texts, TypeSet,
+};
 
 /// A response with thirteen records of as many types, and an OPT record.
 const RESPONSE: &str = "\
@@ -37,7 +41,9 @@ fn a_response_is_read() {
     let response = octets(RESPONSE);
     let message = Message::read(&response).unwrap();
     let header = message.header();
-    assert_eq!((header.id, header.op_code, header.response_code), (0x1234, 0, 7));
+    assert_eq!((header.id, header.op_code, header.response_code), (0x1234, OpCode::Query, ResponseCode::YXRRSet));
+    assert_eq!((header.question_count, header.answer_count), (1, 9));
+    assert_eq!((header.authority_count, header.additional_count), (4, 1));
     assert!(header.is_response && header.authoritative && header.recursion_desired && header.recursion_available);
     assert!(header.authentic_data && !header.truncation && !header.checking_disabled);
     let questions: Vec<String> = message.questions().map(|question| question.to_string()).collect();
@@ -53,7 +59,7 @@ fn a_response_is_read() {
     let edns = message.edns().unwrap().unwrap();
     assert_eq!((edns.max_payload, edns.version, edns.dnssec_ok), (1232, 0, true));
     assert!(edns.options().eq([(10, &[1, 2, 3, 4, 5, 6, 7, 8][..])]));
-    assert_eq!(message.response_code(), Ok(23));
+    assert_eq!(message.response_code(), Ok(ResponseCode::BADCOOKIE));
 }
 
 #[test]
@@ -95,6 +101,75 @@ fn fields_are_read() {
     let nsec3 = fields(&records, RecordType::NSEC3);
     assert_eq!(nsec3[2..4], [Field::Number(12), Field::Octets(&[0xAA, 0xBB, 0xCC, 0xDD])]);
     assert!(matches!(nsec3[4], Field::Octets(hash) if hash.len() == 20));
+}
+
+fn name(text: &str) -> Name {
+    text.parse().unwrap()
+}
+
+/// The data by type, as they were written.
+#[test]
+fn data_are_read_by_type() {
+    let response = octets(RESPONSE);
+    let message = Message::read(&response).unwrap();
+    let data: Vec<RData> =
+        message.answers().chain(message.authorities()).map(|record| record.data().unwrap()).collect();
+    let names = ["web.example.com.", "mail.example.com.", ".", "ns.example.com.", "hostmaster.example.com."].map(name);
+    let [web, mail, root, ns, hostmaster] = [0, 1, 2, 3, 4].map(|i: usize| NameRef::from(&names[i]));
+    assert_eq!(data[0], RData::CNAME(web));
+    assert_eq!(data[1], std::net::Ipv4Addr::new(192, 0, 2, 1).into());
+    assert_eq!(data[2], std::net::Ipv6Addr::new(0x2001, 0xdb8, 0, 0, 0, 0, 0, 1).into());
+    assert_eq!(data[1].ip_addr(), Some(std::net::IpAddr::from([192, 0, 2, 1])));
+    assert_eq!(data[3], RData::MX(MX { preference: 10, exchange: mail }));
+    let texts = Texts::to_wire(["v=spf1 -all", "", "b"]).unwrap();
+    assert_eq!(data[4], RData::TXT(Texts::from_wire(&texts).unwrap()));
+    assert_eq!(data[5], RData::CAA(CAA { flags: 128, tag: b"issue", value: b"ca.example.net" }));
+    let params = Pairs::to_wire([(1, &b"\x02h2"[..]), (3, &[0x20, 0xFB])]).unwrap();
+    let params = Pairs::from_wire(&params).unwrap();
+    assert_eq!(data[6], RData::HTTPS(SVCB { priority: 1, target: root, params }));
+    assert_eq!(data[7], RData::EUI48([0, 0, 0x5E, 0, 0x53, 0x2A]));
+    assert_eq!(data[8], RData::Unknown { record_type: RecordType::from(65280), octets: &[1, 2, 3] });
+    let (serial, refresh, retry, expire, minimum) = (2_024_010_101, 7200, 3600, 1_209_600, 3600);
+    assert_eq!(data[9], SOA { mname: ns, rname: hostmaster, serial, refresh, retry, expire, minimum }.into());
+    match &data[10..] {
+        [RData::NSEC(nsec), RData::RRSIG(signature), RData::NSEC3(hashed)] => {
+            let RRSIG { type_covered, expiration, inception, key_tag, signer, .. } = signature;
+            let NSEC3 { salt, next, .. } = hashed;
+            assert_eq!((nsec.next.to_string().as_str(), nsec.types.len()), ("a.example.com.", 5));
+            assert_eq!((*type_covered, *expiration, *inception), (RecordType::A, 1_048_354_263, 1_045_762_263));
+            assert_eq!((*key_tag, signer.to_string().as_str()), (2642, "example.com."));
+            assert_eq!((*salt, next.len()), (&[0xAA, 0xBB, 0xCC, 0xDD][..], 20));
+        }
+        other => panic!("{other:?}"),
+    }
+}
+
+/// Data that are written have the octets that were read, names not compressed, and are read as the same.
+#[test]
+fn data_are_written_as_they_are_read() {
+    let response = octets(RESPONSE);
+    let message = Message::read(&response).unwrap();
+    for record in message.answers().chain(message.authorities()) {
+        let data = record.data().unwrap();
+        let wire = data.to_wire().unwrap();
+        assert_eq!(data.record_type(), record.record_type());
+        let mut own = octets("00");
+        own.extend(record.record_type().code().to_be_bytes());
+        own.extend([0, 1, 0, 0, 0, 0]);
+        own.extend((wire.len() as u16).to_be_bytes());
+        own.extend(&wire);
+        assert_eq!(Record::read(&own, 0).unwrap().data(), Ok(data));
+    }
+    let (host, long) = (name("a."), [0; 256]);
+    let written = |data: RData| data.to_wire().map_err(Error::kind);
+    let srv = SRV { priority: 1, weight: 2, port: 53, target: (&host).into() };
+    assert_eq!(written(srv.into()), Ok(octets("0001 0002 0035 016100")));
+    let ds = DS { key_tag: 60485, algorithm: 5, digest_type: 1, digest: &[0x2B, 0xB1] };
+    assert_eq!(written(ds.into()), Ok(octets("ec45 05 01 2bb1")));
+    let tlsa = TLSA { usage: 3, selector: 1, mtype: 1, cert: &[1] };
+    assert_eq!(written(RData::SMIMEA(tlsa)), Ok(octets("03 01 01 01")));
+    assert_eq!(written(CAA { flags: 0, tag: &long, value: b"" }.into()), Err(ErrorKind::DataTooLong));
+    assert_eq!(Texts::to_wire([long]).unwrap_err().kind(), ErrorKind::DataTooLong);
 }
 
 #[test]

@@ -43,9 +43,12 @@ pub fn run(task: &Task, count: u64) -> Option<u64> {
             sum(records(black_box(&task.bytes), HEADER_SIZE), |record| record.map_or(FAILED, |record| record_size(&record)))
         }),
         Kind::EmitRecords => {
-            let records: Vec<(Record, Option<Name>)> = records(&task.bytes, HEADER_SIZE)
+            let records: Vec<(Record, Name, Option<Name>)> = records(&task.bytes, HEADER_SIZE)
                 .map(|record| record.expect("a record"))
-                .map(|record| (record.clone(), has_name(&record).then(|| record.data_name().expect("a name"))))
+                .map(|record| {
+                    let name = has_name(&record).then(|| record.data_name().expect("a name"));
+                    (record, record.owner().to_name(), name)
+                })
                 .collect();
             repeat(count, || write_records(black_box(&records)))
         }
@@ -88,19 +91,19 @@ fn has_name(record: &Record) -> bool {
 fn record_size(record: &Record) -> u64 {
     let data = match has_name(record) {
         true => record.data_name().map_or(FAILED, |name| size(&name)),
-        false => black_box(record.data()).len() as u64,
+        false => black_box(record.raw_data()).len() as u64,
     };
-    size(record.owner()) + data + u64::from(record.ttl())
+    size(&record.owner().to_name()) + data + u64::from(record.ttl())
 }
 
-fn write_records(records: &[(Record, Option<Name>)]) -> u64 {
+fn write_records(records: &[(Record, Name, Option<Name>)]) -> u64 {
     let mut writer = MessageWriter::new();
     writer.bytes(&[0; HEADER_SIZE]);
-    for (record, name) in records {
-        let (owner, kind, class, ttl) = (record.owner(), record.record_type(), record.class(), record.ttl());
+    for (record, owner, name) in records {
+        let (kind, class, ttl) = (record.record_type(), record.class(), record.ttl());
         match name {
             Some(name) => writer.name_record(owner, kind, class, ttl, name),
-            None => writer.record(owner, kind, class, ttl, record.data()),
+            None => writer.record(owner, kind, class, ttl, record.raw_data()),
         };
     }
     writer.finish().map_or(FAILED, |message| black_box(message).len() as u64)

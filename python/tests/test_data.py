@@ -1,0 +1,72 @@
+"""Data by type, and records that are made. What is expected of the response is what dnspython 2.3.0 wrote it
+from; the others are worked by hand from RFC 1035, sections 4.1 and 5.1, and RFC 6891, section 6.1."""
+
+import dataclasses
+import pickle
+import unittest
+from ipaddress import IPv4Address, IPv6Address
+
+import dns_names_wire as dnw
+from dns_names_wire import Message, Name, OpCode, Record, ResponseCode
+
+from test_whole_messages import RESPONSE
+
+class DataByType(unittest.TestCase):
+    def test_data_are_read_by_type(self):
+        message = Message.from_wire(RESPONSE)
+        data = [record.data for record in message.answers + message.authorities]
+        self.assertEqual(data[0], dnw.CNAME(Name("web.example.com.")))
+        self.assertEqual(data[1:3], [dnw.A(IPv4Address("192.0.2.1")), dnw.AAAA(IPv6Address("2001:db8::1"))])
+        self.assertEqual(data[3], dnw.MX(preference=10, exchange=Name("mail.example.com.")))
+        self.assertEqual(data[4], dnw.TXT((b"v=spf1 -all", b"", b"b")))
+        self.assertEqual(data[5], dnw.CAA(128, b"issue", b"ca.example.net"))
+        self.assertEqual(data[6], dnw.HTTPS(1, Name("."), ((1, b"\x02h2"), (3, b"\x20\xfb"))))
+        self.assertNotEqual(data[6], dnw.SVCB(1, Name("."), ((1, b"\x02h2"), (3, b"\x20\xfb"))))
+        self.assertEqual(data[7:9], [dnw.EUI48(0x5E00532A), dnw.Unknown(65280, bytes([1, 2, 3]))])
+        names = Name("ns.example.com."), Name("hostmaster.example.com.")
+        self.assertEqual(data[9], dnw.SOA(*names, 2024010101, 7200, 3600, 1209600, 3600))
+        self.assertEqual(data[10], dnw.NSEC(Name("a.example.com."), dnw.TypeSet([1, 15, 46, 47, 1234])))
+        self.assertEqual((data[11].type_covered, data[11].key_tag, data[11].signer), (1, 2642, Name("example.com.")))
+        self.assertEqual((data[12].salt, len(data[12].next)), (bytes.fromhex("aabbccdd"), 20))
+        for record, own in zip(message.answers + message.authorities, data):
+            self.assertEqual(own.record_type, record.record_type)
+            again = Record(record.owner, record.ttl, own, record.record_class)
+            self.assertEqual((again.to_wire(), again.data, again.owner), (record.to_wire(), own, record.owner))
+            self.assertEqual(pickle.loads(pickle.dumps(own)), own)
+        with self.assertRaises(dataclasses.FrozenInstanceError):
+            data[1].address = None
+
+    def test_names_are_read_where_they_are_whole(self):
+        # An owner that is a pointer is not one for data before it: b. NS, with a pointer to the owner of the next record.
+        wire = bytes.fromhex("00000000 0000 0002 0000 0000 016200 0002 0001 00000000 0002 c01b 016300 0001 0001 00000000 0000")
+        message = Message.from_wire(wire)
+        self.assertEqual(message.answers[1].owner, Name("c."))
+        with self.assertRaises(dnw.PointerNotBack):
+            message.answers[0].data
+        with self.assertRaises(dnw.MessageCut):
+            message.answers[1].data
+
+    def test_codes_of_headers(self):
+        self.assertEqual((OpCode.UPDATE, str(OpCode(3)), repr(OpCode.NOTIFY)), (5, "RESERVED3", "OpCode.NOTIFY"))
+        self.assertEqual((str(ResponseCode(16)), ResponseCode.from_text("yxrrset")), ("BADVERS", 7))
+        for kind, most in [(OpCode, 15), (ResponseCode, 4095)]:
+            self.assertEqual([kind.from_text(str(kind(code))) for code in range(most + 1)], list(range(most + 1)))
+            with self.assertRaises(ValueError):
+                kind(most + 1)
+            with self.assertRaises(dnw.UnknownText):
+                kind.from_text("ZZ")
+
+
+class Arguments(unittest.TestCase):
+    def test_arguments_are_checked(self):
+        root = Name(".")
+        for make, error in [
+            (lambda: Record("a.", 0, dnw.A("192.0.2.1")), TypeError),
+            (lambda: Record(root, 0, b"\0"), TypeError),
+            (lambda: Record(root, -1, dnw.A("192.0.2.1")), ValueError),
+            (lambda: Record(root, 0, dnw.MX(65536, root)), ValueError),
+            (lambda: Record(root, 0, dnw.TXT((b"a" * 256,))), dnw.DataTooLong),
+            (lambda: Record(root, 0, dnw.Unknown(65280, bytes(65536))), dnw.DataTooLong),
+        ]:
+            with self.assertRaises(error):
+                make()

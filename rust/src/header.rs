@@ -1,0 +1,184 @@
+//! The headers of messages, and the codes in them.
+use core::fmt;
+
+/// A code of a header: an enum with names, and a variant for what has none.
+macro_rules! codes {
+    ($(#[$doc:meta])* $code:ident($number:ty) { $($(#[$variant_doc:meta])* $name:ident = $value:literal $text:literal,)* }) => {
+        $(#[$doc])*
+        #[derive(Clone, Copy, Debug, PartialEq, Eq, Hash)]
+        #[non_exhaustive]
+        pub enum $code {
+            $($(#[$variant_doc])* $name,)*
+            /// A code without a name.
+            Unknown($number),
+        }
+
+        impl From<$number> for $code {
+            fn from(code: $number) -> Self {
+                match code {
+                    $($value => $code::$name,)*
+                    code => $code::Unknown(code),
+                }
+            }
+        }
+
+        impl From<$code> for $number {
+            fn from(code: $code) -> $number {
+                match code {
+                    $($code::$name => $value,)*
+                    $code::Unknown(code) => code,
+                }
+            }
+        }
+
+        /// As `dig` shows it; a code without a name is `RESERVED` and its number.
+        impl fmt::Display for $code {
+            fn fmt(&self, f: &mut fmt::Formatter<'_>) -> fmt::Result {
+                match self {
+                    $($code::$name => f.pad($text),)*
+                    $code::Unknown(code) => write!(f, "RESERVED{code}"),
+                }
+            }
+        }
+    };
+}
+
+codes! {
+    /// What a message is for, of four bits (RFC 1035, section 4.1.1).
+    ///
+    /// ```
+    /// use dns_names_wire::OpCode;
+    ///
+    /// assert_eq!((OpCode::from(4), u8::from(OpCode::Update)), (OpCode::Notify, 5));
+    /// assert_eq!((OpCode::Query.to_string(), OpCode::from(7).to_string()), ("QUERY".into(), "RESERVED7".into()));
+    /// ```
+    OpCode(u8) {
+        /// A question (RFC 1035, section 4.1.1).
+        Query = 0 "QUERY",
+        /// An inverse question, which is obsolete (RFC 3425).
+        IQuery = 1 "IQUERY",
+        /// The status of a server (RFC 1035, section 4.1.1).
+        Status = 2 "STATUS",
+        /// A zone has changed (RFC 1996).
+        Notify = 4 "NOTIFY",
+        /// A zone is to be changed (RFC 2136).
+        Update = 5 "UPDATE",
+    }
+}
+
+codes! {
+    /// What became of a request, of four bits, or of twelve with EDNS (RFC 1035, section 4.1.1; RFC 6891, section 6.1.3).
+    ///
+    /// ```
+    /// use dns_names_wire::ResponseCode;
+    ///
+    /// assert_eq!((ResponseCode::from(3), u16::from(ResponseCode::Refused)), (ResponseCode::NXDomain, 5));
+    /// assert_eq!(ResponseCode::NXDomain.to_string(), "NXDOMAIN");
+    /// ```
+    ResponseCode(u16) {
+        /// No error (RFC 1035, section 4.1.1).
+        NoError = 0 "NOERROR",
+        /// The request has no form that the server knows (RFC 1035, section 4.1.1).
+        FormErr = 1 "FORMERR",
+        /// The server failed (RFC 1035, section 4.1.1).
+        ServFail = 2 "SERVFAIL",
+        /// The name does not exist (RFC 1035, section 4.1.1).
+        NXDomain = 3 "NXDOMAIN",
+        /// The server cannot do this kind of request (RFC 1035, section 4.1.1).
+        NotImp = 4 "NOTIMP",
+        /// The server will not do it (RFC 1035, section 4.1.1).
+        Refused = 5 "REFUSED",
+        /// A name exists that should not (RFC 2136, section 2.2).
+        YXDomain = 6 "YXDOMAIN",
+        /// Records exist that should not (RFC 2136, section 2.2).
+        YXRRSet = 7 "YXRRSET",
+        /// Records do not exist that should (RFC 2136, section 2.2).
+        NXRRSet = 8 "NXRRSET",
+        /// The server is no authority, or the request is not authorized (RFC 2136, section 2.2; RFC 8945, section 5.2).
+        NotAuth = 9 "NOTAUTH",
+        /// A name is not in the zone (RFC 2136, section 2.2).
+        NotZone = 10 "NOTZONE",
+        /// The type of the operation is not known (RFC 8490, section 10.2).
+        DsoTypeNI = 11 "DSOTYPENI",
+        /// A version of EDNS that the server does not know (RFC 6891, section 9).
+        BADVERS = 16 "BADVERS",
+        /// A key that is not known (RFC 8945, section 3).
+        BADKEY = 17 "BADKEY",
+        /// A signature that is out of its time (RFC 8945, section 3).
+        BADTIME = 18 "BADTIME",
+        /// A mode of TKEY that is not known (RFC 2930, section 2.6).
+        BADMODE = 19 "BADMODE",
+        /// A name of a key that is there already (RFC 2930, section 2.6).
+        BADNAME = 20 "BADNAME",
+        /// An algorithm that is not known (RFC 2930, section 2.6).
+        BADALG = 21 "BADALG",
+        /// A signature that was cut too short (RFC 8945, section 3).
+        BADTRUNC = 22 "BADTRUNC",
+        /// A server's cookie that is bad or not there (RFC 7873, section 8).
+        BADCOOKIE = 23 "BADCOOKIE",
+    }
+}
+
+/// The fields of a header (RFC 1035, section 4.1.1; RFC 4035, section 3.2). See [`Message::header`].
+///
+/// [`Message::header`]: crate::Message::header
+///
+/// ```
+/// use dns_names_wire::{Header, OpCode, ResponseCode};
+///
+/// let header = Header::default();
+/// assert_eq!((header.id, header.op_code, header.response_code), (0, OpCode::Query, ResponseCode::NoError));
+/// ```
+#[derive(Clone, Copy, Debug, PartialEq, Eq, Hash)]
+#[non_exhaustive]
+pub struct Header {
+    /// The number by which a requester knows the response to its request.
+    pub id: u16,
+    /// QR: whether the message is a response.
+    pub is_response: bool,
+    /// What the message is for.
+    pub op_code: OpCode,
+    /// AA: the server is an authority for the name of the question.
+    pub authoritative: bool,
+    /// TC: the message was cut to the size that may be sent.
+    pub truncation: bool,
+    /// RD: the name server is to follow the query to other servers.
+    pub recursion_desired: bool,
+    /// RA: the name server can do so.
+    pub recursion_available: bool,
+    /// AD: the data are authentic by the rules of the server.
+    pub authentic_data: bool,
+    /// CD: the requester checks the data itself.
+    pub checking_disabled: bool,
+    /// The low four bits of the response code; [`Message::response_code`](crate::Message::response_code) has the others too.
+    pub response_code: ResponseCode,
+    /// How many questions there are.
+    pub question_count: u16,
+    /// How many records answer.
+    pub answer_count: u16,
+    /// How many records lead to an authority.
+    pub authority_count: u16,
+    /// How many records help, with an OPT record.
+    pub additional_count: u16,
+}
+
+impl Default for Header {
+    fn default() -> Self {
+        Header {
+            id: 0,
+            is_response: false,
+            op_code: OpCode::Query,
+            authoritative: false,
+            truncation: false,
+            recursion_desired: false,
+            recursion_available: false,
+            authentic_data: false,
+            checking_disabled: false,
+            response_code: ResponseCode::NoError,
+            question_count: 0,
+            answer_count: 0,
+            authority_count: 0,
+            additional_count: 0,
+        }
+    }
+}

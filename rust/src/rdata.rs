@@ -1,0 +1,509 @@
+//! The data of records, by type.
+use crate::codes::RecordType;
+use crate::error::Error;
+use crate::field::{put, Fields, Pairs, Texts};
+use crate::name_ref::NameRef;
+use crate::type_set::TypeSet;
+use crate::{IpAddr, Ipv4Addr, Ipv6Addr};
+use alloc::vec::Vec;
+
+/// Data of several fields: a struct, read and written field by field, each by its kind.
+macro_rules! structs {
+    ($($(#[$doc:meta])* $name:ident $(<$life:lifetime>)? {
+        $($(#[$field_doc:meta])* $field:ident: $type:ty = $kind:ident,)*
+    })*) => {$(
+        $(#[$doc])*
+        #[derive(Clone, Debug, PartialEq, Eq)]
+        pub struct $name $(<$life>)? {
+            $($(#[$field_doc])* pub $field: $type,)*
+        }
+
+        impl<'a> $name $(<$life>)? {
+            fn take(fields: &mut Fields<'a>) -> Result<Self, Error> {
+                Ok($name { $($field: fields.$kind()?,)* })
+            }
+
+            fn put(&self, octets: &mut Vec<u8>) -> Result<(), Error> {
+                $(put::$kind(octets, &self.$field)?;)*
+                Ok(())
+            }
+        }
+    )*};
+}
+
+structs! {
+    /// The start of a zone (RFC 1035, section 3.3.13).
+    SOA<'a> {
+        /// The name server that has the original of the zone.
+        mname: NameRef<'a> = name,
+        /// The mailbox of who is responsible.
+        rname: NameRef<'a> = name,
+        /// The version of the zone, a [`SerialNumber`](crate::SerialNumber).
+        serial: u32 = u32,
+        /// The seconds before the zone should be refreshed.
+        refresh: u32 = u32,
+        /// The seconds before a refresh that failed should be tried again.
+        retry: u32 = u32,
+        /// The seconds after which the zone is no longer authoritative.
+        expire: u32 = u32,
+        /// The seconds for which it is known that a name does not exist (RFC 2308, section 4).
+        minimum: u32 = u32,
+    }
+
+    /// Two mailboxes (RFC 1035, section 3.3.7), or a mailbox and the name of a text (RFC 1183, section 2.2).
+    Mailboxes<'a> {
+        /// The first mailbox.
+        mailbox: NameRef<'a> = name,
+        /// The second one, or the name that has a TXT record.
+        other: NameRef<'a> = name,
+    }
+
+    /// A host with a preference, as where mail goes (RFC 1035, section 3.3.9).
+    MX<'a> {
+        /// The lower, the more it is preferred.
+        preference: u16 = u16,
+        /// The host.
+        exchange: NameRef<'a> = name,
+    }
+
+    /// What a host is (RFC 1035, section 3.3.2).
+    HINFO<'a> {
+        /// The processor.
+        cpu: &'a [u8] = string,
+        /// The operating system.
+        os: &'a [u8] = string,
+    }
+
+    /// Where a service is (RFC 2782).
+    SRV<'a> {
+        /// The lower, the sooner it is tried.
+        priority: u16 = u16,
+        /// How often it is taken among those of its priority.
+        weight: u16 = u16,
+        /// The port.
+        port: u16 = u16,
+        /// The host.
+        target: NameRef<'a> = name,
+    }
+
+    /// A rule that rewrites a name (RFC 3403, section 4.1).
+    NAPTR<'a> {
+        /// The order in which rules are taken.
+        order: u16 = u16,
+        /// The preference among rules of the same order.
+        preference: u16 = u16,
+        /// What follows the rule.
+        flags: &'a [u8] = string,
+        /// The service.
+        service: &'a [u8] = string,
+        /// A regular expression that gives the next name.
+        regexp: &'a [u8] = string,
+        /// The next name.
+        replacement: NameRef<'a> = name,
+    }
+
+    /// A certificate (RFC 4398, section 2).
+    CERT<'a> {
+        /// The kind of certificate.
+        certificate_type: u16 = u16,
+        /// The tag of its key.
+        key_tag: u16 = u16,
+        /// The algorithm of its key.
+        algorithm: u8 = u8,
+        /// The certificate.
+        certificate: &'a [u8] = rest,
+    }
+
+    /// The digest of a child's key (RFC 4034, section 5.1).
+    DS<'a> {
+        /// The tag of the key.
+        key_tag: u16 = u16,
+        /// The algorithm of the key.
+        algorithm: u8 = u8,
+        /// The kind of digest.
+        digest_type: u8 = u8,
+        /// The digest.
+        digest: &'a [u8] = rest,
+    }
+
+    /// The fingerprint of an SSH key (RFC 4255, section 3.1).
+    SSHFP<'a> {
+        /// The algorithm of the key.
+        algorithm: u8 = u8,
+        /// The kind of fingerprint.
+        fp_type: u8 = u8,
+        /// The fingerprint.
+        fingerprint: &'a [u8] = rest,
+    }
+
+    /// A key of a zone (RFC 4034, section 2.1).
+    DNSKEY<'a> {
+        /// 256 for a key of a zone, 257 for one that its parent vouches for.
+        flags: u16 = u16,
+        /// Always 3.
+        protocol: u8 = u8,
+        /// The algorithm.
+        algorithm: u8 = u8,
+        /// The key.
+        key: &'a [u8] = rest,
+    }
+
+    /// A signature of records (RFC 4034, section 3.1).
+    RRSIG<'a> {
+        /// The type of the records.
+        type_covered: RecordType = record_type,
+        /// The algorithm.
+        algorithm: u8 = u8,
+        /// How many labels the owner has, without that of a wildcard.
+        labels: u8 = u8,
+        /// The time to live of the records in their zone.
+        original_ttl: u32 = u32,
+        /// When the signature ends, in seconds since 1970, as a [`SerialNumber`](crate::SerialNumber).
+        expiration: u32 = u32,
+        /// When it begins.
+        inception: u32 = u32,
+        /// The tag of the key.
+        key_tag: u16 = u16,
+        /// The zone of the key.
+        signer: NameRef<'a> = name,
+        /// The signature.
+        signature: &'a [u8] = rest,
+    }
+
+    /// The next name of a zone, and the types of this one (RFC 4034, section 4.1).
+    NSEC<'a> {
+        /// The next name.
+        next: NameRef<'a> = name,
+        /// The types of the owner.
+        types: TypeSet = types,
+    }
+
+    /// The next hash of a zone, and the types of this name (RFC 5155, section 3.2).
+    NSEC3<'a> {
+        /// The hash function.
+        algorithm: u8 = u8,
+        /// 1 if names that are not signed may be between the hashes.
+        flags: u8 = u8,
+        /// How often more the hash is taken.
+        iterations: u16 = u16,
+        /// What is appended before each.
+        salt: &'a [u8] = counted,
+        /// The next hash.
+        next: &'a [u8] = counted,
+        /// The types of the owner.
+        types: TypeSet = types,
+    }
+
+    /// How the names of a zone are hashed (RFC 5155, section 4.2).
+    NSEC3PARAM<'a> {
+        /// The hash function.
+        algorithm: u8 = u8,
+        /// Always 0.
+        flags: u8 = u8,
+        /// How often more the hash is taken.
+        iterations: u16 = u16,
+        /// What is appended before each.
+        salt: &'a [u8] = counted,
+    }
+
+    /// A certificate that is to be met (RFC 6698, section 2.1; RFC 8162, section 2).
+    TLSA<'a> {
+        /// How it is to be met.
+        usage: u8 = u8,
+        /// Whether the certificate or its key is given.
+        selector: u8 = u8,
+        /// Whether it is given whole or as a hash.
+        mtype: u8 = u8,
+        /// It or its hash.
+        cert: &'a [u8] = rest,
+    }
+
+    /// What a parent may copy from its child (RFC 7477, section 2.1).
+    CSYNC {
+        /// The serial number from which on it may.
+        serial: u32 = u32,
+        /// Whether it may at once, and whether the serial number counts.
+        flags: u16 = u16,
+        /// The types that it may copy.
+        types: TypeSet = types,
+    }
+
+    /// The digest of a zone (RFC 8976, section 2.2).
+    ZONEMD<'a> {
+        /// The serial number of the zone.
+        serial: u32 = u32,
+        /// How the records are collated.
+        scheme: u8 = u8,
+        /// The hash function.
+        hash_algorithm: u8 = u8,
+        /// The digest.
+        digest: &'a [u8] = rest,
+    }
+
+    /// How to reach a service (RFC 9460, section 2.2).
+    SVCB<'a> {
+        /// 0 for an alias; else the lower, the more it is preferred.
+        priority: u16 = u16,
+        /// The host, or the root for the owner.
+        target: NameRef<'a> = name,
+        /// The parameters, each a key and its value.
+        params: Pairs<'a> = params,
+    }
+
+    /// Where a resource is (RFC 7553, section 4).
+    URI<'a> {
+        /// The lower, the sooner it is tried.
+        priority: u16 = u16,
+        /// How often it is taken among those of its priority.
+        weight: u16 = u16,
+        /// The resource.
+        target: &'a [u8] = rest,
+    }
+
+    /// Which authorities may issue certificates (RFC 8659, section 4.1).
+    CAA<'a> {
+        /// 128 if who does not know the tag may issue none.
+        flags: u8 = u8,
+        /// The property.
+        tag: &'a [u8] = string,
+        /// Its value.
+        value: &'a [u8] = rest,
+    }
+}
+
+/// The data of a type: a variant for each, with its code, of one value of a kind or of a struct.
+macro_rules! variants {
+    (
+        one { $($(#[$doc:meta])* $name:ident = $code:literal: $type:ty = $kind:ident,)* }
+        several { $($(#[$other_doc:meta])* $other:ident = $other_code:literal: $struct:ident $(<$life:lifetime>)?,)* }
+    ) => {
+        /// The data of a record, by its type. Names and octets are borrowed from the message, or from whoever writes one.
+        ///
+        /// ```
+        /// use dns_names_wire::{rdata::MX, RData, Record};
+        ///
+        /// // the root, MX 10 a.
+        /// let record = Record::read(b"\0\0\x0F\0\x01\0\0\0\0\0\x05\0\x0A\x01a\0", 0)?;
+        /// match record.data()? {
+        ///     RData::MX(MX { preference, exchange }) => assert_eq!((preference, exchange.to_string()), (10, "a.".into())),
+        ///     other => panic!("{other:?}"),
+        /// }
+        /// # Ok::<(), dns_names_wire::Error>(())
+        /// ```
+        #[derive(Clone, Debug, PartialEq, Eq)]
+        #[non_exhaustive]
+        pub enum RData<'a> {
+            $($(#[$doc])* $name($type),)*
+            $($(#[$other_doc])* $other($struct $(<$life>)?),)*
+            /// Data of a type that is none of these.
+            Unknown {
+                /// The type.
+                record_type: RecordType,
+                /// The octets of the data.
+                octets: &'a [u8],
+            },
+        }
+
+        impl<'a> RData<'a> {
+            /// Returns the type.
+            ///
+            /// ```
+            /// use dns_names_wire::{RData, RecordType};
+            ///
+            /// assert_eq!(RData::A([192, 0, 2, 1].into()).record_type(), RecordType::A);
+            /// ```
+            pub fn record_type(&self) -> RecordType {
+                match self {
+                    $(RData::$name(_) => $code.into(),)*
+                    $(RData::$other(_) => $other_code.into(),)*
+                    RData::Unknown { record_type, .. } => *record_type,
+                }
+            }
+
+            /// Reads data of a type. The fields are at their start.
+            #[inline]
+            pub(crate) fn take(record_type: RecordType, mut fields: Fields<'a>) -> Result<Self, Error> {
+                // Octets up to the end, which need no reading.
+                let all = fields.left();
+                let data = match record_type.code() {
+                    $($code => RData::$name(fields.$kind()?),)*
+                    $($other_code => RData::$other($struct::take(&mut fields)?),)*
+                    _ => return Ok(RData::Unknown { record_type, octets: all }),
+                };
+                fields.end()?;
+                Ok(data)
+            }
+
+            /// Appends the octets, names not compressed.
+            pub(crate) fn put(&self, octets: &mut Vec<u8>) -> Result<(), Error> {
+                match self {
+                    $(RData::$name(value) => put::$kind(octets, value),)*
+                    $(RData::$other(value) => value.put(octets),)*
+                    RData::Unknown { octets: own, .. } => put::rest(octets, own),
+                }
+            }
+        }
+    };
+}
+
+variants! {
+    one {
+        /// An IPv4 address (RFC 1035, section 3.4.1).
+        A = 1: Ipv4Addr = ipv4,
+        /// A name server of a zone (RFC 1035, section 3.3.11).
+        NS = 2: NameRef<'a> = name,
+        /// A host that takes mail, which is obsolete (RFC 1035, section 3.3.4).
+        MD = 3: NameRef<'a> = name,
+        /// A host that forwards mail, which is obsolete (RFC 1035, section 3.3.5).
+        MF = 4: NameRef<'a> = name,
+        /// The name that an alias stands for (RFC 1035, section 3.3.1).
+        CNAME = 5: NameRef<'a> = name,
+        /// A host of a mailbox (RFC 1035, section 3.3.3).
+        MB = 7: NameRef<'a> = name,
+        /// A member of a group of mailboxes (RFC 1035, section 3.3.6).
+        MG = 8: NameRef<'a> = name,
+        /// The new name of a mailbox (RFC 1035, section 3.3.8).
+        MR = 9: NameRef<'a> = name,
+        /// Another name (RFC 1035, section 3.3.12).
+        PTR = 12: NameRef<'a> = name,
+        /// Texts (RFC 1035, section 3.3.14).
+        TXT = 16: Texts<'a> = texts,
+        /// An IPv6 address (RFC 3596, section 2.2).
+        AAAA = 28: Ipv6Addr = ipv6,
+        /// The name that a whole subtree is an alias of (RFC 6672).
+        DNAME = 39: NameRef<'a> = name,
+        /// Texts, which TXT has taken the place of (RFC 7208, section 3.1).
+        SPF = 99: Texts<'a> = texts,
+        /// An address of 48 bits (RFC 7043, section 3).
+        EUI48 = 108: [u8; 6] = eui48,
+        /// An address of 64 bits (RFC 7043, section 4).
+        EUI64 = 109: [u8; 8] = eui64,
+    }
+    several {
+        /// The start of a zone.
+        SOA = 6: SOA<'a>,
+        /// A mailbox for requests and one for errors (RFC 1035, section 3.3.7).
+        MINFO = 14: Mailboxes<'a>,
+        /// What a host is.
+        HINFO = 13: HINFO<'a>,
+        /// Where mail goes.
+        MX = 15: MX<'a>,
+        /// Who is responsible (RFC 1183, section 2.2).
+        RP = 17: Mailboxes<'a>,
+        /// A server of a file system (RFC 1183, section 1).
+        AFSDB = 18: MX<'a>,
+        /// A signature of a message (RFC 2931).
+        SIG = 24: RRSIG<'a>,
+        /// A key of a host (RFC 2535, section 3.1).
+        KEY = 25: DNSKEY<'a>,
+        /// Where a service is.
+        SRV = 33: SRV<'a>,
+        /// A rule that rewrites a name.
+        NAPTR = 35: NAPTR<'a>,
+        /// A host that exchanges keys (RFC 2230, section 3).
+        KX = 36: MX<'a>,
+        /// A certificate.
+        CERT = 37: CERT<'a>,
+        /// The digest of a child's key.
+        DS = 43: DS<'a>,
+        /// The fingerprint of an SSH key.
+        SSHFP = 44: SSHFP<'a>,
+        /// A signature of records.
+        RRSIG = 46: RRSIG<'a>,
+        /// The next name of a zone, and the types of this one.
+        NSEC = 47: NSEC<'a>,
+        /// A key of a zone.
+        DNSKEY = 48: DNSKEY<'a>,
+        /// The next hash of a zone, and the types of this name.
+        NSEC3 = 50: NSEC3<'a>,
+        /// How the names of a zone are hashed.
+        NSEC3PARAM = 51: NSEC3PARAM<'a>,
+        /// A certificate of a TLS server.
+        TLSA = 52: TLSA<'a>,
+        /// A certificate for mail.
+        SMIMEA = 53: TLSA<'a>,
+        /// The child's copy of a DS (RFC 7344, section 3.1).
+        CDS = 59: DS<'a>,
+        /// The child's copy of a DNSKEY (RFC 7344, section 3.2).
+        CDNSKEY = 60: DNSKEY<'a>,
+        /// What a parent may copy from its child.
+        CSYNC = 62: CSYNC,
+        /// The digest of a zone.
+        ZONEMD = 63: ZONEMD<'a>,
+        /// How to reach a service.
+        SVCB = 64: SVCB<'a>,
+        /// How to reach a service over HTTPS.
+        HTTPS = 65: SVCB<'a>,
+        /// Where a resource is.
+        URI = 256: URI<'a>,
+        /// Which authorities may issue certificates.
+        CAA = 257: CAA<'a>,
+    }
+}
+
+impl<'a> RData<'a> {
+    /// Returns the address of A or AAAA data.
+    ///
+    /// ```
+    /// use std::net::Ipv4Addr;
+    ///
+    /// let data = dns_names_wire::RData::from(Ipv4Addr::new(192, 0, 2, 1));
+    /// assert_eq!(data.ip_addr(), Some(Ipv4Addr::new(192, 0, 2, 1).into()));
+    /// ```
+    pub fn ip_addr(&self) -> Option<IpAddr> {
+        match self {
+            RData::A(address) => Some((*address).into()),
+            RData::AAAA(address) => Some((*address).into()),
+            _ => None,
+        }
+    }
+
+    /// Returns the octets of the data, names not compressed.
+    ///
+    /// # Errors
+    ///
+    /// `DataTooLong` if a field has more octets than its length says: 255 of a character string; or `NoMemory`.
+    ///
+    /// ```
+    /// assert_eq!(dns_names_wire::RData::from(std::net::Ipv4Addr::LOCALHOST).to_wire()?, [127, 0, 0, 1]);
+    /// # Ok::<(), dns_names_wire::Error>(())
+    /// ```
+    pub fn to_wire(&self) -> Result<Vec<u8>, Error> {
+        let mut octets = Vec::new();
+        self.put(&mut octets)?;
+        Ok(octets)
+    }
+}
+
+impl From<Ipv4Addr> for RData<'_> {
+    fn from(address: Ipv4Addr) -> Self {
+        RData::A(address)
+    }
+}
+
+impl From<Ipv6Addr> for RData<'_> {
+    fn from(address: Ipv6Addr) -> Self {
+        RData::AAAA(address)
+    }
+}
+
+impl From<IpAddr> for RData<'_> {
+    fn from(address: IpAddr) -> Self {
+        match address {
+            IpAddr::V4(address) => RData::A(address),
+            IpAddr::V6(address) => RData::AAAA(address),
+        }
+    }
+}
+
+macro_rules! from_struct {
+    ($($name:ident,)*) => {$(
+        impl<'a> From<$name<'a>> for RData<'a> {
+            fn from(data: $name<'a>) -> Self {
+                RData::$name(data)
+            }
+        }
+    )*};
+}
+
+from_struct! { SOA, HINFO, MX, SRV, NAPTR, CERT, DS, SSHFP, RRSIG, NSEC, DNSKEY, NSEC3, NSEC3PARAM, TLSA, ZONEMD, SVCB, URI, CAA, }
