@@ -172,4 +172,5 @@ def main():
             print(*rows(text), sep="\n")
 
 
-main()
+if __name__ == "__main__":
+    main()

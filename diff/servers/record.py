@@ -2,12 +2,13 @@
 """Records what name servers reply over the loopback, and what dnspython reads in it: the lines of diff/servers/replies.txt.
 
     apt-get install bind9 bind9-dnsutils nsd knot pdns-server pdns-backend-bind python3-dnspython
-    /usr/bin/python3 diff/servers/record.py
+    /usr/bin/python3 diff/servers/record.py [--texts]
 
 BIND, NSD, Knot and PowerDNS serve example.zone; the first three serve it signed, by keys that are made for one run. Each is
 asked for each owner and type of the zone, with and without EDNS, and for what makes replies of other shapes: names that do not
 exist, a delegation, aliases, replies that are cut, and what they refuse. A line is SERVER HEX, and then the text that
-dnspython gives the message, in the layout of `dnswire message`, with | for the end of a line.
+dnspython gives the message, in the layout of `dnswire message`, with | for the end of a line. With --texts no server is
+started: the replies that are there get their texts again.
 """
 
 import pathlib
@@ -30,11 +31,13 @@ import make  # noqa: E402
 PORT = 5300
 # The types whose data have a text of their own here. Those of the others are shown as RFC 3597 does.
 TEXTS = set("""A NS CNAME SOA PTR HINFO MX TXT RP AFSDB AAAA SRV NAPTR KX CERT DNAME DS SSHFP RRSIG DNSKEY
-    NSEC3PARAM TLSA SMIMEA CDS CDNSKEY OPENPGPKEY ZONEMD SPF URI CAA""".split())
+    NSEC3PARAM TLSA SMIMEA CDS CDNSKEY OPENPGPKEY ZONEMD SPF URI CAA NSEC NSEC3 CSYNC EUI48 EUI64""".split())
 
 # Those whose letters are hexadecimal digits, which dnspython has in lower case.
 HEXADECIMAL = {"DS", "CDS", "SSHFP", "TLSA", "SMIMEA", "ZONEMD", "NSEC3PARAM"}
 
+# How many words are before the types of a bitmap. The salt and the hashed name of NSEC3 are the fourth and the fifth.
+BEFORE_TYPES = {"NSEC": 1, "NSEC3": 5, "CSYNC": 2}
 # The types that have a name here, as the C header has them.
 HEADER = HERE.parent.parent / "include" / "dns_names_wire.h"
 NAMED = {int(code) for code in re.findall(r"DNW_TYPE_\w+ = (\d+)", HEADER.read_text())}
@@ -46,14 +49,17 @@ def type_text(kind):
 
 
 def data_text(record):
-    """The text of data as dnspython has it, in one piece, those of a CERT as numbers, and the tag of a CAA in quotes."""
+    """The text of data as dnspython has it, in one piece, and those of a CERT as numbers."""
     kind = dns.rdatatype.to_text(record.rdtype)
-    if kind == "CAA":
-        return f'{record.flags} "{record.tag.decode()}" "{dns.rdata._escapify(record.value)}"'
+    if kind in BEFORE_TYPES:
+        words = record.to_text().split()
+        before, types = words[: BEFORE_TYPES[kind]], words[BEFORE_TYPES[kind] :]
+        before[3:] = [word.upper() for word in before[3:]]
+        return " ".join([*before, *(type_text(dns.rdatatype.from_text(word)) for word in types)])
     if kind == "CERT":
         numbers = (record.certificate_type, record.key_tag, record.algorithm)
         return " ".join([*(str(int(number)) for number in numbers), record.to_text(chunksize=0).split()[-1]])
-    if kind == "OPENPGPKEY":
+    if kind in ("OPENPGPKEY", "EUI48", "EUI64"):
         return record.to_text()
     if kind in TEXTS and not isinstance(record, dns.rdata.GenericRdata):
         text = record.to_text(chunksize=0)
@@ -143,8 +149,20 @@ def replies(port):
             print("no reply to what is no query", file=sys.stderr)
 
 
-def main():
-    lines = []
+def line_of(server, reply):
+    text = make.text_of(reply, data_text, type_text).rstrip().replace(chr(10), "|")
+    return f"{server} {reply.hex()} {text}"
+
+
+def recorded():
+    """The lines of the replies that are there."""
+    for line in (HERE / "replies.txt").read_text().splitlines():
+        server, digits, _ = line.split(" ", 2)
+        yield line_of(server, bytes.fromhex(digits))
+
+
+def served():
+    """The lines of what the servers reply."""
     with tempfile.TemporaryDirectory() as folder:
         pathlib.Path(folder, "example.zone").write_text((HERE / "example.zone").read_text())
         pathlib.Path(folder, "knot").mkdir()
@@ -157,9 +175,13 @@ def main():
                     sys.exit(f"{server} did not start: {pathlib.Path(log.name).read_text()[-500:]}")
                 try:
                     for reply in replies(PORT + at):
-                        lines.append(f"{server} {reply.hex()} {make.text_of(reply, data_text, type_text).rstrip().replace(chr(10), '|')}")
+                        yield line_of(server, reply)
                 finally:
                     running.kill()
+
+
+def main():
+    lines = list(recorded() if "--texts" in sys.argv[1:] else served())
     (HERE / "replies.txt").write_text("\n".join(lines) + "\n")
     print(f"{len(lines)} replies")
 

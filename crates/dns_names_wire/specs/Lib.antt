@@ -92,9 +92,11 @@ pub use Rattle.dnw_message.specs.OpCodes
 pub use Rattle.dnw_message.specs.Queries
 pub use Rattle.dnw_message.specs.ResponseCodes
 pub use Rattle.dnw_message.specs.Responses
+pub use Rattle.dnw_message_writer.specs.Copies as MessageCopies
 pub use Rattle.dnw_message_writer.specs.Drafts
 pub use Rattle.dnw_message_writer.specs.QueryFrames
 pub use Rattle.dnw_message_writer.specs.ReadBack
+pub use Rattle.dnw_message_writer.specs.ReadRecords
 pub use Rattle.dnw_message_writer.specs.WireEdns
 pub use Rattle.dnw_message_writer.specs.WireQueries
 pub use Rattle.dnw_message_writer.specs.WriterLaws

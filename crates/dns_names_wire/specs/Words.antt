@@ -7,7 +7,7 @@ pub use Rattle.dnw_base.specs.Limits.{pointer_mark, pointer_offsets, pointer_rea
 -- Errors.
 pub use Rattle.dnw_error.specs.declared.error.ProtoError.{ProtoError}
 pub use Rattle.dnw_error.specs.Fault.{Fault, Follows, NeedsErrorText, Updates}
-pub use Rattle.dnw_error.specs.Copies.{IsCopyOf, IsDecodeCopyOf, OwnsText, OwnsDecodeText}
+pub use Rattle.dnw_error.specs.Copies.{IsDecodeCopyOf, OwnsText, OwnsDecodeText}
 -- Untrusted values.
 pub use Rattle.dnw_base.specs.Checked.{difference}
 pub use Rattle.dnw_base.specs.Verified.{verified_value, verified_verdict}
@@ -126,13 +126,18 @@ pub use Rattle.dnw_data.specs.Walks.{FieldsLeft, IsEnded, NextField, fields_at, 
 pub use Rattle.dnw_field_text.specs.Numbers.{IsNumberText, max_u16, max_u32, max_u48, max_u8}
 pub use Rattle.dnw_field_text.specs.Octets.{IsBase64Text, IsHexText, IsOctets, IsSalt, IsSaltText, base64_text, hex_text, salt_text}
 pub use Rattle.dnw_field_text.specs.Spelling.{Appends, ComesBack}
-pub use Rattle.dnw_field_text.specs.Strings.{IsString, IsStringText, Plain, octet_text, octets_from, quote, string_octets, string_text}
+pub use Rattle.dnw_field_text.specs.Base32.{IsHash, IsHashText, base32_octets, base32_text, base32_value, is_base32}
+pub use Rattle.dnw_field_text.specs.Pairs.{IsIdentifier, IsPairsText, pairs_octets, pairs_text}
+pub use Rattle.dnw_field_text.specs.Strings.{IsLongText, IsString, IsStringText, IsText, IsTextWithin, Plain, octet_text}
+pub use Rattle.dnw_field_text.specs.Strings.{octets_from, quote, string_octets, string_text}
+pub use Rattle.dnw_field_text.specs.Tags.{IsTag, IsTagText}
 pub use Rattle.dnw_field_text.specs.Strings.{with_octet}
 pub use Rattle.dnw_field_text.specs.Times.{IsDateText, IsDay, IsMoment, IsTimeText, two_at}
 -- Texts of the data of records.
 pub use Rattle.dnw_data_text.specs.DataTexts.{FailsText, IsDataText, IsTextOf, record_line}
 pub use Rattle.dnw_data_text.specs.Generic.{generic_text, IsGeneric}
-pub use Rattle.dnw_data_text.specs.DataTextLaws.{GenericComesBack, IsData as IsDataOctets}
+pub use Rattle.dnw_data_text.specs.DataTextLaws.{AddressesComeBack as FieldAddressesComeBack, CountedComeBack, NumbersComeBack, OctetsComeBack, StringsComeBack, TypesComeBack}
+pub use Rattle.dnw_data_text.specs.DataTextLaws.{GenericComesBack, FieldComesBack, Follows as FollowsField, IsRead as IsReadType, IsData as IsDataOctets}
 -- Whole messages: headers, sections and EDNS.
 pub use Rattle.dnw_message.specs.Edns.{EdnsValue, FailsEdns, FailsOpt, HasEdns, HasOptions, IsEdns, IsResponseCode, OptionValue}
 pub use Rattle.dnw_message.specs.Edns.{first_option, is_opt, opts_in}
@@ -149,10 +154,13 @@ pub use Rattle.dnw_message.specs.ResponseCodes.{response_code, response_entry, r
 pub use Rattle.dnw_message_writer.specs.Drafts.{Added, Adds, AddsAll, AddsEntry, AddsLast, Begins, Closes, Draft, Ends, counted, cuts, is_open}
 pub use Rattle.dnw_message_writer.specs.QueryFrames.{frame-query}
 pub use Rattle.dnw_message_writer.specs.WireQueries.{EmitsQuery, EmitsQueryFields, QueryFits}
-pub use Rattle.dnw_message_writer.specs.ReadBack.{IsReadAs, QueryIsRead, RecordIsRead}
+pub use Rattle.dnw_message_writer.specs.ReadBack.{IsReadAs, QueryIsRead}
+pub use Rattle.dnw_message_writer.specs.ReadRecords.{RecordIsRead, RecordStands as RecordIsThere}
 pub use Rattle.dnw_message_writer.specs.WriterLaws.{EdnsComesBack, MessagesAreWritten, MessagesEndWith, MessagesHaveEdns, WrittenMessagesAreRead}
 pub use Rattle.dnw_message_writer.specs.Writers.{BeginsWith, Finishes, draft, last_of, lent}
 pub use Rattle.dnw_message_writer.specs.Written.{Contents, Written, WrittenWith, contents_from, counts_of, ending_with, header_for, nothing}
+pub use Rattle.dnw_message_writer.specs.Copies.{AddsCopies, AddsItems, FailsCopies, FailsCopy, FailsCopyOf, IsAmong, IsCopied, IsEntryOf, IsLastOf, IsSettled}
+pub use Rattle.dnw_message_writer.specs.Copies.{FailsToBegin, WrittenBefore, last_size, plain_in, query_entry}
 pub use Rattle.dnw_message_writer.specs.WireEdns.{IsNoOpt, IsOptOf, OptionFits, edns_ttl, edns_value, option_wire, options_wire}
 pub use Rattle.dnw_message_writer.specs.declared.writer.Entry.{Entry}
 pub use Rattle.dnw_message.specs.declared.header.HeaderCounts.{HeaderCounts}
@@ -162,8 +170,16 @@ pub use Rattle.dnw_rdata.specs.declared.record.Record.{Record}
 pub use Rattle.dnw_rdata.specs.declared.rdata.RDataError.{RDataError}
 pub use Rattle.dnw_rdata.specs.DataPieces.{ArePiecesOf, DataPiece, DataValue, HasPieces, IsData, IsDataOfType, kinds_of, octets_of, piece_octets}
 pub use Rattle.dnw_rdata.specs.DataCopies.{Copies, FailsToCopy, TakesPiece, TakesPieces, alone, data_start}
-pub use Rattle.dnw_rdata.specs.AnyRecords.{AnyNumbersFit, EmitsAnyRecord, EmitsRData, encoding_of, mode_of, parts_of}
+pub use Rattle.dnw_rdata.specs.AnyRecords.{AnyNumbersFit, EmitsAnyRecord, EmitsRData, IsCopyOf, encoding_of, mode_of, parts_of}
 pub use Rattle.dnw_rdata.specs.AnyRecordFrames.{frame-any_record}
 pub use Rattle.dnw_rdata.specs.AnyRecordLaws.{AnyRecordsAreRead, AnyRecordsFit, AnyRecordsPrecede, AnyRecordsStayBounded, CandidatesAreRead, DataHaveFields}
 pub use Rattle.dnw_rdata.specs.AnyRecordLaws.{NamesKeepRead, NewAreRead, PlainDataAreOctets, ReadsAs, RefusedAnyUndo, WholeDataAreOctets, WritesKeepRead}
 pub use Rattle.dnw_rdata.specs.AnyRecordLaws.{any_record_size, value_of, values_of, written_piece, written_pieces}
+pub use Rattle.dnw_rdata.specs.AnyRecordFrames.{frame-rdata}
+-- records in canonical form
+pub use Rattle.dnw_canonical.specs.declared.error.CanonicalError.{CanonicalError}
+pub use Rattle.dnw_canonical.specs.CanonicalData.{IsCanonical, canonical_piece, canonical_pieces}
+pub use Rattle.dnw_canonical.specs.RecordSets.{AreCanonical, FailsFrom, FailsSet, FirstOther, IsMember, IsOfSet, IsRecordSet, IsSet, IsInOrder}
+pub use Rattle.dnw_canonical.specs.RecordSets.{set_head, set_record, signed_owner}
+pub use Rattle.dnw_canonical.specs.SignedFields.{FailsSignedFields, IsRrsig, IsSignedFields, before_signer}
+pub use Rattle.dnw_canonical.specs.CanonicalLaws.{AreAmong, DependsOnSet, IsLike, IsLikeData, KeepsInAnyOrder}

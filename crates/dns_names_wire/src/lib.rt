@@ -46,6 +46,13 @@ pub mod codes {
     pub use dnw_sets::record_type_set::{RecordTypeSet, TypeIter};
 }
 
+/// Records in canonical form: the octets that a signature covers, and what follows from their definitions.
+pub mod canonical {
+    pub use dnw_canonical::canonical::{record_set, signed_fields};
+    pub use dnw_canonical::error::CanonicalError;
+    pub use dnw_canonical::laws;
+}
+
 /// What follows from the tables of types and classes, for callers' proofs.
 pub mod code_laws;
 
@@ -81,16 +88,20 @@ pub mod error {
     pub use dnw_error::error::{DecodeError, ProtoError, ProtoResult};
 }
 
-/// Texts of single values in master files: numbers, octets, times, addresses and character strings.
+/// Texts of single values in master files: numbers, octets, times, addresses, character strings, tags, hashed names and
+/// identifiers of hardware.
 pub mod field_text {
     pub use dnw_field_text::address::{parse_ipv4, parse_ipv6};
+    pub use dnw_field_text::base32::{Base32Hex, parse_hash};
     pub use dnw_field_text::error::FieldTextError;
     pub use dnw_field_text::laws;
     pub use dnw_field_text::number::{parse_u8, parse_u16, parse_u32, parse_u48};
     pub use dnw_field_text::octets::{
         Base64, Hexadecimal, Salt, parse_base64, parse_hexadecimal, parse_salt,
     };
-    pub use dnw_field_text::string::{CharacterString, parse_string};
+    pub use dnw_field_text::pairs::{Pairs, parse_pairs};
+    pub use dnw_field_text::string::{CharacterString, parse_string, parse_text};
+    pub use dnw_field_text::tag::{parse_tag, tag_text};
     pub use dnw_field_text::time::{parse_time, time_text};
 }
 
@@ -135,7 +146,7 @@ pub mod message {
         edns_comes_back, messages_are_written, messages_end_with, written_messages_are_read,
     };
     pub use dnw_message_writer::query::WireQuery;
-    pub use dnw_message_writer::writer::{AddError, Entry, MessageWriter, write};
+    pub use dnw_message_writer::writer::{AddError, CopyError, Entry, MessageWriter, copy, write};
 }
 
 /// Domain names, and what follows from the definitions of reading them.

@@ -1,6 +1,6 @@
 //! The texts of the data of records. The octets and the texts are dnspython's (`rdata.to_wire()`, `rdata.to_text()`), but for
-//! digits in upper case, base 64 in one word, the tag of a CAA in quotes, and types that have no text of their own
-//! here, which are in the form of RFC 3597, section 5.
+//! digits in upper case, base 64 in one word, and types that have no text of their own here, which are in the form of RFC
+//! 3597, section 5.
 
 use dns_names_wire::data_text::{DataTextError, Generic, Wanted, data_text, parse, record_text};
 use dns_names_wire::decoder::BinDecoder;
@@ -99,8 +99,9 @@ const ROWS: &[(u16, &str, &str)] = &[
     (
         257,
         "000569737375656C657473656E63727970742E6F7267",
-        "0 \"issue\" \"letsencrypt.org\"",
+        "0 issue \"letsencrypt.org\"",
     ),
+    (257, "8003746273556E6B6E6F776E", "128 tbs \"Unknown\""),
     (
         256,
         "000A00016674703A2F2F667470312E6578616D706C652E636F6D2F7075626C6963",
@@ -117,9 +118,21 @@ const ROWS: &[(u16, &str, &str)] = &[
     (
         47,
         "04686F7374076578616D706C6503636F6D000006400100000003041B000000000000000000000000000000000000000000000000000020",
-        "\\# 55 04686F7374076578616D706C6503636F6D000006400100000003041B000000000000000000000000000000000000000000000000000020",
+        "host.example.com. A MX RRSIG NSEC TYPE1234",
     ),
-    (108, "00005E00532A", "\\# 6 00005E00532A"),
+    (
+        50,
+        "0101000C04AABBCCDD14174EB2409FE28BCB4887A1836F957F0A8425E27B000722010000000290",
+        "1 1 12 AABBCCDD 2T7B4G4VSA5SMI47K61MV5BV1A22BOJR NS SOA MX RRSIG DNSKEY NSEC3PARAM",
+    ),
+    (
+        50,
+        "01000000001417F3DF17B2B2ADAEF615257DE4D2020B80AC6C7C",
+        "1 0 0 - 2VPTU5TIMAMQTTGL4LUU9KG21E0AOR3S",
+    ),
+    (62, "000000420003000460000008", "66 3 A NS AAAA"),
+    (108, "00005E00532A", "00-00-5e-00-53-2a"),
+    (109, "00005EEF1000002A", "00-00-5e-ef-10-00-00-2a"),
     (
         64,
         "000103666F6F076578616D706C6503636F6D00000300020035",
@@ -246,4 +259,59 @@ fn a_record_is_one_line(rt: HostRuntime) -> Result<(), Fail> {
         ". 300 IN TYPE65280 \\# 1 07"
     );
     Ok(())
+}
+
+/// RFC 8659, section 4.1.1, and RFC 7553, section 4.4: a value or a target has no length octet.
+#[test]
+fn values_may_be_longer_than_a_string(rt: HostRuntime) -> Result<(), Fail> {
+    let alloc = rt.alloc();
+    let long = "v".repeat(alloc, 300)?;
+    let text = format!(in alloc; "0 issue \"{long}\"")?;
+    let parsed = parse(alloc, RecordType::CAA, text.as_str(), None)?;
+    assert_eq!(rt; parsed.len(), 307);
+    let text = format!(in alloc; "10 1 \"{long}\"")?;
+    assert_eq!(rt;
+        parse(alloc, RecordType::from(256), text.as_str(), None)?.len(),
+        304
+    );
+    let text = format!(in alloc; "\"{long}\"")?;
+    assert!(rt; parse(alloc, RecordType::TXT, text.as_str(), None).is_err());
+    Ok(())
+}
+
+/// The types of a bitmap may be in any order, and more than once; BIND and dnspython take them so. A bitmap that could be
+/// shorter has no text of its own (RFC 4034, section 4.1.2), so that its octets come back.
+#[test]
+fn types_are_parsed_in_any_order(rt: HostRuntime) -> Result<(), Fail> {
+    let alloc = rt.alloc();
+    let parsed = parse(alloc, RecordType::NSEC, ". RRSIG a NSEC MX TYPE1 A", None)?;
+    assert_eq!(rt;
+        parsed.as_slice(),
+        b"\x00\x00\x06\x40\x01\x00\x00\x00\x03".as_slice()
+    );
+    let parsed = parse(alloc, RecordType::NSEC, ".", None)?;
+    assert_eq!(rt; parsed.as_slice(), b"\x00".as_slice());
+    assert!(rt; parse(alloc, RecordType::NSEC, ". A NOTYPE", None).is_err());
+    let octets = record_octets(alloc, 47, b"\x00\x00\x02\x40\x00")?;
+    let record = RecordRef::read_next(&mut BinDecoder::new(octets.as_slice()))?;
+    assert_eq!(rt; data_text(alloc, &record)?.as_str(), "\\# 5 0000024000");
+    Ok(())
+}
+
+#[test]
+fn texts_of_other_forms_are_rejected(rt: HostRuntime) {
+    let alloc = rt.alloc();
+    for (code, text) in &[
+        (257, "0 \"issue\" \"ca.example\""),
+        (257, "0 is-sue \"ca.example\""),
+        (108, "00-00-5e-00-53"),
+        (108, "00:00:5e:00:53:2a"),
+        (108, "00-00-5e-00-53-2a-"),
+        (109, "00-00-5e-00-53-2a"),
+        (50, "1 0 0 - - A"),
+        (50, "1 0 0 - 2vptu5timamqttgl4luu9kg21e0aor3w A"),
+        (50, "1 0 0 - 2vp A"),
+    ] {
+        assert!(rt; parse(alloc, RecordType::from(*code), text, None).is_err());
+    }
 }

@@ -1,9 +1,10 @@
 //! The texts of single values of fields, with the values of the RFCs.
 
 use dns_names_wire::field_text::{
-    Base64, CharacterString, FieldTextError, Hexadecimal, Salt, parse_base64, parse_hexadecimal,
-    parse_ipv4, parse_ipv6, parse_salt, parse_string, parse_time, parse_u8, parse_u16, parse_u32,
-    parse_u48, time_text,
+    Base32Hex, Base64, CharacterString, FieldTextError, Hexadecimal, Pairs, Salt, parse_base64,
+    parse_hash, parse_hexadecimal, parse_ipv4, parse_ipv6, parse_pairs, parse_salt, parse_string,
+    parse_tag, parse_text, parse_time, parse_u8, parse_u16, parse_u32, parse_u48, tag_text,
+    time_text,
 };
 use std::net::Ipv4Addr;
 use std::test::Fail;
@@ -52,6 +53,102 @@ fn octets_have_the_texts_of_rfc_4648(rt: HostRuntime) -> Result<(), Fail> {
             format!(in alloc; "{text}{text}")?.as_bytes()
         );
     }
+    Ok(())
+}
+
+/// RFC 4648, section 10, without its padding, which RFC 5155, section 3.3, leaves out.
+#[test]
+fn hashed_names_have_the_texts_of_rfc_4648(rt: HostRuntime) -> Result<(), Fail> {
+    let rows = [
+        ("f", "CO"),
+        ("fo", "CPNG"),
+        ("foo", "CPNMU"),
+        ("foob", "CPNMUOG"),
+        ("fooba", "CPNMUOJ1"),
+        ("foobar", "CPNMUOJ1E8"),
+    ];
+    for (text, digits) in rows {
+        let alloc = rt.alloc();
+        assert_eq!(rt;
+            format!(in alloc; "{}", Base32Hex(text.as_bytes()))?.as_str(),
+            digits
+        );
+        let mut parsed = Vec::new(alloc);
+        parse_hash(digits, &mut parsed)?;
+        parse_hash(digits.to_ascii_lowercase(alloc)?.as_str(), &mut parsed)?;
+        assert_eq!(rt;
+            parsed.as_slice(),
+            format!(in alloc; "{text}{text}")?.as_bytes()
+        );
+    }
+    let mut unchanged = Vec::from_slice(rt.alloc(), b"x")?;
+    for text in [
+        "",
+        "C",
+        "CP0",
+        "CPNMUX",
+        "CPNMUOW",
+        "CP",
+        "CO======",
+        "CPNMUOJ1E",
+    ] {
+        assert_eq!(rt; parse_hash(text, &mut unchanged), Err(FieldTextError::Hash));
+        assert_eq!(rt; unchanged.as_slice(), b"x".as_slice());
+    }
+    Ok(())
+}
+
+/// RFC 7043, sections 3.2 and 4.2.
+#[test]
+fn identifiers_are_printed_and_parsed(rt: HostRuntime) -> Result<(), Fail> {
+    let rows = [
+        ("00-00-5e-00-53-2a", [0, 0, 0x5e, 0, 0x53, 0x2a].as_slice()),
+        (
+            "00-00-5e-ef-10-00-00-2a",
+            [0, 0, 0x5e, 0xef, 0x10, 0, 0, 0x2a].as_slice(),
+        ),
+    ];
+    for (text, octets) in rows {
+        let alloc = rt.alloc();
+        assert_eq!(rt; format!(in alloc; "{}", Pairs(octets))?.as_str(), text);
+        let mut parsed = Vec::new(alloc);
+        parse_pairs(text.to_ascii_uppercase(alloc)?.as_str(), &mut parsed)?;
+        assert_eq!(rt; parsed.as_slice(), octets);
+    }
+    let mut unchanged = Vec::from_slice(rt.alloc(), b"x")?;
+    for text in ["", "0", "00-", "00-0", "00 5e", "00:5e", "-00", "0g"] {
+        assert_eq!(rt;
+            parse_pairs(text, &mut unchanged),
+            Err(FieldTextError::Pairs)
+        );
+        assert_eq!(rt; unchanged.as_slice(), b"x".as_slice());
+    }
+    Ok(())
+}
+
+/// RFC 8659, section 4.1.1.
+#[test]
+fn tags_and_values_are_parsed(rt: HostRuntime) -> Result<(), Fail> {
+    let alloc = rt.alloc();
+    let mut parsed = Vec::new(alloc);
+    parse_tag("issue", &mut parsed)?;
+    assert_eq!(rt; parsed.as_slice(), b"issue".as_slice());
+    assert_eq!(rt; tag_text(parsed.as_slice()), Some("issue"));
+    assert_eq!(rt; tag_text(b"is-sue"), None);
+    for text in ["", "is-sue", "\"issue\""] {
+        assert_eq!(rt; parse_tag(text, &mut parsed), Err(FieldTextError::Tag));
+    }
+    let long = "v".repeat(alloc, 65535)?;
+    let mut value = Vec::new(alloc);
+    parse_text(long.as_str(), &mut value)?;
+    assert_eq!(rt; value.len(), 65535);
+    let longer = "v".repeat(alloc, 65536)?;
+    assert_eq!(rt;
+        parse_text(longer.as_str(), &mut value),
+        Err(FieldTextError::Text)
+    );
+    assert_eq!(rt; parse_string("vv\"", &mut value), Ok(()));
+    assert_eq!(rt; value.len(), 65538);
     Ok(())
 }
 

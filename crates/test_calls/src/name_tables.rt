@@ -74,6 +74,6 @@ fn names_out_of_order_are_refused(rt: HostRuntime) -> Result<(), Fail> {
 /// What docs/PERFORMANCE.md says of names in bulk.
 #[test]
 fn names_take_these_bytes(rt: HostRuntime) {
-    assert_eq!(rt; size_of::<Name>(), 280);
+    assert_eq!(rt; size_of::<Name>(), 272);
     assert_eq!(rt; size_of::<NameRef<'_>>(), 48);
 }

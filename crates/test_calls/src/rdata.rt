@@ -96,6 +96,23 @@ fn data_of_a_message_are_copied_whole(rt: HostRuntime) -> Result<(), Fail> {
 }
 
 #[test]
+fn a_record_of_a_message_is_copied_whole(rt: HostRuntime) -> Result<(), Fail> {
+    let alloc = rt.alloc();
+    let message = b"\x01a\x00\xc0\x00\x00\x0f\x00\x01\x00\x00\x01\x2c\x00\x06\x00\x0a\x01B\xc0\x00";
+    let mut decoder = BinDecoder::new(message.as_slice());
+    decoder.skip(3)?;
+    let found = RecordRef::read_next(&mut decoder)?;
+    let Ok(record) = Record::from_ref(alloc, &found) else {
+        return Err(Fail::from("data of the type"));
+    };
+    assert!(rt; record.name == Name::from_ascii(alloc, "a.")?);
+    assert!(rt; record.dns_class == DNSClass::IN);
+    assert_eq!(rt; record.ttl, 300);
+    assert!(rt; record.data.octets() == b"\x00\x0a\x01B\x01a\x00".as_slice());
+    Ok(())
+}
+
+#[test]
 fn octets_that_are_no_data_are_refused(rt: HostRuntime) -> Result<(), Fail> {
     let alloc = rt.alloc();
     let Err(RDataError::Field(error)) = RData::new(alloc, RecordType::A, b"\x01\x02\x03\x04\x05")

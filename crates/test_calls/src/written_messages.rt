@@ -1,12 +1,11 @@
 //! Messages against the octets that dnspython 2.3.0 writes for them.
 
 use dns_names_wire::message::{
-    AddError, Entry, MessageRef, MessageType, MessageWriter, Metadata, OpCode, ResponseCode,
-    WireEdns, WireOption, WireQuery, write,
+    AddError, CopyError, EdnsError, Entry, MessageRef, MessageType, MessageWriter, Metadata,
+    OpCode, ResponseCode, WireEdns, WireOption, WireQuery, copy, write,
 };
-use dns_names_wire::{
-    DNSClass, Name, ProtoError, ProtoResult, RDataEncoding, RecordType, WireData, WireRecord,
-};
+use dns_names_wire::rdata::{RData, Record};
+use dns_names_wire::{DNSClass, Name, ProtoError, ProtoResult, RecordType};
 use std::alloc::Global;
 use std::test::Fail;
 use uses::messages::write_and_read;
@@ -22,6 +21,14 @@ const REFERRAL: &[u8] =
 const TRUNCATED: &[u8] =
     b"\x12\x34\x87\x80\x00\x01\x00\x01\x00\x00\x00\x00\x07example\x03com\x00\x00\x02\x00\x01\
 \xc0\x0c\x00\x02\x00\x01\x00\x00\x0e\x10\x00\x06\x03ns1\xc0\x0c";
+
+/// The referral without compression.
+const WHOLE: &[u8] =
+    b"\x12\x34\x85\x80\x00\x01\x00\x02\x00\x01\x00\x01\x07example\x03com\x00\x00\x02\x00\x01\
+\x07example\x03com\x00\x00\x02\x00\x01\x00\x00\x0e\x10\x00\x11\x03ns1\x07example\x03com\x00\
+\x07example\x03com\x00\x00\x02\x00\x01\x00\x00\x0e\x10\x00\x11\x03ns2\x07example\x03com\x00\
+\x03com\x00\x00\x02\x00\x01\x00\x02\xa3\x00\x00\x14\x01a\x0cgtld-servers\x03net\x00\
+\x03ns1\x07example\x03com\x00\x00\x01\x00\x01\x00\x00\x0e\x10\x00\x04\xc0\x00\x02\x01";
 
 /// A query for the servers of example.com.
 const QUERY: &str = "123401000001000000000000076578616d706c6503636f6d0000020001";
@@ -66,27 +73,34 @@ const METADATA: Metadata = Metadata {
     response_code: ResponseCode::NoError,
 };
 
-fn server(alloc: Global, owner: &str, ttl: u32, name: &str) -> ProtoResult<WireRecord> {
-    Ok(WireRecord {
-        owner: Name::from_ascii(alloc, owner)?,
-        record_type: RecordType::NS,
-        class: DNSClass::IN,
+fn record(
+    alloc: Global,
+    owner: &str,
+    kind: RecordType,
+    ttl: u32,
+    data: &[u8],
+) -> ProtoResult<Record> {
+    Ok(Record {
+        name: Name::from_ascii(alloc, owner)?,
+        dns_class: DNSClass::IN,
         ttl,
-        rdata: WireData::Name {
-            name: Name::from_ascii(alloc, name)?,
-            encoding: RDataEncoding::StandardRecord,
-        },
+        data: RData::new(alloc, kind, data).map_err(|_| ProtoError::Memory)?,
     })
 }
 
-fn address(alloc: Global) -> ProtoResult<WireRecord> {
-    Ok(WireRecord {
-        owner: Name::from_ascii(alloc, "ns1.example.com.")?,
-        record_type: RecordType::A,
-        class: DNSClass::IN,
-        ttl: 3600,
-        rdata: WireData::Bytes(vec![in alloc; 192, 0, 2, 1]?),
-    })
+fn server(alloc: Global, owner: &str, ttl: u32, name: &str) -> ProtoResult<Record> {
+    let name = Name::from_ascii(alloc, name)?;
+    record(alloc, owner, RecordType::NS, ttl, name.as_wire())
+}
+
+fn address(alloc: Global) -> ProtoResult<Record> {
+    record(
+        alloc,
+        "ns1.example.com.",
+        RecordType::A,
+        3600,
+        &[192, 0, 2, 1],
+    )
 }
 
 fn question(alloc: Global) -> ProtoResult<WireQuery> {
@@ -250,5 +264,80 @@ fn a_caller_reads_what_it_wrote(rt: HostRuntime) -> Result<(), Fail> {
     assert_eq!(rt; counts.answers, 1);
     assert_eq!(rt; counts.authorities, 0);
     assert_eq!(rt; counts.additionals, 1);
+    Ok(())
+}
+
+/// The octets of a copy, or why there is none.
+fn copied(alloc: Global, octets: &[u8], max_size: u16) -> Result<Vec<u8>, CopyError> {
+    let Ok(message) = MessageRef::read(octets) else {
+        return Err(CopyError::Proto(ProtoError::Message("no message")));
+    };
+    let mut buffer = Vec::new(alloc);
+    copy(alloc, &mut buffer, &message, max_size)?;
+    Ok(buffer)
+}
+
+#[test]
+fn copies_are_compressed(rt: HostRuntime) -> Result<(), Fail> {
+    let alloc = rt.alloc();
+    assert_eq!(rt; copied(alloc, WHOLE, 512)?.as_slice(), REFERRAL);
+    assert_eq!(rt; copied(alloc, REFERRAL, 512)?.as_slice(), REFERRAL);
+    Ok(())
+}
+
+#[test]
+fn copies_without_room_are_truncated(rt: HostRuntime) -> Result<(), Fail> {
+    let alloc = rt.alloc();
+    assert_eq!(rt; copied(alloc, WHOLE, 57)?.as_slice(), TRUNCATED);
+    assert!(rt;
+        matches!(
+            copied(alloc, WHOLE, 11),
+            Err(CopyError::Proto(ProtoError::MaxBufferSizeExceeded(11)))
+        )
+    );
+    Ok(())
+}
+
+#[test]
+fn copies_end_with_edns(rt: HostRuntime) -> Result<(), Fail> {
+    let alloc = rt.alloc();
+    let response = hex::decode(alloc, RESPONSE)?;
+    assert_eq!(rt;
+        copied(alloc, response.as_slice(), 512)?.as_slice(),
+        response.as_slice()
+    );
+    let small = copied(alloc, response.as_slice(), 12 + OPT_LEN)?;
+    assert_eq!(rt; small.len(), usize::from(12 + OPT_LEN));
+    let message = MessageRef::read(small.as_slice())?;
+    assert!(rt; message.header().metadata.truncation);
+    assert!(rt; message.edns()?.is_some());
+    assert!(rt;
+        matches!(
+            copied(alloc, response.as_slice(), 11 + OPT_LEN),
+            Err(CopyError::Proto(ProtoError::MaxBufferSizeExceeded(40)))
+        )
+    );
+    Ok(())
+}
+
+#[test]
+fn messages_that_are_not_copied(rt: HostRuntime) -> Result<(), Fail> {
+    let alloc = rt.alloc();
+    // An address of three octets, whose data begin at 23.
+    let short = b"\0\0\0\0\0\0\0\x01\0\0\0\0\0\0\x01\0\x01\0\0\0\0\0\x03\x01\x02\x03";
+    assert!(rt;
+        matches!(
+            copied(alloc, short, 512),
+            Err(CopyError::Data { offset: 23, .. })
+        )
+    );
+    // Two `OPT` records.
+    let twice = b"\0\0\0\0\0\0\0\0\0\0\0\x02\0\0\x29\x02\0\0\0\0\0\0\0\0\0\x29\x02\0\0\0\0\0\0\0";
+    assert!(rt;
+        matches!(
+            copied(alloc, twice, 512),
+            Err(CopyError::Edns(EdnsError::DuplicateEdns))
+        )
+    );
     Ok(())
 }

@@ -7,6 +7,7 @@
 
 mod buffer;
 mod codes;
+mod data_texts;
 mod decoding;
 mod encoding;
 mod errors;
@@ -20,6 +21,7 @@ mod notation;
 mod ordering;
 mod read_back;
 mod readings;
+mod record_sets;
 mod records;
 mod requests;
 mod restrict;

@@ -3,8 +3,8 @@
 use crate::notation::BAD_LINE;
 use crate::tally::Tally;
 use crate::{
-    codes, decoding, encoding, errors, fields, labels, names, nets, ordering, readings, records,
-    restrict, scripts, texts, tokens,
+    codes, data_texts, decoding, encoding, errors, fields, labels, names, nets, ordering, readings,
+    record_sets, records, restrict, scripts, texts, tokens,
 };
 use dns_names_wire::error::ProtoResult;
 use std::alloc::Global;
@@ -74,6 +74,8 @@ pub(crate) fn answer(
         "error" => errors::answer(alloc, words),
         "fields" => fields::answer(alloc, words),
         "record" => records::answer(alloc, words),
+        "data-text" | "data-parse" => data_texts::answer(alloc, kind, words),
+        "record-set" => record_sets::answer(alloc, words),
         "lex" | "lex-cuts" | "lex-texts" | "lex-zone" | "time" | "times" => {
             tokens::answer(alloc, kind, words, tally)
         }
