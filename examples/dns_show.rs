@@ -231,7 +231,11 @@ fn record_text(cursor: &mut Cursor) -> Result<String, Rejected> {
         at: record.data_offset(),
         end: record.end(),
     };
-    Ok(format!("{record}\t{}", data_text(data, &kind)?))
+    let owner = record.owner();
+    Ok(format!(
+        "{owner}\t{ttl}\t{class}\t{kind}\t{}",
+        data_text(data, &kind)?
+    ))
 }
 
 fn question_text(cursor: &mut Cursor) -> Result<String, Rejected> {

@@ -13,6 +13,9 @@ SORT_KEY_SIZE = 504
 TEXT_SIZE = 1004
 CODE_SIZE = 10
 
+# DNW_NO_ROOM
+NO_ROOM = 2
+
 # Buffers that are always large enough for a wire form, for a sort key, for the text of a name, of a code, and of an error.
 Form = c_char * FORM_SIZE
 SortKey = c_char * SORT_KEY_SIZE
@@ -98,6 +101,10 @@ class WrittenMessage(ctypes.Structure):
     _fields_ = [("len", c_size_t), ("count", c_size_t)]
 
 
+class PrintedRecord(ctypes.Structure):
+    _fields_ = [("len", c_size_t), ("end", c_size_t)]
+
+
 class Net(ctypes.Structure):
     _fields_ = [("len", c_size_t), ("prefix_len", c_uint8)]
 
@@ -125,6 +132,7 @@ _FUNCTIONS = {
     "dnw_edns_read": (*_READ, c_size_t, POINTER(Edns)),
     "dnw_field_next": (*_READ, c_uint16, POINTER(Fields), POINTER(Field)),
     "dnw_message_write": (*_READ, c_uint16, c_bool, *_WRITTEN, POINTER(WrittenMessage)),
+    "dnw_record_print": (*_READ, c_size_t, *_WRITTEN, POINTER(PrintedRecord)),
     "dnw_reverse_name": (*_READ, *_WRITTEN, POINTER(c_size_t)),
     "dnw_reverse_parse": (*_READ, *_WRITTEN, POINTER(Net)),
     "dnw_name_compare": (*_READ, *_READ, POINTER(c_int32)),

@@ -3,12 +3,12 @@
 import struct
 from ctypes import byref
 from dataclasses import dataclass, field
-from typing import Dict, Optional, Tuple
+from typing import Dict, Iterator, Optional, Tuple
 
 from . import _checks
 from ._checks import Bytes
 from ._codes import OpCode, RecordClass, RecordType, ResponseCode
-from ._errors import SECTIONS, check, check_item
+from ._errors import SECTIONS, DnsError, check, check_item
 from ._fields import checked_name, pairs
 from ._library import Edns as ReadEdns
 from ._library import Message as Read
@@ -95,6 +95,15 @@ class Message:
     (<Record b. 60 IN A c0000201>,)
     >>> message.answers[0].data
     A(address=IPv4Address('192.0.2.1'))
+    >>> print(message)
+    ;; ->>HEADER<<- opcode: QUERY, status: NOERROR, id: 4660
+    ;; flags: qr aa; QUERY: 1, ANSWER: 1, AUTHORITY: 0, ADDITIONAL: 0
+    <BLANKLINE>
+    ;; QUESTION SECTION:
+    ;b. IN A
+    <BLANKLINE>
+    ;; ANSWER SECTION:
+    b. 60 IN A 192.0.2.1
     """
 
     header: Header = field(compare=False)
@@ -165,9 +174,33 @@ class Message:
         check(library.dnw_edns_read(self.wire, len(self.wire), self._max_pointers, byref(read)))
         return read
 
+    def __str__(self) -> str:
+        return "\n".join(_lines(self))
+
     def __repr__(self) -> str:
         counts = [len(part) for part in (self.questions, self.answers, self.authorities, self.additionals)]
         return f"<Message {self.id} {' '.join(self.flags)} {counts}>"
+
+
+def _lines(message: Message) -> Iterator[str]:
+    """The lines that `dig` prints of a message, but for tabs."""
+    try:
+        edns, status = message.edns, message.response_code
+    except DnsError:
+        edns, status = None, message.header.response_code
+    sections = [("ANSWER", message.answers), ("AUTHORITY", message.authorities), ("ADDITIONAL", message.additionals)]
+    numbers = [f"QUERY: {len(message.questions)}", *(f"{title}: {len(records)}" for title, records in sections)]
+    yield f";; ->>HEADER<<- opcode: {message.header.op_code}, status: {status}, id: {message.id}"
+    yield f";; {' '.join(['flags:', *message.flags]).lower()}; {', '.join(numbers)}"
+    if edns is not None:
+        yield from ("", ";; OPT PSEUDOSECTION:")
+        yield f"; EDNS: version: {edns.version}, flags:{' do' * edns.dnssec_ok}; udp: {edns.max_payload}"
+    if message.questions:
+        yield from ("", ";; QUESTION SECTION:", *(f";{question}" for question in message.questions))
+    for title, records in sections:
+        shown = [str(record) for record in records if edns is None or record.record_type != RecordType.OPT]
+        if shown:
+            yield from ("", f";; {title} SECTION:", *shown)
 
 
 def _header(read: Read) -> Header:

@@ -1,7 +1,7 @@
 """The records of messages."""
 
 import struct
-from ctypes import byref, c_size_t
+from ctypes import byref, c_char, c_size_t
 from typing import Any, Dict, Iterator, Optional, Tuple
 
 from . import _checks
@@ -9,7 +9,7 @@ from ._checks import Bytes
 from ._codes import RecordClass, RecordType
 from ._errors import DataTooLong, MessageCut, check, error_text
 from ._fields import FieldValue, checked_name, fields, plain_values
-from ._library import FORM_SIZE, Form, library, taken
+from ._library import FORM_SIZE, NO_ROOM, Form, PrintedRecord, library, taken
 from ._library import Record as Read
 from ._names import Name, NameAt, placed, wire_of
 from ._rdata import CLASSES, Data, Unknown
@@ -17,6 +17,8 @@ from ._rdata import CLASSES, Data, Unknown
 # What is between the owner and the data: the type, the class, the time to live and the number of octets of data.
 _FIXED = struct.Struct("!HHIH")
 _MOST = 65535
+# For how many characters of a line there is room at first.
+_USUAL_LINE_SIZE = 512
 
 
 class _NoNames(Dict[int, NameAt]):
@@ -33,10 +35,13 @@ class Record:
     """A record that was read in a message, or that was made (RFC 1035, section 4.1.3).
 
     It keeps its message, and reads its owner and its data when they are asked for. `Record(owner, ttl, data)` makes one of class
-    IN.
+    IN. As a text it is a line of a master file (RFC 1035, section 5.1); data without a text of their own are shown as any data
+    are, as `\\# 4 0A000001` (RFC 3597, section 5). Its escapes have decimal digits, and not octal ones as those of a `Name`.
 
     >>> from dns_names_wire import MX, Name, Record
     >>> record = Record(Name("a."), 60, MX(preference=10, exchange=Name("b.a.")))
+    >>> print(record)
+    a. 60 IN MX 10 b.a.
     >>> record.to_wire().hex()
     '016100000f00010000003c0007000a0162016100'
     """
@@ -169,6 +174,17 @@ class Record:
         (10, Name('a.'))
         """
         return tuple(fields(self._message, self._data_offset, self._end, self._type))
+
+    def __str__(self) -> str:
+        size, printed = _USUAL_LINE_SIZE, PrintedRecord()
+        while True:
+            room = (c_char * size)()
+            number = library.dnw_record_print(self._message, len(self._message), self._start, room, size, byref(printed))
+            if number != NO_ROOM:
+                break
+            size *= 4
+        check(number, self._start)
+        return taken(room, printed.len).decode("ascii")
 
     def __repr__(self) -> str:
         return f"<Record {self.owner} {self.ttl} {self.record_class} {self.record_type} {self.raw_data.hex()}>"

@@ -7,7 +7,7 @@ import unittest
 from ipaddress import IPv4Address, IPv6Address
 
 import dns_names_wire as dnw
-from dns_names_wire import Message, Name, RecordType, TypeSet, read_record
+from dns_names_wire import Message, Name, Record, RecordType, TypeSet, read_record
 
 # A response with thirteen records of as many types, and an OPT record.
 RESPONSE = bytes.fromhex(
@@ -54,6 +54,41 @@ class WholeMessages(unittest.TestCase):
         self.assertEqual((copied, hash(copied)), (message, hash(message)))
         with self.assertRaises(dataclasses.FrozenInstanceError):
             message.header.id = 1
+
+    def test_a_record_is_a_line(self):
+        # . CH TXT, of 250 strings of 255 octets that are each shown as four characters
+        wire = bytes.fromhex("00 0010 0003 00000009 fa00") + (b"\xff" + bytes(255)) * 250
+        self.assertEqual(str(read_record(wire)), ". 9 CH TXT " + " ".join(['"' + "\\000" * 255 + '"'] * 250))
+        for octets, line in [
+            ("00 000f 0001 00000000 0001 05", ". 0 IN MX \\# 1 05"),
+            ("02612000 0001 0001 00000000 0004 c0000201", "a\\032. 0 IN A 192.0.2.1"),
+            ("00 ff00 00fe 00000000 0000", ". 0 NONE TYPE65280 \\# 0"),
+        ]:
+            self.assertEqual(str(read_record(bytes.fromhex(octets))), line)
+        self.assertEqual(str(Record(Name("a."), 1, dnw.Unknown(65280, b"\1\2"))), "a. 1 IN TYPE65280 \\# 2 0102")
+
+    def test_a_message_is_shown_as_dig_does(self):
+        sections = [line for line in str(Message.from_wire(RESPONSE)).split("\n") if line.startswith(";") or not line]
+        self.assertEqual(
+            sections,
+            [
+                ";; ->>HEADER<<- opcode: QUERY, status: BADCOOKIE, id: 4660",
+                ";; flags: qr aa rd ra ad; QUERY: 1, ANSWER: 9, AUTHORITY: 4, ADDITIONAL: 1",
+                "",
+                ";; OPT PSEUDOSECTION:",
+                "; EDNS: version: 0, flags: do; udp: 1232",
+                "",
+                ";; QUESTION SECTION:",
+                ";www.example.com. IN A",
+                "",
+                ";; ANSWER SECTION:",
+                "",
+                ";; AUTHORITY SECTION:",
+            ],
+        )
+        # Two OPT records say nothing, and are shown as records.
+        shown = str(Message.from_wire(with_additionals(opt("00", ""), opt("00", ""))))
+        self.assertTrue(shown.endswith("\n\n;; ADDITIONAL SECTION:" + "\n. 0 CLASS256 OPT \\# 0" * 2), shown)
 
     def test_fields_are_read(self):
         message = Message.from_wire(RESPONSE)

@@ -14,6 +14,10 @@ pub(crate) const SORT_KEY_SIZE: usize = 504;
 pub(crate) const TEXT_SIZE: usize = 1004;
 /// The bytes of the longest name of a type or a class.
 pub(crate) const CODE_SIZE: usize = 10;
+/// For how many bytes of a record's text there is room at first.
+const USUAL_LINE_SIZE: usize = 512;
+/// `DNW_NO_ROOM`
+const NO_ROOM: u32 = 2;
 /// The bytes of the longest text of an error.
 pub(crate) const ERROR_TEXT_SIZE: usize = 64;
 
@@ -117,6 +121,14 @@ struct WrittenMessage {
     count: usize,
 }
 
+/// `struct dnw_printed_record`
+#[repr(C)]
+#[derive(Default)]
+struct PrintedRecord {
+    len: usize,
+    end: usize,
+}
+
 /// `struct dnw_net`
 #[repr(C)]
 #[derive(Default)]
@@ -207,6 +219,14 @@ extern "C" {
         message: *mut u8,
         message_size: usize,
         written: *mut WrittenMessage,
+    ) -> u32;
+    fn dnw_record_print(
+        message: *const u8,
+        message_len: usize,
+        start: usize,
+        text: *mut u8,
+        text_size: usize,
+        printed: *mut PrintedRecord,
     ) -> u32;
     fn dnw_reverse_name(
         address: *const u8,
@@ -402,6 +422,26 @@ pub(crate) fn write_message(
     // SAFETY: so many bytes of the room were written.
     unsafe { message.set_len(written.len) };
     Ok((written.count, is_whole))
+}
+
+/// Replaces `text` by the line of the record at an offset of a message, and returns it.
+pub(crate) fn print_record<'a>(message: &[u8], start: usize, text: &'a mut Vec<u8>) -> Result<&'a str, Error> {
+    text.clear();
+    text.reserve(USUAL_LINE_SIZE);
+    loop {
+        let (mut printed, room) = (PrintedRecord::default(), text.spare_capacity_mut());
+        let (first, size) = (room.as_mut_ptr().cast(), room.len());
+        // SAFETY: pointers with their lengths, see the module; and the room is not read.
+        let number = unsafe { dnw_record_print(message.as_ptr(), message.len(), start, first, size, &mut printed) };
+        if number == NO_ROOM {
+            text.reserve(2 * size);
+            continue;
+        }
+        outcome(number, ())?;
+        // SAFETY: so many bytes of the room were written.
+        unsafe { text.set_len(printed.len) };
+        return Ok(ascii(text));
+    }
 }
 
 /// Puts the wire form of the reverse name of an address of 4 or 16 bytes, and returns its length.

@@ -182,3 +182,18 @@ impl Default for Header {
         }
     }
 }
+
+impl Header {
+    /// The flags by the names that `dig` shows, in the order of their bits.
+    pub(crate) fn flags(&self) -> [(&'static str, bool); 7] {
+        [
+            ("qr", self.is_response),
+            ("aa", self.authoritative),
+            ("tc", self.truncation),
+            ("rd", self.recursion_desired),
+            ("ra", self.recursion_available),
+            ("ad", self.authentic_data),
+            ("cd", self.checking_disabled),
+        ]
+    }
+}

@@ -24,6 +24,7 @@
 //! | print, compare, sort, hash | `Display`, `Ord`, `Hash`, [`Name::sort_key`], [`Name::zone_of`], [`Name::to_lowercase`] |
 //! | check a whole message, and read its header, its sections and its EDNS | [`Message`] |
 //! | read the records of a message, and their data by type or field by field | [`Record`], [`records()`], [`Record::data`] and [`RData`], [`Record::fields`] |
+//! | show records as lines of master files, and messages as `dig` does | `Display` of [`Record`] and [`Message`] |
 //! | write messages: questions, records and names, with compression | [`MessageWriter`] |
 //! | go from addresses to their reverse names, and back | [`Name::from_ip`], [`Name::parse_arpa_name`] |
 //! | name types and classes, read and write bitmaps of types, compare serial numbers | [`RecordType`], [`Class`], [`TypeSet`], [`SerialNumber`] |

@@ -34,7 +34,7 @@ const COUNTS_SIZE: usize = 8;
 /// let answer = message.answers().next().unwrap();
 /// assert_eq!((answer.owner().to_string(), answer.ttl()), ("b.".into(), 60));
 /// assert_eq!(answer.fields().next(), Some(Ok(Field::Ipv4([192, 0, 2, 1]))));
-/// assert_eq!(message.to_string(), "b.\tIN\tA\nb.\t60\tIN\tA\n");
+/// assert_eq!(answer.to_string(), "b.\t60\tIN\tA\t192.0.2.1");
 /// # Ok::<(), dns_names_wire::Error>(())
 /// ```
 #[derive(Clone)]
@@ -245,12 +245,54 @@ impl<'a> Message<'a> {
     }
 }
 
-/// The questions and the records, each in a line.
+/// As `dig` prints it: the header, what is said by EDNS, the questions, and the records of each section.
+///
+/// ```
+/// use dns_names_wire::Message;
+///
+/// let octets = b"\x12\x34\x85\0\0\x01\0\x01\0\0\0\0\x01b\0\0\x01\0\x01\xC0\x0C\0\x01\0\x01\0\0\0\x3C\0\x04\xC0\0\x02\x01";
+/// let text = "\
+/// ;; ->>HEADER<<- opcode: QUERY, status: NOERROR, id: 4660
+/// ;; flags: qr aa rd; QUERY: 1, ANSWER: 1, AUTHORITY: 0, ADDITIONAL: 0
+///
+/// ;; QUESTION SECTION:
+/// ;b.\tIN\tA
+///
+/// ;; ANSWER SECTION:
+/// b.\t60\tIN\tA\t192.0.2.1
+/// ";
+/// assert_eq!(Message::read(octets)?.to_string(), text);
+/// # Ok::<(), dns_names_wire::Error>(())
+/// ```
 impl fmt::Display for Message<'_> {
     fn fmt(&self, f: &mut fmt::Formatter<'_>) -> fmt::Result {
-        self.questions().try_for_each(|question| writeln!(f, "{question}"))?;
-        let mut records = self.answers().chain(self.authorities()).chain(self.additionals());
-        records.try_for_each(|record| writeln!(f, "{record}"))
+        let (header, edns) = (self.header(), self.edns().ok().flatten());
+        let status = self.response_code().unwrap_or(header.response_code);
+        writeln!(f, ";; ->>HEADER<<- opcode: {}, status: {status}, id: {}", header.op_code, header.id)?;
+        write!(f, ";; flags:")?;
+        header.flags().into_iter().filter(|(_, is_set)| *is_set).try_for_each(|(flag, _)| write!(f, " {flag}"))?;
+        write!(f, "; QUERY: {}, ANSWER: {}", header.question_count, header.answer_count)?;
+        writeln!(f, ", AUTHORITY: {}, ADDITIONAL: {}", header.authority_count, header.additional_count)?;
+        if let Some(edns) = &edns {
+            writeln!(f, "\n;; OPT PSEUDOSECTION:")?;
+            let flags = if edns.dnssec_ok { " do" } else { "" };
+            writeln!(f, "; EDNS: version: {}, flags:{flags}; udp: {}", edns.version, edns.max_payload)?;
+        }
+        if header.question_count > 0 {
+            writeln!(f, "\n;; QUESTION SECTION:")?;
+            self.questions().try_for_each(|question| writeln!(f, ";{question}"))?;
+        }
+        let sections =
+            [("ANSWER", self.answers()), ("AUTHORITY", self.authorities()), ("ADDITIONAL", self.additionals())];
+        for (title, records) in sections {
+            let mut shown =
+                records.filter(|record| edns.is_none() || record.record_type() != RecordType::OPT).peekable();
+            if shown.peek().is_some() {
+                writeln!(f, "\n;; {title} SECTION:")?;
+            }
+            shown.try_for_each(|record| writeln!(f, "{record}"))?;
+        }
+        Ok(())
     }
 }
 

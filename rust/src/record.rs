@@ -6,10 +6,13 @@ use crate::field::Fields;
 use crate::name::Name;
 use crate::name_ref::{pass_name, NameRef};
 use crate::rdata::RData;
+use alloc::vec::Vec;
 use core::fmt;
 
 /// The octets of a record between its owner and its data: type, class, time to live and the data's length.
 const FIXED_SIZE: usize = 10;
+/// The parts of a record's text: the owner, the time to live, the class, the type and the data.
+const TEXT_PARTS: usize = 5;
 
 /// A record that was read in a message (RFC 1035, section 4.1.3). Its owner and its data stay in the message, and the data are
 /// not looked into before [`data`](Record::data) or [`fields`](Record::fields).
@@ -20,7 +23,7 @@ const FIXED_SIZE: usize = 10;
 /// // b. NS a.b., the data compressed
 /// let message = b"\x01b\0\0\x02\0\x01\0\0\0\x3C\0\x04\x01a\xC0\0";
 /// let record = Record::read(message, 0)?;
-/// assert_eq!(record.to_string(), "b.\t60\tIN\tNS");
+/// assert_eq!(record.to_string(), "b.\t60\tIN\tNS\ta.b.");
 /// assert_eq!(record.raw_data(), b"\x01a\xC0\0");
 /// assert!(matches!(record.data()?, RData::NS(host) if host.to_string() == "a.b."));
 /// assert_eq!(record.end(), message.len());
@@ -246,10 +249,18 @@ impl<'a> Record<'a> {
     }
 }
 
-/// The owner, the time to live, the class and the type, with tabs between.
+/// A line of a master file without its end (RFC 1035, section 5.1): the owner, the time to live, the class, the type and the
+/// data, with tabs between. Data without a text of their own are shown as any data are: `\# 4 0A000001` (RFC 3597, section 5).
+/// Escapes have decimal digits, as `\032`, and not octal ones as those of a [`Name`].
 impl fmt::Display for Record<'_> {
     fn fmt(&self, f: &mut fmt::Formatter<'_>) -> fmt::Result {
-        write!(f, "{}\t{}\t{}\t{}", self.owner, self.ttl(), self.class(), self.record_type())
+        let mut line = Vec::new();
+        let line = door::print_record(self.message, self.owner.start(), &mut line).map_err(|_| fmt::Error)?;
+        // No text of an owner, a time, a class or a type has a space.
+        line.splitn(TEXT_PARTS, ' ').enumerate().try_for_each(|(number, text)| match number {
+            0 => f.write_str(text),
+            _ => write!(f, "\t{text}"),
+        })
     }
 }
 

@@ -54,7 +54,8 @@ fn a_response_is_read() {
     assert!(owners[3..].iter().all(|owner| owner == "example.com."));
     assert!(message.answers().skip(1).all(|record| record.ttl() == 60));
     assert!(message.authorities().all(|record| record.ttl() == 3600));
-    assert_eq!(message.to_string().lines().count(), 15);
+    // two lines of the header; EDNS, one question, nine answers and four authorities, each after an empty line and a title
+    assert_eq!(message.to_string().lines().count(), 2 + 3 + 3 + 11 + 6);
     assert_eq!((message.octets(), message.trailing().len()), (&response[..], 0));
     let edns = message.edns().unwrap().unwrap();
     assert_eq!((edns.max_payload, edns.version, edns.dnssec_ok), (1232, 0, true));
@@ -245,4 +246,43 @@ fn fields_that_are_none() {
     assert_eq!(read(0xFF00, ""), [Ok(())]);
     let name = NameRef::read(b"\x01a\0", 0).unwrap();
     assert_eq!(Field::Name(name), Field::Name(NameRef::read(b"\x01A\0", 0).unwrap()));
+}
+
+#[test]
+fn a_record_is_a_line() {
+    // . CH TXT, of 250 strings of 255 octets that are each shown as four characters
+    let data: Vec<u8> = [&[255][..], &[0; 255]].concat().repeat(250);
+    let octets = [&b"\0\0\x10\0\x03\0\0\0\x09\xFA\0"[..], &data].concat();
+    let line = format!(".\t9\tCH\tTXT\t{}", vec![format!("\"{}\"", "\\000".repeat(255)); 250].join(" "));
+    assert_eq!(Record::read(&octets, 0).unwrap().to_string(), line);
+    for (octets, line) in [
+        (&b"\0\0\x0F\0\x01\0\0\0\0\0\x01\x05"[..], ".\t0\tIN\tMX\t\\# 1 05"),
+        (b"\x02a \0\x00\x01\0\x01\0\0\0\0\0\x04\xC0\0\x02\x01", "a\\032.\t0\tIN\tA\t192.0.2.1"),
+        (b"\0\xFF\0\0\xFE\0\0\0\0\0\0", ".\t0\tNONE\tTYPE65280\t\\# 0"),
+    ] {
+        assert_eq!(Record::read(octets, 0).unwrap().to_string(), line);
+    }
+}
+
+#[test]
+fn a_message_is_shown_with_edns_or_with_what_is_none() {
+    let opt = b"\0\0\x29\x04\xD0\x01\0\x80\0\0\0";
+    let head = b"\0\x07\x20\0\0\0\0\0\0\0\0";
+    let one = [&head[..], &[1], opt].concat();
+    let lines = |status, count| {
+        format!(
+            ";; ->>HEADER<<- opcode: NOTIFY, status: {status}, id: 7\n\
+             ;; flags:; QUERY: 0, ANSWER: 0, AUTHORITY: 0, ADDITIONAL: {count}\n\n"
+        )
+    };
+    assert_eq!(
+        Message::read(&one).unwrap().to_string(),
+        lines("BADVERS", 1) + ";; OPT PSEUDOSECTION:\n; EDNS: version: 0, flags: do; udp: 1232\n"
+    );
+    let two = [&head[..], &[2], opt, opt].concat();
+    let line = ".\t16809984\tCLASS1232\tOPT\t\\# 0\n";
+    assert_eq!(
+        Message::read(&two).unwrap().to_string(),
+        lines("NOERROR", 2) + ";; ADDITIONAL SECTION:\n" + line + line
+    );
 }
