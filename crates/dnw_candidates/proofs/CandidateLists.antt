@@ -7,7 +7,7 @@ use Rattle.std.proofs.lemmas.List.Sums.{count_by-le-length, length-filter}
 use Rattle.std.proofs.lemmas.Bool.Decides.{leb_tells}
 use Rattle.std.proofs.Math.Seq.{get_or-append_seam, split_at}
 use Rattle.dnw_base.specs.Names.{labels_wire}
-use Rattle.dnw_candidates.specs.Candidates.{Candidate, IsUsable}
+use Rattle.dnw_candidates.specs.Candidates.{Candidate, IsUsable, NoneUsable}
 use Rattle.dnw_candidates.specs.Inside.Marks.{CannotBe, NoneBefore}
 
 pub le_unless : (a b : ℕ) → (b < a → ⊥) → a ≤ b
@@ -31,6 +31,13 @@ not_before {message} {labels} {cs} {before} {after} {offset} n none u = le_unles
     ∙ get_or-append_seam before x after x in
     let cannot : CannotBe message labels x = subst (CannotBe message labels) at (none (length before) x (omega arith) less) in
     cannot refl u.end u.pointers u.name)
+
+-- none is usable if none of all of them is
+pub none_usable : {message : List ℕ} {labels : List (List ℕ)} {cs : List Candidate} (n : ℕ) → length cs ≤ n
+    → NoneBefore message labels cs n → NoneUsable message cs labels
+none_usable {message} {labels} {cs} n all none = λ offset before after u.
+    let last = not_before n none u in
+    omega (arith, last, all, ap length u.split, length-append {A = Candidate})
 
 -- ---- the bytes of labels
 

@@ -1,4 +1,5 @@
 pub mod CandidateLists
 pub mod Held
 pub mod Rings
+pub mod Mixing
 pub mod Matching

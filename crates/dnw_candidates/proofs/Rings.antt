@@ -1,10 +1,34 @@
 -- Candidates of a tag, linked in a ring: one more is linked, and a search goes along it.
-use Rattle.std.proofs.Common.{◌≡◌, ◌≢◌, ℕ, ◌+◌, ◌-◌, ◌<◌, ◌≤◌, List, [], length, get_or, set, sym, ap, ◌∙◌, Option, Some, None, IfSome, ⊎_elim, arith}
-use Rattle.std.proofs.lemmas.List.{get_or_default, get_or-set_same, get_or-set_other, length-set}
+use Rattle.std.proofs.Common.{◌≡◌, ◌≢◌, ℕ, zero, suc, ◌+◌, ◌-◌, ◌<◌, ◌≤◌, List, [], length, get_or, replicate, set, refl, sym, take, ap, ◌∙◌, Option, Some, None, IfSome, ⊎_elim, arith}
+use Rattle.std.proofs.lemmas.List.{get_or-take, get_or_default, get_or-set_same, get_or-set_other, length-set, take-take}
 use Rattle.std.proofs.lemmas.Bool.Decides.{leb_tells, eqb_tells}
 use Rattle.dnw_base.specs.Names.{labels_wire}
 use Rattle.dnw_candidates.specs.Candidates.{Candidate}
-use Rattle.dnw_candidates.specs.Inside.Marks.{AreLinked, FindsNext, IsRing, NoneBefore, place, tag, tag_at}
+use Rattle.dnw_candidates.specs.Inside.Marks.{AreRinged, AreTagged, FindsNext, IsRing, NoneBefore, place, tag_at}
+
+-- ---- no candidate
+
+-- each of so many tags has 0
+pub zeros : (n t : ℕ) → ◌≡◌ {A = ℕ} (get_or (replicate n 0) t 0) 0
+zeros zero t = refl
+zeros (suc n) zero = refl
+zeros (suc n) (suc t) = zeros n t
+
+-- no tag has a last candidate
+pub none_linked : (tags : ℕ) (tag_of : List ℕ → ℕ) (last next : List ℕ) (cs : List Candidate)
+    → ((t : ℕ) → t < tags → get_or last t 0 ≡ 0) → AreTagged tags tag_of last next 0 cs
+none_linked tags tag_of last next cs none = record {
+  few = omega arith;
+  linked = record {
+    whatever = λ all front t below. rw (none t below) (record {
+      few = omega arith;
+      some = λ h. absurd (omega arith);
+      none = λ i from to. absurd (omega arith);
+      first = λ h. absurd (omega arith);
+      each = λ i h. absurd (omega arith);
+    });
+  };
+}
 
 -- ---- one more candidate
 
@@ -14,8 +38,8 @@ pub record LinksOne (T : ℕ → ℕ) (last next links : List ℕ) (s n : ℕ) :
   pub prior : (i : ℕ) → i + 1 ≡ get_or last s 0 → get_or links i 0 ≡ n
   pub old : (i : ℕ) → i ≢ n → i + 1 ≢ get_or last s 0 → get_or links i 0 ≡ get_or next i 0
 
-module _ (T : ℕ → ℕ) (last next : List ℕ) (s n : ℕ) (is : T n ≡ s) (small : s < 256) (room : n < length next)
-    (all : AreLinked last next n T) where
+module _ (tags : ℕ) (T : ℕ → ℕ) (last next : List ℕ) (s n : ℕ) (is : T n ≡ s) (small : s < tags) (room : n < length next)
+    (all : AreRinged tags last next n T) where
   more : {t from : ℕ} (i : ℕ) → FindsNext T n t from (Some i) → FindsNext T (n + 1) t from (Some i)
   more i f = record { some = (omega (arith, f.some.0), f.some.1); order = f.order; none = f.none }
 
@@ -50,7 +74,7 @@ module _ (T : ℕ → ℕ) (last next : List ℕ) (s n : ℕ) (is : T n ≡ s) (
             get_or-set_other (set next n first) l i n 0 apart ∙ get_or-set_other next n i first 0 off;
       }
 
-  module _ (links : List ℕ) (size : length last ≡ 256) (one : LinksOne T last next links s n) where
+  module _ (links : List ℕ) (size : length last ≡ tags) (one : LinksOne T last next links s n) where
     own_ring : IsRing T links (n + 1) s (n + 1)
     own_ring =
         let ring = all s small in
@@ -87,18 +111,40 @@ module _ (T : ℕ → ℕ) (last next : List ℕ) (s n : ℕ) (is : T n ≡ s) (
           each = λ i less same. rw (one.old i (omega (arith, ring.few)) (apart i same)) (more _ (ring.each i less same));
         }
 
-    pub linked_more : AreLinked (set last s (n + 1)) links (n + 1) T
+    pub linked_more : AreRinged tags (set last s (n + 1)) links (n + 1) T
     linked_more = λ t below.
         ⊎_elim
         (λ (_, e). rw (e, get_or-set_same last s (n + 1) 0 (omega arith)) own_ring)
         (λ (_, other). rw (get_or-set_other last s t (n + 1) 0 other) (other_ring t other (all t below)))
         (eqb_tells t s)
 
+-- the next candidate is linked, by its own tag
+pub tagged_more : {tags : ℕ} {tag_of : List ℕ → ℕ} {last next lasts links : List ℕ} (cs : List Candidate) (n more : ℕ) (own : Candidate)
+    → n < length cs → more ≡ n + 1 → own ≡ get_or cs n own
+    → ((T : ℕ → ℕ) → T n ≡ tag_of own.1 → AreRinged tags last next n T → AreRinged tags lasts links more T)
+    → AreTagged tags tag_of last next n cs → AreTagged tags tag_of lasts links more cs
+tagged_more {tag_of} cs n more own below is at links_one tagged =
+    let none : Candidate = (0, []) in
+    let less : n < more = omega arith in
+    record {
+      few = omega (arith, below);
+      linked = record {
+        whatever = λ all front.
+            let here : get_or all n none ≡ own = sym (get_or-take more all n none less)
+            ∙ (ap (λ (ds : List Candidate). get_or ds n none) front
+            ∙ (get_or-take more cs n none less ∙ (get_or_default cs n none own below ∙ sym at))) in
+            links_one (tag_at tag_of all) (ap (λ (x : Candidate). tag_of x.1) here)
+            (tagged.linked.whatever all
+            (sym (take-take n more all (omega arith)) ∙ (ap (take n) front ∙ take-take n more cs (omega arith))));
+      };
+    }
+
 -- ---- a search along a ring
 
 -- Where a search is: none before the place is usable, and the candidate there has the tag.
-pub record IsAt (message : List ℕ) (labels : List (List ℕ)) (cs : List Candidate) (n t : ℕ) (next : Option ℕ) : Type 0 where
-  pub some : IfSome next (λ i. (i < n) × (tag_at cs i ≡ t))
+pub record IsAt (tag_of : List ℕ → ℕ) (message : List ℕ) (labels : List (List ℕ)) (cs : List Candidate) (n t : ℕ) (next : Option ℕ)
+    : Type 0 where
+  pub some : IfSome next (λ i. (i < n) × (tag_at tag_of cs i ≡ t))
   pub passed : NoneBefore message labels cs (place n next)
 
 place_within : (n : ℕ) (P : ℕ → Type 0) (found : Option ℕ) → IfSome found (λ i. (i < n) × P i) → place n found ≤ n
@@ -106,17 +152,17 @@ place_within n P None some = omega arith
 place_within n P (Some i) some = omega (arith, some.0)
 
 -- what does not have the tag cannot be usable
-pub goes_on : {message : List ℕ} {labels : List (List ℕ)} {cs : List Candidate} {n t from : ℕ} {next : Option ℕ}
-    → t ≡ tag (labels_wire labels) → n ≤ length cs
-    → FindsNext (tag_at cs) n t from next → NoneBefore message labels cs from → IsAt message labels cs n t next
-goes_on {cs} {n} {t} {from} {next} is few found passed = record {
+pub goes_on : (tag_of : List ℕ → ℕ) {message : List ℕ} {labels : List (List ℕ)} {cs : List Candidate} {n t from : ℕ} {next : Option ℕ}
+    → t ≡ tag_of (labels_wire labels) → n ≤ length cs
+    → FindsNext (tag_at tag_of cs) n t from next → NoneBefore message labels cs from → IsAt tag_of message labels cs n t next
+goes_on tag_of {cs} {n} {t} {from} {next} is few found passed = record {
   some = found.some;
   passed = λ k d low less.
-      let within = place_within n (λ i. tag_at cs i ≡ t) next found.some in
+      let within = place_within n (λ i. tag_at tag_of cs i ≡ t) next found.some in
       ⊎_elim
       (λ (_, past) has.
-      let same = ap (λ (c : Candidate). tag c.1) (get_or_default cs k (0, []) d (omega arith)) in
-      absurd (found.none k past less (same ∙ (ap tag has ∙ sym is))))
+      let same = ap (λ (c : Candidate). tag_of c.1) (get_or_default cs k (0, []) d (omega arith)) in
+      absurd (found.none k past less (same ∙ (ap tag_of has ∙ sym is))))
       (λ (_, early). passed k d low early)
       (leb_tells from k);
 }

@@ -2,16 +2,21 @@
 ghost use Rattle.std.specs.Prelude.{◌≡◌, ◌≢◌, ℕ, ◌+◌, ◌<◌, ◌≤◌, ◌↔◌, List, [], ◌∷◌, ◌++◌, length, take, None, IfSome, IsTrue, OnOk, OnErr};
 ghost use Rattle.dnw_base.specs.Limits.{max_message, pointer_reach};
 ghost use Rattle.dnw_candidates.specs.Candidates.{Finds, FindsUsable, IsFirstUsable, candidates_before, suffixes};
+ghost use Rattle.dnw_candidates.specs.Inside.Links.{AreChained};
 ghost use Rattle.dnw_candidates.specs.Inside.Marks.{NoneBefore};
 ghost use Rattle.dnw_base.specs.Names.{labels_wire};
 ghost use Rattle.dnw_reading.specs.Reading.{NameAt};
 
+use crate::links::{Links, wide_tag};
 use crate::marks::{Marks, tag};
 use crate::store::{Store, labels_bytes};
 use crate::usable::stands_at;
 use dnw_form::wire_labels::WireLabels;
 use std::alloc::{AllocError, Global};
 use std::marker::Model;
+
+/// How many candidates are few: these have marks. If there are more, all have links, too.
+const FEW: usize = 255;
 
 /// Returns `true` if the bytes are equal.
 #[inline(always)]
@@ -68,6 +73,26 @@ fn find_from(held: &Store, from: usize, message: &[u8], labels: WireLabels<'_>) 
     None
 }
 
+/// Returns the offset of the first usable candidate: those that share the labels' tag are tried, and those that are not
+/// linked.
+#[inline(always)]
+fn find_linked(held: &Store, links: &Links, message: &[u8], labels: WireLabels<'_>) -> Option<u16>
+    requires { AreChained links.now.last.items links.now.next.items links.now.count held.now }
+    ensures finds { FindsUsable message.now labels.entry held.now result }
+    ensures reached { IfSome result (λ offset. offset < pointer_reach) }
+{
+    let bytes = labels_bytes(&labels);
+    let tag = wide_tag(bytes);
+    let mut next = links.first(tag);
+    'search: while let Some(index) = next {
+        if let Some(start) = usable_at(held, index, message, bytes, labels.clone()) {
+            return Some(start);
+        }
+        next = links.after(tag, index);
+    }
+    find_from(held, links.len(), message, labels)
+}
+
 /// Candidates for compression, in the order in which they were added.
 ///
 /// A contract sees them as the list of their offsets and labels.
@@ -75,17 +100,18 @@ fn find_from(held: &Store, from: usize, message: &[u8], labels: WireLabels<'_>) 
 pub struct Candidates {
     held: Store,
     marks: Marks,
+    links: Links,
 }
 
 impl Model for Candidates {
     ghost use Rattle.std.specs.Prelude.{ℕ, List};
-    ghost use Rattle.dnw_candidates.specs.Inside.Marks.{AreMarked};
+    ghost use Rattle.dnw_candidates.specs.Inside.Links.{AreIndexed};
 
     ghost Value = { List (ℕ × List ℕ) };
 
     ghost view = { λ c. c.held };
 
-    ghost invariant = { λ c. AreMarked c.marks.last c.marks.next c.marks.count c.held };
+    ghost invariant = { λ c. AreIndexed c.marks.last c.marks.next c.marks.count c.links.last.items c.links.next.items c.links.count c.held };
 }
 
 impl Candidates {
@@ -96,6 +122,7 @@ impl Candidates {
         Candidates {
             held: Store::new(alloc),
             marks: Marks::new(),
+            links: Links::new(alloc),
         }
     }
 
@@ -113,7 +140,9 @@ impl Candidates {
         ensures ok { OnOk result (self.new ≡ self.old ++ (start, labels.now) ∷ []) }
         ensures err { OnErr result (self.new ≡ self.old) }
     {
-        self.held.push(start, labels)
+        let stored = self.held.len();
+        self.held.push(start, labels)?;
+        self.link_new(stored)
     }
 
     /// Returns the offset of the first candidate with these labels.
@@ -144,7 +173,20 @@ impl Candidates {
             }
             next = self.marks.after(tag, index);
         }
-        find_from(&self.held, self.marks.len(), message, labels)
+        if self.marks.len() < self.held.len() {
+            return self.find_among_many(message, labels);
+        }
+        None
+    }
+
+    /// Returns what [`Candidates::find_usable`] does, by links. It is apart, so that a search among few is short.
+    #[cold]
+    #[inline(never)]
+    fn find_among_many(&self, message: &[u8], labels: WireLabels<'_>) -> Option<u16>
+        ensures finds { FindsUsable message.now labels.entry self.now result }
+        ensures reached { IfSome result (λ offset. offset < pointer_reach) }
+    {
+        find_linked(&self.held, &self.links, message, labels)
     }
 
     /// Adds the first `most` suffixes of labels that are written at `start`, the longest first. If memory runs out, none
@@ -160,7 +202,55 @@ impl Candidates {
         ensures err { OnErr result (self.new ≡ self.old) }
         ensures needed { OnErr result (take most (suffixes start labels.entry) ≢ []) }
     {
-        self.held.push_suffixes(start, labels, most)
+        let stored = self.held.len();
+        self.held.push_suffixes(start, labels, most)?;
+        self.link_new(stored)
+    }
+
+    /// Links the candidates after the first `stored` if there are many. If memory runs out, they are removed.
+    #[inline(always)]
+    fn link_new(&mut self, stored: usize) -> Result<(), AllocError>
+        requires { stored ≤ length self.old }
+        ensures ok { OnOk result (self.new ≡ self.old) }
+        ensures err { OnErr result (self.new ≡ take stored self.old) }
+        ensures needed { OnErr result (stored < length self.old) }
+    {
+        if self.held.len() > FEW {
+            return self.link_among_many(stored);
+        }
+        Ok(())
+    }
+
+    /// Does what `link_new` does if there are many. It is apart, so that a name is kept among few in few steps.
+    #[cold]
+    #[inline(never)]
+    fn link_among_many(&mut self, stored: usize) -> Result<(), AllocError>
+        requires { stored ≤ length self.old }
+        ensures ok { OnOk result (self.new ≡ self.old) }
+        ensures err { OnErr result (self.new ≡ take stored self.old) }
+        ensures needed { OnErr result (stored < length self.old) }
+    {
+        if self.held.len() == stored {
+            return Ok(());
+        }
+        if let Err(error) = self.make_room() {
+            self.truncate(stored);
+            return Err(error);
+        }
+        self.links.add_all(&self.held);
+        Ok(())
+    }
+
+    /// Makes room for the links of all candidates, and of as many more.
+    fn make_room(&mut self) -> Result<(), AllocError>
+        ensures same { self.new ≡ self.old }
+    {
+        let len = self.held.len();
+        if len.min(Links::MOST) > self.links.room() {
+            let room = len.saturating_mul(2).min(Links::MOST);
+            self.links = Links::with_room(self.links.allocator(), room)?;
+        }
+        Ok(())
     }
 
     /// Links the candidates that have no marks yet, so that the next search passes over most of them. They are not linked
@@ -178,6 +268,7 @@ impl Candidates {
     {
         self.held.truncate(len);
         self.marks = Marks::new();
+        self.links.add_anew(&self.held);
     }
 
     /// Keeps the candidates before an offset.
@@ -189,6 +280,7 @@ impl Candidates {
         self.held.retain_before(offset);
         if self.held.len() < held {
             self.marks = Marks::new();
+            self.links.add_anew(&self.held);
         }
     }
 }

@@ -6,6 +6,7 @@
 #![tactic(auto)]
 
 pub mod candidates;
+mod links;
 mod marks;
 mod store;
 pub mod usable;

@@ -51,7 +51,7 @@ fn pair(first: u8, second: u8) -> usize
 
 /// Returns the octet at an index, or 0 past the end.
 #[inline(always)]
-fn octet_at(labels: &[u8], index: usize) -> usize
+pub(crate) fn octet_at(labels: &[u8], index: usize) -> usize
     ensures value { result ≡ get_or labels.now index 0 }
     ensures octet { result < 256 }
 {

@@ -211,7 +211,7 @@ fn an_encoder_may_keep_many_candidates(rt: HostRuntime) -> Result<(), Fail> {
 #[test]
 fn many_names_are_compressed(rt: HostRuntime) -> Result<(), Fail> {
     let alloc = rt.alloc();
-    for count in [1usize, 64, 65, 121, 257] {
+    for count in [1usize, 64, 65, 121, 257, 1_000] {
         let mut bytes = Vec::new(alloc);
         let mut encoder = BinEncoder::new(&mut bytes).with_limits(65_536, 65_536);
         let mut names = Vec::new(alloc);

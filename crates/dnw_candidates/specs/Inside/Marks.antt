@@ -24,10 +24,6 @@ tag (len ∷ first ∷ second ∷ rest) =
     (length bytes % 256 * 51 + (pair first second * 18191 + (label_end bytes 0 len + label_end bytes (len + 1) (get_or bytes (len + 1) 0) * 5)) / 256) % 256
 tag bytes = length bytes % 256
 
--- the tag of the i-th candidate
-abbrev pub tag_at : List Candidate → ℕ → ℕ
-tag_at candidates i = tag (get_or candidates i (0, [])).1
-
 -- ---- rings: T is the tag of each candidate, and the first n are linked
 
 -- No candidate from this one on and before the other has the tag.
@@ -54,18 +50,30 @@ pub record IsRing (T : ℕ → ℕ) (next : List ℕ) (n t last : ℕ) : Type 0 
   pub first : 1 ≤ last → FindsNext T n t 0 (Some (get_or next (last - 1) 0))
   pub each : (i : ℕ) → i + 1 < last → T i ≡ t → FindsNext T n t (i + 1) (Some (get_or next i 0))
 
--- The first n are linked.
-abbrev pub AreLinked : List ℕ → List ℕ → ℕ → (ℕ → ℕ) → Type 0
-AreLinked last next n T = (t : ℕ) → t < 256 → IsRing T next n t (get_or last t 0)
+-- The first n are linked, each with those that have its tag, which is below this number.
+abbrev pub AreRinged : ℕ → List ℕ → List ℕ → ℕ → (ℕ → ℕ) → Type 0
+AreRinged tags last next n T = (t : ℕ) → t < tags → IsRing T next n t (get_or last t 0)
+
+-- the tag of the i-th candidate, by its bytes
+abbrev pub tag_at : (List ℕ → ℕ) → List Candidate → ℕ → ℕ
+tag_at tag_of candidates i = tag_of (get_or candidates i (0, [])).1
 
 -- The first ones of the candidates, these, are linked, whatever follows them.
-pub record IsLinkedFront (last next : List ℕ) (count : ℕ) (front : List Candidate) : Type 0 where
-  pub whatever : (all : List Candidate) → take count all ≡ front → AreLinked last next count (tag_at all)
+pub record IsRingedFront (tags : ℕ) (tag_of : List ℕ → ℕ) (last next : List ℕ) (count : ℕ) (front : List Candidate) : Type 0 where
+  pub whatever : (all : List Candidate) → take count all ≡ front → AreRinged tags last next count (tag_at tag_of all)
 
--- The first ones of the candidates are linked, so many.
-pub record AreMarked (last next : List ℕ) (count : ℕ) (candidates : List Candidate) : Type 0 where
+-- The first ones of the candidates are linked by their tags, so many.
+pub record AreTagged (tags : ℕ) (tag_of : List ℕ → ℕ) (last next : List ℕ) (count : ℕ) (candidates : List Candidate) : Type 0 where
   pub few : count ≤ length candidates
-  pub linked : IsLinkedFront last next count (take count candidates)
+  pub linked : IsRingedFront tags tag_of last next count (take count candidates)
+
+-- ---- marks: of 256 tags
+
+abbrev pub AreLinked : List ℕ → List ℕ → ℕ → (ℕ → ℕ) → Type 0
+AreLinked = AreRinged 256
+
+abbrev pub AreMarked : List ℕ → List ℕ → ℕ → List Candidate → Type 0
+AreMarked = AreTagged 256 tag
 
 -- ---- the search
 
