@@ -9,6 +9,7 @@ ghost use Rattle.dnw_reading.specs.Reading.{NameAt};
 
 use crate::links::{Links, wide_tag};
 use crate::marks::{Marks, tag};
+use crate::octets::are_same;
 use crate::store::{Store, labels_bytes};
 use crate::usable::stands_at;
 use dnw_form::wire_labels::WireLabels;
@@ -23,7 +24,7 @@ const FEW: usize = 255;
 fn is_same(own: &[u8], labels: &[u8]) -> bool
     ensures { IsTrue result ↔ (own.now ≡ labels.now) }
 {
-    own == labels
+    are_same(own, labels)
 }
 
 /// Returns `true` if the bytes are equal, and reading the message at `start` gives the labels.

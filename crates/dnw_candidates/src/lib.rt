@@ -8,5 +8,6 @@
 pub mod candidates;
 mod links;
 mod marks;
+mod octets;
 mod store;
 pub mod usable;

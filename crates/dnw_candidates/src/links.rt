@@ -5,6 +5,7 @@ ghost use Rattle.dnw_candidates.specs.Inside.Marks.{AreRinged, FindsNext};
 ghost use Rattle.dnw_candidates.specs.Inside.Links.{AreChained, few, four, mix, stir, wide_tag};
 
 use crate::marks::octet_at;
+use crate::octets::four;
 use crate::store::Store;
 use std::alloc::{AllocError, Global};
 
@@ -68,15 +69,6 @@ fn few(octets: &[u8]) -> usize
         [a] => four(*a, 0, 0, 0),
         _ => 0,
     }
-}
-
-/// Returns four octets as one number.
-#[inline(always)]
-fn four(a: u8, b: u8, c: u8, d: u8) -> usize
-    ensures value { result ≡ four a b c d }
-    ensures small { result < 2 ^ 32 }
-{
-    a as usize + b as usize * 256 + c as usize * 65536 + d as usize * 16_777_216
 }
 
 /// The candidates that share a tag are linked, each to the next one and the last to the first.

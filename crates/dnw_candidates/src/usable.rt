@@ -4,6 +4,7 @@ ghost use Rattle.dnw_base.specs.Limits.{max_name};
 ghost use Rattle.dnw_base.specs.Names.{encoded_size};
 ghost use Rattle.dnw_reading.specs.Reading.{NameAt};
 
+use crate::octets::are_same;
 use dnw_form::wire_labels::WireLabels;
 use dnw_reading::walk::{Element, element_at};
 
@@ -25,7 +26,7 @@ fn has_form(message: &[u8], start: usize, wire: &[u8]) -> bool
         return false;
     }
     let end = start + wire.len();
-    &message[start..end] == wire
+    are_same(&message[start..end], wire)
 }
 
 /// Returns `true` if reading a name at `start` gives these labels: each element is compared where it is.
