@@ -45,19 +45,24 @@ module _ (metadata : Metadata) (top : ℕ) (room : 12 ≤ top) (c : Contents) (d
   finished =
       let b = header_wire d.header ++ has.rest in
       let s = has.spells in
-      let (n, answers, more) = stand-split (RecordStands b) c.answers (c.authorities ++ c.additionals) s.records_at (length b) s.records in
-      let (o, authorities, additionals) = stand-split (RecordStands b) c.authorities c.additionals n (length b) more in
+      let x = stand-split (RecordStands b) c.answers (c.authorities ++ c.additionals) s.records_at (length b) s.of_records s.records in
+      let y = stand-split (RecordStands b) c.authorities c.additionals x.at (length b) x.second x.rest in
       let size : size_of c ≤ 65535 = omega (arith, has.on, has.within, has.small) in
       subst (Holds metadata c) (sym bytes)
       (record {
         header = ap header_wire has.header;
         answers_at = s.records_at;
-        authorities_at = n;
-        additionals_at = o;
+        authorities_at = x.at;
+        additionals_at = y.at;
+        of_queries = s.of_queries;
+        of_answers = x.first;
+        of_authorities = y.first;
+        of_additionals = y.second;
         queries = s.queries;
-        answers = answers;
-        authorities = authorities;
-        additionals = additionals;
+        answers = x.front;
+        authorities = y.front;
+        additionals = y.rest;
+        few = omega (arith, s.sum, x.sum, y.sum, has.few, has.twin.counted);
         small = omega (arith, has.twin.long, has.twin.at_end, has.within, has.small);
         fit = (id, omega (arith, size), omega (arith, size), omega (arith, size), omega (arith, size));
       })
@@ -85,10 +90,14 @@ begun-has head metadata most twelve room small =
         long = sym size;
         mode = refl;
         plain = refl;
+        limit = refl;
+        counted = omega arith;
         precede = writes_precede (replicate 12 0) (limited (fresh [] 0) most) (zeros most 12) (Ok tt) (new_precede [] 0) (room, refl);
         candidates = All-nil (InBoth (replicate 12 0) (head ++ []));
       };
-      spells = record { records_at = 12; queries = refl; records = sym size };
+      pointers = 0;
+      spells = record { records_at = 12; of_queries = 0; of_records = 0; queries = (refl, refl); records = (sym size, refl); sum = refl };
+      few = omega arith;
       header = ap (λ (x : Bool). record (first_header metadata) { metadata = record metadata { truncation = x } }) (or-false metadata.truncation);
       most = refl;
       on = omega arith;

@@ -1,5 +1,5 @@
 -- An accepted item goes on from the encoder, and stands there. A refused one changes nothing.
-use Rattle.std.proofs.Common.{◌≡◌, ℕ, ◌+◌, ◌≤◌, max, false, List, [], ◌∷◌, ◌++◌, length, Ok, Err, inl, inr, refl, sym, ap, ◌∙◌, append_assoc, subst, arith, slice_range}
+use Rattle.std.proofs.Common.{◌≡◌, ℕ, ◌+◌, ◌*◌, ◌≤◌, max, false, List, [], ◌∷◌, ◌++◌, length, Ok, Err, inl, inr, refl, sym, ap, ◌∙◌, append_assoc, subst, arith, slice_range}
 use Rattle.std.specs.Int.{w16, to_be_bytes}
 use Rattle.std.specs.List.{All}
 use Rattle.std.proofs.lemmas.List.{append-nil, length-append}
@@ -30,6 +30,7 @@ use Rattle.dnw_rdata.specs.AnyRecords.{EmitsAnyRecord}
 use Rattle.dnw_rdata.specs.AnyRecordFrames.{frame-any_record}
 use Rattle.dnw_rdata.specs.AnyRecordLaws.{any_record_size, written_pieces}
 use Rattle.dnw_rdata.proofs.AnyRecords.{any_records_fit, any_records_precede, any_records_stay_bounded, refused_any_undo}
+use Rattle.dnw_rdata.proofs.Counting.{counts-name, counts-record}
 use Rattle.dnw_rdata.proofs.Reading.{InBoth, append-both, name-both}
 use Rattle.dnw_rdata.proofs.Records.{record-both}
 use Rattle.dnw_message_writer.specs.declared.query.WireQuery.{WireQuery}
@@ -39,26 +40,31 @@ use Rattle.dnw_message_writer.specs.ReadRecords.{RecordStands}
 use Rattle.dnw_message_writer.specs.Written.{QueryStands}
 use Rattle.dnw_message_writer.proofs.Standing.{record-on}
 
--- An encoder is at the end of its buffer, and compresses names. In another message of the same length the candidates are the
+-- An encoder is at the end of its buffer, and compresses as many names as usual. In another message of the same length the candidates are the
 -- same names: in the one whose header is filled in, say.
 pub record Twin (v : Encoder) (b : List ℕ) : Type 0 where
   pub at_end : v.offset ≡ length v.bytes
   pub long : length v.bytes ≡ length b
   pub mode : v.encoding ≡ Compressed
   pub plain : v.canonical ≡ false
+  pub limit : v.name_limit ≡ 120
+  pub counted : v.names ≤ 120
   pub precede : CandidatesPrecede v
   pub candidates : All (InBoth v.bytes b) v.candidates
 
 -- what stands in a message from one offset to another
 abbrev pub Stands : Type 1
-Stands = List ℕ → ℕ → ℕ → Type 0
+Stands = List ℕ → ℕ → ℕ → ℕ → Type 0
 
 -- From one encoder to another, so many items are written in no more octets than these, which stand in the other message too.
+-- Their names follow at most 127 pointers for each one that is counted.
 pub record Goes (v w : Encoder) (b : List ℕ) (count most : ℕ) (stands : Stands) : Type 0 where
   pub own : List ℕ
   pub bytes : w.bytes ≡ v.bytes ++ own
   pub twin : Twin w (b ++ own)
-  pub there : stands (b ++ own) (length b) (length (b ++ own))
+  pub pointers : ℕ
+  pub there : stands (b ++ own) (length b) (length (b ++ own)) pointers
+  pub followed : pointers + 127 * v.names ≤ 127 * w.names
   pub max_size : w.max_size ≡ v.max_size
   pub on : v.offset + count ≤ w.offset
   pub few : w.offset ≤ v.offset + most
@@ -79,7 +85,7 @@ plain-pieces (name_piece Lowered labels ∷ pieces) = ap (λ (ps : List DataPiec
 plain-pieces (name_piece Plain labels ∷ pieces) = ap (λ (ps : List DataPiece). name_piece Plain labels ∷ ps) (plain-pieces pieces)
 
 pub goes-record : (v w : Encoder) (b : List ℕ) (r : Record) → Twin v b → v.offset ≤ v.max_size → v.max_size ≤ 65535 → EmitsAnyRecord r v (Ok tt) w
-    → Goes v w b 1 (any_record_size r) (λ c p e. RecordStands c r p e)
+    → Goes v w b 1 (any_record_size r) (λ c p e k. RecordStands c r p e k)
 goes-record v w b r t within small h =
     let (a, owner, (d, fixed, (room, u, (pieces, has, parts), is))) = h.1 in
     let f = frame-any_record r v (Ok tt) w t.at_end h in
@@ -93,8 +99,9 @@ goes-record v w b r t within small h =
     (subst (λ k. TakesPieces kinds (data_start x) (written_pieces Compressed k pieces)) t.plain
     (subst (λ k. TakesPieces kinds (data_start x) (written_pieces k v.canonical pieces)) t.mode m.takes)) in
     let owner_is : x.owner ≡ r.name.labels = m.owner ∙ ap (λ k. in_mode k r.name.labels) t.mode in
-    let stands : RecordStands (b ++ m.own) r (length b) (length (b ++ m.own)) =
-    (x, m.at, (owner_is, m.record_type, m.class, m.ttl, (pieces, takes, has.whole))) in
+    let names = counts-record r v w h in
+    let stands : RecordStands (b ++ m.own) r (length b) (length (b ++ m.own)) m.at.pointers =
+    (x, m.at, refl, (owner_is, m.record_type, m.class, m.ttl, (pieces, takes, has.whole))) in
     let most : max (length v.bytes) v.max_size ≤ v.max_size = max-le (omega (arith, within, t.at_end)) (omega arith) in
     record {
       own = m.own;
@@ -104,12 +111,16 @@ goes-record v w b r t within small h =
         long = long;
         mode = f.encoding ∙ t.mode;
         plain = f.canonical ∙ t.plain;
+        limit = names.limit ∙ t.limit;
+        counted = omega (arith, names.within (omega (arith, t.counted, t.limit)), names.limit, t.limit);
         precede = any_records_precede r v w (Ok tt) t.precede h;
         candidates = m.candidates;
       };
+      pointers = m.at.pointers;
       there = stands;
+      followed = m.few;
       max_size = f.max_size;
-      on = omega (arith, record-on (b ++ m.own) r (length b) (length (b ++ m.own)) stands, t.at_end, t.long, f.ends, long);
+      on = omega (arith, record-on (b ++ m.own) r (length b) (length (b ++ m.own)) m.at.pointers stands, t.at_end, t.long, f.ends, long);
       few = (any_records_fit r).0 v w h;
       within = omega (arith, bounded, most, f.ends);
     }
@@ -130,7 +141,7 @@ precede-query q =
     precede-then (EmitsName q.name) (Then kind class) (names_precede q.name)
     (precede-then kind class (writes_precede (to_be_bytes w16 (type_code q.query_type))) (writes_precede (to_be_bytes w16 (class_code q.query_class))))
 
-pub goes-query : (v w : Encoder) (b : List ℕ) (q : WireQuery) → Twin v b → EmitsQuery q v (Ok tt) w → Goes v w b 1 (query_size q) (λ c p e. QueryStands c q p e)
+pub goes-query : (v w : Encoder) (b : List ℕ) (q : WireQuery) → Twin v b → EmitsQuery q v (Ok tt) w → Goes v w b 1 (query_size q) (λ c p e k. QueryStands c q p e k)
 goes-query v w b q t h =
     let (m, name, (d, kind, class)) = h.1 in
     let two = to_be_bytes w16 (type_code q.query_type) in
@@ -155,6 +166,8 @@ goes-query v w b q t h =
     let named : NameAt (b ++ own) (length b) q.name.labels (length bm) n.pointers =
     subst (λ y. NameAt y (length b) q.name.labels (length bm) n.pointers) twin_is
     (subst (λ ls. NameAt (bm ++ four) (length b) ls (length bm) n.pointers) labels_are (record { reads = Reads-append four n.name.reads; fits = n.name.fits })) in
+    let names = counts-name q.name v m name in
+    let added_none : w.names ≡ m.names = ap (λ (y : Encoder). y.names) class.1 ∙ ap (λ (y : Encoder). y.names) kind.1 in
     let offsets = ap (λ (y : Encoder). y.offset) kind.1 in
     let offset = ap (λ (y : Encoder). y.offset) class.1 in
     let longer = append-both (m.bytes ++ two) (bm ++ two) last last m.candidates (append-both m.bytes bm two two m.candidates n.candidates) in
@@ -170,12 +183,15 @@ goes-query v w b q t h =
         long = long;
         mode = f.encoding ∙ t.mode;
         plain = f.canonical ∙ t.plain;
+        limit = f.name_limit ∙ t.limit;
+        counted = omega (arith, names.within (omega (arith, t.counted, t.limit)), names.limit, t.limit, added_none);
         precede = precede-query q v w (Ok tt) t.precede h.1;
         candidates = candidates;
       };
+      pointers = n.pointers;
+      followed = omega (arith, n.few, added_none);
       there = record {
         name_end = length bm;
-        pointers = n.pointers;
         name = named;
         query_type = ap (λ y. slice_range y (length bm) (length bm + 2)) (sym twin_is) ∙ slice_range-middle bm two last (length bm) (length bm + 2) refl refl;
         query_class = ap (λ y. slice_range y (length bm + 2) (length bm + 4)) (sym (append_assoc bm two last ∙ twin_is) ∙ sym (append-nil ((bm ++ two) ++ last)) ∙ append_assoc (bm ++ two) last [])

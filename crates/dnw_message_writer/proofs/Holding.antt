@@ -1,5 +1,5 @@
 -- What holds of a message while items are added to it.
-use Rattle.std.proofs.Common.{◌≡◌, ℕ, ◌+◌, ◌≤◌, min, Bool, true, false, true≢false, ◌||◌, ◌&&◌, ◌==◌, List, [], ◌∷◌, ◌++◌, length, replicate, Ok, Err, inl, inr, refl, sym, ap, ◌∙◌, append_assoc, subst, arith}
+use Rattle.std.proofs.Common.{◌≡◌, ℕ, ◌+◌, ◌*◌, ◌≤◌, min, Bool, true, false, true≢false, ◌||◌, ◌&&◌, ◌==◌, List, [], ◌∷◌, ◌++◌, length, replicate, Ok, Err, inl, inr, refl, sym, ap, ◌∙◌, append_assoc, subst, arith}
 use Rattle.std.proofs.lemmas.List.{append-nil, length-append}
 use Rattle.std.proofs.lemmas.Grind.{common_steps}
 use Rattle.std.proofs.Math.Nat.{min-eq_left}
@@ -20,8 +20,8 @@ use Rattle.dnw_message_writer.specs.declared.writer.Entry.TheVariants.{Query, An
 use Rattle.dnw_message_writer.specs.Drafts.{Added, AddsAll, AddsEntry, Draft, counted, cut_if, cuts, is_open, limited}
 use Rattle.dnw_message_writer.specs.ReadRecords.{RecordStands}
 use Rattle.dnw_message_writer.specs.Written.{Contents, HasOutcome, HaveOutcomes, QueryStands, Stand, and_then, contents_from, counts_of, entry_size, header_for, section_of}
-use Rattle.dnw_message_writer.proofs.Standing.{query-later, record-later, stand-append, stand-later}
-use Rattle.dnw_message_writer.proofs.Going.{Fails, Goes, Twin, fails-query, fails-record, goes-query, goes-record, query_size}
+use Rattle.dnw_message_writer.proofs.Standing.{query-later, record-later, stand-append, stand-later, stand-one}
+use Rattle.dnw_message_writer.proofs.Going.{Fails, Goes, Stands, Twin, fails-query, fails-record, goes-query, goes-record, query_size}
 
 abbrev pub records_of : Contents → List Record
 records_of c = c.answers ++ (c.authorities ++ c.additionals)
@@ -30,43 +30,58 @@ records_of c = c.answers ++ (c.authorities ++ c.additionals)
 abbrev pub size_of : Contents → ℕ
 size_of c = length c.queries + length c.answers + length c.authorities + length c.additionals
 
--- The items stand after the header, up to the end: the questions, and then the records.
-pub record Spells (b : List ℕ) (qs : List WireQuery) (rs : List Record) : Type 0 where
+-- The items stand after the header, up to the end: the questions, and then the records. Their names follow k pointers.
+pub record Spells (b : List ℕ) (qs : List WireQuery) (rs : List Record) (k : ℕ) : Type 0 where
   pub records_at : ℕ
-  pub queries : Stand (QueryStands b) qs 12 records_at
-  pub records : Stand (RecordStands b) rs records_at (length b)
+  pub of_queries : ℕ
+  pub of_records : ℕ
+  pub queries : Stand (QueryStands b) qs 12 records_at of_queries
+  pub records : Stand (RecordStands b) rs records_at (length b) of_records
+  pub sum : k ≡ of_queries + of_records
 
 -- one more question, if there are no records
-spells-query : (b own : List ℕ) (qs : List WireQuery) (q : WireQuery) → Spells b qs [] → QueryStands (b ++ own) q (length b) (length (b ++ own))
-    → Spells (b ++ own) (qs ++ q ∷ []) []
-spells-query b own qs q h one =
-    let all = stand-later QueryStands b own (query-later b own) qs 12 h.records_at h.queries in
-    let here = subst (λ e. Stand (QueryStands (b ++ own)) qs 12 e) h.records all in
+spells-query : (b own : List ℕ) (qs : List WireQuery) (q : WireQuery) (k j : ℕ) → Spells b qs [] k
+    → QueryStands (b ++ own) q (length b) (length (b ++ own)) j → Spells (b ++ own) (qs ++ q ∷ []) [] (k + j)
+spells-query b own qs q k j h one =
+    let (ends, none) = h.records in
+    let Queries = QueryStands (b ++ own) in
+    let all = stand-later QueryStands b own (query-later b own) qs 12 h.records_at h.of_queries h.queries in
+    let here = subst (λ e. Stand Queries qs 12 e h.of_queries) ends all in
+    let last = stand-one Queries q (length b) (length (b ++ own)) j one in
     record {
       records_at = length (b ++ own);
-      queries = stand-append (QueryStands (b ++ own)) qs (q ∷ []) 12 (length b) (length (b ++ own)) here (length (b ++ own), one, refl);
-      records = refl;
+      of_queries = h.of_queries + j;
+      of_records = 0;
+      queries = stand-append Queries qs (q ∷ []) 12 (length b) (length (b ++ own)) h.of_queries j here last;
+      records = (refl, refl);
+      sum = omega (arith, h.sum, none);
     }
 
 -- more records
-spells-records : (b own : List ℕ) (qs : List WireQuery) (rs more : List Record) → Spells b qs rs
-    → Stand (RecordStands (b ++ own)) more (length b) (length (b ++ own)) → Spells (b ++ own) qs (rs ++ more)
-spells-records b own qs rs more h others =
-    let all = stand-later RecordStands b own (record-later b own) rs h.records_at (length b) h.records in
+spells-records : (b own : List ℕ) (qs : List WireQuery) (rs more : List Record) (k j : ℕ) → Spells b qs rs k
+    → Stand (RecordStands (b ++ own)) more (length b) (length (b ++ own)) j → Spells (b ++ own) qs (rs ++ more) (k + j)
+spells-records b own qs rs more k j h others =
+    let all = stand-later RecordStands b own (record-later b own) rs h.records_at (length b) h.of_records h.records in
     record {
       records_at = h.records_at;
-      queries = stand-later QueryStands b own (query-later b own) qs 12 h.records_at h.queries;
-      records = stand-append (RecordStands (b ++ own)) rs more h.records_at (length b) (length (b ++ own)) all others;
+      of_queries = h.of_queries;
+      of_records = h.of_records + j;
+      queries = stand-later QueryStands b own (query-later b own) qs 12 h.records_at h.of_queries h.queries;
+      records = stand-append (RecordStands (b ++ own)) rs more h.records_at (length b) (length (b ++ own)) h.of_records j all others;
+      sum = omega (arith, h.sum);
     }
 
 -- ---- a draft
 
 -- A draft has these contents and this maximum, and its octets after the header stand for them, whatever header is put before.
+-- Its names follow at most 127 pointers for each one that was counted.
 pub record Has (head : List ℕ) (metadata : Metadata) (top : ℕ) (c : Contents) (d : Draft) : Type 0 where
   pub rest : List ℕ
   pub bytes : d.encoder.bytes ≡ replicate 12 0 ++ rest
   pub twin : Twin d.encoder (head ++ rest)
-  pub spells : Spells (head ++ rest) c.queries (records_of c)
+  pub pointers : ℕ
+  pub spells : Spells (head ++ rest) c.queries (records_of c) pointers
+  pub few : pointers ≤ 127 * d.encoder.names
   pub header : d.header ≡ header_for metadata c
   pub most : d.encoder.max_size ≡ top
   pub on : 12 + size_of c ≤ d.encoder.offset
@@ -75,8 +90,8 @@ pub record Has (head : List ℕ) (metadata : Metadata) (top : ℕ) (c : Contents
 
 module _ (head : List ℕ) (metadata : Metadata) (top : ℕ) where
   -- more items
-  has-more : (c x : Contents) (d e : Draft) (count most : ℕ) (stands : List ℕ → ℕ → ℕ → Type 0) → (h : Has head metadata top c d)
-      → (go : Goes d.encoder e.encoder (head ++ h.rest) count most stands) → Spells ((head ++ h.rest) ++ go.own) x.queries (records_of x)
+  has-more : (c x : Contents) (d e : Draft) (count most : ℕ) (stands : Stands) → (h : Has head metadata top c d)
+      → (go : Goes d.encoder e.encoder (head ++ h.rest) count most stands) → Spells ((head ++ h.rest) ++ go.own) x.queries (records_of x) (h.pointers + go.pointers)
       → size_of x ≡ size_of c + count → e.header ≡ header_for metadata x → Has head metadata top x e
   has-more c x d e count most stands h go spells size header =
       let b = append_assoc head h.rest go.own in
@@ -84,7 +99,9 @@ module _ (head : List ℕ) (metadata : Metadata) (top : ℕ) where
         rest = h.rest ++ go.own;
         bytes = go.bytes ∙ (ap (λ (y : List ℕ). y ++ go.own) h.bytes ∙ append_assoc (replicate 12 0) h.rest go.own);
         twin = subst (Twin e.encoder) b go.twin;
-        spells = subst (λ y. Spells y x.queries (records_of x)) b spells;
+        pointers = h.pointers + go.pointers;
+        spells = subst (λ y. Spells y x.queries (records_of x) (h.pointers + go.pointers)) b spells;
+        few = omega (arith, h.few, go.followed);
         header = header;
         most = go.max_size ∙ h.most;
         on = omega (arith, h.on, go.on, size);
@@ -100,8 +117,10 @@ module _ (head : List ℕ) (metadata : Metadata) (top : ℕ) where
       record {
         rest = h.rest;
         bytes = h.bytes;
-        twin = record { at_end = t.at_end; long = t.long; mode = t.mode; plain = t.plain; precede = t.precede; candidates = t.candidates };
+        twin = record { at_end = t.at_end; long = t.long; mode = t.mode; plain = t.plain; limit = t.limit; counted = t.counted; precede = t.precede; candidates = t.candidates };
+        pointers = h.pointers;
         spells = h.spells;
+        few = h.few;
         header = h.header;
         most = refl;
         on = h.on;
@@ -185,7 +204,9 @@ module _ (head : List ℕ) (metadata : Metadata) (top : ℕ) where
         rest = h.rest;
         bytes = h.bytes;
         twin = h.twin;
+        pointers = h.pointers;
         spells = h.spells;
+        few = h.few;
         header = header;
         most = h.most;
         on = h.on;
@@ -223,9 +244,12 @@ module _ (head : List ℕ) (metadata : Metadata) (top : ℕ) where
       let go = goes-record d.encoder e.encoder b r h.twin (omega (arith, h.within, h.most)) (omega (arith, h.most, h.small)) emits in
       let small : size_of c + 1 ≤ 65535 = omega (arith, h.on, go.on, go.within, h.most, h.small) in
       let head_is : e.header ≡ header_for metadata x = is ∙ (ap (λ (y : Header). record y { counts = counted s y.counts }) h.header ∙ header small) in
-      let spells = spells-records b go.own c.queries (records_of c) (r ∷ []) h.spells (length (b ++ go.own), go.there, refl) in
-      let all : Spells (b ++ go.own) x.queries (records_of x) =
-      subst (λ qs. Spells (b ++ go.own) qs (records_of x)) (sym same) (subst (Spells (b ++ go.own) c.queries) (sym are) spells) in (
+      let j = go.pointers in
+      let k = h.pointers + j in
+      let one = stand-one (RecordStands (b ++ go.own)) r (length b) (length (b ++ go.own)) j go.there in
+      let spells = spells-records b go.own c.queries (records_of c) (r ∷ []) h.pointers j h.spells one in
+      let all : Spells (b ++ go.own) x.queries (records_of x) k =
+      subst (λ qs. Spells (b ++ go.own) qs (records_of x) k) (sym same) (subst (λ rs. Spells (b ++ go.own) c.queries rs k) (sym are) spells) in (
         has-more head metadata top c x d e 1 (any_record_size r) _ h go all size head_is,
         go.few,
         omega (arith, go.within, h.most),
@@ -242,8 +266,10 @@ module _ (head : List ℕ) (metadata : Metadata) (top : ℕ) where
       let head_is : e.header ≡ header_for metadata x =
       is ∙ (ap (λ (y : Header). record y { counts = counted section.Queries y.counts }) h.header
       ∙ ap (λ n. record (header_for metadata c) { counts = record (counts_of c) { queries = n } }) (one_more-is c.queries q small)) in
-      let spells = spells-query b go.own c.queries q (subst (Spells b c.queries) none h.spells) go.there in
-      let all : Spells (b ++ go.own) x.queries (records_of x) = subst (Spells (b ++ go.own) x.queries) (sym none) spells in (
+      let j = go.pointers in
+      let k = h.pointers + j in
+      let spells = spells-query b go.own c.queries q h.pointers j (subst (λ rs. Spells b c.queries rs h.pointers) none h.spells) go.there in
+      let all : Spells (b ++ go.own) x.queries (records_of x) k = subst (λ rs. Spells (b ++ go.own) x.queries rs k) (sym none) spells in (
         has-more head metadata top c x d e 1 (query_size q) _ h go all (omega (arith, length-append c.queries (q ∷ []))) head_is,
         (now, go.few, omega (arith, go.within, h.most)),
       )

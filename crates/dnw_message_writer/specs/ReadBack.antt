@@ -1,15 +1,14 @@
 -- What a written message is read as (RFC 1035, section 4).
-use Rattle.std.specs.Prelude.{◌≡◌, ℕ, ◌*◌, ◌≤◌, List, length}
+use Rattle.std.specs.Prelude.{◌≡◌, ℕ, ◌≤◌, List, length}
 use Rattle.std.specs.List.{AllZip}
 use Rattle.dnw_codes.specs.RecordTypes.{type_code, type_of_code}
 use Rattle.dnw_codes.specs.DnsClasses.{class_code, class_of_code}
-use Rattle.dnw_base.specs.Limits.{max_message}
 use Rattle.dnw_message.specs.HeaderLaws.{with_low_codes}
 use Rattle.dnw_message.specs.Messages.{MessageAt, MessageValue, QueryValue}
 use Rattle.dnw_message.specs.declared.header.Metadata.{Metadata}
 use Rattle.dnw_message_writer.specs.declared.query.WireQuery.{WireQuery}
 use Rattle.dnw_message_writer.specs.ReadRecords.{RecordIsRead}
-use Rattle.dnw_message_writer.specs.Written.{Contents, header_for}
+use Rattle.dnw_message_writer.specs.Written.{Contents, header_for, most_pointers}
 
 -- A question is read as it was written: its name, and its type and class by their codes.
 abbrev pub QueryIsRead : WireQuery → QueryValue → Type 0
@@ -17,8 +16,8 @@ QueryIsRead q x =
     (x.name ≡ q.name.labels) × (x.query_type ≡ type_of_code (type_code q.query_type)) × (x.query_class ≡ class_of_code (class_code q.query_class))
 
 -- The octets are one message, and nothing follows it. Its header is the one that was written, with the low four bits of the
--- codes, and its sections are exactly the accepted items, in their order. No name follows more pointers than a message has
--- octets, and no message has more names than that.
+-- codes, and its sections are exactly the accepted items, in their order. Its names follow few pointers in all, fewer than
+-- `MessageRef::read` allows.
 pub record IsReadAs (metadata : Metadata) (c : Contents) (bytes : List ℕ) : Type 0 where
   pub message : MessageValue
   pub pointers : ℕ
@@ -29,4 +28,4 @@ pub record IsReadAs (metadata : Metadata) (c : Contents) (bytes : List ℕ) : Ty
   pub answers : AllZip RecordIsRead c.answers message.answers
   pub authorities : AllZip RecordIsRead c.authorities message.authorities
   pub additionals : AllZip RecordIsRead c.additionals message.additionals
-  pub few : pointers ≤ max_message * max_message
+  pub few : pointers ≤ most_pointers

@@ -14,6 +14,6 @@ RecordIsRead r x =
     (x.owner ≡ r.name.labels) × (x.record_type ≡ type_of_code (type_code r.data.record_type)) × (x.class ≡ class_of_code (class_code r.dns_class))
     × (x.ttl ≡ r.ttl) × Copies (kinds_of r.data.record_type) (data_start x) r.data.octets
 
--- From p to e such a record is read.
-abbrev pub RecordStands : List ℕ → Record → ℕ → ℕ → Type 0
-RecordStands b r p e = (x : RecordValue) × RecordAt b p x e × RecordIsRead r x
+-- From p to e such a record is read, and its owner follows k pointers.
+abbrev pub RecordStands : List ℕ → Record → ℕ → ℕ → ℕ → Type 0
+RecordStands b r p e k = (x : RecordValue) × (at : RecordAt b p x e) × (at.pointers ≡ k) × RecordIsRead r x

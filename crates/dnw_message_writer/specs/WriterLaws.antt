@@ -11,13 +11,14 @@ use Rattle.dnw_message.specs.declared.header.Header.{Header}
 use Rattle.dnw_message.specs.declared.header.Metadata.{Metadata}
 use Rattle.dnw_message_writer.specs.declared.writer.Entry.{Entry}
 use Rattle.dnw_message_writer.specs.Drafts.{Added, AddsAll, AddsLast, Begins, Draft, Ends}
-use Rattle.dnw_message_writer.specs.Written.{Contents, Holds, Written, WrittenWith, ending_with}
+use Rattle.dnw_message_writer.specs.Written.{Contents, Holds, Written, WrittenWith, ending_with, most_pointers}
 use Rattle.dnw_message_writer.specs.ReadRecords.{RecordIsRead}
 use Rattle.dnw_message_writer.specs.ReadBack.{IsReadAs}
 use Rattle.dnw_message_writer.specs.WireEdns.{IsNoOpt, IsOptOf, edns_value}
 use Rattle.dnw_message_writer.specs.declared.edns.WireEdns.{WireEdns}
 use Rattle.dnw_message.specs.Edns.{HasEdns, IsEdns}
-use Rattle.dnw_message.specs.Messages.{MessageAt, MessageValue}
+use Rattle.dnw_message.specs.declared.error.MessageError.{MessageError}
+use Rattle.dnw_message.specs.Messages.{FailsMessage, MessageAt, MessageValue}
 use Rattle.dnw_record.specs.Records.{RecordValue}
 use Rattle.dnw_codes.specs.declared.record_type.RecordType.TheVariants.{OPT}
 
@@ -38,6 +39,11 @@ MessagesEndWith = (metadata : Metadata) (most : ℕ) (entries : List Entry) (out
 -- What is written is what is read.
 abbrev pub WrittenMessagesAreRead : Type 0
 WrittenMessagesAreRead = (metadata : Metadata) (c : Contents) (bytes : List ℕ) → Holds metadata c bytes → IsReadAs metadata c bytes
+
+-- Reading it never fails, if so many pointers are allowed.
+abbrev pub ReadingNeverFails : Type 0
+ReadingNeverFails = (metadata : Metadata) (c : Contents) (bytes : List ℕ) (most : ℕ) (error : MessageError) → Holds metadata c bytes
+    → most_pointers ≤ most → FailsMessage bytes most error → ⊥
 
 -- EDNS that is written is read as the same: its OPT record is read as a record that says so.
 abbrev pub EdnsComesBack : Type 0

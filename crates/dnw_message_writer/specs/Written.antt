@@ -1,12 +1,13 @@
 -- What a written message is (RFC 1035, section 4): a header, and then exactly the items that were accepted, by their sections.
-use Rattle.std.specs.Prelude.{◌≡◌, ℕ, ◌+◌, ◌-◌, ◌<◌, ◌≤◌, Bool, true, false, ◌||◌, List, [], ◌∷◌, ◌++◌, length, slice_range, take, Ok, Err}
+use Rattle.std.specs.Prelude.{◌≡◌, ℕ, ◌+◌, ◌-◌, ◌*◌, ◌<◌, ◌≤◌, Bool, true, false, ◌||◌, List, [], ◌∷◌, ◌++◌, length, slice_range, take, Ok, Err}
 use Rattle.std.specs.Int.{w16, to_be_bytes}
 use Rattle.dnw_error.specs.declared.error.ProtoError.TheVariants.{MaxBufferSizeExceeded, Memory}
 use Rattle.dnw_codes.specs.RecordTypes.{type_code}
 use Rattle.dnw_codes.specs.DnsClasses.{class_code}
-use Rattle.dnw_base.specs.Limits.{max_message}
+use Rattle.dnw_base.specs.Limits.{max_labels, max_message}
 use Rattle.dnw_base.specs.Names.{encoded_size}
 use Rattle.dnw_reading.specs.Reading.{NameAt}
+use Rattle.dnw_encoder.specs.Encoder.{usual_names}
 use Rattle.dnw_rdata.specs.declared.record.Record.{Record}
 use Rattle.dnw_rdata.specs.AnyRecordLaws.{any_record_size}
 use Rattle.dnw_message.specs.HeaderLaws.{HeaderFits}
@@ -104,36 +105,45 @@ HaveOutcomes most c len (x ∷ xs) (outcome ∷ outcomes) end =
 
 -- ---- the octets
 
--- A question is there from p to e (section 4.1.2): its name, its type and its class.
-pub record QueryStands (b : List ℕ) (q : WireQuery) (p e : ℕ) : Type 0 where
+-- A question is there from p to e (section 4.1.2): its name, which follows k pointers, its type and its class.
+pub record QueryStands (b : List ℕ) (q : WireQuery) (p e k : ℕ) : Type 0 where
   pub name_end : ℕ
-  pub pointers : ℕ
-  pub name : NameAt b p q.name.labels name_end pointers
+  pub name : NameAt b p q.name.labels name_end k
   pub query_type : slice_range b name_end (name_end + 2) ≡ to_be_bytes w16 (type_code q.query_type)
   pub query_class : slice_range b (name_end + 2) (name_end + 4) ≡ to_be_bytes w16 (class_code q.query_class)
   pub ends : e ≡ name_end + 4
   pub inside : e ≤ length b
   pub fit : QueryFits q
 
--- the items are there from p to e, one after the other
-abbrev pub Stand : {X : Type 0} → (X → ℕ → ℕ → Type 0) → List X → ℕ → ℕ → Type 0
-Stand one [] p e = p ≡ e
-Stand one (x ∷ xs) p e = (m : ℕ) × one x p m × Stand one xs m e
+-- the items are there from p to e, one after the other, and their names follow k pointers in all
+abbrev pub Stand : {X : Type 0} → (X → ℕ → ℕ → ℕ → Type 0) → List X → ℕ → ℕ → ℕ → Type 0
+Stand one [] p e k = (p ≡ e) × (k ≡ 0)
+Stand one (x ∷ xs) p e k = (m : ℕ) × (j : ℕ) × (others : ℕ) × one x p m j × Stand one xs m e others × (k ≡ j + others)
 
-abbrev pub RecordsStand : List ℕ → List Record → ℕ → ℕ → Type 0
-RecordsStand b records p e = Stand (RecordStands b) records p e
+abbrev pub RecordsStand : List ℕ → List Record → ℕ → ℕ → ℕ → Type 0
+RecordsStand b records p e k = Stand (RecordStands b) records p e k
+
+-- The most pointers that the names of a written message follow: so many names are compressed, and each has so many labels.
+abbrev pub most_pointers : ℕ
+most_pointers = usual_names * max_labels
 
 -- The octets are a message with these contents: after the header, each section begins where the one before it ends, and
--- nothing follows the last. It is no longer than a message may be, and the numbers of its header fit their fields.
+-- nothing follows the last. Its names follow few pointers in all. It is no longer than a message may be, and the numbers of
+-- its header fit their fields.
 pub record Holds (metadata : Metadata) (c : Contents) (bytes : List ℕ) : Type 0 where
   pub header : take header_size bytes ≡ header_wire (header_for metadata c)
   pub answers_at : ℕ
   pub authorities_at : ℕ
   pub additionals_at : ℕ
-  pub queries : Stand (QueryStands bytes) c.queries header_size answers_at
-  pub answers : RecordsStand bytes c.answers answers_at authorities_at
-  pub authorities : RecordsStand bytes c.authorities authorities_at additionals_at
-  pub additionals : RecordsStand bytes c.additionals additionals_at (length bytes)
+  pub of_queries : ℕ
+  pub of_answers : ℕ
+  pub of_authorities : ℕ
+  pub of_additionals : ℕ
+  pub queries : Stand (QueryStands bytes) c.queries header_size answers_at of_queries
+  pub answers : RecordsStand bytes c.answers answers_at authorities_at of_answers
+  pub authorities : RecordsStand bytes c.authorities authorities_at additionals_at of_authorities
+  pub additionals : RecordsStand bytes c.additionals additionals_at (length bytes) of_additionals
+  pub few : of_queries + of_answers + of_authorities + of_additionals ≤ most_pointers
   pub small : length bytes ≤ max_message
   pub fit : HeaderFits (header_for metadata c)
 

@@ -2,6 +2,7 @@ pub mod Copying
 pub mod Pieces
 pub mod Kept
 pub mod Going
+pub mod Counting
 pub mod Walking
 pub mod AnyRecords
 pub mod Reading

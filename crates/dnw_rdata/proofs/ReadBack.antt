@@ -139,7 +139,7 @@ laid (Name form ∷ kinds) (name_piece other labels ∷ pieces) run c v w mode c
     let again : Laid kinds pieces [] ((c ++ run) ++ n.own) u w mode canonical =
     record { more = l.more; bytes = l.bytes; takes = l.takes; empty = l.empty; candidates = l.candidates } in
     let whole : WrittenInBoth m u (c ++ run) (in_mode (mode_of other mode canonical) labels) =
-    record { own = n.own; bytes = n.bytes; offset = n.offset; pointers = n.pointers; name = n.name; candidates = n.candidates } in
+    record { own = n.own; bytes = n.bytes; offset = n.offset; pointers = n.pointers; name = n.name; few = n.few; candidates = n.candidates } in
     subst (λ k. Laid (Name k ∷ kinds) (name_piece other labels ∷ pieces) run c v w mode canonical) is
     (name-laid other kinds labels pieces run c v m u w mode canonical there whole again)
 laid (kind ∷ kinds) (name_piece form labels ∷ pieces) run c v w mode canonical (one, more) e long all h = absurd one

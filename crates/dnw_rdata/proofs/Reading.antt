@@ -1,11 +1,11 @@
 -- Names and candidates are read in a message, and in one with other octets where a length is filled in later.
-use Rattle.std.proofs.Common.{◌≡◌, ℕ, suc, ◌+◌, ◌-◌, ◌≤◌, Bool, true, false, nat_lt, if◌then◌else◌, Option, Some, None, List, [], ◌∷◌, ◌++◌, length, take, drop, Ok, refl, sym, ap, ◌∙◌, subst, append_assoc, arith}
+use Rattle.std.proofs.Common.{◌≡◌, ℕ, suc, ◌+◌, ◌-◌, ◌*◌, ◌≤◌, Bool, true, false, nat_lt, if◌then◌else◌, Option, Some, None, List, [], ◌∷◌, ◌++◌, length, take, drop, Ok, refl, sym, ap, ◌∙◌, subst, append_assoc, arith}
 use Rattle.std.specs.List.{All, AllByRecursion}
 use Rattle.std.proofs.lemmas.List.{append-nil, drop_at, length-append}
 use Rattle.std.proofs.lemmas.List.Elements.{All-append, All-cons, All-drop, All-filter, All-head, All-nil, All-take, All-weaker}
 use Rattle.dnw_base.specs.Labels.{IsLabel}
 use Rattle.dnw_base.specs.Names.{AreLabels, NameValue, encoded_size, label_wire, labels_wire, wire}
-use Rattle.dnw_base.proofs.Wires.{encoded_size-cons, length-wire}
+use Rattle.dnw_base.proofs.Wires.{AreLabels-few, encoded_size-cons, length-wire}
 use Rattle.dnw_candidates.specs.Candidates.{Candidate, suffixes}
 use Rattle.dnw_reading.specs.Reading.{NameAt, Reads}
 use Rattle.dnw_reading.proofs.Back.{Reads-wire}
@@ -17,13 +17,14 @@ use Rattle.dnw_encoder.specs.EmittingLaws.{take-all}
 use Rattle.dnw_encoder.proofs.NameBack.{Reads-shared, each_front}
 use Rattle.dnw_record.proofs.Laying.{added}
 use Rattle.dnw_rdata.specs.AnyRecordLaws.{ReadsAs}
+use Rattle.dnw_rdata.proofs.Counting.{counts-as}
 
 -- A candidate is the same name in both messages.
 abbrev pub InBoth : List ℕ → List ℕ → Candidate → Type 0
 InBoth b c candidate = (ls : List (List ℕ)) × ReadsAs b candidate.0 ls × ReadsAs c candidate.0 ls
 
 append-read : (b more : List ℕ) (p : ℕ) (ls : List (List ℕ)) → ReadsAs b p ls → ReadsAs (b ++ more) p ls
-append-read b more p ls (e, k, h) = (e, k, record { reads = Reads-append more h.reads; fits = h.fits })
+append-read b more p ls (e, k, h, few) = (e, k, record { reads = Reads-append more h.reads; fits = h.fits }, few)
 
 pub append-both : (b c x y : List ℕ) (cs : List Candidate) → All (InBoth b c) cs → All (InBoth (b ++ x) (c ++ y)) cs
 append-both b c x y cs all =
@@ -32,22 +33,22 @@ append-both b c x y cs all =
 
 -- ---- what ends labels: the closing zero, or a pointer
 
--- After any octets, labels and this end are read as a name that goes on as the back.
+-- After any octets, some labels and this end are read as a name that goes on as the back.
 abbrev Ends : List ℕ → List ℕ → List (List ℕ) → Type 0
-Ends b tail back = (y x : List ℕ) (front : List (List ℕ)) → y ≡ b ++ x → AllByRecursion IsLabel front → encoded_size (front ++ back) ≤ 255
+Ends b tail back = (y x : List ℕ) (front : List (List ℕ)) → 1 ≤ length front → y ≡ b ++ x → AllByRecursion IsLabel front → encoded_size (front ++ back) ≤ 255
     → ReadsAs (y ++ (labels_wire front ++ tail)) (length y) (front ++ back)
 
 ends-zero : (b : List ℕ) → Ends b (0 ∷ []) []
-ends-zero b y x front is each fit =
+ends-zero b y x front some is each fit =
     let none = append-nil front in
     let reads = Reads-wire (y ++ wire front) y [] front (length y) (length y) (length y + encoded_size front) refl refl (ap (λ (z : List ℕ). y ++ z) (sym (append-nil (wire front)))) each in
     subst (ReadsAs (y ++ wire front) (length y)) (sym none)
-    (length y + encoded_size front, 0, record { reads = reads; fits = subst (λ z. encoded_size z ≤ 255) none fit })
+    (length y + encoded_size front, 0, record { reads = reads; fits = subst (λ z. encoded_size z ≤ 255) none fit }, omega (arith, some))
 
 ends-pointer : (b : List ℕ) (back : List (List ℕ)) (target : ℕ) → ReadsAs b target back → Ends b (pointer_to target) back
-ends-pointer b back target (e, k, h) y x front is each fit =
+ends-pointer b back target (e, k, h, few) y x front some is each fit =
     let there = subst (λ z. Reads z target target None back e k) (sym is) (Reads-append x h.reads) in
-    (_, _, record { reads = Reads-shared y [] front back target e k each there; fits = fit })
+    (_, suc k, record { reads = Reads-shared y [] front back target e k each there; fits = fit }, omega (arith, some, few, length-append front back))
 
 -- the suffixes of labels that are written are names
 suffix-both : (b c tail x y z : List ℕ) (back front : List (List ℕ)) → length b ≡ length c → Ends b tail back → Ends c tail back → y ≡ b ++ x → z ≡ c ++ x
@@ -60,8 +61,8 @@ suffix-both b c tail x y z back (l ∷ front) long ends also y_is z_is each fit 
     let same : length z ≡ length y = omega (arith, ap length y_is, ap length z_is, length-append b x, length-append c x, long) in
     let first : P (length y, labels_wire (l ∷ (front ++ back))) = (
       l ∷ (front ++ back),
-      ends y x (l ∷ front) y_is each fit,
-      subst (λ p. ReadsAs (z ++ (labels_wire (l ∷ front) ++ tail)) p (l ∷ (front ++ back))) same (also z x (l ∷ front) z_is each fit),
+      ends y x (l ∷ front) (omega arith) y_is each fit,
+      subst (λ p. ReadsAs (z ++ (labels_wire (l ∷ front) ++ tail)) p (l ∷ (front ++ back))) same (also z x (l ∷ front) (omega arith) z_is each fit),
     ) in
     let more = suffix-both b c tail (x ++ label_wire l) (y ++ label_wire l) (z ++ label_wire l) back front long ends also
     (ap (λ (q : List ℕ). q ++ label_wire l) y_is ∙ append_assoc b x (label_wire l)) (ap (λ (q : List ℕ). q ++ label_wire l) z_is ∙ append_assoc c x (label_wire l))
@@ -95,13 +96,15 @@ one-of P cs before after c is all =
 -- ---- a name that is written
 
 -- A name is written at the end of a message. It is read there, and so in another message of the same length in which the
--- candidates are the same names; and these stay the same names in both.
+-- candidates are the same names; and these stay the same names in both. It follows at most 127 pointers, and none if it is not
+-- counted.
 pub record WrittenInBoth (v w : Encoder) (c : List ℕ) (ls : List (List ℕ)) : Type 0 where
   pub own : List ℕ
   pub bytes : w.bytes ≡ v.bytes ++ own
   pub offset : w.offset ≡ length w.bytes
   pub pointers : ℕ
   pub name : NameAt (c ++ own) (length c) ls (length (c ++ own)) pointers
+  pub few : pointers + 127 * v.names ≤ 127 * w.names
   pub candidates : All (InBoth w.bytes (c ++ own)) w.candidates
 
 as-both : (v w : Encoder) (c : List ℕ) (ls : List (List ℕ)) (choice : Option Share) → AreLabels ls → v.offset ≡ length v.bytes → length v.bytes ≡ length c
@@ -126,9 +129,10 @@ as-both v w c ls None are e long all chosen h =
         reads = Reads-wire (c ++ own) c [] ls (length c) (length c) (length (c ++ own)) refl end (ap (λ (z : List ℕ). c ++ z) (sym (append-nil own))) are.each;
         fits = are.fit;
       };
+      few = omega (arith, (counts-as v w ls None h).1.on);
       candidates = subst (λ b. All (InBoth b (c ++ own)) w.candidates) (sym bytes) (subst (All P) (sym (ap (λ (x : Encoder). x.candidates) h.1)) every);
     }
-as-both v w c ls (Some share) are e long all (_, points) h =
+as-both v w c ls (Some share) are e long all (may, points) h =
     let front = share.front in
     let back = share.back in
     let own = form ls (Some share) in
@@ -141,12 +145,13 @@ as-both v w c ls (Some share) are e long all (_, points) h =
     let each = each_front front back (subst (λ x. AllByRecursion IsLabel x) points.parts are.each) in
     let fit : encoded_size (front ++ back) ≤ 255 = subst (λ z. encoded_size z ≤ 255) points.parts are.fit in
     let P = InBoth (v.bytes ++ own) (c ++ own) in
-    let new = suffix-both v.bytes c (pointer_to share.target) [] v.bytes c back front long (ends-pointer v.bytes back share.target (u.end, u.pointers, there))
+    let new = suffix-both v.bytes c (pointer_to share.target) [] v.bytes c back front long (ends-pointer v.bytes back share.target (subst (ReadsAs v.bytes share.target) same one))
     (ends-pointer c back share.target also) (sym (append-nil v.bytes)) (sym (append-nil c)) each fit in
     let some : All P (take (length front) (suffixes v.offset ls)) =
     subst (λ o. All P (take (length front) (suffixes o ls))) (sym e) (subst (λ z. All P (take (length front) (suffixes (length v.bytes) z))) (sym points.parts) new) in
     let every : All P (v.candidates ++ kept v ls (length front)) =
     All-append P v.candidates (kept v ls (length front)) (append-both v.bytes c own own v.candidates all) (kept-all P v ls (length front) some) in
+    let one_counted : w.names ≡ v.names + 1 = (counts-as v w ls (Some share) h).0 ∙ ap (λ (b : Bool). if b then v.names + 1 else v.names) may in
     let left = All-filter (λ candidate. nat_lt candidate.0 (v.offset + length (labels_wire front))) P (v.candidates ++ kept v ls (length front)) every in
     let r = Reads-shared c [] front back share.target also.0 also.1 each also.2.reads in
     let end : length c + length (labels_wire front) + 2 ≡ length (c ++ own) = omega (arith, length-append c own, length-append (labels_wire front) (pointer_to share.target)) in
@@ -159,6 +164,7 @@ as-both v w c ls (Some share) are e long all (_, points) h =
       offset = omega (arith, ap (λ (x : Encoder). x.offset) h.1, ap length bytes, length-append v.bytes own, e);
       pointers = suc also.1;
       name = record { reads = read; fits = are.fit };
+      few = omega (arith, also.3, ap length points.parts, length-append front back, AreLabels-few ls are, one_counted);
       candidates = subst (λ b. All (InBoth b (c ++ own)) w.candidates) (sym bytes) (subst (All P) (sym (ap (λ (x : Encoder). x.candidates) h.1)) left);
     }
 

@@ -1,5 +1,5 @@
 -- A record of any type is read where it was written.
-use Rattle.std.proofs.Common.{◌≡◌, ℕ, ◌+◌, ◌-◌, ◌^◌, ◌<◌, ◌≤◌, List, [], ◌++◌, length, take, drop, replicate, slice_range, Ok, refl, sym, ap, ◌∙◌, subst, append_assoc, arith}
+use Rattle.std.proofs.Common.{◌≡◌, ℕ, ◌+◌, ◌-◌, ◌*◌, ◌^◌, ◌<◌, ◌≤◌, List, [], ◌++◌, length, take, drop, replicate, slice_range, Ok, refl, sym, ap, ◌∙◌, subst, append_assoc, arith}
 use Rattle.std.specs.Int.{w16, to_be_bytes}
 use Rattle.std.specs.List.{All}
 use Rattle.std.proofs.lemmas.List.{append-nil, drop_at, length-append, length-replicate, take_all, take_at}
@@ -29,6 +29,7 @@ use Rattle.dnw_rdata.specs.AnyRecordFrames.{frame-any_record, frame-parts}
 use Rattle.dnw_rdata.specs.AnyRecordLaws.{AnyRecordsAreRead, CandidatesAreRead, NamesKeepRead, NewAreRead, ReadsAs, WritesKeepRead, written_pieces}
 use Rattle.dnw_rdata.proofs.AnyRecords.{data_have_fields, take-values}
 use Rattle.dnw_rdata.proofs.Going.{within-parts}
+use Rattle.dnw_rdata.proofs.Counting.{counts-parts}
 use Rattle.dnw_rdata.proofs.Pieces.{behind}
 use Rattle.dnw_rdata.proofs.ReadBack.{laid}
 use Rattle.dnw_rdata.proofs.Reading.{InBoth, append-both, name-both}
@@ -65,12 +66,14 @@ all-of b n is = let same : n - 0 ≡ n = omega arith in ap (λ k. take k b) same
 -- ---- in another message
 
 -- A record is written at the end of a message. In another message of the same length, in which the candidates are the same
--- names, it is read as well; and before its length is filled in, the candidates are these names too.
+-- names, it is read as well, and its owner follows few pointers; and before its length is filled in, the candidates are these
+-- names too.
 record ReadIn (r : Record) (pieces : List DataPiece) (v u w : Encoder) (c : List ℕ) : Type 0 where
   own : List ℕ
   bytes : w.bytes ≡ v.bytes ++ own
   value : RecordValue
   at : RecordAt (c ++ own) (length c) value (length (c ++ own))
+  few : at.pointers + 127 * v.names ≤ 127 * w.names
   owner : value.owner ≡ in_mode v.encoding r.name.labels
   record_type : value.record_type ≡ type_of_code (type_code r.data.record_type)
   class : value.class ≡ class_of_code (class_code r.dns_class)
@@ -116,10 +119,10 @@ behind-is twin more b i is size =
 read-rest : (r : Record) (pieces : List DataPiece) (v u w : Encoder) (c name more : List ℕ) (len k : ℕ)
     → w.bytes ≡ (v.bytes ++ name) ++ (fields_of (type_code r.data.record_type) (class_code r.dns_class) r.ttl len ++ more)
     → NameAt (c ++ name) (length c) (in_mode v.encoding r.name.labels) (length (c ++ name)) k → len ≡ length more → AnyNumbersFit r
-    → length c + length name + 10 + length more ≤ 65535
+    → length c + length name + 10 + length more ≤ 65535 → k + 127 * v.names ≤ 127 * w.names
     → TakesPieces (kinds_of r.data.record_type) (behind ((((c ++ name) ++ type_class_ttl r) ++ to_be_bytes w16 len) ++ []) more) (written_pieces v.encoding v.canonical pieces)
     → All (InBoth u.bytes ((((c ++ name) ++ type_class_ttl r) ++ to_be_bytes w16 len) ++ more)) w.candidates → ReadIn r pieces v u w c
-read-rest r pieces v u w c name more len k bytes read size fits small takes candidates =
+read-rest r pieces v u w c name more len k bytes read size fits small few takes candidates =
     let fields = fields_of (type_code r.data.record_type) (class_code r.dns_class) r.ttl len in
     let eight = type_class_ttl r in
     let two = to_be_bytes w16 len in
@@ -140,6 +143,7 @@ read-rest r pieces v u w c name more len k bytes read size fits small takes cand
       bytes = bytes ∙ append_assoc v.bytes name (fields ++ more);
       value = f.value;
       at = f.at;
+      few = omega (arith, few, (Reads-unique f.at.owner_read.reads here.reads).2);
       owner = f.owner;
       record_type = f.record_type;
       class = f.class_is;
@@ -177,6 +181,8 @@ read-in : (r : Record) (pieces : List DataPiece) (v a d u w : Encoder) (c : List
     → EmitsName r.name v (Ok tt) a → Writes a (type_class_ttl r) (Ok tt) d → HasRoom d 2 → EmitsRData r.data (reserved d 2) (Ok tt) u
     → w ≡ with_length u d.offset → ReadIn r pieces v u w c
 read-in r pieces v a d u w c e long small stand has fit owner fixed room (others, has', one) is =
+    let after : a.names ≤ w.names =
+    omega (arith, (counts-parts (parts_of others d.encoding d.canonical) _ u one).on, ap (λ (x : Encoder). x.names) fixed.1, ap (λ (x : Encoder). x.names) is) in
     let eight = type_class_ttl r in
     let kinds = kinds_of r.data.record_type in
     let n = name-both r.name v a c e long stand owner in
@@ -202,6 +208,7 @@ read-in r pieces v a d u w c e long small stand has fit owner fixed room (others
     filled-out d u w l.more fd.ends l.bytes is ∙ (ap (λ (x : List ℕ). x ++ (two ++ l.more)) (added a d eight fa.ends fixed.1) ∙ append_assoc a.bytes eight (two ++ l.more)) in
     read-rest r pieces v u w c n.own l.more len n.pointers (all ∙ ap (λ (x : List ℕ). x ++ (eight ++ (two ++ l.more))) n.bytes) n.name number fit
     (omega (arith, number, most, still, fd.max_size, fa.max_size, small, offset, ca_size, length-append c n.own, fu.ends, ap length l.bytes, length-append (reserved d 2).bytes l.more, fr.ends))
+    (omega (arith, n.few, after))
     (subst (λ ps. TakesPieces kinds from (written_pieces v.encoding v.canonical ps)) one_way
     (subst (λ k. TakesPieces kinds from (written_pieces v.encoding k others)) canonical (subst (λ k. TakesPieces kinds from (written_pieces k d.canonical others)) mode l.takes)))
     (subst (All (InBoth u.bytes ((((c ++ n.own) ++ eight) ++ two) ++ l.more))) (sym (ap (λ (y : Encoder). y.candidates) is)) l.candidates)
@@ -214,12 +221,14 @@ merged u b c cs one two =
     (λ k y lt. (one k y lt, two k y lt))
 
 -- A record is written at the end of a message. It is read there, and so in another message of the same length in which the
--- candidates are the same names; and these stay the same names in both.
+-- candidates are the same names; and these stay the same names in both. Its owner follows at most 127 pointers for each name
+-- that is counted.
 pub record RecordInBoth (r : Record) (pieces : List DataPiece) (v w : Encoder) (c : List ℕ) : Type 0 where
   pub own : List ℕ
   pub bytes : w.bytes ≡ v.bytes ++ own
   pub value : RecordValue
   pub at : RecordAt (c ++ own) (length c) value (length (c ++ own))
+  pub few : at.pointers + 127 * v.names ≤ 127 * w.names
   pub owner : value.owner ≡ in_mode v.encoding r.name.labels
   pub record_type : value.record_type ≡ type_of_code (type_code r.data.record_type)
   pub class : value.class ≡ class_of_code (class_code r.dns_class)
@@ -239,6 +248,7 @@ record-both r pieces v w c e long small stand has (fit, (a, owner, (d, fixed, (r
       bytes = other.bytes;
       value = other.value;
       at = other.at;
+      few = other.few;
       owner = other.owner;
       record_type = other.record_type;
       class = other.class;

@@ -1,5 +1,5 @@
 -- What follows from the definitions of records of any type. Each is the clause of a public function, and so proved.
-use Rattle.std.specs.Prelude.{◌≡◌, ℕ, ◌+◌, ◌≤◌, Bool, false, None, List, [], ◌∷◌, ◌++◌, length, map, Ok, Err}
+use Rattle.std.specs.Prelude.{◌≡◌, ℕ, ◌+◌, ◌<◌, ◌≤◌, Bool, false, None, List, [], ◌∷◌, ◌++◌, length, map, Ok, Err}
 use Rattle.std.specs.List.{All}
 use Rattle.dnw_error.specs.declared.error.ProtoError.{ProtoError}
 use Rattle.dnw_codes.specs.RecordTypes.{type_code, type_of_code}
@@ -69,11 +69,11 @@ DataHaveFields = (kinds : List Kind) (octets : List ℕ) (pieces : List DataPiec
 
 -- ---- reading back
 
--- A name is read at an offset.
+-- A name is read at an offset, and it follows fewer pointers than it has labels.
 abbrev pub ReadsAs : List ℕ → ℕ → List (List ℕ) → Type 0
-ReadsAs b p labels = (end : ℕ) × (pointers : ℕ) × NameAt b p labels end pointers
+ReadsAs b p labels = (end : ℕ) × (pointers : ℕ) × NameAt b p labels end pointers × (pointers < length labels)
 
--- At the offset of every candidate a name is read in the message so far.
+-- At the offset of every candidate such a name is read in the message so far.
 abbrev pub CandidatesAreRead : Encoder → Type 0
 CandidatesAreRead v = All (λ c. (labels : List (List ℕ)) × ReadsAs (so_far v) c.0 labels) v.candidates
 

@@ -26,6 +26,6 @@ pub fn write_and_read(
     laws::one_message();
     written_messages_are_read();
     write(alloc, buffer, metadata, MAX_MESSAGE, entries)?;
-    let message = MessageRef::read_limited(buffer, usize::MAX).unwrap();
+    let message = MessageRef::read(buffer).unwrap();
     Ok(message.header().counts)
 }
