@@ -151,8 +151,9 @@ pub use Rattle.dnw_message.specs.OpCodes.{op_code, op_entry, op_of_code}
 pub use Rattle.dnw_message.specs.Queries.{FailsQuery, TakesQuery}
 pub use Rattle.dnw_message.specs.ResponseCodes.{response_code, response_entry, response_of_code}
 -- Whole messages that are written.
-pub use Rattle.dnw_message_writer.specs.Drafts.{Added, Adds, AddsAll, AddsEntry, AddsLast, Begins, Closes, Draft, Ends, counted, cuts, is_open}
+pub use Rattle.dnw_message_writer.specs.Drafts.{Added, Adds, AddsAll, AddsEntry, AddsLast, AddsMany, AddsSet, Begins, Closes, Draft, Ends, counted, counted_by, cuts, is_open}
 pub use Rattle.dnw_message_writer.specs.QueryFrames.{frame-query}
+pub use Rattle.dnw_message_writer.specs.Together.{EmitsInTurn, EmitsTogether, records_size}
 pub use Rattle.dnw_message_writer.specs.WireQueries.{EmitsQuery, EmitsQueryFields, QueryFits}
 pub use Rattle.dnw_message_writer.specs.ReadBack.{IsReadAs, QueryIsRead}
 pub use Rattle.dnw_message_writer.specs.ReadRecords.{RecordIsRead, RecordStands as RecordIsThere}

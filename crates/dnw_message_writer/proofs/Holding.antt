@@ -7,8 +7,6 @@ use Rattle.dnw_error.specs.declared.error.ProtoError.{ProtoError}
 use Rattle.dnw_error.specs.declared.error.ProtoError.TheVariants.{MaxBufferSizeExceeded, Memory}
 use Rattle.dnw_encoder.specs.Encoder.{Encoder}
 use Rattle.dnw_rdata.specs.declared.record.Record.{Record}
-use Rattle.dnw_rdata.specs.AnyRecords.{EmitsAnyRecord}
-use Rattle.dnw_rdata.specs.AnyRecordLaws.{any_record_size}
 use Rattle.dnw_message.specs.declared.header.Header.{Header}
 use Rattle.dnw_message.specs.declared.header.Metadata.{Metadata}
 use Rattle.dnw_message_writer.specs.declared.query.WireQuery.{WireQuery}
@@ -16,12 +14,14 @@ use Rattle.dnw_message_writer.specs.declared.section.Section.{Section}
 use Rattle.dnw_message_writer.specs.declared.section.Section.TheVariants as section
 use Rattle.dnw_message_writer.specs.declared.section.AddError.TheVariants.{OutOfOrder, Proto}
 use Rattle.dnw_message_writer.specs.declared.writer.Entry.{Entry}
-use Rattle.dnw_message_writer.specs.declared.writer.Entry.TheVariants.{Query, Answer, Authority, Additional}
-use Rattle.dnw_message_writer.specs.Drafts.{Added, AddsAll, AddsEntry, Draft, counted, cut_if, cuts, is_open, limited}
+use Rattle.dnw_message_writer.specs.declared.writer.Entry.TheVariants.{Query, Answer, Authority, Additional, Answers, Authorities, Additionals}
+use Rattle.dnw_message_writer.specs.Drafts.{Added, AddsAll, AddsEntry, AddsSet, Draft, counted, counted_by, cut_if, cuts, is_open, limited}
 use Rattle.dnw_message_writer.specs.ReadRecords.{RecordStands}
 use Rattle.dnw_message_writer.specs.Written.{Contents, HasOutcome, HaveOutcomes, QueryStands, Stand, and_then, contents_from, counts_of, entry_size, header_for, section_of}
 use Rattle.dnw_message_writer.proofs.Standing.{query-later, record-later, stand-append, stand-later, stand-one}
-use Rattle.dnw_message_writer.proofs.Going.{Fails, Goes, Stands, Twin, fails-query, fails-record, goes-query, goes-record, query_size}
+use Rattle.dnw_message_writer.proofs.Going.{Fails, Goes, Stands, Twin, fails-query, fails-record, goes-query, query_size}
+use Rattle.dnw_message_writer.specs.Together.{EmitsInTurn, records_size}
+use Rattle.dnw_message_writer.proofs.InTurn.{fails-together, goes-in_turn}
 
 abbrev pub records_of : Contents → List Record
 records_of c = c.answers ++ (c.authorities ++ c.additionals)
@@ -138,8 +138,8 @@ none-if : {X : Type 0} (xs : List X) → (length xs == 0) ≡ true → xs ≡ []
 none-if [] h = refl
 none-if (x ∷ xs) h = let no : length xs + 1 ≡ 0 = grind (arith, common_steps, h) in absurd (omega (arith, no))
 
-one_more-is : {X : Type 0} (xs : List X) (x : X) → length xs + 1 ≤ 65535 → min (length xs + 1) 65535 ≡ length (xs ++ x ∷ [])
-one_more-is xs x le = min-eq_left le ∙ sym (length-append xs (x ∷ []))
+so_many_more-is : {X : Type 0} (xs ys : List X) → length xs + length ys ≤ 65535 → min (length xs + length ys) 65535 ≡ length (xs ++ ys)
+so_many_more-is xs ys le = min-eq_left le ∙ sym (length-append xs ys)
 
 after-queries : (c : Contents) → is_open section.Queries (counts_of c) ≡ true → records_of c ≡ []
 after-queries c h =
@@ -147,20 +147,20 @@ after-queries c h =
     let (u, d) = both (length c.authorities == 0) (length c.additionals == 0) more in
     rw (none-if c.answers a, none-if c.authorities u, none-if c.additionals d) refl
 
-after-answers : (c : Contents) (r : Record) → is_open section.Answers (counts_of c) ≡ true
-    → (c.answers ++ r ∷ []) ++ (c.authorities ++ c.additionals) ≡ records_of c ++ r ∷ []
-after-answers c r h =
+after-answers : (c : Contents) (rs : List Record) → is_open section.Answers (counts_of c) ≡ true
+    → (c.answers ++ rs) ++ (c.authorities ++ c.additionals) ≡ records_of c ++ rs
+after-answers c rs h =
     let (u, d) = both (length c.authorities == 0) (length c.additionals == 0) h in
-    rw (none-if c.authorities u, none-if c.additionals d, append-nil c.answers) (append-nil (c.answers ++ r ∷ []))
+    rw (none-if c.authorities u, none-if c.additionals d, append-nil c.answers) (append-nil (c.answers ++ rs))
 
-after-authorities : (c : Contents) (r : Record) → is_open section.Authorities (counts_of c) ≡ true
-    → c.answers ++ ((c.authorities ++ r ∷ []) ++ c.additionals) ≡ records_of c ++ r ∷ []
-after-authorities c r h =
-    rw (none-if c.additionals h, append-nil (c.authorities ++ r ∷ []), append-nil c.authorities) (sym (append_assoc c.answers c.authorities (r ∷ [])))
+after-authorities : (c : Contents) (rs : List Record) → is_open section.Authorities (counts_of c) ≡ true
+    → c.answers ++ ((c.authorities ++ rs) ++ c.additionals) ≡ records_of c ++ rs
+after-authorities c rs h =
+    rw (none-if c.additionals h, append-nil (c.authorities ++ rs), append-nil c.authorities) (sym (append_assoc c.answers c.authorities rs))
 
-after-additionals : (c : Contents) (r : Record) → c.answers ++ (c.authorities ++ (c.additionals ++ r ∷ [])) ≡ records_of c ++ r ∷ []
-after-additionals c r =
-    sym (append_assoc c.answers (c.authorities ++ c.additionals) (r ∷ []) ∙ ap (λ (y : List Record). c.answers ++ y) (append_assoc c.authorities c.additionals (r ∷ [])))
+after-additionals : (c : Contents) (rs : List Record) → c.answers ++ (c.authorities ++ (c.additionals ++ rs)) ≡ records_of c ++ rs
+after-additionals c rs =
+    sym (append_assoc c.answers (c.authorities ++ c.additionals) rs ∙ ap (λ (y : List Record). c.answers ++ y) (append_assoc c.authorities c.additionals rs))
 
 -- ---- one item
 
@@ -177,6 +177,9 @@ cut-by-memory c (Query q) = refl
 cut-by-memory c (Answer r) = refl
 cut-by-memory c (Authority r) = refl
 cut-by-memory c (Additional r) = refl
+cut-by-memory c (Answers rs) = refl
+cut-by-memory c (Authorities rs) = refl
+cut-by-memory c (Additionals rs) = refl
 
 cut-by-size : (c : Contents) (x : Entry) (size : ℕ)
     → and_then c x (Err (Proto (MaxBufferSizeExceeded size))) ≡ record c { cut = cuts (section_of x) (MaxBufferSizeExceeded size) || c.cut }
@@ -184,6 +187,9 @@ cut-by-size c (Query q) size = refl
 cut-by-size c (Answer r) size = refl
 cut-by-size c (Authority r) size = refl
 cut-by-size c (Additional r) size = refl
+cut-by-size c (Answers rs) size = refl
+cut-by-size c (Authorities rs) size = refl
+cut-by-size c (Additionals rs) size = refl
 
 module _ (head : List ℕ) (metadata : Metadata) (top : ℕ) where
   abbrev Draws : Contents → Draft → Type 0
@@ -234,23 +240,26 @@ module _ (head : List ℕ) (metadata : Metadata) (top : ℕ) where
         )
       ]
 
-  done-record : (c x : Contents) (d e : Draft) (r : Record) (s : Section) → Draws c d → EmitsAnyRecord r d.encoder (Ok tt) e.encoder
-      → e.header ≡ record d.header { counts = counted s d.header.counts } → x.queries ≡ c.queries → records_of x ≡ records_of c ++ r ∷ []
-      → size_of x ≡ size_of c + 1
-      → (size_of c + 1 ≤ 65535 → record (header_for metadata c) { counts = counted s (counts_of c) } ≡ header_for metadata x)
-      → Draws x e × (e.encoder.offset ≤ d.encoder.offset + any_record_size r) × (e.encoder.offset ≤ top)
-  done-record c x d e r s h emits is same are size header =
+  -- Records of a section are added: these are the contents then, from an offset to another.
+  abbrev AreAdded : Contents → Contents → Draft → Draft → List Record → Type 0
+  AreAdded c x d e rs = Draws x e × (e.encoder.offset ≤ d.encoder.offset + records_size rs) × (e.encoder.offset ≤ top)
+
+  done-records : (c x : Contents) (d e : Draft) (rs : List Record) (s : Section) → Draws c d → EmitsInTurn rs d.encoder (Ok tt) e.encoder
+      → e.header ≡ record d.header { counts = counted_by (length rs) s d.header.counts } → x.queries ≡ c.queries → records_of x ≡ records_of c ++ rs
+      → size_of x ≡ size_of c + length rs
+      → (size_of c + length rs ≤ 65535 → record (header_for metadata c) { counts = counted_by (length rs) s (counts_of c) } ≡ header_for metadata x)
+      → AreAdded c x d e rs
+  done-records c x d e rs s h emits is same are size header =
       let b = head ++ h.rest in
-      let go = goes-record d.encoder e.encoder b r h.twin (omega (arith, h.within, h.most)) (omega (arith, h.most, h.small)) emits in
-      let small : size_of c + 1 ≤ 65535 = omega (arith, h.on, go.on, go.within, h.most, h.small) in
-      let head_is : e.header ≡ header_for metadata x = is ∙ (ap (λ (y : Header). record y { counts = counted s y.counts }) h.header ∙ header small) in
+      let go = goes-in_turn d.encoder e.encoder b rs h.twin (omega (arith, h.within, h.most)) (omega (arith, h.most, h.small)) emits in
+      let small : size_of c + length rs ≤ 65535 = omega (arith, h.on, go.on, go.within, h.most, h.small) in
+      let head_is : e.header ≡ header_for metadata x = is ∙ (ap (λ (y : Header). record y { counts = counted_by (length rs) s y.counts }) h.header ∙ header small) in
       let j = go.pointers in
       let k = h.pointers + j in
-      let one = stand-one (RecordStands (b ++ go.own)) r (length b) (length (b ++ go.own)) j go.there in
-      let spells = spells-records b go.own c.queries (records_of c) (r ∷ []) h.pointers j h.spells one in
+      let spells = spells-records b go.own c.queries (records_of c) rs h.pointers j h.spells go.there in
       let all : Spells (b ++ go.own) x.queries (records_of x) k =
       subst (λ qs. Spells (b ++ go.own) qs (records_of x) k) (sym same) (subst (λ rs. Spells (b ++ go.own) c.queries rs k) (sym are) spells) in (
-        has-more head metadata top c x d e 1 (any_record_size r) _ h go all size head_is,
+        has-more head metadata top c x d e (length rs) (records_size rs) _ h go all size head_is,
         go.few,
         omega (arith, go.within, h.most),
       )
@@ -265,7 +274,7 @@ module _ (head : List ℕ) (metadata : Metadata) (top : ℕ) where
       let small : length c.queries + 1 ≤ 65535 = omega (arith, h.on, go.on, go.within, h.most, h.small) in
       let head_is : e.header ≡ header_for metadata x =
       is ∙ (ap (λ (y : Header). record y { counts = counted section.Queries y.counts }) h.header
-      ∙ ap (λ n. record (header_for metadata c) { counts = record (counts_of c) { queries = n } }) (one_more-is c.queries q small)) in
+      ∙ ap (λ n. record (header_for metadata c) { counts = record (counts_of c) { queries = n } }) (so_many_more-is c.queries (q ∷ []) small)) in
       let j = go.pointers in
       let k = h.pointers + j in
       let spells = spells-query b go.own c.queries q h.pointers j (subst (λ rs. Spells b c.queries rs h.pointers) none h.spells) go.there in
@@ -274,30 +283,63 @@ module _ (head : List ℕ) (metadata : Metadata) (top : ℕ) where
         (now, go.few, omega (arith, go.within, h.most)),
       )
 
+  done-answers : (c : Contents) (d e : Draft) (rs : List Record) → Draws c d → AddsSet section.Answers rs d (Ok tt) e
+      → (is_open section.Answers (counts_of c) ≡ true) × AreAdded c (record c { answers = c.answers ++ rs }) d e rs
+  done-answers c d e rs h (free, emits, is) =
+      let now = open-now c d section.Answers true h free in
+      let counts = λ (le : size_of c + length rs ≤ 65535).
+      ap (λ n. record (header_for metadata c) { counts = record (counts_of c) { answers = n } }) (so_many_more-is c.answers rs (omega (arith, le))) in
+      (now, done-records c (record c { answers = c.answers ++ rs }) d e rs section.Answers h emits is refl (after-answers c rs now) (omega (arith, length-append c.answers rs)) counts)
+
+  done-authorities : (c : Contents) (d e : Draft) (rs : List Record) → Draws c d → AddsSet section.Authorities rs d (Ok tt) e
+      → (is_open section.Authorities (counts_of c) ≡ true) × AreAdded c (record c { authorities = c.authorities ++ rs }) d e rs
+  done-authorities c d e rs h (free, emits, is) =
+      let now = open-now c d section.Authorities true h free in
+      let counts = λ (le : size_of c + length rs ≤ 65535).
+      ap (λ n. record (header_for metadata c) { counts = record (counts_of c) { authorities = n } }) (so_many_more-is c.authorities rs (omega (arith, le))) in
+      (now, done-records c (record c { authorities = c.authorities ++ rs }) d e rs section.Authorities h emits is refl (after-authorities c rs now) (omega (arith, length-append c.authorities rs)) counts)
+
+  done-additionals : (c : Contents) (d e : Draft) (rs : List Record) → Draws c d → AddsSet section.Additionals rs d (Ok tt) e
+      → (is_open section.Additionals (counts_of c) ≡ true) × AreAdded c (record c { additionals = c.additionals ++ rs }) d e rs
+  done-additionals c d e rs h (free, emits, is) =
+      let counts = λ (le : size_of c + length rs ≤ 65535).
+      ap (λ n. record (header_for metadata c) { counts = record (counts_of c) { additionals = n } }) (so_many_more-is c.additionals rs (omega (arith, le))) in
+      (refl, done-records c (record c { additionals = c.additionals ++ rs }) d e rs section.Additionals h emits is refl (after-additionals c rs) (omega (arith, length-append c.additionals rs)) counts)
+
   pub step : (c : Contents) (d e : Draft) (x : Entry) (outcome : Added) → Draws c d → AddsEntry x d outcome e → Steps c d x outcome e
   step c d e (Query q) (Ok tt) h add = done-query c d e q h add
   step c d e (Answer r) (Ok tt) h (free, emits, is) =
-      let now = open-now c d section.Answers true h free in
-      let one = λ (le : size_of c + 1 ≤ 65535). ap (λ n. record (header_for metadata c) { counts = record (counts_of c) { answers = n } }) (one_more-is c.answers r (omega (arith, le))) in
-      let (has, few, within) = done-record c (and_then c (Answer r) (Ok tt)) d e r section.Answers h emits is refl (after-answers c r now) (omega (arith, length-append c.answers (r ∷ []))) one in
-      (has, (now, few, within))
+      let (now, added) = done-answers c d e (r ∷ []) h (free, (e.encoder, emits, refl), is) in
+      let (has, few, within) = added in
+      (has, (now, omega (arith, few), within))
   step c d e (Authority r) (Ok tt) h (free, emits, is) =
-      let now = open-now c d section.Authorities true h free in
-      let one = λ (le : size_of c + 1 ≤ 65535). ap (λ n. record (header_for metadata c) { counts = record (counts_of c) { authorities = n } }) (one_more-is c.authorities r (omega (arith, le))) in
-      let (has, few, within) = done-record c (and_then c (Authority r) (Ok tt)) d e r section.Authorities h emits is refl (after-authorities c r now) (omega (arith, length-append c.authorities (r ∷ []))) one in
-      (has, (now, few, within))
+      let (now, added) = done-authorities c d e (r ∷ []) h (free, (e.encoder, emits, refl), is) in
+      let (has, few, within) = added in
+      (has, (now, omega (arith, few), within))
   step c d e (Additional r) (Ok tt) h (free, emits, is) =
-      let one = λ (le : size_of c + 1 ≤ 65535). ap (λ n. record (header_for metadata c) { counts = record (counts_of c) { additionals = n } }) (one_more-is c.additionals r (omega (arith, le))) in
-      let (has, few, within) = done-record c (and_then c (Additional r) (Ok tt)) d e r section.Additionals h emits is refl (after-additionals c r) (omega (arith, length-append c.additionals (r ∷ []))) one in
-      (has, (refl, few, within))
+      let (now, added) = done-additionals c d e (r ∷ []) h (free, (e.encoder, emits, refl), is) in
+      let (has, few, within) = added in
+      (has, (now, omega (arith, few), within))
+  step c d e (Answers rs) (Ok tt) h add =
+      let (now, (has, few, within)) = done-answers c d e rs.items h add in (has, (now, few, within))
+  step c d e (Authorities rs) (Ok tt) h add =
+      let (now, (has, few, within)) = done-authorities c d e rs.items h add in (has, (now, few, within))
+  step c d e (Additionals rs) (Ok tt) h add =
+      let (now, (has, few, within)) = done-additionals c d e rs.items h add in (has, (now, few, within))
   step c d e (Query q) (Err OutOfOrder) h (shut, same) = (subst (Draws c) (sym same) h, (open-now c d section.Queries false h shut, ap (λ (y : Draft). y.encoder.offset) same))
   step c d e (Answer r) (Err OutOfOrder) h (shut, same) = (subst (Draws c) (sym same) h, (open-now c d section.Answers false h shut, ap (λ (y : Draft). y.encoder.offset) same))
   step c d e (Authority r) (Err OutOfOrder) h (shut, same) = (subst (Draws c) (sym same) h, (open-now c d section.Authorities false h shut, ap (λ (y : Draft). y.encoder.offset) same))
   step c d e (Additional r) (Err OutOfOrder) h (shut, same) = (subst (Draws c) (sym same) h, (open-now c d section.Additionals false h shut, ap (λ (y : Draft). y.encoder.offset) same))
+  step c d e (Answers rs) (Err OutOfOrder) h (shut, same) = (subst (Draws c) (sym same) h, (open-now c d section.Answers false h shut, ap (λ (y : Draft). y.encoder.offset) same))
+  step c d e (Authorities rs) (Err OutOfOrder) h (shut, same) = (subst (Draws c) (sym same) h, (open-now c d section.Authorities false h shut, ap (λ (y : Draft). y.encoder.offset) same))
+  step c d e (Additionals rs) (Err OutOfOrder) h (shut, same) = (subst (Draws c) (sym same) h, (open-now c d section.Additionals false h shut, ap (λ (y : Draft). y.encoder.offset) same))
   step c d e (Query q) (Err (Proto error)) h (free, emits, is) = refused c d e (Query q) error h free (fails-query d.encoder e.encoder q error h.twin.at_end h.twin.precede emits) is
   step c d e (Answer r) (Err (Proto error)) h (free, emits, is) = refused c d e (Answer r) error h free (fails-record d.encoder e.encoder r error h.twin.at_end h.twin.precede emits) is
   step c d e (Authority r) (Err (Proto error)) h (free, emits, is) = refused c d e (Authority r) error h free (fails-record d.encoder e.encoder r error h.twin.at_end h.twin.precede emits) is
   step c d e (Additional r) (Err (Proto error)) h (free, emits, is) = refused c d e (Additional r) error h free (fails-record d.encoder e.encoder r error h.twin.at_end h.twin.precede emits) is
+  step c d e (Answers rs) (Err (Proto error)) h (free, emits, is) = refused c d e (Answers rs) error h free (fails-together d.encoder e.encoder rs.items error h.twin.at_end h.twin.precede emits) is
+  step c d e (Authorities rs) (Err (Proto error)) h (free, emits, is) = refused c d e (Authorities rs) error h free (fails-together d.encoder e.encoder rs.items error h.twin.at_end h.twin.precede emits) is
+  step c d e (Additionals rs) (Err (Proto error)) h (free, emits, is) = refused c d e (Additionals rs) error h free (fails-together d.encoder e.encoder rs.items error h.twin.at_end h.twin.precede emits) is
 
   -- all items
   pub steps : (c : Contents) (d e : Draft) (xs : List Entry) (outcomes : List Added) → Draws c d → AddsAll xs d outcomes e

@@ -1,6 +1,7 @@
 pub mod Adding
 pub mod Standing
 pub mod Going
+pub mod InTurn
 pub mod Holding
 pub mod Finishing
 pub mod Copying

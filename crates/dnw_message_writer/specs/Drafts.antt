@@ -1,5 +1,5 @@
 -- A message while it is written: how items are added to it, in the order of the sections (RFC 1035, section 4.1).
-use Rattle.std.specs.Prelude.{◌≡◌, ℕ, ◌+◌, ◌<◌, ◌^◌, min, Bool, true, false, ◌&&◌, ◌==◌, Option, Some, None, List, [], ◌∷◌, replicate, Result, Ok, Err}
+use Rattle.std.specs.Prelude.{◌≡◌, ℕ, ◌+◌, ◌<◌, ◌^◌, min, Bool, true, false, ◌&&◌, ◌==◌, Option, Some, None, List, [], ◌∷◌, length, replicate, Result, Ok, Err}
 use Rattle.dnw_error.specs.declared.error.ProtoError.{ProtoError}
 use Rattle.dnw_error.specs.declared.error.ProtoError.TheVariants.{MaxBufferSizeExceeded}
 use Rattle.dnw_encoder.specs.Encoder.{Encoder, Writes, moved_to}
@@ -11,8 +11,9 @@ use Rattle.dnw_message.specs.Headers.{header_wire}
 use Rattle.dnw_rdata.specs.declared.record.Record.{Record}
 use Rattle.dnw_rdata.specs.AnyRecords.{EmitsAnyRecord}
 use Rattle.dnw_message_writer.specs.WireQueries.{EmitsQuery}
+use Rattle.dnw_message_writer.specs.Together.{EmitsTogether}
 use Rattle.dnw_message_writer.specs.declared.writer.Entry.{Entry}
-use Rattle.dnw_message_writer.specs.declared.writer.Entry.TheVariants.{Query, Answer, Authority, Additional}
+use Rattle.dnw_message_writer.specs.declared.writer.Entry.TheVariants.{Query, Answer, Authority, Additional, Answers, Authorities, Additionals}
 use Rattle.dnw_message_writer.specs.declared.section.Section.{Section}
 use Rattle.dnw_message_writer.specs.declared.section.Section.TheVariants as section
 use Rattle.dnw_message_writer.specs.declared.section.AddError.{AddError}
@@ -34,15 +35,18 @@ is_open section.Answers c = c.authorities == 0 && c.additionals == 0
 is_open section.Authorities c = c.additionals == 0
 is_open section.Additionals c = true
 
--- the counts with one more item
-abbrev pub one_more : ℕ → ℕ
-one_more n = min (n + 1) 65535
+-- the counts with so many more items
+abbrev pub so_many_more : ℕ → ℕ → ℕ
+so_many_more k n = min (n + k) 65535
+
+abbrev pub counted_by : ℕ → Section → HeaderCounts → HeaderCounts
+counted_by k section.Queries c = record c { queries = so_many_more k c.queries }
+counted_by k section.Answers c = record c { answers = so_many_more k c.answers }
+counted_by k section.Authorities c = record c { authorities = so_many_more k c.authorities }
+counted_by k section.Additionals c = record c { additionals = so_many_more k c.additionals }
 
 abbrev pub counted : Section → HeaderCounts → HeaderCounts
-counted section.Queries c = record c { queries = one_more c.queries }
-counted section.Answers c = record c { answers = one_more c.answers }
-counted section.Authorities c = record c { authorities = one_more c.authorities }
-counted section.Additionals c = record c { additionals = one_more c.additionals }
+counted s c = counted_by 1 s c
 
 -- A message without this item is truncated: an answer or an authority record did not fit (RFC 2181, section 9).
 abbrev pub cuts : Section → ProtoError → Bool
@@ -54,19 +58,30 @@ abbrev pub cut_if : Bool → Header → Header
 cut_if true h = record h { metadata = record h.metadata { truncation = true } }
 cut_if false h = h
 
--- An item is written after the others, or refused, and then nothing of it is.
-abbrev pub Adds : {X : Type 0} → Emits X → Section → X → Draft → Added → Draft → Type 0
-Adds emits s x d (Ok done) e =
-    (is_open s d.header.counts ≡ true) × emits x d.encoder (Ok tt) e.encoder × (e.header ≡ record d.header { counts = counted s d.header.counts })
-Adds emits s x d (Err OutOfOrder) e = (is_open s d.header.counts ≡ false) × (e ≡ d)
-Adds emits s x d (Err (Proto error)) e =
+-- So many items, which are written as one, are written after the others, or refused, and then nothing of them is.
+abbrev pub AddsMany : {X : Type 0} → Emits X → Section → ℕ → X → Draft → Added → Draft → Type 0
+AddsMany emits s k x d (Ok done) e =
+    (is_open s d.header.counts ≡ true) × emits x d.encoder (Ok tt) e.encoder × (e.header ≡ record d.header { counts = counted_by k s d.header.counts })
+AddsMany emits s k x d (Err OutOfOrder) e = (is_open s d.header.counts ≡ false) × (e ≡ d)
+AddsMany emits s k x d (Err (Proto error)) e =
     (is_open s d.header.counts ≡ true) × emits x d.encoder (Err error) e.encoder × (e.header ≡ cut_if (cuts s error) d.header)
+
+-- So is an item.
+abbrev pub Adds : {X : Type 0} → Emits X → Section → X → Draft → Added → Draft → Type 0
+Adds emits s x d outcome e = AddsMany emits s 1 x d outcome e
+
+-- And so are the records of a set (RFC 2181, section 5): all of them in their order, or none.
+abbrev pub AddsSet : Section → List Record → Draft → Added → Draft → Type 0
+AddsSet s rs d outcome e = AddsMany EmitsTogether s (length rs) rs d outcome e
 
 abbrev pub AddsEntry : Entry → Draft → Added → Draft → Type 0
 AddsEntry (Query q) d outcome e = Adds EmitsQuery section.Queries q d outcome e
 AddsEntry (Answer r) d outcome e = Adds EmitsAnyRecord section.Answers r d outcome e
 AddsEntry (Authority r) d outcome e = Adds EmitsAnyRecord section.Authorities r d outcome e
 AddsEntry (Additional r) d outcome e = Adds EmitsAnyRecord section.Additionals r d outcome e
+AddsEntry (Answers rs) d outcome e = AddsSet section.Answers rs.items d outcome e
+AddsEntry (Authorities rs) d outcome e = AddsSet section.Authorities rs.items d outcome e
+AddsEntry (Additionals rs) d outcome e = AddsSet section.Additionals rs.items d outcome e
 
 -- Items are added in turn, each with its outcome.
 abbrev pub AddsAll : List Entry → Draft → List Added → Draft → Type 0

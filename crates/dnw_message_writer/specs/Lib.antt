@@ -1,4 +1,5 @@
 pub mod WireQueries
+pub mod Together
 pub mod QueryFrames
 pub mod Drafts
 pub mod ReadRecords

@@ -20,10 +20,11 @@ use Rattle.dnw_message_writer.specs.declared.section.Section.{Section}
 use Rattle.dnw_message_writer.specs.declared.section.Section.TheVariants as section
 use Rattle.dnw_message_writer.specs.declared.section.AddError.TheVariants.{OutOfOrder, Proto}
 use Rattle.dnw_message_writer.specs.declared.writer.Entry.{Entry}
-use Rattle.dnw_message_writer.specs.declared.writer.Entry.TheVariants.{Query, Answer, Authority, Additional}
+use Rattle.dnw_message_writer.specs.declared.writer.Entry.TheVariants.{Query, Answer, Authority, Additional, Answers, Authorities, Additionals}
 use Rattle.dnw_message_writer.specs.WireQueries.{QueryFits}
 use Rattle.dnw_message_writer.specs.ReadRecords.{RecordStands}
 use Rattle.dnw_message_writer.specs.Drafts.{Added, is_open}
+use Rattle.dnw_message_writer.specs.Together.{records_size}
 
 -- ---- what the items and their outcomes say
 
@@ -38,14 +39,19 @@ pub record Contents : Type 0 where
 abbrev pub nothing : Contents
 nothing = record { queries = []; answers = []; authorities = []; additionals = []; cut = false }
 
--- one more item, with its outcome
+-- one more item, or the records of a set, with its outcome
 abbrev pub and_then : Contents → Entry → Added → Contents
 and_then c (Query q) (Ok done) = record c { queries = c.queries ++ q ∷ [] }
 and_then c (Answer r) (Ok done) = record c { answers = c.answers ++ r ∷ [] }
 and_then c (Authority r) (Ok done) = record c { authorities = c.authorities ++ r ∷ [] }
 and_then c (Additional r) (Ok done) = record c { additionals = c.additionals ++ r ∷ [] }
+and_then c (Answers rs) (Ok done) = record c { answers = c.answers ++ rs.items }
+and_then c (Authorities rs) (Ok done) = record c { authorities = c.authorities ++ rs.items }
+and_then c (Additionals rs) (Ok done) = record c { additionals = c.additionals ++ rs.items }
 and_then c (Answer r) (Err (Proto (MaxBufferSizeExceeded size))) = record c { cut = true }
 and_then c (Authority r) (Err (Proto (MaxBufferSizeExceeded size))) = record c { cut = true }
+and_then c (Answers rs) (Err (Proto (MaxBufferSizeExceeded size))) = record c { cut = true }
+and_then c (Authorities rs) (Err (Proto (MaxBufferSizeExceeded size))) = record c { cut = true }
 and_then c x outcome = c
 
 abbrev pub contents_from : Contents → List Entry → List Added → Contents
@@ -75,17 +81,23 @@ section_of (Query q) = section.Queries
 section_of (Answer r) = section.Answers
 section_of (Authority r) = section.Authorities
 section_of (Additional r) = section.Additionals
+section_of (Answers rs) = section.Answers
+section_of (Authorities rs) = section.Authorities
+section_of (Additionals rs) = section.Additionals
 
--- the octets of an item with its names whole
+-- the octets of an item, or of a set, with its names whole
 abbrev pub entry_size : Entry → ℕ
 entry_size (Query q) = encoded_size q.name.labels + 4
 entry_size (Answer r) = any_record_size r
 entry_size (Authority r) = any_record_size r
 entry_size (Additional r) = any_record_size r
+entry_size (Answers rs) = records_size rs.items
+entry_size (Authorities rs) = records_size rs.items
+entry_size (Additionals rs) = records_size rs.items
 
 -- After so many octets, an item is written in no more octets than with its names whole, and never past the maximum. It is
 -- refused if a later section has items, if it does not fit with its names whole, or if memory runs out; then nothing of it
--- is written.
+-- is written, nor of the other records of its set.
 abbrev pub HasOutcome : ℕ → Contents → ℕ → Entry → Added → ℕ → Type 0
 HasOutcome most c len x (Ok done) next =
     (is_open (section_of x) (counts_of c) ≡ true) × (next ≤ len + entry_size x) × (next ≤ most)

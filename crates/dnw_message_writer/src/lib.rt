@@ -7,4 +7,5 @@ pub mod edns;
 pub mod laws;
 pub mod query;
 mod section;
+mod together;
 pub mod writer;

@@ -61,7 +61,7 @@ pub(crate) fn add<E: BinEncodable>(
 }
 
 /// Returns `true` if no section after this one has items.
-fn is_open(counts: &HeaderCounts, section: Section) -> bool
+pub(crate) fn is_open(counts: &HeaderCounts, section: Section) -> bool
     ensures { result ≡ is_open section counts.now }
 {
     match section {
@@ -87,7 +87,7 @@ pub(crate) fn count(counts: &mut HeaderCounts, section: Section)
 }
 
 /// Returns `true` if a message is truncated that lacks an item of this section because of this error.
-fn cuts(section: Section, error: &ProtoError) -> bool
+pub(crate) fn cuts(section: Section, error: &ProtoError) -> bool
     ensures { result ≡ cuts section error.now }
 {
     matches!(section, Section::Answers | Section::Authorities)

@@ -12,6 +12,7 @@ ghost use Rattle.dnw_message_writer.specs.Drafts.{Begins, AddsEntry, AddsAll, Cl
 
 use crate::query::WireQuery;
 use crate::section::{Section, add};
+use crate::together::add_together;
 use dnw_encoder::binary::BinEncodable;
 use dnw_encoder::encoder::BinEncoder;
 use dnw_error::error::ProtoResult;
@@ -21,12 +22,13 @@ use std::alloc::Global;
 
 mod copying;
 mod one_by_one;
+mod sets;
 
 pub use crate::section::AddError;
 pub use copying::{CopyError, copy};
 pub use one_by_one::MessageWriter;
 
-/// An item of a message, and the section that it is for.
+/// An item of a message, or a set of records, and the section that it is for.
 #[derive(Debug, Drop)]
 pub enum Entry {
     /// A question.
@@ -37,6 +39,12 @@ pub enum Entry {
     Authority(Record),
     /// A record that helps.
     Additional(Record),
+    /// Records that answer, which are added together: all of them, or none (RFC 2181, section 5).
+    Answers(Vec<Record>),
+    /// Records that lead to an authority, which are added together.
+    Authorities(Vec<Record>),
+    /// Records that help, which are added together.
+    Additionals(Vec<Record>),
 }
 
 /// Writes a message into an empty buffer: the header, and of these items, in their order, each that is in the order of the
@@ -94,7 +102,7 @@ fn add_all(
     }
 }
 
-/// Adds an item.
+/// Adds an item, or a set.
 fn add_entry(
     encoder: &mut BinEncoder<'_>,
     header: &mut Header,
@@ -108,6 +116,19 @@ fn add_entry(
         Entry::Answer(record) => add(encoder, header, Section::Answers, record),
         Entry::Authority(record) => add(encoder, header, Section::Authorities, record),
         Entry::Additional(record) => add(encoder, header, Section::Additionals, record),
+        Entry::Answers(set) => add_together(encoder, header, Section::Answers, set.as_slice()),
+        Entry::Authorities(set) => add_together(
+            encoder,
+            header,
+            Section::Authorities,
+            set.as_slice(),
+        ),
+        Entry::Additionals(set) => add_together(
+            encoder,
+            header,
+            Section::Additionals,
+            set.as_slice(),
+        ),
     }
 }
 

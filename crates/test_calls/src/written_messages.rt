@@ -22,6 +22,10 @@ const TRUNCATED: &[u8] =
     b"\x12\x34\x87\x80\x00\x01\x00\x01\x00\x00\x00\x00\x07example\x03com\x00\x00\x02\x00\x01\
 \xc0\x0c\x00\x02\x00\x01\x00\x00\x0e\x10\x00\x06\x03ns1\xc0\x0c";
 
+/// Its question alone, with TC: the two answers are a set of which only one has room.
+const WITHOUT_ANSWERS: &[u8] =
+    b"\x12\x34\x87\x80\x00\x01\x00\x00\x00\x00\x00\x00\x07example\x03com\x00\x00\x02\x00\x01";
+
 /// The referral without compression.
 const WHOLE: &[u8] =
     b"\x12\x34\x85\x80\x00\x01\x00\x02\x00\x01\x00\x01\x07example\x03com\x00\x00\x02\x00\x01\
@@ -93,6 +97,13 @@ fn server(alloc: Global, owner: &str, ttl: u32, name: &str) -> ProtoResult<Recor
     record(alloc, owner, RecordType::NS, ttl, name.as_wire())
 }
 
+fn servers(alloc: Global) -> ProtoResult<Vec<Record>> {
+    Ok(vec![in alloc;
+        server(alloc, "example.com.", 3600, "ns1.example.com.")?,
+        server(alloc, "example.com.", 3600, "ns2.example.com.")?,
+    ]?)
+}
+
 fn address(alloc: Global) -> ProtoResult<Record> {
     record(
         alloc,
@@ -156,6 +167,58 @@ fn items_one_by_one(rt: HostRuntime) -> Result<(), Fail> {
     assert!(rt; matches!(late, Err(AddError::OutOfOrder)));
     assert!(rt; writer.add_additional(&address(alloc)?).is_ok());
     assert_eq!(rt; writer.finish()?.as_slice(), REFERRAL);
+    Ok(())
+}
+
+#[test]
+fn a_list_of_sets(rt: HostRuntime) -> Result<(), Fail> {
+    let alloc = rt.alloc();
+    let parent = server(alloc, "com.", 172800, "a.gtld-servers.net.")?;
+    let entries = [
+        Entry::Query(question(alloc)?),
+        Entry::Answers(servers(alloc)?),
+        Entry::Authorities(vec![in alloc; parent]?),
+        Entry::Additionals(vec![in alloc; address(alloc)?]?),
+    ];
+    let mut bytes = Vec::new(alloc);
+    for outcome in write(alloc, &mut bytes, METADATA, 512, &entries)?.iter() {
+        assert!(rt; outcome.is_ok());
+    }
+    assert_eq!(rt; bytes.as_slice(), REFERRAL);
+    Ok(())
+}
+
+#[test]
+fn sets_one_by_one(rt: HostRuntime) -> Result<(), Fail> {
+    let alloc = rt.alloc();
+    let parent = [server(alloc, "com.", 172800, "a.gtld-servers.net.")?];
+    let mut bytes = Vec::new(alloc);
+    let mut writer = MessageWriter::new(&mut bytes, METADATA, 512)?;
+    assert!(rt; writer.add_query(&question(alloc)?).is_ok());
+    assert!(rt; writer.add_answers(servers(alloc)?.as_slice()).is_ok());
+    assert!(rt; writer.add_authorities(&parent).is_ok());
+    let late = writer.add_answers(&parent);
+    assert!(rt; matches!(late, Err(AddError::OutOfOrder)));
+    assert!(rt; writer.add_additionals(&[address(alloc)?]).is_ok());
+    assert_eq!(rt; writer.finish()?.as_slice(), REFERRAL);
+    Ok(())
+}
+
+#[test]
+fn a_set_without_room(rt: HostRuntime) -> Result<(), Fail> {
+    let alloc = rt.alloc();
+    let mut bytes = Vec::new(alloc);
+    // As many octets as its first record needs.
+    let mut writer = MessageWriter::new(&mut bytes, METADATA, 57)?;
+    assert!(rt; writer.add_query(&question(alloc)?).is_ok());
+    let refused = writer.add_answers(servers(alloc)?.as_slice());
+    assert!(rt;
+        matches!(
+            refused,
+            Err(AddError::Proto(ProtoError::MaxBufferSizeExceeded(57)))
+        )
+    );
+    assert_eq!(rt; writer.finish()?.as_slice(), WITHOUT_ANSWERS);
     Ok(())
 }
 

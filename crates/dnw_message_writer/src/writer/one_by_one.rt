@@ -27,8 +27,8 @@ const RECORD_FIELDS: usize = 10;
 /// see `with_last`, and `laws::messages_end_with`.
 #[derive(Drop)]
 pub struct MessageWriter<'a> {
-    encoder: BinEncoder<'a>,
-    header: Header,
+    pub(super) encoder: BinEncoder<'a>,
+    pub(super) header: Header,
     last: Option<Record>,
     max_size: u16,
 }
