@@ -8,15 +8,18 @@ use dns_names_wire::{BinDecoder, DecodeError, Name, ProtoError};
 use hex::FromHexError;
 use std::alloc::{AllocError, AllocFailed, Global};
 use std::io;
-use std::io::Write;
+use std::io::{Read, Write};
 use thiserror::Error;
 
 /// Why there is no answer.
 #[derive(Debug, Drop, Error)]
 enum Refusal {
     /// The words ask for nothing that the program does.
-    #[error("usage: dnswire whole NAME | read START HEX | names NAME.. | message HEX | query NAME TYPE [--edns]")]
+    #[error("usage: dnswire whole NAME | read START HEX | names NAME.. | message HEX | message - | query NAME TYPE [--edns]")]
     Usage,
+    /// Standard input could not be read.
+    #[error("refused: standard input: {0}")]
+    Input(io::Error),
     /// A name was refused, or memory ran out.
     #[error("refused: {0}")]
     Proto(ProtoError),
@@ -29,6 +32,12 @@ enum Refusal {
     /// What a message says by EDNS was refused.
     #[error("refused: {0}")]
     Edns(EdnsError),
+}
+
+impl From<io::Error> for Refusal {
+    fn from(e: io::Error) -> Self {
+        Refusal::Input(e)
+    }
 }
 
 impl From<ProtoError> for Refusal {
@@ -69,8 +78,13 @@ impl From<AllocError> for Refusal {
 
 /// Writes the answer to the words, the program's own name not among them, and returns the exit status: 0 for an
 /// answer, 1 for a refusal, 2 for words that ask for nothing.
-pub fn answer<W: Write>(alloc: Global, words: &[String], out: &mut W) -> io::Result<u8> {
-    match reply(alloc, words) {
+pub fn answer<I: Read, W: Write>(
+    alloc: Global,
+    words: &[String],
+    input: &mut I,
+    out: &mut W,
+) -> io::Result<u8> {
+    match reply(alloc, words, input) {
         Ok(text) => {
             writeln!(out, "{text}")?;
             Ok(0)
@@ -85,13 +99,16 @@ pub fn answer<W: Write>(alloc: Global, words: &[String], out: &mut W) -> io::Res
     }
 }
 
-fn reply(alloc: Global, words: &[String]) -> Result<String, Refusal> {
+fn reply<I: Read>(alloc: Global, words: &[String], input: &mut I) -> Result<String, Refusal> {
     match words {
         [command, name] if command.as_str() == "whole" => whole(alloc, name.as_str()),
         [command, start, message] if command.as_str() == "read" => {
             read(alloc, start.as_str(), message.as_str())
         }
         [command, _, ..] if command.as_str() == "names" => names::shared(alloc, &words[1..]),
+        [command, dash] if command.as_str() == "message" && dash.as_str() == "-" => {
+            messages::listing(alloc, given(alloc, input)?.as_slice())
+        }
         [command, message] if command.as_str() == "message" => {
             messages::listing(alloc, octets(alloc, message.as_str())?.as_slice())
         }
@@ -130,6 +147,22 @@ fn place(text: &str) -> Result<usize, Refusal> {
         return Err(Refusal::Usage);
     }
     text.parse::<usize>().map_err(|_| Refusal::Usage)
+}
+
+/// Octets from standard input. If all of it is hexadecimal digits, spaces and ends of lines, the digits are the octets; else it
+/// is the octets.
+fn given<I: Read>(alloc: Global, input: &mut I) -> Result<Vec<u8>, Refusal> {
+    let mut bytes = Vec::new(alloc);
+    input.read_to_end(&mut bytes)?;
+    let mut digits = String::new(alloc);
+    for byte in &bytes {
+        if byte.is_ascii_hexdigit() {
+            digits.push(char::from(*byte))?;
+        } else if !byte.is_ascii_whitespace() {
+            return Ok(bytes);
+        }
+    }
+    octets(alloc, digits.as_str())
 }
 
 /// Octets in hexadecimal digits of either case.
