@@ -17,7 +17,7 @@ from servers import record
 ORIGIN = dns.name.from_text("example.")
 
 # The types that the program reads without a text of their own here: their texts are not parsed.
-GENERIC = {"HIP", "IPSECKEY", "LOC", "SVCB", "HTTPS", "TYPE10", "TYPE731"}
+GENERIC = {"HIP", "IPSECKEY", "LOC", "TYPE10", "TYPE731"}
 MORE = [
     ("RFC 1035, section 5.1", 'TXT "a\\"b\\\\c\\007\\255"', "NS a\\.b\\032c\\200.example.", "MX 10 \\@\\;\\(.example."),
     ("RFC 1035, section 3.3", "CNAME .", "SOA . . 0 0 0 0 4294967295", "PTR a\\.b.example.", 'HINFO "" ""'),
@@ -26,6 +26,14 @@ MORE = [
     ("RFC 5155, section 3.3", "NSEC3 1 0 10 - 0p9mhaveqvm6t7vbl5lop2u3t2rp3tom NS DS RRSIG"),
     ("RFC 5952, section 4", "AAAA 2001:db8::1:0:0:1", "AAAA ::ffff:192.0.2.1", "AAAA 2001:db8:0:1:1:1:1:1"),
     ("RFC 8659, section 4.1.1", "CAA 0 issue " + "v" * 300, "CAA 255 a1 \"\""),
+    (
+        "RFC 9460, appendix D and sections 7 and 8",
+        "SVCB 16 foo.example.org. alpn=\"f\\\\\\\\oo\\\\,bar,h2\"",
+        "SVCB 16 foo.example.org. alpn=f\\\\\\092oo\\092,bar,h2",
+        "HTTPS 1 . mandatory=port,alpn no-default-alpn port=8443 alpn=h3 ech=AEX+DQ== ipv4hint=192.0.2.1,198.51.100.7 ipv6hint=::",
+        "HTTPS 1 . key65535 key7=/q{?dns} key667=\"a,b \\\"c\\\" d\"",
+        "HTTPS 1 . mandatory=key667,ipv6hint key667=1 ipv6hint=::1,::ffff:192.0.2.1 alpn=\"h2, x\"",
+    ),
     ("RFC 7553, section 4.4", "URI 1 2 " + "u" * 300),
 ]
 

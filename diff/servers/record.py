@@ -31,7 +31,7 @@ import make  # noqa: E402
 PORT = 5300
 # The types whose data have a text of their own here. Those of the others are shown as RFC 3597 does.
 TEXTS = set("""A NS CNAME SOA PTR HINFO MX TXT RP AFSDB AAAA SRV NAPTR KX CERT DNAME DS SSHFP RRSIG DNSKEY
-    NSEC3PARAM TLSA SMIMEA CDS CDNSKEY OPENPGPKEY ZONEMD SPF URI CAA NSEC NSEC3 CSYNC EUI48 EUI64""".split())
+    NSEC3PARAM TLSA SMIMEA CDS CDNSKEY OPENPGPKEY ZONEMD SPF URI CAA NSEC NSEC3 CSYNC EUI48 EUI64 SVCB HTTPS""".split())
 
 # Those whose letters are hexadecimal digits, which dnspython has in lower case.
 HEXADECIMAL = {"DS", "CDS", "SSHFP", "TLSA", "SMIMEA", "ZONEMD", "NSEC3PARAM"}
@@ -61,6 +61,9 @@ def data_text(record):
         return " ".join([*(str(int(number)) for number in numbers), record.to_text(chunksize=0).split()[-1]])
     if kind in ("OPENPGPKEY", "EUI48", "EUI64"):
         return record.to_text()
+    if kind in ("SVCB", "HTTPS"):
+        # dnspython has quotes around each value; BIND, as here, around those of any octets alone
+        return re.sub(r'\b(mandatory|port|ipv[46]hint|ech)="([^"]*)"', r"\1=\2", record.to_text())
     if kind in TEXTS and not isinstance(record, dns.rdata.GenericRdata):
         text = record.to_text(chunksize=0)
         return text.upper() if kind in HEXADECIMAL else text

@@ -80,6 +80,9 @@ pub use Rattle.dnw_field_text.specs.Numbers
 pub use Rattle.dnw_field_text.specs.Octets
 pub use Rattle.dnw_field_text.specs.Spelling
 pub use Rattle.dnw_field_text.specs.Strings
+pub use Rattle.dnw_svcb_text.specs.Params
+pub use Rattle.dnw_svcb_text.specs.ParamTexts
+pub use Rattle.dnw_svcb_text.specs.ParamWords
 pub use Rattle.dnw_data_text.specs.DataTexts
 pub use Rattle.dnw_data_text.specs.Generic
 pub use Rattle.dnw_data_text.specs.DataTextLaws

@@ -7,3 +7,4 @@ pub mod FieldLists
 pub mod TypeSteps
 pub mod Identifiers
 pub mod FieldsBack
+pub mod ParamWalks

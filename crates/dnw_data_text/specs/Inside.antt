@@ -5,3 +5,4 @@ pub mod Reads
 pub mod StringWords
 pub mod TypeWords
 pub mod Wires
+pub mod ParamSteps

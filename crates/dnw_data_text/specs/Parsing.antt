@@ -29,6 +29,7 @@ use Rattle.dnw_data_text.specs.Words.{after_spaces, word, after_word, joined}
 use Rattle.dnw_data_text.specs.Faults.{fault}
 use Rattle.dnw_data_text.specs.NameReading.{name_at}
 use Rattle.dnw_data_text.specs.TypeLists.{AreTypes}
+use Rattle.dnw_data_text.specs.ParamLists.{AreParams}
 
 -- ---- the octets of fields: names are not compressed
 
@@ -141,7 +142,7 @@ AllSpell shown left own = ⊥
 abbrev pub AreList : ListKind → List ℕ → FieldValue → Type 0
 AreList lists.Texts left value = AreTexts left value
 AreList lists.Types left value = AreTypes left value
-AreList list left value = ⊥
+AreList lists.Params left value = AreParams left value
 
 -- all words are a field of this kind
 abbrev pub AreAll : Kind → List ℕ → FieldValue → Type 0

@@ -9,7 +9,7 @@ use Rattle.dnw_codes.specs.RecordTypes.{type_text}
 use Rattle.dnw_data.specs.declared.kind.Kind.{Kind}
 use Rattle.dnw_data.specs.declared.kind.Kind.TheVariants.{Counted, Octets}
 use Rattle.dnw_data.specs.declared.kind.Shown.TheVariants.{Text, Tag, Hex, Base32Hex, Base64}
-use Rattle.dnw_data.specs.Values.{FieldValue, name, u8, u16, u32, u48, u64, ipv4, ipv6, type_code, time, counted, octets, texts, types}
+use Rattle.dnw_data.specs.Values.{FieldValue, name, u8, u16, u32, u48, u64, ipv4, ipv6, type_code, time, counted, octets, texts, types, params}
 use Rattle.dnw_data.specs.Fields.{TakesField, FailsField}
 use Rattle.dnw_data.specs.Walks.{IsAtEnd}
 use Rattle.dnw_field_text.specs.Octets.{base64_text, salt_text}
@@ -20,6 +20,7 @@ use Rattle.dnw_field_text.specs.Pairs.{pairs_text}
 use Rattle.dnw_field_text.specs.Times.{IsDateText}
 use Rattle.dnw_data_text.specs.NameTexts.{full_name_text}
 use Rattle.dnw_data_text.specs.TypeLists.{PrintsTypes}
+use Rattle.dnw_data_text.specs.ParamLists.{PrintsParams}
 use Rattle.dnw_data_text.specs.Generic.{hex_part}
 
 -- nothing for no octets
@@ -72,7 +73,7 @@ Prints kind (counted own) text = PrintsCounted kind own text
 Prints kind (octets own) text = PrintsOctets kind own text
 Prints kind (texts items) text = PrintsStrings items.octets text
 Prints kind (types items) text = PrintsTypes items.octets text
-Prints kind value text = ⊥
+Prints kind (params items) text = PrintsParams items.octets text
 
 -- The text is that of the fields of these kinds, which are read up to the end.
 abbrev pub PrintsFields : List Kind → Decoder → List ℕ → Type 0

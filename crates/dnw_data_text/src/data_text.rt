@@ -34,7 +34,7 @@ pub fn data_text(alloc: Global, record: &RecordRef<'_>) -> Result<String, AllocE
     let kinds = fields_of(record.record_type());
     if has_own_form(kinds) {
         let mut text = String::new(alloc);
-        if write_fields(kinds, &mut record.fields(), &mut text)? {
+        if write_fields(alloc, kinds, &mut record.fields(), &mut text)? {
             return without_space(alloc, text.as_str());
         }
     }

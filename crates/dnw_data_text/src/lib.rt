@@ -10,6 +10,7 @@ pub mod generic;
 pub mod laws;
 mod name;
 mod name_reading;
+mod params;
 mod parsing;
 mod printing;
 mod spelling;

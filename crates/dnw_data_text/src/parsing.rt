@@ -9,6 +9,7 @@ ghost use Rattle.dnw_data_text.specs.Inside.Reads.{AppendsOne, AppendsRest, IsEn
 
 use crate::error::{DataTextError, Wanted};
 use crate::name_reading::read_name;
+use crate::params::parse_params;
 use crate::spelling::{base64_of, hex_of, pairs_of, spelled, string_of_word, text_of};
 use crate::types::parse_types;
 use crate::words::{after_spaces, split_word, without_spaces};
@@ -159,7 +160,7 @@ fn parse_list(
     match list {
         ListKind::Texts => parse_texts(alloc, left, out),
         ListKind::Types => parse_types(alloc, left, out),
-        ListKind::Params => Ok(false),
+        ListKind::Params => parse_params(alloc, left, out),
     }
 }
 

@@ -17,10 +17,12 @@ use dnw_field_text::pairs::Pairs;
 use dnw_field_text::string::CharacterString;
 use dnw_field_text::tag::tag_text;
 use dnw_field_text::time::time_text;
-use std::alloc::AllocError;
+use dnw_svcb_text::printing::write_params;
+use std::alloc::{AllocError, Global};
 
 /// Appends the text of fields, each after a space. Returns `false` if one cannot be read or has no text.
 pub(crate) fn write_fields<'r>(
+    alloc: Global,
     kinds: &[Kind],
     fields: &mut Fields<'r>,
     out: &mut String,
@@ -34,10 +36,10 @@ pub(crate) fn write_fields<'r>(
     let Some(field) = next_field(fields) else {
         return Ok(false);
     };
-    if !write_field(*kind, &field, out)? {
+    if !write_field(alloc, *kind, &field, out)? {
         return Ok(false);
     }
-    write_fields(others, fields, out)
+    write_fields(alloc, others, fields, out)
 }
 
 /// Returns the next field, if it can be read.
@@ -57,7 +59,12 @@ pub(crate) fn is_ended(fields: &mut Fields<'_>) -> bool
 }
 
 /// Appends the text of a field after a space. Returns `false` if it has none.
-fn write_field(kind: Kind, field: &Field<'_>, out: &mut String) -> Result<bool, AllocError>
+fn write_field(
+    alloc: Global,
+    kind: Kind,
+    field: &Field<'_>,
+    out: &mut String,
+) -> Result<bool, AllocError>
     ensures { IfOk result (Appended (Prints kind (seen field.now)) (string_bytes out.old) (string_bytes out.new)) }
 {
     match field {
@@ -81,7 +88,7 @@ fn write_field(kind: Kind, field: &Field<'_>, out: &mut String) -> Result<bool, 
         Field::Octets(octets) => return write_octets(kind, octets, out),
         Field::Texts(items) => return write_strings(items.as_bytes(), out),
         Field::Types(items) => return write_types(items.as_bytes(), out),
-        Field::Params(_) => return Ok(false),
+        Field::Params(items) => return write_params(alloc, items.as_bytes(), out),
     }
     Ok(true)
 }

@@ -5,3 +5,6 @@ returns-in-Texts c = rw c.in-Texts.is c.parse_texts.ensures
 
 pub returns-in-Types : goal.returns-in-Types
 returns-in-Types c = rw c.in-Types.is c.parse_types.ensures
+
+pub returns-in-Params : goal.returns-in-Params
+returns-in-Params c = rw c.in-Params.is c.parse_params.ensures

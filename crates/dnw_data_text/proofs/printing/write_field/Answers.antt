@@ -2,6 +2,8 @@ use Rattle.std.proofs.Common.{List, ℕ, subst, IfOk}
 use Rattle.std.specs.Prelude.{string_bytes}
 use Rattle.dnw_data_text.specs.Printing.{Appended, PrintsStrings}
 use Rattle.dnw_data_text.specs.TypeLists.{PrintsTypes}
+use Rattle.dnw_data_text.specs.ParamLists.{PrintsParams}
+use Rattle.dnw_data_text.proofs.ParamWalks.{writes-params}
 use Rattle.dnw_data_text.proofs.printing.write_field.Goals as goal
 
 pub returns-in-Texts : goal.returns-in-Texts
@@ -13,3 +15,10 @@ pub returns-in-Types : goal.returns-in-Types
 returns-in-Types c =
     let Is : List ℕ → Type 0 = λ own. IfOk c.write_types.result (Appended (PrintsTypes own) (string_bytes c.args.out.now) (string_bytes c.write_types.new.out)) in
     rw c.in-Types.is (subst Is c.as_bytes-in-Types.ensures c.write_types.ensures)
+
+pub returns-in-Params : goal.returns-in-Params
+returns-in-Params c =
+    let own : List ℕ = c.as_bytes-in-Params.result.now in
+    let done = writes-params own (string_bytes c.args.out.now) (string_bytes c.write_params.new.out) c.write_params.result c.write_params.ensures in
+    let Is : List ℕ → Type 0 = λ xs. IfOk c.write_params.result (Appended (PrintsParams xs) (string_bytes c.args.out.now) (string_bytes c.write_params.new.out)) in
+    rw c.in-Params.is (subst Is c.as_bytes-in-Params.ensures done)
