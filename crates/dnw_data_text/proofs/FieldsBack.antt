@@ -38,7 +38,7 @@ use Rattle.dnw_field_text.proofs.Identifiers.{hash}
 use Rattle.dnw_field_text.specs.Times.{IsDateText}
 use Rattle.dnw_field_text.proofs.ComeBack.{numbers, salt}
 use Rattle.dnw_field_text.proofs.StringText.{string, text}
-use Rattle.dnw_data_text.specs.Words.{is_end, word_len, word, after_word, after_spaces}
+use Rattle.dnw_word_text.specs.Words.{is_end, word_len, word, after_word, after_spaces}
 use Rattle.dnw_data_text.specs.Parsing.{takes_all, IsWord, IsStringWord, AreStringWords, AreTexts, ReadsField}
 use Rattle.dnw_data_text.specs.Printing.{strings_text}
 use Rattle.dnw_data_text.specs.DataTextLaws.{IsRead, FieldComesBack}

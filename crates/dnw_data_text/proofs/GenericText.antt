@@ -5,7 +5,7 @@ use Rattle.hex.specs.Hex.{upper_digits, decode_of}
 use Rattle.dnw_field_text.specs.Octets.{IsOctets, hex_text}
 use Rattle.dnw_field_text.proofs.ComeBack.{numbers, hexadecimal}
 use Rattle.dnw_field_text.proofs.HexText.{hex_text-nil}
-use Rattle.dnw_data_text.specs.Words.{is_end, after_spaces, after_word, joined}
+use Rattle.dnw_word_text.specs.Words.{is_end, after_spaces, after_word, joined}
 use Rattle.dnw_data_text.specs.Generic.{hex_part, generic_text, AreOctets, IsSized, IsGeneric}
 use Rattle.dnw_data_text.specs.DataTextLaws.{GenericComesBack, IsData}
 use Rattle.dnw_data_text.proofs.Plain.{plain-starts, plain-word, plain-after, plain-joined, plain-utf8, decimal-plain, hex-plain}

@@ -4,7 +4,5 @@ pub mod Strings
 pub mod NumberKinds
 pub mod Rests
 pub mod FieldLists
-pub mod TypeSteps
 pub mod Identifiers
 pub mod FieldsBack
-pub mod ParamWalks

@@ -8,7 +8,7 @@ use Rattle.dnw_data.specs.declared.kind.Kind.TheVariants as kinds
 use Rattle.dnw_data.specs.declared.kind.NameForm.{NameForm}
 use Rattle.dnw_data.specs.declared.kind.Shown.{Shown}
 use Rattle.dnw_data_text.specs.Parsing.{IsWord, IsNumberOf}
-use Rattle.dnw_data_text.specs.Inside.Reads.{AppendsOne}
+use Rattle.dnw_word_text.specs.Appending.{AppendsOne}
 
 -- a word of any other kind is a number
 pub as-number : (origin : Option NameValue) (kind : Kind) (text old new : List ℕ) (r : Result Bool AllocError)

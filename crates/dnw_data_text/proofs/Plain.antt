@@ -10,7 +10,7 @@ use Rattle.std.proofs.lemmas.List.{take_at, drop_at}
 use Rattle.std.proofs.lemmas.Fmt.{decimal_by_steps}
 use Rattle.hex.specs.Hex.{encode_with, upper_digits}
 use Rattle.dnw_field_text.specs.Octets.{IsOctets, hex_text}
-use Rattle.dnw_data_text.specs.Words.{is_space, is_end, word_len, word, after_word, after_spaces, joined}
+use Rattle.dnw_word_text.specs.Words.{is_space, is_end, word_len, word, after_word, after_spaces, joined}
 
 -- a printable character that is no space, quote or backslash
 abbrev pub is_plain : ℕ → Bool

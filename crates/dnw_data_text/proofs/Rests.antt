@@ -6,9 +6,10 @@ use Rattle.std.specs.Prelude.{Option, Some, None, flat_map}
 use Rattle.dnw_base.specs.Names.{label_wire}
 use Rattle.dnw_data.specs.declared.kind.ListKind.TheVariants as lists
 use Rattle.dnw_data.specs.Values.{FieldValue, texts, items}
-use Rattle.dnw_data_text.specs.Words.{after_spaces, word, after_word}
+use Rattle.dnw_word_text.specs.Words.{after_spaces, word, after_word}
 use Rattle.dnw_data_text.specs.Parsing.{IsStringWord, AreStringWords, AreTexts}
-use Rattle.dnw_data_text.specs.Inside.Reads.{AppendsOne, AppendsRest, IsEndedBy}
+use Rattle.dnw_data_text.specs.Inside.Reads.{AppendsRest, IsEndedBy}
+use Rattle.dnw_word_text.specs.Appending.{AppendsOne}
 use Rattle.dnw_data_text.specs.Inside.StringWords.{LeadTo}
 
 pub all-read : (Is : FieldValue → Type 0) (old new : List ℕ) (read : Bool) (rest : Option (List ℕ)) → IsEndedBy read rest → AppendsOne Is old new read
@@ -51,9 +52,3 @@ all-texts text old new left [] h none some e = absurd (some (sym h ∙ none))
 all-texts text old new left (d ∷ done) h none some e =
     let own = flat_map label_wire (d ∷ done) in
     (texts (items lists.Texts own), (d, done, lead-end text (d ∷ done) left h none, refl), e)
-
-pub not-empty : (xs : List ℕ) (b : Bool) → b ≡ (length xs == 0) → b ≡ false → xs ≢ []
-not-empty xs b test is e = let both : false ≡ true = sym is ∙ test ∙ ap (λ (ys : List ℕ). length ys == 0) e in cc
-
-pub is-empty : (xs : List ℕ) (b : Bool) → b ≡ (length xs == 0) → b ≡ true → xs ≡ []
-is-empty xs b test is = nil_from_length xs (eqb-true (length xs) 0 (sym test ∙ is))

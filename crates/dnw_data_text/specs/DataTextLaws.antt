@@ -17,7 +17,7 @@ use Rattle.dnw_field_text.specs.Octets.{IsOctets, IsSalt}
 use Rattle.dnw_field_text.specs.Spelling.{ComesBack}
 use Rattle.dnw_field_text.specs.Strings.{IsString, IsText}
 use Rattle.dnw_data_text.specs.Generic.{max_data, generic_text, IsGeneric}
-use Rattle.dnw_data_text.specs.Words.{is_end, after_spaces}
+use Rattle.dnw_word_text.specs.Words.{is_end, after_spaces}
 use Rattle.dnw_data_text.specs.Printing.{Prints}
 use Rattle.dnw_data_text.specs.Parsing.{takes_all, ReadsField}
 

@@ -17,12 +17,13 @@ use Rattle.dnw_record.specs.RecordFields.{record_fields}
 use Rattle.dnw_data_text.specs.declared.error.DataTextError.{DataTextError}
 use Rattle.dnw_data_text.specs.declared.error.DataTextError.TheVariants.{Memory}
 use Rattle.dnw_data_text.specs.declared.error.Wanted.TheVariants.{Generic}
-use Rattle.dnw_data_text.specs.NameTexts.{full_name_text}
+use Rattle.dnw_word_text.specs.NameTexts.{full_name_text}
 use Rattle.dnw_data_text.specs.Faults.{fault}
-use Rattle.dnw_data_text.specs.Words.{after_spaces, word, after_word}
+use Rattle.dnw_word_text.specs.Words.{after_spaces, word, after_word}
 use Rattle.dnw_data_text.specs.Generic.{mark, generic_text, IsGeneric, FailsSized}
 use Rattle.dnw_data_text.specs.Printing.{PrintsFields, HasNoText}
-use Rattle.dnw_data_text.specs.Parsing.{field_wire, AreFieldTexts, FailsFields}
+use Rattle.dnw_data_text.specs.Parsing.{AreFieldTexts, FailsFields}
+use Rattle.dnw_word_text.specs.FieldWires.{field_wire}
 
 -- Data that are octets alone have no form of their own.
 abbrev pub has_own_form : List Kind → Bool

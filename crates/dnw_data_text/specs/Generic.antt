@@ -6,7 +6,7 @@ use Rattle.dnw_field_text.specs.Numbers.{IsNumberText}
 use Rattle.dnw_data_text.specs.declared.error.DataTextError.{DataTextError}
 use Rattle.dnw_data_text.specs.declared.error.DataTextError.TheVariants.{Memory}
 use Rattle.dnw_data_text.specs.declared.error.Wanted.TheVariants.{Size, Octets}
-use Rattle.dnw_data_text.specs.Words.{after_spaces, word, after_word, joined}
+use Rattle.dnw_word_text.specs.Words.{after_spaces, word, after_word, joined}
 use Rattle.dnw_data_text.specs.Faults.{fault}
 
 -- the word that the form begins with

@@ -3,6 +3,4 @@ pub mod Steps
 pub mod Labels
 pub mod Reads
 pub mod StringWords
-pub mod TypeWords
 pub mod Wires
-pub mod ParamSteps

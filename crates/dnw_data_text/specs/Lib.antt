@@ -1,9 +1,5 @@
-pub mod Words
 pub mod Faults
-pub mod NameTexts
 pub mod Generic
-pub mod TypeLists
-pub mod ParamLists
 pub mod Printing
 pub mod NameReading
 pub mod Parsing

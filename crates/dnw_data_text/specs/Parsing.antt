@@ -25,30 +25,11 @@ use Rattle.dnw_field_text.specs.Pairs.{IsPairsText}
 use Rattle.dnw_field_text.specs.Times.{IsTimeText}
 use Rattle.dnw_data_text.specs.declared.error.DataTextError.{DataTextError}
 use Rattle.dnw_data_text.specs.declared.error.Wanted.TheVariants.{Field, End}
-use Rattle.dnw_data_text.specs.Words.{after_spaces, word, after_word, joined}
+use Rattle.dnw_word_text.specs.Words.{after_spaces, word, after_word, joined}
 use Rattle.dnw_data_text.specs.Faults.{fault}
 use Rattle.dnw_data_text.specs.NameReading.{name_at}
-use Rattle.dnw_data_text.specs.TypeLists.{AreTypes}
-use Rattle.dnw_data_text.specs.ParamLists.{AreParams}
-
--- ---- the octets of fields: names are not compressed
-
-abbrev pub field_wire : FieldValue → List ℕ
-field_wire (name labels) = wire labels
-field_wire (u8 n) = n ∷ []
-field_wire (u16 n) = to_be_bytes w16 n
-field_wire (u32 n) = to_be_bytes w32 n
-field_wire (u48 n) = drop 2 (to_be_bytes w64 n)
-field_wire (u64 n) = to_be_bytes w64 n
-field_wire (ipv4 own) = own
-field_wire (ipv6 segments) = octets_of segments
-field_wire (type_code code) = to_be_bytes w16 (code_of code)
-field_wire (time n) = to_be_bytes w32 n
-field_wire (counted own) = label_wire own
-field_wire (octets own) = own
-field_wire (texts own) = own.octets
-field_wire (types own) = own.octets
-field_wire (params own) = own.octets
+use Rattle.dnw_word_text.specs.TypeLists.{AreTypes}
+use Rattle.dnw_word_text.specs.ParamLists.{AreParams}
 
 -- ---- the fields of words
 

@@ -18,9 +18,9 @@ use Rattle.dnw_field_text.specs.Tags.{IsTag}
 use Rattle.dnw_field_text.specs.Base32.{base32_text}
 use Rattle.dnw_field_text.specs.Pairs.{pairs_text}
 use Rattle.dnw_field_text.specs.Times.{IsDateText}
-use Rattle.dnw_data_text.specs.NameTexts.{full_name_text}
-use Rattle.dnw_data_text.specs.TypeLists.{PrintsTypes}
-use Rattle.dnw_data_text.specs.ParamLists.{PrintsParams}
+use Rattle.dnw_word_text.specs.NameTexts.{full_name_text}
+use Rattle.dnw_word_text.specs.TypeLists.{PrintsTypes}
+use Rattle.dnw_word_text.specs.ParamLists.{PrintsParams}
 use Rattle.dnw_data_text.specs.Generic.{hex_part}
 
 -- nothing for no octets
@@ -89,11 +89,6 @@ HasNoText (kind ∷ kinds) d =
     ((error : DecodeError) × FailsField kind d error)
     ⊎ ((value : FieldValue) × (after : Decoder) × TakesField kind d value after
     × (((own : List ℕ) → ¬ (Prints kind value own)) ⊎ HasNoText kinds after))
-
--- A text of these is appended, or there is none.
-abbrev pub Appended : (List ℕ → Type 0) → List ℕ → List ℕ → Bool → Type 0
-Appended Is old new true = (text : List ℕ) × Is text × (new ≡ old ++ text)
-Appended Is old new false = (text : List ℕ) → ¬ (Is text)
 
 -- The text of the fields is appended, or they have none.
 abbrev pub AppendsFields : List Kind → Decoder → List ℕ → List ℕ → Bool → Type 0

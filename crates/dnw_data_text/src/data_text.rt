@@ -5,16 +5,15 @@ ghost use Rattle.dnw_codes.specs.RecordTypes.{type_code};
 ghost use Rattle.dnw_data.specs.Table.{fields_of};
 ghost use Rattle.dnw_data.specs.Values.{FieldValue, seen};
 ghost use Rattle.dnw_data_text.specs.declared.error.DataTextError.TheVariants.{Memory};
-ghost use Rattle.dnw_data_text.specs.Parsing.{field_wire, AreFieldTexts, FailsFields};
+ghost use Rattle.dnw_data_text.specs.Parsing.{AreFieldTexts, FailsFields};
+ghost use Rattle.dnw_word_text.specs.FieldWires.{field_wire};
 ghost use Rattle.dnw_data_text.specs.DataTexts.{record_line, has_own_form, without_space, IsPlainData, IsDataText, IsTextOf, FailsText};
 ghost use Rattle.dnw_data_text.specs.Inside.Wires.{AppendsWire, AppendsWires};
 
 use crate::error::{DataTextError, Wanted};
 use crate::generic::{Generic, MARK, parse_sized};
-use crate::name::write_name;
 use crate::parsing::{Place, parse_fields};
 use crate::printing::{is_ended, next_field, write_fields};
-use crate::words::{after_spaces, split_word};
 use dnw_codes::record_type::RecordType;
 use dnw_data::field::Field;
 use dnw_data::fields::Fields;
@@ -22,6 +21,8 @@ use dnw_data::kind::{Kind, Shown};
 use dnw_data::table::fields_of;
 use dnw_name::name::Name;
 use dnw_record::record::RecordRef;
+use dnw_word_text::name::write_name;
+use dnw_word_text::words::{after_spaces, split_word};
 use std::alloc::{AllocError, Global};
 
 /// Returns the text of the data of a record in a master file: its fields with a space between them, or the form that any data

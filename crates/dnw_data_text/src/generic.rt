@@ -2,14 +2,14 @@
 ghost use Rattle.std.specs.Prelude.{◌≡◌, ◌≤◌, ℕ, List, length, Some, IfOk, IfErr, MatchResult, MatchOption};
 ghost use Rattle.std.specs.Str.{IsUtf8};
 ghost use Rattle.dnw_data_text.specs.Faults.{fault};
-ghost use Rattle.dnw_data_text.specs.Words.{joined};
+ghost use Rattle.dnw_word_text.specs.Words.{joined};
 ghost use Rattle.dnw_data_text.specs.Generic.{generic_text, IsSize, AreOctets, IsSized, FailsSized};
 
 use crate::error::{DataTextError, Wanted};
-use crate::words::{after_spaces, split_word, without_spaces};
 use dnw_field_text::error::FieldTextError;
 use dnw_field_text::number::parse_u16;
 use dnw_field_text::octets::{Hexadecimal, parse_hexadecimal};
+use dnw_word_text::words::{after_spaces, split_word, without_spaces};
 use std::alloc::{AllocError, Global};
 use std::{fmt, str};
 

@@ -4,21 +4,23 @@ ghost use Rattle.std.specs.Option.{option_copied, option_map};
 ghost use Rattle.dnw_data.specs.Values.{FieldValue, counted, octets};
 ghost use Rattle.dnw_field_text.specs.Strings.{IsLongText};
 ghost use Rattle.dnw_data_text.specs.declared.error.DataTextError.TheVariants.{Memory};
-ghost use Rattle.dnw_data_text.specs.Parsing.{IsName, IsNumberOf, AreOctetsOf, IsOctetsOf, IsIdentifier, eui48, eui64, Spells, IsWord, AreTexts, AreList, takes_all, AllSpell, AreAll, ReadsField, AreFieldTexts, FailsFields, field_wire};
-ghost use Rattle.dnw_data_text.specs.Inside.Reads.{AppendsOne, AppendsRest, IsEndedBy};
+ghost use Rattle.dnw_data_text.specs.Parsing.{IsName, IsNumberOf, AreOctetsOf, IsOctetsOf, IsIdentifier, eui48, eui64, Spells, IsWord, AreTexts, AreList, takes_all, AllSpell, AreAll, ReadsField, AreFieldTexts, FailsFields};
+ghost use Rattle.dnw_word_text.specs.FieldWires.{field_wire};
+ghost use Rattle.dnw_data_text.specs.Inside.Reads.{AppendsRest, IsEndedBy};
+ghost use Rattle.dnw_word_text.specs.Appending.{AppendsOne};
 
 use crate::error::{DataTextError, Wanted};
 use crate::name_reading::read_name;
-use crate::params::parse_params;
 use crate::spelling::{base64_of, hex_of, pairs_of, spelled, string_of_word, text_of};
-use crate::types::parse_types;
-use crate::words::{after_spaces, split_word, without_spaces};
 use dnw_codes::record_type::RecordType;
 use dnw_data::kind::{Kind, ListKind, Shown};
 use dnw_field_text::address::{parse_ipv4, parse_ipv6};
 use dnw_field_text::number::{parse_u8, parse_u16, parse_u32};
 use dnw_field_text::time::parse_time;
 use dnw_name::name::Name;
+use dnw_word_text::params::parse_params;
+use dnw_word_text::types::parse_types;
+use dnw_word_text::words::{after_spaces, split_word, without_spaces};
 use std::alloc::{AllocError, Global};
 use std::str;
 

@@ -4,10 +4,9 @@ ghost use Rattle.dnw_data.specs.Values.{seen};
 ghost use Rattle.std.specs.Option.{option_map};
 ghost use Rattle.dnw_data.specs.Walks.{IsAtEnd};
 ghost use Rattle.dnw_data_text.specs.Inside.Steps.{ReadsNext};
-ghost use Rattle.dnw_data_text.specs.Printing.{Prints, PrintsTime, PrintsCounted, PrintsOctets, PrintsStrings, Appended, AppendsFields};
+ghost use Rattle.dnw_data_text.specs.Printing.{Prints, PrintsTime, PrintsCounted, PrintsOctets, PrintsStrings, AppendsFields};
+ghost use Rattle.dnw_word_text.specs.Appending.{Appended};
 
-use crate::name::write_name;
-use crate::types::write_types;
 use dnw_data::field::Field;
 use dnw_data::fields::Fields;
 use dnw_data::kind::{Kind, Shown};
@@ -18,6 +17,8 @@ use dnw_field_text::string::CharacterString;
 use dnw_field_text::tag::tag_text;
 use dnw_field_text::time::time_text;
 use dnw_svcb_text::printing::write_params;
+use dnw_word_text::name::write_name;
+use dnw_word_text::types::write_types;
 use std::alloc::{AllocError, Global};
 
 /// Appends the text of fields, each after a space. Returns `false` if one cannot be read or has no text.

@@ -1,14 +1,9 @@
 -- What a part of a text gives.
 use Rattle.std.specs.Prelude.{◌≡◌, ℕ, Bool, true, false, List, [], ◌++◌, Option, Some, None}
 use Rattle.dnw_data.specs.Values.{FieldValue}
-use Rattle.dnw_data_text.specs.Parsing.{field_wire}
+use Rattle.dnw_word_text.specs.FieldWires.{field_wire}
 
--- The octets of a field of these are appended, or there is none.
-abbrev pub AppendsOne : (FieldValue → Type 0) → List ℕ → List ℕ → Bool → Type 0
-AppendsOne Is old new true = (value : FieldValue) × Is value × (new ≡ old ++ field_wire value)
-AppendsOne Is old new false = (value : FieldValue) → ¬ (Is value)
-
--- The same, with what is after the field.
+-- The octets of a field of these are appended, with what is after the field, or there is none.
 abbrev pub AppendsRest : (FieldValue → List ℕ → Type 0) → List ℕ → List ℕ → Option (List ℕ) → Type 0
 AppendsRest Is old new (Some rest) = (value : FieldValue) × Is value rest × (new ≡ old ++ field_wire value)
 AppendsRest Is old new None = (value : FieldValue) (rest : List ℕ) → ¬ (Is value rest)

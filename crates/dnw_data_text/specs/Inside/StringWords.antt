@@ -1,6 +1,6 @@
 -- Words that are strings, one after another.
 use Rattle.std.specs.Prelude.{◌≡◌, ◌≢◌, ℕ, List, [], ◌∷◌}
-use Rattle.dnw_data_text.specs.Words.{after_spaces, word, after_word}
+use Rattle.dnw_word_text.specs.Words.{after_spaces, word, after_word}
 use Rattle.dnw_data_text.specs.Parsing.{IsStringWord}
 
 -- The first words of a text are these strings, and this is left.

@@ -3,7 +3,7 @@ use Rattle.std.specs.Prelude.{◌≡◌, ℕ, Bool, true, false, List, ◌++◌}
 use Rattle.dnw_base.specs.Decoder.{Decoder}
 use Rattle.dnw_data.specs.declared.kind.Kind.{Kind}
 use Rattle.dnw_data.specs.Values.{FieldValue}
-use Rattle.dnw_data_text.specs.Parsing.{field_wire}
+use Rattle.dnw_word_text.specs.FieldWires.{field_wire}
 use Rattle.dnw_data_text.specs.DataTexts.{IsLong, AreWire, AreNoFields}
 
 -- The octets of the field are appended, or they are too many.

@@ -1,11 +1,13 @@
 use Rattle.std.proofs.Common.{◌≡◌, List, ℕ, [], ◌∷◌, ◌++◌, length, sym, ap, ◌∙◌, append_assoc, subst}
 use Rattle.dnw_base.specs.Names.{label_wire}
 use Rattle.std.specs.Prelude.{flat_map}
-use Rattle.dnw_data_text.specs.Words.{after_spaces, word}
+use Rattle.dnw_word_text.specs.Words.{after_spaces, word}
 use Rattle.dnw_data_text.specs.Parsing.{IsStringWord}
 use Rattle.dnw_data_text.specs.Inside.StringWords.{LeadTo}
 use Rattle.dnw_data_text.proofs.Strings.{last}
-use Rattle.dnw_data_text.proofs.Rests.{lead-more, no-texts, all-texts, not-empty, is-empty}
+use Rattle.dnw_data_text.proofs.Rests.{lead-more, no-texts, all-texts}
+use Rattle.dnw_word_text.proofs.Empty.{is-empty}
+use Rattle.dnw_word_text.proofs.Empty.{not-empty}
 use Rattle.dnw_data_text.proofs.parsing.parse_texts.Goals as goal
 
 pub returns-in_default : goal.returns-in_default

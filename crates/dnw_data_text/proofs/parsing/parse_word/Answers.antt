@@ -7,7 +7,7 @@ use Rattle.dnw_data_text.specs.Parsing.{AreOctetsOf, Spells, IsOctetsOf, IsNumbe
 use Rattle.std.specs.Int.{w16, to_be_bytes}
 use Rattle.std.specs.Option.{option_copied}
 use Rattle.dnw_data_text.proofs.NumberKinds.{as-number}
-use Rattle.dnw_data_text.specs.Inside.Reads.{AppendsOne}
+use Rattle.dnw_word_text.specs.Appending.{AppendsOne}
 use Rattle.dnw_data_text.proofs.parsing.parse_word.Goals as goal
 
 pub returns-in-Name : goal.returns-in-Name

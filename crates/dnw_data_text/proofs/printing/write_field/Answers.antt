@@ -1,9 +1,10 @@
 use Rattle.std.proofs.Common.{List, ℕ, subst, IfOk}
 use Rattle.std.specs.Prelude.{string_bytes}
-use Rattle.dnw_data_text.specs.Printing.{Appended, PrintsStrings}
-use Rattle.dnw_data_text.specs.TypeLists.{PrintsTypes}
-use Rattle.dnw_data_text.specs.ParamLists.{PrintsParams}
-use Rattle.dnw_data_text.proofs.ParamWalks.{writes-params}
+use Rattle.dnw_data_text.specs.Printing.{PrintsStrings}
+use Rattle.dnw_word_text.specs.Appending.{Appended}
+use Rattle.dnw_word_text.specs.TypeLists.{PrintsTypes}
+use Rattle.dnw_word_text.specs.ParamLists.{PrintsParams}
+use Rattle.dnw_word_text.proofs.ParamWalks.{writes-params}
 use Rattle.dnw_data_text.proofs.printing.write_field.Goals as goal
 
 pub returns-in-Texts : goal.returns-in-Texts

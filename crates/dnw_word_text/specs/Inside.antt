@@ -1,0 +1,3 @@
+-- What no public clause cites: what the parts of a call return.
+pub mod TypeWords
+pub mod ParamSteps

@@ -1,0 +1,7 @@
+pub mod Words
+pub mod NameTexts
+pub mod FieldWires
+pub mod Appending
+pub mod TypeLists
+pub mod ParamLists
+pub mod Inside

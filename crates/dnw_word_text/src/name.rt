@@ -1,0 +1,78 @@
+//! Names (RFC 1035, section 5.1).
+ghost use Rattle.std.specs.Prelude.{◌≡◌, ◌++◌, Some, IfOk, string_bytes};
+ghost use Rattle.std.specs.Fmt.{WritesOnOk};
+ghost use Rattle.dnw_word_text.specs.NameTexts.{is_special, name_octet, label_octets, full_name_text};
+
+use dnw_name::name_ref::NameRef;
+use std::alloc::AllocError;
+use std::{fmt, str};
+
+/// Appends the text of a name, fully qualified.
+pub fn write_name(name: &NameRef<'_>, out: &mut String) -> Result<(), AllocError>
+    ensures { IfOk result (λ _. string_bytes out.new ≡ string_bytes out.old ++ full_name_text name.now) }
+{
+    if name.is_root() {
+        return out.push_str(".");
+    }
+    let mut labels = name.labels();
+    while let Some(label) = labels.next() {
+        write!(out, "{}.", LabelText(label))?;
+    }
+    Ok(())
+}
+
+/// A label as text.
+#[derive(Clone, Copy)]
+struct LabelText<'a>(&'a [u8]);
+
+impl fmt::Display for LabelText<'_> {
+    ghost output = { λ label. Some (label_octets label.0.now) };
+
+    fn fmt<W: fmt::Write>(&self, f: &mut fmt::Formatter<W>) -> fmt::Result {
+        for octet in self.0 {
+            f.write(NameOctet(*octet))?;
+        }
+        Ok(())
+    }
+}
+
+/// One octet of a label.
+#[derive(Clone, Copy)]
+struct NameOctet(u8);
+
+impl fmt::Display for NameOctet {
+    ghost output = { λ octet. Some (name_octet octet.0) };
+
+    fn fmt<W: fmt::Write>(&self, f: &mut fmt::Formatter<W>) -> fmt::Result {
+        let octet = self.0;
+        if is_special(octet) {
+            return write_ascii(f, &[b'\\', octet]);
+        }
+        if b'!' <= octet && octet <= b'~' {
+            return write_ascii(f, &[octet]);
+        }
+        let digits = [
+            b'0' + octet / 100,
+            b'0' + octet / 10 % 10,
+            b'0' + octet % 10,
+        ];
+        write_ascii(f, &[b'\\', digits[0], digits[1], digits[2]])
+    }
+}
+
+/// Returns `true` if a character means something else in a master file.
+fn is_special(octet: u8) -> bool
+    ensures { result ≡ is_special octet }
+{
+    matches!(
+        octet,
+        b'"' | b'$' | b'(' | b')' | b'.' | b';' | b'@' | b'\\'
+    )
+}
+
+/// Writes ASCII characters.
+fn write_ascii<W: fmt::Write>(f: &mut fmt::Formatter<W>, text: &[u8]) -> fmt::Result
+    ensures { WritesOnOk W.Write.write_str_gives f.old result text.now f.new }
+{
+    f.write_str(str::from_utf8(text).map_err(|_| fmt::Error)?)
+}
