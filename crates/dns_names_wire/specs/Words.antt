@@ -126,8 +126,8 @@ pub use Rattle.dnw_data.specs.Walks.{FieldsLeft, IsEnded, NextField, fields_at, 
 pub use Rattle.dnw_field_text.specs.Numbers.{IsNumberText, max_u16, max_u32, max_u48, max_u8}
 pub use Rattle.dnw_field_text.specs.Octets.{IsBase64Text, IsHexText, IsOctets, IsSalt, IsSaltText, base64_text, hex_text, salt_text}
 pub use Rattle.dnw_field_text.specs.Spelling.{Appends, ComesBack}
-pub use Rattle.dnw_field_text.specs.Base32.{IsHash, IsHashText, base32_octets, base32_text, base32_value, is_base32}
-pub use Rattle.dnw_field_text.specs.Pairs.{IsIdentifier, IsPairsText, pairs_octets, pairs_text}
+pub use Rattle.dnw_digit_text.specs.Base32.{IsHash, IsHashText, base32_octets, base32_text, base32_value, is_base32}
+pub use Rattle.dnw_digit_text.specs.Pairs.{IsIdentifier, IsPairsText, pairs_octets, pairs_text}
 pub use Rattle.dnw_field_text.specs.Strings.{IsLongText, IsString, IsStringText, IsText, IsTextWithin, Plain, octet_text}
 pub use Rattle.dnw_field_text.specs.Strings.{octets_from, quote, string_octets, string_text}
 pub use Rattle.dnw_field_text.specs.Tags.{IsTag, IsTagText}

@@ -91,15 +91,15 @@ pub mod error {
 /// Texts of single values in master files: numbers, octets, times, addresses, character strings, tags, hashed names and
 /// identifiers of hardware.
 pub mod field_text {
+    pub use dnw_digit_text::base32::{Base32Hex, parse_hash};
+    pub use dnw_digit_text::laws;
+    pub use dnw_digit_text::pairs::{Pairs, parse_pairs};
     pub use dnw_field_text::address::{parse_ipv4, parse_ipv6};
-    pub use dnw_field_text::base32::{Base32Hex, parse_hash};
     pub use dnw_field_text::error::FieldTextError;
-    pub use dnw_field_text::laws;
     pub use dnw_field_text::number::{parse_u8, parse_u16, parse_u32, parse_u48};
     pub use dnw_field_text::octets::{
         Base64, Hexadecimal, Salt, parse_base64, parse_hexadecimal, parse_salt,
     };
-    pub use dnw_field_text::pairs::{Pairs, parse_pairs};
     pub use dnw_field_text::string::{CharacterString, parse_string, parse_text};
     pub use dnw_field_text::tag::{parse_tag, tag_text};
     pub use dnw_field_text::time::{parse_time, time_text};

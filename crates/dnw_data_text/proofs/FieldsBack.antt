@@ -33,8 +33,8 @@ use Rattle.dnw_field_text.specs.Numbers.{max_u8, max_u16, max_u32}
 use Rattle.dnw_field_text.specs.Octets.{IsOctets, IsSalt, hex_text, salt_text}
 use Rattle.dnw_field_text.specs.Strings.{quote, backslash, IsString, IsText, octet_text, string_text}
 use Rattle.dnw_field_text.specs.Tags.{IsTag}
-use Rattle.dnw_field_text.specs.Base32.{IsHash, is_base32, base32_text}
-use Rattle.dnw_field_text.proofs.Identifiers.{hash}
+use Rattle.dnw_digit_text.specs.Base32.{IsHash, is_base32, base32_text}
+use Rattle.dnw_digit_text.proofs.Identifiers.{hash}
 use Rattle.dnw_field_text.specs.Times.{IsDateText}
 use Rattle.dnw_field_text.proofs.ComeBack.{numbers, salt}
 use Rattle.dnw_field_text.proofs.StringText.{string, text}

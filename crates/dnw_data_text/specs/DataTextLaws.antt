@@ -11,7 +11,7 @@ use Rattle.dnw_data.specs.declared.kind.Kind.TheVariants as kinds
 use Rattle.dnw_data.specs.declared.kind.ListKind.TheVariants as lists
 use Rattle.dnw_data.specs.declared.kind.Shown.TheVariants.{Text, Tag, Hex, Base32Hex}
 use Rattle.dnw_data.specs.Values.{FieldValue, u8, u16, u32, ipv4, type_code, time, counted, octets, texts, items}
-use Rattle.dnw_field_text.specs.Base32.{IsHash}
+use Rattle.dnw_digit_text.specs.Base32.{IsHash}
 use Rattle.dnw_field_text.specs.Numbers.{max_u8, max_u16, max_u32}
 use Rattle.dnw_field_text.specs.Octets.{IsOctets, IsSalt}
 use Rattle.dnw_field_text.specs.Spelling.{ComesBack}

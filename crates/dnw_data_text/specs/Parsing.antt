@@ -20,8 +20,8 @@ use Rattle.dnw_field_text.specs.Numbers.{max_u8, max_u16, max_u32, IsNumberText}
 use Rattle.dnw_field_text.specs.Octets.{IsHexText, IsBase64Text, IsSaltText}
 use Rattle.dnw_field_text.specs.Strings.{IsStringText, IsLongText}
 use Rattle.dnw_field_text.specs.Tags.{IsTagText}
-use Rattle.dnw_field_text.specs.Base32.{IsHashText}
-use Rattle.dnw_field_text.specs.Pairs.{IsPairsText}
+use Rattle.dnw_digit_text.specs.Base32.{IsHashText}
+use Rattle.dnw_digit_text.specs.Pairs.{IsPairsText}
 use Rattle.dnw_field_text.specs.Times.{IsTimeText}
 use Rattle.dnw_data_text.specs.declared.error.DataTextError.{DataTextError}
 use Rattle.dnw_data_text.specs.declared.error.Wanted.TheVariants.{Field, End}

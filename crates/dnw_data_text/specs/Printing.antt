@@ -15,8 +15,8 @@ use Rattle.dnw_data.specs.Walks.{IsAtEnd}
 use Rattle.dnw_field_text.specs.Octets.{base64_text, salt_text}
 use Rattle.dnw_field_text.specs.Strings.{string_text}
 use Rattle.dnw_field_text.specs.Tags.{IsTag}
-use Rattle.dnw_field_text.specs.Base32.{base32_text}
-use Rattle.dnw_field_text.specs.Pairs.{pairs_text}
+use Rattle.dnw_digit_text.specs.Base32.{base32_text}
+use Rattle.dnw_digit_text.specs.Pairs.{pairs_text}
 use Rattle.dnw_field_text.specs.Times.{IsDateText}
 use Rattle.dnw_word_text.specs.NameTexts.{full_name_text}
 use Rattle.dnw_word_text.specs.TypeLists.{PrintsTypes}

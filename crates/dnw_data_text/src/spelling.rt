@@ -3,15 +3,15 @@ ghost use Rattle.std.specs.Prelude.{◌≡◌, ◌≤◌, ℕ, List, length, IfO
 ghost use Rattle.dnw_field_text.specs.Octets.{IsHexText, IsBase64Text, IsSaltText};
 ghost use Rattle.dnw_field_text.specs.Strings.{IsStringText, IsLongText};
 ghost use Rattle.dnw_field_text.specs.Tags.{IsTagText};
-ghost use Rattle.dnw_field_text.specs.Base32.{IsHashText};
-ghost use Rattle.dnw_field_text.specs.Pairs.{IsPairsText};
+ghost use Rattle.dnw_digit_text.specs.Base32.{IsHashText};
+ghost use Rattle.dnw_digit_text.specs.Pairs.{IsPairsText};
 ghost use Rattle.dnw_data_text.specs.Parsing.{IsStringWord, Spells};
 
 use dnw_data::kind::Shown;
-use dnw_field_text::base32::parse_hash;
+use dnw_digit_text::base32::parse_hash;
+use dnw_digit_text::pairs::parse_pairs;
 use dnw_field_text::error::FieldTextError;
 use dnw_field_text::octets::{parse_base64, parse_hexadecimal, parse_salt};
-use dnw_field_text::pairs::parse_pairs;
 use dnw_field_text::string::{parse_string, parse_text};
 use dnw_field_text::tag::parse_tag;
 use std::alloc::{AllocError, Global};

@@ -4,6 +4,4 @@ pub mod Octets
 pub mod Strings
 pub mod Times
 pub mod Tags
-pub mod Pairs
-pub mod Base32
 pub mod Inside

@@ -9,9 +9,6 @@ ghost use Rattle.dnw_field_text.specs.Spelling.{ComesBack};
 ghost use Rattle.dnw_field_text.specs.Numbers.{max_u32, max_u48, IsNumberText};
 ghost use Rattle.dnw_field_text.specs.Octets.{IsOctets, IsSalt, hex_text, base64_text, salt_text, IsHexText, IsBase64Text, IsSaltText};
 ghost use Rattle.dnw_field_text.specs.Strings.{IsString, IsText, string_text, IsStringText, IsLongText};
-ghost use Rattle.dnw_field_text.specs.Tags.{IsTag, IsTagText};
-ghost use Rattle.dnw_field_text.specs.Base32.{IsHash, base32_text, IsHashText};
-ghost use Rattle.dnw_field_text.specs.Pairs.{IsIdentifier, pairs_text, IsPairsText};
 ghost use Rattle.dnw_field_text.specs.Times.{IsDateText, IsTimeText};
 
 /// Numbers of up to six octets come back.
@@ -36,13 +33,6 @@ pub fn addresses_come_back()
 pub fn strings_come_back()
     ensures strings { ComesBack IsString string_text IsStringText }
     ensures texts { ComesBack IsText string_text IsLongText }
-{}
-
-/// Tags come back, which are printed as they are; hashed names in base 32, and octets as pairs of digits.
-pub fn identifiers_come_back()
-    ensures tags { ComesBack IsTag (λ tag. tag) IsTagText }
-    ensures hashes { ComesBack IsHash base32_text IsHashText }
-    ensures pairs { ComesBack IsIdentifier pairs_text IsPairsText }
 {}
 
 /// A text spells one time at most. What `time_text` returns spells its time, so it is parsed as that time.

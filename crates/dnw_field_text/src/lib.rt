@@ -6,12 +6,10 @@
 #![tactic(auto)]
 
 pub mod address;
-pub mod base32;
 pub mod error;
 pub mod laws;
 pub mod number;
 pub mod octets;
-pub mod pairs;
 pub mod string;
 pub mod tag;
 pub mod time;

@@ -191,7 +191,7 @@ fn decimal_octet(a: u8, b: u8, c: u8) -> Option<u8>
 }
 
 /// Writes ASCII characters.
-pub(crate) fn write_ascii<W: fmt::Write>(f: &mut fmt::Formatter<W>, text: &[u8]) -> fmt::Result
+pub fn write_ascii<W: fmt::Write>(f: &mut fmt::Formatter<W>, text: &[u8]) -> fmt::Result
     ensures { WritesOnOk W.Write.write_str_gives f.old result text.now f.new }
 {
     f.write_str(str::from_utf8(text).map_err(|_| fmt::Error)?)

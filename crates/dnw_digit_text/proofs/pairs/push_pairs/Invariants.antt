@@ -1,7 +1,7 @@
 use Rattle.std.proofs.Common.{◌≡◌, ◌≤◌, ◌++◌, List, ℕ, length}
-use Rattle.dnw_field_text.specs.Pairs.{pairs_octets}
+use Rattle.dnw_digit_text.specs.Pairs.{pairs_octets}
 use Rattle.dnw_field_text.specs.Inside.Takes.{after}
-use Rattle.dnw_field_text.proofs.pairs.push_pairs.Given as goal
+use Rattle.dnw_digit_text.proofs.pairs.push_pairs.Given as goal
 
 -- what is left, after the octets so far, gives what all gives
 abbrev pub invariant-loop-left : goal.invariant-loop-left

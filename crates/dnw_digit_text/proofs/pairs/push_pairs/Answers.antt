@@ -1,8 +1,8 @@
 use Rattle.std.proofs.Common.{ℕ, List, [], ◌∷◌, ◌++◌, refl, sym, ap, ◌∙◌, arith, append-nil, append_assoc, length-drop}
 use Rattle.std.proofs.lemmas.List.{length-take}
-use Rattle.dnw_field_text.specs.Pairs.{pairs_octets}
-use Rattle.dnw_field_text.proofs.Groups.{after_nil, pair_more}
-use Rattle.dnw_field_text.proofs.pairs.push_pairs.Goals as goal
+use Rattle.dnw_digit_text.specs.Pairs.{pairs_octets}
+use Rattle.dnw_digit_text.proofs.Groups.{after_nil, pair_more}
+use Rattle.dnw_digit_text.proofs.pairs.push_pairs.Goals as goal
 
 pub loop-left-init : goal.loop-left-init
 loop-left-init c = ([], after_nil (pairs_octets c.args.text.now), sym (append-nil c.args.octets.now.items), omega arith)

@@ -7,8 +7,8 @@ use Rattle.std.proofs.lemmas.List.Sums.{AllPass-from_list_all}
 use Rattle.dnw_field_text.specs.Spelling.{ComesBack}
 use Rattle.dnw_field_text.specs.Octets.{IsOctets}
 use Rattle.dnw_field_text.specs.Tags.{IsTag, IsTagText}
-use Rattle.dnw_field_text.specs.Pairs.{IsIdentifier, lower_digit, digit_of, pair_octet, before, pairs_text, pairs_octets, IsPairsText}
-use Rattle.dnw_field_text.specs.Base32.{IsHash, base32_digit, base32_text, base32_value, is_base32, base32_octets, base32_first, base32_second, base32_third, base32_fourth, base32_fifth, IsHashText}
+use Rattle.dnw_digit_text.specs.Pairs.{IsIdentifier, lower_digit, digit_of, pair_octet, before, pairs_text, pairs_octets, IsPairsText}
+use Rattle.dnw_digit_text.specs.Base32.{IsHash, base32_digit, base32_text, base32_value, is_base32, base32_octets, base32_first, base32_second, base32_third, base32_fourth, base32_fifth, IsHashText}
 
 pub tag : ComesBack IsTag (λ (t : List ℕ). t) IsTagText
 tag own is = ((refl, is), λ other also. sym also.0)

@@ -1,14 +1,14 @@
 //! Identifiers of hardware, as pairs of hexadecimal digits with hyphens between them (RFC 7043, sections 3.2 and 4.2).
 ghost use Rattle.std.specs.Prelude.{◌≡◌, ◌<◌, ◌≤◌, Some, MatchOption, IfOk, IfErr, length};
 ghost use Rattle.dnw_field_text.specs.Spelling.{Appends};
-ghost use Rattle.dnw_field_text.specs.Pairs.{lower_digit, digit_of, pair_octet, pairs_text, pairs_octets, IsPairsText};
+ghost use Rattle.dnw_digit_text.specs.Pairs.{lower_digit, digit_of, pair_octet, pairs_text, pairs_octets, IsPairsText};
 ghost use Rattle.dnw_field_text.specs.Inside.Takes.{BeginsWith, PushesAll};
 ghost use Rattle.dnw_field_text.specs.declared.error.FieldTextError.TheVariants.{Pairs as PairsWanted};
 ghost use Rattle.std.specs.Prelude.{true};
 ghost use Rattle.std.specs.Char.{is_ascii_hexdigit};
 
-use crate::error::FieldTextError;
-use crate::string::write_ascii;
+use dnw_field_text::error::FieldTextError;
+use dnw_field_text::string::write_ascii;
 use std::alloc::AllocError;
 use std::fmt;
 

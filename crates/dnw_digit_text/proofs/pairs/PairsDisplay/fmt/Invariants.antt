@@ -1,7 +1,7 @@
 use Rattle.std.proofs.Common.{◌≡◌, ◌∷◌, ◌++◌, List, ℕ, length}
 use Rattle.std.specs.Fmt.{HasWritten, IsPlainFormatter}
-use Rattle.dnw_field_text.specs.Pairs.{pairs_text}
-use Rattle.dnw_field_text.proofs.pairs.PairsDisplay.fmt.Given as goal
+use Rattle.dnw_digit_text.specs.Pairs.{pairs_text}
+use Rattle.dnw_digit_text.proofs.pairs.PairsDisplay.fmt.Given as goal
 
 -- what is written, and the text of what is left, are all
 abbrev pub invariant-loop-next : goal.invariant-loop-next

@@ -1,7 +1,7 @@
 use Rattle.std.proofs.Common.{◌≡◌, ◌≤◌, ◌++◌, List, ℕ, length, map}
-use Rattle.dnw_field_text.specs.Base32.{base32_value, base32_octets}
+use Rattle.dnw_digit_text.specs.Base32.{base32_value, base32_octets}
 use Rattle.dnw_field_text.specs.Inside.Takes.{after}
-use Rattle.dnw_field_text.proofs.base32.push_base32.Given as goal
+use Rattle.dnw_digit_text.proofs.base32.push_base32.Given as goal
 
 -- what is left, after the octets so far, gives what all gives
 abbrev pub invariant-loop-left : goal.invariant-loop-left

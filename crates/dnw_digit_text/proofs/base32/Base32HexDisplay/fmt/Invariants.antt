@@ -1,7 +1,7 @@
 use Rattle.std.proofs.Common.{◌≡◌, ◌++◌, List, ℕ, length}
 use Rattle.std.specs.Fmt.{HasWritten, IsPlainFormatter}
-use Rattle.dnw_field_text.specs.Base32.{base32_text}
-use Rattle.dnw_field_text.proofs.base32.Base32HexDisplay.fmt.Given as goal
+use Rattle.dnw_digit_text.specs.Base32.{base32_text}
+use Rattle.dnw_digit_text.proofs.base32.Base32HexDisplay.fmt.Given as goal
 
 -- what is written, and the text of what is left, are all
 abbrev pub invariant-loop-left : goal.invariant-loop-left

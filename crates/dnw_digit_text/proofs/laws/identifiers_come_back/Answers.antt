@@ -1,5 +1,5 @@
-use Rattle.dnw_field_text.proofs.Identifiers.{tag, hash, pairs}
-use Rattle.dnw_field_text.proofs.laws.identifiers_come_back.Goals as goal
+use Rattle.dnw_digit_text.proofs.Identifiers.{tag, hash, pairs}
+use Rattle.dnw_digit_text.proofs.laws.identifiers_come_back.Goals as goal
 
 pub returns-clause-tags : goal.returns-clause-tags
 returns-clause-tags c = tag

@@ -2,8 +2,8 @@
 use Rattle.std.proofs.Common.{◌≡◌, ℕ, ◌<◌, ◌≤◌, ◌-◌, ◌==◌, false, List, [], ◌∷◌, ◌++◌, length, take, drop, get_or, map, refl, sym, ap, ◌∙◌, arith, append_assoc, length-drop}
 use Rattle.std.specs.Prelude.{Option, Some, None}
 use Rattle.std.proofs.lemmas.List.{take_all}
-use Rattle.dnw_field_text.specs.Pairs.{hyphen, pair_octet, before, pairs_octets}
-use Rattle.dnw_field_text.specs.Base32.{base32_text, base32_five, base32_value, base32_octets, base32_first, base32_second, base32_third, base32_fourth, base32_fifth}
+use Rattle.dnw_digit_text.specs.Pairs.{hyphen, pair_octet, before, pairs_octets}
+use Rattle.dnw_digit_text.specs.Base32.{base32_text, base32_five, base32_value, base32_octets, base32_first, base32_second, base32_third, base32_fourth, base32_fifth}
 use Rattle.dnw_field_text.specs.Inside.Takes.{after}
 
 pub after_nil : (octets : Option (List ℕ)) → octets ≡ after [] octets

@@ -1,6 +1,6 @@
 -- Pairs of digits, one after another.
 use Rattle.std.proofs.Common.{◌≡◌, ℕ, ◌/◌, ◌%◌, List, [], ◌∷◌, ◌++◌, sym, ap, ◌∙◌, append_assoc}
-use Rattle.dnw_field_text.specs.Pairs.{hyphen, lower_digit, pairs_text}
+use Rattle.dnw_digit_text.specs.Pairs.{hyphen, lower_digit, pairs_text}
 
 -- one pair more, with its hyphen
 pub one_pair : (done left rest whole : List ℕ) (o next x y : ℕ) → left ≡ next ∷ rest → x ≡ lower_digit (o / 16) → y ≡ lower_digit (o % 16)

@@ -1,7 +1,7 @@
 use Rattle.std.proofs.Common.{rules, ◌++◌, refl}
 use Rattle.std.proofs.lemmas.Grind.{put_two}
-use Rattle.dnw_field_text.proofs.Groups.{five_more}
-use Rattle.dnw_field_text.proofs.base32.Base32HexDisplay.fmt.Goals as goal
+use Rattle.dnw_digit_text.proofs.Groups.{five_more}
+use Rattle.dnw_digit_text.proofs.base32.Base32HexDisplay.fmt.Goals as goal
 
 pub loop-left-preserved : goal.loop-left-preserved
 loop-left-preserved g c = λ plain.

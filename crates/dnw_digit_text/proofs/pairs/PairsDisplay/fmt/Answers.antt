@@ -1,8 +1,8 @@
 use Rattle.std.proofs.Common.{rules, ◌++◌, refl}
 use Rattle.std.proofs.lemmas.Grind.{put_two}
 use Rattle.std.proofs.lemmas.List.{nil_from_length}
-use Rattle.dnw_field_text.proofs.PairsText.{one_pair, last_pair}
-use Rattle.dnw_field_text.proofs.pairs.PairsDisplay.fmt.Goals as goal
+use Rattle.dnw_digit_text.proofs.PairsText.{one_pair, last_pair}
+use Rattle.dnw_digit_text.proofs.pairs.PairsDisplay.fmt.Goals as goal
 
 pub loop-next-preserved : goal.loop-next-preserved
 loop-next-preserved g c = λ plain.

@@ -1,8 +1,8 @@
 use Rattle.std.proofs.Common.{◌≡◌, ℕ, List, [], ◌++◌, map, refl, sym, ap, ◌∙◌, arith, append-nil, append_assoc, length-drop}
 use Rattle.std.proofs.lemmas.List.{length-take}
-use Rattle.dnw_field_text.specs.Base32.{base32_value, base32_octets}
-use Rattle.dnw_field_text.proofs.Groups.{after_nil, eight_more, of_eight, at}
-use Rattle.dnw_field_text.proofs.base32.push_base32.Goals as goal
+use Rattle.dnw_digit_text.specs.Base32.{base32_value, base32_octets}
+use Rattle.dnw_digit_text.proofs.Groups.{after_nil, eight_more, of_eight, at}
+use Rattle.dnw_digit_text.proofs.base32.push_base32.Goals as goal
 
 pub loop-left-init : goal.loop-left-init
 loop-left-init c = ([], after_nil (base32_octets (map base32_value c.args.digits.now)), sym (append-nil c.args.octets.now.items), omega arith)

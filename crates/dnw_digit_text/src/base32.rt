@@ -4,12 +4,12 @@ ghost use Rattle.std.specs.Prelude.{◌≡◌, ◌<◌, ◌≤◌, true, false, 
 ghost use Rattle.std.specs.List.{AllPass};
 ghost use Rattle.std.specs.Fmt.{WritesOnOk};
 ghost use Rattle.dnw_field_text.specs.Spelling.{Appends};
-ghost use Rattle.dnw_field_text.specs.Base32.{base32_digit, base32_five, base32_text, base32_value, is_base32, base32_octets, if_zero, IsHashText};
+ghost use Rattle.dnw_digit_text.specs.Base32.{base32_digit, base32_five, base32_text, base32_value, is_base32, base32_octets, if_zero, IsHashText};
 ghost use Rattle.dnw_field_text.specs.Inside.Takes.{BeginsWith, PushesAll};
 ghost use Rattle.dnw_field_text.specs.declared.error.FieldTextError.TheVariants.{Hash as HashWanted};
 
-use crate::error::FieldTextError;
-use crate::string::write_ascii;
+use dnw_field_text::error::FieldTextError;
+use dnw_field_text::string::write_ascii;
 use std::alloc::AllocError;
 use std::fmt;
 

@@ -1,0 +1,3 @@
+pub mod PairsText
+pub mod Groups
+pub mod Identifiers

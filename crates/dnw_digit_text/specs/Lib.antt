@@ -1,0 +1,2 @@
+pub mod Base32
+pub mod Pairs
