@@ -1,6 +1,6 @@
-/* Calls each function of dns_names_wire.h that reads whole messages with good and with bad input. It prints nothing if all is
-   well, and exits with 1 at the first result that is not the expected one. Expected values are worked by hand from RFC 1035,
-   section 4.1, and RFC 6891, section 6.1. */
+/* Calls each function of dns_names_wire.h that reads whole messages, or writes them again, with good and with bad input. It
+   prints nothing if all is well, and exits with 1 at the first result that is not the expected one. Expected values are worked
+   by hand from RFC 1035, section 4.1, and RFC 6891, section 6.1. */
 #include "dns_names_wire.h"
 #include "expect.h"
 
@@ -163,6 +163,83 @@ static void refuses_fields(void)
     EXPECT(next_field(BYTES("\000\001\000\000\003\000\000\000\001\000\000"), DNW_TYPE_SVCB, &past, &field) == DNW_BAD_PARAMS);
 }
 
+static uint8_t copy[512];
+
+/* Packs a message into so many bytes. What is not written is unchanged. */
+static uint32_t pack(const uint8_t *octets, size_t len, uint16_t most, size_t size, struct dnw_packed *packed)
+{
+    memset(copy, '?', sizeof copy);
+    *packed = (struct dnw_packed){7, true};
+    uint32_t answer = dnw_message_pack(octets, len, most, copy, size, packed);
+    if (answer != DNW_DONE)
+        EXPECT(copy[0] == '?' && packed->len == 7 && packed->truncated);
+    else
+        EXPECT(packed->len <= most && copy[packed->len] == '?');
+    return answer;
+}
+
+static bool packs(const uint8_t *octets, size_t octets_len, uint16_t most, const char *wanted, size_t len, bool truncated)
+{
+    struct dnw_packed packed;
+    EXPECT(pack(octets, octets_len, most, len - 1, &packed) == DNW_NO_ROOM);
+    EXPECT(pack(octets, octets_len, most, len, &packed) == DNW_DONE);
+    return packed.len == len && packed.truncated == truncated && memcmp(copy, wanted, len) == 0;
+}
+
+#define HEAD(flags, counts) "\022\064" flags "\247" counts
+#define WWW_IN WWW "\000\001\000\001"
+#define GLUE_ALONE "\002ns\300\020\000\001\000\001" TTL "\000\004\300\000\002\001"
+#define WANTED(octets) octets, sizeof(octets) - 1
+#define TWO_MORE "\000\000\202\000\000\000\000\000\000\000\000\002"
+#define A_OF_A "\001a\000\000\001\000\001" TTL "\000\004abcd"
+#define RECORD(type, data) "\000\000" type "\000\001\000\000\000\000\000" data
+#define ANSWER(type, data) "\000\000\200\000\000\000\000\001\000\000\000\000" RECORD(type, data)
+
+/* A name needs the room that it has without compression, but for an octet. Of the 17 octets of the OPT record is none left. */
+static void packs_messages(void)
+{
+    struct dnw_packed packed;
+    EXPECT(packs(BYTES(referral), 65535, WANTED(referral), false));
+    EXPECT(packs(BYTES(referral), 83, WANTED(referral), false));
+    EXPECT(packs(BYTES(referral), 82, WANTED(HEAD("\205", "\000\001\000\000\000\001\000\001") WWW_IN NS OPT), false));
+    EXPECT(packs(BYTES(referral), 77, WANTED(HEAD("\205", "\000\001\000\000\000\001\000\001") WWW_IN NS OPT), false));
+    EXPECT(packs(BYTES(referral), 76, WANTED(HEAD("\207", "\000\001\000\000\000\000\000\002") WWW_IN GLUE_ALONE OPT), true));
+    EXPECT(packs(BYTES(referral), 69, WANTED(HEAD("\207", "\000\001\000\000\000\000\000\002") WWW_IN GLUE_ALONE OPT), true));
+    EXPECT(packs(BYTES(referral), 68, WANTED(HEAD("\207", "\000\001\000\000\000\000\000\001") WWW_IN OPT), true));
+    EXPECT(packs(BYTES(referral), 50, WANTED(HEAD("\207", "\000\001\000\000\000\000\000\001") WWW_IN OPT), true));
+    EXPECT(packs(BYTES(referral), 49, WANTED(HEAD("\207", "\000\000\000\000\000\000\000\001") OPT), true));
+    EXPECT(packs(BYTES(referral), 29, WANTED(HEAD("\207", "\000\000\000\000\000\000\000\001") OPT), true));
+    EXPECT(pack(BYTES(referral), 28, sizeof copy, &packed) == DNW_MESSAGE_TOO_LONG);
+    EXPECT(pack(BYTES(NO_EDNS), 11, sizeof copy, &packed) == DNW_MESSAGE_TOO_LONG);
+    EXPECT(packs(BYTES(NO_EDNS "more"), 12, WANTED(NO_EDNS), false));
+    /* an OPT record before another becomes the last one, and what was truncated stays so */
+    EXPECT(packs(BYTES(TWO_MORE OPT A_OF_A), 512, WANTED(TWO_MORE A_OF_A OPT), true));
+    /* names that are whole in the message are compressed in the copy, and those of an SRV are not */
+    EXPECT(packs(BYTES("\000\000\200\000\000\001\000\002\000\000\000\000\001a\000\000\001\000\001"
+                       "\001a\000\000\005\000\001" TTL "\000\005\001b\001a\000"
+                       "\001b\001a\000\000\041\000\001" TTL "\000\010\000\000\000\000\000\000\300\014"), 512,
+                 WANTED("\000\000\200\000\000\001\000\002\000\000\000\000\001a\000\000\001\000\001"
+                        "\300\014\000\005\000\001" TTL "\000\004\001b\300\014"
+                        "\300\037\000\041\000\001" TTL "\000\011\000\000\000\000\000\000\001a\000"), false));
+}
+
+static void refuses_to_pack(void)
+{
+    struct dnw_packed packed;
+    for (size_t len = 0; len < 83; len++)
+        EXPECT(pack((const uint8_t *)referral, len, 512, sizeof copy, &packed) == DNW_MESSAGE_CUT);
+    EXPECT(pack(BYTES("\000\000\000\000\000\001\000\000\000\000\000\000\100"), 512, sizeof copy, &packed) ==
+           DNW_RESERVED_OCTET);
+    EXPECT(pack(BYTES(ONE_MORE("\002") EMPTY_OPT("\000") EMPTY_OPT("\000")), 512, sizeof copy, &packed) == DNW_DUPLICATE_EDNS);
+    EXPECT(pack(BYTES(ONE_MORE("\001") EMPTY_OPT("\001a\000")), 512, sizeof copy, &packed) == DNW_OWNER_NOT_ROOT);
+    EXPECT(pack(BYTES(ONE_MORE("\001") "\000\000\051\001\000\000\000\000\000\000\004\000\003\000\001"), 512, sizeof copy,
+                &packed) == DNW_CUT_OPTION);
+    EXPECT(pack(BYTES(ANSWER("\001", "\003abc")), 512, sizeof copy, &packed) == DNW_MESSAGE_CUT);
+    EXPECT(pack(BYTES(ANSWER("\001", "\005abcde")), 512, sizeof copy, &packed) == DNW_WRONG_DATA_LENGTH);
+    EXPECT(pack(BYTES(ANSWER("\002", "\001\100")), 512, sizeof copy, &packed) == DNW_RESERVED_OCTET);
+    EXPECT(pack(BYTES(ANSWER("\057", "\003\000\000\000")), 512, sizeof copy, &packed) == DNW_BAD_BITMAP);
+}
+
 int main(void)
 {
     reads_messages();
@@ -170,5 +247,7 @@ int main(void)
     reads_edns();
     reads_fields();
     refuses_fields();
+    packs_messages();
+    refuses_to_pack();
     return 0;
 }

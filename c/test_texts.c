@@ -1,4 +1,4 @@
-/* Calls dnw_record_print with good and with bad input. It prints nothing if all is
+/* Calls each function of dns_names_wire.h for texts of records with good and with bad input. It prints nothing if all is
    well, and exits with 1 at the first result that is not the expected one. Expected values are worked by hand from RFC 1035,
    sections 4.1 and 5.1, and RFC 3597, section 5. */
 #include "dns_names_wire.h"
@@ -58,8 +58,147 @@ static void prints_records(void)
     EXPECT(dnw_record_print(message, sizeof message, 0, text, sizeof text, &printed) == DNW_POINTER_NOT_BACK);
 }
 
+/* Parses a line or data into so many bytes. What is not written is unchanged. */
+struct input {
+    uint16_t type; /* of data, or 0 for a line */
+    const char *text;
+    const char *origin;
+    size_t origin_len;
+};
+
+static uint32_t parse(struct input input, size_t size, size_t *len)
+{
+    const uint8_t *line = (const uint8_t *)input.text, *origin = (const uint8_t *)input.origin;
+    memset(text, '?', sizeof text);
+    *len = 7;
+    uint32_t answer = input.type == 0
+                          ? dnw_record_parse(line, strlen(input.text), origin, input.origin_len, text, size, len)
+                          : dnw_data_parse(input.type, line, strlen(input.text), origin, input.origin_len, text, size, len);
+    if (answer != DNW_DONE)
+        EXPECT(text[0] == '?' && *len == 7);
+    else
+        EXPECT(text[*len] == '?');
+    return answer;
+}
+
+static bool gives(struct input input, const char *wanted, size_t wanted_len)
+{
+    size_t len;
+    if (wanted_len > 0)
+        EXPECT(parse(input, wanted_len - 1, &len) == DNW_NO_ROOM);
+    EXPECT(parse(input, wanted_len, &len) == DNW_DONE);
+    return len == wanted_len && memcmp(text, wanted, len) == 0;
+}
+
+static uint32_t fails(struct input input)
+{
+    size_t len;
+    return parse(input, sizeof text - 1, &len);
+}
+
+#define LINE(line) ((struct input){0, line, "", 0})
+#define BELOW(line, origin) ((struct input){0, line, origin, sizeof(origin) - 1})
+#define DATA(type, line) ((struct input){type, line, "", 0})
+#define DATA_BELOW(type, line, origin) ((struct input){type, line, origin, sizeof(origin) - 1})
+#define OCTETS(octets) octets, sizeof(octets) - 1
+#define COM "\007example\003com\000"
+#define NS_OF_COM COM "\000\002\000\001" TTL "\000\020\002ns" COM
+#define A_OF(owner, class, ttl) owner "\000\001\000" class ttl "\000\004\300\000\002\001"
+
+/* What is printed above is the record again, with whole names. */
+static void parses_what_is_printed(void)
+{
+    EXPECT(gives(LINE("example.com. 172800 IN NS ns.example.com."), OCTETS(NS_OF_COM)));
+    EXPECT(gives(LINE("ns.example.com. 172800 IN A 192.0.2.1"), OCTETS(A_OF("\002ns" COM, "\001", TTL))));
+    EXPECT(gives(LINE(". 16809984 CLASS1232 OPT \\# 6 000A0002ABCD"), OCTETS(OPT)));
+    EXPECT(gives(LINE(". 0 IN MX \\# 1 05"), OCTETS(CUT_MX)));
+    EXPECT(gives(LINE("\\.. 10 CH TXT \"a\\\"b\" \"c d\""), OCTETS(TXT)));
+}
+
+static void parses_records(void)
+{
+    EXPECT(gives(BELOW("@ 172800 NS ns", COM), OCTETS(NS_OF_COM)));
+    EXPECT(gives(BELOW("@\tin 2d ns \t ns.example.com.\r\n", COM), OCTETS(NS_OF_COM)));
+    EXPECT(gives(BELOW("a 1h1s HS a 192.0.2.1", COM), OCTETS(A_OF("\001a" COM, "\004", "\000\000\016\021"))));
+    EXPECT(gives(BELOW("a 0 CLASS5 TYPE1 \\# 4 C0 000201", "\000"), OCTETS(A_OF("\001a\000", "\005", "\000\000\000\000"))));
+    EXPECT(gives(LINE("\\0650. 4294967295 TYPE65280 \\# 0"), OCTETS("\002A0\000\377\000\000\001\377\377\377\377\000\000")));
+    /* what a server is asked to add for any class */
+    EXPECT(gives(LINE(". 0 ANY ANY \\# 0"), OCTETS("\000\000\377\000\377\000\000\000\000\000\000")));
+}
+
+static void refuses_records(void)
+{
+    EXPECT(fails(LINE("")) == DNW_BAD_TEXT);
+    EXPECT(fails(LINE(" a. 300 IN A 192.0.2.1")) == DNW_BAD_TEXT);
+    EXPECT(fails(LINE("a 300 IN A 192.0.2.1")) == DNW_BAD_TEXT);
+    EXPECT(fails(LINE("@ 300 IN A 192.0.2.1")) == DNW_BAD_TEXT);
+    EXPECT(fails(LINE("a..b. 300 IN A 192.0.2.1")) == DNW_BAD_TEXT);
+    EXPECT(fails(LINE("a.")) == DNW_BAD_TIME);
+    EXPECT(fails(LINE("a. IN A 192.0.2.1")) == DNW_BAD_TIME);
+    EXPECT(fails(LINE("a. A 192.0.2.1")) == DNW_BAD_TIME);
+    EXPECT(fails(LINE("a. 4294967296 IN A 192.0.2.1")) == DNW_BAD_TIME);
+    EXPECT(fails(LINE("a. IN IN 300 A 192.0.2.1")) == DNW_BAD_TIME);
+    EXPECT(fails(LINE("a. 300")) == DNW_UNKNOWN_TEXT);
+    EXPECT(fails(LINE("a. 300 IN")) == DNW_UNKNOWN_TEXT);
+    EXPECT(fails(LINE("a. 300 IN B 192.0.2.1")) == DNW_UNKNOWN_TEXT);
+    EXPECT(fails(LINE("a. IN 300 IN A 192.0.2.1")) == DNW_UNKNOWN_TEXT);
+    EXPECT(fails(LINE("a. 300 IN A")) == DNW_BAD_DATA);
+    EXPECT(fails(LINE("a. 300 IN A 192.0.2.256")) == DNW_BAD_DATA);
+    EXPECT(fails(LINE("a. 300 IN A 192.0.2.1 0")) == DNW_BAD_DATA);
+    EXPECT(fails(LINE("a. 300 IN NS ns")) == DNW_BAD_DATA);
+    EXPECT(fails(LINE("a. 300 IN A 192.0.2.1\377")) == DNW_NOT_UTF8);
+    EXPECT(fails(BELOW("a 300 IN A 192.0.2.1", "\001")) == DNW_MESSAGE_CUT);
+    EXPECT(fails(BELOW("a 300 IN A 192.0.2.1", "\300\000")) == DNW_POINTER_NOT_BACK);
+    EXPECT(fails(BELOW("\377", "\000\000")) == DNW_BYTES_LEFT);
+}
+
+static void parses_data(void)
+{
+    EXPECT(gives(DATA(DNW_TYPE_A, "192.0.2.1"), OCTETS("\300\000\002\001")));
+    EXPECT(gives(DATA(DNW_TYPE_AAAA, " 2001:db8::1 "), OCTETS("\040\001\015\270\0\0\0\0\0\0\0\0\0\0\0\001")));
+    EXPECT(gives(DATA_BELOW(DNW_TYPE_MX, "10 mail", COM), OCTETS("\000\012\004mail" COM)));
+    EXPECT(gives(DATA_BELOW(DNW_TYPE_CNAME, "@", COM), OCTETS(COM)));
+    EXPECT(gives(DATA(DNW_TYPE_TXT, "a \"b c\" \\100"), OCTETS("\001a\003b c\001d")));
+    EXPECT(gives(DATA(DNW_TYPE_MX, "\\# 1 05"), OCTETS("\005")));
+    EXPECT(gives(DATA(65280, "\\# 0"), OCTETS("")));
+}
+
+static void refuses_data(void)
+{
+    EXPECT(fails(DATA(DNW_TYPE_A, "")) == DNW_BAD_DATA);
+    EXPECT(fails(DATA(DNW_TYPE_A, "192.0.2")) == DNW_BAD_DATA);
+    EXPECT(fails(DATA(DNW_TYPE_MX, "65536 .")) == DNW_BAD_DATA);
+    EXPECT(fails(DATA(DNW_TYPE_CNAME, "a")) == DNW_BAD_DATA);
+    EXPECT(fails(DATA(65280, "00")) == DNW_BAD_DATA);
+    EXPECT(fails(DATA(65280, "\\# 2 00")) == DNW_BAD_DATA);
+    EXPECT(fails(DATA(DNW_TYPE_TXT, "\303(")) == DNW_NOT_UTF8);
+    EXPECT(fails(DATA_BELOW(DNW_TYPE_A, "192.0.2.1", "\100")) == DNW_RESERVED_OCTET);
+    EXPECT(fails(DATA_BELOW(DNW_TYPE_A, "\377", "\000.")) == DNW_BYTES_LEFT);
+}
+
+/* Data have at most 65535 octets. */
+static void refuses_long_data(void)
+{
+    static uint8_t digits[2 * 65536], data[65536];
+    size_t len = 7;
+    memset(digits, 'A', sizeof digits);
+    memcpy(digits, "0 0 0 ", 6);
+    memset(data, '?', sizeof data);
+    EXPECT(dnw_data_parse(DNW_TYPE_TLSA, digits, 6 + 2 * 65533, BYTES(""), data, sizeof data, &len) == DNW_BAD_DATA);
+    EXPECT(data[0] == '?' && len == 7);
+    EXPECT(dnw_data_parse(DNW_TYPE_TLSA, digits, 6 + 2 * 65532, BYTES(""), data, 65534, &len) == DNW_NO_ROOM);
+    EXPECT(dnw_data_parse(DNW_TYPE_TLSA, digits, 6 + 2 * 65532, BYTES(""), data, sizeof data, &len) == DNW_DONE);
+    EXPECT(len == 65535 && data[2] == 0 && data[3] == 0xAA && data[65534] == 0xAA && data[65535] == '?');
+}
+
 int main(void)
 {
     prints_records();
+    parses_what_is_printed();
+    parses_records();
+    refuses_records();
+    parses_data();
+    refuses_data();
+    refuses_long_data();
     return 0;
 }

@@ -1,6 +1,6 @@
 /* Prints the record at each of the first offsets of the input, and the input as the data of a type, and compares the line with a
-   model: what RFC 1035, section 5.1, and the RFC of each type say, in plain C. Each line is put into a buffer of just its size, and
-   refused by one that is shorter by a byte. */
+   model: what RFC 1035, section 5.1, and the RFC of each type say, in plain C. Each line is put into a buffer of just its size,
+   and refused by one that is shorter by a byte; and it is parsed as the record. */
 #include "harness.h"
 
 enum { OFFSETS = 48, MOST = 32 * 1024 };
@@ -245,6 +245,15 @@ static size_t model_line(const uint8_t *message, const struct model_name *owner,
 
 static const struct dnw_printed_record none = {7, 7};
 
+/* A line gives the record that it was printed from, without compression. */
+static void parses_back(const uint8_t *text, size_t len)
+{
+    static uint8_t record[MOST];
+    size_t record_len;
+    CHECK(dnw_record_parse(text, len, text, 0, record, MOST, &record_len) == DNW_DONE);
+    CHECK(record_len == octets.len && memcmp(record, octets.bytes, record_len) == 0);
+}
+
 static void prints(const uint8_t *message, size_t len, size_t start)
 {
     struct model_name owner;
@@ -261,6 +270,7 @@ static void prints(const uint8_t *message, size_t len, size_t start)
     CHECK(printed.end == record.end && printed.len >= certain && memcmp(text, line.bytes, certain) == 0);
     CHECK(is_open(record.record_type) || printed.len == line.len);
     CHECK(holds(text, MOST, text, printed.len));
+    parses_back(text, printed.len);
     size_t size = printed.len;
     printed = none;
     text = clear(&lines, size - 1);

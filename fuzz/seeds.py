@@ -74,6 +74,10 @@ def inputs(words):
         yield "sections", b"\xff" + bytes(6) + b"\0\1" + bytes(4) + record
         yield "sections", b"\xff" + struct.pack(">H", code) + whole[start:]
         yield "printing", struct.pack(">H", code) + whole[start:]
+    elif kind == "data-parse":
+        text = " ".join(rest[1:]).encode()
+        yield "parsing", b"\0" + struct.pack(">H", int(rest[0])) + text
+        yield "parsing", b"\3\1a\0" + struct.pack(">H", int(rest[0])) + b"@ 1h CH TYPE" + rest[0].encode() + b" " + text
     elif kind in ("text", "print"):
         yield "texts", octets(rest[-1])
     elif kind in ("encode", "script"):
@@ -84,7 +88,9 @@ def inputs(words):
             yield "records", bytes(12) + b"".join(records(names))
             yield "printing", b"".join(records(names))
             counts = struct.pack(">HHHH", 1, 0, 0, len(names))
-            yield "sections", b"\xff" + bytes(4) + counts + names[0] + b"\0\1\0\1" + b"".join(records(names))
+            whole = bytes(4) + counts + names[0] + b"\0\1\0\1" + b"".join(records(names))
+            yield "sections", b"\xff" + whole
+            yield "packing", b"\2\0" + whole
             for settings in b"\xff\xff\0\0", b"\0\x60\1\0", b"\xff\xff\0\xff":
                 yield "messages", settings + message(names)
     elif kind == "order":
@@ -108,6 +114,7 @@ def replies():
     for line in (DIFF / "servers" / "replies.txt").read_text(encoding="utf-8").splitlines():
         whole = line.split(" ", 2)[1]
         yield "sections", b"\xff" + octets(whole)
+        yield "packing", b"\0\x80" + octets(whole)
         yield "printing", octets(whole)
 
 

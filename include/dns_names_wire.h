@@ -66,7 +66,8 @@ enum dnw_failure {
     DNW_DUPLICATE_EDNS = 31,   /* a message with more than one OPT record */
     DNW_OWNER_NOT_ROOT = 32,   /* an OPT record that is not owned by the root */
     DNW_CUT_OPTION = 33,       /* an option of an OPT record that is not all there */
-    DNW_BAD_PARAMS = 34        /* service parameters that are not in ascending order */
+    DNW_BAD_PARAMS = 34,       /* service parameters that are not in ascending order */
+    DNW_BAD_DATA = 35          /* a text that is no data of its record type, or that of more than 65535 octets */
 };
 
 /* `len` bytes were put into the buffer, and the name's own octets end at offset `end` of the message. */
@@ -228,6 +229,26 @@ struct dnw_edns {
    not owned by the root; and else with DNW_CUT_OPTION if its data are not options up to their end. */
 uint32_t dnw_edns_read(const uint8_t *message, size_t message_len, size_t max_pointers, struct dnw_edns *edns);
 
+/* `len` octets of a message were put into the buffer. `truncated` is the TC bit of its header. */
+struct dnw_packed {
+    size_t len;
+    bool truncated;
+};
+
+/* Writes a whole message again, with its names compressed, in at most `max_size` octets, and puts it: what a server sends of a
+   response that is longer than the receiver accepts. The copy has the header of the message, with its own counts; and of the
+   questions and the records, in their sections and order, each that has room, as it surely has if there is enough without
+   compression. If an answer or an authority record has no room, TC is set (RFC 2181, section 9). An OPT record is the last
+   record and always there, since its octets are held back. Names in the data of a type of RFC 1035 are compressed too, and
+   others are written whole (RFC 3597, section 4). Octets after the message are ignored.
+
+   It fails as dnw_message_read with DNW_MAX_POINTERS if the message is not whole, and as dnw_edns_read if what it says by EDNS
+   breaks a rule. If the data of a record are no fields of its type, it fails as dnw_field_next does at the first field that is
+   none. It fails with DNW_MESSAGE_TOO_LONG if the header and the OPT record have more than `max_size` octets; with DNW_NO_ROOM if
+   the copy has more than `packed_size`; and with DNW_NO_MEMORY. A buffer of `max_size` octets is always enough. */
+uint32_t dnw_message_pack(const uint8_t *message, size_t message_len, uint16_t max_size, uint8_t *packed, size_t packed_size,
+                          struct dnw_packed *result);
+
 /* Where the next field of a record's data begins in the message, and how many were before it. A caller begins with
    {record.data_offset, 0}, and leaves the rest to dnw_field_next. */
 struct dnw_fields {
@@ -287,6 +308,34 @@ struct dnw_printed_record {
    room of an owner. Else it fails with DNW_NO_ROOM if the text has more than `text_size` octets, or with DNW_NO_MEMORY. */
 uint32_t dnw_record_print(const uint8_t *message, size_t message_len, size_t start, uint8_t *text, size_t text_size,
                           struct dnw_printed_record *printed);
+
+/* Puts the data that a text is, for the record type `record_type`, and their length into `len`. The text is the fields of the
+   type with white space between them, as dnw_record_print puts them, or any data, as `\# 4 0A000001` (RFC 3597, section 5), which
+   is all that a type without fields of its own takes. Names are put whole. One without a dot at its end gets the labels of the
+   name with the wire form `origin`, and `@` is that name; if `origin_len` is 0 there is no origin, and such names are rejected.
+   Parentheses and comments are no part of the text.
+
+   If the origin is no wire form, it fails as dnw_name_compare. Else it fails with DNW_NOT_UTF8; with DNW_BAD_DATA if the text is
+   no data of the type, or has more than 65535 octets of them; with DNW_NO_ROOM if it has more than `data_size`; and with
+   DNW_NO_MEMORY. */
+uint32_t dnw_data_parse(uint16_t record_type, const uint8_t *text, size_t text_len, const uint8_t *origin, size_t origin_len,
+                        uint8_t *data, size_t data_size, size_t *len);
+
+/* Puts the record that a line of a master file is (RFC 1035, section 5.1), and its length into `len`: the owner's wire form, two
+   octets of type, two of class, four of time to live, two of the length of the data, and the data. So it is a DNW_ITEM_RECORD
+   of dnw_message_write, and dnw_record_read reads it at offset 0.
+
+   The line is the owner, the time to live as dnw_ttl_parse takes it, the class, the type and the data as dnw_data_parse takes
+   them, with white space between them. The class may stand before the time to live, or be left out for IN; the owner, the time to
+   live and the type must be there, since nothing is kept of a line before. The owner is completed by the origin as a name of the
+   data is. What dnw_record_print puts of a record is accepted. Parentheses and comments are no part of the line.
+
+   If the origin is no wire form, it fails as dnw_name_compare. Else it fails with DNW_NOT_UTF8; with DNW_BAD_TEXT if the first
+   word is no name, or there is none; with DNW_BAD_TIME if no time to live is there, or none after the class; with
+   DNW_UNKNOWN_TEXT if no type is there; as dnw_data_parse for the data; with DNW_NO_ROOM if the record has more than
+   `record_size` octets; and with DNW_NO_MEMORY. */
+uint32_t dnw_record_parse(const uint8_t *text, size_t text_len, const uint8_t *origin, size_t origin_len, uint8_t *record,
+                          size_t record_size, size_t *len);
 
 /* The kinds of items of a message, and what follows in a list after the octet for the kind. A record is as in a message: the
    owner's wire form, two octets of type, two of class, four of time to live, two of the length of the data, and the data. */

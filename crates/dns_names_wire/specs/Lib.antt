@@ -85,6 +85,7 @@ pub use Rattle.dnw_svcb_text.specs.ParamTexts
 pub use Rattle.dnw_svcb_text.specs.ParamWords
 pub use Rattle.dnw_data_text.specs.DataTexts
 pub use Rattle.dnw_data_text.specs.Generic
+pub use Rattle.dnw_data_text.specs.RecordLines
 pub use Rattle.dnw_data_text.specs.DataTextLaws
 pub use Rattle.dnw_message.specs.Edns
 pub use Rattle.dnw_message.specs.HeaderLaws

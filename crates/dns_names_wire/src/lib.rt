@@ -56,12 +56,13 @@ pub mod canonical {
 /// What follows from the tables of types and classes, for callers' proofs.
 pub mod code_laws;
 
-/// The text of the data of records in master files, by the table of fields and in the form that any data have.
+/// The text of records and their data in master files, by the table of fields and in the form that any data have.
 pub mod data_text {
     pub use dnw_data_text::data_text::{data_text, parse, record_text};
     pub use dnw_data_text::error::{DataTextError, Wanted};
     pub use dnw_data_text::generic::Generic;
     pub use dnw_data_text::laws;
+    pub use dnw_data_text::record_line::{RecordLineError, parse_record};
 }
 
 /// A cursor over the bytes of a message.

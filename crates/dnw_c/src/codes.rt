@@ -12,11 +12,11 @@ ghost use Rattle.dnw_failure.specs.Failures.{NumberOf, number};
 ghost use Rattle.dnw_c.specs.NameCalls.{sign};
 ghost use Rattle.dnw_failure.specs.declared.failure.Failure.TheVariants.{NoRoom, NotOrdered, UnknownText};
 
-use crate::names::put;
 use crate::order::sign_of;
 use dns_names_wire::dns_class::DNSClass;
 use dns_names_wire::record_type::RecordType;
 use dns_names_wire::serial_number::SerialNumber;
+use dnw_failure::buffer::put;
 use dnw_failure::failure::Failure;
 
 /// Puts the text of the type with a code, and its length. It gives the code back.

@@ -9,12 +9,12 @@ ghost use Rattle.dnw_c.specs.MessageItems.{CopiesOf, EmitsItem, FailsToCopyItem,
 ghost use Rattle.dnw_c.specs.declared.messages.Kind.TheVariants.{Bytes, Name, Record, RecordOfName};
 ghost use Rattle.dnw_failure.specs.declared.failure.Failure.TheVariants.{BadItem, MessageTooLong, NoRoom};
 
-use crate::names::put;
 use dns_names_wire::binary::{BinDecodable, BinEncodable};
 use dns_names_wire::decoder::BinDecoder;
 use dns_names_wire::encoder::{BinEncoder, RDataEncoding};
 use dns_names_wire::name_ref::NameRef;
 use dns_names_wire::record::{RecordRef, WireData, WireRecord};
+use dnw_failure::buffer::put;
 use dnw_failure::failure::{Failure, of_proto};
 use std::alloc::Global;
 

@@ -24,6 +24,7 @@ use dns_names_wire::encoder::BinEncoder;
 use dns_names_wire::error::DecodeError;
 use dns_names_wire::name::Name;
 use dns_names_wire::name_ref::NameRef;
+use dnw_failure::buffer::put;
 use dnw_failure::failure::{Failure, of_decode, of_proto, text_of};
 use std::alloc::Global;
 
@@ -355,20 +356,6 @@ fn write_next(decoder: &mut BinDecoder<'_>, encoder: &mut BinEncoder<'_>) -> Res
         },
         Err(error) => Err(of_decode(&error)),
     }
-}
-
-/// Puts bytes at the front of a buffer if they fit.
-pub(crate) fn put(buffer: &mut [u8], bytes: &[u8]) -> Result<usize, Failure>
-    ensures ok { IfOk result (λ len. (len ≡ length bytes.now) × (length bytes.now ≤ length buffer.old)
-        × (buffer.new ≡ put buffer.old bytes.now)) }
-    ensures err { IfErr result (λ failure. (failure ≡ NoRoom) × (length buffer.old < length bytes.now)) }
-    ensures same { OnErr result (buffer.new ≡ buffer.old) }
-{
-    if bytes.len() > buffer.len() {
-        return Err(Failure::NoRoom);
-    }
-    buffer[..bytes.len()].copy_from_slice(bytes);
-    Ok(bytes.len())
 }
 
 /// Puts the wire form of a name, and returns its length.

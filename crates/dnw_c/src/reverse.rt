@@ -7,10 +7,11 @@ ghost use Rattle.dnw_failure.specs.Failures.{NumberOf, number};
 ghost use Rattle.dnw_c.specs.ReverseCalls.{FailsToReadNet, FailsToReverse, IsAddress, IsNoAddress, IsNoReverse, IsReverseOf, PutsNet, PutsReverse, address_octets};
 ghost use Rattle.dnw_failure.specs.declared.failure.Failure.TheVariants.{NoRoom};
 
-use crate::names::{put, put_form};
+use crate::names::put_form;
 use crate::order::name_of;
 use dns_names_wire::name::Name;
 use dns_names_wire::net::IpNet;
+use dnw_failure::buffer::put;
 use dnw_failure::failure::Failure;
 use std::alloc::Global;
 use std::net::{IpAddr, Ipv4Addr, Ipv6Addr};

@@ -7,8 +7,8 @@ ghost use Rattle.dnw_c.specs.NameCalls.{IsFormOf};
 ghost use Rattle.dnw_c.specs.SortKeyCalls.{FailsToKey};
 ghost use Rattle.dnw_failure.specs.declared.failure.Failure.TheVariants.{NoRoom};
 
-use crate::names::put;
 use crate::order::labels_of;
+use dnw_failure::buffer::put;
 use dnw_failure::failure::Failure;
 use dnw_order::sort_key::{self, MAX_SORT_KEY_LENGTH};
 

@@ -7,8 +7,8 @@ ghost use Rattle.dnw_c.specs.TokenCalls.{is_decided, Advances, Decides, FailsToL
 ghost use Rattle.dnw_c.specs.Inside.TokenParts.{FindsIn, settles};
 ghost use Rattle.dnw_failure.specs.declared.failure.Failure.TheVariants.{NoMemory, NoRoom, NotUtf8};
 
-use crate::names::put;
 use dns_names_wire::txt::{Lexer, LexerError, Token};
+use dnw_failure::buffer::put;
 use dnw_failure::failure::Failure;
 use std::alloc::{AllocError, Global};
 

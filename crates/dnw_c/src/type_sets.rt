@@ -8,13 +8,13 @@ ghost use Rattle.dnw_failure.specs.Failures.{NumberOf, number};
 ghost use Rattle.dnw_c.specs.TypeLists.{AreListed, FailsToBitmap, FailsToList, IsBitmap, IsBitmapOf, IsNoBitmap};
 ghost use Rattle.dnw_failure.specs.declared.failure.Failure.TheVariants.{BadBitmap, NoMemory, NoRoom};
 
-use crate::names::put;
 use dns_names_wire::decoder::BinDecoder;
 use dns_names_wire::error::DecodeError;
 use dns_names_wire::record_data::RecordDataDecodable;
 use dns_names_wire::record_type::RecordType;
 use dns_names_wire::record_type_set::RecordTypeSet;
 use dns_names_wire::restrict::Restrict;
+use dnw_failure::buffer::put;
 use dnw_failure::failure::Failure;
 use std::alloc::{AllocError, Global};
 

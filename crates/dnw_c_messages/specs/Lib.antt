@@ -1,3 +1,4 @@
 pub mod EdnsCalls
 pub mod FieldCalls
 pub mod MessageCalls
+pub mod PackCalls

@@ -84,7 +84,7 @@ fn said_by(message: &MessageRef<'_>) -> Result<ReadEdns, Failure>
 }
 
 /// Returns the failure that stands for a rule of EDNS that is broken.
-fn of_edns(error: EdnsError) -> Failure
+pub(crate) fn of_edns(error: EdnsError) -> Failure
     ensures { result ≡ of_edns error }
 {
     match error {

@@ -1,9 +1,9 @@
-//! The functions of the C library that read whole messages. `include/dns_names_wire.h` says what each takes and returns, and
+//! The functions of the C library that read whole messages, and write them again. `include/dns_names_wire.h` says what each takes and returns, and
 //! `tools/c-library` joins them with those of `dnw_c`.
 //!
-//! A slice is passed as a pointer and then a length, and results are put into structs of the caller. Every input is tested,
-//! whatever the caller promises, nothing is kept from one call to the next, and nothing here allocates. Read
-//! `specs/MessageCalls.antt` first: what a call puts of a message.
+//! A slice is passed as a pointer and then a length, and results are put into structs and buffers of the caller. Every input is
+//! tested, whatever the caller promises, nothing is kept from one call to the next, and only what writes a message allocates.
+//! Read `specs/MessageCalls.antt` first: what a call puts of a message.
 #![tactic(auto)]
 
 /// What messages say by EDNS.
@@ -12,3 +12,5 @@ pub mod edns;
 pub mod fields;
 /// Whole messages.
 pub mod message;
+/// Messages, written again.
+pub mod packing;

@@ -1,1 +1,2 @@
 pub mod PrintCalls
+pub mod ParseCalls

@@ -3,10 +3,10 @@
 //!
 //! A slice is passed as a pointer and then a length, and results are put into structs and buffers of the caller. Every input is
 //! tested, whatever the caller promises, and nothing is kept from one call to the next. Read `specs/PrintCalls.antt` first: what
-//! a call puts of a record.
+//! a call puts of a record; and then `specs/ParseCalls.antt`: what it puts of a text.
 #![tactic(auto)]
 
-/// Results that are put into buffers.
-mod buffer;
+/// Records and data that are texts.
+pub mod parsing;
 /// Records as text.
 pub mod printing;

@@ -4,10 +4,10 @@ ghost use Rattle.dnw_failure.specs.Failures.{NumberOf};
 ghost use Rattle.dnw_record.specs.Records.{FailsRecord, RecordAt};
 ghost use Rattle.dnw_c_text.specs.PrintCalls.{FailsToPrintRecord, FailsToPutLine, PutsLine, PutsRecordLine, at_offset};
 
-use crate::buffer::put;
 use dnw_base::decoder::BinDecoder;
 use dnw_data_text::data_text::record_text;
 use dnw_error::error::DecodeError;
+use dnw_failure::buffer::put;
 use dnw_failure::failure::{Failure, of_decode};
 use dnw_record::record::RecordRef;
 use std::alloc::Global;

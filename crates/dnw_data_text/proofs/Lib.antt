@@ -6,3 +6,4 @@ pub mod Rests
 pub mod FieldLists
 pub mod Identifiers
 pub mod FieldsBack
+mod RecordWords

@@ -6,3 +6,4 @@ pub mod Parsing
 pub mod DataTexts
 pub mod Inside
 pub mod DataTextLaws
+pub mod RecordLines

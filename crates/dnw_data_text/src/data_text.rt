@@ -87,21 +87,33 @@ pub fn parse(
     ensures { MatchResult result (λ own. IsTextOf (option_copied origin.entry) (fields_of (type_code record_type)) text.now own.items)
         (FailsText (option_copied origin.entry) (fields_of (type_code record_type)) text.now) }
 {
-    let bytes = text.as_bytes();
-    let start = after_spaces(bytes);
+    parse_bytes(alloc, record_type, text.as_bytes(), origin)
+}
+
+/// Returns the octets of the data that the bytes of a text are.
+pub(crate) fn parse_bytes(
+    alloc: Global,
+    record_type: RecordType,
+    text: &[u8],
+    origin: Option<&Name>,
+) -> Result<Vec<u8>, DataTextError>
+    ensures { MatchResult result (λ own. IsTextOf (option_copied origin.entry) (fields_of (type_code record_type)) text.now own.items)
+        (FailsText (option_copied origin.entry) (fields_of (type_code record_type)) text.now) }
+{
+    let start = after_spaces(text);
     let (word, rest) = split_word(start);
     if word == MARK {
-        return parse_sized(alloc, rest, bytes.len());
+        return parse_sized(alloc, rest, text.len());
     }
     let kinds = fields_of(record_type);
     if !has_own_form(kinds) {
         return Err(DataTextError::Wanted {
             field: 0,
-            offset: bytes.len() - start.len(),
+            offset: text.len() - start.len(),
             wanted: Wanted::Generic,
         });
     }
-    parse_own(alloc, kinds, bytes, origin)
+    parse_own(alloc, kinds, text, origin)
 }
 
 /// Returns the octets of the fields that a text is.

@@ -11,4 +11,5 @@ pub mod laws;
 mod name_reading;
 mod parsing;
 mod printing;
+pub mod record_line;
 mod spelling;

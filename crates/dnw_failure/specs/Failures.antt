@@ -50,6 +50,7 @@ failure_entry why.DuplicateEdns = entry 31 (codes "the message has more than one
 failure_entry why.OwnerNotRoot = entry 32 (codes "the OPT record is not owned by the root")
 failure_entry why.CutOption = entry 33 (codes "an option of the OPT record is cut")
 failure_entry why.BadParams = entry 34 (codes "the service parameters are not in ascending order")
+failure_entry why.BadData = entry 35 (codes "the text is no data of the record type")
 
 abbrev pub number : Failure → ℕ
 number failure = (failure_entry failure).code

@@ -76,6 +76,8 @@ pub enum Failure {
     CutOption,
     /// Service parameters are not in ascending order.
     BadParams,
+    /// A text is no data of its record type, or has too many octets of them.
+    BadData,
 }
 
 /// The table of the failures: each with its number in C and a text about it. The rule that is named gets the rows, after
@@ -117,6 +119,7 @@ macro_rules! failures {
             OwnerNotRoot = 32, "the OPT record is not owned by the root";
             CutOption = 33, "an option of the OPT record is cut";
             BadParams = 34, "the service parameters are not in ascending order";
+            BadData = 35, "the text is no data of the record type";
         }
     };
 }

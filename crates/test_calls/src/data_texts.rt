@@ -2,7 +2,9 @@
 //! digits in upper case, base 64 in one word, and types that have no text of their own here, which are in the form of RFC
 //! 3597, section 5.
 
-use dns_names_wire::data_text::{DataTextError, Generic, Wanted, data_text, parse, record_text};
+use dns_names_wire::data_text::{
+    DataTextError, Generic, RecordLineError, Wanted, data_text, parse, parse_record, record_text,
+};
 use dns_names_wire::decoder::BinDecoder;
 use dns_names_wire::field_text::parse_hexadecimal;
 use dns_names_wire::fields::Kind;
@@ -241,6 +243,52 @@ fn a_wrong_text_has_its_field_and_offset(rt: HostRuntime) {
                 offset: 0,
                 wanted: Wanted::Generic,
             })
+        )
+    );
+}
+
+/// RFC 1035, section 5.1, lets a time to live and a class stand in either order.
+#[test]
+fn a_line_is_parsed_as_a_record(rt: HostRuntime) -> Result<(), Fail> {
+    let alloc = rt.alloc();
+    let origin = Name::from_ascii(alloc, "example.")?;
+    let wanted = b"\x01a\x07example\x00\x00\x01\x00\x03\x00\x00\x0e\x10\x00\x04\xc0\x00\x02\x01";
+    for line in &["a 3600 CH A 192.0.2.1", "a.example. CH 1h A 192.0.2.1"] {
+        let octets = parse_record(alloc, line, Some(&origin))?;
+        assert_eq!(rt; octets.as_slice(), wanted.as_slice());
+    }
+    Ok(())
+}
+
+#[test]
+fn a_line_that_is_no_record_has_its_fault(rt: HostRuntime) {
+    let alloc = rt.alloc();
+    assert!(rt;
+        matches!(
+            parse_record(alloc, " 300 IN A 192.0.2.1", None),
+            Err(RecordLineError::NoOwner)
+        )
+    );
+    assert!(rt;
+        matches!(
+            parse_record(alloc, ". IN A 192.0.2.1", None),
+            Err(RecordLineError::NoTimeToLive)
+        )
+    );
+    assert!(rt;
+        matches!(
+            parse_record(alloc, ". 300 IN B 192.0.2.1", None),
+            Err(RecordLineError::NoType)
+        )
+    );
+    assert!(rt;
+        matches!(
+            parse_record(alloc, ". 300 A 192.0.2.1 x", None),
+            Err(RecordLineError::Data(DataTextError::Wanted {
+                field: 1,
+                offset: 11,
+                wanted: Wanted::End,
+            }))
         )
     );
 }

@@ -3,11 +3,12 @@ ghost use Rattle.std.specs.Prelude.{◌≡◌, ◌<◌, ◌≤◌, length, IfOk,
 ghost use Rattle.dnw_reading.specs.Buffers.{put};
 ghost use Rattle.dnw_failure.specs.declared.failure.Failure.TheVariants.{NoRoom};
 
-use dnw_failure::failure::Failure;
+use crate::failure::Failure;
 
 /// Puts bytes at the front of a buffer if they fit, and returns their number.
-pub(crate) fn put(buffer: &mut [u8], bytes: &[u8]) -> Result<usize, Failure>
-    ensures ok { IfOk result (λ len. (len ≡ length bytes.now) × (buffer.new ≡ put buffer.old bytes.now)) }
+pub fn put(buffer: &mut [u8], bytes: &[u8]) -> Result<usize, Failure>
+    ensures ok { IfOk result (λ len. (len ≡ length bytes.now) × (length bytes.now ≤ length buffer.old)
+        × (buffer.new ≡ put buffer.old bytes.now)) }
     ensures err { IfErr result (λ failure. (failure ≡ NoRoom) × (length buffer.old < length bytes.now)) }
     ensures same { OnErr result (buffer.new ≡ buffer.old) }
 {

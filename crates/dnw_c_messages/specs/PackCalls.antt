@@ -1,0 +1,54 @@
+-- What the function for C puts that writes a message again, and why it puts nothing.
+use Rattle.std.specs.Prelude.{◌≡◌, ◌<◌, ◌⊎◌, ℕ, ◌≤◌, Bool, List, length, take}
+use Rattle.dnw_failure.specs.Failures.{of_decode, of_proto}
+use Rattle.dnw_failure.specs.declared.failure.Failure.{Failure}
+use Rattle.dnw_failure.specs.declared.failure.Failure.TheVariants as why
+use Rattle.dnw_message.specs.Headers.{header_of, header_size}
+use Rattle.dnw_message.specs.Messages.{FailsMessage, MessageAt, MessageValue}
+use Rattle.dnw_message.specs.declared.error.MessageError.{MessageError}
+use Rattle.dnw_message_writer.specs.Copies.{FailsCopy, IsCopied}
+use Rattle.dnw_message_writer.specs.declared.writer.copying.CopyError.{CopyError}
+use Rattle.dnw_message_writer.specs.declared.writer.copying.CopyError.TheVariants.{Data, Edns, Proto}
+use Rattle.dnw_reading.specs.Buffers.{put}
+use Rattle.dnw_c_messages.specs.EdnsCalls.{of_edns}
+use Rattle.dnw_c_messages.specs.MessageCalls.{of_message}
+use Rattle.dnw_c_messages.specs.declared.packing.PackedMessage.{PackedMessage}
+
+-- how many pointers the names of the questions and the owners of the records may follow in all
+abbrev pub most_pointers : ℕ
+most_pointers = 65536
+
+-- the octets begin with this message
+abbrev pub Begins : List ℕ → MessageValue → Type 0
+Begins octets m = (k : ℕ) × MessageAt octets m k × (k ≤ most_pointers)
+
+-- They begin with a message of which this is a copy, in at most so many octets.
+abbrev pub HasCopy : List ℕ → ℕ → List ℕ → Type 0
+HasCopy octets most copy = (m : MessageValue) × Begins octets m × IsCopied m most copy
+
+-- bit TC of the header
+abbrev pub is_cut : List ℕ → Bool
+is_cut message = (header_of (take header_size message)).metadata.truncation
+
+-- The copy is put, and what C learns of it.
+abbrev pub PutsCopy : List ℕ → ℕ → List ℕ → List ℕ → PackedMessage → Type 0
+PutsCopy octets most old new packed =
+    (copy : List ℕ) × HasCopy octets most copy × (new ≡ put old copy) × (packed ≡ record { len = length copy; truncated = is_cut copy })
+
+-- why a message is not copied: a field of the data of a record, EDNS, no room for the header and the OPT record, or memory
+abbrev pub of_copy : CopyError → Failure
+of_copy (Data offset error) = of_decode error.cause
+of_copy (Edns error) = of_edns error
+of_copy (Proto error) = of_proto error
+
+-- The octets begin with no message, or there is no copy of it.
+abbrev pub FailsToMakeCopy : List ℕ → ℕ → Failure → Type 0
+FailsToMakeCopy octets most failure =
+    ((error : MessageError) × FailsMessage octets most_pointers error × (failure ≡ of_message error.kind))
+    ⊎ ((m : MessageValue) × (error : CopyError) × Begins octets m × FailsCopy m most error × (failure ≡ of_copy error))
+
+-- So it is, or the copy is longer than the buffer.
+abbrev pub FailsToPack : List ℕ → ℕ → ℕ → Failure → Type 0
+FailsToPack octets most size failure =
+    FailsToMakeCopy octets most failure
+    ⊎ ((copy : List ℕ) × HasCopy octets most copy × (size < length copy) × (failure ≡ why.NoRoom))

@@ -1,0 +1,102 @@
+//! Messages, written again in fewer octets.
+ghost use Rattle.std.specs.Prelude.{◌≡◌, ◌≢◌, ◌≤◌, length, IfOk, IfErr, OnErr};
+ghost use Rattle.dnw_failure.specs.Failures.{NumberOf};
+ghost use Rattle.dnw_message.specs.Headers.{header_size};
+ghost use Rattle.dnw_c_messages.specs.PackCalls.{FailsToMakeCopy, FailsToPack, HasCopy, PutsCopy, is_cut, of_copy};
+
+use crate::edns::of_edns;
+use crate::message::of_message;
+use dnw_failure::buffer::put;
+use dnw_failure::failure::{Failure, of_decode, of_proto};
+use dnw_message::header::Header;
+use dnw_message::message::MessageRef;
+use dnw_message_writer::writer::{CopyError, copy};
+use std::alloc::Global;
+
+/// A message that was packed: the number of octets that were put, and the bit TC of its header.
+#[repr(C)]
+#[derive(Clone, Copy)]
+pub struct PackedMessage {
+    pub len: usize,
+    pub truncated: bool,
+}
+
+/// Puts a copy of the message at the start of these octets, with compression, in at most `max_size` octets. Without room for an
+/// answer or an authority record, the copy is truncated. An `OPT` record is always there.
+#[unsafe(no_mangle)]
+pub extern "C" fn dnw_message_pack(
+    alloc: Global,
+    message: &[u8],
+    max_size: u16,
+    packed: &mut [u8],
+    found: &mut PackedMessage,
+) -> u32
+    ensures ok { result ≡ 0 → PutsCopy message.now max_size packed.old packed.new found.new }
+    ensures err { result ≢ 0 → NumberOf (FailsToPack message.now max_size (length packed.old)) result }
+    ensures same { result ≢ 0 → (packed.new ≡ packed.old) × (found.new ≡ found.old) }
+{
+    match pack(alloc, message, max_size, packed) {
+        Ok(put) => {
+            *found = put;
+            0
+        }
+        Err(failure) => failure.number(),
+    }
+}
+
+/// Puts a copy of a message.
+fn pack(
+    alloc: Global,
+    octets: &[u8],
+    max_size: u16,
+    packed: &mut [u8],
+) -> Result<PackedMessage, Failure>
+    ensures ok { IfOk result (PutsCopy octets.now max_size packed.old packed.new) }
+    ensures err { IfErr result (FailsToPack octets.now max_size (length packed.old)) }
+    ensures same { OnErr result (packed.new ≡ packed.old) }
+{
+    let copied = match copy_of(alloc, octets, max_size) {
+        Ok(copied) => copied,
+        Err(failure) => return Err(failure),
+    };
+    let len = put(packed, copied.as_slice())?;
+    let truncated = is_cut(copied.as_slice());
+    Ok(PackedMessage { len, truncated })
+}
+
+/// Returns a copy of the message at the start of these octets.
+fn copy_of(alloc: Global, octets: &[u8], max_size: u16) -> Result<Vec<u8>, Failure>
+    ensures ok { IfOk result (λ own. HasCopy octets.now max_size own.items) }
+    ensures long { IfOk result (λ own. header_size ≤ length own.items) }
+    ensures err { IfErr result (FailsToMakeCopy octets.now max_size) }
+{
+    let message = match MessageRef::read(octets) {
+        Ok(message) => message,
+        Err(error) => return Err(of_message(&error.kind)),
+    };
+    let mut buffer = Vec::new(alloc);
+    match copy(alloc, &mut buffer, &message, max_size) {
+        Ok(()) => Ok(buffer),
+        Err(error) => Err(of_copy(&error)),
+    }
+}
+
+/// Returns `true` if the bit TC of a message is set.
+fn is_cut(message: &[u8]) -> bool
+    requires { header_size ≤ length message.now }
+    ensures { result ≡ is_cut message.now }
+{
+    let header = Header::from_octets(message.first_chunk().unwrap());
+    header.metadata.truncation
+}
+
+/// Returns the failure that stands for why a message is not copied.
+fn of_copy(error: &CopyError) -> Failure
+    ensures { result ≡ of_copy error.now }
+{
+    match error {
+        CopyError::Data { offset: _, error } => of_decode(&error.cause),
+        CopyError::Edns(error) => of_edns(*error),
+        CopyError::Proto(error) => of_proto(error),
+    }
+}
