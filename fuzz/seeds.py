@@ -74,6 +74,7 @@ def inputs(words):
         yield "sections", b"\xff" + bytes(6) + b"\0\1" + bytes(4) + record
         yield "sections", b"\xff" + struct.pack(">H", code) + whole[start:]
         yield "printing", struct.pack(">H", code) + whole[start:]
+        yield "packing", b"\2\0" + bytes(6) + b"\0\2" + bytes(4) + record + record
     elif kind == "data-parse":
         text = " ".join(rest[1:]).encode()
         yield "parsing", b"\0" + struct.pack(">H", int(rest[0])) + text
