@@ -20,6 +20,7 @@ www.example.com. 00010001
 from ._codes import OpCode, RecordClass, RecordType, ResponseCode, class_code, class_text, type_code, type_text
 from ._errors import (
     BadBitmap,
+    BadData,
     BadParams,
     BadText,
     BadTime,
@@ -51,7 +52,7 @@ from ._errors import (
     WrongDataLength,
 )
 from ._fields import FieldValue
-from ._messages import Edns, Header, Message, Question
+from ._messages import Edns, Header, Message, Question, make_query, make_response
 from ._names import Name, NameAt, names, read_name
 from ._rdata import (
     A,
@@ -100,6 +101,8 @@ from ._rdata import (
     URI,
     Unknown,
     ZONEMD,
+    data_from_text,
+    data_from_wire,
 )
 from ._records import Record, read_record, records
 from ._reverse import parse_reverse_name, reverse_name
@@ -112,6 +115,7 @@ __all__ = [
     "AAAA",
     "AFSDB",
     "BadBitmap",
+    "BadData",
     "BadParams",
     "BadText",
     "BadTime",
@@ -203,6 +207,10 @@ __all__ = [
     "ZONEMD",
     "class_code",
     "class_text",
+    "data_from_text",
+    "data_from_wire",
+    "make_query",
+    "make_response",
     "names",
     "parse_reverse_name",
     "parse_ttl",

@@ -240,10 +240,20 @@ class BadParams(DnsError):
     number = 34
 
 
-class DataTooLong(DnsError):
-    """Data of a record of more than 65535 octets, or a character string of more than 255."""
+class BadData(DnsError):
+    """A text that is no data of its record type, or that of more than 65535 octets."""
 
-    number = 39
+    number = 35
+
+
+class DataTooLong(DnsError):
+    """Data of a record of more than 65535 octets, or a character string of more than 255, that are to be written. The package finds
+    it itself, so that its number is 0."""
+
+    number = 0
+
+    def __init__(self, reason: str = "the data of a record, or a character string in them, are too long") -> None:
+        super().__init__(reason)
 
 
 # What an item of each section is called, by the section's number in `dns_names_wire.h`.

@@ -101,6 +101,10 @@ class WrittenMessage(ctypes.Structure):
     _fields_ = [("len", c_size_t), ("count", c_size_t)]
 
 
+class Packed(ctypes.Structure):
+    _fields_ = [("len", c_size_t), ("truncated", c_bool)]
+
+
 class PrintedRecord(ctypes.Structure):
     _fields_ = [("len", c_size_t), ("end", c_size_t)]
 
@@ -132,6 +136,9 @@ _FUNCTIONS = {
     "dnw_edns_read": (*_READ, c_size_t, POINTER(Edns)),
     "dnw_field_next": (*_READ, c_uint16, POINTER(Fields), POINTER(Field)),
     "dnw_message_write": (*_READ, c_uint16, c_bool, *_WRITTEN, POINTER(WrittenMessage)),
+    "dnw_message_pack": (*_READ, c_uint16, *_WRITTEN, POINTER(Packed)),
+    "dnw_data_parse": (c_uint16, *_READ, *_READ, *_WRITTEN, POINTER(c_size_t)),
+    "dnw_record_parse": (*_READ, *_READ, *_WRITTEN, POINTER(c_size_t)),
     "dnw_record_print": (*_READ, c_size_t, *_WRITTEN, POINTER(PrintedRecord)),
     "dnw_reverse_name": (*_READ, *_WRITTEN, POINTER(c_size_t)),
     "dnw_reverse_parse": (*_READ, *_WRITTEN, POINTER(Net)),

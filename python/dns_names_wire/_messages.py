@@ -1,24 +1,33 @@
 """Whole messages, which are checked once."""
 
+import secrets
 import struct
-from ctypes import byref
-from dataclasses import dataclass, field
-from typing import Dict, Iterator, Optional, Tuple
+from ctypes import byref, c_char
+from dataclasses import dataclass, field, replace
+from typing import Dict, Iterable, Iterator, Optional, Tuple, Union
 
 from . import _checks
 from ._checks import Bytes
 from ._codes import OpCode, RecordClass, RecordType, ResponseCode
-from ._errors import SECTIONS, DnsError, check, check_item
+from ._errors import SECTIONS, DataTooLong, DnsError, check, check_item
 from ._fields import checked_name, pairs
 from ._library import Edns as ReadEdns
 from ._library import Message as Read
-from ._library import MessageFault, library
-from ._names import Name, NameAt
+from ._library import NO_ROOM, MessageFault, Packed, library, taken
+from ._names import Name, NameAt, wire_of
+from ._rdata import put_pairs
 from ._records import Record, section_records
 
 _HEADER_SIZE = 12
 # The type and the class of a question.
 _CODES = struct.Struct("!HH")
+# An OPT record before its data: the root, the type, the size, the high bits of the response code, the version, the flags, and the
+# number of octets of options.
+_OPT = struct.Struct("!xHHBBHH")
+_DNSSEC_OK = 0x8000
+# The header before the counts, and the counts.
+_HEADER = struct.Struct("!HHHHHH")
+_MOST = 65535
 _MAX_POINTERS = 65536
 _MOST_POINTERS = 2**64 - 1
 
@@ -55,6 +64,22 @@ class Header:
         ]
         return tuple(name for name, is_set in named if is_set)
 
+    def _octets(self, *counts: int) -> bytes:
+        """The octets, with the low four bits of the response code."""
+        flags = (
+            bool(self.is_response) << 15
+            | _checks.number("op_code", self.op_code, 15) << 11
+            | bool(self.authoritative) << 10
+            | bool(self.truncation) << 9
+            | bool(self.recursion_desired) << 8
+            | bool(self.recursion_available) << 7
+            | bool(self.authentic_data) << 5
+            | bool(self.checking_disabled) << 4
+            | self.response_code & 15
+        )
+        return _HEADER.pack(_checks.number("id", self.id, _MOST), flags, *counts)
+
+
 @dataclass(frozen=True)
 class Question:
     """A question (RFC 1035, section 4.1.2): a name, a type and a class. As a text it is these, with spaces between."""
@@ -65,6 +90,14 @@ class Question:
 
     def __str__(self) -> str:
         return f"{self.name} {self.question_class} {self.question_type}"
+
+    def to_wire(self) -> bytes:
+        """The octets, the name not compressed."""
+        wire, _ = wire_of("name", self.name)
+        codes = (_checks.number(what, code, _MOST) for what, code in
+                 [("question_type", self.question_type), ("question_class", self.question_class)])
+        return wire + _CODES.pack(*codes)
+
 
 @dataclass(frozen=True)
 class Edns:
@@ -79,12 +112,23 @@ class Edns:
     dnssec_ok: bool = False
     options: Tuple[Tuple[int, bytes], ...] = ()
 
+    def _record(self, code: int) -> Record:
+        """The OPT record (RFC 6891, section 6.1.2), with the high bits of a response code."""
+        options = put_pairs("options", self.options)
+        if len(options) > _MOST:
+            raise DataTooLong()
+        payload, version = _checks.number("max_payload", self.max_payload, _MOST), _checks.number("version", self.version, 255)
+        flags = _DNSSEC_OK if self.dnssec_ok else 0
+        return Record._made(_OPT.pack(RecordType.OPT, payload, code >> 4, version, flags, len(options)) + options, 1)
+
+
 @dataclass(frozen=True)
 class Message:
     """A message that was checked as a whole (RFC 1035, section 4). `Message.from_wire` reads it.
 
     The data of its records are not looked into; `Record.fields` does. Octets after the message are its `trailing` ones. Two
-    messages are equal if all their octets are.
+    messages are equal if all their octets are. `Message.build`, `Message.query` and `Message.reply` make one, whose `wire` is not
+    compressed; `to_wire` writes it, or any other, compressed and within a size.
 
     >>> message = Message.from_wire(bytes.fromhex("123484000001000100000000 016200 0001 0001 c00c 0001 0001 0000003c 0004 c0000201"))
     >>> message.id, message.flags
@@ -141,6 +185,139 @@ class Message:
             _max_pointers=most,
         )
 
+    @classmethod
+    def build(
+        cls,
+        header: Header = Header(),
+        questions: Iterable[Question] = (),
+        answers: Iterable[Record] = (),
+        authorities: Iterable[Record] = (),
+        additionals: Iterable[Record] = (),
+        edns: Optional[Edns] = None,
+    ) -> "Message":
+        """A message of these. What is said by EDNS is written as the last of the additional records. A response code above 15 is
+        written by EDNS too, so that the message then has an OPT record in any case (RFC 6891, section 6.1.3).
+
+        Raises `ValueError` if a section has more than 65535 items or a number is out of bounds, and `DataTooLong` if the options
+        have more than 65535 octets.
+
+        >>> from dns_names_wire import Header, MX, Name, Record
+        >>> record = Record(Name("a."), 60, MX(preference=10, exchange=Name("mail.a.")))
+        >>> Message.build(Header(id=7, is_response=True), answers=[record]).to_wire().hex()
+        '000780000000000100000000016100000f00010000003c0009000a046d61696cc00c'
+        """
+        code = _checks.number("response_code", header.response_code, 4095)
+        if edns is None and code > 15:
+            edns = Edns()
+        more = () if edns is None else (edns._record(code),)
+        asked, sections = tuple(questions), (tuple(answers), tuple(authorities), (*additionals, *more))
+        counts = [_checks.number(f"the number of {what}", len(part), _MOST) for what, part in zip(_PARTS, (asked, *sections))]
+        octets = [header._octets(*counts)]
+        octets += [question.to_wire() for question in asked]
+        octets += [record.to_wire() for section in sections for record in section]
+        low = replace(header, response_code=ResponseCode.of(code & 15))
+        return cls(low, asked, *sections, wire=b"".join(octets), trailing=b"", _max_pointers=_MAX_POINTERS)
+
+    @classmethod
+    def query(
+        cls,
+        name: Name,
+        record_type: int,
+        record_class: int = RecordClass.IN,
+        *,
+        id: Optional[int] = None,
+        recursion_desired: bool = True,
+        edns: Optional[Edns] = None,
+    ) -> "Message":
+        """A query for records of a name. Without an `id` it gets one by chance (RFC 5452, section 9.2).
+
+        >>> Message.query(Name("a."), RecordType.NS, id=7).to_wire().hex()
+        '00070100000100000000000001610000020001'
+        """
+        number = secrets.randbelow(_MOST + 1) if id is None else id
+        codes = _checks.number("record_type", record_type, _MOST), _checks.number("record_class", record_class, _MOST)
+        question = Question(name, RecordType.of(codes[0]), RecordClass.of(codes[1]))
+        return cls.build(Header(id=number, recursion_desired=recursion_desired), [question], edns=edns)
+
+    def reply(
+        self,
+        answers: Iterable[Record] = (),
+        authorities: Iterable[Record] = (),
+        additionals: Iterable[Record] = (),
+        *,
+        authoritative: bool = False,
+        recursion_available: bool = False,
+        response_code: Optional[int] = None,
+        edns: Optional[Edns] = None,
+    ) -> "Message":
+        """A reply to this request, with what it says: the id, the operation, RD, CD and the questions (RFC 1035, section 4.1.1; RFC
+        4035, section 3.2.2), and with EDNS if it has that (RFC 6891, section 6.1.1): `edns`, or DO as there, version 0, and 1232
+        octets as the largest message that is accepted.
+
+        The response code is NOERROR if none is given; but FORMERR if what the request says by EDNS breaks a rule, and BADVERS if it
+        is of a later version (RFC 6891, sections 6.1.1 and 6.1.3).
+
+        >>> Message.query(Name("a."), RecordType.NS, id=7).reply(response_code=ResponseCode.NXDOMAIN)
+        <Message 7 QR RD [1, 0, 0, 0]>
+        """
+        try:
+            asked, code = self.edns, ResponseCode.NOERROR
+        except DnsError:
+            asked, code = None, ResponseCode.FORMERR
+        if asked is not None and asked.version > 0:
+            code = ResponseCode.BADVERS
+        header = Header(
+            id=self.header.id,
+            is_response=True,
+            op_code=self.header.op_code,
+            authoritative=authoritative,
+            recursion_desired=self.header.recursion_desired,
+            recursion_available=recursion_available,
+            checking_disabled=self.header.checking_disabled,
+            response_code=code if response_code is None else ResponseCode.of(response_code),
+        )
+        own = None if asked is None else edns or Edns(dnssec_ok=asked.dnssec_ok)
+        return Message.build(header, self.questions, answers, authorities, additionals, own)
+
+    def is_reply_to(self, request: "Message") -> bool:
+        """Whether this is a response with the id, the operation and the questions of a request (RFC 5452, section 9.1).
+
+        >>> request = Message.query(Name("a."), RecordType.NS)
+        >>> request.reply().is_reply_to(request), request.is_reply_to(request)
+        (True, False)
+        """
+        own, asked = self.header, request.header
+        same = (own.id, own.op_code, self.questions) == (asked.id, asked.op_code, request.questions)
+        return own.is_response and same
+
+    def to_wire(self, max_size: int = 512) -> bytes:
+        """The message with its names compressed, in at most `max_size` octets: 512 over UDP without EDNS, what the requester accepts
+        with it, and 65535 over TCP. Of the questions and records each is written that has room; if an answer or an authority has
+        none, TC is set (RFC 2181, section 9). An OPT record is always there, and the last.
+
+        Raises as `edns`, as `Record.fields` if the data of a record are no fields of its type, and `MessageTooLong` if the header
+        and the OPT record have more than `max_size` octets.
+
+        >>> record = Record.from_text("a. 60 IN TXT " + " ".join(["abcdefgh"] * 100))
+        >>> reply = Message.query(Name("a."), RecordType.TXT, id=7).reply([record])
+        >>> Message.from_wire(reply.to_wire()), Message.from_wire(reply.to_wire(65535))
+        (<Message 7 QR TC RD [1, 0, 0, 0]>, <Message 7 QR RD [1, 1, 0, 0]>)
+        """
+        most, wire, packed = _checks.number("max_size", max_size, _MOST), self.wire, Packed()
+        # A message without compression is not longer when it is packed.
+        size = min(len(wire), most)
+        while True:
+            room = (c_char * max(size, 1))()
+            number = library.dnw_message_pack(wire, len(wire), most, room, size, byref(packed))
+            if number != NO_ROOM or size == most:
+                check(number)
+                return taken(room, packed.len)
+            size = most
+
+    def to_text(self) -> str:
+        """The lines that `dig` prints, as `str` gives them."""
+        return str(self)
+
     @property
     def id(self) -> int:
         """The number by which a requester knows the response to its request."""
@@ -180,6 +357,42 @@ class Message:
     def __repr__(self) -> str:
         counts = [len(part) for part in (self.questions, self.answers, self.authorities, self.additionals)]
         return f"<Message {self.id} {' '.join(self.flags)} {counts}>"
+
+
+# What the items of each part of a message are called, for errors.
+_PARTS = ("questions", "answers", "authorities", "additionals")
+
+
+def make_query(
+    name: Union[Name, str],
+    record_type: Union[int, str],
+    record_class: Union[int, str] = RecordClass.IN,
+    *,
+    want_dnssec: bool = False,
+    payload: Optional[int] = None,
+    id: Optional[int] = None,
+) -> Message:
+    """`Message.query`, with texts as well. A `payload`, or `want_dnssec`, which sets DO, makes it say so by EDNS.
+
+    >>> print(make_query("www.example.", "AAAA", payload=1232).questions[0])
+    www.example. IN AAAA
+    """
+    own = Name(name) if isinstance(name, str) else name
+    kind = RecordType.from_text(record_type) if isinstance(record_type, str) else record_type
+    of_class = RecordClass.from_text(record_class) if isinstance(record_class, str) else record_class
+    edns = None
+    if want_dnssec or payload is not None:
+        edns = Edns(max_payload=Edns.max_payload if payload is None else payload, dnssec_ok=want_dnssec)
+    return Message.query(own, kind, of_class, id=id, edns=edns)
+
+
+def make_response(query: Message, *, recursion_available: bool = False) -> Message:
+    """`query.reply()`, without records yet.
+
+    >>> make_response(make_query("a.", "NS", id=7))
+    <Message 7 QR RD [1, 0, 0, 0]>
+    """
+    return query.reply(recursion_available=recursion_available)
 
 
 def _lines(message: Message) -> Iterator[str]:

@@ -2,7 +2,7 @@
 
 import ctypes
 from ctypes import byref, c_size_t
-from typing import Any, Callable, Iterable, Iterator, NamedTuple, Tuple
+from typing import Any, Callable, Iterable, Iterator, NamedTuple, Optional, Tuple
 
 from . import _checks
 from ._checks import Bytes
@@ -69,6 +69,22 @@ class Name:
         if end != len(whole):
             check(BytesLeft.number, end)
         return cls._of(name._wire, bool(is_fqdn))
+
+    @classmethod
+    def from_text(cls, text: str, origin: Optional["Name"] = None) -> "Name":
+        """The name with a text, as `Name(text)`; with an origin, it completes a name without a dot at its end, and is `@`.
+
+        >>> Name.from_text("www", Name("example."))
+        Name('www.example.')
+        """
+        if origin is None:
+            return cls(text)
+        name = origin if text == "@" else cls(text)
+        return name if name._is_fqdn else name.append(origin)
+
+    def to_text(self) -> str:
+        """The text, as `str` gives it."""
+        return str(self)
 
     @classmethod
     def from_labels(cls, labels: Iterable[Bytes]) -> "Name":

@@ -1,14 +1,71 @@
 """The data of records, by type: a frozen dataclass for each."""
 
+from ctypes import byref, c_char, c_size_t
 from dataclasses import dataclass
 from ipaddress import IPv4Address, IPv6Address
-from typing import Any, Callable, ClassVar, Dict, Tuple, Type
+from typing import Any, Callable, ClassVar, Dict, Optional, Tuple, Type, TypeVar
 
 from . import _checks
+from ._checks import Bytes
 from ._codes import RecordType
-from ._errors import DataTooLong, error_text
+from ._errors import DataTooLong, check
+from ._fields import fields, plain_values
+from ._library import FORM_SIZE, NO_ROOM, library, taken
 from ._names import Name, wire_of
 from ._types import TypeSet
+
+_Own = TypeVar("_Own", bound="Data")
+
+# The octets of the longest record, and for how many there is room at first.
+_MOST = FORM_SIZE + 10 + 65535
+_USUAL_SIZE = 512
+
+
+def parsed(parse: Callable[..., int], text: str, origin: Optional[Name]) -> bytes:
+    """The octets that a function of the library puts for a text and an origin."""
+    encoded, wire, size, length = _checks.text("text", text), b"", _USUAL_SIZE, c_size_t()
+    if origin is not None:
+        wire, _ = wire_of("origin", origin)
+    while True:
+        room = (c_char * size)()
+        number = parse(encoded, len(encoded), wire, len(wire), room, size, byref(length))
+        if number != NO_ROOM or size == _MOST:
+            check(number)
+            return taken(room, length.value)
+        size = _MOST
+
+
+def data_from_wire(record_type: int, octets: Bytes) -> "Data":
+    """The data of a type that octets are, in which no name is compressed: the class of the type, or `Unknown`. Raises as
+    `Record.fields`.
+
+    >>> data_from_wire(15, bytes.fromhex("000a016100"))
+    MX(preference=10, exchange=Name('a.'))
+    """
+    code, whole = _checks.number("record_type", record_type, 65535), _checks.octets("octets", octets)
+    return data_in(whole, 0, len(whole), code, {})
+
+
+def data_in(message: bytes, start: int, end: int, record_type: int, names: Dict[int, Any]) -> "Data":
+    """The data of a type from an offset of a message to another, and the names that were read there before."""
+    kind = CLASSES.get(record_type)
+    if kind is None:
+        return Unknown(RecordType.of(record_type), message[start:end])
+    values: Any = plain_values(message, start, end, kind._kinds, names)
+    return kind(*(fields(message, start, end, record_type) if values is None else values))
+
+
+def data_from_text(record_type: int, text: str, origin: Optional[Name] = None) -> "Data":
+    """The data of a type that have a text in master files. An origin completes names without a dot at their end.
+
+    Raises `BadData` if the text is no data of the type.
+
+    >>> data_from_text(15, "10 mail", Name("example."))
+    MX(preference=10, exchange=Name('mail.example.'))
+    """
+    code = _checks.number("record_type", record_type, 65535)
+    octets = parsed(lambda *arguments: int(library.dnw_data_parse(code, *arguments)), text, origin)
+    return data_from_wire(code, octets)
 
 
 class Data:
@@ -34,7 +91,28 @@ class Data:
     def to_wire(self) -> bytes:
         """The octets, names not compressed. Raises `DataTooLong` if a text has more than 255 octets, and `ValueError` if a number
         is out of bounds."""
-        return b"".join(_PUT[kind](name, getattr(self, name)) for name, kind in zip(self.__dataclass_fields__, self._kinds))
+        return b"".join([_PUT[kind](name, getattr(self, name)) for name, kind in zip(self.__dataclass_fields__, self._kinds)])
+
+    @classmethod
+    def from_wire(cls: Type[_Own], octets: Bytes) -> _Own:
+        """The data that octets are, in which no name is compressed. Raises as `Record.fields`."""
+        return cls._own(data_from_wire(cls._code, octets))
+
+    @classmethod
+    def from_text(cls: Type[_Own], text: str, origin: Optional[Name] = None) -> _Own:
+        """The data that have a text in master files. An origin completes names without a dot at their end. Raises `BadData`.
+
+        >>> from dns_names_wire import MX, Name
+        >>> MX.from_text("10 a", origin=Name("b."))
+        MX(preference=10, exchange=Name('a.b.'))
+        """
+        return cls._own(data_from_text(cls._code, text, origin))
+
+    @classmethod
+    def _own(cls: Type[_Own], data: "Data") -> _Own:
+        if not isinstance(data, cls):
+            raise _checks.wrong_type("data", f"{cls.__name__} is", data)
+        return data
 
 
 def _number(octets: int) -> Callable[[str, Any], bytes]:
@@ -49,7 +127,7 @@ def _octets(name: str, value: Any) -> bytes:
 def _string(name: str, value: Any) -> bytes:
     octets = _checks.octets(name, value)
     if len(octets) > 255:
-        raise DataTooLong(error_text(DataTooLong.number))
+        raise DataTooLong()
     return bytes([len(octets)]) + octets
 
 

@@ -2,17 +2,17 @@
 
 import struct
 from ctypes import byref, c_char, c_size_t
-from typing import Any, Dict, Iterator, Optional, Tuple
+from typing import Dict, Iterator, Optional, Tuple
 
 from . import _checks
 from ._checks import Bytes
 from ._codes import RecordClass, RecordType
-from ._errors import DataTooLong, MessageCut, check, error_text
-from ._fields import FieldValue, checked_name, fields, plain_values
+from ._errors import DataTooLong, MessageCut, check
+from ._fields import FieldValue, checked_name, fields
 from ._library import FORM_SIZE, NO_ROOM, Form, PrintedRecord, library, taken
 from ._library import Record as Read
 from ._names import Name, NameAt, placed, wire_of
-from ._rdata import CLASSES, Data, Unknown
+from ._rdata import CLASSES, Data, data_in, parsed
 
 # What is between the owner and the data: the type, the class, the time to live and the number of octets of data.
 _FIXED = struct.Struct("!HHIH")
@@ -66,7 +66,7 @@ class Record:
         form, _ = wire_of("owner", owner)
         octets, code = data.to_wire(), data.record_type
         if len(octets) > _MOST:
-            raise DataTooLong(error_text(DataTooLong.number))
+            raise DataTooLong()
         codes = _checks.number("record_class", record_class, _MOST), _checks.number("ttl", ttl, 2**32 - 1)
         wire = form + _FIXED.pack(code, *codes, len(octets)) + octets
         self._set(wire, 0, len(form), _NO_NAMES)
@@ -83,6 +83,30 @@ class Record:
         record = cls.__new__(cls)
         record._set(message, start, owner_end, names)
         return record
+
+    @classmethod
+    def from_text(cls, text: str, origin: Optional[Name] = None) -> "Record":
+        """The record that a line of a master file is (RFC 1035, section 5.1): the owner, the time to live, the class, the type and
+        the data. The class may stand before the time to live, or be left out for IN. An origin completes names without a dot at
+        their end, and is `@`; without one they are rejected. Parentheses and comments are no part of a line.
+
+        Raises `BadText` if the first word is no name, `BadTime` if no time to live is there, `UnknownText` if no type is there, and
+        `BadData` if the rest is no data of the type.
+
+        >>> print(Record.from_text("www 1h IN CNAME @", origin=Name("example.")))
+        www.example. 3600 IN CNAME example.
+        """
+        wire = parsed(library.dnw_record_parse, text, origin)
+        return cls._made(wire, checked_name(wire, 0, {}).end)
+
+    @classmethod
+    def _made(cls, wire: bytes, owner_end: int) -> "Record":
+        """The record that octets are, no name compressed, where its owner ends at an offset."""
+        return cls._of(wire, 0, owner_end, _NO_NAMES)
+
+    def to_text(self) -> str:
+        """The line of a master file, as `str` gives it."""
+        return str(self)
 
     @property
     def owner(self) -> Name:
@@ -117,15 +141,8 @@ class Record:
         """
         data = self._data
         if data is None:
-            data = self._data = self._read_data()
+            data = self._data = data_in(self._message, self._data_offset, self._end, self._type, self._names)
         return data
-
-    def _read_data(self) -> Data:
-        kind = CLASSES.get(self._type)
-        if kind is None:
-            return Unknown(self.record_type, self.raw_data)
-        values: Any = plain_values(self._message, self._data_offset, self._end, kind._kinds, self._names)
-        return kind(*(self.fields() if values is None else values))
 
     @property
     def raw_data(self) -> bytes:

@@ -14,8 +14,10 @@ pub(crate) const SORT_KEY_SIZE: usize = 504;
 pub(crate) const TEXT_SIZE: usize = 1004;
 /// The bytes of the longest name of a type or a class.
 pub(crate) const CODE_SIZE: usize = 10;
-/// For how many bytes of a record's text there is room at first.
-const USUAL_LINE_SIZE: usize = 512;
+/// For how many bytes of a record or of its text there is room at first.
+const USUAL_SIZE: usize = 512;
+/// The octets of the longest data of a record.
+const DATA_SIZE: usize = 65535;
 /// `DNW_NO_ROOM`
 const NO_ROOM: u32 = 2;
 /// The bytes of the longest text of an error.
@@ -121,6 +123,14 @@ struct WrittenMessage {
     count: usize,
 }
 
+/// `struct dnw_packed`
+#[repr(C)]
+#[derive(Default)]
+struct Packed {
+    len: usize,
+    truncated: bool,
+}
+
 /// `struct dnw_printed_record`
 #[repr(C)]
 #[derive(Default)]
@@ -204,6 +214,14 @@ extern "C" {
         fault: *mut MessageFault,
     ) -> u32;
     fn dnw_edns_read(message: *const u8, message_len: usize, max_pointers: usize, edns: *mut Edns) -> u32;
+    fn dnw_message_pack(
+        message: *const u8,
+        message_len: usize,
+        max_size: u16,
+        packed: *mut u8,
+        packed_size: usize,
+        result: *mut Packed,
+    ) -> u32;
     fn dnw_field_next(
         message: *const u8,
         data_end: usize,
@@ -227,6 +245,25 @@ extern "C" {
         text: *mut u8,
         text_size: usize,
         printed: *mut PrintedRecord,
+    ) -> u32;
+    fn dnw_data_parse(
+        record_type: u16,
+        text: *const u8,
+        text_len: usize,
+        origin: *const u8,
+        origin_len: usize,
+        data: *mut u8,
+        data_size: usize,
+        len: *mut usize,
+    ) -> u32;
+    fn dnw_record_parse(
+        text: *const u8,
+        text_len: usize,
+        origin: *const u8,
+        origin_len: usize,
+        record: *mut u8,
+        record_size: usize,
+        len: *mut usize,
     ) -> u32;
     fn dnw_reverse_name(
         address: *const u8,
@@ -427,7 +464,7 @@ pub(crate) fn write_message(
 /// Replaces `text` by the line of the record at an offset of a message, and returns it.
 pub(crate) fn print_record<'a>(message: &[u8], start: usize, text: &'a mut Vec<u8>) -> Result<&'a str, Error> {
     text.clear();
-    text.reserve(USUAL_LINE_SIZE);
+    text.reserve(USUAL_SIZE);
     loop {
         let (mut printed, room) = (PrintedRecord::default(), text.spare_capacity_mut());
         let (first, size) = (room.as_mut_ptr().cast(), room.len());
@@ -442,6 +479,64 @@ pub(crate) fn print_record<'a>(message: &[u8], start: usize, text: &'a mut Vec<u
         unsafe { text.set_len(printed.len) };
         return Ok(ascii(text));
     }
+}
+
+/// Replaces `packed` by a whole message, compressed and in at most so many octets. Returns whether its TC bit is set.
+pub(crate) fn pack(message: &[u8], max_size: u16, packed: &mut Vec<u8>) -> Result<bool, Error> {
+    packed.clear();
+    // A message without compression is not longer when it is packed.
+    packed.reserve(message.len().min(max_size.into()));
+    loop {
+        let (mut result, room) = (Packed::default(), packed.spare_capacity_mut());
+        let (first, size) = (room.as_mut_ptr().cast(), room.len());
+        // SAFETY: pointers with their lengths, see the module; and the room is not read.
+        let number = unsafe { dnw_message_pack(message.as_ptr(), message.len(), max_size, first, size, &mut result) };
+        if number == NO_ROOM && size < max_size.into() {
+            packed.reserve(max_size.into());
+            continue;
+        }
+        outcome(number, ())?;
+        // SAFETY: so many bytes of the room were written.
+        unsafe { packed.set_len(result.len) };
+        return Ok(result.truncated);
+    }
+}
+
+/// Appends what a call puts into room after the octets, given as a pointer, its size, and a place for how many octets they are.
+/// `most` octets of room are always enough.
+fn append_put(octets: &mut Vec<u8>, most: usize, put: impl Fn(*mut u8, usize, &mut usize) -> u32) -> Result<(), Error> {
+    octets.reserve(USUAL_SIZE);
+    loop {
+        let (mut len, before, room) = (0, octets.len(), octets.spare_capacity_mut());
+        let size = room.len();
+        let number = put(room.as_mut_ptr().cast(), size, &mut len);
+        if number == NO_ROOM && size < most {
+            octets.reserve(most);
+            continue;
+        }
+        outcome(number, ())?;
+        // SAFETY: so many bytes of the room were written.
+        unsafe { octets.set_len(before + len) };
+        return Ok(());
+    }
+}
+
+/// Appends the octets of the data of a type that a text is. An empty origin is none.
+pub(crate) fn parse_data(record_type: u16, text: &str, origin: &[u8], octets: &mut Vec<u8>) -> Result<(), Error> {
+    let (text, text_len, name, name_len) = (text.as_ptr(), text.len(), origin.as_ptr(), origin.len());
+    // SAFETY: pointers with their lengths, see the module; and the room is not read.
+    append_put(octets, DATA_SIZE, |room, size, len| unsafe {
+        dnw_data_parse(record_type, text, text_len, name, name_len, room, size, len)
+    })
+}
+
+/// Appends the octets of the record that a line is. An empty origin is none.
+pub(crate) fn parse_record(line: &str, origin: &[u8], octets: &mut Vec<u8>) -> Result<(), Error> {
+    let (text, text_len, name, name_len) = (line.as_ptr(), line.len(), origin.as_ptr(), origin.len());
+    // SAFETY: pointers with their lengths, see the module; and the room is not read.
+    append_put(octets, FORM_SIZE + 10 + DATA_SIZE, |room, size, len| unsafe {
+        dnw_record_parse(text, text_len, name, name_len, room, size, len)
+    })
 }
 
 /// Puts the wire form of the reverse name of an address of 4 or 16 bytes, and returns its length.

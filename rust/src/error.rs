@@ -220,22 +220,16 @@ pub enum ErrorKind {
     CutOption,
     /// Service parameters that are not in ascending order.
     BadParams,
-    /// A word of a record's text that is not the field that is wanted there.
-    BadField,
-    /// A text of data in no form of any data (`\# 4 0A000001`), for a type that has no other.
-    NoOwnText,
-    /// `\#` without the number of octets and as many octets in hexadecimal after it.
-    BadGeneric,
-    /// A text that goes on after the last field of the data.
-    TextLeft,
-    /// Data of a record of more than 65535 octets, or a character string of more than 255.
+    /// A text that is no data of its record type, or that of more than 65535 octets.
+    BadData,
+    /// Data of a record of more than 65535 octets, or a character string of more than 255, that is to be written.
     DataTooLong,
     /// Another failure, by its number in `dns_names_wire.h`.
     Other(u32),
 }
 
-/// The failures that this crate names, each with its number in `dns_names_wire.h`.
-const NUMBERS: [(u32, ErrorKind); 31] = [
+/// The failures of the C library that this crate names, each with its number in `dns_names_wire.h`.
+const NUMBERS: [(u32, ErrorKind); 27] = [
     (1, ErrorKind::NoMemory),
     (3, ErrorKind::MessageCut),
     (4, ErrorKind::PointerNotBack),
@@ -262,15 +256,11 @@ const NUMBERS: [(u32, ErrorKind); 31] = [
     (32, ErrorKind::OwnerNotRoot),
     (33, ErrorKind::CutOption),
     (34, ErrorKind::BadParams),
-    (35, ErrorKind::BadField),
-    (36, ErrorKind::NoOwnText),
-    (37, ErrorKind::BadGeneric),
-    (38, ErrorKind::TextLeft),
-    (39, ErrorKind::DataTooLong),
+    (35, ErrorKind::BadData),
 ];
 
 impl ErrorKind {
-    /// Returns its number in `dns_names_wire.h`.
+    /// Returns its number in `dns_names_wire.h`, or 0 for `DataTooLong`, which the crate finds itself.
     ///
     /// ```
     /// assert_eq!(dns_names_wire::ErrorKind::NameTooLong.number(), 7);
@@ -414,7 +404,10 @@ impl fmt::Display for Error {
 
 impl fmt::Display for ErrorKind {
     fn fmt(&self, f: &mut fmt::Formatter<'_>) -> fmt::Result {
-        show(self.number(), f)
+        match self {
+            ErrorKind::DataTooLong => f.pad("the data of a record, or a character string in them, are too long"),
+            kind => show(kind.number(), f),
+        }
     }
 }
 

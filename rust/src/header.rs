@@ -184,6 +184,22 @@ impl Default for Header {
 }
 
 impl Header {
+    /// The octets before the counts.
+    pub(crate) fn first_octets(&self) -> [u8; 4] {
+        let [id_high, id_low] = self.id.to_be_bytes();
+        let bit = |is_set: bool, at: u8| u8::from(is_set) << at;
+        let high = bit(self.is_response, 7)
+            | (u8::from(self.op_code) & 15) << 3
+            | bit(self.authoritative, 2)
+            | bit(self.truncation, 1)
+            | bit(self.recursion_desired, 0);
+        let low = bit(self.recursion_available, 7)
+            | bit(self.authentic_data, 5)
+            | bit(self.checking_disabled, 4)
+            | u16::from(self.response_code) as u8 & 15;
+        [id_high, id_low, high, low]
+    }
+
     /// The flags by the names that `dig` shows, in the order of their bits.
     pub(crate) fn flags(&self) -> [(&'static str, bool); 7] {
         [

@@ -25,7 +25,9 @@
 //! | check a whole message, and read its header, its sections and its EDNS | [`Message`] |
 //! | read the records of a message, and their data by type or field by field | [`Record`], [`records()`], [`Record::data`] and [`RData`], [`Record::fields`] |
 //! | show records as lines of master files, and messages as `dig` does | `Display` of [`Record`] and [`Message`] |
-//! | write messages: questions, records and names, with compression | [`MessageWriter`] |
+//! | build queries and replies, section by section, and write them within a size | [`MessageBuilder`] |
+//! | make records of data by type, or parse them from lines of master files | [`RecordBuf`] |
+//! | write any list of names, questions, records and bytes, with compression | [`MessageWriter`] |
 //! | go from addresses to their reverse names, and back | [`Name::from_ip`], [`Name::parse_arpa_name`] |
 //! | name types and classes, read and write bitmaps of types, compare serial numbers | [`RecordType`], [`Class`], [`TypeSet`], [`SerialNumber`] |
 //! | read master files | [`tokens`](tokens()), [`parse_ttl`] |
@@ -53,6 +55,7 @@ use core::net::{IpAddr, Ipv4Addr, Ipv6Addr};
 #[cfg(feature = "std")]
 use std::net::{IpAddr, Ipv4Addr, Ipv6Addr};
 
+mod builder;
 mod codes;
 mod error;
 mod field;
@@ -62,10 +65,12 @@ mod name;
 mod name_ref;
 pub mod rdata;
 mod record;
+mod record_buf;
 mod text;
 mod type_set;
 mod writer;
 
+pub use builder::MessageBuilder;
 pub use codes::{Class, RecordType, SerialNumber};
 pub use error::{Error, ErrorKind, Section, TextFault, TextRule};
 pub use field::{Field, Fields, Pairs, Texts};
@@ -75,6 +80,7 @@ pub use name::{Labels, Name};
 pub use name_ref::{names, NameRef, Names};
 pub use rdata::RData;
 pub use record::{records, Record, Records};
+pub use record_buf::RecordBuf;
 pub use text::{parse_ttl, tokens, Token, Tokens};
 pub use type_set::TypeSet;
 pub use writer::MessageWriter;

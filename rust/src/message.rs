@@ -14,9 +14,9 @@ use core::iter::FusedIterator;
 const MAX_POINTERS: usize = 65536;
 
 /// The octets of a header (RFC 1035, section 4.1.1).
-const HEADER_SIZE: usize = 12;
+pub(crate) const HEADER_SIZE: usize = 12;
 /// Of which the last are the counts.
-const COUNTS_SIZE: usize = 8;
+pub(crate) const COUNTS_SIZE: usize = 8;
 
 /// A message that was checked as a whole (RFC 1035, section 4): its header, its questions and its records are all there. It
 /// borrows the octets that it was read from.
@@ -223,6 +223,46 @@ impl<'a> Message<'a> {
         Ok(self.read_edns()?.map_or(self.read.response_code, |(read, _)| read.response_code).into())
     }
 
+    /// Returns whether the message is a response with the id, the operation and the questions of a request, of which names are
+    /// compared without case (RFC 5452, section 9.1).
+    ///
+    /// ```
+    /// use dns_names_wire::{Message, MessageBuilder, Name, RecordType};
+    ///
+    /// let query = MessageBuilder::query(7, &Name::root(), RecordType::NS).finish(512)?;
+    /// let request = Message::read(&query)?;
+    /// let reply = MessageBuilder::reply_to(&request).finish(512)?;
+    /// assert!(Message::read(&reply)?.is_reply_to(&request) && !request.is_reply_to(&request));
+    /// # Ok::<(), dns_names_wire::Error>(())
+    /// ```
+    pub fn is_reply_to(&self, request: &Message<'_>) -> bool {
+        let (own, asked) = (self.header(), request.header());
+        own.is_response
+            && (own.id, own.op_code) == (asked.id, asked.op_code)
+            && self.questions().eq(request.questions())
+    }
+
+    /// Returns the message written again: compressed, in at most `max_size` octets, with the OPT record last. Of the questions and
+    /// records each is written that has room; if an answer or an authority has none, TC is set (RFC 2181, section 9).
+    ///
+    /// # Errors
+    ///
+    /// As [`edns`](Message::edns); as [`Record::fields`] if the data of a record are no fields of its type; `MessageTooLong` if the
+    /// header and the OPT record have more than `max_size` octets; or `NoMemory`.
+    ///
+    /// ```
+    /// let octets = b"\0\0\x84\0\0\x01\0\x01\0\0\0\0\x01b\0\0\x05\0\x01\x01b\0\0\x05\0\x01\0\0\0\0\0\x05\x01a\x01b\0";
+    /// let message = dns_names_wire::Message::read(octets)?;
+    /// assert!(message.to_wire(512)?.ends_with(b"\xC0\x0C\0\x05\0\x01\0\0\0\0\0\x04\x01a\xC0\x0C"));
+    /// assert_eq!(message.to_wire(19)?[..8], *b"\0\0\x86\0\0\x01\0\0");
+    /// # Ok::<(), dns_names_wire::Error>(())
+    /// ```
+    pub fn to_wire(&self, max_size: u16) -> Result<Vec<u8>, Error> {
+        let mut packed = Vec::new();
+        door::pack(self.octets(), max_size, &mut packed)?;
+        Ok(packed)
+    }
+
     /// Returns the octets of the message, without those after it.
     ///
     /// ```
@@ -393,6 +433,33 @@ pub struct Edns<'a> {
 }
 
 impl<'a> Edns<'a> {
+    /// Returns what a sender says who accepts messages of so many octets: version 0, not DO, and no options.
+    ///
+    /// ```
+    /// use dns_names_wire::Edns;
+    ///
+    /// let mut edns = Edns::new(1232);
+    /// edns.dnssec_ok = true;
+    /// assert_eq!((edns.max_payload, edns.version, edns.options().count()), (1232, 0, 0));
+    /// ```
+    pub fn new(max_payload: u16) -> Self {
+        Edns { max_payload, version: 0, dnssec_ok: false, options: &[] }
+    }
+
+    /// Returns the same with these options, each a code and its octets, in place of others.
+    ///
+    /// ```
+    /// use dns_names_wire::{Edns, Pairs};
+    ///
+    /// let octets = Pairs::to_wire([(3, "")])?;
+    /// let edns = Edns::new(1232).with_options(Pairs::from_wire(&octets)?);
+    /// assert_eq!(edns.options().next(), Some((3, &[][..])));
+    /// # Ok::<(), dns_names_wire::Error>(())
+    /// ```
+    pub fn with_options(self, options: Pairs<'a>) -> Self {
+        Edns { options: options.0, ..self }
+    }
+
     /// Returns the options, each its code and its octets.
     ///
     /// ```

@@ -442,13 +442,16 @@ variants! {
 }
 
 impl<'a> RData<'a> {
-    /// Returns the address of A or AAAA data.
+    /// Returns the address of A or AAAA data. `IpAddr`, `Ipv4Addr` and `Ipv6Addr` have `TryFrom` for the same.
     ///
     /// ```
-    /// use std::net::Ipv4Addr;
+    /// use std::net::{IpAddr, Ipv4Addr, Ipv6Addr};
     ///
     /// let data = dns_names_wire::RData::from(Ipv4Addr::new(192, 0, 2, 1));
     /// assert_eq!(data.ip_addr(), Some(Ipv4Addr::new(192, 0, 2, 1).into()));
+    /// assert_eq!(Ipv4Addr::try_from(data.clone()), Ok(Ipv4Addr::new(192, 0, 2, 1)));
+    /// assert_eq!(IpAddr::try_from(data.clone()), Ok(Ipv4Addr::new(192, 0, 2, 1).into()));
+    /// assert_eq!(Ipv6Addr::try_from(data.clone()), Err(data));
     /// ```
     pub fn ip_addr(&self) -> Option<IpAddr> {
         match self {
@@ -493,6 +496,45 @@ impl From<IpAddr> for RData<'_> {
             IpAddr::V4(address) => RData::A(address),
             IpAddr::V6(address) => RData::AAAA(address),
         }
+    }
+}
+
+/// Data of another type come back as the error.
+impl<'a> TryFrom<RData<'a>> for IpAddr {
+    type Error = RData<'a>;
+
+    fn try_from(data: RData<'a>) -> Result<IpAddr, RData<'a>> {
+        data.ip_addr().ok_or(data)
+    }
+}
+
+/// Data of another type come back as the error.
+impl<'a> TryFrom<RData<'a>> for Ipv4Addr {
+    type Error = RData<'a>;
+
+    fn try_from(data: RData<'a>) -> Result<Ipv4Addr, RData<'a>> {
+        match data {
+            RData::A(address) => Ok(address),
+            other => Err(other),
+        }
+    }
+}
+
+/// Data of another type come back as the error.
+impl<'a> TryFrom<RData<'a>> for Ipv6Addr {
+    type Error = RData<'a>;
+
+    fn try_from(data: RData<'a>) -> Result<Ipv6Addr, RData<'a>> {
+        match data {
+            RData::AAAA(address) => Ok(address),
+            other => Err(other),
+        }
+    }
+}
+
+impl From<CSYNC> for RData<'_> {
+    fn from(data: CSYNC) -> Self {
+        RData::CSYNC(data)
     }
 }
 

@@ -1,0 +1,79 @@
+#!/usr/bin/env python3
+"""Answers queries from a table of records, over UDP and TCP on 127.0.0.1: serve.py PORT FILE
+
+FILE has a record of a zone a line, the SOA record first. Names without a dot at their end are not taken. With port 0, any that is
+free is taken; it is printed. A response that is longer than the requester accepts is cut, with TC (RFC 2181, section 9).
+"""
+
+import socketserver
+import sys
+import threading
+
+from dns_names_wire import DnsError, Message, OpCode, Record, RecordClass, RecordType, ResponseCode
+
+# The octets of a message that goes through most networks in one piece.
+PAYLOAD = 1232
+
+
+def reply_to(table, request):
+    if request.header.op_code != OpCode.QUERY:
+        return request.reply(response_code=ResponseCode.NOTIMP)
+    if len(request.questions) != 1:
+        return request.reply(response_code=ResponseCode.FORMERR)
+    question = request.questions[0]
+    if question.question_class != RecordClass.IN or question.name not in table[0].owner:
+        return request.reply(response_code=ResponseCode.REFUSED)
+    wanted = (question.question_type, RecordType.CNAME)
+    own = [record for record in table if record.owner == question.name]
+    answers = [record for record in own if record.record_type in wanted or RecordType.ANY in wanted]
+    if answers:
+        return request.reply(answers, authoritative=True)
+    # A name exists if it owns records, or one below it does (RFC 8020).
+    exists = any(record.owner in question.name for record in table)
+    code = None if exists else ResponseCode.NXDOMAIN
+    return request.reply(authorities=table[:1], authoritative=True, response_code=code)
+
+
+def respond(table, octets, most):
+    """The octets of the response to those of a request, or nothing if these are no request."""
+    try:
+        request = Message.from_wire(octets)
+    except DnsError:
+        return b""
+    if request.header.is_response:
+        return b""
+    try:
+        asked = request.edns
+    except DnsError:
+        return request.reply().to_wire()
+    if asked is not None and asked.version > 0:
+        return request.reply().to_wire()
+    accepted = 512 if asked is None else min(asked.max_payload, PAYLOAD)
+    return reply_to(table, request).to_wire(most or accepted)
+
+
+class Udp(socketserver.DatagramRequestHandler):
+    def handle(self):
+        self.wfile.write(respond(self.server.table, self.rfile.read(), None))
+
+
+class Tcp(socketserver.StreamRequestHandler):
+    def handle(self):
+        while length := self.rfile.read(2):
+            octets = respond(self.server.table, self.rfile.read(int.from_bytes(length, "big")), 65535)
+            self.wfile.write(len(octets).to_bytes(2, "big") + octets)
+
+
+def main(port, file):
+    with open(file, encoding="utf-8") as lines:
+        table = [Record.from_text(line.rstrip("\n")) for line in lines]
+    udp = socketserver.UDPServer(("127.0.0.1", int(port)), Udp)
+    tcp = socketserver.ThreadingTCPServer(udp.server_address, Tcp)
+    udp.table = tcp.table = table
+    threading.Thread(target=tcp.serve_forever, daemon=True).start()
+    print("serving on port", udp.server_address[1], flush=True)
+    udp.serve_forever()
+
+
+if __name__ == "__main__":
+    main(*sys.argv[1:])

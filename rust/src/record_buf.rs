@@ -1,0 +1,343 @@
+//! Records that own their octets, to be written.
+use crate::codes::{Class, RecordType};
+use crate::door;
+use crate::error::{Error, ErrorKind};
+use crate::name::Name;
+use crate::name_ref::NameRef;
+use crate::rdata::RData;
+use crate::record::Record;
+use alloc::vec::Vec;
+use core::fmt;
+use core::str::FromStr;
+
+/// The offsets of the fields after the owner.
+const CLASS: usize = 2;
+const TTL: usize = 4;
+const LENGTH: usize = 8;
+const FIXED_SIZE: usize = 10;
+
+/// A record that owns its octets, no name compressed: what a [`Record`] is to a message that was read, this is to one that is
+/// written. It is made of data by type, or parsed from a line of a master file.
+///
+/// ```
+/// use dns_names_wire::{rdata::MX, Name, RecordBuf};
+///
+/// let (owner, host): (Name, Name) = ("a.".parse()?, "b.a.".parse()?);
+/// let record = RecordBuf::new(&owner, 60, MX { preference: 10, exchange: (&host).into() })?;
+/// assert_eq!(record.to_string(), "a.\t60\tIN\tMX\t10 b.a.");
+/// assert_eq!(record, "a. 60 IN MX 10 b.a.".parse()?);
+/// assert_eq!(record, RecordBuf::from_text("@ 1m MX 10 b", &owner)?);
+/// # Ok::<(), dns_names_wire::Error>(())
+/// ```
+#[derive(Clone, PartialEq, Eq, Hash)]
+pub struct RecordBuf {
+    octets: Vec<u8>,
+    /// where the owner ends
+    fixed: usize,
+}
+
+impl RecordBuf {
+    /// Returns the record of class IN with these data.
+    ///
+    /// # Errors
+    ///
+    /// `DataTooLong` if the data have more than 65535 octets, or a character string in them more than 255; or `NoMemory`.
+    ///
+    /// ```
+    /// use dns_names_wire::{Name, RecordBuf};
+    ///
+    /// let record = RecordBuf::new(&"a.".parse::<Name>()?, 60, std::net::Ipv4Addr::LOCALHOST)?;
+    /// assert_eq!(record.to_string(), "a.\t60\tIN\tA\t127.0.0.1");
+    /// # Ok::<(), dns_names_wire::Error>(())
+    /// ```
+    pub fn new<'n, 'd>(owner: impl Into<NameRef<'n>>, ttl: u32, data: impl Into<RData<'d>>) -> Result<Self, Error> {
+        let (mut octets, data) = (Vec::new(), data.into());
+        let fixed =
+            put_record(&mut octets, owner.into(), (data.record_type(), Class::IN, ttl), |octets| data.put(octets))?;
+        Ok(RecordBuf { octets, fixed })
+    }
+
+    /// Returns the record whose data are these octets, in which no name is compressed.
+    ///
+    /// # Errors
+    ///
+    /// `DataTooLong` if they are more than 65535.
+    ///
+    /// ```
+    /// use dns_names_wire::{Class, Name, RecordBuf, RecordType};
+    ///
+    /// let record = RecordBuf::from_octets(&Name::root(), RecordType::from(65280), Class::CH, 0, &[1, 2])?;
+    /// assert_eq!(record.to_string(), ".\t0\tCH\tTYPE65280\t\\# 2 0102");
+    /// # Ok::<(), dns_names_wire::Error>(())
+    /// ```
+    pub fn from_octets<'n>(
+        owner: impl Into<NameRef<'n>>,
+        record_type: RecordType,
+        class: Class,
+        ttl: u32,
+        data: &[u8],
+    ) -> Result<Self, Error> {
+        let mut octets = Vec::new();
+        let put = |octets: &mut Vec<u8>| {
+            octets.extend_from_slice(data);
+            Ok(())
+        };
+        let fixed = put_record(&mut octets, owner.into(), (record_type, class, ttl), put)?;
+        Ok(RecordBuf { octets, fixed })
+    }
+
+    /// Returns the record that a line of a master file is (RFC 1035, section 5.1): the owner, the time to live, the class, the
+    /// type and the data. The class may stand before the time to live, or be left out for IN. Names without a dot at their end
+    /// get the labels of the origin, and `@` is the origin. Parentheses and comments are no part of a line.
+    ///
+    /// `str::parse` does the same without an origin, and rejects such names.
+    ///
+    /// # Errors
+    ///
+    /// `BadText` if the first word is no name, `BadTime` if no time to live is there, `UnknownText` if no type is there,
+    /// `BadData` if the rest is no data of the type; or `NoMemory`.
+    ///
+    /// ```
+    /// use dns_names_wire::{ErrorKind, Name, RecordBuf};
+    ///
+    /// let origin: Name = "example.".parse()?;
+    /// let record = RecordBuf::from_text("www 1h IN CNAME @", &origin)?;
+    /// assert_eq!(record.to_string(), "www.example.\t3600\tIN\tCNAME\texample.");
+    /// let error = RecordBuf::from_text("www 1h IN A 192.0.2", &origin).unwrap_err();
+    /// assert_eq!(error.kind(), ErrorKind::BadData);
+    /// # Ok::<(), dns_names_wire::Error>(())
+    /// ```
+    pub fn from_text(line: &str, origin: &Name) -> Result<Self, Error> {
+        RecordBuf::parse(line, origin.as_wire())
+    }
+
+    /// Returns the record of class IN whose data have a text in master files. An origin completes names without a dot.
+    ///
+    /// # Errors
+    ///
+    /// `BadData` if the text is no data of the type; or `NoMemory`.
+    ///
+    /// ```
+    /// use dns_names_wire::{Name, RecordBuf, RecordType};
+    ///
+    /// let name: Name = "a.".parse()?;
+    /// let record = RecordBuf::from_data_text(&name, 60, RecordType::MX, "10 b", Some(&name))?;
+    /// assert_eq!(record.to_string(), "a.\t60\tIN\tMX\t10 b.a.");
+    /// assert!(RecordBuf::from_data_text(&name, 60, RecordType::MX, "10 b", None).is_err());
+    /// # Ok::<(), dns_names_wire::Error>(())
+    /// ```
+    pub fn from_data_text<'n>(
+        owner: impl Into<NameRef<'n>>,
+        ttl: u32,
+        record_type: RecordType,
+        text: &str,
+        origin: Option<&Name>,
+    ) -> Result<Self, Error> {
+        let (mut octets, origin) = (Vec::new(), origin.map_or(&[][..], Name::as_wire));
+        let put = |octets: &mut Vec<u8>| door::parse_data(record_type.code(), text, origin, octets);
+        let fixed = put_record(&mut octets, owner.into(), (record_type, Class::IN, ttl), put)?;
+        Ok(RecordBuf { octets, fixed })
+    }
+
+    fn parse(line: &str, origin: &[u8]) -> Result<Self, Error> {
+        let mut octets = Vec::new();
+        door::parse_record(line, origin, &mut octets)?;
+        let fixed = Name::root().read_from(&octets, 0)?;
+        Ok(RecordBuf { octets, fixed })
+    }
+
+    /// Returns the record with another class.
+    ///
+    /// ```
+    /// use dns_names_wire::{Class, RecordBuf};
+    ///
+    /// let record = "a. 1 IN TXT b".parse::<RecordBuf>()?.with_class(Class::CH);
+    /// assert_eq!(record.to_string(), "a.\t1\tCH\tTXT\t\"b\"");
+    /// # Ok::<(), dns_names_wire::Error>(())
+    /// ```
+    pub fn with_class(mut self, class: Class) -> Self {
+        self.octets[self.fixed + CLASS..self.fixed + TTL].copy_from_slice(&class.code().to_be_bytes());
+        self
+    }
+
+    /// Returns the record with another time to live.
+    ///
+    /// ```
+    /// let record = "a. 1 IN A 192.0.2.1".parse::<dns_names_wire::RecordBuf>()?.with_ttl(60);
+    /// assert_eq!(record.ttl(), 60);
+    /// # Ok::<(), dns_names_wire::Error>(())
+    /// ```
+    pub fn with_ttl(mut self, ttl: u32) -> Self {
+        self.octets[self.fixed + TTL..self.fixed + LENGTH].copy_from_slice(&ttl.to_be_bytes());
+        self
+    }
+
+    /// Returns the record as one that was read in its own octets.
+    ///
+    /// ```
+    /// let record: dns_names_wire::RecordBuf = "a. 1 IN A 192.0.2.1".parse()?;
+    /// assert_eq!(record.as_record().end(), record.as_wire().len());
+    /// # Ok::<(), dns_names_wire::Error>(())
+    /// ```
+    pub fn as_record(&self) -> Record<'_> {
+        Record::checked(&self.octets, 0).expect("a record is whole")
+    }
+
+    /// Returns the octets of the record, no name compressed.
+    ///
+    /// ```
+    /// let record: dns_names_wire::RecordBuf = "a. 1 IN A 192.0.2.1".parse()?;
+    /// assert_eq!(record.as_wire(), b"\x01a\0\0\x01\0\x01\0\0\0\x01\0\x04\xC0\0\x02\x01");
+    /// # Ok::<(), dns_names_wire::Error>(())
+    /// ```
+    pub fn as_wire(&self) -> &[u8] {
+        &self.octets
+    }
+
+    /// Returns the name that owns the record.
+    ///
+    /// ```
+    /// assert_eq!("a. 1 A 192.0.2.1".parse::<dns_names_wire::RecordBuf>()?.owner().to_string(), "a.");
+    /// # Ok::<(), dns_names_wire::Error>(())
+    /// ```
+    pub fn owner(&self) -> NameRef<'_> {
+        NameRef::checked(&self.octets, 0, self.fixed)
+    }
+
+    /// Returns the type.
+    ///
+    /// ```
+    /// use dns_names_wire::{RecordBuf, RecordType};
+    ///
+    /// assert_eq!("a. 1 A 192.0.2.1".parse::<RecordBuf>()?.record_type(), RecordType::A);
+    /// # Ok::<(), dns_names_wire::Error>(())
+    /// ```
+    pub fn record_type(&self) -> RecordType {
+        self.as_record().record_type()
+    }
+
+    /// Returns the class.
+    ///
+    /// ```
+    /// use dns_names_wire::{Class, RecordBuf};
+    ///
+    /// assert_eq!("a. 1 A 192.0.2.1".parse::<RecordBuf>()?.class(), Class::IN);
+    /// # Ok::<(), dns_names_wire::Error>(())
+    /// ```
+    pub fn class(&self) -> Class {
+        self.as_record().class()
+    }
+
+    /// Returns the time to live, in seconds.
+    ///
+    /// ```
+    /// assert_eq!("a. 1h A 192.0.2.1".parse::<dns_names_wire::RecordBuf>()?.ttl(), 3600);
+    /// # Ok::<(), dns_names_wire::Error>(())
+    /// ```
+    pub fn ttl(&self) -> u32 {
+        self.as_record().ttl()
+    }
+
+    /// Returns the data, by their type.
+    ///
+    /// # Errors
+    ///
+    /// As [`Record::data`], if the record was made of octets that are no data of its type.
+    ///
+    /// ```
+    /// use dns_names_wire::{RData, RecordBuf};
+    ///
+    /// let record: RecordBuf = "a. 1 A 192.0.2.1".parse()?;
+    /// assert_eq!(record.data()?, RData::A([192, 0, 2, 1].into()));
+    /// # Ok::<(), dns_names_wire::Error>(())
+    /// ```
+    pub fn data(&self) -> Result<RData<'_>, Error> {
+        self.as_record().data()
+    }
+
+    /// Returns the octets of the data.
+    ///
+    /// ```
+    /// assert_eq!("a. 1 MX 10 b.".parse::<dns_names_wire::RecordBuf>()?.raw_data(), b"\0\x0A\x01b\0");
+    /// # Ok::<(), dns_names_wire::Error>(())
+    /// ```
+    pub fn raw_data(&self) -> &[u8] {
+        &self.octets[self.fixed + FIXED_SIZE..]
+    }
+}
+
+/// Appends a record, whose data the function appends, and returns where its owner ends. If it fails, nothing is appended.
+pub(crate) fn put_record(
+    octets: &mut Vec<u8>,
+    owner: NameRef<'_>,
+    (record_type, class, ttl): (RecordType, Class, u32),
+    put_data: impl FnOnce(&mut Vec<u8>) -> Result<(), Error>,
+) -> Result<usize, Error> {
+    let start = octets.len();
+    owner.put(octets);
+    let fixed = octets.len();
+    let ([t, u], [c, d], [l0, l1, l2, l3]) =
+        (record_type.code().to_be_bytes(), class.code().to_be_bytes(), ttl.to_be_bytes());
+    octets.extend_from_slice(&[t, u, c, d, l0, l1, l2, l3, 0, 0]);
+    let put = put_data(octets).and_then(|()| {
+        let len = octets.len() - fixed - FIXED_SIZE;
+        u16::try_from(len).map_err(|_| ErrorKind::DataTooLong.into())
+    });
+    match put {
+        Ok(len) => {
+            octets[fixed + LENGTH..fixed + FIXED_SIZE].copy_from_slice(&len.to_be_bytes());
+            Ok(fixed)
+        }
+        Err(error) => {
+            octets.truncate(start);
+            Err(error)
+        }
+    }
+}
+
+/// A line of a master file, as a [`Record`] is shown.
+impl fmt::Display for RecordBuf {
+    fn fmt(&self, f: &mut fmt::Formatter<'_>) -> fmt::Result {
+        fmt::Display::fmt(&self.as_record(), f)
+    }
+}
+
+impl fmt::Debug for RecordBuf {
+    fn fmt(&self, f: &mut fmt::Formatter<'_>) -> fmt::Result {
+        fmt::Debug::fmt(&self.as_record(), f)
+    }
+}
+
+/// As [`RecordBuf::from_text`], without an origin.
+impl FromStr for RecordBuf {
+    type Err = Error;
+
+    fn from_str(line: &str) -> Result<Self, Error> {
+        RecordBuf::parse(line, &[])
+    }
+}
+
+impl<'a> From<&'a RecordBuf> for Record<'a> {
+    fn from(record: &'a RecordBuf) -> Self {
+        record.as_record()
+    }
+}
+
+/// Fails as [`Record::data`].
+impl TryFrom<Record<'_>> for RecordBuf {
+    type Error = Error;
+
+    fn try_from(record: Record<'_>) -> Result<Self, Error> {
+        let (mut octets, data) = (Vec::new(), record.data()?);
+        let fields = (record.record_type(), record.class(), record.ttl());
+        let fixed = put_record(&mut octets, record.owner(), fields, |octets| data.put(octets))?;
+        Ok(RecordBuf { octets, fixed })
+    }
+}
+
+/// The octets, as [`RecordBuf::as_wire`].
+impl AsRef<[u8]> for RecordBuf {
+    fn as_ref(&self) -> &[u8] {
+        self.as_wire()
+    }
+}

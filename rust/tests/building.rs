@@ -1,0 +1,331 @@
+//! Messages and records that are made. Expected octets are what dnspython 2.3.0 writes for the same; the others are worked by
+//! hand from RFC 1035, sections 4.1 and 5.1, RFC 6891, section 6.1, and RFC 2181, section 9.
+use dns_names_wire::rdata::{CSYNC, MX, SOA, SRV};
+use dns_names_wire::{
+    Class, Edns, Error, ErrorKind, Header, Message, MessageBuilder, Name, OpCode, Pairs, RData, Record, RecordBuf,
+    RecordType, ResponseCode, Texts, TypeSet,
+};
+use std::net::{IpAddr, Ipv4Addr, Ipv6Addr};
+
+const QUERY: &str = "12340100000100000000000103777777076578616d706c6503636f6d000001000100002904d0000000000000";
+const REPLY: &str = "\
+    12348500000100050002000203777777076578616d706c6503636f6d0000010001c00c000500010000012c000603776562c010c02d00\
+    0100010000003c0004c0000201c02d001c00010000003c001020010db8000000000000000000000001c010000f00010000003c000900\
+    0a046d61696cc010c010001000010000003c000d0b763d73706631202d616c6c00c0100006000100000e100026026e73c0100a686f73\
+    746d6173746572c01078a3f17500001c2000000e100012750000000e10c0100002000100000e100002c099c0990001000100000e1000\
+    04c000023500002904d0000000000000";
+
+fn octets(hex: &str) -> Vec<u8> {
+    let digits: Vec<char> = hex.chars().filter(|c| !c.is_whitespace()).collect();
+    digits.chunks(2).map(|two| u8::from_str_radix(&String::from_iter(two), 16).unwrap()).collect()
+}
+
+fn name(text: &str) -> Name {
+    text.parse().unwrap()
+}
+
+fn record(line: &str) -> RecordBuf {
+    line.parse().unwrap_or_else(|error| panic!("{line}: {error}"))
+}
+
+fn query() -> Vec<u8> {
+    MessageBuilder::query(0x1234, &name("www.example.com."), RecordType::A).edns(&Edns::new(1232)).finish(512).unwrap()
+}
+
+/// Adds the records of the reply, those of later sections first.
+fn fill(reply: &mut MessageBuilder) -> Result<(), Error> {
+    let names = ["example.com.", "www.example.com.", "web.example.com.", "mail.example.com.", "ns.example.com."];
+    let [zone, www, web, mail, ns] = names.map(name);
+    let hostmaster = name("hostmaster.example.com.");
+    let texts = Texts::to_wire(["v=spf1 -all", ""])?;
+    let (serial, refresh, retry, expire, minimum) = (2_024_010_101, 7200, 3600, 1_209_600, 3600);
+    let soa = SOA { mname: (&ns).into(), rname: (&hostmaster).into(), serial, refresh, retry, expire, minimum };
+    reply
+        .authoritative(true)
+        .additional(&ns, 3600, Ipv4Addr::new(192, 0, 2, 53))?
+        .authority(&zone, 3600, soa)?
+        .answer(&www, 300, RData::CNAME((&web).into()))?
+        .answer(&web, 60, Ipv4Addr::new(192, 0, 2, 1))?
+        .answer(&web, 60, IpAddr::from(Ipv6Addr::new(0x2001, 0xdb8, 0, 0, 0, 0, 0, 1)))?
+        .authority(&zone, 3600, RData::NS((&ns).into()))?
+        .answer(&zone, 60, MX { preference: 10, exchange: (&mail).into() })?
+        .answer(&zone, 60, RData::TXT(Texts::from_wire(&texts)?))?;
+    Ok(())
+}
+
+#[test]
+fn a_query_and_its_reply_are_written() {
+    assert_eq!(query(), octets(QUERY));
+    let octets_of_query = query();
+    let request = Message::read(&octets_of_query).unwrap();
+    let mut reply = MessageBuilder::reply_to(&request);
+    fill(&mut reply).unwrap();
+    let whole = reply.finish(u16::MAX).unwrap();
+    assert_eq!(whole, octets(REPLY));
+    let read = Message::read(&whole).unwrap();
+    assert!(read.is_reply_to(&request) && !request.is_reply_to(&request));
+    assert_eq!(read.to_wire(u16::MAX), Ok(whole.clone()));
+    assert_eq!((read.answers().len(), read.authorities().len(), read.additionals().len()), (5, 2, 2));
+    let other = MessageBuilder::query(0x1235, &name("www.example.com."), RecordType::A).finish(512).unwrap();
+    assert!(!read.is_reply_to(&Message::read(&other).unwrap()));
+    let other = MessageBuilder::query(0x1234, &name("www.example.com."), RecordType::AAAA).finish(512).unwrap();
+    assert!(!read.is_reply_to(&Message::read(&other).unwrap()));
+    let upper = MessageBuilder::query(0x1234, &name("WWW.example.com."), RecordType::A).finish(512).unwrap();
+    assert!(read.is_reply_to(&Message::read(&upper).unwrap()));
+}
+
+/// Each record less has room for fewer octets; TC says that an answer or an authority is not there, and OPT always is.
+#[test]
+fn a_reply_has_no_more_than_the_size() {
+    let octets_of_query = query();
+    let mut reply = MessageBuilder::reply_to(&Message::read(&octets_of_query).unwrap());
+    fill(&mut reply).unwrap();
+    let whole = reply.finish(u16::MAX).unwrap();
+    let (mut message, mut before) = (Vec::new(), usize::MAX);
+    for size in (23..=whole.len() as u16).rev() {
+        let is_cut = reply.finish_into(size, &mut message).unwrap();
+        assert!(message.len() <= size.into());
+        let read = Message::read(&message).unwrap();
+        let count = read.answers().len() + read.authorities().len();
+        assert_eq!((is_cut, read.header().truncation), (count < 7, count < 7), "{size}");
+        assert!(count <= before || count == 7, "{size}");
+        before = count;
+        assert_eq!(read.edns().unwrap().map(|edns| edns.max_payload), Some(1232));
+        assert_eq!(read.additionals().last().map(|record| record.record_type()), Some(RecordType::OPT));
+        assert_eq!(Message::read(&whole).unwrap().to_wire(size).unwrap(), message);
+    }
+    // The address of ns.example.com. is not needed, so that TC is not set without it.
+    let without = whole.len() as u16 - 1;
+    assert!(!reply.finish_into(without, &mut message).unwrap());
+    assert_eq!(Message::read(&message).unwrap().additionals().len(), 1);
+    assert_eq!(reply.finish(22).unwrap_err().to_string(), "the message would be longer than its maximum");
+    assert_eq!(Message::read(&whole).unwrap().to_wire(22).unwrap_err().kind(), ErrorKind::MessageTooLong);
+    assert_eq!(MessageBuilder::new(Header::default()).finish(11).unwrap_err().kind(), ErrorKind::MessageTooLong);
+    assert_eq!(MessageBuilder::new(Header::default()).finish(12).unwrap(), [0; 12]);
+}
+
+#[test]
+fn a_reply_has_what_its_request_says() {
+    // id, RD, CD and NOTIFY; and EDNS with DO
+    let mut asked = Header::default();
+    asked.id = 0xABCD;
+    asked.op_code = OpCode::Notify;
+    (asked.recursion_desired, asked.checking_disabled, asked.authoritative) = (true, true, true);
+    let mut edns = Edns::new(4096);
+    edns.dnssec_ok = true;
+    let mut request = MessageBuilder::new(asked);
+    request.question(&name("a."), RecordType::SOA, Class::CH).edns(&edns);
+    let request = request.finish(512).unwrap();
+    let reply = MessageBuilder::reply_to(&Message::read(&request).unwrap()).finish(512).unwrap();
+    assert_eq!(reply, octets("abcd a110 0001 0000 0000 0001 016100 0006 0003 00 0029 04d0 00008000 0000"));
+    // A later version, and an OPT record too much
+    let later = octets("0001 0000 0000 0000 0000 0001 00 0029 0200 00010000 0000");
+    let two = octets("0001 0000 0000 0000 0000 0002 00 0029 0200 00000000 0000 00 0029 0200 00000000 0000");
+    let reply = MessageBuilder::reply_to(&Message::read(&later).unwrap()).finish(512).unwrap();
+    assert_eq!(reply, octets("0001 8000 0000 0000 0000 0001 00 0029 04d0 01000000 0000"));
+    let reply = MessageBuilder::reply_to(&Message::read(&two).unwrap()).finish(512).unwrap();
+    assert_eq!(reply, octets("0001 8001 0000 0000 0000 0000"));
+}
+
+#[test]
+fn headers_and_edns_are_written() {
+    let mut header = Header::default();
+    (header.id, header.op_code, header.response_code) = (0xFFFF, OpCode::from(15), ResponseCode::from(4095));
+    (header.is_response, header.authoritative, header.truncation, header.recursion_desired) = (true, true, true, true);
+    (header.recursion_available, header.authentic_data, header.checking_disabled) = (true, true, true);
+    (header.question_count, header.answer_count, header.authority_count, header.additional_count) = (9, 9, 9, 9);
+    let message = MessageBuilder::new(header).finish(512).unwrap();
+    // All but Z, and a response code of twelve bits, of which OPT has eight
+    assert_eq!(message, octets("ffff ffbf 0000 0000 0000 0001 00 0029 04d0 ff000000 0000"));
+    let options = Pairs::to_wire([(10, &b"12345678"[..]), (3, b"")]).unwrap();
+    let edns = Edns::new(512).with_options(Pairs::from_wire(&options).unwrap());
+    let mut message = MessageBuilder::new(Header::default());
+    let written = message.edns(&Edns::new(4096)).edns(&edns).finish(512).unwrap();
+    assert_eq!(Message::read(&written).unwrap().edns(), Ok(Some(edns)));
+    message.header_mut().id = 7;
+    assert_eq!((message.header().id, &message.finish(512).unwrap()[..2]), (7, &[0, 7][..]));
+    // Options of 65536 octets, and of 65535
+    for (len, most) in [(65532, 65535), (65531, 65535), (65508, 65534)] {
+        let long = Pairs::to_wire([(3, vec![0; len])]).unwrap();
+        message.edns(&Edns::new(512).with_options(Pairs::from_wire(&long).unwrap()));
+        assert_eq!(message.finish(most).unwrap_err().kind(), ErrorKind::MessageTooLong);
+    }
+    let long = Pairs::to_wire([(3, vec![0; 65508])]).unwrap();
+    message.edns(&Edns::new(512).with_options(Pairs::from_wire(&long).unwrap()));
+    assert_eq!(message.finish(65535).unwrap().len(), 65535);
+}
+
+#[test]
+fn what_fails_leaves_a_message_unchanged() {
+    let (root, long) = (Name::root(), vec![0; 65536]);
+    let mut message = MessageBuilder::new(Header::default());
+    message.answer(&root, 0, Ipv4Addr::LOCALHOST).unwrap().additional(&root, 0, Ipv4Addr::LOCALHOST).unwrap();
+    let before = message.finish(512).unwrap();
+    let data = RData::Unknown { record_type: RecordType::from(65280), octets: &long };
+    let text = "the data of a record, or a character string in them, are too long";
+    assert_eq!(message.answer(&root, 0, data.clone()).unwrap_err().to_string(), text);
+    assert_eq!(message.authority(&root, 0, data.clone()).unwrap_err().kind(), ErrorKind::DataTooLong);
+    assert_eq!(message.additional(&root, 0, data.clone()).unwrap_err().kind(), ErrorKind::DataTooLong);
+    assert_eq!(RecordBuf::new(&root, 0, data).unwrap_err().number(), 0);
+    assert_eq!(message.finish(512), Ok(before));
+    // Octets that are no data of their type are found when the message is written.
+    let wrong = RecordBuf::from_octets(&root, RecordType::A, Class::IN, 0, &[1, 2, 3]).unwrap();
+    assert_eq!(message.clone().answers([&wrong]).finish(512).unwrap_err().kind(), ErrorKind::MessageCut);
+    // As a second OPT record is.
+    let opt = RecordBuf::from_octets(&root, RecordType::OPT, Class::from(512), 0, b"").unwrap();
+    assert_eq!(message.clone().additionals([&opt, &opt]).finish(512).unwrap_err().kind(), ErrorKind::DuplicateEdns);
+    assert_eq!(
+        message.edns(&Edns::new(512)).additionals([opt]).finish(512).unwrap_err().kind(),
+        ErrorKind::DuplicateEdns
+    );
+}
+
+/// More than a section counts: none of them have room in a message, and the rest do not change its count.
+#[test]
+fn a_section_counts_no_more_than_65535() {
+    let record = RecordBuf::from_octets(&Name::root(), RecordType::from(65280), Class::IN, 0, b"").unwrap();
+    let mut message = MessageBuilder::new(Header::default());
+    message.answers(std::iter::repeat(&record).take(70_000)).edns(&Edns::new(512));
+    let written = message.finish(u16::MAX).unwrap();
+    let read = Message::read(&written).unwrap();
+    assert_eq!((read.answers().len(), read.header().truncation), ((65535 - 12 - 11) / 11, true));
+    assert!(read.edns().unwrap().is_some());
+}
+
+const LINES: [(&str, &str); 10] = [
+    ("a.example. 60 IN A 192.0.2.1", "0161076578616d706c6500000100010000003c0004c0000201"),
+    ("a.example. 3600 CH TXT \"abc\" \"d e\"", "0161076578616d706c65000010000300000e1000080361626303642065"),
+    (
+        "a.example. 0 IN SRV 1 2 53 host.example.",
+        "0161076578616d706c65000021000100000000001400010002003504686f7374076578616d706c6500",
+    ),
+    (
+        "a.example. 1 IN CAA 128 issue \"ca.net\"",
+        "0161076578616d706c65000101000100000001000d8005697373756563612e6e6574",
+    ),
+    (
+        "a.example. 1 IN DS 60485 5 1 2bb183af5f22588179a53b0a98631fad1a292118",
+        "0161076578616d706c6500002b0001000000010018ec4505012bb183af5f22588179a53b0a98631fad1a292118",
+    ),
+    ("a.example. 1 IN TYPE65280 \\# 3 010203", "0161076578616d706c6500ff000001000000010003010203"),
+    (
+        "a.example. 1 IN SOA ns.example. h.example. 1 2 3 4 5",
+        "0161076578616d706c65000006000100000001002b026e73076578616d706c65000168076578616d706c650000000001000000020000\
+        00030000000400000005",
+    ),
+    (
+        "a.example. 1 IN NSEC b.example. A MX TYPE1234",
+        "0161076578616d706c6500002f000100000001002c0162076578616d706c650000024001041b00000000000000000000000000000000\
+        0000000000000000000020",
+    ),
+    (
+        "a.example. 1 IN SSHFP 2 1 123456789abcdef67890123456789abcdef67890",
+        "0161076578616d706c6500002c00010000000100160201123456789abcdef67890123456789abcdef67890",
+    ),
+    (
+        "a.example. 1 IN RRSIG A 5 3 86400 20030322173103 20030220173103 2642 example. \
+         oJB1W6WNGv+ldvQ3WDG0MQkg5IEhjRip8WTr",
+        "0161076578616d706c6500002e000100000001003600010503000151803e7c9dd73e5510d70a52076578616d706c6500a090755ba58d\
+        1affa576f4375831b4310920e481218d18a9f164eb",
+    ),
+];
+
+#[test]
+fn records_are_parsed_and_shown() {
+    let zone = name("example.");
+    for (line, hex) in LINES {
+        let parsed = record(line);
+        assert_eq!(parsed.as_wire(), octets(hex), "{line}");
+        // Hexadecimal digits are shown in lower or upper case.
+        assert_eq!(parsed.to_string().replace('\t', " ").to_lowercase(), line.to_lowercase());
+        assert_eq!(record(&parsed.to_string()), parsed);
+        let again = RecordBuf::new(parsed.owner(), parsed.ttl(), parsed.data().unwrap()).unwrap();
+        assert_eq!(again.with_class(parsed.class()), parsed);
+        assert_eq!(Record::from(&parsed).raw_data(), parsed.raw_data());
+        // Relative names, with the origin
+        assert_eq!(RecordBuf::from_text(&line.replace(".example.", ""), &zone).unwrap(), parsed, "{line}");
+        let [owner, ttl, class, kind, text]: [&str; 5] = line.splitn(5, ' ').collect::<Vec<_>>().try_into().unwrap();
+        let of_text = RecordBuf::from_data_text(&name(owner), ttl.parse().unwrap(), kind.parse().unwrap(), text, None);
+        assert_eq!(of_text.unwrap().with_class(class.parse().unwrap()), parsed);
+    }
+    assert_eq!(record("a.example. IN 1m A 192.0.2.1"), record(LINES[0].0));
+    assert_eq!(record("a.example. 60 A 192.0.2.1"), record(LINES[0].0));
+    let at = RecordBuf::from_text("@ 1 NS @", &zone).unwrap();
+    assert_eq!((at.owner() == zone, at.raw_data()), (true, zone.as_wire()));
+    assert_eq!(record(LINES[0].0).with_ttl(u32::MAX).ttl(), u32::MAX);
+    let (owner, host) = (name("a.example."), name("host.example."));
+    let data = SRV { priority: 1, weight: 2, port: 53, target: (&host).into() };
+    assert_eq!(RecordBuf::new(&owner, 0, data).unwrap(), record(LINES[2].0));
+    assert_eq!(
+        RecordBuf::new(&owner, 0, CSYNC { serial: 66, flags: 3, types: TypeSet::from([RecordType::A]) })
+            .unwrap()
+            .raw_data(),
+        octets("00000042 0003 000140")
+    );
+}
+
+#[test]
+fn texts_that_are_no_records() {
+    for (line, kind, text) in [
+        ("", ErrorKind::BadText, "the label, the character or the escape is not allowed"),
+        ("a 1 IN A 192.0.2.1", ErrorKind::BadText, ""),
+        ("a. IN A 192.0.2.1", ErrorKind::BadTime, ""),
+        ("a. 4294967296 IN A 192.0.2.1", ErrorKind::BadTime, ""),
+        ("a. 1 IN NOTYPE 192.0.2.1", ErrorKind::UnknownText, ""),
+        ("a. 1 IN", ErrorKind::UnknownText, ""),
+        ("a. 1 IN A", ErrorKind::BadData, ""),
+        ("a. 1 IN A 192.0.2.1 1", ErrorKind::BadData, ""),
+        ("a. 1 IN MX 65536 a.", ErrorKind::BadData, ""),
+        ("a. 1 IN MX 1 a", ErrorKind::BadData, ""),
+        ("a. 1 IN TYPE65280 01", ErrorKind::BadData, ""),
+    ] {
+        let error = line.parse::<RecordBuf>().unwrap_err();
+        assert_eq!(error.kind(), kind, "{line}");
+        assert!(!error.to_string().is_empty() && !error.to_string().starts_with("failure"), "{line}: {error}");
+        let _ = text;
+    }
+    let error = RecordBuf::from_data_text(&Name::root(), 0, RecordType::A, "192.0.2", None).unwrap_err();
+    assert_eq!((error.kind(), error.number()), (ErrorKind::BadData, 35));
+    // Data of 65535 octets, and of one more
+    let generic = |len: usize| format!(". 1 IN TYPE65280 \\# {len} {}", "00".repeat(len));
+    assert_eq!(record(&generic(65535)).raw_data().len(), 65535);
+    assert_eq!(generic(65536).parse::<RecordBuf>().unwrap_err().kind(), ErrorKind::BadData);
+    let texts = |count: usize| format!(". 1 IN TXT{}", format!(" \"{}\"", "a".repeat(255)).repeat(count));
+    assert_eq!(record(&texts(255)).raw_data().len(), 255 * 256);
+    assert_eq!(texts(256).parse::<RecordBuf>().unwrap_err().kind(), ErrorKind::BadData);
+}
+
+/// A record of a message, with its names whole.
+#[test]
+fn records_are_taken_from_messages() {
+    let reply = octets(REPLY);
+    let message = Message::read(&reply).unwrap();
+    let taken: Vec<RecordBuf> = message.answers().map(|record| record.try_into().unwrap()).collect();
+    assert_eq!(taken[0], record("www.example.com. 300 IN CNAME web.example.com."));
+    assert_eq!(taken[3], record("example.com. 60 IN MX 10 mail.example.com."));
+    let mut again = MessageBuilder::reply_to(&Message::read(&query()).unwrap());
+    let others = |records: dns_names_wire::SectionRecords| -> Vec<RecordBuf> {
+        records.filter(|it| it.record_type() != RecordType::OPT).map(|it| it.try_into().unwrap()).collect()
+    };
+    again
+        .authoritative(true)
+        .answers(&taken)
+        .authorities(others(message.authorities()))
+        .additionals(others(message.additionals()));
+    assert_eq!(again.finish(u16::MAX), Ok(reply));
+    let cut = Record::read(b"\0\0\x01\0\x01\0\0\0\0\0\x03\xC0\0\x02", 0).unwrap();
+    assert_eq!(RecordBuf::try_from(cut).unwrap_err().kind(), ErrorKind::MessageCut);
+}
+
+#[test]
+fn addresses_are_converted() {
+    let (four, six) = (Ipv4Addr::new(192, 0, 2, 1), Ipv6Addr::LOCALHOST);
+    for address in [IpAddr::from(four), six.into()] {
+        let record = RecordBuf::new(&Name::root(), 0, address).unwrap();
+        assert_eq!(IpAddr::try_from(record.data().unwrap()), Ok(address));
+        assert_eq!(Ipv4Addr::try_from(record.data().unwrap()).ok(), if address.is_ipv4() { Some(four) } else { None });
+        assert_eq!(Ipv6Addr::try_from(record.data().unwrap()).ok(), if address.is_ipv6() { Some(six) } else { None });
+    }
+    let other = record(". 1 TXT a");
+    assert_eq!(IpAddr::try_from(other.data().unwrap()), Err(other.data().unwrap()));
+}
