@@ -8,7 +8,7 @@
 #include "net.h"
 
 enum { PAYLOAD = 1232, NOERROR = 0, FORMERR = 1, NXDOMAIN = 3, NOTIMP = 4, REFUSED = 5, BADVERS = 16 };
-static uint8_t zone[1 << 20], plain[(1 << 20) + 2 * NET_MAX], owner[DNW_FORM_SIZE];
+static uint8_t zone[1 << 24], plain[(1 << 24) + 2 * NET_MAX], owner[DNW_FORM_SIZE];
 static size_t zone_len;
 
 /* Puts the answers to a question, or the SOA record as an authority if there are none (RFC 2308), after `at` octets of `plain`. */

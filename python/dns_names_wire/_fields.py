@@ -1,15 +1,16 @@
 """The fields of the data of records, as values of Python."""
 
+import struct
 import threading
 from ctypes import byref
 from ipaddress import IPv4Address, IPv6Address
-from typing import Callable, Dict, Iterator, List, Optional, Tuple, Union
+from typing import Any, Callable, Dict, Iterator, List, Optional, Tuple, Union
 
 from ._codes import RecordType
 from ._errors import check
 from ._library import Field as Read
 from ._library import FORM_SIZE, Fields, Form, ReadName, library, taken
-from ._names import Name, NameAt
+from ._names import Name
 from ._types import TypeSet
 
 FieldValue = Union[
@@ -66,9 +67,14 @@ def fields(message: bytes, start: int, end: int, record_type: int) -> Iterator[F
         if read.kind == _END:
             return
         if read.kind == _NAME:
-            yield _read(message, end, read.offset).name
+            yield _read(message, end, read.offset)[0]
         else:
             yield _VALUES[read.kind](message[read.offset : read.offset + read.len])
+
+
+# A name of a message, and the offset after its own octets; and those that were read in a message, each by its offset.
+Placed = Tuple[Name, int]
+Names = Dict[int, Placed]
 
 
 class _Room(threading.local):
@@ -81,17 +87,19 @@ class _Room(threading.local):
 
 _room = _Room()
 _name_read = library.dnw_name_read
+_name_of = Name._of
 
 
-def _read(message: bytes, end: int, offset: int) -> NameAt:
+def _read(message: bytes, end: int, offset: int) -> Placed:
     room = _room
     number = _name_read(message, end, offset, room.form, FORM_SIZE, room.result)
     if number:
         check(number, offset)
-    return NameAt(Name._of(taken(room.form, room.read.len), True), room.read.end)
+    read = room.read
+    return _name_of(taken(room.form, read.len), True), read.end
 
 
-def name_at(message: bytes, end: int, offset: int, names: Dict[int, NameAt]) -> NameAt:
+def name_at(message: bytes, end: int, offset: int, names: Names) -> Placed:
     """The name at an offset of a message up to another. `names` are those that were read there, each by its offset."""
     if offset + 2 <= end and message[offset] >= 192:
         # A pointer alone: the name is the one that it points to, if that is whole before it.
@@ -99,8 +107,8 @@ def name_at(message: bytes, end: int, offset: int, names: Dict[int, NameAt]) -> 
         known = names.get(target)
         if known is None and target < offset:
             known = names[target] = _read(message, offset, target)
-        if known is not None and known.end <= offset:
-            return NameAt(known.name, offset + 2)
+        if known is not None and known[1] <= offset:
+            return known[0], offset + 2
         return _read(message, end, offset)
     known = names.get(offset)
     if known is None:
@@ -108,72 +116,111 @@ def name_at(message: bytes, end: int, offset: int, names: Dict[int, NameAt]) -> 
     return known
 
 
-def checked_name(message: bytes, offset: int, names: Dict[int, NameAt]) -> NameAt:
+def checked_name(message: bytes, offset: int, names: Names) -> Placed:
     """The name at an offset of a message of which all owners were checked, where one is. `names` as in `name_at`."""
     known = names.get(offset)
     if known is not None:
         return known
-    parts, start, at, end = [], offset, offset, 0
+    parts, start, at, end = b"", offset, offset, 0
     while True:
         length = message[at]
         if 0 < length < 64:
             at += 1 + length
         elif length == 0:
-            parts.append(message[start : at + 1])
+            parts += message[start : at + 1]
             end = end or at + 1
             break
         else:
-            parts.append(message[start:at])
+            parts += message[start:at]
             end = end or at + 2
             start = at = (length & 63) << 8 | message[at + 1]
             known = names.get(at)
             if known is not None:
-                parts.append(known.name.wire)
+                if not parts:
+                    names[offset] = found = known[0], end
+                    return found
+                parts += known[0].wire
                 break
-    names[offset] = found = NameAt(Name._of(b"".join(parts), True), end)
+    names[offset] = found = _name_of(parts, True), end
     return found
 
 
-def _value(kind: str, octets: bytes) -> FieldValue:
-    if kind == "i":
-        return IPv4Address(int.from_bytes(octets, "big"))
-    if kind == "I":
-        return IPv6Address(int.from_bytes(octets, "big"))
-    return RecordType.of(_number(octets)) if kind == "t" else _number(octets)
+# How `struct` unpacks a field of fixed size, by its letter, and what is made of it.
+_FORMATS: Dict[str, Tuple[str, Optional[Callable[[Any], Any]]]] = {
+    "1": ("B", None),
+    "2": ("H", None),
+    "4": ("I", None),
+    "6": ("6s", _number),
+    "8": ("Q", None),
+    "i": ("I", IPv4Address),
+    "I": ("16s", IPv6Address),
+    "t": ("H", RecordType.of),
+    "T": ("I", None),
+}
+
+# A step in which data are read: how several fields of fixed size are unpacked and what is made of each, or the letter of a field.
+_Step = Tuple[Optional[struct.Struct], List[Tuple[int, Callable[[Any], Any]]], str]
 
 
-# The octets of a field of fixed size, by its letter.
-_SIZES = {"1": 1, "2": 2, "4": 4, "6": 6, "8": 8, "i": 4, "I": 16, "t": 2, "T": 4}
+def _steps(kinds: str) -> Optional[List[_Step]]:
+    """The steps of fields of these kinds, or None if the library has to read one of them."""
+    steps: List[_Step] = []
+    at = 0
+    while at < len(kinds):
+        kind = kinds[at]
+        if kind in "BP":
+            return None
+        if kind not in _FORMATS:
+            steps.append((None, [], kind))
+            at += 1
+            continue
+        start = at
+        while at < len(kinds) and kinds[at] in _FORMATS:
+            at += 1
+        formats = [_FORMATS[it] for it in kinds[start:at]]
+        made = [(number, make) for number, (_, make) in enumerate(formats) if make is not None]
+        steps.append((struct.Struct("!" + "".join(form for form, _ in formats)), made, ""))
+    return steps
 
 
-def plain_values(message: bytes, start: int, end: int, kinds: str, names: Dict[int, NameAt]) -> Optional[List[FieldValue]]:
+_STEPS: Dict[str, Optional[List[_Step]]] = {}
+
+
+def plain_values(message: bytes, start: int, end: int, kinds: str, names: Names) -> Optional[List[FieldValue]]:
     """The values of fields of these kinds, as letters of `Data`, if they are there up to the end; else None, and the library has to
     say what is wrong, or to read fields of other kinds."""
-    if kinds == "i" and end - start == 4:
-        return [IPv4Address(int.from_bytes(message[start:end], "big"))]
-    if kinds == "n" and start < end:
+    if kinds == "n":
+        if start >= end:
+            return None
         name, at = name_at(message, end, start, names)
         return [name] if at == end else None
-    values: List[FieldValue] = []
+    try:
+        steps = _STEPS[kinds]
+    except KeyError:
+        steps = _STEPS[kinds] = _steps(kinds)
+    if steps is None:
+        return None
+    values: List[Any] = []
     at = start
-    for kind in kinds:
-        size = _SIZES.get(kind)
-        if size is not None:
-            values.append(_value(kind, message[at : at + size]))
-            at += size
-        elif kind == "n":
-            if at >= end:
+    for fixed, made, kind in steps:
+        if fixed is not None:
+            if at + fixed.size > end:
                 return None
-            name, at = name_at(message, end, at, names)
-            values.append(name)
+            found: Any = fixed.unpack_from(message, at)
+            at += fixed.size
+            if made:
+                found = list(found)
+                for number, make in made:
+                    found[number] = make(found[number])
+            values += found
         elif kind == "o":
             values.append(message[at:end])
-            at = max(at, end)
+            at = end
         elif at >= end:
             return None
-        elif kind in "sc":
-            start, at = at + 1, at + 1 + message[at]
-            values.append(message[start:at])
+        elif kind == "n":
+            name, at = name_at(message, end, at, names)
+            values.append(name)
         elif kind == "S":
             strings = []
             while at < end:
@@ -181,7 +228,8 @@ def plain_values(message: bytes, start: int, end: int, kinds: str, names: Dict[i
                 strings.append(message[start:at])
             values.append(tuple(strings))
         else:
-            return None
+            start, at = at + 1, at + 1 + message[at]
+            values.append(message[start:at])
         if at > end:
             return None
     return values if at == end else None

@@ -2,30 +2,31 @@
 
 import secrets
 import struct
+import threading
 from ctypes import byref, c_char
 from dataclasses import dataclass, field, replace
-from typing import Dict, Iterable, Iterator, Optional, Tuple, Union
+from functools import lru_cache
+from typing import Any, Dict, Iterable, Iterator, Optional, Tuple, Union
 
 from . import _checks
 from ._checks import Bytes
 from ._codes import OpCode, RecordClass, RecordType, ResponseCode
 from ._errors import SECTIONS, DataTooLong, DnsError, check, check_item
-from ._fields import checked_name, pairs
+from ._fields import Names, checked_name, pairs
 from ._library import Edns as ReadEdns
 from ._library import Message as Read
 from ._library import NO_ROOM, MessageFault, Packed, library, taken
-from ._names import Name, NameAt, wire_of
+from ._names import Name, wire_of
 from ._rdata import put_pairs
 from ._records import Record, section_records
 
-_HEADER_SIZE = 12
 # The type and the class of a question.
 _CODES = struct.Struct("!HH")
 # An OPT record before its data: the root, the type, the size, the high bits of the response code, the version, the flags, and the
 # number of octets of options.
 _OPT = struct.Struct("!xHHBBHH")
 _DNSSEC_OK = 0x8000
-# The header before the counts, and the counts.
+# The id, the flags and the codes, and the counts of a header.
 _HEADER = struct.Struct("!HHHHHH")
 _MOST = 65535
 _MAX_POINTERS = 65536
@@ -168,22 +169,32 @@ class Message:
         `TooManyPointers` if the names up to it follow more than `max_pointers` compression pointers in all.
         """
         whole = _checks.octets("message", message)
-        most = _checks.number("max_pointers", max_pointers, _MOST_POINTERS)
-        read, fault = Read(), MessageFault()
-        number = library.dnw_message_read(whole, len(whole), most, byref(read), byref(fault))
+        most, room = _checks.number("max_pointers", max_pointers, _MOST_POINTERS), _room
+        number = _message_read(whole, len(whole), most, room.read_at, room.fault_at)
         if number:
+            fault = room.fault
             check_item(number, SECTIONS[fault.section], fault.item, fault.offset)
-        names: Dict[int, NameAt] = {}
-        return cls(
-            header=_header(read),
-            questions=_questions(whole, read.question_count, names),
-            answers=section_records(whole, read.answers, read.answer_count, names),
-            authorities=section_records(whole, read.authorities, read.authority_count, names),
-            additionals=section_records(whole, read.additionals, read.additional_count, names),
-            wire=whole[: read.end],
-            trailing=whole[read.end :],
+        names: Names = {}
+        id, flags, asked, answer_count, authority_count, additional_count = _HEADER.unpack_from(whole)
+        questions, offset = _questions(whole, asked, names)
+        answers, offset = section_records(whole, offset, answer_count, names)
+        authorities, offset = section_records(whole, offset, authority_count, names)
+        additionals, end = section_records(whole, offset, additional_count, names)
+        header = object.__new__(Header)
+        header.__dict__.update(_fields_of(flags), id=id)
+        # There is nothing more for __init__ to do.
+        made = object.__new__(cls)
+        made.__dict__.update(
+            header=header,
+            questions=questions,
+            answers=answers,
+            authorities=authorities,
+            additionals=additionals,
+            wire=whole[:end],
+            trailing=whole[end:],
             _max_pointers=most,
         )
+        return made
 
     @classmethod
     def build(
@@ -416,26 +427,41 @@ def _lines(message: Message) -> Iterator[str]:
             yield from ("", f";; {title} SECTION:", *shown)
 
 
-def _header(read: Read) -> Header:
-    return Header(
-        id=int(read.id),
-        is_response=bool(read.is_response),
-        op_code=OpCode.of(read.op_code),
-        authoritative=bool(read.authoritative),
-        truncation=bool(read.truncation),
-        recursion_desired=bool(read.recursion_desired),
-        recursion_available=bool(read.recursion_available),
-        authentic_data=bool(read.authentic_data),
-        checking_disabled=bool(read.checking_disabled),
-        response_code=ResponseCode.of(read.response_code),
-    )
+@lru_cache(maxsize=1024)
+def _fields_of(flags: int) -> Dict[str, Any]:
+    """The fields of a header that its second number has."""
+    return {
+        "id": 0,
+        "is_response": bool(flags & 0x8000),
+        "op_code": OpCode.of(flags >> 11 & 15),
+        "authoritative": bool(flags & 0x400),
+        "truncation": bool(flags & 0x200),
+        "recursion_desired": bool(flags & 0x100),
+        "recursion_available": bool(flags & 0x80),
+        "authentic_data": bool(flags & 0x20),
+        "checking_disabled": bool(flags & 0x10),
+        "response_code": ResponseCode.of(flags & 15),
+    }
 
 
-def _questions(whole: bytes, count: int, names: Dict[int, NameAt]) -> Tuple[Question, ...]:
-    questions, offset = [], _HEADER_SIZE
+def _questions(whole: bytes, count: int, names: Names) -> Tuple[Tuple[Question, ...], int]:
+    """So many questions of a message, which was checked, and where they end."""
+    questions, offset = [], _HEADER.size
     for _ in range(count):
         name, end = checked_name(whole, offset, names)
         kind, record_class = _CODES.unpack_from(whole, end)
         questions.append(Question(name, RecordType.of(kind), RecordClass.of(record_class)))
-        offset = end + 4
-    return tuple(questions)
+        offset = end + _CODES.size
+    return tuple(questions), offset
+
+
+class _Room(threading.local):
+    """Where the library puts what it read of a message, for each thread."""
+
+    def __init__(self) -> None:
+        self.read, self.fault = Read(), MessageFault()
+        self.read_at, self.fault_at = byref(self.read), byref(self.fault)
+
+
+_room = _Room()
+_message_read = library.dnw_message_read

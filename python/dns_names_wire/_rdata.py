@@ -9,7 +9,7 @@ from . import _checks
 from ._checks import Bytes
 from ._codes import RecordType
 from ._errors import DataTooLong, check
-from ._fields import fields, plain_values
+from ._fields import Names, fields, plain_values
 from ._library import FORM_SIZE, NO_ROOM, library, taken
 from ._names import Name, wire_of
 from ._types import TypeSet
@@ -46,13 +46,19 @@ def data_from_wire(record_type: int, octets: Bytes) -> "Data":
     return data_in(whole, 0, len(whole), code, {})
 
 
-def data_in(message: bytes, start: int, end: int, record_type: int, names: Dict[int, Any]) -> "Data":
+def data_in(message: bytes, start: int, end: int, record_type: int, names: Names) -> "Data":
     """The data of a type from an offset of a message to another, and the names that were read there before."""
     kind = CLASSES.get(record_type)
     if kind is None:
         return Unknown(RecordType.of(record_type), message[start:end])
-    values: Any = plain_values(message, start, end, kind._kinds, names)
-    return kind(*(fields(message, start, end, record_type) if values is None else values))
+    values = plain_values(message, start, end, kind._kinds, names)
+    if values is None:
+        found: Any = fields(message, start, end, record_type)
+        return kind(*found)
+    # As many values as the class has fields, each of its type: there is nothing for __init__ to do.
+    made = object.__new__(kind)
+    made.__dict__.update(zip(kind.__dataclass_fields__, values))
+    return made
 
 
 def data_from_text(record_type: int, text: str, origin: Optional[Name] = None) -> "Data":

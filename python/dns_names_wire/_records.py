@@ -8,10 +8,10 @@ from . import _checks
 from ._checks import Bytes
 from ._codes import RecordClass, RecordType
 from ._errors import DataTooLong, MessageCut, check
-from ._fields import FieldValue, checked_name, fields
+from ._fields import FieldValue, Names, Placed, checked_name, fields
 from ._library import FORM_SIZE, NO_ROOM, Form, PrintedRecord, library, taken
 from ._library import Record as Read
-from ._names import Name, NameAt, placed, wire_of
+from ._names import Name, placed, wire_of
 from ._rdata import CLASSES, Data, data_in, parsed
 
 # What is between the owner and the data: the type, the class, the time to live and the number of octets of data.
@@ -21,10 +21,10 @@ _MOST = 65535
 _USUAL_LINE_SIZE = 512
 
 
-class _NoNames(Dict[int, NameAt]):
+class _NoNames(Dict[int, Placed]):
     """The names that were read in the wire form of a record, in which none is compressed: none is kept."""
 
-    def __setitem__(self, offset: int, name: NameAt) -> None:
+    def __setitem__(self, offset: int, name: Placed) -> None:
         """Keeps nothing."""
 
 
@@ -55,7 +55,7 @@ class Record:
     _ttl: int
     _data_offset: int
     _end: int
-    _names: Dict[int, NameAt]
+    _names: Names
     _owner: Optional[Name]
     _data: Optional[Data]
 
@@ -71,14 +71,14 @@ class Record:
         wire = form + _FIXED.pack(code, *codes, len(octets)) + octets
         self._set(wire, 0, len(form), _NO_NAMES)
 
-    def _set(self, message: bytes, start: int, owner_end: int, names: Dict[int, NameAt]) -> None:
+    def _set(self, message: bytes, start: int, owner_end: int, names: Names) -> None:
         self._message, self._start, self._names, self._owner, self._data = message, start, names, None, None
         self._type, self._class, self._ttl, length = _FIXED.unpack_from(message, owner_end)
         self._data_offset = owner_end + 10
         self._end = owner_end + 10 + length
 
     @classmethod
-    def _of(cls, message: bytes, start: int, owner_end: int, names: Dict[int, NameAt]) -> "Record":
+    def _of(cls, message: bytes, start: int, owner_end: int, names: Names) -> "Record":
         """The record that is in a message, where its owner ends at an offset; and the names that were read there before."""
         record = cls.__new__(cls)
         record._set(message, start, owner_end, names)
@@ -97,7 +97,7 @@ class Record:
         www.example. 3600 IN CNAME example.
         """
         wire = parsed(library.dnw_record_parse, text, origin)
-        return cls._made(wire, checked_name(wire, 0, {}).end)
+        return cls._made(wire, checked_name(wire, 0, {})[1])
 
     @classmethod
     def _made(cls, wire: bytes, owner_end: int) -> "Record":
@@ -114,7 +114,7 @@ class Record:
         name = self._owner
         if name is None:
             # It was checked when the record was read.
-            name = self._owner = checked_name(self._message, self._start, self._names).name
+            name = self._owner = checked_name(self._message, self._start, self._names)[0]
         return name
 
     @property
@@ -207,8 +207,9 @@ class Record:
         return f"<Record {self.owner} {self.ttl} {self.record_class} {self.record_type} {self.raw_data.hex()}>"
 
 
-def section_records(whole: bytes, offset: int, count: int, names: Dict[int, NameAt]) -> Tuple[Record, ...]:
-    """So many records from an offset of a message on, which was checked; and the names that were read there before."""
+def section_records(whole: bytes, offset: int, count: int, names: Names) -> Tuple[Tuple[Record, ...], int]:
+    """So many records from an offset of a message on, which was checked, and where they end; and the names that were read there
+    before."""
     found, make, unpack, size = [], Record.__new__, _FIXED.unpack_from, _FIXED.size
     for _ in range(count):
         at, length = offset, whole[offset]
@@ -219,10 +220,10 @@ def section_records(whole: bytes, offset: int, count: int, names: Dict[int, Name
         record = make(Record)
         record._message, record._start, record._names, record._owner, record._data = whole, offset, names, None, None
         record._type, record._class, record._ttl, length = unpack(whole, at)
-        record._data_offset = at + size
-        record._end = offset = at + size + length
+        record._data_offset = at = at + size
+        record._end = offset = at + length
         found.append(record)
-    return tuple(found)
+    return tuple(found), offset
 
 
 def read_record(message: Bytes, start: int = 0) -> Record:

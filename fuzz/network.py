@@ -1,4 +1,4 @@
-"""Lets real clients ask the example server, and the example resolver ask real servers: exchange.py NAMES SERVE RESOLVE
+"""Lets real clients ask the example server, and the example resolver ask real servers: network.py NAMES SERVE RESOLVE
 
 SERVE and RESOLVE are the words of the commands that start the two programs. A zone of so many names, with records by chance, is
 served on the loopback. dig, kdig and dnspython ask for each name: without EDNS, and with EDNS for 512 and for 1,232 octets. Each
@@ -33,18 +33,18 @@ import dns.version
 ORIGIN = dns.name.from_text("example.")
 SOA = "example. 3600 IN SOA ns.example. hostmaster.example. 1 7200 3600 1209600 300"
 HEAD = [SOA, "example. 3600 IN NS ns.example.", "ns.example. 3600 IN A 127.0.0.1"]
-LABELS = ["www", "mail", "a", "b", "long-label-of-a-name", "x" * 63, "_tcp", "1"]
+LABELS = ["www", "mail", "a", "b", "long-label-of-a-name", "x" * 58, "_tcp", "1"]
 # What is asked for: no EDNS, and EDNS with a size; and how many octets a reply then has at most.
 SIZES = [(None, 512), (512, 512), (1232, 1232)]
 
 
 def say(text):
-    print(f"exchange: {text}", flush=True)
+    print(f"network: {text}", flush=True)
 
 
 def check(fact, *what):
     if not fact:
-        sys.exit(f"exchange: failed: {what}"[:4000])
+        sys.exit(f"network: failed: {what}"[:4000])
 
 
 def is_there(tool):
@@ -57,7 +57,8 @@ def is_there(tool):
 def data_by_chance():
     """The type of a set of records, and the texts of their data."""
     kind = random.choice(["A", "AAAA", "MX", "TXT", "SRV", "CAA", "PTR", "TYPE65280"])
-    count = random.choice([1, 1, 2, 3, 20, 60])
+    # Not more of texts, since a response has at most 65,535 octets.
+    count = random.choice([1, 1, 2, 3, 20, 20 if kind == "TXT" else 60])
     texts = {
         "A": lambda: f"192.0.{random.randrange(256)}.{random.randrange(256)}",
         "AAAA": lambda: f"2001:db8::{random.randrange(65536):x}",
@@ -129,7 +130,7 @@ def blocks(output):
     """The replies that dig or kdig printed: status, flags, records and octets."""
     for block in output.split("->>HEADER<<-")[1:]:
         status, flags = re.search(r"status: (\w+)", block)[1], re.search(r"[Ff]lags: ([a-z ]*);", block)[1]
-        lines = [line for line in block.split("\n") if line and not line.startswith(";")]
+        lines = [line for line in block.split("\n")[1:] if line and not line.startswith(";")]
         size = re.search(r"(?:MSG SIZE  rcvd: |Received )(\d+)", block)
         yield (status, flags), {record(line) for line in lines}, int(size[1]) if size else 0
 
@@ -165,7 +166,7 @@ def check_dnspython(port, asked, answers):
     """dnspython, which reads all octets of each reply."""
     for edns, most in SIZES:
         for (name, kind), answer in zip(asked, answers):
-            query = dns.message.make_query(name, kind, use_edns=None if edns is None else 0, payload=edns or 0)
+            query = dns.message.make_query(name, kind, use_edns=-1 if edns is None else 0, payload=edns)
             for over, limit in ((dns.query.udp, most), (dns.query.tcp, 65535)):
                 reply = over(query, "127.0.0.1", port=port, timeout=5, one_rr_per_rrset=True)
                 check((reply.edns >= 0) == (edns is not None), "dnspython", name, "EDNS")
@@ -237,7 +238,7 @@ def check_server(tool, settings, resolve, lines, asked, answers):
     path = is_there(tool)
     if not path:
         return
-    with tempfile.TemporaryDirectory(prefix="exchange-") as folder:
+    with tempfile.TemporaryDirectory(prefix="network-") as folder:
         room, port = pathlib.Path(folder), free_port()
         (room / "zone").write_text("\n".join(lines) + "\n")
         with running([path, *settings(room, port)]) as server:
@@ -259,8 +260,10 @@ def main(count, serve, resolve):
         file.write("\n".join(lines) + "\n")
         file.flush()
         with running([*shlex.split(serve), "0", file.name]) as server:
-            port = int(re.search(r"\d+$", server.stdout.readline().strip() or "0")[0])
-            check(port, "the server does not start", server.stdout.read() if not port else "")
+            first = server.stdout.readline()
+            port = re.fullmatch(r"serving on port (\d+)\n", first)
+            check(port, "the server does not start", first)
+            port = int(port[1])
             check_dnspython(port, asked, answers)
             for tool in ("dig", "kdig"):
                 check_client(tool, port, asked, answers)
