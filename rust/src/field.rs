@@ -102,10 +102,14 @@ impl<'a> Fields<'a> {
         Ok(&self.message[field.offset..field.offset + field.len])
     }
 
+    /// Reads a field of so many octets, which needs no call.
     #[inline]
     fn array<const N: usize>(&mut self) -> Result<[u8; N], Error> {
-        let field = self.place()?;
-        array(&self.message[field.offset..field.offset + field.len], field.offset)
+        let octets = self.message.get(self.next.offset..).and_then(|left| left.get(..N));
+        let array = array(octets.unwrap_or_default(), self.next.offset)?;
+        self.next.offset += N;
+        self.next.number += 1;
+        Ok(array)
     }
 
     #[inline]

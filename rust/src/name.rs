@@ -578,7 +578,7 @@ impl Hash for Name {
 
 /// The labels of a name, from either end. See [`Name::labels`] and [`NameRef::labels`](crate::NameRef::labels).
 ///
-/// Their number is known. A step from the back walks over the labels that are left.
+/// Their number, and a step from the back, take a walk over the labels that are left.
 ///
 /// ```
 /// let name: dns_names_wire::Name = "www.example.com.".parse()?;
@@ -591,20 +591,27 @@ impl Hash for Name {
 pub struct Labels<'a> {
     message: &'a [u8],
     at: usize,
-    left: usize,
+    /// how many there are, once a step from the back was made
+    left: Option<usize>,
 }
 
 impl<'a> Labels<'a> {
     /// The labels of the name at an offset of a message, which the C library has accepted there.
+    #[inline]
     pub(crate) fn new(message: &'a [u8], at: usize) -> Self {
-        let mut end = at;
-        let left = core::iter::from_fn(|| step(message, &mut end)).count();
-        Labels { message, at, left }
+        Labels { message, at, left: None }
+    }
+
+    /// Returns how many there are.
+    fn count_left(&self) -> usize {
+        let mut at = self.at;
+        self.left.unwrap_or_else(|| core::iter::from_fn(|| step(self.message, &mut at)).count())
     }
 }
 
 /// Returns the label at an offset of a message, or after pointers there, and moves the offset after it; or `None` at the end
 /// of the name. The C library has accepted a name there, so that each step is within the message, and each pointer goes back.
+#[inline]
 fn step<'a>(message: &'a [u8], at: &mut usize) -> Option<&'a [u8]> {
     loop {
         let octet = usize::from(*message.get(*at)?);
@@ -623,21 +630,26 @@ fn step<'a>(message: &'a [u8], at: &mut usize) -> Option<&'a [u8]> {
 impl<'a> Iterator for Labels<'a> {
     type Item = &'a [u8];
 
+    #[inline]
     fn next(&mut self) -> Option<&'a [u8]> {
-        self.left = self.left.checked_sub(1)?;
+        if let Some(left) = &mut self.left {
+            *left = left.checked_sub(1)?;
+        }
         step(self.message, &mut self.at)
     }
 
     fn size_hint(&self) -> (usize, Option<usize>) {
-        (self.left, Some(self.left))
+        let left = self.count_left();
+        (left, Some(left))
     }
 }
 
 impl DoubleEndedIterator for Labels<'_> {
     fn next_back(&mut self) -> Option<Self::Item> {
-        self.left = self.left.checked_sub(1)?;
+        let left = self.count_left().checked_sub(1)?;
+        self.left = Some(left);
         let mut at = self.at;
-        (0..self.left).for_each(|_| {
+        (0..left).for_each(|_| {
             step(self.message, &mut at);
         });
         step(self.message, &mut at)

@@ -69,6 +69,7 @@ impl<'a> NameRef<'a> {
     /// assert_eq!(name.message().len(), 7);
     /// # Ok::<(), dns_names_wire::Error>(())
     /// ```
+    #[inline]
     pub fn message(&self) -> &'a [u8] {
         self.message
     }

@@ -323,15 +323,20 @@ macro_rules! variants {
             /// Reads data of a type. The fields are at their start.
             #[inline]
             pub(crate) fn take(record_type: RecordType, mut fields: Fields<'a>) -> Result<Self, Error> {
-                // Octets up to the end, which need no reading.
-                let all = fields.left();
-                let data = match record_type.code() {
-                    $($code => RData::$name(fields.$kind()?),)*
-                    $($other_code => RData::$other($struct::take(&mut fields)?),)*
-                    _ => return Ok(RData::Unknown { record_type, octets: all }),
-                };
-                fields.end()?;
-                Ok(data)
+                match record_type.code() {
+                    $($code => {
+                        let value = fields.$kind()?;
+                        fields.end()?;
+                        Ok(RData::$name(value))
+                    })*
+                    $($other_code => {
+                        let value = $struct::take(&mut fields)?;
+                        fields.end()?;
+                        Ok(RData::$other(value))
+                    })*
+                    // Octets up to the end, which need no reading.
+                    _ => Ok(RData::Unknown { record_type, octets: fields.left() }),
+                }
             }
 
             /// Appends the octets, names not compressed.

@@ -31,7 +31,7 @@ const TEXT_PARTS: usize = 5;
 /// ```
 #[derive(Clone, Copy)]
 pub struct Record<'a> {
-    message: &'a [u8],
+    /// in the message
     owner: NameRef<'a>,
     record_type: u16,
     class: u16,
@@ -58,7 +58,7 @@ impl<'a> Record<'a> {
         let read = door::read_record(message, start, &mut [0; FORM_SIZE])?;
         let owner = NameRef::checked(message, start, read.data_offset - FIXED_SIZE);
         let (record_type, class) = (read.record_type, read.record_class);
-        Ok(Record { message, owner, record_type, class, ttl: read.ttl, end: read.end })
+        Ok(Record { owner, record_type, class, ttl: read.ttl, end: read.end })
     }
 
     /// The record at an offset of a message that was checked as a whole, so that it is there.
@@ -67,15 +67,17 @@ impl<'a> Record<'a> {
         let (owner_end, _) = pass_name(message, start)?;
         let fixed: &[u8; FIXED_SIZE] = message.get(owner_end..owner_end + FIXED_SIZE)?.try_into().ok()?;
         let [t, u, c, d, l0, l1, l2, l3, n, m] = *fixed;
+        let end = owner_end + FIXED_SIZE + usize::from(u16::from_be_bytes([n, m]));
+        if end > message.len() {
+            return None;
+        }
         Some(Record {
-            message,
             owner: NameRef::checked(message, start, owner_end),
             record_type: u16::from_be_bytes([t, u]),
             class: u16::from_be_bytes([c, d]),
             ttl: u32::from_be_bytes([l0, l1, l2, l3]),
-            end: owner_end + FIXED_SIZE + usize::from(u16::from_be_bytes([n, m])),
+            end,
         })
-        .filter(|record| record.end <= message.len())
     }
 
     /// Returns the name that owns the record.
@@ -135,8 +137,9 @@ impl<'a> Record<'a> {
     /// assert_eq!(record.message().len(), 17);
     /// # Ok::<(), dns_names_wire::Error>(())
     /// ```
+    #[inline]
     pub fn message(&self) -> &'a [u8] {
-        self.message
+        self.owner.message()
     }
 
     /// Returns the data, by their type.
@@ -167,7 +170,7 @@ impl<'a> Record<'a> {
     /// # Ok::<(), dns_names_wire::Error>(())
     /// ```
     pub fn raw_data(&self) -> &'a [u8] {
-        &self.message[self.data_offset()..self.end]
+        &self.message()[self.data_offset()..self.end]
     }
 
     /// Returns the offset of the data in the message, at which their names are read.
@@ -214,7 +217,7 @@ impl<'a> Record<'a> {
         let cut = || Error::from(ErrorKind::MessageCut).at_offset(self.end);
         let left = (self.end - self.data_offset()).checked_sub(octets).ok_or_else(cut)?;
         let mut form = [0; FORM_SIZE];
-        let len = door::data_name(self.message, self.data_offset() + octets, left, &mut form)?;
+        let len = door::data_name(self.message(), self.data_offset() + octets, left, &mut form)?;
         Ok(Name::of_form(form, len))
     }
 
@@ -233,7 +236,7 @@ impl<'a> Record<'a> {
     /// # Ok::<(), dns_names_wire::Error>(())
     /// ```
     pub fn fields(&self) -> Fields<'a> {
-        Fields::new(&self.message[..self.end], self.data_offset(), self.record_type())
+        Fields::new(&self.message()[..self.end], self.data_offset(), self.record_type())
     }
 
     /// Returns the offset after the record, where the next one begins.
@@ -255,7 +258,7 @@ impl<'a> Record<'a> {
 impl fmt::Display for Record<'_> {
     fn fmt(&self, f: &mut fmt::Formatter<'_>) -> fmt::Result {
         let mut line = Vec::new();
-        let line = door::print_record(self.message, self.owner.start(), &mut line).map_err(|_| fmt::Error)?;
+        let line = door::print_record(self.message(), self.owner.start(), &mut line).map_err(|_| fmt::Error)?;
         // No text of an owner, a time, a class or a type has a space.
         line.splitn(TEXT_PARTS, ' ').enumerate().try_for_each(|(number, text)| match number {
             0 => f.write_str(text),
