@@ -101,19 +101,29 @@ def _read(message: bytes, end: int, offset: int) -> Placed:
 
 def name_at(message: bytes, end: int, offset: int, names: Names) -> Placed:
     """The name at an offset of a message up to another. `names` are those that were read there, each by its offset."""
-    if offset + 2 <= end and message[offset] >= 192:
-        # A pointer alone: the name is the one that it points to, if that is whole before it.
-        target = (message[offset] & 63) << 8 | message[offset + 1]
-        known = names.get(target)
-        if known is None and target < offset:
-            known = names[target] = _read(message, offset, target)
-        if known is not None and known[1] <= offset:
-            return known[0], offset + 2
-        return _read(message, end, offset)
     known = names.get(offset)
-    if known is None:
-        known = names[offset] = _read(message, end, offset)
-    return known
+    if known is not None and known[1] <= end:
+        return known
+    at = offset
+    while at + 1 < end:
+        length = message[at]
+        if 0 < length < 64:
+            at += 1 + length
+            continue
+        if length >= 192:
+            # Labels and a pointer to a name that is known, and whole before them.
+            known = names.get((length & 63) << 8 | message[at + 1])
+            if known is None or known[1] > offset:
+                break
+            if at == offset:
+                return known[0], at + 2
+            wire = message[offset:at] + known[0].wire
+            if len(wire) <= FORM_SIZE:
+                names[offset] = found = _name_of(wire, True), at + 2
+                return found
+        break
+    names[offset] = found = _read(message, end, offset)
+    return found
 
 
 def checked_name(message: bytes, offset: int, names: Names) -> Placed:
@@ -131,14 +141,16 @@ def checked_name(message: bytes, offset: int, names: Names) -> Placed:
             end = end or at + 1
             break
         else:
+            target = (length & 63) << 8 | message[at + 1]
+            if at == offset and 0 < message[target] < 64:
+                # A pointer alone, to labels: others may point to these too.
+                names[offset] = found = checked_name(message, target, names)[0], at + 2
+                return found
             parts += message[start:at]
             end = end or at + 2
-            start = at = (length & 63) << 8 | message[at + 1]
+            start = at = target
             known = names.get(at)
             if known is not None:
-                if not parts:
-                    names[offset] = found = known[0], end
-                    return found
                 parts += known[0].wire
                 break
     names[offset] = found = _name_of(parts, True), end

@@ -168,8 +168,9 @@ class Message:
         as `read_name` if its name is none, `MessageCut` if the octets end within it or within the header, and
         `TooManyPointers` if the names up to it follow more than `max_pointers` compression pointers in all.
         """
-        whole = _checks.octets("message", message)
-        most, room = _checks.number("max_pointers", max_pointers, _MOST_POINTERS), _room
+        whole = message if type(message) is bytes else _checks.octets("message", message)
+        most = max_pointers if max_pointers is _MAX_POINTERS else _checks.number("max_pointers", max_pointers, _MOST_POINTERS)
+        room = _room
         number = _message_read(whole, len(whole), most, room.read_at, room.fault_at)
         if number:
             fault = room.fault
@@ -177,9 +178,9 @@ class Message:
         names: Names = {}
         id, flags, asked, answer_count, authority_count, additional_count = _HEADER.unpack_from(whole)
         questions, offset = _questions(whole, asked, names)
-        answers, offset = section_records(whole, offset, answer_count, names)
-        authorities, offset = section_records(whole, offset, authority_count, names)
-        additionals, end = section_records(whole, offset, additional_count, names)
+        answers, offset = section_records(whole, offset, answer_count, names) if answer_count else ((), offset)
+        authorities, offset = section_records(whole, offset, authority_count, names) if authority_count else ((), offset)
+        additionals, end = section_records(whole, offset, additional_count, names) if additional_count else ((), offset)
         header = object.__new__(Header)
         header.__dict__.update(_fields_of(flags), id=id)
         # There is nothing more for __init__ to do.
@@ -450,7 +451,10 @@ def _questions(whole: bytes, count: int, names: Names) -> Tuple[Tuple[Question, 
     for _ in range(count):
         name, end = checked_name(whole, offset, names)
         kind, record_class = _CODES.unpack_from(whole, end)
-        questions.append(Question(name, RecordType.of(kind), RecordClass.of(record_class)))
+        question = object.__new__(Question)
+        codes = {"question_type": RecordType.of(kind), "question_class": RecordClass.of(record_class)}
+        question.__dict__.update(codes, name=name)
+        questions.append(question)
         offset = end + _CODES.size
     return tuple(questions), offset
 
