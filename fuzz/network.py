@@ -115,8 +115,9 @@ def running(command, **how):
             ran.terminate()
 
 
-def check_reply(how, question, answer, status, records, size, most):
+def check_reply(how, question, answer, reply, most):
     """A reply without TC has all records; with TC it lacks some."""
+    status, records, size = reply
     rcode, all_records = answer
     check(status[0] == rcode, how, question, status)
     check(size <= most, how, question, "octets", size)
@@ -142,24 +143,31 @@ def check_client(tool, port, asked, answers):
         return
     shown = ["+noall", "+answer", "+comments", "+stats"] if tool == "dig" else ["+noall", "+answer", "+header", "+stats"]
     for edns, most in SIZES:
-        for ending in (["+ignore"], []):
-            options = ["+noedns"] if edns is None else [f"+bufsize={edns}"]
-            # what dig would put into a query by itself
-            options += ["+nocookie", "+nocmd", "+tries=2"] if tool == "dig" else ["+retry=2"]
-            command = [path, "@127.0.0.1", "-p", str(port), *shown, *options, *ending]
-            if tool == "dig":
-                batch = "\n".join(f"{name} {kind}" for name, kind in asked) + "\n"
-                ran = subprocess.run([*command, "-f", "-"], input=batch, capture_output=True, text=True)
-            else:
-                words = [word for question in asked for word in question]
-                ran = subprocess.run([*command, *words], capture_output=True, text=True)
-            replies = list(blocks(ran.stdout))
-            check(len(replies) == len(asked), tool, edns, len(replies), ran.stdout[-500:], ran.stderr[-500:])
-            rows = zip(asked, answers, replies)
-            cut = sum(check_reply(tool, question, answer, *reply, most if ending else 65535) for question, answer, reply in rows)
-            check(ending or cut == 0, tool, edns, "TC over TCP", cut)
-            how = "without EDNS" if edns is None else f"with EDNS and {edns} octets"
-            say(f"{tool}, {how}: {len(asked)} names, {f'{cut} cut' if ending else 'all records, over TCP after TC'}")
+        how = "without EDNS" if edns is None else f"with EDNS and {edns} octets"
+        cut = [
+            sum(check_reply(f"{tool} {how}", *row, limit) for row in rows(tool, path, port, asked, answers, edns, ending))
+            for ending, limit in ((["+ignore"], most), ([], 65535))
+        ]
+        check(cut[1] == 0, tool, how, "TC over TCP", cut[1])
+        say(f"{tool}, {how}: {len(asked)} names, {cut[0]} cut, of which it has all records over TCP")
+
+
+def rows(tool, path, port, asked, answers, edns, ending):
+    """Each question, what is wanted, and the reply that dig or kdig printed."""
+    shown = ["+noall", "+answer", "+comments", "+stats"] if tool == "dig" else ["+noall", "+answer", "+header", "+stats"]
+    options = ["+noedns"] if edns is None else [f"+bufsize={edns}"]
+    # without what dig would put into a query by itself
+    options += ["+nocookie", "+nocmd", "+tries=2"] if tool == "dig" else ["+retry=2"]
+    command = [path, "@127.0.0.1", "-p", str(port), *shown, *options, *ending]
+    if tool == "dig":
+        batch = "\n".join(f"{name} {kind}" for name, kind in asked) + "\n"
+        ran = subprocess.run([*command, "-f", "-"], input=batch, capture_output=True, text=True)
+    else:
+        words = [word for question in asked for word in question]
+        ran = subprocess.run([*command, *words], capture_output=True, text=True)
+    replies = list(blocks(ran.stdout))
+    check(len(replies) == len(asked), tool, edns, len(replies), ran.stdout[-500:], ran.stderr[-500:])
+    return zip(asked, answers, replies)
 
 
 def check_dnspython(port, asked, answers):
@@ -174,7 +182,7 @@ def check_dnspython(port, asked, answers):
                 flags = "tc" if reply.flags & dns.flags.TC else ""
                 check(reply.flags & dns.flags.AA, "dnspython", name, "AA")
                 status = dns.rcode.to_text(reply.rcode()), flags
-                is_cut = check_reply("dnspython", (name, kind), answer, status, found, 0, limit)
+                is_cut = check_reply("dnspython", (name, kind), answer, (status, found, 0), limit)
                 check(over is dns.query.udp or not is_cut, "dnspython", name, "TC over TCP")
                 check(bool(answer[1]) or [rrset.rdtype for rrset in reply.authority] == [dns.rdatatype.SOA], name, "SOA")
     say(f"dnspython {dns.version.version} reads all {2 * len(SIZES) * len(asked)} replies, over UDP and TCP")
