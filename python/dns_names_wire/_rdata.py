@@ -3,7 +3,7 @@
 from ctypes import byref, c_char, c_size_t
 from dataclasses import dataclass
 from ipaddress import IPv4Address, IPv6Address
-from typing import Any, Callable, ClassVar, Dict, Optional, Tuple, Type, TypeVar
+from typing import Annotated, Any, Callable, ClassVar, Dict, Optional, Tuple, Type, TypeVar
 
 from . import _checks
 from ._checks import Bytes
@@ -74,6 +74,28 @@ def data_from_text(record_type: int, text: str, origin: Optional[Name] = None) -
     return data_from_wire(code, octets)
 
 
+# The fields of data, each with its letter: numbers of so many octets, a time, octets after their number, octets up to the end, texts,
+# and service parameters.
+U8 = Annotated[int, "1"]
+U16 = Annotated[int, "2"]
+U32 = Annotated[int, "4"]
+U48 = Annotated[int, "6"]
+U64 = Annotated[int, "8"]
+Time = Annotated[int, "T"]
+String = Annotated[bytes, "s"]
+Rest = Annotated[bytes, "o"]
+Strings = Annotated[Tuple[bytes, ...], "S"]
+Params = Annotated[Tuple[Tuple[int, bytes], ...], "P"]
+
+# The letters of fields whose type says what they are: a name, addresses, a type and a bitmap of types.
+_LETTERS: Dict[Any, str] = {Name: "n", IPv4Address: "i", IPv6Address: "I", RecordType: "t", TypeSet: "B"}
+
+
+def _letter(annotation: Any) -> str:
+    letter: str = getattr(annotation, "__metadata__", [_LETTERS.get(annotation, "")])[0]
+    return letter
+
+
 class Data:
     """The data of a record. Below it is a dataclass for each type.
 
@@ -82,17 +104,21 @@ class Data:
     '000a016100'
     """
 
-    # The code of the type, and a letter for each field: `n` a name, a digit a number of so many octets, `i` and `I` addresses,
-    # `t` a type, `T` a time, `s` and `c` octets after their number, `o` octets up to the end, and `S`, `B` and `P` texts, a
-    # bitmap of types and service parameters.
-    _code: ClassVar[int]
+    # The code of the type, if the class is of one, and a letter for each field, which its annotation has.
+    _code: ClassVar[Optional[int]] = None
     _kinds: ClassVar[str]
     __dataclass_fields__: ClassVar[Dict[str, Any]]
+
+    def __init_subclass__(cls, code: Optional[int] = None) -> None:
+        cls._code = code
+        annotations = cls.__annotations__
+        if annotations:
+            cls._kinds = "".join(_letter(annotation) for annotation in annotations.values())
 
     @property
     def record_type(self) -> RecordType:
         """The type of the data."""
-        return RecordType.of(self._code)
+        return RecordType.of(self._own_code())
 
     def to_wire(self) -> bytes:
         """The octets, names not compressed. Raises `DataTooLong` if a text has more than 255 octets, and `ValueError` if a number
@@ -102,7 +128,7 @@ class Data:
     @classmethod
     def from_wire(cls: Type[_Own], octets: Bytes) -> _Own:
         """The data that octets are, in which no name is compressed. Raises as `Record.fields`."""
-        return cls._own(data_from_wire(cls._code, octets))
+        return cls._own(data_from_wire(cls._own_code(), octets))
 
     @classmethod
     def from_text(cls: Type[_Own], text: str, origin: Optional[Name] = None) -> _Own:
@@ -112,7 +138,13 @@ class Data:
         >>> MX.from_text("10 a", origin=Name("b."))
         MX(preference=10, exchange=Name('a.b.'))
         """
-        return cls._own(data_from_text(cls._code, text, origin))
+        return cls._own(data_from_text(cls._own_code(), text, origin))
+
+    @classmethod
+    def _own_code(cls) -> int:
+        if cls._code is None:
+            raise TypeError(f"{cls.__name__} is of no type; data_from_wire and data_from_text take one")
+        return cls._code
 
     @classmethod
     def _own(cls: Type[_Own], data: "Data") -> _Own:
@@ -158,7 +190,6 @@ _PUT: Dict[str, Callable[[str, Any], bytes]] = {
     "t": _number(2),
     "T": _number(4),
     "s": _string,
-    "c": _string,
     "o": _octets,
     "S": lambda name, value: b"".join(_string(name, text) for text in value),
     "B": lambda name, value: TypeSet(value).to_bitmap(),
@@ -167,11 +198,10 @@ _PUT: Dict[str, Callable[[str, Any], bytes]] = {
 
 
 @dataclass(frozen=True)
-class A(Data):
+class A(Data, code=1):
     """An IPv4 address (RFC 1035, section 3.4.1). It may be given as a text."""
 
     address: IPv4Address
-    _code, _kinds = 1, "i"
 
     def __post_init__(self) -> None:
         if not isinstance(self.address, IPv4Address):
@@ -179,11 +209,10 @@ class A(Data):
 
 
 @dataclass(frozen=True)
-class AAAA(Data):
+class AAAA(Data, code=28):
     """An IPv6 address (RFC 3596, section 2.2). It may be given as a text."""
 
     address: IPv6Address
-    _code, _kinds = 28, "I"
 
     def __post_init__(self) -> None:
         if not isinstance(self.address, IPv6Address):
@@ -193,370 +222,310 @@ class AAAA(Data):
 @dataclass(frozen=True)
 class _Target(Data):
     target: Name
-    _kinds = "n"
 
 
-class NS(_Target):
+class NS(_Target, code=2):
     """A name server of a zone (RFC 1035, section 3.3.11)."""
 
-    _code = 2
 
-
-class MD(_Target):
+class MD(_Target, code=3):
     """A host that takes mail, which is obsolete (RFC 1035, section 3.3.4)."""
 
-    _code = 3
 
-
-class MF(_Target):
+class MF(_Target, code=4):
     """A host that forwards mail, which is obsolete (RFC 1035, section 3.3.5)."""
 
-    _code = 4
 
-
-class CNAME(_Target):
+class CNAME(_Target, code=5):
     """The name that an alias stands for (RFC 1035, section 3.3.1)."""
 
-    _code = 5
 
-
-class MB(_Target):
+class MB(_Target, code=7):
     """A host of a mailbox (RFC 1035, section 3.3.3)."""
 
-    _code = 7
 
-
-class MG(_Target):
+class MG(_Target, code=8):
     """A member of a group of mailboxes (RFC 1035, section 3.3.6)."""
 
-    _code = 8
 
-
-class MR(_Target):
+class MR(_Target, code=9):
     """The new name of a mailbox (RFC 1035, section 3.3.8)."""
 
-    _code = 9
 
-
-class PTR(_Target):
+class PTR(_Target, code=12):
     """Another name (RFC 1035, section 3.3.12)."""
 
-    _code = 12
 
-
-class DNAME(_Target):
+class DNAME(_Target, code=39):
     """The name that a whole subtree is an alias of (RFC 6672)."""
-
-    _code = 39
 
 
 @dataclass(frozen=True)
-class SOA(Data):
+class SOA(Data, code=6):
     """The start of a zone (RFC 1035, section 3.3.13)."""
 
     mname: Name
     rname: Name
-    serial: int
-    refresh: int
-    retry: int
-    expire: int
-    minimum: int
-    _code, _kinds = 6, "nn44444"
+    serial: U32
+    refresh: U32
+    retry: U32
+    expire: U32
+    minimum: U32
 
 
 @dataclass(frozen=True)
-class HINFO(Data):
+class HINFO(Data, code=13):
     """What a host is (RFC 1035, section 3.3.2)."""
 
-    cpu: bytes
-    os: bytes
-    _code, _kinds = 13, "ss"
+    cpu: String
+    os: String
 
 
 @dataclass(frozen=True)
-class MINFO(Data):
+class MINFO(Data, code=14):
     """A mailbox for requests and one for errors (RFC 1035, section 3.3.7)."""
 
     rmailbx: Name
     emailbx: Name
-    _code, _kinds = 14, "nn"
 
 
 @dataclass(frozen=True)
-class MX(Data):
+class MX(Data, code=15):
     """Where mail goes (RFC 1035, section 3.3.9)."""
 
-    preference: int
+    preference: U16
     exchange: Name
-    _code, _kinds = 15, "2n"
 
 
 @dataclass(frozen=True)
-class TXT(Data):
+class TXT(Data, code=16):
     """Texts (RFC 1035, section 3.3.14)."""
 
-    strings: Tuple[bytes, ...]
-    _code, _kinds = 16, "S"
+    strings: Strings
 
 
-class SPF(TXT):
+class SPF(TXT, code=99):
     """Texts, which TXT has taken the place of (RFC 7208, section 3.1)."""
-
-    _code = 99
 
 
 @dataclass(frozen=True)
-class RP(Data):
+class RP(Data, code=17):
     """Who is responsible, and the name of a text (RFC 1183, section 2.2)."""
 
     mbox: Name
     txt: Name
-    _code, _kinds = 17, "nn"
 
 
 @dataclass(frozen=True)
-class AFSDB(Data):
+class AFSDB(Data, code=18):
     """A server of a file system (RFC 1183, section 1)."""
 
-    subtype: int
+    subtype: U16
     hostname: Name
-    _code, _kinds = 18, "2n"
 
 
 @dataclass(frozen=True)
-class SRV(Data):
+class SRV(Data, code=33):
     """Where a service is (RFC 2782)."""
 
-    priority: int
-    weight: int
-    port: int
+    priority: U16
+    weight: U16
+    port: U16
     target: Name
-    _code, _kinds = 33, "222n"
 
 
 @dataclass(frozen=True)
-class NAPTR(Data):
+class NAPTR(Data, code=35):
     """A rule that rewrites a name (RFC 3403, section 4.1)."""
 
-    order: int
-    preference: int
-    flags: bytes
-    service: bytes
-    regexp: bytes
+    order: U16
+    preference: U16
+    flags: String
+    service: String
+    regexp: String
     replacement: Name
-    _code, _kinds = 35, "22sssn"
 
 
-class KX(MX):
+class KX(MX, code=36):
     """A host that exchanges keys (RFC 2230, section 3)."""
 
-    _code = 36
-
 
 @dataclass(frozen=True)
-class CERT(Data):
+class CERT(Data, code=37):
     """A certificate (RFC 4398, section 2)."""
 
-    certificate_type: int
-    key_tag: int
-    algorithm: int
-    certificate: bytes
-    _code, _kinds = 37, "221o"
+    certificate_type: U16
+    key_tag: U16
+    algorithm: U8
+    certificate: Rest
 
 
 @dataclass(frozen=True)
-class DS(Data):
+class DS(Data, code=43):
     """The digest of a child's key (RFC 4034, section 5.1)."""
 
-    key_tag: int
-    algorithm: int
-    digest_type: int
-    digest: bytes
-    _code, _kinds = 43, "211o"
+    key_tag: U16
+    algorithm: U8
+    digest_type: U8
+    digest: Rest
 
 
-class CDS(DS):
+class CDS(DS, code=59):
     """The child's copy of a DS (RFC 7344, section 3.1)."""
 
-    _code = 59
-
 
 @dataclass(frozen=True)
-class SSHFP(Data):
+class SSHFP(Data, code=44):
     """The fingerprint of an SSH key (RFC 4255, section 3.1)."""
 
-    algorithm: int
-    fp_type: int
-    fingerprint: bytes
-    _code, _kinds = 44, "11o"
+    algorithm: U8
+    fp_type: U8
+    fingerprint: Rest
 
 
 @dataclass(frozen=True)
-class RRSIG(Data):
+class RRSIG(Data, code=46):
     """A signature of records (RFC 4034, section 3.1). Times are in seconds since 1970, as serial numbers."""
 
     type_covered: RecordType
-    algorithm: int
-    labels: int
-    original_ttl: int
-    expiration: int
-    inception: int
-    key_tag: int
+    algorithm: U8
+    labels: U8
+    original_ttl: U32
+    expiration: Time
+    inception: Time
+    key_tag: U16
     signer: Name
-    signature: bytes
-    _code, _kinds = 46, "t114TT2no"
+    signature: Rest
 
 
-class SIG(RRSIG):
+class SIG(RRSIG, code=24):
     """A signature of a message (RFC 2931)."""
-
-    _code = 24
 
 
 @dataclass(frozen=True)
-class NSEC(Data):
+class NSEC(Data, code=47):
     """The next name of a zone, and the types of this one (RFC 4034, section 4.1)."""
 
     next: Name
     types: TypeSet
-    _code, _kinds = 47, "nB"
 
 
 @dataclass(frozen=True)
-class DNSKEY(Data):
+class DNSKEY(Data, code=48):
     """A key of a zone (RFC 4034, section 2.1)."""
 
-    flags: int
-    protocol: int
-    algorithm: int
-    key: bytes
-    _code, _kinds = 48, "211o"
+    flags: U16
+    protocol: U8
+    algorithm: U8
+    key: Rest
 
 
-class KEY(DNSKEY):
+class KEY(DNSKEY, code=25):
     """A key of a host (RFC 2535, section 3.1)."""
 
-    _code = 25
 
-
-class CDNSKEY(DNSKEY):
+class CDNSKEY(DNSKEY, code=60):
     """The child's copy of a DNSKEY (RFC 7344, section 3.2)."""
 
-    _code = 60
-
 
 @dataclass(frozen=True)
-class NSEC3(Data):
+class NSEC3(Data, code=50):
     """The next hash of a zone, and the types of this name (RFC 5155, section 3.2)."""
 
-    algorithm: int
-    flags: int
-    iterations: int
-    salt: bytes
-    next: bytes
+    algorithm: U8
+    flags: U8
+    iterations: U16
+    salt: String
+    next: String
     types: TypeSet
-    _code, _kinds = 50, "112ccB"
 
 
 @dataclass(frozen=True)
-class NSEC3PARAM(Data):
+class NSEC3PARAM(Data, code=51):
     """How the names of a zone are hashed (RFC 5155, section 4.2)."""
 
-    algorithm: int
-    flags: int
-    iterations: int
-    salt: bytes
-    _code, _kinds = 51, "112c"
+    algorithm: U8
+    flags: U8
+    iterations: U16
+    salt: String
 
 
 @dataclass(frozen=True)
-class TLSA(Data):
+class TLSA(Data, code=52):
     """A certificate of a TLS server (RFC 6698, section 2.1)."""
 
-    usage: int
-    selector: int
-    mtype: int
-    cert: bytes
-    _code, _kinds = 52, "111o"
+    usage: U8
+    selector: U8
+    mtype: U8
+    cert: Rest
 
 
-class SMIMEA(TLSA):
+class SMIMEA(TLSA, code=53):
     """A certificate for mail (RFC 8162, section 2)."""
 
-    _code = 53
-
 
 @dataclass(frozen=True)
-class CSYNC(Data):
+class CSYNC(Data, code=62):
     """What a parent may copy from its child (RFC 7477, section 2.1)."""
 
-    serial: int
-    flags: int
+    serial: U32
+    flags: U16
     types: TypeSet
-    _code, _kinds = 62, "42B"
 
 
 @dataclass(frozen=True)
-class ZONEMD(Data):
+class ZONEMD(Data, code=63):
     """The digest of a zone (RFC 8976, section 2.2)."""
 
-    serial: int
-    scheme: int
-    hash_algorithm: int
-    digest: bytes
-    _code, _kinds = 63, "411o"
+    serial: U32
+    scheme: U8
+    hash_algorithm: U8
+    digest: Rest
 
 
 @dataclass(frozen=True)
-class SVCB(Data):
+class SVCB(Data, code=64):
     """How to reach a service (RFC 9460, section 2.2). The parameters are pairs of a key and its value, by ascending keys."""
 
-    priority: int
+    priority: U16
     target: Name
-    params: Tuple[Tuple[int, bytes], ...]
-    _code, _kinds = 64, "2nP"
+    params: Params
 
 
-class HTTPS(SVCB):
+class HTTPS(SVCB, code=65):
     """How to reach a service over HTTPS (RFC 9460, section 9)."""
 
-    _code = 65
-
 
 @dataclass(frozen=True)
-class EUI48(Data):
+class EUI48(Data, code=108):
     """An address of 48 bits, as a number (RFC 7043, section 3)."""
 
-    eui: int
-    _code, _kinds = 108, "6"
+    eui: U48
 
 
 @dataclass(frozen=True)
-class EUI64(Data):
+class EUI64(Data, code=109):
     """An address of 64 bits, as a number (RFC 7043, section 4)."""
 
-    eui: int
-    _code, _kinds = 109, "8"
+    eui: U64
 
 
 @dataclass(frozen=True)
-class URI(Data):
+class URI(Data, code=256):
     """Where a resource is (RFC 7553, section 4)."""
 
-    priority: int
-    weight: int
-    target: bytes
-    _code, _kinds = 256, "22o"
+    priority: U16
+    weight: U16
+    target: Rest
 
 
 @dataclass(frozen=True)
-class CAA(Data):
+class CAA(Data, code=257):
     """Which authorities may issue certificates (RFC 8659, section 4.1)."""
 
-    flags: int
-    tag: bytes
-    value: bytes
-    _code, _kinds = 257, "1so"
+    flags: U8
+    tag: String
+    value: Rest
 
 
 @dataclass(frozen=True)
@@ -577,7 +546,7 @@ class Unknown(Data):
 
 
 def _classes(kind: Type[Data]) -> Dict[int, Type[Data]]:
-    found = {kind._code: kind} if hasattr(kind, "_code") else {}
+    found = {} if kind._code is None else {kind._code: kind}
     for below in kind.__subclasses__():
         found.update(_classes(below))
     return found

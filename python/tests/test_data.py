@@ -57,6 +57,19 @@ class DataByType(unittest.TestCase):
                 kind.from_text("ZZ")
 
 
+class Classes(unittest.TestCase):
+    def test_each_class_has_its_type_and_its_fields(self):
+        kinds = {kind._code: kind for kind in vars(dnw).values() if isinstance(kind, type) and getattr(kind, "_code", None)}
+        self.assertEqual(len(kinds), 44)
+        for code, kind in kinds.items():
+            self.assertEqual(len(kind._kinds), len(dataclasses.fields(kind)))
+            self.assertIn(dnw.type_text(code), [kind.__name__, f"TYPE{code}"])
+        self.assertEqual((dnw.RRSIG._kinds, dnw.NSEC3._kinds, dnw.KX._kinds), ("t114TT2no", "112ssB", "2n"))
+        for kind in [dnw.Data, dnw.Unknown]:
+            self.assertRaises(TypeError, kind.from_text, "a")
+            self.assertRaises(TypeError, kind.from_wire, b"a")
+
+
 class Arguments(unittest.TestCase):
     def test_arguments_are_checked(self):
         root = Name(".")
