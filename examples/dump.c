@@ -48,12 +48,10 @@ static uint32_t print_records(const char *title, const uint8_t *message, size_t 
     struct dnw_printed_record line;
     if (count > 0)
         printf("\n;; %s SECTION:\n", title);
-    for (; count > 0; count--) {
-        uint32_t failure = dnw_record_print(message, len, offset, text, sizeof text, &line);
-        if (failure != DNW_DONE)
+    for (uint32_t failure; count > 0; count--, offset = line.end) {
+        if ((failure = dnw_record_print(message, len, offset, text, sizeof text, &line)) != DNW_DONE)
             return failure;
         printf("%.*s\n", (int)line.len, (char *)text);
-        offset = line.end;
     }
     return DNW_DONE;
 }
@@ -64,21 +62,17 @@ int main(int argc, char **argv)
     struct dnw_message read;
     struct dnw_message_fault fault;
     FILE *file = argc > 1 ? fopen(argv[1], "rb") : stdin;
-    if (file == NULL) {
-        perror("dump");
-        return 1;
-    }
+    if (file == NULL)
+        return perror("dump"), 1;
     size_t len = fread(message, 1, sizeof message, file);
     uint32_t failure = dnw_message_read(message, len, DNW_MAX_POINTERS, &read, &fault);
     if (failure != DNW_DONE)
         return fail(failure, fault.offset);
     print_header(&read);
-    failure = print_questions(message, len, DNW_HEADER_SIZE, read.question_count);
-    if (failure == DNW_DONE)
-        failure = print_records("ANSWER", message, len, read.answers, read.answer_count);
-    if (failure == DNW_DONE)
-        failure = print_records("AUTHORITY", message, len, read.authorities, read.authority_count);
-    if (failure == DNW_DONE)
-        failure = print_records("ADDITIONAL", message, len, read.additionals, read.additional_count);
-    return failure == DNW_DONE ? 0 : fail(failure, read.end);
+    if ((failure = print_questions(message, len, DNW_HEADER_SIZE, read.question_count)) != DNW_DONE
+        || (failure = print_records("ANSWER", message, len, read.answers, read.answer_count)) != DNW_DONE
+        || (failure = print_records("AUTHORITY", message, len, read.authorities, read.authority_count)) != DNW_DONE
+        || (failure = print_records("ADDITIONAL", message, len, read.additionals, read.additional_count)) != DNW_DONE)
+        return fail(failure, read.end);
+    return 0;
 }

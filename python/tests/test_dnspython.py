@@ -3,13 +3,56 @@
 import random
 import unittest
 
-from dns_names_wire import DnsError, MessageWriter, Name, names, read_name
+from dns_names_wire import DnsError, Edns, Header, Message, MessageWriter, Name, Question, Record, names, read_name
 
 try:
     import dns.exception
+    import dns.flags
+    import dns.message
     import dns.name
+    import dns.rdata
+    import dns.rdataclass
+    import dns.rdatatype
 except ImportError:
     dns = None
+
+# Data of each type that has a text of its own, but those that dnspython 2.3.0 lacks.
+TEXTS = """\
+A 192.0.2.1
+NS ns.example.
+CNAME www.example.
+SOA ns.example. hostmaster.example. 2024010101 7200 3600 1209600 3600
+PTR host.example.
+HINFO "cpu" "os"
+MX 10 mail.example.
+TXT "v=spf1 -all" "" "a\\"b\\\\c\\200"
+RP mbox.example. txt.example.
+AFSDB 1 host.example.
+AAAA 2001:db8::1
+SRV 1 2 53 target.example.
+NAPTR 100 10 "u" "E2U+sip" "!^.*$!sip:info@example.com!" .
+KX 10 kx.example.
+CERT 1 2 3 AQIDBA==
+DNAME other.example.
+DS 60485 5 1 2bb183af5f22588179a53b0a98631fad1a292118
+SSHFP 2 1 123456789abcdef67890123456789abcdef67890
+RRSIG A 5 3 86400 20030322173103 20030220173103 2642 example. oJB1W6WNGv+ldvQ3WDG0MQkg5IEhjRip8WTr
+NSEC next.example. A MX RRSIG NSEC TYPE1234
+DNSKEY 256 3 5 AQPSKmynfzW4kyBv015MUG2DeIQ3
+NSEC3 1 1 12 aabbccdd 2vptu5timamqttgl4luu9kg21e0aor3s A RRSIG
+NSEC3PARAM 1 0 12 aabbccdd
+TLSA 3 1 1 d2abde240d7cd3ee6b4b28c54df034b97983a1d16e8a410e4561cb106618e971
+SMIMEA 3 1 1 d2abde240d7cd3ee6b4b28c54df034b97983a1d16e8a410e4561cb106618e971
+CDS 60485 5 1 2bb183af5f22588179a53b0a98631fad1a292118
+CDNSKEY 256 3 5 AQPSKmynfzW4kyBv015MUG2DeIQ3
+CSYNC 66 3 A NS AAAA
+SPF "v=spf1 -all"
+EUI48 00-00-5e-00-53-2a
+EUI64 00-00-5e-ef-10-00-00-2a
+URI 10 1 "https://example.com/"
+CAA 128 issue "ca.example.net"
+TYPE65280 \\# 4 0a000001
+""".splitlines()
 
 WORDS = [b"www", b"WWW", b"a", b"B", b"mail", b"example", b"Example", b"com", b"\x00", b"a.b", b"\xff\xc8", b"x" * 63]
 
@@ -20,6 +63,12 @@ def some_name(rng):
     while sum(len(label) + 1 for label in labels) > 254:
         labels.pop()
     return b"".join(bytes([len(label)]) + label for label in labels) + b"\x00"
+
+
+def numbered(text):
+    """A type and data, with the type's code, since dnspython has names for more of them."""
+    kind, own = text.split(" ", 1)
+    return f"TYPE{int(dns.rdatatype.from_text(kind))} {own}"
 
 
 @unittest.skipIf(dns is None, "dnspython is not installed")
@@ -75,3 +124,49 @@ class BesideDnspython(unittest.TestCase):
             ours = Name(text)
             self.assertEqual(ours.labels, tuple(label for label in theirs.labels if label))
             self.assertEqual((str(ours), ours.is_fqdn), (theirs.to_text(), theirs.is_absolute()))
+
+    def test_data_are_read_as_they_were_written(self):
+        for text in TEXTS:
+            kind, own = text.split(" ", 1)
+            record = Record.from_text(f"Host.Example. 60 IN {numbered(text)}")
+            theirs = dns.rdata.from_text("IN", kind, own)
+            self.assertEqual(record.raw_data, theirs.to_wire(), text)
+            # made of values, and written in a message, where names may be compressed
+            again = Record(record.owner, 60, record.data)
+            self.assertEqual(again.raw_data, record.raw_data, text)
+            wire = Message.build(Header(7), [Question(Name("example."), 255, 1)], [again]).to_wire(65535)
+            (read,) = dns.message.from_wire(wire).answer
+            self.assertEqual((read.name.to_text(), read.ttl, read.rdtype), ("Host.Example.", 60, record.record_type))
+            self.assertEqual(read[0], theirs, text)
+            # as a text, which dnspython reads as the same data
+            shown = dns.rdata.from_text("IN", kind, str(record).split(" ", 4)[4])
+            self.assertEqual(shown, theirs, text)
+
+    def test_messages_are_read_as_they_were_written(self):
+        owners = "www.example.", "example.", "x.www.example."
+        records = [Record.from_text(f"{owner} 60 IN {numbered(text)}") for text in TEXTS for owner in owners]
+        for _ in range(200):
+            sections = [self.rng.sample(records, self.rng.randrange(9)) for _ in range(3)]
+            question = Question(Name.from_wire(some_name(self.rng)), self.rng.randrange(65536), 1)
+            edns = Edns(4096, 0, True, ((10, b"12345678"),)) if self.rng.random() < 0.5 else None
+            header = Header(self.rng.randrange(65536), True, recursion_desired=True, response_code=3)
+            built = Message.build(header, [question], *sections, edns)
+            for size in [65535, self.rng.randrange(400, 1400)]:
+                wire = built.to_wire(size)
+                read = dns.message.from_wire(wire, one_rr_per_rrset=True)
+                ours = Message.from_wire(wire)
+                self.assertEqual((read.id, read.rcode(), read.payload), (header.id, 3, 4096 if edns else 0))
+                self.assertEqual(read.question[0].name.to_wire(), question.name.wire)
+                for theirs, written, own in zip(
+                    (read.answer, read.authority, read.additional), sections, (ours.answers, ours.authorities, ours.additionals)
+                ):
+                    found = [(one.name.to_wire(), one.ttl, one[0].to_wire()) for one in theirs]
+                    wanted = [(record.owner.wire, record.ttl, record.raw_data) for record in written]
+                    plain = [record.to_wire() for record in own if record.record_type != 41]
+                    self.assertEqual(plain, [record.to_wire() for record in written if record.to_wire() in plain])
+                    if size == 65535:
+                        self.assertEqual(found, wanted)
+                    self.assertEqual(len(found), len(plain))
+                cut = len(read.answer) + len(read.authority) < len(sections[0]) + len(sections[1])
+                self.assertEqual(bool(read.flags & dns.flags.TC), cut)
+
