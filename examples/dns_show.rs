@@ -85,13 +85,7 @@ const FIELDS: [(&str, &str); 13] = [
     ("NSEC", "nb"),
     ("CAA", "1t"),
 ];
-const OPCODES: [(u16, &str); 5] = [
-    (0, "QUERY"),
-    (1, "IQUERY"),
-    (2, "STATUS"),
-    (4, "NOTIFY"),
-    (5, "UPDATE"),
-];
+const OPCODES: [(u16, &str); 5] = [(0, "QUERY"), (1, "IQUERY"), (2, "STATUS"), (4, "NOTIFY"), (5, "UPDATE")];
 const STATUSES: [(u16, &str); 11] = [
     (0, "NOERROR"),
     (1, "FORMERR"),
@@ -105,15 +99,8 @@ const STATUSES: [(u16, &str); 11] = [
     (9, "NOTAUTH"),
     (10, "NOTZONE"),
 ];
-const FLAGS: [(u16, &str); 7] = [
-    (0x8000, "qr"),
-    (0x0400, "aa"),
-    (0x0200, "tc"),
-    (0x0100, "rd"),
-    (0x0080, "ra"),
-    (0x0020, "ad"),
-    (0x0010, "cd"),
-];
+const FLAGS: [(u16, &str); 7] =
+    [(0x8000, "qr"), (0x0400, "aa"), (0x0200, "tc"), (0x0100, "rd"), (0x0080, "ra"), (0x0020, "ad"), (0x0010, "cd")];
 
 /// The text for a code, or another and the code.
 fn code_text(texts: &[(u16, &str)], other: &str, code: u16) -> String {
@@ -150,24 +137,14 @@ fn strings_text(data: &mut Cursor) -> Result<String, Rejected> {
 
 fn tagged_text(data: &mut Cursor) -> Result<String, Rejected> {
     let len = data.take_u8()?;
-    let tag: String = data
-        .take(len.into())?
-        .iter()
-        .copied()
-        .map(char::from)
-        .collect();
+    let tag: String = data.take(len.into())?.iter().copied().map(char::from).collect();
     Ok(format!("{tag} {}", string_text(data.rest())))
 }
 
 fn types_text(data: &mut Cursor) -> Result<String, Rejected> {
     let at = data.at;
-    let types = TypeSet::from_bitmap(data.rest())
-        .map_err(|error| Rejected(at, error.kind().to_string()))?;
-    Ok(types
-        .iter()
-        .map(|kind| kind.to_string())
-        .collect::<Vec<_>>()
-        .join(" "))
+    let types = TypeSet::from_bitmap(data.rest()).map_err(|error| Rejected(at, error.kind().to_string()))?;
+    Ok(types.iter().map(|kind| kind.to_string()).collect::<Vec<_>>().join(" "))
 }
 
 fn field_text(data: &mut Cursor, field: char) -> Result<String, Rejected> {
@@ -187,20 +164,12 @@ fn field_text(data: &mut Cursor, field: char) -> Result<String, Rejected> {
 
 /// A record's data: by its type, or as RFC 3597 does.
 fn data_text(mut data: Cursor, kind: &str) -> Result<String, Rejected> {
-    let fields = FIELDS
-        .iter()
-        .find(|(known, _)| *known == kind)
-        .map_or("", |(_, fields)| fields);
+    let fields = FIELDS.iter().find(|(known, _)| *known == kind).map_or("", |(_, fields)| fields);
     if fields.is_empty() {
         let octets = data.rest();
-        return Ok(format!("\\# {} {}", octets.len(), hex(octets))
-            .trim_end()
-            .into());
+        return Ok(format!("\\# {} {}", octets.len(), hex(octets)).trim_end().into());
     }
-    let texts: Result<Vec<String>, Rejected> = fields
-        .chars()
-        .map(|field| field_text(&mut data, field))
-        .collect();
+    let texts: Result<Vec<String>, Rejected> = fields.chars().map(|field| field_text(&mut data, field)).collect();
     let text = texts?.join(" ");
     match data.at == data.end {
         true => Ok(text),
@@ -209,54 +178,29 @@ fn data_text(mut data: Cursor, kind: &str) -> Result<String, Rejected> {
 }
 
 fn record_text(cursor: &mut Cursor) -> Result<String, Rejected> {
-    let record = Record::read(cursor.message, cursor.at)
-        .map_err(|error| Rejected(cursor.at, error.kind().to_string()))?;
+    let record =
+        Record::read(cursor.message, cursor.at).map_err(|error| Rejected(cursor.at, error.kind().to_string()))?;
     cursor.at = record.end();
-    let (kind, class, ttl) = (
-        record.record_type().to_string(),
-        record.class(),
-        record.ttl(),
-    );
+    let (kind, class, ttl) = (record.record_type().to_string(), record.class(), record.ttl());
     if kind == "OPT" {
         // RFC 6891: its class is a size, and its TTL has a version and flags.
         let flags = if ttl & 0x8000 != 0 { " do" } else { "" };
-        return Ok(format!(
-            "; EDNS: version: {}, flags:{flags}; udp: {}",
-            ttl >> 16 & 255,
-            u16::from(class)
-        ));
+        return Ok(format!("; EDNS: version: {}, flags:{flags}; udp: {}", ttl >> 16 & 255, u16::from(class)));
     }
-    let data = Cursor {
-        message: cursor.message,
-        at: record.data_offset(),
-        end: record.end(),
-    };
+    let data = Cursor { message: cursor.message, at: record.data_offset(), end: record.end() };
     let owner = record.owner();
-    Ok(format!(
-        "{owner}\t{ttl}\t{class}\t{kind}\t{}",
-        data_text(data, &kind)?
-    ))
+    Ok(format!("{owner}\t{ttl}\t{class}\t{kind}\t{}", data_text(data, &kind)?))
 }
 
 fn question_text(cursor: &mut Cursor) -> Result<String, Rejected> {
     let name = cursor.name()?;
-    let (kind, class) = (
-        RecordType::from(cursor.take_u16()?),
-        Class::from(cursor.take_u16()?),
-    );
+    let (kind, class) = (RecordType::from(cursor.take_u16()?), Class::from(cursor.take_u16()?));
     Ok(format!(";{name}\t{class}\t{kind}"))
 }
 
 fn header_text(id: u16, word: u16, counts: [u16; 4]) -> String {
-    let (opcode, status) = (
-        code_text(&OPCODES, "OPCODE", word >> 11 & 15),
-        code_text(&STATUSES, "RCODE", word & 15),
-    );
-    let flags: String = FLAGS
-        .iter()
-        .filter(|(mask, _)| word & mask != 0)
-        .map(|(_, text)| format!(" {text}"))
-        .collect();
+    let (opcode, status) = (code_text(&OPCODES, "OPCODE", word >> 11 & 15), code_text(&STATUSES, "RCODE", word & 15));
+    let flags: String = FLAGS.iter().filter(|(mask, _)| word & mask != 0).map(|(_, text)| format!(" {text}")).collect();
     let [questions, answers, authorities, additionals] = counts;
     format!(
         ";; ->>HEADER<<- opcode: {opcode}, status: {status}, id: {id}\n;; flags:{flags}; QUERY: {questions}, \
@@ -266,42 +210,23 @@ fn header_text(id: u16, word: u16, counts: [u16; 4]) -> String {
 
 /// Adds the lines of a message.
 fn show_message(message: &[u8], out: &mut String) -> Result<(), Rejected> {
-    let mut cursor = Cursor {
-        message,
-        at: 0,
-        end: message.len(),
-    };
+    let mut cursor = Cursor { message, at: 0, end: message.len() };
     let (id, word) = (cursor.take_u16()?, cursor.take_u16()?);
-    let counts = [
-        cursor.take_u16()?,
-        cursor.take_u16()?,
-        cursor.take_u16()?,
-        cursor.take_u16()?,
-    ];
+    let counts = [cursor.take_u16()?, cursor.take_u16()?, cursor.take_u16()?, cursor.take_u16()?];
     *out += &header_text(id, word, counts);
-    for (section, count) in ["QUESTION", "ANSWER", "AUTHORITY", "ADDITIONAL"]
-        .iter()
-        .zip(counts)
-    {
+    for (section, count) in ["QUESTION", "ANSWER", "AUTHORITY", "ADDITIONAL"].iter().zip(counts) {
         if count > 0 {
             *out += &format!("\n\n;; {section} SECTION:");
         }
         for _ in 0..count {
             *out += "\n";
-            *out += &if *section == "QUESTION" {
-                question_text(&mut cursor)?
-            } else {
-                record_text(&mut cursor)?
-            };
+            *out += &if *section == "QUESTION" { question_text(&mut cursor)? } else { record_text(&mut cursor)? };
         }
     }
     *out += "\n";
     match cursor.at == cursor.end {
         true => Ok(()),
-        false => Err(Rejected(
-            cursor.at,
-            "octets are left after the message".into(),
-        )),
+        false => Err(Rejected(cursor.at, "octets are left after the message".into())),
     }
 }
 
@@ -309,10 +234,7 @@ fn show_message(message: &[u8], out: &mut String) -> Result<(), Rejected> {
 fn show_sorted(text: &str, out: &mut String) -> Result<(), Rejected> {
     let (mut names, mut at) = (Vec::new(), 0);
     for line in text.split_inclusive('\n') {
-        let mut name: Name = line
-            .trim_end_matches('\n')
-            .parse()
-            .map_err(|e| Rejected(at, format!("{e}")))?;
+        let mut name: Name = line.trim_end_matches('\n').parse().map_err(|e| Rejected(at, format!("{e}")))?;
         name.set_fqdn(true);
         names.push(name);
         at += line.len();
@@ -324,30 +246,20 @@ fn show_sorted(text: &str, out: &mut String) -> Result<(), Rejected> {
 
 /// The octets, or if they are hexadecimal digits and blanks what they stand for.
 fn message_of(octets: Vec<u8>) -> Result<Vec<u8>, Rejected> {
-    if !octets
-        .iter()
-        .all(|octet| octet.is_ascii_hexdigit() || octet.is_ascii_whitespace())
-    {
+    if !octets.iter().all(|octet| octet.is_ascii_hexdigit() || octet.is_ascii_whitespace()) {
         return Ok(octets);
     }
     let digits: Vec<u8> = octets.into_iter().filter(u8::is_ascii_hexdigit).collect();
     if digits.len() % 2 != 0 {
-        return Err(Rejected(
-            digits.len() / 2,
-            "half an octet in hexadecimal".into(),
-        ));
+        return Err(Rejected(digits.len() / 2, "half an octet in hexadecimal".into()));
     }
     let value = |digit: u8| char::from(digit).to_digit(16).expect("a hexadecimal digit") as u8;
-    Ok(digits
-        .chunks(2)
-        .map(|pair| value(pair[0]) << 4 | value(pair[1]))
-        .collect())
+    Ok(digits.chunks(2).map(|pair| value(pair[0]) << 4 | value(pair[1])).collect())
 }
 
 fn run(sorts: bool, octets: Vec<u8>, out: &mut String) -> Result<(), Rejected> {
     if sorts {
-        let text =
-            std::str::from_utf8(&octets).map_err(|e| Rejected(e.valid_up_to(), e.to_string()))?;
+        let text = std::str::from_utf8(&octets).map_err(|e| Rejected(e.valid_up_to(), e.to_string()))?;
         show_sorted(text, out)
     } else {
         show_message(&message_of(octets)?, out)

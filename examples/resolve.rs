@@ -16,11 +16,7 @@ const WAIT: Duration = Duration::from_secs(2);
 
 /// Returns the first message that is a reply to the query. Others are not from the server, or are late.
 fn over_udp(server: SocketAddr, query: &Message) -> Outcome<Vec<u8>> {
-    let socket = UdpSocket::bind(if server.is_ipv4() {
-        "0.0.0.0:0"
-    } else {
-        "[::]:0"
-    })?;
+    let socket = UdpSocket::bind(if server.is_ipv4() { "0.0.0.0:0" } else { "[::]:0" })?;
     socket.connect(server)?;
     socket.set_read_timeout(Some(WAIT))?;
     let mut room = [0; PAYLOAD as usize];
@@ -60,9 +56,7 @@ fn resolve() -> Outcome<()> {
     let (name, record_type): (Name, RecordType) = (words[2].parse()?, words[3].parse()?);
     // An id that a stranger cannot guess.
     let id = RandomState::new().build_hasher().finish() as u16;
-    let octets = MessageBuilder::query(id, &name, record_type)
-        .edns(&Edns::new(PAYLOAD))
-        .finish(512)?;
+    let octets = MessageBuilder::query(id, &name, record_type).edns(&Edns::new(PAYLOAD)).finish(512)?;
     let query = Message::read(&octets)?;
     let mut reply = over_udp(server, &query)?;
     if Message::read(&reply)?.header().truncation {

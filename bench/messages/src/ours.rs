@@ -1,7 +1,9 @@
 //! The Rust crate.
 use crate::{black_box, repeat, Task};
 use dns_names_wire::rdata::{CAA, MX, SOA, SRV};
-use dns_names_wire::{Edns, Message, MessageBuilder, Name, NameRef, RData, RecordBuf, RecordType, SectionRecords, Texts};
+use dns_names_wire::{
+    Edns, Message, MessageBuilder, Name, NameRef, RData, RecordBuf, RecordType, SectionRecords, Texts,
+};
 
 pub fn run(task: &Task, octets: &[u8], count: u64) -> u64 {
     let message = Message::read(octets).expect("a message");
@@ -91,7 +93,11 @@ impl Parts {
             let not_opt = records.filter(|record| record.record_type() != RecordType::OPT);
             not_opt.map(|it| (it.owner().to_name(), it.ttl(), Owned::of(it.data().expect("data")))).collect()
         });
-        Parts { header: message.header(), question: (question.name.to_name(), question.question_type, question.class), sections }
+        Parts {
+            header: message.header(),
+            question: (question.name.to_name(), question.question_type, question.class),
+            sections,
+        }
     }
 
     fn build(&self) -> MessageBuilder {
@@ -138,18 +144,16 @@ impl Owned {
             Owned::Name(RecordType::CNAME, name) => add(RData::CNAME(name.into())),
             Owned::Name(_, name) => add(RData::PTR(name.into())),
             Owned::MX(preference, name) => add(MX { preference: *preference, exchange: name.into() }.into()),
-            Owned::SOA(mname, rname, [serial, refresh, retry, expire, minimum]) => add(
-                SOA {
-                    mname: mname.into(),
-                    rname: rname.into(),
-                    serial: *serial,
-                    refresh: *refresh,
-                    retry: *retry,
-                    expire: *expire,
-                    minimum: *minimum,
-                }
-                .into(),
-            ),
+            Owned::SOA(mname, rname, [serial, refresh, retry, expire, minimum]) => add(SOA {
+                mname: mname.into(),
+                rname: rname.into(),
+                serial: *serial,
+                refresh: *refresh,
+                retry: *retry,
+                expire: *expire,
+                minimum: *minimum,
+            }
+            .into()),
             Owned::SRV([priority, weight, port], target) => {
                 add(SRV { priority: *priority, weight: *weight, port: *port, target: target.into() }.into())
             }

@@ -23,7 +23,9 @@ fn with_edns(mut message: Message) -> Message {
 fn read(octets: &[u8]) -> u64 {
     let message = Message::from_vec(octets).expect("a message");
     let records = message.answers().iter().chain(message.name_servers()).chain(message.additionals());
-    records.map(|record| name_size(record.name()) + u64::from(record.ttl()) + data_size(record.data().expect("data"))).sum()
+    records
+        .map(|record| name_size(record.name()) + u64::from(record.ttl()) + data_size(record.data().expect("data")))
+        .sum()
 }
 
 /// The octets of a name's wire form, whose labels are looked at.
