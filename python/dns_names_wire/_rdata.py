@@ -10,7 +10,7 @@ from ._checks import Bytes
 from ._codes import RecordType
 from ._errors import DataTooLong, check
 from ._fields import Names, fields, plain_values
-from ._library import FORM_SIZE, NO_ROOM, library, taken
+from ._library import FORM_SIZE, NO_ROOM, PrintedRecord, library, taken
 from ._names import Name, wire_of
 from ._types import TypeSet
 
@@ -33,6 +33,18 @@ def parsed(parse: Callable[..., int], text: str, origin: Optional[Name]) -> byte
             check(number)
             return taken(room, length.value)
         size = _MOST
+
+
+def printed(message: bytes, start: int) -> str:
+    """The line of the record at an offset of a message."""
+    size, result = _USUAL_SIZE, PrintedRecord()
+    while True:
+        room = (c_char * size)()
+        number = library.dnw_record_print(message, len(message), start, room, size, byref(result))
+        if number != NO_ROOM:
+            check(number, start)
+            return taken(room, result.len).decode("ascii")
+        size *= 4
 
 
 def data_from_wire(record_type: int, octets: Bytes) -> "Data":
@@ -124,6 +136,21 @@ class Data:
         """The octets, names not compressed. Raises `DataTooLong` if a text has more than 255 octets, and `ValueError` if a number
         is out of bounds."""
         return b"".join([_PUT[kind](name, getattr(self, name)) for name, kind in zip(self.__dataclass_fields__, self._kinds)])
+
+    def to_text(self) -> str:
+        """The text in master files: the fields of the type, or that of any data, as `\\# 4 0A000001` (RFC 3597, section 5). Raises as
+        `to_wire`.
+
+        >>> from dns_names_wire import MX, Name
+        >>> MX(preference=10, exchange=Name("a.")).to_text()
+        '10 a.'
+        """
+        octets = self.to_wire()
+        if len(octets) > 65535:
+            raise DataTooLong()
+        # a record of the root, of class IN
+        head = b"\0" + self.record_type.to_bytes(2, "big") + b"\0\1\0\0\0\0" + len(octets).to_bytes(2, "big")
+        return printed(head + octets, 0).split(" ", 4)[4]
 
     @classmethod
     def from_wire(cls: Type[_Own], octets: Bytes) -> _Own:

@@ -1,7 +1,7 @@
 """The records of messages."""
 
 import struct
-from ctypes import byref, c_char, c_size_t
+from ctypes import byref, c_size_t
 from typing import Dict, Iterator, Optional, Tuple
 
 from . import _checks
@@ -9,16 +9,14 @@ from ._checks import Bytes
 from ._codes import RecordClass, RecordType
 from ._errors import DataTooLong, MessageCut, check
 from ._fields import FieldValue, Names, Placed, checked_name, fields
-from ._library import FORM_SIZE, NO_ROOM, Form, PrintedRecord, library, taken
+from ._library import FORM_SIZE, Form, library, taken
 from ._library import Record as Read
 from ._names import Name, placed, wire_of
-from ._rdata import CLASSES, Data, data_in, parsed
+from ._rdata import CLASSES, Data, data_in, parsed, printed
 
 # What is between the owner and the data: the type, the class, the time to live and the number of octets of data.
 _FIXED = struct.Struct("!HHIH")
 _MOST = 65535
-# For how many characters of a line there is room at first.
-_USUAL_LINE_SIZE = 512
 
 
 class _NoNames(Dict[int, Placed]):
@@ -193,15 +191,7 @@ class Record:
         return tuple(fields(self._message, self._data_offset, self._end, self._type))
 
     def __str__(self) -> str:
-        size, printed = _USUAL_LINE_SIZE, PrintedRecord()
-        while True:
-            room = (c_char * size)()
-            number = library.dnw_record_print(self._message, len(self._message), self._start, room, size, byref(printed))
-            if number != NO_ROOM:
-                break
-            size *= 4
-        check(number, self._start)
-        return taken(room, printed.len).decode("ascii")
+        return printed(self._message, self._start)
 
     def __repr__(self) -> str:
         return f"<Record {self.owner} {self.ttl} {self.record_class} {self.record_type} {self.raw_data.hex()}>"

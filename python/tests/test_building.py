@@ -187,7 +187,7 @@ class Records(unittest.TestCase):
             self.assertEqual(relative.to_wire(), record.to_wire(), line)
             kind, text = line.split(" ", 4)[3:]
             data = dnw.data_from_text(RecordType.from_text(kind), text)
-            self.assertEqual(data, record.data)
+            self.assertEqual((data, data.to_text()), (record.data, text))
             self.assertEqual(dnw.data_from_wire(data.record_type, data.to_wire()), data)
             if not isinstance(data, dnw.Unknown):
                 self.assertEqual((type(data).from_text(text), type(data).from_wire(data.to_wire())), (data, data))
@@ -230,8 +230,10 @@ class Records(unittest.TestCase):
         text = "^the data of a record, or a character string in them, are too long$"
         with self.assertRaisesRegex(dnw.DataTooLong, text):
             dnw.TXT((bytes(256),)).to_wire()
-        with self.assertRaisesRegex(dnw.DataTooLong, text):
-            Record(Name("."), 0, dnw.Unknown(65280, bytes(65536)))
+        for call in [lambda long: Record(Name("."), 0, long), dnw.Unknown.to_text]:
+            with self.assertRaisesRegex(dnw.DataTooLong, text):
+                call(dnw.Unknown(65280, bytes(65536)))
+        self.assertEqual(dnw.Unknown(65280, bytes(65535)).to_text(), "\\# 65535 " + "00" * 65535)
 
     def test_names_with_an_origin(self):
         origin = Name("example.")
