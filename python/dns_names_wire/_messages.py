@@ -307,8 +307,9 @@ class Message:
         with it, and 65535 over TCP. Of the questions and records each is written that has room; if an answer or an authority has
         none, TC is set (RFC 2181, section 9). An OPT record is always there, and the last.
 
-        Raises as `edns`, as `Record.fields` if the data of a record are no fields of its type, and `MessageTooLong` if the header
-        and the OPT record have more than `max_size` octets.
+        Raises as `edns`, as `Record.fields` if the data of a record are no fields of its type, `MessageTooLong` if the header and
+        the OPT record have more than `max_size` octets, and `TooManyPointers` if the names follow more than 65,536 compression
+        pointers.
 
         >>> record = Record.from_text("a. 60 IN TXT " + " ".join(["abcdefgh"] * 100))
         >>> reply = Message.query(Name("a."), RecordType.TXT, id=7).reply([record])

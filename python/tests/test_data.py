@@ -3,11 +3,13 @@ from; the others are worked by hand from RFC 1035, sections 4.1 and 5.1, and RFC
 
 import dataclasses
 import pickle
+import random
 import unittest
 from ipaddress import IPv4Address, IPv6Address
 
 import dns_names_wire as dnw
 from dns_names_wire import Message, Name, OpCode, Record, ResponseCode
+from dns_names_wire._rdata import CLASSES
 
 from test_whole_messages import RESPONSE
 
@@ -55,6 +57,66 @@ class DataByType(unittest.TestCase):
                 kind(most + 1)
             with self.assertRaises(dnw.UnknownText):
                 kind.from_text("ZZ")
+
+
+class ByChance(unittest.TestCase):
+    """Data by chance, often with a fault: what the package reads by itself is what the library reads, or fails as it does."""
+
+    def setUp(self):
+        self.rng = random.Random(1035)
+
+    def octets(self, most):
+        return bytes(self.rng.randrange(256) for _ in range(self.rng.randrange(most)))
+
+    def name(self, size):
+        """The octets of a name in a message of so many octets."""
+        labels = [self.rng.choice([1, 1, 2, 7, 63, 64]) for _ in range(self.rng.randrange(3))]
+        own = b"".join(bytes([length]) + b"a" * length for length in labels)
+        target = self.rng.choice([12, 16, self.rng.randrange(size)])
+        return own + self.rng.choice([b"\0", (0xC000 | target).to_bytes(2, "big")])
+
+    def field(self, kind, size):
+        if kind == "n":
+            return self.name(size)
+        if kind in "sS":
+            return b"".join(bytes([len(text)]) + text for text in [self.octets(6)] * self.rng.randrange(3 if kind == "S" else 2))
+        if kind in "BP":
+            return self.rng.choice([b"", b"\0\1\x40", b"\0\0", b"\1\1\2\0\1\1", b"\0\1\0\2ab", b"\0\2\0\0\0\1\0\0"])
+        return self.octets(5) if kind == "o" else bytes({"i": 4, "I": 16, "t": 2, "T": 4}.get(kind) or int(kind))
+
+    def message(self):
+        wire, count = bytearray.fromhex("0001800000010000000000000377777707 6578616d706c65000001 0001".replace(" ", "")), 3
+        for _ in range(count):
+            kind = self.rng.choice(list(CLASSES.values()))
+            wire += self.rng.choice([b"\xc0\x0c", b"\xc0\x10", b"\1a\xc0\x10", b"\0"])
+            head = len(wire)
+            wire += kind._code.to_bytes(2, "big") + bytes(8)
+            for letter in kind._kinds:
+                wire += self.field(letter, len(wire))
+            wire += self.octets(2) if self.rng.random() < 0.1 else b""
+            if self.rng.random() < 0.1 and len(wire) > head + 10:
+                del wire[-1]
+            wire[head + 8 : head + 10] = (len(wire) - head - 10).to_bytes(2, "big")
+        wire[7] = count
+        return bytes(wire)
+
+    def outcome(self, call):
+        try:
+            return call()
+        except dnw.DnsError as error:
+            return type(error), str(error)
+
+    def test_data_by_chance(self):
+        counts = {True: 0, False: 0}
+        for _ in range(1500):
+            wire = self.message()
+            for record in self.rng.sample(Message.from_wire(wire).answers, 3):
+                own = self.outcome(lambda: record.data)
+                wanted = self.outcome(lambda: CLASSES[record.record_type](*record.fields()))
+                self.assertEqual((own, repr(own)), (wanted, repr(wanted)), wire.hex())
+                self.assertEqual(record.owner.wire, dnw.read_record(wire, record._start).owner.wire)
+                counts[isinstance(own, dnw.Data)] += 1
+        self.assertGreater(min(counts.values()), 500)
 
 
 class Classes(unittest.TestCase):

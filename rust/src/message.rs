@@ -248,7 +248,8 @@ impl<'a> Message<'a> {
     /// # Errors
     ///
     /// As [`edns`](Message::edns); as [`Record::fields`] if the data of a record are no fields of its type; `MessageTooLong` if the
-    /// header and the OPT record have more than `max_size` octets; or `NoMemory`.
+    /// header and the OPT record have more than `max_size` octets; `TooManyPointers` if the names follow more than 65,536
+    /// compression pointers, which [`read_limited`](Message::read_limited) may have allowed; or `NoMemory`.
     ///
     /// ```
     /// let octets = b"\0\0\x84\0\0\x01\0\x01\0\0\0\0\x01b\0\0\x05\0\x01\x01b\0\0\x05\0\x01\0\0\0\0\0\x05\x01a\x01b\0";

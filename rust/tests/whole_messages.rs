@@ -286,3 +286,50 @@ fn a_message_is_shown_with_edns_or_with_what_is_none() {
         lines("NOERROR", 2) + ";; ADDITIONAL SECTION:\n" + line + line
     );
 }
+
+/// Data by chance, often with a fault: the data by type fail as the first field that is none does, or have the octets that the
+/// fields have.
+#[test]
+fn data_fail_as_their_fields_do() {
+    let mut state = 1035_u32;
+    let mut chance = |below: u32| {
+        state ^= state << 13;
+        state ^= state >> 17;
+        state ^= state << 5;
+        state % below
+    };
+    let (mut whole, mut broken) = (0, 0);
+    for _ in 0..40_000 {
+        // a name, and a record of it
+        let code = [1, 2, 6, 13, 15, 16, 17, 28, 33, 35, 43, 46, 47, 50, 51, 62, 64, 99, 108, 109, 257, 65280]
+            [chance(22) as usize];
+        let mut octets = b"\x01a\x01b\0\xC0\0".to_vec();
+        octets.extend([(code >> 8) as u8, code as u8, 0, 1, 0, 0, 0, 0, 0, 0]);
+        let start = octets.len();
+        for _ in 0..chance(12) {
+            match chance(5) {
+                0 => octets.extend([1, b'c', 0xC0, 2]),
+                1 => octets.extend([0xC0, chance(4) as u8]),
+                2 => octets.extend([0; 4]),
+                3 => octets.extend([0, 1, 0x40]),
+                _ => octets.push(chance(256) as u8),
+            }
+        }
+        let len = octets.len() - start;
+        octets[start - 1] = len as u8;
+        let record = Record::read(&octets, 5).unwrap();
+        let first = record.fields().find_map(Result::err);
+        assert_eq!(record.data().err(), first, "{octets:?}");
+        match record.data().map(|data| data.to_wire().unwrap()) {
+            Ok(wire) if record.fields().any(|field| matches!(field, Ok(Field::Name(_) | Field::Types(_)))) => {
+                whole += usize::from(!wire.is_empty());
+            }
+            Ok(wire) => {
+                assert_eq!(wire, record.raw_data());
+                whole += 1;
+            }
+            Err(_) => broken += 1,
+        }
+    }
+    assert!(whole > 2000 && broken > 2000, "{whole} {broken}");
+}
