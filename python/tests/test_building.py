@@ -197,6 +197,13 @@ class Records(unittest.TestCase):
         self.assertEqual(dnw.MX.from_text("10 @", origin=Name("a.")), dnw.MX(10, Name("a.")))
 
     def test_texts_that_are_no_records(self):
+        texts = {
+            dnw.BadText: "a label, a character or an escape of the text is not allowed",
+            dnw.BadTime: "the text is no time to live",
+            dnw.UnknownText: "the text names no record type and no class",
+            dnw.BadData: "the text is no data of the record type",
+            dnw.NotUtf8: "the text is not UTF-8",
+        }
         for line, error in [
             ("", dnw.BadText),
             ("a 1 IN A 192.0.2.1", dnw.BadText),
@@ -212,8 +219,7 @@ class Records(unittest.TestCase):
         ]:
             with self.assertRaises(error) as caught:
                 Record.from_text(line)
-            self.assertNotIn("failure", str(caught.exception))
-            self.assertEqual(dnw.DnsError, type(caught.exception).__mro__[1])
+            self.assertEqual(str(caught.exception), texts[error])
         self.assertRaises(dnw.BadData, dnw.data_from_text, 1, "192.0.2")
         self.assertRaises(dnw.BadData, dnw.A.from_text, "")
         self.assertRaises(dnw.MessageCut, dnw.A.from_wire, b"123")

@@ -266,23 +266,27 @@ fn records_are_parsed_and_shown() {
 
 #[test]
 fn texts_that_are_no_records() {
-    for (line, kind, text) in [
-        ("", ErrorKind::BadText, "the label, the character or the escape is not allowed"),
-        ("a 1 IN A 192.0.2.1", ErrorKind::BadText, ""),
-        ("a. IN A 192.0.2.1", ErrorKind::BadTime, ""),
-        ("a. 4294967296 IN A 192.0.2.1", ErrorKind::BadTime, ""),
-        ("a. 1 IN NOTYPE 192.0.2.1", ErrorKind::UnknownText, ""),
-        ("a. 1 IN", ErrorKind::UnknownText, ""),
-        ("a. 1 IN A", ErrorKind::BadData, ""),
-        ("a. 1 IN A 192.0.2.1 1", ErrorKind::BadData, ""),
-        ("a. 1 IN MX 65536 a.", ErrorKind::BadData, ""),
-        ("a. 1 IN MX 1 a", ErrorKind::BadData, ""),
-        ("a. 1 IN TYPE65280 01", ErrorKind::BadData, ""),
+    let texts = [
+        (ErrorKind::BadText, "a label, a character or an escape of the text is not allowed"),
+        (ErrorKind::BadTime, "the text is no time to live"),
+        (ErrorKind::UnknownText, "the text names no record type and no class"),
+        (ErrorKind::BadData, "the text is no data of the record type"),
+    ];
+    for (line, number) in [
+        ("", 0),
+        ("a 1 IN A 192.0.2.1", 0),
+        ("a. IN A 192.0.2.1", 1),
+        ("a. 4294967296 IN A 192.0.2.1", 1),
+        ("a. 1 IN NOTYPE 192.0.2.1", 2),
+        ("a. 1 IN", 2),
+        ("a. 1 IN A", 3),
+        ("a. 1 IN A 192.0.2.1 1", 3),
+        ("a. 1 IN MX 65536 a.", 3),
+        ("a. 1 IN MX 1 a", 3),
+        ("a. 1 IN TYPE65280 01", 3),
     ] {
         let error = line.parse::<RecordBuf>().unwrap_err();
-        assert_eq!(error.kind(), kind, "{line}");
-        assert!(!error.to_string().is_empty() && !error.to_string().starts_with("failure"), "{line}: {error}");
-        let _ = text;
+        assert_eq!((error.kind(), error.to_string().as_str()), texts[number], "{line}");
     }
     let error = RecordBuf::from_data_text(&Name::root(), 0, RecordType::A, "192.0.2", None).unwrap_err();
     assert_eq!((error.kind(), error.number()), (ErrorKind::BadData, 35));
