@@ -83,6 +83,8 @@ class Messages(unittest.TestCase):
         self.assertTrue(read.is_reply_to(request))
         for other in [make_query("www.example.com.", "A", id=1), make_query("example.com.", "A", id=0x1234)]:
             self.assertFalse(read.is_reply_to(other))
+        notify = Message.build(Header(0x1234, op_code=dnw.OpCode.NOTIFY), request.questions)
+        self.assertFalse(read.is_reply_to(notify))
         self.assertTrue(read.is_reply_to(make_query("WWW.example.com.", "A", id=0x1234)))
         self.assertFalse(request.is_reply_to(request))
         # records of a message that was read, in another one
@@ -142,6 +144,9 @@ class Messages(unittest.TestCase):
         built = Message.build(every)
         self.assertEqual(built.to_wire().hex(), "ffffffbf0000000000000001" + "00002904d0ff0000000000")
         self.assertEqual((built.response_code, built.header.response_code), (4095, 15))
+        self.assertEqual(Message.from_wire(built.to_wire()).header, built.header)
+        later = Message.build(additionals=ADDITIONALS, edns=Edns(version=1))
+        self.assertEqual((later.edns, later.additionals[1].record_type), (Edns(version=1), RecordType.OPT))
         for header in [Header(65536), Header(-1), Header(response_code=4096), Header(op_code=16)]:
             self.assertRaises(ValueError, Message.build, header)
         for edns in [Edns(65536), Edns(version=256), Edns(options=((65536, b""),)), Edns(options=((0, bytes(65536)),))]:
@@ -229,6 +234,8 @@ class Records(unittest.TestCase):
             self.assertRaises(ValueError, dnw.data_from_text, code, "")
         generic = lambda length: f". 1 IN TYPE65280 \\# {length} " + "00" * length
         self.assertEqual(len(Record.from_text(generic(65535)).raw_data), 65535)
+        long = ".".join(["a" * 63] * 3 + ["b" * 61])
+        self.assertEqual(len(Record.from_text(long + generic(65535)).to_wire()), 255 + 10 + 65535)
         self.assertRaises(dnw.BadData, Record.from_text, generic(65536))
         texts = lambda count: ". 1 IN TXT" + f' "{"a" * 255}"' * count
         self.assertEqual(len(Record.from_text(texts(255)).raw_data), 255 * 256)

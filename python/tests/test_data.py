@@ -48,6 +48,25 @@ class DataByType(unittest.TestCase):
         with self.assertRaises(dnw.MessageCut):
             message.answers[1].data
 
+    def test_names_in_data_end_where_the_data_do(self):
+        # . NS, of which the data are `a` alone; . A, which begins with the zero octet; and an owner that points to these data
+        wire = bytes.fromhex("00000000 0000 0003 0000 0000 00 0002 0001 00000000 0002 0161 00 0001 0001 00000000 0004 c0000201"
+                             "c017 0001 0001 00000000 0004 c0000201")
+        message = Message.from_wire(wire)
+        self.assertEqual(message.answers[2].owner, Name("a."))
+        with self.assertRaises(dnw.MessageCut):
+            message.answers[0].data
+        # a name of 253 octets, and data with one that would have 256, or 255
+        form = (b"\x3f" + b"a" * 63) * 3 + b"\x3b" + b"b" * 59 + b"\0"
+        for label, error in [(b"\2cc", dnw.NameTooLong), (b"\1c", None)]:
+            head = bytes.fromhex("00000000 0001 0001 0000 0000") + form + bytes.fromhex("0002 0001 c00c 0002 0001 00000000 00")
+            message = Message.from_wire(head + bytes([len(label) + 2]) + label + b"\xc0\x0c")
+            self.assertEqual(message.answers[0].owner.wire, form)
+            if error is None:
+                self.assertEqual(message.answers[0].data.target.wire, label + form)
+            else:
+                self.assertRaises(error, lambda: message.answers[0].data)
+
     def test_codes_of_headers(self):
         self.assertEqual((OpCode.UPDATE, str(OpCode(3)), repr(OpCode.NOTIFY)), (5, "RESERVED3", "OpCode.NOTIFY"))
         self.assertEqual((str(ResponseCode(16)), ResponseCode.from_text("yxrrset")), ("BADVERS", 7))

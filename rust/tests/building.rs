@@ -70,6 +70,9 @@ fn a_query_and_its_reply_are_written() {
     assert!(!read.is_reply_to(&Message::read(&other).unwrap()));
     let other = MessageBuilder::query(0x1234, &name("www.example.com."), RecordType::AAAA).finish(512).unwrap();
     assert!(!read.is_reply_to(&Message::read(&other).unwrap()));
+    let mut other = MessageBuilder::query(0x1234, &name("www.example.com."), RecordType::A);
+    other.header_mut().op_code = OpCode::Notify;
+    assert!(!read.is_reply_to(&Message::read(&other.finish(512).unwrap()).unwrap()));
     let upper = MessageBuilder::query(0x1234, &name("WWW.example.com."), RecordType::A).finish(512).unwrap();
     assert!(read.is_reply_to(&Message::read(&upper).unwrap()));
 }
@@ -138,8 +141,9 @@ fn headers_and_edns_are_written() {
     // All but Z, and a response code of twelve bits, of which OPT has eight
     assert_eq!(message, octets("ffff ffbf 0000 0000 0000 0001 00 0029 04d0 ff000000 0000"));
     let options = Pairs::to_wire([(10, &b"12345678"[..]), (3, b"")]).unwrap();
-    let edns = Edns::new(512).with_options(Pairs::from_wire(&options).unwrap());
+    let mut edns = Edns::new(512).with_options(Pairs::from_wire(&options).unwrap());
     let mut message = MessageBuilder::new(Header::default());
+    edns.version = 1;
     let written = message.edns(&Edns::new(4096)).edns(&edns).finish(512).unwrap();
     assert_eq!(Message::read(&written).unwrap().edns(), Ok(Some(edns)));
     message.header_mut().id = 7;
@@ -293,6 +297,8 @@ fn texts_that_are_no_records() {
     // Data of 65535 octets, and of one more
     let generic = |len: usize| format!(". 1 IN TYPE65280 \\# {len} {}", "00".repeat(len));
     assert_eq!(record(&generic(65535)).raw_data().len(), 65535);
+    let long = format!("{0}.{0}.{0}.{1}", "a".repeat(63), "b".repeat(61));
+    assert_eq!(record(&(long + &generic(65535))).as_wire().len(), 255 + 10 + 65535);
     assert_eq!(generic(65536).parse::<RecordBuf>().unwrap_err().kind(), ErrorKind::BadData);
     let texts = |count: usize| format!(". 1 IN TXT{}", format!(" \"{}\"", "a".repeat(255)).repeat(count));
     assert_eq!(record(&texts(255)).raw_data().len(), 255 * 256);
@@ -317,6 +323,8 @@ fn records_are_taken_from_messages() {
         .authorities(others(message.authorities()))
         .additionals(others(message.additionals()));
     assert_eq!(again.finish(u16::MAX), Ok(reply));
+    let other = record("a. 9 CH TXT b");
+    assert_eq!(RecordBuf::try_from(other.as_record()), Ok(other.clone()));
     let cut = Record::read(b"\0\0\x01\0\x01\0\0\0\0\0\x03\xC0\0\x02", 0).unwrap();
     assert_eq!(RecordBuf::try_from(cut).unwrap_err().kind(), ErrorKind::MessageCut);
 }
