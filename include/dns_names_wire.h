@@ -237,15 +237,18 @@ struct dnw_packed {
 
 /* Writes a whole message again, with its names compressed, in at most `max_size` octets, and puts it: what a server sends of a
    response that is longer than the receiver accepts. The copy has the header of the message, with its own counts; and of the
-   questions and the records, in their sections and order, each that has room. If an answer or an authority record has no room, TC
-   is set (RFC 2181, section 9). An OPT record is the last record and always there, since its octets are held back. Names in the
-   data of a type of RFC 1035 are compressed too, and others are written whole (RFC 3597, section 4). Octets after the message
-   are ignored.
+   questions and the records, in their sections and order, each that has room, as it surely has if there is enough without
+   compression. If an answer or an authority record has no room, TC is set (RFC 2181, section 9). An OPT record is the last
+   record and always there, since its octets are held back. Names in the data of a type of RFC 1035 are compressed too, and
+   others are written whole (RFC 3597, section 4). Octets after the message are ignored.
 
    It fails as dnw_message_read with DNW_MAX_POINTERS if the message is not whole, and as dnw_edns_read if what it says by EDNS
    breaks a rule. If the data of a record are no fields of its type, it fails as dnw_field_next does at the first field that is
    none. It fails with DNW_MESSAGE_TOO_LONG if the header and the OPT record have more than `max_size` octets; with DNW_NO_ROOM if
-   the copy has more than `packed_size`; and with DNW_NO_MEMORY. A buffer of `max_size` octets is always enough. */
+   the copy has more than `packed_size`; and with DNW_NO_MEMORY. A buffer of `max_size` octets is always enough.
+
+   The pointers of names in the data of records do not count towards DNW_MAX_POINTERS. The dearest message that we know, of 65,528
+   octets with 3,808 names in data that follow 8,000 pointers each, takes an eighth of a second. */
 uint32_t dnw_message_pack(const uint8_t *message, size_t message_len, uint16_t max_size, uint8_t *packed, size_t packed_size,
                           struct dnw_packed *result);
 

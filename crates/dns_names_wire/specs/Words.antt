@@ -137,6 +137,10 @@ pub use Rattle.dnw_field_text.specs.Times.{IsDateText, IsDay, IsMoment, IsTimeTe
 pub use Rattle.dnw_data_text.specs.DataTexts.{FailsText, IsDataText, IsTextOf, record_line}
 pub use Rattle.dnw_data_text.specs.Generic.{generic_text, IsGeneric}
 pub use Rattle.dnw_data_text.specs.RecordLines.{FailsRecordLine, IsRecordLine}
+-- Service parameters as text.
+pub use Rattle.dnw_svcb_text.specs.Params.{ParamValue, in_key_order, params_wire}
+pub use Rattle.dnw_svcb_text.specs.ParamTexts.{param_text, params_text}
+pub use Rattle.dnw_svcb_text.specs.ParamWords.{IsParam}
 pub use Rattle.dnw_data_text.specs.DataTextLaws.{AddressesComeBack as FieldAddressesComeBack, CountedComeBack, NumbersComeBack, OctetsComeBack, StringsComeBack, TypesComeBack}
 pub use Rattle.dnw_data_text.specs.DataTextLaws.{GenericComesBack, FieldComesBack, Follows as FollowsField, IsRead as IsReadType, IsData as IsDataOctets}
 -- Whole messages: headers, sections and EDNS.

@@ -15,12 +15,12 @@ use Rattle.dnw_c_messages.specs.MessageCalls.{of_message}
 use Rattle.dnw_c_messages.specs.declared.packing.PackedMessage.{PackedMessage}
 
 -- how many pointers the names of the questions and the owners of the records may follow in all
-abbrev pub most_pointers : ℕ
-most_pointers = 65536
+abbrev pub pack_pointers : ℕ
+pack_pointers = 65536
 
 -- the octets begin with this message
 abbrev pub Begins : List ℕ → MessageValue → Type 0
-Begins octets m = (k : ℕ) × MessageAt octets m k × (k ≤ most_pointers)
+Begins octets m = (k : ℕ) × MessageAt octets m k × (k ≤ pack_pointers)
 
 -- They begin with a message of which this is a copy, in at most so many octets.
 abbrev pub HasCopy : List ℕ → ℕ → List ℕ → Type 0
@@ -44,7 +44,7 @@ of_copy (Proto error) = of_proto error
 -- The octets begin with no message, or there is no copy of it.
 abbrev pub FailsToMakeCopy : List ℕ → ℕ → Failure → Type 0
 FailsToMakeCopy octets most failure =
-    ((error : MessageError) × FailsMessage octets most_pointers error × (failure ≡ of_message error.kind))
+    ((error : MessageError) × FailsMessage octets pack_pointers error × (failure ≡ of_message error.kind))
     ⊎ ((m : MessageValue) × (error : CopyError) × Begins octets m × FailsCopy m most error × (failure ≡ of_copy error))
 
 -- So it is, or the copy is longer than the buffer.

@@ -8,16 +8,13 @@ use dnw_base::decoder::BinDecoder;
 use dnw_codes::record_type::RecordType;
 use dnw_data_text::data_text::parse;
 use dnw_data_text::error::DataTextError;
-use dnw_data_text::record_line::{RecordLineError, parse_record};
+use dnw_data_text::record_line::{MAX_DATA, RecordLineError, parse_record};
 use dnw_failure::buffer::put;
 use dnw_failure::failure::{Failure, of_decode};
 use dnw_name::name::Name;
 use dnw_name::name_ref::NameRef;
 use std::alloc::Global;
 use std::str;
-
-/// Data have at most so many octets.
-const MAX_DATA: usize = 65535;
 
 /// Puts the octets of the data that a text is, for the type with a code. The origin is a wire form, or no octets for none.
 #[unsafe(no_mangle)]

@@ -1,17 +1,15 @@
 -- What is printed of a field is read as that field, whatever is after it.
-use Rattle.std.proofs.Common.{◌≡◌, ℕ, suc, ◌+◌, ◌-◌, ◌*◌, ◌/◌, ◌%◌, ◌^◌, ◌<◌, ◌≤◌, Bool, true, false, not, ◌&&◌, ◌||◌, ◌==◌, List, [], ◌∷◌, ◌++◌, zero, length, take, drop, codes, slice_index, refl, sym, ap, ◌∙◌, subst, arith, decimal, append_assoc, append-nil, length-append, inl, inr}
+use Rattle.std.proofs.Common.{◌≡◌, ℕ, suc, ◌+◌, ◌/◌, ◌%◌, ◌<◌, ◌≤◌, true, false, ◌&&◌, List, [], ◌∷◌, ◌++◌, zero, length, codes, slice_index, refl, sym, ap, ◌∙◌, subst, arith, decimal, append_assoc, append-nil, length-append, inl, inr}
 use Rattle.std.specs.Prelude.{nat_le, flat_map, Option, Some}
 use Rattle.std.specs.Net.Addr.{ipv4_octets, IsIpv4Addr}
 use Rattle.std.specs.Net.Text.{dotted_text, ipv4_text}
 use Rattle.std.specs.declared.net.Ipv4Addr.{Ipv4Addr}
 use Rattle.std.proofs.NetLemmas.Texts.{IsDotted-ipv4_text}
-use Rattle.std.specs.Int.{w64, from_be_bytes, to_be_bytes}
-use Rattle.std.specs.List.{AllPass, list_all}
+use Rattle.std.specs.List.{AllPass}
 use Rattle.std.specs.Char.{is_ascii_digit, is_ascii_alphanumeric}
 use Rattle.std.specs.Str.{IsUtf8, IsAscii}
-use Rattle.std.proofs.lemmas.Bool.{cases_eq, cases_Bool, ne_eqb, and_parts}
+use Rattle.std.proofs.lemmas.Bool.{cases_eq, cases_Bool, ne_eqb}
 use Rattle.std.proofs.lemmas.List.{take_at, drop_at}
-use Rattle.std.proofs.lemmas.Nat.{from_be_bytes-to_be_bytes_8}
 use Rattle.std.proofs.lemmas.Str.{IsUtf8-from_ascii}
 use Rattle.std.proofs.lemmas.Str.Ascii.{IsAscii-nil, IsAscii-cons}
 use Rattle.hex.proofs.HexLemmas.{length-encode_with}
@@ -19,7 +17,7 @@ use Rattle.hex.specs.Hex.{upper_digits}
 use Rattle.dnw_base.specs.Names.{NameValue}
 use Rattle.dnw_codes.specs.declared.record_type.RecordType.{RecordType}
 use Rattle.dnw_codes.specs.declared.record_type.RecordType.TheVariants as rr
-use Rattle.dnw_codes.specs.RecordTypes.{type_code, type_text, type_of_code}
+use Rattle.dnw_codes.specs.RecordTypes.{type_code, type_text}
 use Rattle.dnw_codes.proofs.PrintedTypes.{types_come_back}
 use Rattle.dnw_data.specs.declared.kind.Kind.{Kind}
 use Rattle.dnw_data.specs.declared.kind.Kind.TheVariants.{U8, U16, U32, Ipv4, TypeCode, Time, Counted, Octets, List as ListOf}
@@ -30,12 +28,10 @@ use Rattle.dnw_data.specs.Values.{type_code as type_code_of}
 use Rattle.dnw_data.specs.declared.kind.ListKind.TheVariants as lists
 use Rattle.dnw_base.specs.Names.{label_wire}
 use Rattle.dnw_field_text.specs.Numbers.{max_u8, max_u16, max_u32}
-use Rattle.dnw_field_text.specs.Octets.{IsOctets, IsSalt, hex_text, salt_text}
+use Rattle.dnw_field_text.specs.Octets.{IsOctets, IsSalt, salt_text}
 use Rattle.dnw_field_text.specs.Strings.{quote, backslash, IsString, IsText, octet_text, string_text}
-use Rattle.dnw_field_text.specs.Tags.{IsTag}
 use Rattle.dnw_digit_text.specs.Base32.{IsHash, is_base32, base32_text}
 use Rattle.dnw_digit_text.proofs.Identifiers.{hash}
-use Rattle.dnw_field_text.specs.Times.{IsDateText}
 use Rattle.dnw_field_text.proofs.ComeBack.{numbers, salt}
 use Rattle.dnw_field_text.proofs.StringText.{string, text}
 use Rattle.dnw_word_text.specs.Words.{is_end, word_len, word, after_word, after_spaces}

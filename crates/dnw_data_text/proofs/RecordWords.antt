@@ -1,5 +1,5 @@
 -- Words that are no times to live, and no types.
-use Rattle.std.proofs.Common.{◌≡◌, ℕ, ◌<◌, List, Some, inr, ap, ◌∙◌, subst, arith}
+use Rattle.std.proofs.Common.{◌≡◌, ℕ, ◌<◌, List, inr, ap, ◌∙◌, subst, arith}
 use Rattle.dnw_codes.specs.declared.dns_class.DNSClass.{DNSClass}
 use Rattle.dnw_txt.specs.Times.{IsNoTtl, max_ttl, time_seconds}
 use Rattle.dnw_data_text.specs.RecordLines.{IsClassWord, IsTtlWord, LacksTtlAfterClass, after_next_word, next_word}

@@ -1,7 +1,5 @@
 -- All words of a text are one field.
-use Rattle.std.proofs.Common.{length, ◌==◌, ◌≡◌, ◌≢◌, ℕ, Bool, true, false, List, [], ◌∷◌, ◌++◌, refl, sym, ap, ◌∙◌, subst}
-use Rattle.std.proofs.lemmas.Bool.{eqb-true}
-use Rattle.std.proofs.lemmas.List.{nil_from_length}
+use Rattle.std.proofs.Common.{◌≡◌, ◌≢◌, ℕ, Bool, true, false, List, [], ◌∷◌, ◌++◌, refl, sym, ap, ◌∙◌, subst}
 use Rattle.std.specs.Prelude.{Option, Some, None, flat_map}
 use Rattle.dnw_base.specs.Names.{label_wire}
 use Rattle.dnw_data.specs.declared.kind.ListKind.TheVariants as lists

@@ -1,21 +1,21 @@
 -- Which fields texts give (RFC 1035, section 5.1), and the octets that fields are.
-use Rattle.std.specs.Prelude.{Bool, true, false, ◌≡◌, ◌≢◌, ℕ, ◌-◌, ◌⊎◌, Option, Some, List, [], ◌∷◌, length, drop, flat_map}
-use Rattle.std.specs.Int.{w16, w32, w64, from_be_bytes, to_be_bytes}
-use Rattle.std.specs.Net.Addr.{ipv4_octets, ipv6_segments, octets_of}
+use Rattle.std.specs.Prelude.{Bool, true, false, ◌≡◌, ◌≢◌, ℕ, ◌-◌, ◌⊎◌, Option, Some, List, [], ◌∷◌, length, flat_map}
+use Rattle.std.specs.Int.{w64, from_be_bytes}
+use Rattle.std.specs.Net.Addr.{ipv4_octets, ipv6_segments}
 use Rattle.std.specs.Net.Grammar.{IsIpv4Text, IsIpv6Text}
 use Rattle.std.specs.declared.net.Ipv4Addr.{Ipv4Addr}
 use Rattle.std.specs.declared.net.Ipv6Addr.{Ipv6Addr}
 use Rattle.std.specs.Str.{IsUtf8}
-use Rattle.dnw_base.specs.Names.{NameValue, label_wire, wire}
+use Rattle.dnw_base.specs.Names.{NameValue, label_wire}
 use Rattle.dnw_codes.specs.declared.record_type.RecordType.{RecordType}
-use Rattle.dnw_codes.specs.RecordTypes.{type_of_text, type_code as code_of}
+use Rattle.dnw_codes.specs.RecordTypes.{type_of_text}
 use Rattle.dnw_data.specs.declared.kind.Kind.{Kind}
 use Rattle.dnw_data.specs.declared.kind.Kind.TheVariants as kinds
 use Rattle.dnw_data.specs.declared.kind.ListKind.{ListKind}
 use Rattle.dnw_data.specs.declared.kind.ListKind.TheVariants as lists
 use Rattle.dnw_data.specs.declared.kind.Shown.{Shown}
 use Rattle.dnw_data.specs.declared.kind.Shown.TheVariants.{Text, Tag, Hex, Base32Hex, Base64}
-use Rattle.dnw_data.specs.Values.{FieldValue, name, u8, u16, u32, u48, u64, ipv4, ipv6, type_code, time, counted, octets, texts, types, params, items}
+use Rattle.dnw_data.specs.Values.{FieldValue, name, u8, u16, u32, u48, u64, ipv4, ipv6, type_code, time, counted, octets, texts, items}
 use Rattle.dnw_field_text.specs.Numbers.{max_u8, max_u16, max_u32, IsNumberText}
 use Rattle.dnw_field_text.specs.Octets.{IsHexText, IsBase64Text, IsSaltText}
 use Rattle.dnw_field_text.specs.Strings.{IsStringText, IsLongText}

@@ -11,7 +11,6 @@ use Rattle.dnw_codes.specs.declared.dns_class.DNSClass.TheVariants.{IN}
 use Rattle.dnw_codes.specs.declared.record_type.RecordType.{RecordType}
 use Rattle.dnw_data.specs.Table.{fields_of}
 use Rattle.dnw_txt.specs.Times.{max_ttl, time_seconds}
-use Rattle.dnw_data_text.specs.declared.error.DataTextError.{DataTextError}
 use Rattle.dnw_data_text.specs.declared.error.DataTextError.TheVariants.{Memory as NoMemory}
 use Rattle.dnw_data_text.specs.declared.record_line.LineHead.{LineHead}
 use Rattle.dnw_data_text.specs.declared.record_line.RecordLineError.{RecordLineError}
@@ -19,7 +18,7 @@ use Rattle.dnw_data_text.specs.declared.record_line.RecordLineError.TheVariants.
 use Rattle.dnw_data_text.specs.DataTexts.{FailsText, IsTextOf}
 use Rattle.dnw_data_text.specs.Generic.{max_data}
 use Rattle.dnw_data_text.specs.NameReading.{name_at}
-use Rattle.dnw_data_text.specs.Words.{after_spaces, after_word, word}
+use Rattle.dnw_word_text.specs.Words.{after_spaces, after_word, word}
 
 -- ---- words
 

@@ -9,18 +9,18 @@ ghost use Rattle.dnw_data_text.specs.RecordLines.{FailsAfterOwner, FailsDataOf, 
 use crate::data_text::parse_bytes;
 use crate::error::DataTextError;
 use crate::name_reading::read_name;
-use crate::words::{after_spaces, split_word};
 use dnw_codes::dns_class::DNSClass;
 use dnw_codes::record_type::RecordType;
 use dnw_form::form::WireForm;
 use dnw_name::name::Name;
 use dnw_txt::ttl::parse_ttl;
+use dnw_word_text::words::{after_spaces, split_word};
 use std::alloc::{AllocError, Global};
 use std::str;
 use thiserror::Error;
 
 /// Data have at most so many octets, since their number is written in two (RFC 1035, section 3.2.1).
-const MAX_DATA: usize = 65535;
+pub const MAX_DATA: usize = 65535;
 
 /// Why a line is no record.
 #[derive(Debug, Drop, Error)]
@@ -205,6 +205,7 @@ fn ttl_of(alloc: Global, word: &[u8]) -> Option<u32>
     };
     match parse_ttl(alloc, text) {
         Ok(seconds) => Some(seconds),
+        // If memory runs out for the error's text, the word is no time to live all the same.
         Err(_) => None,
     }
 }

@@ -1,5 +1,5 @@
 -- Keys, parameters and items, one after another.
-use Rattle.std.proofs.Common.{◌≡◌, ◌<◌, ◌≤◌, ℕ, zero, suc, ◌+◌, Bool, true, false, List, [], ◌∷◌, ◌++◌, length, take, drop, refl, ◌==◌, sym, ap, ◌∙◌, subst, arith, append_assoc, append-nil, length-append, length-drop, inl, inr, decimal, codes}
+use Rattle.std.proofs.Common.{◌≡◌, ◌<◌, ◌≤◌, ℕ, zero, suc, ◌+◌, Bool, true, false, List, [], ◌∷◌, ◌++◌, length, take, drop, refl, ◌==◌, sym, ap, ◌∙◌, subst, arith, append_assoc, append-nil, length-append, length-drop, inl, inr, decimal}
 use Rattle.std.specs.List.{insert}
 use Rattle.std.specs.Prelude.{Option, Some, None, option_map, nat_le, nat_lt}
 use Rattle.std.specs.Int.{w16, from_be_bytes, to_be_bytes}
@@ -17,7 +17,7 @@ use Rattle.dnw_svcb_text.specs.declared.keys.Form.{Form}
 use Rattle.dnw_svcb_text.specs.declared.keys.Form.TheVariants as forms
 use Rattle.dnw_svcb_text.specs.declared.lists.ListValue.{ListValue}
 use Rattle.dnw_svcb_text.specs.declared.lists.ListValue.TheVariants.{Keys, Protocols, Ipv4, Ipv6}
-use Rattle.dnw_svcb_text.specs.ParamKeys.{form_of, generic_key, named_key, IsGenericKey, IsKey}
+use Rattle.dnw_svcb_text.specs.ParamKeys.{form_of, generic_key, named_key, IsKey}
 use Rattle.dnw_svcb_text.specs.CommaLists.{comma, items_of}
 use Rattle.dnw_svcb_text.specs.ParamValues.{is_ascending, octets_of_item, is_item, text_of_item, items_within, IsItem, AreItems, IsListText}
 use Rattle.dnw_svcb_text.specs.Params.{ParamValue, with_param, and_then, in_key_order}

@@ -1,6 +1,6 @@
 -- Service parameters as text (RFC 9460, section 2.1): the key, and its value after a `=` if there is one. A value that does not
 -- have the form of its key, or that would be too long in it, is printed as that of any key is, so that it comes back.
-use Rattle.std.specs.Prelude.{ℕ, zero, suc, ◌+◌, ◌==◌, nat_le, if◌then◌else◌, List, [], ◌∷◌, ◌++◌, length, take, drop, Option, Some, None, option_map, decimal}
+use Rattle.std.specs.Prelude.{ℕ, zero, suc, ◌==◌, nat_le, if◌then◌else◌, List, [], ◌∷◌, ◌++◌, length, take, drop, Option, Some, None, option_map, decimal}
 use Rattle.std.specs.Int.{w16, from_be_bytes}
 use Rattle.dnw_field_text.specs.Octets.{base64_text}
 use Rattle.dnw_field_text.specs.Strings.{string_text}
@@ -13,7 +13,7 @@ use Rattle.dnw_svcb_text.specs.ParamValues.{is_ascending, list_text}
 abbrev pub equals : ℕ
 equals = 61
 
--- the text of a value, if the octets have this form (RFC 9460, sections 7 and 8)
+-- the text of a value, if the octets have this form (RFC 9460, sections 7 and 8; RFC 9848 for ech)
 abbrev pub own_text : Form → List ℕ → Option (List ℕ)
 own_text forms.Mandatory octets = if is_ascending 1 octets then list_text Keys octets else None
 own_text forms.Protocols octets = list_text Protocols octets

@@ -1,6 +1,6 @@
 -- Which word is which parameter (RFC 9460, section 2.1 and appendix A): a key, and after a `=` a value, which is written as a
 -- character string is, but of any length.
-use Rattle.std.specs.Prelude.{ℕ, Bool, nat_lt, ◌≡◌, ◌≤◌, ◌==◌, ◌⊎◌, ◌+◌, ◌*◌, if◌then◌else◌, List, [], ◌∷◌, length, flat_map, Option, Some, None, option_map}
+use Rattle.std.specs.Prelude.{ℕ, Bool, nat_lt, ◌≡◌, ◌≤◌, ◌==◌, ◌⊎◌, if◌then◌else◌, List, [], ◌∷◌, length, flat_map, Option, Some, None}
 use Rattle.std.specs.List.{before_first, after_first, position_or_len}
 use Rattle.std.specs.Int.{w16, from_be_bytes, to_be_bytes}
 use Rattle.std.specs.Str.{IsUtf8}
@@ -43,7 +43,7 @@ abbrev pub AreMandatory : List ℕ → List ℕ → Type 0
 AreMandatory value own =
     (listed : List ℕ) × (keys : List ParamValue) × IsListText Keys value listed × (in_key_order [] (keys_of listed) ≡ Some keys) × (own ≡ keys_wire keys)
 
--- the octets are what a value of this form stands for (RFC 9460, sections 7 and 8)
+-- the octets are what a value of this form stands for (RFC 9460, sections 7 and 8; RFC 9848 for ech)
 abbrev pub IsOwnValue : Form → List ℕ → List ℕ → Type 0
 IsOwnValue forms.Mandatory value own = AreMandatory value own
 IsOwnValue forms.Protocols value own = IsListText Protocols value own

@@ -1,5 +1,5 @@
 -- Service parameters, and their octets in the order of their keys (RFC 9460, section 2.2).
-use Rattle.std.specs.Prelude.{ℕ, ◌+◌, ◌*◌, ◌==◌, nat_lt, if◌then◌else◌, List, [], ◌∷◌, ◌++◌, length, flat_map, Option, Some, None, option_map}
+use Rattle.std.specs.Prelude.{ℕ, ◌==◌, nat_lt, if◌then◌else◌, List, [], ◌∷◌, ◌++◌, length, flat_map, Option, Some, None, option_map}
 use Rattle.std.specs.Int.{w16, to_be_bytes}
 
 -- A parameter: its key, and the octets of its value.

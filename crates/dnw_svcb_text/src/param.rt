@@ -7,6 +7,9 @@ ghost use Rattle.dnw_svcb_text.specs.Inside.Steps.{Inserts};
 use std::alloc::AllocError;
 use std::marker::Model;
 
+/// The most octets of a value, since their number is written in two; and so the most characters of its text that are printed.
+pub(crate) const MAX_VALUE: usize = 65535;
+
 /// A parameter: its key, and the octets of its value.
 ///
 /// A contract sees it as these two.

@@ -5,13 +5,11 @@ ghost use Rattle.dnw_svcb_text.specs.Inside.Steps.{Writes};
 
 use crate::keys::{Form, Key, form_of};
 use crate::lists::split_u16;
+use crate::param::MAX_VALUE;
 use crate::values::own_text;
 use dnw_field_text::string::CharacterString;
 use std::alloc::{AllocError, Global};
 use std::{fmt, str};
-
-/// The most characters of a value, since its octets are counted in two.
-const MAX_VALUE: usize = 65535;
 
 /// Appends the text of parameters, each after a space, in the order of their octets. Returns `false` if the octets end within
 /// one; some text may be appended then.

@@ -1,4 +1,4 @@
-//! Values in the form of their keys (RFC 9460, sections 7 and 8).
+//! Values in the form of their keys (RFC 9460, sections 7 and 8; RFC 9848 for ech).
 ghost use Rattle.std.specs.Prelude.{◌≡◌, ◌++◌, ℕ, List, [], None, Some, IfOk, MatchOption};
 ghost use Rattle.dnw_svcb_text.specs.Params.{in_key_order};
 ghost use Rattle.dnw_svcb_text.specs.ParamTexts.{own_text};

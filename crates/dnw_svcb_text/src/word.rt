@@ -5,15 +5,12 @@ ghost use Rattle.dnw_svcb_text.specs.Params.{ParamValue};
 ghost use Rattle.dnw_svcb_text.specs.ParamWords.{key_part, value_part, IsValueText, IsParam, IsParamOf};
 
 use crate::keys::{form_of, generic_key, named_key};
-use crate::param::Param;
+use crate::param::{MAX_VALUE, Param};
 use crate::values::own_value;
 use dnw_field_text::error::FieldTextError;
 use dnw_field_text::string::parse_text;
 use std::alloc::{AllocError, Global};
 use std::str;
-
-/// The most octets of a value, since their number is written in two.
-const MAX_VALUE: usize = 65535;
 
 /// Returns the parameter that a word is, as `alpn=h2,h3` or `key667="hello"`, or `None` if it is none.
 ///

@@ -1,6 +1,6 @@
 -- Parameters of texts, one after another.
 use Rattle.std.proofs.Common.{◌≡◌, ◌≢◌, ℕ, Bool, true, false, List, [], ◌∷◌, ◌++◌, Result, Ok, Err, IfOk, refl, sym, ap, ◌∙◌, subst, append_assoc}
-use Rattle.std.specs.Prelude.{Option, Some, None}
+use Rattle.std.specs.Prelude.{Some, None}
 use Rattle.std.specs.declared.alloc.AllocError.{AllocError}
 use Rattle.dnw_svcb_text.specs.Params.{ParamValue, with_param, in_key_order}
 use Rattle.dnw_svcb_text.specs.ParamTexts.{params_text}

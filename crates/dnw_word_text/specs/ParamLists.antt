@@ -1,5 +1,5 @@
--- Lists of service parameters as text (RFC 9460, section 2.1): in any order where they are parsed, and in the order of their keys
--- where they are printed.
+-- Lists of service parameters as text (RFC 9460, section 2.1): in any order when they are parsed, and in the order of their keys
+-- when they are printed.
 use Rattle.std.specs.Prelude.{ℕ, ◌≡◌, ◌≢◌, List, [], ◌∷◌, Some}
 use Rattle.dnw_data.specs.declared.kind.ListKind.TheVariants as lists
 use Rattle.dnw_data.specs.Values.{FieldValue, params, items}

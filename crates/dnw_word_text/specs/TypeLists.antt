@@ -1,5 +1,5 @@
 -- Lists of record types (RFC 4034, section 4.2; RFC 5155, section 3.3; RFC 7477, section 2.1.2): the names of types, in any order
--- where they are parsed, and in the order of their codes where they are printed.
+-- when they are parsed, and in the order of their codes when they are printed.
 use Rattle.std.specs.Prelude.{ℕ, zero, suc, ◌≡◌, ◌≢◌, ◌-◌, ◌*◌, ◌==◌, ◌&&◌, Bool, not, nat_le, if◌then◌else◌, List, [], ◌∷◌, ◌++◌, length, take, drop, slice_index, flat_map, Option, Some, None, option_map}
 use Rattle.std.specs.Str.{IsUtf8}
 use Rattle.dnw_codes.specs.declared.record_type.RecordType.{RecordType}

@@ -10,7 +10,7 @@ use dnw_svcb_text::word::parse_param;
 use std::alloc::{AllocError, Global};
 
 /// Appends the octets of the parameters that all words are, in the order of their keys. Returns `false` if one is no parameter, or
-/// if a key is there twice.
+/// if a key is there twice; some octets may be appended then.
 pub fn parse_params(alloc: Global, text: &[u8], out: &mut Vec<u8>) -> Result<bool, AllocError>
     ensures { IfOk result (AppendsOne (AreParams text.now) out.old.items out.new.items) }
 {

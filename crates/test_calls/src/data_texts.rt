@@ -1,6 +1,6 @@
 //! The texts of the data of records. The octets and the texts are dnspython's (`rdata.to_wire()`, `rdata.to_text()`), but for
-//! digits in upper case, base 64 in one word, and types that have no text of their own here, which are in the form of RFC
-//! 3597, section 5.
+//! digits in upper case, base 64 in one word, a port without quotes (RFC 9460, appendix D.2), and types that have no text of
+//! their own here, which are in the form of RFC 3597, section 5.
 
 use dns_names_wire::data_text::{
     DataTextError, Generic, RecordLineError, Wanted, data_text, parse, parse_record, record_text,
@@ -138,7 +138,7 @@ const ROWS: &[(u16, &str, &str)] = &[
     (
         64,
         "000103666F6F076578616D706C6503636F6D00000300020035",
-        "\\# 25 000103666F6F076578616D706C6503636F6D00000300020035",
+        "1 foo.example.com. port=53",
     ),
     (
         29,
@@ -291,6 +291,32 @@ fn a_line_that_is_no_record_has_its_fault(rt: HostRuntime) {
             }))
         )
     );
+}
+
+/// Data have at most 65535 octets (RFC 1035, section 3.2.1): here 255 strings of 255 octets, and one of 254.
+#[test]
+fn a_line_has_at_most_65535_octets_of_data(rt: HostRuntime) -> Result<(), Fail> {
+    let alloc = rt.alloc();
+    let mut line = String::new(alloc);
+    line.push_str(". 0 TXT")?;
+    for string in 0..256 {
+        line.push(' ')?;
+        for _ in 0..if string < 255 { 255 } else { 254 } {
+            line.push('x')?;
+        }
+    }
+    assert_eq!(rt;
+        parse_record(alloc, line.as_str(), None)?.len(),
+        1 + 10 + 65535
+    );
+    line.push('x')?;
+    assert!(rt;
+        matches!(
+            parse_record(alloc, line.as_str(), None),
+            Err(RecordLineError::TooLong)
+        )
+    );
+    Ok(())
 }
 
 /// The data of the record point to its owner, and are printed as the whole name.

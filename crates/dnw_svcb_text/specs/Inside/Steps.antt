@@ -3,7 +3,6 @@ use Rattle.std.specs.Prelude.{ℕ, ◌≡◌, ◌<◌, Bool, true, false, List, 
 use Rattle.dnw_svcb_text.specs.declared.items.After.{After}
 use Rattle.dnw_svcb_text.specs.declared.items.After.TheVariants.{End, Items, Fault}
 use Rattle.dnw_svcb_text.specs.CommaLists.{items_of}
-use Rattle.dnw_svcb_text.specs.ParamValues.{IsListText}
 use Rattle.dnw_svcb_text.specs.Params.{ParamValue, with_param}
 
 -- The first item of a text, and what is after it.

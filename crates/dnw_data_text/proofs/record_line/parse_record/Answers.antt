@@ -1,7 +1,7 @@
 use Rattle.std.proofs.Common.{◌≡◌, IfOk, ap, ◌∙◌, subst}
 use Rattle.std.specs.Option.{option_copied}
 use Rattle.dnw_data_text.specs.RecordLines.{IsRecordLine, IsRecordOf}
-use Rattle.dnw_data_text.specs.Words.{after_word, word}
+use Rattle.dnw_word_text.specs.Words.{after_word, word}
 use Rattle.dnw_data_text.proofs.record_line.parse_record.Goals as goal
 
 pub returns-clause-ok : goal.returns-clause-ok

@@ -1,7 +1,7 @@
 use Rattle.std.proofs.Common.{◌≡◌, List, ℕ, ◌++◌, ◌∷◌, [], take, drop, refl, sym, ap, ◌∙◌, arith, append_assoc}
 use Rattle.std.proofs.lemmas.List.{take-append-drop}
 use Rattle.dnw_svcb_text.specs.CommaLists.{comma}
-use Rattle.dnw_svcb_text.specs.ParamValues.{octets_of_item, text_of_item}
+use Rattle.dnw_svcb_text.specs.ParamValues.{text_of_item}
 use Rattle.dnw_svcb_text.proofs.Steps.{items-more}
 use Rattle.dnw_svcb_text.proofs.lists.list_text.Goals as goal
 

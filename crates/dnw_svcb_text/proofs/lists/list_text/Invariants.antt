@@ -1,4 +1,4 @@
-use Rattle.std.proofs.Common.{◌≡◌, ◌≤◌, ◌++◌, ℕ, length}
+use Rattle.std.proofs.Common.{◌≡◌, ◌≤◌, ℕ, length}
 use Rattle.dnw_svcb_text.specs.ParamValues.{items_within}
 use Rattle.dnw_svcb_text.specs.Inside.Steps.{after}
 use Rattle.dnw_svcb_text.proofs.lists.list_text.Given as goal

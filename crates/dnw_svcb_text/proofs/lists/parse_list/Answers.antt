@@ -1,4 +1,4 @@
-use Rattle.std.proofs.Common.{◌≡◌, List, ℕ, ◌++◌, ◌∷◌, [], refl, sym, ap, ◌∙◌, subst}
+use Rattle.std.proofs.Common.{List, ℕ, ◌++◌, ◌∷◌, [], sym, subst}
 use Rattle.dnw_svcb_text.specs.CommaLists.{items_of}
 use Rattle.dnw_svcb_text.specs.ParamValues.{IsItem}
 use Rattle.dnw_svcb_text.specs.Inside.Steps.{TakesItem}

@@ -1,5 +1,5 @@
-use Rattle.std.proofs.Common.{◌≡◌, List, ℕ, ◌++◌, ◌∷◌, [], sym, ap, ◌∙◌, arith, append_assoc, length-append}
-use Rattle.dnw_svcb_text.specs.Params.{ParamValue, with_param}
+use Rattle.std.proofs.Common.{◌≡◌, List, ◌++◌, ◌∷◌, [], sym, ap, ◌∙◌, arith, append_assoc, length-append}
+use Rattle.dnw_svcb_text.specs.Params.{ParamValue}
 use Rattle.dnw_svcb_text.proofs.Steps.{place-more}
 use Rattle.dnw_svcb_text.proofs.param.place_of.Goals as goal
 

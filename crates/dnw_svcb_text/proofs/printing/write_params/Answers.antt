@@ -1,4 +1,4 @@
-use Rattle.std.proofs.Common.{◌≡◌, ◌++◌, ◌∷◌, [], List, ℕ, take, drop, sym, ap, ◌∙◌, append_assoc, append-nil, arith, refl}
+use Rattle.std.proofs.Common.{◌≡◌, ◌++◌, ◌∷◌, [], List, ℕ, take, drop, sym, ap, ◌∙◌, append_assoc, append-nil, arith}
 use Rattle.std.specs.Prelude.{string_bytes}
 use Rattle.dnw_svcb_text.specs.ParamTexts.{param_text, params_text}
 use Rattle.dnw_svcb_text.proofs.Steps.{after_nil, params-more}

@@ -1,5 +1,5 @@
-use Rattle.std.proofs.Common.{◌≡◌, List, ℕ, [], ◌∷◌, ◌++◌, Some, sym, ap, ◌∙◌, subst, arith}
-use Rattle.dnw_svcb_text.specs.Params.{ParamValue, with_param, in_key_order}
+use Rattle.std.proofs.Common.{List, ℕ, [], ◌∷◌, ◌++◌, sym, ap, ◌∙◌, subst, arith}
+use Rattle.dnw_svcb_text.specs.Params.{ParamValue}
 use Rattle.dnw_svcb_text.specs.ParamWords.{IsParam}
 use Rattle.dnw_svcb_text.proofs.Steps.{word-some, one-sorted}
 use Rattle.dnw_word_text.specs.Words.{after_spaces, word}

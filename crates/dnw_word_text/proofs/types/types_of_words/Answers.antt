@@ -1,7 +1,7 @@
-use Rattle.std.proofs.Common.{◌≡◌, List, ℕ, [], ◌∷◌, ◌++◌, sym, ap, ◌∙◌, subst, arith}
+use Rattle.std.proofs.Common.{List, ℕ, [], ◌∷◌, ◌++◌, sym, ap, ◌∙◌, subst, arith}
 use Rattle.dnw_codes.specs.declared.record_type.RecordType.{RecordType}
 use Rattle.dnw_word_text.specs.Words.{after_spaces, word}
-use Rattle.dnw_word_text.specs.TypeLists.{IsTypeWord, AreTypeWords}
+use Rattle.dnw_word_text.specs.TypeLists.{IsTypeWord}
 use Rattle.dnw_word_text.specs.Inside.TypeWords.{LeadToTypes}
 use Rattle.dnw_word_text.proofs.Empty.{is-empty}
 use Rattle.dnw_word_text.proofs.Empty.{not-empty}
