@@ -45,5 +45,20 @@ int main(void)
     EXPECT(dnw_read_records(records, sizeof records - 2, 1) == (uint64_t)1 << 40);
     EXPECT(dnw_emit_records(records, sizeof records - 1, 2) == 2 * (sizeof records - 1));
     EXPECT(dnw_emit_records(records, 11, 1) == 0);
+    /* id 7, a question a. A 1, an answer a. A 1 with time to live 1 and address 0.0.1.2, and an authority record a. NS 1 with
+       time to live 2 and name b.a. */
+    static const uint8_t whole[] = "\0\7\200\0\0\1\0\1\0\1\0\0"
+                                   "\001a\000\0\1\0\1"
+                                   "\300\014\0\1\0\1\0\0\0\1\0\4\0\0\1\2"
+                                   "\300\014\0\2\0\1\0\0\0\2\0\4\001b\300\014";
+    uint64_t a = 1 + 1 + 1 + 'a', ba = a + 1 + 1 + 'b';
+    uint64_t all = 7 + 3 + (a + 2) + (a + 3 + 258) + (a + 5 + ba);
+    EXPECT(dnw_read_message(whole, sizeof whole - 1, 0) == 0);
+    EXPECT(dnw_read_message(whole, sizeof whole - 1, 2) == 2 * all);
+    EXPECT(dnw_read_message(whole, sizeof whole - 2, 1) == (uint64_t)1 << 40);
+    EXPECT(dnw_write_message(whole, sizeof whole - 1, 512, 2) == 2 * (sizeof whole - 1));
+    EXPECT(dnw_write_message(whole, sizeof whole - 1, sizeof whole - 2, 1) == sizeof whole - 1 - 16);
+    EXPECT(dnw_write_message(whole, sizeof whole - 1, 11, 1) == (uint64_t)1 << 40);
+    EXPECT(dnw_write_message(whole, 11, 512, 1) == 0);
     return 0;
 }

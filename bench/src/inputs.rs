@@ -14,6 +14,8 @@ pub enum Kind {
     Hash,
     ReadRecords,
     EmitRecords,
+    ReadMessage,
+    WriteMessage,
 }
 
 pub struct Task {
@@ -125,6 +127,15 @@ impl Message {
         self.name(owner);
         self.bytes.extend([0, 1, 0, 1, 0, 0, 1, 44, 0, 4, 192, 0, 2, last]);
     }
+
+    /// 30 records: an alias and its six addresses, then twelve name servers of the zone and eleven of their addresses.
+    fn records(&mut self) {
+        self.record_of_name("www.example.com.", 5, "www.eu.cdn.example.net.");
+        (0..6).for_each(|i| self.address("www.eu.cdn.example.net.", i));
+        let servers: Vec<String> = (0..12).map(|i| format!("ns{i}.dns.example.org.")).collect();
+        servers.iter().for_each(|server| self.record_of_name("example.net.", 2, server));
+        servers.iter().take(11).for_each(|server| self.address(server, 7));
+    }
 }
 
 /// A response of records whose names share their suffixes by pointers, and where these names start.
@@ -137,16 +148,74 @@ fn message() -> (Vec<u8>, Vec<u32>) {
     (message.bytes, starts)
 }
 
-/// The 30 records of a response: an alias and its six addresses, then twelve name servers of the zone and eleven of their
-/// addresses.
+/// The 30 records of a response, after a header that is not looked into.
 fn records() -> (Vec<u8>, Vec<u32>) {
     let mut message = Message::new();
-    message.record_of_name("www.example.com.", 5, "www.eu.cdn.example.net.");
-    (0..6).for_each(|i| message.address("www.eu.cdn.example.net.", i));
-    let servers: Vec<String> = (0..12).map(|i| format!("ns{i}.dns.example.org.")).collect();
-    servers.iter().for_each(|server| message.record_of_name("example.net.", 2, server));
-    servers.iter().take(11).for_each(|server| message.address(server, 7));
+    message.records();
     (message.bytes, vec![])
+}
+
+/// A response of the same 30 records: the alias and its addresses answer the question, the name servers are authority records,
+/// and their addresses additional ones.
+fn response() -> (Vec<u8>, Vec<u32>) {
+    let mut message = Message::new();
+    let header: Vec<u8> = [0x1234u16, 0x8180, 1, 7, 12, 11].iter().flat_map(|word| word.to_be_bytes()).collect();
+    message.bytes.copy_from_slice(&header);
+    message.name("www.example.com.");
+    message.bytes.extend([0, 1, 0, 1]);
+    message.records();
+    (message.bytes, vec![])
+}
+
+/// A message of 65,535 octets with as many records as there is room for, whose owners have 127 labels and follow 12 pointers,
+/// which is what 65,536 pointers in all allow. The data are empty, of a type that is not known.
+fn many_labels() -> (Vec<u8>, Vec<u32>) {
+    let mut bytes = vec![0u8; 12];
+    bytes.extend(b"\x01a".repeat(127));
+    bytes.extend([0, 0, 1, 0, 1]);
+    let (mut target, mut records) = (12, 0u16);
+    while bytes.len() + 12 <= 65535 {
+        let start = bytes.len() as u16;
+        bytes.extend((0xC000u16 | target).to_be_bytes());
+        bytes.extend([0xFF, 0, 0, 1, 0, 0, 0, 0, 0, 0]);
+        records += 1;
+        if records < 12 {
+            target = start;
+        }
+    }
+    bytes[5] = 1;
+    bytes[6..8].copy_from_slice(&records.to_be_bytes());
+    (bytes, vec![])
+}
+
+/// A message of 65,535 octets whose first record has a chain of 8,000 pointers for data, and each other record (of type NS) a
+/// pointer to its end.
+fn many_pointers() -> (Vec<u8>, Vec<u32>) {
+    let mut bytes = vec![0u8; 12];
+    bytes.extend([0, 0xFF, 0, 0, 1, 0, 0, 0, 0]);
+    bytes.extend((1u16 + 2 * 8000).to_be_bytes());
+    let mut last = bytes.len() as u16;
+    bytes.push(0);
+    for _ in 0..8000 {
+        let start = bytes.len() as u16;
+        bytes.extend((0xC000 | last).to_be_bytes());
+        last = start;
+    }
+    let mut records = 1u16;
+    while bytes.len() + 13 <= 65535 {
+        bytes.extend([0, 0, 2, 0, 1, 0, 0, 0, 0, 0, 2]);
+        bytes.extend((0xC000 | last).to_be_bytes());
+        records += 1;
+    }
+    bytes[6..8].copy_from_slice(&records.to_be_bytes());
+    (bytes, vec![])
+}
+
+/// A response that was recorded, in hexadecimal.
+fn recorded(hex: &str) -> (Vec<u8>, Vec<u32>) {
+    let digits: Vec<char> = hex.chars().filter(|c| !c.is_whitespace()).collect();
+    let two = |digits: &[char]| u8::from_str_radix(&digits.iter().collect::<String>(), 16).expect("hexadecimal digits");
+    (digits.chunks(2).map(two).collect(), vec![])
 }
 
 /// A root after as many pointers, each to the one before.
@@ -190,6 +259,11 @@ fn escaped() -> (Vec<u8>, Vec<u32>) {
     (lines.collect::<String>().into_bytes(), vec![])
 }
 
+/// A name that lives as long as the program.
+fn leaked(name: String) -> &'static str {
+    Box::leak(name.into_boxed_str())
+}
+
 pub fn tasks() -> Vec<Task> {
     let mut tasks = vec![];
     let mut add = |name, what, kind, (bytes, starts): (Vec<u8>, Vec<u32>), operations, few| {
@@ -230,5 +304,20 @@ pub fn tasks() -> Vec<Task> {
     add("hash", "1000 names by SipHash 1-3", Kind::Hash, (names, vec![]), 1000, 5);
     add("read-records", "30 records of a response, with their names", Kind::ReadRecords, records(), 30, 100);
     add("emit-records", "30 records into a new message", Kind::EmitRecords, records(), 30, 100);
+    let responses = [
+        ("30-records", response()),
+        ("mail", recorded(include_str!("../messages/mail.hex"))),
+        ("root", recorded(include_str!("../messages/root.hex"))),
+        ("www", recorded(include_str!("../messages/www.hex"))),
+        ("texts", recorded(include_str!("../messages/texts.hex"))),
+        ("nxdomain", recorded(include_str!("../messages/nxdomain.hex"))),
+    ];
+    add("read-labels", "65,535 octets, owners of 127 labels", Kind::ReadMessage, many_labels(), 1, 2);
+    add("read-pointers", "65,535 octets, data of 8,000 pointers", Kind::ReadMessage, many_pointers(), 1, 1);
+    for (name, message) in responses {
+        let (read, write) = (format!("read-{name}"), format!("write-{name}"));
+        add(leaked(read), "a response, with all its names and data", Kind::ReadMessage, message.clone(), 1, 200);
+        add(leaked(write), "a response, of its questions and records", Kind::WriteMessage, message, 1, 200);
+    }
     tasks
 }

@@ -14,6 +14,8 @@ extern "C" {
     fn dnw_hash(names: *const u8, len: usize, count: u64) -> u64;
     fn dnw_read_records(message: *const u8, len: usize, count: u64) -> u64;
     fn dnw_emit_records(message: *const u8, len: usize, count: u64) -> u64;
+    fn dnw_read_message(message: *const u8, len: usize, count: u64) -> u64;
+    fn dnw_write_message(message: *const u8, len: usize, max_size: u16, count: u64) -> u64;
 }
 
 pub fn run(task: &Task, count: u64) -> u64 {
@@ -33,6 +35,8 @@ pub fn run(task: &Task, count: u64) -> u64 {
             Kind::Hash => dnw_hash(bytes, len, count),
             Kind::ReadRecords => dnw_read_records(bytes, len, count),
             Kind::EmitRecords => dnw_emit_records(bytes, len, count),
+            Kind::ReadMessage => dnw_read_message(bytes, len, count),
+            Kind::WriteMessage => dnw_write_message(bytes, len, u16::MAX, count),
         }
     }
 }

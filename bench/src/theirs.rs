@@ -3,6 +3,7 @@ use crate::black_box;
 use crate::inputs::{Kind, Task};
 use std::collections::hash_map::DefaultHasher;
 use std::hash::{Hash, Hasher};
+use trust_dns_proto::op::Message;
 use trust_dns_proto::rr::{Name, RData, Record};
 use trust_dns_proto::serialize::binary::{BinDecodable, BinDecoder, BinEncodable, BinEncoder};
 
@@ -48,6 +49,11 @@ pub fn run(task: &Task, count: u64) -> u64 {
         Kind::EmitRecords => {
             let records: Vec<Record> = after_header(&task.bytes).collect();
             repeat(count, || emit_records(black_box(&records)))
+        }
+        Kind::ReadMessage => repeat(count, || read_message(black_box(&task.bytes))),
+        Kind::WriteMessage => {
+            let message = Message::from_vec(&task.bytes).expect("a message");
+            repeat(count, || black_box(black_box(&message).to_vec().expect("room")).len() as u64)
         }
     }
 }
@@ -137,6 +143,53 @@ fn emit_records(records: &[Record]) -> u64 {
     let refused = sum_mut(records, |record| if record.emit(&mut encoder).is_err() { REFUSED } else { 0 });
     drop(encoder);
     refused + black_box(&message).len() as u64
+}
+
+/// What `dnw_read_message` returns.
+fn read_message(octets: &[u8]) -> u64 {
+    let message = Message::from_vec(octets).expect("a message");
+    let counts = message.queries().len() + message.answers().len() + message.name_servers().len();
+    let header = u64::from(message.id()) + counts as u64;
+    let queries = message.queries().iter().fold(0, |all, query| {
+        all + name_size(query.name()) + u64::from(u16::from(query.query_type())) + u64::from(u16::from(query.query_class()))
+    });
+    let records = message.answers().iter().chain(message.name_servers()).chain(message.additionals());
+    header + queries + records.map(record_size).sum::<u64>()
+}
+
+fn record_size(record: &Record) -> u64 {
+    name_size(record.name())
+        + u64::from(u16::from(record.rr_type()))
+        + u64::from(u16::from(record.dns_class()))
+        + u64::from(record.ttl())
+        + record.data().map_or(1, data_size)
+}
+
+/// Each field, one of no octets if there are no data: a number, an address as one, or what names and texts have.
+fn data_size(data: &RData) -> u64 {
+    match data {
+        RData::A(address) => u64::from(u32::from_be_bytes(address.octets())),
+        RData::AAAA(address) => u64::from(address.octets()[0]) + u64::from(address.octets()[15]),
+        RData::NS(name) | RData::CNAME(name) | RData::PTR(name) => name_size(name),
+        RData::MX(mx) => u64::from(mx.preference()) + name_size(mx.exchange()),
+        RData::SOA(soa) => {
+            let numbers = [soa.serial(), soa.refresh() as u32, soa.retry() as u32, soa.expire() as u32, soa.minimum()];
+            numbers.iter().map(|number| u64::from(*number)).sum::<u64>() + name_size(soa.mname()) + name_size(soa.rname())
+        }
+        RData::TXT(texts) => texts.iter().map(|text| octets_size(text)).sum(),
+        RData::Unknown { rdata, .. } => octets_size(rdata.anything()),
+        _ => REFUSED,
+    }
+}
+
+/// For each label of a name its last octet, and one more than its length; and one.
+fn name_size(name: &Name) -> u64 {
+    1 + name.iter().map(octets_size).sum::<u64>()
+}
+
+/// One more than the number of octets, and the last octet.
+fn octets_size(octets: &[u8]) -> u64 {
+    1 + octets.len() as u64 + octets.last().map_or(0, |octet| u64::from(*octet))
 }
 
 /// The octets of a name's wire form.

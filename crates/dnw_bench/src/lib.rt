@@ -21,6 +21,8 @@ use std::alloc::{AllocError, Global};
 use std::cmp::Ordering;
 use std::hash::{DefaultHasher, Hash, Hasher};
 
+mod messages;
+
 /// What a failure adds.
 const FAILURE: u64 = 1 << 40;
 
@@ -284,6 +286,37 @@ pub extern "C" fn dnw_emit_records(alloc: Global, msg: &[u8], count: u64) -> u64
             Ok(len) => len,
             Err(_) => FAILURE,
         });
+    }
+    sum
+}
+
+/// Reads a whole message, with all its names, each label of them, and all its data: numbers, last octets and lengths.
+#[unsafe(no_mangle)]
+pub extern "C" fn dnw_read_message(msg: &[u8], count: u64) -> u64
+    ensures idle { count ≡ 0 → result ≡ 0 }
+{
+    let mut sum = 0u64;
+    for _round in 0..count {
+        sum = sum.wrapping_add(match messages::read_whole(msg) {
+            Ok(size) => size,
+            Err(_) => FAILURE,
+        });
+    }
+    sum
+}
+
+/// Writes the questions and records of a message into a new one of at most `max_size` octets: its length. If the message
+/// can't be read, the result is 0.
+#[unsafe(no_mangle)]
+pub extern "C" fn dnw_write_message(alloc: Global, msg: &[u8], max_size: u16, count: u64) -> u64
+    ensures idle { count ≡ 0 → result ≡ 0 }
+{
+    let Some(parts) = messages::parts_of(alloc, msg) else {
+        return 0;
+    };
+    let mut sum = 0u64;
+    for _round in 0..count {
+        sum = sum.wrapping_add(messages::write_parts(alloc, &parts, max_size));
     }
     sum
 }

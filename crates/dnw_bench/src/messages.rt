@@ -1,0 +1,211 @@
+//! Whole messages, read and written.
+
+use crate::FAILURE;
+use dns_names_wire::error::ProtoError;
+use dns_names_wire::fields::{Field, Fields, Items};
+use dns_names_wire::message::{
+    AddError, Header, MessageError, MessageRef, MessageWriter, Metadata, QueryRef, Records,
+    WireQuery,
+};
+use dns_names_wire::name_ref::NameRef;
+use dns_names_wire::rdata::Record;
+use dns_names_wire::record::RecordRef;
+use dns_names_wire::record_type::RecordType;
+use std::alloc::Global;
+
+/// More than the fields that the data of any type have.
+const MAX_FIELDS: usize = 16;
+
+/// Reads a message, and looks at all that it has but an `OPT` record.
+pub(crate) fn read_whole(msg: &[u8]) -> Result<u64, MessageError> {
+    let message = MessageRef::read(msg)?;
+    let mut sum = header_size(message.header());
+    for query in message.queries() {
+        sum = sum.wrapping_add(query_size(&query));
+    }
+    Ok(
+        sum.wrapping_add(records_size(message.answers()))
+            .wrapping_add(records_size(message.authorities()))
+            .wrapping_add(records_size(message.additionals())),
+    )
+}
+
+/// Returns the id of a header, and its counts of questions, answers and authority records.
+fn header_size(header: &Header) -> u64 {
+    u64::from(header.metadata.id)
+        .wrapping_add(u64::from(header.counts.queries))
+        .wrapping_add(u64::from(header.counts.answers))
+        .wrapping_add(u64::from(header.counts.authorities))
+}
+
+fn query_size(query: &QueryRef<'_>) -> u64 {
+    name_size(query.name())
+        .wrapping_add(u64::from(u16::from(query.query_type())))
+        .wrapping_add(u64::from(u16::from(query.query_class())))
+}
+
+fn records_size(records: Records<'_>) -> u64 {
+    let mut sum = 0u64;
+    for record in records {
+        sum = sum.wrapping_add(record_size(&record));
+    }
+    sum
+}
+
+fn record_size(record: &RecordRef<'_>) -> u64 {
+    if matches!(record.record_type(), RecordType::OPT) {
+        return 0;
+    }
+    name_size(record.owner())
+        .wrapping_add(u64::from(u16::from(record.record_type())))
+        .wrapping_add(u64::from(u16::from(record.class())))
+        .wrapping_add(u64::from(record.ttl()))
+        .wrapping_add(fields_size(&mut record.fields()))
+}
+
+fn fields_size<'r>(fields: &mut Fields<'r>) -> u64 {
+    let mut sum = 0u64;
+    for _ in 0..MAX_FIELDS {
+        let Some(field) = next_field(fields) else {
+            break;
+        };
+        sum = sum.wrapping_add(field_size(&field));
+    }
+    sum
+}
+
+/// Returns the next field, or `None` after the last one, or if it can't be read.
+fn next_field<'r>(fields: &mut Fields<'r>) -> Option<Field<'r>> {
+    let read = fields.next()?;
+    read.ok()
+}
+
+/// Returns a number, an address as one, or what names, texts and octets have.
+fn field_size(field: &Field<'_>) -> u64 {
+    match field {
+        Field::Name(name) => name_size(name),
+        Field::U8(number) => u64::from(*number),
+        Field::U16(number) => u64::from(*number),
+        Field::U32(number) => u64::from(*number),
+        Field::U48(number) | Field::U64(number) => *number,
+        Field::Ipv4(address) => {
+            let octets = address.octets();
+            u64::from(u32::from_be_bytes(octets))
+        }
+        Field::Ipv6(address) => {
+            let octets = address.octets();
+            u64::from(octets[0]).wrapping_add(u64::from(octets[15]))
+        }
+        Field::TypeCode(kind) => u64::from(u16::from(*kind)),
+        Field::Time(time) => u64::from(time.get()),
+        Field::Counted(octets) | Field::Octets(octets) => octets_size(octets),
+        Field::Texts(items) | Field::Types(items) | Field::Params(items) => items_size(items),
+    }
+}
+
+fn items_size(items: &Items<'_>) -> u64 {
+    let mut sum = 0u64;
+    for item in items.iter() {
+        sum = sum.wrapping_add(octets_size(item.octets));
+    }
+    sum
+}
+
+/// Returns for each label of a name its last octet, and one more than its length; and one.
+fn name_size(name: &NameRef<'_>) -> u64 {
+    let mut sum = 1u64;
+    for label in name.labels() {
+        sum = sum.wrapping_add(octets_size(label));
+    }
+    sum
+}
+
+/// Returns one more than the number of octets, and the last octet.
+#[inline]
+fn octets_size(octets: &[u8]) -> u64 {
+    let len = (octets.len() as u64).wrapping_add(1);
+    match octets.last() {
+        Some(octet) => len.wrapping_add(u64::from(*octet)),
+        None => len,
+    }
+}
+
+/// What a message is written of.
+#[derive(Drop)]
+pub(crate) struct Parts {
+    metadata: Metadata,
+    queries: Vec<WireQuery>,
+    answers: Vec<Record>,
+    authorities: Vec<Record>,
+    additionals: Vec<Record>,
+}
+
+/// Copies what a message has. Returns `None` if the octets are none, or if the data of a record are no fields of its type.
+pub(crate) fn parts_of(alloc: Global, msg: &[u8]) -> Option<Parts> {
+    let Ok(message) = MessageRef::read(msg) else {
+        return None;
+    };
+    let mut queries = Vec::new(alloc);
+    for query in message.queries() {
+        let Ok(query) = WireQuery::from_message(alloc, &query) else {
+            return None;
+        };
+        if queries.push(query).is_err() {
+            return None;
+        }
+    }
+    Some(Parts {
+        metadata: message.header().metadata,
+        queries,
+        answers: copies_of(alloc, message.answers())?,
+        authorities: copies_of(alloc, message.authorities())?,
+        additionals: copies_of(alloc, message.additionals())?,
+    })
+}
+
+fn copies_of(alloc: Global, records: Records<'_>) -> Option<Vec<Record>> {
+    let mut copies = Vec::new(alloc);
+    for record in records {
+        let Ok(copy) = Record::from_ref(alloc, &record) else {
+            return None;
+        };
+        if copies.push(copy).is_err() {
+            return None;
+        }
+    }
+    Some(copies)
+}
+
+/// Writes a message of at most so many octets: its length.
+pub(crate) fn write_parts(alloc: Global, parts: &Parts, max_size: u16) -> u64 {
+    let mut buffer = Vec::new(alloc);
+    let Ok(mut writer) = MessageWriter::new(&mut buffer, parts.metadata, max_size) else {
+        return FAILURE;
+    };
+    let mut failed = 0u64;
+    for query in parts.queries.as_slice() {
+        failed = failed.wrapping_add(failure(&writer.add_query(query)));
+    }
+    for record in parts.answers.as_slice() {
+        failed = failed.wrapping_add(failure(&writer.add_answer(record)));
+    }
+    for record in parts.authorities.as_slice() {
+        failed = failed.wrapping_add(failure(&writer.add_authority(record)));
+    }
+    for record in parts.additionals.as_slice() {
+        failed = failed.wrapping_add(failure(&writer.add_additional(record)));
+    }
+    match writer.finish() {
+        Ok(octets) => failed.wrapping_add(octets.len() as u64),
+        Err(_) => FAILURE,
+    }
+}
+
+/// Returns what an item adds that was not written for another reason than want of space.
+#[inline]
+fn failure(outcome: &Result<(), AddError>) -> u64 {
+    match outcome {
+        Ok(()) | Err(AddError::Proto(ProtoError::MaxBufferSizeExceeded(_))) => 0,
+        Err(_) => FAILURE,
+    }
+}
