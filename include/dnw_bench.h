@@ -67,7 +67,8 @@ uint64_t dnw_emit_records(const uint8_t *message, size_t len, uint64_t count);
 /* Reads a whole message and looks at all of it but an OPT record: the id and the counts of the first three sections; for each
    name 1, and for each of its labels 1, the length and the last octet; types, classes and times to live; and the fields of data:
    numbers, an IPv4 address as a number, the first and the last octet of an IPv6 address, and for octets and each item of a list 1,
-   the length and the last octet. It does not allocate. */
+   the length and the last octet. Data that are no fields of their type are looked at up to the first that is none, which adds
+   nothing. It does not allocate. */
 uint64_t dnw_read_message(const uint8_t *message, size_t len, uint64_t count);
 
 /* Writes the questions and records of a message, compressed, into a new message of at most max_size octets: its length. If the
