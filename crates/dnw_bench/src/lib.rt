@@ -517,7 +517,7 @@ fn clone_each(alloc: Global, names: &[Name]) -> ProtoResult<Vec<Name>> {
     let mut copies = Vec::with_capacity(alloc, names.len())?;
     for name in names {
         copies.reserve(1)?;
-        copies.push_reserved(name.clone()?);
+        copies.push_reserved(name.copied());
     }
     Ok(copies)
 }
