@@ -67,7 +67,11 @@ enum dnw_failure {
     DNW_OWNER_NOT_ROOT = 32,   /* an OPT record that is not owned by the root */
     DNW_CUT_OPTION = 33,       /* an option of an OPT record that is not all there */
     DNW_BAD_PARAMS = 34,       /* service parameters that are not in ascending order */
-    DNW_BAD_DATA = 35          /* a text that is no data of its record type, or that of more than 65535 octets */
+    DNW_BAD_DATA = 35,         /* a text that is no data of its record type, or that of more than 65535 octets */
+    DNW_NOT_RRSIG = 36,        /* a record that should be an RRSIG and is none */
+    DNW_NOT_COVERED = 37,      /* an RRSIG that covers none of the records */
+    DNW_TOO_FEW_LABELS = 38,   /* an RRSIG whose owner has fewer labels than it counts */
+    DNW_DATA_TOO_LONG = 39     /* a record whose data, with their names whole, have more than 65535 octets */
 };
 
 /* `len` bytes were put into the buffer, and the name's own octets end at offset `end` of the message. */
