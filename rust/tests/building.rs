@@ -166,7 +166,7 @@ fn what_fails_leaves_a_message_unchanged() {
     message.answer(&root, 0, Ipv4Addr::LOCALHOST).unwrap().additional(&root, 0, Ipv4Addr::LOCALHOST).unwrap();
     let before = message.finish(512).unwrap();
     let data = RData::Unknown { record_type: RecordType::from(65280), octets: &long };
-    let text = "the data of a record, or a character string in them, are too long";
+    let text = "the data of a record, or a text in them, are too long";
     assert_eq!(message.answer(&root, 0, data.clone()).unwrap_err().to_string(), text);
     assert_eq!(message.authority(&root, 0, data.clone()).unwrap_err().kind(), ErrorKind::DataTooLong);
     assert_eq!(message.additional(&root, 0, data.clone()).unwrap_err().kind(), ErrorKind::DataTooLong);

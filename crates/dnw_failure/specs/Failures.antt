@@ -54,7 +54,7 @@ failure_entry why.BadData = entry 35 (codes "the text is no data of the record t
 failure_entry why.NotRrsig = entry 36 (codes "the record is no RRSIG")
 failure_entry why.NotCovered = entry 37 (codes "the RRSIG covers none of the records")
 failure_entry why.TooFewLabels = entry 38 (codes "the owner has fewer labels than the RRSIG counts")
-failure_entry why.DataTooLong = entry 39 (codes "the data of the record are too long")
+failure_entry why.DataTooLong = entry 39 (codes "the data of a record, or a text in them, are too long")
 
 abbrev pub number : Failure → ℕ
 number failure = (failure_entry failure).code

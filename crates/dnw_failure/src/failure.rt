@@ -131,7 +131,7 @@ macro_rules! failures {
             NotRrsig = 36, "the record is no RRSIG";
             NotCovered = 37, "the RRSIG covers none of the records";
             TooFewLabels = 38, "the owner has fewer labels than the RRSIG counts";
-            DataTooLong = 39, "the data of the record are too long";
+            DataTooLong = 39, "the data of a record, or a text in them, are too long";
         }
     };
 }
