@@ -95,7 +95,7 @@ Selects rrsig r (copy ∷ other ∷ copies) = ⊥
 -- Records follow one another from p to e, and these are copies of those that the RRSIG covers, in turn.
 pub data Collects (rrsig : Rrsig) (message : List ℕ) : ℕ → List Record → ℕ → Type 0 where
   none : {p : ℕ} → Collects rrsig message p [] p
-  next : {p q e : ℕ} {r : RecordValue} {more copies : List Record}
+  next : (p q e : ℕ) (r : RecordValue) (more copies : List Record)
       → RecordAt message p r q → Selects rrsig r more → Collects rrsig message q copies e → Collects rrsig message p (more ++ copies) e
 
 -- There is no record at the cursor, or the RRSIG covers it and it is not copied.

@@ -3,10 +3,11 @@ ghost use Rattle.std.specs.Prelude.{◌≡◌, ◌≤◌, ◌↔◌, List, ◌++
 ghost use Rattle.dnw_canonical.specs.SignedFields.{before_signer};
 ghost use Rattle.dnw_rdata.specs.AnyRecords.{IsCopyOf};
 ghost use Rattle.dnw_rdata.specs.declared.record.Record.{Record};
-ghost use Rattle.dnw_record.specs.Records.{RecordValue, TakesRecord};
-ghost use Rattle.dnw_c_canonical.specs.SigningCalls.{Collects, FailsRecordAt, FailsToCollect, FailsToCollectNext, FailsToCopyRecord, HasRecordAt, IsCovered, Selects, of_rdata, type_covered};
+ghost use Rattle.dnw_record.specs.Records.{FailsRecord, RecordValue, TakesRecord};
+ghost use Rattle.dnw_c_canonical.specs.SigningCalls.{Collects, FailsRecordAt, FailsToCollect, FailsToCollectNext, FailsToCopyRecord, HasRecordAt, IsCovered, Selects, at_offset, of_rdata, type_covered};
 
 use dnw_base::decoder::BinDecoder;
+use dnw_error::error::DecodeError;
 use dnw_failure::failure::{Failure, of_decode};
 use dnw_rdata::rdata::RDataError;
 use dnw_rdata::record::Record;
@@ -98,12 +99,21 @@ pub(crate) fn record_at(message: &[u8], start: usize) -> Result<RecordRef<'_>, F
     if message.len() < start {
         return Err(Failure::MessageCut);
     }
-    let mut reader = BinDecoder::new(message);
-    reader.skip(start).unwrap();
-    match RecordRef::read_next(&mut reader) {
+    match read_at(message, start) {
         Ok(record) => Ok(record),
         Err(error) => Err(of_decode(&error)),
     }
+}
+
+/// Reads the record at an offset that is not past the octets.
+fn read_at(message: &[u8], start: usize) -> Result<RecordRef<'_>, DecodeError>
+    requires { start ≤ length message.now }
+    ensures ok { IfOk result (HasRecordAt message.now start) }
+    ensures err { IfErr result (FailsRecord (at_offset message.now start)) }
+{
+    let mut reader = BinDecoder::new(message);
+    reader.skip(start).unwrap();
+    RecordRef::read_next(&mut reader)
 }
 
 /// Returns a copy of a record, in which every name has its wire form.

@@ -72,15 +72,20 @@ fn signed(alloc: Global, message: &[u8], start: usize, at: usize) -> Result<Vec<
         Err(failure) => return Err(failure),
     };
     let fields = rrsig.fields.as_slice();
-    let set = match record_set(alloc, records.as_slice(), labels_of(fields), original_ttl(fields)) {
+    let set = match record_set(
+        alloc,
+        records.as_slice(),
+        labels_of(fields),
+        original_ttl(fields),
+    ) {
         Ok(set) => set,
         Err(error) => return Err(of_canonical(&error)),
     };
     let mut own = rrsig.fields;
-    if own.extend_from_slice(set.as_slice()).is_err() {
-        return Err(Failure::NoMemory);
+    match own.extend_from_slice(set.as_slice()) {
+        Ok(()) => Ok(own),
+        Err(_) => Err(Failure::NoMemory),
     }
-    Ok(own)
 }
 
 /// Returns the RRSIG at an offset.
