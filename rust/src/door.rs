@@ -554,7 +554,9 @@ pub(crate) fn signed_octets(list: &[u8], start: usize) -> Result<Vec<u8>, Error>
     let (mut octets, first, end) = (Vec::new(), list.as_ptr(), list.len());
     // A record is not longer in canonical form, and the signature is left out.
     // SAFETY: pointers with their lengths, see the module; and the room is not read.
-    append_put(&mut octets, end, |room, size, len| unsafe { dnw_signed_octets(first, end, start, 0, room, size, len) })?;
+    append_put(&mut octets, end, |room, size, len| unsafe {
+        dnw_signed_octets(first, end, start, 0, room, size, len)
+    })?;
     Ok(octets)
 }
 

@@ -29,7 +29,13 @@ const SECOND: &str = "0161016200 0001 0001 00000e10 0004 c0000202";
 #[test]
 fn a_set_is_signed_in_order_and_once() {
     let (rrsig, fields) = rrsig("A", 2);
-    let set = records(["A.b. 9 A 192.0.2.2", "a.b. 8 A 192.0.2.1", "a.b. 5 A 192.0.2.2", "a.b. 5 AAAA ::1", "b. 5 A 192.0.2.3"]);
+    let set = records([
+        "A.b. 9 A 192.0.2.2",
+        "a.b. 8 A 192.0.2.1",
+        "a.b. 5 A 192.0.2.2",
+        "a.b. 5 AAAA ::1",
+        "b. 5 A 192.0.2.3",
+    ]);
     let wanted = octets(&format!("{fields} {FIRST} {SECOND}"));
     assert_eq!(rrsig.as_record().signed_octets(&set), Ok(wanted.clone()));
     let [first, .., other] = set.clone();
@@ -67,7 +73,7 @@ fn sections_of_messages_are_read() {
     let query = MessageBuilder::query(7, &"a.b.".parse::<Name>().unwrap(), RecordType::A).finish(512).unwrap();
     let mut reply = MessageBuilder::reply_to(&Message::read(&query).unwrap());
     let wrong = RecordBuf::from_octets(&"b.".parse::<Name>().unwrap(), RecordType::A, Class::IN, 0, &[1]).unwrap();
-    reply.answers(&records(["a.b. 5 A 192.0.2.2", "a.b. 5 A 192.0.2.1"])).answers([&rrsig]);
+    reply.answers(records(["a.b. 5 A 192.0.2.2", "a.b. 5 A 192.0.2.1"])).answers([&rrsig]);
     let octets_of_reply = reply.finish(512).unwrap();
     let message = Message::read(&octets_of_reply).unwrap();
     let read = message.answers().last().unwrap();
@@ -90,8 +96,13 @@ fn what_is_not_signed() {
     assert_eq!(kind_of(&cut, &set), ErrorKind::MessageCut);
     let wrong = RecordBuf::from_octets(own.owner(), RecordType::A, Class::IN, 0, &[1, 2, 3, 4, 5]).unwrap();
     assert_eq!(kind_of(&own, &[wrong]), ErrorKind::WrongDataLength);
-    let numbers = [ErrorKind::NotRrsig, ErrorKind::NotCovered, ErrorKind::TooFewLabels].map(|kind| (kind.number(), kind.to_string()));
-    let texts = ["the record is no RRSIG", "the RRSIG covers none of the records", "the owner has fewer labels than the RRSIG counts"];
+    let numbers = [ErrorKind::NotRrsig, ErrorKind::NotCovered, ErrorKind::TooFewLabels]
+        .map(|kind| (kind.number(), kind.to_string()));
+    let texts = [
+        "the record is no RRSIG",
+        "the RRSIG covers none of the records",
+        "the owner has fewer labels than the RRSIG counts",
+    ];
     assert_eq!(numbers, [(36, texts[0].into()), (37, texts[1].into()), (38, texts[2].into())]);
     assert_eq!(Record::from(&own).signed_octets(&set).unwrap().len(), 21 + 19);
 }
