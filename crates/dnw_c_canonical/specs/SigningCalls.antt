@@ -1,5 +1,5 @@
 -- What the function for C puts of what a signature covers, and why it puts nothing (RFC 4034, section 3.1.8.1).
-use Rattle.std.specs.Prelude.{◌≡◌, ◌<◌, ◌⊎◌, ℕ, ◌≤◌, List, [], ◌∷◌, ◌++◌, length, get_or, slice_range}
+use Rattle.std.specs.Prelude.{◌≡◌, ◌<◌, ◌⊎◌, ℕ, List, [], ◌∷◌, ◌++◌, length, get_or, slice_range}
 use Rattle.std.specs.Int.{w16, w32, from_be_bytes}
 use Rattle.dnw_base.specs.Decoder.{Decoder}
 use Rattle.dnw_base.specs.Names.{lower}
