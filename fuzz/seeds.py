@@ -63,6 +63,31 @@ def message(names):
     return items
 
 
+def signature(code, labels):
+    """An RRSIG of the root that covers a type, with so many labels."""
+    return b"\0" + struct.pack(">HHIH", 46, 1, 0, 19) + struct.pack(">HBB", code, 13, labels) + bytes(15)
+
+
+def responses():
+    """The inputs that the signed response of the examples gives: from where each section begins, which the fuzzer need not find."""
+    whole = octets("".join((DIFF.parent / "examples" / "signed" / "response.hex").read_text().split()))
+    for start in range(12, len(whole), 7):
+        yield "signing", struct.pack(">H", start) + whole
+    at = 12
+    for counts in struct.unpack(">HHHH", whole[4:12]):
+        yield "signing", struct.pack(">H", at) + whole
+        for _ in range(counts):
+            at = passed(whole, at, at == 12)
+
+
+def passed(whole, at, is_question):
+    """Where the question or record at an offset ends."""
+    while 0 < whole[at] < 64:
+        at += 1 + whole[at]
+    at += 1 if whole[at] == 0 else 2
+    return at + 4 if is_question else at + 10 + struct.unpack(">H", whole[at + 8 : at + 10])[0]
+
+
 def inputs(words):
     """The inputs that a request gives: pairs of a harness and octets."""
     kind, rest = words[0], words[1:]
@@ -75,6 +100,7 @@ def inputs(words):
         yield "sections", b"\xff" + struct.pack(">H", code) + whole[start:]
         yield "printing", struct.pack(">H", code) + whole[start:]
         yield "packing", b"\2\0" + bytes(6) + b"\0\2" + bytes(4) + record + record
+        yield "signing", b"\0\x1e" + signature(code, 0) + record + record
     elif kind == "data-parse":
         text = " ".join(rest[1:]).encode()
         yield "parsing", b"\0" + struct.pack(">H", int(rest[0])) + text
@@ -121,7 +147,7 @@ def replies():
 
 def main():
     folder = pathlib.Path(sys.argv[1])
-    for harness, octets_of_it in itertools.chain(*map(inputs, requests()), replies()):
+    for harness, octets_of_it in itertools.chain(*map(inputs, requests()), replies(), responses()):
         place = folder / harness
         place.mkdir(parents=True, exist_ok=True)
         (place / hashlib.sha1(octets_of_it).hexdigest()).write_bytes(octets_of_it)

@@ -67,7 +67,11 @@ enum dnw_failure {
     DNW_OWNER_NOT_ROOT = 32,   /* an OPT record that is not owned by the root */
     DNW_CUT_OPTION = 33,       /* an option of an OPT record that is not all there */
     DNW_BAD_PARAMS = 34,       /* service parameters that are not in ascending order */
-    DNW_BAD_DATA = 35          /* a text that is no data of its record type, or that of more than 65535 octets */
+    DNW_BAD_DATA = 35,         /* a text that is no data of its record type, or that of more than 65535 octets */
+    DNW_NOT_RRSIG = 36,        /* a record that should be an RRSIG and is none */
+    DNW_NOT_COVERED = 37,      /* an RRSIG that covers none of the records */
+    DNW_TOO_FEW_LABELS = 38,   /* an RRSIG whose owner has fewer labels than it counts */
+    DNW_DATA_TOO_LONG = 39     /* a record whose data, with their names whole, have more than 65535 octets */
 };
 
 /* `len` bytes were put into the buffer, and the name's own octets end at offset `end` of the message. */
@@ -339,6 +343,26 @@ uint32_t dnw_data_parse(uint16_t record_type, const uint8_t *text, size_t text_l
    `record_size` octets; and with DNW_NO_MEMORY. */
 uint32_t dnw_record_parse(const uint8_t *text, size_t text_len, const uint8_t *origin, size_t origin_len, uint8_t *record,
                           size_t record_size, size_t *len);
+
+/* Puts the octets that the signature of an RRSIG covers, and their number into `len` (RFC 4034, section 3.1.8.1): the data of the
+   RRSIG up to the signature, the signer's name in lower case, and then the records that it covers as a set in canonical form and
+   order (RFC 4034, section 6), each once, with the original time to live, and with the wildcard for their owner that made them, if
+   the owner has more labels than the RRSIG counts (RFC 4035, section 5.3.2). What it covers are the records of its owner, ignoring
+   ASCII case, its class and the type that it names, among those that follow one another from offset `start` up to the end.
+
+   Pass a message up to where a section of it ends, and where that begins, as dnw_message_read puts both; `rrsig` is the offset of
+   the RRSIG, in that section or before it. Or pass records alone, one after another, in which no name is compressed: an RRSIG at
+   offset 0, and from its end on those to sign. Then its signature may have no octets. Whether a signature is right, is in its
+   time, and is by the zone's key, is for the caller to test.
+
+   It fails with DNW_MESSAGE_CUT if `rrsig` or `start` is after the end, and as dnw_record_read if no record is at one of them, or
+   after a record, but not for the room of an owner; with DNW_NOT_RRSIG if the record at `rrsig` is of another type; as
+   dnw_field_next if the data of the RRSIG, or of a record that it covers, are no fields of their type; with DNW_NOT_COVERED if it
+   covers none; with DNW_TOO_FEW_LABELS if the owner has fewer labels than it counts; with DNW_DATA_TOO_LONG if a record has more
+   than 65535 octets of data once their names are whole; with DNW_NO_ROOM if all are more than `octets_size`; and with
+   DNW_NO_MEMORY. */
+uint32_t dnw_signed_octets(const uint8_t *message, size_t section_end, size_t start, size_t rrsig, uint8_t *octets,
+                           size_t octets_size, size_t *len);
 
 /* The kinds of items of a message, and what follows in a list after the octet for the kind. A record is as in a message: the
    owner's wire form, two octets of type, two of class, four of time to live, two of the length of the data, and the data. */

@@ -246,14 +246,31 @@ class BadData(DnsError):
     number = 35
 
 
+class NotRrsig(DnsError):
+    """A record that should be an RRSIG and is none."""
+
+    number = 36
+
+
+class NotCovered(DnsError):
+    """An RRSIG that covers none of the records."""
+
+    number = 37
+
+
+class TooFewLabels(DnsError):
+    """An RRSIG whose owner has fewer labels than it counts."""
+
+    number = 38
+
+
 class DataTooLong(DnsError):
-    """Data of a record of more than 65535 octets, or a character string of more than 255, that are to be written. The package finds
-    it itself, so that its number is 0."""
+    """Data of a record of more than 65535 octets, or a character string of more than 255, that are to be written."""
 
-    number = 0
+    number = 39
 
-    def __init__(self, reason: str = "the data of a record, or a character string in them, are too long") -> None:
-        super().__init__(reason)
+    def __init__(self, reason: str = "", offset: Optional[int] = None) -> None:
+        super().__init__(reason or error_text(self.number), offset)
 
 
 # What an item of each section is called, by the section's number in `dns_names_wire.h`.

@@ -140,6 +140,7 @@ _FUNCTIONS = {
     "dnw_data_parse": (c_uint16, *_READ, *_READ, *_WRITTEN, POINTER(c_size_t)),
     "dnw_record_parse": (*_READ, *_READ, *_WRITTEN, POINTER(c_size_t)),
     "dnw_record_print": (*_READ, c_size_t, *_WRITTEN, POINTER(PrintedRecord)),
+    "dnw_signed_octets": (*_READ, c_size_t, c_size_t, *_WRITTEN, POINTER(c_size_t)),
     "dnw_reverse_name": (*_READ, *_WRITTEN, POINTER(c_size_t)),
     "dnw_reverse_parse": (*_READ, *_WRITTEN, POINTER(Net)),
     "dnw_name_compare": (*_READ, *_READ, POINTER(c_int32)),

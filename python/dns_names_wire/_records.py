@@ -1,13 +1,13 @@
 """The records of messages."""
 
 import struct
-from ctypes import byref, c_size_t
-from typing import Dict, Iterator, Optional, Tuple
+from ctypes import byref, c_char, c_size_t
+from typing import Dict, Iterable, Iterator, Optional, Tuple
 
 from . import _checks
 from ._checks import Bytes
 from ._codes import RecordClass, RecordType
-from ._errors import DataTooLong, MessageCut, check
+from ._errors import DataTooLong, MessageCut, NotRrsig, check
 from ._fields import FieldValue, Names, Placed, checked_name, fields
 from ._library import FORM_SIZE, Form, library, taken
 from ._library import Record as Read
@@ -189,6 +189,35 @@ class Record:
         (10, Name('a.'))
         """
         return tuple(fields(self._message, self._data_offset, self._end, self._type))
+
+    def signed_octets(self, records: Iterable["Record"]) -> bytes:
+        """The octets that the signature of this RRSIG covers (RFC 4034, section 3.1.8.1): its data up to the signature, and those of
+        these records that have its owner, its class and the type covered, as a set in canonical form and order (RFC 4034, section
+        6), each once, with the original time to live. If the owner has more labels than the RRSIG counts, it is the wildcard that
+        made the records (RFC 4035, section 5.3.2).
+
+        The records are a section of a message, or others, as those that are to be signed: then the signature of the RRSIG is empty.
+        Whether a signature is right, and in its time, is not tested.
+
+        Raises `NotRrsig` if this record is of another type; `NotCovered` if it covers none of the records; `TooFewLabels` if its
+        owner has fewer labels than it counts; `DataTooLong` if the data of a record have more than 65535 octets once their names are
+        whole; and as `fields` if its own data, or those of a record that it covers, are none.
+
+        >>> rrsig = Record.from_text("a. 60 IN RRSIG A 13 1 3600 20010909014640 20010909014640 7 a. AA==")
+        >>> rrsig.signed_octets([Record.from_text("A. 5 IN A 192.0.2.1")]).hex(" ", -4)
+        '00010d01 00000e10 3b9aca00 3b9aca00 00070161 00016100 00010001 00000e10 0004c000 0201'
+        """
+        if self._type != RecordType.RRSIG:
+            check(NotRrsig.number)
+        kind = self.fields()[0]
+        # The library selects again, and more, but its list has no record that is not to be read.
+        found = [it for it in records if (it._type, it._class, it.owner) == (kind, self._class, self.owner)]
+        own = self.to_wire()
+        wire = own + b"".join(record.to_wire() for record in found)
+        # A record is not longer in canonical form, and the signature is left out.
+        room, length = (c_char * len(wire))(), c_size_t()
+        check(library.dnw_signed_octets(wire, len(wire), len(own), 0, room, len(wire), byref(length)))
+        return taken(room, length.value)
 
     def __str__(self) -> str:
         return printed(self._message, self._start)

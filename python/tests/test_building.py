@@ -240,7 +240,7 @@ class Records(unittest.TestCase):
         texts = lambda count: ". 1 IN TXT" + f' "{"a" * 255}"' * count
         self.assertEqual(len(Record.from_text(texts(255)).raw_data), 255 * 256)
         self.assertRaises(dnw.BadData, Record.from_text, texts(256))
-        text = "^the data of a record, or a character string in them, are too long$"
+        text = "^the data of a record, or a text in them, are too long$"
         with self.assertRaisesRegex(dnw.DataTooLong, text):
             dnw.TXT((bytes(256),)).to_wire()
         for call in [lambda long: Record(Name("."), 0, long), dnw.Unknown.to_text]:

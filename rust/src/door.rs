@@ -265,6 +265,15 @@ extern "C" {
         record_size: usize,
         len: *mut usize,
     ) -> u32;
+    fn dnw_signed_octets(
+        message: *const u8,
+        section_end: usize,
+        start: usize,
+        rrsig: usize,
+        octets: *mut u8,
+        octets_size: usize,
+        len: *mut usize,
+    ) -> u32;
     fn dnw_reverse_name(
         address: *const u8,
         address_len: usize,
@@ -537,6 +546,18 @@ pub(crate) fn parse_record(line: &str, origin: &[u8], octets: &mut Vec<u8>) -> R
     append_put(octets, FORM_SIZE + 10 + DATA_SIZE, |room, size, len| unsafe {
         dnw_record_parse(text, text_len, name, name_len, room, size, len)
     })
+}
+
+/// Returns the octets that the signature of the RRSIG at the front of a list covers, of the records from `start` on. No name is
+/// compressed.
+pub(crate) fn signed_octets(list: &[u8], start: usize) -> Result<Vec<u8>, Error> {
+    let (mut octets, first, end) = (Vec::new(), list.as_ptr(), list.len());
+    // A record is not longer in canonical form, and the signature is left out.
+    // SAFETY: pointers with their lengths, see the module; and the room is not read.
+    append_put(&mut octets, end, |room, size, len| unsafe {
+        dnw_signed_octets(first, end, start, 0, room, size, len)
+    })?;
+    Ok(octets)
 }
 
 /// Puts the wire form of the reverse name of an address of 4 or 16 bytes, and returns its length.

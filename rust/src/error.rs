@@ -222,6 +222,12 @@ pub enum ErrorKind {
     BadParams,
     /// A text that is no data of its record type, or that of more than 65535 octets.
     BadData,
+    /// A record that should be an RRSIG and is none.
+    NotRrsig,
+    /// An RRSIG that covers none of the records.
+    NotCovered,
+    /// An RRSIG whose owner has fewer labels than it counts.
+    TooFewLabels,
     /// Data of a record of more than 65535 octets, or a character string of more than 255, that is to be written.
     DataTooLong,
     /// Another failure, by its number in `dns_names_wire.h`.
@@ -229,7 +235,7 @@ pub enum ErrorKind {
 }
 
 /// The failures of the C library that this crate names, each with its number in `dns_names_wire.h`.
-const NUMBERS: [(u32, ErrorKind); 27] = [
+const NUMBERS: [(u32, ErrorKind); 31] = [
     (1, ErrorKind::NoMemory),
     (3, ErrorKind::MessageCut),
     (4, ErrorKind::PointerNotBack),
@@ -257,10 +263,14 @@ const NUMBERS: [(u32, ErrorKind); 27] = [
     (33, ErrorKind::CutOption),
     (34, ErrorKind::BadParams),
     (35, ErrorKind::BadData),
+    (36, ErrorKind::NotRrsig),
+    (37, ErrorKind::NotCovered),
+    (38, ErrorKind::TooFewLabels),
+    (39, ErrorKind::DataTooLong),
 ];
 
 impl ErrorKind {
-    /// Returns its number in `dns_names_wire.h`, or 0 for `DataTooLong`, which the crate finds itself.
+    /// Returns its number in `dns_names_wire.h`.
     ///
     /// ```
     /// assert_eq!(dns_names_wire::ErrorKind::NameTooLong.number(), 7);
@@ -404,10 +414,7 @@ impl fmt::Display for Error {
 
 impl fmt::Display for ErrorKind {
     fn fmt(&self, f: &mut fmt::Formatter<'_>) -> fmt::Result {
-        match self {
-            ErrorKind::DataTooLong => f.pad("the data of a record, or a character string in them, are too long"),
-            kind => show(kind.number(), f),
-        }
+        show(self.number(), f)
     }
 }
 

@@ -27,6 +27,7 @@
 //! | show records as lines of master files, and messages as `dig` does | `Display` of [`Record`] and [`Message`] |
 //! | build queries and replies, section by section, and write them within a size | [`MessageBuilder`] |
 //! | make records of data by type, or parse them from lines of master files | [`RecordBuf`] |
+//! | test signatures, or make them | [`Record::signed_octets`] |
 //! | write any list of names, questions, records and bytes, with compression | [`MessageWriter`] |
 //! | go from addresses to their reverse names, and back | [`Name::from_ip`], [`Name::parse_arpa_name`] |
 //! | name types and classes, read and write bitmaps of types, compare serial numbers | [`RecordType`], [`Class`], [`TypeSet`], [`SerialNumber`] |

@@ -6,6 +6,7 @@ use crate::field::Fields;
 use crate::name::Name;
 use crate::name_ref::{pass_name, NameRef};
 use crate::rdata::RData;
+use crate::record_buf::put_record;
 use alloc::vec::Vec;
 use core::fmt;
 
@@ -237,6 +238,59 @@ impl<'a> Record<'a> {
     /// ```
     pub fn fields(&self) -> Fields<'a> {
         Fields::new(&self.message()[..self.end], self.data_offset(), self.record_type())
+    }
+
+    /// Returns the octets that the signature of this RRSIG covers (RFC 4034, section 3.1.8.1): its data up to the signature, and
+    /// those of these records that have its owner, its class and the type covered, as a set in canonical form and order (RFC 4034,
+    /// section 6), each once, with the original time to live. If the owner has more labels than the RRSIG counts, it is the
+    /// wildcard that made the records (RFC 4035, section 5.3.2).
+    ///
+    /// The records are a section of a message, as [`Message::answers`](crate::Message::answers), or others, as those that are to be
+    /// signed: then the signature of the RRSIG is empty. Whether a signature is right, and in its time, is not tested.
+    ///
+    /// # Errors
+    ///
+    /// `NotRrsig` if this record is of another type; `NotCovered` if it covers none of the records; `TooFewLabels` if its owner has
+    /// fewer labels than it counts; `DataTooLong` if the data of a record have more than 65535 octets once their names are whole;
+    /// as [`data`](Record::data) if its own data, or those of a record that it covers, are none; or `NoMemory`.
+    ///
+    /// ```
+    /// use dns_names_wire::RecordBuf;
+    ///
+    /// let rrsig: RecordBuf = "b.a. 60 IN RRSIG A 13 2 3600 20010909014640 20010909014640 7 a. AA==".parse()?;
+    /// let records: [RecordBuf; 2] = ["B.A. 60 A 192.0.2.2".parse()?, "b.a. 9 A 192.0.2.1".parse()?];
+    /// let signed = rrsig.as_record().signed_octets(&records)?;
+    /// assert_eq!(signed[..21], *b"\0\x01\x0D\x02\0\0\x0E\x10\x3B\x9A\xCA\0\x3B\x9A\xCA\0\0\x07\x01a\0");
+    /// let first = b"\x01b\x01a\0\0\x01\0\x01\0\0\x0E\x10\0\x04\xC0\0\x02\x01";
+    /// assert!(signed[21..].starts_with(first) && signed.ends_with(&[192, 0, 2, 2]));
+    /// # Ok::<(), dns_names_wire::Error>(())
+    /// ```
+    pub fn signed_octets<'r, I>(&self, records: I) -> Result<Vec<u8>, Error>
+    where
+        I: IntoIterator,
+        I::Item: Into<Record<'r>>,
+    {
+        let covered = match self.data()? {
+            RData::RRSIG(data) => data.type_covered,
+            _ => return Err(ErrorKind::NotRrsig.into()),
+        };
+        let mut list = Vec::new();
+        self.put(&mut list)?;
+        let start = list.len();
+        for record in records.into_iter().map(Into::into) {
+            // The library selects again, and more, but its list has no record that is not to be read.
+            if record.record_type() == covered && record.class == self.class && record.owner == self.owner {
+                record.put(&mut list)?;
+            }
+        }
+        door::signed_octets(&list, start)
+    }
+
+    /// Appends the octets, no name compressed, and returns where the owner ends. If it fails, nothing is appended.
+    pub(crate) fn put(&self, octets: &mut Vec<u8>) -> Result<usize, Error> {
+        let data = self.data()?;
+        let fields = (self.record_type(), self.class(), self.ttl);
+        put_record(octets, self.owner, fields, |octets| data.put(octets))
     }
 
     /// Returns the offset after the record, where the next one begins.

@@ -328,9 +328,8 @@ impl TryFrom<Record<'_>> for RecordBuf {
     type Error = Error;
 
     fn try_from(record: Record<'_>) -> Result<Self, Error> {
-        let (mut octets, data) = (Vec::new(), record.data()?);
-        let fields = (record.record_type(), record.class(), record.ttl());
-        let fixed = put_record(&mut octets, record.owner(), fields, |octets| data.put(octets))?;
+        let mut octets = Vec::new();
+        let fixed = record.put(&mut octets)?;
         Ok(RecordBuf { octets, fixed })
     }
 }

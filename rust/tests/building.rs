@@ -166,11 +166,11 @@ fn what_fails_leaves_a_message_unchanged() {
     message.answer(&root, 0, Ipv4Addr::LOCALHOST).unwrap().additional(&root, 0, Ipv4Addr::LOCALHOST).unwrap();
     let before = message.finish(512).unwrap();
     let data = RData::Unknown { record_type: RecordType::from(65280), octets: &long };
-    let text = "the data of a record, or a character string in them, are too long";
+    let text = "the data of a record, or a text in them, are too long";
     assert_eq!(message.answer(&root, 0, data.clone()).unwrap_err().to_string(), text);
     assert_eq!(message.authority(&root, 0, data.clone()).unwrap_err().kind(), ErrorKind::DataTooLong);
     assert_eq!(message.additional(&root, 0, data.clone()).unwrap_err().kind(), ErrorKind::DataTooLong);
-    assert_eq!(RecordBuf::new(&root, 0, data).unwrap_err().number(), 0);
+    assert_eq!(RecordBuf::new(&root, 0, data).unwrap_err().number(), 39);
     assert_eq!(message.finish(512), Ok(before));
     // Octets that are no data of their type are found when the message is written.
     let wrong = RecordBuf::from_octets(&root, RecordType::A, Class::IN, 0, &[1, 2, 3]).unwrap();

@@ -51,6 +51,10 @@ failure_entry why.OwnerNotRoot = entry 32 (codes "the OPT record is not owned by
 failure_entry why.CutOption = entry 33 (codes "an option of the OPT record is cut")
 failure_entry why.BadParams = entry 34 (codes "the service parameters are not in ascending order")
 failure_entry why.BadData = entry 35 (codes "the text is no data of the record type")
+failure_entry why.NotRrsig = entry 36 (codes "the record is no RRSIG")
+failure_entry why.NotCovered = entry 37 (codes "the RRSIG covers none of the records")
+failure_entry why.TooFewLabels = entry 38 (codes "the owner has fewer labels than the RRSIG counts")
+failure_entry why.DataTooLong = entry 39 (codes "the data of a record, or a text in them, are too long")
 
 abbrev pub number : Failure → ℕ
 number failure = (failure_entry failure).code

@@ -78,6 +78,14 @@ pub enum Failure {
     BadParams,
     /// A text is no data of its record type, or has too many octets of them.
     BadData,
+    /// A record is no RRSIG.
+    NotRrsig,
+    /// There is no record that an RRSIG covers.
+    NotCovered,
+    /// The owner of an RRSIG has fewer labels than the RRSIG counts.
+    TooFewLabels,
+    /// The data of a record, with their names whole, are longer than two octets can say.
+    DataTooLong,
 }
 
 /// The table of the failures: each with its number in C and a text about it. The rule that is named gets the rows, after
@@ -120,6 +128,10 @@ macro_rules! failures {
             CutOption = 33, "an option of the OPT record is cut";
             BadParams = 34, "the service parameters are not in ascending order";
             BadData = 35, "the text is no data of the record type";
+            NotRrsig = 36, "the record is no RRSIG";
+            NotCovered = 37, "the RRSIG covers none of the records";
+            TooFewLabels = 38, "the owner has fewer labels than the RRSIG counts";
+            DataTooLong = 39, "the data of a record, or a text in them, are too long";
         }
     };
 }

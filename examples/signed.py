@@ -1,0 +1,27 @@
+#!/usr/bin/env python3
+"""Prints the octets that each signature of a DNS message covers: signed.py FILE, in binary, or on standard input.
+
+A line has the owner of an RRSIG, the type that it covers, the tag of its key, and the octets in hexadecimal: a validator tests the
+signature over these by the key (RFC 4035, section 5.3).
+"""
+
+import sys
+
+from dns_names_wire import DnsError, Message, RecordType
+
+
+def main(file="/dev/stdin"):
+    with open(file, "rb") as octets:
+        message = Message.from_wire(octets.read())
+    for section in message.answers, message.authorities, message.additionals:
+        for record in section:
+            if record.record_type == RecordType.RRSIG:
+                signed = record.signed_octets(section)
+                print(record.owner, record.data.type_covered, record.data.key_tag, signed.hex())
+
+
+if __name__ == "__main__":
+    try:
+        main(*sys.argv[1:])
+    except DnsError as error:
+        sys.exit(f"signed: {error}")
