@@ -7,7 +7,8 @@ use Rattle.dnw_error.specs.declared.error.ProtoError.TheVariants.{Memory}
 use Rattle.dnw_encoder.specs.Encoder.{Encoder, fresh}
 use Rattle.dnw_record.specs.Records.{RecordValue}
 use Rattle.dnw_rdata.specs.declared.record.Record.{Record}
-use Rattle.dnw_rdata.specs.AnyRecords.{EmitsAnyRecord, IsCopyOf}
+use Rattle.dnw_rdata.specs.AnyRecords.{EmitsAnyRecord, EmitsCopyOf, HasFields, IsCopyOf}
+use Rattle.dnw_rdata.proofs.WrittenCopies.{some-copy}
 use Rattle.dnw_message.specs.Edns.{is_opt, opts_in}
 use Rattle.dnw_message.specs.Messages.{MessageValue, QueryValue}
 use Rattle.dnw_message.specs.declared.header.Header.{Header}
@@ -16,6 +17,7 @@ use Rattle.dnw_message_writer.specs.declared.section.Section.{Section}
 use Rattle.dnw_message_writer.specs.declared.section.Section.TheVariants.{Queries, Answers, Authorities, Additionals}
 use Rattle.dnw_message_writer.specs.declared.query.WireQuery.{WireQuery}
 use Rattle.dnw_message_writer.specs.WireQueries.{EmitsQuery}
+use Rattle.dnw_message_writer.specs.declared.section.AddError.TheVariants.{OutOfOrder, Proto as refused}
 use Rattle.dnw_message_writer.specs.declared.writer.Entry.{Entry}
 use Rattle.dnw_message_writer.specs.declared.writer.Entry.TheVariants.{Query, Answer, Authority, Additional}
 use Rattle.dnw_message_writer.specs.declared.writer.copying.CopyError.{CopyError}
@@ -171,10 +173,17 @@ queries-on x q all left new start now m o is same adds settled goes e more =
     let one : AddsEntry (query_entry x) now o m = subst (λ (y : Entry). AddsEntry y now o m) same adds in
     goes e (subst (λ (xs : List QueryValue). AddsItems (map query_entry xs) now e) (sym is) (items-cons (query_entry x) (map query_entry new) now m e o one settled more))
 
-pub if-settled : (outcome : Result (Unit {0}) CopyError) (s : Section) (x : RecordValue) (r : Record) (d e : Draft) (o : Added) → HasRecords s → IsCopyOf x r
-    → Adds EmitsAnyRecord s r d o e → OnOk outcome (IsSettled o) → OnOk outcome (AddsCopy s x d e)
-if-settled (Ok tt) s x r d e o kind is adds settled = adds-copy s x r d e o kind is adds settled
-if-settled (Err error) s x r d e o kind is adds settled = tt
+-- a record that is added from where it is, is added as a copy
+as-copy : (s : Section) (x : RecordValue) (d e : Draft) (o : Added) → HasFields x → Adds EmitsCopyOf s x d o e
+    → (r : Record) × IsCopyOf x r × Adds EmitsAnyRecord s r d o e
+as-copy s x d e (Ok tt) has (open, (r, is, emits), counts) = (r, is, (open, emits, counts))
+as-copy s x d e (Err OutOfOrder) has closed = let (r, is) = some-copy x has in (r, is, closed)
+as-copy s x d e (Err (refused error)) has (open, (r, is, emits), header) = (r, is, (open, emits, header))
+
+pub if-settled : (outcome : Result (Unit {0}) CopyError) (s : Section) (x : RecordValue) (d e : Draft) (o : Added) → HasRecords s → HasFields x
+    → Adds EmitsCopyOf s x d o e → OnOk outcome (IsSettled o) → OnOk outcome (AddsCopy s x d e)
+if-settled (Ok tt) s x d e o kind has adds settled = let (r, is, one) = as-copy s x d e o has adds in adds-copy s x r d e o kind is one settled
+if-settled (Err error) s x d e o kind has adds settled = tt
 
 -- ---- errors
 
