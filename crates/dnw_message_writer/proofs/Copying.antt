@@ -176,9 +176,9 @@ queries-on x q all left new start now m o is same adds settled goes e more =
 -- a record that is added from where it is, is added as a copy
 as-copy : (s : Section) (x : RecordValue) (d e : Draft) (o : Added) → HasFields x → Adds EmitsCopyOf s x d o e
     → (r : Record) × IsCopyOf x r × Adds EmitsAnyRecord s r d o e
-as-copy s x d e (Ok tt) has (open, (r, is, emits), counts) = (r, is, (open, emits, counts))
+as-copy s x d e (Ok tt) has (first, (r, is, emits), counts) = (r, is, (first, emits, counts))
 as-copy s x d e (Err OutOfOrder) has closed = let (r, is) = some-copy x has in (r, is, closed)
-as-copy s x d e (Err (refused error)) has (open, (r, is, emits), header) = (r, is, (open, emits, header))
+as-copy s x d e (Err (refused error)) has (first, (r, is, emits), header) = (r, is, (first, emits, header))
 
 pub if-settled : (outcome : Result (Unit {0}) CopyError) (s : Section) (x : RecordValue) (d e : Draft) (o : Added) → HasRecords s → HasFields x
     → Adds EmitsCopyOf s x d o e → OnOk outcome (IsSettled o) → OnOk outcome (AddsCopy s x d e)
