@@ -132,16 +132,10 @@ fn last_of(alloc: Global, message: &MessageRef<'_>) -> Result<Option<Record>, Co
     ensures ok { IfOk result (IsLastOf (opts_in message.now.additionals)) }
     ensures err { IfErr result (FailsLast message.now) }
 {
-    if message.edns()?.is_none() {
+    let Some(opt) = message.opt()? else {
         return Ok(None);
-    }
-    let mut records = message.additionals();
-    'records: while let Some(record) = records.next() {
-        if is_opt(&record) {
-            return Ok(Some(copy_of(alloc, &record)?));
-        }
-    }
-    Ok(None)
+    };
+    Ok(Some(copy_of(alloc, &opt)?))
 }
 
 /// Returns `true` for an `OPT` record.
