@@ -144,7 +144,7 @@ pub use Rattle.dnw_svcb_text.specs.ParamWords.{IsParam}
 pub use Rattle.dnw_data_text.specs.DataTextLaws.{AddressesComeBack as FieldAddressesComeBack, CountedComeBack, NumbersComeBack, OctetsComeBack, StringsComeBack, TypesComeBack}
 pub use Rattle.dnw_data_text.specs.DataTextLaws.{GenericComesBack, FieldComesBack, Follows as FollowsField, IsRead as IsReadType, IsData as IsDataOctets}
 -- Whole messages: headers, sections and EDNS.
-pub use Rattle.dnw_message.specs.Edns.{EdnsValue, FailsEdns, FailsOpt, HasEdns, HasOptions, IsEdns, IsResponseCode, OptionValue}
+pub use Rattle.dnw_message.specs.Edns.{EdnsValue, FailsEdns, FailsOpt, HasEdns, HasOpt, HasOptions, IsEdns, IsResponseCode, OptionValue}
 pub use Rattle.dnw_message.specs.Edns.{first_option, is_opt, opts_in}
 pub use Rattle.dnw_message.specs.HeaderLaws.{HeaderFits, HeadersReadBack, HeadersWriteBack}
 pub use Rattle.dnw_message.specs.Headers.{TakesHeader, flag, flags_of, header_of, header_size, header_wire, is_set, metadata_of}
@@ -176,8 +176,8 @@ pub use Rattle.dnw_rdata.specs.declared.record.Record.{Record}
 pub use Rattle.dnw_rdata.specs.declared.rdata.RDataError.{RDataError}
 pub use Rattle.dnw_rdata.specs.DataPieces.{ArePiecesOf, DataPiece, DataValue, HasPieces, IsData, IsDataOfType, kinds_of, octets_of, piece_octets}
 pub use Rattle.dnw_rdata.specs.DataCopies.{Copies, FailsToCopy, TakesPiece, TakesPieces, alone, data_start}
-pub use Rattle.dnw_rdata.specs.AnyRecords.{AnyNumbersFit, EmitsAnyRecord, EmitsRData, IsCopyOf, encoding_of, mode_of, parts_of}
-pub use Rattle.dnw_rdata.specs.AnyRecordFrames.{frame-any_record}
+pub use Rattle.dnw_rdata.specs.AnyRecords.{AnyNumbersFit, EmitsAnyRecord, EmitsCopyOf, EmitsRData, HasFields, IsCopyOf, encoding_of, mode_of, parts_of}
+pub use Rattle.dnw_rdata.specs.AnyRecordFrames.{frame-any_record, frame-copy}
 pub use Rattle.dnw_rdata.specs.AnyRecordLaws.{AnyRecordsAreRead, AnyRecordsFit, AnyRecordsPrecede, AnyRecordsStayBounded, CandidatesAreRead, DataHaveFields}
 pub use Rattle.dnw_rdata.specs.AnyRecordLaws.{NamesKeepRead, NewAreRead, PlainDataAreOctets, ReadsAs, RefusedAnyUndo, WholeDataAreOctets, WritesKeepRead}
 pub use Rattle.dnw_rdata.specs.AnyRecordLaws.{any_record_size, value_of, values_of, written_piece, written_pieces}

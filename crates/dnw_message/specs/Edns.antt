@@ -79,6 +79,16 @@ abbrev pub HasEdns : MessageValue → Option EdnsValue → Type 0
 HasEdns m None = opts_in m.additionals ≡ []
 HasEdns m (Some e) = (r : RecordValue) × (opts_in m.additionals ≡ r ∷ []) × IsEdns r e
 
+-- the only OPT record in the additional section, if there is one
+abbrev pub IsOnlyOpt : MessageValue → Option RecordValue → Type 0
+IsOnlyOpt m None = opts_in m.additionals ≡ []
+IsOnlyOpt m (Some r) = opts_in m.additionals ≡ r ∷ []
+
+-- It is there, and it is not broken; or there is none.
+abbrev pub HasOpt : MessageValue → Option RecordValue → Type 0
+HasOpt m None = opts_in m.additionals ≡ []
+HasOpt m (Some r) = (opts_in m.additionals ≡ r ∷ []) × (e : EdnsValue) × IsEdns r e
+
 -- There are two or more, or the only one fails.
 abbrev pub FailsEdns : MessageValue → EdnsError → Type 0
 FailsEdns m error =

@@ -1,7 +1,7 @@
 //! Messages, which are read without copying.
 ghost use Rattle.std.specs.Prelude.{◌≡◌, ℕ, ◌<◌, ◌≤◌, length, drop, slice_range, IfOk, IfErr};
 ghost use Rattle.dnw_message.specs.Headers.{header_of, header_size};
-ghost use Rattle.dnw_message.specs.Edns.{FailsEdns, HasEdns, IsResponseCode};
+ghost use Rattle.dnw_message.specs.Edns.{FailsEdns, HasEdns, HasOpt, IsOnlyOpt, IsResponseCode, opts_in};
 ghost use Rattle.dnw_message.specs.Messages.{MessageAt, FailsMessage, SectionsBegin, no_header};
 
 use crate::edns::{EdnsError, EdnsRef, next_opt};
@@ -12,6 +12,7 @@ use crate::passing::pass_section;
 use crate::response_code::ResponseCode;
 use dnw_base::decoder::BinDecoder;
 use dnw_error::error::DecodeError;
+use dnw_record::record::RecordRef;
 use std::marker::Model;
 
 /// How many pointers the names of a message may follow in all, if no other number is given.
@@ -163,6 +164,29 @@ impl<'m> MessageRef<'m> {
         ensures ok { IfOk result (HasEdns self.now) }
         ensures err { IfErr result (FailsEdns self.now) }
     {
+        let Some(opt) = self.only_opt()? else {
+            return Ok(None);
+        };
+        Ok(Some(EdnsRef::read(&opt)?))
+    }
+
+    /// Returns the `OPT` record in the additional section, if there is one (RFC 6891, section 6.1.1). It fails as `edns` does.
+    pub fn opt(&self) -> Result<Option<RecordRef<'m>>, EdnsError>
+        ensures ok { IfOk result (HasOpt self.now) }
+        ensures err { IfErr result (FailsEdns self.now) }
+    {
+        let Some(opt) = self.only_opt()? else {
+            return Ok(None);
+        };
+        let _ = EdnsRef::read(&opt)?;
+        Ok(Some(opt))
+    }
+
+    /// Returns the only `OPT` record, whatever its options are.
+    fn only_opt(&self) -> Result<Option<RecordRef<'m>>, EdnsError>
+        ensures ok { IfOk result (IsOnlyOpt self.now) }
+        ensures err { IfErr result (λ error. (2 ≤ length (opts_in self.now.additionals)) × (error ≡ EdnsError.DuplicateEdns)) }
+    {
         let mut records = self.additionals();
         let Some(opt) = next_opt(&mut records) else {
             return Ok(None);
@@ -170,7 +194,7 @@ impl<'m> MessageRef<'m> {
         if next_opt(&mut records).is_some() {
             return Err(EdnsError::DuplicateEdns);
         }
-        Ok(Some(EdnsRef::read(&opt)?))
+        Ok(Some(opt))
     }
 
     /// Returns the response code, with the high bits that EDNS has (RFC 6891, section 6.1.3). It fails as `edns` does.

@@ -1,5 +1,5 @@
 -- Copies are added in turn, and make a copy of a whole message.
-use Rattle.std.proofs.Common.{◌≡◌, ℕ, ◌-◌, ◌≤◌, not, cond, Bool, true, false, Option, Some, None, List, [], ◌∷◌, ◌++◌, map, Result, Ok, Err, IfErr, OnOk, inl, refl, sym, ap, ◌∙◌, append_assoc, subst, arith}
+use Rattle.std.proofs.Common.{◌≡◌, ℕ, ◌-◌, ◌≤◌, not, cond, Bool, true, false, Option, Some, None, List, [], ◌∷◌, ◌++◌, length, map, Result, Ok, Err, IfErr, OnOk, inl, refl, sym, ap, ◌∙◌, append_assoc, subst, arith}
 use Rattle.std.specs.Result.{IsErrAnd}
 use Rattle.std.proofs.lemmas.List.{append-nil}
 use Rattle.dnw_error.specs.declared.error.ProtoError.{ProtoError}
@@ -7,7 +7,8 @@ use Rattle.dnw_error.specs.declared.error.ProtoError.TheVariants.{Memory}
 use Rattle.dnw_encoder.specs.Encoder.{Encoder, fresh}
 use Rattle.dnw_record.specs.Records.{RecordValue}
 use Rattle.dnw_rdata.specs.declared.record.Record.{Record}
-use Rattle.dnw_rdata.specs.AnyRecords.{EmitsAnyRecord, IsCopyOf}
+use Rattle.dnw_rdata.specs.AnyRecords.{EmitsAnyRecord, EmitsCopyOf, HasFields, IsCopyOf}
+use Rattle.dnw_rdata.proofs.WrittenCopies.{some-copy}
 use Rattle.dnw_message.specs.Edns.{is_opt, opts_in}
 use Rattle.dnw_message.specs.Messages.{MessageValue, QueryValue}
 use Rattle.dnw_message.specs.declared.header.Header.{Header}
@@ -16,12 +17,13 @@ use Rattle.dnw_message_writer.specs.declared.section.Section.{Section}
 use Rattle.dnw_message_writer.specs.declared.section.Section.TheVariants.{Queries, Answers, Authorities, Additionals}
 use Rattle.dnw_message_writer.specs.declared.query.WireQuery.{WireQuery}
 use Rattle.dnw_message_writer.specs.WireQueries.{EmitsQuery}
+use Rattle.dnw_message_writer.specs.declared.section.AddError.TheVariants.{OutOfOrder, Proto as refused}
 use Rattle.dnw_message_writer.specs.declared.writer.Entry.{Entry}
 use Rattle.dnw_message_writer.specs.declared.writer.Entry.TheVariants.{Query, Answer, Authority, Additional}
 use Rattle.dnw_message_writer.specs.declared.writer.copying.CopyError.{CopyError}
 use Rattle.dnw_message_writer.specs.declared.writer.copying.CopyError.TheVariants.{Data, Edns, Proto}
 use Rattle.dnw_message_writer.specs.Drafts.{Added, Adds, AddsAll, AddsEntry, AddsLast, Begins, Draft, Ends}
-use Rattle.dnw_message_writer.specs.Copies.{AddsCopies, AddsCopy, AddsItems, BeginsBefore, FailsCopies, FailsCopy, FailsCopyOf, FailsLast, HasRecords, IsCopied, IsLastOf, IsSettled, WrittenBefore, plain_in, query_entry}
+use Rattle.dnw_message_writer.specs.Copies.{AddsCopies, AddsCopy, AddsItems, BeginsBefore, FailsCopies, FailsCopy, FailsCopyOf, FailsLast, HasRecords, IsAmong, IsCopied, IsLastOf, IsSettled, WrittenBefore, plain_in, query_entry}
 use Rattle.dnw_message_writer.proofs.Finishing.{messages_are_written, messages_end_with}
 
 -- ---- items
@@ -153,15 +155,6 @@ among-more xs before after (Proto error) fails = fails
 
 -- ---- as the code goes
 
--- no OPT record so far, and this is none
-pub passed-over : (all left new : List RecordValue) (x : RecordValue) → left ≡ x ∷ new → is_opt x.record_type ≡ false
-    → (opts_in left ≡ opts_in all) × (done : List RecordValue) × (all ≡ done ++ left) → (opts_in new ≡ opts_in all) × (done : List RecordValue) × (all ≡ done ++ new)
-passed-over all left new x is other (opts, done, split) = (
-  sym (ap (λ (b : Bool). cond b (x ∷ opts_in new) (opts_in new)) other) ∙ (ap opts_in (sym is) ∙ opts),
-  done ++ x ∷ [],
-  split ∙ (ap (λ (ys : List RecordValue). done ++ ys) is ∙ sym (append_assoc done (x ∷ []) new)),
-)
-
 -- one more question
 pub queries-on : (x : QueryValue) (q : WireQuery) (all left new : List QueryValue) (start now m : Draft) (o : Added) → left ≡ x ∷ new
     → Query q ≡ query_entry x → Adds EmitsQuery Queries q now o m → IsSettled o
@@ -171,10 +164,17 @@ queries-on x q all left new start now m o is same adds settled goes e more =
     let one : AddsEntry (query_entry x) now o m = subst (λ (y : Entry). AddsEntry y now o m) same adds in
     goes e (subst (λ (xs : List QueryValue). AddsItems (map query_entry xs) now e) (sym is) (items-cons (query_entry x) (map query_entry new) now m e o one settled more))
 
-pub if-settled : (outcome : Result (Unit {0}) CopyError) (s : Section) (x : RecordValue) (r : Record) (d e : Draft) (o : Added) → HasRecords s → IsCopyOf x r
-    → Adds EmitsAnyRecord s r d o e → OnOk outcome (IsSettled o) → OnOk outcome (AddsCopy s x d e)
-if-settled (Ok tt) s x r d e o kind is adds settled = adds-copy s x r d e o kind is adds settled
-if-settled (Err error) s x r d e o kind is adds settled = tt
+-- a record that is added from where it is, is added as a copy
+as-copy : (s : Section) (x : RecordValue) (d e : Draft) (o : Added) → HasFields x → Adds EmitsCopyOf s x d o e
+    → (r : Record) × IsCopyOf x r × Adds EmitsAnyRecord s r d o e
+as-copy s x d e (Ok tt) has (first, (r, is, emits), counts) = (r, is, (first, emits, counts))
+as-copy s x d e (Err OutOfOrder) has closed = let (r, is) = some-copy x has in (r, is, closed)
+as-copy s x d e (Err (refused error)) has (first, (r, is, emits), header) = (r, is, (first, emits, header))
+
+pub if-settled : (outcome : Result (Unit {0}) CopyError) (s : Section) (x : RecordValue) (d e : Draft) (o : Added) → HasRecords s → HasFields x
+    → Adds EmitsCopyOf s x d o e → OnOk outcome (IsSettled o) → OnOk outcome (AddsCopy s x d e)
+if-settled (Ok tt) s x d e o kind has adds settled = let (r, is, one) = as-copy s x d e o has adds in adds-copy s x r d e o kind is one settled
+if-settled (Err error) s x d e o kind has adds settled = tt
 
 -- ---- errors
 
@@ -202,6 +202,25 @@ of-last : (m : MessageValue) (most : ℕ) (error : CopyError) → FailsLast m er
 of-last m most (Data offset error) fails = in-additionals m (Data offset error) fails
 of-last m most (Edns error) fails = fails
 of-last m most (Proto error) fails = inl fails
+
+-- the first OPT record is one of the records
+abbrev first-of : RecordValue → List RecordValue → RecordValue
+first-of y [] = y
+first-of y (x ∷ xs) = x
+
+among-after : (b : Bool) (y x : RecordValue) (ys rest : List RecordValue) → (opts_in ys ≡ x ∷ rest → IsAmong ys x) → cond b (y ∷ opts_in ys) (opts_in ys) ≡ x ∷ rest
+    → IsAmong (y ∷ ys) x
+among-after true y x ys rest later is = ([], ys, ap (λ (z : RecordValue). z ∷ ys) (ap (first-of y) is))
+among-after false y x ys rest later is = let (before, after, split) = later is in (y ∷ before, after, ap (λ (zs : List RecordValue). y ∷ zs) split)
+
+opt-among : (xs rest : List RecordValue) (x : RecordValue) → opts_in xs ≡ x ∷ rest → IsAmong xs x
+opt-among [] rest x is = absurd (omega (arith, ap length is))
+opt-among (y ∷ ys) rest x is = among-after (is_opt y.record_type) y x ys rest (opt-among ys rest x) is
+
+pub opt-fails : (m : MessageValue) (x : RecordValue) (error : CopyError) → opts_in m.additionals ≡ x ∷ [] → FailsCopyOf x error → FailsLast m error
+opt-fails m x (Data offset error) is fails = (x, opt-among m.additionals [] x is, fails)
+opt-fails m x (Edns error) is fails = absurd fails
+opt-fails m x (Proto error) is fails = fails
 
 -- an error of these records, which is passed on
 pub passes-on : {A : Type 0} (r : Result A CopyError) (given : CopyError) (m : MessageValue) (most : ℕ) → IsErrAnd r (λ e. e ≡ given)

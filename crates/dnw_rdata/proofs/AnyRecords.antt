@@ -130,7 +130,7 @@ take-values start (kind ∷ kinds) d [] takes = absurd takes
 take-values start (kind ∷ kinds) d (piece ∷ pieces) (after, one, more) =
     (after, kinds, (takes-value kind d after piece one, refl), take-values start kinds after pieces more)
 
-whole-pieces : (kinds : List Kind) (octets : List ℕ) (pieces : List DataPiece) → HasPieces kinds octets pieces → TakesPieces kinds (alone octets) pieces
+pub whole-pieces : (kinds : List Kind) (octets : List ℕ) (pieces : List DataPiece) → HasPieces kinds octets pieces → TakesPieces kinds (alone octets) pieces
 whole-pieces kinds octets pieces has = subst (λ o. TakesPieces kinds (alone o) pieces) (sym has.whole) (pieces-again kinds pieces [] has.are)
 
 pub data_have_fields : DataHaveFields

@@ -13,7 +13,7 @@ use Rattle.dnw_data.specs.Walks.{FieldsAre, IsAtEnd}
 use Rattle.dnw_data.proofs.Taking.{moves-on}
 use Rattle.dnw_rdata.specs.declared.rdata.RDataError.{RDataError}
 use Rattle.dnw_rdata.specs.declared.rdata.RDataError.TheVariants.{Field, Memory}
-use Rattle.dnw_rdata.specs.DataPieces.{DataPiece, octets_of, piece_octets}
+use Rattle.dnw_rdata.specs.DataPieces.{DataPiece, name_piece, octets_of, octets_piece, piece_octets}
 use Rattle.dnw_rdata.specs.DataCopies.{Copies, FailsPiece, FailsToCopy, TakesPiece, TakesPieces}
 use Rattle.dnw_rdata.specs.Inside.Copying.{IsCopying}
 
@@ -21,6 +21,11 @@ use Rattle.dnw_rdata.specs.Inside.Copying.{IsCopying}
 pub field-of : (kind : Kind) (d after : Decoder) (piece : DataPiece) → TakesPiece kind d piece after → (v : FieldValue) × TakesField kind d v after
 field-of (Name form) d after piece (labels, k, takes, is) = (name labels, (labels, k, takes, refl))
 field-of kind d after piece (enough, right, is, there) = (own_value kind (own_at kind d), (enough, right, refl, there))
+
+-- a field has a piece
+pub piece-of : (kind : Kind) (d after : Decoder) (v : FieldValue) → TakesField kind d v after → (piece : DataPiece) × TakesPiece kind d piece after
+piece-of (Name form) d after v (labels, k, takes, is) = (name_piece form labels, (labels, k, takes, refl))
+piece-of kind d after v (enough, right, is, there) = (octets_piece (own_at kind d), (enough, right, refl, there))
 
 pub begins : (kinds : List Kind) (d : Decoder) (before : List ℕ) → IsCopying kinds d before kinds d before
 begins kinds d before =

@@ -9,8 +9,11 @@ use Rattle.dnw_encoder.specs.EmittedName.{EmitsAs, EmitsName, Share, in_mode}
 use Rattle.dnw_record.specs.Parts.{EmitsSized, EmitsWirePart, EmitsWireParts, Then, WirePart, Write, bytes_part, name_part, text_part}
 use Rattle.dnw_record.proofs.Parts.{done-bytes, done-name, done-part, refused-name, refused-part, refused-room}
 use Rattle.dnw_rdata.specs.declared.record.Record.{Record}
+use Rattle.dnw_base.specs.Decoder.{Decoder}
+use Rattle.dnw_data.specs.declared.kind.Kind.{Kind}
 use Rattle.dnw_rdata.specs.DataPieces.{DataValue}
 use Rattle.dnw_rdata.specs.AnyRecords.{EmitsRData, EmitsAnyFields, parts_of, type_class_ttl}
+use Rattle.dnw_rdata.specs.Inside.Walking.{EmitsPieces}
 
 abbrev pub offset_of : Encoder → ℕ
 offset_of v = v.offset
@@ -35,6 +38,9 @@ on-parts [] v (Err error) w h = absurd h
 on-parts (part ∷ parts) v (Ok tt) w (m, one, more) = omega (arith, (done-part part v m one).3, on-parts parts m (Ok tt) w more)
 on-parts (part ∷ parts) v (Err error) w (inl one) = same-offset v w (refused-part part parts v w error one).0
 on-parts (part ∷ parts) v (Err error) w (inr (m, one, more)) = omega (arith, (done-part part v m one).3, on-parts parts m (Err error) w more)
+
+pub on-pieces : (kinds : List Kind) (start : Decoder) → GoesOn (EmitsPieces kinds start)
+on-pieces kinds start v outcome w (pieces, takes, h) = on-parts (parts_of pieces v.encoding v.canonical) v outcome w h
 
 pub on-data : (x : DataValue) → GoesOn (EmitsRData x)
 on-data x v outcome w (pieces, has, h) = on-parts (parts_of pieces v.encoding v.canonical) v outcome w h
@@ -67,6 +73,10 @@ within-parts (part ∷ parts) v w le (m, one, more) =
 pub within-data : (x : DataValue) (v w : Encoder) → v.offset ≤ v.max_size → EmitsRData x v (Ok tt) w → (w.offset ≤ w.max_size) × (w.max_size ≡ v.max_size)
 within-data x v w le (pieces, has, h) = within-parts (parts_of pieces v.encoding v.canonical) v w le h
 
+pub within-pieces : (kinds : List Kind) (start : Decoder) (v w : Encoder) → v.offset ≤ v.max_size → EmitsPieces kinds start v (Ok tt) w
+    → (w.offset ≤ w.max_size) × (w.max_size ≡ v.max_size)
+within-pieces kinds start v w le (pieces, takes, h) = within-parts (parts_of pieces v.encoding v.canonical) v w le h
+
 -- ---- modes
 
 as-canonical : (v w : Encoder) (ls : List (List ℕ)) (choice : Option Share) → EmitsAs v ls choice (Ok tt) w → w.canonical ≡ v.canonical
@@ -89,13 +99,13 @@ parts-modes (part ∷ parts) v w (m, one, more) =
 -- ---- the length
 
 -- The length is written into its placeholder, which always has room.
-pub sized : (x : DataValue) (v p u w : Encoder) (place number : ℕ) (outcome : Outcome) → HasRoom v 2 → p ≡ reserved v 2 → EmitsRData x p (Ok tt) u
+pub sized : (write : Write) (v p u w : Encoder) (place number : ℕ) (outcome : Outcome) → HasRoom v 2 → p ≡ reserved v 2 → write p (Ok tt) u
     → place ≡ v.offset → place + 2 + number ≡ u.offset → u.offset ≤ u.max_size → u.offset ≤ length u.bytes
-    → EmitsAt {X = ℕ} (λ n e. Writes e (to_be_bytes w16 n)) place number u outcome w → EmitsSized (EmitsRData x) v outcome w
-sized x v p u w place number (Ok tt) room is one at size within inside (u', (fits, put), moved) =
+    → EmitsAt {X = ℕ} (λ n e. Writes e (to_be_bytes w16 n)) place number u outcome w → EmitsSized write v outcome w
+sized write v p u w place number (Ok tt) room is one at size within inside (u', (fits, put), moved) =
     let many : number ≡ u.offset - (v.offset + 2) = omega (arith, at, size) in
     let filled : w ≡ moved_to (written (moved_to u place) (to_be_bytes w16 number)) u.offset = moved ∙ ap (λ e. moved_to e u.offset) put in
-    (room, u, subst (λ e. EmitsRData x e (Ok tt) u) is one, filled ∙ rw (at, many) refl)
-sized x v p u w place number (Err Memory) room is one at size within inside (u', (fits, grows, put), moved) = absurd (omega (arith, size, inside, grows))
-sized x v p u w place number (Err (MaxBufferSizeExceeded most)) room is one at size within inside (u', (over, same, put), moved) = absurd (omega (arith, size, within, over))
-sized x v p u w place number (Err error) room is one at size within inside (u', none, moved) = absurd none
+    (room, u, subst (λ e. write e (Ok tt) u) is one, filled ∙ rw (at, many) refl)
+sized write v p u w place number (Err Memory) room is one at size within inside (u', (fits, grows, put), moved) = absurd (omega (arith, size, inside, grows))
+sized write v p u w place number (Err (MaxBufferSizeExceeded most)) room is one at size within inside (u', (over, same, put), moved) = absurd (omega (arith, size, within, over))
+sized write v p u w place number (Err error) room is one at size within inside (u', none, moved) = absurd none

@@ -9,3 +9,4 @@ pub mod Reading
 pub mod ReadBack
 pub mod Records
 pub mod Octets
+pub mod WrittenCopies

@@ -5,11 +5,12 @@ use Rattle.dnw_encoder.specs.Emitting.{Outcome, Frame}
 use Rattle.dnw_encoder.specs.EmittingLaws.{frame, frame-same, frames-follow}
 use Rattle.dnw_encoder.specs.EmittedName.{EmitsName}
 use Rattle.dnw_encoder.specs.NameFrames.{frame-name}
+use Rattle.dnw_record.specs.Records.{RecordValue}
 use Rattle.dnw_record.specs.Parts.{EmitsSized, EmitsWireParts, WirePart}
 use Rattle.dnw_record.specs.RecordFrames.{KeepsFrame, frame-rewound, frame-sized, frame-then, frame-wire_part}
 use Rattle.dnw_rdata.specs.declared.record.Record.{Record}
 use Rattle.dnw_rdata.specs.DataPieces.{DataValue}
-use Rattle.dnw_rdata.specs.AnyRecords.{EmitsRData, EmitsAnyFields, EmitsAnyRecord, parts_of, type_class_ttl}
+use Rattle.dnw_rdata.specs.AnyRecords.{EmitsRData, EmitsAnyFields, EmitsAnyRecord, EmitsCopyOf, parts_of, type_class_ttl}
 
 pub frame-parts : (parts : List WirePart) → KeepsFrame (EmitsWireParts parts)
 frame-parts [] v (Ok tt) w e h = let P : Encoder → Type 0 = λ x. Frame v (Ok tt) x in subst P (sym h) (frame-same v (Ok tt) e)
@@ -36,3 +37,6 @@ frame-any_record r v (Ok tt) w e h = frame-any_fields r v (Ok tt) w e h.1
 frame-any_record r v (Err error) w e (u, fields, is) =
     let P : Encoder → Type 0 = λ x. Frame v (Err error) x in
     subst P (sym is) (frame-rewound v u error (frame-any_fields r v (Err error) u e fields))
+
+pub frame-copy : (x : RecordValue) (v : Encoder) (outcome : Outcome) (w : Encoder) → v.offset ≡ length v.bytes → EmitsCopyOf x v outcome w → Frame v outcome w
+frame-copy x v outcome w e (r, is, h) = frame-any_record r v outcome w e h

@@ -2,6 +2,8 @@
 -- their length. Data are written as parts: each name is one, and so are all octets from one name to the next.
 use Rattle.std.specs.Prelude.{◌≡◌, ℕ, ◌<◌, ◌^◌, Bool, true, List, [], ◌∷◌, ◌++◌, Ok, Err}
 use Rattle.std.specs.Int.{w16, w32, to_be_bytes}
+use Rattle.dnw_codes.specs.declared.record_type.RecordType.{RecordType}
+use Rattle.dnw_codes.specs.declared.dns_class.DNSClass.{DNSClass}
 use Rattle.dnw_codes.specs.RecordTypes.{type_code}
 use Rattle.dnw_codes.specs.DnsClasses.{class_code}
 use Rattle.dnw_base.specs.Names.{NameValue}
@@ -56,9 +58,11 @@ EmitsRData x v outcome w =
 -- ---- records
 
 -- the type, the class and the time to live
+abbrev pub fixed_octets : RecordType → DNSClass → ℕ → List ℕ
+fixed_octets record_type class ttl = to_be_bytes w16 (type_code record_type) ++ (to_be_bytes w16 (class_code class) ++ to_be_bytes w32 ttl)
+
 abbrev pub type_class_ttl : Record → List ℕ
-type_class_ttl r =
-    to_be_bytes w16 (type_code r.data.record_type) ++ (to_be_bytes w16 (class_code r.dns_class) ++ to_be_bytes w32 r.ttl)
+type_class_ttl r = fixed_octets r.data.record_type r.dns_class r.ttl
 
 -- The record is a copy of one of a message: with its owner, class and time to live, and its data, in which every name has its
 -- wire form.
@@ -72,10 +76,21 @@ abbrev pub EmitsAnyFields : Emits Record
 EmitsAnyFields r = Then (EmitsName r.name) (Then (λ v. Writes v (type_class_ttl r)) (EmitsSized (EmitsRData r.data)))
 
 -- The numbers of a record fit their fields, as those of the code do.
+abbrev pub FixedFit : RecordType → DNSClass → ℕ → Type 0
+FixedFit record_type class ttl = (type_code record_type < 2 ^ 16) × (class_code class < 2 ^ 16) × (ttl < 2 ^ 32)
+
 abbrev pub AnyNumbersFit : Record → Type 0
-AnyNumbersFit r = (type_code r.data.record_type < 2 ^ 16) × (class_code r.dns_class < 2 ^ 16) × (r.ttl < 2 ^ 32)
+AnyNumbersFit r = FixedFit r.data.record_type r.dns_class r.ttl
 
 -- A record is written whole, or undone whole: then the encoder is back at its mark, whichever field failed.
 abbrev pub EmitsAnyRecord : Emits Record
 EmitsAnyRecord r v (Ok done) w = AnyNumbersFit r × EmitsAnyFields r v (Ok tt) w
 EmitsAnyRecord r v (Err error) w = (u : Encoder) × EmitsAnyFields r v (Err error) u × (w ≡ rewound u (mark_of v))
+
+-- The data of a record of a message are fields of its type, up to their end.
+abbrev pub HasFields : RecordValue → Type 0
+HasFields x = (octets : List ℕ) × Copies (kinds_of x.record_type) (data_start x) octets
+
+-- A record of a message is written as its copy is: whole or not at all.
+abbrev pub EmitsCopyOf : Emits RecordValue
+EmitsCopyOf x v outcome w = (r : Record) × IsCopyOf x r × EmitsAnyRecord r v outcome w

@@ -3,6 +3,7 @@
 //! It stands on `dnw_data` and `dnw_record`. Read `specs/DataPieces.antt` first: what the octets of data are made of.
 #![tactic(auto)]
 
+pub mod checked;
 pub mod laws;
 pub mod rdata;
 pub mod record;

@@ -1,17 +1,20 @@
 //! Records of any type, which are written into messages.
-ghost use Rattle.std.specs.Prelude.{◌≡◌, [], ◌∷◌, OnOk};
+ghost use Rattle.std.specs.Prelude.{◌≡◌, [], ◌∷◌, false, IfNone, IfSome, OnOk};
+ghost use Rattle.std.specs.List.{list_any};
 ghost use Rattle.dnw_base.specs.Decoder.{Decoder};
 ghost use Rattle.dnw_encoder.specs.EncoderValue.{value, lender};
 ghost use Rattle.dnw_record.specs.Parts.{EmitsSized, EmitsWirePart, EmitsWireParts, bytes_part, name_part};
 ghost use Rattle.dnw_rdata.specs.Inside.Copying.{IsNoName};
+ghost use Rattle.dnw_rdata.specs.Inside.Walking.{EmitsPieces, IsReadable, is_name};
 ghost use Rattle.dnw_rdata.specs.DataCopies.{TakesOwnPiece};
 ghost use Rattle.dnw_rdata.specs.DataPieces.{DataPiece};
-ghost use Rattle.dnw_rdata.specs.AnyRecords.{EmitsRData, EmitsAnyFields, EmitsAnyRecord, AnyNumbersFit, encoding_of, mode_of, name_of, type_class_ttl};
+ghost use Rattle.dnw_rdata.specs.AnyRecords.{EmitsRData, EmitsAnyFields, EmitsAnyRecord, AnyNumbersFit, FixedFit, encoding_of, fixed_octets, mode_of, name_of};
 ghost use Rattle.dnw_rdata.specs.AnyRecordFrames.{frame-any_record, frame-rdata};
 
 use crate::rdata::{RData, RDataError};
 use dnw_base::decoder::BinDecoder;
 use dnw_codes::dns_class::DNSClass;
+use dnw_codes::record_type::RecordType;
 use dnw_data::field::Field;
 use dnw_data::kind::{Kind, NameForm};
 use dnw_data::table;
@@ -90,7 +93,8 @@ impl BinEncodable for RData {
 
     /// Writes the octets of the data, and each name among them as the table says, as `Record` does.
     fn emit(&self, encoder: &mut BinEncoder<'_>) -> ProtoResult<()> {
-        emit_data(self, encoder)
+        let kinds = table::fields_of(self.record_type());
+        emit_data(BinDecoder::new(self.octets()), kinds, encoder)
     }
 }
 
@@ -100,32 +104,39 @@ fn emit_fields(item: &Record, encoder: &mut BinEncoder<'_>) -> ProtoResult<()>
     ensures fit { OnOk result (AnyNumbersFit item.now) }
     ensures lender { lender encoder.new ≡ lender encoder.old }
 {
+    let record_type = item.data.record_type();
     item.name.emit(encoder)?;
-    encoder.emit_vec(&type_class_ttl(item))?;
-    emit_sized(&item.data, encoder)
+    encoder.emit_vec(&fixed_octets(record_type, item.dns_class, item.ttl))?;
+    let start = BinDecoder::new(item.data.octets());
+    emit_sized(start, table::fields_of(record_type), encoder)
 }
 
 /// Returns the type, the class and the time to live, as they are written.
 #[inline(always)]
-fn type_class_ttl(item: &Record) -> [u8; 8]
-    ensures octets { result ≡ type_class_ttl item.now }
-    ensures fit { AnyNumbersFit item.now }
+pub(crate) fn fixed_octets(record_type: RecordType, class: DNSClass, ttl: u32) -> [u8; 8]
+    ensures octets { result ≡ fixed_octets record_type class ttl }
+    ensures fit { FixedFit record_type class ttl }
 {
-    let kind = u16::to_be_bytes(u16::from(item.data.record_type()));
-    let class = u16::to_be_bytes(u16::from(item.dns_class));
-    let ttl = u32::to_be_bytes(item.ttl);
+    let kind = u16::to_be_bytes(u16::from(record_type));
+    let class = u16::to_be_bytes(u16::from(class));
+    let ttl = u32::to_be_bytes(ttl);
     [
         kind[0], kind[1], class[0], class[1], ttl[0], ttl[1], ttl[2], ttl[3],
     ]
 }
 
-/// Writes data after their length.
-fn emit_sized(data: &RData, encoder: &mut BinEncoder<'_>) -> ProtoResult<()>
-    ensures writes { EmitsSized (EmitsRData «data».now) (value encoder.old) result (value encoder.new) }
+/// Writes fields of these kinds, which are read from `start` up to the end, after the number of their octets.
+pub(crate) fn emit_sized(
+    start: BinDecoder<'_>,
+    kinds: &[Kind],
+    encoder: &mut BinEncoder<'_>,
+) -> ProtoResult<()>
+    requires { IsReadable kinds.now start }
+    ensures writes { EmitsSized (EmitsPieces kinds.now start.entry) (value encoder.old) result (value encoder.new) }
     ensures lender { lender encoder.new ≡ lender encoder.old }
 {
     let place = encoder.place::<u16>()?;
-    emit_data(data, encoder)?;
+    emit_data(start, kinds, encoder)?;
     let most = encoder.max_size();
     let len = encoder.len_since_place(&place);
     // No write ends past the maximum, so two octets hold the length.
@@ -133,16 +144,18 @@ fn emit_sized(data: &RData, encoder: &mut BinEncoder<'_>) -> ProtoResult<()>
     encoder.emit_at(place, len as u16)
 }
 
-/// Writes data without their length: each name in its mode, and all octets from one name to the next at once.
-fn emit_data(data: &RData, encoder: &mut BinEncoder<'_>) -> ProtoResult<()>
-    ensures writes { EmitsRData «data».now (value encoder.old) result (value encoder.new) }
+/// Writes fields of these kinds, which are read from `start` up to the end: each name in its mode, and all octets from one
+/// name to the next at once.
+fn emit_data(start: BinDecoder<'_>, kinds: &[Kind], encoder: &mut BinEncoder<'_>) -> ProtoResult<()>
+    requires { IsReadable kinds.now start }
+    ensures writes { EmitsPieces kinds.now start.entry (value encoder.old) result (value encoder.new) }
     ensures lender { lender encoder.new ≡ lender encoder.old }
 {
-    let octets = data.octets();
-    let mut reader = BinDecoder::new(octets);
-    let mut run = 0;
-    let mut left = table::fields_of(data.record_type());
-    'fields: while let Some((kind, others)) = left.split_first() {
+    let octets = start.message();
+    let mut run = start.index();
+    let mut reader = start;
+    let mut left = kinds;
+    'fields: while let Some((kind, others)) = before_a_name(left) {
         match kind {
             Kind::Name(form) => {
                 let before = &octets[run..reader.index()];
@@ -155,6 +168,24 @@ fn emit_data(data: &RData, encoder: &mut BinEncoder<'_>) -> ProtoResult<()>
         left = others;
     }
     encoder.emit_vec(&octets[run..])
+}
+
+/// Returns the first of these kinds and the others, or `None` if none of them is a name.
+fn before_a_name(kinds: &[Kind]) -> Option<(&Kind, &[Kind])>
+    ensures some { IfSome result (λ (kind, others). kinds.now ≡ kind.now ∷ others.now) }
+    ensures none { IfNone result (list_any is_name kinds.now ≡ false) }
+{
+    if !has_name(kinds) {
+        return None;
+    }
+    kinds.split_first()
+}
+
+/// Returns `true` if one of these kinds is a name.
+fn has_name(kinds: &[Kind]) -> bool
+    ensures { result ≡ list_any is_name kinds.now }
+{
+    kinds.iter().any(|kind| matches!(kind, Kind::Name(_)))
 }
 
 /// Moves past a field that is no name.

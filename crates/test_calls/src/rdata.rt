@@ -7,7 +7,7 @@ use dns_names_wire::encoder::BinEncoder;
 use dns_names_wire::error::ProtoError;
 use dns_names_wire::fields::Field;
 use dns_names_wire::name::Name;
-use dns_names_wire::rdata::{RData, RDataError, Record};
+use dns_names_wire::rdata::{CheckedRecord, RData, RDataError, Record};
 use dns_names_wire::record::RecordRef;
 use dns_names_wire::record_type::RecordType;
 use std::alloc::Global;
@@ -117,6 +117,68 @@ fn octets_that_are_no_data_are_refused(rt: HostRuntime) -> Result<(), Fail> {
     let alloc = rt.alloc();
     let Err(RDataError::Field(error)) = RData::new(alloc, RecordType::A, b"\x01\x02\x03\x04\x05")
     else {
+        return Err(Fail::from("an octet too many"));
+    };
+    assert_eq!(rt; error.field, 1);
+    Ok(())
+}
+
+/// An MX record of a message, whose names have pointers, after a name of 3 octets: `a. 300 IN MX 10 B.a.`
+const MAIL: &[u8] =
+    b"\x01a\x00\xc0\x00\x00\x0f\x00\x01\x00\x00\x01\x2c\x00\x06\x00\x0a\x01B\xc0\x00";
+
+/// The record after the first 3 octets of a message, checked.
+fn checked(message: &[u8]) -> Result<CheckedRecord<'_>, Fail> {
+    let mut decoder = BinDecoder::new(message);
+    decoder.skip(3)?;
+    match CheckedRecord::new(RecordRef::read_next(&mut decoder)?) {
+        Ok(record) => Ok(record),
+        Err(_) => Err(Fail::from("data of the type")),
+    }
+}
+
+#[test]
+fn a_record_of_a_message_is_written_with_its_names_anew(rt: HostRuntime) -> Result<(), Fail> {
+    let mail = checked(MAIL)?;
+    let mut bytes = Vec::new(rt.alloc());
+    let mut encoder = BinEncoder::new(&mut bytes);
+    encoder.emit_u16(7)?;
+    mail.emit(&mut encoder)?;
+    mail.emit(&mut encoder)?;
+    drop(encoder);
+    let first = b"\x00\x07\x01a\x00\x00\x0f\x00\x01\x00\x00\x01\x2c\x00\x06\x00\x0a\x01B\xc0\x02";
+    let second = b"\xc0\x02\x00\x0f\x00\x01\x00\x00\x01\x2c\x00\x04\x00\x0a\xc0\x11";
+    assert!(rt; bytes.as_slice().starts_with(first));
+    assert!(rt; bytes.as_slice().ends_with(second));
+    assert_eq!(rt; bytes.len(), first.len() + second.len());
+    Ok(())
+}
+
+#[test]
+fn a_record_of_a_message_that_does_not_fit_is_undone(rt: HostRuntime) -> Result<(), Fail> {
+    let mail = checked(MAIL)?;
+    let mut bytes = Vec::new(rt.alloc());
+    let mut encoder = BinEncoder::new(&mut bytes);
+    encoder.set_max_size(18);
+    assert!(rt;
+        matches!(
+            mail.emit(&mut encoder),
+            Err(ProtoError::MaxBufferSizeExceeded(18))
+        )
+    );
+    assert_eq!(rt; encoder.len(), 0);
+    encoder.set_max_size(19);
+    mail.emit(&mut encoder)?;
+    assert_eq!(rt; encoder.len(), 19);
+    Ok(())
+}
+
+#[test]
+fn a_record_with_an_octet_too_many_is_not_checked(rt: HostRuntime) -> Result<(), Fail> {
+    let message = b"\x01a\x00\xc0\x00\x00\x01\x00\x01\x00\x00\x01\x2c\x00\x05\x7f\x00\x00\x01\x00";
+    let mut decoder = BinDecoder::new(message.as_slice());
+    decoder.skip(3)?;
+    let Err(error) = CheckedRecord::new(RecordRef::read_next(&mut decoder)?) else {
         return Err(Fail::from("an octet too many"));
     };
     assert_eq!(rt; error.field, 1);

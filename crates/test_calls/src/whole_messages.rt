@@ -83,6 +83,7 @@ fn mail_exchangers_with_edns(rt: HostRuntime) -> Result<(), Fail> {
     assert_eq!(rt; message.answers().next().unwrap().rdata_offset(), 41);
     assert!(rt; offsets.authorities == MAIL_LEN - 27 && offsets.additionals == MAIL_LEN - 27);
     assert!(rt; edns.options_offset() == MAIL_LEN && edns.options_len() == 0);
+    assert_eq!(rt; message.opt()?.unwrap().rdata_offset(), MAIL_LEN);
     Ok(())
 }
 
@@ -196,6 +197,7 @@ fn with(changes: [(usize, u8); 2]) -> [u8; 38] {
 fn rules_of_edns(rt: HostRuntime) -> Result<(), Fail> {
     let message = MessageRef::read(TWO)?;
     assert!(rt; matches!(message.edns(), Err(EdnsError::DuplicateEdns)));
+    assert!(rt; matches!(message.opt(), Err(EdnsError::DuplicateEdns)));
     assert!(rt; matches!(message.response_code(), Err(EdnsError::DuplicateEdns)));
     let one = with([(11, 1), (0, 0)]);
     let edns = MessageRef::read(&one)?.edns()?.unwrap();
@@ -205,6 +207,7 @@ fn rules_of_edns(rt: HostRuntime) -> Result<(), Fail> {
     assert!(rt; option.octets().is_empty() && options.next().is_none());
     let longer = with([(11, 1), (26, 1)]);
     assert!(rt; matches!(MessageRef::read(&longer)?.edns(), Err(EdnsError::CutOption)));
+    assert!(rt; matches!(MessageRef::read(&longer)?.opt(), Err(EdnsError::CutOption)));
     // The first record becomes one of type 0x2a, so that the second is the only `OPT`.
     let second = with([(14, 0x2a), (0, 0)]);
     let message = MessageRef::read(&second)?;

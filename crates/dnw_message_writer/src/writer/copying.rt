@@ -20,6 +20,7 @@ use dnw_message::edns::EdnsError;
 use dnw_message::header::{Header, Metadata};
 use dnw_message::items::{Queries, Records};
 use dnw_message::message::MessageRef;
+use dnw_rdata::checked::CheckedRecord;
 use dnw_rdata::rdata::RDataError;
 use dnw_rdata::record::Record;
 use dnw_record::record::RecordRef;
@@ -108,20 +109,18 @@ fn copy_into(
     let mut header = begin_before(&mut encoder, message.header().metadata, max_size, &last)?;
     copy_queries(alloc, &mut encoder, &mut header, message.queries())?;
     copy_records(
-        alloc,
         &mut encoder,
         &mut header,
         Section::Answers,
         message.answers(),
     )?;
     copy_records(
-        alloc,
         &mut encoder,
         &mut header,
         Section::Authorities,
         message.authorities(),
     )?;
-    copy_additionals(alloc, &mut encoder, &mut header, message.additionals())?;
+    copy_additionals(&mut encoder, &mut header, message.additionals())?;
     add_last(&mut encoder, &mut header, &last, max_size)?;
     close(&mut encoder, &header);
     drop(encoder);
@@ -133,14 +132,10 @@ fn last_of(alloc: Global, message: &MessageRef<'_>) -> Result<Option<Record>, Co
     ensures ok { IfOk result (IsLastOf (opts_in message.now.additionals)) }
     ensures err { IfErr result (FailsLast message.now) }
 {
-    let _ = message.edns()?;
-    let mut records = message.additionals();
-    'records: while let Some(record) = records.next() {
-        if is_opt(&record) {
-            return Ok(Some(copy_of(alloc, &record)?));
-        }
-    }
-    Ok(None)
+    let Some(opt) = message.opt()? else {
+        return Ok(None);
+    };
+    Ok(Some(copy_of(alloc, &opt)?))
 }
 
 /// Returns `true` for an `OPT` record.
@@ -189,7 +184,6 @@ fn copy_queries(
 
 /// Adds copies of records to a section.
 fn copy_records(
-    alloc: Global,
     encoder: &mut BinEncoder<'_>,
     header: &mut Header,
     section: Section,
@@ -201,14 +195,13 @@ fn copy_records(
     ensures lender { lender encoder.new ≡ lender encoder.old }
 {
     'records: while let Some(record) = records.next() {
-        copy_record(alloc, encoder, header, section, &record)?;
+        copy_record(encoder, header, section, record)?;
     }
     Ok(())
 }
 
 /// Adds copies of additional records, but of the `OPT` record.
 fn copy_additionals(
-    alloc: Global,
     encoder: &mut BinEncoder<'_>,
     header: &mut Header,
     mut records: Records<'_>,
@@ -219,7 +212,7 @@ fn copy_additionals(
 {
     'records: while let Some(record) = records.next() {
         if !is_opt(&record) {
-            copy_record(alloc, encoder, header, Section::Additionals, &record)?;
+            copy_record(encoder, header, Section::Additionals, record)?;
         }
     }
     Ok(())
@@ -227,18 +220,21 @@ fn copy_additionals(
 
 /// Adds a copy of a record to a section.
 fn copy_record(
-    alloc: Global,
     encoder: &mut BinEncoder<'_>,
     header: &mut Header,
     section: Section,
-    item: &RecordRef<'_>,
+    item: RecordRef<'_>,
 ) -> Result<(), CopyError>
     requires { HasRecords section }
-    ensures ok { OnOk result (AddsCopy section item.now (record { header = header.old; encoder = value encoder.old }) (record { header = header.new; encoder = value encoder.new })) }
-    ensures err { IfErr result (FailsCopyOf item.now) }
+    ensures ok { OnOk result (AddsCopy section item.entry (record { header = header.old; encoder = value encoder.old }) (record { header = header.new; encoder = value encoder.new })) }
+    ensures err { IfErr result (FailsCopyOf item.entry) }
     ensures lender { lender encoder.new ≡ lender encoder.old }
 {
-    let record = copy_of(alloc, item)?;
+    let offset = item.rdata_offset();
+    let record = match CheckedRecord::new(item) {
+        Ok(record) => record,
+        Err(error) => return Err(CopyError::Data { offset, error }),
+    };
     settled(&add(encoder, header, section, &record))
 }
 

@@ -1,21 +1,17 @@
 -- The owner, the fixed fields and the data are written in turn, up to the first that fails.
-use Rattle.std.proofs.Common.{Ok, Err, inr}
-use Rattle.dnw_encoder.specs.Encoder.{Encoder, Writes}
-use Rattle.dnw_encoder.specs.Emitting.{Outcome}
-use Rattle.dnw_encoder.specs.EmittedName.{EmitsName}
 use Rattle.dnw_encoder.specs.EncoderValue.{value}
-use Rattle.dnw_record.specs.Parts.{EmitsSized}
-use Rattle.dnw_rdata.specs.declared.record.Record.{Record}
-use Rattle.dnw_rdata.specs.AnyRecords.{EmitsRData, EmitsAnyFields, type_class_ttl}
+use Rattle.dnw_rdata.specs.DataCopies.{alone}
+use Rattle.dnw_rdata.proofs.WrittenCopies.{fields-on, own-copy, readable}
 use Rattle.dnw_rdata.proofs.record.emit_fields.Goals as goal
 
--- all fields but the last are written, and then the last
-fields-on : (r : Record) (v a d : Encoder) (outcome : Outcome) (w : Encoder) → EmitsName r.name v (Ok tt) a
-    → Writes a (type_class_ttl r) (Ok tt) d → EmitsSized (EmitsRData r.data) d outcome w → EmitsAnyFields r v outcome w
-fields-on r v a d (Ok tt) w owner fixed rdata = (a, owner, (d, fixed, rdata))
-fields-on r v a d (Err error) w owner fixed rdata = inr (a, owner, inr (d, fixed, rdata))
+pub emit_sized-requires : goal.emit_sized-requires
+emit_sized-requires c =
+    rw (c.fields_of.ensures, c.record_type-record_type.ensures, c.new-start.ensures, c.octets.ensures.octets) (readable c.args.item.now.data c.octets.ensures.of_type)
 
 pub returns-clause-writes : goal.returns-clause-writes
 returns-clause-writes c =
-    fields-on c.args.item.now (value c.args.encoder.now) (value c.emit.new.encoder) (value c.emit_vec.new.self)
-    c.emit_sized.result (value c.emit_sized.new.encoder) c.in_ok-emit.ensures.emits (rw c.type_class_ttl.ensures.octets at c.in_ok-emit_vec.ensures.writes) c.emit_sized.ensures.writes
+    let x = c.args.item.now.data in
+    fields-on c.args.item.now (alone x.octets) (value c.args.encoder.now) (value c.emit.new.encoder) (value c.emit_vec.new.self)
+    c.emit_sized.result (value c.emit_sized.new.encoder) (own-copy x c.octets.ensures.of_type) c.in_ok-emit.ensures.emits
+    (rw (c.fixed_octets.ensures.octets, c.record_type-record_type.ensures) at c.in_ok-emit_vec.ensures.writes)
+    (rw (c.fields_of.ensures, c.record_type-record_type.ensures, c.new-start.ensures, c.octets.ensures.octets) at c.emit_sized.ensures.writes)
