@@ -1,9 +1,9 @@
 -- Names and their suffixes: which are candidates, and that they are read once a name is written.
-use Rattle.std.proofs.Common.{◌≡◌, ℕ, suc, ◌+◌, ◌-◌, ◌<◌, ◌≤◌, min, nat_lt, List, [], ◌∷◌, ◌++◌, length, take, get_or, Option, Some, None, true, refl, sym, ap, ◌∙◌, subst, add-zero, append_assoc, arith}
+use Rattle.std.proofs.Common.{◌≡◌, ℕ, suc, ◌+◌, ◌-◌, ◌<◌, ◌≤◌, nat_lt, List, [], ◌∷◌, ◌++◌, length, take, get_or, Option, Some, None, true, refl, sym, ap, ◌∙◌, subst, add-zero, append_assoc, arith}
 use Rattle.std.specs.List.{All, AllByRecursion, Contains}
 use Rattle.std.proofs.lemmas.Bool.{cond_both, lt-ltb}
 use Rattle.std.proofs.lemmas.List.{append-nil, get_or-take, length-append, length-take}
-use Rattle.std.proofs.lemmas.List.Elements.{All-append, All-cons, All-contains, All-nil, All-take, All-weaker, Contains-append_left, Contains-append_right}
+use Rattle.std.proofs.lemmas.List.Elements.{All-append, All-cons, All-contains, All-nil, All-take, All-weaker, Contains-append_right}
 use Rattle.std.proofs.Math.Nat.{add_assoc}
 use Rattle.dnw_encoder.specs.Encoder.{CandidatesPrecede, Encoder}
 use Rattle.dnw_candidates.specs.Candidates.{Candidate, suffixes}

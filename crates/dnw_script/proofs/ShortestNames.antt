@@ -9,13 +9,11 @@ use Rattle.dnw_base.specs.Labels.{IsLabel}
 use Rattle.dnw_base.specs.Limits.{max_name, pointer_reach}
 use Rattle.dnw_base.specs.Names.{NameValue, AreLabels, encoded_size, labels_wire}
 use Rattle.dnw_base.proofs.Wires.{length-wire}
-use Rattle.dnw_reading.specs.Reading.{NameAt}
-use Rattle.dnw_reading.proofs.Counts.{Reads-labels, Reads-own}
 use Rattle.dnw_candidates.specs.Candidates.{Candidate, IsUsable}
 use Rattle.dnw_encoder.specs.declared.encoder.modes.NameEncoding.{NameEncoding}
 use Rattle.dnw_encoder.specs.declared.encoder.modes.NameEncoding.TheVariants.{Compressed, Uncompressed, UncompressedLowercase}
 use Rattle.dnw_encoder.specs.Encoder.{CandidatesPrecede, Encoder}
-use Rattle.dnw_encoder.specs.EmittedName.{Chooses, Points, Share, compresses, counted, emitted, in_mode, is_compressed, newly_kept, pointer_to, so_far}
+use Rattle.dnw_encoder.specs.EmittedName.{Chooses, Share, compresses, emitted, in_mode, is_compressed, newly_kept, pointer_to, so_far}
 use Rattle.dnw_encoder.specs.EmittingLaws.{take-all}
 use Rattle.dnw_encoder.specs.NameFrames.{frame-name}
 use Rattle.dnw_encoder.proofs.NameBack.{each_back, pointers_save}
@@ -26,14 +24,13 @@ use Rattle.dnw_script.specs.declared.script.Reply.{Reply}
 use Rattle.dnw_script.specs.declared.script.Reply.TheVariants.{Done, Refused}
 use Rattle.dnw_script.specs.Script.{Action, write, set_encoding, EmitsPart}
 use Rattle.dnw_script.specs.Pieces.{Account, Piece, name_piece, account_from, after, opening}
-use Rattle.dnw_script.specs.Runs.{IsUsefulIn, Runs, RunsStep, GivesReply, beginning}
+use Rattle.dnw_script.specs.Runs.{Runs, RunsStep, GivesReply, beginning}
 use Rattle.dnw_script.specs.Finished.{AreNames, EndsIn, IsEndOf, IsShortest, count_labels, count_names}
 use Rattle.dnw_script.specs.ScriptLaws.{RunsAreShortest}
 use Rattle.dnw_script.proofs.Chunks.{Chunk}
 use Rattle.dnw_candidates.proofs.CandidateLists.{between}
 use Rattle.dnw_script.proofs.Naming.{AreUsable, back_of, each-kept, emitted-candidates, front_of, kept-few, kept-new, same_labels, size-back, suffix-split, target-has, usable-precede, usable-read}
 use Rattle.dnw_script.proofs.Running.{good-beginning}
-use Rattle.dnw_script.proofs.Standing.{SoundAt}
 use Rattle.dnw_script.proofs.Stepping.{Good, part-same, step, usable-now}
 
 -- ---- the suffixes in which names end
@@ -141,7 +138,7 @@ module _ (old : List ℕ) (a : Account) (v : Encoder) (labels many : ℕ) (k : K
 
   module _ (name : NameValue) (len : ℕ) (w : Encoder) (h : GivesReply (EmitsPart (Name name) v) (Done len) w) where
     written : in_mode a.mode name.labels ≡ in_mode v.encoding name.labels
-    written = ap (λ (m : NameEncoding). in_mode m name.labels) k.good.mode
+    written = ap (λ (m : NameEncoding). in_mode m name.labels) k.good.agree.mode
 
     list : w.candidates ≡ v.candidates ++ newly_kept v (in_mode v.encoding name.labels) h.0.choice
     list = ap (λ (x : Encoder). x.candidates) h.0.written_as.1 ∙ emitted-candidates v (in_mode v.encoding name.labels) h.0.choice h.0.chooses precede
@@ -282,7 +279,7 @@ name-shortest : (old : List ℕ) (a : Account) (v : Encoder) (labels : ℕ) (nam
     → is_compressed a.mode ≡ true → a.len + max_name ≤ pointer_reach → GivesReply (EmitsPart (Name name) v) (Done len) w → IsShortest a.pieces name.labels a.len len
 name-shortest old a v labels name len w k compressed near h =
     let g = k.good in
-    let mode : is_compressed v.encoding ≡ true = ap is_compressed (sym g.mode) ∙ compressed in
+    let mode : is_compressed v.encoding ≡ true = ap is_compressed (sym g.agree.mode) ∙ compressed in
     let counts : compresses v ≡ true = compresses-within v mode (omega (arith, k.names)) in
     let s = shortest old a v labels 1 k near (in_mode v.encoding name.labels) h.0.choice w counts h.0.are_labels h.0.chooses h.0.written_as.1 in
     let ends : w.offset ≡ len = (frame-name name v (Ok tt) w g.sound.end h.0).ends ∙ sym h.1 in

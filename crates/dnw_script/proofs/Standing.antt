@@ -1,6 +1,6 @@
 -- What holds of an encoder in a run: its bytes are those of the chunks so far, the chunks' pieces are in them, and the
 -- candidates are usable, both whatever values are in the placeholders.
-use Rattle.std.proofs.Common.{◌≡◌, ℕ, ◌+◌, ◌-◌, ◌≤◌, ◌&&◌, nat_lt, Bool, true, false, Option, Some, None, Ok, List, [], ◌∷◌, ◌++◌, length, map, take, drop, replicate, refl, sym, ap, ◌∙◌, subst, append_assoc, arith}
+use Rattle.std.proofs.Common.{◌≡◌, ℕ, ◌+◌, ◌-◌, ◌≤◌, ◌&&◌, nat_lt, Bool, true, false, Option, Some, None, Ok, List, [], ◌∷◌, ◌++◌, length, map, take, drop, refl, sym, ap, ◌∙◌, subst, append_assoc, arith}
 use Rattle.std.specs.Int.{w16, to_be_bytes}
 use Rattle.std.proofs.lemmas.List.{length-append, append-nil, drop_at, take_all, take_at}
 use Rattle.std.proofs.lemmas.Grind.{flat_map-append}
@@ -9,7 +9,6 @@ use Rattle.dnw_base.specs.Limits.{max_message}
 use Rattle.dnw_base.specs.Names.{NameValue, encoded_size, wire}
 use Rattle.dnw_base.proofs.Wires.{length-wire}
 use Rattle.dnw_candidates.specs.Candidates.{Candidate}
-use Rattle.dnw_encoder.specs.declared.encoder.modes.NameEncoding.{NameEncoding}
 use Rattle.dnw_encoder.specs.Encoder.{Encoder, Writes, filled, mode_of_rdata, reserved, written}
 use Rattle.dnw_encoder.specs.EmittedName.{Chooses, EmitsName, Share, emitted, form, in_mode, is_compressed}
 use Rattle.dnw_encoder.specs.EmittingLaws.{frame, frame-same, frames-follow, take-all}
@@ -19,12 +18,12 @@ use Rattle.dnw_encoder.proofs.NameBack.{names_take_no_more, size-in_mode}
 use Rattle.dnw_record.specs.declared.record.WireRecord.{WireRecord}
 use Rattle.dnw_record.specs.declared.record.WireData.{WireData}
 use Rattle.dnw_record.specs.declared.record.WireData.TheVariants as rdata
-use Rattle.dnw_record.specs.Parts.{EmitsCounted, EmitsWirePart, EmitsWireParts, WirePart, bytes_part, in_encoding, name_part, text_part, with_length}
+use Rattle.dnw_record.specs.Parts.{EmitsWirePart, EmitsWireParts, WirePart, bytes_part, in_encoding, name_part, text_part, with_length}
 use Rattle.dnw_record.specs.RecordFrames.{frame-reserved, frame-wire_part}
-use Rattle.dnw_record.specs.WrittenRecords.{EmitsData, EmitsFields, NumbersFit, data_part, type_class_ttl}
+use Rattle.dnw_record.specs.WrittenRecords.{EmitsData, EmitsFields, NumbersFit, type_class_ttl}
 use Rattle.dnw_record.proofs.Laying.{added}
 use Rattle.dnw_script.specs.Pieces.{BytesStand, DataStand, NameStands, PieceAt, RecordStands, wire_piece}
-use Rattle.dnw_script.proofs.Chunks.{Begins, Chunk, Content, MayBe, Standing, Stands, begins-first, begins-laid, begins-others, begins-split, bytes-stand, bytes_of, ends_of, laid, of_part, of_record, piece_in, piece_of, place, standing-join, standing-split, upto, upto-append, upto-laid, wrote}
+use Rattle.dnw_script.proofs.Chunks.{Begins, Chunk, Content, MayBe, Standing, Stands, begins-first, begins-laid, begins-others, begins-split, bytes-stand, bytes_of, ends_of, laid, of_part, of_record, piece_in, piece_of, place, standing-join, standing-split, upto, upto-laid, wrote}
 use Rattle.dnw_script.proofs.Naming.{AreUsable, name-read, usable-append, usable-emitted}
 
 -- ---- what a write adds
