@@ -6,7 +6,6 @@ pub mod Naming
 pub mod Standing
 pub mod Stepping
 pub mod Running
-pub mod RunningOn
 pub mod ReadingBack
 pub mod ShortestNames
 pub mod Bounded

@@ -1,13 +1,12 @@
 -- Each step of a run has its reply, and keeps what holds of account and encoder.
-use Rattle.std.proofs.Common.{◌≡◌, ℕ, zero, suc, ◌+◌, ◌-◌, ◌<◌, ◌≤◌, max, nat_lt, true, Option, Some, None, Ok, Err, List, [], ◌∷◌, ◌++◌, length, map, take, drop, slice_get, inl, inr, refl, sym, ap, ◌∙◌, subst, arith}
+use Rattle.std.proofs.Common.{◌≡◌, ℕ, Bool, zero, suc, ◌+◌, ◌-◌, ◌≤◌, max, nat_lt, true, Option, Some, None, Ok, Err, List, [], ◌∷◌, ◌++◌, length, map, take, drop, slice_get, inl, inr, refl, sym, ap, ◌∙◌, subst, arith}
 use Rattle.std.specs.Int.{w16, to_be_bytes}
 use Rattle.std.proofs.lemmas.Bool.{cond_both}
-use Rattle.std.proofs.lemmas.List.Elements.{All-filter, All-weaker}
+use Rattle.std.proofs.lemmas.List.Elements.{All-filter}
 use Rattle.std.proofs.lemmas.List.{append-nil, drop_at, length-append, map-append, take-append-le, take_all, take_at}
 use Rattle.dnw_error.specs.declared.error.ProtoError.{ProtoError}
 use Rattle.dnw_error.specs.declared.error.ProtoError.TheVariants.{MaxBufferSizeExceeded, Memory, CharacterDataTooLong}
 use Rattle.dnw_base.specs.Limits.{max_message}
-use Rattle.dnw_reading.proofs.Counts.{Reads-own}
 use Rattle.dnw_encoder.specs.Encoder.{Encoder, filled, moved_to, reserved, TakesRoom, Writes, WritesText, written}
 use Rattle.dnw_encoder.specs.Emitting.{Frame, rolled_back, list_error}
 use Rattle.dnw_record.specs.declared.record.WireRecord.{WireRecord}
@@ -27,7 +26,7 @@ use Rattle.dnw_script.specs.Pieces.{Account, Piece, Slot, place_piece, record_pi
 use Rattle.dnw_script.specs.Replies.{ItemFails, ReplyTo, ReplyToFill, ReplyToItems, ReplyToRecord, open_place, ReplyToBytes, ReplyToName, ReplyToPart, ReplyToText}
 use Rattle.dnw_script.specs.Runs.{GivesReply, IsUsefulIn, RunsFill, RunsItems, RunsStep}
 use Rattle.dnw_script.proofs.Chunks.{Chunk, ends-append, ends_of, of_record, piece_of, place, Splits, split_at, upto, upto-filled, wrote}
-use Rattle.dnw_script.proofs.Naming.{AreUsable}
+use Rattle.dnw_script.proofs.Naming.{AreUsable, usable-precede}
 use Rattle.dnw_script.proofs.Standing.{SoundAt, frame-parts, holds-now, no-ends, pieces-of-parts, sound-filled, sound-parts, sound-record, sound-reserved, sound-upto}
 use Rattle.dnw_script.proofs.WireParts.{as_item_parts, as_items_parts, as_wire_part}
 use Rattle.dnw_base.specs.Names.{encoded_size}
@@ -110,16 +109,17 @@ module _ (a : Account) (v w : Encoder) (at_end : v.offset ≡ length v.bytes) (l
 
 -- ---- account and encoder
 
+-- the same settings, by which no more than a message is written
+abbrev pub Agrees : Account → Encoder → Type 0
+Agrees a v = record { max : a.max ≡ v.max_size; mode : a.mode ≡ v.encoding; canonical : a.canonical ≡ v.canonical; small : v.max_size ≤ max_message }
+
 -- They agree on chunks, and have the same settings.
 pub record Good (old : List ℕ) (cs : List Chunk) (a : Account) (v : Encoder) : Type 0 where
   pub sound : SoundAt old cs v
   pub len_is : a.len ≡ v.offset
   pub pieces_are : a.pieces ≡ map piece_of cs
   pub places : map (λ (s : Slot). s.end) a.places ≡ ends_of (length old) cs
-  pub max : a.max ≡ v.max_size
-  pub mode : a.mode ≡ v.encoding
-  pub canonical : a.canonical ≡ v.canonical
-  pub small : v.max_size ≤ max_message
+  pub agree : Agrees a v
 
 -- The run has gone on from these chunks: there may be more of them, and the first ones end where they did.
 pub record Goes (old : List ℕ) (cs : List Chunk) (a : Account) (v : Encoder) : Type 0 where
@@ -154,10 +154,7 @@ goes-more old cs ds a v w ps len slots good sound f len_is pieces ends =
         pieces_are = ap (λ (x : List Piece). x ++ ps) good.pieces_are
             ∙ (ap (λ (x : List Piece). map piece_of cs ++ x) (sym pieces) ∙ sym (map-append piece_of cs ds));
         places = ends ∙ (ap (λ (x : List ℕ). x ++ ends_of (upto (length old) cs) ds) good.places ∙ sym (ends-append (length old) cs ds));
-        max = good.max ∙ sym f.max_size;
-        mode = good.mode ∙ sym f.encoding;
-        canonical = good.canonical ∙ sym f.canonical;
-        small = omega (arith, good.small, f.max_size);
+        agree = rw (← f.max_size, ← f.encoding, ← f.canonical) at good.agree;
       };
       longer = omega (arith, length-append cs ds);
       same = λ k le. ap (upto (length old)) (take-append-le k cs ds le);
@@ -203,8 +200,7 @@ usable-now old cs v s = (holds-now old cs v s).1
 
 pub record-undone : (old : List ℕ) (cs : List Chunk) (v w : Encoder) (r : WireRecord) (error : ProtoError) → SoundAt old cs v → EmitsRecord r v (Err error) w → w ≡ v
 record-undone old cs v w r error s h =
-    let early = All-weaker (IsUsefulIn v.bytes) (λ c. c.0 < v.offset) (λ c u. let own = Reads-own u.name.reads in omega (arith, own, s.end)) v.candidates (usable-now old cs v s) in
-    refused_records_undo r v w error s.end early h
+    refused_records_undo r v w error s.end (usable-precede v.bytes v (sym s.end) (usable-now old cs v s)) h
 
 good-rolled : (old : List ℕ) (cs : List Chunk) (a : Account) (m u : Encoder) → Good old cs a m → Good old cs a (rolled_back m u)
 good-rolled old cs a m u good =
@@ -214,7 +210,7 @@ good-rolled old cs a m u good =
       end = s.end;
       holds = λ x h. let (stand, usable) = s.holds x h in (stand, All-filter (λ c. nat_lt c.0 m.offset) (IsUsefulIn x) m.candidates usable);
     } in
-    record { sound = sound; len_is = good.len_is; pieces_are = good.pieces_are; places = good.places; max = good.max; mode = good.mode; canonical = good.canonical; small = good.small }
+    record { sound = sound; len_is = good.len_is; pieces_are = good.pieces_are; places = good.places; agree = good.agree }
 
 -- ---- each step
 
@@ -258,12 +254,9 @@ module _ (old : List ℕ) (cs : List Chunk) (a : Account) (v w : Encoder) (good 
         len_is = good.len_is;
         pieces_are = ap (λ (ps : List Piece). filled_in ps number value) good.pieces_are ∙ pieces;
         places = ends-spent number a.places ∙ (good.places ∙ sym same_ends);
-        max = good.max;
-        mode = good.mode;
-        canonical = good.canonical;
-        small = good.small;
+        agree = good.agree;
       } in (
-        (omega (arith, ends, h.0.1.0, good.max), omega (arith, h.1, ap (λ (x : Encoder). length x.bytes) made, sound.end, good.len_is)),
+        (omega (arith, ends, h.0.1.0, good.agree.max), omega (arith, h.1, ap (λ (x : Encoder). length x.bytes) made, sound.end, good.len_is)),
         record {
           chunks = chunks;
           good = subst (Good old chunks b) (sym made) good_now;
@@ -276,17 +269,9 @@ module _ (old : List ℕ) (cs : List Chunk) (a : Account) (v w : Encoder) (good 
   fill-split number value end (Refused (MaxBufferSizeExceeded size) len) (front, held, back, whole, ends, within, pieces) h =
       let same : w ≡ v = h.0.2 ∙ ap (λ (x : Encoder). moved_to x v.offset) h.0.1.2 in
       let b = record a { places = spent number a.places } in
-      let spent_now : Good old cs b v = record {
-        sound = good.sound;
-        len_is = good.len_is;
-        pieces_are = good.pieces_are;
-        places = ends-spent number a.places ∙ good.places;
-        max = good.max;
-        mode = good.mode;
-        canonical = good.canonical;
-        small = good.small;
-      } in (
-        (omega (arith, ends, h.0.1.0, good.max), h.0.1.1 ∙ sym good.max, omega (arith, h.1, ap (λ (x : Encoder). length x.bytes) same, good.sound.end, good.len_is)),
+      let places = ends-spent number a.places ∙ good.places in
+      let spent_now : Good old cs b v = record { sound = good.sound; len_is = good.len_is; pieces_are = good.pieces_are; places = places; agree = good.agree } in (
+        (omega (arith, ends, h.0.1.0, good.agree.max), h.0.1.1 ∙ sym good.agree.max, omega (arith, h.1, ap (λ (x : Encoder). length x.bytes) same, good.sound.end, good.len_is)),
         goes-same old cs b v w spent_now same,
       )
   fill-split number value end (Refused error len) r h = absurd h.0.1
@@ -306,17 +291,16 @@ module _ (old : List ℕ) (cs : List Chunk) (a : Account) (v w : Encoder) (good 
       let s = good.sound in
       let (le, within, _) = done-fields r v w h.0.1 in
       let f = frame-fields r v (Ok tt) w s.end h.0.1 in
-      let (d, sound) = sound-record old cs v w r s h.0.1 h.0.0 (omega (arith, within, good.small)) in
-      let piece : record_piece v.encoding v.canonical r ≡ record_piece a.mode a.canonical r =
-      ap (λ m. record_piece m v.canonical r) (sym good.mode) ∙ ap (λ c. record_piece a.mode c r) (sym good.canonical) in (
-        (omega (arith, h.1, f.ends, within, good.max), omega (arith, h.1, f.ends, le, good.len_is)),
+      let (d, sound) = sound-record old cs v w r s h.0.1 h.0.0 (omega (arith, within, good.agree.small)) in
+      let piece : record_piece v.encoding v.canonical r ≡ record_piece a.mode a.canonical r = rw (good.agree.mode, good.agree.canonical) refl in (
+        (omega (arith, h.1, f.ends, within, good.agree.max), omega (arith, h.1, f.ends, le, good.len_is)),
         goes-more old cs (wrote (of_record v.encoding v.canonical r) d ∷ []) a v w (record_piece a.mode a.canonical r ∷ []) len a.places good sound f h.1
             (ap (λ p. p ∷ []) piece) (no-places a.places [] refl),
       )
   step-record r (Refused error len) h =
       let same = record-undone old cs v w r error good.sound h.0 in
       let len_is : len ≡ a.len = omega (arith, h.1, ap (λ (x : Encoder). length x.bytes) same, good.sound.end, good.len_is) in (
-        refused-record a v w good.sound.end good.len_is good.max (record_size r) len error len_is (refused-fields r v h.0.0 error h.0.1),
+        refused-record a v w good.sound.end good.len_is good.agree.max (record_size r) len error len_is (refused-fields r v h.0.0 error h.0.1),
         goes-same old cs a v w good same,
       )
   step-record r reply h = absurd h
@@ -325,19 +309,19 @@ module _ (old : List ℕ) (cs : List Chunk) (a : Account) (v w : Encoder) (good 
       → ReplyToItems a items reply × Goes old cs (after a (write_items items) reply) w
   step-items items (Items count None len) h =
       let parts = items_parts a.mode items in
-      let emits = as_items_parts a.mode items v w good.sound.end (sym good.mode) h.0 in
+      let emits = as_items_parts a.mode items v w good.sound.end (sym good.agree.mode) h.0 in
       let go = goes-parts old cs a v w parts len good emits h.2 in (
         (
           h.1,
           omega (arith, done-parts parts v w emits, h.2, go.good.sound.end, good.len_is),
-          parts-bounded a v w good.sound.end good.len_is good.max parts w len emits h.2,
+          parts-bounded a v w good.sound.end good.len_is good.agree.max parts w len emits h.2,
         ),
         subst (λ xs. Goes old cs (with_pieces a (map wire_piece (items_parts a.mode xs)) len) w) (sym (take_all count items (omega (arith, h.1)))) go,
       )
   step-items items (Items count (Some error) len) h =
       let (first, item, rest, m, split, many, in_turn, (u, cause, one, made, error_is), tells) = h in
       let parts = items_parts a.mode first in
-      let emits = as_items_parts a.mode first v m good.sound.end (sym good.mode) in_turn in
+      let emits = as_items_parts a.mode first v m good.sound.end (sym good.agree.mode) in_turn in
       let same : length w.bytes ≡ length m.bytes = ap (λ (x : Encoder). length x.bytes) made in
       let go = goes-parts old cs a v m parts len good emits (tells ∙ same) in
       let g = go.good in
@@ -345,15 +329,13 @@ module _ (old : List ℕ) (cs : List Chunk) (a : Account) (v w : Encoder) (good 
       let why = refused-parts (item_parts m.encoding item) m u cause (as_item_parts item m u (Err cause) g.sound.end one) in
       let front : take count items ≡ first = ap (take count) split ∙ take_at first (item ∷ rest) count (sym many) in
       let back : drop count items ≡ item ∷ rest = ap (drop count) split ∙ drop_at first (item ∷ rest) count (sym many) in
-      let fails = refused-item a v w good.sound.end good.len_is good.max count len item rest cause error error_is
-      (subst (λ n. Refuses n len (item_parts a.mode item) cause) (sym g.max ∙ good.max)
-      (subst (λ n. Refuses m.max_size n (item_parts a.mode item) cause) (sym start)
-      (subst (λ mode. Refuses m.max_size m.offset (item_parts mode item) cause) (sym g.mode) why))) in
+      let fails = refused-item a v w good.sound.end good.len_is good.agree.max count len item rest cause error error_is
+      (rw (sym g.agree.max ∙ good.agree.max, ← start, ← g.agree.mode) at why) in
       let b = with_pieces a (map wire_piece parts) len in (
         (
           omega (arith, many, ap length split, length-append first (item ∷ rest)),
           omega (arith, done-parts parts v m emits, start, good.len_is, ap (λ xs. parts_size (items_parts a.mode xs)) front),
-          parts-bounded a v w good.sound.end good.len_is good.max parts m len emits (tells ∙ same),
+          parts-bounded a v w good.sound.end good.len_is good.agree.max parts m len emits (tells ∙ same),
           subst (λ xs. ItemFails a count len xs error) (sym back) fails,
         ),
         subst (λ xs. Goes old cs (with_pieces a (map wire_piece (items_parts a.mode xs)) len) w) (sym front)
@@ -361,29 +343,28 @@ module _ (old : List ℕ) (cs : List Chunk) (a : Account) (v w : Encoder) (good 
       )
   step-items items reply h = absurd h
 
-  -- a setting leaves the length
-  stays : length w.bytes ≡ length v.bytes → length w.bytes ≡ a.len
-  stays same = omega (arith, same, good.sound.end, good.len_is)
+  -- other settings leave the length, the pieces and the placeholders
+  step-set : (x : ℕ) (m : NameEncoding) (c : Bool) (y : ℕ) (n : NameEncoding) (d : Bool)
+      → Agrees (record a { max = x; mode = m; canonical = c }) (record v { max_size = y; encoding = n; canonical = d })
+      → w ≡ record v { max_size = y; encoding = n; canonical = d } → (length w.bytes ≡ a.len) × Goes old cs (record a { max = x; mode = m; canonical = c }) w
+  step-set x m c y n d agree made =
+      let set : Good old cs (record a { max = x; mode = m; canonical = c }) (record v { max_size = y; encoding = n; canonical = d }) =
+      record { sound = good.sound; len_is = good.len_is; pieces_are = good.pieces_are; places = good.places; agree = agree } in
+      (omega (arith, ap (λ (x : Encoder). length x.bytes) made, good.sound.end, good.len_is), goes-same old cs _ _ w set made)
 
   pub step : (action : Action) (reply : Reply) → RunsStep a v action reply w → Steps action reply
   step (write part) reply h =
       let s = good.sound in
-      let wire = subst (λ m. GivesReply (EmitsWirePart (wire_part m part) v) reply w) (sym good.mode) (as_wire part v w reply s.end h) in
-      (reply-part a v w s.end good.len_is good.max (wire_part a.mode part) reply wire, goes-write part reply wire)
+      let wire = subst (λ m. GivesReply (EmitsWirePart (wire_part m part) v) reply w) (sym good.agree.mode) (as_wire part v w reply s.end h) in
+      (reply-part a v w s.end good.len_is good.agree.max (wire_part a.mode part) reply wire, goes-write part reply wire)
   step (set_max size) reply h =
-      let same : Good old cs (record a { max = size }) (record v { max_size = size }) =
-      record { sound = good.sound; len_is = good.len_is; pieces_are = good.pieces_are; places = good.places; max = refl; mode = good.mode; canonical = good.canonical; small = h.2 } in
-      subst (λ r. Steps (set_max size) r) (sym h.0) (stays (ap (λ (x : Encoder). length x.bytes) h.1), goes-same old cs _ _ w same h.1)
-  step (set_encoding mode) reply h =
-      let same : Good old cs (record a { mode = mode }) (record v { encoding = mode }) =
-      record { sound = good.sound; len_is = good.len_is; pieces_are = good.pieces_are; places = good.places; max = good.max; mode = refl; canonical = good.canonical; small = good.small } in
-      subst (λ r. Steps (set_encoding mode) r) (sym h.0) (stays (ap (λ (x : Encoder). length x.bytes) h.1), goes-same old cs _ _ w same h.1)
-  step (set_canonical canonical) reply h =
-      let same : Good old cs (record a { canonical = canonical }) (record v { canonical = canonical }) =
-      record { sound = good.sound; len_is = good.len_is; pieces_are = good.pieces_are; places = good.places; max = good.max; mode = good.mode; canonical = refl; small = good.small } in
-      subst (λ r. Steps (set_canonical canonical) r) (sym h.0) (stays (ap (λ (x : Encoder). length x.bytes) h.1), goes-same old cs _ _ w same h.1)
+      rw h.0 (step-set size a.mode a.canonical size v.encoding v.canonical (record { max = refl; mode = good.agree.mode; canonical = good.agree.canonical; small = h.2 }) h.1)
+  step (set_encoding m) reply h =
+      rw h.0 (step-set a.max m a.canonical v.max_size m v.canonical (record { max = good.agree.max; mode = refl; canonical = good.agree.canonical; small = good.agree.small }) h.1)
+  step (set_canonical c) reply h =
+      rw h.0 (step-set a.max a.mode c v.max_size v.encoding c (record { max = good.agree.max; mode = good.agree.mode; canonical = refl; small = good.agree.small }) h.1)
   step reserve reply h =
-      (reply-bytes a v w good.sound.end good.len_is good.max (reserved v 2) 2 reply (sym (frame-reserved v good.sound.end).ends) h, goes-reserve reply h)
+      (reply-bytes a v w good.sound.end good.len_is good.agree.max (reserved v 2) 2 reply (sym (frame-reserved v good.sound.end).ends) h, goes-reserve reply h)
   step (fill number value) reply h = step-fill number value (open_place number a.places) reply refl h
   step (write_record r) reply h = step-record r reply h
   step (write_items items) reply h = step-items items reply h

@@ -2,7 +2,7 @@
 use Rattle.std.proofs.Common.{◌+◌, ◌∙◌, map, take, sym, subst, arith}
 use Rattle.dnw_encoder.specs.EncoderValue.{value}
 use Rattle.dnw_script.specs.Script.{action}
-use Rattle.dnw_script.proofs.RunningOn.{HasRun, has_run_holds, has_run_more}
+use Rattle.dnw_script.proofs.Running.{HasRun, has_run_holds, has_run_more}
 use Rattle.dnw_script.proofs.script.running.run_steps.Goals as goal
 
 pub run_step-reply-requires : goal.run_step-reply-requires

@@ -2,7 +2,7 @@ use Rattle.std.proofs.Common.{◌≡◌, ◌≤◌, length, map, take, vec_len}
 use Rattle.std.specs.Vec.{vec_capacity}
 use Rattle.dnw_encoder.specs.EncoderValue.{value, lender}
 use Rattle.dnw_script.specs.Script.{action}
-use Rattle.dnw_script.proofs.RunningOn.{HasRun}
+use Rattle.dnw_script.proofs.Running.{HasRun}
 use Rattle.dnw_script.proofs.script.running.run_steps.Given as goal
 
 -- the steps so far have run, and there is room for what the others add
