@@ -2,7 +2,7 @@
 use Rattle.std.proofs.Common.{◌≡◌, ◌<◌, ◌≤◌, ℕ, zero, suc, ◌+◌, Bool, true, false, List, [], ◌∷◌, ◌++◌, codes, length, take, drop, refl, ◌==◌, sym, ap, ◌∙◌, subst, arith, append_assoc, append-nil, length-append, length-drop, slice_index, inl, inr, decimal}
 use Rattle.std.specs.List.{insert}
 use Rattle.std.specs.String.Boundary.{IsSplitPoint}
-use Rattle.std.specs.Net.Grammar.{IsDotted, IsGroups}
+use Rattle.std.specs.Net.Grammar.{IsColonHex, IsDotted, IsGroups}
 use Rattle.std.specs.Prelude.{Option, Some, None, option_map, nat_le, nat_lt}
 use Rattle.std.specs.Int.{w16, from_be_bytes, to_be_bytes}
 use Rattle.std.specs.Net.Addr.{ipv4_octets, ipv6_segments, octets_of}
@@ -233,6 +233,12 @@ no-groups [] is some = omega (arith, some)
 no-groups (s ∷ segments) (inl is) some = omega (arith, ap length is.2, length-append is.0 is.1, is.3.0.0.0)
 no-groups (s ∷ segments) (inr is) some = no-dotted is.0 is.1 is.3 is.4
 
+pub no-colon-hex : (segments : List ℕ) → IsColonHex [] segments → ⊥
+no-colon-hex segments is = elim is [
+  | inl groups ↦ no-groups segments groups.0 (omega (arith, groups.1))
+  | inr elided ↦ omega (arith, ap length elided.spelled, length-append (elided.head_text ++ codes "::") elided.tail_text, length-append elided.head_text (codes "::"))
+]
+
 item-some : (list : ListValue) (own : List ℕ) → IsItem list [] own → ⊥
 item-some Keys own is = elim is.2 [
   | inl named ↦ let no : None ≡ Some is.0 = named in cc
@@ -240,10 +246,7 @@ item-some Keys own is = elim is.2 [
 ]
 item-some Protocols own is = omega (arith, is.0)
 item-some Ipv4 own is = no-dotted [] (ipv4_octets is.0) refl is.2
-item-some Ipv6 own is = elim is.2 [
-  | inl groups ↦ no-groups (ipv6_segments is.0) groups.0 (omega (arith, groups.1))
-  | inr elided ↦ omega (arith, ap length elided.spelled, length-append (elided.head_text ++ codes "::") elided.tail_text, length-append elided.head_text (codes "::"))
-]
+item-some Ipv6 own is = no-colon-hex (ipv6_segments is.0) is.2
 
 list-some : (list : ListValue) (own : List ℕ) → IsListText list [] own → ⊥
 list-some list own is =
