@@ -43,7 +43,7 @@ use Rattle.dnw_data_text.proofs.GenericText.{hex-words}
 use Rattle.dnw_data_text.proofs.Plain.{is_plain, all_plain, plain-starts, plain-word, plain-after, plain-utf8, plain-append, decimal-plain, hex-plain}
 
 -- a word is read as its field
-by-word : (origin : Option NameValue) (kind : Kind) (printed w rest : List ℕ) (value : FieldValue) → takes_all kind ≡ false
+pub by-word : (origin : Option NameValue) (kind : Kind) (printed w rest : List ℕ) (value : FieldValue) → takes_all kind ≡ false
     → after_spaces (printed ++ rest) ≡ w ++ rest → word (w ++ rest) ≡ w → after_word (w ++ rest) ≡ rest → IsWord origin kind w value
     → ReadsField origin kind (after_spaces (printed ++ rest)) value rest
 by-word origin kind printed w rest value one start whole left is =
@@ -54,7 +54,7 @@ by-word origin kind printed w rest value one start whole left is =
 
 -- ---- plain words
 
-plain-by : (origin : Option NameValue) (kind : Kind) (printed w rest : List ℕ) (value : FieldValue) → takes_all kind ≡ false
+pub plain-by : (origin : Option NameValue) (kind : Kind) (printed w rest : List ℕ) (value : FieldValue) → takes_all kind ≡ false
     → printed ≡ 32 ∷ w → all_plain w ≡ true → 0 < length w → is_end rest ≡ true → IsWord origin kind w value
     → ReadsField origin kind (after_spaces (printed ++ rest)) value rest
 plain-by origin kind printed w rest value one print plain some end is =
@@ -133,13 +133,13 @@ type-back kind is origin printed rest print end =
     let plain = type-plain kind is.0 in
     plain-by origin TypeCode printed w rest (type_code_of kind) refl print plain (type-some kind) end.1 (kind, plain-utf8 w plain, types_come_back kind is.0 ∙ ap Some is.1, refl)
 
-longer : (x y : List ℕ) → all_plain x ≡ true → 0 < length x → all_plain y ≡ true → (all_plain (x ++ y) ≡ true) × (0 < length (x ++ y))
+pub longer : (x y : List ℕ) → all_plain x ≡ true → 0 < length x → all_plain y ≡ true → (all_plain (x ++ y) ≡ true) × (0 < length (x ++ y))
 longer x y p some q = (plain-append x y p q, omega (arith, some, length-append x y))
 
 octet-plain : (n : ℕ) → n < 256 → all_plain (decimal n) ≡ true
 octet-plain n h = decimal-plain n (omega (arith, h))
 
-dotted : (a b c d : ℕ) → a < 256 → b < 256 → c < 256 → d < 256 → (all_plain (dotted_text a b c d) ≡ true) × (0 < length (dotted_text a b c d))
+pub dotted : (a b c d : ℕ) → a < 256 → b < 256 → c < 256 → d < 256 → (all_plain (dotted_text a b c d) ≡ true) × (0 < length (dotted_text a b c d))
 dotted a b c d ha hb hc hd =
     let dot = codes "." in
     let one = decimal a ++ dot in
@@ -193,7 +193,7 @@ octets-back own is origin printed rest print end =
 
 -- ---- words in quotes
 
-end-len : (rest : List ℕ) → is_end rest ≡ true → word_len false false rest ≡ 0
+pub end-len : (rest : List ℕ) → is_end rest ≡ true → word_len false false rest ≡ 0
 end-len [] end = refl
 end-len (c ∷ cs) end = rw end refl
 

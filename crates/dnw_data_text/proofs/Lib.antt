@@ -6,4 +6,6 @@ pub mod Rests
 pub mod FieldLists
 pub mod Identifiers
 pub mod FieldsBack
+pub mod NamesBack
+pub mod WordsBack
 mod RecordWords

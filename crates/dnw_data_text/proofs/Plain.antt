@@ -19,13 +19,13 @@ is_plain c = nat_le 33 c && nat_le c 126 && not (c == 34) && not (c == 92)
 abbrev pub all_plain : List ℕ → Bool
 all_plain w = list_all is_plain w
 
-plain-no_space : (c : ℕ) → is_plain c ≡ true → is_space c ≡ false
+pub plain-no_space : (c : ℕ) → is_plain c ≡ true → is_space c ≡ false
 plain-no_space c h = grind arith
 
-plain-no_quote : (c : ℕ) → is_plain c ≡ true → (c == 34) ≡ false
+pub plain-no_quote : (c : ℕ) → is_plain c ≡ true → (c == 34) ≡ false
 plain-no_quote c h = grind arith
 
-plain-no_backslash : (c : ℕ) → is_plain c ≡ true → (c == 92) ≡ false
+pub plain-no_backslash : (c : ℕ) → is_plain c ≡ true → (c == 92) ≡ false
 plain-no_backslash c h = grind arith
 
 plain-ascii : (c : ℕ) → is_plain c ≡ true → c < 128
@@ -75,7 +75,7 @@ plain-append [] b h k = k
 plain-append (c ∷ a) b h k =
     let parts = and_parts (is_plain c) (all_plain a) h in rw (parts.0) (plain-append a b parts.1 k)
 
-digit-plain : (n : ℕ) → n < 10 → is_plain (48 + n) ≡ true
+pub digit-plain : (n : ℕ) → n < 10 → is_plain (48 + n) ≡ true
 digit-plain n h = grind arith
 
 pub decimal-plain : (n : ℕ) → n < 2 ^ 64 → all_plain (decimal n) ≡ true
@@ -84,11 +84,11 @@ decimal-plain n h =
     (λ n ds ten so_far. plain-append ds ((48 + n % 10) ∷ []) so_far (rw (digit-plain (n % 10) (omega arith)) refl)) n h
 
 -- the digits of a table are plain
-abbrev all_places : List ℕ → ℕ → Bool
+abbrev pub all_places : List ℕ → ℕ → Bool
 all_places t zero = true
 all_places t (suc n) = is_plain (slice_index t n) && all_places t n
 
-places-at : (t : List ℕ) (n k : ℕ) → all_places t n ≡ true → k < n → is_plain (slice_index t k) ≡ true
+pub places-at : (t : List ℕ) (n k : ℕ) → all_places t n ≡ true → k < n → is_plain (slice_index t k) ≡ true
 places-at t zero k h lt = absurd (omega arith)
 places-at t (suc n) k h lt =
     let parts = and_parts (is_plain (slice_index t n)) (all_places t n) h in

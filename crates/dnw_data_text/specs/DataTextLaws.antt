@@ -1,18 +1,21 @@
 -- What follows from the definitions of texts of data. Each is the clause of a public function, and so proved.
-use Rattle.std.specs.Prelude.{◌≡◌, ℕ, ◌<◌, ◌≤◌, true, List, [], ◌++◌, length, Option}
-use Rattle.std.specs.Net.Addr.{ipv4_octets, IsIpv4Addr}
+use Rattle.std.specs.Prelude.{◌≡◌, ℕ, ◌^◌, ◌<◌, ◌≤◌, true, List, [], ◌++◌, length, Option}
+use Rattle.std.specs.Net.Addr.{ipv4_octets, ipv6_segments, IsIpv4Addr, IsIpv6Addr}
+use Rattle.std.specs.List.{AllByRecursion}
 use Rattle.std.specs.declared.net.Ipv4Addr.{Ipv4Addr}
-use Rattle.dnw_base.specs.Names.{NameValue}
+use Rattle.std.specs.declared.net.Ipv6Addr.{Ipv6Addr}
+use Rattle.dnw_base.specs.Names.{NameValue, AreLabels}
 use Rattle.dnw_codes.specs.declared.record_type.RecordType.{RecordType}
 use Rattle.dnw_codes.specs.RecordTypes.{type_code as code_of, type_of_code}
 use Rattle.dnw_data.specs.declared.kind.Kind.{Kind}
-use Rattle.dnw_data.specs.declared.kind.Kind.TheVariants.{U8, U16, U32, Ipv4, TypeCode, Time, Counted, Octets}
+use Rattle.dnw_data.specs.declared.kind.NameForm.{NameForm}
+use Rattle.dnw_data.specs.declared.kind.Kind.TheVariants.{U8, U16, U32, U48, U64, Ipv4, Ipv6, TypeCode, Time, Counted, Octets}
 use Rattle.dnw_data.specs.declared.kind.Kind.TheVariants as kinds
 use Rattle.dnw_data.specs.declared.kind.ListKind.TheVariants as lists
-use Rattle.dnw_data.specs.declared.kind.Shown.TheVariants.{Text, Tag, Hex, Base32Hex}
-use Rattle.dnw_data.specs.Values.{FieldValue, u8, u16, u32, ipv4, type_code, time, counted, octets, texts, items}
+use Rattle.dnw_data.specs.declared.kind.Shown.TheVariants.{Text, Tag, Hex, Base32Hex, Base64}
+use Rattle.dnw_data.specs.Values.{FieldValue, name, u8, u16, u32, u48, u64, ipv4, ipv6, type_code, time, counted, octets, texts, items}
 use Rattle.dnw_digit_text.specs.Base32.{IsHash}
-use Rattle.dnw_field_text.specs.Numbers.{max_u8, max_u16, max_u32}
+use Rattle.dnw_field_text.specs.Numbers.{max_u8, max_u16, max_u32, max_u48}
 use Rattle.dnw_field_text.specs.Octets.{IsOctets, IsSalt}
 use Rattle.dnw_field_text.specs.Spelling.{ComesBack}
 use Rattle.dnw_field_text.specs.Strings.{IsString, IsText}
@@ -55,6 +58,17 @@ TypesComeBack = (kind : RecordType) → IsRead kind → FieldComesBack TypeCode 
 abbrev pub AddressesComeBack : Type 0
 AddressesComeBack = (a : Ipv4Addr) → IsIpv4Addr a → FieldComesBack Ipv4 (ipv4 (ipv4_octets a))
 
+-- Names come back, whose labels have octets.
+abbrev pub NamesComeBack : Type 0
+NamesComeBack = (form : NameForm) (labels : List (List ℕ)) → AreLabels labels → AllByRecursion IsOctets labels → FieldComesBack (kinds.Name form) (name labels)
+
+-- IPv6 addresses come back, and identifiers of six and eight octets.
+abbrev pub SegmentsComeBack : Type 0
+SegmentsComeBack = (a : Ipv6Addr) → IsIpv6Addr a → FieldComesBack Ipv6 (ipv6 (ipv6_segments a))
+
+abbrev pub IdentifiersComeBack : Type 0
+IdentifiersComeBack = ((n : ℕ) → n ≤ max_u48 → FieldComesBack U48 (u48 n)) × ((n : ℕ) → n < 2 ^ 64 → FieldComesBack U64 (u64 n))
+
 -- Octets come back that have a length octet before them: strings, tags, salts and hashed names.
 abbrev pub CountedComeBack : Type 0
 CountedComeBack =
@@ -62,10 +76,11 @@ CountedComeBack =
     × ((own : List ℕ) → IsSalt own → FieldComesBack (Counted Hex) (counted own))
     × ((own : List ℕ) → IsHash own → FieldComesBack (Counted Base32Hex) (counted own))
 
--- Octets up to the end come back, in hexadecimal and as text.
+-- Octets up to the end come back, in hexadecimal, in base 64 and as text.
 abbrev pub OctetsComeBack : Type 0
 OctetsComeBack =
     ((own : List ℕ) → IsOctets own → FieldComesBack (Octets Hex) (octets own))
+    × ((own : List ℕ) → IsOctets own → FieldComesBack (Octets Base64) (octets own))
     × ((own : List ℕ) → IsText own → FieldComesBack (Octets Text) (octets own))
 
 -- Strings up to the end come back, one or more.

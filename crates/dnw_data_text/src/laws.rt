@@ -1,13 +1,16 @@
 //! What is printed of data and of their fields is parsed as the same.
 //!
 //! The functions do nothing. Each is there for its clauses.
-ghost use Rattle.dnw_data_text.specs.DataTextLaws.{GenericComesBack, NumbersComeBack, TypesComeBack, AddressesComeBack, CountedComeBack, OctetsComeBack, StringsComeBack};
+ghost use Rattle.dnw_data_text.specs.DataTextLaws.{GenericComesBack, NumbersComeBack, TypesComeBack, AddressesComeBack, NamesComeBack, SegmentsComeBack, IdentifiersComeBack, CountedComeBack, OctetsComeBack, StringsComeBack};
 
 /// Fields of these kinds come back, whatever follows them.
 pub fn fields_come_back()
     ensures numbers { NumbersComeBack }
     ensures types { TypesComeBack }
     ensures addresses { AddressesComeBack }
+    ensures names { NamesComeBack }
+    ensures segments { SegmentsComeBack }
+    ensures identifiers { IdentifiersComeBack }
     ensures counted { CountedComeBack }
     ensures octets { OctetsComeBack }
     ensures strings { StringsComeBack }

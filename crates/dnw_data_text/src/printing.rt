@@ -5,7 +5,7 @@ ghost use Rattle.std.specs.Option.{option_map};
 ghost use Rattle.dnw_data.specs.Walks.{IsAtEnd};
 ghost use Rattle.dnw_data_text.specs.Inside.Steps.{ReadsNext};
 ghost use Rattle.dnw_data_text.specs.Printing.{Prints, PrintsTime, PrintsCounted, PrintsOctets, PrintsStrings, AppendsFields};
-ghost use Rattle.dnw_word_text.specs.Appending.{Appended};
+ghost use Rattle.dnw_word_text.specs.Appending.{Appended, AppendedInPart};
 
 use dnw_data::field::Field;
 use dnw_data::fields::Fields;
@@ -144,9 +144,21 @@ fn write_octets(kind: Kind, octets: &[u8], out: &mut String) -> Result<bool, All
     Ok(true)
 }
 
-/// Appends the text of strings, each after a space. Returns `false` if the octets end within one.
+/// Appends the text of strings, each after a space. Returns `false` if the octets end within one; nothing is changed then.
 fn write_strings(octets: &[u8], out: &mut String) -> Result<bool, AllocError>
     ensures { IfOk result (Appended (PrintsStrings octets.now) (string_bytes out.old) (string_bytes out.new)) }
+{
+    let start = out.len();
+    let is_whole = push_strings(octets, out)?;
+    if !is_whole {
+        out.truncate(start);
+    }
+    Ok(is_whole)
+}
+
+/// Appends the text of strings. Returns `false` if the octets end within one; some may be appended then.
+fn push_strings(octets: &[u8], out: &mut String) -> Result<bool, AllocError>
+    ensures { IfOk result (AppendedInPart (PrintsStrings octets.now) (string_bytes out.old) (string_bytes out.new)) }
 {
     let mut left = octets;
     while let Some((len, rest)) = left.split_first() {

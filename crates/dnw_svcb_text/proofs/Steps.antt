@@ -1,12 +1,14 @@
 -- Keys, parameters and items, one after another.
-use Rattle.std.proofs.Common.{◌≡◌, ◌<◌, ◌≤◌, ℕ, zero, suc, ◌+◌, Bool, true, false, List, [], ◌∷◌, ◌++◌, length, take, drop, refl, ◌==◌, sym, ap, ◌∙◌, subst, arith, append_assoc, append-nil, length-append, length-drop, inl, inr, decimal}
+use Rattle.std.proofs.Common.{◌≡◌, ◌<◌, ◌≤◌, ℕ, zero, suc, ◌+◌, Bool, true, false, List, [], ◌∷◌, ◌++◌, codes, length, take, drop, refl, ◌==◌, sym, ap, ◌∙◌, subst, arith, append_assoc, append-nil, length-append, length-drop, slice_index, inl, inr, decimal}
 use Rattle.std.specs.List.{insert}
+use Rattle.std.specs.String.Boundary.{IsSplitPoint}
+use Rattle.std.specs.Net.Grammar.{IsColonHex, IsDotted, IsGroups}
 use Rattle.std.specs.Prelude.{Option, Some, None, option_map, nat_le, nat_lt}
 use Rattle.std.specs.Int.{w16, from_be_bytes, to_be_bytes}
 use Rattle.std.specs.Net.Addr.{ipv4_octets, ipv6_segments, octets_of}
 use Rattle.std.specs.declared.net.Ipv6Addr.{Ipv6Addr}
 use Rattle.std.proofs.NetLemmas.Theorems.{IsIpv4Text_unique, IsIpv6Text_unique}
-use Rattle.std.proofs.lemmas.List.{length-take-le}
+use Rattle.std.proofs.lemmas.List.{length-take-le, take_at}
 use Rattle.std.proofs.lemmas.Bool.{le-leb, ne_eqb}
 use Rattle.dnw_field_text.specs.Numbers.{max_u16, IsNumberText}
 use Rattle.dnw_field_text.specs.Octets.{IsBase64Text}
@@ -22,8 +24,8 @@ use Rattle.dnw_svcb_text.specs.CommaLists.{comma, items_of}
 use Rattle.dnw_svcb_text.specs.ParamValues.{is_ascending, octets_of_item, is_item, text_of_item, items_within, IsItem, AreItems, IsListText}
 use Rattle.dnw_svcb_text.specs.Params.{ParamValue, with_param, and_then, in_key_order}
 use Rattle.dnw_svcb_text.specs.ParamTexts.{param_text, params_within, params_text}
-use Rattle.dnw_svcb_text.specs.ParamWords.{key_part, value_part, keys_of, keys_wire, IsOwnValue, IsValueText, IsParam, IsParamOf}
-use Rattle.dnw_svcb_text.specs.Inside.Steps.{after, TakesItem}
+use Rattle.dnw_svcb_text.specs.ParamWords.{key_part, value_part, keys_of, keys_wire, HasValue, IsOwnValue, IsValueText, IsParam, IsParamOf}
+use Rattle.dnw_svcb_text.specs.Inside.Steps.{after, TakesItem, IsSpaced, GoesOn}
 
 -- ---- keys
 
@@ -218,6 +220,75 @@ one-value forms.Ipv4 value a b x y = one-list Ipv4 value a b x y
 one-value forms.Ech value a b x y = (base64 b y.2.0).1 a (subst (λ (t : List ℕ). IsBase64Text t a) y.2.1 x.2)
 one-value forms.Ipv6 value a b x y = one-list Ipv6 value a b x y
 one-value forms.Any value a b x y = absurd x
+
+-- no text without characters is an item, or a value of a form that has one
+no-dotted : (text octets : List ℕ) → [] ≡ text → IsDotted text octets → ⊥
+no-dotted text octets none is =
+    let front = ((decimal is.a ++ codes ".") ++ decimal is.b) ++ codes "." in
+    let size = ap length (none ∙ is.spelled) in
+    omega (arith, size, length-append ((front ++ decimal is.c) ++ codes ".") (decimal is.d), length-append (front ++ decimal is.c) (codes "."))
+
+no-groups : (segments : List ℕ) → IsGroups true [] segments → 0 < length segments → ⊥
+no-groups [] is some = omega (arith, some)
+no-groups (s ∷ segments) (inl is) some = omega (arith, ap length is.2, length-append is.0 is.1, is.3.0.0.0)
+no-groups (s ∷ segments) (inr is) some = no-dotted is.0 is.1 is.3 is.4
+
+pub no-colon-hex : (segments : List ℕ) → IsColonHex [] segments → ⊥
+no-colon-hex segments is = elim is [
+  | inl groups ↦ no-groups segments groups.0 (omega (arith, groups.1))
+  | inr elided ↦ omega (arith, ap length elided.spelled, length-append (elided.head_text ++ codes "::") elided.tail_text, length-append elided.head_text (codes "::"))
+]
+
+item-some : (list : ListValue) (own : List ℕ) → IsItem list [] own → ⊥
+item-some Keys own is = elim is.2 [
+  | inl named ↦ let no : None ≡ Some is.0 = named in cc
+  | inr generic ↦ let no : [] ≡ generic_key is.0 = generic.1 in cc
+]
+item-some Protocols own is = omega (arith, is.0)
+item-some Ipv4 own is = no-dotted [] (ipv4_octets is.0) refl is.2
+item-some Ipv6 own is = no-colon-hex (ipv6_segments is.0) is.2
+
+list-some : (list : ListValue) (own : List ℕ) → IsListText list [] own → ⊥
+list-some list own is =
+    let e : Some ([] ∷ []) ≡ Some is.0 = is.1 in
+    let items : [] ∷ [] ≡ is.0 = cc in
+    let one = subst (λ (xs : List (List ℕ)). AreItems list xs own) (sym items) is.2 in
+    item-some list one.0 one.2
+
+pub value-some : (form : Form) (own : List ℕ) → (form ≡ forms.Nothing → ⊥) → IsOwnValue form [] own → ⊥
+value-some forms.Mandatory own other is = list-some Keys is.0 is.2
+value-some forms.Protocols own other is = list-some Protocols own is
+value-some forms.Nothing own other is = other refl
+value-some forms.Port own other is = omega (arith, is.2.0.0)
+value-some forms.Ipv4 own other is = list-some Ipv4 own is
+value-some forms.Ech own other is = omega (arith, is.1)
+value-some forms.Ipv6 own other is = list-some Ipv6 own is
+value-some forms.Any own other is = is
+
+-- a value that writes octets has characters
+pub has-value : (text : Option (List ℕ)) (own : List ℕ) → IsValueText text own → 1 ≤ length own → HasValue text
+has-value None own is some = omega (arith, some, ap length is)
+has-value (Some []) own is some = let no : None ≡ Some own = is.0 in absurd cc
+has-value (Some (c ∷ text)) own is some = omega arith
+
+-- ---- texts that begin with a space
+
+pub spaced-more : (found others : List ℕ) → IsSpaced found → IsSpaced (found ++ 32 ∷ others)
+spaced-more [] others h = refl
+spaced-more (c ∷ found) others h = h
+
+space-after : (old own : List ℕ) → IsSpaced own → length old < length (old ++ own) → slice_index (old ++ own) (length old) ≡ 32
+space-after [] [] h within = absurd (omega (arith, within))
+space-after [] (c ∷ own) h within = h
+space-after (o ∷ old) own h within = space-after old own h (omega (arith, within))
+
+-- what was appended may be cut off, and then nothing is
+pub may-cut : (old new : List ℕ) (n : ℕ) → GoesOn old new → n ≡ length old → IsSplitPoint new n
+may-cut old new n (own, spaced, e) at =
+    rw (e, at) (omega (arith, length-append old own), λ some within high. absurd (omega (arith, high, space-after old own spaced within)))
+
+pub cut-off : (old new kept : List ℕ) (n : ℕ) → GoesOn old new → n ≡ length old → kept ≡ take n new → kept ≡ old
+cut-off old new kept n (own, spaced, e) at cut = cut ∙ rw (e, at) (take_at old own (length old) refl)
 
 -- ---- the parameters of octets
 

@@ -30,6 +30,11 @@ abbrev pub IsValueText : Option (List ℕ) → List ℕ → Type 0
 IsValueText None own = own ≡ []
 IsValueText (Some text) own = IsLongText text own
 
+-- there is a value of one character or more
+abbrev pub HasValue : Option (List ℕ) → Type 0
+HasValue None = ⊥
+HasValue (Some text) = 1 ≤ length text
+
 -- two octets each as a key
 abbrev pub keys_of : List ℕ → List ParamValue
 keys_of (a ∷ b ∷ octets) = record { key = from_be_bytes w16 (a ∷ b ∷ []); octets = [] } ∷ keys_of octets

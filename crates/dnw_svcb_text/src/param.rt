@@ -1,5 +1,5 @@
 //! Parameters in the order of their keys (RFC 9460, section 2.2).
-ghost use Rattle.std.specs.Prelude.{◌≡◌, ◌≤◌, ◌++◌, ℕ, List, None, Some, IfOk, IfSome, MatchOption, length};
+ghost use Rattle.std.specs.Prelude.{◌≡◌, ◌≢◌, ◌≤◌, ◌++◌, ℕ, List, None, Some, IfOk, IfErr, OnErr, IfSome, MatchOption, length};
 ghost use Rattle.std.specs.List.{insert};
 ghost use Rattle.dnw_svcb_text.specs.Params.{with_param, params_wire};
 ghost use Rattle.dnw_svcb_text.specs.Inside.Steps.{Inserts};
@@ -30,9 +30,12 @@ impl Model for Param {
     ghost invariant = { λ p. length p.octets.items ≤ 65535 };
 }
 
-/// Puts a parameter before the first with a greater key. Returns `false` if its key is there.
+/// Puts a parameter before the first with a greater key. Returns `false` if its key is there; nothing is changed then.
+///
+/// It fails only if its key is not there and it runs out of memory, and nothing is changed then.
 pub fn insert_param(param: Param, params: &mut Vec<Param>) -> Result<bool, AllocError>
-    ensures { IfOk result (Inserts param params.old.items params.new.items) }
+    ensures ok { IfOk result (Inserts param params.old.items params.new.items) }
+    ensures err { IfErr result (λ _. (with_param param params.old.items ≢ None) × (params.new.items ≡ params.old.items)) }
 {
     let Some(index) = place_of(param.key, params.as_slice()) else {
         return Ok(false);
@@ -62,9 +65,10 @@ fn place_of(key: u16, params: &[Param]) -> Option<usize>
     Some(index)
 }
 
-/// Appends the octets of parameters.
+/// Appends the octets of parameters. It fails only if there are some and it runs out of memory.
 pub fn push_params(params: &[Param], out: &mut Vec<u8>) -> Result<(), AllocError>
-    ensures { IfOk result (λ _. out.new.items ≡ out.old.items ++ params_wire params.now) }
+    ensures ok { IfOk result (λ _. out.new.items ≡ out.old.items ++ params_wire params.now) }
+    ensures err { OnErr result (1 ≤ length params.now) }
 {
     for param in params {
         out.extend_from_slice(&param.key.to_be_bytes())?;

@@ -1,7 +1,7 @@
 //! The text of parameters (RFC 9460, section 2.1).
-ghost use Rattle.std.specs.Prelude.{◌≡◌, ◌++◌, IfOk, string_bytes, Some};
+ghost use Rattle.std.specs.Prelude.{◌≡◌, ◌≤◌, ◌++◌, IfOk, OnErr, length, string_bytes, Some};
 ghost use Rattle.dnw_svcb_text.specs.ParamTexts.{param_text, params_text, own_part, any_part};
-ghost use Rattle.dnw_svcb_text.specs.Inside.Steps.{Writes};
+ghost use Rattle.dnw_svcb_text.specs.Inside.Steps.{Pushes, Writes};
 
 use crate::keys::{Form, Key, form_of};
 use crate::lists::split_u16;
@@ -12,11 +12,25 @@ use std::alloc::{AllocError, Global};
 use std::{fmt, str};
 
 /// Appends the text of parameters, each after a space, in the order of their octets. Returns `false` if the octets end within
-/// one; some text may be appended then.
+/// one; nothing is changed then. It fails only if there are octets and it runs out of memory.
 ///
 /// A value that does not have the form of its key is printed as that of any key is, as `key3="\000"`.
 pub fn write_params(alloc: Global, octets: &[u8], out: &mut String) -> Result<bool, AllocError>
-    ensures { IfOk result (Writes (params_text octets.now) (string_bytes out.old) (string_bytes out.new)) }
+    ensures ok { IfOk result (Writes (params_text octets.now) (string_bytes out.old) (string_bytes out.new)) }
+    ensures err { OnErr result (1 ≤ length octets.now) }
+{
+    let start = out.len();
+    let is_whole = push_each(alloc, octets, out)?;
+    if !is_whole {
+        out.truncate(start);
+    }
+    Ok(is_whole)
+}
+
+/// Appends the text of parameters. Returns `false` if the octets end within one; some text may be appended then.
+fn push_each(alloc: Global, octets: &[u8], out: &mut String) -> Result<bool, AllocError>
+    ensures ok { IfOk result (Pushes (params_text octets.now) (string_bytes out.old) (string_bytes out.new)) }
+    ensures err { OnErr result (1 ≤ length octets.now) }
 {
     let mut left = octets;
     while let Some((key, rest)) = split_u16(left) {

@@ -1,5 +1,5 @@
 //! Values in the form of their keys (RFC 9460, sections 7 and 8; RFC 9848 for ech).
-ghost use Rattle.std.specs.Prelude.{◌≡◌, ◌++◌, ℕ, List, [], None, Some, IfOk, MatchOption};
+ghost use Rattle.std.specs.Prelude.{◌≡◌, ◌≤◌, ◌++◌, ℕ, List, [], None, Some, IfOk, OnErr, MatchOption, length};
 ghost use Rattle.dnw_svcb_text.specs.Params.{in_key_order};
 ghost use Rattle.dnw_svcb_text.specs.ParamTexts.{own_text};
 ghost use Rattle.dnw_svcb_text.specs.ParamWords.{keys_of, keys_wire, AreMandatory, IsOwnValue};
@@ -13,34 +13,36 @@ use dnw_field_text::octets::{Base64, parse_base64};
 use std::alloc::{AllocError, Global};
 use std::str;
 
-/// Returns the octets that a value of this form stands for, if it has it.
+/// Returns the octets that a value of this form stands for, if it has it. A value without characters takes no memory.
 pub(crate) fn own_value(
     alloc: Global,
     form: Form,
     value: &[u8],
 ) -> Result<Option<Vec<u8>>, AllocError>
-    ensures { IfOk result (λ x. MatchOption x ((own : List ℕ) → ¬ (IsOwnValue form value.now own)) (λ own. IsOwnValue form value.now own.items)) }
+    ensures ok { IfOk result (λ x. MatchOption x ((own : List ℕ) → ¬ (IsOwnValue form value.now own)) (λ own. IsOwnValue form value.now own.items)) }
+    ensures err { OnErr result (1 ≤ length value.now) }
 {
+    if value.is_empty() {
+        return Ok(nothing_of(alloc, form));
+    }
     match form {
         Form::Mandatory => mandatory_of(alloc, value),
         Form::Protocols => parse_list(alloc, ListValue::Protocols, value),
-        Form::Nothing => Ok(nothing_of(alloc, value)),
         Form::Port => port_of(alloc, value),
         Form::Ipv4 => parse_list(alloc, ListValue::Ipv4, value),
         Form::Ech => ech_of(alloc, value),
         Form::Ipv6 => parse_list(alloc, ListValue::Ipv6, value),
-        Form::Any => Ok(None),
+        Form::Nothing | Form::Any => Ok(None),
     }
 }
 
-/// Returns no octets for a value that has none.
-fn nothing_of(alloc: Global, value: &[u8]) -> Option<Vec<u8>>
-    ensures { MatchOption result ((own : List ℕ) → ¬ (IsOwnValue Form.Nothing value.now own)) (λ own. IsOwnValue Form.Nothing value.now own.items) }
+/// Returns what a value without characters stands for: no octets, if the form is that of no value.
+fn nothing_of(alloc: Global, form: Form) -> Option<Vec<u8>>
+    ensures { MatchOption result ((own : List ℕ) → ¬ (IsOwnValue form [] own)) (λ own. IsOwnValue form [] own.items) }
 {
-    if value.is_empty() {
-        Some(Vec::new(alloc))
-    } else {
-        None
+    match form {
+        Form::Nothing => Some(Vec::new(alloc)),
+        _ => None,
     }
 }
 

@@ -1,8 +1,8 @@
 //! Which word is which parameter (RFC 9460, section 2.1 and appendix A).
-ghost use Rattle.std.specs.Prelude.{◌≡◌, ◌≤◌, ℕ, List, IfOk, IfSome, MatchOption, length};
+ghost use Rattle.std.specs.Prelude.{◌≡◌, ◌≤◌, ℕ, List, IfOk, OnErr, IfSome, MatchOption, length};
 ghost use Rattle.std.specs.Option.{option_map};
 ghost use Rattle.dnw_svcb_text.specs.Params.{ParamValue};
-ghost use Rattle.dnw_svcb_text.specs.ParamWords.{key_part, value_part, IsValueText, IsParam, IsParamOf};
+ghost use Rattle.dnw_svcb_text.specs.ParamWords.{key_part, value_part, HasValue, IsValueText, IsParam, IsParamOf};
 
 use crate::keys::{form_of, generic_key, named_key};
 use crate::param::{MAX_VALUE, Param};
@@ -15,9 +15,10 @@ use std::str;
 /// Returns the parameter that a word is, as `alpn=h2,h3` or `key667="hello"`, or `None` if it is none.
 ///
 /// A key is written by its name in lower case, and its value has the form of its key; or as `key` and its number, and the value
-/// is any octets.
+/// is any octets. It fails only if the word has a value and it runs out of memory.
 pub fn parse_param(alloc: Global, word: &[u8]) -> Result<Option<Param>, AllocError>
-    ensures { IfOk result (λ x. MatchOption x ((p : ParamValue) → ¬ (IsParam word.now p)) (IsParam word.now)) }
+    ensures ok { IfOk result (λ x. MatchOption x ((p : ParamValue) → ¬ (IsParam word.now p)) (IsParam word.now)) }
+    ensures err { OnErr result (HasValue (value_part word.now)) }
 {
     let Ok(text) = str::from_utf8(word) else {
         return Ok(None);
@@ -44,6 +45,7 @@ fn parts(text: &str) -> (&str, Option<&str>)
 fn value_octets(alloc: Global, value: Option<&str>) -> Result<Option<Vec<u8>>, AllocError>
     ensures is { IfOk result (λ x. MatchOption x ((own : List ℕ) → ¬ (IsValueText (option_map (λ v. v.now) value.entry) own)) (λ own. IsValueText (option_map (λ v. v.now) value.entry) own.items)) }
     ensures few { IfOk result (λ x. IfSome x (λ own. length own.items ≤ 65535)) }
+    ensures err { OnErr result (HasValue (option_map (λ v. v.now) value.entry)) }
 {
     let mut own = Vec::new(alloc);
     let Some(text) = value else {
@@ -59,7 +61,8 @@ fn value_octets(alloc: Global, value: Option<&str>) -> Result<Option<Vec<u8>>, A
 /// Returns the parameter with a key and a value.
 fn param_of(alloc: Global, key: &str, own: Vec<u8>) -> Result<Option<Param>, AllocError>
     requires { length own.items ≤ 65535 }
-    ensures { IfOk result (λ x. MatchOption x ((p : ParamValue) → ¬ (IsParamOf key.now own.items p)) (IsParamOf key.now own.items)) }
+    ensures ok { IfOk result (λ x. MatchOption x ((p : ParamValue) → ¬ (IsParamOf key.now own.items p)) (IsParamOf key.now own.items)) }
+    ensures err { OnErr result (1 ≤ length own.items) }
 {
     if let Some(number) = generic_key(key) {
         return Ok(Some(Param {

@@ -16,7 +16,7 @@ use Rattle.dnw_word_text.specs.Inside.ParamSteps.{LeadToParams}
 pub writes-params : (own old new : List ℕ) (r : Result Bool AllocError) → IfOk r (Writes (params_text own) old new) → IfOk r (Appended (PrintsParams own) old new)
 writes-params own old new (Err e) h = h
 writes-params own old new (Ok true) h = h
-writes-params own old new (Ok false) h = λ text is. let no : None ≡ Some text = sym h ∙ is in cc
+writes-params own old new (Ok false) h = (λ text is. let no : None ≡ Some text = sym h.0 ∙ is in cc, h.1)
 
 pub params-more : (text : List ℕ) (done : List ParamValue) (left : List ℕ) (p : ParamValue) → LeadToParams text done left → left ≢ [] → IsParam (word left) p
     → LeadToParams text (done ++ p ∷ []) (after_spaces (after_word left))

@@ -13,9 +13,10 @@ use Rattle.dnw_codes.specs.declared.record_type.RecordType.{RecordType}
 use Rattle.dnw_sets.specs.TypeSets.{bits, bit_codes, octets_codes, window_size}
 use Rattle.dnw_sets.proofs.Windows.{bits-next}
 use Rattle.dnw_codes.specs.RecordTypes.{type_of_text}
+use Rattle.dnw_svcb_text.specs.Inside.Steps.{IsSpaced}
 use Rattle.dnw_word_text.specs.Words.{after_spaces, word, after_word}
 use Rattle.dnw_word_text.specs.TypeLists.{is_window, codes_within, code_text, codes_text, PrintsTypes, IsTypeWord, AreTypeWords}
-use Rattle.dnw_word_text.specs.Appending.{Appended}
+use Rattle.dnw_word_text.specs.Appending.{AppendedInPart}
 use Rattle.dnw_word_text.specs.Inside.TypeWords.{LeadToTypes}
 
 -- the iterator of a vector gives its elements
@@ -119,13 +120,17 @@ no-window (suc n) number len left rest more own others few first second whole si
     let fits : nat_le len (length more) ≡ true = le-leb len (length more) (omega (arith, size, ap length whole, length-append own others)) in
     rw (first, second, fits, front, is) refl
 
+spaced : (codes : List ℕ) → IsSpaced (codes_text codes)
+spaced [] = tt
+spaced (code ∷ codes) = refl
+
 pub no-types : (all left : List ℕ) (found : List ℕ) (n : ℕ) → codes_within (length all) all ≡ after found (codes_within n left)
-    → codes_within n left ≡ None → (text : List ℕ) → ¬ (PrintsTypes all text)
-no-types all left found n so_far none text own =
-    let no : None ≡ Some own.0 = ap (after found) (sym none) ∙ sym so_far ∙ own.1 in cc
+    → codes_within n left ≡ None → (old new : List ℕ) → new ≡ old ++ codes_text found → AppendedInPart (PrintsTypes all) old new false
+no-types all left found n so_far none old new e =
+    (λ text own. let no : None ≡ Some own.0 = ap (after found) (sym none) ∙ sym so_far ∙ own.1 in cc, (codes_text found, spaced found, e))
 
 pub all-types : (all left old new : List ℕ) (found : List ℕ) (n : ℕ) → codes_within (length all) all ≡ after found (codes_within n left)
-    → left ≡ [] → new ≡ old ++ codes_text found → Appended (PrintsTypes all) old new true
+    → left ≡ [] → new ≡ old ++ codes_text found → AppendedInPart (PrintsTypes all) old new true
 all-types all left old new found n so_far none e =
     let end : codes_within n left ≡ Some [] = ap (codes_within n) none in
     let whole : codes_within (length all) all ≡ Some found = so_far ∙ ap (after found) end ∙ ap Some (append-nil found) in

@@ -2,9 +2,8 @@
 ghost use Rattle.std.specs.Prelude.{◌≡◌, ◌≤◌, ◌<◌, ◌+◌, ◌*◌, ◌++◌, ℕ, List, length, IfOk, MatchOption, string_bytes};
 ghost use Rattle.dnw_codes.specs.declared.record_type.RecordType.{RecordType};
 ghost use Rattle.dnw_sets.specs.TypeSets.{bit_codes, octet_codes, octets_codes};
-ghost use Rattle.dnw_word_text.specs.Appending.{Appended};
 ghost use Rattle.dnw_word_text.specs.TypeLists.{codes_text, is_window, PrintsTypes, IsTypeWord, AreTypeWords, AreBitmap, AreTypes};
-ghost use Rattle.dnw_word_text.specs.Appending.{AppendsOne};
+ghost use Rattle.dnw_word_text.specs.Appending.{Appended, AppendedInPart, AppendsOne};
 
 use crate::words::{after_spaces, split_word};
 use dnw_codes::record_type::RecordType;
@@ -15,9 +14,22 @@ use std::str;
 /// The most octets of a window: one bit for each of its 256 codes (RFC 4034, section 4.1.2).
 const MAX_OCTETS: usize = 32;
 
-/// Appends the types of a bitmap, each after a space. Returns `false` if a window could be shorter, or is cut.
+/// Appends the types of a bitmap, each after a space. Returns `false` if a window could be shorter, or is cut; nothing is changed
+/// then.
 pub fn write_types(octets: &[u8], out: &mut String) -> Result<bool, AllocError>
     ensures { IfOk result (Appended (PrintsTypes octets.now) (string_bytes out.old) (string_bytes out.new)) }
+{
+    let start = out.len();
+    let is_whole = push_windows(octets, out)?;
+    if !is_whole {
+        out.truncate(start);
+    }
+    Ok(is_whole)
+}
+
+/// Appends the types of a bitmap. Returns `false` if a window could be shorter, or is cut; some types may be appended then.
+fn push_windows(octets: &[u8], out: &mut String) -> Result<bool, AllocError>
+    ensures { IfOk result (AppendedInPart (PrintsTypes octets.now) (string_bytes out.old) (string_bytes out.new)) }
 {
     let mut left = octets;
     while let Some((number, rest)) = left.split_first() {

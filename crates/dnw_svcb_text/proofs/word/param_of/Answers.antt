@@ -4,14 +4,14 @@ use Rattle.dnw_svcb_text.specs.ParamWords.{IsOwnValue}
 use Rattle.dnw_svcb_text.proofs.Steps.{one-value}
 use Rattle.dnw_svcb_text.proofs.word.param_of.Goals as goal
 
-pub returns-then-len-gt-MAX_VALUE : goal.returns-then-len-gt-MAX_VALUE
-returns-then-len-gt-MAX_VALUE c = λ p is. elim is [
+pub returns-then-len-gt-MAX_VALUE-clause-ok : goal.returns-then-len-gt-MAX_VALUE-clause-ok
+returns-then-len-gt-MAX_VALUE-clause-ok c = λ p is. elim is [
   | inl named ↦
       let e : Some c.in-Some-named_key.number ≡ Some p.key = c.in-Some-named_key.ensures ∙ named.0 in
       let key : c.in-Some-named_key.number ≡ p.key = cc in
       let form : form_of p.key ≡ c.form_of.result = ap form_of (sym key) ∙ sym c.form_of.ensures in
       let own : List ℕ = c.args.own.items in
-      let found = rw c.in-Some-2.is at c.in_ok-octets.ensures in
+      let found = rw c.in-Some-2.is at c.in_ok-octets.ensures.ok in
       let mine = subst (λ (xs : List ℕ). IsOwnValue c.form_of.result xs c.in-Some-2.octets.items) c.as_slice.ensures.value found in
       let same : p.octets ≡ c.in-Some-2.octets.items =
       one-value c.form_of.result own p.octets c.in-Some-2.octets.items (subst (λ f. IsOwnValue f own p.octets) form named.1) mine in

@@ -10,5 +10,5 @@ returns c =
     let (listed, words, all) = rw c.in-Some.is at c.in_ok-params.ensures in (
       params (items lists.Params (params_wire own)),
       (listed, own, words, all, refl),
-      c.in_ok-push_params.ensures ∙ ap (λ (ps : List ParamValue). c.args.out.now.items ++ params_wire ps) c.as_slice.ensures.value,
+      c.in_ok-push_params.ensures.ok ∙ ap (λ (ps : List ParamValue). c.args.out.now.items ++ params_wire ps) c.as_slice.ensures.value,
     )

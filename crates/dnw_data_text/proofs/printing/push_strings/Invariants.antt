@@ -2,7 +2,7 @@ use Rattle.std.proofs.Common.{◌≡◌, ◌++◌, ℕ, List, length}
 use Rattle.std.specs.Prelude.{string_bytes, flat_map}
 use Rattle.dnw_base.specs.Names.{label_wire}
 use Rattle.dnw_data_text.specs.Printing.{strings_text}
-use Rattle.dnw_data_text.proofs.printing.write_strings.Given as goal
+use Rattle.dnw_data_text.proofs.printing.push_strings.Given as goal
 
 -- the strings so far, and what is left
 abbrev pub invariant-loop-len : goal.invariant-loop-len

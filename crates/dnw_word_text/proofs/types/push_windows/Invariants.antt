@@ -2,7 +2,7 @@ use Rattle.std.proofs.Common.{◌≡◌, ◌≤◌, ◌++◌, ℕ, List, length}
 use Rattle.std.specs.Prelude.{string_bytes}
 use Rattle.dnw_word_text.specs.TypeLists.{codes_within, codes_text}
 use Rattle.dnw_word_text.proofs.TypeSteps.{after}
-use Rattle.dnw_word_text.proofs.types.write_types.Given as goal
+use Rattle.dnw_word_text.proofs.types.push_windows.Given as goal
 
 -- what is left, after the codes so far, gives what all gives
 abbrev pub invariant-loop-number : goal.invariant-loop-number
