@@ -154,7 +154,8 @@ static void refuses_records(void)
 static void refuses_long_data(void)
 {
     static uint8_t list[70000], room[70000];
-    static const char head[] = RRSIG(A_B, "\000\100", "\002") RECORD("\300\000", "\000\100", TTL, "\377\377\000\001\300\000\000\001");
+    static const char head[] = RRSIG(A_B, "\000\100", "\002")
+        RECORD("\300\000", "\000\100", TTL, "\377\377\000\001\300\000\000\001");
     size_t len, end = SIZE(head) - 6 + 65535, value = 65535 - 8;
     memcpy(list, head, SIZE(head));
     list[SIZE(head)] = (uint8_t)(value >> 8);

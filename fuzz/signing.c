@@ -1,6 +1,7 @@
 /* Puts what the RRSIG at each of the first offsets of a message covers, of the records from another offset on, and compares the
    octets with a model's: RFC 4034, sections 3.1.8.1 and 6, RFC 4035, section 5.3, and RFC 6840, section 5.1, in plain C. The first
-   two octets of an input are where the records begin; the first of them are tried as the RRSIG too, also with those after it alone. */
+   two octets of an input are where the records begin; the first of them are tried as the RRSIG too, also with those after it
+   alone. */
 #include "harness.h"
 
 enum { MOST = 64 * 1024, OFFSETS = 64, RECORDS = 256 };
