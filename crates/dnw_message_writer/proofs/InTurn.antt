@@ -1,10 +1,10 @@
 -- Records that are written together go on from the encoder, and stand there one after the other; or nothing is changed.
-use Rattle.std.proofs.Common.{◌≡◌, ℕ, ◌+◌, ◌*◌, ◌≤◌, List, [], ◌∷◌, ◌++◌, length, Ok, Err, inl, inr, refl, sym, ap, ◌∙◌, subst, append_assoc, arith}
-use Rattle.std.proofs.lemmas.List.{append-nil, length-append}
+use Rattle.std.proofs.Common.{◌≡◌, ℕ, ◌+◌, ◌≤◌, List, [], ◌∷◌, ◌++◌, length, Ok, Err, inl, inr, refl, sym, ap, ◌∙◌, subst, append_assoc, arith}
+use Rattle.std.proofs.lemmas.List.{append-nil}
 use Rattle.dnw_error.specs.declared.error.ProtoError.{ProtoError}
 use Rattle.dnw_encoder.specs.Encoder.{CandidatesPrecede, Encoder}
 use Rattle.dnw_encoder.specs.Emitting.{Frame, Outcome}
-use Rattle.dnw_encoder.specs.EmittingLaws.{frame-same, frames-follow}
+use Rattle.dnw_encoder.specs.EmittingLaws.{frames-follow}
 use Rattle.dnw_encoder.proofs.Preceding.{rewinding_undoes}
 use Rattle.dnw_record.specs.RecordLaws.{FailsForSize}
 use Rattle.dnw_record.proofs.Parts.{fails-later}

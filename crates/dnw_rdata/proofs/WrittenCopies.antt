@@ -5,7 +5,6 @@ use Rattle.std.proofs.lemmas.Bool.{false≢true}
 use Rattle.std.proofs.lemmas.Option.{none-some}
 use Rattle.dnw_base.specs.Decoder.{Decoder}
 use Rattle.dnw_data.specs.declared.fields.FieldError.{FieldError}
-use Rattle.dnw_data.specs.declared.kind.Kind.{Kind}
 use Rattle.dnw_data.proofs.Walking.{one-reading}
 use Rattle.dnw_encoder.specs.Encoder.{Encoder, Writes, reserved}
 use Rattle.dnw_encoder.specs.Emitting.{Outcome}
@@ -14,8 +13,8 @@ use Rattle.dnw_record.specs.Parts.{EmitsSized, EmitsWireParts, Write}
 use Rattle.dnw_record.specs.Records.{RecordValue}
 use Rattle.dnw_rdata.specs.declared.record.Record.{Record}
 use Rattle.dnw_rdata.specs.declared.rdata.RDataError.TheVariants.{Field}
-use Rattle.dnw_rdata.specs.DataPieces.{DataPiece, DataValue, HasPieces, IsDataOfType, kinds_of}
-use Rattle.dnw_rdata.specs.DataCopies.{Copies, FailsToCopy, TakesPieces, alone, data_start}
+use Rattle.dnw_rdata.specs.DataPieces.{DataPiece, DataValue, IsDataOfType, kinds_of}
+use Rattle.dnw_rdata.specs.DataCopies.{Copies, FailsToCopy, alone, data_start}
 use Rattle.dnw_rdata.specs.AnyRecords.{AnyNumbersFit, EmitsAnyFields, EmitsCopyOf, EmitsRData, HasFields, IsCopyOf, parts_of, type_class_ttl}
 use Rattle.dnw_rdata.specs.Inside.Walking.{EmitsFieldsOf, EmitsPieces, IsReadable, copy_with}
 use Rattle.dnw_rdata.proofs.AnyRecords.{whole-pieces}

@@ -2,7 +2,6 @@
 use Rattle.std.proofs.Common.{◌-◌, ◌++◌, [], length, sym, ◌∙◌, refl}
 use Rattle.dnw_error.specs.declared.error.DecodeError.TheVariants.{IncorrectRDataLengthRead}
 use Rattle.std.proofs.lemmas.Bool.{false≢true}
-use Rattle.dnw_data.specs.Values.{seen}
 use Rattle.dnw_rdata.specs.declared.rdata.RDataError.TheVariants.{Field}
 use Rattle.dnw_rdata.specs.DataPieces.{piece_octets}
 use Rattle.dnw_rdata.proofs.Copying.{begins, ends, goes-on, left-over, none-left, piece-of, stops}

@@ -1,4 +1,4 @@
-use Rattle.std.proofs.Common.{◌≡◌, sym, ◌∙◌, ap, arith}
+use Rattle.std.proofs.Common.{sym, ◌∙◌, ap, arith}
 use Rattle.dnw_encoder.specs.EncoderValue.{value}
 use Rattle.dnw_encoder.specs.Marks.{rewound}
 use Rattle.dnw_rdata.proofs.WrittenCopies.{done, on-fields-of, undone}
