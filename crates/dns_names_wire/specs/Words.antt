@@ -141,7 +141,8 @@ pub use Rattle.dnw_data_text.specs.RecordLines.{FailsRecordLine, IsRecordLine}
 pub use Rattle.dnw_svcb_text.specs.Params.{ParamValue, in_key_order, params_wire}
 pub use Rattle.dnw_svcb_text.specs.ParamTexts.{param_text, params_text}
 pub use Rattle.dnw_svcb_text.specs.ParamWords.{IsParam}
-pub use Rattle.dnw_data_text.specs.DataTextLaws.{AddressesComeBack as FieldAddressesComeBack, CountedComeBack, NumbersComeBack, OctetsComeBack, StringsComeBack, TypesComeBack}
+pub use Rattle.dnw_svcb_text.specs.ParamLaws.{IsParamValue, ParamsComeBack}
+pub use Rattle.dnw_data_text.specs.DataTextLaws.{AddressesComeBack as FieldAddressesComeBack, CountedComeBack, IdentifiersComeBack as FieldIdentifiersComeBack, NamesComeBack as FieldNamesComeBack, NumbersComeBack, OctetsComeBack, SegmentsComeBack, StringsComeBack, TypesComeBack}
 pub use Rattle.dnw_data_text.specs.DataTextLaws.{GenericComesBack, FieldComesBack, Follows as FollowsField, IsRead as IsReadType, IsData as IsDataOctets}
 -- Whole messages: headers, sections and EDNS.
 pub use Rattle.dnw_message.specs.Edns.{EdnsValue, FailsEdns, FailsOpt, HasEdns, HasOpt, HasOptions, IsEdns, IsResponseCode, OptionValue}

@@ -7,11 +7,8 @@ use Rattle.std.specs.declared.net.Ipv4Addr.{Ipv4Addr}
 use Rattle.std.proofs.NetLemmas.Texts.{IsDotted-ipv4_text}
 use Rattle.std.specs.List.{AllPass}
 use Rattle.std.specs.Char.{is_ascii_digit, is_ascii_alphanumeric}
-use Rattle.std.specs.Str.{IsUtf8, IsAscii}
 use Rattle.std.proofs.lemmas.Bool.{cases_eq, cases_Bool, ne_eqb}
 use Rattle.std.proofs.lemmas.List.{take_at, drop_at}
-use Rattle.std.proofs.lemmas.Str.{IsUtf8-from_ascii}
-use Rattle.std.proofs.lemmas.Str.Ascii.{IsAscii-nil, IsAscii-cons}
 use Rattle.hex.proofs.HexLemmas.{length-encode_with}
 use Rattle.hex.specs.Hex.{upper_digits}
 use Rattle.dnw_base.specs.Names.{NameValue}
@@ -34,6 +31,7 @@ use Rattle.dnw_digit_text.specs.Base32.{IsHash, is_base32, base32_text}
 use Rattle.dnw_digit_text.proofs.Identifiers.{hash}
 use Rattle.dnw_field_text.proofs.ComeBack.{numbers, salt}
 use Rattle.dnw_field_text.proofs.StringText.{string, text}
+use Rattle.dnw_svcb_text.proofs.ParamTextsBack.{string-utf8}
 use Rattle.dnw_word_text.specs.Words.{is_end, word_len, word, after_word, after_spaces}
 use Rattle.dnw_data_text.specs.Parsing.{takes_all, IsWord, IsStringWord, AreStringWords, AreTexts, ReadsField}
 use Rattle.dnw_data_text.specs.Printing.{strings_text}
@@ -231,38 +229,6 @@ string-len own rest h end =
     let seam = append_assoc (flat_map octet_text own) (quote ∷ []) rest in
     let size = quoted-len own rest h end in
     ap (λ (xs : List ℕ). word_len false false (quote ∷ xs)) seam ∙ omega (arith, size, length-append (flat_map octet_text own) (quote ∷ []))
-
-small : (o : ℕ) → (nat_le 32 o && nat_le o 126) ≡ true → o < 128
-small o h = grind arith
-
-octet-ascii : (o : ℕ) (xs : List ℕ) → o < 256 → IsAscii xs → IsAscii (octet_text o ++ xs)
-octet-ascii o xs fits rest = elim (cases_eq o quote) [
-  | inl e ↦ rw e (IsAscii-cons 92 (34 ∷ xs) (omega arith) (IsAscii-cons 34 xs (omega arith) rest))
-  | inr no_quote ↦ elim (cases_eq o backslash) [
-    | inl e ↦ rw e (IsAscii-cons 92 (92 ∷ xs) (omega arith) (IsAscii-cons 92 xs (omega arith) rest))
-    | inr plain ↦
-        let a = ne_eqb o quote no_quote in
-        let b = ne_eqb o backslash plain in
-        elim (cases_Bool (nat_le 32 o && nat_le o 126)) [
-          | inl printable ↦ let few : o < 128 = small o printable in rw (a, b, printable) (IsAscii-cons o xs few rest)
-          | inr other ↦
-              let x = 48 + o / 100 in
-              let y = 48 + o / 10 % 10 in
-              let z = 48 + o % 10 in
-              rw (a, b, other)
-              (IsAscii-cons 92 (x ∷ y ∷ z ∷ xs) (omega arith) (IsAscii-cons x (y ∷ z ∷ xs) (omega arith) (IsAscii-cons y (z ∷ xs) (omega arith) (IsAscii-cons z xs (omega arith) rest))))
-        ]
-  ]
-]
-
-octets-ascii : (own xs : List ℕ) → IsOctets own → IsAscii xs → IsAscii (flat_map octet_text own ++ xs)
-octets-ascii [] xs h rest = rest
-octets-ascii (o ∷ own) xs h rest =
-    rw (append_assoc (octet_text o) (flat_map octet_text own) xs) (octet-ascii o (flat_map octet_text own ++ xs) (h 0) (octets-ascii own xs (λ i. h (suc i)) rest))
-
-string-utf8 : (own : List ℕ) → IsOctets own → IsUtf8 (string_text own)
-string-utf8 own h =
-    IsUtf8-from_ascii (string_text own) (IsAscii-cons 34 _ (omega arith) (octets-ascii own (quote ∷ []) h (IsAscii-cons 34 [] (omega arith) IsAscii-nil)))
 
 string-word : (own rest : List ℕ) → IsOctets own → is_end rest ≡ true → word (string_text own ++ rest) ≡ string_text own
 string-word own rest h end = take_at (string_text own) rest _ (sym (string-len own rest h end))

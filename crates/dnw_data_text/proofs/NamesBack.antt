@@ -1,6 +1,6 @@
 -- A printed name is one word, and read as that name.
-use Rattle.std.proofs.Common.{◌≡◌, ℕ, suc, ◌+◌, ◌-◌, ◌*◌, ◌/◌, ◌%◌, ◌<◌, ◌≤◌, true, false, ◌&&◌, ◌==◌, List, [], ◌∷◌, ◌++◌, length, refl, sym, ap, ◌∙◌, subst, arith, append_assoc, append-nil, length-append, inl, inr}
-use Rattle.std.specs.Prelude.{nat_le, nat_lt, flat_map, sum_by, Option, Some}
+use Rattle.std.proofs.Common.{◌≡◌, ℕ, suc, ◌+◌, ◌-◌, ◌*◌, ◌/◌, ◌%◌, ◌<◌, ◌≤◌, true, false, ◌&&◌, ◌==◌, List, [], ◌∷◌, ◌++◌, length, refl, sym, ap, ◌∙◌, arith, append_assoc, append-nil, length-append, inl, inr}
+use Rattle.std.specs.Prelude.{nat_le, nat_lt, Option, Some}
 use Rattle.std.specs.Char.{is_ascii_digit}
 use Rattle.std.specs.List.{AllByRecursion}
 use Rattle.std.proofs.lemmas.Bool.{cases_Bool, ne_eqb, lt-ltb}
@@ -12,9 +12,8 @@ use Rattle.dnw_data.specs.declared.kind.Kind.TheVariants as kinds
 use Rattle.dnw_data.specs.declared.kind.NameForm.{NameForm}
 use Rattle.dnw_data.specs.Values.{name}
 use Rattle.dnw_field_text.specs.Octets.{IsOctets}
-use Rattle.dnw_field_text.specs.Strings.{quote, backslash}
 use Rattle.dnw_word_text.specs.NameTexts.{is_special, name_octet, label_octets, labels_text, full_name_text}
-use Rattle.dnw_word_text.specs.Words.{is_space, is_end, word_len, word, after_word, after_spaces}
+use Rattle.dnw_word_text.specs.Words.{is_end, word_len, after_spaces}
 use Rattle.dnw_data_text.specs.declared.name_reading.Escape.TheVariants.{Outside}
 use Rattle.dnw_data_text.specs.NameReading.{one_label_more, labels_from, name_at}
 use Rattle.dnw_data_text.specs.DataTextLaws.{FieldComesBack}

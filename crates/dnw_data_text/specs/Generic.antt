@@ -1,5 +1,5 @@
 -- The form that any data have (RFC 3597, section 5): `\#`, the number of octets, and the octets in hexadecimal.
-use Rattle.std.specs.Prelude.{◌≡◌, ℕ, ◌-◌, ◌⊎◌, List, [], ◌∷◌, ◌++◌, length, codes, decimal}
+use Rattle.std.specs.Prelude.{◌≡◌, ◌≤◌, ℕ, ◌-◌, ◌⊎◌, List, [], ◌∷◌, ◌++◌, length, codes, decimal}
 use Rattle.std.specs.Str.{IsUtf8}
 use Rattle.dnw_field_text.specs.Octets.{hex_text, IsHexText}
 use Rattle.dnw_field_text.specs.Numbers.{IsNumberText}
@@ -43,11 +43,11 @@ IsSized left octets =
 abbrev pub IsGeneric : List ℕ → List ℕ → Type 0
 IsGeneric text octets = (word (after_spaces text) ≡ mark) × IsSized (after_word (after_spaces text)) octets
 
--- why no octets are there, in a text of this length: no number, not so many octets, or no memory
+-- why no octets are there, in a text of this length: no number, not so many octets, or no memory for the words of some
 abbrev pub FailsSized : ℕ → List ℕ → DataTextError → Type 0
 FailsSized len left e =
     let size = after_spaces left in
     let words = after_spaces (after_word size) in
     (((n : ℕ) → ¬ (IsSize (word size) n)) × (e ≡ fault 0 (len - length size) Size))
     ⊎ ((n : ℕ) × IsSize (word size) n × ((octets : List ℕ) → ¬ (AreOctets n words octets)) × (e ≡ fault 1 (len - length words) (Octets n)))
-    ⊎ (e ≡ Memory)
+    ⊎ ((n : ℕ) × IsSize (word size) n × (1 ≤ length words) × (e ≡ Memory))

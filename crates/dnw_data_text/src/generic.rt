@@ -1,5 +1,5 @@
 //! The form that any data have (RFC 3597, section 5).
-ghost use Rattle.std.specs.Prelude.{◌≡◌, ◌≤◌, ℕ, List, length, Some, IfOk, IfErr, MatchResult, MatchOption};
+ghost use Rattle.std.specs.Prelude.{◌≡◌, ◌≤◌, ℕ, List, [], length, Some, IfOk, OnErr, IfErr, MatchResult, MatchOption};
 ghost use Rattle.std.specs.Str.{IsUtf8};
 ghost use Rattle.dnw_data_text.specs.Faults.{fault};
 ghost use Rattle.dnw_word_text.specs.Words.{joined};
@@ -65,10 +65,25 @@ fn size_of(word: &[u8]) -> Option<u16>
     parse_u16(text).ok()
 }
 
-/// Returns the octets that words write in hexadecimal, if there are so many.
-fn octets_of(alloc: Global, size: u16, words: &[u8]) -> Result<Option<Vec<u8>>, AllocError>
-    ensures { IfOk result (λ x. MatchOption x ((octets : List ℕ) → ¬ (AreOctets size words.now octets)) (λ octets. AreOctets size words.now octets.items)) }
+/// Returns what no words write: no octets, if there are to be none.
+fn no_octets(alloc: Global, size: u16) -> Option<Vec<u8>>
+    ensures { MatchOption result ((octets : List ℕ) → ¬ (AreOctets size [] octets)) (λ octets. AreOctets size [] octets.items) }
 {
+    if size == 0 {
+        Some(Vec::new(alloc))
+    } else {
+        None
+    }
+}
+
+/// Returns the octets that words write in hexadecimal, if there are so many. Without words it takes no memory.
+fn octets_of(alloc: Global, size: u16, words: &[u8]) -> Result<Option<Vec<u8>>, AllocError>
+    ensures ok { IfOk result (λ x. MatchOption x ((octets : List ℕ) → ¬ (AreOctets size words.now octets)) (λ octets. AreOctets size words.now octets.items)) }
+    ensures err { OnErr result (1 ≤ length words.now) }
+{
+    if words.is_empty() {
+        return Ok(no_octets(alloc, size));
+    }
     let joined = without_spaces(alloc, words)?;
     let Ok(text) = str::from_utf8(joined.as_slice()) else {
         return Ok(None);

@@ -1,7 +1,9 @@
 //! What is printed of data and of their fields is parsed as the same.
 //!
-//! The functions do nothing. Each is there for its clauses.
+//! The functions do nothing. Each is there for its clauses. That of service parameters is passed on.
 ghost use Rattle.dnw_data_text.specs.DataTextLaws.{GenericComesBack, NumbersComeBack, TypesComeBack, AddressesComeBack, NamesComeBack, SegmentsComeBack, IdentifiersComeBack, CountedComeBack, OctetsComeBack, StringsComeBack};
+
+pub use dnw_svcb_text::laws::params_come_back;
 
 /// Fields of these kinds come back, whatever follows them.
 pub fn fields_come_back()

@@ -152,7 +152,7 @@ items-more list all (o ∷ left) own rest found new (suc n) so_far few whole fro
 
 -- ---- where a parameter belongs
 
-not-before : (a b : ℕ) → b ≤ a → nat_lt a b ≡ false
+pub not-before : (a b : ℕ) → b ≤ a → nat_lt a b ≡ false
 not-before a b h = grind arith
 
 pub place-more : (key : ℕ) (octets : List ℕ) (done left rest : List ParamValue) (q : ParamValue) (whole : Option (List ParamValue)) → left ≡ q ∷ rest

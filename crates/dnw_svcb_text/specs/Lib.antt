@@ -4,4 +4,5 @@ pub mod Params
 pub mod ParamValues
 pub mod ParamTexts
 pub mod ParamWords
+pub mod ParamLaws
 pub mod Inside

@@ -5,6 +5,7 @@
 
 mod items;
 mod keys;
+pub mod laws;
 mod lists;
 pub mod param;
 pub mod printing;
