@@ -40,30 +40,18 @@ pub record Here (b : List ℕ) (s p : ℕ) : Type 0 where
 
 Reads-here : {b : List ℕ} {p s e k : ℕ} {limit : Option ℕ} {ls : List (List ℕ)} → Reads b p s limit ls e k
     → labels_at b p ≡ ls → s ≤ p → length ls ≤ 127 → Here b s p
-Reads-here {b} {p} (zero_octet w g) is back few =
-    let octet = get_or_from_slice_get b p 0 0 g in
-    record { end = λ _. is; label = λ ne. absurd (ne octet); pointer = λ high. absurd (omega arith) }
+Reads-here {b} {p} (zero_octet w g) is back few = let octet = get_or_from_slice_get b p 0 0 g in grind arith
 Reads-here {b} {p} (label c w g one most fit r) is back few =
     let octet = get_or_from_slice_get b p c 0 g in
     let (same, on) = reads-on r (omega arith) (omega arith) in
-    record {
-      end = λ none. absurd (omega arith);
-      label = λ ne less. rw octet (record {
-        there = fit;
-        labels = is ∙ ap (λ (others : List (List ℕ)). slice_range b (p + 1) (p + 1 + c) ∷ others) (sym same);
-        on = on;
-      });
-      pointer = λ high. absurd (omega arith);
-    }
+    let here : LabelHere b _ p c = record { there = fit; labels = is ∙ rw same refl; on = on } in
+    record { end = λ none. absurd (omega arith); label = λ ne less. rw octet here; pointer = λ high. absurd (omega arith) }
 Reads-here {b} {p} (pointer high low w g least g' prior r) is back few =
     let octet = get_or_from_slice_get b p high 0 g in
     let (same, on) = reads-on r (omega arith) few in
-    record {
-      end = λ none. absurd (omega arith);
-      label = λ ne less. absurd (omega arith);
-      pointer = λ _. rw (octet, get_or_from_slice_get b (p + 1) low 0 g')
-          (record { there = slice_get_within b (p + 1) low g'; prior = prior; labels = same ∙ sym is; on = on });
-    }
+    let here : PointerHere b _ p (target high low) = record { there = slice_get_within b (p + 1) low g'; prior = prior; labels = same ∙ sym is; on = on } in
+    let low_is = get_or_from_slice_get b (p + 1) low 0 g' in
+    record { end = λ none. absurd (omega arith); label = λ ne less. absurd (omega arith); pointer = λ _. rw (octet, low_is) here }
 
 pub here : {b : List ℕ} {s p : ℕ} → ReadsOn b s p → Here b s p
 here on = Reads-here on.reads refl on.back on.few

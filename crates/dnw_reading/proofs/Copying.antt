@@ -2,6 +2,7 @@
 use Rattle.std.proofs.Common.{◌≡◌, ℕ, suc, Bool, IsTrue, ◌+◌, ◌-◌, ◌<◌, ◌≤◌, Option, List, [], ◌∷◌, ◌++◌, length, take, drop, get_or, slice_range, refl, ap, ◌∙◌, append_assoc, add-one, arith, length-append}
 use Rattle.std.proofs.Math.Seq.{take-add, drop-cons}
 use Rattle.std.proofs.lemmas.List.{drop-drop, take_at}
+use Rattle.std.proofs.lemmas.Grind.{common_steps}
 use Rattle.std.proofs.lemmas.Slice.{drop-append-drop}
 use Rattle.std.proofs.lemmas.List.Edits.{length-between, between_none}
 use Rattle.std.proofs.lemmas.Option.{get_or_from_slice_get, slice_get_within}
@@ -15,10 +16,7 @@ use Rattle.dnw_reading.proofs.Behind.{here, StandsAt-reads}
 
 -- a part is its front and the rest
 slice_range-split : (b : List ℕ) (i j k : ℕ) → i ≤ j → j ≤ k → slice_range b i k ≡ slice_range b i j ++ slice_range b j k
-slice_range-split b i j k first second =
-    let whole : k - i ≡ (j - i) + (k - j) = omega arith in
-    let there : i + (j - i) ≡ j = omega arith in
-    rw (whole, take-add (j - i) (k - j) (drop i b), drop-drop (j - i) i b, there) refl
+slice_range-split b i j k first second = grind (arith, common_steps, take-add (j - i) (k - j) (drop i b), drop-drop (j - i) i b)
 
 -- and its first octet and the rest
 slice_range-cons : (b : List ℕ) (p q : ℕ) → p < length b → p < q → slice_range b p q ≡ get_or b p 0 ∷ slice_range b (p + 1) q
@@ -87,14 +85,13 @@ module _ {b : List ℕ} {start run p : ℕ} {written : List ℕ} (h : Copies b s
   Copies-label ne less =
       let label = (here h.on).label ne less in
       let c : ℕ = get_or b p 0 in
-      let order = h.order in
       let form = label-form b p c (labels_at b (p + 1 + c)) refl label.there in
       record {
         segment = h.segment;
         on = label.on;
-        order = omega arith;
+        order = omega (arith, h.order);
         back = h.back;
-        whole = rw (slice_range-split b run p (p + 1 + c) order (omega arith), append_assoc, form) (rw label.labels at h.whole);
+        whole = rw (slice_range-split b run p (p + 1 + c) h.order (omega arith), append_assoc, form) (rw label.labels at h.whole);
         short = h.short;
       }
 

@@ -1,23 +1,19 @@
 -- A reading stands when bytes follow, and when its segment's start or its limit grows.
-use Rattle.std.proofs.Common.{◌≡◌, ℕ, zero, suc, ◌+◌, ◌-◌, ◌<◌, ◌≤◌, Option, Some, None, List, [], ◌∷◌, ◌++◌, length, drop, slice_get, slice_range, refl, subst, arith, length-append, length-drop}
+use Rattle.std.proofs.Common.{◌≡◌, ℕ, ◌+◌, ◌-◌, ◌<◌, ◌≤◌, Option, Some, None, List, [], ◌∷◌, ◌++◌, length, drop, slice_get, slice_range, refl, subst, arith, rules, length-append, length-drop}
 use Rattle.std.proofs.lemmas.List.{take-append-le, drop-append-le, append-nil}
-use Rattle.std.proofs.lemmas.Option.{slice_get_within}
+use Rattle.std.proofs.lemmas.Grind.{common_steps}
+use Rattle.std.proofs.lemmas.Option.{gets, slice_get_within}
 use Rattle.dnw_reading.specs.Reading.{IsWithin, target, Reads, zero_octet, label, pointer}
 use Rattle.dnw_reading.specs.ReadingLaws.{IsNoTighter}
 
 -- an octet stays at its offset
 slice_get-append : (b more : List ℕ) (p c : ℕ) → slice_get b p ≡ Some c → slice_get (b ++ more) p ≡ Some c
-slice_get-append [] more p c g = cc
-slice_get-append (x ∷ b) more zero c g = g
-slice_get-append (x ∷ b) more (suc p) c g = slice_get-append b more p c g
+slice_get-append b more p c g = grind (arith, common_steps, gets)
 
 -- and so does a part
-pub slice_range-append : (b more : List ℕ) (i j : ℕ) → i ≤ j → j ≤ length b
-    → slice_range (b ++ more) i j ≡ slice_range b i j
+pub slice_range-append : (b more : List ℕ) (i j : ℕ) → i ≤ j → j ≤ length b → slice_range (b ++ more) i j ≡ slice_range b i j
 slice_range-append b more i j order fit =
-    let start : i ≤ length b = omega arith in
-    let part : j - i ≤ length (drop i b) = omega (arith, length-drop i b) in
-    rw (drop-append-le i b more start, take-append-le (j - i) (drop i b) more part) refl
+    rw (drop-append-le i b more (omega arith), take-append-le (j - i) (drop i b) more (omega (arith, length-drop i b))) refl
 
 -- A reading stands when bytes follow, at a later start, and in a limit that allows as much within the message.
 -- Explicit: these bytes, start and limit, their bounds, and the reading.
@@ -46,9 +42,8 @@ Reads-limited {b} {s} more r = Reads-stands more s (Some (length b)) (omega arit
 
 -- a wider limit allows as much
 IsWithin-wider : (p : ℕ) (limit wider : Option ℕ) → IsNoTighter limit wider → IsWithin p limit → IsWithin p wider
-IsWithin-wider p limit None h w = tt
 IsWithin-wider p None (Some larger) h w = absurd h
-IsWithin-wider p (Some limit) (Some larger) h w = omega arith
+IsWithin-wider p limit wider h w = search (rules, arith)
 
 -- a reading stands at a later start and a wider limit; explicit: these two, their bounds, and the reading
 pub Reads-wider : {b : List ℕ} {p s e k : ℕ} {limit : Option ℕ} {ls : List (List ℕ)} (t : ℕ) (wider : Option ℕ)

@@ -1,15 +1,14 @@
--- One step of a reading: what the octets at a position, in a segment with a limit, lead to. It is a function of
--- these, so each reading and each fault begins in one way, as `Reads-step` and `Stops-step` say.
---
--- To take a reading r or a fault f apart where the octet is known, name the step that the octet gives:
--- `Reads-by (step-zero b p s limit w g) r` is (ls ≡ []) × (e ≡ p + 1) × (k ≡ 0), and at `step-label` and
--- `step-pointer` it gives the reading of what follows.
-use Rattle.std.proofs.Common.{◌≡◌, ℕ, suc, ◌+◌, ◌<◌, ◌≤◌, ◌⊎◌, cond, eqb, leb, ltb, Option, Some, None, List, [], ◌∷◌, length, slice_get, slice_range, refl, subst, inl, inr, arith, le-leb, lt-ltb, le-ltb}
+-- One step of a reading: what the octets at a position, in a segment with a limit, lead to. Each reading and each fault begins
+-- with it. To take a reading apart where the octet is known, name the step: `Reads-by (step-zero b p s limit w g) r` is
+-- (ls ≡ []) × (e ≡ p + 1) × (k ≡ 0), and at `step-label` and `step-pointer` it gives the reading of what follows.
+use Rattle.std.proofs.Common.{◌≡◌, ℕ, zero, suc, ◌+◌, ◌-◌, ◌<◌, ◌≤◌, cond, eqb, leb, ltb, Option, Some, None, List, [], ◌∷◌, length, slice_get, slice_range, refl, sym, ◌∙◌, arith, le-leb, lt-ltb, le-ltb}
+use Rattle.std.specs.Prelude.{option_map}
 use Rattle.std.proofs.lemmas.Bool.{lt-leb, ne_eqb}
 use Rattle.std.proofs.lemmas.Option.{slice_get_past}
 use Rattle.dnw_error.specs.declared.error.DecodeError.{DecodeError}
 use Rattle.dnw_error.specs.declared.error.DecodeError.TheVariants.{LabelOverlapsWithOther, InsufficientBytes, PointerNotPriorToLabel, DomainNameTooLong, UnrecognizedLabelCode}
 use Rattle.dnw_reading.specs.Inside.Walking.{IsPointerAt}
+use Rattle.dnw_reading.proofs.Counts.{octets, octets-label}
 use Rattle.dnw_reading.specs.Reading.{IsWithin, target, Reads, Stops, zero_octet, label, pointer, overlap, no_octet, half_pointer, not_prior, cut_label, too_long, reserved}
 
 -- the name ends, a label of so many octets stands there, a pointer leads there, or reading stops with an error
@@ -76,61 +75,69 @@ ReadsBy b p s limit ls e k (jump t) =
     (end followed : ℕ) × (e ≡ p + 2) × (k ≡ suc followed) × Reads b t t (Some s) ls end followed
 ReadsBy b p s limit ls e k (halt error) = ⊥
 
--- how a fault goes on after its step
-abbrev pub StopsBy : List ℕ → ℕ → ℕ → Option ℕ → ℕ → DecodeError → ℕ → ℕ → Step → Type 0
-StopsBy b p s limit n error k j done = ⊥
-StopsBy b p s limit n error k j (text c) =
-    ((255 < n + 1 + c) × (error ≡ DomainNameTooLong c) × (k ≡ 0) × (j ≡ 1))
-    ⊎ ((found : ℕ) × (n + 1 + c ≤ 255) × (j ≡ suc found) × Stops b (p + 1 + c) s limit (n + 1 + c) error k found)
-StopsBy b p s limit n error k j (jump t) =
-    (followed : ℕ) × (k ≡ suc followed) × Stops b t t (Some s) n error followed j
-StopsBy b p s limit n error k j (halt cause) = (error ≡ cause) × (k ≡ 0) × (j ≡ 0)
-
--- a reading goes on as its step says; explicit: the reading
-pub Reads-step : {b : List ℕ} {p s e k : ℕ} {limit : Option ℕ} {ls : List (List ℕ)} → Reads b p s limit ls e k
-    → ReadsBy b p s limit ls e k (step b p s limit)
-Reads-step (zero_octet w g) = rw step-zero (refl, refl, refl)
-Reads-step {b} {p} {s} {limit} (label c w g one most fit r) =
-    rw (step-label b p s limit c w g one most fit) (_, refl, r)
-Reads-step {b} {p} {s} {limit} (pointer high low w g least g' prior r) =
-    rw (step-pointer b p s limit high low w g least g' prior) (_, _, refl, refl, r)
-
--- and so does a fault; explicit: the fault
-pub Stops-step : {b : List ℕ} {p s n k j : ℕ} {limit : Option ℕ} {error : DecodeError} → Stops b p s limit n error k j
-    → StopsBy b p s limit n error k j (step b p s limit)
-Stops-step {p} (overlap {limit} over) = rw (le-ltb p limit over) (refl, refl, refl)
-Stops-step {b} {p} {s} {limit} (no_octet w past) = rw (within b p s limit w, slice_get_past b p past) (refl, refl, refl)
-Stops-step {b} {p} {s} {limit} (half_pointer high w g least past) =
-    rw (step-high b p s limit high w g least, slice_get_past b (p + 1) past) (refl, refl, refl)
-Stops-step {b} {p} {s} {limit} (not_prior high low w g least g' late) =
-    rw (step-high b p s limit high w g least, g', le-ltb (target high low) s late) (refl, refl, refl)
-Stops-step {b} {p} {s} {limit} (pointer high low w g least g' prior f) =
-    rw (step-pointer b p s limit high low w g least g' prior) (_, refl, f)
-Stops-step {b} {p} {s} {limit} (cut_label c w g one most cut) =
-    rw (within b p s limit w, g, ne_eqb c 0 (λ e. omega arith), le-leb c 63 most, lt-leb (p + 1 + c) (length b) cut) (refl, refl, refl)
-Stops-step {b} {p} {s} {limit} (too_long c w g one most fit long) =
-    rw (step-label b p s limit c w g one most fit) (inl (long, refl, refl, refl))
-Stops-step {b} {p} {s} {limit} (label c w g one most fit short f) =
-    rw (step-label b p s limit c w g one most fit) (inr (_, short, refl, f))
-Stops-step {b} {p} {s} {limit} (reserved c w g least most) =
-    rw (within b p s limit w, g, ne_eqb c 0 (λ e. omega arith), lt-leb c 63 least, le-leb c 191 (omega arith)) (refl, refl, refl)
-
--- the same, at a step that is known; explicit: the equation for the step, and the reading or the fault
+-- a reading goes on as its step says; explicit: the equation for the step, and the reading
 pub Reads-by : {b : List ℕ} {p s e k : ℕ} {limit : Option ℕ} {ls : List (List ℕ)} {next : Step}
     → step b p s limit ≡ next → Reads b p s limit ls e k → ReadsBy b p s limit ls e k next
-Reads-by {b} {p} {s} {e} {k} {limit} {ls} is r = subst (ReadsBy b p s limit ls e k) is (Reads-step r)
+Reads-by {b} {p} {s} {limit} is (zero_octet w g) = rw (sym is ∙ step-zero b p s limit w g) (refl, refl, refl)
+Reads-by {b} {p} {s} {limit} is (label c w g one most fit r) = rw (sym is ∙ step-label b p s limit c w g one most fit) (_, refl, r)
+Reads-by {b} {p} {s} {limit} is (pointer high low w g least g' prior r) =
+    rw (sym is ∙ step-pointer b p s limit high low w g least g' prior) (_, _, refl, refl, r)
 
-pub Stops-by : {b : List ℕ} {p s n k j : ℕ} {limit : Option ℕ} {error : DecodeError} {next : Step}
-    → step b p s limit ≡ next → Stops b p s limit n error k j → StopsBy b p s limit n error k j next
-Stops-by {b} {p} {s} {n} {k} {j} {limit} {error} is h = subst (StopsBy b p s limit n error k j) is (Stops-step h)
+-- an error, and the counts of pointers and labels with which reading stops
+abbrev pub Stop : Type 0
+Stop = DecodeError × ℕ × ℕ
+
+-- those with which it stops in fewer than m steps, if it does
+abbrev fault_by : (ℕ → ℕ → Option ℕ → ℕ → Option Stop) → ℕ → ℕ → Option ℕ → ℕ → Step → Option Stop
+fault_by on p s limit n done = None
+fault_by on p s limit n (text c) =
+    cond (ltb 255 (n + 1 + c)) (Some (DomainNameTooLong c, 0, 1)) (option_map (λ x. (x.0, x.1, suc x.2)) (on (p + 1 + c) s limit (n + 1 + c)))
+fault_by on p s limit n (jump t) = option_map (λ x. (x.0, suc x.1, x.2)) (on t t (Some s) n)
+fault_by on p s limit n (halt error) = Some (error, 0, 0)
+
+abbrev pub fault : ℕ → List ℕ → ℕ → ℕ → Option ℕ → ℕ → Option Stop
+fault zero b p s limit n = None
+fault (suc m) b p s limit n = fault_by (fault m b) p s limit n (step b p s limit)
+
+-- a fault is what this says
+pub Stops-fault : (m : ℕ) {b : List ℕ} {p s n k j : ℕ} {limit : Option ℕ} {error : DecodeError} → s + (255 - n) < m
+    → Stops b p s limit n error k j → fault m b p s limit n ≡ Some (error, k, j)
+Stops-fault zero less f = absurd (omega arith)
+Stops-fault (suc m) {p = p} less (overlap {limit = limit} over) = rw (le-ltb p limit over) refl
+Stops-fault (suc m) {b} {p} {s} {limit = limit} less (no_octet w past) = rw (within b p s limit w, slice_get_past b p past) refl
+Stops-fault (suc m) {b} {p} {s} {limit = limit} less (half_pointer high w g least past) =
+    rw (step-high b p s limit high w g least, slice_get_past b (p + 1) past) refl
+Stops-fault (suc m) {b} {p} {s} {limit = limit} less (not_prior high low w g least g' late) =
+    rw (step-high b p s limit high w g least, g', le-ltb (target high low) s late) refl
+Stops-fault (suc m) {b} {p} {s} {limit = limit} less (pointer high low w g least g' prior f) =
+    rw (step-pointer b p s limit high low w g least g' prior, Stops-fault m (omega arith) f) refl
+Stops-fault (suc m) {b} {p} {s} {limit = limit} less (cut_label c w g one most cut) =
+    rw (within b p s limit w, g, ne_eqb c 0 (λ e. omega arith), le-leb c 63 most, lt-leb (p + 1 + c) (length b) cut) refl
+Stops-fault (suc m) {b} {p} {s} {n} {limit = limit} less (too_long c w g one most fit long) =
+    rw (step-label b p s limit c w g one most fit, lt-ltb 255 (n + 1 + c) long) refl
+Stops-fault (suc m) {b} {p} {s} {n} {limit = limit} less (label c w g one most fit short f) =
+    rw (step-label b p s limit c w g one most fit, le-ltb 255 (n + 1 + c) short, Stops-fault m (omega arith) f) refl
+Stops-fault (suc m) {b} {p} {s} {limit = limit} less (reserved c w g least most) =
+    rw (within b p s limit w, g, ne_eqb c 0 (λ e. omega arith), lt-leb c 63 least, le-leb c 191 (omega arith)) refl
+
+-- and a reading whose labels fit, after n octets of the name, does not stop
+pub Reads-no_fault : (m : ℕ) {b : List ℕ} {p s e k : ℕ} {limit : Option ℕ} {ls : List (List ℕ)} (n : ℕ) → s + (255 - n) < m → n + octets ls ≤ 255
+    → Reads b p s limit ls e k → fault m b p s limit n ≡ None
+Reads-no_fault zero n less fits r = absurd (omega arith)
+Reads-no_fault (suc m) {b} {p} {s} {limit = limit} n less fits (zero_octet w g) = rw (step-zero b p s limit w g) refl
+Reads-no_fault (suc m) {b} {p} {s} {limit = limit} n less fits (label {ls = rest} c w g one most fit r) =
+    let size = octets-label b p c rest fit in
+    rw (step-label b p s limit c w g one most fit, le-ltb 255 (n + 1 + c) (omega arith), Reads-no_fault m (n + 1 + c) (omega arith) (omega arith) r) refl
+Reads-no_fault (suc m) {b} {p} {s} {limit = limit} n less fits (pointer high low w g least g' prior r) =
+    rw (step-pointer b p s limit high low w g least g' prior, Reads-no_fault m n (omega arith) fits r) refl
 
 -- what is read or stops where a pointer leads is read or stops at the pointer
 pub Reads-jump : {b : List ℕ} {p s t e k : ℕ} {limit : Option ℕ} {ls : List (List ℕ)} → IsWithin p limit → IsPointerAt b p s t
     → Reads b t t (Some s) ls e k → Reads b p s limit ls (p + 2) (suc k)
 Reads-jump {s} w at r =
-    pointer at.high at.low w at.first at.marked at.second (subst (λ (n : ℕ). n < s) at.leads at.prior) (rw at.leads at r)
+    pointer at.high at.low w at.first at.marked at.second (rw at.leads at at.prior) (rw at.leads at r)
 
 pub Stops-jump : {b : List ℕ} {p s t n k j : ℕ} {limit : Option ℕ} {error : DecodeError} → IsWithin p limit → IsPointerAt b p s t
     → Stops b t t (Some s) n error k j → Stops b p s limit n error (suc k) j
 Stops-jump {s} w at f =
-    pointer at.high at.low w at.first at.marked at.second (subst (λ (n : ℕ). n < s) at.leads at.prior) (rw at.leads at f)
+    pointer at.high at.low w at.first at.marked at.second (rw at.leads at at.prior) (rw at.leads at f)

@@ -1,11 +1,11 @@
 -- From each position, in each segment, exactly one of a reading and a fault follows, with unique values.
 -- All values are implicit, since the two facts show them: `Reads-unique r r'`, `Stops-unique f f'` and
 -- `Reads-not-Stops r fits f`, at any p, s, limit and n.
-use Rattle.std.proofs.Common.{◌≡◌, ℕ, ◌+◌, ◌≤◌, Option, List, sym, ◌∙◌, ⊎_elim, arith, zero, suc, ◌-◌, ◌<◌, eqb, leb, ltb, Some, None, length, slice_get, [], refl, eqb-true}
+use Rattle.std.proofs.Common.{◌≡◌, ℕ, ◌+◌, ◌≤◌, Option, List, sym, ap, ◌∙◌, ⊎_elim, arith, zero, suc, ◌-◌, ◌<◌, eqb, leb, ltb, Some, None, length, slice_get, [], refl, eqb-true}
 use Rattle.dnw_error.specs.declared.error.DecodeError.{DecodeError}
 use Rattle.dnw_reading.specs.Reading.{Reads, Stops, zero_octet, label, pointer, too_long, IsWithin, target, overlap, no_octet, half_pointer, not_prior, cut_label, reserved}
 use Rattle.dnw_reading.proofs.Counts.{octets, octets-label}
-use Rattle.dnw_reading.proofs.Steps.{Step, done, text, jump, halt, StopsBy, Reads-by, Stops-step, Stops-by, step-zero, step-label, step-pointer, pointer_step, octet_step, step, Reads-jump, Stops-jump}
+use Rattle.dnw_reading.proofs.Steps.{Step, Stop, done, text, jump, halt, Reads-by, Reads-no_fault, Stops-fault, step-zero, step-label, step-pointer, pointer_step, octet_step, step, Reads-jump, Stops-jump}
 use Rattle.std.proofs.lemmas.Bool.{cases_lt, cond_both, eqb-false, leb-true, leb-false, ltb-true, ltb-false}
 use Rattle.std.proofs.lemmas.Option.{gets}
 use Rattle.std.proofs.lemmas.Grind.{common_steps}
@@ -25,49 +25,21 @@ Reads-unique {b} {p} {s} {limit} (pointer high low w g least g' prior r) h =
     let (same, _, same_k) = Reads-unique r r' in
     (same, sym e_is, cc)
 
--- where the one ends at once, so does the other
-halts : (b : List ℕ) (p s n k j : ℕ) (limit : Option ℕ) (error other : DecodeError) (x : Step) → StopsBy b p s limit n error 0 0 x
-    → StopsBy b p s limit n other k j x → (error ≡ other) × (0 ≡ k) × (0 ≡ j)
-halts b p s n k j limit error other done f f' = absurd f
-halts b p s n k j limit error other (text c) f f' =
-    ⊎_elim (λ (_, _, _, j_is). absurd (omega arith)) (λ (_, _, j_is, _). absurd (omega arith)) f
-halts b p s n k j limit error other (jump t) (followed, k_is, _) f' = absurd (omega arith)
-halts b p s n k j limit error other (halt cause) (is, _, _) (is', k_is, j_is) = (is ∙ sym is', sym k_is, sym j_is)
-
 -- and so are a fault's error and its counts of pointers and labels; explicit: the two faults
 pub Stops-unique : {b : List ℕ} {p s n k k' j j' : ℕ} {limit : Option ℕ} {error error' : DecodeError}
     → Stops b p s limit n error k j → Stops b p s limit n error' k' j' → (error ≡ error') × (k ≡ k') × (j ≡ j')
-Stops-unique {b} {p} {s} {limit} (pointer high low w g least g' prior f) h =
-    let (followed, k_is, f') = Stops-by (step-pointer b p s limit high low w g least g' prior) h in
-    let (same, same_k, same_j) = Stops-unique f f' in
-    (same, cc, same_j)
-Stops-unique {b} {p} {s} {limit} (too_long c w g one most fit long) h =
-    ⊎_elim
-    (λ (_, x, y, z). (sym x, sym y, sym z))
-    (λ (found, short, j_is, f). absurd (omega arith))
-    (Stops-by (step-label b p s limit c w g one most fit) h)
-Stops-unique {b} {p} {s} {limit} (label c w g one most fit short f) h =
-    ⊎_elim
-    (λ (long, x, y, z). absurd (omega arith))
-    (λ (found, _, j_is, f').
-    let (same, same_k, same_j) = Stops-unique f f' in
-    (same, same_k, cc))
-    (Stops-by (step-label b p s limit c w g one most fit) h)
-Stops-unique f h = halts _ _ _ _ _ _ _ _ _ _ (Stops-step f) (Stops-step h)
+Stops-unique {s} {n} {k} {k'} {j} {j'} {error} {error'} f f' =
+    let m : ℕ = suc (s + (255 - n)) in
+    let both = sym (Stops-fault m (omega arith) f) ∙ Stops-fault m (omega arith) f' in
+    let same : (let x : Stop = (error, k, j) in x) ≡ (error', k', j') = cc in
+    (ap (λ (x : Stop). x.0) same, ap (λ (x : Stop). x.1) same, ap (λ (x : Stop). x.2) same)
 
 -- a reading whose labels fit, after n octets of the name, is no fault; explicit: the reading, the bound, the fault
 pub Reads-not-Stops : {b : List ℕ} {p s e k n followed found : ℕ} {limit : Option ℕ} {ls : List (List ℕ)} {error : DecodeError}
     → Reads b p s limit ls e k → n + octets ls ≤ 255 → Stops b p s limit n error followed found → ⊥
-Reads-not-Stops {b} {p} {s} {limit} (zero_octet w g) fits h = Stops-by (step-zero b p s limit w g) h
-Reads-not-Stops {b} {p} {s} {limit} (label {ls = rest} c w g one most fit r) fits h =
-    let size = octets-label b p c rest fit in
-    ⊎_elim
-    (λ (long, _, _, _). omega arith)
-    (λ (found, _, _, f). Reads-not-Stops r (omega arith) f)
-    (Stops-by (step-label b p s limit c w g one most fit) h)
-Reads-not-Stops {b} {p} {s} {limit} (pointer high low w g least g' prior r) fits h =
-    let (followed, _, f) = Stops-by (step-pointer b p s limit high low w g least g' prior) h in
-    Reads-not-Stops r fits f
+Reads-not-Stops {s} {n} r fits h =
+    let m : ℕ = suc (s + (255 - n)) in
+    let both = sym (Reads-no_fault m n (omega arith) fits r) ∙ Stops-fault m (omega arith) h in cc
 
 -- what a step says of the octets at p
 abbrev Sees : List ℕ → ℕ → ℕ → Option ℕ → Step → Type 0

@@ -81,15 +81,13 @@ module _ {b : List ℕ} {start first p s limit end size pointers labels : ℕ} (
       → WalksOn b start first (p + 1 + c) s limit end (size + 1 + c) pointers (labels + 1)
   WalksOn-label c l short =
       let new : List ℕ = slice_range b (p + 1) (p + 1 + c) in
-      let size_is = h.passed_size in
-      let order = h.order in
       record {
         passed = h.passed ++ new ∷ [];
-        passed_size = omega (arith, encoded_size_push h.passed new, length-label b p c l.there);
+        passed_size = omega (arith, h.passed_size, encoded_size_push h.passed new, length-label b p c l.there);
         passed_count = omega (arith, length_push h.passed new, h.passed_count);
         few = omega (arith, h.few, l.some);
         fits = short;
-        order = omega arith;
+        order = omega (arith, h.order);
         back = h.back;
         inside = h.inside;
         whole = h.whole;
@@ -104,8 +102,6 @@ module _ {b : List ℕ} {start first p s limit end size pointers labels : ℕ} (
   pub WalksOn-pointer : (t e to : ℕ) → IsPointerAt b p s t → e ≡ unwrap_or (once_followed pointers end) (p + 2)
       → Leads b to t t (Some s) h.passed → WalksOn b start to t t s e size (suc pointers) labels
   WalksOn-pointer t e to at end_is leads =
-      let prior = at.prior in
-      let order = h.order in
       record {
         passed = h.passed;
         passed_size = h.passed_size;
@@ -113,8 +109,8 @@ module _ {b : List ℕ} {start first p s limit end size pointers labels : ℕ} (
         few = h.few;
         fits = h.fits;
         order = omega arith;
-        back = omega (arith, h.back);
-        inside = omega (arith, slice_get_within b p at.high at.first);
+        back = omega (arith, h.back, at.prior);
+        inside = omega (arith, h.order, slice_get_within b p at.high at.first);
         whole = λ zero. absurd (omega arith);
         leads = leads;
         goes_on = rw (← end_is) at (goes-pointer w h.goes_on t at);

@@ -1,9 +1,8 @@
 -- The octet at a position, read and compared, is what the rules of reading speak of.
-use Rattle.std.proofs.Common.{get_or, arith}
+use Rattle.std.proofs.Common.{arith, rules}
 use Rattle.std.proofs.lemmas.Option.{slice_get-get_or}
 use Rattle.dnw_reading.specs.Reading.{reserved}
 use Rattle.dnw_reading.proofs.walk.element_at.Goals as goal
 
 pub returns-clause-err : goal.returns-clause-err
-returns-clause-err c n limit w =
-    reserved (get_or c.args.message.now c.args.position 0) w (slice_get-get_or _ _ 0 c.requires) (omega arith) (omega arith)
+returns-clause-err c = search (rules, arith, reserved, slice_get-get_or)

@@ -15,10 +15,8 @@ few b p k j (Ok w) bytes ok err =
     (pointers, omega (arith, ok.stands.count_is))
 few b p k j (Err e) bytes ok err = fault_steps b p e k j bytes err
 
-pub returns-clause-few_pointers : goal.returns-clause-few_pointers
-returns-clause-few_pointers c =
-    (few _ _ _ _ c.walk_elements.result (λ i. omega (arith, c.type_inv.message i)) c.walk_elements.ensures.ok c.walk_elements.ensures.err).0
-
-pub returns-clause-few_labels : goal.returns-clause-few_labels
-returns-clause-few_labels c =
-    (few _ _ _ _ c.walk_elements.result (λ i. omega (arith, c.type_inv.message i)) c.walk_elements.ensures.ok c.walk_elements.ensures.err).1
+pub returns : goal.returns
+returns c =
+    let e = c.walk_elements.ensures in
+    let (pointers, labels) = few _ _ _ _ c.walk_elements.result (λ i. omega (arith, c.type_inv.message i)) e.ok e.err in
+    record { ok = e.ok; err = e.err; few_pointers = pointers; few_labels = labels }
