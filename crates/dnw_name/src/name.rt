@@ -370,7 +370,7 @@ impl Name {
 
     /// Returns a copy of the name. It does not allocate.
     ///
-    /// It takes half of the instructions of `clone`, whose result has room for an error too and is moved in parts.
+    /// It takes fewer instructions than `clone`, whose result has room for an error too and is moved in parts.
     #[inline(always)]
     pub fn copied(&self) -> Self
         ensures { result ≡ self.now }
