@@ -1,9 +1,9 @@
-"""Exchanges whole messages with dnspython: `exchange.py LIBRARY [MESSAGES [SEED]]`.
+"""Exchanges whole messages with dnspython and ldns: `exchange.py LIBRARY [MESSAGES [SEED]]`.
 
 dnspython writes messages by chance: questions, records in all three sections, and EDNS with options. Ours reads each of them:
 its header and counts, its questions, what it says by EDNS, and each record's owner, type, class, time to live and data, names
 whole; and, unless its names have odd octets, its text. All must be what dnspython reads in the same octets. Then ours writes the
-message again from what it has read, and packs the message itself, and dnspython must read the same in both.
+message again from what it has read, and packs the message itself, and dnspython and ldns must read the same in both.
 """
 
 import ctypes
@@ -30,6 +30,7 @@ sys.path.insert(0, str(DIFF / "servers"))
 import record as texts  # noqa: E402
 
 OURS = ctypes.CDLL(sys.argv[1])
+LDNS = ctypes.CDLL("libldns.so")
 MOST_POINTERS = ctypes.c_size_t(65536)
 HEADER_SIZE = 12
 
@@ -201,6 +202,74 @@ def read_dnspython(wire, with_text):
     return header, questions, sections, says
 
 
+# ---- what ldns reads
+
+FLAG_CALLS = [LDNS.ldns_pkt_qr, LDNS.ldns_pkt_aa, LDNS.ldns_pkt_tc, LDNS.ldns_pkt_rd, LDNS.ldns_pkt_ra, LDNS.ldns_pkt_ad, LDNS.ldns_pkt_cd]
+SECTION_CALLS = [LDNS.ldns_pkt_question, LDNS.ldns_pkt_answer, LDNS.ldns_pkt_authority, LDNS.ldns_pkt_additional]
+BOOLS = [*FLAG_CALLS, LDNS.ldns_pkt_edns, LDNS.ldns_pkt_edns_do]
+OCTETS = [LDNS.ldns_pkt_edns_extended_rcode, LDNS.ldns_pkt_edns_version]
+SHORTS = [LDNS.ldns_pkt_id, LDNS.ldns_pkt_edns_udp_size]
+SIZES = [LDNS.ldns_rr_list_rr_count, LDNS.ldns_rdf_size]
+POINTERS = [*SECTION_CALLS, LDNS.ldns_rr_list_rr, LDNS.ldns_rr_owner, LDNS.ldns_rdf_data, LDNS.ldns_pkt_edns_data, LDNS.ldns_buffer_new]
+for kind, functions in ((ctypes.c_bool, BOOLS), (ctypes.c_uint8, OCTETS), (ctypes.c_uint16, SHORTS), (ctypes.c_size_t, SIZES),
+                        (ctypes.c_void_p, POINTERS), (ctypes.c_uint32, [LDNS.ldns_rr_ttl])):
+    for function in functions:
+        function.restype = kind
+LDNS.ldns_version.restype = ctypes.c_char_p
+
+
+class Buffer(ctypes.Structure):
+    """The first fields of a buffer of ldns."""
+
+    _fields_ = [("len", ctypes.c_size_t), ("limit", ctypes.c_size_t), ("capacity", ctypes.c_size_t), ("data", ctypes.c_void_p)]
+
+
+BUFFER = ctypes.c_void_p(LDNS.ldns_buffer_new(ctypes.c_size_t(1 << 17)))
+
+
+def pointer(function, *words):
+    """What a function of ldns returns a pointer to."""
+    return ctypes.c_void_p(function(*words))
+
+
+def octets_of(rdf):
+    return ctypes.string_at(LDNS.ldns_rdf_data(rdf), LDNS.ldns_rdf_size(rdf)) if rdf.value else b""
+
+
+def data_ldns(rr):
+    """The data of a record, names whole."""
+    buffer = ctypes.cast(BUFFER, ctypes.POINTER(Buffer)).contents
+    buffer.len, buffer.limit = 0, buffer.capacity
+    check(LDNS.ldns_rr_rdata2buffer_wire(BUFFER, rr) == 0, "data that ldns does not write")
+    return ctypes.string_at(buffer.data, buffer.len)
+
+
+def records_ldns(packet, section):
+    """The records of a section as ldns reads it, or its questions, without time to live and data."""
+    found, listed = [], pointer(section, packet)
+    for at in range(LDNS.ldns_rr_list_rr_count(listed)):
+        rr = pointer(LDNS.ldns_rr_list_rr, listed, ctypes.c_size_t(at))
+        one = octets_of(pointer(LDNS.ldns_rr_owner, rr)), LDNS.ldns_rr_get_type(rr), LDNS.ldns_rr_get_class(rr)
+        found.append(one if section is LDNS.ldns_pkt_question else (*one, LDNS.ldns_rr_ttl(rr), data_ldns(rr)))
+    return found
+
+
+def read_ldns(wire):
+    """The same of a message as ldns reads it. It has the OPT record apart."""
+    packet = ctypes.c_void_p()
+    status = LDNS.ldns_wire2pkt(ctypes.byref(packet), wire, ctypes.c_size_t(len(wire)))
+    check(status == 0, "not read by ldns", status, wire.hex())
+    code = LDNS.ldns_pkt_get_rcode(packet) + 16 * LDNS.ldns_pkt_edns_extended_rcode(packet)
+    header = (LDNS.ldns_pkt_id(packet), LDNS.ldns_pkt_get_opcode(packet), [flag(packet) for flag in FLAG_CALLS], code)
+    questions, *sections = (records_ldns(packet, section) for section in SECTION_CALLS)
+    says = None
+    if LDNS.ldns_pkt_edns(packet):
+        size, options = max(512, LDNS.ldns_pkt_edns_udp_size(packet)), octets_of(pointer(LDNS.ldns_pkt_edns_data, packet))
+        says = (LDNS.ldns_pkt_edns_version(packet), LDNS.ldns_pkt_edns_do(packet), size, options)
+    LDNS.ldns_pkt_free(packet)
+    return header, questions, sections, says
+
+
 # ---- messages by chance
 
 def pool():
@@ -316,6 +385,11 @@ def without_opt(read):
     return header, questions, [[one for one in section if one[0][1] != OPT] for section in sections], says
 
 
+def without_texts(read):
+    header, questions, sections, says = read
+    return header, questions, [[one for one, _ in section] for section in sections], says
+
+
 def main():
     count, seed = [int(word) for word in sys.argv[2:4]] + [100000, 1035][len(sys.argv) - 2 :]
     random.seed(seed)
@@ -328,13 +402,16 @@ def main():
         for what, again in (("written again", written_again(wire, ours)), ("packed", packed(wire))):
             there = read_dnspython(again, is_plain)
             check(there == theirs, what, *first_difference(there, theirs), wire.hex(), again.hex())
+            there = read_ldns(again)
+            check(there == without_texts(theirs), f"{what}, for ldns", *first_difference(there, without_texts(theirs)), again.hex())
         questions, records = questions + len(ours[1]), records + sum(map(len, ours[2]))
         kinds.update(record[1] for section in ours[2] for record, _ in section)
         lines += sum(line is not None for section in theirs[2] for _, line in section)
         octets, again_octets = octets + len(wire), again_octets + len(again)
     print(f"exchange: {count} messages of dnspython {dns.version.version} with {questions} questions and {records} records of "
           f"{len(kinds)} types, seed {seed}: the same here, and {lines} lines of text")
-    print(f"exchange: written again, and packed, in {again_octets} octets for {octets}: the same for dnspython")
+    print(f"exchange: written again, and packed, in {again_octets} octets for {octets}: the same for dnspython "
+          f"and ldns {LDNS.ldns_version().decode()}")
 
 
 if __name__ == "__main__":
