@@ -28,6 +28,13 @@ int main(void)
     EXPECT(dnw_compare(BYTES("\001b\000\001A\000\001a\000\001c\000"), 2) == 2 * (2 + 1 + 0));
     EXPECT(dnw_sort(BYTES("\002bb\000\001A\000\000"), 1) == 1 * 1 + 2 * 3 + 3 * 4);
     EXPECT(dnw_hash(BYTES("\001A\000"), 1) == dnw_hash(BYTES("\001a\000"), 1));
+    EXPECT(dnw_find_names(BYTES("\000\001A\000\002bb\000"), 2) == 2 * (1 + 2 + 3));
+    EXPECT(dnw_list_names(BYTES("\000\001A\000\002bb\000"), 2) == 2 * (1 + 3 + 4));
+    EXPECT(dnw_table_build(BYTES("\000\001A\000\002bb\000"), 2) == 2 * 3);
+    EXPECT(dnw_table_build(BYTES("\001A\000\001a\000"), 1) == (uint64_t)1 << 40);
+    EXPECT(dnw_table_find(BYTES("\000\001A\000\002bb\000"), 2) == 2 * (1 + 2 + 3));
+    EXPECT(dnw_table_list(BYTES("\000\001A\000\002bb\000"), 2) == 2 * (1 + 3 + 4));
+    EXPECT(dnw_table_list(BYTES("\001A\000\001a\000"), 1) == 0);
     EXPECT(dnw_lex(BYTES("@ IN (a bc) ; to the end\n"), 2) == 2 * (1 + 3 + 4 + 1));
     EXPECT(dnw_lex(BYTES("a )"), 1) == ((uint64_t)1 << 40) + 2);
     EXPECT(dnw_lex(BYTES("\377"), 1) == 0);
@@ -56,6 +63,8 @@ int main(void)
     EXPECT(dnw_read_message(whole, sizeof whole - 1, 0) == 0);
     EXPECT(dnw_read_message(whole, sizeof whole - 1, 2) == 2 * all);
     EXPECT(dnw_read_message(whole, sizeof whole - 2, 1) == (uint64_t)1 << 40);
+    EXPECT(dnw_read_fields(whole, sizeof whole - 1, 2) == 2 * (258 + ba));
+    EXPECT(dnw_read_fields(whole, sizeof whole - 2, 1) == 0);
     EXPECT(dnw_write_message(whole, sizeof whole - 1, 512, 2) == 2 * (sizeof whole - 1));
     EXPECT(dnw_write_message(whole, sizeof whole - 1, sizeof whole - 2, 1) == sizeof whole - 1 - 16);
     EXPECT(dnw_write_message(whole, sizeof whole - 1, 11, 1) == (uint64_t)1 << 40);

@@ -44,6 +44,21 @@ uint64_t dnw_sort(const uint8_t *names, size_t len, uint64_t count);
 /* Hashes each name by SipHash 1-3: the hashes. */
 uint64_t dnw_hash(const uint8_t *names, size_t len, uint64_t count);
 
+/* Looks each name up in a vector of all, which have to be in canonical order: the number of each, from 1. */
+uint64_t dnw_find_names(const uint8_t *names, size_t len, uint64_t count);
+
+/* Goes through a vector of the names: the sizes of the wire forms. */
+uint64_t dnw_list_names(const uint8_t *names, size_t len, uint64_t count);
+
+/* Puts the names, in canonical order, into a table of wire forms: the number of names. */
+uint64_t dnw_table_build(const uint8_t *names, size_t len, uint64_t count);
+
+/* Looks each name up in such a table, as `dnw_find_names` does. */
+uint64_t dnw_table_find(const uint8_t *names, size_t len, uint64_t count);
+
+/* Goes through such a table, as `dnw_list_names` does. */
+uint64_t dnw_table_list(const uint8_t *names, size_t len, uint64_t count);
+
 /* Takes the tokens of a text: for each token 1 and the bytes of its texts. */
 uint64_t dnw_lex(const uint8_t *text, size_t len, uint64_t count);
 
@@ -70,6 +85,10 @@ uint64_t dnw_emit_records(const uint8_t *message, size_t len, uint64_t count);
    the length and the last octet. Data that are no fields of their type are looked at up to the first that is none, which adds
    nothing. It does not allocate. */
 uint64_t dnw_read_message(const uint8_t *message, size_t len, uint64_t count);
+
+/* Reads the data of the records of a message, whose owners were read before, by their fields: what dnw_read_message adds for
+   these. If the message cannot be read, the result is 0. */
+uint64_t dnw_read_fields(const uint8_t *message, size_t len, uint64_t count);
 
 /* Writes the questions and records of a message, compressed, into a new message of at most max_size octets: its length. If the
    message cannot be read, the result is 0. */

@@ -12,9 +12,15 @@ pub enum Kind {
     Compare,
     Sort,
     Hash,
+    Find,
+    List,
+    TableBuild,
+    TableFind,
+    TableList,
     ReadRecords,
     EmitRecords,
     ReadMessage,
+    ReadFields,
     WriteMessage,
 }
 
@@ -29,6 +35,9 @@ pub struct Task {
     /// How often the task is done if its instructions are counted.
     pub few: u64,
 }
+
+/// How many names are many, as those of a large zone.
+const MANY: usize = 100_000;
 
 /// A linear congruential generator.
 struct Random(u64);
@@ -253,6 +262,22 @@ fn one_octet_labels(i: usize) -> String {
     labels.map(|label| format!("{label}.")).collect()
 }
 
+const SERVICES: [&str; 10] = ["api", "cart", "checkout", "frontend", "grafana", "ingress", "ledger", "orders", "redis", "users"];
+
+const WORDS: [&str; 11] = ["alpha", "bravo", "charlie", "delta", "echo", "foxtrot", "golf", "hotel", "india", "juliett", "kilo"];
+
+/// The names of ten mail zones: a zone, and what stands below it.
+fn mail_name(i: usize) -> String {
+    let below = ["", "mail.", "_dmarc.", "s1._domainkey."][i % 4];
+    format!("{below}customer{}.example.", i / 4)
+}
+
+/// A name for an address of the documentation's network 2001:db8::/32 (RFC 3596, section 2.5).
+fn reverse_ipv6(i: usize) -> String {
+    let digits = format!("20010db8000000010000000000{:06x}", 0x1234 + 77 * i);
+    digits.chars().rev().map(|digit| format!("{digit}.")).collect::<String>() + "ip6.arpa."
+}
+
 /// Texts with an escape in front, in the middle and everywhere.
 fn escaped() -> (Vec<u8>, Vec<u32>) {
     let lines = (0..200).map(|i| format!("\\_a{i}.example.com.\nhost{i}.ex\\-ample.com.\n\\x\\y\\z{i}.\\e\\x.com.\n"));
@@ -297,13 +322,36 @@ pub fn tasks() -> Vec<Task> {
     add("emit-127", "20 names of 127 labels, most of which are alike", Kind::Emit, numbered(20, one_octet_labels), 20, 5);
     add("emit-lower", "20 names into a new message, in lower case", Kind::EmitLower, (forms(&texts(20, 6)), vec![]), 20, 50);
     add("emit-63", "120 labels of 63 octets that end in a number", Kind::Emit, numbered(120, long), 120, 10);
+    let rack = |i| format!("r{:02}-u{:02}.dc1.example.net.", i / 5, i % 5);
+    add("emit-racks", "20 numbered racks of a data centre", Kind::Emit, numbered(20, rack), 20, 50);
+    let pod = |i| format!("10-42-{}-{}.{}.pod.cluster.local.", i % 4, 7 * i, ["default", "kube-system"][i % 2]);
+    add("emit-pods", "20 names of pods of Kubernetes", Kind::Emit, numbered(20, pod), 20, 50);
+    let service = |i| format!("_http._tcp.{}.{}.svc.cluster.local.", SERVICES[i % 10], ["shop", "monitoring"][i / 10]);
+    add("emit-services", "20 names of services of Kubernetes", Kind::Emit, numbered(20, service), 20, 50);
+    add("emit-mail", "20 names of mail zones", Kind::Emit, numbered(20, mail_name), 20, 50);
+    let policy = |i| format!("{}{i}.example.{}.rpz.example.net.", ["ads", "malware", "track"][i % 3], ["com", "org"][i % 2]);
+    add("emit-policy", "20 names of a policy zone", Kind::Emit, numbered(20, policy), 20, 50);
+    let next = |i: usize| format!("{}.example.org.", WORDS[(i + 1) / 2]);
+    add("emit-nsec", "20 names of a chain of NSEC records, each as next name and as owner", Kind::Emit, numbered(20, next), 20, 50);
+    add("emit-ip6", "20 reverse names of one IPv6 network", Kind::Emit, numbered(20, reverse_ipv6), 20, 50);
     add("clone", "1000 names into a vector with room", Kind::Clone, (names.clone(), vec![]), 1000, 5);
     add("collect", "1000 names read into a growing vector", Kind::Collect, (names.clone(), vec![]), 1000, 5);
     add("compare", "1000 names, each with the next", Kind::Compare, (names.clone(), vec![]), 1000, 5);
     add("sort", "1000 names", Kind::Sort, (names.clone(), vec![]), 1000, 5);
     add("hash", "1000 names by SipHash 1-3", Kind::Hash, (names, vec![]), 1000, 5);
+    // In canonical order, since the numbers are.
+    let host = |i| format!("host{i:06}.example.com.");
+    let many = numbered(MANY, host);
+    let each = MANY as u64;
+    add("bulk-build", "100,000 names copied into a vector with room", Kind::Clone, many.clone(), each, 1);
+    add("bulk-find", "each of 100,000 names looked up in a vector", Kind::Find, many.clone(), each, 1);
+    add("bulk-list", "100,000 names of a vector, in order", Kind::List, many.clone(), each, 1);
+    add("table-build", "100,000 names put into a table of wire forms", Kind::TableBuild, many.clone(), each, 1);
+    add("table-find", "each of 100,000 names looked up in a table", Kind::TableFind, many.clone(), each, 1);
+    add("table-list", "100,000 names of a table, in order", Kind::TableList, many, each, 1);
     add("read-records", "30 records of a response, with their names", Kind::ReadRecords, records(), 30, 100);
     add("emit-records", "30 records into a new message", Kind::EmitRecords, records(), 30, 100);
+    add("read-fields", "the data of 30 records of a response, by their fields", Kind::ReadFields, response(), 30, 200);
     let responses = [
         ("30-records", response()),
         ("mail", recorded(include_str!("../messages/mail.hex"))),

@@ -12,9 +12,15 @@ extern "C" {
     fn dnw_compare(names: *const u8, len: usize, count: u64) -> u64;
     fn dnw_sort(names: *const u8, len: usize, count: u64) -> u64;
     fn dnw_hash(names: *const u8, len: usize, count: u64) -> u64;
+    fn dnw_find_names(names: *const u8, len: usize, count: u64) -> u64;
+    fn dnw_list_names(names: *const u8, len: usize, count: u64) -> u64;
+    fn dnw_table_build(names: *const u8, len: usize, count: u64) -> u64;
+    fn dnw_table_find(names: *const u8, len: usize, count: u64) -> u64;
+    fn dnw_table_list(names: *const u8, len: usize, count: u64) -> u64;
     fn dnw_read_records(message: *const u8, len: usize, count: u64) -> u64;
     fn dnw_emit_records(message: *const u8, len: usize, count: u64) -> u64;
     fn dnw_read_message(message: *const u8, len: usize, count: u64) -> u64;
+    fn dnw_read_fields(message: *const u8, len: usize, count: u64) -> u64;
     fn dnw_write_message(message: *const u8, len: usize, max_size: u16, count: u64) -> u64;
 }
 
@@ -33,9 +39,15 @@ pub fn run(task: &Task, count: u64) -> u64 {
             Kind::Compare => dnw_compare(bytes, len, count),
             Kind::Sort => dnw_sort(bytes, len, count),
             Kind::Hash => dnw_hash(bytes, len, count),
+            Kind::Find => dnw_find_names(bytes, len, count),
+            Kind::List => dnw_list_names(bytes, len, count),
+            Kind::TableBuild => dnw_table_build(bytes, len, count),
+            Kind::TableFind => dnw_table_find(bytes, len, count),
+            Kind::TableList => dnw_table_list(bytes, len, count),
             Kind::ReadRecords => dnw_read_records(bytes, len, count),
             Kind::EmitRecords => dnw_emit_records(bytes, len, count),
             Kind::ReadMessage => dnw_read_message(bytes, len, count),
+            Kind::ReadFields => dnw_read_fields(bytes, len, count),
             Kind::WriteMessage => dnw_write_message(bytes, len, u16::MAX, count),
         }
     }

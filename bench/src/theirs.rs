@@ -4,8 +4,8 @@ use crate::inputs::{Kind, Task};
 use std::collections::hash_map::DefaultHasher;
 use std::hash::{Hash, Hasher};
 use trust_dns_proto::op::Message;
-use trust_dns_proto::rr::{Name, RData, Record};
-use trust_dns_proto::serialize::binary::{BinDecodable, BinDecoder, BinEncodable, BinEncoder};
+use trust_dns_proto::rr::{Name, RData, Record, RecordType};
+use trust_dns_proto::serialize::binary::{BinDecodable, BinDecoder, BinEncodable, BinEncoder, Restrict};
 
 const REFUSED: u64 = 1 << 40;
 
@@ -28,7 +28,8 @@ pub fn run(task: &Task, count: u64) -> u64 {
             let names = names_of(&task.bytes);
             repeat(count, || sum(black_box(&names), |n| black_box(n.to_ascii()).len() as u64))
         }
-        Kind::Clone => {
+        // It has no table, so a vector stands for it.
+        Kind::Clone | Kind::TableBuild => {
             let names = names_of(&task.bytes);
             repeat(count, || clone_each(black_box(&names)).len() as u64)
         }
@@ -45,12 +46,24 @@ pub fn run(task: &Task, count: u64) -> u64 {
             let names = names_of(&task.bytes);
             repeat(count, || sum(black_box(&names), hash))
         }
+        Kind::Find | Kind::TableFind => {
+            let names = names_of(&task.bytes);
+            repeat(count, || find_each(black_box(&names)))
+        }
+        Kind::List | Kind::TableList => {
+            let names = names_of(&task.bytes);
+            repeat(count, || sum(black_box(&names), encoded))
+        }
         Kind::ReadRecords => repeat(count, || after_header(black_box(&task.bytes)).map(|r| size(&r)).sum()),
         Kind::EmitRecords => {
             let records: Vec<Record> = after_header(&task.bytes).collect();
             repeat(count, || emit_records(black_box(&records)))
         }
         Kind::ReadMessage => repeat(count, || read_message(black_box(&task.bytes))),
+        Kind::ReadFields => {
+            let places = data_places(&task.bytes);
+            repeat(count, || read_fields(black_box(&task.bytes), black_box(&places)))
+        }
         Kind::WriteMessage => {
             let message = Message::from_vec(&task.bytes).expect("a message");
             repeat(count, || black_box(black_box(&message).to_vec().expect("room")).len() as u64)
@@ -100,6 +113,10 @@ fn sort_all(names: &[Name]) -> u64 {
     let mut sorted: Vec<&Name> = names.iter().collect();
     sorted.sort();
     sorted.iter().zip(1..).fold(0, |all, (name, rank)| all.wrapping_add(rank * encoded(name)))
+}
+
+fn find_each(names: &[Name]) -> u64 {
+    sum(names, |name| names.binary_search(name).map_or(REFUSED, |index| index as u64 + 1))
 }
 
 fn hash(name: &Name) -> u64 {
@@ -155,6 +172,31 @@ fn read_message(octets: &[u8]) -> u64 {
     });
     let records = message.answers().iter().chain(message.name_servers()).chain(message.additionals());
     header + queries + records.map(record_size).sum::<u64>()
+}
+
+/// Where the data of each record of a message begin, their type, and how many octets they have.
+fn data_places(octets: &[u8]) -> Vec<(u16, RecordType, u16)> {
+    let mut decoder = BinDecoder::new(octets);
+    decoder.read_slice(12).expect("a header");
+    Name::read(&mut decoder).expect("a question");
+    decoder.read_slice(4).expect("its type and class");
+    let mut places = vec![];
+    while !decoder.is_empty() {
+        Name::read(&mut decoder).expect("an owner");
+        let kind = RecordType::read(&mut decoder).expect("a type");
+        decoder.read_slice(6).expect("a class and a time to live");
+        let len = decoder.read_u16().expect("a length").unverified();
+        places.push((decoder.index() as u16, kind, len));
+        decoder.read_slice(len as usize).expect("data");
+    }
+    places
+}
+
+fn read_fields(octets: &[u8], places: &[(u16, RecordType, u16)]) -> u64 {
+    let message = BinDecoder::new(octets);
+    sum(places, |(start, kind, len)| {
+        RData::read(&mut message.clone(*start), *kind, Restrict::new(*len)).map_or(REFUSED, |data| data_size(&data))
+    })
 }
 
 fn record_size(record: &Record) -> u64 {

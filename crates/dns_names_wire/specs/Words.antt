@@ -165,6 +165,7 @@ pub use Rattle.dnw_message_writer.specs.ReadBack.{IsReadAs, QueryIsRead}
 pub use Rattle.dnw_message_writer.specs.ReadRecords.{RecordIsRead, RecordStands as RecordIsThere}
 pub use Rattle.dnw_message_writer.specs.WriterLaws.{EdnsComesBack, MessagesAreWritten, MessagesEndWith, MessagesHaveEdns, ReadingNeverFails, WrittenMessagesAreRead}
 pub use Rattle.dnw_message_writer.specs.Writers.{BeginsWith, Finishes, draft, last_of, lent}
+pub use Rattle.dnw_message_writer.specs.Replies.{BeginsReply}
 pub use Rattle.dnw_message_writer.specs.Written.{Contents, Written, WrittenWith, contents_from, counts_of, ending_with, header_for, most_pointers, nothing}
 pub use Rattle.dnw_message_writer.specs.Copies.{AddsCopies, AddsItems, FailsCopies, FailsCopy, FailsCopyOf, IsAmong, IsCopied, IsEntryOf, IsLastOf, IsSettled}
 pub use Rattle.dnw_message_writer.specs.Copies.{FailsToBegin, WrittenBefore, last_size, plain_in, query_entry}

@@ -21,6 +21,7 @@ use std::alloc::{AllocError, Global};
 use std::cmp::Ordering;
 use std::hash::{DefaultHasher, Hash, Hasher};
 
+mod bulk;
 mod messages;
 
 /// What a failure adds.
@@ -301,6 +302,22 @@ pub extern "C" fn dnw_read_message(msg: &[u8], count: u64) -> u64
             Ok(size) => size,
             Err(_) => FAILURE,
         });
+    }
+    sum
+}
+
+/// Reads the fields of the data of a message's records, whose owners are passed before: as `dnw_read_message` adds them up. If
+/// the message can't be read, the result is 0.
+#[unsafe(no_mangle)]
+pub extern "C" fn dnw_read_fields(alloc: Global, msg: &[u8], count: u64) -> u64
+    ensures idle { count ≡ 0 → result ≡ 0 }
+{
+    let Some(records) = messages::records_of(alloc, msg) else {
+        return 0;
+    };
+    let mut sum = 0u64;
+    for _round in 0..count {
+        sum = sum.wrapping_add(messages::read_fields(records.as_slice()));
     }
     sum
 }

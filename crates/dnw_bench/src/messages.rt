@@ -63,6 +63,31 @@ fn record_size(record: &RecordRef<'_>) -> u64 {
         .wrapping_add(fields_size(&mut record.fields()))
 }
 
+/// Returns the records of a message, section by section, or `None` if it can't be read.
+pub(crate) fn records_of<'m>(alloc: Global, msg: &'m [u8]) -> Option<Vec<RecordRef<'m>>> {
+    let Ok(message) = MessageRef::read(msg) else {
+        return None;
+    };
+    let mut found = Vec::new(alloc);
+    for section in [message.answers(), message.authorities(), message.additionals()] {
+        for record in section {
+            if found.push(record).is_err() {
+                return None;
+            }
+        }
+    }
+    Some(found)
+}
+
+/// Reads the fields of the data of these records, and looks at each.
+pub(crate) fn read_fields(records: &[RecordRef<'_>]) -> u64 {
+    let mut sum = 0u64;
+    for record in records {
+        sum = sum.wrapping_add(fields_size(&mut record.fields()));
+    }
+    sum
+}
+
 fn fields_size<'r>(fields: &mut Fields<'r>) -> u64 {
     let mut sum = 0u64;
     for _ in 0..MAX_FIELDS {

@@ -15,7 +15,7 @@ use Rattle.dnw_failure.specs.Failures.{of_proto}
 use Rattle.dnw_failure.specs.declared.failure.Failure.{Failure}
 use Rattle.dnw_c.specs.MessageItems.{Item, Bytes, Name, Record, RecordOfName, EmitsItem, FailsToCopyOf, TakesOf, TakesItem, WritesItems, none, more}
 use Rattle.dnw_c.proofs.Starts.{takes-onward, takes-within}
-use Rattle.dnw_c.proofs.RecordEnds.{record-own}
+use Rattle.dnw_record.proofs.Reading.{record-own}
 
 -- an item that is written at the buffer's end ends there
 pub item_ends : (item : Item) (v w : Encoder) → v.offset ≡ length v.bytes → EmitsItem item v (Ok tt) w → w.offset ≡ length w.bytes

@@ -1,8 +1,7 @@
 -- Where the octets of a name end.
-use Rattle.std.proofs.Common.{◌≡◌, ℕ, ◌+◌, ◌-◌, ◌<◌, ◌≤◌, List, length, ◌∙◌, ap, subst, arith}
+use Rattle.std.proofs.Common.{◌≡◌, ℕ, ◌+◌, ◌-◌, ◌≤◌, List, subst, arith}
 use Rattle.dnw_reading.specs.Reading.{NameAt}
 use Rattle.dnw_reading.proofs.Counts.{Reads-own}
-use Rattle.dnw_record.specs.Records.{RecordAt, RecordValue}
 
 -- after they begin
 pub ends-after : {b : List ℕ} {p e k : ℕ} {ls : List (List ℕ)} → NameAt b p ls e k → p ≤ e
@@ -16,11 +15,3 @@ ends-there {b} {p} {e} {k} {n} {ls} at few =
     let le = ends-after at in
     let same : e ≡ p + n = omega (arith, le, few) in
     subst (λ end. NameAt b p ls end k) same at
-
--- A record has octets of its own, which are within the message.
-pub record-own : {b : List ℕ} {p e : ℕ} {r : RecordValue} → RecordAt b p r e → (p < e) × (e ≤ length b)
-record-own {b} {p} {e} at =
-    let (further, inside) = Reads-own at.owner_read.reads in
-    let end = at.ends ∙ ap (λ (r : RecordValue). r.start + r.len) at.is in
-    let rest = at.rest in
-    (omega (arith, further, end, rest), omega (arith, end, rest))

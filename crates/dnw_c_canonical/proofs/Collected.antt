@@ -4,7 +4,7 @@ use Rattle.std.proofs.lemmas.List.{append-nil}
 use Rattle.dnw_base.specs.Decoder.{Decoder}
 use Rattle.dnw_failure.specs.declared.failure.Failure.{Failure}
 use Rattle.dnw_rdata.specs.declared.record.Record.{Record}
-use Rattle.dnw_reading.proofs.Counts.{Reads-own}
+use Rattle.dnw_record.proofs.Reading.{record-own}
 use Rattle.dnw_record.specs.Records.{RecordAt, RecordValue, TakesRecord}
 use Rattle.dnw_c_canonical.specs.SigningCalls.{Collects, FailsToCollect, FailsToCollectNext, Selects, none, next}
 use Rattle.dnw_c_canonical.specs.declared.covering.Rrsig.{Rrsig}
@@ -14,14 +14,6 @@ pub record IsCollecting (rrsig : Rrsig) (message : List ℕ) (start : ℕ) (d : 
   pub same : d.bytes ≡ message
   pub within : d.index ≤ length message
   pub rest : (more : List Record) (e : ℕ) → Collects rrsig message d.index more e → Collects rrsig message start (copies ++ more) e
-
--- a record has octets of its own, which are within the message
-pub record-own : {b : List ℕ} {p e : ℕ} {r : RecordValue} → RecordAt b p r e → (p < e) × (e ≤ length b)
-record-own {b} {p} {e} at =
-    let (further, inside) = Reads-own at.owner_read.reads in
-    let end = at.ends ∙ ap (λ (r : RecordValue). r.start + r.len) at.is in
-    let rest = at.rest in
-    (omega (arith, further, end, rest), omega (arith, end, rest))
 
 -- so a decoder that takes one goes on, within the message
 pub takes-on : {d after : Decoder} {r : RecordValue} → TakesRecord d r after → (d.index < after.index) × (after.index ≤ length d.bytes)

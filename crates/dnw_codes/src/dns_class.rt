@@ -5,7 +5,7 @@ ghost use Rattle.std.specs.Str.{str_eq_ignore_ascii_case};
 ghost use Rattle.dnw_codes.specs.DnsClasses.{class_code, class_name, class_of_code, class_text, class_of_text, class_rank, class_number, class_of_name, find_class, class_cmp, min_payload};
 
 use crate::code_text::{CodeText, code_after, is_alike, named, numbered};
-use crate::table::of_table;
+use crate::of_table;
 use std::cmp::Ordering;
 use std::fmt;
 use std::hash::{Hash, Hasher};

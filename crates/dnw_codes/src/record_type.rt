@@ -5,7 +5,7 @@ ghost use Rattle.std.specs.Str.{str_eq_ignore_ascii_case};
 ghost use Rattle.dnw_codes.specs.RecordTypes.{type_code, type_name, type_of_code, type_text, type_of_text, find_named, type_of_name, type_cmp, is_unknown, is_written, is_dnssec};
 
 use crate::code_text::{CodeText, code_after, is_alike, named, numbered};
-use crate::table::of_table;
+use crate::of_table;
 use std::cmp::Ordering;
 use std::fmt;
 use std::hash::{Hash, Hasher};

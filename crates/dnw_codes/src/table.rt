@@ -1,4 +1,4 @@
-//! Tables of codes.
+//! Tables of codes, of this crate and of those above it.
 
 /// What a table says, which is written once as `Type { Variant = code, .. }`:
 ///
@@ -6,6 +6,7 @@
 /// - `code_of x, arms`: the code of the variant `x`; what is not in the table has an arm;
 /// - `name_of x, arms`: its name in text, which is the variant's own;
 /// - `all`: the variants, in the table's order.
+#[macro_export]
 macro_rules! of_table {
     ($type:ident { $($variant:ident = $code:literal,)* } by_code $value:expr) => {
         match $value {
@@ -29,5 +30,3 @@ macro_rules! of_table {
         [$($type::$variant,)*]
     };
 }
-
-pub(crate) use of_table;

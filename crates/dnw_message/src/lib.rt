@@ -13,4 +13,3 @@ pub mod op_code;
 mod passing;
 pub mod query;
 pub mod response_code;
-mod table;

@@ -2,7 +2,7 @@
 ghost use Rattle.std.specs.Prelude.{◌≡◌};
 ghost use Rattle.dnw_message.specs.OpCodes.{op_entry, op_code, op_of_code};
 
-use crate::table::of_table;
+use dnw_codes::of_table;
 
 /// What a message asks for (RFC 6895, section 2.2).
 ///

@@ -2,7 +2,7 @@
 ghost use Rattle.std.specs.Prelude.{◌≡◌};
 ghost use Rattle.dnw_message.specs.ResponseCodes.{response_entry, response_code, response_of_code};
 
-use crate::table::of_table;
+use dnw_codes::of_table;
 
 /// How a request went (RFC 6895, section 2.3).
 ///

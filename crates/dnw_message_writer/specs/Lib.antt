@@ -8,4 +8,5 @@ pub mod ReadBack
 pub mod Copies
 pub mod WireEdns
 pub mod Writers
+pub mod Replies
 pub mod WriterLaws

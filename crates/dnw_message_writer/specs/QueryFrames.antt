@@ -1,17 +1,14 @@
 -- Writing a question keeps the frame of `emit`.
-use Rattle.std.proofs.Common.{◌≡◌, length, Ok, Err, sym, ◌∙◌, subst, arith}
+use Rattle.std.proofs.Common.{◌≡◌, length, Ok, Err, sym, subst}
 use Rattle.std.specs.Int.{w16, to_be_bytes}
 use Rattle.dnw_codes.specs.RecordTypes.{type_code}
 use Rattle.dnw_codes.specs.DnsClasses.{class_code}
 use Rattle.dnw_encoder.specs.Encoder.{Encoder, Writes}
 use Rattle.dnw_encoder.specs.Emitting.{Outcome, Frame}
 use Rattle.dnw_encoder.specs.EmittedName.{EmitsName}
-use Rattle.dnw_encoder.specs.EmittingLaws.{candidates_before-twice, frame}
-use Rattle.dnw_encoder.specs.Marks.{mark_of, rewound}
-use Rattle.std.proofs.lemmas.List.{take-take}
-use Rattle.dnw_error.specs.declared.error.ProtoError.{ProtoError}
+use Rattle.dnw_encoder.specs.EmittingLaws.{frame}
 use Rattle.dnw_encoder.specs.NameFrames.{frame-name}
-use Rattle.dnw_record.specs.RecordFrames.{KeepsFrame, frame-then}
+use Rattle.dnw_record.specs.RecordFrames.{KeepsFrame, frame-rewound, frame-then}
 use Rattle.dnw_message_writer.specs.declared.query.WireQuery.{WireQuery}
 use Rattle.dnw_message_writer.specs.WireQueries.{EmitsQuery, EmitsQueryFields}
 
@@ -21,19 +18,6 @@ frame-query_fields q =
     let class = to_be_bytes w16 (class_code q.query_class) in
     let rest = frame-then (λ v. Writes v kind) (λ v. Writes v class) (λ v outcome w e h. frame v kind outcome w e h) (λ v outcome w e h. frame v class outcome w e h) in
     frame-then (EmitsName q.name) _ (λ v outcome w e h. frame-name q.name v outcome w e h) rest
-
-frame-rewound : (v u : Encoder) (error : ProtoError) → Frame v (Err error) u → Frame v (Err error) (rewound u (mark_of v))
-frame-rewound v u error f =
-    record {
-      bytes = take-take v.offset v.offset u.bytes (omega arith) ∙ f.bytes;
-      candidates = candidates_before-twice v.offset v.offset u.candidates (omega arith) ∙ f.candidates;
-      encoding = f.encoding;
-      canonical = f.canonical;
-      max_size = f.max_size;
-      candidate_limit = f.candidate_limit;
-      name_limit = f.name_limit;
-      ends = tt;
-    }
 
 pub frame-query : (q : WireQuery) (v : Encoder) (outcome : Outcome) (w : Encoder) → v.offset ≡ length v.bytes → EmitsQuery q v outcome w → Frame v outcome w
 frame-query q v (Ok tt) w e h = frame-query_fields q v (Ok tt) w e h.1

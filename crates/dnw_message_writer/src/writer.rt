@@ -22,6 +22,7 @@ use std::alloc::Global;
 
 mod copying;
 mod one_by_one;
+mod replying;
 mod sets;
 
 pub use crate::section::AddError;

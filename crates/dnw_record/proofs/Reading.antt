@@ -1,5 +1,5 @@
 -- At each place there is one record at most, or one error.
-use Rattle.std.proofs.Common.{◌≡◌, ◌≢◌, ℕ, ◌+◌, ◌-◌, ◌≤◌, List, length, Result, Ok, Err, IfOk, true, inl, inr, sym, ap, ◌∙◌, subst, arith, zero-add}
+use Rattle.std.proofs.Common.{◌≡◌, ◌≢◌, ℕ, ◌+◌, ◌-◌, ◌<◌, ◌≤◌, List, length, Result, Ok, Err, IfOk, true, inl, inr, sym, ap, ◌∙◌, subst, arith, zero-add}
 use Rattle.std.specs.Prelude.{⊤}
 use Rattle.dnw_base.specs.Decoder.{Decoder, Takes}
 use Rattle.dnw_base.proofs.DecoderReads.{Takes-enough}
@@ -28,6 +28,14 @@ RecordAt-unique b p r r' e e' h h' =
     let (labels, ends, _) = Reads-unique h.owner_read.reads h'.owner_read.reads in
     let same : r ≡ r' = h.is ∙ (ap (λ ls. record_of b ls h.owner_end) labels ∙ ap (record_of b h'.labels) ends) ∙ sym h'.is in
     (same, h.ends ∙ ap (λ (x : RecordValue). x.start + x.len) same ∙ sym h'.ends)
+
+-- A record has octets of its own, which are within the message.
+pub record-own : {b : List ℕ} {p e : ℕ} {r : RecordValue} → RecordAt b p r e → (p < e) × (e ≤ length b)
+record-own {b} {p} {e} at =
+    let (further, inside) = Reads-own at.owner_read.reads in
+    let end = at.ends ∙ ap (λ (r : RecordValue). r.start + r.len) at.is in
+    let rest = at.rest in
+    (omega (arith, further, end, rest), omega (arith, end, rest))
 
 pub TakesRecord-unique : (d : Decoder) (r r' : RecordValue) (after after' : Decoder) → TakesRecord d r after → TakesRecord d r' after' → (r ≡ r') × (after ≡ after')
 TakesRecord-unique d r r' after after' h h' =

@@ -254,12 +254,7 @@ fn a_response_with_edns(rt: HostRuntime) -> Result<(), Fail> {
     metadata.authoritative = true;
     let mut bytes = Vec::new(alloc);
     let mut writer = MessageWriter::with_last(&mut bytes, metadata, 512, EDNS.to_record(alloc)?)?;
-    let question = request.queries().next().unwrap();
-    assert!(rt;
-        writer
-            .add_query(&WireQuery::from_message(alloc, &question)?)
-            .is_ok()
-    );
+    writer.add_queries_of(alloc, &request)?;
     assert!(rt;
         writer
             .add_answer(&server(alloc, "example.com.", 3600, "ns1.example.com.")?)
@@ -267,6 +262,33 @@ fn a_response_with_edns(rt: HostRuntime) -> Result<(), Fail> {
     );
     let response = hex::decode(alloc, RESPONSE)?;
     assert_eq!(rt; writer.finish()?.as_slice(), response.as_slice());
+    Ok(())
+}
+
+#[test]
+fn a_reply_has_the_questions_that_have_room(rt: HostRuntime) -> Result<(), Fail> {
+    let alloc = rt.alloc();
+    // STATUS with RD and CD, and the questions a. A IN, b.a. NS IN.
+    let octets = hex::decode(alloc, "abcd11100002000000000000016100000100010162c00c00020001")?;
+    let request = MessageRef::read(octets.as_slice())?;
+    // QR is set, and the second question begins at 19.
+    for (max_size, reply) in [
+        (512, "abcd91100002000000000000016100000100010162c00c00020001"),
+        (27, "abcd91100002000000000000016100000100010162c00c00020001"),
+        (26, "abcd9110000100000000000001610000010001"),
+        (12, "abcd91100000000000000000"),
+    ] {
+        let mut bytes = Vec::new(alloc);
+        let writer = MessageWriter::reply_to(alloc, &mut bytes, &request, max_size)?;
+        assert_eq!(rt; writer.finish()?.as_slice(), hex::decode(alloc, reply)?.as_slice());
+    }
+    let mut bytes = Vec::new(alloc);
+    assert!(rt;
+        matches!(
+            MessageWriter::reply_to(alloc, &mut bytes, &request, 11),
+            Err(ProtoError::MaxBufferSizeExceeded(11))
+        )
+    );
     Ok(())
 }
 

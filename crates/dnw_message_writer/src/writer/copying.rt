@@ -165,7 +165,7 @@ fn begin_before(
 }
 
 /// Adds copies of questions.
-fn copy_queries(
+pub(super) fn copy_queries(
     alloc: Global,
     encoder: &mut BinEncoder<'_>,
     header: &mut Header,
