@@ -15,7 +15,7 @@ use Rattle.dnw_base.proofs.Wires.{wire-cons, length-wire}
 use Rattle.dnw_reading.proofs.Behind.{here, StandsAt-reads}
 
 -- a part is its front and the rest
-slice_range-split : (b : List ℕ) (i j k : ℕ) → i ≤ j → j ≤ k → slice_range b i k ≡ slice_range b i j ++ slice_range b j k
+pub slice_range-split : (b : List ℕ) (i j k : ℕ) → i ≤ j → j ≤ k → slice_range b i k ≡ slice_range b i j ++ slice_range b j k
 slice_range-split b i j k first second = grind (arith, common_steps, take-add (j - i) (k - j) (drop i b), drop-drop (j - i) i b)
 
 -- and its first octet and the rest
@@ -51,37 +51,47 @@ LiesAt-plain {b} {p} {size} h whole =
     (omega arith, rw end_is at form)
 
 -- the copy of a name begins
-pub Copies-start : (b : List ℕ) (p end size count pointers : ℕ) → StandsAt b p end size count pointers → Copies b p p p []
-Copies-start b p end size count pointers h =
-    let fits = h.name.fits in
-    record {
-      segment = p;
-      on = StandsAt-reads b p end size count pointers h;
-      order = omega arith;
-      back = omega arith;
-      whole = rw between_none refl;
-      short = omega (arith, length-wire (labels_at b p));
-    }
+pub Copies-start : {b : List ℕ} {p end size count pointers : ℕ} (out : List ℕ) → StandsAt b p end size count pointers → Copies b p p p out out 0
+Copies-start {b} {p} {end} {size} {count} {pointers} out h = record {
+  segment = p;
+  on = StandsAt-reads b p end size count pointers h;
+  order = omega arith;
+  back = omega arith;
+  written = [];
+  whole = rw between_none refl;
+  size = refl;
+  is = refl;
+}
 
-module _ {b : List ℕ} {start run p : ℕ} {written : List ℕ} (h : Copies b start run p written) where
+module _ {b : List ℕ} {start run p : ℕ} {buffer out : List ℕ} {filled : ℕ} (h : Copies b start run p buffer out filled) where
   -- the run that is still to be written
-  pub Copies-run : length (slice_range b run p) ≡ p - run
+  Copies-run : length (slice_range b run p) ≡ p - run
   Copies-run = length-between b run p (omega (arith, h.on.inside))
 
   -- what is written and what is not make the whole form
-  pub Copies-size : length written + (p - run) + length (wire (labels_at b p)) ≡ length (wire (labels_at b start))
+  pub Copies-size : filled + (p - run) + length (wire (labels_at b p)) ≡ length (wire (labels_at b start))
   Copies-size =
-      omega (arith, ap length h.whole, Copies-run, length-append written (slice_range b run p ++ wire (labels_at b p)), length-append (slice_range b run p) (wire (labels_at b p)))
+      omega (arith, h.size, ap length h.whole, Copies-run, length-append h.written (slice_range b run p ++ wire (labels_at b p)), length-append (slice_range b run p) (wire (labels_at b p)))
+
+  -- one more run is put after what is written
+  put_more : (after more : List ℕ) → after ≡ take filled out ++ (more ++ drop (filled + length more) out) → after ≡ put buffer (h.written ++ more)
+  put_more after more is =
+      let n : ℕ = length h.written in
+      let back = drop-append-drop n buffer h.written (n + length more) (omega arith) refl in
+      is ∙ rw (h.is, h.size, take_at h.written (drop n buffer) n refl, back, length-append, append_assoc) refl
 
   -- the last run ends with the zero
-  pub Copies-end : get_or b p 0 ≡ 0 → written ++ slice_range b run (p + 1) ≡ wire (labels_at b start)
-  Copies-end z =
+  pub Copies-end : (after : List ℕ) → get_or b p 0 ≡ 0
+      → after ≡ take filled out ++ (slice_range b run (p + 1) ++ drop (filled + length (slice_range b run (p + 1))) out)
+      → after ≡ put buffer (wire (labels_at b start))
+  Copies-end after z is =
       let none : labels_at b p ≡ [] = (here h.on).end z in
       let last : slice_range b p (p + 1) ≡ 0 ∷ [] = rw (slice_range-cons b p (p + 1) h.on.inside (omega arith), z, between_none) refl in
-      rw (slice_range-split b run p (p + 1) h.order (omega arith), last) (rw none at h.whole)
+      let run_is = slice_range-split b run p (p + 1) h.order (omega arith) in
+      put_more after _ is ∙ ap (put buffer) (rw (run_is, last) (rw none at h.whole))
 
   -- a label is passed
-  pub Copies-label : (get_or b p 0 ≡ 0 → ⊥) → get_or b p 0 < 192 → Copies b start run (p + 1 + get_or b p 0) written
+  pub Copies-label : (get_or b p 0 ≡ 0 → ⊥) → get_or b p 0 < 192 → Copies b start run (p + 1 + get_or b p 0) buffer out filled
   Copies-label ne less =
       let label = (here h.on).label ne less in
       let c : ℕ = get_or b p 0 in
@@ -91,34 +101,34 @@ module _ {b : List ℕ} {start run p : ℕ} {written : List ℕ} (h : Copies b s
         on = label.on;
         order = omega (arith, h.order);
         back = h.back;
+        written = h.written;
         whole = rw (slice_range-split b run p (p + 1 + c) h.order (omega arith), append_assoc, form) (rw label.labels at h.whole);
-        short = h.short;
+        size = h.size;
+        is = h.is;
       }
 
   -- a pointer is followed, and the run before it is written
-  pub Copies-pointer : (to : ℕ) → to ≡ target (get_or b p 0) (get_or b (p + 1) 0) → 192 ≤ get_or b p 0
-      → Copies b start to to (written ++ slice_range b run p)
-  Copies-pointer to leads marked =
-      let pointer = rw (← leads) at ((here h.on).pointer marked) in
+  pub Copies-pointer : (to : ℕ) (after : List ℕ) → to ≡ target (get_or b p 0) (get_or b (p + 1) 0) → 192 ≤ get_or b p 0
+      → after ≡ take filled out ++ (slice_range b run p ++ drop (filled + length (slice_range b run p)) out)
+      → Copies b start to to buffer after (filled + (p - run))
+  Copies-pointer to after to_is high is =
+      let pointer = rw (← to_is) at ((here h.on).pointer high) in
       record {
         segment = to;
         on = pointer.on;
         order = omega arith;
         back = omega arith;
-        whole = rw (between_none, pointer.labels) (append_assoc written (slice_range b run p) (wire (labels_at b p)) ∙ h.whole);
-        short = h.short;
+        written = h.written ++ slice_range b run p;
+        whole = rw (between_none, pointer.labels) (append_assoc h.written (slice_range b run p) (wire (labels_at b p)) ∙ h.whole);
+        size = omega (arith, h.size, Copies-run, length-append h.written (slice_range b run p));
+        is = put_more after _ is;
       }
-
--- one more run is put after what is written
-pub put_more : (buffer out after written run : List ℕ) (filled : ℕ) → filled ≡ length written → out ≡ put buffer written
-    → after ≡ take filled out ++ (run ++ drop (filled + length run) out) → after ≡ put buffer (written ++ run)
-put_more buffer out after written run filled size is more =
-    let back : drop (length written + length run) (written ++ drop (length written) buffer) ≡ drop (length written + length run) buffer =
-    drop-append-drop (length written) buffer written (length written + length run) (omega arith) refl in
-    more ∙ rw (is, size, take_at written (drop (length written) buffer) (length written) refl, back, length-append, append_assoc) refl
 
 -- what is taken of a buffer that a wire form was put into
 pub wire_taken : (ls : List (List ℕ)) (size : ℕ) (buffer out : List ℕ) → size ≡ encoded_size ls → out ≡ put buffer (wire ls) → take size out ≡ wire ls
 wire_taken ls size buffer out size_is is =
     let all : length (wire ls) ≡ size = omega (arith, size_is, length-wire ls) in
     ap (take size) is ∙ take_at (wire ls) (drop (length (wire ls)) buffer) size all
+
+-- how a copy begins, goes on and ends
+pub ruleset copying = (Copies-start, Copies-end, Copies-label, Copies-pointer)

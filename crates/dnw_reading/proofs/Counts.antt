@@ -9,7 +9,7 @@ use Rattle.dnw_base.specs.Names.{AreLabels}
 use Rattle.dnw_base.proofs.Wires.{AreLabels-few}
 use Rattle.dnw_error.specs.declared.error.DecodeError.{DecodeError}
 use Rattle.dnw_reading.specs.Reading.{target, Reads, Stops, NameAt, zero_octet, label, pointer}
-use Rattle.dnw_reading.specs.ReadingLaws.{AreBytes, NameSteps, FaultSteps}
+use Rattle.dnw_reading.specs.ReadingLaws.{AreBytes, NameSteps, FaultSteps, OwnOctets}
 
 -- the octets of labels in a message, without the closing zero
 abbrev pub octets : List (List ℕ) → ℕ
@@ -83,3 +83,6 @@ name_steps b p ls e k bytes name = (Reads-pointers bytes name.reads, AreLabels-f
 pub fault_steps : FaultSteps
 fault_steps b p error k j bytes fault =
     let (followed, found) = Stops-counts bytes (omega arith) fault in (followed, omega arith)
+
+pub own_octets : OwnOctets
+own_octets b p ls e k name = let (after, inside) = Reads-own name.reads in (after, inside, NameAt-labels name)

@@ -4,7 +4,7 @@ use Rattle.std.proofs.lemmas.List.{take-append-le, drop-append-le, append-nil}
 use Rattle.std.proofs.lemmas.Grind.{common_steps}
 use Rattle.std.proofs.lemmas.Option.{gets, slice_get_within}
 use Rattle.dnw_reading.specs.Reading.{IsWithin, target, Reads, zero_octet, label, pointer}
-use Rattle.dnw_reading.specs.ReadingLaws.{IsNoTighter}
+use Rattle.dnw_reading.specs.ReadingLaws.{IsNoTighter, StandsBefore, StandsWider}
 
 -- an octet stays at its offset
 slice_get-append : (b more : List ℕ) (p c : ℕ) → slice_get b p ≡ Some c → slice_get (b ++ more) p ≡ Some c
@@ -50,3 +50,9 @@ pub Reads-wider : {b : List ℕ} {p s e k : ℕ} {limit : Option ℕ} {ls : List
     → s ≤ t → IsNoTighter limit wider → Reads b p s limit ls e k → Reads b p t wider ls e k
 Reads-wider {limit} t wider larger h r =
     rw append-nil at (Reads-stands [] t wider larger (λ q inside w. IsWithin-wider q limit wider h w) r)
+
+pub stands_before : StandsBefore
+stands_before b more p s limit ls e k = Reads-append more
+
+pub stands_wider : StandsWider
+stands_wider b p s t limit wider ls e k = Reads-wider t wider

@@ -1,10 +1,10 @@
 -- One step of a reading: what the octets at a position, in a segment with a limit, lead to. Each reading and each fault begins
 -- with it. To take a reading apart where the octet is known, name the step: `Reads-by (step-zero b p s limit w g) r` is
 -- (ls ≡ []) × (e ≡ p + 1) × (k ≡ 0), and at `step-label` and `step-pointer` it gives the reading of what follows.
-use Rattle.std.proofs.Common.{◌≡◌, ℕ, zero, suc, ◌+◌, ◌-◌, ◌<◌, ◌≤◌, cond, eqb, leb, ltb, Option, Some, None, List, [], ◌∷◌, length, slice_get, slice_range, refl, sym, ◌∙◌, arith, le-leb, lt-ltb, le-ltb}
+use Rattle.std.proofs.Common.{◌≡◌, ℕ, zero, suc, ◌+◌, ◌-◌, ◌<◌, ◌≤◌, cond, eqb, leb, ltb, Option, Some, None, List, [], ◌∷◌, length, get_or, slice_get, slice_range, refl, sym, ◌∙◌, arith, le-leb, lt-ltb, le-ltb}
 use Rattle.std.specs.Prelude.{option_map}
 use Rattle.std.proofs.lemmas.Bool.{lt-leb, ne_eqb}
-use Rattle.std.proofs.lemmas.Option.{slice_get_past}
+use Rattle.std.proofs.lemmas.Option.{gets, slice_get_past, slice_get-get_or}
 use Rattle.dnw_error.specs.declared.error.DecodeError.{DecodeError}
 use Rattle.dnw_error.specs.declared.error.DecodeError.TheVariants.{LabelOverlapsWithOther, InsufficientBytes, PointerNotPriorToLabel, DomainNameTooLong, UnrecognizedLabelCode}
 use Rattle.dnw_reading.specs.Inside.Walking.{IsPointerAt}
@@ -141,3 +141,15 @@ pub Stops-jump : {b : List ℕ} {p s t n k j : ℕ} {limit : Option ℕ} {error 
     → Stops b t t (Some s) n error k j → Stops b p s limit n error (suc k) j
 Stops-jump {s} w at f =
     pointer at.high at.low w at.first at.marked at.second (rw at.leads at at.prior) (rw at.leads at f)
+
+-- what is left of the message ends within a label or a pointer
+pub short_label : {b : List ℕ} {p s n : ℕ} {limit : Option ℕ} → IsWithin p limit → 1 ≤ get_or b p 0 → get_or b p 0 ≤ 63
+    → length b - p ≤ get_or b p 0 → p < length b → Stops b p s limit n InsufficientBytes 0 0
+short_label {b} {p} w one most cut inside = cut_label (get_or b p 0) w (slice_get-get_or b p 0 inside) one most (omega arith)
+
+pub short_pointer : {b : List ℕ} {p s n : ℕ} {limit : Option ℕ} → IsWithin p limit → 192 ≤ get_or b p 0
+    → length b - p ≤ 1 → p < length b → Stops b p s limit n InsufficientBytes 0 0
+short_pointer {b} {p} w least cut inside = half_pointer (get_or b p 0) w (slice_get-get_or b p 0 inside) least (omega arith)
+
+-- the reasons for which reading stops at once
+pub ruleset stopping = (gets, overlap, no_octet, short_pointer, not_prior, short_label, reserved)

@@ -8,6 +8,7 @@ use crate::walk;
 use dnw_base::limits::POINTER_MARK;
 
 /// Puts the wire form of the name at `start` at the front of a buffer: each run of octets between two pointers in one piece.
+#[tactic(auto, using(crate::proofs::Copying::copying))]
 pub fn copy_runs(out: &mut [u8], message: &[u8], start: usize)
     requires name { (end size count pointers : ℕ) × StandsAt message.now start end size count pointers }
     requires fits { length (wire (labels_at message.now start)) ≤ length out.old }

@@ -103,6 +103,7 @@ fn own_end(pointers: usize, end: usize, here: usize) -> usize
 /// Returns the element at an offset, in a segment that began at `segment`, if one may begin there. `limit` is the end of
 /// the message until a pointer is followed, and then the start of the segment before.
 #[inline(always)]
+#[tactic(auto, using(crate::proofs::Steps::stopping))]
 fn next_element(
     message: &[u8],
     position: usize,
@@ -131,7 +132,7 @@ fn next_element(
 
 /// Returns the element at an offset, in a segment that began at `segment`.
 #[inline(always)]
-#[tactic(auto, using(std::proofs::lemmas::Option::gets))]
+#[tactic(auto, using(crate::proofs::Steps::stopping))]
 pub fn element_at(message: &[u8], position: usize, segment: usize) -> Result<Element, DecodeError>
     requires { position < length message.now }
     ensures ok { IfOk result (IsElement message.now position segment) }
@@ -152,6 +153,7 @@ pub fn element_at(message: &[u8], position: usize, segment: usize) -> Result<Ele
 
 /// Returns the label of `len` octets, 1 to 63, whose length octet is at `position`.
 #[inline(always)]
+#[tactic(auto, using(crate::proofs::Steps::stopping))]
 fn label_at(
     message: &[u8],
     position: usize,
@@ -173,6 +175,7 @@ fn label_at(
 
 /// Returns the pointer whose first octet is at `position`. It must point before the start of its segment.
 #[inline(always)]
+#[tactic(auto, using(crate::proofs::Steps::stopping))]
 fn pointer_at(
     message: &[u8],
     position: usize,

@@ -16,7 +16,7 @@ use Rattle.dnw_record.specs.RecordLaws.{record_size, FailsForSize}
 use Rattle.dnw_record.specs.WrittenRecords.{EmitsRecord}
 use Rattle.dnw_record.proofs.Bounded.{parts_stay_bounded}
 use Rattle.dnw_record.proofs.Preceding.{refused_records_undo}
-use Rattle.dnw_record.proofs.Parts.{done-fields, done-parts, Refuses, refused-fields, refused-part, refused-parts, refused-room, done-part, room-most}
+use Rattle.dnw_record.proofs.Parts.{done-parts, fits-fields, Refuses, refused-part, refused-parts, refused-room, done-part, room-most}
 use Rattle.dnw_script.specs.declared.script.Part.{Part}
 use Rattle.dnw_script.specs.declared.script.Item.{Item}
 use Rattle.dnw_script.specs.declared.script.Reply.{Reply}
@@ -289,7 +289,7 @@ module _ (old : List ℕ) (cs : List Chunk) (a : Account) (v w : Encoder) (good 
       → ReplyToRecord a (record_size r) reply × Goes old cs (after a (write_record r) reply) w
   step-record r (Done len) h =
       let s = good.sound in
-      let (le, within, _) = done-fields r v w h.0.1 in
+      let (le, within, _, _) = (fits-fields r).done v w h.0.1 in
       let f = frame-fields r v (Ok tt) w s.end h.0.1 in
       let (d, sound) = sound-record old cs v w r s h.0.1 h.0.0 (omega (arith, within, good.agree.small)) in
       let piece : record_piece v.encoding v.canonical r ≡ record_piece a.mode a.canonical r = rw (good.agree.mode, good.agree.canonical) refl in (
@@ -300,7 +300,7 @@ module _ (old : List ℕ) (cs : List Chunk) (a : Account) (v w : Encoder) (good 
   step-record r (Refused error len) h =
       let same = record-undone old cs v w r error good.sound h.0 in
       let len_is : len ≡ a.len = omega (arith, h.1, ap (λ (x : Encoder). length x.bytes) same, good.sound.end, good.len_is) in (
-        refused-record a v w good.sound.end good.len_is good.agree.max (record_size r) len error len_is (refused-fields r v h.0.0 error h.0.1),
+        refused-record a v w good.sound.end good.len_is good.agree.max (record_size r) len error len_is ((fits-fields r).refused v h.0.0 error h.0.1).1,
         goes-same old cs a v w good same,
       )
   step-record r reply h = absurd h

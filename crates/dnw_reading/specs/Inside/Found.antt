@@ -1,7 +1,7 @@
 -- How a name in a message is kept: the message, and where the name is.
 use Rattle.std.specs.Prelude.{◌≡◌, ℕ, Bool, IsTrue, zero, suc, ◌+◌, ◌<◌, ◌≤◌, ◌==◌, nat_le, if◌then◌else◌, Option, List, [], ◌∷◌, ◌++◌, length, slice_index, slice_range}
 use Rattle.dnw_reading.specs.declared.walk.Walked.{Walked}
-use Rattle.dnw_base.specs.Limits.{max_label, max_name, max_labels, pointer_mark}
+use Rattle.dnw_base.specs.Limits.{max_label, max_labels, pointer_mark}
 use Rattle.dnw_base.specs.Names.{encoded_size, wire}
 use Rattle.dnw_reading.specs.Buffers.{put}
 use Rattle.dnw_reading.specs.Reading.{target, Reads, NameAt}
@@ -47,20 +47,15 @@ pub record ReadsOn (b : List ℕ) (s p : ℕ) : Type 0 where
   pub few : length (labels_at b p) ≤ max_labels
   pub inside : p < length b
 
--- A copy has come to position, with the octets from run on still to be written: what is written, these octets and the
--- wire form of the labels that follow make the wire form of the whole name.
-pub record Copies (b : List ℕ) (start run position : ℕ) (written : List ℕ) : Type 0 where
+-- A copy has come to position and put what is written at the front of a buffer, with the octets from run on still to be
+-- written: what is written, these octets and the wire form of the labels that follow make the wire form of the whole name.
+pub record Copies (b : List ℕ) (start run position : ℕ) (buffer out : List ℕ) (filled : ℕ) : Type 0 where
   pub segment : ℕ
   pub on : ReadsOn b segment position
   pub order : run ≤ position
   pub back : segment ≤ run
-  pub whole : written ++ (slice_range b run position ++ wire (labels_at b position)) ≡ wire (labels_at b start)
-  pub short : length (wire (labels_at b start)) ≤ max_name
-
--- A copy has put what is written at the front of a buffer.
-pub record IsFilled (b : List ℕ) (start run position : ℕ) (buffer out : List ℕ) (filled : ℕ) : Type 0 where
   pub written : List ℕ
-  pub copies : Copies b start run position written
+  pub whole : written ++ (slice_range b run position ++ wire (labels_at b position)) ≡ wire (labels_at b start)
   pub size : filled ≡ length written
   pub is : out ≡ put buffer written
 

@@ -1,45 +1,24 @@
-use Rattle.std.proofs.Common.{[], ◌++◌, slice_range, refl, ap, ◌∙◌, arith, length-append}
-use Rattle.dnw_reading.specs.Buffers.{put}
+use Rattle.std.proofs.Common.{length, ap, arith}
+use Rattle.dnw_base.specs.Names.{wire}
 use Rattle.dnw_reading.proofs.Behind.{here}
-use Rattle.dnw_reading.proofs.Copying.{Copies-start, Copies-run, Copies-size, Copies-end, Copies-label, Copies-pointer, put_more}
+use Rattle.dnw_reading.proofs.Copying.{Copies-size, Copies-end, Copies-label}
 use Rattle.dnw_reading.proofs.copy.copy_runs.Goals as goal
 
-pub elements-init : goal.elements-init
-elements-init c = record { written = []; copies = Copies-start _ _ _ _ _ _ c.requires.name.4; size = refl; is = refl }
-
 pub returns-then-octet-eq0 : goal.returns-then-octet-eq0
-returns-then-octet-eq0 c =
-    let now = c.elements.invariant in
-    put_more c.args.out.now c.elements.out c.put_run.new.out now.written _ c.elements.filled now.size now.is c.put_run.ensures
-    ∙ ap (put c.args.out.now) (Copies-end now.copies c.if-octet-eq0.true)
+returns-then-octet-eq0 c = Copies-end c.elements.invariant _ c.if-octet-eq0.true c.put_run.ensures
 
-pub elements-preserved-then-octet-lt-POINTER_MARK : goal.elements-preserved-then-octet-lt-POINTER_MARK
-elements-preserved-then-octet-lt-POINTER_MARK c =
+-- a label leaves fewer octets to be written
+pub elements-smaller-then-octet-lt-POINTER_MARK : goal.elements-smaller-then-octet-lt-POINTER_MARK
+elements-smaller-then-octet-lt-POINTER_MARK c =
     let now = c.elements.invariant in
-    record {
-      written = now.written;
-      copies = Copies-label now.copies c.if-octet-eq0.false c.if-octet-lt-POINTER_MARK.true;
-      size = now.size;
-      is = now.is;
-    }
+    omega (arith, Copies-size now, Copies-size (Copies-label now c.if-octet-eq0.false c.if-octet-lt-POINTER_MARK.true), now.order)
 
 pub bounds-message-position-else-octet-lt-POINTER_MARK : goal.bounds-message-position-else-octet-lt-POINTER_MARK
-bounds-message-position-else-octet-lt-POINTER_MARK c = ((here c.elements.invariant.copies.on).pointer c.if-octet-lt-POINTER_MARK.false).there
+bounds-message-position-else-octet-lt-POINTER_MARK c = ((here c.elements.invariant.on).pointer c.if-octet-lt-POINTER_MARK.false).there
 
--- before a pointer is followed, the run before it is written
+-- and a pointer as many
 pub elements-smaller : goal.elements-smaller
 elements-smaller c =
     let now = c.elements.invariant in
-    let pointer = (here now.copies.on).pointer c.if-octet-lt-POINTER_MARK.false in
-    omega (arith, now.size, Copies-size now.copies, now.copies.short, now.copies.order, now.copies.back, pointer.prior, c.pointer_target-run.ensures)
-
-pub elements-preserved : goal.elements-preserved
-elements-preserved c =
-    let now = c.elements.invariant in
-    let run = slice_range c.args.message.now c.elements.run c.elements.position in
-    record {
-      written = now.written ++ run;
-      copies = Copies-pointer now.copies _ c.pointer_target-run.ensures c.if-octet-lt-POINTER_MARK.false;
-      size = omega (arith, now.size, length-append now.written run, Copies-run now.copies);
-      is = put_more c.args.out.now c.elements.out c.put_run-else-octet-lt-POINTER_MARK.new.out now.written run c.elements.filled now.size now.is c.put_run-else-octet-lt-POINTER_MARK.ensures;
-    }
+    let pointer = rw (← c.pointer_target-run.ensures) at ((here now.on).pointer c.if-octet-lt-POINTER_MARK.false) in
+    omega (arith, now.back, pointer.prior, ap (λ ls. length (wire ls)) pointer.labels)
