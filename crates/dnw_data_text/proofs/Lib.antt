@@ -8,4 +8,10 @@ pub mod Identifiers
 pub mod FieldsBack
 pub mod NamesBack
 pub mod WordsBack
+pub mod Items
+pub mod TypesBack
+pub mod ParamsBack
+pub mod FieldValues
+pub mod DataBack
+pub mod NoFault
 mod RecordWords

@@ -1,6 +1,6 @@
 -- A printed name is one word, and read as that name.
 use Rattle.std.proofs.Common.{◌≡◌, ℕ, suc, ◌+◌, ◌-◌, ◌*◌, ◌/◌, ◌%◌, ◌<◌, ◌≤◌, true, false, ◌&&◌, ◌==◌, List, [], ◌∷◌, ◌++◌, length, refl, sym, ap, ◌∙◌, arith, append_assoc, append-nil, length-append, inl, inr}
-use Rattle.std.specs.Prelude.{nat_le, nat_lt, Option, Some}
+use Rattle.std.specs.Prelude.{nat_le, nat_lt, Option, Some, None}
 use Rattle.std.specs.Char.{is_ascii_digit}
 use Rattle.std.specs.List.{AllByRecursion}
 use Rattle.std.proofs.lemmas.Bool.{cases_Bool, ne_eqb, lt-ltb}
@@ -160,6 +160,6 @@ name-is origin (label ∷ labels) are h =
 pub name-back : (form : NameForm) (labels : List (List ℕ)) → AreLabels labels → AllByRecursion IsOctets labels → FieldComesBack (kinds.Name form) (name labels)
 name-back form labels are h origin printed rest print end =
     let w = full_name_text labels in
-    let start : after_spaces (printed ++ rest) ≡ w ++ rest = ap (λ (xs : List ℕ). after_spaces (xs ++ rest)) print ∙ name-starts labels rest are.each in
     let len = name-len labels rest h end.1 in
-    by-word origin (kinds.Name form) printed w rest (name labels) refl start (take_at w rest _ (sym len)) (drop_at w rest _ (sym len)) (labels, name-is origin labels are h, refl)
+    by-word origin (kinds.Name form) printed w rest (name labels) refl print (name-starts labels rest are.each) (take_at w rest _ (sym len)) (drop_at w rest _ (sym len))
+    (labels, name-is origin labels are h, refl) (λ e. let no : None ≡ Some labels = ap (name_at None) (sym e) ∙ name-is None labels are h in cc)
