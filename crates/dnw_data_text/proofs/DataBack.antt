@@ -97,7 +97,7 @@ no-space (c ∷ text) = elim (cases_Bool (c == 32)) [
   | inr other ↦ let kept : without_space (c ∷ text) ≡ c ∷ text = rw other refl in ap after_spaces kept
 ]
 
-same-start : (origin : Option NameValue) (kinds : List Kind) (text start : List ℕ) (values : List FieldValue) → after_spaces start ≡ after_spaces text
+pub same-start : (origin : Option NameValue) (kinds : List Kind) (text start : List ℕ) (values : List FieldValue) → after_spaces start ≡ after_spaces text
     → AreFieldTexts origin kinds text values → AreFieldTexts origin kinds start values
 same-start origin [] text start [] e are = e ∙ are
 same-start origin [] text start (v ∷ values) e are = are

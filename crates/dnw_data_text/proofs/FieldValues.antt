@@ -41,7 +41,7 @@ own-len kind d left =
     length-take-le (d.index + n - d.index) (drop d.index d.bytes) (omega (arith, left, length-drop d.index d.bytes)) ∙ omega arith
 
 -- the labels of a name that is read are octets
-labels-fit : {b : List ℕ} {p s e k : ℕ} {limit : Option ℕ} {ls : List (List ℕ)} → AreBytes b → Reads b p s limit ls e k → AllByRecursion IsOctets ls
+pub labels-fit : {b : List ℕ} {p s e k : ℕ} {limit : Option ℕ} {ls : List (List ℕ)} → AreBytes b → Reads b p s limit ls e k → AllByRecursion IsOctets ls
 labels-fit h (zero_octet w g) = tt
 labels-fit {b} {p} h (label c w g one most fit r) = (take-fit _ (drop (p + 1) b) (drop-fit (p + 1) b h), labels-fit h r)
 labels-fit h (pointer high low w g least g2 prior r) = labels-fit h r

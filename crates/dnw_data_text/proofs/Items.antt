@@ -1,7 +1,7 @@
 -- The items of lists that data end with, and words after white space.
 use Rattle.std.proofs.Common.{◌≡◌, ◌≤◌, ℕ, suc, ◌+◌, Bool, true, false, List, [], ◌∷◌, ◌++◌, length, drop, inl, inr, refl, rules, tests, if◌then◌else◌}
-use Rattle.std.specs.Prelude.{nat_lt, Some, None}
-use Rattle.std.proofs.lemmas.Bool.{cases_Bool}
+use Rattle.std.specs.Prelude.{nat_lt, find, unwrap_or, ◌==◌, Some, None}
+use Rattle.std.proofs.lemmas.Bool.{cases_Bool, eqb-true}
 use Rattle.dnw_error.specs.declared.error.DecodeError.TheVariants.{InsufficientBytes}
 use Rattle.dnw_data.specs.declared.kind.ListKind.{ListKind}
 use Rattle.dnw_data.specs.Lists.{tag_of, count_of, item_size, may_come, out_of_order, fault_within}
@@ -27,6 +27,14 @@ pub item-first : (n least : ℕ) (kind : ListKind) (first : ℕ) (others : List 
 item-first n least kind first others fine =
     let left = first ∷ others in
     by-tests n least kind left (nat_lt (length left) (item_size kind left)) (may_come kind least (tag_of kind left) (count_of kind left)) refl refl fine
+
+-- what is found by its code has the code, and so has what is taken if nothing is found
+pub find-code : {A : Type 0} (code : A → ℕ) (n : ℕ) (xs : List A) (other : A) → code other ≡ n → code (unwrap_or (find (λ x. code x == n) xs) other) ≡ n
+find-code code n [] other is = is
+find-code code n (x ∷ xs) other is = elim (cases_Bool (code x == n)) [
+  | inl here ↦ rw here (eqb-true (code x) n here)
+  | inr there ↦ rw there (find-code code n xs other is)
+]
 
 -- white space that is left out once is left out
 pub starts-twice : (text : List ℕ) → after_spaces (after_spaces text) ≡ after_spaces text

@@ -14,4 +14,5 @@ pub mod ParamsBack
 pub mod FieldValues
 pub mod DataBack
 pub mod NoFault
+pub mod LinesBack
 mod RecordWords

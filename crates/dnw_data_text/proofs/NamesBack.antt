@@ -64,7 +64,7 @@ labels-len (label ∷ labels) rest h end =
     ap (word_len false false) (seam label labels rest) ∙ label-len label (46 ∷ (labels_text labels ++ rest)) h.0
     ∙ omega (arith, more, length-append (label_octets label ++ 46 ∷ []) (labels_text labels), length-append (label_octets label) (46 ∷ []))
 
-name-len : (labels : List (List ℕ)) (rest : List ℕ) → AllByRecursion IsOctets labels → is_end rest ≡ true
+pub name-len : (labels : List (List ℕ)) (rest : List ℕ) → AllByRecursion IsOctets labels → is_end rest ≡ true
     → word_len false false (full_name_text labels ++ rest) ≡ length (full_name_text labels)
 name-len [] rest h end = rw (end-len rest end) refl
 name-len (label ∷ labels) rest h end = labels-len (label ∷ labels) rest h end
@@ -149,7 +149,7 @@ label-some : (label : List ℕ) → 1 ≤ length label → 1 ≤ length (label_o
 label-some [] some = absurd (omega (arith, some))
 label-some (o ∷ label) some = omega (arith, octet-some o, length-append (name_octet o) (label_octets label))
 
-name-is : (origin : Option NameValue) (labels : List (List ℕ)) → AreLabels labels → AllByRecursion IsOctets labels → name_at origin (full_name_text labels) ≡ Some labels
+pub name-is : (origin : Option NameValue) (labels : List (List ℕ)) → AreLabels labels → AllByRecursion IsOctets labels → name_at origin (full_name_text labels) ≡ Some labels
 name-is origin [] are h = refl
 name-is origin (label ∷ labels) are h =
     let many = label-some label are.each.0.not_empty in

@@ -1,10 +1,10 @@
 -- A bitmap that is printed as types is the bitmap of these types.
 use Rattle.std.proofs.Common.{◌≡◌, ◌≢◌, ◌≤◌, ◌<◌, ℕ, zero, suc, ◌+◌, ◌-◌, ◌*◌, ◌==◌, ◌&&◌, true, false, List, [], ◌∷◌, ◌++◌, length, take, drop, map, slice_index, refl, sym, ap, ◌∙◌, subst, arith, append_assoc, append-nil, length-append, length-drop, inl, inr}
-use Rattle.std.specs.Prelude.{nat_eq, nat_le, not, Option, Some, None, flat_map, find, unwrap_or, cond, Bool}
+use Rattle.std.specs.Prelude.{nat_eq, nat_le, not, Some, None, flat_map, Bool}
 use Rattle.std.specs.Int.{bit_at}
 use Rattle.std.specs.List.{AllByRecursion, dedup_from}
 use Rattle.std.specs.List.Sorted.{IsStrictlySortedBy}
-use Rattle.std.proofs.lemmas.Bool.{and_parts, cases_Bool, eqb-false, eqb-true, leb-true, ne_eqb}
+use Rattle.std.proofs.lemmas.Bool.{and_parts, cases_Bool, eqb-false, leb-true, ne_eqb}
 use Rattle.std.proofs.lemmas.List.{take_all, take-append-drop, length-take-le}
 use Rattle.dnw_codes.specs.declared.record_type.RecordType.{RecordType}
 use Rattle.dnw_codes.specs.declared.record_type.RecordType.TheVariants as rr
@@ -22,7 +22,7 @@ use Rattle.dnw_word_text.specs.Words.{is_end, word, after_spaces}
 use Rattle.dnw_word_text.specs.TypeLists.{is_window, codes_within, codes_text, IsTypeWord, AreTypeWords, AreBitmap, AreTypes}
 use Rattle.dnw_data_text.specs.Generic.{mark}
 use Rattle.dnw_data_text.specs.DataTextLaws.{FieldComesBack}
-use Rattle.dnw_data_text.proofs.Items.{item-first, starts-twice}
+use Rattle.dnw_data_text.proofs.Items.{find-code, item-first, starts-twice}
 use Rattle.dnw_data_text.proofs.Plain.{plain-starts, plain-word, plain-after, plain-utf8}
 use Rattle.dnw_data_text.proofs.FieldsBack.{type-plain, type-some}
 
@@ -127,18 +127,9 @@ windows (suc n) (suc m) least (number ∷ len ∷ bytes) codes h few fine print 
 
 -- ---- the types of codes
 
-step : (code : ℕ) (kind : RecordType) (rest : Option RecordType) (test : Bool) → (type_code kind == code) ≡ test → type_code (unwrap_or rest (rr.Unknown code)) ≡ code
-    → type_code (unwrap_or (cond test (Some kind) rest) (rr.Unknown code)) ≡ code
-step code kind rest true is left = eqb-true (type_code kind) code is
-step code kind rest false is left = left
-
-among : (code : ℕ) (kinds : List RecordType) → type_code (unwrap_or (find (λ kind. type_code kind == code) kinds) (rr.Unknown code)) ≡ code
-among code [] = refl
-among code (kind ∷ kinds) = step code kind (find (λ k. type_code k == code) kinds) (type_code kind == code) refl (among code kinds)
-
 pub code-back : (code : ℕ) → type_code (type_of_code code) ≡ code
 unfolding type_of_code
-code-back code = among code named_types
+code-back code = find-code (λ (kind : RecordType). type_code kind) code named_types (rr.Unknown code) refl
 
 codes-back : (codes : List ℕ) → map type_code (map type_of_code codes) ≡ codes
 codes-back [] = refl

@@ -1,7 +1,7 @@
 //! What is printed of data and of their fields is parsed as the same.
 //!
 //! The functions do nothing. Each is there for its clauses. That of service parameters is passed on.
-ghost use Rattle.dnw_data_text.specs.DataTextLaws.{GenericComesBack, DataComeBack, TextsAreParsed, NumbersComeBack, TypesComeBack, AddressesComeBack, NamesComeBack, SegmentsComeBack, IdentifiersComeBack, CountedComeBack, OctetsComeBack, StringsComeBack, ListsComeBack};
+ghost use Rattle.dnw_data_text.specs.DataTextLaws.{GenericComesBack, DataComeBack, LinesComeBack, TextsAreParsed, NumbersComeBack, TypesComeBack, AddressesComeBack, NamesComeBack, SegmentsComeBack, IdentifiersComeBack, CountedComeBack, OctetsComeBack, StringsComeBack, ListsComeBack};
 
 pub use dnw_svcb_text::laws::params_come_back;
 
@@ -29,4 +29,9 @@ pub fn generic_comes_back()
 pub fn data_come_back()
     ensures back { DataComeBack }
     ensures parsed { TextsAreParsed }
+{}
+
+/// A record that is printed as a line comes back.
+pub fn lines_come_back()
+    ensures { LinesComeBack }
 {}
