@@ -134,16 +134,18 @@ pub use Rattle.dnw_field_text.specs.Tags.{IsTag, IsTagText}
 pub use Rattle.dnw_field_text.specs.Strings.{with_octet}
 pub use Rattle.dnw_field_text.specs.Times.{IsDateText, IsDay, IsMoment, IsTimeText, two_at}
 -- Texts of the data of records.
-pub use Rattle.dnw_data_text.specs.DataTexts.{FailsText, IsDataText, IsTextOf, record_line}
-pub use Rattle.dnw_data_text.specs.Generic.{generic_text, IsGeneric}
-pub use Rattle.dnw_data_text.specs.RecordLines.{FailsRecordLine, IsRecordLine}
+pub use Rattle.dnw_data_text.specs.DataTexts.{FailsText, IsDataText, IsPlainData, IsTextOf, record_line}
+pub use Rattle.dnw_data_text.specs.Generic.{generic_text, max_data, IsGeneric}
+pub use Rattle.dnw_data_text.specs.RecordLines.{FailsRecordLine, IsRecordLine, line_octets}
+pub use Rattle.dnw_data_text.specs.declared.error.DataTextError.{DataTextError}
+pub use Rattle.dnw_data_text.specs.declared.error.DataTextError.TheVariants.{Memory as OutOfMemory}
 -- Service parameters as text.
 pub use Rattle.dnw_svcb_text.specs.Params.{ParamValue, in_key_order, params_wire}
 pub use Rattle.dnw_svcb_text.specs.ParamTexts.{param_text, params_text}
 pub use Rattle.dnw_svcb_text.specs.ParamWords.{IsParam}
 pub use Rattle.dnw_svcb_text.specs.ParamLaws.{IsParamValue, ParamsComeBack}
 pub use Rattle.dnw_data_text.specs.DataTextLaws.{AddressesComeBack as FieldAddressesComeBack, CountedComeBack, IdentifiersComeBack as FieldIdentifiersComeBack, NamesComeBack as FieldNamesComeBack, NumbersComeBack, OctetsComeBack, SegmentsComeBack, StringsComeBack, TypesComeBack}
-pub use Rattle.dnw_data_text.specs.DataTextLaws.{GenericComesBack, FieldComesBack, Follows as FollowsField, IsRead as IsReadType, IsData as IsDataOctets}
+pub use Rattle.dnw_data_text.specs.DataTextLaws.{DataComeBack, GenericComesBack, LinesComeBack, ListsComeBack, TextsAreParsed, line_head, IsReadBack as IsFieldReadBack, FieldComesBack, Follows as FollowsField, IsRead as IsReadType, IsData as IsDataOctets}
 -- Whole messages: headers, sections and EDNS.
 pub use Rattle.dnw_message.specs.Edns.{EdnsValue, FailsEdns, FailsOpt, HasEdns, HasOpt, HasOptions, IsEdns, IsResponseCode, OptionValue}
 pub use Rattle.dnw_message.specs.Edns.{first_option, is_opt, opts_in}

@@ -1,5 +1,5 @@
 -- What is printed of a field is read as that field, whatever is after it.
-use Rattle.std.proofs.Common.{◌≡◌, ℕ, suc, ◌+◌, ◌/◌, ◌%◌, ◌<◌, ◌≤◌, true, false, ◌&&◌, List, [], ◌∷◌, ◌++◌, zero, length, codes, slice_index, refl, sym, ap, ◌∙◌, subst, arith, decimal, append_assoc, append-nil, length-append, inl, inr}
+use Rattle.std.proofs.Common.{◌≡◌, ◌≢◌, ℕ, suc, ◌+◌, ◌/◌, ◌%◌, ◌<◌, ◌≤◌, true, false, ◌&&◌, List, [], ◌∷◌, ◌++◌, zero, length, codes, slice_index, refl, sym, ap, ◌∙◌, subst, arith, decimal, append_assoc, append-nil, length-append, inl, inr}
 use Rattle.std.specs.Prelude.{nat_le, flat_map, Option, Some}
 use Rattle.std.specs.Net.Addr.{ipv4_octets, IsIpv4Addr}
 use Rattle.std.specs.Net.Text.{dotted_text, ipv4_text}
@@ -25,7 +25,7 @@ use Rattle.dnw_data.specs.Values.{type_code as type_code_of}
 use Rattle.dnw_data.specs.declared.kind.ListKind.TheVariants as lists
 use Rattle.dnw_base.specs.Names.{label_wire}
 use Rattle.dnw_field_text.specs.Numbers.{max_u8, max_u16, max_u32}
-use Rattle.dnw_field_text.specs.Octets.{IsOctets, IsSalt, salt_text}
+use Rattle.dnw_field_text.specs.Octets.{IsOctets, IsSalt, hex_text, salt_text}
 use Rattle.dnw_field_text.specs.Strings.{quote, backslash, IsString, IsText, octet_text, string_text}
 use Rattle.dnw_digit_text.specs.Base32.{IsHash, is_base32, base32_text}
 use Rattle.dnw_digit_text.proofs.Identifiers.{hash}
@@ -35,29 +35,32 @@ use Rattle.dnw_svcb_text.proofs.ParamTextsBack.{string-utf8}
 use Rattle.dnw_word_text.specs.Words.{is_end, word_len, word, after_word, after_spaces}
 use Rattle.dnw_data_text.specs.Parsing.{takes_all, IsWord, IsStringWord, AreStringWords, AreTexts, ReadsField}
 use Rattle.dnw_data_text.specs.Printing.{strings_text}
-use Rattle.dnw_data_text.specs.DataTextLaws.{IsRead, FieldComesBack}
-use Rattle.dnw_data_text.specs.Generic.{hex_part}
-use Rattle.dnw_data_text.proofs.GenericText.{hex-words}
+use Rattle.dnw_data_text.specs.DataTextLaws.{IsRead, IsReadBack, FieldComesBack}
+use Rattle.dnw_data_text.specs.Generic.{mark, hex_part}
+use Rattle.dnw_data_text.proofs.GenericText.{hex-end, hex-words}
 use Rattle.dnw_data_text.proofs.Plain.{is_plain, all_plain, plain-starts, plain-word, plain-after, plain-utf8, plain-append, decimal-plain, hex-plain}
 
 -- a word is read as its field
 pub by-word : (origin : Option NameValue) (kind : Kind) (printed w rest : List ℕ) (value : FieldValue) → takes_all kind ≡ false
-    → after_spaces (printed ++ rest) ≡ w ++ rest → word (w ++ rest) ≡ w → after_word (w ++ rest) ≡ rest → IsWord origin kind w value
-    → ReadsField origin kind (after_spaces (printed ++ rest)) value rest
-by-word origin kind printed w rest value one start whole left is =
+    → printed ≡ 32 ∷ w → after_spaces (w ++ rest) ≡ w ++ rest → word (w ++ rest) ≡ w → after_word (w ++ rest) ≡ rest → IsWord origin kind w value
+    → w ≢ mark → IsReadBack origin kind printed value rest
+by-word origin kind printed w rest value one print begins whole left is other =
+    let start : after_spaces (printed ++ rest) ≡ w ++ rest = ap (λ (xs : List ℕ). after_spaces (xs ++ rest)) print ∙ begins in
     let reads : IsWord origin kind (word (w ++ rest)) value × (rest ≡ after_word (w ++ rest)) =
     (subst (λ (xs : List ℕ). IsWord origin kind xs value) (sym whole) is, sym left) in
     let by : ReadsField origin kind (w ++ rest) value rest = rw one reads in
-    subst (λ (xs : List ℕ). ReadsField origin kind xs value rest) (sym start) by
+    (subst (λ (xs : List ℕ). ReadsField origin kind xs value rest) (sym start) by, λ e. other (sym whole ∙ ap word (sym start) ∙ e), ap is_end print)
 
 -- ---- plain words
 
+plain-other : (w : List ℕ) → all_plain w ≡ true → w ≢ mark
+plain-other w plain e = let no : false ≡ true = ap all_plain (sym e) ∙ plain in cc
+
 pub plain-by : (origin : Option NameValue) (kind : Kind) (printed w rest : List ℕ) (value : FieldValue) → takes_all kind ≡ false
     → printed ≡ 32 ∷ w → all_plain w ≡ true → 0 < length w → is_end rest ≡ true → IsWord origin kind w value
-    → ReadsField origin kind (after_spaces (printed ++ rest)) value rest
+    → IsReadBack origin kind printed value rest
 plain-by origin kind printed w rest value one print plain some end is =
-    let start : after_spaces (printed ++ rest) ≡ w ++ rest = ap (λ (xs : List ℕ). after_spaces (xs ++ rest)) print ∙ plain-starts w rest plain some in
-    by-word origin kind printed w rest value one start (plain-word w rest plain end) (plain-after w rest plain end) is
+    by-word origin kind printed w rest value one print (plain-starts w rest plain some) (plain-word w rest plain end) (plain-after w rest plain end) is (plain-other w plain)
 
 pub u8-back : (n : ℕ) → n ≤ max_u8 → FieldComesBack U8 (u8 n)
 u8-back n few origin printed rest print end =
@@ -117,11 +120,11 @@ salt-back own is origin printed rest print end =
     let plain = salt-plain own is.0 in
     plain-by origin (Counted Hex) printed w rest (counted own) refl print plain (salt-some own) end.1 (own, plain-utf8 w plain, (salt own is).0, refl)
 
-type-plain : (kind : RecordType) → type_code kind < 65536 → all_plain (type_text kind) ≡ true
+pub type-plain : (kind : RecordType) → type_code kind < 65536 → all_plain (type_text kind) ≡ true
 type-plain (rr.Unknown code) h = plain-append (codes "TYPE") (decimal code) refl (decimal-plain code (omega (arith, h)))
 type-plain kind h = refl
 
-type-some : (kind : RecordType) → 0 < length (type_text kind)
+pub type-some : (kind : RecordType) → 0 < length (type_text kind)
 type-some (rr.Unknown code) = omega (arith, length-append (codes "TYPE") (decimal code))
 type-some kind = omega arith
 
@@ -182,12 +185,25 @@ hash-back own is origin printed rest print end =
 
 -- ---- all words
 
+-- plain words are no mark
+pub plain-no_mark : (t : List ℕ) → all_plain t ≡ true → word (after_spaces t) ≢ mark
+plain-no_mark [] plain e = cc
+plain-no_mark (c ∷ t) plain e =
+    let w = c ∷ t in
+    let whole : word (after_spaces w) ≡ w =
+    ap (λ (xs : List ℕ). word (after_spaces xs)) (sym (append-nil w)) ∙ ap word (plain-starts w [] plain (omega arith)) ∙ plain-word w [] plain refl in
+    plain-other w plain (sym whole ∙ e)
+
+hex-no_mark : (own : List ℕ) → IsOctets own → word (after_spaces (hex_part own)) ≢ mark
+hex-no_mark [] h e = cc
+hex-no_mark (o ∷ own) h e = plain-no_mark (hex_text (o ∷ own)) (hex-plain (o ∷ own) h) e
+
 pub octets-back : (own : List ℕ) → IsOctets own → FieldComesBack (Octets Hex) (octets own)
 octets-back own is origin printed rest print end =
     let none : rest ≡ [] = end.0 refl in
     let words = hex-words own is in
     let reads : ReadsField origin (Octets Hex) (after_spaces (hex_part own)) (octets own) [] = ((own, (words.0, words.1), refl), refl) in
-    rw (none, print, append-nil) reads
+    rw (none, print, append-nil) (reads, hex-no_mark own is, hex-end own)
 
 -- ---- words in quotes
 
@@ -224,7 +240,7 @@ quoted-len (o ∷ own) rest h end =
     rw (append_assoc (octet_text o) (flat_map octet_text own) (quote ∷ rest))
     (octet-len o (flat_map octet_text own ++ quote ∷ rest) (h 0) ∙ omega (arith, so_far, length-append (octet_text o) (flat_map octet_text own)))
 
-string-len : (own rest : List ℕ) → IsOctets own → is_end rest ≡ true → word_len false false (string_text own ++ rest) ≡ length (string_text own)
+pub string-len : (own rest : List ℕ) → IsOctets own → is_end rest ≡ true → word_len false false (string_text own ++ rest) ≡ length (string_text own)
 string-len own rest h end =
     let seam = append_assoc (flat_map octet_text own) (quote ∷ []) rest in
     let size = quoted-len own rest h end in
@@ -239,18 +255,18 @@ string-after own rest h end = drop_at (string_text own) rest _ (sym (string-len 
 pub string-back : (own : List ℕ) → IsString own → FieldComesBack (Counted Text) (counted own)
 string-back own is origin printed rest print end =
     let w = string_text own in
-    let start : after_spaces (printed ++ rest) ≡ w ++ rest = ap (λ (xs : List ℕ). after_spaces (xs ++ rest)) print in
-    by-word origin (Counted Text) printed w rest (counted own) refl start (string-word own rest is.0 end.1) (string-after own rest is.0 end.1) (own, string-utf8 own is.0, (string own is).0, refl)
+    by-word origin (Counted Text) printed w rest (counted own) refl print refl (string-word own rest is.0 end.1) (string-after own rest is.0 end.1)
+    (own, string-utf8 own is.0, (string own is).0, refl) (λ e. cc)
 
 pub text-back : (own : List ℕ) → IsText own → FieldComesBack (Octets Text) (octets own)
 text-back own is origin printed rest print end =
     let w = string_text own in
-    let start : after_spaces (printed ++ rest) ≡ w ++ rest = ap (λ (xs : List ℕ). after_spaces (xs ++ rest)) print in
-    by-word origin (Octets Text) printed w rest (octets own) refl start (string-word own rest is.0 end.1) (string-after own rest is.0 end.1) (own, string-utf8 own is.0, (text own is).0, refl)
+    by-word origin (Octets Text) printed w rest (octets own) refl print refl (string-word own rest is.0 end.1) (string-after own rest is.0 end.1)
+    (own, string-utf8 own is.0, (text own is).0, refl) (λ e. cc)
 
 -- ---- strings up to the end
 
-first : (x : ℕ) (xs : List ℕ) → x < 256 → IsOctets xs → IsOctets (x ∷ xs)
+pub first : (x : ℕ) (xs : List ℕ) → x < 256 → IsOctets xs → IsOctets (x ∷ xs)
 first x xs h k zero = h
 first x xs h k (suc i) = k i
 
@@ -276,6 +292,16 @@ strings-words (s ∷ strings) h =
     ((λ none. let no : quote ∷ _ ≡ [] = none in cc), subst (λ (w : List ℕ). IsStringWord w s) (sym whole) is, subst (λ (xs : List ℕ). AreStringWords xs strings) (sym left) (strings-words strings parts.1)) in
     words
 
+quoted-other : (s : List ℕ) → string_text s ≢ mark
+quoted-other s e = cc
+
+strings-no_mark : (strings : List (List ℕ)) → IsOctets (flat_map label_wire strings) → word (after_spaces (strings_text strings)) ≢ mark
+strings-no_mark [] h e = cc
+strings-no_mark (s ∷ strings) h e =
+    let fit = (octets-parts s (flat_map label_wire strings) (λ i. h (suc i))).0 in
+    let start : after_spaces (strings_text (s ∷ strings)) ≡ string_text s ++ strings_text strings = refl in
+    quoted-other s (sym (string-word s (strings_text strings) fit (strings-end strings)) ∙ ap word (sym start) ∙ e)
+
 texts-of : (own : List ℕ) (strings : List (List ℕ)) → own ≡ flat_map label_wire strings → IsOctets own → 1 ≤ length own
     → AreTexts (after_spaces (strings_text strings)) (texts (items lists.Texts own))
 texts-of own [] e h some = absurd (omega (arith, some, ap length e))
@@ -287,4 +313,4 @@ pub strings-back : (own : List ℕ) → IsOctets own → 1 ≤ length own → Fi
 strings-back own h some origin printed rest print end =
     let (strings, are, e) = print in
     let none : rest ≡ [] = end.0 refl in
-    rw (none, e, append-nil) (texts-of own strings are h some, refl)
+    rw (none, e, append-nil) ((texts-of own strings are h some, refl), strings-no_mark strings (subst IsOctets are h), strings-end strings)

@@ -28,7 +28,7 @@ hex-words (o ∷ octets) h =
     let whole : joined (after_spaces text) ≡ text = ap joined starts ∙ plain-joined text plain in
     rw whole (plain-utf8 text plain, (hexadecimal (o ∷ octets) h).0, refl)
 
-hex-end : (octets : List ℕ) → is_end (hex_part octets) ≡ true
+pub hex-end : (octets : List ℕ) → is_end (hex_part octets) ≡ true
 hex-end [] = refl
 hex-end (o ∷ octets) = refl
 

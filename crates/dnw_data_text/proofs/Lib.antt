@@ -8,4 +8,11 @@ pub mod Identifiers
 pub mod FieldsBack
 pub mod NamesBack
 pub mod WordsBack
+pub mod Items
+pub mod TypesBack
+pub mod ParamsBack
+pub mod FieldValues
+pub mod DataBack
+pub mod NoFault
+pub mod LinesBack
 mod RecordWords

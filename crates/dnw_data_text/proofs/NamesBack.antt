@@ -1,6 +1,6 @@
 -- A printed name is one word, and read as that name.
 use Rattle.std.proofs.Common.{◌≡◌, ℕ, suc, ◌+◌, ◌-◌, ◌*◌, ◌/◌, ◌%◌, ◌<◌, ◌≤◌, true, false, ◌&&◌, ◌==◌, List, [], ◌∷◌, ◌++◌, length, refl, sym, ap, ◌∙◌, arith, append_assoc, append-nil, length-append, inl, inr}
-use Rattle.std.specs.Prelude.{nat_le, nat_lt, Option, Some}
+use Rattle.std.specs.Prelude.{nat_le, nat_lt, Option, Some, None}
 use Rattle.std.specs.Char.{is_ascii_digit}
 use Rattle.std.specs.List.{AllByRecursion}
 use Rattle.std.proofs.lemmas.Bool.{cases_Bool, ne_eqb, lt-ltb}
@@ -64,7 +64,7 @@ labels-len (label ∷ labels) rest h end =
     ap (word_len false false) (seam label labels rest) ∙ label-len label (46 ∷ (labels_text labels ++ rest)) h.0
     ∙ omega (arith, more, length-append (label_octets label ++ 46 ∷ []) (labels_text labels), length-append (label_octets label) (46 ∷ []))
 
-name-len : (labels : List (List ℕ)) (rest : List ℕ) → AllByRecursion IsOctets labels → is_end rest ≡ true
+pub name-len : (labels : List (List ℕ)) (rest : List ℕ) → AllByRecursion IsOctets labels → is_end rest ≡ true
     → word_len false false (full_name_text labels ++ rest) ≡ length (full_name_text labels)
 name-len [] rest h end = rw (end-len rest end) refl
 name-len (label ∷ labels) rest h end = labels-len (label ∷ labels) rest h end
@@ -149,7 +149,7 @@ label-some : (label : List ℕ) → 1 ≤ length label → 1 ≤ length (label_o
 label-some [] some = absurd (omega (arith, some))
 label-some (o ∷ label) some = omega (arith, octet-some o, length-append (name_octet o) (label_octets label))
 
-name-is : (origin : Option NameValue) (labels : List (List ℕ)) → AreLabels labels → AllByRecursion IsOctets labels → name_at origin (full_name_text labels) ≡ Some labels
+pub name-is : (origin : Option NameValue) (labels : List (List ℕ)) → AreLabels labels → AllByRecursion IsOctets labels → name_at origin (full_name_text labels) ≡ Some labels
 name-is origin [] are h = refl
 name-is origin (label ∷ labels) are h =
     let many = label-some label are.each.0.not_empty in
@@ -160,6 +160,6 @@ name-is origin (label ∷ labels) are h =
 pub name-back : (form : NameForm) (labels : List (List ℕ)) → AreLabels labels → AllByRecursion IsOctets labels → FieldComesBack (kinds.Name form) (name labels)
 name-back form labels are h origin printed rest print end =
     let w = full_name_text labels in
-    let start : after_spaces (printed ++ rest) ≡ w ++ rest = ap (λ (xs : List ℕ). after_spaces (xs ++ rest)) print ∙ name-starts labels rest are.each in
     let len = name-len labels rest h end.1 in
-    by-word origin (kinds.Name form) printed w rest (name labels) refl start (take_at w rest _ (sym len)) (drop_at w rest _ (sym len)) (labels, name-is origin labels are h, refl)
+    by-word origin (kinds.Name form) printed w rest (name labels) refl print (name-starts labels rest are.each) (take_at w rest _ (sym len)) (drop_at w rest _ (sym len))
+    (labels, name-is origin labels are h, refl) (λ e. let no : None ≡ Some labels = ap (name_at None) (sym e) ∙ name-is None labels are h in cc)

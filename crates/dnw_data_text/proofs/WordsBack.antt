@@ -1,5 +1,5 @@
 -- IPv6 addresses, identifiers and octets in base 64 are read as they were printed.
-use Rattle.std.proofs.Common.{◌≡◌, ℕ, zero, suc, ◌/◌, ◌%◌, ◌<◌, ◌≤◌, ◌^◌, true, List, [], ◌∷◌, length, drop, refl, sym, ap, ◌∙◌, subst, arith, append-nil}
+use Rattle.std.proofs.Common.{◌≡◌, ◌≢◌, ℕ, zero, suc, ◌/◌, ◌%◌, ◌<◌, ◌≤◌, ◌^◌, true, List, [], ◌∷◌, length, drop, refl, sym, ap, ◌∙◌, subst, arith, append-nil}
 use Rattle.std.specs.Int.{w64, to_be_bytes, from_be_bytes}
 use Rattle.std.specs.Net.Addr.{ipv6_segments, IsIpv6Addr}
 use Rattle.std.specs.Net.Grammar.{IsColonHex}
@@ -18,12 +18,13 @@ use Rattle.dnw_field_text.specs.Numbers.{max_u48}
 use Rattle.dnw_field_text.specs.Octets.{IsOctets, base64_text}
 use Rattle.dnw_svcb_text.proofs.ParamTextsBack.{bare-open, ipv6-bare, base64-open, base64-some}
 use Rattle.dnw_svcb_text.proofs.Steps.{no-colon-hex}
-use Rattle.dnw_word_text.specs.Words.{after_spaces, joined}
+use Rattle.dnw_word_text.specs.Words.{is_end, word, after_spaces, joined}
 use Rattle.dnw_data_text.specs.Parsing.{AllSpell, ReadsField}
+use Rattle.dnw_data_text.specs.Generic.{mark}
 use Rattle.dnw_data_text.specs.Printing.{base64_part}
 use Rattle.dnw_data_text.specs.DataTextLaws.{FieldComesBack}
 use Rattle.dnw_data_text.proofs.Plain.{is_plain, all_plain, plain-starts, plain-joined, plain-utf8}
-use Rattle.dnw_data_text.proofs.FieldsBack.{plain-by}
+use Rattle.dnw_data_text.proofs.FieldsBack.{plain-by, plain-no_mark}
 
 -- ---- IPv6 addresses
 
@@ -52,7 +53,7 @@ pairs-plain [] h = refl
 pairs-plain (o ∷ []) h = rw (lower-plain (o / 16) (omega (arith, h 0)), lower-plain (o % 16) (omega arith)) refl
 pairs-plain (o ∷ p ∷ own) h = rw (lower-plain (o / 16) (omega (arith, h 0)), lower-plain (o % 16) (omega arith)) (pairs-plain (p ∷ own) (λ i. h (suc i)))
 
-six-fit : (n : ℕ) → IsOctets (drop 2 (to_be_bytes w64 n))
+pub six-fit : (n : ℕ) → IsOctets (drop 2 (to_be_bytes w64 n))
 six-fit n zero = omega arith
 six-fit n (suc zero) = omega arith
 six-fit n (suc (suc zero)) = omega arith
@@ -61,7 +62,7 @@ six-fit n (suc (suc (suc (suc zero)))) = omega arith
 six-fit n (suc (suc (suc (suc (suc zero))))) = omega arith
 six-fit n (suc (suc (suc (suc (suc (suc i)))))) = omega arith
 
-eight-fit : (n : ℕ) → IsOctets (to_be_bytes w64 n)
+pub eight-fit : (n : ℕ) → IsOctets (to_be_bytes w64 n)
 eight-fit n zero = omega arith
 eight-fit n (suc zero) = omega arith
 eight-fit n (suc (suc i)) = six-fit n i
@@ -99,8 +100,16 @@ base64-words (o ∷ own) h =
     let whole : joined (after_spaces text) ≡ text = ap joined starts ∙ plain-joined text plain in
     rw whole (plain-utf8 text plain, (h, refl))
 
+base64-no_mark : (own : List ℕ) → IsOctets own → word (after_spaces (base64_part own)) ≢ mark
+base64-no_mark [] h e = cc
+base64-no_mark (o ∷ own) h e = plain-no_mark (base64_text (o ∷ own)) (base64-open (o ∷ own) h) e
+
+base64-end : (own : List ℕ) → is_end (base64_part own) ≡ true
+base64-end [] = refl
+base64-end (o ∷ own) = refl
+
 pub base64-back : (own : List ℕ) → IsOctets own → FieldComesBack (Octets Base64) (octets own)
 base64-back own is origin printed rest print end =
     let none : rest ≡ [] = end.0 refl in
     let reads : ReadsField origin (Octets Base64) (after_spaces (base64_part own)) (octets own) [] = ((own, base64-words own is, refl), refl) in
-    rw (none, print, append-nil) reads
+    rw (none, print, append-nil) (reads, base64-no_mark own is, base64-end own)

@@ -1,5 +1,5 @@
 -- What follows from the definitions of texts of data. Each is the clause of a public function, and so proved.
-use Rattle.std.specs.Prelude.{◌≡◌, ℕ, ◌^◌, ◌<◌, ◌≤◌, true, List, [], ◌++◌, length, Option}
+use Rattle.std.specs.Prelude.{◌≡◌, ◌≢◌, ℕ, ◌^◌, ◌<◌, ◌≤◌, true, List, [], ◌++◌, length, Option, None, ◌⊎◌}
 use Rattle.std.specs.Net.Addr.{ipv4_octets, ipv6_segments, IsIpv4Addr, IsIpv6Addr}
 use Rattle.std.specs.List.{AllByRecursion}
 use Rattle.std.specs.declared.net.Ipv4Addr.{Ipv4Addr}
@@ -13,15 +13,24 @@ use Rattle.dnw_data.specs.declared.kind.Kind.TheVariants.{U8, U16, U32, U48, U64
 use Rattle.dnw_data.specs.declared.kind.Kind.TheVariants as kinds
 use Rattle.dnw_data.specs.declared.kind.ListKind.TheVariants as lists
 use Rattle.dnw_data.specs.declared.kind.Shown.TheVariants.{Text, Tag, Hex, Base32Hex, Base64}
-use Rattle.dnw_data.specs.Values.{FieldValue, name, u8, u16, u32, u48, u64, ipv4, ipv6, type_code, time, counted, octets, texts, items}
+use Rattle.dnw_data.specs.Lists.{list_fault}
+use Rattle.dnw_data.specs.Table.{fields_of}
+use Rattle.dnw_data.specs.Values.{FieldValue, name, u8, u16, u32, u48, u64, ipv4, ipv6, type_code, time, counted, octets, texts, types, params, items}
+use Rattle.dnw_reading.specs.ReadingLaws.{AreBytes}
+use Rattle.dnw_record.specs.Records.{RecordAt, RecordValue}
 use Rattle.dnw_digit_text.specs.Base32.{IsHash}
 use Rattle.dnw_field_text.specs.Numbers.{max_u8, max_u16, max_u32, max_u48}
 use Rattle.dnw_field_text.specs.Octets.{IsOctets, IsSalt}
 use Rattle.dnw_field_text.specs.Spelling.{ComesBack}
 use Rattle.dnw_field_text.specs.Strings.{IsString, IsText}
-use Rattle.dnw_data_text.specs.Generic.{max_data, generic_text, IsGeneric}
-use Rattle.dnw_word_text.specs.Words.{is_end, after_spaces}
+use Rattle.dnw_data_text.specs.declared.error.DataTextError.{DataTextError}
+use Rattle.dnw_data_text.specs.declared.error.DataTextError.TheVariants.{Memory}
+use Rattle.dnw_data_text.specs.Generic.{mark, max_data, generic_text, IsGeneric}
+use Rattle.dnw_word_text.specs.Words.{is_end, word, after_spaces}
 use Rattle.dnw_data_text.specs.Printing.{Prints}
+use Rattle.dnw_data_text.specs.DataTexts.{record_line, FailsText, IsDataText, IsPlainData, IsTextOf}
+use Rattle.dnw_data_text.specs.RecordLines.{line_octets, IsRecordLine}
+use Rattle.dnw_data_text.specs.declared.record_line.LineHead.{LineHead}
 use Rattle.dnw_data_text.specs.Parsing.{takes_all, ReadsField}
 
 -- octets of data: their number is written in two octets (RFC 1035, section 3.2.1)
@@ -36,11 +45,16 @@ GenericComesBack = ComesBack IsData generic_text IsGeneric
 abbrev pub Follows : Kind → List ℕ → Type 0
 Follows kind rest = (takes_all kind ≡ true → rest ≡ []) × (is_end rest ≡ true)
 
--- What is printed of a field of this kind with this value is read as it, and what follows is left.
+-- A text is read as the field, and what follows is left. It begins with white space or is empty, and its first word is not the
+-- one that the form of any data begins with; so it can be the first field of data, or follow another.
+abbrev pub IsReadBack : Option NameValue → Kind → List ℕ → FieldValue → List ℕ → Type 0
+IsReadBack origin kind text value rest =
+    ReadsField origin kind (after_spaces (text ++ rest)) value rest × (word (after_spaces (text ++ rest)) ≢ mark) × (is_end text ≡ true)
+
+-- What is printed of a field of this kind with this value is read as it.
 abbrev pub FieldComesBack : Kind → FieldValue → Type 0
 FieldComesBack kind value =
-    (origin : Option NameValue) (text rest : List ℕ) → Prints kind value text → Follows kind rest
-    → ReadsField origin kind (after_spaces (text ++ rest)) value rest
+    (origin : Option NameValue) (text rest : List ℕ) → Prints kind value text → Follows kind rest → IsReadBack origin kind text value rest
 
 -- a type as it is read from its code
 abbrev pub IsRead : RecordType → Type 0
@@ -83,6 +97,34 @@ OctetsComeBack =
     × ((own : List ℕ) → IsOctets own → FieldComesBack (Octets Base64) (octets own))
     × ((own : List ℕ) → IsText own → FieldComesBack (Octets Text) (octets own))
 
+-- Lists of types and of service parameters come back that can be read from data. A list of types is printed only if it is written
+-- in as few octets as it can be.
+abbrev pub ListsComeBack : Type 0
+ListsComeBack =
+    ((own : List ℕ) → IsOctets own → list_fault lists.Types own ≡ None → FieldComesBack (kinds.List lists.Types) (types (items lists.Types own)))
+    × ((own : List ℕ) → IsOctets own → list_fault lists.Params own ≡ None → FieldComesBack (kinds.List lists.Params) (params (items lists.Params own)))
+
 -- Strings up to the end come back, one or more.
 abbrev pub StringsComeBack : Type 0
 StringsComeBack = (own : List ℕ) → IsOctets own → 1 ≤ length own → FieldComesBack (kinds.List lists.Texts) (texts (items lists.Texts own))
+
+-- What is printed of data, in whatever form, is parsed as their octets, with names that are not compressed, if these are not more
+-- than data may have. Names are printed whole, so the origin does not matter.
+abbrev pub DataComeBack : Type 0
+DataComeBack = (origin : Option NameValue) (r : RecordValue) (text : List ℕ) → AreBytes r.message → IsDataText r text
+    → (own : List ℕ) × IsPlainData r own × ((max_data < length own) ⊎ IsTextOf origin (fields_of (code_of r.record_type)) text own)
+
+-- what a line of a record has between the owner and the data
+abbrev pub line_head : RecordValue → LineHead
+line_head r = record { record_type = r.record_type; class = r.class; ttl = r.ttl }
+
+-- A record of a message that is printed as a line is parsed as the octets of the same record, with names that are not compressed.
+abbrev pub LinesComeBack : Type 0
+LinesComeBack = (origin : Option NameValue) (b : List ℕ) (p e : ℕ) (r : RecordValue) (text : List ℕ) → AreBytes b → RecordAt b p r e → IsDataText r text
+    → (own : List ℕ) × IsPlainData r own
+    × ((max_data < length own) ⊎ IsRecordLine origin (record_line r text) (line_octets r.owner (line_head r) own))
+
+-- If a text is data of a type, parsing it fails for no other reason than memory.
+abbrev pub TextsAreParsed : Type 0
+TextsAreParsed = (origin : Option NameValue) (kinds : List Kind) (text own : List ℕ) (error : DataTextError)
+    → IsTextOf origin kinds text own → FailsText origin kinds text error → error ≡ Memory

@@ -267,7 +267,7 @@ ipv4-back own h four =
     let bare = dotted-bare t (All-ipv4_text own h) in
     (t, sym (bare-item t bare), (a, bare-utf8 t bare, IsDotted-ipv4_text own four h, refl), bare-open t bare)
 
-octets-fit : (xs : List ℕ) → AllSegments xs → IsOctets (octets_of xs)
+pub octets-fit : (xs : List ℕ) → AllSegments xs → IsOctets (octets_of xs)
 octets-fit [] h i = omega arith
 octets-fit (x ∷ xs) h zero = omega (arith, h 0)
 octets-fit (x ∷ xs) h (suc zero) = omega arith
@@ -280,13 +280,13 @@ ipv6-bare xs fits =
     cond_both (bytes_eq (take 6 xs) (0 ∷ 0 ∷ 0 ∷ 0 ∷ 0 ∷ 0xffff ∷ [])) (codes "::ffff:" ++ ipv4_text o) (hex_groups_text xs) (λ t. all_bare t ≡ true)
     (λ _. dotted-bare (ipv4_text o) (All-ipv4_text o (octets-fit (drop 6 xs) (AllSegments-drop 6 xs fits)))) (λ _. groups-bare (hex_groups_text xs) (All-hex_groups_text xs fits))
 
-segments-fit : (own : List ℕ) → IsOctets own → AllSegments (segments_of own)
+pub segments-fit : (own : List ℕ) → IsOctets own → AllSegments (segments_of own)
 segments-fit [] h i = omega arith
 segments-fit (a ∷ []) h i = omega arith
 segments-fit (a ∷ b ∷ own) h zero = omega (arith, h 0, h 1)
 segments-fit (a ∷ b ∷ own) h (suc i) = segments-fit own (λ j. h (suc (suc j))) i
 
-halves : (own : List ℕ) (n : ℕ) → IsOctets own → length own ≡ n + n → (length (segments_of own) ≡ n) × (own ≡ octets_of (segments_of own))
+pub halves : (own : List ℕ) (n : ℕ) → IsOctets own → length own ≡ n + n → (length (segments_of own) ≡ n) × (own ≡ octets_of (segments_of own))
 halves [] n h e = (omega (arith, e), refl)
 halves (a ∷ []) n h e = absurd (omega (arith, e))
 halves (a ∷ b ∷ own) zero h e = absurd (omega (arith, e))
@@ -316,13 +316,13 @@ Ascends list octets = Unit {0}
 at-most : (a b : ℕ) → nat_le a b ≡ true → a ≤ b
 at-most a b h = grind arith
 
-take-fit : (n : ℕ) (xs : List ℕ) → IsOctets xs → IsOctets (take n xs)
+pub take-fit : (n : ℕ) (xs : List ℕ) → IsOctets xs → IsOctets (take n xs)
 take-fit zero xs h i = omega arith
 take-fit (suc n) [] h i = omega arith
 take-fit (suc n) (x ∷ xs) h zero = h 0
 take-fit (suc n) (x ∷ xs) h (suc i) = take-fit n xs (λ j. h (suc j)) i
 
-drop-fit : (n : ℕ) (xs : List ℕ) → IsOctets xs → IsOctets (drop n xs)
+pub drop-fit : (n : ℕ) (xs : List ℕ) → IsOctets xs → IsOctets (drop n xs)
 drop-fit zero xs h = h
 drop-fit (suc n) [] h = h
 drop-fit (suc n) (x ∷ xs) h = drop-fit n xs (λ j. h (suc j))
@@ -348,7 +348,7 @@ first-item Protocols (x ∷ all) h fits some keys =
 first-item Ipv4 all h fits some keys = (ipv4-back (take 4 all) (take-fit 4 all h) (length-take-le 4 all fits), tt)
 first-item Ipv6 all h fits some keys = (ipv6-back (take 16 all) (take-fit 16 all h) (length-take-le 16 all fits), tt)
 
-map-some : (f : List ℕ → List ℕ) (x : Option (List ℕ)) (t : List ℕ) → option_map f x ≡ Some t → (y : List ℕ) × (x ≡ Some y) × (t ≡ f y)
+pub map-some : (f : List ℕ → List ℕ) (x : Option (List ℕ)) (t : List ℕ) → option_map f x ≡ Some t → (y : List ℕ) × (x ≡ Some y) × (t ≡ f y)
 map-some f None t e = absurd cc
 map-some f (Some y) t e = (y, refl, cc)
 
@@ -414,19 +414,19 @@ list-back list octets t h keys e =
 -- ---- keys in order
 
 -- all keys are below a number
-abbrev AreBelow : ℕ → List ParamValue → Type 0
+abbrev pub AreBelow : ℕ → List ParamValue → Type 0
 AreBelow n [] = Unit {0}
 AreBelow n (q ∷ qs) = (q.key < n) × AreBelow n qs
 
-with-last : (p : ParamValue) (done : List ParamValue) → AreBelow p.key done → with_param p done ≡ Some (done ++ p ∷ [])
+pub with-last : (p : ParamValue) (done : List ParamValue) → AreBelow p.key done → with_param p done ≡ Some (done ++ p ∷ [])
 with-last p [] h = refl
 with-last p (q ∷ done) h = rw (ne_eqb p.key q.key (omega (arith, h.0)), not-before p.key q.key (omega (arith, h.0)), with-last p done h.1) refl
 
-below-more : (m n : ℕ) (p : ParamValue) (done : List ParamValue) → AreBelow m done → m ≤ n → p.key < n → AreBelow n (done ++ p ∷ [])
+pub below-more : (m n : ℕ) (p : ParamValue) (done : List ParamValue) → AreBelow m done → m ≤ n → p.key < n → AreBelow n (done ++ p ∷ [])
 below-more m n p [] h le lt = (lt, tt)
 below-more m n p (q ∷ done) h le lt = (omega (arith, h.0, le), below-more m n p done h.1 le lt)
 
-below-weaker : (m n : ℕ) (done : List ParamValue) → AreBelow m done → m ≤ n → AreBelow n done
+pub below-weaker : (m n : ℕ) (done : List ParamValue) → AreBelow m done → m ≤ n → AreBelow n done
 below-weaker m n [] h le = tt
 below-weaker m n (q ∷ done) h le = (omega (arith, h.0, le), below-weaker m n done h.1 le)
 
@@ -609,15 +609,30 @@ text-some : (form : Form) (t own : List ℕ) → (form ≡ forms.Nothing → ⊥
 text-some form [] own other is = absurd (value-some form own other is)
 text-some form (c ∷ t) own other is = omega arith
 
+-- characters that are no white space, no quotes and no backslashes, and after them octets in quotes, or nothing
+abbrev pub IsShaped : List ℕ → Type 0
+IsShaped w =
+    (front : List ℕ) × (back : List ℕ) × (w ≡ front ++ back) × (all_open front ≡ true)
+    × ((back ≡ []) ⊎ ((own : List ℕ) × IsOctets own × (back ≡ string_text own)))
+
+any-shaped : (own : List ℕ) → IsOctets own → IsShaped (any_part own)
+any-shaped [] h = ([], [], refl, refl, inl refl)
+any-shaped (o ∷ own) h = (61 ∷ [], string_text (o ∷ own), refl, refl, inr (o ∷ own, h, refl))
+
+shaped-after : (k part : List ℕ) → all_key k ≡ true → IsShaped part → IsShaped (k ++ part)
+shaped-after k part key (front, back, e, shape, end) =
+    (k ++ front, back, ap (λ (xs : List ℕ). k ++ xs) e ∙ sym (append_assoc k front back), open-append k front (bare-open k (key-bare k key)) shape, end)
+
 -- the text is this key, and the value writes these
 abbrev IsWritten : List ℕ → List ℕ → List ℕ → Type 0
-IsWritten k part t = ((key_part (k ++ part) ≡ k) × IsValueText (value_part (k ++ part)) t) × IsAscii part
+IsWritten k part t = ((key_part (k ++ part) ≡ k) × IsValueText (value_part (k ++ part)) t) × IsAscii part × IsShaped part
 
 open-written : (k t : List ℕ) → all_key k ≡ true → all_open t ≡ true → 1 ≤ length t → length t ≤ 65535 → IsWritten k (61 ∷ t) t
-open-written k t key shape some few = (open-value k t key shape some few, IsAscii-cons 61 t (omega arith) (open-ascii t shape))
+open-written k t key shape some few =
+    (open-value k t key shape some few, IsAscii-cons 61 t (omega arith) (open-ascii t shape), (61 ∷ t, [], sym (append-nil (61 ∷ t)), shape, inl refl))
 
 any-written : (k own : List ℕ) → all_key k ≡ true → IsText own → IsWritten k (any_part own) own
-any-written k own key is = (any-value k own key is, any-ascii own is.0)
+any-written k own key is = (any-value k own key is, any-ascii own is.0, any-shaped own is.0)
 
 form-written : (form : Form) (k t own : List ℕ) → all_key k ≡ true → IsOwnValue form t own → list_all (fine_of form) t ≡ true → length t ≤ 65535 → IsWritten k (own_part form t) t
 form-written forms.Mandatory k t own key is fine few = open-written k t key fine (text-some forms.Mandatory t own (λ e. cc) is) few
@@ -629,17 +644,23 @@ form-written forms.Ech k t own key is fine few = open-written k t key fine (text
 form-written forms.Ipv6 k t own key is fine few = open-written k t key fine (text-some forms.Ipv6 t own (λ e. cc) is) few
 form-written forms.Any k t own key is fine few = absurd is
 
--- a word of a key and a value is a parameter
-word-is : (k part value : List ℕ) (p : ParamValue) → all_key k ≡ true → IsWritten k part value → IsParamOf k value p → IsParam (k ++ part) p
-word-is k part value p key written is =
-    (value, IsUtf8-from_ascii (k ++ part) (ascii-after k part key written.1), written.0.1, subst (λ (w : List ℕ). IsParamOf w value p) (sym written.0.0) is)
+-- a text is a parameter, and has this shape
+abbrev IsShapedParam : List ℕ → ParamValue → Type 0
+IsShapedParam w p = IsParam w p × IsShaped w
 
-generic-back : (p : ParamValue) → IsParamValue p → IsParam (generic_key p.key ++ any_part p.octets) p
+-- a word of a key and a value is a parameter
+word-is : (k part value : List ℕ) (p : ParamValue) → all_key k ≡ true → IsWritten k part value → IsParamOf k value p → IsShapedParam (k ++ part) p
+word-is k part value p key written is = (
+  (value, IsUtf8-from_ascii (k ++ part) (ascii-after k part key written.1), written.0.1, subst (λ (w : List ℕ). IsParamOf w value p) (sym written.0.0) is),
+  shaped-after k part key written.2,
+)
+
+generic-back : (p : ParamValue) → IsParamValue p → IsShapedParam (generic_key p.key ++ any_part p.octets) p
 generic-back p is =
     let key = name-key forms.Any p.key (omega (arith, is.0)) in
     word-is (generic_key p.key) (any_part p.octets) p.octets p key (any-written (generic_key p.key) p.octets key (is.1, is.2)) (inr ((is.0, refl), refl))
 
-named-back : (p : ParamValue) (t : List ℕ) → IsParamValue p → own_text (form_of p.key) p.octets ≡ Some t → length t ≤ 65535 → IsParam (key_text p.key ++ own_part (form_of p.key) t) p
+named-back : (p : ParamValue) (t : List ℕ) → IsParamValue p → own_text (form_of p.key) p.octets ≡ Some t → length t ≤ 65535 → IsShapedParam (key_text p.key ++ own_part (form_of p.key) t) p
 named-back p t is e few = elim (named p.key) [
   | inl name ↦
       let form = form_of p.key in
@@ -649,18 +670,21 @@ named-back p t is e few = elim (named p.key) [
   | inr any ↦ let no = rw any at e in absurd cc
 ]
 
-part-back : (p : ParamValue) (x : Option (List ℕ)) → IsParamValue p → own_text (form_of p.key) p.octets ≡ x → IsParam (part_of p.key p.octets x) p
+part-back : (p : ParamValue) (x : Option (List ℕ)) → IsParamValue p → own_text (form_of p.key) p.octets ≡ x → IsShapedParam (part_of p.key p.octets x) p
 part-back p None is e = generic-back p is
 part-back p (Some t) is e = elim (cases_Bool (nat_le (length t) 65535)) [
   | inl few ↦
       let whole : part_of p.key p.octets (Some t) ≡ key_text p.key ++ own_part (form_of p.key) t = rw few refl in
-      subst (λ (w : List ℕ). IsParam w p) (sym whole) (named-back p t is e (at-most (length t) 65535 few))
+      subst (λ (w : List ℕ). IsShapedParam w p) (sym whole) (named-back p t is e (at-most (length t) 65535 few))
   | inr many ↦
       let whole : part_of p.key p.octets (Some t) ≡ generic_key p.key ++ any_part p.octets = rw many refl in
-      subst (λ (w : List ℕ). IsParam w p) (sym whole) (generic-back p is)
+      subst (λ (w : List ℕ). IsShapedParam w p) (sym whole) (generic-back p is)
 ]
 
 pub params : ParamsComeBack
 params p is =
-    let back = part-back p (own_text (form_of p.key) p.octets) is refl in
+    let back = (part-back p (own_text (form_of p.key) p.octets) is refl).0 in
     (back, λ other also. one-word (param_text p.key p.octets) other p also back)
+
+pub param-shaped : (p : ParamValue) → IsParamValue p → IsShaped (param_text p.key p.octets)
+param-shaped p is = (part-back p (own_text (form_of p.key) p.octets) is refl).1

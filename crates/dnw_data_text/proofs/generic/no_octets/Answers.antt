@@ -1,4 +1,4 @@
-use Rattle.std.proofs.Common.{◌≡◌, [], List, ℕ, Ok, length, refl, sym, ap, ◌∙◌, subst, arith}
+use Rattle.std.proofs.Common.{◌≡◌, [], List, ℕ, Ok, length, sym, ap, ◌∙◌, subst, arith}
 use Rattle.dnw_data_text.specs.Generic.{AreOctets}
 use Rattle.dnw_data_text.proofs.GenericText.{hex-words}
 use Rattle.dnw_data_text.proofs.generic.no_octets.Goals as goal

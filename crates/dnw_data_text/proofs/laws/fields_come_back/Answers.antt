@@ -1,5 +1,7 @@
 use Rattle.dnw_data_text.proofs.FieldsBack.{u8-back, u16-back, u32-back, time-back, type-back, ipv4-back, string-back, tag-back, salt-back, hash-back, octets-back, text-back, strings-back}
 use Rattle.dnw_data_text.proofs.NamesBack.{name-back}
+use Rattle.dnw_data_text.proofs.ParamsBack.{params-back}
+use Rattle.dnw_data_text.proofs.TypesBack.{types-back}
 use Rattle.dnw_data_text.proofs.WordsBack.{ipv6-back, eui48-back, eui64-back, base64-back}
 use Rattle.dnw_data_text.proofs.laws.fields_come_back.Goals as goal
 
@@ -29,3 +31,6 @@ returns-clause-octets c = (octets-back, base64-back, text-back)
 
 pub returns-clause-strings : goal.returns-clause-strings
 returns-clause-strings c = strings-back
+
+pub returns-clause-lists : goal.returns-clause-lists
+returns-clause-lists c = (types-back, params-back)

@@ -1,0 +1,9 @@
+use Rattle.dnw_data_text.proofs.DataBack.{back}
+use Rattle.dnw_data_text.proofs.NoFault.{parsed}
+use Rattle.dnw_data_text.proofs.laws.data_come_back.Goals as goal
+
+pub returns-clause-back : goal.returns-clause-back
+returns-clause-back c = back
+
+pub returns-clause-parsed : goal.returns-clause-parsed
+returns-clause-parsed c = parsed
