@@ -1,6 +1,7 @@
 pub mod Copying
 pub mod Pieces
 pub mod Kept
+pub mod GivenFields
 pub mod Going
 pub mod Counting
 pub mod Walking
@@ -10,3 +11,4 @@ pub mod ReadBack
 pub mod Records
 pub mod Octets
 pub mod WrittenCopies
+pub mod WireRecords
