@@ -1,5 +1,5 @@
 -- Values of fields are data: the octets of each are read as that value.
-use Rattle.std.proofs.Common.{◌≡◌, ℕ, ◌+◌, ◌<◌, ◌^◌, ◌/◌, ◌%◌, max, Bool, true, false, ◌&&◌, ◌==◌, not, None, Some, List, [], ◌∷◌, ◌++◌, length, drop, find, refl, sym, ap, ◌∙◌, subst, inl, inr, arith}
+use Rattle.std.proofs.Common.{◌≡◌, ℕ, ◌+◌, ◌<◌, ◌^◌, ◌/◌, ◌%◌, max, Bool, true, false, ◌&&◌, ◌==◌, not, None, List, [], ◌∷◌, ◌++◌, length, drop, find, refl, sym, ap, ◌∙◌, subst, inl, inr, arith}
 use Rattle.std.specs.Prelude.{unwrap_or}
 use Rattle.std.specs.Int.{w64, from_be_bytes, to_be_bytes}
 use Rattle.std.specs.List.{AllByRecursion, flat_map, list_all}
@@ -21,7 +21,7 @@ use Rattle.dnw_rdata.specs.declared.from_fields.FromFieldsError.{FromFieldsError
 use Rattle.dnw_rdata.specs.DataPieces.{ArePiecesOf, DataPiece, HasPieces, IsData, IsPieceOf, name_piece, octets_of, octets_piece, piece_octets}
 use Rattle.dnw_rdata.specs.DataCopies.{alone}
 use Rattle.dnw_rdata.specs.AnyRecordLaws.{value_of, values_of}
-use Rattle.dnw_rdata.specs.GivenFields.{AreFieldsOf, FailsFields, IsFieldOf}
+use Rattle.dnw_rdata.specs.GivenFields.{AreFieldsOf, FailsGivenFields, IsFieldOf}
 use Rattle.dnw_rdata.proofs.AnyRecords.{data_have_fields}
 
 -- ---- which kinds take all that is left: only the last of a type
@@ -139,7 +139,7 @@ are-data code own values is are fit =
 -- ---- fields that are refused
 
 pub not-refused : (number : ℕ) (kinds : List Kind) (values : List FieldValue) (error : FromFieldsError) → AreFieldsOf kinds values
-    → FailsFields number kinds values error → ⊥
+    → FailsGivenFields number kinds values error → ⊥
 not-refused number [] [] error are fails = fails
 not-refused number [] (value ∷ values) error are fails = are
 not-refused number (kind ∷ kinds) [] error are fails = are

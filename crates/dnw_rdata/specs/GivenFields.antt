@@ -36,9 +36,9 @@ AreFieldsOf (kind ∷ kinds) [] = ⊥
 AreFieldsOf (kind ∷ kinds) (value ∷ values) = IsFieldOf kind value × AreFieldsOf kinds values
 
 -- Why values are no fields of these kinds, by the first that is wrong, if they are numbered from here.
-abbrev pub FailsFields : ℕ → List Kind → List FieldValue → FromFieldsError → Type 0
-FailsFields number [] [] error = ⊥
-FailsFields number [] (value ∷ values) error = error ≡ TooMany number
-FailsFields number (kind ∷ kinds) [] error = error ≡ Missing number kind
-FailsFields number (kind ∷ kinds) (value ∷ values) error =
-    ((¬ (IsFieldOf kind value)) × (error ≡ Mismatch number kind)) ⊎ (IsFieldOf kind value × FailsFields (number + 1) kinds values error)
+abbrev pub FailsGivenFields : ℕ → List Kind → List FieldValue → FromFieldsError → Type 0
+FailsGivenFields number [] [] error = ⊥
+FailsGivenFields number [] (value ∷ values) error = error ≡ TooMany number
+FailsGivenFields number (kind ∷ kinds) [] error = error ≡ Missing number kind
+FailsGivenFields number (kind ∷ kinds) (value ∷ values) error =
+    ((¬ (IsFieldOf kind value)) × (error ≡ Mismatch number kind)) ⊎ (IsFieldOf kind value × FailsGivenFields (number + 1) kinds values error)

@@ -3,7 +3,7 @@ ghost use Rattle.std.specs.Prelude.{◌≡◌, ◌+◌, ◌<◌, ◌^◌, ◌++�
 ghost use Rattle.std.specs.List.{AllByRecursion, flat_map};
 ghost use Rattle.dnw_data.specs.Values.{seen};
 ghost use Rattle.dnw_data.specs.FieldWires.{IsFieldValue, field_wire};
-ghost use Rattle.dnw_rdata.specs.GivenFields.{AreFieldsOf, FailsFields, IsFieldOf};
+ghost use Rattle.dnw_rdata.specs.GivenFields.{AreFieldsOf, FailsGivenFields, IsFieldOf};
 
 use crate::rdata::RData;
 use dnw_codes::record_type::RecordType;
@@ -61,10 +61,15 @@ impl RData {
     ghost use Rattle.dnw_rdata.specs.declared.from_fields.FromFieldsError.TheVariants.{Memory};
     ghost use Rattle.dnw_rdata.specs.DataCopies.{alone};
     ghost use Rattle.dnw_rdata.specs.DataPieces.{kinds_of};
-    ghost use Rattle.dnw_rdata.specs.GivenFields.{AreFieldsOf, FailsFields};
+    ghost use Rattle.dnw_rdata.specs.GivenFields.{AreFieldsOf, FailsGivenFields};
 
-    /// Creates data of these fields, which `fields` returns again. They must be those of the type, by the table of
-    /// `dnw_data::table`: so the data of an MX record are made of `Field::U16` and `Field::Name`.
+    /// Creates data of these fields, which an iterator over the data yields again. They must be those of the type, by the
+    /// table of `dnw_data::table`.
+    ///
+    /// ```
+    /// let fields = [Field::U16(10), Field::Name(exchange.as_name_ref())];
+    /// let mail = RData::from_fields(alloc, RecordType::MX, &fields)?;
+    /// ```
     ///
     /// It fails with `Mismatch` for the first field that is of another kind, or that no octets of its kind are: a `Counted`
     /// of more than 255 octets, a `U48` of 2^48 or more, `Texts` without a string, a list of another kind, or a `TypeCode`
@@ -77,7 +82,7 @@ impl RData {
     ) -> Result<Self, FromFieldsError>
         ensures ok { IfOk result (λ r. (r.record_type ≡ record_type)
             × FieldsAre 0 (kinds_of record_type) (alone r.octets) (map seen fields.now) None) }
-        ensures err { IfErr result (λ e. (e ≡ Memory) ⊎ FailsFields 0 (kinds_of record_type) (map seen fields.now) e) }
+        ensures err { IfErr result (λ e. (e ≡ Memory) ⊎ FailsGivenFields 0 (kinds_of record_type) (map seen fields.now) e) }
 
         // It accepts the fields of the type, and no others; then it fails only for memory.
         ensures only { OnOk result (AreFieldsOf (kinds_of record_type) (map seen fields.now)) }
@@ -101,7 +106,7 @@ fn append_fields(
     ensures are { OnOk result (AreFieldsOf kinds.now (map seen fields.now)) }
     ensures values { OnOk result (AllByRecursion IsFieldValue (map seen fields.now)) }
     ensures octets { OnOk result (octets.new.items ≡ octets.old.items ++ flat_map field_wire (map seen fields.now)) }
-    ensures err { IfErr result (λ e. (e ≡ FromFieldsError.Memory) ⊎ FailsFields number kinds.now (map seen fields.now) e) }
+    ensures err { IfErr result (λ e. (e ≡ FromFieldsError.Memory) ⊎ FailsGivenFields number kinds.now (map seen fields.now) e) }
 {
     match (kinds, fields) {
         ([], []) => Ok(()),

@@ -1,4 +1,4 @@
-use Rattle.std.proofs.Common.{◌≡◌, sym, ap, ◌∙◌, subst}
+use Rattle.std.proofs.Common.{sym, ap, ◌∙◌, subst}
 use Rattle.dnw_rdata.specs.DataPieces.{kinds_of}
 use Rattle.dnw_rdata.specs.WireRecords.{HaveNameAndOthers, HaveNoName}
 use Rattle.dnw_rdata.proofs.WireRecords.{no-name, some-name}
