@@ -1,7 +1,8 @@
 -- A list is checked item by item: what is left is as wrong as the whole.
-use Rattle.std.proofs.Common.{◌≡◌, Bool, ℕ, zero, suc, ◌+◌, ◌≤◌, ◌==◌, true, false, Some, None, List, [], ◌∷◌, length, take, drop, nat_lt, ap, ◌-◌, if◌then◌else◌, refl, sym, ◌∙◌, arith, rules, tests, length-drop}
+use Rattle.std.proofs.Common.{◌≡◌, Bool, ℕ, zero, suc, ◌+◌, ◌≤◌, ◌==◌, true, false, Option, Some, None, List, [], ◌∷◌, length, take, drop, nat_lt, ap, ◌-◌, if◌then◌else◌, refl, sym, ◌∙◌, arith, rules, tests, length-drop}
 use Rattle.std.proofs.Math.Seq.{take-length}
 use Rattle.std.proofs.lemmas.Option.{none-some}
+use Rattle.dnw_error.specs.declared.error.DecodeError.{DecodeError}
 use Rattle.dnw_error.specs.declared.error.DecodeError.TheVariants.{InsufficientBytes}
 use Rattle.dnw_data.specs.declared.kind.ListKind.{ListKind}
 use Rattle.dnw_data.specs.declared.kind.ListKind.TheVariants.{Texts, Types, Params}
@@ -87,3 +88,36 @@ first-item kind left c some =
     let (m, is, step) = at-first c.steps kind c.least left some c.enough in
     let right = sym step ∙ c.right in
     by-tests kind left m c.least some (omega (arith, is, c.enough)) (nat_lt (length left) (item_size kind left)) (may_come kind c.least (tag_of kind left) (count_of kind left)) refl right
+
+-- ---- what is right after some number is right from 0
+
+may-lower : (kind : ListKind) (least low tag count : ℕ) → low ≤ least → may_come kind least tag count ≡ true → may_come kind low tag count ≡ true
+may-lower Texts least low tag count lower may = refl
+may-lower Types least low tag count lower may = search (rules, tests)
+may-lower Params least low tag count lower may = search (rules, tests)
+
+-- the same of what the tests on the first item decide
+by-lower : (short may may' : Bool) (fault fault' : Option DecodeError) (error : DecodeError) → (may ≡ true → may' ≡ true) → (fault ≡ None → fault' ≡ None)
+    → (if short then Some InsufficientBytes else if may then fault else Some error) ≡ None
+    → (if short then Some InsufficientBytes else if may' then fault' else Some error) ≡ None
+by-lower true may may' fault fault' error allowed rest right = right
+by-lower false false may' fault fault' error allowed rest right = absurd (none-some _ (sym right))
+by-lower false true may' fault fault' error allowed rest right = rw (allowed refl) (rest right)
+
+from-lower : (n m : ℕ) (kind : ListKind) (least low : ℕ) (left : List ℕ) → length left ≤ n → length left ≤ m → low ≤ least
+    → fault_within n kind least left ≡ None → fault_within m kind low left ≡ None
+from-lower n m kind least low [] long long' lower right = refl
+from-lower zero m kind least low (x ∷ xs) long long' lower right = absurd (omega (arith, long))
+from-lower (suc n) zero kind least low (x ∷ xs) long long' lower right = absurd (omega (arith, long'))
+from-lower (suc n) (suc m) kind least low (x ∷ xs) long long' lower right =
+    let left = x ∷ xs in
+    let size = length-drop (item_size kind left) left in
+    let some = item-size-some kind left in
+    let next = tag_of kind left + 1 in
+    by-lower (nat_lt (length left) (item_size kind left)) (may_come kind least (tag_of kind left) (count_of kind left)) _ _ _ (out_of_order kind)
+    (may-lower kind least low (tag_of kind left) (count_of kind left) lower)
+    (from-lower n m kind next next (drop (item_size kind left) left) (omega (arith, size, some, long)) (omega (arith, size, some, long')) (omega arith)) right
+
+pub is-right : (kind : ListKind) (left : List ℕ) → IsChecked kind left → list_fault kind left ≡ None
+unfolding list_fault
+is-right kind left c = from-lower c.steps (length left) kind c.least 0 left c.enough (omega arith) (omega arith) c.right

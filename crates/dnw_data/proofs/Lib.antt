@@ -1,3 +1,4 @@
+pub mod Addresses
 pub mod Checking
 pub mod Taking
 pub mod Walking

@@ -2,6 +2,7 @@ pub mod Table
 pub mod Lists
 pub mod Values
 pub mod Fields
+pub mod FieldWires
 pub mod Walks
 pub mod DataLaws
 pub mod Items

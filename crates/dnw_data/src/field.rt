@@ -1,18 +1,23 @@
 //! Fields of the data of a record.
-ghost use Rattle.std.specs.Prelude.{◌≡◌, length, None, Some, IfOk, IfErr, OnErr, IsErrOf, IsOkAnd};
+ghost use Rattle.std.specs.Prelude.{◌≡◌, ◌++◌, length, None, Some, IfOk, IfErr, OnErr, OnOk, IsErrOf, IsOkAnd};
 ghost use Rattle.std.specs.Int.{w16, w32, from_be_bytes};
 ghost use Rattle.dnw_error.specs.declared.error.DecodeError.{DecodeError};
 ghost use Rattle.dnw_base.specs.Decoder.{Decoder};
-ghost use Rattle.dnw_data.specs.Values.{own_size, counted_size, own_fault, own_value, seen};
+ghost use Rattle.dnw_base.specs.Names.{AreLabels, wire};
+ghost use Rattle.dnw_data.specs.Lists.{list_fault};
+ghost use Rattle.dnw_data.specs.FieldWires.{AppendsWire};
+ghost use Rattle.dnw_data.specs.Values.{own_size, counted, counted_size, own_fault, own_value, seen};
 ghost use Rattle.dnw_data.specs.Fields.{TakesNameField, FailsName, TakesOwn, FailsOwn};
 
 use crate::kind::{Kind, ListKind};
 use crate::lists::Items;
 use dnw_base::decoder::BinDecoder;
+use dnw_base::limits::MAX_NAME;
 use dnw_codes::record_type::RecordType;
 use dnw_codes::serial_number::SerialNumber;
 use dnw_error::error::DecodeError;
 use dnw_name::name_ref::NameRef;
+use std::alloc::AllocError;
 use std::net::{Ipv4Addr, Ipv6Addr};
 
 /// A field of the data of a record. It borrows from the message, and nothing here allocates.
@@ -53,6 +58,7 @@ pub enum Field<'r> {
 impl<'r> Field<'r> {
     ghost use Rattle.dnw_data.specs.Values.{FieldValue, seen};
     ghost use Rattle.dnw_data.specs.Fields.{TakesField, FailsField};
+    ghost use Rattle.dnw_data.specs.FieldWires.{AppendsWire, IsFieldValue};
 
     /// Reads a field of this kind at the cursor, and leaves the cursor after it. The reader's message must end where the
     /// data do. If it fails, the cursor is unchanged. It does not allocate.
@@ -73,6 +79,65 @@ impl<'r> Field<'r> {
             _ => read_own(kind, reader),
         }
     }
+
+    /// Appends the octets of the field, a name in its wire form (RFC 1035, section 3.1). Returns `false` if it is `Counted`
+    /// and has more than 255 octets, which no length octet counts.
+    ///
+    /// It fails if an allocation fails.
+    pub fn append_to(&self, out: &mut Vec<u8>) -> Result<bool, AllocError>
+        ensures appends { IfOk result (AppendsWire (seen self.now) out.old.items out.new.items) }
+        ensures of_type { OnOk result (IsFieldValue (seen self.now)) }
+    {
+        match self {
+            Field::Name(name) => append_name(name, out)?,
+            Field::U8(number) => out.push(*number)?,
+            Field::U16(number) => out.extend_from_slice(&number.to_be_bytes())?,
+            Field::U32(number) => out.extend_from_slice(&number.to_be_bytes())?,
+            Field::U48(number) => out.extend_from_slice(&number.to_be_bytes()[2..])?,
+            Field::U64(number) => out.extend_from_slice(&number.to_be_bytes())?,
+            Field::Ipv4(address) => out.extend_from_slice(&address.octets())?,
+            Field::Ipv6(address) => out.extend_from_slice(&address.octets())?,
+            Field::TypeCode(code) => out.extend_from_slice(&u16::from(*code).to_be_bytes())?,
+            Field::Time(seconds) => out.extend_from_slice(&seconds.get().to_be_bytes())?,
+            Field::Counted(octets) => return append_counted(octets, out),
+            Field::Octets(octets) => out.extend_from_slice(octets)?,
+            Field::Texts(items) | Field::Types(items) | Field::Params(items) => {
+                append_items(items, out)?;
+            }
+        }
+        Ok(true)
+    }
+}
+
+/// Appends the wire form of a name.
+fn append_name(name: &NameRef<'_>, out: &mut Vec<u8>) -> Result<(), AllocError>
+    ensures appends { OnOk result (out.new.items ≡ out.old.items ++ wire name.now) }
+    ensures labels { AreLabels name.now }
+{
+    let size = name.encoded_len();
+    let mut room = [0; MAX_NAME];
+    name.copy_wire(&mut room).unwrap();
+    out.extend_from_slice(&room[..size])
+}
+
+/// Appends octets after their number. Returns `false` if they are too many.
+fn append_counted(octets: &[u8], out: &mut Vec<u8>) -> Result<bool, AllocError>
+    ensures { IfOk result (AppendsWire (counted octets.now) out.old.items out.new.items) }
+{
+    if octets.len() > 255 {
+        return Ok(false);
+    }
+    out.push(octets.len() as u8)?;
+    out.extend_from_slice(octets)?;
+    Ok(true)
+}
+
+/// Appends the octets of items.
+fn append_items(items: &Items<'_>, out: &mut Vec<u8>) -> Result<(), AllocError>
+    ensures appends { OnOk result (out.new.items ≡ out.old.items ++ items.now.octets) }
+    ensures right { list_fault items.now.kind items.now.octets ≡ None }
+{
+    out.extend_from_slice(items.as_bytes())
 }
 
 /// Reads a field that is a name.

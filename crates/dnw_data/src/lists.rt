@@ -53,10 +53,19 @@ impl<'r> Items<'r> {
         }
     }
 
-    /// Returns the octets of the items that are left, as they are in the message.
+    /// Returns what the items are.
+    #[inline(always)]
+    pub fn kind(&self) -> ListKind
+        ensures { result ≡ self.now.kind }
+    {
+        self.kind
+    }
+
+    /// Returns the octets of the items that are left, as they are in the message: whole items in order.
     #[inline(always)]
     pub fn as_bytes(&self) -> &'r [u8]
-        ensures { result.now ≡ self.now.octets }
+        ensures octets { result.now ≡ self.now.octets }
+        ensures right { list_fault self.now.kind self.now.octets ≡ None }
     {
         self.octets
     }

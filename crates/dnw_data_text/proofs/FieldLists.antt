@@ -9,7 +9,7 @@ use Rattle.dnw_data_text.specs.declared.error.Wanted.TheVariants.{Field}
 use Rattle.dnw_data_text.specs.Faults.{fault}
 use Rattle.dnw_word_text.specs.Words.{after_spaces}
 use Rattle.dnw_data_text.specs.Parsing.{ReadsField, AreFieldTexts, FailsFields}
-use Rattle.dnw_word_text.specs.FieldWires.{field_wire}
+use Rattle.dnw_data.specs.FieldWires.{field_wire}
 use Rattle.dnw_data_text.specs.Inside.Reads.{AppendsRest}
 
 pub field-missing : (origin : Option NameValue) (count len : ℕ) (kinds others : List Kind) (kind : Kind) (left start : List ℕ) → kinds ≡ kind ∷ others

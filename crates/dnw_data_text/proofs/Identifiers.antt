@@ -8,7 +8,7 @@ use Rattle.std.proofs.lemmas.Nat.{be_bytes_8}
 use Rattle.dnw_field_text.specs.Octets.{IsOctets}
 use Rattle.dnw_digit_text.specs.Pairs.{hyphen, digit_of, pair_octet, before, pairs_octets, IsPairsText}
 use Rattle.dnw_data_text.specs.Parsing.{eui48, eui64}
-use Rattle.dnw_word_text.specs.FieldWires.{field_wire}
+use Rattle.dnw_data.specs.FieldWires.{field_wire}
 
 octets-nil : IsOctets []
 octets-nil = λ i. omega arith

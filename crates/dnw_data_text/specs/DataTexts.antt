@@ -1,6 +1,6 @@
 -- The text of the data of a record: its fields' text, or the form that any data have (RFC 3597, section 5) if they are no
 -- fields of their type, or if a field or the type has no text.
-use Rattle.std.specs.Prelude.{decimal, ◌≡◌, ◌≢◌, ℕ, ◌<◌, ◌-◌, ◌==◌, ◌⊎◌, Bool, true, false, List, [], ◌∷◌, ◌++◌, length, flat_map, if◌then◌else◌, Option}
+use Rattle.std.specs.Prelude.{decimal, ◌≡◌, ◌≢◌, ℕ, ◌-◌, ◌==◌, ◌⊎◌, Bool, true, false, List, [], ◌∷◌, ◌++◌, length, flat_map, if◌then◌else◌, Option}
 use Rattle.dnw_error.specs.declared.error.DecodeError.{DecodeError}
 use Rattle.dnw_codes.specs.RecordTypes.{type_text}
 use Rattle.dnw_codes.specs.DnsClasses.{class_text}
@@ -9,7 +9,7 @@ use Rattle.dnw_base.specs.Names.{NameValue}
 use Rattle.dnw_data.specs.declared.kind.Kind.{Kind}
 use Rattle.dnw_data.specs.declared.kind.Kind.TheVariants.{Octets}
 use Rattle.dnw_data.specs.declared.kind.Shown.TheVariants.{Hex}
-use Rattle.dnw_data.specs.Values.{FieldValue, counted}
+use Rattle.dnw_data.specs.Values.{FieldValue}
 use Rattle.dnw_data.specs.Fields.{TakesField, FailsField}
 use Rattle.dnw_data.specs.Walks.{IsAtEnd, FieldsLeft}
 use Rattle.dnw_record.specs.Records.{RecordValue, data_octets}
@@ -23,7 +23,7 @@ use Rattle.dnw_word_text.specs.Words.{after_spaces, word, after_word}
 use Rattle.dnw_data_text.specs.Generic.{mark, generic_text, IsGeneric, FailsSized}
 use Rattle.dnw_data_text.specs.Printing.{PrintsFields, HasNoText}
 use Rattle.dnw_data_text.specs.Parsing.{AreFieldTexts, FailsFields}
-use Rattle.dnw_word_text.specs.FieldWires.{field_wire}
+use Rattle.dnw_data.specs.FieldWires.{IsLong, field_wire}
 
 -- Data that are octets alone have no form of their own.
 abbrev pub has_own_form : List Kind → Bool
@@ -31,10 +31,6 @@ has_own_form (Octets Hex ∷ []) = false
 has_own_form kinds = true
 
 -- ---- the octets of data, with names that are not compressed
-
-abbrev pub IsLong : FieldValue → Type 0
-IsLong (counted own) = 255 < length own
-IsLong value = ⊥
 
 -- The data are fields of these kinds, and these octets.
 abbrev pub AreWire : List Kind → Decoder → List ℕ → Type 0

@@ -3,19 +3,18 @@ ghost use Rattle.std.specs.Prelude.{◌≡◌, ◌⊎◌, ◌++◌, ℕ, List, l
 ghost use Rattle.std.specs.Option.{option_copied};
 ghost use Rattle.dnw_codes.specs.RecordTypes.{type_code};
 ghost use Rattle.dnw_data.specs.Table.{fields_of};
-ghost use Rattle.dnw_data.specs.Values.{FieldValue, seen};
+ghost use Rattle.dnw_data.specs.Values.{FieldValue};
 ghost use Rattle.dnw_data_text.specs.declared.error.DataTextError.TheVariants.{Memory};
 ghost use Rattle.dnw_data_text.specs.Parsing.{AreFieldTexts, FailsFields};
-ghost use Rattle.dnw_word_text.specs.FieldWires.{field_wire};
+ghost use Rattle.dnw_data.specs.FieldWires.{field_wire};
 ghost use Rattle.dnw_data_text.specs.DataTexts.{record_line, has_own_form, without_space, IsPlainData, IsDataText, IsTextOf, FailsText};
-ghost use Rattle.dnw_data_text.specs.Inside.Wires.{AppendsWire, AppendsWires};
+ghost use Rattle.dnw_data_text.specs.Inside.Wires.{AppendsWires};
 
 use crate::error::{DataTextError, Wanted};
 use crate::generic::{Generic, MARK, parse_sized};
 use crate::parsing::{Place, parse_fields};
 use crate::printing::{is_ended, next_field, write_fields};
 use dnw_codes::record_type::RecordType;
-use dnw_data::field::Field;
 use dnw_data::fields::Fields;
 use dnw_data::kind::{Kind, Shown};
 use dnw_data::table::fields_of;
@@ -163,7 +162,7 @@ fn plain_octets(
     ensures { IfOk result (λ own. IsPlainData «record».now own.items) }
 {
     let mut octets = Vec::new(alloc);
-    if append_fields(alloc, kinds, &mut record.fields(), &mut octets)? {
+    if append_fields(kinds, &mut record.fields(), &mut octets)? {
         return Ok(octets);
     }
     Vec::from_slice(alloc, record.rdata())
@@ -171,7 +170,6 @@ fn plain_octets(
 
 /// Appends the octets of fields. Returns `false` if one cannot be read.
 fn append_fields<'r>(
-    alloc: Global,
     kinds: &[Kind],
     fields: &mut Fields<'r>,
     out: &mut Vec<u8>,
@@ -185,38 +183,8 @@ fn append_fields<'r>(
     let Some(field) = next_field(fields) else {
         return Ok(false);
     };
-    if !append_field(alloc, &field, out)? {
+    if !field.append_to(out)? {
         return Ok(false);
     }
-    append_fields(alloc, others, fields, out)
-}
-
-/// Appends the octets of a field. Returns `false` if it has too many for its length octet.
-fn append_field(alloc: Global, field: &Field<'_>, out: &mut Vec<u8>) -> Result<bool, AllocError>
-    ensures { IfOk result (AppendsWire (seen field.now) out.old.items out.new.items) }
-{
-    match field {
-        Field::Name(name) => out.extend_from_slice(name.to_name(alloc).unwrap().as_wire())?,
-        Field::U8(number) => out.push(*number)?,
-        Field::U16(number) => out.extend_from_slice(&number.to_be_bytes())?,
-        Field::U32(number) => out.extend_from_slice(&number.to_be_bytes())?,
-        Field::U48(number) => out.extend_from_slice(&number.to_be_bytes()[2..])?,
-        Field::U64(number) => out.extend_from_slice(&number.to_be_bytes())?,
-        Field::Ipv4(address) => out.extend_from_slice(&address.octets())?,
-        Field::Ipv6(address) => out.extend_from_slice(&address.octets())?,
-        Field::TypeCode(code) => out.extend_from_slice(&u16::from(*code).to_be_bytes())?,
-        Field::Time(seconds) => out.extend_from_slice(&seconds.get().to_be_bytes())?,
-        Field::Counted(octets) => {
-            if octets.len() > 255 {
-                return Ok(false);
-            }
-            out.push(octets.len() as u8)?;
-            out.extend_from_slice(octets)?;
-        }
-        Field::Octets(octets) => out.extend_from_slice(octets)?,
-        Field::Texts(items) | Field::Types(items) | Field::Params(items) => {
-            out.extend_from_slice(items.as_bytes())?;
-        }
-    }
-    Ok(true)
+    append_fields(others, fields, out)
 }

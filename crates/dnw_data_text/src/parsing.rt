@@ -5,7 +5,7 @@ ghost use Rattle.dnw_data.specs.Values.{FieldValue, counted, octets};
 ghost use Rattle.dnw_field_text.specs.Strings.{IsLongText};
 ghost use Rattle.dnw_data_text.specs.declared.error.DataTextError.TheVariants.{Memory};
 ghost use Rattle.dnw_data_text.specs.Parsing.{IsName, IsNumberOf, AreOctetsOf, IsOctetsOf, IsIdentifier, eui48, eui64, Spells, IsWord, AreTexts, AreList, takes_all, AllSpell, AreAll, ReadsField, AreFieldTexts, FailsFields};
-ghost use Rattle.dnw_word_text.specs.FieldWires.{field_wire};
+ghost use Rattle.dnw_data.specs.FieldWires.{field_wire};
 ghost use Rattle.dnw_data_text.specs.Inside.Reads.{AppendsRest, IsEndedBy};
 ghost use Rattle.dnw_word_text.specs.Appending.{AppendsOne};
 

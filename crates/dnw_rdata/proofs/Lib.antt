@@ -1,5 +1,6 @@
 pub mod Copying
 pub mod Pieces
+pub mod GivenFields
 pub mod Going
 pub mod Counting
 pub mod Walking
@@ -9,3 +10,4 @@ pub mod ReadBack
 pub mod Records
 pub mod Octets
 pub mod WrittenCopies
+pub mod WireRecords

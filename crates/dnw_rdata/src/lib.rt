@@ -4,6 +4,8 @@
 #![tactic(auto)]
 
 pub mod checked;
+pub mod from_fields;
 pub mod laws;
 pub mod rdata;
 pub mod record;
+mod wire_record;

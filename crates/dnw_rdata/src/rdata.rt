@@ -128,6 +128,17 @@ impl RData {
         Fields::new(self.octets.as_slice(), 0, self.record_type)
     }
 
+    /// Creates the data that these octets are.
+    pub(crate) fn of_octets(record_type: RecordType, octets: Vec<u8>) -> Self
+        requires { IsData (kinds_of record_type) octets.items }
+        ensures { result ≡ record { record_type = record_type; octets = octets.items } }
+    {
+        RData {
+            record_type,
+            octets,
+        }
+    }
+
     /// Copies data of this type from the cursor up to the end of the reader's message.
     fn copied(
         alloc: Global,

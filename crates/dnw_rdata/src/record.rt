@@ -182,7 +182,7 @@ fn before_a_name(kinds: &[Kind]) -> Option<(&Kind, &[Kind])>
 }
 
 /// Returns `true` if one of these kinds is a name.
-fn has_name(kinds: &[Kind]) -> bool
+pub(crate) fn has_name(kinds: &[Kind]) -> bool
     ensures { result ≡ list_any is_name kinds.now }
 {
     kinds.iter().any(|kind| matches!(kind, Kind::Name(_)))
@@ -227,7 +227,7 @@ fn emit_name(name: &NameRef<'_>, form: NameForm, encoder: &mut BinEncoder<'_>) -
 }
 
 /// Returns how names of this form are written.
-fn encoding_of(form: NameForm) -> RDataEncoding
+pub(crate) fn encoding_of(form: NameForm) -> RDataEncoding
     ensures { result ≡ encoding_of form }
 {
     match form {

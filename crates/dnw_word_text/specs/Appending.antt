@@ -2,7 +2,7 @@
 use Rattle.std.specs.Prelude.{◌≡◌, ℕ, Bool, true, false, List, ◌++◌}
 use Rattle.dnw_data.specs.Values.{FieldValue}
 use Rattle.dnw_svcb_text.specs.Inside.Steps.{GoesOn}
-use Rattle.dnw_word_text.specs.FieldWires.{field_wire}
+use Rattle.dnw_data.specs.FieldWires.{field_wire}
 
 -- A text of these is appended, or there is none and nothing is appended.
 abbrev pub Appended : (List ℕ → Type 0) → List ℕ → List ℕ → Bool → Type 0

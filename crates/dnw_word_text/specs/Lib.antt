@@ -1,6 +1,5 @@
 pub mod Words
 pub mod NameTexts
-pub mod FieldWires
 pub mod Appending
 pub mod TypeLists
 pub mod ParamLists

@@ -1,7 +1,7 @@
 -- What a part of a text gives.
 use Rattle.std.specs.Prelude.{◌≡◌, ℕ, Bool, true, false, List, [], ◌++◌, Option, Some, None}
 use Rattle.dnw_data.specs.Values.{FieldValue}
-use Rattle.dnw_word_text.specs.FieldWires.{field_wire}
+use Rattle.dnw_data.specs.FieldWires.{field_wire}
 
 -- The octets of a field of these are appended, with what is after the field, or there is none.
 abbrev pub AppendsRest : (FieldValue → List ℕ → Type 0) → List ℕ → List ℕ → Option (List ℕ) → Type 0

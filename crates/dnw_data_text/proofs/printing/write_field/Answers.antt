@@ -10,16 +10,16 @@ use Rattle.dnw_data_text.proofs.printing.write_field.Goals as goal
 pub returns-in-Texts : goal.returns-in-Texts
 returns-in-Texts c =
     let Is : List ℕ → Type 0 = λ own. IfOk c.write_strings.result (Appended (PrintsStrings own) (string_bytes c.args.out.now) (string_bytes c.write_strings.new.out)) in
-    rw c.in-Texts.is (subst Is c.as_bytes.ensures c.write_strings.ensures)
+    rw c.in-Texts.is (subst Is c.as_bytes.ensures.octets c.write_strings.ensures)
 
 pub returns-in-Types : goal.returns-in-Types
 returns-in-Types c =
     let Is : List ℕ → Type 0 = λ own. IfOk c.write_types.result (Appended (PrintsTypes own) (string_bytes c.args.out.now) (string_bytes c.write_types.new.out)) in
-    rw c.in-Types.is (subst Is c.as_bytes-in-Types.ensures c.write_types.ensures)
+    rw c.in-Types.is (subst Is c.as_bytes-in-Types.ensures.octets c.write_types.ensures)
 
 pub returns-in-Params : goal.returns-in-Params
 returns-in-Params c =
     let own : List ℕ = c.as_bytes-in-Params.result.now in
     let done = writes-params own (string_bytes c.args.out.now) (string_bytes c.write_params.new.out) c.write_params.result c.write_params.ensures.ok in
     let Is : List ℕ → Type 0 = λ xs. IfOk c.write_params.result (Appended (PrintsParams xs) (string_bytes c.args.out.now) (string_bytes c.write_params.new.out)) in
-    rw c.in-Params.is (subst Is c.as_bytes-in-Params.ensures done)
+    rw c.in-Params.is (subst Is c.as_bytes-in-Params.ensures.octets done)

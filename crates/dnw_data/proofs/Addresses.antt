@@ -1,0 +1,13 @@
+-- The octets of an IPv6 address, and its segments.
+use Rattle.std.proofs.Common.{◌≡◌, ℕ, ◌+◌, ◌*◌, ◌/◌, ◌%◌, List, [], ◌∷◌, length, refl, arith}
+use Rattle.std.specs.Net.Addr.{octets_of, segments_of}
+
+pub octets-length : (segments : List ℕ) → length (octets_of segments) ≡ length segments + length segments
+octets-length [] = refl
+octets-length (s ∷ segments) = omega (arith, octets-length segments)
+
+pub segments-back : (segments : List ℕ) → segments_of (octets_of segments) ≡ segments
+segments-back [] = refl
+segments-back (s ∷ segments) =
+    let whole : s / 256 * 256 + s % 256 ≡ s = omega arith in
+    rw (whole, segments-back segments) refl
