@@ -165,7 +165,23 @@ impl<'a> BinEncoder<'a> {
     }
 
     /// Keeps the first `count` suffixes of a name that is about to be written, or as many as are allowed.
+    #[inline(always)]
     fn keep_suffixes(&mut self, name: &WireLabels<'_>, count: usize) -> ProtoResult<()>
+        ensures ok { OnOk result (value self.new ≡ record (value self.old) { candidates = (value self.old).candidates ++ kept (value self.old) name.now count }) }
+        ensures err { IfErr result (λ e. e ≡ ProtoError.Memory) }
+        ensures needed { OnErr result (kept (value self.old) name.now count ≢ []) }
+        ensures same { OnErr result (value self.new ≡ value self.old) }
+        ensures lender { lender self.new ≡ lender self.old }
+    {
+        if count == 0 {
+            return Ok(());
+        }
+        self.keep_some(name, count)
+    }
+
+    /// Does what `keep_suffixes` does. It is a call of its own, since a name that is a pointer keeps none.
+    #[inline(never)]
+    fn keep_some(&mut self, name: &WireLabels<'_>, count: usize) -> ProtoResult<()>
         ensures ok { OnOk result (value self.new ≡ record (value self.old) { candidates = (value self.old).candidates ++ kept (value self.old) name.now count }) }
         ensures err { IfErr result (λ e. e ≡ ProtoError.Memory) }
         ensures needed { OnErr result (kept (value self.old) name.now count ≢ []) }
@@ -194,6 +210,11 @@ impl<'a> BinEncoder<'a> {
         ensures same { OnErr result (value self.new ≡ value self.old) }
         ensures lender { lender self.new ≡ lender self.old }
     {
+        if front.is_empty() && self.offset == self.buffer.len() {
+            self.buffer.extend_from_slice(&pointer_octets(target))?;
+            self.offset += 2;
+            return Ok(());
+        }
         self.buffer.resize(self.offset + front.len() + 2, 0)?;
         self.put(front);
         self.put(&pointer_octets(target));
