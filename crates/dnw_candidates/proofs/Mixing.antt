@@ -1,7 +1,8 @@
 -- The number that octets make, eight at a time.
 use Rattle.std.proofs.Common.{◌≡◌, ℕ, ◌+◌, ◌-◌, ◌≤◌, List, [], ◌∷◌, length, take, drop, get_or, ap, arith}
 use Rattle.std.proofs.lemmas.List.{take_all}
-use Rattle.dnw_candidates.specs.Inside.Links.{four, mix, stir}
+use Rattle.dnw_form.specs.Inside.Fours.{four}
+use Rattle.dnw_candidates.specs.Inside.Links.{mix, stir}
 
 -- four octets from the i-th on
 abbrev pub four_at : List ℕ → ℕ → ℕ

@@ -2,11 +2,11 @@
 ghost use Rattle.std.specs.Prelude.{◌≡◌, ℕ, ◌+◌, ◌*◌, ◌^◌, ◌<◌, ◌≤◌, min, List, length, IfOk};
 ghost use Rattle.std.specs.List.{All};
 ghost use Rattle.dnw_candidates.specs.Inside.Marks.{AreRinged, FindsNext};
-ghost use Rattle.dnw_candidates.specs.Inside.Links.{AreChained, few, four, mix, stir, wide_tag};
+ghost use Rattle.dnw_candidates.specs.Inside.Links.{AreChained, few, mix, stir, wide_tag};
 
 use crate::marks::octet_at;
-use crate::octets::four;
 use crate::store::Store;
+use dnw_form::fours::four;
 use std::alloc::{AllocError, Global};
 
 /// How many tags there are.

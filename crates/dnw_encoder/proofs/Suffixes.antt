@@ -105,6 +105,14 @@ kept-some v ls others n m near count same =
     let all : kept v ls n ≡ take (v.candidate_limit - length v.candidates) (take n (suffixes v.offset ls)) = search (rules, tests) in
     rw (count, same) (sym (take_twice (v.candidate_limit - length v.candidates) n (suffixes v.offset ls)) ∙ sym all)
 
+-- none of them
+pub kept-zero : (v : Encoder) (ls : List (List ℕ)) (n : ℕ) → n ≡ 0 → kept v ls n ≡ []
+kept-zero v ls n none =
+    ⊎_elim
+    (λ (_, far). kept-none v ls n far)
+    (λ (_, near). sym (kept-some v ls ls n 0 near (omega (arith, none)) refl))
+    (leb_tells 16383 (v.offset + length (labels_wire ls)))
+
 -- ---- the labels before a pointer, and the pointer
 
 -- bytes over those that stand there, and more bytes after them to the end

@@ -306,7 +306,31 @@ impl<'a> BinEncoder<'a> {
     }
 
     /// Writes bytes.
+    #[inline(always)]
     pub fn emit_vec(&mut self, bytes: &[u8]) -> ProtoResult<()>
+        ensures writes { Writes (value self.old) bytes.now result (value self.new) }
+        ensures lender { lender self.new ≡ lender self.old }
+    {
+        if self.test_room(bytes.len()).is_ok() {
+            let end = self.offset + bytes.len();
+            let len = self.buffer.len();
+            if end <= len {
+                self.buffer[self.offset..end].copy_from_slice(bytes);
+                self.offset = end;
+                return Ok(());
+            }
+            if self.offset == len && bytes.len() <= self.buffer.capacity() - len {
+                self.buffer.extend_from_slice(bytes)?;
+                self.offset = end;
+                return Ok(());
+            }
+        }
+        self.emit_more(bytes)
+    }
+
+    /// Does what `emit_vec` does, also if the buffer has to grow. It is a call of its own, so that a write of few bytes is short.
+    #[inline(never)]
+    fn emit_more(&mut self, bytes: &[u8]) -> ProtoResult<()>
         ensures writes { Writes (value self.old) bytes.now result (value self.new) }
         ensures lender { lender self.new ≡ lender self.old }
     {

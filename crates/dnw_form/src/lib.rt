@@ -4,6 +4,7 @@
 #![tactic(auto)]
 
 pub mod form;
+pub mod fours;
 pub mod label_iter;
 pub mod lengths;
 pub mod octets;

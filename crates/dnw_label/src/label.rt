@@ -14,6 +14,7 @@ ghost use Rattle.dnw_base.specs.Labels.{IsLabel, wildcard};
 ghost use Rattle.dnw_label.specs.LabelOrder.{lower_label, label_cmp, label_eq, octet_cmp_ignore_case, IsTotalPreorder, IsOctet, AreOctets, of_octets, label_hash_input};
 ghost use Rattle.dnw_label.specs.LabelText.{label_from_bytes, label_from_text, label_text, is_plain, byte_text, is_label_text, is_safe, may_begin, may_follow};
 
+use crate::lower::lower;
 use arrayvec::{ArrayString, ArrayVec};
 use dnw_base::limits::MAX_LABEL;
 use dnw_error::error::{DecodeError, ProtoError, ProtoResult};
@@ -362,7 +363,7 @@ impl LabelCmp for CaseInsensitive {
     ghost total = { of_octets (on_total to_ascii_lowercase nat_cmp_total) };
 
     fn cmp_u8(l: u8, r: u8) -> Ordering {
-        l.to_ascii_lowercase().cmp(&r.to_ascii_lowercase())
+        lower(l).cmp(&lower(r))
     }
 }
 

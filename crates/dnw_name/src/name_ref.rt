@@ -183,11 +183,23 @@ impl<'a> NameRef<'a> {
         ensures { result ≡ self.now }
     {
         let size = self.encoded_len();
-        if let Some(octets) = self.piece() {
-            return WireLabels::new(octets);
+        if let Some(labels) = self.labels_in_place() {
+            return labels;
         }
         copy::copy_runs(room, self.message, self.first);
         WireLabels::new(&room[..size])
+    }
+
+    /// Returns the labels as an iterator over the message's own octets, if no pointer follows the first label.
+    #[inline(always)]
+    pub fn labels_in_place(&self) -> Option<WireLabels<'a>>
+        ensures { IfSome result (λ labels. labels ≡ self.now) }
+    {
+        if !self.in_one_piece {
+            return None;
+        }
+        let octets = &self.message[self.first..self.first + self.size];
+        Some(WireLabels::new(octets))
     }
 
     /// Copies the wire form to the front of a buffer, and returns its length (RFC 1035, section 3.1). Returns `None` if it
@@ -236,10 +248,8 @@ impl<'a> NameRef<'a> {
     fn piece(&self) -> Option<&'a [u8]>
         ensures { IfSome result (λ octets. octets.now ≡ wire self.now) }
     {
-        if !self.in_one_piece {
-            return None;
-        }
-        Some(&self.message[self.first..self.first + self.size])
+        let labels = self.labels_in_place()?;
+        Some(labels.as_wire())
     }
 }
 

@@ -1,5 +1,5 @@
 -- The last labels of a list, orders of lists, and labels in lower case.
-use Rattle.std.proofs.Common.{◌≡◌, ◌↔◌, ℕ, ◌-◌, ◌<◌, ◌≤◌, List, [], ◌∷◌, ◌++◌, length, map, take, drop, refl, sym, ap, ◌∙◌, arith, length-append}
+use Rattle.std.proofs.Common.{◌≡◌, ◌↔◌, ℕ, zero, suc, ◌-◌, ◌<◌, ◌≤◌, List, [], ◌∷◌, ◌++◌, length, map, take, drop, refl, sym, ap, ◌∙◌, arith, length-append}
 use Rattle.std.specs.Char.{to_ascii_lowercase}
 use Rattle.std.specs.Cmp.Lexicographic.{slice_cmp}
 use Rattle.std.specs.Ordering.{ordering_then, nat_cmp}
@@ -49,6 +49,18 @@ none_before R (u ∷ us) some = refl
 pub some_after : {A : Type 0} (R : A → A → Ordering) (us : List A) → 0 < length us → slice_cmp R us [] ≡ Greater
 some_after R [] some = absurd (omega (arith, some))
 some_after R (u ∷ us) some = refl
+
+-- what two lists have in common at the front decides nothing
+pub slice_cmp-passed : {A : Type 0} (R : A → A → Ordering) → ((a : A) → R a a ≡ Equal) → (n : ℕ) (xs ys : List A) → take n xs ≡ take n ys
+    → slice_cmp R xs ys ≡ slice_cmp R (drop n xs) (drop n ys)
+slice_cmp-passed R same zero xs ys e = refl
+slice_cmp-passed R same (suc n) [] [] e = refl
+slice_cmp-passed R same (suc n) [] (y ∷ ys) e = absurd cc
+slice_cmp-passed R same (suc n) (x ∷ xs) [] e = absurd cc
+slice_cmp-passed R same (suc n) (x ∷ xs) (y ∷ ys) e =
+    let first : x ≡ y = cc in
+    let others : take n xs ≡ take n ys = cc in
+    rw (first, same y) (slice_cmp-passed R same n xs ys others)
 
 -- labels that are no longer than the last ones of theirs are these
 pub no_front : (front rest ls : List (List ℕ)) → ls ≡ front ++ rest → encoded_size ls ≤ encoded_size rest → ls ≡ rest

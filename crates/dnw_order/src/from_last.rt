@@ -1,5 +1,5 @@
 //! The labels of a wire form from the last one.
-ghost use Rattle.std.specs.Prelude.{◌≡◌, ◌≤◌, ◌/◌, length, reverse};
+ghost use Rattle.std.specs.Prelude.{◌≡◌, ◌≤◌, ◌/◌, length, reverse, IsTrue};
 ghost use Rattle.std.specs.Iterator.{YieldsFirstRef};
 ghost use Rattle.dnw_form.specs.Inside.Lengths.{HasLengths};
 ghost use Rattle.dnw_form.specs.Inside.WireBytes.{closed, labels_of, IsWire};
@@ -56,6 +56,14 @@ impl<'a> FromLast<'a> {
             rest: &wire[..wire.len() - 1],
             lengths: form.lengths(),
         }
+    }
+
+    /// Returns `true` if there is a label whose length is known, so that `next` does not walk.
+    #[inline(always)]
+    pub(crate) fn is_known(&self) -> bool
+        ensures { IsTrue result → 1 ≤ length self.now }
+    {
+        self.lengths != 0
     }
 
     /// Takes the last label of those that are left.

@@ -1,6 +1,7 @@
 //! The order, equality and hash of the labels of names, and which are the last ones of others.
-ghost use Rattle.std.specs.Prelude.{◌≡◌, ℕ, ◌↔◌, if◌then◌else◌, List, [], ◌∷◌, ◌++◌, length, reverse, fold, IsTrue};
+ghost use Rattle.std.specs.Prelude.{◌≡◌, ℕ, ◌↔◌, if◌then◌else◌, List, [], ◌∷◌, ◌++◌, ◌≤◌, min, length, reverse, take, fold, IsTrue};
 ghost use Rattle.std.specs.Cmp.Lexicographic.{slice_cmp};
+ghost use Rattle.std.specs.Ordering.{nat_cmp};
 ghost use Rattle.dnw_base.specs.Names.{encoded_size, lower, wire};
 ghost use Rattle.dnw_order.specs.Order.{labels_cmp, labels_cmp_by, labels_cmp_case, name_hash_input, IsZoneOfCase, IsZoneOf};
 
@@ -8,6 +9,7 @@ use crate::from_last::FromLast;
 use arrayvec::ArrayVec;
 use dnw_base::limits::MAX_NAME;
 use dnw_form::form::WireForm;
+use dnw_form::fours::has_same_four;
 use dnw_form::wire_labels::WireLabels;
 use dnw_label::label::{CaseInsensitive, CaseSensitive, LabelCmp};
 use std::cmp::Ordering;
@@ -30,24 +32,18 @@ pub fn cmp_labels_case(left: WireLabels<'_>, right: WireLabels<'_>) -> Ordering
     cmp_labels_by::<CaseSensitive>(left, right)
 }
 
-/// Compares the labels of two forms as `cmp_labels` does. There is no walk if the lengths of the last labels are known to both.
+/// Compares the labels of two forms as `cmp_labels` does. There is no walk while the lengths of the last labels are known to both.
 pub fn cmp_forms(left: &WireForm, right: &WireForm) -> Ordering
     ensures { result ≡ labels_cmp left.now right.now }
 {
-    if left.lengths() == 0 || right.lengths() == 0 {
-        return cmp_labels(left.labels(), right.labels());
-    }
     cmp_from_last::<CaseInsensitive>(FromLast::of_form(left), FromLast::of_form(right))
 }
 
-/// Compares the labels of two forms as `cmp_labels_case` does. There is no walk if the lengths of the last labels are known to
+/// Compares the labels of two forms as `cmp_labels_case` does. There is no walk while the lengths of the last labels are known to
 /// both.
 pub fn cmp_forms_case(left: &WireForm, right: &WireForm) -> Ordering
     ensures { result ≡ labels_cmp_case left.now right.now }
 {
-    if left.lengths() == 0 || right.lengths() == 0 {
-        return cmp_labels_case(left.labels(), right.labels());
-    }
     cmp_from_last::<CaseSensitive>(FromLast::of_form(left), FromLast::of_form(right))
 }
 
@@ -61,9 +57,28 @@ fn cmp_labels_by<F: LabelCmp>(left: WireLabels<'_>, right: WireLabels<'_>) -> Or
     cmp_from_last::<F>(lefts, rights)
 }
 
-/// Compares labels as `cmp_labels_by` does.
+/// Compares labels as `cmp_labels_by` does, without a walk as long as the lengths of the last ones are known.
 #[inline(always)]
 fn cmp_from_last<F: LabelCmp>(mut lefts: FromLast<'_>, mut rights: FromLast<'_>) -> Ordering
+    requires { (n : ℕ) → F.order n n ≡ Ordering.Equal }
+    ensures { result ≡ slice_cmp (slice_cmp F.order) lefts.entry rights.entry }
+{
+    'labels: while lefts.is_known() && rights.is_known() {
+        let Some(left) = lefts.next() else { break };
+        let Some(right) = rights.next() else {
+            return Ordering::Greater;
+        };
+        let order = cmp_label::<F>(left, right);
+        if order.is_ne() {
+            return order;
+        }
+    }
+    cmp_others::<F>(lefts, rights)
+}
+
+/// Compares labels as `cmp_labels_by` does. It is a call of its own, since most names differ in labels whose lengths are known.
+#[inline(never)]
+fn cmp_others<F: LabelCmp>(mut lefts: FromLast<'_>, mut rights: FromLast<'_>) -> Ordering
     requires { (n : ℕ) → F.order n n ≡ Ordering.Equal }
     ensures { result ≡ slice_cmp (slice_cmp F.order) lefts.entry rights.entry }
 {
@@ -83,21 +98,62 @@ fn cmp_from_last<F: LabelCmp>(mut lefts: FromLast<'_>, mut rights: FromLast<'_>)
     }
 }
 
-/// Compares the bytes of two labels as `F` does. Most bytes are the same, so each pair is tested for that first.
+/// Compares the bytes of two labels as `F` does. Labels of one length are often the same.
 #[inline(always)]
 fn cmp_label<F: LabelCmp>(left: &[u8], right: &[u8]) -> Ordering
     requires { (n : ℕ) → F.order n n ≡ Ordering.Equal }
     ensures { result ≡ slice_cmp F.order left.now right.now }
 {
-    for i in 0..left.len().min(right.len()) {
-        if left[i] != right[i] {
-            let order = F::cmp_u8(left[i], right[i]);
-            if order.is_ne() {
-                return order;
-            }
+    if left.len() == right.len() {
+        cmp_from::<F>(left, right, same_fours(left, right))
+    } else {
+        cmp_from::<F>(left, right, 0)
+    }
+}
+
+/// Returns a number of octets at the front of labels of one length which are the same, found four at a time.
+#[inline(always)]
+fn same_fours(left: &[u8], right: &[u8]) -> usize
+    requires { length left.now ≡ length right.now }
+    ensures within { result ≤ length left.now }
+    ensures same { take result left.now ≡ take result right.now }
+{
+    let mut end = 0;
+    'fours: while left.len() - end >= 4 && has_same_four(left, right, end) {
+        end += 4;
+    }
+    end
+}
+
+/// Compares the bytes of two labels as `F` does. The first ones are the same, so many.
+#[inline(always)]
+fn cmp_from<F: LabelCmp>(left: &[u8], right: &[u8], start: usize) -> Ordering
+    requires same { take start left.now ≡ take start right.now }
+    requires within { start ≤ min (length left.now) (length right.now) }
+    requires reflexive { (n : ℕ) → F.order n n ≡ Ordering.Equal }
+    ensures { result ≡ slice_cmp F.order left.now right.now }
+{
+    for i in start..left.len().min(right.len()) {
+        let order = F::cmp_u8(left[i], right[i]);
+        if order.is_ne() {
+            return order;
         }
     }
-    left.len().cmp(&right.len())
+    cmp_lengths(left.len(), right.len())
+}
+
+/// Compares two lengths. Each result is a branch of its own, so that a caller that asks for it asks no second time.
+#[inline(always)]
+fn cmp_lengths(left: usize, right: usize) -> Ordering
+    ensures { result ≡ nat_cmp left right }
+{
+    if left == right {
+        Ordering::Equal
+    } else if left < right {
+        Ordering::Less
+    } else {
+        Ordering::Greater
+    }
 }
 
 /// Returns `true` if the labels are equal, ignoring ASCII case (RFC 4343).

@@ -1,11 +1,8 @@
 -- Links: the candidates that share one of 4,096 tags are linked in a ring, as by marks, once there are many.
 use Rattle.std.specs.Prelude.{ℕ, ◌+◌, ◌-◌, ◌*◌, ◌/◌, ◌%◌, List, [], ◌∷◌, get_or, length, take}
+use Rattle.dnw_form.specs.Inside.Fours.{four}
 use Rattle.dnw_candidates.specs.Candidates.{Candidate}
 use Rattle.dnw_candidates.specs.Inside.Marks.{AreMarked, AreTagged}
-
--- four octets as one number
-abbrev pub four : ℕ → ℕ → ℕ → ℕ → ℕ
-four a b c d = a + b * 256 + c * 65536 + d * 16777216
 
 -- up to three octets as one number
 abbrev pub few : List ℕ → ℕ

@@ -56,6 +56,18 @@ fn emit_ref(name: &NameRef<'_>, encoder: &mut BinEncoder<'_>) -> ProtoResult<()>
     ensures writes { EmitsLabels (value encoder.old) name.now result (value encoder.new) }
     ensures lender { lender encoder.new ≡ lender encoder.old }
 {
+    match name.labels_in_place() {
+        Some(labels) => encoder.emit_labels(&labels),
+        None => emit_ref_copied(name, encoder),
+    }
+}
+
+/// Writes a borrowed name from a copy. It is a function of its own, so that a name in one piece does not pay for the copy's room.
+#[inline(never)]
+fn emit_ref_copied(name: &NameRef<'_>, encoder: &mut BinEncoder<'_>) -> ProtoResult<()>
+    ensures writes { EmitsLabels (value encoder.old) name.now result (value encoder.new) }
+    ensures lender { lender encoder.new ≡ lender encoder.old }
+{
     encoder.emit_labels(&name.wire_labels(&mut [0; MAX_NAME]))
 }
 

@@ -13,7 +13,7 @@ use dnw_base::limits::{POINTER_MARK, POINTER_REACH};
 use dnw_error::error::ProtoResult;
 use dnw_form::wire_labels::WireLabels;
 use dnw_name::name::Name;
-use std::alloc::Global;
+use std::alloc::{AllocError, Global};
 
 /// A suffix of a name that a pointer can stand for.
 #[derive(Clone, Copy)]
@@ -133,7 +133,7 @@ impl<'a> BinEncoder<'a> {
         let names = self.counted();
         let stored = self.candidates.len();
         self.keep_suffixes(name, Name::MAX_LENGTH)?;
-        if let Err(error) = self.emit_vec(wire) {
+        if let Err(error) = self.emit_more(wire) {
             self.candidates.truncate(stored);
             return Err(error);
         }
@@ -165,9 +165,23 @@ impl<'a> BinEncoder<'a> {
     }
 
     /// Keeps the first `count` suffixes of a name that is about to be written, or as many as are allowed.
-    fn keep_suffixes(&mut self, name: &WireLabels<'_>, count: usize) -> ProtoResult<()>
+    #[inline(always)]
+    fn keep_suffixes(&mut self, name: &WireLabels<'_>, count: usize) -> Result<(), AllocError>
         ensures ok { OnOk result (value self.new ≡ record (value self.old) { candidates = (value self.old).candidates ++ kept (value self.old) name.now count }) }
-        ensures err { IfErr result (λ e. e ≡ ProtoError.Memory) }
+        ensures needed { OnErr result (kept (value self.old) name.now count ≢ []) }
+        ensures same { OnErr result (value self.new ≡ value self.old) }
+        ensures lender { lender self.new ≡ lender self.old }
+    {
+        if count == 0 {
+            return Ok(());
+        }
+        self.keep_some(name, count)
+    }
+
+    /// Does what `keep_suffixes` does. It is a call of its own, since a name that is a pointer keeps none.
+    #[inline(never)]
+    fn keep_some(&mut self, name: &WireLabels<'_>, count: usize) -> Result<(), AllocError>
+        ensures ok { OnOk result (value self.new ≡ record (value self.old) { candidates = (value self.old).candidates ++ kept (value self.old) name.now count }) }
         ensures needed { OnErr result (kept (value self.old) name.now count ≢ []) }
         ensures same { OnErr result (value self.new ≡ value self.old) }
         ensures lender { lender self.new ≡ lender self.old }
@@ -194,6 +208,11 @@ impl<'a> BinEncoder<'a> {
         ensures same { OnErr result (value self.new ≡ value self.old) }
         ensures lender { lender self.new ≡ lender self.old }
     {
+        if front.is_empty() && self.offset == self.buffer.len() {
+            self.buffer.extend_from_slice(&pointer_octets(target))?;
+            self.offset += 2;
+            return Ok(());
+        }
         self.buffer.resize(self.offset + front.len() + 2, 0)?;
         self.put(front);
         self.put(&pointer_octets(target));

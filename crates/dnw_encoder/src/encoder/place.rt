@@ -52,7 +52,13 @@ impl<'a> BinEncoder<'a> {
         self.test_room(T::LEN)?;
         let start_index = self.offset;
         let end = start_index + T::LEN;
-        self.buffer.resize(end, 0)?;
+        let len = self.buffer.len();
+        if start_index == len {
+            // LLVM then knows how few zeros there are.
+            self.buffer.resize(len + T::LEN, 0)?;
+        } else {
+            self.buffer.resize(end, 0)?;
+        }
         self.offset = end;
         Ok(Place {
             start_index,

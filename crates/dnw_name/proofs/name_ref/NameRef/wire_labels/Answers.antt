@@ -6,12 +6,6 @@ use Rattle.dnw_form.proofs.Wires.{labels_of-form}
 use Rattle.dnw_name.proofs.name_ref.NameRef.wire_labels.Goals as goal
 use Rattle.dnw_name.proofs.name_ref.NameRef.wire_labels.Goals.{After-copy_runs}
 
-pub new-requires : goal.new-requires
-new-requires c = (labels_of-form _ _ c.in-Some.ensures c.encoded_len-size.ensures.labels).0
-
-pub returns-in-Some : goal.returns-in-Some
-returns-in-Some c = c.new.ensures ∙ (labels_of-form _ _ c.in-Some.ensures c.encoded_len-size.ensures.labels).1
-
 pub copy_runs-requires-clause-fits : goal.copy_runs-requires-clause-fits
 copy_runs-requires-clause-fits c =
     omega (arith, c.told-room, ap (λ (ls : List (List ℕ)). length (wire ls)) c.self.view_is, length-wire c.args.self.now, c.encoded_len-size.ensures.labels.fit)
@@ -19,8 +13,8 @@ copy_runs-requires-clause-fits c =
 written : (c : After-copy_runs) → take c.encoded_len-size.result c.copy_runs.new.out ≡ wire c.args.self.now
 written c = wire_taken c.args.self.now c.encoded_len-size.result c.args.room.now c.copy_runs.new.out c.encoded_len-size.ensures.size (rw c.self.view_is at c.copy_runs.ensures)
 
-pub new-requires-2 : goal.new-requires-2
-new-requires-2 c = (labels_of-form _ _ (written (goal.at.new-requires-2 c).After-copy_runs) c.encoded_len-size.ensures.labels).0
+pub new-requires : goal.new-requires
+new-requires c = (labels_of-form _ _ (written (goal.at.new-requires c).After-copy_runs) c.encoded_len-size.ensures.labels).0
 
 pub returns : goal.returns
-returns c = c.new-2.ensures ∙ (labels_of-form _ _ (written (goal.at.returns c).After-copy_runs) c.encoded_len-size.ensures.labels).1
+returns c = c.new.ensures ∙ (labels_of-form _ _ (written (goal.at.returns c).After-copy_runs) c.encoded_len-size.ensures.labels).1

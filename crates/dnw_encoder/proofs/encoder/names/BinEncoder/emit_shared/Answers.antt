@@ -28,7 +28,7 @@ returns-in_err-keep_suffixes-clause-writes c =
     let all = kept-front v ls c.args.suffix.labels c.args.suffix.target c.requires.suffix.within in
     let r = c.from_residual-in_err-keep_suffixes in
     let p = err_from_is_err_and r.result r.ensures.1 in
-    rw (p.1, p.2, c.in_err-keep_suffixes.ensures.err) (room, inr (λ none. c.in_err-keep_suffixes.ensures.needed (all ∙ none)), c.in_err-keep_suffixes.ensures.same)
+    rw (p.1, p.2) (room, inr (λ none. c.in_err-keep_suffixes.ensures.needed (all ∙ none)), c.in_err-keep_suffixes.ensures.same)
 
 pub write_front-requires-clause-fits : goal.write_front-requires-clause-fits
 write_front-requires-clause-fits c =
