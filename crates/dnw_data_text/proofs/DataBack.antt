@@ -15,7 +15,7 @@ use Rattle.dnw_record.specs.Records.{RecordValue}
 use Rattle.dnw_record.specs.RecordFields.{record_fields}
 use Rattle.dnw_field_text.specs.Octets.{IsOctets}
 use Rattle.dnw_svcb_text.proofs.ParamTextsBack.{drop-fit, take-fit}
-use Rattle.dnw_word_text.specs.FieldWires.{field_wire}
+use Rattle.dnw_data.specs.FieldWires.{field_wire}
 use Rattle.dnw_word_text.specs.Words.{is_end, word, after_spaces}
 use Rattle.dnw_data_text.specs.Generic.{mark, max_data}
 use Rattle.dnw_data_text.specs.Parsing.{takes_all, AreFieldTexts}

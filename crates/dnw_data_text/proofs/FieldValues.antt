@@ -24,7 +24,7 @@ use Rattle.dnw_data.specs.Values.{FieldValue, name, counted, octets}
 use Rattle.dnw_field_text.specs.Octets.{IsOctets}
 use Rattle.dnw_field_text.specs.Strings.{IsString}
 use Rattle.dnw_svcb_text.proofs.ParamTextsBack.{drop-fit, halves, octets-fit, segments-fit, take-fit}
-use Rattle.dnw_word_text.specs.FieldWires.{field_wire}
+use Rattle.dnw_data.specs.FieldWires.{field_wire}
 use Rattle.dnw_data_text.specs.DataTextLaws.{FieldComesBack}
 use Rattle.dnw_data_text.proofs.FieldsBack.{first, u8-back, u16-back, u32-back, time-back, type-back, ipv4-back, string-back, tag-back, salt-back, hash-back, octets-back, text-back, strings-back}
 use Rattle.dnw_data_text.proofs.NamesBack.{name-back}
