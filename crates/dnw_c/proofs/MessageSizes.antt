@@ -9,8 +9,8 @@ use Rattle.dnw_reading.proofs.Counts.{length-label}
 use Rattle.dnw_encoder.specs.Encoder.{Encoder}
 use Rattle.dnw_record.specs.Records.{RecordValue}
 use Rattle.dnw_record.specs.RecordLaws.{data_size, passed_size, record_size}
-use Rattle.dnw_record.proofs.Parts.{done-bytes, done-fields, done-name}
-use Rattle.dnw_record.proofs.Passing.{done-passed}
+use Rattle.dnw_record.proofs.Parts.{done-bytes, done-name, fits-fields}
+use Rattle.dnw_record.proofs.Passing.{fits-passed}
 use Rattle.dnw_c.specs.declared.messages.Kind.{Kind}
 use Rattle.dnw_c.specs.declared.messages.Kind.TheVariants as Kinds
 use Rattle.dnw_c.specs.MessageItems.{AllWireForms, Bytes, EmitsItem, HasLittleRoom, HasNoPointer, HasWireForms, Item, ItemBegins, Name, Record, RecordOfName, TakesItem, TakesOf, WritesItems, WritesWhole, after_one, at_start, block_len, more, none, of_message}
@@ -66,8 +66,8 @@ item-written : (item : Item) (v w : Encoder) → EmitsItem item v (Ok tt) w
     → (w.offset ≤ v.offset + item_size item) × (w.offset ≤ v.max_size) × (w.max_size ≡ v.max_size)
 item-written (Bytes bytes) v w h = let (few, within, same, _) = done-bytes bytes v w h in (few, within, same)
 item-written (Name labels) v w h = let (few, within, same, _) = done-name (record { is_fqdn = true; labels = labels }) v w h in (few, within, same)
-item-written (Record x) v w h = done-passed x v w h.1
-item-written (RecordOfName r) v w h = done-fields r v w h.1
+item-written (Record x) v w h = let (few, within, same, _) = (fits-passed x).done v w h.1 in (few, within, same)
+item-written (RecordOfName r) v w h = let (few, within, same, _) = (fits-fields r).done v w h.1 in (few, within, same)
 
 -- ---- a list
 

@@ -13,7 +13,7 @@ use Rattle.dnw_rdata.specs.AnyRecordFrames.{frame-rdata}
 use Rattle.dnw_rdata.specs.AnyRecordLaws.{written_pieces}
 use Rattle.dnw_rdata.specs.AnyRecords.{EmitsRData}
 use Rattle.dnw_rdata.specs.DataPieces.{DataPiece, DataValue, name_piece, octets_of, octets_piece}
-use Rattle.dnw_rdata.proofs.Going.{within-data}
+use Rattle.dnw_rdata.proofs.Going.{fits-rdata}
 use Rattle.dnw_rdata.proofs.Octets.{whole_data_are_octets}
 use Rattle.dnw_canonical.specs.CanonicalData.{IsCanonical, canonical_piece, canonical_pieces}
 use Rattle.dnw_canonical.specs.RecordSets.{AreCanonical, FailsFrom, FailsSet, FirstOther, IsMember, IsRecordSet, IsSet, IsInOrder, set_head, set_record}
@@ -94,7 +94,7 @@ pub made : (x : DataValue) (w : Encoder) (octets : List ℕ) → EmitsRData x ca
 made x w octets (pieces, has, h) is =
     let whole = whole_data_are_octets x pieces canonical_start w refl has refl (pieces, has, h) in
     let frame = frame-rdata x canonical_start (Ok tt) w refl (pieces, has, h) in
-    let (within, most) = within-data x canonical_start w (omega arith) (pieces, has, h) in (
+    let (_, within, most, _) = (fits-rdata x).done canonical_start w (pieces, has, h) in (
       (pieces, has, is ∙ whole ∙ ap octets_of (written-is canonical_start.encoding pieces)),
       omega (arith, within, most, frame.ends, ap length is),
     )

@@ -89,7 +89,7 @@ pub goes-record : (v w : Encoder) (b : List ℕ) (r : Record) → Twin v b → v
 goes-record v w b r t within small h =
     let (a, owner, (d, fixed, (room, u, (pieces, has, parts), is))) = h.1 in
     let f = frame-any_record r v (Ok tt) w t.at_end h in
-    let m = record-both r pieces v w b t.at_end t.long small t.candidates has h in
+    let (m, candidates) = record-both r pieces v w b t.at_end t.long small t.candidates has h in
     let (bounded, inside) = any_records_stay_bounded r v w (omega (arith, t.at_end)) h in
     let long : length w.bytes ≡ length (b ++ m.own) = omega (arith, ap length m.bytes, length-append v.bytes m.own, length-append b m.own, t.long) in
     let x = m.value in
@@ -114,7 +114,7 @@ goes-record v w b r t within small h =
         limit = names.limit ∙ t.limit;
         counted = omega (arith, names.within (omega (arith, t.counted, t.limit)), names.limit, t.limit);
         precede = any_records_precede r v w (Ok tt) t.precede h;
-        candidates = m.candidates;
+        candidates = candidates;
       };
       pointers = m.at.pointers;
       there = stands;

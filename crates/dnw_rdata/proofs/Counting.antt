@@ -47,17 +47,14 @@ counted-on v =
     ] in
     cases (compresses v) refl
 
+counted-as : (v w : Encoder) → w.names ≡ counted v → w.name_limit ≡ v.name_limit → (w.names ≡ counted v) × CountsOn v w
+counted-as v w names limit =
+    let (on, within) = counted-on v in
+    (names, record { on = omega (arith, names, on); limit = limit; within = λ le. omega (arith, names, limit, within le) })
+
 pub counts-as : (v w : Encoder) (ls : List (List ℕ)) (choice : Option Share) → EmitsAs v ls choice (Ok tt) w → (w.names ≡ counted v) × CountsOn v w
-counts-as v w ls None h =
-    let names = ap names_of h.1 in
-    let limit = ap limit_of h.1 in
-    let (on, within) = counted-on v in
-    (names, record { on = omega (arith, names, on); limit = limit; within = λ le. omega (arith, names, limit, within le) })
-counts-as v w ls (Some share) h =
-    let names = ap names_of h.1 in
-    let limit = ap limit_of h.1 in
-    let (on, within) = counted-on v in
-    (names, record { on = omega (arith, names, on); limit = limit; within = λ le. omega (arith, names, limit, within le) })
+counts-as v w ls None h = counted-as v w (ap names_of h.1) (ap limit_of h.1)
+counts-as v w ls (Some share) h = counted-as v w (ap names_of h.1) (ap limit_of h.1)
 
 pub counts-name : (name : NameValue) (v w : Encoder) → EmitsName name v (Ok tt) w → CountsOn v w
 counts-name name v w h = (counts-as v w (in_mode v.encoding name.labels) h.choice h.written_as).1

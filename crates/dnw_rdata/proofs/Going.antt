@@ -1,81 +1,61 @@
--- Parts go on from the offset, within the maximum, and leave the modes.
-use Rattle.std.proofs.Common.{◌≡◌, ℕ, ◌+◌, ◌-◌, ◌≤◌, List, [], ◌∷◌, length, Option, Some, None, Ok, Err, inl, inr, refl, ap, ◌∙◌, subst, arith}
-use Rattle.dnw_base.specs.Names.{NameValue}
+-- How far data and records go, and that parts leave the modes.
+use Rattle.std.proofs.Common.{◌≡◌, ℕ, ◌+◌, ◌-◌, ◌≤◌, Bool, List, [], ◌∷◌, ◌++◌, length, Option, Some, None, Ok, Err, refl, sym, ap, ◌∙◌, subst, ⊎_elim, arith}
+use Rattle.std.proofs.lemmas.List.{length-append}
+use Rattle.dnw_base.specs.Names.{wire}
+use Rattle.dnw_base.proofs.Wires.{length-wire}
+use Rattle.dnw_encoder.specs.declared.encoder.modes.NameEncoding.{NameEncoding}
 use Rattle.std.specs.Int.{w16, to_be_bytes}
 use Rattle.dnw_error.specs.declared.error.ProtoError.TheVariants.{MaxBufferSizeExceeded, Memory}
 use Rattle.dnw_encoder.specs.Encoder.{Encoder, HasRoom, Writes, moved_to, reserved, written}
 use Rattle.dnw_encoder.specs.Emitting.{EmitsAt, Outcome}
-use Rattle.dnw_encoder.specs.EmittedName.{EmitsAs, EmitsName, Share, in_mode}
-use Rattle.dnw_record.specs.Parts.{EmitsSized, EmitsWirePart, EmitsWireParts, Then, WirePart, Write, bytes_part, name_part, text_part}
-use Rattle.dnw_record.proofs.Parts.{done-bytes, done-name, done-part, refused-name, refused-part, refused-room}
+use Rattle.dnw_encoder.specs.EmittedName.{EmitsAs, Share, in_mode}
+use Rattle.dnw_record.specs.Parts.{EmitsSized, EmitsWirePart, EmitsWireParts, WirePart, Write, bytes_part, name_part, text_part}
+use Rattle.dnw_record.proofs.Parts.{EndsWithin, Fits, fits-as, fits-bytes, fits-name, fits-name_part, fits-sized, fits-then}
 use Rattle.dnw_rdata.specs.declared.record.Record.{Record}
-use Rattle.dnw_base.specs.Decoder.{Decoder}
-use Rattle.dnw_data.specs.declared.kind.Kind.{Kind}
-use Rattle.dnw_rdata.specs.DataPieces.{DataValue}
-use Rattle.dnw_rdata.specs.AnyRecords.{EmitsRData, EmitsAnyFields, parts_of, type_class_ttl}
-use Rattle.dnw_rdata.specs.Inside.Walking.{EmitsPieces}
+use Rattle.dnw_rdata.specs.DataPieces.{DataPiece, DataValue, HasPieces, kinds_of, name_piece, octets_of, octets_piece}
+use Rattle.dnw_rdata.specs.AnyRecordLaws.{any_record_size}
+use Rattle.dnw_rdata.specs.AnyRecords.{EmitsRData, EmitsAnyFields, mode_of, name_of, parts_after, parts_of, type_class_ttl}
 
-abbrev pub offset_of : Encoder → ℕ
-offset_of v = v.offset
+-- ---- sizes
+
+-- a last part of octets
+fits-last : (d : List ℕ) → Fits (length d) (EmitsWireParts (bytes_part d ∷ []))
+fits-last d = record {
+  done = λ v w (m, h, is). subst (EndsWithin v (length d)) (sym is) ((fits-bytes d).done v m h);
+  refused = λ v w error h. ⊎_elim (λ one. (fits-bytes d).refused v w error one) (λ (m, _, none). absurd none) h;
+}
+
+-- the parts of pieces take as many octets as the run before them and the pieces
+pub fits-parts : (run : List ℕ) (pieces : List DataPiece) (mode : NameEncoding) (canonical : Bool)
+    → Fits (length run + length (octets_of pieces)) (EmitsWireParts (parts_after run pieces mode canonical))
+fits-parts run [] mode canonical = fits-as (omega arith) (fits-last run)
+fits-parts run (octets_piece own ∷ pieces) mode canonical =
+    fits-as (omega (arith, length-append run own, length-append own (octets_of pieces))) (fits-parts (run ++ own) pieces mode canonical)
+fits-parts run (name_piece form labels ∷ pieces) mode canonical =
+    let name = fits-name_part (mode_of form mode canonical) (name_of labels) in
+    let all = fits-then (fits-bytes run) (fits-then name (fits-parts [] pieces mode canonical)) in
+    fits-as (omega (arith, length-append (wire labels) (octets_of pieces), length-wire labels)) (record { done = all.done; refused = all.refused })
+
+fits-pieces : (x : DataValue) (pieces : List DataPiece) (mode : NameEncoding) (canonical : Bool) → HasPieces (kinds_of x.record_type) x.octets pieces
+    → Fits (length x.octets) (EmitsWireParts (parts_of pieces mode canonical))
+fits-pieces x pieces mode canonical has = fits-as (omega (arith, ap length has.whole)) (fits-parts [] pieces mode canonical)
+
+pub fits-rdata : (x : DataValue) → Fits (length x.octets) (EmitsRData x)
+fits-rdata x = record {
+  done = λ v w (pieces, has, h). (fits-pieces x pieces v.encoding v.canonical has).done v w h;
+  refused = λ v w error (pieces, has, h). (fits-pieces x pieces v.encoding v.canonical has).refused v w error h;
+}
+
+pub fits-fields : (r : Record) → Fits (any_record_size r) (EmitsAnyFields r)
+fits-fields r =
+    fits-as (omega arith) (fits-then (fits-name r.name) (fits-then (fits-bytes (type_class_ttl r)) (fits-sized (fits-rdata r.data))))
 
 abbrev pub GoesOn : Write → Type 0
 GoesOn write = (v : Encoder) (outcome : Outcome) (w : Encoder) → write v outcome w → v.offset ≤ w.offset
 
-same-offset : (v w : Encoder) → w ≡ v → v.offset ≤ w.offset
-same-offset v w is = omega (arith, ap offset_of is)
-
-pub on-bytes : (d : List ℕ) → GoesOn (λ v. Writes v d)
-on-bytes d v (Ok tt) w h = (done-bytes d v w h).3
-on-bytes d v (Err error) w h = same-offset v w (refused-room v (written v d) w (length d) error h).0
-
-on-name : (name : NameValue) → GoesOn (EmitsName name)
-on-name name v (Ok tt) w h = (done-name name v w h).3
-on-name name v (Err error) w h = same-offset v w (refused-name name v w error h).0
-
-pub on-parts : (parts : List WirePart) → GoesOn (EmitsWireParts parts)
-on-parts [] v (Ok tt) w h = same-offset v w h
-on-parts [] v (Err error) w h = absurd h
-on-parts (part ∷ parts) v (Ok tt) w (m, one, more) = omega (arith, (done-part part v m one).3, on-parts parts m (Ok tt) w more)
-on-parts (part ∷ parts) v (Err error) w (inl one) = same-offset v w (refused-part part parts v w error one).0
-on-parts (part ∷ parts) v (Err error) w (inr (m, one, more)) = omega (arith, (done-part part v m one).3, on-parts parts m (Err error) w more)
-
-pub on-pieces : (kinds : List Kind) (start : Decoder) → GoesOn (EmitsPieces kinds start)
-on-pieces kinds start v outcome w (pieces, takes, h) = on-parts (parts_of pieces v.encoding v.canonical) v outcome w h
-
-pub on-data : (x : DataValue) → GoesOn (EmitsRData x)
-on-data x v outcome w (pieces, has, h) = on-parts (parts_of pieces v.encoding v.canonical) v outcome w h
-
-on-sized : (write : Write) → GoesOn write → GoesOn (EmitsSized write)
-on-sized write goes v (Ok tt) w (room, u, one, is) = omega (arith, goes (reserved v 2) (Ok tt) u one, ap offset_of is)
-on-sized write goes v (Err error) w (inl h) = same-offset v w (refused-room v (reserved v 2) w 2 error h).0
-on-sized write goes v (Err error) w (inr (room, one)) = omega (arith, goes (reserved v 2) (Err error) w one)
-
-on-then : (first second : Write) → GoesOn first → GoesOn second → GoesOn (Then first second)
-on-then first second one two v (Ok tt) w (m, f, s) = omega (arith, one v (Ok tt) m f, two m (Ok tt) w s)
-on-then first second one two v (Err error) w (inl f) = one v (Err error) w f
-on-then first second one two v (Err error) w (inr (m, f, s)) = omega (arith, one v (Ok tt) m f, two m (Err error) w s)
-
 pub on-fields : (r : Record) → GoesOn (EmitsAnyFields r)
-on-fields r =
-    on-then (EmitsName r.name) _ (on-name r.name)
-    (on-then (λ v. Writes v (type_class_ttl r)) (EmitsSized (EmitsRData r.data)) (on-bytes (type_class_ttl r)) (on-sized (EmitsRData r.data) (on-data r.data)))
-
--- ---- within the maximum
-
-pub within-parts : (parts : List WirePart) (v w : Encoder) → v.offset ≤ v.max_size → EmitsWireParts parts v (Ok tt) w
-    → (w.offset ≤ w.max_size) × (w.max_size ≡ v.max_size)
-within-parts [] v w le h = (omega (arith, le, ap offset_of h, ap (λ (x : Encoder). x.max_size) h), ap (λ (x : Encoder). x.max_size) h)
-within-parts (part ∷ parts) v w le (m, one, more) =
-    let (_, within, same, _) = done-part part v m one in
-    let (all, still) = within-parts parts m w (omega (arith, within, same)) more in
-    (all, still ∙ same)
-
-pub within-data : (x : DataValue) (v w : Encoder) → v.offset ≤ v.max_size → EmitsRData x v (Ok tt) w → (w.offset ≤ w.max_size) × (w.max_size ≡ v.max_size)
-within-data x v w le (pieces, has, h) = within-parts (parts_of pieces v.encoding v.canonical) v w le h
-
-pub within-pieces : (kinds : List Kind) (start : Decoder) (v w : Encoder) → v.offset ≤ v.max_size → EmitsPieces kinds start v (Ok tt) w
-    → (w.offset ≤ w.max_size) × (w.max_size ≡ v.max_size)
-within-pieces kinds start v w le (pieces, takes, h) = within-parts (parts_of pieces v.encoding v.canonical) v w le h
+on-fields r v (Ok tt) w h = ((fits-fields r).done v w h).3
+on-fields r v (Err error) w h = ((fits-fields r).refused v w error h).0
 
 -- ---- modes
 

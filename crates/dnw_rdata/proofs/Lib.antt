@@ -1,6 +1,5 @@
 pub mod Copying
 pub mod Pieces
-pub mod Kept
 pub mod Going
 pub mod Counting
 pub mod Walking

@@ -1,6 +1,6 @@
 -- Pieces that are read are fields of their kinds, with every name whole, and are read again wherever they are.
 use Rattle.std.proofs.Common.{◌≡◌, ℕ, suc, ◌+◌, ◌-◌, ◌≤◌, max, None, List, [], ◌∷◌, ◌++◌, length, take, drop, slice_index, refl, sym, ap, ◌∙◌, subst, append_assoc, arith}
-use Rattle.std.proofs.lemmas.List.{append-nil, drop_at, length-append, length-drop}
+use Rattle.std.proofs.lemmas.List.{append-nil, drop_at, length-append, length-drop, nil_from_length}
 use Rattle.std.proofs.lemmas.List.Edits.{length-between}
 use Rattle.std.proofs.Math.Seq.{take-length}
 use Rattle.dnw_base.specs.Decoder.{Decoder}
@@ -15,13 +15,13 @@ use Rattle.dnw_data.specs.declared.kind.Kind.TheVariants as kinds
 use Rattle.dnw_data.specs.declared.kind.ListKind.TheVariants as lists
 use Rattle.dnw_data.specs.declared.kind.NameForm.{NameForm}
 use Rattle.dnw_data.specs.Fields.{own_at, size_at}
-use Rattle.dnw_data.specs.Values.{FieldValue, own_fault, own_size}
-use Rattle.dnw_data.specs.Walks.{FieldsAre, IsAtEnd}
+use Rattle.dnw_data.specs.Values.{own_fault, own_size}
+use Rattle.dnw_data.specs.Walks.{IsAtEnd}
 use Rattle.dnw_rdata.specs.DataPieces.{ArePiecesOf, IsPieceOf, DataPiece, name_piece, octets_of, octets_piece, piece_octets}
 use Rattle.dnw_rdata.specs.DataCopies.{TakesOwnPiece, TakesPiece, TakesPieces}
 use Rattle.dnw_rdata.specs.Inside.Copying.{IsNoName}
 use Rattle.dnw_data.proofs.Taking.{moves-on}
-use Rattle.dnw_rdata.proofs.Copying.{field-of}
+use Rattle.dnw_rdata.proofs.Copying.{takes-value}
 
 -- ---- sizes
 
@@ -30,7 +30,7 @@ all-left : (left own rest : List ℕ) → own ≡ take (length left) left → re
 all-left left own rest is none =
     ap (λ r. length (own ++ r)) none ∙ ap length (append-nil own) ∙ ap length (is ∙ take-length left)
 
-same-size : (kind : Kind) → IsNoName kind → (left own rest : List ℕ) → own ≡ take (own_size kind left) left → own_size kind left ≤ length left
+pub same-size : (kind : Kind) → IsNoName kind → (left own rest : List ℕ) → own ≡ take (own_size kind left) left → own_size kind left ≤ length left
     → (own_size kind left ≡ length left → rest ≡ []) → own_size kind (own ++ rest) ≡ own_size kind left
 same-size (Name form) other left own rest is le end = absurd other
 same-size (Counted shown) other [] own rest is le end = absurd (omega (arith, le))
@@ -43,17 +43,8 @@ same-size (kinds.List lists.Texts) other left own rest is le end =
     let all : own_size (kinds.List lists.Texts) left ≡ length left = omega (arith, le) in
     let none = end all in
     ap (max 1) (all-left left own rest (is ∙ ap (λ n. take n left) all) none)
-same-size (kinds.List lists.Types) other left own rest is le end = all-left left own rest is (end refl)
-same-size (kinds.List lists.Params) other left own rest is le end = all-left left own rest is (end refl)
-same-size kinds.U8 other left own rest is le end = refl
-same-size kinds.U16 other left own rest is le end = refl
-same-size kinds.U32 other left own rest is le end = refl
-same-size kinds.U48 other left own rest is le end = refl
-same-size kinds.U64 other left own rest is le end = refl
-same-size kinds.Ipv4 other left own rest is le end = refl
-same-size kinds.Ipv6 other left own rest is le end = refl
-same-size kinds.TypeCode other left own rest is le end = refl
-same-size kinds.Time other left own rest is le end = refl
+same-size (kinds.List list) other left own rest is le end = all-left left own rest is (end refl)
+same-size kind other left own rest is le end = refl
 
 -- ---- pieces that are read
 
@@ -79,10 +70,6 @@ is-piece kind d after piece rest takes end =
     let (size, right, is) = own-is kind tt d after piece rest takes end in
     subst (λ p. IsPieceOf kind p rest) (sym is) (size, right)
 
-pub no-octets : (xs : List ℕ) → length xs ≡ 0 → xs ≡ []
-no-octets [] e = refl
-no-octets (x ∷ xs) e = absurd (omega (arith, e))
-
 -- after the end there are no octets
 none-after : (kinds : List Kind) (d : Decoder) (pieces : List DataPiece) → TakesPieces kinds d pieces → IsAtEnd d → octets_of pieces ≡ []
 none-after [] d [] takes end = refl
@@ -94,7 +81,7 @@ none-after (Name form ∷ kinds) d (piece ∷ pieces) (after, (labels, k, name, 
 none-after (kind ∷ kinds) d (piece ∷ pieces) (after, (enough, right, is, there), more) end =
     let index : after.index ≡ d.index + size_at kind d = ap (λ (x : Decoder). x.index) there in
     let still : IsAtEnd after = omega (arith, index, enough, end, ap (λ (x : Decoder). length x.bytes) there) in
-    let none : own_at kind d ≡ [] = no-octets (own_at kind d) (omega (arith, end, enough, length-between d.bytes d.index (d.index + size_at kind d) enough)) in
+    let none : own_at kind d ≡ [] = nil_from_length (own_at kind d) (omega (arith, end, enough, length-between d.bytes d.index (d.index + size_at kind d) enough)) in
     ap (λ p. piece_octets p ++ octets_of pieces) is ∙ ap (λ (x : List ℕ). x ++ octets_of pieces) none ∙ none-after kinds after pieces more still
 
 -- the pieces that are read are fields of their kinds
@@ -103,8 +90,7 @@ are-pieces [] d [] takes = tt
 are-pieces [] d (piece ∷ pieces) takes = absurd takes
 are-pieces (kind ∷ kinds) d [] takes = absurd takes
 are-pieces (kind ∷ kinds) d (piece ∷ pieces) (after, one, more) =
-    let (v, field) = field-of kind d after piece one in
-    let (later, same) = moves-on kind d after v field in
+    let (later, same) = moves-on kind d after _ (takes-value kind d after piece one) in
     let end : after.index ≡ length d.bytes → octets_of pieces ≡ [] = λ at. none-after kinds after pieces more (at ∙ ap length (sym same)) in
     (is-piece kind d after piece (octets_of pieces) one end, are-pieces kinds after pieces more)
 
@@ -175,13 +161,3 @@ pieces-unique (kind ∷ kinds) d (piece ∷ pieces) (piece' ∷ pieces') (after,
     let (same, there) = piece-unique kind d after after' piece piece' one one' in
     let rest = pieces-unique kinds after pieces pieces' more (subst (λ x. TakesPieces kinds x pieces') (sym there) more') in
     ap (λ p. p ∷ pieces) same ∙ ap (λ ps. piece' ∷ ps) rest
-
--- the fields whose pieces are read
-pub fields-of : (start : ℕ) (kinds : List Kind) (d : Decoder) (pieces : List DataPiece) → TakesPieces kinds d pieces → (values : List FieldValue) × FieldsAre start kinds d values None
-fields-of start [] d [] end = ([], (refl, end))
-fields-of start [] d (piece ∷ pieces) takes = absurd takes
-fields-of start (kind ∷ kinds) d [] takes = absurd takes
-fields-of start (kind ∷ kinds) d (piece ∷ pieces) (after, one, more) =
-    let (v, field) = field-of kind d after piece one in
-    let (values, rest) = fields-of start kinds after pieces more in
-    (v ∷ values, (after, kinds, (field, refl), rest))

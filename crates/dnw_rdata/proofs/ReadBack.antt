@@ -1,13 +1,11 @@
 -- What is written as the parts of pieces is read as these pieces.
-use Rattle.std.proofs.Common.{◌≡◌, ℕ, max, Bool, List, [], ◌∷◌, ◌++◌, length, Ok, refl, sym, ap, ◌∙◌, subst, append_assoc, arith}
+use Rattle.std.proofs.Common.{◌≡◌, ℕ, take, Bool, List, [], ◌∷◌, ◌++◌, length, Ok, refl, sym, ap, ◌∙◌, subst, append_assoc, arith}
 use Rattle.std.specs.List.{All}
-use Rattle.std.proofs.lemmas.List.{append-nil, length-append}
+use Rattle.std.proofs.lemmas.List.{append-nil, length-append, nil_from_length, take_at}
 use Rattle.dnw_base.specs.Names.{wire}
 use Rattle.dnw_base.proofs.Wires.{length-wire}
 use Rattle.dnw_data.specs.declared.kind.Kind.{Kind}
-use Rattle.dnw_data.specs.declared.kind.Kind.TheVariants.{Counted, Name, Octets}
-use Rattle.dnw_data.specs.declared.kind.Kind.TheVariants as kinds
-use Rattle.dnw_data.specs.declared.kind.ListKind.TheVariants as lists
+use Rattle.dnw_data.specs.declared.kind.Kind.TheVariants.{Name}
 use Rattle.dnw_data.specs.declared.kind.NameForm.{NameForm}
 use Rattle.dnw_data.specs.Values.{own_size}
 use Rattle.dnw_reading.specs.Reading.{NameAt}
@@ -23,7 +21,7 @@ use Rattle.dnw_rdata.specs.DataCopies.{TakesPieces}
 use Rattle.dnw_rdata.specs.AnyRecords.{mode_of, name_of, parts_after}
 use Rattle.dnw_rdata.specs.AnyRecordLaws.{written_pieces}
 use Rattle.dnw_rdata.specs.Inside.Copying.{IsNoName}
-use Rattle.dnw_rdata.proofs.Pieces.{behind, no-octets, own-again}
+use Rattle.dnw_rdata.proofs.Pieces.{behind, own-again, same-size}
 use Rattle.dnw_rdata.proofs.Reading.{InBoth, WrittenInBoth, append-both, name-both}
 
 -- Parts of pieces are written after a run of octets. In a message of the same length as before, in which the candidates are
@@ -35,32 +33,14 @@ pub record Laid (kinds : List Kind) (pieces : List DataPiece) (run c : List ℕ)
   pub empty : octets_of pieces ≡ [] → more ≡ []
   pub candidates : All (InBoth w.bytes (c ++ (run ++ more))) w.candidates
 
-same-length : (own rest other : List ℕ) → length own ≡ length (own ++ rest) → (rest ≡ [] → other ≡ []) → length own ≡ length (own ++ other)
-same-length own rest other size empty =
-    let none = empty (no-octets rest (omega (arith, size, length-append own rest))) in
-    ap length (sym (append-nil own)) ∙ ap (λ (x : List ℕ). length (own ++ x)) (sym none)
-
 -- what follows a field other than a name matters only if it is nothing
 size-after : (kind : Kind) → IsNoName kind → (own rest other : List ℕ) → length own ≡ own_size kind (own ++ rest) → (rest ≡ [] → other ≡ [])
     → length own ≡ own_size kind (own ++ other)
-size-after (Name form) none own rest other size empty = absurd none
-size-after (Counted shown) none [] rest other size empty = absurd (omega (arith, size))
-size-after (Counted shown) none (x ∷ own) rest other size empty = size
-size-after (Octets shown) none own rest other size empty = same-length own rest other size empty
-size-after (kinds.List lists.Texts) none own rest other size empty =
-    let some : length own ≡ length (own ++ rest) = omega (arith, size, length-append own rest) in
-    omega (arith, size, ap (max 1) some, ap (max 1) (same-length own rest other some empty))
-size-after (kinds.List lists.Types) none own rest other size empty = same-length own rest other size empty
-size-after (kinds.List lists.Params) none own rest other size empty = same-length own rest other size empty
-size-after kinds.U8 none own rest other size empty = size
-size-after kinds.U16 none own rest other size empty = size
-size-after kinds.U32 none own rest other size empty = size
-size-after kinds.U48 none own rest other size empty = size
-size-after kinds.U64 none own rest other size empty = size
-size-after kinds.Ipv4 none own rest other size empty = size
-size-after kinds.Ipv6 none own rest other size empty = size
-size-after kinds.TypeCode none own rest other size empty = size
-size-after kinds.Time none own rest other size empty = size
+size-after kind none own rest other size empty =
+    let own_is : own ≡ take (own_size kind (own ++ rest)) (own ++ rest) = sym (take_at own rest _ size) in
+    let all = same-size kind none (own ++ rest) own other own_is (omega (arith, size, length-append own rest))
+    (λ (e : own_size kind (own ++ rest) ≡ length (own ++ rest)). empty (nil_from_length rest (omega (arith, e, size, length-append own rest)))) in
+    size ∙ sym all
 
 own-laid : (kind : Kind) (kinds : List Kind) (own : List ℕ) (pieces : List DataPiece) (run c : List ℕ) (v w : Encoder) (mode : NameEncoding) (canonical : Bool)
     → IsPieceOf kind (octets_piece own) (octets_of pieces) → Laid kinds pieces (run ++ own) c v w mode canonical
@@ -75,8 +55,8 @@ own-laid kind kinds own pieces run c v w mode canonical (size, right) l =
       takes = (behind ((c ++ run) ++ own) l.more, again, rest);
       empty = λ none.
           let size = ap length none in
-          let no_own = no-octets own (omega (arith, size, length-append own (octets_of pieces))) in
-          let no_more = l.empty (no-octets (octets_of pieces) (omega (arith, size, length-append own (octets_of pieces)))) in
+          let no_own = nil_from_length own (omega (arith, size, length-append own (octets_of pieces))) in
+          let no_more = l.empty (nil_from_length (octets_of pieces) (omega (arith, size, length-append own (octets_of pieces)))) in
           ap (λ (x : List ℕ). x ++ l.more) no_own ∙ no_more;
       candidates = subst (λ x. All (InBoth w.bytes (c ++ x)) w.candidates) (append_assoc run own l.more) l.candidates;
     }

@@ -33,22 +33,29 @@ append-both b c x y cs all =
 
 -- ---- what ends labels: the closing zero, or a pointer
 
--- After any octets, some labels and this end are read as a name that goes on as the back.
+-- After any octets, labels and this end are read as a name that goes on as the back. It follows no more pointers than the back has labels.
 abbrev Ends : List ℕ → List ℕ → List (List ℕ) → Type 0
-Ends b tail back = (y x : List ℕ) (front : List (List ℕ)) → 1 ≤ length front → y ≡ b ++ x → AllByRecursion IsLabel front → encoded_size (front ++ back) ≤ 255
-    → ReadsAs (y ++ (labels_wire front ++ tail)) (length y) (front ++ back)
+Ends b tail back = (y x : List ℕ) (front : List (List ℕ)) → y ≡ b ++ x → AllByRecursion IsLabel front → encoded_size (front ++ back) ≤ 255
+    → (k : ℕ) × NameAt (y ++ (labels_wire front ++ tail)) (length y) (front ++ back) (length (y ++ (labels_wire front ++ tail))) k × (k ≤ length back)
 
 ends-zero : (b : List ℕ) → Ends b (0 ∷ []) []
-ends-zero b y x front some is each fit =
-    let none = append-nil front in
-    let reads = Reads-wire (y ++ wire front) y [] front (length y) (length y) (length y + encoded_size front) refl refl (ap (λ (z : List ℕ). y ++ z) (sym (append-nil (wire front)))) each in
-    subst (ReadsAs (y ++ wire front) (length y)) (sym none)
-    (length y + encoded_size front, 0, record { reads = reads; fits = subst (λ z. encoded_size z ≤ 255) none fit }, omega (arith, some))
+ends-zero b y x front is each fit =
+    let end = length-append y (wire front) ∙ ap (λ n. length y + n) (length-wire front) in
+    let reads = Reads-wire (y ++ wire front) y [] front (length y) (length y) (length (y ++ wire front)) refl end (ap (λ (z : List ℕ). y ++ z) (sym (append-nil (wire front)))) each in
+    (0, record { reads = rw append-nil reads; fits = fit }, omega arith)
 
 ends-pointer : (b : List ℕ) (back : List (List ℕ)) (target : ℕ) → ReadsAs b target back → Ends b (pointer_to target) back
-ends-pointer b back target (e, k, h, few) y x front some is each fit =
+ends-pointer b back target (e, k, h, few) y x front is each fit =
     let there = subst (λ z. Reads z target target None back e k) (sym is) (Reads-append x h.reads) in
-    (_, suc k, record { reads = Reads-shared y [] front back target e k each there; fits = fit }, omega (arith, some, few, length-append front back))
+    let end : length y + length (labels_wire front) + 2 ≡ length (y ++ (labels_wire front ++ pointer_to target)) =
+    omega (arith, length-append y (labels_wire front ++ pointer_to target), length-append (labels_wire front) (pointer_to target)) in
+    (suc k, record { reads = rw end at (Reads-shared y [] front back target e k each there); fits = fit }, omega (arith, few))
+
+-- such a name has a label more
+ends-as : (b tail y x : List ℕ) (back front : List (List ℕ)) (l : List ℕ) → Ends b tail back → y ≡ b ++ x → AllByRecursion IsLabel (l ∷ front)
+    → encoded_size ((l ∷ front) ++ back) ≤ 255 → ReadsAs (y ++ (labels_wire (l ∷ front) ++ tail)) (length y) (l ∷ (front ++ back))
+ends-as b tail y x back front l ends is each fit =
+    let (k, name, few) = ends y x (l ∷ front) is each fit in (_, k, name, omega (arith, few, length-append front back))
 
 -- the suffixes of labels that are written are names
 suffix-both : (b c tail x y z : List ℕ) (back front : List (List ℕ)) → length b ≡ length c → Ends b tail back → Ends c tail back → y ≡ b ++ x → z ≡ c ++ x
@@ -61,8 +68,8 @@ suffix-both b c tail x y z back (l ∷ front) long ends also y_is z_is each fit 
     let same : length z ≡ length y = omega (arith, ap length y_is, ap length z_is, length-append b x, length-append c x, long) in
     let first : P (length y, labels_wire (l ∷ (front ++ back))) = (
       l ∷ (front ++ back),
-      ends y x (l ∷ front) (omega arith) y_is each fit,
-      subst (λ p. ReadsAs (z ++ (labels_wire (l ∷ front) ++ tail)) p (l ∷ (front ++ back))) same (also z x (l ∷ front) (omega arith) z_is each fit),
+      ends-as b tail y x back front l ends y_is each fit,
+      subst (λ p. ReadsAs (z ++ (labels_wire (l ∷ front) ++ tail)) p (l ∷ (front ++ back))) same (ends-as c tail z x back front l also z_is each fit),
     ) in
     let more = suffix-both b c tail (x ++ label_wire l) (y ++ label_wire l) (z ++ label_wire l) back front long ends also
     (ap (λ (q : List ℕ). q ++ label_wire l) y_is ∙ append_assoc b x (label_wire l)) (ap (λ (q : List ℕ). q ++ label_wire l) z_is ∙ append_assoc c x (label_wire l))
@@ -107,66 +114,49 @@ pub record WrittenInBoth (v w : Encoder) (c : List ℕ) (ls : List (List ℕ)) :
   pub few : pointers + 127 * v.names ≤ 127 * w.names
   pub candidates : All (InBoth w.bytes (c ++ own)) w.candidates
 
+-- labels and this end are written, and the suffixes of those labels are kept as candidates
+written-as : (v w : Encoder) (c tail : List ℕ) (back front ls : List (List ℕ)) → front ++ back ≡ ls → AreLabels ls → v.offset ≡ length v.bytes
+    → length v.bytes ≡ length c → All (InBoth v.bytes c) v.candidates → Ends v.bytes tail back → Ends c tail back → AllByRecursion IsLabel front
+    → w.bytes ≡ v.bytes ++ (labels_wire front ++ tail) → w.offset ≡ v.offset + length (labels_wire front ++ tail) → length back + 127 * v.names ≤ 127 * w.names
+    → ((P : Candidate → Type 0) → All P (v.candidates ++ kept v ls (length front)) → All P w.candidates) → WrittenInBoth v w c ls
+written-as v w c tail back front ls parts are e long all ends also each bytes offset few keeps =
+    let own = labels_wire front ++ tail in
+    let P = InBoth (v.bytes ++ own) (c ++ own) in
+    let fit : encoded_size (front ++ back) ≤ 255 = rw parts are.fit in
+    let new = suffix-both v.bytes c tail [] v.bytes c back front long ends also (sym (append-nil v.bytes)) (sym (append-nil c)) each fit in
+    let some : All P (take (length front) (suffixes v.offset ls)) = rw (e, ← parts) new in
+    let every = All-append P v.candidates (kept v ls (length front)) (append-both v.bytes c own own v.candidates all) (kept-all P v ls (length front) some) in
+    let (k, name, less) = also c [] front (sym (append-nil c)) each fit in
+    record {
+      own = own;
+      bytes = bytes;
+      offset = omega (arith, offset, ap length bytes, length-append v.bytes own, e);
+      pointers = k;
+      name = rw parts at name;
+      few = omega (arith, less, few);
+      candidates = subst (λ b. All (InBoth b (c ++ own)) w.candidates) (sym bytes) (keeps P every);
+    }
+
 as-both : (v w : Encoder) (c : List ℕ) (ls : List (List ℕ)) (choice : Option Share) → AreLabels ls → v.offset ≡ length v.bytes → length v.bytes ≡ length c
     → All (InBoth v.bytes c) v.candidates → Chooses v ls choice → EmitsAs v ls choice (Ok tt) w → WrittenInBoth v w c ls
 as-both v w c ls None are e long all chosen h =
-    let own = wire ls in
-    let bytes : w.bytes ≡ v.bytes ++ own = ap (λ (x : Encoder). x.bytes) h.1 ∙ added v (written v own) own e refl in
-    let P = InBoth (v.bytes ++ own) (c ++ own) in
-    let new = suffix-both v.bytes c (0 ∷ []) [] v.bytes c [] ls long (ends-zero v.bytes) (ends-zero c) (sym (append-nil v.bytes)) (sym (append-nil c)) are.each
-    (subst (λ z. encoded_size z ≤ 255) (sym (append-nil ls)) are.fit) in
-    let some : All P (take (length ls) (suffixes v.offset ls)) =
-    subst (λ o. All P (take (length ls) (suffixes o ls))) (sym e) (subst (λ z. All P (take (length ls) (suffixes (length v.bytes) z))) (append-nil ls) new) in
-    let every : All P (v.candidates ++ kept v ls (length ls)) =
-    All-append P v.candidates (kept v ls (length ls)) (append-both v.bytes c own own v.candidates all) (kept-all P v ls (length ls) some) in
-    let end : length (c ++ own) ≡ length c + encoded_size ls = length-append c own ∙ ap (λ n. length c + n) (length-wire ls) in
-    record {
-      own = own;
-      bytes = bytes;
-      offset = omega (arith, ap (λ (x : Encoder). x.offset) h.1, ap length bytes, length-append v.bytes own, e);
-      pointers = 0;
-      name = record {
-        reads = Reads-wire (c ++ own) c [] ls (length c) (length c) (length (c ++ own)) refl end (ap (λ (z : List ℕ). c ++ z) (sym (append-nil own))) are.each;
-        fits = are.fit;
-      };
-      few = omega (arith, (counts-as v w ls None h).1.on);
-      candidates = subst (λ b. All (InBoth b (c ++ own)) w.candidates) (sym bytes) (subst (All P) (sym (ap (λ (x : Encoder). x.candidates) h.1)) every);
-    }
+    written-as v w c (0 ∷ []) [] ls ls (append-nil ls) are e long all (ends-zero v.bytes) (ends-zero c) are.each
+    (ap (λ (x : Encoder). x.bytes) h.1 ∙ added v (written v (wire ls)) (wire ls) e refl) (ap (λ (x : Encoder). x.offset) h.1)
+    (omega (arith, (counts-as v w ls None h).1.on)) (λ P every. subst (All P) (sym (ap (λ (x : Encoder). x.candidates) h.1)) every)
 as-both v w c ls (Some share) are e long all (may, points) h =
     let front = share.front in
     let back = share.back in
-    let own = form ls (Some share) in
     let u = points.usable.usable in
-    let bytes : w.bytes ≡ v.bytes ++ own = ap (λ (x : Encoder). x.bytes) h.1 ∙ ap (λ (x : List ℕ). x ++ own) (take-all v.offset v.bytes e) in
     let (labels, one, two) = one-of (InBoth v.bytes c) v.candidates points.usable.before points.usable.after (share.target, labels_wire back) u.split all in
-    let there : NameAt v.bytes share.target back u.end u.pointers = subst (λ b. NameAt b share.target back u.end u.pointers) (take-all v.offset v.bytes e) u.name in
+    let there : NameAt v.bytes share.target back u.end u.pointers = rw (take-all v.offset v.bytes e) at u.name in
     let same : labels ≡ back = (Reads-unique one.2.reads there.reads).0 in
-    let also : ReadsAs c share.target back = subst (ReadsAs c share.target) same two in
-    let each = each_front front back (subst (λ x. AllByRecursion IsLabel x) points.parts are.each) in
-    let fit : encoded_size (front ++ back) ≤ 255 = subst (λ z. encoded_size z ≤ 255) points.parts are.fit in
-    let P = InBoth (v.bytes ++ own) (c ++ own) in
-    let new = suffix-both v.bytes c (pointer_to share.target) [] v.bytes c back front long (ends-pointer v.bytes back share.target (subst (ReadsAs v.bytes share.target) same one))
-    (ends-pointer c back share.target also) (sym (append-nil v.bytes)) (sym (append-nil c)) each fit in
-    let some : All P (take (length front) (suffixes v.offset ls)) =
-    subst (λ o. All P (take (length front) (suffixes o ls))) (sym e) (subst (λ z. All P (take (length front) (suffixes (length v.bytes) z))) (sym points.parts) new) in
-    let every : All P (v.candidates ++ kept v ls (length front)) =
-    All-append P v.candidates (kept v ls (length front)) (append-both v.bytes c own own v.candidates all) (kept-all P v ls (length front) some) in
     let one_counted : w.names ≡ v.names + 1 = (counts-as v w ls (Some share) h).0 ∙ ap (λ (b : Bool). if b then v.names + 1 else v.names) may in
-    let left = All-filter (λ candidate. nat_lt candidate.0 (v.offset + length (labels_wire front))) P (v.candidates ++ kept v ls (length front)) every in
-    let r = Reads-shared c [] front back share.target also.0 also.1 each also.2.reads in
-    let end : length c + length (labels_wire front) + 2 ≡ length (c ++ own) = omega (arith, length-append c own, length-append (labels_wire front) (pointer_to share.target)) in
-    let read : Reads (c ++ own) (length c) (length c) None ls (length (c ++ own)) (suc also.1) =
-    subst (λ z. Reads (c ++ own) (length c) (length c) None z (length (c ++ own)) (suc also.1)) (sym points.parts)
-    (subst (λ q. Reads (c ++ own) (length c) (length c) None (front ++ back) q (suc also.1)) end r) in
-    record {
-      own = own;
-      bytes = bytes;
-      offset = omega (arith, ap (λ (x : Encoder). x.offset) h.1, ap length bytes, length-append v.bytes own, e);
-      pointers = suc also.1;
-      name = record { reads = read; fits = are.fit };
-      few = omega (arith, also.3, ap length points.parts, length-append front back, AreLabels-few ls are, one_counted);
-      candidates = subst (λ b. All (InBoth b (c ++ own)) w.candidates) (sym bytes) (subst (All P) (sym (ap (λ (x : Encoder). x.candidates) h.1)) left);
-    }
+    written-as v w c (pointer_to share.target) back front ls (sym points.parts) are e long all
+    (ends-pointer v.bytes back share.target (subst (ReadsAs v.bytes share.target) same one)) (ends-pointer c back share.target (subst (ReadsAs c share.target) same two))
+    (each_front front back (subst (λ x. AllByRecursion IsLabel x) points.parts are.each))
+    (ap (λ (x : Encoder). x.bytes) h.1 ∙ ap (λ (x : List ℕ). x ++ form ls (Some share)) (take-all v.offset v.bytes e)) (ap (λ (x : Encoder). x.offset) h.1)
+    (omega (arith, ap length points.parts, length-append front back, AreLabels-few ls are, one_counted))
+    (λ P every. subst (All P) (sym (ap (λ (x : Encoder). x.candidates) h.1)) (All-filter _ P (v.candidates ++ kept v ls (length front)) every))
 
 pub name-both : (name : NameValue) (v w : Encoder) (c : List ℕ) → v.offset ≡ length v.bytes → length v.bytes ≡ length c → All (InBoth v.bytes c) v.candidates
     → EmitsName name v (Ok tt) w → WrittenInBoth v w c (in_mode v.encoding name.labels)

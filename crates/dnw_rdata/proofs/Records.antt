@@ -1,5 +1,5 @@
 -- A record of any type is read where it was written.
-use Rattle.std.proofs.Common.{◌≡◌, ℕ, ◌+◌, ◌-◌, ◌*◌, ◌^◌, ◌<◌, ◌≤◌, List, [], ◌++◌, length, take, drop, replicate, slice_range, Ok, refl, sym, ap, ◌∙◌, subst, append_assoc, arith}
+use Rattle.std.proofs.Common.{◌≡◌, ℕ, ◌+◌, ◌-◌, ◌*◌, ◌≤◌, List, [], ◌++◌, length, take, drop, replicate, slice_range, Ok, refl, sym, ap, ◌∙◌, subst, append_assoc, arith}
 use Rattle.std.specs.Int.{w16, to_be_bytes}
 use Rattle.std.specs.List.{All}
 use Rattle.std.proofs.lemmas.List.{append-nil, drop_at, length-append, length-replicate, take_all, take_at}
@@ -27,8 +27,9 @@ use Rattle.dnw_rdata.specs.DataCopies.{TakesPieces, data_start}
 use Rattle.dnw_rdata.specs.AnyRecords.{AnyNumbersFit, EmitsAnyRecord, EmitsRData, parts_of, type_class_ttl}
 use Rattle.dnw_rdata.specs.AnyRecordFrames.{frame-any_record, frame-parts}
 use Rattle.dnw_rdata.specs.AnyRecordLaws.{AnyRecordsAreRead, CandidatesAreRead, NamesKeepRead, NewAreRead, ReadsAs, WritesKeepRead, written_pieces}
-use Rattle.dnw_rdata.proofs.AnyRecords.{data_have_fields, take-values}
-use Rattle.dnw_rdata.proofs.Going.{within-parts}
+use Rattle.dnw_rdata.proofs.AnyRecords.{data_have_fields}
+use Rattle.dnw_rdata.proofs.Copying.{take-values}
+use Rattle.dnw_rdata.proofs.Going.{fits-parts}
 use Rattle.dnw_rdata.proofs.Counting.{counts-parts}
 use Rattle.dnw_rdata.proofs.Pieces.{behind}
 use Rattle.dnw_rdata.proofs.ReadBack.{laid}
@@ -66,50 +67,22 @@ all-of b n is = let same : n - 0 ≡ n = omega arith in ap (λ k. take k b) same
 -- ---- in another message
 
 -- A record is written at the end of a message. In another message of the same length, in which the candidates are the same
--- names, it is read as well, and its owner follows few pointers; and before its length is filled in, the candidates are these
--- names too.
-record ReadIn (r : Record) (pieces : List DataPiece) (v u w : Encoder) (c : List ℕ) : Type 0 where
-  own : List ℕ
-  bytes : w.bytes ≡ v.bytes ++ own
-  value : RecordValue
-  at : RecordAt (c ++ own) (length c) value (length (c ++ own))
-  few : at.pointers + 127 * v.names ≤ 127 * w.names
-  owner : value.owner ≡ in_mode v.encoding r.name.labels
-  record_type : value.record_type ≡ type_of_code (type_code r.data.record_type)
-  class : value.class ≡ class_of_code (class_code r.dns_class)
-  ttl : value.ttl ≡ r.ttl
-  takes : TakesPieces (kinds_of r.data.record_type) (data_start value) (written_pieces v.encoding v.canonical pieces)
-  candidates : All (InBoth u.bytes (c ++ own)) w.candidates
+-- names, it is read as well, and its owner follows at most 127 pointers for each name that is counted.
+pub record ReadIn (r : Record) (pieces : List DataPiece) (v w : Encoder) (c : List ℕ) : Type 0 where
+  pub own : List ℕ
+  pub bytes : w.bytes ≡ v.bytes ++ own
+  pub value : RecordValue
+  pub at : RecordAt (c ++ own) (length c) value (length (c ++ own))
+  pub few : at.pointers + 127 * v.names ≤ 127 * w.names
+  pub owner : value.owner ≡ in_mode v.encoding r.name.labels
+  pub record_type : value.record_type ≡ type_of_code (type_code r.data.record_type)
+  pub class : value.class ≡ class_of_code (class_code r.dns_class)
+  pub ttl : value.ttl ≡ r.ttl
+  pub takes : TakesPieces (kinds_of r.data.record_type) (data_start value) (written_pieces v.encoding v.canonical pieces)
 
--- the record of an owner that ends there, and of these ten octets after it
-record Found (b : List ℕ) (p o kind class ttl : ℕ) (labels : List (List ℕ)) : Type 0 where
-  value : RecordValue
-  at : RecordAt b p value (length b)
-  owner : value.owner ≡ labels
-  record_type : value.record_type ≡ type_of_code kind
-  class_is : value.class ≡ class_of_code class
-  ttl_is : value.ttl ≡ ttl
-  start : data_start value ≡ record { bytes = b; index = o + 10 }
-
-found : (b ca more : List ℕ) (labels : List (List ℕ)) (p kind class ttl len k : ℕ) → b ≡ ca ++ (fields_of kind class ttl len ++ more)
-    → NameAt b p labels (length ca) k → len ≡ length more → (kind < 2 ^ 16) × (class < 2 ^ 16) × (ttl < 2 ^ 32) → length b ≤ 65535
-    → Found b p (length ca) kind class ttl labels
-found b ca more labels p kind class ttl len k b_is name size fits small =
-    let fields = fields_of kind class ttl len in
-    let long : length b ≡ length ca + 10 + length more = omega (arith, ap length b_is, length-append ca (fields ++ more), length-append fields more) in
-    let number : len ≡ length b - (length ca + 10) = omega (arith, size, long) in
-    let there = ap (λ x. slice_range x (length ca) (length ca + 10)) b_is ∙ (slice_range-middle ca fields more (length ca) (length ca + 10) refl refl
-    ∙ ap (fields_of kind class ttl) number) in
-    let (at, kind_is, class_is, ttl_is, ends) = read-after b labels p (length ca) k (length b) kind class ttl name there fits (omega (arith, long)) (omega arith) small in
-    record {
-      value = record_of b labels (length ca);
-      at = at;
-      owner = refl;
-      record_type = kind_is;
-      class_is = class_is;
-      ttl_is = ttl_is;
-      start = ap (λ y. record { bytes = y; index = length ca + 10 }) (all-of b (length ca + 10 + length_field (fields_at b (length ca))) ends);
-    }
+-- And the candidates are the same names there and in this message.
+abbrev pub ReadInBoth : Record → List DataPiece → Encoder → Encoder → List ℕ → List ℕ → Type 0
+ReadInBoth r pieces v w b c = (x : ReadIn r pieces v w c) × All (InBoth b (c ++ x.own)) w.candidates
 
 behind-is : (twin more b : List ℕ) (i : ℕ) → twin ++ more ≡ b → length twin ≡ i → behind (twin ++ []) more ≡ record { bytes = b; index = i }
 behind-is twin more b i is size =
@@ -121,36 +94,42 @@ read-rest : (r : Record) (pieces : List DataPiece) (v u w : Encoder) (c name mor
     → NameAt (c ++ name) (length c) (in_mode v.encoding r.name.labels) (length (c ++ name)) k → len ≡ length more → AnyNumbersFit r
     → length c + length name + 10 + length more ≤ 65535 → k + 127 * v.names ≤ 127 * w.names
     → TakesPieces (kinds_of r.data.record_type) (behind ((((c ++ name) ++ type_class_ttl r) ++ to_be_bytes w16 len) ++ []) more) (written_pieces v.encoding v.canonical pieces)
-    → All (InBoth u.bytes ((((c ++ name) ++ type_class_ttl r) ++ to_be_bytes w16 len) ++ more)) w.candidates → ReadIn r pieces v u w c
+    → All (InBoth u.bytes ((((c ++ name) ++ type_class_ttl r) ++ to_be_bytes w16 len) ++ more)) w.candidates → ReadInBoth r pieces v w u.bytes c
 read-rest r pieces v u w c name more len k bytes read size fits small few takes candidates =
-    let fields = fields_of (type_code r.data.record_type) (class_code r.dns_class) r.ttl len in
+    let fields_with = fields_of (type_code r.data.record_type) (class_code r.dns_class) r.ttl in
+    let fields = fields_with len in
     let eight = type_class_ttl r in
     let two = to_be_bytes w16 len in
+    let labels = in_mode v.encoding r.name.labels in
     let own = name ++ (fields ++ more) in
-    let b_is : c ++ own ≡ (c ++ name) ++ (fields ++ more) = sym (append_assoc c name (fields ++ more)) in
-    let here : NameAt (c ++ own) (length c) (in_mode v.encoding r.name.labels) (length (c ++ name)) k =
-    subst (λ x. NameAt x (length c) (in_mode v.encoding r.name.labels) (length (c ++ name)) k) (sym b_is)
-    (record { reads = Reads-append (fields ++ more) read.reads; fits = read.fits }) in
-    let long : length (c ++ own) ≡ length c + length name + 10 + length more =
-    omega (arith, ap length b_is, length-append (c ++ name) (fields ++ more), length-append c name, length-append fields more) in
-    let f = found (c ++ own) (c ++ name) more (in_mode v.encoding r.name.labels) (length c) (type_code r.data.record_type) (class_code r.dns_class) r.ttl len k b_is here size fits (omega (arith, long, small)) in
-    let twin = ((c ++ name) ++ eight) ++ two in
-    let twin_is : twin ++ more ≡ c ++ own =
-    append_assoc ((c ++ name) ++ eight) two more ∙ (append_assoc (c ++ name) eight (two ++ more) ∙ sym b_is) in
-    let from = behind-is twin more (c ++ own) (length (c ++ name) + 10) twin_is (omega (arith, length-append ((c ++ name) ++ eight) two, length-append (c ++ name) eight)) in
-    record {
-      own = own;
-      bytes = bytes ∙ append_assoc v.bytes name (fields ++ more);
-      value = f.value;
-      at = f.at;
-      few = omega (arith, few, (Reads-unique f.at.owner_read.reads here.reads).2);
-      owner = f.owner;
-      record_type = f.record_type;
-      class = f.class_is;
-      ttl = f.ttl_is;
-      takes = subst (λ d. TakesPieces (kinds_of r.data.record_type) d (written_pieces v.encoding v.canonical pieces)) (from ∙ sym f.start) takes;
-      candidates = subst (λ y. All (InBoth u.bytes y) w.candidates) twin_is candidates;
-    }
+    let front = c ++ name in
+    let b = c ++ own in
+    let o : ℕ = length front in
+    let b_is : b ≡ front ++ (fields ++ more) = sym (append_assoc c name (fields ++ more)) in
+    let here : NameAt b (length c) labels o k = rw b_is (record { reads = Reads-append (fields ++ more) read.reads; fits = read.fits }) in
+    let long : length b ≡ o + 10 + length more = omega (arith, ap length b_is, length-append front (fields ++ more), length-append fields more) in
+    let number : len ≡ length b - (o + 10) = omega (arith, size, long) in
+    let there = ap (λ x. slice_range x o (o + 10)) b_is ∙ (slice_range-middle front fields more o (o + 10) refl refl ∙ ap fields_with number) in
+    let (at, kind_is, class_is, ttl_is, ends) =
+    read-after b labels (length c) o k (length b) _ _ _ here there fits (omega (arith, long)) (omega arith) (omega (arith, long, small, length-append c name)) in
+    let twin = (front ++ eight) ++ two in
+    let twin_is : twin ++ more ≡ b = append_assoc (front ++ eight) two more ∙ (append_assoc front eight (two ++ more) ∙ sym b_is) in
+    let from = behind-is twin more b (o + 10) twin_is (omega (arith, length-append (front ++ eight) two, length-append front eight)) in
+    let start : data_start (record_of b labels o) ≡ record { bytes = b; index = o + 10 } = ap (λ y. record { bytes = y; index = o + 10 }) (all-of b (o + 10 + length_field (fields_at b o)) ends) in (
+      record {
+        own = own;
+        bytes = bytes ∙ append_assoc v.bytes name (fields ++ more);
+        value = record_of b labels o;
+        at = at;
+        few = omega (arith, few, (Reads-unique at.owner_read.reads here.reads).2);
+        owner = refl;
+        record_type = kind_is;
+        class = class_is;
+        ttl = ttl_is;
+        takes = subst (λ d. TakesPieces (kinds_of r.data.record_type) d (written_pieces v.encoding v.canonical pieces)) (from ∙ sym start) takes;
+      },
+      rw twin_is at candidates,
+    )
 
 -- a length that is filled in
 filled-out : (d u w : Encoder) (more : List ℕ) → d.offset ≡ length d.bytes → u.bytes ≡ (reserved d 2).bytes ++ more → w ≡ with_length u d.offset
@@ -179,7 +158,7 @@ reserved-both a d ca eight two e end fixed all =
 read-in : (r : Record) (pieces : List DataPiece) (v a d u w : Encoder) (c : List ℕ) → v.offset ≡ length v.bytes → length v.bytes ≡ length c
     → v.max_size ≤ max_message → All (InBoth v.bytes c) v.candidates → HasPieces (kinds_of r.data.record_type) r.data.octets pieces → AnyNumbersFit r
     → EmitsName r.name v (Ok tt) a → Writes a (type_class_ttl r) (Ok tt) d → HasRoom d 2 → EmitsRData r.data (reserved d 2) (Ok tt) u
-    → w ≡ with_length u d.offset → ReadIn r pieces v u w c
+    → w ≡ with_length u d.offset → ReadInBoth r pieces v w u.bytes c
 read-in r pieces v a d u w c e long small stand has fit owner fixed room (others, has', one) is =
     let after : a.names ≤ w.names =
     omega (arith, (counts-parts (parts_of others d.encoding d.canonical) _ u one).on, ap (λ (x : Encoder). x.names) fixed.1, ap (λ (x : Encoder). x.names) is) in
@@ -198,7 +177,7 @@ read-in r pieces v a d u w c e long small stand has fit owner fixed room (others
     omega (arith, fr.ends, offset, ca_size, length-append ((c ++ n.own) ++ eight) two, length-append (c ++ n.own) eight) in
     let l = laid kinds others [] (((c ++ n.own) ++ eight) ++ two) (reserved d 2) u d.encoding d.canonical has'.are fr.ends size both one in
     let fu = frame-parts (parts_of others d.encoding d.canonical) (reserved d 2) (Ok tt) u fr.ends one in
-    let (most, still) = within-parts (parts_of others d.encoding d.canonical) (reserved d 2) u (omega (arith, room)) one in
+    let (_, most, still, _) = (fits-parts [] others d.encoding d.canonical).done (reserved d 2) u one in
     let mode : d.encoding ≡ v.encoding = fd.encoding ∙ fa.encoding in
     let canonical : d.canonical ≡ v.canonical = fd.canonical ∙ fa.canonical in
     let one_way = (data_have_fields kinds r.data.octets pieces has).1 others has' in
@@ -220,52 +199,24 @@ merged u b c cs one two =
     (λ x ((ls, here, in_b), (others, there, in_c)). (ls, in_b, subst (ReadsAs c x.0) (Reads-unique there.2.reads here.2.reads).0 in_c)) cs
     (λ k y lt. (one k y lt, two k y lt))
 
--- A record is written at the end of a message. It is read there, and so in another message of the same length in which the
--- candidates are the same names; and these stay the same names in both. Its owner follows at most 127 pointers for each name
--- that is counted.
-pub record RecordInBoth (r : Record) (pieces : List DataPiece) (v w : Encoder) (c : List ℕ) : Type 0 where
-  pub own : List ℕ
-  pub bytes : w.bytes ≡ v.bytes ++ own
-  pub value : RecordValue
-  pub at : RecordAt (c ++ own) (length c) value (length (c ++ own))
-  pub few : at.pointers + 127 * v.names ≤ 127 * w.names
-  pub owner : value.owner ≡ in_mode v.encoding r.name.labels
-  pub record_type : value.record_type ≡ type_of_code (type_code r.data.record_type)
-  pub class : value.class ≡ class_of_code (class_code r.dns_class)
-  pub ttl : value.ttl ≡ r.ttl
-  pub takes : TakesPieces (kinds_of r.data.record_type) (data_start value) (written_pieces v.encoding v.canonical pieces)
-  pub candidates : All (InBoth w.bytes (c ++ own)) w.candidates
-
 pub record-both : (r : Record) (pieces : List DataPiece) (v w : Encoder) (c : List ℕ) → v.offset ≡ length v.bytes → length v.bytes ≡ length c
     → v.max_size ≤ max_message → All (InBoth v.bytes c) v.candidates → HasPieces (kinds_of r.data.record_type) r.data.octets pieces
-    → EmitsAnyRecord r v (Ok tt) w → RecordInBoth r pieces v w c
+    → EmitsAnyRecord r v (Ok tt) w → ReadInBoth r pieces v w w.bytes c
 record-both r pieces v w c e long small stand has (fit, (a, owner, (d, fixed, (room, u, one, is)))) =
     let itself : All (InBoth v.bytes v.bytes) v.candidates = All-weaker (InBoth v.bytes c) (InBoth v.bytes v.bytes) (λ x (ls, here, there). (ls, here, here)) v.candidates stand in
-    let first = read-in r pieces v a d u w v.bytes e refl small itself has fit owner fixed room one is in
-    let other = read-in r pieces v a d u w c e long small stand has fit owner fixed room one is in
-    record {
-      own = other.own;
-      bytes = other.bytes;
-      value = other.value;
-      at = other.at;
-      few = other.few;
-      owner = other.owner;
-      record_type = other.record_type;
-      class = other.class;
-      ttl = other.ttl;
-      takes = other.takes;
-      candidates = merged u.bytes w.bytes (c ++ other.own) w.candidates (subst (λ b. All (InBoth u.bytes b) w.candidates) (sym first.bytes) first.candidates) other.candidates;
-    }
+    let (first, same) = read-in r pieces v a d u w v.bytes e refl small itself has fit owner fixed room one is in
+    let (other, also) = read-in r pieces v a d u w c e long small stand has fit owner fixed room one is in
+    (other, merged u.bytes w.bytes (c ++ other.own) w.candidates (rw (← first.bytes) at same) also)
 
 pub any_records_are_read : AnyRecordsAreRead
 any_records_are_read r pieces v w e small stand has h =
-    let b = record-both r pieces v w v.bytes e refl small (with-itself v e stand) has h in
+    let (b, both) = record-both r pieces v w v.bytes e refl small (with-itself v e stand) has h in
     let ends = (frame-any_record r v (Ok tt) w e h).ends in
     let whole = sym b.bytes in
     let at : RecordAt w.bytes v.offset b.value w.offset =
     subst (λ p. RecordAt w.bytes p b.value w.offset) (sym e)
     (subst (λ q. RecordAt w.bytes (length v.bytes) b.value q) (ap length whole ∙ sym ends) (subst (λ x. RecordAt x (length v.bytes) b.value (length (v.bytes ++ b.own))) whole b.at)) in
-    let left = subst (λ y. All (InBoth w.bytes y) w.candidates) (whole ∙ sym (take-all w.offset w.bytes ends)) b.candidates in
+    let left = subst (λ y. All (InBoth w.bytes y) w.candidates) (whole ∙ sym (take-all w.offset w.bytes ends)) both in
     let keeps : CandidatesAreRead w =
     All-weaker (InBoth w.bytes (so_far w)) (λ c. (ls : List (List ℕ)) × ReadsAs (so_far w) c.0 ls) (λ c (ls, _, found). (ls, found)) w.candidates left in
     (b.value, at, b.owner, b.record_type, b.class, b.ttl, take-values b.value.start (kinds_of r.data.record_type) (data_start b.value) (written_pieces v.encoding v.canonical pieces) b.takes, keeps)

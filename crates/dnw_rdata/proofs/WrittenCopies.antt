@@ -1,26 +1,27 @@
 -- Pieces that are read are the pieces of what is copied of them, so they are written as the copy is.
-use Rattle.std.proofs.Common.{◌≡◌, true, false, Some, None, List, [], Ok, Err, OnOk, inl, inr, refl, sym, subst}
+use Rattle.std.proofs.Common.{◌≡◌, ℕ, true, false, List, [], Result, Ok, Err, IfOk, IfErr, OnOk, inl, inr, refl, sym, ap, ◌∙◌, subst}
+use Rattle.std.specs.Prelude.{MatchResult}
 use Rattle.std.specs.Result.{is_err}
 use Rattle.std.proofs.lemmas.Bool.{false≢true}
-use Rattle.std.proofs.lemmas.Option.{none-some}
 use Rattle.dnw_base.specs.Decoder.{Decoder}
-use Rattle.dnw_data.specs.declared.fields.FieldError.{FieldError}
-use Rattle.dnw_data.proofs.Walking.{one-reading}
+use Rattle.dnw_rdata.specs.declared.rdata.RDataError.{RDataError}
+use Rattle.dnw_codes.specs.declared.record_type.RecordType.{RecordType}
 use Rattle.dnw_encoder.specs.Encoder.{Encoder, Writes, reserved}
 use Rattle.dnw_encoder.specs.Emitting.{Outcome}
 use Rattle.dnw_encoder.specs.EmittedName.{EmitsName}
 use Rattle.dnw_record.specs.Parts.{EmitsSized, EmitsWireParts, Write}
 use Rattle.dnw_record.specs.Records.{RecordValue}
 use Rattle.dnw_rdata.specs.declared.record.Record.{Record}
-use Rattle.dnw_rdata.specs.declared.rdata.RDataError.TheVariants.{Field}
-use Rattle.dnw_rdata.specs.DataPieces.{DataPiece, DataValue, IsDataOfType, kinds_of}
-use Rattle.dnw_rdata.specs.DataCopies.{Copies, FailsToCopy, alone, data_start}
+use Rattle.dnw_rdata.specs.declared.rdata.RDataError.TheVariants.{Field, Memory}
+use Rattle.dnw_rdata.specs.DataPieces.{DataPiece, DataValue, IsData, IsDataOfType, kinds_of, octets_of}
+use Rattle.dnw_rdata.specs.DataCopies.{Copies, FailsToCopy, alone}
 use Rattle.dnw_rdata.specs.AnyRecords.{AnyNumbersFit, EmitsAnyFields, EmitsCopyOf, EmitsRData, HasFields, IsCopyOf, parts_of, type_class_ttl}
 use Rattle.dnw_rdata.specs.Inside.Walking.{EmitsFieldsOf, EmitsPieces, IsReadable, copy_with}
 use Rattle.dnw_rdata.proofs.AnyRecords.{whole-pieces}
 use Rattle.dnw_encoder.specs.Marks.{mark_of, rewound}
+use Rattle.dnw_rdata.proofs.Copying.{not-both}
 use Rattle.dnw_rdata.proofs.Going.{GoesOn, on-fields}
-use Rattle.dnw_rdata.proofs.Pieces.{are-pieces, fields-of, pieces-unique}
+use Rattle.dnw_rdata.proofs.Pieces.{are-pieces, pieces-unique}
 
 -- what is read of a decoder is written as the data that are a copy of it
 pub as-data : (x : DataValue) (start : Decoder) → Copies (kinds_of x.record_type) start x.octets → (v : Encoder) (outcome : Outcome) (w : Encoder)
@@ -39,6 +40,16 @@ own-copy x (pieces, has) = (pieces, whole-pieces (kinds_of x.record_type) x.octe
 
 pub readable : (x : DataValue) → IsDataOfType x → IsReadable (kinds_of x.record_type) (alone x.octets)
 readable x has = let (pieces, takes, is) = own-copy x has in (pieces, takes)
+
+-- octets that are data are copied as they are
+pub kept : (record_type : RecordType) (octets : List ℕ) (result : Result DataValue RDataError)
+    → IfOk result (λ r. (r.record_type ≡ record_type) × Copies (kinds_of record_type) (alone octets) r.octets)
+    → IfErr result (FailsToCopy (kinds_of record_type) (alone octets))
+    → IsData (kinds_of record_type) octets → MatchResult result (λ r. r.octets ≡ octets) (λ e. e ≡ Memory)
+kept t octets (Ok r) (_, (pieces', takes', is)) err (pieces, has) =
+    is ∙ ap octets_of (pieces-unique (kinds_of t) (alone octets) pieces' pieces takes' (whole-pieces (kinds_of t) octets pieces has)) ∙ sym has.whole
+kept t octets (Err Memory) ok err (pieces, has) = refl
+kept t octets (Err (Field error)) ok err (pieces, has) = absurd (not-both (kinds_of t) (alone octets) pieces error (whole-pieces (kinds_of t) octets pieces has) err)
 
 -- what is written after its length is the same in other words
 sized-as : (one two : Write) → ((v : Encoder) (outcome : Outcome) (w : Encoder) → one v outcome w → two v outcome w)
@@ -63,14 +74,6 @@ fields-on r start v a d outcome w copied owner fixed rdata =
 -- the copy of a record whose data are fields of its type
 pub some-copy : (x : RecordValue) → HasFields x → (r : Record) × IsCopyOf x r
 some-copy x (octets, copied) = (copy_with x octets, (refl, refl, refl, refl, copied))
-
--- the data of a record are fields of its type, or there is a first field that is none
-pub not-both : (x : RecordValue) (error : FieldError) → HasFields x → FailsToCopy (kinds_of x.record_type) (data_start x) (Field error) → ⊥
-not-both x error (octets, copied) (values, count, fails) =
-    let (pieces, takes, is) = copied in
-    let start = data_start x in
-    let (others, all) = fields-of start.index (kinds_of x.record_type) start pieces takes in
-    none-some _ (one-reading start.index (kinds_of x.record_type) start others values None (Some error.cause) all fails).1
 
 -- ---- a record that is written from where it is
 

@@ -11,6 +11,7 @@ pub fn refused_any_undo()
 {}
 
 /// A record keeps every candidate before the offset, whether it is written or refused.
+#[tactic(auto, using(crate::proofs::AnyRecords::any_records_precede))]
 pub fn any_records_precede()
     ensures { AnyRecordsPrecede }
 {}

@@ -20,7 +20,7 @@ use Rattle.dnw_record.specs.Records.{RecordAt, class_field, fields_at, length_fi
 use Rattle.dnw_record.specs.WrittenRecords.{EmitsData, type_class_ttl}
 use Rattle.dnw_record.specs.RecordFrames.{frame-data, frame-grows, frame-record, frame-reserved}
 use Rattle.dnw_record.specs.RecordLaws.{HasBytes, RecordsAreRead, RecordsLie, fields_of}
-use Rattle.dnw_record.proofs.Parts.{done-fields}
+use Rattle.dnw_record.proofs.Parts.{fits-fields}
 
 -- bytes that are written at the end
 pub added : (v w : Encoder) (d : List ℕ) → v.offset ≡ length v.bytes → w ≡ written v d → w.bytes ≡ v.bytes ++ d
@@ -68,7 +68,7 @@ records_lie r v w e small h =
       pointers = read.0;
       owner = rw laid (record { reads = Reads-append (fields ++ rest) read.1.reads; fits = read.1.fits });
       order = omega (arith, longer, fu.ends, od, ow);
-      few = omega (arith, (done-fields r v w h.1).1, small);
+      few = omega (arith, ((fits-fields r).done v w h.1).1, small);
       fields = ap (λ x. slice_range x a.offset (a.offset + 10)) laid ∙ (slice_range-middle a.bytes fields rest a.offset (a.offset + 10) fa.ends refl
           ∙ ap (fields_of (type_code r.record_type) (class_code r.class) r.ttl) number);
       rdata = data-follow r.rdata (reserved d 2) u w.bytes (a.bytes ++ fields) (a.offset + 10) w.offset fr.ends one

@@ -1,10 +1,12 @@
 -- How many bytes parts and records take, and why they are refused.
-use Rattle.std.proofs.Common.{◌≡◌, ℕ, ◌+◌, ◌<◌, ◌≤◌, List, [], ◌∷◌, length, Option, Some, None, Ok, Err, inl, inr, refl, sym, ap, ◌∙◌, subst, arith}
+use Rattle.std.proofs.Common.{◌≡◌, ℕ, ◌+◌, ◌<◌, ◌≤◌, List, [], ◌∷◌, ◌++◌, length, Option, Some, None, Ok, Err, inl, inr, refl, sym, ap, ◌∙◌, subst, arith}
 use Rattle.dnw_error.specs.declared.error.ProtoError.{ProtoError}
 use Rattle.dnw_error.specs.declared.error.ProtoError.TheVariants.{CharacterDataTooLong, MaxBufferSizeExceeded, Memory}
 use Rattle.dnw_base.specs.Limits.{max_character_data}
 use Rattle.dnw_base.specs.Names.{AreLabels, NameValue, encoded_size}
 use Rattle.dnw_encoder.specs.Encoder.{Encoder, TakesRoom, Writes, reserved, written}
+use Rattle.dnw_encoder.specs.declared.encoder.modes.NameEncoding.{NameEncoding}
+use Rattle.dnw_encoder.specs.Emitting.{Outcome}
 use Rattle.dnw_encoder.specs.EmittedName.{Chooses, EmitsAs, EmitsName, Share, in_mode, room_for}
 use Rattle.dnw_encoder.proofs.NameBack.{names_take_no_more, pointers_save, size-in_mode}
 use Rattle.dnw_encoder.proofs.Suffixes.{length-all}
@@ -12,7 +14,7 @@ use Rattle.dnw_base.proofs.Wires.{length-wire}
 use Rattle.dnw_record.specs.declared.record.WireRecord.{WireRecord}
 use Rattle.dnw_record.specs.declared.record.WireData.{WireData}
 use Rattle.dnw_record.specs.declared.record.WireData.TheVariants.{Bytes, Name}
-use Rattle.dnw_record.specs.Parts.{EmitsSized, EmitsWirePart, EmitsWireParts, HasTextOfSize, Then, WirePart, bytes_part, in_encoding, name_part, parts_size, text_part, wire_size}
+use Rattle.dnw_record.specs.Parts.{EmitsSized, EmitsWirePart, EmitsWireParts, HasTextOfSize, Then, WirePart, Write, bytes_part, in_encoding, name_part, parts_size, text_part, wire_size}
 use Rattle.dnw_record.specs.WrittenRecords.{EmitsData, EmitsFields, data_part, type_class_ttl}
 use Rattle.dnw_record.specs.RecordLaws.{FailsForSize, RecordsFit, data_size, record_size}
 
@@ -55,6 +57,19 @@ done-part (name_part mode name) v w (u, h, is) =
 pub done-parts : (parts : List WirePart) (v w : Encoder) → EmitsWireParts parts v (Ok tt) w → w.offset ≤ v.offset + parts_size parts
 done-parts [] v w h = omega (arith, ap (λ (x : Encoder). x.offset) h)
 done-parts (part ∷ parts) v w (m, one, more) = omega (arith, (done-part part v m one).0, done-parts parts m w more)
+
+-- ---- parts and others after them
+
+pub parts-follow : (parts others : List WirePart) (v m w : Encoder) (outcome : Outcome) → EmitsWireParts parts v (Ok tt) m → EmitsWireParts others m outcome w
+    → EmitsWireParts (parts ++ others) v outcome w
+parts-follow [] others v m w outcome h more = rw h at more
+parts-follow (part ∷ parts) others v m w (Ok tt) (a, one, h) more = (a, one, parts-follow parts others a m w (Ok tt) h more)
+parts-follow (part ∷ parts) others v m w (Err error) (a, one, h) more = inr (a, one, parts-follow parts others a m w (Err error) h more)
+
+pub parts-fail : (parts others : List WirePart) (v w : Encoder) (error : ProtoError) → EmitsWireParts parts v (Err error) w → EmitsWireParts (parts ++ others) v (Err error) w
+parts-fail [] others v w error h = absurd h
+parts-fail (part ∷ parts) others v w error (inl h) = inl h
+parts-fail (part ∷ parts) others v w error (inr (a, one, h)) = inr (a, one, parts-fail parts others a w error h)
 
 -- ---- what is refused
 
@@ -127,45 +142,78 @@ refused-parts (part ∷ parts) v w error (inr (m, one, more)) =
     let (le, _, same, _) = done-part part v m one in
     refuses-all part parts v.max_size v.offset m.offset error le (subst (λ n. Refuses n m.offset parts error) same (refused-parts parts m w error more))
 
+-- ---- writes in turn
+
+-- A write is accepted within n bytes, and refused for its size only if so many have no room. It goes on in any case.
+pub record Fits (n : ℕ) (write : Write) : Type 0 where
+  pub done : (v w : Encoder) → write v (Ok tt) w → EndsWithin v n w
+  pub refused : (v w : Encoder) (error : ProtoError) → write v (Err error) w → (v.offset ≤ w.offset) × FailsForSize v n error
+
+pub fits-as : {n k : ℕ} {write : Write} → n ≡ k → Fits n write → Fits k write
+fits-as same fits = rw same at fits
+
+-- a refused write that changes nothing
+unchanged : (v w : Encoder) {why : Type 0} → (w ≡ v) × why → (v.offset ≤ w.offset) × why
+unchanged v w (same, h) = (omega (arith, ap (λ (x : Encoder). x.offset) same), h)
+
+pub fits-bytes : (d : List ℕ) → Fits (length d) (λ v. Writes v d)
+fits-bytes d = record { done = done-bytes d; refused = λ v w error h. unchanged v w (refused-room v (written v d) w (length d) error h) }
+
+pub fits-name : (name : NameValue) → Fits (encoded_size name.labels) (EmitsName name)
+fits-name name = record { done = done-name name; refused = λ v w error h. unchanged v w (refused-name name v w error h) }
+
+module _ {n k : ℕ} {first second : Write} (one : Fits n first) (two : Fits k second) where
+  then-refused : (v w : Encoder) (error : ProtoError) → Then first second v (Err error) w → (v.offset ≤ w.offset) × FailsForSize v (n + k) error
+  then-refused v w error (inl f) = let (on, why) = one.refused v w error f in (on, fails-later v v _ n error (omega arith) refl why)
+  then-refused v w error (inr (m, f, s)) =
+      let (le, _, same, on) = one.done v m f in
+      let (more, why) = two.refused m w error s in
+      (omega (arith, on, more), fails-later v m _ k error (omega (arith, le)) same why)
+
+  pub fits-then : Fits (n + k) (Then first second)
+  fits-then = record {
+    done = λ v w (m, f, s).
+        let (le, _, same, on) = one.done v m f in
+        let (most, within, still, more) = two.done m w s in
+        (omega (arith, le, most), omega (arith, within, same), still ∙ same, omega (arith, on, more));
+    refused = then-refused;
+  }
+
+module _ {n : ℕ} {write : Write} (fits : Fits n write) where
+  sized-refused : (v w : Encoder) (error : ProtoError) → EmitsSized write v (Err error) w → (v.offset ≤ w.offset) × FailsForSize v (2 + n) error
+  sized-refused v w error (inl h) =
+      let (on, why) = unchanged v w (refused-room v (reserved v 2) w 2 error h) in (on, fails-later v v _ 2 error (omega arith) refl why)
+  sized-refused v w error (inr (room, h)) =
+      let (on, why) = fits.refused (reserved v 2) w error h in (omega (arith, on), fails-later v (reserved v 2) _ n error (omega arith) refl why)
+
+  pub fits-sized : Fits (2 + n) (EmitsSized write)
+  fits-sized = record {
+    done = λ v w (room, u, one, is).
+        let (le, within, same, on) = fits.done (reserved v 2) u one in
+        let offset = ap (λ (x : Encoder). x.offset) is in
+        (omega (arith, le, offset), omega (arith, within, offset), ap (λ (x : Encoder). x.max_size) is ∙ same, omega (arith, on, offset));
+    refused = sized-refused;
+  }
+
+pub fits-name_part : (mode : NameEncoding) (name : NameValue) → Fits (encoded_size name.labels) (EmitsWirePart (name_part mode name))
+fits-name_part mode name = record {
+  done = done-part (name_part mode name);
+  refused = λ v w error (u, h, is).
+      let (on, why) = (fits-name name).refused _ u error h in (omega (arith, on, ap (λ (x : Encoder). x.offset) is), why);
+}
+
 -- ---- records
 
-pub done-data : (rdata : WireData) (v w : Encoder) → EmitsData rdata v (Ok tt) w → EndsWithin v (data_size rdata) w
-done-data (Bytes bytes) v w h = done-part (bytes_part bytes.items) v w h
-done-data (Name name encoding) v w h = done-part (data_part v.encoding v.canonical (Name name encoding)) v w h
+pub fits-data : (rdata : WireData) → Fits (data_size rdata) (EmitsData rdata)
+fits-data (Bytes bytes) = fits-bytes bytes.items
+fits-data (Name name encoding) = record {
+  done = λ v w h. (fits-name_part _ name).done v w h;
+  refused = λ v w error h. (fits-name_part _ name).refused v w error h;
+}
 
-refused-data : (rdata : WireData) (v w : Encoder) (error : ProtoError) → EmitsData rdata v (Err error) w → FailsForSize v (data_size rdata) error
-refused-data (Bytes bytes) v w error h = (refused-room v (written v bytes.items) w (length bytes.items) error h).1
-refused-data (Name name encoding) v w error (u, h, is) = (refused-name name _ u error h).1
-
--- a record ends after as many bytes as with its names whole at most, and within the maximum
-pub done-fields : (r : WireRecord) (v w : Encoder) → EmitsFields r v (Ok tt) w
-    → (w.offset ≤ v.offset + record_size r) × (w.offset ≤ v.max_size) × (w.max_size ≡ v.max_size)
-done-fields r v w (a, owner, (d, fixed, (room, u, one, is))) =
-    let (le, _, same, _) = done-name r.owner v a owner in
-    let (fit, _, still, _) = done-bytes (type_class_ttl r) a d fixed in
-    let (most, within, kept, _) = done-data r.rdata (reserved d 2) u one in
-    let offset = ap (λ (x : Encoder). x.offset) is in (
-      omega (arith, offset, le, fit, most),
-      omega (arith, offset, within, still, same),
-      ap (λ (x : Encoder). x.max_size) is ∙ (kept ∙ (still ∙ same)),
-    )
-
--- after the owner
-refused-rest : (r : WireRecord) (a w : Encoder) (error : ProtoError) → Then (λ v. Writes v (type_class_ttl r)) (EmitsSized (EmitsData r.rdata)) a (Err error) w
-    → FailsForSize a (10 + data_size r.rdata) error
-refused-rest r a w error (inl h) = fails-later a a _ 8 error (omega arith) refl (refused-room a (written a (type_class_ttl r)) w 8 error h).1
-refused-rest r a w error (inr (d, fixed, inl h)) =
-    let (le, _, same, _) = done-bytes (type_class_ttl r) a d fixed in
-    fails-later a d _ 2 error (omega (arith, le)) same (refused-room d (reserved d 2) w 2 error h).1
-refused-rest r a w error (inr (d, fixed, inr (room, h))) =
-    let (le, _, same, _) = done-bytes (type_class_ttl r) a d fixed in
-    fails-later a (reserved d 2) _ (data_size r.rdata) error (omega (arith, le)) same (refused-data r.rdata (reserved d 2) w error h)
-
-pub refused-fields : (r : WireRecord) (v w : Encoder) (error : ProtoError) → EmitsFields r v (Err error) w → FailsForSize v (record_size r) error
-refused-fields r v w error (inl h) = fails-later v v _ _ error (omega arith) refl (refused-name r.owner v w error h).1
-refused-fields r v w error (inr (a, owner, more)) =
-    let (le, _, same, _) = done-name r.owner v a owner in
-    fails-later v a _ (10 + data_size r.rdata) error (omega (arith, le)) same (refused-rest r a w error more)
+-- a record takes as many bytes as with its names whole at most
+pub fits-fields : (r : WireRecord) → Fits (record_size r) (EmitsFields r)
+fits-fields r = fits-as (omega arith) (fits-then (fits-name r.owner) (fits-then (fits-bytes (type_class_ttl r)) (fits-sized (fits-data r.rdata))))
 
 pub records_fit : RecordsFit
-records_fit r = (λ v w h. (done-fields r v w h.1).0, λ v w error (u, h, is). refused-fields r v u error h)
+records_fit r = (λ v w h. ((fits-fields r).done v w h.1).0, λ v w error (u, h, is). ((fits-fields r).refused v u error h).1)

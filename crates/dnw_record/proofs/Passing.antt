@@ -21,7 +21,7 @@ use Rattle.dnw_record.specs.RecordFrames.{frame-passed_fields}
 use Rattle.dnw_record.specs.RecordLaws.{FailsForSize, PassedAreRead, PassedFit, PassedPrecede, PassedStayBounded, RefusedPassedUndo, fields_of, passed_size}
 use Rattle.dnw_record.proofs.Bounded.{keeps, stays-bytes, stays-name, stays-then}
 use Rattle.dnw_record.proofs.Laying.{added, read-after}
-use Rattle.dnw_record.proofs.Parts.{done-bytes, done-name, fails-later, refused-name, refused-room}
+use Rattle.dnw_record.proofs.Parts.{Fits, fits-as, fits-bytes, fits-name, fits-then}
 use Rattle.dnw_record.proofs.Preceding.{precede-then}
 
 pub refused_passed_undo : RefusedPassedUndo
@@ -41,28 +41,12 @@ passed_stay_bounded x v w le h =
     let rest = stays-then fixed own (stays-bytes (fixed_octets x)) (stays-bytes (data_octets x)) in
     keeps (PassesFields x) (stays-then (EmitsName (owner_name x)) (Then fixed own) (stays-name (owner_name x)) rest) v w le h.1
 
--- a record that is passed on ends after as many bytes as with its owner whole at most, and within the maximum
-pub done-passed : (x : RecordValue) (v w : Encoder) → PassesFields x v (Ok tt) w
-    → (w.offset ≤ v.offset + passed_size x) × (w.offset ≤ v.max_size) × (w.max_size ≡ v.max_size)
-done-passed x v w (a, owner, (d, fixed, one)) =
-    let (le, _, same, _) = done-name (owner_name x) v a owner in
-    let (fit, _, still, _) = done-bytes (fixed_octets x) a d fixed in
-    let (most, within, kept, _) = done-bytes (data_octets x) d w one in
-    (omega (arith, le, fit, most), omega (arith, within, still, same), kept ∙ (still ∙ same))
-
-refused-passed : (v w : Encoder) (x : RecordValue) (error : ProtoError) → PassesFields x v (Err error) w → FailsForSize v (passed_size x) error
-refused-passed v w x error (inl h) = fails-later v v _ _ error (omega arith) refl (refused-name (owner_name x) v w error h).1
-refused-passed v w x error (inr (a, owner, inl h)) =
-    let (le, _, same, _) = done-name (owner_name x) v a owner in
-    fails-later v a _ 10 error (omega (arith, le)) same (refused-room a (written a (fixed_octets x)) w 10 error h).1
-refused-passed v w x error (inr (a, owner, inr (d, fixed, h))) =
-    let (le, _, same, _) = done-name (owner_name x) v a owner in
-    let (fit, _, still, _) = done-bytes (fixed_octets x) a d fixed in
-    fails-later v d _ (length (data_octets x)) error (omega (arith, le, fit)) (still ∙ same)
-    (refused-room d (written d (data_octets x)) w (length (data_octets x)) error h).1
+-- a record that is passed on takes as many bytes as with its owner whole at most
+pub fits-passed : (x : RecordValue) → Fits (passed_size x) (PassesFields x)
+fits-passed x = fits-as (omega arith) (fits-then (fits-name (owner_name x)) (fits-then (fits-bytes (fixed_octets x)) (fits-bytes (data_octets x))))
 
 pub passed_fit : PassedFit
-passed_fit x = (λ v w h. (done-passed x v w h.1).0, λ v w error (u, h, is). refused-passed v u x error h)
+passed_fit x = (λ v w h. ((fits-passed x).done v w h.1).0, λ v w error (u, h, is). ((fits-passed x).refused v u error h).1)
 
 pub passed_are_read : PassedAreRead
 passed_are_read x v w e small h =
@@ -87,7 +71,7 @@ passed_are_read x v w e small h =
     ∙ ap (fields_of (type_code x.record_type) (class_code x.class) x.ttl) number) in
     let (at, kind_is, class_is, ttl_is, ends) =
     read-after w.bytes labels v.offset a.offset read.0 w.offset (type_code x.record_type) (class_code x.class) x.ttl name fields (kind, class, ttl)
-    (omega (arith, od, ow)) (omega (arith, od, ow, size)) (omega (arith, (done-passed x v w h.1).1, small)) in
+    (omega (arith, od, ow)) (omega (arith, od, ow, size)) (omega (arith, ((fits-passed x).done v w h.1).1, small)) in
     let whole : w.bytes ≡ (a.bytes ++ ten) ++ (own ++ []) =
     laid ∙ (sym (append_assoc a.bytes ten own) ∙ ap (λ (y : List ℕ). (a.bytes ++ ten) ++ y) (sym (append-nil own))) in
     let front : a.offset + 10 ≡ length (a.bytes ++ ten) = omega (arith, fa.ends, length-append a.bytes ten) in

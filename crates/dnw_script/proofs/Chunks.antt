@@ -71,10 +71,6 @@ ends-append p [] ds = refl
 ends-append p (wrote content d ∷ cs) ds = ends-append (p + length d) cs ds
 ends-append p (place value ∷ cs) ds = ap (λ (es : List ℕ). (p + 2) ∷ es) (ends-append (p + 2) cs ds)
 
-pub upto-append : (p : ℕ) (cs ds : List Chunk) → upto p (cs ++ ds) ≡ upto (upto p cs) ds
-upto-append p [] ds = refl
-upto-append p (c ∷ cs) ds = upto-append (p + length (bytes_of c)) cs ds
-
 pub upto-laid : (p : ℕ) (cs : List Chunk) → upto p cs ≡ p + length (laid cs)
 upto-laid p [] = omega arith
 upto-laid p (c ∷ cs) = omega (arith, upto-laid (p + length (bytes_of c)) cs, length-append (bytes_of c) (laid cs))

@@ -16,7 +16,7 @@ use Rattle.dnw_record.specs.RecordLaws.{record_size, FailsForSize}
 use Rattle.dnw_record.specs.WrittenRecords.{EmitsRecord}
 use Rattle.dnw_record.proofs.Bounded.{parts_stay_bounded}
 use Rattle.dnw_record.proofs.Preceding.{refused_records_undo}
-use Rattle.dnw_record.proofs.Parts.{done-fields, done-parts, Refuses, refused-fields, refused-part, refused-parts, refused-room, done-part, room-most}
+use Rattle.dnw_record.proofs.Parts.{done-parts, fits-fields, Refuses, refused-part, refused-parts, refused-room, done-part, room-most}
 use Rattle.dnw_script.specs.declared.script.Part.{Part}
 use Rattle.dnw_script.specs.declared.script.Item.{Item}
 use Rattle.dnw_script.specs.declared.script.Reply.{Reply}
@@ -27,7 +27,7 @@ use Rattle.dnw_script.specs.Replies.{ItemFails, ReplyTo, ReplyToFill, ReplyToIte
 use Rattle.dnw_script.specs.Runs.{GivesReply, IsUsefulIn, RunsFill, RunsItems, RunsStep}
 use Rattle.dnw_script.proofs.Chunks.{Chunk, ends-append, ends_of, of_record, piece_of, place, Splits, split_at, upto, upto-filled, wrote}
 use Rattle.dnw_script.proofs.Naming.{AreUsable, usable-precede}
-use Rattle.dnw_script.proofs.Standing.{SoundAt, frame-parts, holds-now, no-ends, pieces-of-parts, sound-filled, sound-parts, sound-record, sound-reserved, sound-upto}
+use Rattle.dnw_script.proofs.Standing.{SoundAt, frame-parts, holds-now, sound-filled, sound-parts, sound-record, sound-reserved, sound-upto}
 use Rattle.dnw_script.proofs.WireParts.{as_item_parts, as_items_parts, as_wire_part}
 use Rattle.dnw_base.specs.Names.{encoded_size}
 use Rattle.dnw_encoder.specs.declared.encoder.modes.NameEncoding.{NameEncoding}
@@ -167,9 +167,8 @@ no-places slots ends none = sym (ap (λ (x : List ℕ). map (λ (s : Slot). s.en
 goes-parts : (old : List ℕ) (cs : List Chunk) (a : Account) (v w : Encoder) (parts : List WirePart) (len : ℕ) → Good old cs a v → EmitsWireParts parts v (Ok tt) w
     → len ≡ length w.bytes → Goes old cs (with_pieces a (map wire_piece parts) len) w
 goes-parts old cs a v w parts len good h len_is =
-    let (ds, are, sound) = sound-parts old cs v w parts good.sound h in
-    goes-more old cs ds a v w (map wire_piece parts) len a.places good sound (frame-parts parts v w good.sound.end h) len_is
-    (pieces-of-parts parts ds are) (no-places a.places (ends_of (upto (length old) cs) ds) (no-ends (upto (length old) cs) parts ds are))
+    let (ds, pieces, none, sound) = sound-parts old cs v w parts good.sound h in
+    goes-more old cs ds a v w (map wire_piece parts) len a.places good sound (frame-parts parts v w good.sound.end h) len_is pieces (no-places a.places _ (none _))
 
 -- ---- what steps come to
 
@@ -289,7 +288,7 @@ module _ (old : List ℕ) (cs : List Chunk) (a : Account) (v w : Encoder) (good 
       → ReplyToRecord a (record_size r) reply × Goes old cs (after a (write_record r) reply) w
   step-record r (Done len) h =
       let s = good.sound in
-      let (le, within, _) = done-fields r v w h.0.1 in
+      let (le, within, _, _) = (fits-fields r).done v w h.0.1 in
       let f = frame-fields r v (Ok tt) w s.end h.0.1 in
       let (d, sound) = sound-record old cs v w r s h.0.1 h.0.0 (omega (arith, within, good.agree.small)) in
       let piece : record_piece v.encoding v.canonical r ≡ record_piece a.mode a.canonical r = rw (good.agree.mode, good.agree.canonical) refl in (
@@ -300,7 +299,7 @@ module _ (old : List ℕ) (cs : List Chunk) (a : Account) (v w : Encoder) (good 
   step-record r (Refused error len) h =
       let same = record-undone old cs v w r error good.sound h.0 in
       let len_is : len ≡ a.len = omega (arith, h.1, ap (λ (x : Encoder). length x.bytes) same, good.sound.end, good.len_is) in (
-        refused-record a v w good.sound.end good.len_is good.agree.max (record_size r) len error len_is (refused-fields r v h.0.0 error h.0.1),
+        refused-record a v w good.sound.end good.len_is good.agree.max (record_size r) len error len_is ((fits-fields r).refused v h.0.0 error h.0.1).1,
         goes-same old cs a v w good same,
       )
   step-record r reply h = absurd h

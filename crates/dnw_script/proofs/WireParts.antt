@@ -6,6 +6,7 @@ use Rattle.dnw_encoder.specs.declared.encoder.modes.NameEncoding.{NameEncoding}
 use Rattle.dnw_encoder.specs.Encoder.{Encoder, Writes, WritesText}
 use Rattle.dnw_encoder.specs.Emitting.{Outcome, InTurn}
 use Rattle.dnw_record.specs.Parts.{EmitsWirePart, EmitsWireParts, WirePart, in_encoding}
+use Rattle.dnw_record.proofs.Parts.{parts-follow}
 use Rattle.dnw_script.specs.declared.script.Part.{Part}
 use Rattle.dnw_script.specs.declared.script.Part.TheVariants.{Name, U8, U16, I32, U32, Bytes, Text}
 use Rattle.dnw_script.specs.declared.script.Item.{Item}
@@ -67,14 +68,10 @@ pub as_item_parts : (item : Item) (v w : Encoder) (outcome : Outcome) → v.offs
 as_item_parts item v w outcome e (u, h, is) =
     subst (EmitsWireParts (item_parts v.encoding item) v outcome) (sym is) (as_parts (unwrap_or item.encoding v.encoding) item.parts.items v u outcome e h)
 
-parts-append : (ps qs : List WirePart) (v m w : Encoder) → EmitsWireParts ps v (Ok tt) m → EmitsWireParts qs m (Ok tt) w → EmitsWireParts (ps ++ qs) v (Ok tt) w
-parts-append [] qs v m w h more = subst (λ (x : Encoder). EmitsWireParts qs x (Ok tt) w) h more
-parts-append (p ∷ ps) qs v m w (n, one, rest) more = (n, one, parts-append ps qs n m w rest more)
-
 pub as_items_parts : (mode : NameEncoding) (items : List Item) (v w : Encoder) → v.offset ≡ length v.bytes → v.encoding ≡ mode
     → InTurn EmitsScriptItem v items w → EmitsWireParts (items_parts mode items) v (Ok tt) w
 as_items_parts mode [] v w e same h = h
 as_items_parts mode (item ∷ items) v w e same (m, one, more) =
     let f = frame-item item v (Ok tt) m e one in
     let first = subst (λ x. EmitsWireParts (item_parts x item) v (Ok tt) m) same (as_item_parts item v m (Ok tt) e one) in
-    parts-append (item_parts mode item) (items_parts mode items) v m w first (as_items_parts mode items m w f.ends (f.encoding ∙ same) more)
+    parts-follow (item_parts mode item) (items_parts mode items) v m w (Ok tt) first (as_items_parts mode items m w f.ends (f.encoding ∙ same) more)

@@ -28,18 +28,14 @@ EmitsPieces kinds start v outcome w =
 -- Data are written up to an offset, the run, and walked over up to the reader. What is left, from here on, makes of the
 -- encoder what all of them make of it from the start.
 pub record IsWriting (kinds : List Kind) (start : Decoder) (old : Encoder) (left : List Kind) (d : Decoder) (run : ℕ) (v : Encoder) : Type 0 where
-  pub pieces : List DataPiece
-  pub all : TakesPieces kinds start pieces
   pub more : List DataPiece
   pub takes : TakesPieces left d more
   pub message : d.bytes ≡ start.bytes
   pub order : run ≤ d.index
   pub within : d.index ≤ length start.bytes
-  pub mode : v.encoding ≡ old.encoding
-  pub canonical : v.canonical ≡ old.canonical
   pub rest : (outcome : Outcome) (w : Encoder)
-      → EmitsWireParts (parts_after (slice_range start.bytes run d.index) more old.encoding old.canonical) v outcome w
-      → EmitsWireParts (parts_of pieces old.encoding old.canonical) old outcome w
+      → EmitsWireParts (parts_after (slice_range start.bytes run d.index) more v.encoding v.canonical) v outcome w
+      → EmitsPieces kinds start old outcome w
 
 -- the copy of a record of a message whose data are these octets, with every name whole
 abbrev pub copy_with : RecordValue → List ℕ → Record

@@ -1,4 +1,4 @@
-use Rattle.dnw_rdata.proofs.Kept.{kept}
+use Rattle.dnw_rdata.proofs.WrittenCopies.{kept}
 use Rattle.dnw_rdata.proofs.rdata.RData.new.Goals as goal
 
 pub returns-clause-kept : goal.returns-clause-kept
