@@ -107,10 +107,7 @@ runs_finish old candidates names actions replies w h =
     record {
       begins = ap (take (length old)) s.bytes ∙ take_at old (laid go.chunks) (length old) refl;
       spells = λ first rest given others actions_are replies_are same.
-          let parts : Runs (opening (length old)) (beginning old candidates names) (first ++ rest) (given ++ others) w =
-          subst (λ (rs : List Reply). Runs (opening (length old)) (beginning old candidates names) (first ++ rest) rs w) replies_are
-          (subst (λ (xs : List Action). Runs (opening (length old)) (beginning old candidates names) xs replies w) actions_are h) in
-          rw (actions_are, replies_are) (spells_first old candidates names first rest given others w same parts);
+          rw (actions_are, replies_are) (spells_first old candidates names first rest given others w same (rw (actions_are, replies_are) at h));
       ends = go.good.len_is ∙ s.end;
     }
 

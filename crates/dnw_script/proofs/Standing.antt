@@ -214,34 +214,15 @@ pub sound-record : (old : List ℕ) (cs : List Chunk) (v w : Encoder) (r : WireR
     → (d : List ℕ) × SoundAt old (cs ++ wrote (of_record v.encoding v.canonical r) d ∷ []) w
 sound-record old cs v w r s h fit few = sound-wrote old cs v w (of_record v.encoding v.canonical r) s (lays-record r v w s.end h fit few)
 
--- The chunks are of these parts.
-abbrev pub AreOf : List WirePart → List Chunk → Type 0
-AreOf [] [] = Unit {0}
-AreOf (part ∷ parts) (wrote content d ∷ cs) = (content ≡ of_part part) × AreOf parts cs
-AreOf parts cs = ⊥
-
+-- parts are chunks with their pieces and no placeholders
 pub sound-parts : (old : List ℕ) (cs : List Chunk) (v w : Encoder) (parts : List WirePart) → SoundAt old cs v → EmitsWireParts parts v (Ok tt) w
-    → (ds : List Chunk) × AreOf parts ds × SoundAt old (cs ++ ds) w
-sound-parts old cs v w [] s h =
-    ([], tt, subst (λ x. SoundAt old (cs ++ []) x) (sym h) (subst (λ xs. SoundAt old xs v) (sym (append-nil cs)) s))
+    → (ds : List Chunk) × (map piece_of ds ≡ map wire_piece parts) × ((p : ℕ) → ends_of p ds ≡ []) × SoundAt old (cs ++ ds) w
+sound-parts old cs v w [] s h = ([], refl, λ p. refl, rw (append-nil, h) s)
 sound-parts old cs v w (part ∷ parts) s (m, one, more) =
     let (d, first) = sound-wrote old cs v m (of_part part) s (lays-part part v m s.end one) in
     let c = wrote (of_part part) d in
-    let (ds, are, all) = sound-parts old (cs ++ c ∷ []) m w parts first more in
-    (c ∷ ds, (refl, are), subst (λ xs. SoundAt old xs w) (append_assoc cs (c ∷ []) ds) all)
-
-pub pieces-of-parts : (parts : List WirePart) (cs : List Chunk) → AreOf parts cs → map piece_of cs ≡ map wire_piece parts
-pieces-of-parts [] [] are = refl
-pieces-of-parts (part ∷ parts) (wrote content d ∷ cs) are =
-    let one = ap piece_in are.0 in
-    let rest = pieces-of-parts parts cs are.1 in
-    cc
-pieces-of-parts parts cs are = absurd are
-
-pub no-ends : (p : ℕ) (parts : List WirePart) (cs : List Chunk) → AreOf parts cs → ends_of p cs ≡ []
-no-ends p [] [] are = refl
-no-ends p (part ∷ parts) (wrote content d ∷ cs) are = no-ends (p + length d) parts cs are.1
-no-ends p parts cs are = absurd are
+    let (ds, pieces, none, all) = sound-parts old (cs ++ c ∷ []) m w parts first more in
+    (c ∷ ds, ap (λ ps. wire_piece part ∷ ps) pieces, λ p. none (p + length d), rw append_assoc at all)
 
 pub frame-parts : (parts : List WirePart) (v w : Encoder) → v.offset ≡ length v.bytes → EmitsWireParts parts v (Ok tt) w → Frame v (Ok tt) w
 frame-parts [] v w e h = subst (Frame v (Ok tt)) (sym h) (frame-same v (Ok tt) e)

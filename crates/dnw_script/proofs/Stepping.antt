@@ -27,7 +27,7 @@ use Rattle.dnw_script.specs.Replies.{ItemFails, ReplyTo, ReplyToFill, ReplyToIte
 use Rattle.dnw_script.specs.Runs.{GivesReply, IsUsefulIn, RunsFill, RunsItems, RunsStep}
 use Rattle.dnw_script.proofs.Chunks.{Chunk, ends-append, ends_of, of_record, piece_of, place, Splits, split_at, upto, upto-filled, wrote}
 use Rattle.dnw_script.proofs.Naming.{AreUsable, usable-precede}
-use Rattle.dnw_script.proofs.Standing.{SoundAt, frame-parts, holds-now, no-ends, pieces-of-parts, sound-filled, sound-parts, sound-record, sound-reserved, sound-upto}
+use Rattle.dnw_script.proofs.Standing.{SoundAt, frame-parts, holds-now, sound-filled, sound-parts, sound-record, sound-reserved, sound-upto}
 use Rattle.dnw_script.proofs.WireParts.{as_item_parts, as_items_parts, as_wire_part}
 use Rattle.dnw_base.specs.Names.{encoded_size}
 use Rattle.dnw_encoder.specs.declared.encoder.modes.NameEncoding.{NameEncoding}
@@ -167,9 +167,8 @@ no-places slots ends none = sym (ap (λ (x : List ℕ). map (λ (s : Slot). s.en
 goes-parts : (old : List ℕ) (cs : List Chunk) (a : Account) (v w : Encoder) (parts : List WirePart) (len : ℕ) → Good old cs a v → EmitsWireParts parts v (Ok tt) w
     → len ≡ length w.bytes → Goes old cs (with_pieces a (map wire_piece parts) len) w
 goes-parts old cs a v w parts len good h len_is =
-    let (ds, are, sound) = sound-parts old cs v w parts good.sound h in
-    goes-more old cs ds a v w (map wire_piece parts) len a.places good sound (frame-parts parts v w good.sound.end h) len_is
-    (pieces-of-parts parts ds are) (no-places a.places (ends_of (upto (length old) cs) ds) (no-ends (upto (length old) cs) parts ds are))
+    let (ds, pieces, none, sound) = sound-parts old cs v w parts good.sound h in
+    goes-more old cs ds a v w (map wire_piece parts) len a.places good sound (frame-parts parts v w good.sound.end h) len_is pieces (no-places a.places _ (none _))
 
 -- ---- what steps come to
 
