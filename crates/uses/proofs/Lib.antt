@@ -5,6 +5,7 @@ pub mod ScriptPairs
 pub mod ReverseNames
 pub mod Listed
 pub mod ReadMessages
+pub mod TextsBack
 pub mod TableNames
 pub mod TableOrder
 pub mod TablePush

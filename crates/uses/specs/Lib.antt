@@ -7,5 +7,6 @@ pub mod Scripts
 pub mod Bitmaps
 pub mod Messages
 pub mod Tables
+pub mod Texts
 pub mod TableErrors
 pub mod Inside

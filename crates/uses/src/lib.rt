@@ -14,4 +14,5 @@ pub mod reply;
 pub mod reverse;
 pub mod scripts;
 pub mod table;
+pub mod texts;
 pub mod zone;

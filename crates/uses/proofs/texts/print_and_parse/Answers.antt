@@ -1,0 +1,15 @@
+-- What is printed is parsed.
+use Rattle.std.proofs.Common.{◌≡◌, ℕ, List, ap, ◌∙◌, subst, arith}
+use Rattle.std.specs.Prelude.{None, string_bytes}
+use Rattle.dns_names_wire.specs.Words.{Decoder, FailsText, RecordType, RecordValue, fields_of, type_code}
+use Rattle.uses.proofs.TextsBack.{why}
+use Rattle.uses.proofs.texts.print_and_parse.Goals as goal
+
+pub returns : goal.returns
+returns c =
+    let text : List ℕ = string_bytes c.in_ok-text.text in
+    let whole = ap (λ (x : RecordValue). x.message) c.in-Ok.ensures.ok.1.is ∙ ap (λ (d : Decoder). d.bytes) c.new.ensures in
+    let printed = subst (λ (t : List ℕ). FailsText None (fields_of (type_code c.record_type.result)) t c.in-Err.error) c.as_str.ensures.value c.in-Err.ensures in
+    let fails = subst (λ (kind : RecordType). FailsText None (fields_of (type_code kind)) text c.in-Err.error) c.record_type.ensures printed in
+    why c.data_come_back.ensures.back c.data_come_back.ensures.parsed None c.in-Ok.record c.args.octets.now text c.in-Err.error
+    (λ i. omega (arith, c.type_inv.octets i)) whole c.in_ok-text.ensures fails
