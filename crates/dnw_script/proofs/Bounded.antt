@@ -28,7 +28,10 @@ step-len a (write_items items) (Items count None len) h = (h.2, refl)
 step-len a (write_items items) (Items count (Some error) len) h = (h.2, refl)
 step-len a (set_max size) (Done len) h = (le-max_left a.len size, refl)
 step-len a (set_max size) reply h = absurd h
-step-len a action reply h = (le-max_left a.len a.max, refl)
+step-len a action (Done len) h = (le-max_left a.len a.max, refl)
+step-len a action (Refused error len) h = (le-max_left a.len a.max, refl)
+step-len a action NoPlace h = (le-max_left a.len a.max, refl)
+step-len a action (Items count error len) h = (le-max_left a.len a.max, refl)
 
 steps-len : (a : Account) (actions : List Action) (replies : List Reply) → RepliesTo a actions replies
     → (account_from a actions replies).len ≤ max a.len (largest_max a.max actions)
