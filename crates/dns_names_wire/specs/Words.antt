@@ -116,12 +116,13 @@ pub use Rattle.dns_names_wire.specs.TextLaws.{AreByteLabels, TextsDiffer, ReadLa
 pub use Rattle.dns_names_wire.specs.TextLaws.{AcceptedLabels, AcceptedReadBack, qualified, dotted_text, BytesAndTextsAgree}
 -- The data of records: kinds of field, the table of types, and reading by it.
 pub use Rattle.dnw_data.specs.DataLaws.{FieldsAreWalked, OneReading, SomeReading}
+pub use Rattle.dnw_data.specs.FieldWires.{AppendsWire, IsFieldValue, IsLong, field_wire}
 pub use Rattle.dnw_data.specs.Fields.{FailsField, FailsName, FailsOwn, TakesField, TakesNameField, TakesOwn}
 pub use Rattle.dnw_data.specs.Items.{NextItem}
 pub use Rattle.dnw_data.specs.Lists.{ItemsValue, count_of, item_size, list_fault, may_come, out_of_order, tag_of}
 pub use Rattle.dnw_data.specs.Table.{fields_of}
 pub use Rattle.dnw_data.specs.Values.{FieldValue, counted_size, own_fault, own_size, own_value, seen}
-pub use Rattle.dnw_data.specs.Walks.{FieldsLeft, IsEnded, NextField, fields_at, steps_left}
+pub use Rattle.dnw_data.specs.Walks.{FieldsAre, FieldsLeft, IsEnded, NextField, fields_at, steps_left}
 -- Texts of single values.
 pub use Rattle.dnw_field_text.specs.Numbers.{IsNumberText, max_u16, max_u32, max_u48, max_u8}
 pub use Rattle.dnw_field_text.specs.Octets.{IsBase64Text, IsHexText, IsOctets, IsSalt, IsSaltText, base64_text, hex_text, salt_text}
@@ -178,8 +179,11 @@ pub use Rattle.dnw_message.specs.declared.header.Metadata.{Metadata}
 -- the data of records of any type, and records that are written from them
 pub use Rattle.dnw_rdata.specs.declared.record.Record.{Record}
 pub use Rattle.dnw_rdata.specs.declared.rdata.RDataError.{RDataError}
+pub use Rattle.dnw_rdata.specs.declared.from_fields.FromFieldsError.{FromFieldsError}
 pub use Rattle.dnw_rdata.specs.DataPieces.{ArePiecesOf, DataPiece, DataValue, HasPieces, IsData, IsDataOfType, kinds_of, octets_of, piece_octets}
 pub use Rattle.dnw_rdata.specs.DataCopies.{Copies, FailsToCopy, TakesPiece, TakesPieces, alone, data_start}
+pub use Rattle.dnw_rdata.specs.GivenFields.{AreFieldsOf, FailsGivenFields, IsFieldOf}
+pub use Rattle.dnw_rdata.specs.WireRecords.{HaveNameAndOthers, HaveNoName, IsOfWireRecord, SaysData, SaysRecord, wire_data_octets}
 pub use Rattle.dnw_rdata.specs.AnyRecords.{AnyNumbersFit, EmitsAnyRecord, EmitsCopyOf, EmitsRData, HasFields, IsCopyOf, encoding_of, mode_of, parts_of}
 pub use Rattle.dnw_rdata.specs.AnyRecordFrames.{frame-any_record, frame-copy}
 pub use Rattle.dnw_rdata.specs.AnyRecordLaws.{AnyRecordsAreRead, AnyRecordsFit, AnyRecordsPrecede, AnyRecordsStayBounded, CandidatesAreRead, DataHaveFields}

@@ -173,6 +173,7 @@ pub mod net {
 /// The data of records of any type, and records that are written from them, by the table of `fields`.
 pub mod rdata {
     pub use dnw_rdata::checked::CheckedRecord;
+    pub use dnw_rdata::from_fields::FromFieldsError;
     pub use dnw_rdata::laws;
     pub use dnw_rdata::rdata::{RData, RDataError};
     pub use dnw_rdata::record::Record;

@@ -16,6 +16,8 @@ mod data_texts;
 #[cfg(test)]
 mod field_texts;
 #[cfg(test)]
+mod given_fields;
+#[cfg(test)]
 mod guards;
 #[cfg(test)]
 mod items;
