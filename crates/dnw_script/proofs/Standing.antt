@@ -1,10 +1,9 @@
 -- What holds of an encoder in a run: its bytes are those of the chunks so far, the chunks' pieces are in them, and the
 -- candidates are usable, both whatever values are in the placeholders.
-use Rattle.std.proofs.Common.{◌≡◌, ℕ, ◌+◌, ◌-◌, ◌≤◌, ◌&&◌, nat_lt, Bool, true, false, Option, Some, None, Ok, List, [], ◌∷◌, ◌++◌, length, map, take, drop, refl, sym, ap, ◌∙◌, subst, append_assoc, arith}
+use Rattle.std.proofs.Common.{◌≡◌, ℕ, ◌+◌, ◌-◌, ◌≤◌, ◌&&◌, nat_lt, Bool, true, false, Option, Some, None, Ok, List, [], ◌∷◌, ◌++◌, length, map, slice_range, refl, sym, ap, ◌∙◌, subst, append_assoc, arith}
 use Rattle.std.specs.Int.{w16, to_be_bytes}
 use Rattle.std.proofs.lemmas.List.{length-append, append-nil, drop_at, take_all, take_at}
 use Rattle.std.proofs.lemmas.Grind.{flat_map-append}
-use Rattle.std.proofs.lemmas.List.Folds.{drop_split}
 use Rattle.dnw_base.specs.Limits.{max_message}
 use Rattle.dnw_base.specs.Names.{NameValue, encoded_size, wire}
 use Rattle.dnw_base.proofs.Wires.{length-wire}
@@ -21,6 +20,7 @@ use Rattle.dnw_record.specs.declared.record.WireData.TheVariants as rdata
 use Rattle.dnw_record.specs.Parts.{EmitsWirePart, EmitsWireParts, WirePart, bytes_part, in_encoding, name_part, text_part, with_length}
 use Rattle.dnw_record.specs.RecordFrames.{frame-reserved, frame-wire_part}
 use Rattle.dnw_record.specs.WrittenRecords.{EmitsData, EmitsFields, NumbersFit, type_class_ttl}
+use Rattle.dnw_reading.proofs.Copying.{slice_range-split}
 use Rattle.dnw_record.proofs.Laying.{added}
 use Rattle.dnw_script.specs.Pieces.{BytesStand, DataStand, NameStands, PieceAt, RecordStands, wire_piece}
 use Rattle.dnw_script.proofs.Chunks.{Begins, Chunk, Content, MayBe, Standing, Stands, begins-first, begins-laid, begins-others, begins-split, bytes-stand, bytes_of, ends_of, laid, of_part, of_record, piece_in, piece_of, place, standing-join, standing-split, upto, upto-laid, wrote}
@@ -139,11 +139,8 @@ lays-sized {v} {u} {w} e one is =
 -- bytes that are there one after the other
 bytes-join : (b d e : List ℕ) (p q r : ℕ) → BytesStand b d p q → BytesStand b e q r → BytesStand b (d ++ e) p r
 bytes-join b d e p q r h more =
-    let front = drop_split b p q (omega (arith, h.1)) ∙ ap (λ (x : List ℕ). x ++ drop q b) h.0 in
-    let back = drop_split b q r (omega (arith, more.1)) ∙ ap (λ (x : List ℕ). x ++ drop r b) more.0 in
-    let whole : drop p b ≡ (d ++ e) ++ drop r b = front ∙ (ap (λ (x : List ℕ). d ++ x) back ∙ sym (append_assoc d e (drop r b))) in
-    let size : length (d ++ e) ≡ r - p = omega (arith, length-append d e, h.1, more.1) in
-    (ap (take (r - p)) whole ∙ take_at (d ++ e) (drop r b) (r - p) size, omega (arith, length-append d e, h.1, more.1), more.2)
+    let parts = slice_range-split b p q r (omega (arith, h.1)) (omega (arith, more.1)) in
+    (parts ∙ ap (λ (x : List ℕ). x ++ slice_range b q r) h.0 ∙ ap (λ (x : List ℕ). d ++ x) more.0, omega (arith, length-append d e, h.1, more.1), more.2)
 
 lays-data : (d : WireData) (v w : Encoder) → v.offset ≡ length v.bytes → EmitsData d v (Ok tt) w
     → Lays v w (λ x. DataStand x v.encoding v.canonical d v.offset w.offset)

@@ -1,11 +1,11 @@
 -- Parts and items of a script are parts of a message.
-use Rattle.std.proofs.Common.{◌≡◌, ℕ, List, [], ◌∷◌, ◌++◌, length, map, Ok, Err, unwrap_or, inl, inr, refl, sym, ap, ◌∙◌, subst}
+use Rattle.std.proofs.Common.{◌≡◌, ℕ, List, [], ◌∷◌, length, map, Ok, Err, unwrap_or, inl, inr, refl, sym, ap, ◌∙◌, subst}
 use Rattle.std.specs.Int.{w16, w32, to_be_bytes, cast_unsigned}
 use Rattle.dnw_error.specs.declared.error.ProtoError.TheVariants.{CharacterDataTooLong, MaxBufferSizeExceeded, Memory}
 use Rattle.dnw_encoder.specs.declared.encoder.modes.NameEncoding.{NameEncoding}
 use Rattle.dnw_encoder.specs.Encoder.{Encoder, Writes, WritesText}
 use Rattle.dnw_encoder.specs.Emitting.{Outcome, InTurn}
-use Rattle.dnw_record.specs.Parts.{EmitsWirePart, EmitsWireParts, WirePart, in_encoding}
+use Rattle.dnw_record.specs.Parts.{EmitsWirePart, EmitsWireParts, in_encoding}
 use Rattle.dnw_record.proofs.Parts.{parts-follow}
 use Rattle.dnw_script.specs.declared.script.Part.{Part}
 use Rattle.dnw_script.specs.declared.script.Part.TheVariants.{Name, U8, U16, I32, U32, Bytes, Text}
