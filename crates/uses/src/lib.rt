@@ -6,6 +6,7 @@ pub mod bitmap;
 pub mod copying;
 pub mod denial;
 pub mod example;
+pub mod mail;
 pub mod messages;
 pub mod question;
 pub mod records;
