@@ -52,6 +52,21 @@ fn a_borrowed_name_is_copied_into_a_buffer(rt: HostRuntime) -> Result<(), Fail> 
 }
 
 #[test]
+fn a_name_in_one_piece_lends_its_octets(rt: HostRuntime) -> Result<(), Fail> {
+    // b., a.b. by a pointer after its label, and b. by a pointer alone.
+    let message = hex::decode(rt.alloc(), "0162000161c000c000")?;
+    for (start, octets) in [(0, Some(b"\x01b\x00")), (3, None), (7, Some(b"\x01b\x00"))] {
+        let name = name_at(message.as_slice(), start).map_err(|_| "a name")?;
+        let found = name.labels_in_place();
+        assert_eq!(rt; found.is_some(), octets.is_some());
+        if let (Some(found), Some(octets)) = (found, octets) {
+            assert_eq!(rt; found.as_wire(), octets.as_slice());
+        }
+    }
+    Ok(())
+}
+
+#[test]
 fn a_borrowed_name_is_written(rt: HostRuntime) -> Result<(), Fail> {
     let message = hex::decode(rt.alloc(), "0142000161c000")?;
     let name = name_at(message.as_slice(), 3).map_err(|_| "a name")?;
