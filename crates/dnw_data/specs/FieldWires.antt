@@ -30,10 +30,10 @@ abbrev pub IsLong : FieldValue → Type 0
 IsLong (counted own) = 255 < length own
 IsLong value = ⊥
 
--- The octets of the field are appended, or they are too many for its length octet.
+-- The octets of the field are appended, or they are too many for its length octet, and nothing is.
 abbrev pub AppendsWire : FieldValue → List ℕ → List ℕ → Bool → Type 0
 AppendsWire value old new true = new ≡ old ++ field_wire value
-AppendsWire value old new false = IsLong value
+AppendsWire value old new false = IsLong value × (new ≡ old)
 
 -- What the type of a field says of its value: labels are labels, numbers fit, addresses are whole, and items are in order.
 abbrev pub IsFieldValue : FieldValue → Type 0

@@ -81,11 +81,12 @@ impl<'r> Field<'r> {
     }
 
     /// Appends the octets of the field, a name in its wire form (RFC 1035, section 3.1). Returns `false` if it is `Counted`
-    /// and has more than 255 octets, which no length octet counts.
+    /// and has more than 255 octets, which no length octet counts; then nothing is appended.
     ///
-    /// It fails if an allocation fails.
+    /// It fails if an allocation fails, and then nothing is appended either.
     pub fn append_to(&self, out: &mut Vec<u8>) -> Result<bool, AllocError>
         ensures appends { IfOk result (AppendsWire (seen self.now) out.old.items out.new.items) }
+        ensures same { OnErr result (out.new.items ≡ out.old.items) }
         ensures of_type { OnOk result (IsFieldValue (seen self.now)) }
     {
         match self {
@@ -112,6 +113,7 @@ impl<'r> Field<'r> {
 /// Appends the wire form of a name.
 fn append_name(name: &NameRef<'_>, out: &mut Vec<u8>) -> Result<(), AllocError>
     ensures appends { OnOk result (out.new.items ≡ out.old.items ++ wire name.now) }
+    ensures same { OnErr result (out.new.items ≡ out.old.items) }
     ensures labels { AreLabels name.now }
 {
     let size = name.encoded_len();
@@ -122,19 +124,25 @@ fn append_name(name: &NameRef<'_>, out: &mut Vec<u8>) -> Result<(), AllocError>
 
 /// Appends octets after their number. Returns `false` if they are too many.
 fn append_counted(octets: &[u8], out: &mut Vec<u8>) -> Result<bool, AllocError>
-    ensures { IfOk result (AppendsWire (counted octets.now) out.old.items out.new.items) }
+    ensures appends { IfOk result (AppendsWire (counted octets.now) out.old.items out.new.items) }
+    ensures same { OnErr result (out.new.items ≡ out.old.items) }
 {
     if octets.len() > 255 {
         return Ok(false);
     }
+    let start = out.len();
     out.push(octets.len() as u8)?;
-    out.extend_from_slice(octets)?;
+    if let Err(error) = out.extend_from_slice(octets) {
+        out.truncate(start);
+        return Err(error);
+    }
     Ok(true)
 }
 
 /// Appends the octets of items.
 fn append_items(items: &Items<'_>, out: &mut Vec<u8>) -> Result<(), AllocError>
     ensures appends { OnOk result (out.new.items ≡ out.old.items ++ items.now.octets) }
+    ensures same { OnErr result (out.new.items ≡ out.old.items) }
     ensures right { list_fault items.now.kind items.now.octets ≡ None }
 {
     out.extend_from_slice(items.as_bytes())
