@@ -131,7 +131,7 @@ plain-fit (kind ∷ kinds) d own h (value, after, others, takes, wire, e) =
     let bytes : AreBytes after.bytes = subst AreBytes (sym (moves-on kind d after value takes).1) h in
     rw e (both-fit (field_wire value) others (wire-fit kind d value after h takes) (plain-fit kinds after others bytes wire))
 
-data-fit : (r : RecordValue) (own : List ℕ) → AreBytes r.message → IsPlainData r own → IsOctets own
+pub data-fit : (r : RecordValue) (own : List ℕ) → AreBytes r.message → IsPlainData r own → IsOctets own
 data-fit r own h (inl wire) = plain-fit (record_fields r).kinds (record_fields r).reader own (take-fit (r.start + r.len - 0) r.message h) wire
 data-fit r own h (inr (none, e)) = rw e (take-fit (r.start + r.len - r.start) (drop r.start r.message) (drop-fit r.start r.message h))
 

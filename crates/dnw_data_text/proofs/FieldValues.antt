@@ -127,16 +127,16 @@ both-fit (x ∷ a) b h k (suc i) = both-fit a b (λ j. h (suc j)) k i
 none-fit : IsOctets []
 none-fit i = omega arith
 
-name-fit : (ls : List (List ℕ)) → AllByRecursion IsLabel ls → AllByRecursion IsOctets ls → IsOctets (labels_wire ls)
+pub name-fit : (ls : List (List ℕ)) → AllByRecursion IsLabel ls → AllByRecursion IsOctets ls → IsOctets (labels_wire ls)
 name-fit [] are h = none-fit
 name-fit (l ∷ ls) are h = both-fit (length l ∷ l) (labels_wire ls) (first (length l) l (omega (arith, are.0.not_long)) h.0) (name-fit ls are.1 h.1)
 
-two-fit : (n : ℕ) → IsOctets (to_be_bytes w16 n)
+pub two-fit : (n : ℕ) → IsOctets (to_be_bytes w16 n)
 two-fit n zero = omega arith
 two-fit n (suc zero) = omega arith
 two-fit n (suc (suc i)) = omega arith
 
-four-fit : (n : ℕ) → IsOctets (to_be_bytes w32 n)
+pub four-fit : (n : ℕ) → IsOctets (to_be_bytes w32 n)
 four-fit n zero = omega arith
 four-fit n (suc zero) = omega arith
 four-fit n (suc (suc i)) = two-fit n i

@@ -15,4 +15,7 @@ pub mod FieldValues
 pub mod DataBack
 pub mod NoFault
 pub mod LinesBack
+pub mod OneBitmap
+pub mod OneText
+pub mod OneLine
 mod RecordWords

@@ -93,9 +93,9 @@ slice-fit : (xs : List ℕ) (i j : ℕ) → IsOctets xs → IsOctets (slice_rang
 slice-fit xs i j h = take-fit (j - i) (drop i xs) (drop-fit i xs h)
 
 -- a record as it is read: its type and its class by their codes
-record IsReadRecord (r : RecordValue) : Type 0 where
-  labels : AreLabels r.owner
-  octets : AllByRecursion IsOctets r.owner
+pub record IsReadRecord (r : RecordValue) : Type 0 where
+  pub labels : AreLabels r.owner
+  pub octets : AllByRecursion IsOctets r.owner
   type_number : ℕ
   class_number : ℕ
   type_few : type_number < 65536
@@ -150,7 +150,7 @@ line-back origin r text own is data_is =
     (r.owner, ap (name_at origin) first ∙ name-is origin r.owner is.labels is.octets, subst (λ (xs : List ℕ). IsAfterOwner origin r.owner xs octets) (sym left) after) in
     subst (λ (xs : List ℕ). IsRecordLine origin xs octets) (sym whole) line
 
-record-read : (b : List ℕ) (labels : List (List ℕ)) (p end k : ℕ) → AreBytes b → NameAt b p labels end k → IsReadRecord (record_of b labels end)
+pub record-read : (b : List ℕ) (labels : List (List ℕ)) (p end k : ℕ) → AreBytes b → NameAt b p labels end k → IsReadRecord (record_of b labels end)
 record-read b labels p end k h name =
     let f = fields_at b end in
     let fit = slice-fit b end (end + 10) h in

@@ -28,15 +28,15 @@ use Rattle.dnw_data_text.proofs.FieldsBack.{type-plain, type-some}
 
 -- ---- codes that ascend, from the least on, and are those of types
 
-abbrev Within : ℕ → List ℕ → Type 0
+abbrev pub Within : ℕ → List ℕ → Type 0
 Within least [] = Unit {0}
 Within least (code ∷ codes) = (least ≤ code) × (code < 65536) × Within (code + 1) codes
 
-within-less : (low high : ℕ) (codes : List ℕ) → low ≤ high → Within high codes → Within low codes
+pub within-less : (low high : ℕ) (codes : List ℕ) → low ≤ high → Within high codes → Within low codes
 within-less low high [] le h = tt
 within-less low high (code ∷ codes) le h = (omega (arith, le, h.0), h.1, h.2)
 
-bit-within : (first octet bit : ℕ) (rest : List ℕ) → bit < 8 → first + 8 ≤ 65536 → Within (first + suc bit) rest
+pub bit-within : (first octet bit : ℕ) (rest : List ℕ) → bit < 8 → first + 8 ≤ 65536 → Within (first + suc bit) rest
     → Within (first + bit) (bit_codes first octet bit ++ rest)
 bit-within first octet bit rest below few h = elim (cases_Bool (bit_at octet (7 - bit) == 1)) [
   | inl set ↦ rw set (omega arith, omega (arith, below, few), within-less (first + bit + 1) (first + suc bit) rest (omega arith) h)
@@ -54,7 +54,7 @@ octet-within first octet rest few h =
     let all = one 0 _ (omega arith) (one 1 _ (omega arith) (one 2 _ (omega arith) (one 3 _ (omega arith) (one 4 _ (omega arith) (one 5 _ (omega arith) (one 6 _ (omega arith) (one 7 rest (omega arith) h))))))) in
     subst (Within first) (sym (eight (f 0) (f 1) (f 2) (f 3) (f 4) (f 5) (f 6) (f 7) rest)) (within-less first (first + 0) _ (omega arith) all)
 
-octets-within : (first : ℕ) (octets rest : List ℕ) → first + 8 * length octets ≤ 65536 → Within (first + 8 * length octets) rest
+pub octets-within : (first : ℕ) (octets rest : List ℕ) → first + 8 * length octets ≤ 65536 → Within (first + 8 * length octets) rest
     → Within first (octets_codes first octets ++ rest)
 octets-within first [] rest few h = within-less first (first + 8 * 0) rest (omega arith) h
 octets-within first (o ∷ octets) rest few h =

@@ -128,3 +128,26 @@ LinesComeBack = (origin : Option NameValue) (b : List ℕ) (p e : ℕ) (r : Reco
 abbrev pub TextsAreParsed : Type 0
 TextsAreParsed = (origin : Option NameValue) (kinds : List Kind) (text own : List ℕ) (error : DataTextError)
     → IsTextOf origin kinds text own → FailsText origin kinds text error → error ≡ Memory
+
+-- No text is two lists of octets. A bitmap of types does not say that its items are below 256, so the law supposes it.
+abbrev pub DataAreUnambiguous : Type 0
+DataAreUnambiguous = (origin : Option NameValue) (kinds : List Kind) (text own other : List ℕ) → IsOctets own → IsOctets other
+    → IsTextOf origin kinds text own → IsTextOf origin kinds text other → own ≡ other
+
+-- What is parsed of data that were printed are their octets, with names that are not compressed, if these are not more than data
+-- may have.
+abbrev pub PrintedDataAreSame : Type 0
+PrintedDataAreSame = (origin : Option NameValue) (r : RecordValue) (text own : List ℕ) → AreBytes r.message → IsDataText r text → IsOctets own
+    → IsTextOf origin (fields_of (code_of r.record_type)) text own
+    → IsPlainData r own ⊎ ((long : List ℕ) × IsPlainData r long × (max_data < length long))
+
+-- No line is two records.
+abbrev pub LinesAreUnambiguous : Type 0
+LinesAreUnambiguous = (origin : Option NameValue) (line octets other : List ℕ) → IsOctets octets → IsOctets other
+    → IsRecordLine origin line octets → IsRecordLine origin line other → octets ≡ other
+
+-- What is parsed of a record's line that was printed are the octets of that record, under the same condition.
+abbrev pub PrintedLinesAreSame : Type 0
+PrintedLinesAreSame = (origin : Option NameValue) (b : List ℕ) (p e : ℕ) (r : RecordValue) (text octets : List ℕ) → AreBytes b → RecordAt b p r e
+    → IsDataText r text → IsOctets octets → IsRecordLine origin (record_line r text) octets
+    → (own : List ℕ) × IsPlainData r own × ((max_data < length own) ⊎ (octets ≡ line_octets r.owner (line_head r) own))
