@@ -2,7 +2,6 @@ pub mod WireParts
 pub mod Lists
 pub mod Placing
 pub mod Chunks
-pub mod Naming
 pub mod Standing
 pub mod Stepping
 pub mod Running

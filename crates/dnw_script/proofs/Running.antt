@@ -16,8 +16,7 @@ use Rattle.dnw_script.specs.Replies.{RepliesTo}
 use Rattle.dnw_script.specs.Runs.{IsUseful, IsUsefulIn, Runs, beginning, RunsStep}
 use Rattle.dnw_script.specs.ScriptLaws.{RunsFinish}
 use Rattle.dnw_script.proofs.Chunks.{Chunk, laid, piece_of, spells, upto, ends-most}
-use Rattle.dnw_script.proofs.Naming.{AreUsable}
-use Rattle.dnw_script.proofs.Standing.{holds-now, sound-upto}
+use Rattle.dnw_script.proofs.Standing.{AreUsable, holds-now, sound-upto}
 use Rattle.dnw_script.proofs.Stepping.{Goes, Good, goes-same, goes-then, record-undone, step, usable-now}
 use Rattle.dnw_script.specs.declared.script.Step.{Step}
 use Rattle.dnw_script.specs.Inside.Running.{HoldsPlace, Tracks}

@@ -26,8 +26,7 @@ use Rattle.dnw_script.specs.Pieces.{Account, Piece, Slot, place_piece, record_pi
 use Rattle.dnw_script.specs.Replies.{ItemFails, ReplyTo, ReplyToFill, ReplyToItems, ReplyToRecord, open_place, ReplyToBytes, ReplyToName, ReplyToPart, ReplyToText}
 use Rattle.dnw_script.specs.Runs.{GivesReply, IsUsefulIn, RunsFill, RunsItems, RunsStep}
 use Rattle.dnw_script.proofs.Chunks.{Chunk, ends-append, ends_of, of_record, piece_of, place, Splits, split_at, upto, upto-filled, wrote}
-use Rattle.dnw_script.proofs.Naming.{AreUsable, usable-precede}
-use Rattle.dnw_script.proofs.Standing.{SoundAt, frame-parts, holds-now, sound-filled, sound-parts, sound-record, sound-reserved, sound-upto}
+use Rattle.dnw_script.proofs.Standing.{AreUsable, usable-precede, SoundAt, frame-parts, holds-now, sound-filled, sound-parts, sound-record, sound-reserved, sound-upto}
 use Rattle.dnw_script.proofs.WireParts.{as_item_parts, as_items_parts, as_wire_part}
 use Rattle.dnw_base.specs.Names.{encoded_size}
 use Rattle.dnw_encoder.specs.declared.encoder.modes.NameEncoding.{NameEncoding}
