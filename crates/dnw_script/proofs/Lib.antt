@@ -4,7 +4,6 @@ pub mod Placing
 pub mod Chunks
 pub mod Standing
 pub mod Stepping
+pub mod ShortestNames
 pub mod Running
 pub mod ReadingBack
-pub mod ShortestNames
-pub mod Bounded

@@ -28,9 +28,8 @@ use Rattle.dnw_script.specs.ScriptLaws.{RunsAreShortest}
 use Rattle.dnw_script.proofs.Chunks.{Chunk}
 use Rattle.dnw_candidates.proofs.CandidateLists.{between}
 use Rattle.dnw_record.proofs.Kept.{back-least, back_of, each-kept, emitted-candidates, emitted-names, front_of, in_mode-compressed, kept-few, kept-new, length-in_mode, size-back, suffix-split, suffix-within, target-has}
-use Rattle.dnw_script.proofs.Standing.{AreUsable, same_labels, usable-precede, usable-read}
-use Rattle.dnw_script.proofs.Running.{good-beginning}
-use Rattle.dnw_script.proofs.Stepping.{Good, part-same, step, usable-now}
+use Rattle.dnw_script.proofs.Standing.{holds-now, same_labels, usable-precede, usable-read}
+use Rattle.dnw_script.proofs.Stepping.{Good, good-beginning, part-same, step}
 
 -- ---- the suffixes in which names end
 
@@ -82,14 +81,11 @@ kept-front v ls front back choice (l ∷ m) chosen old longer is near room =
     rw is (v.offset + length (labels_wire front), Contains-append_right v.candidates _ _ (kept-new v ls choice chosen front l m longer near room))
 
 module _ (old : List ℕ) (a : Account) (v : Encoder) (labels many : ℕ) (k : Knows old a v labels many) where
-  usable : AreUsable v.bytes v.candidates
-  usable = usable-now old k.chunks v k.good.sound
-
   at_end : v.offset ≡ length v.bytes
   at_end = k.good.sound.end
 
   precede : CandidatesPrecede v
-  precede = usable-precede v.bytes v (sym at_end) usable
+  precede = usable-precede v.bytes v (sym at_end) (holds-now old k.chunks v k.good.sound).1
 
   -- what a pointer stands for is an end of a name
   shared-ends : (ls : List (List ℕ)) (share : Share) → AreLabels ls → Chooses v ls (Some share) → EndsIn a.pieces share.back
@@ -215,7 +211,7 @@ module _ (old : List ℕ) (a : Account) (v : Encoder) (labels many : ℕ) (k : K
   end-usable ls front back are split some ends =
       let s = k.good.sound in
       let (offset, (i, below, is)) = k.kept near back some ends in
-      let (end, pointers, name) = usable-read v.bytes v.candidates offset back (usable-now old k.chunks v s) (each_back front back (rw split at are.each)) (i, below, is) in
+      let (end, pointers, name) = usable-read v.bytes v.candidates offset back (holds-now old k.chunks v s).1 (each_back front back (rw split at are.each)) (i, below, is) in
       let here = between (labels_wire back) v.candidates i offset below (sym is) in
       (offset, _, _, record { split = here; end = end; pointers = pointers; name = rw (take-all v.offset v.bytes s.end) name })
 

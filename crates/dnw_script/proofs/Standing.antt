@@ -34,7 +34,7 @@ use Rattle.dnw_reading.proofs.Counts.{Reads-labels, Reads-own}
 use Rattle.dnw_reading.proofs.Stand.{Reads-append}
 use Rattle.dnw_record.proofs.Kept.{back_of, both_parts, each-kept, emitted-candidates, form-tail, front_of, size-back, suffix-split, tail_of, target-has}
 use Rattle.dnw_script.specs.Pieces.{BytesStand, DataStand, NameStands, PieceAt, RecordStands, wire_piece}
-use Rattle.dnw_script.proofs.Chunks.{Begins, Chunk, Content, MayBe, Standing, Stands, begins-first, begins-laid, begins-others, begins-split, bytes-stand, bytes_of, ends_of, laid, of_part, of_record, piece_in, piece_of, place, standing-join, standing-split, upto, upto-laid, wrote}
+use Rattle.dnw_script.proofs.Chunks.{Begins, Chunk, Content, MayBe, Standing, Stands, begins-first, begins-laid, begins-others, begins-split, bytes-stand, bytes_of, ends_of, laid, of_part, piece_in, piece_of, place, standing-join, standing-split, upto, upto-laid, wrote}
 use Rattle.dnw_script.specs.Runs.{IsUsefulIn}
 
 -- ---- what is usable
@@ -70,7 +70,7 @@ usable-read y cs offset ls usable are has =
 
 -- ---- what is read of a name
 
--- They are read after bytes in which the candidates are usable.
+-- Labels of the front, and what follows them, are read after bytes in which the candidates are usable.
 tail-read : (y more : List ℕ) (v : Encoder) (ls : List (List ℕ)) (choice : Option Share) (m : List (List ℕ)) → Chooses v ls choice → AreUsable y v.candidates
     → AllByRecursion IsLabel (m ++ back_of choice)
     → (k : ℕ) × Reads (y ++ (tail_of m choice ++ more)) (length y) (length y) None (m ++ back_of choice) (length y + length (tail_of m choice)) k
@@ -82,34 +82,27 @@ tail-read y more v ls (Some share) m chosen usable each =
     let read = Reads-shared y more m share.back share.target end pointers (each_front m share.back each) name.reads in
     (suc pointers, rw (append_assoc, length-append, ← add_assoc) read)
 
--- Each suffix that begins within the front is there.
-pub suffix-read : (y more : List ℕ) (v : Encoder) (ls : List (List ℕ)) (choice : Option Share) (f m : List (List ℕ)) → AreLabels ls → Chooses v ls choice
-    → AreUsable y v.candidates → front_of ls choice ≡ f ++ m
-    → (k : ℕ) × NameAt (y ++ (form ls choice ++ more)) (length y + length (labels_wire f)) (m ++ back_of choice) (length y + length (form ls choice)) k
-suffix-read y more v ls choice f m are chosen usable front_is =
-    let rest = m ++ back_of choice in
-    let split = suffix-split v ls choice chosen f m front_is in
-    let each = each_back f rest (rw split at are.each) in
-    let (k, read) = tail-read (y ++ labels_wire f) more v ls choice m chosen (usable-append y (labels_wire f) v.candidates usable) each in
-    (k, record { reads = rw (form-tail ls choice f m front_is) (simp (length-append, append_assoc, add_assoc) (simp (length-append, append_assoc, add_assoc) at read)); fits = omega (arith, are.fit, size-back ls f rest split) })
+module _ (y more : List ℕ) (v : Encoder) (ls : List (List ℕ)) (choice : Option Share) (are : AreLabels ls) (chosen : Chooses v ls choice)
+    (usable : AreUsable y v.candidates) where
+  -- Each suffix that begins within the front is there.
+  suffix-read : (f m : List (List ℕ)) → front_of ls choice ≡ f ++ m
+      → (k : ℕ) × NameAt (y ++ (form ls choice ++ more)) (length y + length (labels_wire f)) (m ++ back_of choice) (length y + length (form ls choice)) k
+  suffix-read f m front_is =
+      let rest = m ++ back_of choice in
+      let split = suffix-split v ls choice chosen f m front_is in
+      let each = each_back f rest (rw split at are.each) in
+      let (k, read) = tail-read (y ++ labels_wire f) more v ls choice m chosen (usable-append y (labels_wire f) v.candidates usable) each in
+      (k, record { reads = rw (form-tail ls choice f m front_is) (simp (length-append, append_assoc, add_assoc) (simp (length-append, append_assoc, add_assoc) at read)); fits = omega (arith, are.fit, size-back ls f rest split) })
 
--- So the candidates are usable once the name is written.
-pub usable-emitted : (y more : List ℕ) (v : Encoder) (ls : List (List ℕ)) (choice : Option Share) → length y ≡ v.offset → AreLabels ls → Chooses v ls choice
-    → AreUsable y v.candidates → AreUsable (y ++ (form ls choice ++ more)) (emitted v ls choice).candidates
-usable-emitted y more v ls choice size are chosen usable =
-    let x = y ++ (form ls choice ++ more) in
-    rw (emitted-candidates v ls choice chosen (usable-precede y v size usable))
-    (All-append (IsUsefulIn x) v.candidates (newly_kept v ls choice) (usable-append y (form ls choice ++ more) v.candidates usable)
-    (each-kept v ls choice chosen (IsUsefulIn x) (λ f l m front_is.
-    let (k, read) = suffix-read y more v ls choice f (l ∷ m) are chosen usable front_is in
-    record { labels = l ∷ (m ++ back_of choice); bytes = refl; end = v.offset + length (form ls choice); pointers = k; name = rw size at read })))
-
--- and the name is read
-pub name-read : (y more : List ℕ) (v : Encoder) (ls : List (List ℕ)) (choice : Option Share) → AreLabels ls → Chooses v ls choice
-    → AreUsable y v.candidates → (k : ℕ) × NameAt (y ++ (form ls choice ++ more)) (length y) ls (length y + length (form ls choice)) k
-name-read y more v ls choice are chosen usable =
-    let (k, read) = suffix-read y more v ls choice [] (front_of ls choice) are chosen usable refl in
-    (k, rw (add-zero, ← both_parts v ls choice chosen) at read)
+  -- So the candidates are usable once the name is written.
+  usable-emitted : length y ≡ v.offset → AreUsable (y ++ (form ls choice ++ more)) (emitted v ls choice).candidates
+  usable-emitted size =
+      let x = y ++ (form ls choice ++ more) in
+      rw (emitted-candidates v ls choice chosen (usable-precede y v size usable))
+      (All-append (IsUsefulIn x) v.candidates (newly_kept v ls choice) (usable-append y (form ls choice ++ more) v.candidates usable)
+      (each-kept v ls choice chosen (IsUsefulIn x) (λ f l m front_is.
+      let (k, read) = suffix-read f (l ∷ m) front_is in
+      record { labels = l ∷ (m ++ back_of choice); bytes = refl; end = v.offset + length (form ls choice); pointers = k; name = rw size at read })))
 
 -- ---- what a write adds
 
@@ -163,9 +156,9 @@ lays-name name v w e h =
       bytes = ap (λ (x : Encoder). x.bytes) made ∙ bytes;
       offset = offset;
       there = λ y more size usable.
-          let (k, read) = name-read y more v ls h.choice h.are_labels h.chooses usable in
-          let after = usable-emitted y more v ls h.choice size h.are_labels h.chooses usable in
-          ((k, rw (size, ← offset) at read, names_take_no_more name v w h, full), rw (← made) at after);
+          let (k, read) = suffix-read y more v ls h.choice h.are_labels h.chooses usable [] (front_of ls h.choice) refl in
+          let after = usable-emitted y more v ls h.choice h.are_labels h.chooses usable size in
+          ((k, rw (add-zero, ← both_parts v ls h.choice h.chooses, size, ← offset) at read, names_take_no_more name v w h, full), rw (← made) at after);
     }
 
 lays-part : (part : WirePart) (v w : Encoder) → v.offset ≡ length v.bytes → EmitsWirePart part v (Ok tt) w
@@ -206,7 +199,7 @@ lays-data (rdata.Bytes bytes) v w e h = lays-part (bytes_part bytes.items) v w e
 lays-data (rdata.Name name encoding) v w e h = lays-part (name_part (mode_of_rdata encoding v.canonical v.encoding) name) v w e h
 
 -- a record that is written at the end is there
-lays-record : (r : WireRecord) (v w : Encoder) → v.offset ≡ length v.bytes → EmitsFields r v (Ok tt) w → NumbersFit r → w.offset ≤ max_message
+pub lays-record : (r : WireRecord) (v w : Encoder) → v.offset ≡ length v.bytes → EmitsFields r v (Ok tt) w → NumbersFit r → w.offset ≤ max_message
     → Lays v w (λ x. RecordStands x v.encoding v.canonical r v.offset w.offset)
 lays-record r v w e (a, owner, (d, fixed, (room, u, one, made))) fit few =
     let f = frame-name r.owner v (Ok tt) a e owner in
@@ -260,30 +253,21 @@ sound-grow old cs c v w s bytes offset on =
     }
 
 -- a part or a record
-sound-wrote : (old : List ℕ) (cs : List Chunk) (v w : Encoder) (content : Content) → SoundAt old cs v
+pub sound-wrote : (old : List ℕ) (cs : List Chunk) (v w : Encoder) (content : Content) → SoundAt old cs v
     → Lays v w (λ x. PieceAt x (piece_in content) v.offset w.offset) → (d : List ℕ) × SoundAt old (cs ++ wrote content d ∷ []) w
 sound-wrote old cs v w content s one =
     (one.d, sound-grow old cs (wrote content one.d) v w s one.bytes one.offset (λ y d more may size usable. rw (may, ← one.offset) (one.there y more size usable)))
 
-pub sound-record : (old : List ℕ) (cs : List Chunk) (v w : Encoder) (r : WireRecord) → SoundAt old cs v → EmitsFields r v (Ok tt) w → NumbersFit r → w.offset ≤ max_message
-    → (d : List ℕ) × SoundAt old (cs ++ wrote (of_record v.encoding v.canonical r) d ∷ []) w
-sound-record old cs v w r s h fit few = sound-wrote old cs v w (of_record v.encoding v.canonical r) s (lays-record r v w s.end h fit few)
-
--- parts are chunks with their pieces and no placeholders
+-- Parts are chunks with their pieces and no placeholders, and keep the frame.
 pub sound-parts : (old : List ℕ) (cs : List Chunk) (v w : Encoder) (parts : List WirePart) → SoundAt old cs v → EmitsWireParts parts v (Ok tt) w
-    → (ds : List Chunk) × (map piece_of ds ≡ map wire_piece parts) × ((p : ℕ) → ends_of p ds ≡ []) × SoundAt old (cs ++ ds) w
-sound-parts old cs v w [] s h = ([], refl, λ p. refl, rw (append-nil, h) s)
+    → (ds : List Chunk) × (map piece_of ds ≡ map wire_piece parts) × ((p : ℕ) → ends_of p ds ≡ []) × SoundAt old (cs ++ ds) w × Frame v (Ok tt) w
+sound-parts old cs v w [] s h = ([], refl, λ p. refl, rw (append-nil, h) s, rw h (frame-same v (Ok tt) s.end))
 sound-parts old cs v w (part ∷ parts) s (m, one, more) =
     let (d, first) = sound-wrote old cs v m (of_part part) s (lays-part part v m s.end one) in
     let c = wrote (of_part part) d in
-    let (ds, pieces, none, all) = sound-parts old (cs ++ c ∷ []) m w parts first more in
-    (c ∷ ds, ap (λ ps. wire_piece part ∷ ps) pieces, λ p. none (p + length d), rw append_assoc at all)
-
-pub frame-parts : (parts : List WirePart) (v w : Encoder) → v.offset ≡ length v.bytes → EmitsWireParts parts v (Ok tt) w → Frame v (Ok tt) w
-frame-parts [] v w e h = subst (Frame v (Ok tt)) (sym h) (frame-same v (Ok tt) e)
-frame-parts (part ∷ parts) v w e (m, one, more) =
-    let f = frame-wire_part part v (Ok tt) m e one in
-    frames-follow v m w (Ok tt) e f (frame-parts parts m w f.ends more)
+    let (ds, pieces, none, all, f) = sound-parts old (cs ++ c ∷ []) m w parts first more in
+    let frame = frames-follow v m w (Ok tt) s.end (frame-wire_part part v (Ok tt) m s.end one) f in
+    (c ∷ ds, ap (λ ps. wire_piece part ∷ ps) pieces, λ p. none (p + length d), rw append_assoc at all, frame)
 
 -- ---- placeholders
 
