@@ -1,17 +1,19 @@
 -- A record that was written lies at its offset, and is read there.
-use Rattle.std.proofs.Common.{◌≡◌, ℕ, ◌+◌, ◌-◌, ◌^◌, ◌<◌, ◌≤◌, List, [], ◌++◌, length, take, drop, slice_range, Ok, refl, sym, ap, ◌∙◌, append_assoc, arith}
+use Rattle.std.proofs.Common.{◌≡◌, ℕ, ◌+◌, ◌-◌, ◌^◌, ◌<◌, ◌≤◌, ◌&&◌, nat_lt, Bool, true, false, Option, Some, None, List, [], ◌++◌, length, take, drop, slice_range, Ok, refl, sym, ap, ◌∙◌, append_assoc, arith}
 use Rattle.std.specs.Int.{w16, to_be_bytes}
-use Rattle.std.proofs.lemmas.List.{append-nil, drop_all, drop_at, length-append, take_all}
+use Rattle.std.proofs.lemmas.List.{append-nil, drop_all, drop_at, length-append, take_all, take_at}
 use Rattle.std.proofs.lemmas.Nat.{from_be_bytes-to_be_bytes_2, from_be_bytes-to_be_bytes_4}
 use Rattle.dnw_codes.specs.RecordTypes.{type_code, type_of_code}
 use Rattle.dnw_codes.specs.DnsClasses.{class_code, class_of_code}
 use Rattle.dnw_base.specs.Limits.{max_message}
+use Rattle.dnw_base.specs.Names.{encoded_size, wire}
+use Rattle.dnw_base.proofs.Wires.{length-wire}
 use Rattle.dnw_reading.specs.Reading.{NameAt}
 use Rattle.dnw_reading.proofs.Back.{slice_range-middle}
 use Rattle.dnw_reading.proofs.Stand.{Reads-append}
-use Rattle.dnw_encoder.specs.Encoder.{Encoder, reserved, written}
-use Rattle.dnw_encoder.specs.EmittedName.{in_mode}
-use Rattle.dnw_encoder.specs.EmittingLaws.{frame, frames-follow}
+use Rattle.dnw_encoder.specs.Encoder.{Encoder, filled, reserved, written}
+use Rattle.dnw_encoder.specs.EmittedName.{Chooses, Share, emitted, form, in_mode, is_compressed}
+use Rattle.dnw_encoder.specs.EmittingLaws.{frame, frames-follow, take-all}
 use Rattle.dnw_encoder.specs.NameFrames.{frame-name}
 use Rattle.dnw_encoder.proofs.NameBack.{name_is_read}
 use Rattle.dnw_record.specs.declared.record.WireData.{WireData}
@@ -29,6 +31,33 @@ added v w d e is =
     let behind : drop (v.offset + length d) v.bytes ≡ [] = drop_all (v.offset + length d) v.bytes (omega (arith, e)) in
     ap (λ (x : Encoder). x.bytes) is ∙ (ap (λ (x : List ℕ). x ++ (d ++ drop (v.offset + length d) v.bytes)) front
     ∙ (ap (λ (x : List ℕ). v.bytes ++ (d ++ x)) behind ∙ ap (λ (x : List ℕ). v.bytes ++ x) (append-nil d)))
+
+-- the bytes of a name, whole or with a pointer
+pub emitted-bytes : (v : Encoder) (ls : List (List ℕ)) (choice : Option Share) → v.offset ≡ length v.bytes
+    → ((emitted v ls choice).bytes ≡ v.bytes ++ form ls choice) × ((emitted v ls choice).offset ≡ v.offset + length (form ls choice))
+emitted-bytes v ls None e = (added v (written v (wire ls)) (wire ls) e refl, refl)
+emitted-bytes v ls (Some share) e = (ap (λ (x : List ℕ). x ++ form ls (Some share)) (take-all v.offset v.bytes e), refl)
+
+-- a name has all its bytes in a mode without compression
+pub full_size : (v : Encoder) (ls : List (List ℕ)) (choice : Option Share) → Chooses v ls choice → is_compressed v.encoding ≡ false
+    → length (form ls choice) ≡ encoded_size ls
+full_size v ls None chosen not = length-wire ls
+full_size v ls (Some share) chosen not =
+    let never : false ≡ true = sym (ap (λ (b : Bool). b && nat_lt v.names v.name_limit) not) ∙ chosen.0 in
+    absurd cc
+
+-- two zero bytes are at a new placeholder
+pub reserved-bytes : (v : Encoder) → v.offset ≡ length v.bytes → (reserved v 2).bytes ≡ v.bytes ++ to_be_bytes w16 0
+reserved-bytes v e =
+    let two : v.offset + 2 - length v.bytes ≡ 2 = omega (arith, e) in
+    rw (take_all (v.offset + 2) v.bytes (omega (arith, e)), two) refl
+
+-- and others once it is filled
+pub filled-bytes : (v : Encoder) (b old new rest : List ℕ) (p : ℕ) → v.bytes ≡ b ++ (old ++ rest) → length b ≡ p → length old ≡ length new
+    → (filled v p new).bytes ≡ b ++ (new ++ rest)
+filled-bytes v b old new rest p is size same =
+    let back = drop_at (b ++ old) rest (p + length new) (omega (arith, size, same, length-append b old)) in
+    rw (is, take_at b (old ++ rest) p size, ← append_assoc b old rest, back) refl
 
 -- data that are bytes are what follows the length
 data-follow : (rdata : WireData) (m u : Encoder) (b front : List ℕ) (p e : ℕ) → m.offset ≡ length m.bytes → EmitsData rdata m (Ok tt) u

@@ -4,3 +4,4 @@ pub mod Laying
 pub mod Bounded
 pub mod Preceding
 pub mod Passing
+pub mod Kept

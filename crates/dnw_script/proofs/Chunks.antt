@@ -107,12 +107,7 @@ begins-front : (b x : List ℕ) (cs : List Chunk) → Begins b cs x → (more : 
 begins-front b x [] h = h
 begins-front b x (c ∷ cs) (e, may, h) = let (more, is) = begins-front (b ++ e) x cs h in (e ++ more, is ∙ append_assoc b e more)
 
--- They begin with the first chunks.
-pub begins-first : (b x : List ℕ) (cs ds : List Chunk) → Begins b (cs ++ ds) x → Begins b cs x
-begins-first b x [] ds h = begins-front b x ds h
-begins-first b x (c ∷ cs) ds (e, may, h) = (e, may, begins-first (b ++ e) x cs ds h)
-
--- So do the bytes up to where the others follow.
+-- The bytes up to where the others follow begin with the first chunks.
 pub begins-split : (b x : List ℕ) (cs ds : List Chunk) → Begins b (cs ++ ds) x
     → (y : List ℕ) × (length y ≡ upto (length b) cs) × Begins b cs y × Begins y ds x
 begins-split b x [] ds h = (b, refl, ([], sym (append-nil b)), h)
@@ -125,6 +120,10 @@ begins-split b x (c ∷ cs) ds (e, may, h) =
 pub begins-others : (b x : List ℕ) (cs ds es : List Chunk) → ((y : List ℕ) → Begins y ds x → Begins y es x) → Begins b (cs ++ ds) x → Begins b (cs ++ es) x
 begins-others b x [] ds es others h = others b h
 begins-others b x (c ∷ cs) ds es others (e, may, h) = (e, may, begins-others (b ++ e) x cs ds es others h)
+
+-- So they begin with the first chunks.
+pub begins-first : (b x : List ℕ) (cs ds : List Chunk) → Begins b (cs ++ ds) x → Begins b cs x
+begins-first b x cs ds h = rw append-nil at (begins-others b x cs ds [] (λ y more. begins-front y x ds more) h)
 
 -- ---- pieces
 

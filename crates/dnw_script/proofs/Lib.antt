@@ -2,10 +2,8 @@ pub mod WireParts
 pub mod Lists
 pub mod Placing
 pub mod Chunks
-pub mod Naming
 pub mod Standing
 pub mod Stepping
+pub mod ShortestNames
 pub mod Running
 pub mod ReadingBack
-pub mod ShortestNames
-pub mod Bounded

@@ -8,36 +8,33 @@ use Rattle.dnw_script.specs.declared.script.Part.{Part}
 use Rattle.dnw_script.specs.Script.{EmitsPart, EmitsParts, EmitsScriptItem}
 use Rattle.std.specs.Iterator.{Yields}
 use Rattle.std.specs.Slice.Iter.{iter_rest, iter_steps}
-use Rattle.dnw_encoder.specs.Emitting.{Emits, EmitsItem, EmitsItems, InTurn}
+use Rattle.dnw_encoder.specs.Emitting.{Outcome, Emits, EmitsItem, EmitsItems, InTurn}
 use Rattle.dnw_script.specs.declared.script.Item.{Item}
 use Rattle.dnw_script.specs.declared.script.Reply.TheVariants.{Items}
 use Rattle.dnw_script.specs.Runs.{RunsItems}
 
 -- ---- parts
 
-pub parts_push : (v : Encoder) (parts : List Part) (m : Encoder) (part : Part) (w : Encoder)
-    → EmitsParts parts v (Ok tt) m → EmitsPart part m (Ok tt) w → EmitsParts (parts ++ part ∷ []) v (Ok tt) w
-parts_push v [] m part w all one = (w, subst (λ e. EmitsPart part e (Ok tt) w) all one, refl)
-parts_push v (p ∷ parts) m part w all one = (all.0, all.1, parts_push all.0 parts m part w all.2 one)
-
-parts_refused : (v : Encoder) (parts : List Part) (m : Encoder) (part : Part) (rest : List Part) (w : Encoder) (error : ProtoError)
-    → EmitsParts parts v (Ok tt) m → EmitsPart part m (Err error) w → EmitsParts (parts ++ part ∷ rest) v (Err error) w
-parts_refused v [] m part rest w error all one = inl (subst (λ e. EmitsPart part e (Err error) w) all one)
-parts_refused v (p ∷ parts) m part rest w error all one = inr (all.0, all.1, parts_refused all.0 parts m part rest w error all.2 one)
+-- others after those that were written
+parts_follow : (parts others : List Part) (v m w : Encoder) (outcome : Outcome) → EmitsParts parts v (Ok tt) m → EmitsParts others m outcome w
+    → EmitsParts (parts ++ others) v outcome w
+parts_follow [] others v m w outcome all more = rw all at more
+parts_follow (p ∷ parts) others v m w (Ok tt) (u, one, all) more = (u, one, parts_follow parts others u m w (Ok tt) all more)
+parts_follow (p ∷ parts) others v m w (Err error) (u, one, all) more = inr (u, one, parts_follow parts others u m w (Err error) all more)
 
 -- one more of all parts is written
 pub part_written : (v m w : Encoder) (parts : List Part) (i : ℕ) (part : Part) → i < length parts → part ≡ get_or parts i part
     → EmitsParts (take i parts) v (Ok tt) m → EmitsPart part m (Ok tt) w → EmitsParts (take (i + 1) parts) v (Ok tt) w
 part_written v m w parts i part below is all one =
     subst (λ ps. EmitsParts ps v (Ok tt) w) (sym (take_more parts i part below))
-    (parts_push v (take i parts) m _ w all (subst (λ p. EmitsPart p m (Ok tt) w) is one))
+    (parts_follow (take i parts) (get_or parts i part ∷ []) v m w (Ok tt) all (w, subst (λ p. EmitsPart p m (Ok tt) w) is one, refl))
 
 -- or refused
 pub part_refused : (v m w : Encoder) (parts : List Part) (i : ℕ) (part : Part) (error : ProtoError) → i < length parts → part ≡ get_or parts i part
     → EmitsParts (take i parts) v (Ok tt) m → EmitsPart part m (Err error) w → EmitsParts parts v (Err error) w
 part_refused v m w parts i part error below is all one =
     subst (λ ps. EmitsParts ps v (Err error) w) (sym (split_at parts i part below))
-    (parts_refused v (take i parts) m _ (drop (suc i) parts) w error all (subst (λ p. EmitsPart p m (Err error) w) is one))
+    (parts_follow (take i parts) (get_or parts i part ∷ drop (suc i) parts) v m w (Err error) all (inl (subst (λ p. EmitsPart p m (Err error) w) is one)))
 
 -- ---- items
 

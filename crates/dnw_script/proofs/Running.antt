@@ -1,48 +1,36 @@
--- A whole run: its replies, its pieces in the finished bytes, and its candidates; and a run so far, with one step more.
-use Rattle.std.proofs.Common.{◌≡◌, ℕ, List, [], ◌∷◌, ◌++◌, length, map, take, Err, refl, sym, ap, ◌∙◌, subst, arith, ◌+◌, ◌<◌, ◌≤◌, get_or, Option, Some, None}
+-- A whole run: its replies, its pieces in the finished bytes, its candidates and its length; and a run so far, with one step more.
+use Rattle.std.proofs.Common.{◌≡◌, ℕ, List, [], ◌∷◌, ◌++◌, length, map, take, Err, refl, sym, ap, ◌∙◌, subst, arith, ◌+◌, ◌<◌, ◌≤◌, get_or, Option, Some, None, max, Ok, Result}
 use Rattle.std.specs.List.{AllByRecursion}
-use Rattle.std.proofs.lemmas.List.{append-nil, length-map, take_all, take_at, map-append, take_more}
-use Rattle.std.proofs.lemmas.List.Elements.{All-nil, recursion_from_All}
+use Rattle.std.proofs.lemmas.List.{length-map, take_all, take_at, map-append, take_more}
+use Rattle.std.proofs.lemmas.List.Elements.{recursion_from_All}
+use Rattle.std.proofs.Math.Nat.{le-max_left, le-max_right, max-le}
+use Rattle.std.specs.Prelude.{IfErr, IfOk, OnErr}
+use Rattle.std.specs.declared.vec.Vec.{Vec}
 use Rattle.dnw_error.specs.declared.error.ProtoError.{ProtoError}
 use Rattle.dnw_encoder.specs.Encoder.{Encoder}
 use Rattle.dnw_encoder.specs.EmittedName.{so_far}
 use Rattle.dnw_encoder.specs.EmittingLaws.{take-all}
 use Rattle.dnw_record.specs.declared.record.WireRecord.{WireRecord}
 use Rattle.dnw_record.specs.WrittenRecords.{EmitsRecord}
+use Rattle.dnw_record.specs.Parts.{WirePart, bytes_part, name_part, text_part}
+use Rattle.dnw_record.proofs.Bounded.{part_stays_bounded, parts_stay_bounded}
+use Rattle.dnw_base.specs.Limits.{max_message}
 use Rattle.dnw_script.specs.declared.script.Reply.{Reply}
-use Rattle.dnw_script.specs.Script.{Action, action}
+use Rattle.dnw_script.specs.Script.{Action, action, item_parts, reserve, set_max, wire_part, write, write_items, write_record}
 use Rattle.dnw_script.specs.Pieces.{Account, Spells, after, opening, account_from, Slot}
-use Rattle.dnw_script.specs.Replies.{RepliesTo}
-use Rattle.dnw_script.specs.Runs.{IsUseful, IsUsefulIn, Runs, beginning, RunsStep}
-use Rattle.dnw_script.specs.ScriptLaws.{RunsFinish}
-use Rattle.dnw_script.proofs.Chunks.{Chunk, laid, piece_of, spells, upto, ends-most}
-use Rattle.dnw_script.proofs.Naming.{AreUsable}
-use Rattle.dnw_script.proofs.Standing.{holds-now, sound-upto}
-use Rattle.dnw_script.proofs.Stepping.{Goes, Good, goes-same, goes-then, record-undone, step, usable-now}
+use Rattle.dnw_script.specs.Replies.{RepliesTo, ReplyTo, ReplyToPart}
+use Rattle.dnw_script.specs.Runs.{IsUseful, Runs, beginning, RunsStep}
+use Rattle.dnw_script.specs.ScriptLaws.{RunsFinish, ItemsOfScriptsStayBounded, PartsOfScriptsStayBounded, RunsStayBounded}
+use Rattle.dnw_script.proofs.Chunks.{laid, piece_of, spells, upto, ends-most}
+use Rattle.dnw_script.proofs.Standing.{AreUsable, holds-now, sound-upto}
+use Rattle.dnw_script.proofs.Stepping.{Goes, Good, record-undone, step, goes, good-beginning}
 use Rattle.dnw_script.specs.declared.script.Step.{Step}
-use Rattle.dnw_script.specs.Inside.Running.{HoldsPlace, Tracks}
-
--- all steps in turn
-pub goes : (old : List ℕ) (cs : List Chunk) (a : Account) (v w : Encoder) (actions : List Action) (replies : List Reply) → Good old cs a v
-    → Runs a v actions replies w → RepliesTo a actions replies × Goes old cs (account_from a actions replies) w
-goes old cs a v w [] [] good h = (tt, goes-same old cs a v w good h)
-goes old cs a v w [] (reply ∷ replies) good h = absurd h
-goes old cs a v w (action ∷ actions) [] good h = absurd h
-goes old cs a v w (action ∷ actions) (reply ∷ replies) good h =
-    let (given, one) = step old cs a v h.0 good action reply h.1 in
-    let b = after a action reply in
-    let (others, rest) = goes old one.chunks b h.0 w actions replies one.good h.2 in
-    ((given, others), goes-then old cs b (account_from b actions replies) h.0 w one rest)
-
--- a new encoder at the end of its buffer agrees with the opening account on no chunks
-pub good-beginning : (old : List ℕ) (candidates names : ℕ) → Good old [] (opening (length old)) (beginning old candidates names)
-good-beginning old candidates names = record {
-  sound = record { bytes = sym (append-nil old); end = refl; holds = λ x h. (tt, All-nil (IsUsefulIn x)) };
-  len_is = refl;
-  pieces_are = refl;
-  places = refl;
-  agree = record { max = refl; mode = refl; canonical = refl; small = omega arith };
-}
+use Rattle.dnw_script.specs.Inside.Running.{HoldsPlace, Tracks, RunsTo}
+use Rattle.dnw_script.specs.declared.script.Reply.TheVariants.{Done, Refused, NoPlace, Items}
+use Rattle.dnw_script.specs.Finished.{largest_max, max_after, Finished}
+use Rattle.dnw_script.proofs.WireParts.{as_item_parts, as_wire_part}
+use Rattle.dnw_script.specs.Ran.{Ran}
+use Rattle.dnw_script.proofs.ShortestNames.{names_are_shortest}
 
 -- ---- the first steps
 
@@ -69,7 +57,7 @@ module _ (old : List ℕ) (candidates names : ℕ) (actions : List Action) (repl
   runs_reply = all.0
 
   usable : AreUsable w.bytes w.candidates
-  usable = usable-now old all.1.chunks w all.1.good.sound
+  usable = (holds-now old all.1.chunks w all.1.good.sound).1
 
   -- a record that is refused then leaves the encoder
   pub undoes : (v : Encoder) (r : WireRecord) (error : ProtoError) → EmitsRecord r w (Err error) v → v ≡ w
@@ -111,6 +99,73 @@ runs_finish old candidates names actions replies w h =
       ends = go.good.len_is ∙ s.end;
     }
 
+-- ---- the length
+
+part-len : (a : Account) (part : WirePart) (len : ℕ) → ReplyToPart a part (Done len) → len ≤ a.max
+part-len a (name_part mode name) len h = h.2
+part-len a (bytes_part bytes) len h = omega (arith, h.0, h.1)
+part-len a (text_part text) len h = omega (arith, h.1.0, h.1.1)
+
+-- a step leaves the length, or ends within the maximum, which it may set
+step-len : (a : Account) (action : Action) (reply : Reply) → ReplyTo a action reply
+    → ((after a action reply).len ≤ max a.len (max_after a.max action)) × ((after a action reply).max ≡ max_after a.max action)
+step-len a (write part) (Done len) h = (omega (arith, part-len a (wire_part a.mode part) len h, le-max_right a.len a.max), refl)
+step-len a reserve (Done len) h = (omega (arith, h.0, h.1, le-max_right a.len a.max), refl)
+step-len a (write_record r) (Done len) h = (omega (arith, h.0, le-max_right a.len a.max), refl)
+step-len a (write_items items) (Items count None len) h = (h.2, refl)
+step-len a (write_items items) (Items count (Some error) len) h = (h.2, refl)
+step-len a (set_max size) (Done len) h = (le-max_left a.len size, refl)
+step-len a (set_max size) reply h = absurd h
+step-len a action (Done len) h = (le-max_left a.len a.max, refl)
+step-len a action (Refused error len) h = (le-max_left a.len a.max, refl)
+step-len a action NoPlace h = (le-max_left a.len a.max, refl)
+step-len a action (Items count error len) h = (le-max_left a.len a.max, refl)
+
+steps-len : (a : Account) (actions : List Action) (replies : List Reply) → RepliesTo a actions replies
+    → (account_from a actions replies).len ≤ max a.len (largest_max a.max actions)
+steps-len a [] [] h = le-max_left a.len 0
+steps-len a [] (reply ∷ replies) h = absurd h
+steps-len a (action ∷ actions) [] h = absurd h
+steps-len a (action ∷ actions) (reply ∷ replies) h =
+    let b = after a action reply in
+    let most = max_after a.max action in
+    let (most_len, most_is) = step-len a action reply h.0 in
+    let rest = rw most_is at (steps-len b actions replies h.1) in
+    let last = largest_max most actions in
+    let le : max b.len last ≤ max a.len (max most last) = max-le (omega (arith, most_len)) (omega arith) in
+    omega (arith, rest, le)
+
+pub runs_stay_bounded : RunsStayBounded
+runs_stay_bounded old candidates names actions replies w h =
+    let most = steps-len (opening (length old)) actions replies (runs_reply old candidates names actions replies w h) in
+    omega (arith, most, (runs_finish old candidates names actions replies w h).ends)
+
+pub parts_of_scripts_stay_bounded : PartsOfScriptsStayBounded
+parts_of_scripts_stay_bounded part v w e h = (part_stays_bounded (wire_part v.encoding part) v w (omega (arith, e)) (as_wire_part part v w (Ok tt) e h)).0
+
+pub items_of_scripts_stay_bounded : ItemsOfScriptsStayBounded
+items_of_scripts_stay_bounded item v w e h = (parts_stay_bounded (item_parts v.encoding item) v w (omega (arith, e)) (as_item_parts item v w (Ok tt) e h)).0
+
+-- ---- what is promised
+
+pub ran : {Z : Type 0} (old : List ℕ) (candidates names : ℕ) (steps : List Step) (r : Result (Vec Reply Z) ProtoError) (new : List ℕ)
+    → IfOk r (λ x. RunsTo old candidates names (map action steps) x.items new) → IfErr r (λ e. (1 ≤ length steps) × (e ≡ ProtoError.Memory))
+    → OnErr r (new ≡ old) → Ran old candidates names steps r new
+ran old candidates names steps (Ok x) new (w, runs, bytes) err same =
+    let actions = map action steps in
+    record {
+      replies = runs_reply old candidates names actions x.items w runs;
+      finished = subst (Finished old actions x.items) (sym bytes) (runs_finish old candidates names actions x.items w runs);
+      shortest = names_are_shortest old candidates names actions x.items w runs;
+      runs = record { last = w; runs = runs; bytes = bytes; useful = runs_useful old candidates names actions x.items w runs };
+      bounded = omega (arith, ap length bytes, runs_stay_bounded old candidates names actions x.items w runs);
+      err = tt;
+      same = tt;
+    }
+ran old candidates names steps (Err e) new run err same =
+    let most = largest_max max_message (map action steps) in
+    record { replies = tt; finished = tt; shortest = tt; runs = tt; bounded = omega (arith, ap length same, le-max_left (length old) most); err = err; same = same }
+
 -- ---- one step more, after the others
 
 runs_push : (a : Account) (v : Encoder) (actions : List Action) (replies : List Reply) (m : Encoder) (action : Action) (reply : Reply) (w : Encoder)
@@ -146,12 +201,12 @@ has_run_holds v w actions replies places is h =
     (go.good.sound.end, holds_kept w places a.places h.tracks (subst (AllByRecursion (λ e. e ≤ w.offset)) (sym go.good.places) inside))
 
 -- one of all steps more
-pub has_run_more : (v m w : Encoder) (steps : List Step) (i : ℕ) (step : Step) (replies : List Reply) (places new : List (Option ℕ)) (reply : Reply)
+pub has_run_more : {v m w : Encoder} (steps : List Step) {i : ℕ} {step : Step} {replies : List Reply} {places new : List (Option ℕ)} (reply : Reply)
     → i < length steps → step ≡ get_or steps i step → HasRun v (map action (take i steps)) replies m places
     → ((a : Account) → Tracks places a.places → RunsStep a m (action step) reply w)
     → ((a : Account) → Tracks places a.places → Tracks new (after a (action step) reply).places)
     → HasRun v (map action (take (i + 1) steps)) (replies ++ reply ∷ []) w new
-has_run_more v m w steps i step replies places new reply below is h runs tracks =
+has_run_more {v} {m} {w} steps {i} {step} {replies} {places} {new} reply below is h runs tracks =
     let start = opening (length v.bytes) in
     let actions = map action (take i steps) in
     let a = account_from start actions replies in

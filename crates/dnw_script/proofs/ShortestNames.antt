@@ -1,9 +1,8 @@
 -- Names are as short as can be.
-use Rattle.std.proofs.Common.{◌≡◌, ◌≢◌, ℕ, ◌+◌, ◌<◌, ◌≤◌, true, false, List, [], ◌∷◌, ◌++◌, length, map, take, drop, Option, Some, None, Ok, ◌⊎◌, inl, inr, ⊎_elim, refl, sym, ap, ◌∙◌, subst, append_assoc, zero-add, arith, rules, tests}
+use Rattle.std.proofs.Common.{◌≡◌, ◌≢◌, ℕ, ◌+◌, ◌<◌, ◌≤◌, true, List, [], ◌∷◌, ◌++◌, length, drop, Option, Some, None, Ok, ◌⊎◌, inl, inr, ⊎_elim, refl, sym, ap, ◌∙◌, subst, append_assoc, zero-add, arith, rules, tests}
 use Rattle.std.specs.List.{All, AllByRecursion, Contains}
-use Rattle.std.specs.Char.{to_ascii_lowercase}
-use Rattle.std.proofs.lemmas.Bool.{cases_lt, cond_both}
-use Rattle.std.proofs.lemmas.List.{append-nil, drop-append-le, drop_at, length-append, length-map, take-append-drop, take-append-le, take_at}
+use Rattle.std.proofs.lemmas.Bool.{cases_lt}
+use Rattle.std.proofs.lemmas.List.{append-nil, length-append}
 use Rattle.std.proofs.lemmas.List.Elements.{All-append, All-contains, All-nil, All-weaker, Contains-append_left, Contains-append_right, Contains-push, Contains-push_cases}
 use Rattle.dnw_base.specs.Labels.{IsLabel}
 use Rattle.dnw_base.specs.Limits.{max_name, pointer_reach}
@@ -11,7 +10,6 @@ use Rattle.dnw_base.specs.Names.{NameValue, AreLabels, encoded_size, labels_wire
 use Rattle.dnw_base.proofs.Wires.{length-wire}
 use Rattle.dnw_candidates.specs.Candidates.{Candidate, IsUsable}
 use Rattle.dnw_encoder.specs.declared.encoder.modes.NameEncoding.{NameEncoding}
-use Rattle.dnw_encoder.specs.declared.encoder.modes.NameEncoding.TheVariants.{Compressed, Uncompressed, UncompressedLowercase}
 use Rattle.dnw_encoder.specs.Encoder.{CandidatesPrecede, Encoder}
 use Rattle.dnw_encoder.specs.EmittedName.{Chooses, Share, compresses, emitted, in_mode, is_compressed, newly_kept, pointer_to, so_far}
 use Rattle.dnw_encoder.specs.EmittingLaws.{take-all}
@@ -29,9 +27,9 @@ use Rattle.dnw_script.specs.Finished.{AreNames, EndsIn, IsEndOf, IsShortest, cou
 use Rattle.dnw_script.specs.ScriptLaws.{RunsAreShortest}
 use Rattle.dnw_script.proofs.Chunks.{Chunk}
 use Rattle.dnw_candidates.proofs.CandidateLists.{between}
-use Rattle.dnw_script.proofs.Naming.{AreUsable, back_of, each-kept, emitted-candidates, front_of, kept-few, kept-new, same_labels, size-back, suffix-split, target-has, usable-precede, usable-read}
-use Rattle.dnw_script.proofs.Running.{good-beginning}
-use Rattle.dnw_script.proofs.Stepping.{Good, part-same, step, usable-now}
+use Rattle.dnw_record.proofs.Kept.{back-least, back_of, each-kept, emitted-candidates, emitted-names, front_of, in_mode-compressed, kept-few, kept-new, length-in_mode, size-back, suffix-split, suffix-within, target-has}
+use Rattle.dnw_script.proofs.Standing.{holds-now, same_labels, usable-precede, usable-read}
+use Rattle.dnw_script.proofs.Stepping.{Good, good-beginning, part-same, step}
 
 -- ---- the suffixes in which names end
 
@@ -74,25 +72,6 @@ record Knows (old : List ℕ) (a : Account) (v : Encoder) (labels many : ℕ) : 
 
 -- ---- one more name
 
--- a mode leaves the number of labels
-length-in_mode : (mode : NameEncoding) (ls : List (List ℕ)) → length (in_mode mode ls) ≡ length ls
-length-in_mode UncompressedLowercase ls = length-map ls (map to_ascii_lowercase)
-length-in_mode Compressed ls = refl
-length-in_mode Uncompressed ls = refl
-
--- a name counts once at most, whole or with a pointer
-emitted-names : (v : Encoder) (ls : List (List ℕ)) (choice : Option Share) → (emitted v ls choice).names ≤ v.names + 1
-emitted-names v ls None = cond_both (compresses v) (v.names + 1) v.names (λ n. n ≤ v.names + 1) (λ e. omega arith) (λ e. omega arith)
-emitted-names v ls (Some share) = cond_both (compresses v) (v.names + 1) v.names (λ n. n ≤ v.names + 1) (λ e. omega arith) (λ e. omega arith)
-
--- of two suffixes the one that begins later is the other's
-suffix-within : (f b g c : List (List ℕ)) → f ++ b ≡ g ++ c → length g ≤ length f → (f ≡ g ++ drop (length g) f) × (c ≡ drop (length g) f ++ b)
-suffix-within f b g c e le =
-    let n = length g in (
-      sym (take-append-drop n f) ∙ ap (λ (xs : List (List ℕ)). xs ++ drop n f) (sym (take-append-le n f b le) ∙ (ap (take n) e ∙ take_at g c n refl)),
-      sym (drop_at g c n refl) ∙ (ap (drop n) (sym e) ∙ drop-append-le n f b le),
-    )
-
 -- a suffix that begins within the front, or else is one of what a pointer stands for, is a candidate
 kept-front : (v : Encoder) (ls front back : List (List ℕ)) (choice : Option Share) (m : List (List ℕ)) → Chooses v ls choice
     → (back ≡ back_of choice → IsKept v.candidates back) → front_of ls choice ≡ front ++ m → back ≡ m ++ back_of choice
@@ -102,14 +81,11 @@ kept-front v ls front back choice (l ∷ m) chosen old longer is near room =
     rw is (v.offset + length (labels_wire front), Contains-append_right v.candidates _ _ (kept-new v ls choice chosen front l m longer near room))
 
 module _ (old : List ℕ) (a : Account) (v : Encoder) (labels many : ℕ) (k : Knows old a v labels many) where
-  usable : AreUsable v.bytes v.candidates
-  usable = usable-now old k.chunks v k.good.sound
-
   at_end : v.offset ≡ length v.bytes
   at_end = k.good.sound.end
 
   precede : CandidatesPrecede v
-  precede = usable-precede v.bytes v (sym at_end) usable
+  precede = usable-precede v.bytes v (sym at_end) (holds-now old k.chunks v k.good.sound).1
 
   -- what a pointer stands for is an end of a name
   shared-ends : (ls : List (List ℕ)) (share : Share) → AreLabels ls → Chooses v ls (Some share) → EndsIn a.pieces share.back
@@ -224,19 +200,9 @@ runs-come old a v (action ∷ first) rest given others w labels many k are e h =
 
 -- ---- the least length
 
--- compression leaves the labels as they are
-in_mode-compressed : (mode : NameEncoding) (ls : List (List ℕ)) → is_compressed mode ≡ true → in_mode mode ls ≡ ls
-in_mode-compressed Compressed ls e = refl
-in_mode-compressed Uncompressed ls e = refl
-in_mode-compressed UncompressedLowercase ls e = absurd (let no : false ≡ true = e in cc)
-
 -- a name is compressed as long as one more is allowed
 compresses-within : (v : Encoder) → is_compressed v.encoding ≡ true → v.names < v.name_limit → compresses v ≡ true
 compresses-within v e less = search (rules, tests)
-
--- a suffix that begins later is no longer
-back-least : (f b g c : List (List ℕ)) → f ++ b ≡ g ++ c → length f ≤ length g → encoded_size c ≤ encoded_size b
-back-least f b g c e le = omega (arith, size-back b (drop (length f) g) c (suffix-within g c f b (sym e) le).1)
 
 module _ (old : List ℕ) (a : Account) (v : Encoder) (labels many : ℕ) (k : Knows old a v labels many) (near : a.len + max_name ≤ pointer_reach) where
   -- an end of a name has a candidate that is usable
@@ -245,7 +211,7 @@ module _ (old : List ℕ) (a : Account) (v : Encoder) (labels many : ℕ) (k : K
   end-usable ls front back are split some ends =
       let s = k.good.sound in
       let (offset, (i, below, is)) = k.kept near back some ends in
-      let (end, pointers, name) = usable-read v.bytes v.candidates offset back (usable-now old k.chunks v s) (each_back front back (rw split at are.each)) (i, below, is) in
+      let (end, pointers, name) = usable-read v.bytes v.candidates offset back (holds-now old k.chunks v s).1 (each_back front back (rw split at are.each)) (i, below, is) in
       let here = between (labels_wire back) v.candidates i offset below (sym is) in
       (offset, _, _, record { split = here; end = end; pointers = pointers; name = rw (take-all v.offset v.bytes s.end) name })
 

@@ -1,19 +1,22 @@
 -- What holds of an encoder in a run: its bytes are those of the chunks so far, the chunks' pieces are in them, and the
 -- candidates are usable, both whatever values are in the placeholders.
-use Rattle.std.proofs.Common.{◌≡◌, ℕ, ◌+◌, ◌-◌, ◌≤◌, ◌&&◌, nat_lt, Bool, true, false, Option, Some, None, Ok, List, [], ◌∷◌, ◌++◌, length, map, slice_range, refl, sym, ap, ◌∙◌, subst, append_assoc, arith}
+use Rattle.std.proofs.Common.{◌≡◌, ℕ, ◌+◌, ◌-◌, ◌≤◌, false, Option, Some, None, Ok, List, [], ◌∷◌, ◌++◌, length, map, slice_range, refl, sym, ap, ◌∙◌, subst, append_assoc, arith, suc, ◌<◌, add-zero}
 use Rattle.std.specs.Int.{w16, to_be_bytes}
-use Rattle.std.proofs.lemmas.List.{length-append, append-nil, drop_at, take_all, take_at}
+use Rattle.std.proofs.lemmas.List.{length-append, append-nil}
 use Rattle.std.proofs.lemmas.Grind.{flat_map-append}
+use Rattle.std.specs.List.{All, AllByRecursion, Contains}
+use Rattle.std.proofs.lemmas.List.Elements.{All-append, All-contains, All-weaker}
+use Rattle.std.proofs.Math.Nat.{add_assoc}
 use Rattle.dnw_base.specs.Limits.{max_message}
-use Rattle.dnw_base.specs.Names.{NameValue, encoded_size, wire}
+use Rattle.dnw_base.specs.Names.{NameValue, wire, labels_wire, AreLabels}
 use Rattle.dnw_base.proofs.Wires.{length-wire}
 use Rattle.dnw_candidates.specs.Candidates.{Candidate}
-use Rattle.dnw_encoder.specs.Encoder.{Encoder, Writes, filled, mode_of_rdata, reserved, written}
-use Rattle.dnw_encoder.specs.EmittedName.{Chooses, EmitsName, Share, emitted, form, in_mode, is_compressed}
-use Rattle.dnw_encoder.specs.EmittingLaws.{frame, frame-same, frames-follow, take-all}
+use Rattle.dnw_encoder.specs.Encoder.{Encoder, Writes, filled, mode_of_rdata, reserved, written, CandidatesPrecede}
+use Rattle.dnw_encoder.specs.EmittedName.{Chooses, EmitsName, Share, emitted, form, in_mode, is_compressed, newly_kept}
+use Rattle.dnw_encoder.specs.EmittingLaws.{frame, frame-same, frames-follow}
 use Rattle.dnw_encoder.specs.Emitting.{Frame}
 use Rattle.dnw_encoder.specs.NameFrames.{frame-name}
-use Rattle.dnw_encoder.proofs.NameBack.{names_take_no_more, size-in_mode}
+use Rattle.dnw_encoder.proofs.NameBack.{names_take_no_more, size-in_mode, Reads-shared, each_back, each_front}
 use Rattle.dnw_record.specs.declared.record.WireRecord.{WireRecord}
 use Rattle.dnw_record.specs.declared.record.WireData.{WireData}
 use Rattle.dnw_record.specs.declared.record.WireData.TheVariants as rdata
@@ -21,10 +24,85 @@ use Rattle.dnw_record.specs.Parts.{EmitsWirePart, EmitsWireParts, WirePart, byte
 use Rattle.dnw_record.specs.RecordFrames.{frame-reserved, frame-wire_part}
 use Rattle.dnw_record.specs.WrittenRecords.{EmitsData, EmitsFields, NumbersFit, type_class_ttl}
 use Rattle.dnw_reading.proofs.Copying.{slice_range-split}
-use Rattle.dnw_record.proofs.Laying.{added}
+use Rattle.dnw_record.proofs.Laying.{added, emitted-bytes, filled-bytes, full_size, reserved-bytes}
+use Rattle.dnw_base.specs.Labels.{IsLabel}
+use Rattle.dnw_form.specs.Inside.WireBytes.{labels_of}
+use Rattle.dnw_form.proofs.Wires.{labels_of-wire}
+use Rattle.dnw_reading.specs.Reading.{Reads, NameAt}
+use Rattle.dnw_reading.proofs.Back.{Reads-wire}
+use Rattle.dnw_reading.proofs.Counts.{Reads-labels, Reads-own}
+use Rattle.dnw_reading.proofs.Stand.{Reads-append}
+use Rattle.dnw_record.proofs.Kept.{back_of, both_parts, each-kept, emitted-candidates, form-tail, front_of, size-back, suffix-split, tail_of, target-has}
 use Rattle.dnw_script.specs.Pieces.{BytesStand, DataStand, NameStands, PieceAt, RecordStands, wire_piece}
-use Rattle.dnw_script.proofs.Chunks.{Begins, Chunk, Content, MayBe, Standing, Stands, begins-first, begins-laid, begins-others, begins-split, bytes-stand, bytes_of, ends_of, laid, of_part, of_record, piece_in, piece_of, place, standing-join, standing-split, upto, upto-laid, wrote}
-use Rattle.dnw_script.proofs.Naming.{AreUsable, name-read, usable-append, usable-emitted}
+use Rattle.dnw_script.proofs.Chunks.{Begins, Chunk, Content, MayBe, Standing, Stands, begins-first, begins-laid, begins-others, begins-split, bytes-stand, bytes_of, ends_of, laid, of_part, piece_in, piece_of, place, standing-join, standing-split, upto, upto-laid, wrote}
+use Rattle.dnw_script.specs.Runs.{IsUsefulIn}
+
+-- ---- what is usable
+
+-- labels are known by their bytes
+pub same_labels : (xs ys : List (List ℕ)) → AllByRecursion IsLabel xs → AllByRecursion IsLabel ys → labels_wire xs ≡ labels_wire ys → xs ≡ ys
+same_labels xs ys all each e =
+    sym (labels_of-wire xs all) ∙ (ap (λ (b : List ℕ). labels_of (b ++ 0 ∷ [])) e ∙ labels_of-wire ys each)
+
+-- The candidates are usable in a message.
+abbrev pub AreUsable : List ℕ → List Candidate → Type 0
+AreUsable x cs = All (IsUsefulIn x) cs
+
+-- They are before its end, and stay usable when bytes follow.
+pub usable-precede : (y : List ℕ) (v : Encoder) → length y ≡ v.offset → AreUsable y v.candidates → CandidatesPrecede v
+usable-precede y v size = All-weaker (IsUsefulIn y) (λ c. c.0 < v.offset) (λ c u. let own = Reads-own u.name.reads in omega (arith, own, size)) v.candidates
+
+pub usable-append : (y more : List ℕ) (cs : List Candidate) → AreUsable y cs → AreUsable (y ++ more) cs
+usable-append y more = All-weaker (IsUsefulIn y) (IsUsefulIn (y ++ more)) (λ c u. record {
+  labels = u.labels;
+  bytes = u.bytes;
+  end = u.end;
+  pointers = u.pointers;
+  name = record { reads = Reads-append more u.name.reads; fits = u.name.fits };
+})
+
+-- one that has the bytes of labels is read as these labels
+pub usable-read : (y : List ℕ) (cs : List Candidate) (offset : ℕ) (ls : List (List ℕ)) → AreUsable y cs → AllByRecursion IsLabel ls
+    → Contains cs (offset, labels_wire ls) → (end : ℕ) × (pointers : ℕ) × NameAt y offset ls end pointers
+usable-read y cs offset ls usable are has =
+    let u = All-contains (IsUsefulIn y) cs (offset, labels_wire ls) usable has in
+    (u.end, u.pointers, rw (same_labels u.labels ls (Reads-labels u.name.reads) are (sym u.bytes)) at u.name)
+
+-- ---- what is read of a name
+
+-- Labels of the front, and what follows them, are read after bytes in which the candidates are usable.
+tail-read : (y more : List ℕ) (v : Encoder) (ls : List (List ℕ)) (choice : Option Share) (m : List (List ℕ)) → Chooses v ls choice → AreUsable y v.candidates
+    → AllByRecursion IsLabel (m ++ back_of choice)
+    → (k : ℕ) × Reads (y ++ (tail_of m choice ++ more)) (length y) (length y) None (m ++ back_of choice) (length y + length (tail_of m choice)) k
+tail-read y more v ls None m chosen usable each =
+    let read = Reads-wire (y ++ (wire m ++ more)) y more m (length y) (length y) (length y + length (wire m)) refl (omega (arith, length-wire m)) refl (each_front m [] each) in
+    (0, rw append-nil read)
+tail-read y more v ls (Some share) m chosen usable each =
+    let (end, pointers, name) = usable-read y v.candidates share.target share.back usable (each_back m share.back each) (target-has v ls share chosen) in
+    let read = Reads-shared y more m share.back share.target end pointers (each_front m share.back each) name.reads in
+    (suc pointers, rw (append_assoc, length-append, ← add_assoc) read)
+
+module _ (y more : List ℕ) (v : Encoder) (ls : List (List ℕ)) (choice : Option Share) (are : AreLabels ls) (chosen : Chooses v ls choice)
+    (usable : AreUsable y v.candidates) where
+  -- Each suffix that begins within the front is there.
+  suffix-read : (f m : List (List ℕ)) → front_of ls choice ≡ f ++ m
+      → (k : ℕ) × NameAt (y ++ (form ls choice ++ more)) (length y + length (labels_wire f)) (m ++ back_of choice) (length y + length (form ls choice)) k
+  suffix-read f m front_is =
+      let rest = m ++ back_of choice in
+      let split = suffix-split v ls choice chosen f m front_is in
+      let each = each_back f rest (rw split at are.each) in
+      let (k, read) = tail-read (y ++ labels_wire f) more v ls choice m chosen (usable-append y (labels_wire f) v.candidates usable) each in
+      (k, record { reads = rw (form-tail ls choice f m front_is) (simp (length-append, append_assoc, add_assoc) (simp (length-append, append_assoc, add_assoc) at read)); fits = omega (arith, are.fit, size-back ls f rest split) })
+
+  -- So the candidates are usable once the name is written.
+  usable-emitted : length y ≡ v.offset → AreUsable (y ++ (form ls choice ++ more)) (emitted v ls choice).candidates
+  usable-emitted size =
+      let x = y ++ (form ls choice ++ more) in
+      rw (emitted-candidates v ls choice chosen (usable-precede y v size usable))
+      (All-append (IsUsefulIn x) v.candidates (newly_kept v ls choice) (usable-append y (form ls choice ++ more) v.candidates usable)
+      (each-kept v ls choice chosen (IsUsefulIn x) (λ f l m front_is.
+      let (k, read) = suffix-read f (l ∷ m) front_is in
+      record { labels = l ∷ (m ++ back_of choice); bytes = refl; end = v.offset + length (form ls choice); pointers = k; name = rw size at read })))
 
 -- ---- what a write adds
 
@@ -65,20 +143,6 @@ lays-bytes v w d e h =
       there = λ y more size usable. (rw offset (bytes-stand _ y d more v.offset refl size), rw h.1 (usable-append y (d ++ more) v.candidates usable));
     }
 
--- the bytes of a name, whole or with a pointer
-emitted-bytes : (v : Encoder) (ls : List (List ℕ)) (choice : Option Share) → v.offset ≡ length v.bytes
-    → ((emitted v ls choice).bytes ≡ v.bytes ++ form ls choice) × ((emitted v ls choice).offset ≡ v.offset + length (form ls choice))
-emitted-bytes v ls None e = (added v (written v (wire ls)) (wire ls) e refl, refl)
-emitted-bytes v ls (Some share) e = (ap (λ (x : List ℕ). x ++ form ls (Some share)) (take-all v.offset v.bytes e), refl)
-
--- a name has all its bytes in a mode without compression
-full_size : (v : Encoder) (ls : List (List ℕ)) (choice : Option Share) → Chooses v ls choice → is_compressed v.encoding ≡ false
-    → length (form ls choice) ≡ encoded_size ls
-full_size v ls None chosen not = length-wire ls
-full_size v ls (Some share) chosen not =
-    let never : false ≡ true = sym (ap (λ (b : Bool). b && nat_lt v.names v.name_limit) not) ∙ chosen.0 in
-    absurd cc
-
 lays-name : (name : NameValue) (v w : Encoder) → v.offset ≡ length v.bytes → EmitsName name v (Ok tt) w
     → Lays v w (λ x. NameStands x v.encoding name.labels v.offset w.offset)
 lays-name name v w e h =
@@ -92,9 +156,9 @@ lays-name name v w e h =
       bytes = ap (λ (x : Encoder). x.bytes) made ∙ bytes;
       offset = offset;
       there = λ y more size usable.
-          let (k, read) = name-read y more v ls h.choice h.are_labels h.chooses usable in
-          let after = usable-emitted y more v ls h.choice size h.are_labels h.chooses usable in
-          ((k, rw (size, ← offset) at read, names_take_no_more name v w h, full), rw (← made) at after);
+          let (k, read) = suffix-read y more v ls h.choice h.are_labels h.chooses usable [] (front_of ls h.choice) refl in
+          let after = usable-emitted y more v ls h.choice h.are_labels h.chooses usable size in
+          ((k, rw (add-zero, ← both_parts v ls h.choice h.chooses, size, ← offset) at read, names_take_no_more name v w h, full), rw (← made) at after);
     }
 
 lays-part : (part : WirePart) (v w : Encoder) → v.offset ≡ length v.bytes → EmitsWirePart part v (Ok tt) w
@@ -104,19 +168,6 @@ lays-part (text_part d) v w e h = lays-bytes v w (length d ∷ d) e h.1
 lays-part (name_part mode name) v w e (u, h, is) =
     let one = lays-name name (in_encoding v mode) u e h in
     rw is (record { d = one.d; bytes = one.bytes; offset = one.offset; there = one.there })
-
--- two zero bytes are at a new placeholder
-reserved-bytes : (v : Encoder) → v.offset ≡ length v.bytes → (reserved v 2).bytes ≡ v.bytes ++ to_be_bytes w16 0
-reserved-bytes v e =
-    let two : v.offset + 2 - length v.bytes ≡ 2 = omega (arith, e) in
-    rw (take_all (v.offset + 2) v.bytes (omega (arith, e)), two) refl
-
--- and others once it is filled
-filled-bytes : (v : Encoder) (b old new rest : List ℕ) (p : ℕ) → v.bytes ≡ b ++ (old ++ rest) → length b ≡ p → length old ≡ length new
-    → (filled v p new).bytes ≡ b ++ (new ++ rest)
-filled-bytes v b old new rest p is size same =
-    let back = drop_at (b ++ old) rest (p + length new) (omega (arith, size, same, length-append b old)) in
-    rw (is, take_at b (old ++ rest) p size, ← append_assoc b old rest, back) refl
 
 -- the number of octets of what follows it is filled in
 lays-sized : {v u w : Encoder} {P : List ℕ → Type 0} → v.offset ≡ length v.bytes → Lays (reserved v 2) u P → w ≡ with_length u v.offset
@@ -148,7 +199,7 @@ lays-data (rdata.Bytes bytes) v w e h = lays-part (bytes_part bytes.items) v w e
 lays-data (rdata.Name name encoding) v w e h = lays-part (name_part (mode_of_rdata encoding v.canonical v.encoding) name) v w e h
 
 -- a record that is written at the end is there
-lays-record : (r : WireRecord) (v w : Encoder) → v.offset ≡ length v.bytes → EmitsFields r v (Ok tt) w → NumbersFit r → w.offset ≤ max_message
+pub lays-record : (r : WireRecord) (v w : Encoder) → v.offset ≡ length v.bytes → EmitsFields r v (Ok tt) w → NumbersFit r → w.offset ≤ max_message
     → Lays v w (λ x. RecordStands x v.encoding v.canonical r v.offset w.offset)
 lays-record r v w e (a, owner, (d, fixed, (room, u, one, made))) fit few =
     let f = frame-name r.owner v (Ok tt) a e owner in
@@ -202,30 +253,21 @@ sound-grow old cs c v w s bytes offset on =
     }
 
 -- a part or a record
-sound-wrote : (old : List ℕ) (cs : List Chunk) (v w : Encoder) (content : Content) → SoundAt old cs v
+pub sound-wrote : (old : List ℕ) (cs : List Chunk) (v w : Encoder) (content : Content) → SoundAt old cs v
     → Lays v w (λ x. PieceAt x (piece_in content) v.offset w.offset) → (d : List ℕ) × SoundAt old (cs ++ wrote content d ∷ []) w
 sound-wrote old cs v w content s one =
     (one.d, sound-grow old cs (wrote content one.d) v w s one.bytes one.offset (λ y d more may size usable. rw (may, ← one.offset) (one.there y more size usable)))
 
-pub sound-record : (old : List ℕ) (cs : List Chunk) (v w : Encoder) (r : WireRecord) → SoundAt old cs v → EmitsFields r v (Ok tt) w → NumbersFit r → w.offset ≤ max_message
-    → (d : List ℕ) × SoundAt old (cs ++ wrote (of_record v.encoding v.canonical r) d ∷ []) w
-sound-record old cs v w r s h fit few = sound-wrote old cs v w (of_record v.encoding v.canonical r) s (lays-record r v w s.end h fit few)
-
--- parts are chunks with their pieces and no placeholders
+-- Parts are chunks with their pieces and no placeholders, and keep the frame.
 pub sound-parts : (old : List ℕ) (cs : List Chunk) (v w : Encoder) (parts : List WirePart) → SoundAt old cs v → EmitsWireParts parts v (Ok tt) w
-    → (ds : List Chunk) × (map piece_of ds ≡ map wire_piece parts) × ((p : ℕ) → ends_of p ds ≡ []) × SoundAt old (cs ++ ds) w
-sound-parts old cs v w [] s h = ([], refl, λ p. refl, rw (append-nil, h) s)
+    → (ds : List Chunk) × (map piece_of ds ≡ map wire_piece parts) × ((p : ℕ) → ends_of p ds ≡ []) × SoundAt old (cs ++ ds) w × Frame v (Ok tt) w
+sound-parts old cs v w [] s h = ([], refl, λ p. refl, rw (append-nil, h) s, rw h (frame-same v (Ok tt) s.end))
 sound-parts old cs v w (part ∷ parts) s (m, one, more) =
     let (d, first) = sound-wrote old cs v m (of_part part) s (lays-part part v m s.end one) in
     let c = wrote (of_part part) d in
-    let (ds, pieces, none, all) = sound-parts old (cs ++ c ∷ []) m w parts first more in
-    (c ∷ ds, ap (λ ps. wire_piece part ∷ ps) pieces, λ p. none (p + length d), rw append_assoc at all)
-
-pub frame-parts : (parts : List WirePart) (v w : Encoder) → v.offset ≡ length v.bytes → EmitsWireParts parts v (Ok tt) w → Frame v (Ok tt) w
-frame-parts [] v w e h = subst (Frame v (Ok tt)) (sym h) (frame-same v (Ok tt) e)
-frame-parts (part ∷ parts) v w e (m, one, more) =
-    let f = frame-wire_part part v (Ok tt) m e one in
-    frames-follow v m w (Ok tt) e f (frame-parts parts m w f.ends more)
+    let (ds, pieces, none, all, f) = sound-parts old (cs ++ c ∷ []) m w parts first more in
+    let frame = frames-follow v m w (Ok tt) s.end (frame-wire_part part v (Ok tt) m s.end one) f in
+    (c ∷ ds, ap (λ ps. wire_piece part ∷ ps) pieces, λ p. none (p + length d), rw append_assoc at all, frame)
 
 -- ---- placeholders
 

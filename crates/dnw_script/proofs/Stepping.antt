@@ -1,8 +1,8 @@
--- Each step of a run has its reply, and keeps what holds of account and encoder.
+-- Each step of a run has its reply, and keeps what holds of account and encoder; and so do all.
 use Rattle.std.proofs.Common.{◌≡◌, ℕ, Bool, zero, suc, ◌+◌, ◌-◌, ◌≤◌, max, nat_lt, true, Option, Some, None, Ok, Err, List, [], ◌∷◌, ◌++◌, length, map, take, drop, slice_get, inl, inr, refl, sym, ap, ◌∙◌, subst, arith}
 use Rattle.std.specs.Int.{w16, to_be_bytes}
 use Rattle.std.proofs.lemmas.Bool.{cond_both}
-use Rattle.std.proofs.lemmas.List.Elements.{All-filter}
+use Rattle.std.proofs.lemmas.List.Elements.{All-filter, All-nil}
 use Rattle.std.proofs.lemmas.List.{append-nil, drop_at, length-append, map-append, take-append-le, take_all, take_at}
 use Rattle.dnw_error.specs.declared.error.ProtoError.{ProtoError}
 use Rattle.dnw_error.specs.declared.error.ProtoError.TheVariants.{MaxBufferSizeExceeded, Memory, CharacterDataTooLong}
@@ -17,24 +17,23 @@ use Rattle.dnw_record.specs.WrittenRecords.{EmitsRecord}
 use Rattle.dnw_record.proofs.Bounded.{parts_stay_bounded}
 use Rattle.dnw_record.proofs.Preceding.{refused_records_undo}
 use Rattle.dnw_record.proofs.Parts.{done-parts, fits-fields, Refuses, refused-part, refused-parts, refused-room, done-part, room-most}
-use Rattle.dnw_script.specs.declared.script.Part.{Part}
-use Rattle.dnw_script.specs.declared.script.Item.{Item}
-use Rattle.dnw_script.specs.declared.script.Reply.{Reply}
-use Rattle.dnw_script.specs.declared.script.Reply.TheVariants.{Done, Refused, Items}
-use Rattle.dnw_script.specs.Script.{Action, EmitsPart, write, set_max, set_encoding, set_canonical, reserve, fill, write_record, write_items, item_parts, items_parts, wire_part}
-use Rattle.dnw_script.specs.Pieces.{Account, Piece, Slot, place_piece, record_piece, after, filled_in, spent, wire_piece, with_pieces}
-use Rattle.dnw_script.specs.Replies.{ItemFails, ReplyTo, ReplyToFill, ReplyToItems, ReplyToRecord, open_place, ReplyToBytes, ReplyToName, ReplyToPart, ReplyToText}
-use Rattle.dnw_script.specs.Runs.{GivesReply, IsUsefulIn, RunsFill, RunsItems, RunsStep}
-use Rattle.dnw_script.proofs.Chunks.{Chunk, ends-append, ends_of, of_record, piece_of, place, Splits, split_at, upto, upto-filled, wrote}
-use Rattle.dnw_script.proofs.Naming.{AreUsable, usable-precede}
-use Rattle.dnw_script.proofs.Standing.{SoundAt, frame-parts, holds-now, sound-filled, sound-parts, sound-record, sound-reserved, sound-upto}
-use Rattle.dnw_script.proofs.WireParts.{as_item_parts, as_items_parts, as_wire_part}
 use Rattle.dnw_base.specs.Names.{encoded_size}
 use Rattle.dnw_encoder.specs.declared.encoder.modes.NameEncoding.{NameEncoding}
 use Rattle.dnw_encoder.specs.EmittedName.{EmitsAs, Share, in_mode, room_for}
 use Rattle.dnw_encoder.specs.EmittingLaws.{frame-written}
 use Rattle.dnw_encoder.proofs.NameBack.{size-in_mode}
 use Rattle.dnw_encoder.proofs.Suffixes.{length-all}
+use Rattle.dnw_script.specs.declared.script.Part.{Part}
+use Rattle.dnw_script.specs.declared.script.Item.{Item}
+use Rattle.dnw_script.specs.declared.script.Reply.{Reply}
+use Rattle.dnw_script.specs.declared.script.Reply.TheVariants.{Done, Refused, Items}
+use Rattle.dnw_script.specs.Script.{Action, EmitsPart, write, set_max, set_encoding, set_canonical, reserve, fill, write_record, write_items, item_parts, items_parts, wire_part, action}
+use Rattle.dnw_script.specs.Pieces.{Account, Piece, Slot, place_piece, record_piece, after, filled_in, spent, wire_piece, with_pieces, opening, account_from}
+use Rattle.dnw_script.specs.Replies.{ItemFails, ReplyTo, ReplyToFill, ReplyToItems, ReplyToRecord, open_place, ReplyToBytes, ReplyToName, ReplyToPart, ReplyToText, RepliesTo}
+use Rattle.dnw_script.specs.Runs.{GivesReply, IsUsefulIn, RunsFill, RunsItems, RunsStep, Runs, beginning}
+use Rattle.dnw_script.proofs.Chunks.{Begins, Chunk, Standing, ends-append, ends_of, of_record, piece_of, place, Splits, split_at, upto, upto-filled, wrote}
+use Rattle.dnw_script.proofs.Standing.{AreUsable, SoundAt, holds-now, lays-record, sound-filled, sound-parts, sound-reserved, sound-upto, sound-wrote, usable-precede}
+use Rattle.dnw_script.proofs.WireParts.{as_item_parts, as_items_parts, as_wire_part}
 
 -- ---- replies
 
@@ -64,11 +63,10 @@ module _ (a : Account) (v w : Encoder) (at_end : v.offset ≡ length v.bytes) (l
   reply-text text reply h = absurd h
 
   refused-name : (mode : NameEncoding) (u : Encoder) (ls : List (List ℕ)) (choice : Option Share) (size len : ℕ) (error : ProtoError) → encoded_size ls ≡ size
-      → len ≡ length w.bytes → length w.bytes ≡ length v.bytes → EmitsAs (in_encoding v mode) ls choice (Err error) u → ReplyToName a size (Refused error len)
-  refused-name mode u ls choice size len Memory is tells same h = (omega (arith, is, h.0, room-least ls choice), omega (arith, tells, same))
-  refused-name mode u ls choice size len (MaxBufferSizeExceeded max) is tells same h =
-      (omega (arith, is, h.0, room-most ls choice), h.1 ∙ sym max_is, omega (arith, tells, same))
-  refused-name mode u ls choice size len error is tells same h = absurd h
+      → len ≡ length v.bytes → EmitsAs (in_encoding v mode) ls choice (Err error) u → ReplyToName a size (Refused error len)
+  refused-name mode u ls choice size len Memory is same h = (omega (arith, is, h.0, room-least ls choice), omega (arith, same))
+  refused-name mode u ls choice size len (MaxBufferSizeExceeded max) is same h = (omega (arith, is, h.0, room-most ls choice), h.1 ∙ sym max_is, omega (arith, same))
+  refused-name mode u ls choice size len error is same h = absurd h
 
   reply-part : (part : WirePart) (reply : Reply) → GivesReply (EmitsWirePart part v) reply w → ReplyToPart a part reply
   reply-part (bytes_part d) reply h = reply-writes d reply h
@@ -81,31 +79,26 @@ module _ (a : Account) (v w : Encoder) (at_end : v.offset ≡ length v.bytes) (l
       (omega (arith, em.written_as.0, fits, size-in_mode mode name.labels), omega (arith, h.1, f.ends, le), omega (arith, h.1, f.ends, within, max_is))
   reply-part (name_part mode name) (Refused error len) h =
       let (u, em, is) = h.0 in
-      let same = ap (λ (x : Encoder). length x.bytes) (refused-part (name_part mode name) [] v w error h.0).0 in
-      refused-name mode u (in_mode mode name.labels) em.choice (encoded_size name.labels) len error (size-in_mode mode name.labels) h.1 same em.written_as
+      let same = h.1 ∙ ap (λ (x : Encoder). length x.bytes) (refused-part (name_part mode name) [] v w error h.0).0 in
+      refused-name mode u (in_mode mode name.labels) em.choice (encoded_size name.labels) len error (size-in_mode mode name.labels) same em.written_as
   reply-part (name_part mode name) reply h = absurd h
 
   -- parts end within the maximum
   parts-bounded : (parts : List WirePart) (u : Encoder) (len : ℕ) → EmitsWireParts parts v (Ok tt) u → len ≡ length u.bytes → len ≤ max a.len a.max
-  parts-bounded parts u len h is =
-      let le : length u.bytes ≤ max (length v.bytes) v.max_size = (parts_stay_bounded parts v u (omega (arith, at_end)) h).0 in
-      let bound : max (length v.bytes) v.max_size ≡ max a.len a.max = ap (λ n. max n v.max_size) (sym (len_is ∙ at_end)) ∙ ap (max a.len) (sym max_is) in
-      omega (arith, le, bound, is)
+  parts-bounded parts u len h is = rw (len_is ∙ at_end, max_is, is) (parts_stay_bounded parts v u (omega (arith, at_end)) h).0
 
   -- a record that is refused did not fit whole, or memory ran out
   refused-record : (size len : ℕ) (error : ProtoError) → len ≡ a.len → FailsForSize v size error → ReplyToRecord a size (Refused error len)
-  refused-record size len error same (inl memory) = subst (λ e. ReplyToRecord a size (Refused e len)) (sym memory) same
-  refused-record size len error same (inr (is, less)) =
-      subst (λ e. ReplyToRecord a size (Refused e len)) (sym is) (omega (arith, less), sym max_is, same)
+  refused-record size len error same (inl memory) = rw memory same
+  refused-record size len error same (inr (is, less)) = rw is (omega (arith, less), sym max_is, same)
 
   -- why an item is refused that begins at the length
-  refused-item : (count start : ℕ) (item : Item) (rest : List Item) (cause error : ProtoError) → error ≡ list_error count cause
-      → Refuses v.max_size start (item_parts a.mode item) cause → ItemFails a count start (item ∷ rest) error
-  refused-item count start item rest (MaxBufferSizeExceeded size) error is h =
-      subst (ItemFails a count start (item ∷ rest)) (sym is) (refl, omega (arith, h.1))
-  refused-item count start item rest (CharacterDataTooLong max n) error is h = subst (ItemFails a count start (item ∷ rest)) (sym is) h
-  refused-item count start item rest Memory error is h = subst (ItemFails a count start (item ∷ rest)) (sym is) tt
-  refused-item count start item rest cause error is h = absurd h
+  refused-item : (count start : ℕ) (item : Item) (rest : List Item) (cause : ProtoError) → Refuses v.max_size start (item_parts a.mode item) cause
+      → ItemFails a count start (item ∷ rest) (list_error count cause)
+  refused-item count start item rest (MaxBufferSizeExceeded size) h = (refl, omega (arith, h.1))
+  refused-item count start item rest (CharacterDataTooLong max n) h = h
+  refused-item count start item rest Memory h = tt
+  refused-item count start item rest cause h = absurd h
 
 -- ---- account and encoder
 
@@ -160,15 +153,11 @@ goes-more old cs ds a v w ps len slots good sound f len_is pieces ends =
       same = λ k le. ap (upto (length old)) (take-append-le k cs ds le);
     }
 
--- no placeholders among the chunks
-no-places : (slots : List Slot) (ends : List ℕ) → ends ≡ [] → map (λ (s : Slot). s.end) slots ≡ map (λ (s : Slot). s.end) slots ++ ends
-no-places slots ends none = sym (ap (λ (x : List ℕ). map (λ (s : Slot). s.end) slots ++ x) none ∙ append-nil (map (λ (s : Slot). s.end) slots))
-
 goes-parts : (old : List ℕ) (cs : List Chunk) (a : Account) (v w : Encoder) (parts : List WirePart) (len : ℕ) → Good old cs a v → EmitsWireParts parts v (Ok tt) w
     → len ≡ length w.bytes → Goes old cs (with_pieces a (map wire_piece parts) len) w
 goes-parts old cs a v w parts len good h len_is =
-    let (ds, pieces, none, sound) = sound-parts old cs v w parts good.sound h in
-    goes-more old cs ds a v w (map wire_piece parts) len a.places good sound (frame-parts parts v w good.sound.end h) len_is pieces (no-places a.places _ (none _))
+    let (ds, pieces, none, sound, f) = sound-parts old cs v w parts good.sound h in
+    goes-more old cs ds a v w (map wire_piece parts) len a.places good sound f len_is pieces (rw (none (upto (length old) cs), append-nil) refl)
 
 -- ---- what steps come to
 
@@ -194,22 +183,16 @@ ends-spent i [] = refl
 ends-spent zero (slot ∷ slots) = refl
 ends-spent (suc i) (slot ∷ slots) = ap (λ (es : List ℕ). slot.end ∷ es) (ends-spent i slots)
 
-pub usable-now : (old : List ℕ) (cs : List Chunk) (v : Encoder) → SoundAt old cs v → AreUsable v.bytes v.candidates
-usable-now old cs v s = (holds-now old cs v s).1
-
 pub record-undone : (old : List ℕ) (cs : List Chunk) (v w : Encoder) (r : WireRecord) (error : ProtoError) → SoundAt old cs v → EmitsRecord r v (Err error) w → w ≡ v
 record-undone old cs v w r error s h =
-    refused_records_undo r v w error s.end (usable-precede v.bytes v (sym s.end) (usable-now old cs v s)) h
+    refused_records_undo r v w error s.end (usable-precede v.bytes v (sym s.end) (holds-now old cs v s).1) h
 
 good-rolled : (old : List ℕ) (cs : List Chunk) (a : Account) (m u : Encoder) → Good old cs a m → Good old cs a (rolled_back m u)
 good-rolled old cs a m u good =
     let s = good.sound in
-    let sound : SoundAt old cs (rolled_back m u) = record {
-      bytes = s.bytes;
-      end = s.end;
-      holds = λ x h. let (stand, usable) = s.holds x h in (stand, All-filter (λ c. nat_lt c.0 m.offset) (IsUsefulIn x) m.candidates usable);
-    } in
-    record { sound = sound; len_is = good.len_is; pieces_are = good.pieces_are; places = good.places; agree = good.agree }
+    let holds : (x : List ℕ) → Begins old cs x → Standing x (length old) cs × AreUsable x (rolled_back m u).candidates =
+    λ x h. ((s.holds x h).0, All-filter (λ c. nat_lt c.0 m.offset) (IsUsefulIn x) m.candidates (s.holds x h).1) in
+    record { sound = record { bytes = s.bytes; end = s.end; holds = holds }; len_is = good.len_is; pieces_are = good.pieces_are; places = good.places; agree = good.agree }
 
 -- ---- each step
 
@@ -290,11 +273,11 @@ module _ (old : List ℕ) (cs : List Chunk) (a : Account) (v w : Encoder) (good 
       let s = good.sound in
       let (le, within, _, _) = (fits-fields r).done v w h.0.1 in
       let f = frame-fields r v (Ok tt) w s.end h.0.1 in
-      let (d, sound) = sound-record old cs v w r s h.0.1 h.0.0 (omega (arith, within, good.agree.small)) in
+      let (d, sound) = sound-wrote old cs v w (of_record v.encoding v.canonical r) s (lays-record r v w s.end h.0.1 h.0.0 (omega (arith, within, good.agree.small))) in
       let piece : record_piece v.encoding v.canonical r ≡ record_piece a.mode a.canonical r = rw (good.agree.mode, good.agree.canonical) refl in (
         (omega (arith, h.1, f.ends, within, good.agree.max), omega (arith, h.1, f.ends, le, good.len_is)),
         goes-more old cs (wrote (of_record v.encoding v.canonical r) d ∷ []) a v w (record_piece a.mode a.canonical r ∷ []) len a.places good sound f h.1
-            (ap (λ p. p ∷ []) piece) (no-places a.places [] refl),
+            (ap (λ p. p ∷ []) piece) (sym (append-nil _)),
       )
   step-record r (Refused error len) h =
       let same = record-undone old cs v w r error good.sound h.0 in
@@ -328,14 +311,13 @@ module _ (old : List ℕ) (cs : List Chunk) (a : Account) (v w : Encoder) (good 
       let why = refused-parts (item_parts m.encoding item) m u cause (as_item_parts item m u (Err cause) g.sound.end one) in
       let front : take count items ≡ first = ap (take count) split ∙ take_at first (item ∷ rest) count (sym many) in
       let back : drop count items ≡ item ∷ rest = ap (drop count) split ∙ drop_at first (item ∷ rest) count (sym many) in
-      let fails = refused-item a v w good.sound.end good.len_is good.agree.max count len item rest cause error error_is
-      (rw (sym g.agree.max ∙ good.agree.max, ← start, ← g.agree.mode) at why) in
+      let fails = refused-item a v w good.sound.end good.len_is good.agree.max count len item rest cause (rw (sym g.agree.max ∙ good.agree.max, ← start, ← g.agree.mode) at why) in
       let b = with_pieces a (map wire_piece parts) len in (
         (
           omega (arith, many, ap length split, length-append first (item ∷ rest)),
           omega (arith, done-parts parts v m emits, start, good.len_is, ap (λ xs. parts_size (items_parts a.mode xs)) front),
           parts-bounded a v w good.sound.end good.len_is good.agree.max parts m len emits (tells ∙ same),
-          subst (λ xs. ItemFails a count len xs error) (sym back) fails,
+          rw (back, error_is) fails,
         ),
         subst (λ xs. Goes old cs (with_pieces a (map wire_piece (items_parts a.mode xs)) len) w) (sym front)
             (goes-then old cs b b m w go (goes-same old go.chunks b (rolled_back m u) w (good-rolled old go.chunks b m u g) made)),
@@ -367,3 +349,26 @@ module _ (old : List ℕ) (cs : List Chunk) (a : Account) (v w : Encoder) (good 
   step (fill number value) reply h = step-fill number value (open_place number a.places) reply refl h
   step (write_record r) reply h = step-record r reply h
   step (write_items items) reply h = step-items items reply h
+
+-- ---- all steps in turn
+
+pub goes : (old : List ℕ) (cs : List Chunk) (a : Account) (v w : Encoder) (actions : List Action) (replies : List Reply) → Good old cs a v
+    → Runs a v actions replies w → RepliesTo a actions replies × Goes old cs (account_from a actions replies) w
+goes old cs a v w [] [] good h = (tt, goes-same old cs a v w good h)
+goes old cs a v w [] (reply ∷ replies) good h = absurd h
+goes old cs a v w (action ∷ actions) [] good h = absurd h
+goes old cs a v w (action ∷ actions) (reply ∷ replies) good h =
+    let (given, one) = step old cs a v h.0 good action reply h.1 in
+    let b = after a action reply in
+    let (others, rest) = goes old one.chunks b h.0 w actions replies one.good h.2 in
+    ((given, others), goes-then old cs b (account_from b actions replies) h.0 w one rest)
+
+-- a new encoder at the end of its buffer agrees with the opening account on no chunks
+pub good-beginning : (old : List ℕ) (candidates names : ℕ) → Good old [] (opening (length old)) (beginning old candidates names)
+good-beginning old candidates names = record {
+  sound = record { bytes = sym (append-nil old); end = refl; holds = λ x h. (tt, All-nil (IsUsefulIn x)) };
+  len_is = refl;
+  pieces_are = refl;
+  places = refl;
+  agree = record { max = refl; mode = refl; canonical = refl; small = omega arith };
+}

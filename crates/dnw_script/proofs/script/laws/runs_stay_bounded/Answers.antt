@@ -1,4 +1,4 @@
-use Rattle.dnw_script.proofs.Bounded.{items_of_scripts_stay_bounded, parts_of_scripts_stay_bounded, runs_stay_bounded}
+use Rattle.dnw_script.proofs.Running.{items_of_scripts_stay_bounded, parts_of_scripts_stay_bounded, runs_stay_bounded}
 use Rattle.dnw_script.proofs.script.laws.runs_stay_bounded.Goals as goal
 
 pub returns : goal.returns

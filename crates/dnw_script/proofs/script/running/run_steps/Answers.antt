@@ -16,9 +16,7 @@ loop-step-preserved c =
     let (has, few, room, count, space, lent) = c.loop-step.invariant in
     let v = value c.args.encoder.now in
     let w = value c.run_step-reply.new.encoder in
-    let next = has_run_more v (value c.loop-step.encoder) w c.args.steps.now c.loop-step.step-index c.step-item.result c.loop-step.replies.items
-    c.loop-step.places.items c.run_step-reply.new.places.items c.run_step-reply.result c.loop-step-test.true c.step-item.is has
-    c.run_step-reply.ensures.runs c.run_step-reply.ensures.tracks in (
+    let next = has_run_more c.args.steps.now c.run_step-reply.result c.loop-step-test.true c.step-item.is has c.run_step-reply.ensures.runs c.run_step-reply.ensures.tracks in (
       subst (λ rs. HasRun v (map action (take (c.loop-step.step-index + 1) c.args.steps.now)) rs w c.run_step-reply.new.places.items)
           (sym c.push_reserved.ensures.items) next,
       omega (arith, few, c.run_step-reply.ensures.few),

@@ -1,28 +1,20 @@
--- Names and their suffixes: which are candidates, and that they are read once a name is written.
-use Rattle.std.proofs.Common.{◌≡◌, ℕ, suc, ◌+◌, ◌-◌, ◌<◌, ◌≤◌, nat_lt, List, [], ◌∷◌, ◌++◌, length, take, get_or, Option, Some, None, true, refl, sym, ap, ◌∙◌, subst, add-zero, append_assoc, arith}
-use Rattle.std.specs.List.{All, AllByRecursion, Contains}
+-- A name that is written: what is kept of it, as candidates, and the bytes that it has.
+use Rattle.std.proofs.Common.{◌≡◌, ℕ, ◌+◌, ◌-◌, ◌<◌, ◌≤◌, nat_lt, List, [], ◌∷◌, ◌++◌, length, map, take, drop, get_or, Option, Some, None, true, false, refl, sym, ap, ◌∙◌, subst, add-zero, append_assoc, arith}
+use Rattle.std.specs.List.{All, Contains}
+use Rattle.std.specs.Char.{to_ascii_lowercase}
 use Rattle.std.proofs.lemmas.Bool.{cond_both, lt-ltb}
-use Rattle.std.proofs.lemmas.List.{append-nil, get_or-take, length-append, length-take}
-use Rattle.std.proofs.lemmas.List.Elements.{All-append, All-cons, All-contains, All-nil, All-take, All-weaker, Contains-append_right}
-use Rattle.std.proofs.Math.Nat.{add_assoc}
-use Rattle.dnw_encoder.specs.Encoder.{CandidatesPrecede, Encoder}
+use Rattle.std.proofs.lemmas.List.{append-nil, drop-append-le, drop_at, get_or-take, length-append, length-map, length-take, take-append-drop, take-append-le, take_at}
+use Rattle.std.proofs.lemmas.List.Elements.{All-append, All-cons, All-nil, All-take, All-weaker, Contains-append_right}
+use Rattle.dnw_base.specs.Limits.{pointer_reach}
+use Rattle.dnw_base.specs.Names.{encoded_size, labels_wire, wire}
 use Rattle.dnw_candidates.specs.Candidates.{Candidate, suffixes}
-use Rattle.dnw_encoder.specs.EmittedName.{Share, emitted, kept, newly_kept, Chooses, form, pointer_to}
 use Rattle.dnw_candidates.proofs.CandidateLists.{kept_all, length-labels_wire}
+use Rattle.dnw_encoder.specs.declared.encoder.modes.NameEncoding.{NameEncoding}
+use Rattle.dnw_encoder.specs.declared.encoder.modes.NameEncoding.TheVariants.{Compressed, Uncompressed, UncompressedLowercase}
+use Rattle.dnw_encoder.specs.Encoder.{CandidatesPrecede, Encoder}
+use Rattle.dnw_encoder.specs.EmittedName.{Chooses, Share, compresses, emitted, form, in_mode, is_compressed, kept, newly_kept, pointer_to}
 use Rattle.dnw_encoder.proofs.Emission.{labels_wire-append, length-suffixes}
 use Rattle.dnw_encoder.proofs.Suffixes.{kept-some, length-all}
-use Rattle.dnw_base.specs.Limits.{pointer_reach}
-use Rattle.dnw_base.specs.Names.{labels_wire, AreLabels, encoded_size, wire}
-use Rattle.dnw_base.specs.Labels.{IsLabel}
-use Rattle.dnw_base.proofs.Wires.{length-wire}
-use Rattle.dnw_form.specs.Inside.WireBytes.{labels_of}
-use Rattle.dnw_form.proofs.Wires.{labels_of-wire}
-use Rattle.dnw_reading.specs.Reading.{Reads, NameAt}
-use Rattle.dnw_reading.proofs.Back.{Reads-wire}
-use Rattle.dnw_reading.proofs.Counts.{Reads-labels, Reads-own}
-use Rattle.dnw_reading.proofs.Stand.{Reads-append}
-use Rattle.dnw_encoder.proofs.NameBack.{Reads-shared, each_back, each_front}
-use Rattle.dnw_script.specs.Runs.{IsUsefulIn}
 
 -- ---- labels and suffixes
 
@@ -34,10 +26,17 @@ pub size-back : (ls front back : List (List ℕ)) → ls ≡ front ++ back → e
 size-back ls front back split =
     omega (arith, length-all ls, length-all back, ap (λ (x : List (List ℕ)). length (labels_wire x)) split, length-labels front back)
 
--- labels are known by their bytes
-pub same_labels : (xs ys : List (List ℕ)) → AllByRecursion IsLabel xs → AllByRecursion IsLabel ys → labels_wire xs ≡ labels_wire ys → xs ≡ ys
-same_labels xs ys all each e =
-    sym (labels_of-wire xs all) ∙ (ap (λ (b : List ℕ). labels_of (b ++ 0 ∷ [])) e ∙ labels_of-wire ys each)
+-- of two suffixes the one that begins later is the other's
+pub suffix-within : (f b g c : List (List ℕ)) → f ++ b ≡ g ++ c → length g ≤ length f → (f ≡ g ++ drop (length g) f) × (c ≡ drop (length g) f ++ b)
+suffix-within f b g c e le =
+    let n = length g in (
+      sym (take-append-drop n f) ∙ ap (λ (xs : List (List ℕ)). xs ++ drop n f) (sym (take-append-le n f b le) ∙ (ap (take n) e ∙ take_at g c n refl)),
+      sym (drop_at g c n refl) ∙ (ap (drop n) (sym e) ∙ drop-append-le n f b le),
+    )
+
+-- a suffix that begins later is no longer
+pub back-least : (f b g c : List (List ℕ)) → f ++ b ≡ g ++ c → length f ≤ length g → encoded_size c ≤ encoded_size b
+back-least f b g c e le = omega (arith, size-back b (drop (length f) g) c (suffix-within g c f b (sym e) le).1)
 
 -- a suffix is at the number of labels before it
 suffix-at : (p : ℕ) (front : List (List ℕ)) (l : List ℕ) (back : List (List ℕ)) (d : Candidate)
@@ -55,32 +54,6 @@ each-suffix P p (l ∷ front) back each =
     let on : p + length (labels_wire (l ∷ f)) ≡ p + 1 + length l + length (labels_wire f) = omega (arith, length-labels_wire l f) in
     subst (λ q. P (q, labels_wire (k ∷ (m ++ back)))) on (each (l ∷ f) k m (ap (λ (xs : List (List ℕ)). l ∷ xs) is))))
 
--- ---- what is usable
-
--- The candidates are usable in a message.
-abbrev pub AreUsable : List ℕ → List Candidate → Type 0
-AreUsable x cs = All (IsUsefulIn x) cs
-
--- They are before its end, and stay usable when bytes follow.
-pub usable-precede : (y : List ℕ) (v : Encoder) → length y ≡ v.offset → AreUsable y v.candidates → CandidatesPrecede v
-usable-precede y v size = All-weaker (IsUsefulIn y) (λ c. c.0 < v.offset) (λ c u. let own = Reads-own u.name.reads in omega (arith, own, size)) v.candidates
-
-pub usable-append : (y more : List ℕ) (cs : List Candidate) → AreUsable y cs → AreUsable (y ++ more) cs
-usable-append y more = All-weaker (IsUsefulIn y) (IsUsefulIn (y ++ more)) (λ c u. record {
-  labels = u.labels;
-  bytes = u.bytes;
-  end = u.end;
-  pointers = u.pointers;
-  name = record { reads = Reads-append more u.name.reads; fits = u.name.fits };
-})
-
--- one that has the bytes of labels is read as these labels
-pub usable-read : (y : List ℕ) (cs : List Candidate) (offset : ℕ) (ls : List (List ℕ)) → AreUsable y cs → AllByRecursion IsLabel ls
-    → Contains cs (offset, labels_wire ls) → (end : ℕ) × (pointers : ℕ) × NameAt y offset ls end pointers
-usable-read y cs offset ls usable are has =
-    let u = All-contains (IsUsefulIn y) cs (offset, labels_wire ls) usable has in
-    (u.end, u.pointers, rw (same_labels u.labels ls (Reads-labels u.name.reads) are (sym u.bytes)) at u.name)
-
 -- ---- what is kept of a name
 
 -- the labels that are written, and those that a pointer stands for
@@ -92,7 +65,7 @@ abbrev pub back_of : Option Share → List (List ℕ)
 back_of None = []
 back_of (Some share) = share.back
 
-both_parts : (v : Encoder) (ls : List (List ℕ)) (choice : Option Share) → Chooses v ls choice → ls ≡ front_of ls choice ++ back_of choice
+pub both_parts : (v : Encoder) (ls : List (List ℕ)) (choice : Option Share) → Chooses v ls choice → ls ≡ front_of ls choice ++ back_of choice
 both_parts v ls None chosen = sym (append-nil ls)
 both_parts v ls (Some share) (_, points) = points.parts
 
@@ -158,54 +131,32 @@ emitted-candidates v ls (Some share) chosen precede =
     (each-kept v ls (Some share) chosen (λ c. c.0 < o) (λ f l m is.
     omega (arith, ap (λ (xs : List (List ℕ)). length (labels_wire xs)) is, length-labels f (l ∷ m), length-labels_wire l m)))))
 
--- ---- what is read of a name
+-- ---- what is written of it
 
 -- these labels of the front, and what follows them
-abbrev tail_of : List (List ℕ) → Option Share → List ℕ
+abbrev pub tail_of : List (List ℕ) → Option Share → List ℕ
 tail_of m None = wire m
 tail_of m (Some share) = labels_wire m ++ pointer_to share.target
 
-form-tail : (ls : List (List ℕ)) (choice : Option Share) (f m : List (List ℕ)) → front_of ls choice ≡ f ++ m → form ls choice ≡ labels_wire f ++ tail_of m choice
+pub form-tail : (ls : List (List ℕ)) (choice : Option Share) (f m : List (List ℕ)) → front_of ls choice ≡ f ++ m → form ls choice ≡ labels_wire f ++ tail_of m choice
 form-tail ls None f m is = rw (is, labels_wire-append) (append_assoc (labels_wire f) (labels_wire m) (0 ∷ []))
 form-tail ls (Some share) f m is = rw (is, labels_wire-append) (append_assoc (labels_wire f) (labels_wire m) (pointer_to share.target))
 
--- They are read after bytes in which the candidates are usable.
-tail-read : (y more : List ℕ) (v : Encoder) (ls : List (List ℕ)) (choice : Option Share) (m : List (List ℕ)) → Chooses v ls choice → AreUsable y v.candidates
-    → AllByRecursion IsLabel (m ++ back_of choice)
-    → (k : ℕ) × Reads (y ++ (tail_of m choice ++ more)) (length y) (length y) None (m ++ back_of choice) (length y + length (tail_of m choice)) k
-tail-read y more v ls None m chosen usable each =
-    let read = Reads-wire (y ++ (wire m ++ more)) y more m (length y) (length y) (length y + length (wire m)) refl (omega (arith, length-wire m)) refl (each_front m [] each) in
-    (0, rw append-nil read)
-tail-read y more v ls (Some share) m chosen usable each =
-    let (end, pointers, name) = usable-read y v.candidates share.target share.back usable (each_back m share.back each) (target-has v ls share chosen) in
-    let read = Reads-shared y more m share.back share.target end pointers (each_front m share.back each) name.reads in
-    (suc pointers, rw (append_assoc, length-append, ← add_assoc) read)
+-- a name counts once at most, whole or with a pointer
+pub emitted-names : (v : Encoder) (ls : List (List ℕ)) (choice : Option Share) → (emitted v ls choice).names ≤ v.names + 1
+emitted-names v ls None = cond_both (compresses v) (v.names + 1) v.names (λ n. n ≤ v.names + 1) (λ e. omega arith) (λ e. omega arith)
+emitted-names v ls (Some share) = cond_both (compresses v) (v.names + 1) v.names (λ n. n ≤ v.names + 1) (λ e. omega arith) (λ e. omega arith)
 
--- Each suffix that begins within the front is there.
-pub suffix-read : (y more : List ℕ) (v : Encoder) (ls : List (List ℕ)) (choice : Option Share) (f m : List (List ℕ)) → AreLabels ls → Chooses v ls choice
-    → AreUsable y v.candidates → front_of ls choice ≡ f ++ m
-    → (k : ℕ) × NameAt (y ++ (form ls choice ++ more)) (length y + length (labels_wire f)) (m ++ back_of choice) (length y + length (form ls choice)) k
-suffix-read y more v ls choice f m are chosen usable front_is =
-    let rest = m ++ back_of choice in
-    let split = suffix-split v ls choice chosen f m front_is in
-    let each = each_back f rest (rw split at are.each) in
-    let (k, read) = tail-read (y ++ labels_wire f) more v ls choice m chosen (usable-append y (labels_wire f) v.candidates usable) each in
-    (k, record { reads = rw (form-tail ls choice f m front_is) (simp (length-append, append_assoc, add_assoc) (simp (length-append, append_assoc, add_assoc) at read)); fits = omega (arith, are.fit, size-back ls f rest split) })
+-- ---- what its mode makes of it
 
--- So the candidates are usable once the name is written.
-pub usable-emitted : (y more : List ℕ) (v : Encoder) (ls : List (List ℕ)) (choice : Option Share) → length y ≡ v.offset → AreLabels ls → Chooses v ls choice
-    → AreUsable y v.candidates → AreUsable (y ++ (form ls choice ++ more)) (emitted v ls choice).candidates
-usable-emitted y more v ls choice size are chosen usable =
-    let x = y ++ (form ls choice ++ more) in
-    rw (emitted-candidates v ls choice chosen (usable-precede y v size usable))
-    (All-append (IsUsefulIn x) v.candidates (newly_kept v ls choice) (usable-append y (form ls choice ++ more) v.candidates usable)
-    (each-kept v ls choice chosen (IsUsefulIn x) (λ f l m front_is.
-    let (k, read) = suffix-read y more v ls choice f (l ∷ m) are chosen usable front_is in
-    record { labels = l ∷ (m ++ back_of choice); bytes = refl; end = v.offset + length (form ls choice); pointers = k; name = rw size at read })))
+-- a mode leaves the number of labels
+pub length-in_mode : (mode : NameEncoding) (ls : List (List ℕ)) → length (in_mode mode ls) ≡ length ls
+length-in_mode UncompressedLowercase ls = length-map ls (map to_ascii_lowercase)
+length-in_mode Compressed ls = refl
+length-in_mode Uncompressed ls = refl
 
--- and the name is read
-pub name-read : (y more : List ℕ) (v : Encoder) (ls : List (List ℕ)) (choice : Option Share) → AreLabels ls → Chooses v ls choice
-    → AreUsable y v.candidates → (k : ℕ) × NameAt (y ++ (form ls choice ++ more)) (length y) ls (length y + length (form ls choice)) k
-name-read y more v ls choice are chosen usable =
-    let (k, read) = suffix-read y more v ls choice [] (front_of ls choice) are chosen usable refl in
-    (k, rw (add-zero, ← both_parts v ls choice chosen) at read)
+-- compression leaves the labels as they are
+pub in_mode-compressed : (mode : NameEncoding) (ls : List (List ℕ)) → is_compressed mode ≡ true → in_mode mode ls ≡ ls
+in_mode-compressed Compressed ls e = refl
+in_mode-compressed Uncompressed ls e = refl
+in_mode-compressed UncompressedLowercase ls e = absurd (let no : false ≡ true = e in cc)
