@@ -74,14 +74,6 @@ pub some_written : (v w : Encoder) (items : List Item) (s t : Iter Item) (error 
     → (h : EmitsItems EmitsLent iter_steps s v (Err error) w t) → count ≡ length h.0
     → RunsItems v items (Items count (Some error) (length w.bytes)) w
 some_written v w items s t error count all (xs, x, m, (n, ys, step), turn, one) counted =
-    let split : items ≡ owned xs ++ x.now ∷ iter_rest t = sym all ∙ (yielded s n xs ys ∙ ap (λ (rest : List Item). owned xs ++ rest) step) in (
-      owned xs,
-      x.now,
-      iter_rest t,
-      m,
-      split,
-      counted ∙ sym (length-owned xs),
-      in_turn v m xs turn,
-      subst (λ k. EmitsItem EmitsScriptItem x.now k m (Err error) w) (sym counted) one,
-      refl,
-    )
+    let split : items ≡ owned xs ++ x.now ∷ iter_rest t = sym all ∙ (yielded s n xs ys ∙ ap (λ (rest : List Item). owned xs ++ rest) step) in
+    let last = subst (λ k. EmitsItem EmitsScriptItem x.now k m (Err error) w) (sym counted) one in
+    (owned xs, x.now, iter_rest t, m, split, counted ∙ sym (length-owned xs), in_turn v m xs turn, last, refl)

@@ -1,5 +1,5 @@
 -- The placeholders that a run keeps are those that its account has.
-use Rattle.std.proofs.Common.{◌≡◌, ℕ, zero, suc, ◌+◌, true, if◌then◌else◌, List, [], ◌∷◌, ◌++◌, length, get_or, set, Option, Some, None, refl, sym, ap, ◌∙◌, subst, arith}
+use Rattle.std.proofs.Common.{◌≡◌, ℕ, zero, suc, ◌+◌, true, List, [], ◌∷◌, ◌++◌, length, get_or, set, Option, Some, None, refl, sym, ap, ◌∙◌, subst, arith}
 use Rattle.std.specs.List.{AllByRecursion}
 use Rattle.std.proofs.lemmas.List.{set-get_or}
 use Rattle.dnw_encoder.specs.Encoder.{Encoder, TakesRoom, reserved}
@@ -9,17 +9,14 @@ use Rattle.dnw_script.specs.declared.script.Reply.TheVariants.{Done, Refused}
 use Rattle.dnw_script.specs.Script.{fill, reserve}
 use Rattle.dnw_script.specs.Pieces.{Account, Slot, after, spent}
 use Rattle.dnw_script.specs.Replies.{open_place}
-use Rattle.dnw_script.specs.Runs.{Fills, RunsFill, GivesReply}
+use Rattle.dnw_script.specs.Runs.{RunsFill, GivesReply}
 use Rattle.dnw_script.specs.Inside.Running.{FillsKept, HoldsPlace, KeepsPlace, Tracks}
 
 pub open_kept : (n : ℕ) (places : List (Option ℕ)) (slots : List Slot) (v : Encoder) (value : ℕ) (reply : Reply) (w : Encoder)
     → Tracks places slots → FillsKept v (get_or places n None) value reply w → RunsFill v (open_place n slots) value reply w
 open_kept n [] [] v value reply w t h = h
-open_kept zero (None ∷ places) (slot ∷ slots) v value reply w t h =
-    subst (λ b. RunsFill v (if b then Some slot.end else None) value reply w) (sym t.0) h
-open_kept zero (Some p ∷ places) (slot ∷ slots) v value reply w t h =
-    subst (λ b. RunsFill v (if b then Some slot.end else None) value reply w) (sym t.0.0)
-    (subst (λ e. GivesReply (Fills v e value) reply w) (sym t.0.1) h)
+open_kept zero (None ∷ places) (slot ∷ slots) v value reply w t h = rw t.0 h
+open_kept zero (Some p ∷ places) (slot ∷ slots) v value reply w t h = rw (t.0.0, t.0.1) h
 open_kept (suc n) (place ∷ places) (slot ∷ slots) v value reply w t h = open_kept n places slots v value reply w t.1 h
 open_kept n places slots v value reply w t h = absurd t
 
@@ -34,8 +31,7 @@ tracks_by : (place : Option ℕ) (n value : ℕ) (places : List (Option ℕ)) (a
     → get_or places n None ≡ place → Tracks places a.places → FillsKept v place value reply w
     → Tracks (set places n None) (after a (fill n value) reply).places
 tracks_by None n value places a v reply w e t h =
-    let same : set places n None ≡ places = ap (set places n) (sym e) ∙ set-get_or places n None in
-    subst (λ r. Tracks (set places n None) (after a (fill n value) r).places) (sym h.0) (subst (λ ps. Tracks ps a.places) (sym same) t)
+    let same : set places n None ≡ places = ap (set places n) (sym e) ∙ set-get_or places n None in rw (h.0, same) t
 tracks_by (Some p) n value places a v (Done len) w e t h = tracks_spent n places a.places t
 tracks_by (Some p) n value places a v (Refused error len) w e t h = tracks_spent n places a.places t
 tracks_by (Some p) n value places a v reply w e t h = absurd h

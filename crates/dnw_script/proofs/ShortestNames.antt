@@ -240,24 +240,12 @@ module _ (old : List ℕ) (a : Account) (v : Encoder) (labels many : ℕ) (k : K
         reached = inr (share.front, share.back, points.parts, points.some, shared-ends old a v labels many k ls share are (c, points), size);
       }
 
--- the next name is as short as can be
-name-shortest : (old : List ℕ) (a : Account) (v : Encoder) (labels : ℕ) (name : NameValue) (len : ℕ) (w : Encoder) → Knows old a v labels 1
-    → is_compressed a.mode ≡ true → a.len + max_name ≤ pointer_reach → GivesReply (EmitsPart (Name name) v) (Done len) w → IsShortest a.pieces name.labels a.len len
-name-shortest old a v labels name len w k compressed near h =
-    let g = k.good in
-    let mode : is_compressed v.encoding ≡ true = ap is_compressed (sym g.agree.mode) ∙ compressed in
-    let counts : compresses v ≡ true = compresses-within v mode (omega (arith, k.names)) in
-    let s = shortest old a v labels 1 k near (in_mode v.encoding name.labels) h.0.choice w counts h.0.are_labels h.0.chooses h.0.written_as.1 in
-    let ends : w.offset ≡ len = (frame-name name v (Ok tt) w g.sound.end h.0).ends ∙ sym h.1 in
-    rw (← in_mode-compressed v.encoding name.labels mode, g.len_is, ← ends) s
-
 -- ---- from the beginning
 
 pub names_are_shortest : RunsAreShortest
 names_are_shortest old candidates names actions replies w h first name rest given others len split told_is e compressed are few_names few_labels near =
-    let a = opening (length old) in
     let v = beginning old candidates names in
-    let start : Knows old a v (count_labels first + length name.labels) (count_names first + 1) = record {
+    let start : Knows old (opening (length old)) v (count_labels first + length name.labels) (count_names first + 1) = record {
       chunks = [];
       good = good-beginning old candidates names;
       few = omega (arith, few_labels);
@@ -265,5 +253,12 @@ names_are_shortest old candidates names actions replies w h first name rest give
       spelled = All-nil (IsSpelled []);
       kept = λ near back some ends. let none = ends.1.1 in absurd (omega arith);
     } in
-    let (m, knows, (x, one, more)) = runs-come old a v first (write (Name name) ∷ rest) given (Done len ∷ others) w _ _ start are e (rw (split, told_is) at h) in
-    name-shortest old (account_from a first given) m _ name len x knows compressed near one
+    let (m, k, (x, one, more)) =
+    runs-come old (opening (length old)) v first (write (Name name) ∷ rest) given (Done len ∷ others) w _ _ start are e (rw (split, told_is) at h) in
+    let a = account_from (opening (length old)) first given in
+    let g = k.good in
+    let mode : is_compressed m.encoding ≡ true = ap is_compressed (sym g.agree.mode) ∙ compressed in
+    let counts : compresses m ≡ true = compresses-within m mode (omega (arith, k.names)) in
+    let s = shortest old a m (length name.labels) 1 k near (in_mode m.encoding name.labels) one.0.choice x counts one.0.are_labels one.0.chooses one.0.written_as.1 in
+    let ends : x.offset ≡ len = (frame-name name m (Ok tt) x g.sound.end one.0).ends ∙ sym one.1 in
+    rw (in_mode-compressed m.encoding name.labels mode, ← g.len_is, ends) at s

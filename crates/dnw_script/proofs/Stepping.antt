@@ -1,5 +1,5 @@
 -- Each step of a run has its reply, and keeps what holds of account and encoder; and so do all.
-use Rattle.std.proofs.Common.{◌≡◌, ℕ, Bool, zero, suc, ◌+◌, ◌-◌, ◌≤◌, max, nat_lt, true, Option, Some, None, Ok, Err, List, [], ◌∷◌, ◌++◌, length, map, take, drop, slice_get, inl, inr, refl, sym, ap, ◌∙◌, subst, arith}
+use Rattle.std.proofs.Common.{◌≡◌, ℕ, Bool, zero, suc, ◌+◌, ◌-◌, ◌<◌, ◌≤◌, max, nat_lt, true, Option, Some, None, Ok, Err, List, [], ◌∷◌, ◌++◌, length, map, take, drop, slice_get, inl, inr, refl, sym, ap, ◌∙◌, subst, arith}
 use Rattle.std.specs.Int.{w16, to_be_bytes}
 use Rattle.std.proofs.lemmas.Bool.{cond_both}
 use Rattle.std.proofs.lemmas.List.Elements.{All-filter, All-nil}
@@ -8,7 +8,7 @@ use Rattle.dnw_error.specs.declared.error.ProtoError.{ProtoError}
 use Rattle.dnw_error.specs.declared.error.ProtoError.TheVariants.{MaxBufferSizeExceeded, Memory, CharacterDataTooLong}
 use Rattle.dnw_base.specs.Limits.{max_message}
 use Rattle.dnw_encoder.specs.Encoder.{Encoder, filled, moved_to, reserved, TakesRoom, Writes, WritesText, written}
-use Rattle.dnw_encoder.specs.Emitting.{Frame, rolled_back, list_error}
+use Rattle.dnw_encoder.specs.Emitting.{Frame, InTurn, rolled_back, list_error}
 use Rattle.dnw_record.specs.declared.record.WireRecord.{WireRecord}
 use Rattle.dnw_record.specs.Parts.{EmitsWirePart, EmitsWireParts, parts_size, WirePart, bytes_part, in_encoding, name_part, text_part}
 use Rattle.dnw_record.specs.RecordFrames.{frame-fields, frame-reserved, frame-wire_part}
@@ -27,9 +27,9 @@ use Rattle.dnw_script.specs.declared.script.Part.{Part}
 use Rattle.dnw_script.specs.declared.script.Item.{Item}
 use Rattle.dnw_script.specs.declared.script.Reply.{Reply}
 use Rattle.dnw_script.specs.declared.script.Reply.TheVariants.{Done, Refused, Items}
-use Rattle.dnw_script.specs.Script.{Action, EmitsPart, write, set_max, set_encoding, set_canonical, reserve, fill, write_record, write_items, item_parts, items_parts, wire_part, action}
+use Rattle.dnw_script.specs.Script.{Action, EmitsPart, EmitsScriptItem, write, set_max, set_encoding, set_canonical, reserve, fill, write_record, write_items, item_parts, items_parts, wire_part, action}
 use Rattle.dnw_script.specs.Pieces.{Account, Piece, Slot, place_piece, record_piece, after, filled_in, spent, wire_piece, with_pieces, opening, account_from}
-use Rattle.dnw_script.specs.Replies.{ItemFails, ReplyTo, ReplyToFill, ReplyToItems, ReplyToRecord, open_place, ReplyToBytes, ReplyToName, ReplyToPart, ReplyToText, RepliesTo}
+use Rattle.dnw_script.specs.Replies.{ItemFails, ReplyTo, ReplyToFill, ReplyToRecord, open_place, ReplyToBytes, ReplyToName, ReplyToPart, ReplyToText, RepliesTo}
 use Rattle.dnw_script.specs.Runs.{GivesReply, IsUsefulIn, RunsFill, RunsItems, RunsStep, Runs, beginning}
 use Rattle.dnw_script.proofs.Chunks.{Begins, Chunk, Standing, ends-append, ends_of, of_record, piece_of, place, Splits, split_at, upto, upto-filled, wrote}
 use Rattle.dnw_script.proofs.Standing.{AreUsable, SoundAt, holds-now, lays-record, sound-filled, sound-parts, sound-reserved, sound-upto, sound-wrote, usable-precede}
@@ -92,13 +92,13 @@ module _ (a : Account) (v w : Encoder) (at_end : v.offset ≡ length v.bytes) (l
   refused-record size len error same (inl memory) = rw memory same
   refused-record size len error same (inr (is, less)) = rw is (omega (arith, less), sym max_is, same)
 
-  -- why an item is refused that begins at the length
-  refused-item : (count start : ℕ) (item : Item) (rest : List Item) (cause : ProtoError) → Refuses v.max_size start (item_parts a.mode item) cause
-      → ItemFails a count start (item ∷ rest) (list_error count cause)
-  refused-item count start item rest (MaxBufferSizeExceeded size) h = (refl, omega (arith, h.1))
-  refused-item count start item rest (CharacterDataTooLong max n) h = h
-  refused-item count start item rest Memory h = tt
-  refused-item count start item rest cause h = absurd h
+-- why an item is refused that begins at the length
+refused-item : (a : Account) (count start : ℕ) (item : Item) (rest : List Item) (cause : ProtoError) → Refuses a.max start (item_parts a.mode item) cause
+    → ItemFails a count start (item ∷ rest) (list_error count cause)
+refused-item a count start item rest (MaxBufferSizeExceeded size) h = (refl, h.1)
+refused-item a count start item rest (CharacterDataTooLong max n) h = h
+refused-item a count start item rest Memory h = tt
+refused-item a count start item rest cause h = absurd h
 
 -- ---- account and encoder
 
@@ -267,8 +267,7 @@ module _ (old : List ℕ) (cs : List Chunk) (a : Account) (v w : Encoder) (good 
       let there = ap (λ (es : List ℕ). slice_get es number) (sym good.places) ∙ open_at number a.places end here in
       fill-split number value end reply (split_at number value (length old) cs end there) h
 
-  step-record : (r : WireRecord) (reply : Reply) → GivesReply (EmitsRecord r v) reply w
-      → ReplyToRecord a (record_size r) reply × Goes old cs (after a (write_record r) reply) w
+  step-record : (r : WireRecord) (reply : Reply) → GivesReply (EmitsRecord r v) reply w → Steps (write_record r) reply
   step-record r (Done len) h =
       let s = good.sound in
       let (le, within, _, _) = (fits-fields r).done v w h.0.1 in
@@ -287,48 +286,42 @@ module _ (old : List ℕ) (cs : List Chunk) (a : Account) (v w : Encoder) (good 
       )
   step-record r reply h = absurd h
 
-  step-items : (items : List Item) (reply : Reply) → RunsItems v items reply w
-      → ReplyToItems a items reply × Goes old cs (after a (write_items items) reply) w
-  step-items items (Items count None len) h =
+  -- the first items are written
+  items-first : (items : List Item) (m : Encoder) (len : ℕ) → InTurn EmitsScriptItem v items m → len ≡ length m.bytes
+      → (len ≤ a.len + parts_size (items_parts a.mode items)) × (len ≤ max a.len a.max)
+      × Goes old cs (with_pieces a (map wire_piece (items_parts a.mode items)) len) m
+  items-first items m len h is =
       let parts = items_parts a.mode items in
-      let emits = as_items_parts a.mode items v w good.sound.end (sym good.agree.mode) h.0 in
-      let go = goes-parts old cs a v w parts len good emits h.2 in (
-        (
-          h.1,
-          omega (arith, done-parts parts v w emits, h.2, go.good.sound.end, good.len_is),
-          parts-bounded a v w good.sound.end good.len_is good.agree.max parts w len emits h.2,
-        ),
-        subst (λ xs. Goes old cs (with_pieces a (map wire_piece (items_parts a.mode xs)) len) w) (sym (take_all count items (omega (arith, h.1)))) go,
-      )
+      let emits = as_items_parts a.mode items v m good.sound.end (sym good.agree.mode) h in
+      let go = goes-parts old cs a v m parts len good emits is in
+      let most = parts-bounded a v w good.sound.end good.len_is good.agree.max parts m len emits is in
+      (omega (arith, done-parts parts v m emits, is, go.good.sound.end, good.len_is), most, go)
+
+  step-items : (items : List Item) (reply : Reply) → RunsItems v items reply w → Steps (write_items items) reply
+  step-items items (Items count None len) h =
+      let (least, most, go) = items-first items w len h.0 h.2 in
+      rw (take_all count items (omega (arith, h.1))) ((h.1, least, most), go)
   step-items items (Items count (Some error) len) h =
       let (first, item, rest, m, split, many, in_turn, (u, cause, one, made, error_is), tells) = h in
-      let parts = items_parts a.mode first in
-      let emits = as_items_parts a.mode first v m good.sound.end (sym good.agree.mode) in_turn in
-      let same : length w.bytes ≡ length m.bytes = ap (λ (x : Encoder). length x.bytes) made in
-      let go = goes-parts old cs a v m parts len good emits (tells ∙ same) in
+      let ended : len ≡ length m.bytes = tells ∙ ap (λ (x : Encoder). length x.bytes) made in
+      let (least, most, go) = items-first first m len in_turn ended in
       let g = go.good in
-      let start : len ≡ m.offset = tells ∙ (same ∙ sym g.sound.end) in
+      let start : len ≡ m.offset = ended ∙ sym g.sound.end in
       let why = refused-parts (item_parts m.encoding item) m u cause (as_item_parts item m u (Err cause) g.sound.end one) in
       let front : take count items ≡ first = ap (take count) split ∙ take_at first (item ∷ rest) count (sym many) in
       let back : drop count items ≡ item ∷ rest = ap (drop count) split ∙ drop_at first (item ∷ rest) count (sym many) in
-      let fails = refused-item a v w good.sound.end good.len_is good.agree.max count len item rest cause (rw (sym g.agree.max ∙ good.agree.max, ← start, ← g.agree.mode) at why) in
-      let b = with_pieces a (map wire_piece parts) len in (
-        (
-          omega (arith, many, ap length split, length-append first (item ∷ rest)),
-          omega (arith, done-parts parts v m emits, start, good.len_is, ap (λ xs. parts_size (items_parts a.mode xs)) front),
-          parts-bounded a v w good.sound.end good.len_is good.agree.max parts m len emits (tells ∙ same),
-          rw (back, error_is) fails,
-        ),
-        subst (λ xs. Goes old cs (with_pieces a (map wire_piece (items_parts a.mode xs)) len) w) (sym front)
-            (goes-then old cs b b m w go (goes-same old go.chunks b (rolled_back m u) w (good-rolled old go.chunks b m u g) made)),
-      )
+      let fails = refused-item a count len item rest cause (rw (sym g.agree.max, ← start, ← g.agree.mode) at why) in
+      let few : count < length items = omega (arith, many, ap length split, length-append first (item ∷ rest)) in
+      let b = with_pieces a (map wire_piece (items_parts a.mode first)) len in
+      let gone = goes-then old cs b b m w go (goes-same old go.chunks b (rolled_back m u) w (good-rolled old go.chunks b m u g) made) in
+      rw (front, back, error_is) ((few, least, most, fails), gone)
   step-items items reply h = absurd h
 
   -- other settings leave the length, the pieces and the placeholders
-  step-set : (x : ℕ) (m : NameEncoding) (c : Bool) (y : ℕ) (n : NameEncoding) (d : Bool)
+  step-set : {x : ℕ} {m : NameEncoding} {c : Bool} {y : ℕ} {n : NameEncoding} {d : Bool}
       → Agrees (record a { max = x; mode = m; canonical = c }) (record v { max_size = y; encoding = n; canonical = d })
       → w ≡ record v { max_size = y; encoding = n; canonical = d } → (length w.bytes ≡ a.len) × Goes old cs (record a { max = x; mode = m; canonical = c }) w
-  step-set x m c y n d agree made =
+  step-set {x} {m} {c} {y} {n} {d} agree made =
       let set : Good old cs (record a { max = x; mode = m; canonical = c }) (record v { max_size = y; encoding = n; canonical = d }) =
       record { sound = good.sound; len_is = good.len_is; pieces_are = good.pieces_are; places = good.places; agree = agree } in
       (omega (arith, ap (λ (x : Encoder). length x.bytes) made, good.sound.end, good.len_is), goes-same old cs _ _ w set made)
@@ -339,11 +332,11 @@ module _ (old : List ℕ) (cs : List Chunk) (a : Account) (v w : Encoder) (good 
       let wire = subst (λ m. GivesReply (EmitsWirePart (wire_part m part) v) reply w) (sym good.agree.mode) (as_wire part v w reply s.end h) in
       (reply-part a v w s.end good.len_is good.agree.max (wire_part a.mode part) reply wire, goes-write part reply wire)
   step (set_max size) reply h =
-      rw h.0 (step-set size a.mode a.canonical size v.encoding v.canonical (record { max = refl; mode = good.agree.mode; canonical = good.agree.canonical; small = h.2 }) h.1)
+      rw h.0 (step-set (record { max = refl; mode = good.agree.mode; canonical = good.agree.canonical; small = h.2 }) h.1)
   step (set_encoding m) reply h =
-      rw h.0 (step-set a.max m a.canonical v.max_size m v.canonical (record { max = good.agree.max; mode = refl; canonical = good.agree.canonical; small = good.agree.small }) h.1)
+      rw h.0 (step-set (record { max = good.agree.max; mode = refl; canonical = good.agree.canonical; small = good.agree.small }) h.1)
   step (set_canonical c) reply h =
-      rw h.0 (step-set a.max a.mode c v.max_size v.encoding c (record { max = good.agree.max; mode = good.agree.mode; canonical = refl; small = good.agree.small }) h.1)
+      rw h.0 (step-set (record { max = good.agree.max; mode = good.agree.mode; canonical = refl; small = good.agree.small }) h.1)
   step reserve reply h =
       (reply-bytes a v w good.sound.end good.len_is good.agree.max (reserved v 2) 2 reply (sym (frame-reserved v good.sound.end).ends) h, goes-reserve reply h)
   step (fill number value) reply h = step-fill number value (open_place number a.places) reply refl h
