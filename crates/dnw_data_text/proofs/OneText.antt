@@ -23,7 +23,7 @@ use Rattle.dnw_field_text.specs.Times.{IsDateText, IsTimeText}
 use Rattle.dnw_field_text.proofs.ComeBack.{base64}
 use Rattle.dnw_svcb_text.specs.Params.{ParamValue, in_key_order, params_wire}
 use Rattle.dnw_svcb_text.proofs.Steps.{one-word as one-param}
-use Rattle.dnw_word_text.specs.FieldWires.{field_wire}
+use Rattle.dnw_data.specs.FieldWires.{field_wire}
 use Rattle.dnw_word_text.specs.ParamLists.{AreParamWords}
 use Rattle.dnw_word_text.specs.TypeLists.{AreTypeWords}
 use Rattle.dnw_word_text.specs.Words.{after_spaces, after_word, joined, word}
