@@ -146,7 +146,7 @@ pub use Rattle.dnw_svcb_text.specs.ParamTexts.{param_text, params_text}
 pub use Rattle.dnw_svcb_text.specs.ParamWords.{IsParam}
 pub use Rattle.dnw_svcb_text.specs.ParamLaws.{IsParamValue, ParamsComeBack}
 pub use Rattle.dnw_data_text.specs.DataTextLaws.{AddressesComeBack as FieldAddressesComeBack, CountedComeBack, IdentifiersComeBack as FieldIdentifiersComeBack, NamesComeBack as FieldNamesComeBack, NumbersComeBack, OctetsComeBack, SegmentsComeBack, StringsComeBack, TypesComeBack}
-pub use Rattle.dnw_data_text.specs.DataTextLaws.{DataComeBack, GenericComesBack, LinesComeBack, ListsComeBack, TextsAreParsed, line_head, IsReadBack as IsFieldReadBack, FieldComesBack, Follows as FollowsField, IsRead as IsReadType, IsData as IsDataOctets}
+pub use Rattle.dnw_data_text.specs.DataTextLaws.{DataAreUnambiguous, DataComeBack, GenericComesBack, LinesAreUnambiguous, LinesComeBack, ListsComeBack, PrintedDataAreSame, PrintedLinesAreSame, TextsAreParsed, line_head, IsReadBack as IsFieldReadBack, FieldComesBack, Follows as FollowsField, IsRead as IsReadType, IsData as IsDataOctets}
 -- Whole messages: headers, sections and EDNS.
 pub use Rattle.dnw_message.specs.Edns.{EdnsValue, FailsEdns, FailsOpt, HasEdns, HasOpt, HasOptions, IsEdns, IsResponseCode, OptionValue}
 pub use Rattle.dnw_message.specs.Edns.{first_option, is_opt, opts_in}
