@@ -69,7 +69,11 @@ pub(crate) fn records_of<'m>(alloc: Global, msg: &'m [u8]) -> Option<Vec<RecordR
         return None;
     };
     let mut found = Vec::new(alloc);
-    for section in [message.answers(), message.authorities(), message.additionals()] {
+    for section in [
+        message.answers(),
+        message.authorities(),
+        message.additionals(),
+    ] {
         for record in section {
             if found.push(record).is_err() {
                 return None;

@@ -269,18 +269,27 @@ fn a_response_with_edns(rt: HostRuntime) -> Result<(), Fail> {
 fn a_reply_has_the_questions_that_have_room(rt: HostRuntime) -> Result<(), Fail> {
     let alloc = rt.alloc();
     // STATUS with RD and CD, and the questions a. A IN, b.a. NS IN.
-    let octets = hex::decode(alloc, "abcd11100002000000000000016100000100010162c00c00020001")?;
+    let octets = hex::decode(
+        alloc,
+        "abcd11100002000000000000016100000100010162c00c00020001",
+    )?;
     let request = MessageRef::read(octets.as_slice())?;
     // QR is set, and the second question begins at 19.
     for (max_size, reply) in [
-        (512, "abcd91100002000000000000016100000100010162c00c00020001"),
+        (
+            512,
+            "abcd91100002000000000000016100000100010162c00c00020001",
+        ),
         (27, "abcd91100002000000000000016100000100010162c00c00020001"),
         (26, "abcd9110000100000000000001610000010001"),
         (12, "abcd91100000000000000000"),
     ] {
         let mut bytes = Vec::new(alloc);
         let writer = MessageWriter::reply_to(alloc, &mut bytes, &request, max_size)?;
-        assert_eq!(rt; writer.finish()?.as_slice(), hex::decode(alloc, reply)?.as_slice());
+        assert_eq!(rt;
+            writer.finish()?.as_slice(),
+            hex::decode(alloc, reply)?.as_slice()
+        );
     }
     let mut bytes = Vec::new(alloc);
     assert!(rt;
