@@ -1,5 +1,5 @@
 //! Writing messages of a bounded size.
-ghost use Rattle.std.specs.Prelude.{◌≡◌, ℕ, ◌+◌, ◌%◌, ◌<◌, ◌≤◌, ◌↔◌, Bool, ◌==◌, List, [], ◌∷◌, ◌++◌, length, slice_range, IsTrue, IfSome, OnOk, IfErr, vec_len};
+ghost use Rattle.std.specs.Prelude.{◌≡◌, ℕ, ◌+◌, ◌%◌, ◌<◌, ◌≤◌, ◌↔◌, Bool, ◌==◌, List, [], ◌∷◌, ◌++◌, length, slice_range, IsTrue, take, IfSome, OnOk, OnErr, IfErr, vec_len};
 ghost use Rattle.std.specs.Int.{w16, w32, to_be_bytes};
 ghost use Rattle.std.specs.Int.{cast_unsigned as unsigned};
 ghost use Rattle.dnw_base.specs.Limits.{max_message, pointer_reach};
@@ -9,6 +9,7 @@ ghost use Rattle.dnw_candidates.specs.Candidates.{Finds};
 use dnw_base::limits::{MAX_CHARACTER_DATA, MAX_MESSAGE, POINTER_REACH};
 use dnw_candidates::candidates::Candidates;
 use dnw_error::error::{ProtoError, ProtoResult};
+use std::alloc::AllocError;
 
 mod items;
 pub mod laws;
@@ -311,43 +312,15 @@ impl<'a> BinEncoder<'a> {
         ensures writes { Writes (value self.old) bytes.now result (value self.new) }
         ensures lender { lender self.new ≡ lender self.old }
     {
-        if self.test_room(bytes.len()).is_ok() {
-            let end = self.offset + bytes.len();
-            let len = self.buffer.len();
-            if end <= len {
-                self.buffer[self.offset..end].copy_from_slice(bytes);
-                self.offset = end;
-                return Ok(());
-            }
-            if self.offset == len && bytes.len() <= self.buffer.capacity() - len {
-                self.buffer.extend_from_slice(bytes)?;
-                self.offset = end;
-                return Ok(());
-            }
-        }
-        self.emit_more(bytes)
-    }
-
-    /// Does what `emit_vec` does, also if the buffer has to grow. It is a call of its own, so that a write of few bytes is short.
-    #[inline(never)]
-    fn emit_more(&mut self, bytes: &[u8]) -> ProtoResult<()>
-        ensures writes { Writes (value self.old) bytes.now result (value self.new) }
-        ensures lender { lender self.new ≡ lender self.old }
-    {
         self.test_room(bytes.len())?;
         let end = self.offset + bytes.len();
         let len = self.buffer.len();
-        if self.offset == len {
-            if len == 0 && !bytes.is_empty() {
-                self.buffer
-                    .reserve(bytes.len().max(FIRST_ROOM.min(self.max_size as usize)))?;
-            }
+        if end <= len {
+            self.buffer[self.offset..end].copy_from_slice(bytes);
+        } else if self.offset == len && bytes.len() <= self.buffer.capacity() - len {
             self.buffer.extend_from_slice(bytes)?;
         } else {
-            if end > len {
-                self.buffer.resize(end, 0)?;
-            }
-            self.buffer[self.offset..end].copy_from_slice(bytes);
+            put_grown(self.buffer, self.offset, bytes, self.max_size)?;
         }
         self.offset = end;
         Ok(())
@@ -397,4 +370,32 @@ impl<'a> BinEncoder<'a> {
         }
         Ok(())
     }
+}
+
+/// Puts bytes at an offset of a buffer that has to grow for them. It takes the buffer alone, and not the encoder, so that LLVM keeps
+/// an encoder that writes little in registers.
+#[inline(never)]
+fn put_grown(
+    buffer: &mut Vec<u8>,
+    offset: usize,
+    bytes: &[u8],
+    max_size: u16,
+) -> Result<(), AllocError>
+    requires within { offset ≤ vec_len buffer.old }
+    requires room { offset + length bytes.now ≤ max_size }
+    requires grows { vec_len buffer.old < offset + length bytes.now }
+    ensures ok { OnOk result (buffer.new.items ≡ take offset buffer.old.items ++ bytes.now) }
+    ensures err { OnErr result (buffer.new.items ≡ buffer.old.items) }
+{
+    let end = offset + bytes.len();
+    let len = buffer.len();
+    if offset < len {
+        buffer.resize(end, 0)?;
+        buffer[offset..end].copy_from_slice(bytes);
+        return Ok(());
+    }
+    if len == 0 {
+        buffer.reserve(bytes.len().max(FIRST_ROOM.min(max_size as usize)))?;
+    }
+    buffer.extend_from_slice(bytes)
 }

@@ -133,7 +133,7 @@ impl<'a> BinEncoder<'a> {
         let names = self.counted();
         let stored = self.candidates.len();
         self.keep_suffixes(name, Name::MAX_LENGTH)?;
-        if let Err(error) = self.emit_more(wire) {
+        if let Err(error) = self.emit_vec(wire) {
             self.candidates.truncate(stored);
             return Err(error);
         }

@@ -34,7 +34,7 @@ returns-in-Err-clause-writes c =
     let ls = c.args.name.now in
     let room : HasRoom v (encoded_size ls) = rw (size _ _ c.as_wire-wire.ensures.form) at c.in_ok-test_room.ensures.ok in
     let keep = c.in_ok-keep_suffixes.ensures.ok in
-    rw (c.truncate.ensures, c.len-stored.ensures) (whole_undone v ls room (value c.keep_suffixes.new.self) (value c.emit_more.new.self) c.as_wire-wire.result.now
+    rw (c.truncate.ensures, c.len-stored.ensures) (whole_undone v ls room (value c.keep_suffixes.new.self) (value c.emit_vec.new.self) c.as_wire-wire.result.now
     c.in-Err.error (kept v ls 255) keep c.as_wire-wire.ensures.form c.in-Err.ensures.writes)
 
 pub returns-clause-writes : goal.returns-clause-writes
@@ -44,5 +44,5 @@ returns-clause-writes c =
     let room : HasRoom v (encoded_size ls) = rw (size _ _ c.as_wire-wire.ensures.form) at c.in_ok-test_room.ensures.ok in
     let few : length ls ≤ 255 = omega (arith, AreLabels-few ls c.as_wire-wire.ensures.labels) in
     let keep = c.in_ok-keep_suffixes.ensures.ok in
-    whole_done v ls room (value c.keep_suffixes.new.self) (value c.emit_more.new.self) c.as_wire-wire.result.now c.counted-names.result (kept v ls 255)
+    whole_done v ls room (value c.keep_suffixes.new.self) (value c.emit_vec.new.self) c.as_wire-wire.result.now c.counted-names.result (kept v ls 255)
     keep c.as_wire-wire.ensures.form (kept-all v ls 255 few) c.counted-names.ensures c.in_default.ensures.writes
