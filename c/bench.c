@@ -2,6 +2,7 @@
    one. */
 #include "dnw_bench.h"
 #include "expect.h"
+#include "message.h"
 
 int main(void)
 {

@@ -1,7 +1,9 @@
 /* Calls each function of dns_names_wire.h with good and with bad input. It prints nothing if all is well, and exits with 1
    at the first result that is not the expected one. Expected values come from RFC 1035 or from the header. */
 #include "dns_names_wire.h"
+#include "buffer.h"
 #include "expect.h"
+#include "message.h"
 
 /* While this is set, malloc and realloc fail: the linker puts the functions below in their place. */
 static bool no_memory;
@@ -19,27 +21,6 @@ void *__wrap_malloc(size_t size)
 void *__wrap_realloc(void *block, size_t size)
 {
     return no_memory ? NULL : __real_realloc(block, size);
-}
-
-static uint8_t buffer[1200];
-
-/* The buffer has these bytes, and is unchanged after them. */
-static bool holds(const char *bytes, size_t len)
-{
-    return memcmp(buffer, bytes, len) == 0 && buffer[len] == 0xAA;
-}
-
-static bool untouched(void)
-{
-    for (size_t i = 0; i < sizeof buffer; i++)
-        if (buffer[i] != 0xAA)
-            return false;
-    return true;
-}
-
-static void clear(void)
-{
-    memset(buffer, 0xAA, sizeof buffer);
 }
 
 static uint32_t read_form(size_t start, size_t size, struct dnw_read_name *read)
@@ -448,68 +429,6 @@ static void reverses(void)
 }
 
 /* The order is that of RFC 4034, section 6.1: example, a.example, yljkjljk.a.example, Z.a.example, .. */
-static void compares(void)
-{
-    int32_t order = 7;
-    bool is = false;
-    size_t len = 7;
-    EXPECT(dnw_name_compare(BYTES("\007example\000"), BYTES("\001a\007example\000"), &order) == DNW_DONE && order == -1);
-    EXPECT(dnw_name_compare(BYTES("\001Z\001a\000"), BYTES("\010yljkjljk\001a\000"), &order) == DNW_DONE && order == 1);
-    EXPECT(dnw_name_compare(BYTES("\001Z\000"), BYTES("\001z\000"), &order) == DNW_DONE && order == 0);
-    EXPECT(dnw_name_compare(BYTES("\001Z\000\000"), BYTES("\001z\000"), &order) == DNW_BYTES_LEFT && order == 0);
-    EXPECT(dnw_name_compare(BYTES("\001Z\000"), BYTES("\001"), &order) == DNW_MESSAGE_CUT && order == 0);
-    EXPECT(dnw_name_equal(BYTES("\001Z\000"), BYTES("\001z\000"), &is) == DNW_DONE && is);
-    EXPECT(dnw_name_equal(BYTES("\001Z\000"), BYTES("\001y\000"), &is) == DNW_DONE && !is);
-    EXPECT(dnw_name_equal(BYTES("\100"), BYTES("\001y\000"), &is) == DNW_RESERVED_OCTET && !is);
-    EXPECT(dnw_name_in_zone(BYTES("\001b\001A\000"), BYTES("\001a\000"), &is) == DNW_DONE && is);
-    EXPECT(dnw_name_in_zone(BYTES("\001a\000"), BYTES("\001b\001A\000"), &is) == DNW_DONE && !is);
-    EXPECT(dnw_name_in_zone(BYTES("\001a\000"), BYTES("\001b\001A"), &is) == DNW_MESSAGE_CUT && !is);
-    clear();
-    EXPECT(dnw_name_to_lowercase(BYTES("\001A\002Bc\000"), buffer, 5, &len) == DNW_NO_ROOM && untouched() && len == 7);
-    EXPECT(dnw_name_to_lowercase(BYTES("\001A\002Bc\000"), buffer, 6, &len) == DNW_DONE && len == 6);
-    EXPECT(holds("\001a\002bc\000", 6));
-}
-
-/* The names of RFC 4034, section 6.1, in their order; \310 is its octet 200. */
-static void sorts(void)
-{
-    static const struct {
-        const char *form;
-        size_t len;
-    } names[] = {
-        {"\007example", 9},
-        {"\001a\007example", 11},
-        {"\010yljkjljk\001a\007example", 20},
-        {"\001Z\001a\007example", 13},
-        {"\004zABC\001a\007EXAMPLE", 16},
-        {"\001z\007example", 11},
-        {"\001\001\001z\007example", 13},
-        {"\001*\001z\007example", 13},
-        {"\001\310\001z\007example", 13},
-    };
-    uint8_t before[DNW_SORT_KEY_SIZE] = {0}, key[DNW_SORT_KEY_SIZE], form[DNW_FORM_SIZE] = {0};
-    size_t before_len = 0, len = 7;
-    for (size_t i = 0; i < sizeof names / sizeof *names; i++) {
-        EXPECT(dnw_name_sort_key((const uint8_t *)names[i].form, names[i].len, key, sizeof key, &len) == DNW_DONE);
-        int order = memcmp(before, key, before_len < len ? before_len : len);
-        EXPECT(order < 0 || (order == 0 && before_len < len));
-        memcpy(before, key, len);
-        before_len = len;
-    }
-    clear();
-    EXPECT(dnw_name_sort_key(BYTES("\004B\000\001\002\001A\000"), buffer, 8, &len) == DNW_NO_ROOM && untouched());
-    EXPECT(dnw_name_sort_key(BYTES("\004B\000\001\002\001A\000"), buffer, 9, &len) == DNW_DONE && len == 9);
-    EXPECT(holds("a\000b\001\001\001\002\002\000", 9));
-    clear();
-    EXPECT(dnw_name_sort_key(BYTES("\000"), buffer, 0, &len) == DNW_DONE && len == 0 && untouched());
-    EXPECT(dnw_name_sort_key(BYTES("\000\000"), buffer, sizeof buffer, &len) == DNW_BYTES_LEFT);
-    EXPECT(dnw_name_sort_key(BYTES("\001"), buffer, sizeof buffer, &len) == DNW_MESSAGE_CUT && untouched() && len == 0);
-    form[0] = form[64] = form[128] = 63;
-    form[192] = 61;
-    EXPECT(dnw_name_sort_key(form, sizeof form, key, sizeof key - 1, &len) == DNW_NO_ROOM);
-    EXPECT(dnw_name_sort_key(form, sizeof form, key, sizeof key, &len) == DNW_DONE && len == DNW_SORT_KEY_SIZE);
-}
-
 /* RFC 4592, section 2.1.1, has wildcards; the sizes are those of RFC 1035, section 2.3.4. */
 static void edits(void)
 {
@@ -805,12 +724,16 @@ static void lacks_memory(void)
     EXPECT(parse(BYTES("\\"), sizeof buffer, &parsed) == DNW_BAD_TEXT);
     EXPECT(parse(BYTES("a..b"), sizeof buffer, &parsed) == DNW_NO_MEMORY);
     EXPECT(dnw_name_text_fault(BYTES("a..b"), &len) == DNW_EMPTY_LABEL && len == 2);
+    EXPECT(dnw_name_print(BYTES("\001a\000"), true, buffer, sizeof buffer, &len) == DNW_DONE && len == 2);
+    EXPECT(dnw_name_read_text(message, sizeof message, 40, buffer, sizeof buffer, &read) == DNW_DONE);
+    EXPECT(read_form(40, DNW_FORM_SIZE, &read) == DNW_DONE && read.len == 16);
     len = 7;
     clear();
-    EXPECT(dnw_name_read_text(message, sizeof message, 40, buffer, sizeof buffer, &read) == DNW_NO_MEMORY);
-    EXPECT(dnw_name_print(BYTES("\001a\000"), true, buffer, sizeof buffer, &len) == DNW_NO_MEMORY);
     EXPECT(dnw_names_write(BYTES("\003www\000"), 512, buffer, sizeof buffer, &written) == DNW_NO_MEMORY);
     EXPECT(untouched() && read.len == 16 && parsed.len == 6 && len == 7 && written.len == 7 && written.count == 9);
+    size_t order = 7;
+    EXPECT(dnw_names_sort(BYTES("\003www\000"), &order, 1) == DNW_NO_MEMORY && order == 7);
+    EXPECT(dnw_names_sort(BYTES(""), &order, 1) == DNW_DONE && order == 7);
     uint16_t code = 7, codes[1] = {9};
     uint32_t seconds = 7;
     struct dnw_lexer lexer = {0, true};
@@ -857,8 +780,6 @@ int main(void)
     cuts_messages();
     refuses_messages();
     reverses();
-    compares();
-    sorts();
     edits();
     codes();
     named_codes();

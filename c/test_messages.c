@@ -3,6 +3,7 @@
    by hand from RFC 1035, section 4.1, and RFC 6891, section 6.1. */
 #include "dns_names_wire.h"
 #include "expect.h"
+#include "message.h"
 
 /* A referral with glue: www.example.com has to be asked for at ns.example.com. The question begins at offset 12, the authority
    at 33, the glue at 50, and an OPT record of 1232 octets, DO, the response code's high bits 1 and a cookie at 66. */

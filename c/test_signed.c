@@ -3,6 +3,7 @@
    sections 3.1.8.1 and 6, RFC 4035, section 5.3.2, and RFC 6840, section 5.1. */
 #include "dns_names_wire.h"
 #include "expect.h"
+#include "message.h"
 
 static uint8_t octets[1024];
 

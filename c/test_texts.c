@@ -3,6 +3,7 @@
    sections 4.1 and 5.1, and RFC 3597, section 5. */
 #include "dns_names_wire.h"
 #include "expect.h"
+#include "message.h"
 
 /* A message: a question for www.example.com at offset 12, its authority NS at 33, the glue at 50, an OPT record at 66, an MX
    whose data are cut at 83, and a text of two strings at 95. */

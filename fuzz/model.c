@@ -369,6 +369,37 @@ int model_compare(const struct model_name *left, const struct model_name *right)
     return (l > r) - (l < r);
 }
 
+uint32_t model_count(const uint8_t *list, size_t len, size_t *count)
+{
+    uint32_t failure = DNW_DONE;
+    struct model_name name;
+    *count = 0;
+    for (size_t at = 0; at < len && (failure = model_read(list, len, at, &name)) == DNW_DONE; at = name.end)
+        ++*count;
+    return failure;
+}
+
+/* Numbers that ascend among equal names differ, so that as many as there are names are all of them. */
+bool model_is_sorted(const uint8_t *list, size_t len, const size_t *order, size_t count)
+{
+    static size_t starts[UINT16_MAX + 1];
+    struct model_name before, own;
+    own.end = 0;
+    for (size_t i = 0; i < count && i <= UINT16_MAX; i++) {
+        starts[i] = own.end;
+        model_read(list, len, starts[i], &own);
+    }
+    for (size_t i = 0; i < count; i++, before = own) {
+        if (order[i] >= count || order[i] > UINT16_MAX)
+            return false;
+        model_read(list, len, starts[order[i]], &own);
+        int compared = i == 0 ? -1 : model_compare(&before, &own);
+        if (compared > 0 || (compared == 0 && order[i - 1] >= order[i]))
+            return false;
+    }
+    return true;
+}
+
 /* A name is in a zone if some suffix of it, its labels from one on, is the zone. */
 bool model_in_zone(const struct model_name *name, const struct model_name *zone)
 {

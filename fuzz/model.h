@@ -74,6 +74,13 @@ uint32_t model_write(const uint8_t *list, size_t list_len, size_t max_size, uint
                      struct dnw_written_names *written);
 
 int model_compare(const struct model_name *left, const struct model_name *right);
+
+/* Puts how many names of a list there are before the first that is none, which is the failure. */
+uint32_t model_count(const uint8_t *list, size_t len, size_t *count);
+
+/* The numbers are those of all the names of a list, in order. */
+bool model_is_sorted(const uint8_t *list, size_t len, const size_t *order, size_t count);
+
 bool model_in_zone(const struct model_name *name, const struct model_name *zone);
 void model_lower(struct model_name *name);
 

@@ -32,7 +32,8 @@ static void reads_text(const uint8_t *message, size_t len, size_t start, uint32_
     if (answer == DNW_DONE && name->len == 1)
         CHECK(size == 1 && own[0] == '.');
     uint8_t *text = clear(&texts, size);
-    CHECK(dnw_name_read_text(message, len, start, text, size, &read) == answer);
+    refuse(1);
+    CHECK(dnw_name_read_text(message, len, start, text, size, &read) == answer && !was_refused());
     if (answer != DNW_DONE) {
         CHECK(untouched(text, size) && read.len == 7 && read.end == 9);
         return;
@@ -41,13 +42,6 @@ static void reads_text(const uint8_t *message, size_t len, size_t start, uint32_
     text = clear(&texts, size - 1);
     CHECK(dnw_name_read_text(message, len, start, text, size - 1, &read) == DNW_NO_ROOM);
     CHECK(untouched(text, size - 1));
-    refuse(1);
-    text = clear(&texts, size);
-    uint32_t without = dnw_name_read_text(message, len, start, text, size, &read);
-    if (was_refused())
-        CHECK(without == DNW_NO_MEMORY && untouched(text, size));
-    else
-        CHECK(without == DNW_DONE && holds(text, size, own, size));
 }
 
 static void reads(const uint8_t *message, size_t len, size_t start)

@@ -1,8 +1,9 @@
 /* Compares three names and their sort keys, and puts them in lower case. The first two octets of the input are the lengths of the first two
-   wire forms, and the rest is the third. The answers are the model's, and the order is one. */
+   wire forms, and the rest is the third. The answers are the model's, and the order is one. What follows the two octets is also
+   sorted as a list of names. */
 #include "harness.h"
 
-static struct room lefts, rights, lowered, left_keys, right_keys;
+static struct room lefts, rights, lowered, left_keys, right_keys, orders;
 
 static int32_t compare(struct part left, struct part right)
 {
@@ -89,6 +90,40 @@ static void lowers(struct part name)
     CHECK(dnw_name_to_lowercase(form, name.len, low, size - 1, &len) == DNW_NO_ROOM && untouched(low, size - 1));
 }
 
+static void sorts_without_memory(const uint8_t *list, size_t len, size_t count, uint32_t answer)
+{
+    size_t size = count * sizeof(size_t);
+    for (size_t number = 1; number <= 8; number++) {
+        uint8_t *order = clear(&orders, size);
+        refuse(number);
+        uint32_t given = dnw_names_sort(list, len, (size_t *)order, count);
+        if (!was_refused()) {
+            CHECK(given == answer);
+            return;
+        }
+        CHECK(given == DNW_NO_MEMORY && untouched(order, size));
+    }
+}
+
+static void sorts(const uint8_t *octets, size_t len)
+{
+    size_t count;
+    const uint8_t *list = put_at_end(&lefts, octets, len);
+    uint32_t answer = model_count(list, len, &count);
+    size_t size = count * sizeof(size_t);
+    uint8_t *order = clear(&orders, size);
+    CHECK(dnw_names_sort(list, len, (size_t *)order, count) == answer);
+    CHECK(answer == DNW_DONE ? model_is_sorted(list, len, (size_t *)order, count) : untouched(order, size));
+    sorts_without_memory(list, len, count, answer);
+    if (answer != DNW_DONE || count == 0)
+        return;
+    order = clear(&orders, size - sizeof(size_t));
+    CHECK(dnw_names_sort(list, len, (size_t *)order, count - 1) == DNW_NO_ROOM && untouched(order, size - sizeof(size_t)));
+    order = clear(&orders, size + 2 * sizeof(size_t));
+    CHECK(dnw_names_sort(list, len, (size_t *)order, count + 2) == DNW_DONE);
+    CHECK(holds(order, size + 2 * sizeof(size_t), order, size));
+}
+
 int LLVMFuzzerTestOneInput(const uint8_t *data, size_t size)
 {
     struct part parts[3];
@@ -100,6 +135,7 @@ int LLVMFuzzerTestOneInput(const uint8_t *data, size_t size)
         for (size_t j = 0; j < 3; j++)
             compares(parts[i], parts[j]);
     }
+    sorts(data + 2, size - 2);
     int32_t first = compare(parts[0], parts[1]), second = compare(parts[1], parts[2]);
     if (first <= 0 && second <= 0)
         CHECK(compare(parts[0], parts[2]) == (first < second ? first : second));

@@ -81,7 +81,8 @@ static void prints(const uint8_t *form, size_t len, bool is_fqdn)
     uint32_t answer = model_form(form, len, &name);
     size_t own_len = answer == DNW_DONE ? model_print(&name, is_fqdn, own) : DNW_TEXT_SIZE, text_len = 7;
     uint8_t *text = clear(&texts, own_len);
-    CHECK(dnw_name_print(form, len, is_fqdn, text, own_len, &text_len) == answer);
+    refuse(1);
+    CHECK(dnw_name_print(form, len, is_fqdn, text, own_len, &text_len) == answer && !was_refused());
     if (answer != DNW_DONE) {
         CHECK(untouched(text, own_len) && text_len == 7);
         return;

@@ -99,8 +99,8 @@ struct dnw_written_names {
 uint32_t dnw_name_read(const uint8_t *message, size_t message_len, size_t start, uint8_t *form, size_t form_size,
                        struct dnw_read_name *read);
 
-/* Reads as dnw_name_read does, and puts the name's text, with a dot at the end. If there is no name, it fails as
-   dnw_name_read. Else it fails with DNW_NO_ROOM if the text has more than `text_size` octets, or with DNW_NO_MEMORY. */
+/* Reads as dnw_name_read does, and puts the name's text, with a dot at the end. It does not allocate. If there is no name, it fails
+   as dnw_name_read. Else it fails with DNW_NO_ROOM if the text has more than `text_size` octets. */
 uint32_t dnw_name_read_text(const uint8_t *message, size_t message_len, size_t start, uint8_t *text, size_t text_size,
                             struct dnw_read_name *read);
 
@@ -117,10 +117,9 @@ uint32_t dnw_name_parse(const uint8_t *text, size_t text_len, uint8_t *form, siz
    that octet and no further. It does not allocate. */
 uint32_t dnw_name_text_fault(const uint8_t *text, size_t text_len, size_t *offset);
 
-/* Puts the text of the name with a wire form, fully qualified or not, and the text's length into `len`. If the bytes
-   have no name at their start, it fails as dnw_name_read, and with DNW_BYTES_LEFT if more follows after it. Else it fails
-   with DNW_NO_ROOM if the text has more than `text_size` octets, or with DNW_NO_MEMORY, but not for an empty text: that of
-   the relative name without labels. */
+/* Puts the text of the name with a wire form, fully qualified or not, and the text's length into `len`. It does not allocate. If the
+   bytes have no name at their start, it fails as dnw_name_read, and with DNW_BYTES_LEFT if more follows after it. Else it fails
+   with DNW_NO_ROOM if the text has more than `text_size` octets. */
 uint32_t dnw_name_print(const uint8_t *form, size_t form_len, bool is_fqdn, uint8_t *text, size_t text_size,
                         size_t *len);
 
@@ -442,6 +441,13 @@ uint32_t dnw_name_to_lowercase(const uint8_t *form, size_t form_len, uint8_t *lo
    has the empty key. It does not allocate. If the bytes are no wire form, it fails as dnw_name_compare. It fails with
    DNW_NO_ROOM if the key has more than `key_size` octets: DNW_SORT_KEY_SIZE are always enough. */
 uint32_t dnw_name_sort_key(const uint8_t *form, size_t form_len, uint8_t *key, size_t key_size, size_t *len);
+
+/* Sorts the names of a list. It puts their numbers, from 0, into `order` in canonical order of the names, ignoring ASCII case
+   (RFC 4034, section 6.1). The numbers of equal names are in the order of the list. `order` has room for `order_len` numbers:
+   one for each name is enough, and what is after these is unchanged. The list has one name after another, as dnw_names_write
+   takes it. It fails as dnw_name_read at the first element of the list that is no name, with DNW_NO_ROOM if the list has more
+   than `order_len` names, and with DNW_NO_MEMORY, but not for the empty list. */
+uint32_t dnw_names_sort(const uint8_t *names, size_t names_len, size_t *order, size_t order_len);
 
 /* Puts the wire form of a name with the labels of another after its own, and its length into `len`. It does not allocate.
    If one of them is no wire form, it fails as dnw_name_compare. Else it fails with DNW_NAME_TOO_LONG if both together take

@@ -56,7 +56,7 @@ from ._errors import (
 )
 from ._fields import FieldValue
 from ._messages import Edns, Header, Message, Question, make_query, make_response
-from ._names import Name, NameAt, names, read_name
+from ._names import Name, NameAt, names, read_name, sort_names
 from ._rdata import (
     A,
     AAAA,
@@ -226,6 +226,7 @@ __all__ = [
     "reverse_name",
     "serial_add",
     "serial_compare",
+    "sort_names",
     "tokens",
     "type_code",
     "type_text",

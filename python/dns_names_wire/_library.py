@@ -148,6 +148,7 @@ _FUNCTIONS = {
     "dnw_name_in_zone": (*_READ, *_READ, POINTER(c_bool)),
     "dnw_name_to_lowercase": (*_READ, *_WRITTEN, POINTER(c_size_t)),
     "dnw_name_sort_key": (*_READ, *_WRITTEN, POINTER(c_size_t)),
+    "dnw_names_sort": (*_READ, POINTER(c_size_t), c_size_t),
     "dnw_name_append": (*_READ, *_READ, *_WRITTEN, POINTER(c_size_t)),
     "dnw_name_prepend_label": (*_READ, *_READ, *_WRITTEN, POINTER(c_size_t)),
     "dnw_name_trim": (*_READ, c_size_t, *_WRITTEN, POINTER(c_size_t)),

@@ -2,7 +2,7 @@
 
 import ctypes
 from ctypes import byref, c_size_t
-from typing import Any, Callable, Iterable, Iterator, NamedTuple, Optional, Tuple
+from typing import Any, Callable, Iterable, Iterator, List, NamedTuple, Optional, Tuple
 
 from . import _checks
 from ._checks import Bytes
@@ -251,7 +251,7 @@ class Name:
         whether the name is fully qualified or not.
 
         Keys are equal exactly if the labels are, ignoring case, and the keys of the names in a zone are those that begin
-        with the zone's key. To sort many names by it is much faster than without a key.
+        with the zone's key. To sort many names by it is much faster than without a key, and `sort_names` is faster still.
 
         >>> sorted(map(Name, ["z.example.", "example.", "Z.a.example."]), key=Name.sort_key)
         [Name('example.'), Name('Z.a.example.'), Name('z.example.')]
@@ -339,6 +339,23 @@ def wire_of(what: str, name: object) -> Tuple[bytes, int]:
     if not isinstance(name, Name):
         raise _checks.wrong_type(what, "a Name is", name)
     return name._slice()
+
+
+def sort_names(names: Iterable[Name]) -> List[Name]:
+    """The names in order, by one call of the library: as `sorted(names)`, and much faster.
+
+    So every name that is not fully qualified is before those that are, both in canonical order (RFC 4034, section 6.1), and
+    names that are equal keep their order.
+
+    >>> sort_names(map(Name, ["z.example.", "example.", "Z.a.example.", "z"]))
+    [Name('z'), Name('example.'), Name('Z.a.example.'), Name('z.example.')]
+    """
+    listed = list(names)
+    wires = b"".join([wire_of("names", name)[0] for name in listed])
+    order = (c_size_t * len(listed))()
+    check(library.dnw_names_sort(wires, len(wires), order, len(listed)))
+    in_order = [listed[number] for number in order]
+    return [name for name in in_order if not name._is_fqdn] + [name for name in in_order if name._is_fqdn]
 
 
 class NameAt(NamedTuple):

@@ -144,6 +144,19 @@ class Order(unittest.TestCase):
         longest = Name.from_labels([b"\0" * 63, b"\1" * 63, b"\0" * 63, b"\1" * 61])
         self.assertEqual((len(longest.wire), len(longest.sort_key())), (255, 504))
 
+    def test_names_are_sorted_at_once(self):
+        ordered = [Name.from_wire(form) for form in ORDER]
+        self.assertEqual([name.wire for name in dnw.sort_names(reversed(ordered))], [name.wire for name in ordered])
+        texts = ["b.a.", "a", "B.A.", ".", "A", "b.a", "a.b.", "b.A.", ""]
+        in_order = ["", "a", "A", "b.a", ".", "b.a.", "B.A.", "b.A.", "a.b."]
+        self.assertEqual([str(name) for name in dnw.sort_names(map(Name, texts))], in_order)
+        self.assertEqual([str(name) for name in sorted(map(Name, texts))], in_order)
+        self.assertEqual((dnw.sort_names([]), dnw.sort_names([Name("a.")])), ([], [Name("a.")]))
+        many = [Name(f"Host{i * 7919 % 2000}.zone{i % 3}.") for i in range(2000)]
+        self.assertEqual(dnw.sort_names(many), sorted(many))
+        with self.assertRaisesRegex(TypeError, "^names: a Name is wanted, not str$"):
+            dnw.sort_names(["a."])
+
     def test_equal_names_have_one_hash(self):
         self.assertEqual({Name("WWW.a."): 1}[Name("www.A.")], 1)
         self.assertEqual(len({Name("WWW.a."), Name("www.A."), Name("www.a"), Name("b.")}), 3)

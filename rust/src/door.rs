@@ -295,6 +295,7 @@ extern "C" {
         len: *mut usize,
     ) -> u32;
     fn dnw_name_sort_key(form: *const u8, form_len: usize, key: *mut u8, key_size: usize, len: *mut usize) -> u32;
+    fn dnw_names_sort(names: *const u8, names_len: usize, order: *mut usize, order_len: usize) -> u32;
     fn dnw_name_append(
         name: *const u8,
         name_len: usize,
@@ -618,6 +619,13 @@ pub(crate) fn sort_key(form: &[u8], key: &mut [u8; SORT_KEY_SIZE]) -> Result<usi
     // SAFETY: pointers with their lengths, see the module.
     let number = unsafe { dnw_name_sort_key(form.as_ptr(), form.len(), key.as_mut_ptr(), SORT_KEY_SIZE, &mut len) };
     outcome(number, len)
+}
+
+/// Puts the numbers of the names of a list in canonical order of the names.
+pub(crate) fn names_sort(names: &[u8], order: &mut [usize]) -> Result<(), Error> {
+    // SAFETY: pointers with their lengths, see the module.
+    let number = unsafe { dnw_names_sort(names.as_ptr(), names.len(), order.as_mut_ptr(), order.len()) };
+    outcome(number, ())
 }
 
 /// Puts the labels of a name and those of another, and returns the length.

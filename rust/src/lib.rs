@@ -21,7 +21,7 @@
 //! | read a name of a message, a text or a wire form | [`Name::read`], [`Name::from_ascii`] or `str::parse`, [`Name::from_wire`] |
 //! | pass over names, or walk their labels, without copying them | [`NameRef`], [`names()`] |
 //! | make names of names and labels | [`Name::from_labels`], [`Name::append`], [`Name::prepend_label`], [`Name::base_name`], [`Name::trim_to`], [`Name::to_wildcard`] |
-//! | print, compare, sort, hash | `Display`, `Ord`, `Hash`, [`Name::sort_key`], [`Name::zone_of`], [`Name::to_lowercase`] |
+//! | print, compare, sort, hash | `Display`, `Ord`, `Hash`, [`sort_names`], [`Name::sort_key`], [`Name::zone_of`], [`Name::to_lowercase`] |
 //! | check a whole message, and read its header, its sections and its EDNS | [`Message`] |
 //! | read the records of a message, and their data by type or field by field | [`Record`], [`records()`], [`Record::data`] and [`RData`], [`Record::fields`] |
 //! | show records as lines of master files, and messages as `dig` does | `Display` of [`Record`] and [`Message`] |
@@ -77,7 +77,7 @@ pub use error::{Error, ErrorKind, Section, TextFault, TextRule};
 pub use field::{Field, Fields, Pairs, Texts};
 pub use header::{Header, OpCode, ResponseCode};
 pub use message::{Edns, Message, Question, Questions, SectionRecords};
-pub use name::{Labels, Name};
+pub use name::{sort_names, Labels, Name};
 pub use name_ref::{names, NameRef, Names};
 pub use rdata::RData;
 pub use record::{records, Record, Records};

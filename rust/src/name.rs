@@ -479,6 +479,32 @@ impl Name {
     }
 }
 
+/// Sorts names by one call of the C library: as `names.sort()` does, and faster for many names. So every name that is not
+/// fully qualified is before those that are, both in canonical order (RFC 4034, section 6.1), and names that are equal keep
+/// their order.
+///
+/// ```
+/// use dns_names_wire::{sort_names, Name};
+///
+/// let mut names = ["z.example.", "example.", "Z.a.example.", "z", "a.example."].map(|text| text.parse::<Name>().unwrap());
+/// sort_names(&mut names);
+/// assert_eq!(names.map(|name| name.to_string()), ["z", "example.", "a.example.", "Z.a.example.", "z.example."]);
+/// ```
+pub fn sort_names(names: &mut [Name]) {
+    let mut forms = Vec::with_capacity(names.iter().map(|name| name.as_wire().len()).sum());
+    for name in names.iter() {
+        forms.extend_from_slice(name.as_wire());
+    }
+    let mut order = alloc::vec![0; names.len()];
+    if door::names_sort(&forms, &mut order).is_err() {
+        // Its memory ran out: each name is read, and there is room for the numbers.
+        return names.sort();
+    }
+    let (absolute, relative): (Vec<_>, Vec<_>) = order.into_iter().partition(|&number| names[number].is_fqdn);
+    let sorted: Vec<Name> = relative.into_iter().chain(absolute).map(|number| names[number].clone()).collect();
+    names.clone_from_slice(&sorted);
+}
+
 impl Default for Name {
     fn default() -> Self {
         Name::new()

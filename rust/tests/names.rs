@@ -1,8 +1,8 @@
 //! The crate as its users call it. Expected values are from RFC 1035, section 4.1.4, RFC 4034, section 6.1, or counted by
 //! hand.
 use dns_names_wire::{
-    names, records, tokens, Class, Error, ErrorKind, Labels, MessageWriter, Name, NameRef, Names, Record, RecordType,
-    Records, SerialNumber, TextFault, TextRule, Token, Tokens, TypeSet,
+    names, records, sort_names, tokens, Class, Error, ErrorKind, Labels, MessageWriter, Name, NameRef, Names, Record,
+    RecordType, Records, SerialNumber, TextFault, TextRule, Token, Tokens, TypeSet,
 };
 use std::cmp::Ordering;
 use std::collections::hash_map::DefaultHasher;
@@ -166,6 +166,34 @@ fn sort_keys_are_in_the_order_of_names() {
     assert_eq!(Name::from_labels([[0, 1, 2]]).unwrap().sort_key(), b"\x01\x01\x01\x02\x02\0");
     let longest = Name::from_labels([&[0; 63][..], &[1; 63], &[0; 63], &[1; 61]]).unwrap();
     assert_eq!((longest.as_wire().len(), longest.sort_key().len()), (255, 504));
+}
+
+#[test]
+fn names_are_sorted_at_once() {
+    let ordered: Vec<Name> = ORDER.iter().map(|form| Name::from_wire(form).unwrap()).collect();
+    let mut sorted = ordered.clone();
+    sorted.reverse();
+    sort_names(&mut sorted);
+    assert_eq!(sorted, ordered);
+
+    let texts = ["b.a.", "a", "B.A.", ".", "A", "b.a", "a.b.", "b.A.", ""];
+    let mut sorted = texts.map(name);
+    let mut slowly = sorted.clone();
+    sort_names(&mut sorted);
+    slowly.sort();
+    assert_eq!(sorted.map(|name| name.to_string()), ["", "a", "A", "b.a", ".", "b.a.", "B.A.", "b.A.", "a.b."]);
+    assert_eq!(slowly.map(|name| name.to_string()), ["", "a", "A", "b.a", ".", "b.a.", "B.A.", "b.A.", "a.b."]);
+
+    sort_names(&mut []);
+    let mut one = [name("a.")];
+    sort_names(&mut one);
+    assert_eq!(one, [name("a.")]);
+
+    let mut many: Vec<Name> = (0..2000u32).map(|i| name(&format!("Host{}.zone{}.", i * 7919 % 2000, i % 3))).collect();
+    let mut slowly = many.clone();
+    sort_names(&mut many);
+    slowly.sort();
+    assert_eq!(many, slowly);
 }
 
 #[test]

@@ -1,7 +1,7 @@
 //! The tasks through the Rust crate.
 use crate::inputs::{Kind, Task};
 use crate::{repeat, sum, FAILED};
-use dns_names_wire::{names, records, MessageWriter, Name, Record};
+use dns_names_wire::{names, records, sort_names, MessageWriter, Name, Record};
 use std::collections::hash_map::DefaultHasher;
 use std::hash::{Hash, Hasher};
 use std::hint::black_box;
@@ -26,7 +26,6 @@ pub fn run(task: &Task, count: u64) -> Option<u64> {
             let names = owned();
             repeat(count, || copy(black_box(&names)))
         }
-        Kind::EmitLower | Kind::Collect => return None,
         Kind::Compare => {
             let names = owned();
             repeat(count, || sum(black_box(&names).windows(2), |pair| (1 + pair[0].cmp(&pair[1]) as i64) as u64))
@@ -52,6 +51,7 @@ pub fn run(task: &Task, count: u64) -> Option<u64> {
                 .collect();
             repeat(count, || write_records(black_box(&records)))
         }
+        _ => return None,
     })
 }
 
@@ -130,8 +130,8 @@ fn copy(names: &[Name]) -> u64 {
 }
 
 fn sort(names: &[Name]) -> u64 {
-    let mut sorted: Vec<&Name> = names.iter().collect();
-    sorted.sort();
+    let mut sorted = names.to_vec();
+    sort_names(&mut sorted);
     sum(sorted.iter().zip(1..), |(name, rank)| rank * size(name))
 }
 

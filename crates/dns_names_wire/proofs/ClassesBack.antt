@@ -1,18 +1,15 @@
 -- Classes and their codes come back.
 use Rattle.std.proofs.Common.{◌≡◌, ℕ, ◌==◌, true, ◌<◌, max, inl, inr, refl, sym, ap, ◌∙◌, arith}
 use Rattle.std.specs.Prelude.{◌⊎◌}
-use Rattle.std.proofs.lemmas.Bool.{eqb-true}
 use Rattle.dnw_codes.specs.declared.dns_class.DNSClass.{DNSClass}
 use Rattle.dnw_codes.specs.declared.dns_class.DNSClass.TheVariants.{OPT, Unknown}
 use Rattle.dnw_codes.specs.DnsClasses.{class_code, class_of_code, class_rank, min_payload, named_classes}
 use Rattle.dns_names_wire.specs.CodeLaws.{ClassCodesComeBack, NamedClassesComeBack, SizesStayUnknown, UnknownClassesComeBack}
-use Rattle.dns_names_wire.proofs.Found.{every, found}
+use Rattle.dnw_record_text.proofs.LinesBack.{class-back}
+use Rattle.dns_names_wire.proofs.Found.{found}
 
 pub codes : ClassCodesComeBack
-unfolding class_of_code
-codes code =
-    found (λ class. class_code class ≡ code) (λ class. class_code class == code) named_classes (Unknown code)
-    (every (λ class. (class_code class == code) ≡ true → class_code class ≡ code) (λ class. eqb-true (class_code class) code) named_classes) refl
+codes = class-back
 
 pub named : NamedClassesComeBack
 unfolding class_of_code

@@ -3,10 +3,6 @@ use Rattle.std.proofs.Common.{◌≡◌, Bool, true, false, List, [], ◌∷◌,
 use Rattle.std.specs.Prelude.{find, unwrap_or, cond}
 use Rattle.std.specs.List.{AllByRecursion}
 
-pub every : {X : Type 0} (P : X → Type 0) → ((x : X) → P x) → (xs : List X) → AllByRecursion P xs
-every P is [] = tt
-every P is (x ∷ xs) = (is x, every P is xs)
-
 step : {X : Type 0} (P : X → Type 0) (x other : X) (rest : Option X) (test : Bool) → (test ≡ true → P x) → P (unwrap_or rest other)
     → P (unwrap_or (cond test (Some x) rest) other)
 step P x other rest true passes left = passes refl

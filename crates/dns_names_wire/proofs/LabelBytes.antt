@@ -1,32 +1,17 @@
 -- The octets of labels that are read, and of label texts, are below 256.
-use Rattle.std.proofs.Common.{◌≡◌, ℕ, zero, suc, ◌+◌, true, Option, List, [], ◌∷◌, take, drop, arith}
+use Rattle.std.proofs.Common.{◌≡◌, ℕ, zero, suc, true, List, [], ◌∷◌, arith}
 use Rattle.std.specs.List.{AllByRecursion, list_all}
 use Rattle.std.proofs.lemmas.Bool.{and_parts}
-use Rattle.std.proofs.lemmas.List.{get_or-drop}
 use Rattle.dnw_label.specs.LabelText.{may_begin, may_follow}
-use Rattle.dnw_reading.specs.Reading.{Reads, NameAt, zero_octet, label, pointer}
+use Rattle.dnw_reading.specs.Reading.{NameAt}
 use Rattle.dnw_reading.specs.ReadingLaws.{AreBytes}
 use Rattle.dnw_text.specs.NameText.{IsLabelText}
 use Rattle.dnw_text.proofs.ByteTexts.{IsRead-begin, IsRead-follow}
+use Rattle.dnw_data_text.proofs.FieldValues.{labels-fit}
 use Rattle.dns_names_wire.specs.TextLaws.{AreByteLabels}
 
--- a part of bytes
-take-bytes : (n : ℕ) (b : List ℕ) → AreBytes b → AreBytes (take n b)
-take-bytes zero b h i = omega arith
-take-bytes (suc n) [] h i = omega arith
-take-bytes (suc n) (x ∷ b) h zero = h 0
-take-bytes (suc n) (x ∷ b) h (suc i) = take-bytes n b (λ j. h (suc j)) i
-
-drop-bytes : (n : ℕ) (b : List ℕ) → AreBytes b → AreBytes (drop n b)
-drop-bytes n b h i = omega (arith, get_or-drop n b i 0, h (n + i))
-
-Reads-bytes : {b : List ℕ} {p s e k : ℕ} {limit : Option ℕ} {ls : List (List ℕ)} → AreBytes b → Reads b p s limit ls e k → AreByteLabels ls
-Reads-bytes bytes (zero_octet w g) = tt
-Reads-bytes {b} {p} bytes (label c w g one most fit r) = (take-bytes _ (drop (p + 1) b) (drop-bytes (p + 1) b bytes), Reads-bytes bytes r)
-Reads-bytes bytes (pointer high low w g least g2 prior r) = Reads-bytes bytes r
-
 pub read_labels_are_bytes : (b : List ℕ) (p : ℕ) (labels : List (List ℕ)) (e k : ℕ) → AreBytes b → NameAt b p labels e k → AreByteLabels labels
-read_labels_are_bytes b p labels e k bytes name = Reads-bytes bytes name.reads
+read_labels_are_bytes b p labels e k bytes name = labels-fit bytes name.reads
 
 -- the characters of a label's text are ASCII
 follow-bytes : (bs : List ℕ) → list_all may_follow bs ≡ true → AreBytes bs

@@ -1,17 +1,13 @@
 -- Types and their codes come back.
-use Rattle.std.proofs.Common.{◌≡◌, ◌==◌, Bool, true, false, refl, sym, ap, ◌∙◌}
-use Rattle.std.proofs.lemmas.Bool.{eqb-true}
+use Rattle.std.proofs.Common.{◌≡◌, Bool, true, false, refl, sym, ap, ◌∙◌}
 use Rattle.dnw_codes.specs.declared.record_type.RecordType.{RecordType}
 use Rattle.dnw_codes.specs.declared.record_type.RecordType.TheVariants.{Unknown}
-use Rattle.dnw_codes.specs.RecordTypes.{is_unknown, named_types, type_code, type_of_code}
+use Rattle.dnw_codes.specs.RecordTypes.{is_unknown, type_code, type_of_code}
 use Rattle.dns_names_wire.specs.CodeLaws.{NamedTypesComeBack, TypeCodesComeBack, UnknownTypesComeBack}
-use Rattle.dns_names_wire.proofs.Found.{every, found}
+use Rattle.dnw_data_text.proofs.TypesBack.{code-back}
 
 pub codes : TypeCodesComeBack
-unfolding type_of_code
-codes code =
-    found (λ kind. type_code kind ≡ code) (λ kind. type_code kind == code) named_types (Unknown code)
-    (every (λ kind. (type_code kind == code) ≡ true → type_code kind ≡ code) (λ kind. eqb-true (type_code kind) code) named_types) refl
+codes = code-back
 
 pub named : NamedTypesComeBack
 unfolding type_of_code

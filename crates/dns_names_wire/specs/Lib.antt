@@ -85,17 +85,18 @@ pub use Rattle.dnw_svcb_text.specs.ParamTexts
 pub use Rattle.dnw_svcb_text.specs.ParamWords
 pub use Rattle.dnw_data_text.specs.DataTexts
 pub use Rattle.dnw_data_text.specs.Generic
-pub use Rattle.dnw_data_text.specs.RecordLines
+pub use Rattle.dnw_record_text.specs.RecordLines
 pub use Rattle.dnw_data_text.specs.DataTextLaws
+pub use Rattle.dnw_record_text.specs.RecordTextLaws
+pub use Rattle.dnw_header.specs.HeaderLaws
+pub use Rattle.dnw_header.specs.Headers
+pub use Rattle.dnw_header.specs.OpCodes
+pub use Rattle.dnw_header.specs.ResponseCodes
+pub use Rattle.dnw_header.specs.Responses
 pub use Rattle.dnw_message.specs.Edns
-pub use Rattle.dnw_message.specs.HeaderLaws
-pub use Rattle.dnw_message.specs.Headers
 pub use Rattle.dnw_message.specs.MessageLaws
 pub use Rattle.dnw_message.specs.Messages
-pub use Rattle.dnw_message.specs.OpCodes
 pub use Rattle.dnw_message.specs.Queries
-pub use Rattle.dnw_message.specs.ResponseCodes
-pub use Rattle.dnw_message.specs.Responses
 pub use Rattle.dnw_message_writer.specs.Copies as MessageCopies
 pub use Rattle.dnw_message_writer.specs.Drafts
 pub use Rattle.dnw_message_writer.specs.QueryFrames

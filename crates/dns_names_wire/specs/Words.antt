@@ -135,9 +135,9 @@ pub use Rattle.dnw_field_text.specs.Tags.{IsTag, IsTagText}
 pub use Rattle.dnw_field_text.specs.Strings.{with_octet}
 pub use Rattle.dnw_field_text.specs.Times.{IsDateText, IsDay, IsMoment, IsTimeText, two_at}
 -- Texts of the data of records.
-pub use Rattle.dnw_data_text.specs.DataTexts.{FailsText, IsDataText, IsPlainData, IsTextOf, record_line}
+pub use Rattle.dnw_data_text.specs.DataTexts.{FailsText, IsDataText, IsPlainData, IsTextOf}
 pub use Rattle.dnw_data_text.specs.Generic.{generic_text, max_data, IsGeneric}
-pub use Rattle.dnw_data_text.specs.RecordLines.{FailsRecordLine, IsRecordLine, line_octets}
+pub use Rattle.dnw_record_text.specs.RecordLines.{FailsRecordLine, IsRecordLine, line_octets, record_line}
 pub use Rattle.dnw_data_text.specs.declared.error.DataTextError.{DataTextError}
 pub use Rattle.dnw_data_text.specs.declared.error.DataTextError.TheVariants.{Memory as OutOfMemory}
 -- Service parameters as text.
@@ -146,19 +146,20 @@ pub use Rattle.dnw_svcb_text.specs.ParamTexts.{param_text, params_text}
 pub use Rattle.dnw_svcb_text.specs.ParamWords.{IsParam}
 pub use Rattle.dnw_svcb_text.specs.ParamLaws.{IsParamValue, ParamsComeBack}
 pub use Rattle.dnw_data_text.specs.DataTextLaws.{AddressesComeBack as FieldAddressesComeBack, CountedComeBack, IdentifiersComeBack as FieldIdentifiersComeBack, NamesComeBack as FieldNamesComeBack, NumbersComeBack, OctetsComeBack, SegmentsComeBack, StringsComeBack, TypesComeBack}
-pub use Rattle.dnw_data_text.specs.DataTextLaws.{DataAreUnambiguous, DataComeBack, GenericComesBack, LinesAreUnambiguous, LinesComeBack, ListsComeBack, PrintedDataAreSame, PrintedLinesAreSame, TextsAreParsed, line_head, IsReadBack as IsFieldReadBack, FieldComesBack, Follows as FollowsField, IsRead as IsReadType, IsData as IsDataOctets}
+pub use Rattle.dnw_data_text.specs.DataTextLaws.{DataAreUnambiguous, DataComeBack, GenericComesBack, ListsComeBack, PrintedDataAreSame, TextsAreParsed, IsReadBack as IsFieldReadBack, FieldComesBack, Follows as FollowsField, IsRead as IsReadType, IsData as IsDataOctets}
+pub use Rattle.dnw_record_text.specs.RecordTextLaws.{LinesAreUnambiguous, LinesComeBack, PrintedLinesAreSame, line_head}
 -- Whole messages: headers, sections and EDNS.
+pub use Rattle.dnw_header.specs.HeaderLaws.{HeaderFits, HeadersReadBack, HeadersWriteBack}
+pub use Rattle.dnw_header.specs.Headers.{TakesHeader, flag, flags_of, header_of, header_size, header_wire, is_set, metadata_of}
+pub use Rattle.dnw_header.specs.OpCodes.{op_code, op_entry, op_of_code}
+pub use Rattle.dnw_header.specs.ResponseCodes.{response_code, response_entry, response_of_code}
+pub use Rattle.dnw_header.specs.Responses.{response_to}
 pub use Rattle.dnw_message.specs.Edns.{EdnsValue, FailsEdns, FailsOpt, HasEdns, HasOpt, HasOptions, IsEdns, IsResponseCode, OptionValue}
 pub use Rattle.dnw_message.specs.Edns.{first_option, is_opt, opts_in}
-pub use Rattle.dnw_message.specs.HeaderLaws.{HeaderFits, HeadersReadBack, HeadersWriteBack}
-pub use Rattle.dnw_message.specs.Headers.{TakesHeader, flag, flags_of, header_of, header_size, header_wire, is_set, metadata_of}
 pub use Rattle.dnw_message.specs.MessageLaws.{MessagesDontFail, OneMessage, OneMessageError}
 pub use Rattle.dnw_message.specs.Messages.{FailsHere, FailsItem, FailsMessage, FailsWithin, Item, ItemAt, ItemsAt, MessageAt, MessageValue}
 pub use Rattle.dnw_message.specs.Messages.{QueryValue, SectionAt, SectionsBegin, no_header, part, question_rest, record_rest, rest_of}
-pub use Rattle.dnw_message.specs.Responses.{response_to}
-pub use Rattle.dnw_message.specs.OpCodes.{op_code, op_entry, op_of_code}
 pub use Rattle.dnw_message.specs.Queries.{FailsQuery, TakesQuery}
-pub use Rattle.dnw_message.specs.ResponseCodes.{response_code, response_entry, response_of_code}
 -- Whole messages that are written.
 pub use Rattle.dnw_message_writer.specs.Drafts.{Added, Adds, AddsAll, AddsEntry, AddsLast, AddsMany, AddsSet, Begins, Closes, Draft, Ends, counted, counted_by, cuts, is_open}
 pub use Rattle.dnw_message_writer.specs.QueryFrames.{frame-query}
@@ -174,8 +175,8 @@ pub use Rattle.dnw_message_writer.specs.Copies.{AddsCopies, AddsItems, FailsCopi
 pub use Rattle.dnw_message_writer.specs.Copies.{FailsToBegin, WrittenBefore, last_size, plain_in, query_entry}
 pub use Rattle.dnw_message_writer.specs.WireEdns.{IsNoOpt, IsOptOf, OptionFits, edns_ttl, edns_value, option_wire, options_wire}
 pub use Rattle.dnw_message_writer.specs.declared.writer.Entry.{Entry}
-pub use Rattle.dnw_message.specs.declared.header.HeaderCounts.{HeaderCounts}
-pub use Rattle.dnw_message.specs.declared.header.Metadata.{Metadata}
+pub use Rattle.dnw_header.specs.declared.header.HeaderCounts.{HeaderCounts}
+pub use Rattle.dnw_header.specs.declared.header.Metadata.{Metadata}
 -- the data of records of any type, and records that are written from them
 pub use Rattle.dnw_rdata.specs.declared.record.Record.{Record}
 pub use Rattle.dnw_rdata.specs.declared.rdata.RDataError.{RDataError}

@@ -58,11 +58,11 @@ pub mod code_laws;
 
 /// The text of records and their data in master files, by the table of fields and in the form that any data have.
 pub mod data_text {
-    pub use dnw_data_text::data_text::{data_text, parse, record_text};
+    pub use dnw_data_text::data_text::{data_text, parse};
     pub use dnw_data_text::error::{DataTextError, Wanted};
     pub use dnw_data_text::generic::Generic;
-    pub use dnw_data_text::laws;
-    pub use dnw_data_text::record_line::{RecordLineError, parse_record};
+    pub use dnw_record_text::laws;
+    pub use dnw_record_text::record_line::{RecordLineError, parse_record, record_text};
 }
 
 /// A cursor over the bytes of a message.
@@ -133,15 +133,15 @@ pub mod lower_name {
 
 /// Whole messages, which are checked once and read without a copy, and written item by item: headers, sections and EDNS.
 pub mod message {
+    pub use dnw_header::header::{Header, HeaderCounts, MessageType, Metadata};
+    pub use dnw_header::op_code::OpCode;
+    pub use dnw_header::response_code::ResponseCode;
     pub use dnw_message::edns::{EdnsError, EdnsOption, EdnsOptions, EdnsRef};
     pub use dnw_message::error::{MessageError, MessageErrorKind, Section};
-    pub use dnw_message::header::{Header, HeaderCounts, MessageType, Metadata};
     pub use dnw_message::items::{Queries, Records};
     pub use dnw_message::laws;
     pub use dnw_message::message::{MessageRef, SectionOffsets};
-    pub use dnw_message::op_code::OpCode;
     pub use dnw_message::query::QueryRef;
-    pub use dnw_message::response_code::ResponseCode;
     pub use dnw_message_writer::edns::{WireEdns, WireOption};
     pub use dnw_message_writer::laws::{
         edns_comes_back, messages_are_written, messages_end_with, written_messages_are_read,

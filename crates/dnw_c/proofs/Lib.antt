@@ -1,11 +1,5 @@
 mod Forms
-mod Items
-mod Starts
 mod Lists
+mod Named
+mod Numbers
 pub mod TextFaults
-pub mod TokenParts
-pub mod TokenSizes
-pub mod TokenTexts
-pub mod TypeCodes
-mod RecordEnds
-pub mod MessageSizes

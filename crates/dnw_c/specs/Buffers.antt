@@ -1,6 +1,6 @@
 -- What the functions for C leave in the caller's buffers.
 use Rattle.std.specs.Prelude.{◌≡◌, ◌<◌, ℕ, List, length}
-pub use Rattle.dnw_reading.specs.Buffers.{put}
+use Rattle.dnw_reading.specs.Buffers.{put}
 
 -- The bytes are put into a buffer if they fit. Else it is unchanged.
 pub record PutsIfFits (buffer bytes after : List ℕ) : Type 0 where

@@ -1,2 +1,2 @@
--- What no public clause cites: what is found in a part of a text.
-pub mod TokenParts
+-- What no public clause cites: names with their sort keys.
+pub mod Keyed

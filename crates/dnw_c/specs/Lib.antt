@@ -1,13 +1,9 @@
+pub mod Inside
 pub mod Buffers
-pub mod CodeCalls
-pub mod MessageItems
 pub mod NameCalls
 pub mod NameEdits
 pub mod NameLists
-pub mod RecordCalls
 pub mod ReverseCalls
-pub mod TokenCalls
 pub mod TextFaultCalls
-pub mod TypeLists
-pub mod Inside
 pub mod SortKeyCalls
+pub mod SortCalls

@@ -1,24 +1,18 @@
 -- Why the functions for C that take one name fail.
-use Rattle.std.specs.Prelude.{◌≡◌, ◌≢◌, ◌<◌, ◌≤◌, ◌⊎◌, ℕ, ℤ, pos, negsuc, Bool, true, List, length, Ok, Err, IsUtf8}
+use Rattle.std.specs.Prelude.{◌≡◌, ◌≢◌, ◌<◌, ◌⊎◌, ℕ, Bool, true, List, length, Ok, Err, IsUtf8}
 use Rattle.std.specs.Str.{chars}
-use Rattle.dnw_error.specs.declared.error.DecodeError.{DecodeError}
 use Rattle.dnw_error.specs.Fault.{Fault, HasOwnText}
-use Rattle.std.specs.declared.cmp.Ordering.{Ordering}
-use Rattle.std.specs.declared.cmp.Ordering.TheVariants.{Less, Equal, Greater}
 use Rattle.dnw_base.specs.Names.{NameValue, lower, wire}
 use Rattle.dnw_text.specs.NameText.{name_text, name_from_text}
-use Rattle.dnw_reading.specs.Reading.{NameAt, FaultAt}
-use Rattle.dnw_failure.specs.Failures.{of_decode, of_fault}
+use Rattle.dnw_reading.specs.Reading.{NameAt}
+use Rattle.dnw_failure.specs.Failures.{of_fault}
+use Rattle.dnw_failure.specs.Offsets.{HasNoName}
 use Rattle.dnw_failure.specs.declared.failure.Failure.{Failure}
 use Rattle.dnw_failure.specs.declared.failure.Failure.TheVariants.{NoMemory, NoRoom, NotUtf8, BytesLeft}
 
 -- the text of a name that is read from a message, which is fully qualified
 abbrev pub absolute_text : List (List ℕ) → List ℕ
 absolute_text labels = name_text (record { is_fqdn = true; labels = labels })
-
--- no name is at this offset, and that is why
-abbrev pub HasNoName : List ℕ → ℕ → Failure → Type 0
-HasNoName message start failure = (error : DecodeError) × (k : ℕ) × (j : ℕ) × FaultAt message start error k j × (failure ≡ of_decode error)
 
 -- The name at an offset of a message is not read into a buffer of this size as its wire form: there is none, or the form
 -- is longer.
@@ -27,9 +21,9 @@ FailsToRead message start size failure =
     HasNoName message start failure
     ⊎ ((labels : List (List ℕ)) × (end : ℕ) × (k : ℕ) × NameAt message start labels end k × (size < length (wire labels)) × (failure ≡ NoRoom))
 
--- A text is not put into a buffer of this size: it is longer, or memory ran out, which the empty text does not need.
+-- A text is not put into a buffer of this size: it is longer.
 abbrev pub FailsToPutText : List ℕ → ℕ → Failure → Type 0
-FailsToPutText text size failure = ((size < length text) × (failure ≡ NoRoom)) ⊎ ((1 ≤ length text) × (failure ≡ NoMemory))
+FailsToPutText text size failure = (size < length text) × (failure ≡ NoRoom)
 
 -- Nor as its text: there is none, or its text is not put.
 abbrev pub FailsToReadText : List ℕ → ℕ → ℕ → Failure → Type 0
@@ -66,16 +60,8 @@ abbrev pub FailsToLower : List ℕ → ℕ → Failure → Type 0
 FailsToLower form size failure =
     IsNoForm form failure ⊎ ((labels : List (List ℕ)) × IsFormOf form labels × (size < length (wire (lower labels))) × (failure ≡ NoRoom))
 
--- -1, 0 or 1
-abbrev pub sign : Ordering → ℤ
-sign Less = negsuc 0
-sign Equal = pos 0
-sign Greater = pos 1
-
--- A wire form is not printed into a buffer of this size: it is none, or bytes follow after it, or its text is not put.
+-- A wire form is not printed into a buffer of this size: it is none, or its text is longer.
 abbrev pub FailsToPrint : List ℕ → Bool → ℕ → Failure → Type 0
 FailsToPrint form is_fqdn size failure =
-    HasNoName form 0 failure
-    ⊎ ((labels : List (List ℕ)) × (end : ℕ) × (k : ℕ) × NameAt form 0 labels end k × (end ≢ length form) × (failure ≡ BytesLeft))
-    ⊎ ((labels : List (List ℕ)) × (k : ℕ) × NameAt form 0 labels (length form) k
-    × FailsToPutText (name_text (record { is_fqdn = is_fqdn; labels = labels })) size failure)
+    IsNoForm form failure
+    ⊎ ((labels : List (List ℕ)) × IsFormOf form labels × FailsToPutText (name_text (record { is_fqdn = is_fqdn; labels = labels })) size failure)

@@ -4,7 +4,7 @@ use Rattle.dnw_error.specs.Fault.{Fault}
 use Rattle.dnw_base.specs.Names.{NameValue, wire}
 use Rattle.dnw_form.specs.Edits.{append_name, prepend_label}
 use Rattle.dnw_label.specs.LabelText.{label_from_bytes}
-use Rattle.dnw_c.specs.Buffers.{put}
+use Rattle.dnw_reading.specs.Buffers.{put}
 use Rattle.dnw_failure.specs.Failures.{of_fault}
 use Rattle.dnw_c.specs.NameCalls.{FailsAsForms, IsFormOf, IsNoForm}
 use Rattle.dnw_failure.specs.declared.failure.Failure.{Failure}

@@ -10,9 +10,9 @@ ghost use Rattle.dnw_failure.specs.declared.failure.Failure.TheVariants.{NoRoom}
 
 use crate::names::put_form;
 use crate::order::{both_names, name_of};
-use dns_names_wire::error::ProtoResult;
-use dns_names_wire::name::Name;
+use dnw_error::error::ProtoResult;
 use dnw_failure::failure::{Failure, of_proto};
+use dnw_name::name::Name;
 use std::alloc::Global;
 
 /// Puts the wire form of a name with the labels of another after its own, and its length.

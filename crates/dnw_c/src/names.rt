@@ -11,21 +11,28 @@ ghost use Rattle.dnw_name.specs.Decodable.{TakesNameValue};
 ghost use Rattle.dnw_encoder.specs.Encoder.{Encoder};
 ghost use Rattle.dnw_encoder.specs.EncoderValue.{value, lender};
 ghost use Rattle.dnw_encoder.specs.EmittedName.{EmitsName};
-ghost use Rattle.dnw_c.specs.Buffers.{PutsIfFits, put};
+ghost use Rattle.dnw_reading.specs.Buffers.{put};
+ghost use Rattle.dnw_c.specs.Buffers.{PutsIfFits};
 ghost use Rattle.dnw_failure.specs.Failures.{HasText, NumberOf, number};
-ghost use Rattle.dnw_c.specs.NameCalls.{FailsToParse, FailsToPrint, FailsToPutText, FailsToRead, FailsToReadText, absolute_text};
+ghost use Rattle.dnw_c.specs.NameCalls.{FailsToParse, FailsToPrint, FailsToPutText, FailsToRead, FailsToReadText, IsFormOf, absolute_text};
 ghost use Rattle.dnw_c.specs.NameLists.{FailsToCopy, FailsToWrite, StopsWriting, WritesNames, at_first, limited_to};
 ghost use Rattle.dnw_failure.specs.declared.failure.Failure.{Failure};
 ghost use Rattle.dnw_failure.specs.declared.failure.Failure.TheVariants.{NoRoom};
 
-use dns_names_wire::binary::BinEncodable;
-use dns_names_wire::decoder::BinDecoder;
-use dns_names_wire::encoder::BinEncoder;
-use dns_names_wire::error::DecodeError;
-use dns_names_wire::name::Name;
-use dns_names_wire::name_ref::NameRef;
+use crate::wire_form::labels_of;
+use arrayvec::ArrayString;
+use dnw_base::decoder::BinDecoder;
+use dnw_base::limits::MAX_NAME;
+use dnw_encoder::binary::BinEncodable;
+use dnw_encoder::encoder::BinEncoder;
+use dnw_error::error::DecodeError;
 use dnw_failure::buffer::put;
 use dnw_failure::failure::{Failure, of_decode, of_proto, text_of};
+use dnw_failure::names::{name_ref_at, put_name};
+use dnw_form::wire_labels::WireLabels;
+use dnw_name::name::Name;
+use dnw_name::name_ref::NameRef;
+use dnw_text::text;
 use std::alloc::Global;
 
 /// A name that was read: the number of bytes that were put, and the offset after the name's own octets.
@@ -75,10 +82,9 @@ pub extern "C" fn dnw_name_read(
     }
 }
 
-/// Reads the name at an offset of a message, and puts its text.
+/// Reads the name at an offset of a message, and puts its text. It does not allocate.
 #[unsafe(no_mangle)]
 pub extern "C" fn dnw_name_read_text(
-    alloc: Global,
     message: &[u8],
     start: usize,
     text: &mut [u8],
@@ -90,7 +96,7 @@ pub extern "C" fn dnw_name_read_text(
     ensures room { result ≡ number NoRoom → length text.old < max_text }
     ensures same { result ≢ 0 → (text.new ≡ text.old) × (read.new ≡ read.old) }
 {
-    match read_text(alloc, message, start, text) {
+    match read_text(message, start, text) {
         Ok(name) => {
             *read = name;
             0
@@ -123,23 +129,22 @@ pub extern "C" fn dnw_name_parse(
     }
 }
 
-/// Puts the text of the name with a wire form.
+/// Puts the text of the name with a wire form. It does not allocate.
 #[unsafe(no_mangle)]
 pub extern "C" fn dnw_name_print(
-    alloc: Global,
     form: &[u8],
     is_fqdn: bool,
     text: &mut [u8],
     len: &mut usize,
 ) -> u32
-    ensures ok { result ≡ 0 → (labels : List (List ℕ)) × (k : ℕ) × NameAt form.now 0 labels (length form.now) k
+    ensures ok { result ≡ 0 → (labels : List (List ℕ)) × IsFormOf form.now labels
         × (text.new ≡ put text.old (name_text (record { is_fqdn = is_fqdn; labels = labels })))
         × (len.new ≡ length (name_text (record { is_fqdn = is_fqdn; labels = labels }))) }
     ensures err { result ≢ 0 → NumberOf (FailsToPrint form.now is_fqdn (length text.old)) result }
     ensures room { result ≡ number NoRoom → length text.old < max_text }
     ensures same { result ≢ 0 → (text.new ≡ text.old) × (len.new ≡ len.old) }
 {
-    match print(alloc, form, is_fqdn, text) {
+    match print(form, is_fqdn, text) {
         Ok(put) => {
             *len = put;
             0
@@ -200,21 +205,16 @@ fn read_form(message: &[u8], start: usize, form: &mut [u8]) -> Result<ReadName, 
 }
 
 /// Reads the name at an offset, and puts its text.
-fn read_text(
-    alloc: Global,
-    message: &[u8],
-    start: usize,
-    text: &mut [u8],
-) -> Result<ReadName, Failure>
+fn read_text(message: &[u8], start: usize, text: &mut [u8]) -> Result<ReadName, Failure>
     ensures ok { IfOk result (λ r. (labels : List (List ℕ)) × (k : ℕ) × NameAt message.now start labels r.end k
         × (text.new ≡ put text.old (absolute_text labels)) × (r.len ≡ length (absolute_text labels))) }
     ensures err { IfErr result (FailsToReadText message.now start (length text.old)) }
     ensures room { IfErr result (λ failure. failure ≡ NoRoom → length text.old < max_text) }
     ensures same { OnErr result (text.new ≡ text.old) }
 {
-    match name_at(alloc, message, start) {
+    match name_ref_at(message, start) {
         Ok((name, end)) => {
-            let len = put_text(alloc, text, &name)?;
+            let len = put_text(text, name.wire_labels(&mut [0; MAX_NAME]), true)?;
             Ok(ReadName { len, end })
         }
         Err(error) => Err(of_decode(&error)),
@@ -246,24 +246,16 @@ fn parse(alloc: Global, text: &[u8], form: &mut [u8]) -> Result<ParsedName, Fail
 }
 
 /// Puts the text of the name with a wire form, and returns its length.
-fn print(alloc: Global, form: &[u8], is_fqdn: bool, text: &mut [u8]) -> Result<usize, Failure>
-    ensures ok { IfOk result (λ len. (labels : List (List ℕ)) × (k : ℕ) × NameAt form.now 0 labels (length form.now) k
+fn print(form: &[u8], is_fqdn: bool, text: &mut [u8]) -> Result<usize, Failure>
+    ensures ok { IfOk result (λ len. (labels : List (List ℕ)) × IsFormOf form.now labels
         × (text.new ≡ put text.old (name_text (record { is_fqdn = is_fqdn; labels = labels })))
         × (len ≡ length (name_text (record { is_fqdn = is_fqdn; labels = labels })))) }
     ensures err { IfErr result (FailsToPrint form.now is_fqdn (length text.old)) }
     ensures room { IfErr result (λ failure. failure ≡ NoRoom → length text.old < max_text) }
     ensures same { OnErr result (text.new ≡ text.old) }
 {
-    match name_at(alloc, form, 0) {
-        Ok((mut name, end)) => {
-            if end != form.len() {
-                return Err(Failure::BytesLeft);
-            }
-            name.set_fqdn(is_fqdn);
-            put_text(alloc, text, &name)
-        }
-        Err(error) => Err(of_decode(&error)),
-    }
+    let labels = labels_of(form)?;
+    put_text(text, labels, is_fqdn)
 }
 
 /// Puts a message of the names of a list.
@@ -295,18 +287,6 @@ pub(crate) fn name_at(
 {
     let (name, end) = name_ref_at(message, start)?;
     Ok((name.to_name(alloc).unwrap(), end))
-}
-
-/// Returns the name at an offset, without a copy, and the offset after its own octets.
-#[inline(always)]
-pub(crate) fn name_ref_at(message: &[u8], start: usize) -> Result<(NameRef<'_>, usize), DecodeError>
-    ensures ok { IfOk result (λ r. (k : ℕ) × NameAt message.now start r.0 r.1 k) }
-    ensures err { IfErr result (λ error. (k : ℕ) × (j : ℕ) × FaultAt message.now start error k j) }
-{
-    let mut decoder = BinDecoder::new(message);
-    decoder.skip(start)?;
-    let name = NameRef::read(&mut decoder)?;
-    Ok((name, decoder.index()))
 }
 
 /// Returns the bytes of a message of a list's names, and their number.
@@ -359,7 +339,7 @@ fn write_next(decoder: &mut BinDecoder<'_>, encoder: &mut BinEncoder<'_>) -> Res
 }
 
 /// Puts the wire form of a name, and returns its length.
-#[tactic(auto, using(crate::proofs::Forms::form_size, crate::proofs::Forms::form_fits))]
+#[tactic(auto, using(dnw_failure::proofs::Starts::form_size, crate::proofs::Forms::form_fits))]
 pub(crate) fn put_form(form: &mut [u8], name: &Name) -> Result<usize, Failure>
     ensures ok { IfOk result (λ len. (len ≡ length (wire name.now.labels)) × (form.new ≡ put form.old (wire name.now.labels))) }
     ensures err { IfErr result (λ failure. (failure ≡ NoRoom) × (length form.old < length (wire name.now.labels))) }
@@ -372,31 +352,21 @@ pub(crate) fn put_form(form: &mut [u8], name: &Name) -> Result<usize, Failure>
     put(form, name.as_wire())
 }
 
-/// Puts the wire form of a name of a message, and returns its length.
-#[tactic(auto, using(crate::proofs::Forms::form_size))]
-#[inline(always)]
-pub(crate) fn put_name(form: &mut [u8], name: &NameRef<'_>) -> Result<usize, Failure>
-    ensures ok { IfOk result (λ len. (len ≡ length (wire name.now)) × (form.new ≡ put form.old (wire name.now))) }
-    ensures err { IfErr result (λ failure. (failure ≡ NoRoom) × (length form.old < length (wire name.now))) }
-    ensures room { IfErr result (λ failure. failure ≡ NoRoom → length form.old < max_name) }
-    ensures same { OnErr result (form.new ≡ form.old) }
-{
-    if name.encoded_len() > form.len() {
-        return Err(Failure::NoRoom);
-    }
-    Ok(name.copy_wire(form).unwrap())
-}
-
-/// Puts the text of a name, and returns its length.
-fn put_text(alloc: Global, buffer: &mut [u8], name: &Name) -> Result<usize, Failure>
-    ensures ok { IfOk result (λ len. (len ≡ length (name_text name.now))
-        × (buffer.new ≡ put buffer.old (name_text name.now))) }
-    ensures err { IfErr result (FailsToPutText (name_text name.now) (length buffer.old)) }
+/// Puts the text of a name with these labels, and returns its length.
+#[tactic(auto, using(dnw_text::proofs::TextSizes::texts_are_short))]
+fn put_text(buffer: &mut [u8], labels: WireLabels<'_>, is_fqdn: bool) -> Result<usize, Failure>
+    ensures ok { IfOk result (λ len. (len ≡ length (name_text (record { is_fqdn = is_fqdn; labels = labels.entry })))
+        × (buffer.new ≡ put buffer.old (name_text (record { is_fqdn = is_fqdn; labels = labels.entry })))) }
+    ensures err { IfErr result (FailsToPutText (name_text (record { is_fqdn = is_fqdn; labels = labels.entry })) (length buffer.old)) }
     ensures room { IfErr result (λ failure. failure ≡ NoRoom → length buffer.old < max_text) }
     ensures same { OnErr result (buffer.new ≡ buffer.old) }
 {
-    match name.to_ascii(alloc) {
-        Ok(text) => put(buffer, text.as_bytes()),
-        Err(error) => Err(of_proto(&error)),
+    // The proof reads here that the labels fit together.
+    let _form = labels.as_wire();
+    let mut text = ArrayString::<{ text::MAX_TEXT }>::new();
+    text::push_labels_text(&mut text, labels);
+    if is_fqdn {
+        text.push('.');
     }
+    put(buffer, text.as_bytes())
 }

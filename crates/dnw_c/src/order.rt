@@ -3,20 +3,20 @@ ghost use Rattle.std.specs.Prelude.{◌≡◌, ◌≢◌, ◌↔◌, List, ℕ, 
 ghost use Rattle.dnw_base.specs.Limits.{max_name};
 ghost use Rattle.dnw_base.specs.Names.{lower, wire};
 ghost use Rattle.dnw_order.specs.Order.{labels_cmp, IsZoneOf};
-ghost use Rattle.dnw_c.specs.Buffers.{put};
+ghost use Rattle.dnw_reading.specs.Buffers.{put};
 ghost use Rattle.dnw_failure.specs.Failures.{NumberOf, number};
-ghost use Rattle.dnw_c.specs.NameCalls.{FailsAsForms, FailsToLower, IsFormOf, IsNoForm, sign};
+ghost use Rattle.dnw_failure.specs.Signs.{sign};
+ghost use Rattle.dnw_c.specs.NameCalls.{FailsAsForms, FailsToLower, IsFormOf, IsNoForm};
 ghost use Rattle.dnw_failure.specs.declared.failure.Failure.TheVariants.{NoRoom};
 
 use crate::names::{name_at, put_form};
-use dns_names_wire::decoder::BinDecoder;
-use dns_names_wire::name::Name;
-use dns_names_wire::name_ref::NameRef;
+use crate::wire_form::labels_of;
 use dnw_failure::failure::{Failure, of_decode};
+use dnw_failure::sign::sign_of;
 use dnw_form::wire_labels::WireLabels;
+use dnw_name::name::Name;
 use dnw_order::order;
 use std::alloc::Global;
-use std::cmp::Ordering;
 
 /// Compares two names in canonical order, and puts -1, 0 or 1.
 #[unsafe(no_mangle)]
@@ -121,25 +121,6 @@ pub(crate) fn name_of(alloc: Global, form: &[u8]) -> Result<Name, Failure>
     }
 }
 
-/// Returns the labels of a wire form, without a copy. A name at offset 0 has no pointer, which would have to point before
-/// it, so its octets are its wire form.
-#[inline(always)]
-pub(crate) fn labels_of(form: &[u8]) -> Result<WireLabels<'_>, Failure>
-    ensures ok { IfOk result (λ labels. IsFormOf form.now labels) }
-    ensures err { IfErr result (IsNoForm form.now) }
-{
-    let mut decoder = BinDecoder::new(form);
-    match NameRef::read(&mut decoder) {
-        Ok(_) => {
-            if !decoder.is_empty() {
-                return Err(Failure::BytesLeft);
-            }
-            Ok(WireLabels::new(form))
-        }
-        Err(error) => Err(of_decode(&error)),
-    }
-}
-
 /// Returns the labels of two wire forms.
 #[inline(always)]
 fn both_labels<'a>(
@@ -163,15 +144,4 @@ pub(crate) fn both_names(alloc: Global, left: &[u8], right: &[u8]) -> Result<(Na
     let left = name_of(alloc, left)?;
     let right = name_of(alloc, right)?;
     Ok((left, right))
-}
-
-/// Returns an order as -1, 0 or 1.
-pub(crate) fn sign_of(order: Ordering) -> i32
-    ensures { result ≡ sign order }
-{
-    match order {
-        Ordering::Less => -1,
-        Ordering::Equal => 0,
-        Ordering::Greater => 1,
-    }
 }

@@ -2,17 +2,17 @@
 ghost use Rattle.std.specs.Prelude.{◌≡◌, ◌≢◌, ◌<◌, length, IfOk, IfErr, OnErr};
 ghost use Rattle.dnw_base.specs.Limits.{max_name};
 ghost use Rattle.dnw_reverse.specs.NetTexts.{net_addr};
-ghost use Rattle.dnw_c.specs.Buffers.{put};
+ghost use Rattle.dnw_reading.specs.Buffers.{put};
 ghost use Rattle.dnw_failure.specs.Failures.{NumberOf, number};
 ghost use Rattle.dnw_c.specs.ReverseCalls.{FailsToReadNet, FailsToReverse, IsAddress, IsNoAddress, IsNoReverse, IsReverseOf, PutsNet, PutsReverse, address_octets};
 ghost use Rattle.dnw_failure.specs.declared.failure.Failure.TheVariants.{NoRoom};
 
 use crate::names::put_form;
 use crate::order::name_of;
-use dns_names_wire::name::Name;
-use dns_names_wire::net::IpNet;
 use dnw_failure::buffer::put;
 use dnw_failure::failure::Failure;
+use dnw_name::name::Name;
+use dnw_reverse::net::IpNet;
 use std::alloc::Global;
 use std::net::{IpAddr, Ipv4Addr, Ipv6Addr};
 

@@ -1,13 +1,13 @@
 //! Sort keys of names, by their wire forms.
 ghost use Rattle.std.specs.Prelude.{◌≡◌, ◌≢◌, List, ℕ, ◌<◌, length, IfOk, IfErr, OnErr};
 ghost use Rattle.dnw_order.specs.SortKeys.{max_sort_key, sort_key};
-ghost use Rattle.dnw_c.specs.Buffers.{put};
+ghost use Rattle.dnw_reading.specs.Buffers.{put};
 ghost use Rattle.dnw_failure.specs.Failures.{NumberOf, number};
 ghost use Rattle.dnw_c.specs.NameCalls.{IsFormOf};
 ghost use Rattle.dnw_c.specs.SortKeyCalls.{FailsToKey};
 ghost use Rattle.dnw_failure.specs.declared.failure.Failure.TheVariants.{NoRoom};
 
-use crate::order::labels_of;
+use crate::wire_form::labels_of;
 use dnw_failure::buffer::put;
 use dnw_failure::failure::Failure;
 use dnw_order::sort_key::{self, MAX_SORT_KEY_LENGTH};

@@ -5,8 +5,8 @@ ghost use Rattle.dnw_text.specs.TextFaults.{IsNameText};
 ghost use Rattle.dnw_failure.specs.Failures.{NumberOf};
 ghost use Rattle.dnw_c.specs.TextFaultCalls.{IsTextFault, of_rule};
 
-use dns_names_wire::text_fault::{TextRule, fault_of};
 use dnw_failure::failure::Failure;
+use dnw_text::fault::{TextRule, fault_of};
 
 /// Returns 0 if a text gives a name, and else the number of the rule that it breaks, and puts the offset at which it goes
 /// wrong. It does not allocate.

@@ -1,1 +1,5 @@
 mod Taken
+mod Items
+pub mod MessageSizes
+mod RecordEnds
+pub mod TypeCodes

@@ -5,11 +5,11 @@ use Rattle.dnw_failure.specs.declared.failure.Failure.{Failure}
 use Rattle.dnw_failure.specs.declared.failure.Failure.TheVariants as why
 use Rattle.dnw_message.specs.Edns.{EdnsValue, FailsEdns, HasEdns, IsResponseCode}
 use Rattle.dnw_message.specs.Messages.{FailsMessage, MessageAt, MessageValue}
-use Rattle.dnw_message.specs.ResponseCodes.{response_code}
+use Rattle.dnw_header.specs.ResponseCodes.{response_code}
 use Rattle.dnw_message.specs.declared.edns.EdnsError.{EdnsError}
 use Rattle.dnw_message.specs.declared.edns.EdnsError.TheVariants.{CutOption, DuplicateEdns, OwnerNotRoot}
 use Rattle.dnw_message.specs.declared.error.MessageError.{MessageError}
-use Rattle.dnw_message.specs.declared.response_code.ResponseCode.{ResponseCode}
+use Rattle.dnw_header.specs.declared.response_code.ResponseCode.{ResponseCode}
 use Rattle.dnw_c_messages.specs.MessageCalls.{of_message}
 use Rattle.dnw_c_messages.specs.declared.edns.ReadEdns.{ReadEdns}
 

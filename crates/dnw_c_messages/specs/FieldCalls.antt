@@ -1,6 +1,5 @@
 -- What the functions for C put of the fields of the data of a record, and why there is no next one.
 use Rattle.std.specs.Prelude.{◌≡◌, ◌<◌, ◌≤◌, ◌⊎◌, ℕ, ◌+◌, ◌-◌, Option, Some, None, List, length, slice_get}
-use Rattle.dnw_base.specs.Decoder.{Decoder}
 use Rattle.dnw_data.specs.Fields.{FailsField, TakesField}
 use Rattle.dnw_data.specs.Table.{fields_of}
 use Rattle.dnw_data.specs.Values.{FieldValue}
@@ -10,6 +9,7 @@ use Rattle.dnw_data.specs.declared.kind.ListKind.TheVariants as lists
 use Rattle.dnw_data.specs.declared.kind.Shown.TheVariants.{Text, Tag}
 use Rattle.dnw_error.specs.declared.error.DecodeError.{DecodeError}
 use Rattle.dnw_failure.specs.Failures.{of_decode}
+use Rattle.dnw_failure.specs.Offsets.{at_offset}
 use Rattle.dnw_failure.specs.declared.failure.Failure.{Failure}
 use Rattle.dnw_failure.specs.declared.failure.Failure.TheVariants.{MessageCut, WrongDataLength}
 use Rattle.dnw_c_messages.specs.declared.fields.FieldCursor.{FieldCursor}
@@ -45,12 +45,9 @@ head_of kind = 0
 abbrev pub read_field : Kind → ℕ → ℕ → ReadField
 read_field kind p e = record { kind = field_kind kind; offset = p + head_of kind; len = e - (p + head_of kind) }
 
-abbrev pub decoder_at : List ℕ → ℕ → Decoder
-decoder_at octets p = record { bytes = octets; index = p }
-
 -- A field of this kind goes from p to e.
 abbrev pub EndsAt : Kind → List ℕ → ℕ → ℕ → Type 0
-EndsAt kind octets p e = (value : FieldValue) × TakesField kind (decoder_at octets p) value (decoder_at octets e)
+EndsAt kind octets p e = (value : FieldValue) × TakesField kind (at_offset octets p) value (at_offset octets e)
 
 -- A field of this kind is at the cursor, and the cursor is after it now.
 abbrev pub TakesAs : Kind → List ℕ → FieldCursor → FieldCursor → ReadField → Type 0
@@ -59,7 +56,7 @@ TakesAs kind octets before after field =
 
 -- There is none.
 abbrev pub FailsToTake : Kind → List ℕ → ℕ → Failure → Type 0
-FailsToTake kind octets p failure = (error : DecodeError) × FailsField kind (decoder_at octets p) error × (failure ≡ of_decode error)
+FailsToTake kind octets p failure = (error : DecodeError) × FailsField kind (at_offset octets p) error × (failure ≡ of_decode error)
 
 -- A field of this kind is at the cursor; without a kind there are no more, and the data end there.
 abbrev pub TakesNext : Option Kind → List ℕ → FieldCursor → FieldCursor → ReadField → Type 0

@@ -3,10 +3,10 @@ use Rattle.std.specs.Prelude.{◌≡◌, ℕ, ◌≤◌, List}
 use Rattle.dnw_failure.specs.Failures.{of_decode}
 use Rattle.dnw_failure.specs.declared.failure.Failure.{Failure}
 use Rattle.dnw_failure.specs.declared.failure.Failure.TheVariants as why
-use Rattle.dnw_message.specs.Headers.{is_response}
+use Rattle.dnw_header.specs.Headers.{is_response}
 use Rattle.dnw_message.specs.Messages.{FailsMessage, MessageAt, MessageValue, SectionsBegin}
-use Rattle.dnw_message.specs.OpCodes.{op_code}
-use Rattle.dnw_message.specs.ResponseCodes.{response_code}
+use Rattle.dnw_header.specs.OpCodes.{op_code}
+use Rattle.dnw_header.specs.ResponseCodes.{response_code}
 use Rattle.dnw_message.specs.declared.error.MessageError.{MessageError}
 use Rattle.dnw_message.specs.declared.error.MessageErrorKind.{MessageErrorKind}
 use Rattle.dnw_message.specs.declared.error.MessageErrorKind.TheVariants.{Decode, TooManyPointers}

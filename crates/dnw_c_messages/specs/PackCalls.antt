@@ -3,7 +3,7 @@ use Rattle.std.specs.Prelude.{◌≡◌, ◌<◌, ◌⊎◌, ℕ, ◌≤◌, Boo
 use Rattle.dnw_failure.specs.Failures.{of_decode, of_proto}
 use Rattle.dnw_failure.specs.declared.failure.Failure.{Failure}
 use Rattle.dnw_failure.specs.declared.failure.Failure.TheVariants as why
-use Rattle.dnw_message.specs.Headers.{header_of, header_size}
+use Rattle.dnw_header.specs.Headers.{header_of, header_size}
 use Rattle.dnw_message.specs.Messages.{FailsMessage, MessageAt, MessageValue}
 use Rattle.dnw_message.specs.declared.error.MessageError.{MessageError}
 use Rattle.dnw_message_writer.specs.Copies.{FailsCopy, IsCopied}

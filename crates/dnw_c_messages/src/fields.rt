@@ -2,7 +2,8 @@
 ghost use Rattle.std.specs.Prelude.{◌≡◌, ◌≢◌, ◌≤◌, ◌+◌, ◌-◌, ◌^◌, length, IfOk, IfErr};
 ghost use Rattle.dnw_data.specs.Fields.{FailsField};
 ghost use Rattle.dnw_failure.specs.Failures.{NumberOf};
-ghost use Rattle.dnw_c_messages.specs.FieldCalls.{EndsAt, FailsToReadField, FailsToTake, PutsField, TakesAs, decoder_at, field_kind, head_of};
+ghost use Rattle.dnw_failure.specs.Offsets.{at_offset};
+ghost use Rattle.dnw_c_messages.specs.FieldCalls.{EndsAt, FailsToReadField, FailsToTake, PutsField, TakesAs, field_kind, head_of};
 
 use dnw_base::decoder::BinDecoder;
 use dnw_codes::record_type::RecordType;
@@ -108,7 +109,7 @@ fn end_of(kind: Kind, message: &[u8], offset: usize) -> Result<usize, DecodeErro
     requires { offset ≤ length message.now }
     ensures ok { IfOk result (EndsAt kind message.now offset) }
     ensures head { IfOk result (λ end. offset + head_of kind ≤ end) }
-    ensures err { IfErr result (FailsField kind (decoder_at message.now offset)) }
+    ensures err { IfErr result (FailsField kind (at_offset message.now offset)) }
 {
     let mut reader = BinDecoder::new(message);
     reader.skip(offset).unwrap();

@@ -9,8 +9,8 @@ ghost use Rattle.dnw_c_messages.specs.MessageCalls.{FailsToReadMessage, PutsMess
 
 use dnw_error::error::DecodeError;
 use dnw_failure::failure::{Failure, of_decode};
+use dnw_header::header::MessageType;
 use dnw_message::error::{MessageError, MessageErrorKind, Section};
-use dnw_message::header::MessageType;
 use dnw_message::message::MessageRef;
 
 /// A message that was read: the fields of its header, the offsets at which its sections of records begin, and the offset

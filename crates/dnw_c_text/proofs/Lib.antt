@@ -1,1 +1,4 @@
 mod Parsed
+pub mod TokenParts
+pub mod TokenSizes
+pub mod TokenTexts

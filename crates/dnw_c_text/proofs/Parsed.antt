@@ -6,9 +6,9 @@ use Rattle.dnw_codes.specs.RecordTypes.{type_code}
 use Rattle.dnw_codes.specs.declared.record_type.RecordType.{RecordType}
 use Rattle.dnw_data.specs.Table.{fields_of}
 use Rattle.dnw_data_text.specs.DataTexts.{FailsText}
-use Rattle.dnw_data_text.specs.RecordLines.{FailsRecordLine, IsRecordLine}
+use Rattle.dnw_record_text.specs.RecordLines.{FailsRecordLine, IsRecordLine}
 use Rattle.dnw_data_text.specs.declared.error.DataTextError.{DataTextError}
-use Rattle.dnw_data_text.specs.declared.record_line.RecordLineError.{RecordLineError}
+use Rattle.dnw_record_text.specs.declared.record_line.RecordLineError.{RecordLineError}
 use Rattle.dnw_failure.specs.declared.failure.Failure.{Failure}
 use Rattle.dnw_failure.specs.declared.failure.Failure.TheVariants.{NoRoom}
 use Rattle.dnw_reading.specs.Buffers.{put}

@@ -7,17 +7,16 @@ use Rattle.dnw_codes.specs.declared.record_type.RecordType.{RecordType}
 use Rattle.dnw_data.specs.Table.{fields_of}
 use Rattle.dnw_data_text.specs.DataTexts.{FailsText, IsTextOf}
 use Rattle.dnw_data_text.specs.Generic.{max_data}
-use Rattle.dnw_data_text.specs.RecordLines.{FailsRecordLine, IsDataOf, IsRecordLine}
+use Rattle.dnw_record_text.specs.RecordLines.{FailsRecordLine, IsDataOf, IsRecordLine}
 use Rattle.dnw_data_text.specs.declared.error.DataTextError.{DataTextError}
 use Rattle.dnw_data_text.specs.declared.error.DataTextError.TheVariants.{Memory as DataMemory}
-use Rattle.dnw_data_text.specs.declared.record_line.RecordLineError.{RecordLineError}
-use Rattle.dnw_data_text.specs.declared.record_line.RecordLineError.TheVariants.{NoOwner, NoTimeToLive, NoType, Data, TooLong, Memory}
-use Rattle.dnw_error.specs.declared.error.DecodeError.{DecodeError}
-use Rattle.dnw_failure.specs.Failures.{of_decode}
+use Rattle.dnw_record_text.specs.declared.record_line.RecordLineError.{RecordLineError}
+use Rattle.dnw_record_text.specs.declared.record_line.RecordLineError.TheVariants.{NoOwner, NoTimeToLive, NoType, Data, TooLong, Memory}
+use Rattle.dnw_failure.specs.Offsets.{HasNoName}
 use Rattle.dnw_failure.specs.declared.failure.Failure.{Failure}
 use Rattle.dnw_failure.specs.declared.failure.Failure.TheVariants as why
 use Rattle.dnw_reading.specs.Buffers.{put}
-use Rattle.dnw_reading.specs.Reading.{FaultAt, NameAt}
+use Rattle.dnw_reading.specs.Reading.{NameAt}
 
 -- ---- the origin
 
@@ -30,7 +29,7 @@ IsOrigin form (Some name) = IsTrue name.is_fqdn × (k : ℕ) × NameAt form 0 na
 abbrev pub IsNoOrigin : List ℕ → Failure → Type 0
 IsNoOrigin form failure =
     (form ≢ [])
-    × (((error : DecodeError) × (k : ℕ) × (j : ℕ) × FaultAt form 0 error k j × (failure ≡ of_decode error))
+    × (HasNoName form 0 failure
     ⊎ ((labels : List (List ℕ)) × (end : ℕ) × (k : ℕ) × NameAt form 0 labels end k × (end ≢ length form) × (failure ≡ why.BytesLeft)))
 
 -- ---- data

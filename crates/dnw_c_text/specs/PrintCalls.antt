@@ -1,18 +1,15 @@
 -- What the functions for C put of a record as text, and why there is none (RFC 1035, section 5.1).
 use Rattle.std.specs.Prelude.{◌≡◌, ◌<◌, ◌⊎◌, ℕ, List, length}
-use Rattle.dnw_base.specs.Decoder.{Decoder}
-use Rattle.dnw_data_text.specs.DataTexts.{IsDataText, record_line}
+use Rattle.dnw_data_text.specs.DataTexts.{IsDataText}
+use Rattle.dnw_record_text.specs.RecordLines.{record_line}
 use Rattle.dnw_error.specs.declared.error.DecodeError.{DecodeError}
 use Rattle.dnw_failure.specs.Failures.{of_decode}
+use Rattle.dnw_failure.specs.Offsets.{at_offset}
 use Rattle.dnw_failure.specs.declared.failure.Failure.{Failure}
 use Rattle.dnw_failure.specs.declared.failure.Failure.TheVariants.{MessageCut, NoMemory, NoRoom}
 use Rattle.dnw_reading.specs.Buffers.{put}
 use Rattle.dnw_record.specs.Records.{FailsRecord, RecordAt, RecordValue}
 use Rattle.dnw_c_text.specs.declared.printing.PrintedRecord.{PrintedRecord}
-
--- a decoder at an offset of a message
-abbrev pub at_offset : List ℕ → ℕ → Decoder
-at_offset message start = record { bytes = message; index = start }
 
 -- The line is that of a record.
 abbrev pub IsLine : RecordValue → List ℕ → Type 0

@@ -8,11 +8,11 @@ use dnw_base::decoder::BinDecoder;
 use dnw_codes::record_type::RecordType;
 use dnw_data_text::data_text::parse;
 use dnw_data_text::error::DataTextError;
-use dnw_data_text::record_line::{MAX_DATA, RecordLineError, parse_record};
 use dnw_failure::buffer::put;
 use dnw_failure::failure::{Failure, of_decode};
 use dnw_name::name::Name;
 use dnw_name::name_ref::NameRef;
+use dnw_record_text::record_line::{MAX_DATA, RecordLineError, parse_record};
 use std::alloc::Global;
 use std::str;
 

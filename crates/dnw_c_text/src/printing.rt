@@ -1,15 +1,16 @@
 //! Records as text.
 ghost use Rattle.std.specs.Prelude.{◌≡◌, ◌≢◌, ◌≤◌, length, IfOk, IfErr, OnErr};
 ghost use Rattle.dnw_failure.specs.Failures.{NumberOf};
+ghost use Rattle.dnw_failure.specs.Offsets.{at_offset};
 ghost use Rattle.dnw_record.specs.Records.{FailsRecord, RecordAt};
-ghost use Rattle.dnw_c_text.specs.PrintCalls.{FailsToPrintRecord, FailsToPutLine, PutsLine, PutsRecordLine, at_offset};
+ghost use Rattle.dnw_c_text.specs.PrintCalls.{FailsToPrintRecord, FailsToPutLine, PutsLine, PutsRecordLine};
 
 use dnw_base::decoder::BinDecoder;
-use dnw_data_text::data_text::record_text;
 use dnw_error::error::DecodeError;
 use dnw_failure::buffer::put;
 use dnw_failure::failure::{Failure, of_decode};
 use dnw_record::record::RecordRef;
+use dnw_record_text::record_line::record_text;
 use std::alloc::Global;
 
 /// A record that was printed: the number of bytes that were put, and the offset after the record.

@@ -3,6 +3,7 @@ use Rattle.std.proofs.Common.{◌≡◌, ℕ, List, ◌++◌, sym, ap, ◌∙◌
 use Rattle.std.proofs.lemmas.Cmp.{nat_list_cmp_total}
 use Rattle.std.proofs.lemmas.List.Elements.{All-contains, All-from_recursion}
 use Rattle.std.proofs.lemmas.List.Sorted.{Contains-permutation, IsPermutation-sym}
+use Rattle.std.proofs.lemmas.Map.Lookups.{exact_bytes}
 use Rattle.std.specs.Int.{w16, w32, to_be_bytes}
 use Rattle.std.specs.List.{Any, Contains, flat_map}
 use Rattle.std.specs.List.Sorted.{IsPermutation}
@@ -29,7 +30,7 @@ same-head first other labels ttl same =
 same-sets : (records others : List Record) (labels ttl : ℕ) (a b : List ℕ) (s : IsRecordSet records labels ttl a) (t : IsRecordSet others labels ttl b)
     → IsOfSet t.first s.first → Within s.all t.all → Within t.all s.all → a ≡ b
 same-sets records others labels ttl a b s t head to back =
-    let sorted = same_elements nat_list_cmp_total s.sorted t.sorted s.in_order.ascend t.in_order.ascend
+    let sorted = same_elements nat_list_cmp_total exact_bytes s.sorted t.sorted s.in_order.ascend t.in_order.ascend
     (λ octets h. t.in_order.every octets (to octets (s.in_order.each octets h)))
     (λ octets h. s.in_order.every octets (back octets (t.in_order.each octets h))) in
     s.joined ∙ ap (λ h. flat_map (set_record h) s.sorted) (same-head s.first t.first labels ttl head)

@@ -1,16 +1,16 @@
 -- Sets of keys: lists in strictly ascending order that have the same elements are the same list, and a sort and a `dedup` make one.
-use Rattle.std.proofs.Common.{◌≡◌, suc, zero, List, [], ◌∷◌, map, ◌⊎◌, inl, inr, refl, sym, ap, ◌∙◌, subst, arith, Bool, true, rules, tests}
+use Rattle.std.proofs.Common.{BTreeSet, ◌≡◌, suc, zero, List, [], ◌∷◌, map, ◌⊎◌, inl, inr, refl, sym, ap, ◌∙◌, subst, arith, Bool, true, rules, tests}
 use Rattle.std.specs.Cmp.{IsTotalOrder, IsEquivalence}
 use Rattle.std.specs.List.{All, AllByRecursion, Contains, dedup}
 use Rattle.std.specs.List.Sorted.{IsPermutation, IsSorted, IsStrictlySortedBy}
 use Rattle.std.specs.Ordering.{on, eq_by_cmp}
 use Rattle.std.specs.declared.cmp.Ordering.{Ordering}
 use Rattle.std.specs.declared.cmp.Ordering.TheVariants.{Less}
-use Rattle.std.proofs.lemmas.Cmp.{tied_itself}
+use Rattle.std.proofs.lemmas.Bool.Decides.{same_from_decides}
 use Rattle.std.proofs.lemmas.List.Kept.{Any-dedup, Contains-from_dedup, IsStrictlySortedBy-dedup}
 use Rattle.std.proofs.lemmas.List.Sorted.{Contains-permutation, IsPermutation-sym}
-use Rattle.std.proofs.lemmas.Map.Keys.{sorted_tail}
-use Rattle.std.proofs.lemmas.Map.Views.{All-after_first}
+use Rattle.std.proofs.lemmas.Map.Lookups.{btree_set_from_contains, CmpEqualImpliesEq}
+use Rattle.std.proofs.lemmas.Map.Views.{btree_set_contains_iff}
 use Rattle.std.proofs.lemmas.List.Elements.{All-cons, All-contains, All-nil, All-weaker, Contains-append_cases, Contains-append_left, Contains-append_right, Contains-push}
 
 pub first-of : {X : Type 0} (x : X) (xs : List X) → Contains (x ∷ xs) x
@@ -33,36 +33,16 @@ cases-of {X} x xs q h = either (Contains-append_cases (x ∷ []) xs q h)
     either (inl one) = inl (one-of x q one)
     either (inr more) = inr more
 
--- where the first element is not the one looked for, it is a later one
-but-first : {X : Type 0} (x : X) (xs : List X) (q : X) → (x ≡ q → ⊥) → Contains (x ∷ xs) q → Contains xs q
-but-first {X} x xs q other h = either (cases-of x xs q h)
-  where
-    either : (x ≡ q) ⊎ Contains xs q → Contains xs q
-    either (inl one) = absurd (other one)
-    either (inr more) = more
-
-module _ {X : Type 0} {R : X → X → Ordering} (o : IsTotalOrder R) where
-  not-below-itself : (x : X) → R x x ≡ Less → ⊥
-  not-below-itself x less = search (rules, tests, tied_itself o x, less)
-
-  above : (x : X) (xs : List X) (q : X) → IsStrictlySortedBy R (x ∷ xs) → Contains xs q → R x q ≡ Less
-  above x xs q up h = All-contains (λ y. R x y ≡ Less) xs q (All-after_first R x xs up) h
-
-  same-first : (x y : X) (xs ys : List X) → IsStrictlySortedBy R (x ∷ xs) → IsStrictlySortedBy R (y ∷ ys) → (y ≡ x) ⊎ Contains ys x → (x ≡ y) ⊎ Contains xs y → x ≡ y
-  same-first x y xs ys up up' (inl is) other = sym is
-  same-first x y xs ys up up' (inr later) (inl is) = is
-  same-first x y xs ys up up' (inr later) (inr later') = absurd (not-below-itself x (o.trans x y x (above x xs y up later') (above y ys x up' later)))
-
+-- lists in strictly ascending order with the same elements
+module _ {X : Type 0} {R : X → X → Ordering} (o : IsTotalOrder R) (exact : CmpEqualImpliesEq R) where
   pub same_elements : (xs ys : List X) → IsStrictlySortedBy R xs → IsStrictlySortedBy R ys
       → ((q : X) → Contains xs q → Contains ys q) → ((q : X) → Contains ys q → Contains xs q) → xs ≡ ys
-  same_elements [] [] up up' to back = refl
-  same_elements [] (y ∷ ys) up up' to back = absurd (none-of y (back y (first-of y ys)))
-  same_elements (x ∷ xs) [] up up' to back = absurd (none-of x (to x (first-of x xs)))
-  same_elements (x ∷ xs) (y ∷ ys) up up' to back =
-      let first = same-first x y xs ys up up' (cases-of y ys x (to x (first-of x xs))) (cases-of x xs y (back y (first-of y ys))) in
-      let later : (q : X) → Contains xs q → Contains ys q = λ q h. but-first y ys q (λ is. not-below-itself x (subst (λ z. R x z ≡ Less) (sym (first ∙ is)) (above x xs q up h))) (to q (later-of x xs q h)) in
-      let earlier : (q : X) → Contains ys q → Contains xs q = λ q h. but-first x xs q (λ is. not-below-itself y (subst (λ z. R y z ≡ Less) (sym (sym first ∙ is)) (above y ys q up' h))) (back q (later-of y ys q h)) in
-      ap (λ z. z ∷ xs) first ∙ ap (λ zs. y ∷ zs) (same_elements xs ys (sorted_tail R x xs up) (sorted_tail R y ys up') later earlier)
+  same_elements xs ys up up' to back =
+      let s : BTreeSet X = record { keys = xs } in
+      let t : BTreeSet X = record { keys = ys } in
+      let in-s = btree_set_contains_iff o exact s in
+      let in-t = btree_set_contains_iff o exact t in
+      btree_set_from_contains o s t up up' (λ q. same_from_decides _ _ (λ h. to q ((in-s q).0 h), λ h. (in-s q).1 (back q h)) (in-t q)) exact
 
 -- ---- what a list of values has of their keys
 

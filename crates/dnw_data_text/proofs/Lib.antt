@@ -14,8 +14,5 @@ pub mod ParamsBack
 pub mod FieldValues
 pub mod DataBack
 pub mod NoFault
-pub mod LinesBack
 pub mod OneBitmap
 pub mod OneText
-pub mod OneLine
-mod RecordWords

@@ -14,8 +14,8 @@ use Rattle.dnw_data.specs.Values.{name}
 use Rattle.dnw_field_text.specs.Octets.{IsOctets}
 use Rattle.dnw_word_text.specs.NameTexts.{is_special, name_octet, label_octets, labels_text, full_name_text}
 use Rattle.dnw_word_text.specs.Words.{is_end, word_len, after_spaces}
-use Rattle.dnw_data_text.specs.declared.name_reading.Escape.TheVariants.{Outside}
-use Rattle.dnw_data_text.specs.NameReading.{one_label_more, labels_from, name_at}
+use Rattle.dnw_word_text.specs.declared.name_reading.Escape.TheVariants.{Outside}
+use Rattle.dnw_word_text.specs.NameReading.{one_label_more, labels_from, name_at}
 use Rattle.dnw_data_text.specs.DataTextLaws.{FieldComesBack}
 use Rattle.dnw_data_text.proofs.Plain.{is_plain, plain-no_space, plain-no_quote, plain-no_backslash, digit-plain}
 use Rattle.dnw_data_text.proofs.FieldsBack.{by-word, end-len}

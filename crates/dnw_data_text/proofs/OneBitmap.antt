@@ -1,16 +1,19 @@
 -- Types have one bitmap at most, as short as it can be.
-use Rattle.std.proofs.Common.{◌≡◌, ◌≤◌, ◌<◌, ◌+◌, ◌-◌, ◌*◌, ◌==◌, ◌⊎◌, ◌≢◌, ℕ, zero, suc, List, [], ◌∷◌, ◌++◌, length, Contains, refl, sym, ap, ◌∙◌, subst, arith, rules, tests, append_assoc, inl, inr}
+use Rattle.std.proofs.Common.{◌≡◌, ◌≤◌, ◌<◌, ◌+◌, ◌-◌, ◌*◌, ◌==◌, ◌⊎◌, ◌≢◌, ℕ, zero, suc, List, [], ◌∷◌, ◌++◌, length, BTreeSet, Contains, refl, sym, ap, ◌∙◌, subst, arith, rules, tests, append_assoc, inl, inr}
 use Rattle.std.specs.Prelude.{flat_map}
 use Rattle.std.specs.Int.{bit_at}
 use Rattle.std.specs.List.{AllByRecursion}
 use Rattle.std.specs.List.Sorted.{IsStrictlySortedBy}
-use Rattle.std.specs.declared.cmp.Ordering.TheVariants.{Less}
+use Rattle.std.specs.Ordering.{is_eq}
 use Rattle.std.proofs.lemmas.Bool.{cases_Bool, cases_eq, cases_lt, eqb-false, eqb-true}
-use Rattle.std.proofs.lemmas.Cmp.{tied_itself}
+use Rattle.std.proofs.lemmas.Bool.Decides.{same_from_decides}
 use Rattle.std.proofs.lemmas.List.{take_all}
+use Rattle.std.proofs.lemmas.Map.Lookups.{btree_set_from_contains, CmpEqualImpliesEq}
+use Rattle.std.proofs.lemmas.Map.Views.{btree_set_contains_iff}
 use Rattle.std.proofs.lemmas.Nat.Bits.{bit_at-lt, same_from_bits_below}
 use Rattle.dnw_codes.specs.declared.record_type.RecordType.{RecordType}
 use Rattle.dnw_codes.specs.RecordTypes.{type_cmp}
+use Rattle.dnw_codes.specs.Inside.RecordTypeLaws.{types-tied}
 use Rattle.dnw_sets.specs.TypeSets.{Window, window_bytes, windows_codes, bit_codes, octet_codes, octets_codes, set_codes, EndsInBit, NumbersFrom, IsWritten}
 use Rattle.dnw_sets.specs.Inside.SetLaws.{types-total}
 use Rattle.dnw_field_text.specs.Octets.{IsOctets}
@@ -195,45 +198,17 @@ same-windows least (w ∷ ws) (v ∷ vs) h k same = elim (cases_eq w.number v.nu
 
 -- ---- sets
 
-cases-of : (x : RecordType) (xs : List RecordType) (q : RecordType) → Contains (x ∷ xs) q → (x ≡ q) ⊎ Contains xs q
-cases-of x xs q (zero, less, is) = inl is
-cases-of x xs q (suc k, less, is) = inr (k, omega (arith, less), is)
-
-later-of : (x : RecordType) (xs : List RecordType) (q : RecordType) → Contains xs q → Contains (x ∷ xs) q
-later-of x xs q (k, less, is) = (suc k, omega (arith, less), is)
-
-above : (x : RecordType) (xs : List RecordType) (q : RecordType) → AllByRecursion (λ y. type_cmp x y ≡ Less) xs → Contains xs q → type_cmp x q ≡ Less
-above x [] q all (k, less, is) = absurd (omega (arith, less))
-above x (y ∷ ys) q all (zero, less, is) = subst (λ (t : RecordType). type_cmp x t ≡ Less) is all.0
-above x (y ∷ ys) q all (suc k, less, is) = above x ys q all.1 (k, omega (arith, less), is)
-
-not-less : (x : RecordType) → type_cmp x x ≡ Less → ⊥
-not-less x less = search (rules, tests, tied_itself types-total x, less)
-
--- the later elements of one are those of the other
-later : (x y : RecordType) (xs ys : List RecordType) → x ≡ y → AllByRecursion (λ t. type_cmp x t ≡ Less) xs → ((q : RecordType) → Contains (x ∷ xs) q → Contains (y ∷ ys) q)
-    → (q : RecordType) → Contains xs q → Contains ys q
-later x y xs ys e all to q h = elim (cases-of y ys q (to q (later-of x xs q h))) [
-  | inl is ↦ absurd (not-less x (subst (λ (t : RecordType). type_cmp x t ≡ Less) (sym (e ∙ is)) (above x xs q all h)))
-  | inr more ↦ more
-]
+exact : CmpEqualImpliesEq type_cmp
+exact x y tied = types-tied x y (ap is_eq tied)
 
 same-set : (xs ys : List RecordType) → IsStrictlySortedBy type_cmp xs → IsStrictlySortedBy type_cmp ys
     → ((q : RecordType) → Contains xs q → Contains ys q) → ((q : RecordType) → Contains ys q → Contains xs q) → xs ≡ ys
-unfolding IsStrictlySortedBy
-same-set [] [] up also to back = refl
-same-set [] (y ∷ ys) up also to back = let (k, less, is) = back y (0, omega arith, refl) in absurd (omega (arith, less))
-same-set (x ∷ xs) [] up also to back = let (k, less, is) = to x (0, omega arith, refl) in absurd (omega (arith, less))
-same-set (x ∷ xs) (y ∷ ys) up also to back =
-    let first : x ≡ y = elim (cases-of y ys x (to x (0, omega arith, refl))) [
-      | inl is ↦ sym is
-      | inr low ↦ elim (cases-of x xs y (back y (0, omega arith, refl))) [
-        | inl is ↦ is
-        | inr high ↦ absurd (not-less x (types-total.trans x y x (above x xs y up.0 high) (above y ys x also.0 low)))
-      ]
-    ] in
-    ap (λ (t : RecordType). t ∷ xs) first
-    ∙ ap (λ (ts : List RecordType). y ∷ ts) (same-set xs ys up.1 also.1 (later x y xs ys first up.0 to) (later y x ys xs (sym first) also.0 back))
+same-set xs ys up also to back =
+    let s : BTreeSet RecordType = record { keys = xs } in
+    let t : BTreeSet RecordType = record { keys = ys } in
+    let has = btree_set_contains_iff types-total exact s in
+    let other = btree_set_contains_iff types-total exact t in
+    btree_set_from_contains types-total s t up also (λ q. same_from_decides _ _ (λ h. to q ((has q).0 h), λ h. (has q).1 (back q h)) (other q)) exact
 
 pub one-bitmap : (listed : List RecordType) (a b : List ℕ) → IsOctets a → IsOctets b → AreBitmap listed a → AreBitmap listed b → a ≡ b
 one-bitmap listed a b ha hb (s, is, x) (t, also, y) =

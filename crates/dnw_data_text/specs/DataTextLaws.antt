@@ -17,7 +17,7 @@ use Rattle.dnw_data.specs.Lists.{list_fault}
 use Rattle.dnw_data.specs.Table.{fields_of}
 use Rattle.dnw_data.specs.Values.{FieldValue, name, u8, u16, u32, u48, u64, ipv4, ipv6, type_code, time, counted, octets, texts, types, params, items}
 use Rattle.dnw_reading.specs.ReadingLaws.{AreBytes}
-use Rattle.dnw_record.specs.Records.{RecordAt, RecordValue}
+use Rattle.dnw_record.specs.Records.{RecordValue}
 use Rattle.dnw_digit_text.specs.Base32.{IsHash}
 use Rattle.dnw_field_text.specs.Numbers.{max_u8, max_u16, max_u32, max_u48}
 use Rattle.dnw_field_text.specs.Octets.{IsOctets, IsSalt}
@@ -28,9 +28,7 @@ use Rattle.dnw_data_text.specs.declared.error.DataTextError.TheVariants.{Memory}
 use Rattle.dnw_data_text.specs.Generic.{mark, max_data, generic_text, IsGeneric}
 use Rattle.dnw_word_text.specs.Words.{is_end, word, after_spaces}
 use Rattle.dnw_data_text.specs.Printing.{Prints}
-use Rattle.dnw_data_text.specs.DataTexts.{record_line, FailsText, IsDataText, IsPlainData, IsTextOf}
-use Rattle.dnw_data_text.specs.RecordLines.{line_octets, IsRecordLine}
-use Rattle.dnw_data_text.specs.declared.record_line.LineHead.{LineHead}
+use Rattle.dnw_data_text.specs.DataTexts.{FailsText, IsDataText, IsPlainData, IsTextOf}
 use Rattle.dnw_data_text.specs.Parsing.{takes_all, ReadsField}
 
 -- octets of data: their number is written in two octets (RFC 1035, section 3.2.1)
@@ -114,16 +112,6 @@ abbrev pub DataComeBack : Type 0
 DataComeBack = (origin : Option NameValue) (r : RecordValue) (text : List ℕ) → AreBytes r.message → IsDataText r text
     → (own : List ℕ) × IsPlainData r own × ((max_data < length own) ⊎ IsTextOf origin (fields_of (code_of r.record_type)) text own)
 
--- what a line of a record has between the owner and the data
-abbrev pub line_head : RecordValue → LineHead
-line_head r = record { record_type = r.record_type; class = r.class; ttl = r.ttl }
-
--- A record of a message that is printed as a line is parsed as the octets of the same record, with names that are not compressed.
-abbrev pub LinesComeBack : Type 0
-LinesComeBack = (origin : Option NameValue) (b : List ℕ) (p e : ℕ) (r : RecordValue) (text : List ℕ) → AreBytes b → RecordAt b p r e → IsDataText r text
-    → (own : List ℕ) × IsPlainData r own
-    × ((max_data < length own) ⊎ IsRecordLine origin (record_line r text) (line_octets r.owner (line_head r) own))
-
 -- If a text is data of a type, parsing it fails for no other reason than memory.
 abbrev pub TextsAreParsed : Type 0
 TextsAreParsed = (origin : Option NameValue) (kinds : List Kind) (text own : List ℕ) (error : DataTextError)
@@ -140,14 +128,3 @@ abbrev pub PrintedDataAreSame : Type 0
 PrintedDataAreSame = (origin : Option NameValue) (r : RecordValue) (text own : List ℕ) → AreBytes r.message → IsDataText r text → IsOctets own
     → IsTextOf origin (fields_of (code_of r.record_type)) text own
     → IsPlainData r own ⊎ ((long : List ℕ) × IsPlainData r long × (max_data < length long))
-
--- No line is two records.
-abbrev pub LinesAreUnambiguous : Type 0
-LinesAreUnambiguous = (origin : Option NameValue) (line octets other : List ℕ) → IsOctets octets → IsOctets other
-    → IsRecordLine origin line octets → IsRecordLine origin line other → octets ≡ other
-
--- What is parsed of a record's line that was printed are the octets of that record, under the same condition.
-abbrev pub PrintedLinesAreSame : Type 0
-PrintedLinesAreSame = (origin : Option NameValue) (b : List ℕ) (p e : ℕ) (r : RecordValue) (text octets : List ℕ) → AreBytes b → RecordAt b p r e
-    → IsDataText r text → IsOctets octets → IsRecordLine origin (record_line r text) octets
-    → (own : List ℕ) × IsPlainData r own × ((max_data < length own) ⊎ (octets ≡ line_octets r.owner (line_head r) own))

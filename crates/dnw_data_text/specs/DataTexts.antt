@@ -1,9 +1,7 @@
 -- The text of the data of a record: its fields' text, or the form that any data have (RFC 3597, section 5) if they are no
 -- fields of their type, or if a field or the type has no text.
-use Rattle.std.specs.Prelude.{decimal, ◌≡◌, ◌≢◌, ℕ, ◌-◌, ◌==◌, ◌⊎◌, Bool, true, false, List, [], ◌∷◌, ◌++◌, length, flat_map, if◌then◌else◌, Option}
+use Rattle.std.specs.Prelude.{◌≡◌, ◌≢◌, ℕ, ◌-◌, ◌==◌, ◌⊎◌, Bool, true, false, List, [], ◌∷◌, ◌++◌, length, flat_map, if◌then◌else◌, Option}
 use Rattle.dnw_error.specs.declared.error.DecodeError.{DecodeError}
-use Rattle.dnw_codes.specs.RecordTypes.{type_text}
-use Rattle.dnw_codes.specs.DnsClasses.{class_text}
 use Rattle.dnw_base.specs.Decoder.{Decoder}
 use Rattle.dnw_base.specs.Names.{NameValue}
 use Rattle.dnw_data.specs.declared.kind.Kind.{Kind}
@@ -17,7 +15,6 @@ use Rattle.dnw_record.specs.RecordFields.{record_fields}
 use Rattle.dnw_data_text.specs.declared.error.DataTextError.{DataTextError}
 use Rattle.dnw_data_text.specs.declared.error.DataTextError.TheVariants.{Memory}
 use Rattle.dnw_data_text.specs.declared.error.Wanted.TheVariants.{Generic}
-use Rattle.dnw_word_text.specs.NameTexts.{full_name_text}
 use Rattle.dnw_data_text.specs.Faults.{fault}
 use Rattle.dnw_word_text.specs.Words.{after_spaces, word, after_word}
 use Rattle.dnw_data_text.specs.Generic.{mark, generic_text, IsGeneric, FailsSized}
@@ -73,11 +70,6 @@ abbrev pub IsDataText : RecordValue → List ℕ → Type 0
 IsDataText r text =
     IsOwnText (record_fields r) text
     ⊎ (LacksText (record_fields r) × (own : List ℕ) × IsPlainData r own × (text ≡ generic_text own))
-
--- a line of a master file: the owner, the time to live, the class, the type and the data
-abbrev pub record_line : RecordValue → List ℕ → List ℕ
-record_line r text =
-    full_name_text r.owner ++ 32 ∷ decimal r.ttl ++ 32 ∷ class_text r.class ++ 32 ∷ type_text r.record_type ++ 32 ∷ text
 
 -- ---- parsing
 

@@ -1,6 +1,5 @@
 -- What no public clause cites: what the parts of a call return.
 pub mod Steps
-pub mod Labels
 pub mod Reads
 pub mod StringWords
 pub mod Wires

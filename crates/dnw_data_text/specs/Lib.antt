@@ -1,9 +1,7 @@
 pub mod Faults
 pub mod Generic
 pub mod Printing
-pub mod NameReading
 pub mod Parsing
 pub mod DataTexts
 pub mod Inside
 pub mod DataTextLaws
-pub mod RecordLines

@@ -27,7 +27,7 @@ use Rattle.dnw_data_text.specs.declared.error.DataTextError.{DataTextError}
 use Rattle.dnw_data_text.specs.declared.error.Wanted.TheVariants.{Field, End}
 use Rattle.dnw_word_text.specs.Words.{after_spaces, word, after_word, joined}
 use Rattle.dnw_data_text.specs.Faults.{fault}
-use Rattle.dnw_data_text.specs.NameReading.{name_at}
+use Rattle.dnw_word_text.specs.NameReading.{name_at}
 use Rattle.dnw_word_text.specs.TypeLists.{AreTypes}
 use Rattle.dnw_word_text.specs.ParamLists.{AreParams}
 

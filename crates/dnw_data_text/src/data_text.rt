@@ -1,4 +1,4 @@
-//! The text of the data of records, and of whole records.
+//! The text of the data of records.
 ghost use Rattle.std.specs.Prelude.{◌≡◌, ◌⊎◌, ◌++◌, ℕ, List, length, flat_map, IfOk, MatchResult, string_bytes};
 ghost use Rattle.std.specs.Option.{option_copied};
 ghost use Rattle.dnw_codes.specs.RecordTypes.{type_code};
@@ -7,7 +7,7 @@ ghost use Rattle.dnw_data.specs.Values.{FieldValue};
 ghost use Rattle.dnw_data_text.specs.declared.error.DataTextError.TheVariants.{Memory};
 ghost use Rattle.dnw_data_text.specs.Parsing.{AreFieldTexts, FailsFields};
 ghost use Rattle.dnw_data.specs.FieldWires.{field_wire};
-ghost use Rattle.dnw_data_text.specs.DataTexts.{record_line, has_own_form, without_space, IsPlainData, IsDataText, IsTextOf, FailsText};
+ghost use Rattle.dnw_data_text.specs.DataTexts.{has_own_form, without_space, IsPlainData, IsDataText, IsTextOf, FailsText};
 ghost use Rattle.dnw_data_text.specs.Inside.Wires.{AppendsWires};
 
 use crate::error::{DataTextError, Wanted};
@@ -20,7 +20,6 @@ use dnw_data::kind::{Kind, Shown};
 use dnw_data::table::fields_of;
 use dnw_name::name::Name;
 use dnw_record::record::RecordRef;
-use dnw_word_text::name::write_name;
 use dnw_word_text::words::{after_spaces, split_word};
 use std::alloc::{AllocError, Global};
 
@@ -42,36 +41,6 @@ pub fn data_text(alloc: Global, record: &RecordRef<'_>) -> Result<String, AllocE
     format!(in alloc; "{}", Generic(octets.as_slice()))
 }
 
-/// Returns a record as a line of a master file (RFC 1035, section 5.1): the owner, the time to live, the class, the type and
-/// the data, with a space between them.
-///
-/// It fails only if it runs out of memory.
-pub fn record_text(alloc: Global, record: &RecordRef<'_>) -> Result<String, AllocError>
-    ensures { IfOk result (λ line. (text : List ℕ) × IsDataText «record».now text × (string_bytes line ≡ record_line «record».now text)) }
-{
-    let text = data_text(alloc, record)?;
-    let line = line_of(alloc, record, text.as_str())?;
-    Ok(line)
-}
-
-/// Returns the line of a record whose data have this text.
-fn line_of(alloc: Global, record: &RecordRef<'_>, text: &str) -> Result<String, AllocError>
-    ensures { IfOk result (λ line. string_bytes line ≡ record_line «record».now text.now) }
-{
-    let ttl = record.ttl();
-    let class = record.class().to_text();
-    let record_type = record.record_type().to_text();
-    let mut line = String::new(alloc);
-    write_name(record.owner(), &mut line)?;
-    write!(
-        line,
-        " {ttl} {} {} {text}",
-        class.as_str(),
-        record_type.as_str()
-    )?;
-    Ok(line)
-}
-
 /// Returns the octets of the data that a text is, for a type, with names that are not compressed. The text is in the type's
 /// own form or in that of any data; an origin completes names without a dot at their end.
 ///
@@ -89,8 +58,8 @@ pub fn parse(
     parse_bytes(alloc, record_type, text.as_bytes(), origin)
 }
 
-/// Returns the octets of the data that the bytes of a text are.
-pub(crate) fn parse_bytes(
+/// Returns the octets of the data that the bytes of a text are, as `parse` does.
+pub fn parse_bytes(
     alloc: Global,
     record_type: RecordType,
     text: &[u8],

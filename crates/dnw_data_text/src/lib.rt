@@ -8,8 +8,6 @@ pub mod data_text;
 pub mod error;
 pub mod generic;
 pub mod laws;
-mod name_reading;
 mod parsing;
 mod printing;
-pub mod record_line;
 mod spelling;

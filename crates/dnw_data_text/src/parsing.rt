@@ -10,7 +10,6 @@ ghost use Rattle.dnw_data_text.specs.Inside.Reads.{AppendsRest, IsEndedBy};
 ghost use Rattle.dnw_word_text.specs.Appending.{AppendsOne};
 
 use crate::error::{DataTextError, Wanted};
-use crate::name_reading::read_name;
 use crate::spelling::{base64_of, hex_of, pairs_of, spelled, string_of_word, text_of};
 use dnw_codes::record_type::RecordType;
 use dnw_data::kind::{Kind, ListKind, Shown};
@@ -18,6 +17,7 @@ use dnw_field_text::address::{parse_ipv4, parse_ipv6};
 use dnw_field_text::number::{parse_u8, parse_u16, parse_u32};
 use dnw_field_text::time::parse_time;
 use dnw_name::name::Name;
+use dnw_word_text::name_reading::read_name;
 use dnw_word_text::params::parse_params;
 use dnw_word_text::types::parse_types;
 use dnw_word_text::words::{after_spaces, split_word, without_spaces};

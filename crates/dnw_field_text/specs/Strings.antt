@@ -19,12 +19,16 @@ IsString string = IsOctets string × (length string ≤ 255)
 abbrev pub IsText : List ℕ → Type 0
 IsText text = IsOctets text × (length text ≤ 65535)
 
+-- an octet in decimal, after a backslash
+abbrev pub escape_text : ℕ → List ℕ
+escape_text o = backslash ∷ (48 + o / 100) ∷ (48 + o / 10 % 10) ∷ (48 + o % 10) ∷ []
+
 -- An octet in quotes: a quote and a backslash after a backslash, a printable character as it is, any other in decimal.
 abbrev pub octet_text : ℕ → List ℕ
 octet_text o =
     if o == quote || o == backslash then backslash ∷ o ∷ []
     else if nat_le 32 o && nat_le o 126 then o ∷ []
-    else backslash ∷ (48 + o / 100) ∷ (48 + o / 10 % 10) ∷ (48 + o % 10) ∷ []
+    else escape_text o
 
 abbrev pub string_text : List ℕ → List ℕ
 string_text string = quote ∷ flat_map octet_text string ++ quote ∷ []

@@ -3,7 +3,7 @@ ghost use Rattle.std.specs.Prelude.{◌≡◌, ◌<◌, ◌≤◌, ◌==◌, ◌
 ghost use Rattle.std.specs.Char.{is_ascii_digit};
 ghost use Rattle.std.specs.Fmt.{WritesOnOk};
 ghost use Rattle.dnw_field_text.specs.Spelling.{Appends};
-ghost use Rattle.dnw_field_text.specs.Strings.{quote, Plain, octet_text, string_text, octets_from, with_octet, string_octets, IsTextWithin, IsStringText, IsLongText};
+ghost use Rattle.dnw_field_text.specs.Strings.{quote, Plain, escape_text, octet_text, string_text, octets_from, with_octet, string_octets, IsTextWithin, IsStringText, IsLongText};
 ghost use Rattle.dnw_field_text.specs.Inside.Takes.{octets_at, decimal_octet, BeginsWith, Pushes};
 ghost use Rattle.dnw_field_text.specs.declared.error.FieldTextError.TheVariants.{CharacterString as StringWanted, Text as TextWanted};
 
@@ -49,13 +49,20 @@ impl fmt::Display for StringOctet {
         if b' ' <= octet && octet <= b'~' {
             return write_ascii(f, &[octet]);
         }
-        let digits = [
-            b'0' + octet / 100,
-            b'0' + octet / 10 % 10,
-            b'0' + octet % 10,
-        ];
-        write_ascii(f, &[b'\\', digits[0], digits[1], digits[2]])
+        write_escape(f, octet)
     }
+}
+
+/// Writes an octet as `\DDD`, in decimal.
+pub fn write_escape<W: fmt::Write>(f: &mut fmt::Formatter<W>, octet: u8) -> fmt::Result
+    ensures { WritesOnOk W.Write.write_str_gives f.old result (escape_text octet) f.new }
+{
+    let digits = [
+        b'0' + octet / 100,
+        b'0' + octet / 10 % 10,
+        b'0' + octet % 10,
+    ];
+    write_ascii(f, &[b'\\', digits[0], digits[1], digits[2]])
 }
 
 /// Appends the octets of a character string, which is in quotes or not. `\DDD` with three decimal digits stands for

@@ -1,5 +1,3 @@
-pub mod Headers
-pub mod Starts
 pub mod InTurn
 pub mod Whole
 pub mod Lending

@@ -7,8 +7,8 @@ use Rattle.dnw_message.specs.declared.error.MessageError.{MessageError}
 use Rattle.dnw_message.specs.declared.error.MessageErrorKind.{MessageErrorKind}
 use Rattle.dnw_message.specs.declared.error.MessageErrorKind.TheVariants.{Decode, TooManyPointers}
 use Rattle.dnw_message.specs.declared.error.Section.{Section}
-use Rattle.dnw_message.specs.declared.header.Header.{Header}
-use Rattle.dnw_message.specs.Headers.{header_of, header_size}
+use Rattle.dnw_header.specs.declared.header.Header.{Header}
+use Rattle.dnw_header.specs.Headers.{header_of, header_size}
 use Rattle.dnw_message.specs.Messages.{FailsFrom, FailsHere, FailsItem, FailsWithin, Item, ItemAt, ItemsAt, MessageValue, Part, PartsAt, QueryValue, Rest, done, next, none, one_more, parts_of, query_of, record_in, rest_of}
 use Rattle.dnw_message.specs.MessageLaws.{MessagesDontFail, OneMessageError, OneMessage}
 use Rattle.dnw_message.proofs.InTurn.{item-is}

@@ -3,8 +3,8 @@ use Rattle.std.proofs.Common.{◌≡◌, ℕ, ◌+◌, ◌-◌, ◌≤◌, List,
 use Rattle.dnw_base.specs.Decoder.{Decoder}
 use Rattle.dnw_message.specs.declared.error.MessageError.{MessageError}
 use Rattle.dnw_message.specs.declared.error.Section.TheVariants as section
-use Rattle.dnw_message.specs.declared.header.Header.{Header}
-use Rattle.dnw_message.specs.Headers.{header_of, header_size}
+use Rattle.dnw_header.specs.declared.header.Header.{Header}
+use Rattle.dnw_header.specs.Headers.{header_of, header_size}
 use Rattle.dnw_message.specs.Messages.{FailsFrom, FailsMessage, Item, ItemsAt, MessageAt, Part, PartsAt, Rest, SectionsBegin, done, next, none, one_more, part, parts_of, query_of, question_rest, record_in, record_rest, rest_of}
 use Rattle.dnw_message.specs.Inside.Kept.{AreLeft, EndAt, IsKept, items_in, message_in}
 use Rattle.dnw_message.specs.Inside.Passing.{PassesItems}

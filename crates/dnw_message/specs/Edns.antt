@@ -7,8 +7,8 @@ use Rattle.dnw_codes.specs.DnsClasses.{class_code, min_payload}
 use Rattle.dnw_record.specs.Records.{RecordValue, data_octets, number_at}
 use Rattle.dnw_message.specs.declared.edns.EdnsError.{EdnsError}
 use Rattle.dnw_message.specs.declared.edns.EdnsError.TheVariants.{CutOption, DuplicateEdns, OwnerNotRoot}
-use Rattle.dnw_message.specs.declared.response_code.ResponseCode.{ResponseCode}
-use Rattle.dnw_message.specs.ResponseCodes.{response_code, response_of_code}
+use Rattle.dnw_header.specs.declared.response_code.ResponseCode.{ResponseCode}
+use Rattle.dnw_header.specs.ResponseCodes.{response_code, response_of_code}
 use Rattle.dnw_message.specs.Messages.{MessageValue}
 
 -- ---- options

@@ -1,8 +1,3 @@
-pub mod OpCodes
-pub mod ResponseCodes
-pub mod Headers
-pub mod HeaderLaws
-pub mod Responses
 pub mod Edns
 pub mod Messages
 pub mod MessageLaws

@@ -8,8 +8,8 @@ use Rattle.dnw_error.specs.declared.error.DecodeError.{DecodeError}
 use Rattle.dnw_error.specs.declared.error.DecodeError.TheVariants.{InsufficientBytes}
 use Rattle.dnw_reading.specs.Reading.{FaultAt, NameAt}
 use Rattle.dnw_record.specs.Records.{RecordValue, fields_at, fixed_size, length_field, number_at, record_of}
-use Rattle.dnw_message.specs.Headers.{header_of, header_size}
-use Rattle.dnw_message.specs.declared.header.Header.{Header}
+use Rattle.dnw_header.specs.Headers.{header_of, header_size}
+use Rattle.dnw_header.specs.declared.header.Header.{Header}
 use Rattle.dnw_message.specs.declared.message.SectionOffsets.{SectionOffsets}
 use Rattle.dnw_message.specs.declared.error.MessageError.{MessageError}
 use Rattle.dnw_message.specs.declared.error.MessageErrorKind.{MessageErrorKind}

@@ -1,17 +1,17 @@
 //! Messages, which are read without copying.
 ghost use Rattle.std.specs.Prelude.{◌≡◌, ℕ, ◌<◌, ◌≤◌, length, drop, slice_range, IfOk, IfErr};
-ghost use Rattle.dnw_message.specs.Headers.{header_of, header_size};
+ghost use Rattle.dnw_header.specs.Headers.{header_of, header_size};
 ghost use Rattle.dnw_message.specs.Edns.{FailsEdns, HasEdns, HasOpt, IsOnlyOpt, IsResponseCode, opts_in};
 ghost use Rattle.dnw_message.specs.Messages.{MessageAt, FailsMessage, SectionsBegin, no_header};
 
 use crate::edns::{EdnsError, EdnsRef, next_opt};
 use crate::error::{MessageError, MessageErrorKind, Section};
-use crate::header::Header;
 use crate::items::{Queries, Records};
 use crate::passing::pass_section;
-use crate::response_code::ResponseCode;
 use dnw_base::decoder::BinDecoder;
 use dnw_error::error::DecodeError;
+use dnw_header::header::Header;
+use dnw_header::response_code::ResponseCode;
 use dnw_record::record::RecordRef;
 use std::marker::Model;
 

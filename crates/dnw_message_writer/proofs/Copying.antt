@@ -11,8 +11,8 @@ use Rattle.dnw_rdata.specs.AnyRecords.{EmitsAnyRecord, EmitsCopyOf, HasFields, I
 use Rattle.dnw_rdata.proofs.WrittenCopies.{some-copy}
 use Rattle.dnw_message.specs.Edns.{is_opt, opts_in}
 use Rattle.dnw_message.specs.Messages.{MessageValue, QueryValue}
-use Rattle.dnw_message.specs.declared.header.Header.{Header}
-use Rattle.dnw_message.specs.declared.header.Metadata.{Metadata}
+use Rattle.dnw_header.specs.declared.header.Header.{Header}
+use Rattle.dnw_header.specs.declared.header.Metadata.{Metadata}
 use Rattle.dnw_message_writer.specs.declared.section.Section.{Section}
 use Rattle.dnw_message_writer.specs.declared.section.Section.TheVariants.{Queries, Answers, Authorities, Additionals}
 use Rattle.dnw_message_writer.specs.declared.query.WireQuery.{WireQuery}

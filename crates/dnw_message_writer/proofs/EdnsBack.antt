@@ -25,7 +25,7 @@ use Rattle.dnw_record.specs.Records.{RecordValue, data_octets}
 use Rattle.dnw_rdata.specs.declared.record.Record.{Record}
 use Rattle.dnw_rdata.specs.DataPieces.{IsData, kinds_of, octets_piece, piece_octets}
 use Rattle.dnw_rdata.specs.DataCopies.{Copies, data_start}
-use Rattle.dnw_message.specs.Headers.{flag}
+use Rattle.dnw_header.specs.Headers.{flag}
 use Rattle.dnw_message.specs.Edns.{OptionValue, OptionsAre, first_option, none, one_more, option_of, option_size}
 use Rattle.dnw_message_writer.specs.declared.edns.WireOption.{WireOption}
 use Rattle.dnw_message_writer.specs.WireEdns.{OptionFits, edns_ttl, option_value, option_wire, options_wire}

@@ -9,9 +9,9 @@ use Rattle.dnw_encoder.proofs.Preceding.{new_precede, writes_precede}
 use Rattle.dnw_rdata.specs.declared.record.Record.{Record}
 use Rattle.dnw_rdata.specs.AnyRecordLaws.{any_record_size}
 use Rattle.dnw_rdata.proofs.Reading.{InBoth}
-use Rattle.dnw_message.specs.declared.header.Header.{Header}
-use Rattle.dnw_message.specs.declared.header.Metadata.{Metadata}
-use Rattle.dnw_message.specs.Headers.{header_wire}
+use Rattle.dnw_header.specs.declared.header.Header.{Header}
+use Rattle.dnw_header.specs.declared.header.Metadata.{Metadata}
+use Rattle.dnw_header.specs.Headers.{header_wire}
 use Rattle.dnw_message_writer.specs.declared.section.AddError.TheVariants.{Proto}
 use Rattle.dnw_message_writer.specs.declared.writer.Entry.{Entry}
 use Rattle.dnw_message_writer.specs.declared.writer.Entry.TheVariants.{Additional}

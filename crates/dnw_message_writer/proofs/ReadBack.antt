@@ -9,10 +9,10 @@ use Rattle.dnw_codes.specs.DnsClasses.{class_code, class_of_code}
 use Rattle.dnw_reading.specs.Reading.{NameAt}
 use Rattle.dnw_rdata.specs.declared.record.Record.{Record}
 use Rattle.dnw_record.specs.Records.{RecordValue, number_at}
-use Rattle.dnw_message.specs.Headers.{header_of, header_wire}
-use Rattle.dnw_message.specs.HeaderLaws.{with_low_codes}
+use Rattle.dnw_header.specs.Headers.{header_of, header_wire}
+use Rattle.dnw_header.specs.HeaderLaws.{with_low_codes}
 use Rattle.dnw_message.specs.Messages.{Item, ItemAt, ItemsAt, Rest, done, next, none, one_more, query_of, question_rest, record_in, record_rest}
-use Rattle.dnw_message.proofs.Headers.{headers_read_back}
+use Rattle.dnw_header.proofs.Headers.{headers_read_back}
 use Rattle.dnw_message.proofs.OneMessage.{not_both}
 use Rattle.dnw_message_writer.specs.declared.query.WireQuery.{WireQuery}
 use Rattle.dnw_message_writer.specs.Written.{QueryStands, Stand, header_for}

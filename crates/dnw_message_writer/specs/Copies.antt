@@ -12,10 +12,10 @@ use Rattle.dnw_rdata.specs.DataCopies.{FailsToCopy, data_start}
 use Rattle.dnw_rdata.specs.AnyRecords.{IsCopyOf, name_of}
 use Rattle.dnw_rdata.specs.AnyRecordLaws.{any_record_size}
 use Rattle.dnw_message.specs.Edns.{FailsEdns, is_opt, opts_in}
-use Rattle.dnw_message.specs.Headers.{header_size}
+use Rattle.dnw_header.specs.Headers.{header_size}
 use Rattle.dnw_message.specs.Messages.{MessageValue, QueryValue}
-use Rattle.dnw_message.specs.declared.header.Header.{Header}
-use Rattle.dnw_message.specs.declared.header.Metadata.{Metadata}
+use Rattle.dnw_header.specs.declared.header.Header.{Header}
+use Rattle.dnw_header.specs.declared.header.Metadata.{Metadata}
 use Rattle.dnw_message_writer.specs.declared.section.Section.{Section}
 use Rattle.dnw_message_writer.specs.declared.section.Section.TheVariants.{Queries, Answers, Authorities, Additionals}
 use Rattle.dnw_message_writer.specs.declared.section.AddError.TheVariants.{Proto as refused}

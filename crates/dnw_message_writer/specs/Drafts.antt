@@ -4,10 +4,10 @@ use Rattle.dnw_error.specs.declared.error.ProtoError.{ProtoError}
 use Rattle.dnw_error.specs.declared.error.ProtoError.TheVariants.{MaxBufferSizeExceeded}
 use Rattle.dnw_encoder.specs.Encoder.{Encoder, Writes, moved_to}
 use Rattle.dnw_encoder.specs.Emitting.{Emits, Outcome}
-use Rattle.dnw_message.specs.declared.header.Header.{Header}
-use Rattle.dnw_message.specs.declared.header.HeaderCounts.{HeaderCounts}
-use Rattle.dnw_message.specs.declared.header.Metadata.{Metadata}
-use Rattle.dnw_message.specs.Headers.{header_wire}
+use Rattle.dnw_header.specs.declared.header.Header.{Header}
+use Rattle.dnw_header.specs.declared.header.HeaderCounts.{HeaderCounts}
+use Rattle.dnw_header.specs.declared.header.Metadata.{Metadata}
+use Rattle.dnw_header.specs.Headers.{header_wire}
 use Rattle.dnw_rdata.specs.declared.record.Record.{Record}
 use Rattle.dnw_rdata.specs.AnyRecords.{EmitsAnyRecord}
 use Rattle.dnw_message_writer.specs.WireQueries.{EmitsQuery}

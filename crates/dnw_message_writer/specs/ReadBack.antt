@@ -3,9 +3,9 @@ use Rattle.std.specs.Prelude.{◌≡◌, ℕ, ◌≤◌, List, length}
 use Rattle.std.specs.List.{AllZip}
 use Rattle.dnw_codes.specs.RecordTypes.{type_code, type_of_code}
 use Rattle.dnw_codes.specs.DnsClasses.{class_code, class_of_code}
-use Rattle.dnw_message.specs.HeaderLaws.{with_low_codes}
+use Rattle.dnw_header.specs.HeaderLaws.{with_low_codes}
 use Rattle.dnw_message.specs.Messages.{MessageAt, MessageValue, QueryValue}
-use Rattle.dnw_message.specs.declared.header.Metadata.{Metadata}
+use Rattle.dnw_header.specs.declared.header.Metadata.{Metadata}
 use Rattle.dnw_message_writer.specs.declared.query.WireQuery.{WireQuery}
 use Rattle.dnw_message_writer.specs.ReadRecords.{RecordIsRead}
 use Rattle.dnw_message_writer.specs.Written.{Contents, header_for, most_pointers}

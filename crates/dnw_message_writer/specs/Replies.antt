@@ -2,7 +2,7 @@
 use Rattle.std.specs.Prelude.{◌≡◌, ℕ, None, [], map, Ok}
 use Rattle.dnw_encoder.specs.Encoder.{fresh}
 use Rattle.dnw_message.specs.Messages.{MessageValue}
-use Rattle.dnw_message.specs.Responses.{response_to}
+use Rattle.dnw_header.specs.Responses.{response_to}
 use Rattle.dnw_message_writer.specs.declared.writer.one_by_one.MessageWriter.{MessageWriter}
 use Rattle.dnw_message_writer.specs.Copies.{AddsItems, query_entry}
 use Rattle.dnw_message_writer.specs.Drafts.{Begins, Draft}

@@ -9,7 +9,7 @@ use Rattle.dnw_codes.specs.DnsClasses.{min_payload}
 use Rattle.dnw_base.specs.Limits.{max_message}
 use Rattle.dnw_rdata.specs.declared.record.Record.{Record}
 use Rattle.dnw_message.specs.Edns.{EdnsValue, OptionValue, is_opt}
-use Rattle.dnw_message.specs.Headers.{flag}
+use Rattle.dnw_header.specs.Headers.{flag}
 use Rattle.dnw_message_writer.specs.declared.edns.WireEdns.{WireEdns}
 use Rattle.dnw_message_writer.specs.declared.edns.WireOption.{WireOption}
 

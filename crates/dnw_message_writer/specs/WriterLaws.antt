@@ -7,8 +7,8 @@ use Rattle.dnw_encoder.specs.Encoder.{Encoder, fresh}
 use Rattle.dnw_encoder.specs.Emitting.{Outcome}
 use Rattle.dnw_rdata.specs.declared.record.Record.{Record}
 use Rattle.dnw_rdata.specs.AnyRecordLaws.{any_record_size}
-use Rattle.dnw_message.specs.declared.header.Header.{Header}
-use Rattle.dnw_message.specs.declared.header.Metadata.{Metadata}
+use Rattle.dnw_header.specs.declared.header.Header.{Header}
+use Rattle.dnw_header.specs.declared.header.Metadata.{Metadata}
 use Rattle.dnw_message_writer.specs.declared.writer.Entry.{Entry}
 use Rattle.dnw_message_writer.specs.Drafts.{Added, AddsAll, AddsLast, Begins, Draft, Ends}
 use Rattle.dnw_message_writer.specs.Written.{Contents, Holds, Written, WrittenWith, ending_with, most_pointers}

@@ -5,8 +5,8 @@ use Rattle.dnw_encoder.specs.Encoder.{fresh}
 use Rattle.dnw_encoder.specs.EncoderValue.{lender, value}
 use Rattle.dnw_rdata.specs.declared.record.Record.{Record}
 use Rattle.dnw_rdata.specs.AnyRecordLaws.{any_record_size}
-use Rattle.dnw_message.specs.Headers.{header_size}
-use Rattle.dnw_message.specs.declared.header.Metadata.{Metadata}
+use Rattle.dnw_header.specs.Headers.{header_size}
+use Rattle.dnw_header.specs.declared.header.Metadata.{Metadata}
 use Rattle.dnw_message_writer.specs.declared.writer.one_by_one.MessageWriter.{MessageWriter}
 use Rattle.dnw_message_writer.specs.Drafts.{AddsLast, Begins, Draft, Ends}
 

@@ -10,11 +10,11 @@ use Rattle.dnw_reading.specs.Reading.{NameAt}
 use Rattle.dnw_encoder.specs.Encoder.{usual_names}
 use Rattle.dnw_rdata.specs.declared.record.Record.{Record}
 use Rattle.dnw_rdata.specs.AnyRecordLaws.{any_record_size}
-use Rattle.dnw_message.specs.HeaderLaws.{HeaderFits}
-use Rattle.dnw_message.specs.Headers.{header_size, header_wire}
-use Rattle.dnw_message.specs.declared.header.Header.{Header}
-use Rattle.dnw_message.specs.declared.header.HeaderCounts.{HeaderCounts}
-use Rattle.dnw_message.specs.declared.header.Metadata.{Metadata}
+use Rattle.dnw_header.specs.HeaderLaws.{HeaderFits}
+use Rattle.dnw_header.specs.Headers.{header_size, header_wire}
+use Rattle.dnw_header.specs.declared.header.Header.{Header}
+use Rattle.dnw_header.specs.declared.header.HeaderCounts.{HeaderCounts}
+use Rattle.dnw_header.specs.declared.header.Metadata.{Metadata}
 use Rattle.dnw_message_writer.specs.declared.query.WireQuery.{WireQuery}
 use Rattle.dnw_message_writer.specs.declared.section.Section.{Section}
 use Rattle.dnw_message_writer.specs.declared.section.Section.TheVariants as section

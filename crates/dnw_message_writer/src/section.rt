@@ -6,7 +6,7 @@ ghost use Rattle.dnw_message_writer.specs.Drafts.{Adds, Draft, counted, cuts, is
 use dnw_encoder::binary::BinEncodable;
 use dnw_encoder::encoder::BinEncoder;
 use dnw_error::error::ProtoError;
-use dnw_message::header::{Header, HeaderCounts};
+use dnw_header::header::{Header, HeaderCounts};
 use thiserror::Error;
 
 /// A section of a message (RFC 1035, section 4.1).

@@ -8,7 +8,7 @@ use crate::section::{AddError, Section, cuts, is_open};
 use dnw_encoder::binary::BinEncodable;
 use dnw_encoder::encoder::BinEncoder;
 use dnw_error::error::ProtoResult;
-use dnw_message::header::{Header, HeaderCounts};
+use dnw_header::header::{Header, HeaderCounts};
 use dnw_rdata::record::Record;
 
 /// Adds records to a section in their order, or nothing of them.

@@ -6,7 +6,7 @@ ghost use Rattle.dnw_encoder.specs.Encoder.{Writes, fresh, moved_to};
 ghost use Rattle.dnw_encoder.specs.EncoderValue.{value, lender};
 ghost use Rattle.dnw_base.specs.Limits.{max_message};
 ghost use Rattle.dnw_error.specs.declared.error.ProtoError.{ProtoError};
-ghost use Rattle.dnw_message.specs.Headers.{header_size};
+ghost use Rattle.dnw_header.specs.Headers.{header_size};
 ghost use Rattle.dnw_message_writer.specs.Written.{Written};
 ghost use Rattle.dnw_message_writer.specs.Drafts.{Begins, AddsEntry, AddsAll, Closes, Draft};
 
@@ -16,7 +16,7 @@ use crate::together::add_together;
 use dnw_encoder::binary::BinEncodable;
 use dnw_encoder::encoder::BinEncoder;
 use dnw_error::error::ProtoResult;
-use dnw_message::header::{Header, HeaderCounts, Metadata};
+use dnw_header::header::{Header, HeaderCounts, Metadata};
 use dnw_rdata::record::Record;
 use std::alloc::Global;
 

@@ -5,7 +5,6 @@ ghost use Rattle.dnw_rdata.specs.Inside.Copying.{IsNoName};
 ghost use Rattle.dnw_rdata.specs.DataCopies.{Copies, FailsPiece, FailsToCopy, TakesNamePiece, TakesOwnPiece, TakesPiece, alone};
 
 use dnw_base::decoder::BinDecoder;
-use dnw_base::limits::MAX_NAME;
 use dnw_codes::record_type::RecordType;
 use dnw_data::field::Field;
 use dnw_data::fields::{FieldError, Fields};
@@ -216,9 +215,7 @@ fn copy_name(
         Ok(name) => name,
         Err(cause) => return Err(RDataError::Field(FieldError { field, cause })),
     };
-    let mut room = [0; MAX_NAME];
-    let len = name.copy_wire(&mut room).unwrap();
-    octets.extend_from_slice(&room[..len])?;
+    Field::Name(name).append_to(octets)?;
     Ok(())
 }
 

@@ -1,3 +1,4 @@
 pub mod Empty
 pub mod TypeSteps
 pub mod ParamWalks
+pub mod Whole

@@ -1,5 +1,6 @@
 pub mod Words
 pub mod NameTexts
+pub mod NameReading
 pub mod Appending
 pub mod TypeLists
 pub mod ParamLists

@@ -1,7 +1,7 @@
 -- Names as text (RFC 1035, section 5.1): labels and a dot after each; `\DDD` with three decimal digits stands for that octet,
 -- and `\` and any other character for that character.
-use Rattle.std.specs.Prelude.{ℕ, ◌+◌, ◌/◌, ◌%◌, Bool, ◌&&◌, ◌||◌, ◌==◌, nat_le, if◌then◌else◌, List, [], ◌∷◌, ◌++◌, flat_map}
-use Rattle.dnw_field_text.specs.Strings.{backslash}
+use Rattle.std.specs.Prelude.{ℕ, Bool, ◌&&◌, ◌||◌, ◌==◌, nat_le, if◌then◌else◌, List, [], ◌∷◌, ◌++◌, flat_map}
+use Rattle.dnw_field_text.specs.Strings.{backslash, escape_text}
 
 -- a character that means something else in a master file: `"`, `$`, `(`, `)`, `.`, `;`, `@` or a backslash
 abbrev pub is_special : ℕ → Bool
@@ -12,7 +12,7 @@ abbrev pub name_octet : ℕ → List ℕ
 name_octet o =
     if is_special o then backslash ∷ o ∷ []
     else if nat_le 33 o && nat_le o 126 then o ∷ []
-    else backslash ∷ (48 + o / 100) ∷ (48 + o / 10 % 10) ∷ (48 + o % 10) ∷ []
+    else escape_text o
 
 abbrev pub label_octets : List ℕ → List ℕ
 label_octets label = flat_map name_octet label

@@ -5,6 +5,7 @@
 #![tactic(auto)]
 
 pub mod name;
+pub mod name_reading;
 pub mod params;
 pub mod types;
 pub mod words;

@@ -1,11 +1,11 @@
 //! Names (RFC 1035, section 5.1).
 ghost use Rattle.std.specs.Prelude.{◌≡◌, ◌++◌, Some, IfOk, string_bytes};
-ghost use Rattle.std.specs.Fmt.{WritesOnOk};
 ghost use Rattle.dnw_word_text.specs.NameTexts.{is_special, name_octet, label_octets, full_name_text};
 
+use dnw_field_text::string::{write_ascii, write_escape};
 use dnw_name::name_ref::NameRef;
 use std::alloc::AllocError;
-use std::{fmt, str};
+use std::fmt;
 
 /// Appends the text of a name, fully qualified.
 pub fn write_name(name: &NameRef<'_>, out: &mut String) -> Result<(), AllocError>
@@ -51,12 +51,7 @@ impl fmt::Display for NameOctet {
         if b'!' <= octet && octet <= b'~' {
             return write_ascii(f, &[octet]);
         }
-        let digits = [
-            b'0' + octet / 100,
-            b'0' + octet / 10 % 10,
-            b'0' + octet % 10,
-        ];
-        write_ascii(f, &[b'\\', digits[0], digits[1], digits[2]])
+        write_escape(f, octet)
     }
 }
 
@@ -68,11 +63,4 @@ fn is_special(octet: u8) -> bool
         octet,
         b'"' | b'$' | b'(' | b')' | b'.' | b';' | b'@' | b'\\'
     )
-}
-
-/// Writes ASCII characters.
-fn write_ascii<W: fmt::Write>(f: &mut fmt::Formatter<W>, text: &[u8]) -> fmt::Result
-    ensures { WritesOnOk W.Write.write_str_gives f.old result text.now f.new }
-{
-    f.write_str(str::from_utf8(text).map_err(|_| fmt::Error)?)
 }

@@ -3,8 +3,8 @@ use Rattle.std.specs.Prelude.{ℕ, zero, suc, ◌+◌, ◌≤◌, ◌==◌, nat_
 use Rattle.dnw_base.specs.Limits.{max_label, max_labels}
 use Rattle.dnw_reading.specs.Inside.Found.{labels_at}
 use Rattle.dnw_record.specs.Records.{RecordValue}
-use Rattle.dnw_message.specs.declared.header.Header.{Header}
-use Rattle.dnw_message.specs.Headers.{header_size}
+use Rattle.dnw_header.specs.declared.header.Header.{Header}
+use Rattle.dnw_header.specs.Headers.{header_size}
 use Rattle.dnw_message.specs.Messages.{Item, ItemsAt, MessageValue, QueryValue, Rest, query_of, question_rest, record_in, record_rest}
 
 -- where the own octets of the name at p end, after at most n labels

@@ -3,7 +3,7 @@ ghost use Rattle.std.specs.Prelude.{◌≡◌, ◌+◌, ◌-◌, ◌<◌, ◌≤
 ghost use Rattle.dnw_error.specs.declared.error.ProtoError.{ProtoError};
 ghost use Rattle.dnw_encoder.specs.EncoderValue.{value, lender};
 ghost use Rattle.dnw_rdata.specs.AnyRecordLaws.{any_record_size};
-ghost use Rattle.dnw_message.specs.Headers.{header_size};
+ghost use Rattle.dnw_header.specs.Headers.{header_size};
 ghost use Rattle.dnw_message_writer.specs.Drafts.{AddsLast, Draft};
 
 use super::{AddError, begin, close};
@@ -12,7 +12,7 @@ use crate::section::{Section, add, count};
 use dnw_encoder::binary::BinEncodable;
 use dnw_encoder::encoder::BinEncoder;
 use dnw_error::error::{ProtoError, ProtoResult};
-use dnw_message::header::{Header, Metadata};
+use dnw_header::header::{Header, Metadata};
 use dnw_rdata::record::Record;
 
 /// How many octets of a record are between its owner and its data (RFC 1035, section 4.1.3).

@@ -1,13 +1,13 @@
 //! Replies, which repeat the questions of their requests.
 ghost use Rattle.std.specs.Prelude.{◌≡◌, ◌<◌, ◌⊎◌, [], map, IfOk, IfErr, OnOk};
 ghost use Rattle.dnw_error.specs.declared.error.ProtoError.{ProtoError};
-ghost use Rattle.dnw_message.specs.Headers.{header_size};
+ghost use Rattle.dnw_header.specs.Headers.{header_size};
 ghost use Rattle.dnw_message_writer.specs.Copies.{AddsItems, query_entry};
 
 use super::MessageWriter;
 use super::copying::copy_queries;
 use dnw_error::error::{ProtoError, ProtoResult};
-use dnw_message::header::Metadata;
+use dnw_header::header::Metadata;
 use dnw_message::message::MessageRef;
 use std::alloc::Global;
 

@@ -1,6 +1,6 @@
 use Rattle.std.proofs.Common.{true, refl}
 use Rattle.dnw_c.specs.NameLists.{unread, unwritten}
-use Rattle.dnw_c.proofs.Starts.{takes-onward, takes-within}
+use Rattle.dnw_failure.proofs.Starts.{takes-onward, takes-within}
 use Rattle.dnw_c.proofs.names.write_next.Goals as goal
 
 pub returns-in-Ok-emit-clause-onward : goal.returns-in-Ok-emit-clause-onward

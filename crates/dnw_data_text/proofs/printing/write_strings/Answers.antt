@@ -1,14 +1,10 @@
 use Rattle.std.proofs.Common.{arith}
-use Rattle.std.specs.Prelude.{string_bytes}
-use Rattle.dnw_svcb_text.proofs.Steps.{may-cut, cut-off}
+use Rattle.dnw_word_text.proofs.Whole.{may-take-back, taken-back}
 use Rattle.dnw_data_text.proofs.printing.write_strings.Goals as goal
 
 pub truncate-requires : goal.truncate-requires
-truncate-requires c =
-    let pushed = rw c.if-not-is_whole.true at c.in_ok-is_whole.ensures in
-    λ _. may-cut (string_bytes c.args.out.now) _ c.len-start.result pushed.1 (omega (arith, c.len-start.ensures))
+truncate-requires c = λ _. may-take-back _ _ _ _ _ c.if-not-is_whole.true c.in_ok-is_whole.ensures (omega (arith, c.len-start.ensures))
 
 pub returns-then-not-is_whole : goal.returns-then-not-is_whole
 returns-then-not-is_whole c =
-    let pushed = rw c.if-not-is_whole.true at c.in_ok-is_whole.ensures in
-    rw c.if-not-is_whole.true (pushed.0, cut-off (string_bytes c.args.out.now) _ _ c.len-start.result pushed.1 (omega (arith, c.len-start.ensures)) c.truncate.ensures.bytes)
+    taken-back _ _ _ _ _ _ c.if-not-is_whole.true c.in_ok-is_whole.ensures (omega (arith, c.len-start.ensures)) c.truncate.ensures.bytes

@@ -1,11 +1,16 @@
-use Rattle.std.proofs.Common.{◌++◌, ap, ◌∙◌, refl}
-use Rattle.dnw_reading.proofs.Copying.{wire_taken}
+use Rattle.std.proofs.Common.{◌≡◌, Bool, true, false, ℕ, List, ◌++◌, refl}
+use Rattle.dnw_base.specs.Names.{wire}
+use Rattle.dnw_data.specs.FieldWires.{AppendsWire}
+use Rattle.dnw_data.specs.Values.{name}
 use Rattle.dnw_rdata.specs.DataPieces.{name_piece}
 use Rattle.dnw_rdata.proofs.rdata.copy_name.Goals as goal
+
+appended : (labels : List (List ℕ)) (old new : List ℕ) (whole : Bool) → AppendsWire (name labels) old new whole → new ≡ old ++ wire labels
+appended labels old new true is = is
+appended labels old new false is = absurd is.0
 
 pub returns-clause-ok : goal.returns-clause-ok
 returns-clause-ok c =
     let (k, takes) = c.in-Ok.ensures.ok in
     let some = c.in-Ok.name in
-    let (size, filled) = rw c.unwrap-len.ensures at c.copy_wire.ensures.some in
-    (name_piece c.args.form some, (some, k, takes, refl), c.in_ok-extend_from_slice.ensures.items ∙ ap (λ x. c.args.octets.now.items ++ x) (wire_taken some c.unwrap-len.result _ _ size filled))
+    (name_piece c.args.form some, (some, k, takes, refl), appended some _ _ _ c.in_ok-append_to.ensures.appends)

@@ -4,7 +4,7 @@ use Rattle.dnw_encoder.specs.Encoder.{Encoder, fresh}
 use Rattle.dnw_encoder.specs.EncoderValue.{value}
 use Rattle.dnw_record.specs.Records.{RecordValue}
 use Rattle.dnw_message.specs.Messages.{QueryValue}
-use Rattle.dnw_message.specs.declared.header.Header.{Header}
+use Rattle.dnw_header.specs.declared.header.Header.{Header}
 use Rattle.dnw_message_writer.specs.declared.section.Section.TheVariants.{Additionals, Answers, Authorities}
 use Rattle.dnw_message_writer.specs.Copies.{AddsCopies, AddsItems, BeginsBefore, FailsCopies, IsCopied, plain_in, query_entry}
 use Rattle.dnw_message_writer.specs.Drafts.{Draft}

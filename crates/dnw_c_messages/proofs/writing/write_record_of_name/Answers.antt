@@ -1,0 +1,16 @@
+use Rattle.dnw_encoder.specs.EncoderValue.{value}
+use Rattle.dnw_c_messages.specs.declared.writing.Kind.TheVariants as Kinds
+use Rattle.dnw_c_messages.specs.MessageItems.{RecordOfName}
+use Rattle.dnw_c_messages.proofs.Items.{item_undone, not_written}
+use Rattle.dnw_c_messages.proofs.writing.write_record_of_name.Goals as goal
+
+pub returns-in-Ok-clause-ok : goal.returns-in-Ok-clause-ok
+returns-in-Ok-clause-ok c = (RecordOfName c.in_ok-record.record, c.in_ok-record.ensures.ok, c.in-Ok.ensures.emits)
+
+pub returns-clause-err : goal.returns-clause-err
+returns-clause-err c =
+    not_written (Kinds.RecordOfName c.args.encoding) (RecordOfName c.in_ok-record.record) c.args.decoder.now c.read_record.new.decoder (value c.args.encoder.now) (value c.emit.new.encoder) c.in-Err.error
+    c.in_ok-record.ensures.ok c.in-Err.ensures.emits c.of_proto.ensures
+
+pub returns-clause-undone : goal.returns-clause-undone
+returns-clause-undone c = item_undone (RecordOfName c.in_ok-record.record) (value c.args.encoder.now) (value c.emit.new.encoder) c.in-Err.error c.requires.ends c.in-Err.ensures.emits

@@ -1,0 +1,139 @@
+//! The records of messages.
+ghost use Rattle.std.specs.Prelude.{◌≡◌, ◌≢◌, ◌<◌, length, IfOk, IfErr, OnErr};
+ghost use Rattle.dnw_base.specs.Limits.{max_name};
+ghost use Rattle.dnw_record.specs.Records.{FailsRecord, RecordAt};
+ghost use Rattle.dnw_failure.specs.Failures.{NumberOf, number};
+ghost use Rattle.dnw_failure.specs.Offsets.{at_offset};
+ghost use Rattle.dnw_c_messages.specs.RecordCalls.{FailsToReadData, FailsToReadRecord, PutsDataName, PutsRecord};
+ghost use Rattle.dnw_failure.specs.declared.failure.Failure.TheVariants.{NoRoom};
+
+use dnw_base::decoder::BinDecoder;
+use dnw_error::error::DecodeError;
+use dnw_failure::failure::{Failure, of_decode};
+use dnw_failure::names::{name_ref_at, put_name};
+use dnw_name::binary::BinDecodable;
+use dnw_record::record::RecordRef;
+use std::alloc::Global;
+
+/// A record that was read: the number of bytes of its owner that were put, its type, class and time to live, the offset and
+/// the number of octets of its data, and the offset after it.
+#[repr(C)]
+#[derive(Clone, Copy)]
+pub struct ReadRecord {
+    pub owner_len: usize,
+    pub record_type: u16,
+    pub record_class: u16,
+    pub ttl: u32,
+    pub data_offset: usize,
+    pub data_len: usize,
+    pub end: usize,
+}
+
+/// Reads the record at an offset of a message, and puts its owner's wire form. It does not allocate.
+#[unsafe(no_mangle)]
+pub extern "C" fn dnw_record_read(
+    alloc: Global,
+    message: &[u8],
+    start: usize,
+    owner: &mut [u8],
+    found: &mut ReadRecord,
+) -> u32
+    ensures ok { result ≡ 0 → PutsRecord message.now start owner.old owner.new found.new }
+    ensures err { result ≢ 0 → NumberOf (FailsToReadRecord message.now start (length owner.old)) result }
+    ensures room { result ≡ number NoRoom → length owner.old < max_name }
+    ensures same { result ≢ 0 → (owner.new ≡ owner.old) × (found.new ≡ found.old) }
+{
+    match read(alloc, message, start, owner) {
+        Ok(read) => {
+            *found = read;
+            0
+        }
+        Err(failure) => failure.number(),
+    }
+}
+
+/// Reads the octets of a record's data, or the last ones of them, as a name, and puts its wire form and its length. It does
+/// not allocate.
+#[unsafe(no_mangle)]
+pub extern "C" fn dnw_record_data_name(
+    message: &[u8],
+    data_offset: usize,
+    data_len: usize,
+    form: &mut [u8],
+    len: &mut usize,
+) -> u32
+    ensures ok { result ≡ 0 → PutsDataName message.now data_offset data_len form.old form.new len.new }
+    ensures err { result ≢ 0 → NumberOf (FailsToReadData message.now data_offset data_len (length form.old)) result }
+    ensures room { result ≡ number NoRoom → length form.old < max_name }
+    ensures same { result ≢ 0 → (form.new ≡ form.old) × (len.new ≡ len.old) }
+{
+    match data_name(message, data_offset, data_len, form) {
+        Ok(put) => {
+            *len = put;
+            0
+        }
+        Err(failure) => failure.number(),
+    }
+}
+
+/// Reads the record at an offset, and puts its owner's wire form.
+fn read(alloc: Global, message: &[u8], start: usize, form: &mut [u8]) -> Result<ReadRecord, Failure>
+    ensures ok { IfOk result (PutsRecord message.now start form.old form.new) }
+    ensures err { IfErr result (FailsToReadRecord message.now start (length form.old)) }
+    ensures room { IfErr result (λ failure. failure ≡ NoRoom → length form.old < max_name) }
+    ensures same { OnErr result (form.new ≡ form.old) }
+{
+    let (record, end) = match record_at(alloc, message, start) {
+        Ok(found) => found,
+        Err(error) => return Err(of_decode(&error)),
+    };
+    let owner_len = put_name(form, record.owner())?;
+    let data_len = record.rdata().len();
+    Ok(ReadRecord {
+        owner_len,
+        record_type: u16::from(record.record_type()),
+        record_class: u16::from(record.class()),
+        ttl: record.ttl(),
+        data_offset: end - data_len,
+        data_len,
+        end,
+    })
+}
+
+/// Returns the record at an offset, and the offset after it.
+fn record_at<'r>(
+    alloc: Global,
+    message: &'r [u8],
+    start: usize,
+) -> Result<(RecordRef<'r>, usize), DecodeError>
+    ensures ok { IfOk result (λ r. RecordAt message.now start r.0 r.1) }
+    ensures err { IfErr result (FailsRecord (at_offset message.now start)) }
+{
+    let mut decoder = BinDecoder::new(message);
+    decoder.skip(start)?;
+    let record = RecordRef::read(alloc, &mut decoder)?;
+    Ok((record, decoder.index()))
+}
+
+/// Puts the name that so many octets from an offset on are, and returns its length.
+fn data_name(
+    message: &[u8],
+    start: usize,
+    data_len: usize,
+    form: &mut [u8],
+) -> Result<usize, Failure>
+    ensures ok { IfOk result (PutsDataName message.now start data_len form.old form.new) }
+    ensures err { IfErr result (FailsToReadData message.now start data_len (length form.old)) }
+    ensures room { IfErr result (λ failure. failure ≡ NoRoom → length form.old < max_name) }
+    ensures same { OnErr result (form.new ≡ form.old) }
+{
+    match name_ref_at(message, start) {
+        Ok((name, end)) => {
+            if end - start != data_len {
+                return Err(Failure::WrongDataLength);
+            }
+            put_name(form, &name)
+        }
+        Err(error) => Err(of_decode(&error)),
+    }
+}

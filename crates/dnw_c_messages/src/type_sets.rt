@@ -1,0 +1,171 @@
+//! Bitmaps of types, as NSEC, NSEC3 and CSYNC records have them, and lists of their codes.
+ghost use Rattle.std.specs.Prelude.{◌≡◌, ◌≢◌, ◌≤◌, ◌<◌, ◌⊎◌, ℕ, List, length, map, IfOk, IfErr, OnErr};
+ghost use Rattle.dnw_codes.specs.RecordTypes.{type_code, type_of_code};
+ghost use Rattle.dnw_sets.specs.TypeSets.{Encodes, IsSetOf, bitmap_types, set_codes};
+ghost use Rattle.dnw_sets.specs.SetLaws.{most_types};
+ghost use Rattle.dnw_reading.specs.Buffers.{put};
+ghost use Rattle.dnw_failure.specs.Failures.{NumberOf, number};
+ghost use Rattle.dnw_c_messages.specs.TypeLists.{AreListed, FailsToBitmap, FailsToList, IsBitmap, IsBitmapOf, IsNoBitmap};
+ghost use Rattle.dnw_failure.specs.declared.failure.Failure.TheVariants.{BadBitmap, NoMemory, NoRoom};
+
+use dnw_base::decoder::BinDecoder;
+use dnw_base::restrict::Restrict;
+use dnw_codes::record_type::RecordType;
+use dnw_error::error::DecodeError;
+use dnw_failure::buffer::put;
+use dnw_failure::failure::Failure;
+use dnw_sets::record_data::RecordDataDecodable;
+use dnw_sets::record_type_set::RecordTypeSet;
+use std::alloc::{AllocError, Global};
+
+/// Puts the codes that a bitmap lists, in ascending order, and their number.
+#[unsafe(no_mangle)]
+pub extern "C" fn dnw_types_read(
+    alloc: Global,
+    bitmap: &[u8],
+    codes: &mut [u16],
+    count: &mut usize,
+) -> u32
+    ensures ok { result ≡ 0 → (listed : List ℕ) × IsBitmap bitmap.now × AreListed bitmap.now listed
+        × (codes.new ≡ put codes.old listed) × (count.new ≡ length listed) }
+    ensures err { result ≢ 0 → NumberOf (FailsToList bitmap.now (length codes.old)) result }
+    ensures room { result ≡ number NoRoom → length codes.old < most_types bitmap.now }
+    ensures same { result ≢ 0 → (codes.new ≡ codes.old) × (count.new ≡ count.old) }
+{
+    match read(alloc, bitmap, codes) {
+        Ok(put) => {
+            *count = put;
+            0
+        }
+        Err(failure) => failure.number(),
+    }
+}
+
+/// Puts the bitmap of the types with these codes, and its length.
+#[unsafe(no_mangle)]
+pub extern "C" fn dnw_types_write(
+    alloc: Global,
+    codes: &[u16],
+    bitmap: &mut [u8],
+    len: &mut usize,
+) -> u32
+    ensures ok { result ≡ 0 → (octets : List ℕ) × IsBitmapOf codes.now octets
+        × (bitmap.new ≡ put bitmap.old octets) × (len.new ≡ length octets) }
+    ensures err { result ≢ 0 → NumberOf (FailsToBitmap codes.now (length bitmap.old)) result }
+    ensures same { result ≢ 0 → (bitmap.new ≡ bitmap.old) × (len.new ≡ len.old) }
+{
+    match write(alloc, codes, bitmap) {
+        Ok(put) => {
+            *len = put;
+            0
+        }
+        Err(failure) => failure.number(),
+    }
+}
+
+/// Puts the codes that a bitmap lists.
+fn read(alloc: Global, bitmap: &[u8], codes: &mut [u16]) -> Result<usize, Failure>
+    ensures ok { IfOk result (λ count. (listed : List ℕ) × IsBitmap bitmap.now × AreListed bitmap.now listed
+        × (codes.new ≡ put codes.old listed) × (count ≡ length listed)) }
+    ensures err { IfErr result (FailsToList bitmap.now (length codes.old)) }
+    ensures room { IfErr result (λ failure. failure ≡ NoRoom → length codes.old < most_types bitmap.now) }
+    ensures same { OnErr result (codes.new ≡ codes.old) }
+{
+    let listed = listed(alloc, bitmap)?;
+    put_codes(codes, listed.as_slice())
+}
+
+/// Puts the bitmap of the types with these codes.
+fn write(alloc: Global, codes: &[u16], bitmap: &mut [u8]) -> Result<usize, Failure>
+    ensures ok { IfOk result (λ len. (octets : List ℕ) × IsBitmapOf codes.now octets
+        × (bitmap.new ≡ put bitmap.old octets) × (len ≡ length octets)) }
+    ensures err { IfErr result (FailsToBitmap codes.now (length bitmap.old)) }
+    ensures same { OnErr result (bitmap.new ≡ bitmap.old) }
+{
+    let set = set_of(alloc, codes)?;
+    put(bitmap, set.as_wire())
+}
+
+/// Returns the codes that a bitmap lists, in ascending order.
+#[tactic(auto, using(crate::proofs::TypeCodes::listed_some))]
+fn listed(alloc: Global, bitmap: &[u8]) -> Result<Vec<u16>, Failure>
+    ensures ok { IfOk result (λ codes. IsBitmap bitmap.now × AreListed bitmap.now codes.items) }
+    ensures err { IfErr result (λ failure. (IsNoBitmap bitmap.now × (failure ≡ BadBitmap))
+        ⊎ (IsBitmap bitmap.now × (1 ≤ length bitmap.now) × (failure ≡ NoMemory))) }
+{
+    let set = read_set(alloc, bitmap)?;
+    match codes_of(alloc, &set) {
+        Ok(codes) => Ok(codes),
+        Err(_) => Err(Failure::NoMemory),
+    }
+}
+
+/// Returns the set of the types that a bitmap lists.
+fn read_set(alloc: Global, bitmap: &[u8]) -> Result<RecordTypeSet, Failure>
+    ensures ok { IfOk result (λ set. IsBitmap bitmap.now × IsSetOf (bitmap_types bitmap.now) set.types) }
+    ensures err { IfErr result (λ failure. (IsNoBitmap bitmap.now × (failure ≡ BadBitmap))
+        ⊎ (IsBitmap bitmap.now × (1 ≤ length bitmap.now) × (failure ≡ NoMemory))) }
+{
+    let Ok(len) = u16::try_from(bitmap.len()) else {
+        return Err(Failure::BadBitmap);
+    };
+    let mut decoder = BinDecoder::new(bitmap);
+    match RecordTypeSet::read_data(alloc, &mut decoder, Restrict::new(len)) {
+        Ok(set) => Ok(set),
+        Err(DecodeError::Memory) => Err(Failure::NoMemory),
+        Err(_) => Err(Failure::BadBitmap),
+    }
+}
+
+/// Returns the codes of the types of a set.
+fn codes_of(alloc: Global, set: &RecordTypeSet) -> Result<Vec<u16>, AllocError>
+    ensures ok { IfOk result (λ codes. codes.items ≡ map type_code set.now.types) }
+    ensures err { OnErr result (1 ≤ length set.now.types) }
+{
+    let mut codes = Vec::new(alloc);
+    let mut types = set.iter();
+    'types: while let Some(kind) = types.next() {
+        codes.push(u16::from(kind))?;
+    }
+    Ok(codes)
+}
+
+/// Returns the set of the types with these codes.
+fn set_of(alloc: Global, codes: &[u16]) -> Result<RecordTypeSet, Failure>
+    ensures ok { IfOk result (λ set. IsSetOf (map type_of_code codes.now) set.types × Encodes (set_codes set.types) set.encoding) }
+    ensures err { IfErr result (λ failure. (1 ≤ length codes.now) × (failure ≡ NoMemory)) }
+{
+    let Ok(types) = types_of(alloc, codes) else {
+        return Err(Failure::NoMemory);
+    };
+    match RecordTypeSet::new(alloc, types) {
+        Ok(set) => Ok(set),
+        Err(_) => Err(Failure::NoMemory),
+    }
+}
+
+/// Returns the types with these codes.
+fn types_of(alloc: Global, codes: &[u16]) -> Result<Vec<RecordType>, AllocError>
+    ensures ok { IfOk result (λ types. types.items ≡ map type_of_code codes.now) }
+    ensures err { OnErr result (1 ≤ length codes.now) }
+{
+    let mut types = Vec::new(alloc);
+    for code in codes {
+        types.push(RecordType::from(*code))?;
+    }
+    Ok(types)
+}
+
+/// Puts codes at the front of a list if they fit.
+fn put_codes(list: &mut [u16], codes: &[u16]) -> Result<usize, Failure>
+    ensures ok { IfOk result (λ count. (count ≡ length codes.now) × (length codes.now ≤ length list.old)
+        × (list.new ≡ put list.old codes.now)) }
+    ensures err { IfErr result (λ failure. (failure ≡ NoRoom) × (length list.old < length codes.now)) }
+    ensures same { OnErr result (list.new ≡ list.old) }
+{
+    if codes.len() > list.len() {
+        return Err(Failure::NoRoom);
+    }
+    list[..codes.len()].copy_from_slice(codes);
+    Ok(codes.len())
+}

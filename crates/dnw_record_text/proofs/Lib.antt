@@ -1,0 +1,3 @@
+pub mod LinesBack
+pub mod OneLine
+mod RecordWords
