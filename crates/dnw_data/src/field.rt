@@ -64,6 +64,8 @@ impl<'r> Field<'r> {
     /// data do. If it fails, the cursor is unchanged. It does not allocate.
     ///
     /// It fails with the error of reading a name there, or with `InsufficientBytes` if the data end within the field.
+    // Inlined, since LLVM takes a large result that is returned through memory apart, octet by octet.
+    #[inline(always)]
     pub fn read(kind: Kind, reader: &mut BinDecoder<'r>) -> Result<Self, DecodeError>
         ensures ok { IfOk result (λ field. TakesField kind reader.old (seen field) reader.new) }
         ensures err { IfErr result (FailsField kind reader.old) }

@@ -87,6 +87,7 @@ impl<'r> Iterator for Fields<'r> {
 
     ghost remaining = { λ left. at_most (steps_left left) };
 
+    #[inline(always)]
     fn next(&mut self) -> Option<Result<Field<'r>, FieldError>> {
         let field = self.count - self.kinds.len();
         let Some((kind, others)) = self.kinds.split_first() else {

@@ -14,5 +14,4 @@ pub mod ParamsBack
 pub mod FieldValues
 pub mod DataBack
 pub mod NoFault
-pub mod OneBitmap
 pub mod OneText

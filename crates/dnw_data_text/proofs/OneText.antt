@@ -31,7 +31,7 @@ use Rattle.dnw_data_text.specs.DataTexts.{IsPlainData}
 use Rattle.dnw_data_text.specs.DataTextLaws.{DataAreUnambiguous, PrintedDataAreSame}
 use Rattle.dnw_data_text.specs.Parsing.{takes_all, AreAll, AreFieldTexts, AreStringWords, IsIdentifier, IsNumber, IsWord, ReadsField, Spells, eui48, eui64}
 use Rattle.dnw_data_text.proofs.DataBack.{back, data-fit}
-use Rattle.dnw_data_text.proofs.OneBitmap.{back-fit, front-fit, one-bitmap}
+use Rattle.dnw_word_text.proofs.OneBitmap.{back-fit, front-fit, one-bitmap}
 
 -- ---- words
 

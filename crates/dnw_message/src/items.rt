@@ -95,6 +95,8 @@ impl<'m> Iterator for Records<'m> {
 
     ghost remaining = { item_count (λ records. records) };
 
+    // Inlined, since LLVM takes a large result that is returned through memory apart, octet by octet.
+    #[inline(always)]
     fn next(&mut self) -> Option<RecordRef<'m>> {
         if self.left == 0 {
             return None;

@@ -21,7 +21,7 @@ use Rattle.dnw_record_text.specs.RecordLines.{record_line, after_next_word, line
 use Rattle.dnw_data_text.proofs.DataBack.{data-fit}
 use Rattle.dnw_data_text.proofs.FieldValues.{both-fit, four-fit, name-fit, two-fit}
 use Rattle.dnw_record_text.proofs.LinesBack.{IsReadRecord, lines, record-read}
-use Rattle.dnw_data_text.proofs.OneBitmap.{back-fit}
+use Rattle.dnw_word_text.proofs.OneBitmap.{back-fit}
 use Rattle.dnw_data_text.proofs.OneText.{unambiguous}
 
 one-class : (left : List ℕ) (c d : DNSClass) (r s : List ℕ) → HasClassNext left c r → HasClassNext left d s → (c ≡ d) × (r ≡ s)

@@ -18,7 +18,7 @@ use Rattle.dnw_sets.specs.TypeSets.{Window, window_bytes, windows_codes, bit_cod
 use Rattle.dnw_sets.specs.Inside.SetLaws.{types-total}
 use Rattle.dnw_field_text.specs.Octets.{IsOctets}
 use Rattle.dnw_word_text.specs.TypeLists.{AreBitmap}
-use Rattle.dnw_data_text.proofs.TypesBack.{Within, bit-within, octets-within, within-less}
+use Rattle.dnw_word_text.proofs.CodesWithin.{Within, bit-within, octets-within, within-less}
 
 -- ---- parts of octets
 
