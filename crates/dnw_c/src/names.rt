@@ -1,12 +1,11 @@
 //! Names read, written, parsed and printed.
-ghost use Rattle.std.specs.Prelude.{◌≡◌, ◌≢◌, ◌⊎◌, ℕ, ◌<◌, ◌≤◌, true, List, length, Ok, Err, IsUtf8};
+ghost use Rattle.std.specs.Prelude.{◌≡◌, ◌≢◌, ◌⊎◌, ℕ, ◌<◌, ◌≤◌, List, length, Ok, Err, IsUtf8};
 ghost use Rattle.std.specs.Prelude.{IfOk, IfErr, OnOk, OnErr};
 ghost use Rattle.std.specs.Str.{chars};
-ghost use Rattle.dnw_error.specs.declared.error.DecodeError.{DecodeError};
 ghost use Rattle.dnw_base.specs.Limits.{max_name};
 ghost use Rattle.dnw_base.specs.Names.{NameValue, wire};
 ghost use Rattle.dnw_text.specs.NameText.{max_text, name_text, name_from_text};
-ghost use Rattle.dnw_reading.specs.Reading.{NameAt, FaultAt};
+ghost use Rattle.dnw_reading.specs.Reading.{NameAt};
 ghost use Rattle.dnw_name.specs.Decodable.{TakesNameValue};
 ghost use Rattle.dnw_encoder.specs.Encoder.{Encoder};
 ghost use Rattle.dnw_encoder.specs.EncoderValue.{value, lender};
@@ -25,7 +24,6 @@ use dnw_base::decoder::BinDecoder;
 use dnw_base::limits::MAX_NAME;
 use dnw_encoder::binary::BinEncodable;
 use dnw_encoder::encoder::BinEncoder;
-use dnw_error::error::DecodeError;
 use dnw_failure::buffer::put;
 use dnw_failure::failure::{Failure, of_decode, of_proto, text_of};
 use dnw_failure::names::{name_ref_at, put_name};
@@ -273,20 +271,6 @@ fn write(
     let (bytes, count) = write_all(alloc, names, max_size)?;
     let len = put(out, bytes.as_slice())?;
     Ok(WrittenNames { len, count })
-}
-
-/// Returns the name at an offset, and the offset after its own octets.
-#[inline(always)]
-pub(crate) fn name_at(
-    alloc: Global,
-    message: &[u8],
-    start: usize,
-) -> Result<(Name, usize), DecodeError>
-    ensures ok { IfOk result (λ r. (r.0.is_fqdn ≡ true) × (k : ℕ) × NameAt message.now start r.0.labels r.1 k) }
-    ensures err { IfErr result (λ error. (k : ℕ) × (j : ℕ) × FaultAt message.now start error k j) }
-{
-    let (name, end) = name_ref_at(message, start)?;
-    Ok((name.to_name(alloc).unwrap(), end))
 }
 
 /// Returns the bytes of a message of a list's names, and their number.

@@ -9,9 +9,10 @@ ghost use Rattle.dnw_failure.specs.Signs.{sign};
 ghost use Rattle.dnw_c.specs.NameCalls.{FailsAsForms, FailsToLower, IsFormOf, IsNoForm};
 ghost use Rattle.dnw_failure.specs.declared.failure.Failure.TheVariants.{NoRoom};
 
-use crate::names::{name_at, put_form};
+use crate::names::put_form;
 use crate::wire_form::labels_of;
 use dnw_failure::failure::{Failure, of_decode};
+use dnw_failure::names::name_ref_at;
 use dnw_failure::sign::sign_of;
 use dnw_form::wire_labels::WireLabels;
 use dnw_name::name::Name;
@@ -110,12 +111,12 @@ pub(crate) fn name_of(alloc: Global, form: &[u8]) -> Result<Name, Failure>
     ensures ok { IfOk result (λ name. IsTrue name.is_fqdn × IsFormOf form.now name.labels) }
     ensures err { IfErr result (IsNoForm form.now) }
 {
-    match name_at(alloc, form, 0) {
+    match name_ref_at(form, 0) {
         Ok((name, end)) => {
             if end != form.len() {
                 return Err(Failure::BytesLeft);
             }
-            Ok(name)
+            Ok(name.to_name(alloc).unwrap())
         }
         Err(error) => Err(of_decode(&error)),
     }
