@@ -7,7 +7,7 @@
 BIND, NSD, Knot and PowerDNS serve example.zone; the first three serve it signed, by keys that are made for one run. Each is
 asked for each owner and type of the zone, with and without EDNS, and for what makes replies of other shapes: names that do not
 exist, a delegation, aliases, replies that are cut, and what they refuse. A line is SERVER HEX, and then the text that
-dnspython gives the message, in the layout of `dnswire message`, with | for the end of a line. With --texts no server is
+dnspython gives the message, in the layout of `dig`, with | for the end of a line. With --texts no server is
 started: the replies that are there get their texts again.
 """
 
@@ -152,9 +152,24 @@ def replies(port):
             print("no reply to what is no query", file=sys.stderr)
 
 
+def listing(reply):
+    """The text of a message, with what EDNS says before the questions, as `dig` has it."""
+    lines = make.text_of(reply, data_text, type_text).rstrip().split("\n")
+    if not lines[-1].startswith("; EDNS: "):
+        return "\n".join(lines)
+    *lines, edns = lines
+    if lines[-1] == ";; ADDITIONAL SECTION:":
+        del lines[-2:]
+    at = lines.index("") if "" in lines else len(lines)
+    options = dns.message.from_wire(reply).options
+    shown = [f"; OPT={int(it.otype)}:" + "".join(f" {octet:02x}" for octet in it.to_wire()) for it in options]
+    # No empty line stands between what EDNS says and the questions.
+    follows = lines[at + 1 :] if lines[at + 1 : at + 2] == [";; QUESTION SECTION:"] else lines[at:]
+    return "\n".join([*lines[:at], "", ";; OPT PSEUDOSECTION:", edns, *shown, *follows])
+
+
 def line_of(server, reply):
-    text = make.text_of(reply, data_text, type_text).rstrip().replace(chr(10), "|")
-    return f"{server} {reply.hex()} {text}"
+    return f"{server} {reply.hex()} {listing(reply).replace(chr(10), '|')}"
 
 
 def recorded():

@@ -30,8 +30,13 @@ enum Refusal {
     #[error("refused: {0}")]
     Message(MessageError),
     /// What a message says by EDNS was refused.
-    #[error("refused: {0}")]
-    Edns(EdnsError),
+    #[error("refused: Additionals from offset {offset} on: {error}")]
+    Edns {
+        /// The offset at which the additional records begin.
+        offset: usize,
+        /// What is wrong.
+        error: EdnsError,
+    },
 }
 
 impl From<io::Error> for Refusal {
@@ -55,12 +60,6 @@ impl From<DecodeError> for Refusal {
 impl From<MessageError> for Refusal {
     fn from(e: MessageError) -> Self {
         Refusal::Message(e)
-    }
-}
-
-impl From<EdnsError> for Refusal {
-    fn from(e: EdnsError) -> Self {
-        Refusal::Edns(e)
     }
 }
 

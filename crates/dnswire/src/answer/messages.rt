@@ -4,8 +4,8 @@ use super::Refusal;
 use dns_names_wire::data_text::data_text;
 use dns_names_wire::dns_class::DNSClass;
 use dns_names_wire::message::{
-    AddError, Entry, MessageRef, MessageType, Metadata, OpCode, Records, ResponseCode, WireEdns,
-    WireQuery, write,
+    AddError, EdnsError, EdnsRef, Entry, MessageRef, MessageType, Metadata, OpCode, Records,
+    ResponseCode, Section, WireEdns, WireQuery, write,
 };
 use dns_names_wire::name::Name;
 use dns_names_wire::record::RecordRef;
@@ -24,14 +24,78 @@ const EDNS: WireEdns<'static> = WireEdns {
     options: &[],
 };
 
-/// Returns a message as text: its header, what it says by EDNS, and each item of its sections in a line.
+/// Returns a message as text: its header, what it says by EDNS, each item of its sections in a line, and how many octets follow it.
 pub fn listing(alloc: Global, octets: &[u8]) -> Result<String, Refusal> {
     let message = MessageRef::read(octets)?;
-    let edns = message.edns()?;
-    let mut text = header_lines(alloc, &message, message.response_code()?)?;
-    if message.header().counts.queries > 0 {
-        text.push_str("\n\n;; QUESTION SECTION:")?;
+    let edns = in_additionals(&message, message.edns())?;
+    let response = in_additionals(&message, message.response_code())?;
+    let mut text = header_lines(alloc, &message, response)?;
+    text.push_str("\n")?;
+    if let Some(edns) = &edns {
+        push_edns(alloc, &mut text, edns)?;
     }
+    push_queries(alloc, &mut text, &message)?;
+    push_section(alloc, &mut text, Section::Answers, message.answers())?;
+    push_section(
+        alloc,
+        &mut text,
+        Section::Authorities,
+        message.authorities(),
+    )?;
+    push_section(
+        alloc,
+        &mut text,
+        Section::Additionals,
+        message.additionals(),
+    )?;
+    let rest = message.trailing().len();
+    if rest > 0 {
+        let bytes = if rest == 1 { "byte" } else { "bytes" };
+        text.push_str(format!(in alloc;
+            "\n;; WARNING: Message has {rest} extra {bytes} at end\n"
+        )?.as_str())?;
+    }
+    text.pop();
+    Ok(text)
+}
+
+/// Returns what a message says by EDNS, or why it says nothing, and where its additional records begin.
+fn in_additionals<T: Drop>(
+    message: &MessageRef<'_>,
+    found: Result<T, EdnsError>,
+) -> Result<T, Refusal> {
+    match found {
+        Ok(found) => Ok(found),
+        Err(error) => Err(Refusal::Edns {
+            offset: message.section_offsets().additionals,
+            error,
+        }),
+    }
+}
+
+/// Adds what a message says by EDNS: a line, and one for each option, with its octets in hexadecimal.
+fn push_edns(alloc: Global, text: &mut String, edns: &EdnsRef<'_>) -> Result<(), Refusal> {
+    let flags = if edns.dnssec_ok() { " do" } else { "" };
+    let (version, payload) = (edns.version(), edns.max_payload());
+    text.push_str(format!(in alloc;
+        "\n;; OPT PSEUDOSECTION:\n; EDNS: version: {version}, flags:{flags}; udp: {payload}"
+    )?.as_str())?;
+    for option in edns.options() {
+        text.push_str(format!(in alloc; "\n; OPT={}:", option.code())?.as_str())?;
+        for octet in option.octets() {
+            text.push_str(" ")?;
+            text.push_str(hex::encode(alloc, &[*octet])?.as_str())?;
+        }
+    }
+    Ok(())
+}
+
+/// Adds the questions, each in a line.
+fn push_queries(alloc: Global, text: &mut String, message: &MessageRef<'_>) -> Result<(), Refusal> {
+    if message.header().counts.queries == 0 {
+        return Ok(());
+    }
+    text.push_str("\n;; QUESTION SECTION:")?;
     for query in message.queries() {
         let name = query.name().to_name(alloc)?;
         let (class, kind) = (query.query_class().to_text(), query.query_type().to_text());
@@ -41,17 +105,8 @@ pub fn listing(alloc: Global, octets: &[u8]) -> Result<String, Refusal> {
             kind.as_str()
         )?.as_str())?;
     }
-    push_section(alloc, &mut text, "ANSWER", message.answers())?;
-    push_section(alloc, &mut text, "AUTHORITY", message.authorities())?;
-    push_section(alloc, &mut text, "ADDITIONAL", message.additionals())?;
-    if let Some(edns) = &edns {
-        let flags = if edns.dnssec_ok() { " do" } else { "" };
-        let (version, payload) = (edns.version(), edns.max_payload());
-        text.push_str(format!(in alloc;
-            "\n; EDNS: version: {version}, flags:{flags}; udp: {payload}"
-        )?.as_str())?;
-    }
-    Ok(text)
+    text.push_str("\n")?;
+    Ok(())
 }
 
 /// Returns the two lines of a header.
@@ -118,24 +173,40 @@ fn capitals(alloc: Global, name: &str) -> Result<String, Refusal> {
     Ok(text)
 }
 
-/// Adds the records of a section, under its title if the section has an item. An `OPT` record has a line of its own elsewhere.
+/// Adds the records of a section, under its title if there are any. What the `OPT` record among the additional ones says stands
+/// elsewhere.
 fn push_section(
     alloc: Global,
     text: &mut String,
-    title: &str,
+    section: Section,
     records: Records<'_>,
 ) -> Result<(), Refusal> {
     let mut is_first = true;
     for record in records {
+        if section == Section::Additionals && record.record_type() == RecordType::OPT {
+            continue;
+        }
         if is_first {
-            text.push_str(format!(in alloc; "\n\n;; {title} SECTION:")?.as_str())?;
+            let title = title_of(section);
+            text.push_str(format!(in alloc; "\n;; {title} SECTION:")?.as_str())?;
             is_first = false;
         }
-        if record.record_type() != RecordType::OPT {
-            push_record(alloc, text, &record)?;
-        }
+        push_record(alloc, text, &record)?;
+    }
+    if !is_first {
+        text.push_str("\n")?;
     }
     Ok(())
+}
+
+fn title_of(section: Section) -> &'static str {
+    match section {
+        Section::Header => "HEADER",
+        Section::Queries => "QUESTION",
+        Section::Answers => "ANSWER",
+        Section::Authorities => "AUTHORITY",
+        Section::Additionals => "ADDITIONAL",
+    }
 }
 
 /// Adds a record in a line: its owner, time to live, class, type and data.
