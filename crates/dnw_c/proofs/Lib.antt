@@ -2,4 +2,5 @@ mod Forms
 mod Lists
 mod Named
 mod Numbers
+mod Walks
 pub mod TextFaults

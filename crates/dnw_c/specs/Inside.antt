@@ -1,2 +1,3 @@
--- What no public clause cites: names with their sort keys.
+-- What no public clause cites: names with their sort keys, and wire forms with the lengths of their last labels.
 pub mod Keyed
+pub mod LastLengths

@@ -1,5 +1,5 @@
 //! Names compared, by their wire forms.
-ghost use Rattle.std.specs.Prelude.{◌≡◌, ◌≢◌, ◌↔◌, List, ℕ, ◌<◌, length, IsTrue, IfOk, IfErr};
+ghost use Rattle.std.specs.Prelude.{◌≡◌, ◌≢◌, ◌↔◌, List, ℕ, ◌<◌, length, reverse, IsTrue, IfOk, IfErr};
 ghost use Rattle.dnw_base.specs.Limits.{max_name};
 ghost use Rattle.dnw_base.specs.Names.{lower, wire};
 ghost use Rattle.dnw_order.specs.Order.{labels_cmp, IsZoneOf};
@@ -10,12 +10,13 @@ ghost use Rattle.dnw_c.specs.NameCalls.{FailsAsForms, FailsToLower, IsFormOf, Is
 ghost use Rattle.dnw_failure.specs.declared.failure.Failure.TheVariants.{NoRoom};
 
 use crate::names::put_form;
-use crate::wire_form::labels_of;
+use crate::wire_form::{labels_from_last, labels_of};
 use dnw_failure::failure::{Failure, of_decode};
 use dnw_failure::names::name_ref_at;
 use dnw_failure::sign::sign_of;
 use dnw_form::wire_labels::WireLabels;
 use dnw_name::name::Name;
+use dnw_order::from_last::FromLast;
 use dnw_order::order;
 use std::alloc::Global;
 
@@ -26,9 +27,9 @@ pub extern "C" fn dnw_name_compare(left: &[u8], right: &[u8], order: &mut i32) -
     ensures err { result ≢ 0 → NumberOf (FailsAsForms left.now right.now) result }
     ensures same { result ≢ 0 → order.new ≡ order.old }
 {
-    match both_labels(left, right) {
+    match both_from_last(left, right) {
         Ok((left, right)) => {
-            *order = sign_of(order::cmp_labels(left, right));
+            *order = sign_of(order::cmp_labels_from_last(left, right));
             0
         }
         Err(failure) => failure.number(),
@@ -133,6 +134,20 @@ fn both_labels<'a>(
 {
     let left = labels_of(left)?;
     let right = labels_of(right)?;
+    Ok((left, right))
+}
+
+/// Returns the labels of two wire forms from the last one.
+#[inline(always)]
+fn both_from_last<'a>(
+    left: &'a [u8],
+    right: &'a [u8],
+) -> Result<(FromLast<'a>, FromLast<'a>), Failure>
+    ensures ok { IfOk result (λ both. IsFormOf left.now (reverse both.0) × IsFormOf right.now (reverse both.1)) }
+    ensures err { IfErr result (FailsAsForms left.now right.now) }
+{
+    let left = labels_from_last(left)?;
+    let right = labels_from_last(right)?;
     Ok((left, right))
 }
 

@@ -7,13 +7,14 @@ ghost use Rattle.dnw_order.specs.Inside.Lengths.{SplitsBack};
 
 use dnw_form::form::WireForm;
 use dnw_form::lengths::last_lengths;
+use dnw_form::wire_labels::WireLabels;
 use std::marker::Model;
 
 /// Labels from the last one. The lengths of eight are known at a time, so each of these is found at once.
 ///
 /// A contract sees them as the list of the labels that are left, from the last one.
 #[derive(Drop)]
-pub(crate) struct FromLast<'a> {
+pub struct FromLast<'a> {
     // The wire form of what is left, without a closing zero.
     rest: &'a [u8],
     // The lengths of the last labels, the last one in the low octet, or 0 if they are not known.
@@ -46,16 +47,25 @@ impl<'a> FromLast<'a> {
         }
     }
 
+    /// Finds labels of which the last lengths are known, in the octets of a number as `WireForm::lengths` returns them.
+    #[inline(always)]
+    pub fn with_lengths(labels: WireLabels<'a>, lengths: u64) -> Self
+        requires { HasLengths (reverse labels) lengths }
+        ensures { result ≡ reverse labels.entry }
+    {
+        let wire = labels.as_wire();
+        FromLast {
+            rest: &wire[..wire.len() - 1],
+            lengths,
+        }
+    }
+
     /// Finds the labels of a form, most of which are known to it.
     #[inline(always)]
     pub(crate) fn of_form(form: &'a WireForm) -> Self
         ensures { result ≡ reverse form.now }
     {
-        let wire = form.as_bytes();
-        FromLast {
-            rest: &wire[..wire.len() - 1],
-            lengths: form.lengths(),
-        }
+        FromLast::with_lengths(form.labels(), form.lengths())
     }
 
     /// Returns `true` if there is a label whose length is known, so that `next` does not walk.

@@ -3,6 +3,6 @@
 //! It stands on the wire form. Read `specs/Order.antt` first: the order of names.
 #![tactic(auto)]
 
-mod from_last;
+pub mod from_last;
 pub mod order;
 pub mod sort_key;

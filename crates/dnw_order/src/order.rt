@@ -47,6 +47,15 @@ pub fn cmp_forms_case(left: &WireForm, right: &WireForm) -> Ordering
     cmp_from_last::<CaseSensitive>(FromLast::of_form(left), FromLast::of_form(right))
 }
 
+/// Compares labels, which stand from the last one on, as `cmp_labels` does. There is no walk while the lengths of the last ones are
+/// known to both.
+#[inline(always)]
+pub fn cmp_labels_from_last(left: FromLast<'_>, right: FromLast<'_>) -> Ordering
+    ensures { result ≡ labels_cmp (reverse left.entry) (reverse right.entry) }
+{
+    cmp_from_last::<CaseInsensitive>(left, right)
+}
+
 /// Compares labels from the last one, and their bytes as `F` does. Labels come before those that end in them.
 fn cmp_labels_by<F: LabelCmp>(left: WireLabels<'_>, right: WireLabels<'_>) -> Ordering
     requires { (n : ℕ) → F.order n n ≡ Ordering.Equal }
