@@ -186,7 +186,7 @@ static void refuses_names(void)
     form[254] = 1;
     form[255] = 0;
     EXPECT(question(ROOM, form, 256) == DNW_NAME_TOO_LONG);
-    EXPECT(question(ROOM, form, 255) == DNW_NAME_TOO_LONG);
+    EXPECT(question(ROOM, form, 255) == DNW_MESSAGE_CUT);
 }
 
 /* What a caller may have spoiled. */
