@@ -63,6 +63,19 @@ def message(names):
     return items
 
 
+def block(octets):
+    """Octets after their number, as many as it can say."""
+    return bytes([min(len(octets), 255)]) + octets[:255]
+
+
+def calls(names):
+    """The calls that write a message of these names: a question, records of each section, and EDNS."""
+    made = b"\0\x12\x34\x85\x80" + b"\2" + block(names[0]) + b"\0\1\0\1"
+    for number, name in enumerate(names):
+        made += b"\5" + bytes([min(2 + number // 4, 4)]) + block(name) + block(name) + b"\0\2\0\1" + bytes(4)
+    return made + b"\4\x04\xd0\1\0\1" + block(b"\0\x0a\0\2ab")
+
+
 def signature(code, labels):
     """An RRSIG of the root that covers a type, with so many labels."""
     return b"\0" + struct.pack(">HHIH", 46, 1, 0, 19) + struct.pack(">HBB", code, 13, labels) + bytes(15)
@@ -118,6 +131,7 @@ def inputs(words):
             whole = bytes(4) + counts + names[0] + b"\0\1\0\1" + b"".join(records(names))
             yield "sections", b"\xff" + whole
             yield "packing", b"\2\0" + whole
+            yield "writer", b"\4\0" + calls(names)
             for settings in b"\xff\xff\0\0", b"\0\x60\1\0", b"\xff\xff\0\xff":
                 yield "messages", settings + message(names)
     elif kind == "order":

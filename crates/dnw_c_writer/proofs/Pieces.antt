@@ -1,0 +1,18 @@
+-- Octets that are put one piece after another.
+use Rattle.std.proofs.Common.{◌≡◌, ◌≤◌, ℕ, ◌+◌, List, ◌++◌, length, take, drop, sym, ap, ◌∙◌, append_assoc, arith, length-append}
+use Rattle.std.proofs.lemmas.List.{drop-drop, drop_at, length-take-le, take_at}
+use Rattle.dnw_c_writer.specs.WriterCalls.{put_at}
+
+-- two pieces, the second after the first, are put as one
+pub put_at-put_at : (m : List ℕ) (p q : ℕ) (a b : List ℕ) → q ≡ p + length a → p ≤ length m
+    → put_at (put_at m p a) q b ≡ put_at m p (a ++ b)
+put_at-put_at m p q a b next within =
+    let front : List ℕ = take p m ++ a in
+    let rest : List ℕ = drop (p + length a) m in
+    let len : length front ≡ q = omega (arith, next, length-append (take p m) a, length-take-le p m within) in
+    let split : put_at m p a ≡ front ++ rest = sym (append_assoc (take p m) a rest) in
+    let head : take q (put_at m p a) ≡ front = ap (take q) split ∙ take_at front rest q len in
+    let tail : drop (q + length b) (put_at m p a) ≡ drop (p + length (a ++ b)) m =
+    sym (drop-drop (length b) q (put_at m p a)) ∙ ap (λ l. drop (length b) (drop q l)) split ∙ ap (drop (length b)) (drop_at front rest q len)
+    ∙ drop-drop (length b) (p + length a) m ∙ ap (λ n. drop n m) (omega (arith, length-append a b)) in
+    rw (head, tail) (append_assoc (take p m) a _ ∙ ap (λ l. take p m ++ l) (sym (append_assoc a b _)))
