@@ -52,6 +52,8 @@ impl<'a> Model for NameRef<'a> {
 impl<'a> NameRef<'a> {
     /// Reads the name at the cursor, and leaves the cursor after the name's own octets (RFC 1035, section 4.1.4). If it
     /// fails, the cursor is unchanged. It accepts exactly what `Name::read` accepts.
+    // Inlined, since LLVM takes a large result that is returned through memory apart, octet by octet.
+    #[inline(always)]
     pub fn read(decoder: &mut BinDecoder<'a>) -> Result<Self, DecodeError>
         ensures ok { IfOk result (λ name. (k : ℕ) × TakesName decoder.old decoder.new name k) }
         ensures err { IfErr result (λ e. (k : ℕ) × (j : ℕ) × StopsAt decoder.old e k j) }
@@ -67,6 +69,7 @@ impl<'a> NameRef<'a> {
     }
 
     /// Reads as `read` does, and counts the steps, also if it fails.
+    #[inline(always)]
     pub fn read_counted(
         decoder: &mut BinDecoder<'a>,
         steps: &mut ReadSteps,

@@ -1,5 +1,5 @@
 //! The walk over the elements of a name in a message, which copies nothing (RFC 1035, section 4.1.4).
-ghost use Rattle.std.specs.Prelude.{◌≡◌, ℕ, ◌+◌, ◌<◌, ◌≤◌, min, length, slice_get, Some, unwrap_or, IfOk, IfErr, OnOk};
+ghost use Rattle.std.specs.Prelude.{◌≡◌, ℕ, ◌+◌, ◌<◌, ◌≤◌, min, length, slice_get, Some, unwrap_or, IfOk, IfErr, IfSome, IfNone, OnOk};
 ghost use Rattle.dnw_reading.specs.Reading.{IsWithin, Stops, FaultAt, target};
 ghost use Rattle.dnw_base.specs.Limits.{max_label, max_labels, pointer_mark, pointer_offsets};
 ghost use Rattle.dnw_reading.specs.Inside.Walking.{IsElement, IsNoElement, once_followed};
@@ -42,18 +42,31 @@ pub struct Walked {
 }
 
 /// Walks over the name at `start`, and counts the pointers followed and the labels found.
+#[inline(always)]
 pub fn walk(message: &[u8], start: usize, steps: &mut ReadSteps) -> Result<Walked, DecodeError>
     ensures ok { IfOk result (λ walked. IsFound message.now start walked steps.new.labels steps.new.pointers) }
     ensures err { IfErr result (λ e. FaultAt message.now start e steps.new.pointers steps.new.labels) }
     ensures few_pointers { steps.new.pointers ≤ min start pointer_offsets }
     ensures few_labels { steps.new.labels ≤ max_labels + 1 }
 {
-    walk_elements(message, start, steps)
+    let mut fault = DecodeError::InsufficientBytes;
+    match walk_elements(message, start, steps, &mut fault) {
+        Some(walked) => Ok(walked),
+        None => Err(fault),
+    }
 }
 
-fn walk_elements(message: &[u8], start: usize, steps: &mut ReadSteps) -> Result<Walked, DecodeError>
-    ensures ok { IfOk result (λ walked. IsFound message.now start walked steps.new.labels steps.new.pointers) }
-    ensures err { IfErr result (λ e. FaultAt message.now start e steps.new.pointers steps.new.labels) }
+/// Walks over the name at `start`. If it returns `None`, `fault` says why there is no name.
+// The error is not part of the result, and all is inlined, since LLVM takes a large result apart, octet by octet.
+#[inline(always)]
+fn walk_elements(
+    message: &[u8],
+    start: usize,
+    steps: &mut ReadSteps,
+    fault: &mut DecodeError,
+) -> Option<Walked>
+    ensures some { IfSome result (λ walked. IsFound message.now start walked steps.new.labels steps.new.pointers) }
+    ensures none { IfNone result (FaultAt message.now start fault.new steps.new.pointers steps.new.labels) }
 {
     *steps = ReadSteps::default();
     let mut position = start;
@@ -63,24 +76,29 @@ fn walk_elements(message: &[u8], start: usize, steps: &mut ReadSteps) -> Result<
     let mut end = start;
     let mut size = 1;
     'elements: loop {
-        match next_element(message, position, segment, limit, steps.pointers)? {
-            Element::End => {
-                return Ok(Walked {
+        match next_element(message, position, segment, limit, steps.pointers) {
+            Err(error) => {
+                *fault = error;
+                return None;
+            }
+            Ok(Element::End) => {
+                return Some(Walked {
                     first,
                     end: own_end(steps.pointers, end, position + 1),
                     size,
                     in_one_piece: segment == first,
                 });
             }
-            Element::Label(len) => {
+            Ok(Element::Label(len)) => {
                 steps.labels += 1;
                 size = size + 1 + len;
                 if size > MAX_NAME {
-                    return Err(DecodeError::DomainNameTooLong(len));
+                    *fault = DecodeError::DomainNameTooLong(len);
+                    return None;
                 }
                 position = position + 1 + len;
             }
-            Element::Pointer(target) => {
+            Ok(Element::Pointer(target)) => {
                 end = own_end(steps.pointers, end, position + 2);
                 steps.pointers += 1;
                 first = if size == 1 { target } else { first };
