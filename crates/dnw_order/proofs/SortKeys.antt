@@ -94,7 +94,7 @@ keys_compare_names x y e = keys_compare x.labels y.labels ∙ rw (same_flags x.i
 
 -- ---- keys that begin with others
 
-equal_is : (xs ys : List ℕ) → (octets_cmp xs ys ≡ Equal) ↔ (xs ≡ ys)
+pub equal_is : (xs ys : List ℕ) → (octets_cmp xs ys ≡ Equal) ↔ (xs ≡ ys)
 equal_is xs ys = (
   λ e. (bytes_decides xs ys).0 (texts_ties xs ys ∙ (Equal-is (octets_cmp xs ys)).1 e),
   λ e. (Equal-is (octets_cmp xs ys)).0 (sym (texts_ties xs ys) ∙ (bytes_decides xs ys).1 e),

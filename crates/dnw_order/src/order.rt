@@ -107,7 +107,7 @@ fn cmp_others<F: LabelCmp>(mut lefts: FromLast<'_>, mut rights: FromLast<'_>) ->
     }
 }
 
-/// Compares the bytes of two labels as `F` does. Labels of one length are often the same.
+/// Compares the bytes of two labels, or of two wire forms, as `F` does. Those of one length are often the same.
 #[inline(always)]
 fn cmp_label<F: LabelCmp>(left: &[u8], right: &[u8]) -> Ordering
     requires { (n : ℕ) → F.order n n ≡ Ordering.Equal }
@@ -169,8 +169,13 @@ fn cmp_lengths(left: usize, right: usize) -> Ordering
 pub fn eq_labels(left: WireLabels<'_>, right: WireLabels<'_>) -> bool
     ensures { IsTrue result ↔ (lower left.entry ≡ lower right.entry) }
 {
+    let left = left.as_wire();
+    let right = right.as_wire();
+    if left.len() != right.len() {
+        return false;
+    }
     // Length octets are no letters.
-    left.as_wire().eq_ignore_ascii_case(right.as_wire())
+    cmp_label::<CaseInsensitive>(left, right).is_eq()
 }
 
 /// Returns `true` if the labels are equal, with capitals as they are.
