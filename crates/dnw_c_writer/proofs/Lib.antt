@@ -1,2 +1,4 @@
 mod Forms
+mod Kept
 mod Pieces
+mod Wholes

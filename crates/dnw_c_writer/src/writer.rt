@@ -1,7 +1,8 @@
 //! Messages, written item by item.
-ghost use Rattle.std.specs.Prelude.{◌≡◌, ◌≢◌, ◌≤◌, length, OnOk, IfErr, OnErr};
+ghost use Rattle.std.specs.Prelude.{◌≡◌, ◌≢◌, ◌≤◌, length, IfOk, OnOk, IfErr, OnErr};
 ghost use Rattle.dnw_base.specs.Limits.{max_name};
 ghost use Rattle.dnw_failure.specs.Failures.{NumberOf};
+ghost use Rattle.dnw_c_writer.specs.Messages.{IsMessage};
 ghost use Rattle.dnw_c_writer.specs.WriterCalls.{AppendsRecord, Begins, FailsToAppendRecord, FailsToBegin, FailsToPutEdns, FailsToPutQuestion, FailsToPutRecord, PutsEdns, PutsQuestion, PutsRecord, edns_ttl, question_fields};
 
 use crate::items::{append, record_fields};
@@ -38,19 +39,13 @@ pub extern "C" fn dnw_writer_begin(
     writer: &mut Writer,
 ) -> u32
     ensures ok { result ≡ 0 → Begins id flags message.old message.new writer.new }
+    ensures whole { result ≡ 0 → IsMessage message.new writer.new }
     ensures err { result ≢ 0 → NumberOf (FailsToBegin message.old) result }
     ensures same { result ≢ 0 → (message.new ≡ message.old) × (writer.new ≡ writer.old) }
 {
-    let id = id.to_be_bytes();
-    let flags = flags.to_be_bytes();
-    let header = [id[0], id[1], flags[0], flags[1], 0, 0, 0, 0, 0, 0, 0, 0];
-    match put(message, &header) {
-        Ok(len) => {
-            *writer = Writer {
-                len,
-                section: 0,
-                opt_count: 0,
-            };
+    match begin(message, id, flags) {
+        Ok(begun) => {
+            *writer = begun;
             0
         }
         Err(failure) => failure.number(),
@@ -67,6 +62,7 @@ pub extern "C" fn dnw_writer_question(
     writer: &mut Writer,
 ) -> u32
     ensures ok { result ≡ 0 → PutsQuestion name.now query_type class writer.old writer.new message.old message.new }
+    ensures whole { result ≡ 0 → IsMessage message.old writer.old → IsMessage message.new writer.new }
     ensures err { result ≢ 0 → NumberOf (FailsToPutQuestion name.now writer.old message.old) result }
     ensures same { result ≢ 0 → (message.new ≡ message.old) × (writer.new ≡ writer.old) }
 {
@@ -90,6 +86,7 @@ pub extern "C" fn dnw_writer_record(
 ) -> u32
     ensures ok { result ≡ 0
         → PutsRecord section owner.now record_type class ttl octets.now writer.old writer.new message.old message.new }
+    ensures whole { result ≡ 0 → IsMessage message.old writer.old → IsMessage message.new writer.new }
     ensures err { result ≢ 0 → NumberOf (FailsToPutRecord section owner.now octets.now writer.old message.old) result }
     ensures same { result ≢ 0 → (message.new ≡ message.old) × (writer.new ≡ writer.old) }
 {
@@ -121,6 +118,7 @@ pub extern "C" fn dnw_writer_edns(
 ) -> u32
     ensures ok { result ≡ 0
         → PutsEdns max_payload (edns_ttl rcode_high version dnssec_ok) options.now writer.old writer.new message.old message.new }
+    ensures whole { result ≡ 0 → IsMessage message.old writer.old → IsMessage message.new writer.new }
     ensures err { result ≢ 0 → NumberOf (FailsToPutEdns options.now writer.old message.old) result }
     ensures same { result ≢ 0 → (message.new ≡ message.old) × (writer.new ≡ writer.old) }
 {
@@ -134,6 +132,23 @@ pub extern "C" fn dnw_writer_edns(
         Ok(()) => 0,
         Err(failure) => failure.number(),
     }
+}
+
+/// Puts a header without items.
+fn begin(message: &mut [u8], id: u16, flags: u16) -> Result<Writer, Failure>
+    ensures ok { IfOk result (Begins id flags message.old message.new) }
+    ensures err { IfErr result (FailsToBegin message.old) }
+    ensures same { OnErr result (message.new ≡ message.old) }
+{
+    let id = id.to_be_bytes();
+    let flags = flags.to_be_bytes();
+    let header = [id[0], id[1], flags[0], flags[1], 0, 0, 0, 0, 0, 0, 0, 0];
+    let len = put(message, &header)?;
+    Ok(Writer {
+        len,
+        section: 0,
+        opt_count: 0,
+    })
 }
 
 /// Appends a question.

@@ -1,0 +1,88 @@
+-- Items of a message that stay as they are when its header changes, and octets are put after it.
+use Rattle.std.proofs.Common.{◌≡◌, ◌≤◌, ℕ, suc, ◌+◌, ◌-◌, List, [], ◌∷◌, ◌++◌, length, take, drop, slice_range, refl, sym, ap, subst, ◌∙◌, arith, length-append, length-drop}
+use Rattle.std.proofs.lemmas.List.{length-take-le}
+use Rattle.dnw_base.specs.Names.{encoded_size, wire}
+use Rattle.dnw_base.proofs.Wires.{length-wire}
+use Rattle.dnw_reading.specs.Reading.{NameAt}
+use Rattle.dnw_reading.proofs.Back.{NameAt-form}
+use Rattle.dnw_reading.proofs.Copying.{Reads-plain}
+use Rattle.dnw_reading.proofs.Counts.{NameAt-labels, Reads-own}
+use Rattle.dnw_record.specs.Records.{fixed_size, length_field}
+use Rattle.dnw_message.specs.Messages.{Item, ItemAt, ItemsAt, Rest, none, one_more, question_rest, record_rest}
+use Rattle.dnw_message.proofs.InTurn.{items-more}
+use Rattle.dnw_c_writer.specs.Messages.{HasItems}
+
+-- the octets from the header's end up to n are in both
+pub record Kept (b b' : List ℕ) (n : ℕ) : Type 0 where
+  pub same : (i j : ℕ) → 12 ≤ i → i ≤ j → j ≤ n → slice_range b i j ≡ slice_range b' i j
+  pub fits : n ≤ length b'
+
+-- what follows a name that ends before n is as long in both
+abbrev pub Stable : Rest → List ℕ → List ℕ → ℕ → Type 0
+Stable rest b b' n = (e : ℕ) → 12 ≤ e → e + rest b e ≤ n → rest b' e ≡ rest b e
+
+pub question-stable : (b b' : List ℕ) (n : ℕ) → Stable question_rest b b' n
+question-stable b b' n e from to = refl
+
+pub record-stable : (b b' : List ℕ) (n : ℕ) → Kept b b' n → Stable record_rest b b' n
+record-stable b b' n kept e from to =
+    ap (λ fields. fixed_size + length_field fields) (sym (kept.same e (e + fixed_size) from (omega arith) (omega (arith, to))))
+
+-- a name without pointers
+same-name : {b b' : List ℕ} {p e : ℕ} {ls : List (List ℕ)} → NameAt b p ls e 0 → e ≤ length b' → slice_range b p e ≡ slice_range b' p e
+    → NameAt b' p ls e 0
+same-name {b} {b'} {p} {e} {ls} name fits same =
+    let (further, inside) = Reads-own name.reads in
+    let is : slice_range b' p e ≡ wire ls = sym same ∙ Reads-plain name.reads refl in
+    let size : length (slice_range b' p e) ≡ e - p = length-take-le (e - p) (drop p b') (omega (arith, length-drop p b', fits)) in
+    let end : p + encoded_size ls ≡ e = omega (arith, length-wire ls, ap length is, size, further) in
+    subst (λ q. NameAt b' p ls q 0) end (NameAt-form b' (slice_range b' p e) p ls (omega (arith, further, fits)) (ap (λ k. take k (drop p b')) size) is (NameAt-labels name))
+
+kept-item : {rest : Rest} {b b' : List ℕ} {n p e : ℕ} {x : Item} → Kept b b' n → Stable rest b b' n → ItemAt rest b p x e 0 → 12 ≤ p → e ≤ n
+    → ItemAt rest b' p x e 0
+kept-item {rest} {b} {b'} {n} {p} {e} {x} kept stable item from to =
+    let (further, inside) = Reads-own item.name.reads in
+    let name_end : x.name_end ≤ n = omega (arith, item.ends, to) in
+    record {
+      name = same-name item.name (omega (arith, name_end, kept.fits)) (kept.same p x.name_end from (omega (arith, further)) name_end);
+      ends = item.ends ∙ ap (λ r. x.name_end + r) (sym (stable x.name_end (omega (arith, from, further)) (omega (arith, item.ends, to))));
+      inside = omega (arith, to, kept.fits);
+    }
+
+pub items-on : {rest : Rest} {b : List ℕ} {p e k : ℕ} {xs : List Item} → ItemsAt rest b p xs e k → p ≤ e
+items-on none = omega arith
+items-on (one_more first more) =
+    let (further, inside) = Reads-own first.name.reads in omega (arith, further, first.ends, items-on more)
+
+kept-items : {rest : Rest} {b b' : List ℕ} {n p e k : ℕ} {xs : List Item} → Kept b b' n → Stable rest b b' n → ItemsAt rest b p xs e k → k ≡ 0
+    → 12 ≤ p → e ≤ n → ItemsAt rest b' p xs e 0
+kept-items kept stable none zero from to = none
+kept-items {rest} {b} {b'} {n} {p} kept stable (one_more {q = q} {j = j} {k = k} {x = x} first more) zero from to =
+    let (further, inside) = Reads-own first.name.reads in
+    let plain : ItemAt rest b p x q 0 = subst (λ i. ItemAt rest b p x q i) (omega (arith, zero)) first in
+    one_more (kept-item kept stable plain from (omega (arith, items-on more, to)))
+    (kept-items kept stable more (omega (arith, zero)) (omega (arith, from, further, first.ends)) to)
+
+pub kept-has : {rest : Rest} {b b' : List ℕ} {n p c c' e : ℕ} → Kept b b' n → Stable rest b b' n → HasItems rest b p c e → 12 ≤ p → e ≤ n → c' ≡ c
+    → HasItems rest b' p c' e
+kept-has kept stable h from to same = record { items = h.items; at = kept-items kept stable h.at refl from to; counted = h.counted ∙ sym same }
+
+-- one more item follows
+pub has-more : {rest : Rest} {b b' : List ℕ} {n p c c' e e' : ℕ} {x : Item} → Kept b b' n → Stable rest b b' n → HasItems rest b p c e → 12 ≤ p → e ≤ n
+    → ItemAt rest b' e x e' 0 → c' ≡ suc c → HasItems rest b' p c' e'
+has-more {x = x} kept stable h from to item more = record {
+  items = h.items ++ (x ∷ []);
+  at = items-more (kept-items kept stable h.at refl from to) item;
+  counted = omega (arith, length-append h.items (x ∷ []), h.counted, more);
+}
+
+-- a section without items ends where it begins
+no-items : {rest : Rest} {b : List ℕ} {p e k : ℕ} {xs : List Item} → ItemsAt rest b p xs e k → length xs ≡ 0 → p ≡ e
+no-items none zero = refl
+no-items (one_more first more) zero = absurd (omega (arith, zero))
+
+pub has-none : {rest : Rest} {b : List ℕ} {p c e : ℕ} → HasItems rest b p c e → c ≡ 0 → p ≡ e
+has-none h zero = no-items h.at (h.counted ∙ zero)
+
+pub empty : (rest : Rest) (b : List ℕ) (p c : ℕ) → c ≡ 0 → HasItems rest b p c p
+empty rest b p c zero = record { items = []; at = none; counted = sym zero }
