@@ -108,7 +108,14 @@ TEXTS = [
     ("RFC 9460, appendix D", *(f"SVCB {text}" for text in GIVEN), *(f"HTTPS {text}" for text in GIVEN)),
     ("RFC 3597, section 5", "TYPE731 \\# 6 abcdef012345", "TYPE731 \\# 0", "TYPE10 \\# 3 010203", "TYPE10 \\# 0"),
     ("RFC 7208, section 3.1", 'SPF "v=spf1 +mx a:colo.example.com/28 -all"', 'SPF a b'),
+    ("RFC 1035, section 3.3", "CNAME .", "SOA . . 0 0 0 0 4294967295", "PTR a\\.b.example.", 'HINFO "" ""'),
+    ("RFC 4034, sections 2.2 and 3.2", "DNSKEY 0 0 255 AA==", "RRSIG TYPE1234 253 127 4294967295 21060207062815 19700101000000 65535 . AA=="),
+    ("RFC 2535, section 7.1", "KEY 256 3 5 AQPSKmyn", "KEY 49408 3 1 AA=="),
+    ("RFC 2535, section 7.2", "SIG A 5 3 86400 20030322173103 20030220173103 2642 example.com. oJB1W6WN", "SIG NS 1 0 0 19700101000000 20300101000000 1 . AA=="),
 ]
+
+# Types with the fields and the text of another one, which dnspython knows (RFC 2535, sections 3.1 and 4.1).
+LIKE = {"KEY": "DNSKEY", "SIG": "RRSIG"}
 
 
 def name_word(name):
@@ -150,15 +157,15 @@ def word(kind, data, attribute):
 
 def rows(text):
     kind, text = text.split(" ", 1)
-    code = dns.rdatatype.from_text(kind)
-    data = dns.rdata.from_text("IN", code, text, origin=ORIGIN, relativize=False)
+    code, known = dns.rdatatype.from_text(kind), LIKE.get(kind, kind)
+    data = dns.rdata.from_text("IN", dns.rdatatype.from_text(known), text, origin=ORIGIN, relativize=False)
     wire = data.to_wire(origin=ORIGIN)
     if kind in ("SVCB", "HTTPS"):
         assert wire.hex() == GIVEN[text], text
-    if FIELDS[kind] == "all":
+    if FIELDS[known] == "all":
         words = [f"octets={wire.hex() or '-'}"]
     else:
-        words = [word(of, data, attribute) for of, attribute in (field.split(":") for field in FIELDS[kind].split())]
+        words = [word(of, data, attribute) for of, attribute in (field.split(":") for field in FIELDS[known].split())]
     canonical = data.to_digestable(origin=ORIGIN)
     yield f"fields {int(code)} 0 {wire.hex() or '-'} = {' '.join(words)}"
     yield f"record {int(code)} {wire.hex() or '-'} = {wire.hex() or '-'} {canonical.hex() or '-'}"

@@ -20,8 +20,6 @@ ORIGIN = dns.name.from_text("example.")
 GENERIC = {"HIP", "IPSECKEY", "LOC", "TYPE10", "TYPE731"}
 MORE = [
     ("RFC 1035, section 5.1", 'TXT "a\\"b\\\\c\\007\\255"', "NS a\\.b\\032c\\200.example.", "MX 10 \\@\\;\\(.example."),
-    ("RFC 1035, section 3.3", "CNAME .", "SOA . . 0 0 0 0 4294967295", "PTR a\\.b.example.", 'HINFO "" ""'),
-    ("RFC 4034, sections 2.2 and 3.2", "DNSKEY 0 0 255 AA==", "RRSIG TYPE1234 253 127 4294967295 21060207062815 19700101000000 65535 . AA=="),
     ("RFC 4034, section 4.2", "NSEC . A NS SOA MX TXT AAAA SRV RRSIG NSEC DNSKEY CAA", "NSEC a.example. TYPE65535"),
     ("RFC 5155, section 3.3", "NSEC3 1 0 10 - 0p9mhaveqvm6t7vbl5lop2u3t2rp3tom NS DS RRSIG"),
     ("RFC 5952, section 4", "AAAA 2001:db8::1:0:0:1", "AAAA ::ffff:192.0.2.1", "AAAA 2001:db8:0:1:1:1:1:1"),
@@ -38,18 +36,10 @@ MORE = [
 ]
 
 
-# Types with the fields and the text of another one, which dnspython knows (RFC 2535, sections 3.1 and 4.1).
-LIKE = {"KEY": "DNSKEY", "SIG": "RRSIG"}
-OLD = [
-    ("RFC 2535, section 7.1", "KEY 256 3 5 AQPSKmyn", "KEY 49408 3 1 AA=="),
-    ("RFC 2535, section 7.2", "SIG A 5 3 86400 20030322173103 20030220173103 2642 example.com. oJB1W6WN", "SIG NS 1 0 0 19700101000000 20300101000000 1 . AA=="),
-]
-
-
 def rows(text):
     kind, text = text.split(" ", 1)
     named = dns.rdatatype.from_text(kind)
-    code = dns.rdatatype.from_text(LIKE.get(kind, kind))
+    code = dns.rdatatype.from_text(make_fields.LIKE.get(kind, kind))
     data = dns.rdata.from_text("IN", code, text, origin=ORIGIN, relativize=False)
     digits = data.to_wire(origin=ORIGIN).hex()
     yield f"data-text {int(named)} {digits or '-'} = {record.data_text(data)}"
@@ -61,7 +51,7 @@ def rows(text):
 
 def main():
     print("# The texts of the data of records, as dnspython has them: `diff/make_texts.py`.")
-    for source, *texts in [*make_fields.TEXTS, *MORE, *OLD]:
+    for source, *texts in [*make_fields.TEXTS, *MORE]:
         print(f"\n# {source}.")
         for text in texts:
             print(*rows(text), sep="\n")

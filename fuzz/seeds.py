@@ -40,6 +40,11 @@ def form(name):
     return b"".join(bytes([len(label)]) + label for label in labels) + b"\0"
 
 
+def character(word):
+    """The octet that a character of a reverse name is, or `=` and two digits."""
+    return int(word[1:], 16) if len(word) == 3 else ord(word)
+
+
 def triples(forms):
     """Inputs of three names each: the lengths of the first two, and the three."""
     for left, middle, right in zip(forms, forms[1:], forms[2:]):
@@ -146,6 +151,9 @@ def inputs(words):
         yield "types", b"\0" + struct.pack(f"<{len(codes)}H", *codes)
     elif kind in ("type-name", "class-name"):
         yield "codes", rest[0].encode()
+    elif kind == "arpa":
+        labels = [bytes(map(character, re.findall("=..|.", label))) for label in rest[0].split(".") if label]
+        yield "reverse", b"".join(bytes([len(label)]) + label for label in labels) + b"\0"
     elif kind in ("time", "lex"):
         yield "codes" if kind == "time" else "tokens", octets(rest[-1])
 
