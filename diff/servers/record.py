@@ -4,11 +4,16 @@
     apt-get install bind9 bind9-dnsutils nsd knot pdns-server pdns-backend-bind python3-dnspython
     /usr/bin/python3 diff/servers/record.py [--texts]
 
-BIND, NSD, Knot and PowerDNS serve example.zone; the first three serve it signed, by keys that are made for one run. Each is
-asked for each owner and type of the zone, with and without EDNS, and for what makes replies of other shapes: names that do not
-exist, a delegation, aliases, replies that are cut, and what they refuse. A line is SERVER HEX, and then the text that
-dnspython gives the message, in the layout of `dig`, with | for the end of a line. With --texts no server is
-started: the replies that are there get their texts again.
+BIND, Knot, NSD and PowerDNS serve example.zone: BIND signed with NSEC by dnssec-signzone, Knot and NSD signed with NSEC3 by Knot,
+and PowerDNS not signed. The keys are made for one run. Each is asked for each owner and type of the zone, with and without EDNS,
+and for what makes replies of other shapes: names that do not exist, a delegation, aliases, replies that are cut, options, a zone
+that cannot be read, and what they refuse. A server that does not serve the zone ends the run.
+
+Types that a server has no name for are in its copy by their numbers (UNNAMED). BIND refuses MD and MF (obsolete types) by name and
+by number, so its copy has none. The others refuse nothing.
+
+A line is SERVER HEX, and then the text that dnspython gives the message, in the layout of `dig`, with | for the end of a line.
+With --texts no server is started: the replies that are there get their texts again.
 """
 
 import pathlib
@@ -18,20 +23,44 @@ import subprocess
 import sys
 import tempfile
 import time
+import types
 
+import dns.edns
 import dns.message
+import dns.name
 import dns.opcode
+import dns.rcode
 import dns.rdata
 import dns.rdatatype
+import dns.rdtypes.ANY.DNSKEY
+import dns.rdtypes.ANY.NS
+import dns.rdtypes.ANY.RP
+import dns.rdtypes.ANY.RRSIG
 
 HERE = pathlib.Path(__file__).resolve().parent
 sys.path.insert(0, str(HERE.parent.parent / "examples" / "responses"))
 import make  # noqa: E402
 
 PORT = 5300
+ORIGIN = dns.name.from_text("example.")
+# Types that dnspython has no class for, and the types with the same fields and text that it has one for (RFC 1035, section 3.3, and
+# RFC 2535, sections 3.1 and 4.1).
+LIKE = {
+    **dict.fromkeys(("MD", "MF", "MB", "MG", "MR"), dns.rdtypes.ANY.NS.NS),
+    "MINFO": dns.rdtypes.ANY.RP.RP,
+    "SIG": dns.rdtypes.ANY.RRSIG.RRSIG,
+    "KEY": dns.rdtypes.ANY.DNSKEY.DNSKEY,
+}
+for like, known in LIKE.items():
+    dns.rdata.register_type(types.SimpleNamespace(**{like: known}), dns.rdatatype.from_text(like), like)
+
+# The types that a server has no name for, and those that it refuses. NSD serves what Knot writes.
+UNNAMED = {"bind": set(), "knot": {"HIP", "MB", "MD", "MF", "MG", "MR", "NULL", "SIG"}, "powerdns": {"HIP", "MD", "MF", "NULL", "SIG"}}
+REFUSED = {"bind": {"MD", "MF"}, "knot": set(), "powerdns": set()}
+
 # The types whose data have a text of their own here. Those of the others are shown as RFC 3597 does.
-TEXTS = set("""A NS CNAME SOA PTR HINFO MX TXT RP AFSDB AAAA SRV NAPTR KX CERT DNAME DS SSHFP RRSIG DNSKEY
-    NSEC3PARAM TLSA SMIMEA CDS CDNSKEY OPENPGPKEY ZONEMD SPF URI CAA NSEC NSEC3 CSYNC EUI48 EUI64 SVCB HTTPS""".split())
+TEXTS = set("""A NS MD MF CNAME SOA MB MG MR PTR HINFO MINFO MX TXT RP AFSDB SIG KEY AAAA SRV NAPTR KX CERT DNAME DS SSHFP
+    RRSIG DNSKEY NSEC3PARAM TLSA SMIMEA CDS CDNSKEY OPENPGPKEY ZONEMD SPF URI CAA NSEC NSEC3 CSYNC EUI48 EUI64 SVCB HTTPS""".split())
 
 # Those whose letters are hexadecimal digits, which dnspython has in lower case.
 HEXADECIMAL = {"DS", "CDS", "SSHFP", "TLSA", "SMIMEA", "ZONEMD", "NSEC3PARAM"}
@@ -56,6 +85,8 @@ def data_text(record):
         before, types = words[: BEFORE_TYPES[kind]], words[BEFORE_TYPES[kind] :]
         before[3:] = [word.upper() for word in before[3:]]
         return " ".join([*before, *(type_text(dns.rdatatype.from_text(word)) for word in types)])
+    if kind in ("RRSIG", "SIG"):
+        return " ".join([type_text(record.type_covered), *record.to_text(chunksize=0).split()[1:]])
     if kind == "CERT":
         numbers = (record.certificate_type, record.key_tag, record.algorithm)
         return " ".join([*(str(int(number)) for number in numbers), record.to_text(chunksize=0).split()[-1]])
@@ -71,48 +102,76 @@ def data_text(record):
     return f"\\# {len(octets)} {octets.hex().upper()}".rstrip()
 
 
-def signed(folder):
-    """The zone, signed."""
+def records():
+    """The lines of the zone that are records: the owner, the type and the data of each."""
+    lines = (HERE / "example.zone").read_text().split("\n")
+    return [line.split(maxsplit=2) for line in lines if line and line[0] not in ";$"]
+
+
+def by_number(kind, data):
+    """A record's type and data as RFC 3597, section 5, writes any data."""
+    number = dns.rdatatype.from_text(kind)
+    octets = dns.rdata.from_text("IN", number, data, origin=ORIGIN, relativize=False).to_wire()
+    return f"TYPE{int(number)} \\# {len(octets)} {octets.hex()}"
+
+
+def copy_for(server):
+    """The zone as this server takes it."""
+    yield "$ORIGIN example."
+    yield "$TTL 3600"
+    for owner, kind, data in records():
+        if kind not in REFUSED[server]:
+            yield f"{owner} {by_number(kind, data) if kind in UNNAMED[server] else f'{kind} {data}'}"
+
+
+def sign(folder):
+    """Signs BIND's copy."""
     key = ["dnssec-keygen", "-K", folder, "-a", "ECDSAP256SHA256"]
     for words in ([*key, "example."], [*key, "-f", "KSK", "example."]):
         subprocess.run(words, check=True, capture_output=True)
     words = ["dnssec-signzone", "-S", "-K", folder, "-d", folder, "-o", "example.", "-f", f"{folder}/signed.zone"]
-    subprocess.run([*words, "-s", "20261101000000", "-e", "20361101000000", f"{folder}/example.zone"], check=True, capture_output=True)
+    subprocess.run([*words, "-s", "20261101000000", "-e", "20361101000000", f"{folder}/bind.zone"], check=True, capture_output=True)
 
 
 def commands(folder):
-    """How each server is started: its name, its configuration, and its words."""
+    """How each server is started: its name, its configuration, and its words. No file has the zone `broken`."""
     yield "bind", "named.conf", ["named", "-f", "-c", f"{folder}/named.conf"], (
         f'options {{ directory "{folder}"; listen-on port {PORT} {{ 127.0.0.1; }}; listen-on-v6 {{ none; }}; recursion no; '
-        f'pid-file none; session-keyfile none; dnssec-validation no; minimal-responses no; }}; controls {{ }};\n'
+        f'pid-file none; session-keyfile none; dnssec-validation no; minimal-responses no; server-id "one"; }}; controls {{ }};\n'
         f'zone "example" {{ type primary; file "{folder}/signed.zone"; check-names ignore; }};\n'
-    )
-    yield "nsd", "nsd.conf", ["nsd", "-d", "-c", f"{folder}/nsd.conf"], (
-        f'server:\n ip-address: 127.0.0.1@{PORT + 1}\n username: ""\n zonesdir: "{folder}"\n database: ""\n pidfile: "{folder}/nsd.pid"\n'
-        f' logfile: "{folder}/nsd.log"\n xfrdfile: "{folder}/xfrd"\n zonelistfile: "{folder}/zones"\n server-count: 1\n minimal-responses: no\n'
-        f'remote-control:\n control-enable: no\nzone:\n name: "example"\n zonefile: "signed.zone"\n'
+        f'zone "broken" {{ type primary; file "{folder}/broken.zone"; }};\n'
     )
     yield "knot", "knot.conf", ["knotd", "-c", f"{folder}/knot.conf"], (
-        f'server:\n  rundir: "{folder}"\n  listen: 127.0.0.1@{PORT + 2}\ndatabase:\n  storage: "{folder}/knot"\n'
-        f'zone:\n  - domain: example\n    file: "{folder}/signed.zone"\n'
+        f'server:\n  rundir: "{folder}"\n  listen: 127.0.0.1@{PORT + 1}\n  nsid: two\ndatabase:\n  storage: "{folder}/knot"\n'
+        "policy:\n  - id: nsec3\n    nsec3: on\n    nsec3-opt-out: on\n    nsec3-iterations: 5\n    nsec3-salt-length: 4\n"
+        f'zone:\n  - domain: example\n    file: "{folder}/knot.zone"\n    dnssec-signing: on\n    dnssec-policy: nsec3\n'
+        f'  - domain: broken\n    file: "{folder}/broken.zone"\n'
+    )
+    yield "nsd", "nsd.conf", ["nsd", "-d", "-c", f"{folder}/nsd.conf"], (
+        f'server:\n ip-address: 127.0.0.1@{PORT + 2}\n username: ""\n zonesdir: "{folder}"\n database: ""\n pidfile: "{folder}/nsd.pid"\n'
+        f' logfile: "{folder}/nsd.log"\n xfrdfile: "{folder}/xfrd"\n zonelistfile: "{folder}/zones"\n server-count: 1\n minimal-responses: no\n'
+        f' nsid: "ascii_three"\nremote-control:\n control-enable: no\nzone:\n name: "example"\n zonefile: "knot.zone"\n'
+        'zone:\n name: "broken"\n zonefile: "broken.zone"\n'
     )
     bind = f"--bind-config={folder}/pdns.zones"
     words = ["--no-config", "--launch=bind", bind, "--local-address=127.0.0.1", f"--local-port={PORT + 3}", f"--socket-dir={folder}"]
-    yield "powerdns", "pdns.zones", ["pdns_server", *words, "--guardian=no", "--daemon=no"], (
-        f'options {{ directory "{folder}"; }};\nzone "example" {{ type native; file "{folder}/example.zone"; }};\n'
+    yield "powerdns", "pdns.zones", ["pdns_server", *words, "--guardian=no", "--daemon=no", "--server-id=four", "--dname-processing=yes"], (
+        f'options {{ directory "{folder}"; }};\nzone "example" {{ type native; file "{folder}/powerdns.zone"; }};\n'
+        f'zone "broken" {{ type native; file "{folder}/broken.zone"; }};\n'
     )
 
 
 def questions():
     """What the servers are asked: a name, a type, and what dnspython's `make_query` takes besides."""
     with_edns = {"use_edns": 0, "payload": 1232}
-    lines = [line.split() for line in (HERE / "example.zone").read_text().split("\n") if line and line[0] not in ";$"]
-    for owner, kind in dict.fromkeys((words[0], words[1]) for words in lines):
+    for owner, kind in dict.fromkeys((owner, kind) for owner, kind, _ in records()):
         yield "example." if owner == "@" else f"{owner}.example.", kind, with_edns
     for name in ("example.", "a.example.", "cname.example."):
         yield name, "ANY", {}
     yield "example.", "SOA", {**with_edns, "want_dnssec": True}
     yield "example.", "DNSKEY", {**with_edns, "want_dnssec": True}
+    yield "example.", "NSEC3PARAM", with_edns
+    yield "example.", "SOA", {**with_edns, "options": [dns.edns.GenericOption(3, b""), dns.edns.GenericOption(10, bytes(range(8)))]}
     yield "nothing.example.", "A", {}
     yield "nothing.example.", "A", {**with_edns, "want_dnssec": True}
     yield "a.example.", "MX", {**with_edns, "want_dnssec": True}
@@ -121,9 +180,13 @@ def questions():
     yield "cname.example.", "A", {}
     yield "y.z.old.example.", "TXT", with_edns
     yield "q.wild.example.", "TXT", {}
+    yield "q.wild.example.", "TXT", {**with_edns, "want_dnssec": True}
+    yield "null.example.", "NULL", {**with_edns, "want_dnssec": True}
+    yield "rp.example.", "RP", {**with_edns, "want_dnssec": True}
     yield "big.example.", "TXT", {}
     yield "A.eXaMPle.", "a", {}
     yield "elsewhere.net.", "A", {}
+    yield "broken.", "SOA", with_edns
 
 
 def ask(port, query):
@@ -179,19 +242,33 @@ def recorded():
         yield line_of(server, bytes.fromhex(digits))
 
 
+def serves(running, port):
+    """Whether a server that was just started has the zone within a minute."""
+    query = dns.message.make_query("example.", "SOA").to_wire()
+    end = time.monotonic() + 60
+    while running.poll() is None and time.monotonic() < end:
+        time.sleep(0.5)
+        try:
+            if dns.message.from_wire(ask(port, query)).rcode() == dns.rcode.NOERROR:
+                return True
+        except OSError:
+            pass
+    return False
+
+
 def served():
     """The lines of what the servers reply."""
     with tempfile.TemporaryDirectory() as folder:
-        pathlib.Path(folder, "example.zone").write_text((HERE / "example.zone").read_text())
+        for server in UNNAMED:
+            pathlib.Path(folder, f"{server}.zone").write_text("\n".join([*copy_for(server), ""]))
         pathlib.Path(folder, "knot").mkdir()
-        signed(folder)
+        sign(folder)
         for at, (server, file, words, text) in enumerate(commands(folder)):
             pathlib.Path(folder, file).write_text(text)
             with open(f"{folder}/{server}.log", "w") as log, subprocess.Popen(words, stdout=log, stderr=log) as running:
-                time.sleep(3)
-                if running.poll() is not None:
-                    sys.exit(f"{server} did not start: {pathlib.Path(log.name).read_text()[-500:]}")
                 try:
+                    if not serves(running, PORT + at):
+                        sys.exit(f"{server} does not serve the zone: {pathlib.Path(log.name).read_text()[-500:]}")
                     for reply in replies(PORT + at):
                         yield line_of(server, reply)
                 finally:
