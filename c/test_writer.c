@@ -1,6 +1,6 @@
-/* Calls each function of dns_names_wire.h that writes a message item by item, at its limits, and with writers and buffers that are
-   spoiled. It prints nothing if all is well, and exits with 1 at the first result that is not the expected one. Expected values are
-   worked by hand from RFC 1035, section 4.1, and RFC 6891, section 6.1. */
+/* Calls each function of dns_names_wire.h that writes a message item by item, at its limits, and with writers and buffers that
+   are spoiled. It prints nothing if all is well, and exits with 1 at the first result that is not the expected one. Expected
+   values are worked by hand from RFC 1035, section 4.1, and RFC 6891, section 6.1. */
 #include "dns_names_wire.h"
 #include "expect.h"
 
@@ -40,10 +40,12 @@ static uint32_t question(size_t size, const uint8_t *name, size_t len)
     return done(dnw_writer_question(message, size, name, len, DNW_TYPE_MX, DNW_CLASS_IN, &writer));
 }
 
-static uint32_t record(size_t size, uint32_t section, const uint8_t *owner, size_t owner_len, const uint8_t *octets, size_t len)
+static uint32_t record(size_t size, uint32_t section, const uint8_t *owner, size_t owner_len, const uint8_t *octets,
+                       size_t len)
 {
     keep();
-    return done(dnw_writer_record(message, size, section, owner, owner_len, DNW_TYPE_A, DNW_CLASS_CH, 0x01020304, octets, len, &writer));
+    return done(dnw_writer_record(message, size, section, owner, owner_len, DNW_TYPE_A, DNW_CLASS_CH, 0x01020304, octets, len,
+                                  &writer));
 }
 
 static uint32_t edns(size_t size, uint16_t max_payload, bool dnssec_ok, const uint8_t *options, size_t len)
@@ -244,17 +246,22 @@ static void counts_to_65535(void)
     EXPECT(record(ROOM, DNW_SECTION_ADDITIONALS, BYTES(ROOT), BYTES("")) == DNW_DONE && message[10] == 255 && message[11] == 255);
 }
 
+static uint32_t put_octets(uint8_t *large, size_t size, const uint8_t *octets, size_t len, struct dnw_writer *w)
+{
+    return dnw_writer_record(large, size, DNW_SECTION_ANSWERS, BYTES(ROOT), 65280, DNW_CLASS_IN, 0, octets, len, w);
+}
+
 static void measures_data(void)
 {
     static uint8_t large[12 + 11 + 65535], octets[65536];
     struct dnw_writer w;
     memset(octets, 7, sizeof octets);
     EXPECT(dnw_writer_begin(large, sizeof large, 0, 0, &w) == DNW_DONE);
-    EXPECT(dnw_writer_record(large, sizeof large, DNW_SECTION_ANSWERS, BYTES(ROOT), 65280, 1, 0, octets, 65536, &w) == DNW_DATA_TOO_LONG);
+    EXPECT(put_octets(large, sizeof large, octets, 65536, &w) == DNW_DATA_TOO_LONG);
     EXPECT(dnw_writer_edns(large, sizeof large, 0, 0, 0, false, octets, 65536, &w) == DNW_DATA_TOO_LONG);
     EXPECT(w.len == 12 && w.section == 0 && w.opt_count == 0 && large[7] == 0 && large[11] == 0 && large[12] == 0);
-    EXPECT(dnw_writer_record(large, sizeof large - 1, DNW_SECTION_ANSWERS, BYTES(ROOT), 65280, 1, 0, octets, 65535, &w) == DNW_NO_ROOM);
-    EXPECT(dnw_writer_record(large, sizeof large, DNW_SECTION_ANSWERS, BYTES(ROOT), 65280, 1, 0, octets, 65535, &w) == DNW_DONE);
+    EXPECT(put_octets(large, sizeof large - 1, octets, 65535, &w) == DNW_NO_ROOM);
+    EXPECT(put_octets(large, sizeof large, octets, 65535, &w) == DNW_DONE);
     EXPECT(w.len == sizeof large && large[21] == 255 && large[22] == 255 && large[23] == 7 && large[sizeof large - 1] == 7);
     EXPECT(memcmp(large + 12, "\000\377\000\000\001\000\000\000\000", 9) == 0);
 }

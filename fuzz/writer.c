@@ -1,6 +1,6 @@
-/* Makes the calls that an input lists, on one buffer and one writer, and compares both, octet for octet, with those of a model after
-   each call. The first two octets of the input are the size of the buffer. A call may also spoil the writer or an octet of the buffer.
-   What is written of items alone is read as a whole message with as many items. */
+/* Makes the calls that an input lists, on one buffer and one writer, and compares both, octet for octet, with those of a model
+   after each call. The first two octets of the input are the size of the buffer. A call may also spoil the writer or an octet of
+   the buffer. What is written without that is read as a whole message. */
 #include "harness.h"
 
 enum { SIZE_MAX_TRIED = 1024, CALLS = 64 };
@@ -80,7 +80,8 @@ static uint32_t model_question(struct part name, uint16_t type, uint16_t class)
     return failure != DNW_DONE ? failure : model_append(1, name.bytes, name.len, fields, 4);
 }
 
-static uint32_t model_append_record(uint32_t section, struct part owner, uint16_t type, uint16_t class, uint32_t ttl, struct part data)
+static uint32_t model_append_record(uint32_t section, struct part owner, uint16_t type, uint16_t class, uint32_t ttl,
+                                    struct part data)
 {
     uint8_t head[DNW_FORM_SIZE + 10];
     memcpy(head, owner.bytes, owner.len);
@@ -92,7 +93,8 @@ static uint32_t model_append_record(uint32_t section, struct part owner, uint16_
     return model_append(section, head, len, data.bytes, data.len);
 }
 
-static uint32_t model_put_record(uint32_t section, struct part owner, uint16_t type, uint16_t class, uint32_t ttl, struct part data)
+static uint32_t model_put_record(uint32_t section, struct part owner, uint16_t type, uint16_t class, uint32_t ttl,
+                                 struct part data)
 {
     struct model_name read;
     if (section != 2 && section != 3 && section != 4)
@@ -130,7 +132,8 @@ static void question(struct part *rest)
 {
     struct part name = take_block(rest);
     uint16_t type = (uint16_t)take_number(rest, 2), class = (uint16_t)take_number(rest, 2);
-    expect_same(dnw_writer_question(buffer, buffer_size, name.bytes, name.len, type, class, &writer), model_question(name, type, class));
+    expect_same(dnw_writer_question(buffer, buffer_size, name.bytes, name.len, type, class, &writer),
+                model_question(name, type, class));
 }
 
 static void record(struct part *rest)
@@ -139,8 +142,9 @@ static void record(struct part *rest)
     struct part owner = take_block(rest), data = take_block(rest);
     uint16_t type = (uint16_t)take_number(rest, 2), class = (uint16_t)take_number(rest, 2);
     uint32_t ttl = take_number(rest, 4);
-    expect_same(dnw_writer_record(buffer, buffer_size, section, owner.bytes, owner.len, type, class, ttl, data.bytes, data.len, &writer),
-                model_put_record(section, owner, type, class, ttl, data));
+    uint32_t answer = dnw_writer_record(buffer, buffer_size, section, owner.bytes, owner.len, type, class, ttl, data.bytes,
+                                        data.len, &writer);
+    expect_same(answer, model_put_record(section, owner, type, class, ttl, data));
 }
 
 static void edns(struct part *rest)
@@ -149,8 +153,9 @@ static void edns(struct part *rest)
     uint8_t rcode_high = (uint8_t)take_number(rest, 1), version = (uint8_t)take_number(rest, 1);
     bool dnssec_ok = take_number(rest, 1) % 2 == 1;
     struct part options = take_block(rest);
-    expect_same(dnw_writer_edns(buffer, buffer_size, max_payload, rcode_high, version, dnssec_ok, options.bytes, options.len, &writer),
-                model_edns(max_payload, rcode_high, version, dnssec_ok, options));
+    uint32_t answer = dnw_writer_edns(buffer, buffer_size, max_payload, rcode_high, version, dnssec_ok, options.bytes,
+                                      options.len, &writer);
+    expect_same(answer, model_edns(max_payload, rcode_high, version, dnssec_ok, options));
 }
 
 /* Changes the writer, or an octet of the buffer. */

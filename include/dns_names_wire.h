@@ -59,8 +59,8 @@ enum dnw_failure {
     DNW_WRONG_DATA_LENGTH = 24, /* a name in a record's data whose own octets are fewer or more than the data */
     DNW_BAD_ADDRESS = 25,      /* an address of neither 4 nor 16 bytes */
     DNW_NOT_REVERSE = 26,      /* a name that is not the reverse name of an address or a net */
-    DNW_BAD_ITEM = 27,         /* a list with an item of no kind, or one that is cut, or a name or record that is none; or an item of a
-                                  message after one of a later section */
+    DNW_BAD_ITEM = 27,         /* a list with an item of no kind, or one that is cut, or a name or record that is none;
+                                  or an item of a message after one of a later section */
     DNW_EMPTY_LABEL = 28,      /* a text with a label of no character */
     DNW_BAD_ESCAPE = 29,       /* an escape with a number that is no octal digit */
     DNW_TOO_MANY_POINTERS = 30, /* the names of a message follow more compression pointers than the caller allows */
@@ -398,8 +398,8 @@ struct dnw_written_message {
 uint32_t dnw_message_write(const uint8_t *items, size_t items_len, uint16_t max_size, bool is_canonical, uint8_t *message,
                            size_t message_size, struct dnw_written_message *written);
 
-/* The flags of a header (RFC 1035, section 4.1.1; RFC 4035, section 3.2), for dnw_writer_begin. A caller joins with `|` those that it
-   sets, the operation as `op_code << 11`, and the low four bits of the response code as `response_code & 15`. */
+/* The flags of a header (RFC 1035, section 4.1.1; RFC 4035, section 3.2), for dnw_writer_begin. A caller joins with `|` those
+   that it sets, the operation as `op_code << 11`, and the low four bits of the response code as `response_code & 15`. */
 enum dnw_flag {
     DNW_FLAG_RESPONSE = 0x8000,            /* QR */
     DNW_FLAG_AUTHORITATIVE = 0x0400,       /* AA */
@@ -410,9 +410,9 @@ enum dnw_flag {
     DNW_FLAG_CHECKING_DISABLED = 0x0010    /* CD */
 };
 
-/* What is known of a message that is written item by item: it is the first `len` octets of its buffer, its last item is in the
-   section `section` of enum dnw_section (DNW_SECTION_HEADER if it has none), and dnw_writer_edns has put `opt_count` OPT records. The
-   counts of the items are in its header. dnw_writer_begin fills it in, and a caller only reads it. */
+/* What is known of a message that is written item by item: it is the first `len` octets of its buffer, its last item is in
+   the section `section` of enum dnw_section (DNW_SECTION_HEADER if it has none), and dnw_writer_edns has put `opt_count` OPT
+   records. The counts of the items are in its header. dnw_writer_begin fills it in, and a caller only reads it. */
 struct dnw_writer {
     size_t len;
     uint32_t section;
@@ -422,35 +422,35 @@ struct dnw_writer {
 /* Begins a message in a buffer: puts a header with this id and these flags, and counts of 0. It fails with DNW_NO_ROOM if
    `message_size` is less than DNW_HEADER_SIZE.
 
-   The functions below append an item to the message and count it in the header; the other octets of the buffer are unchanged. Names
-   are whole: they are not compressed. None of these functions allocates, and a message that was begun is a whole one after each of
-   them: dnw_message_pack writes it again, compressed and in as many octets as the receiver accepts.
+   The functions below append an item to the message and count it in the header; the other octets of the buffer are unchanged.
+   Names are whole: they are not compressed. None of these functions allocates, and a message that was begun is a whole one
+   after each of them: dnw_message_pack writes it again, compressed and in as many octets as the receiver accepts.
 
-   Whatever a writer and its buffer hold, nothing outside the buffer is written. An item is tested by these rules in their order, and
-   the first that is broken decides the failure: an item of a section before `section` fails with DNW_BAD_ITEM; one of a message of
-   fewer than DNW_HEADER_SIZE octets with DNW_MESSAGE_CUT; one for which the buffer has no room after the first `len` octets with
-   DNW_NO_ROOM; and the 65536th of a section with DNW_MESSAGE_TOO_LONG. */
+   Whatever a writer and its buffer hold, nothing outside the buffer is written. An item is tested by these rules in their
+   order, and the first that is broken decides the failure: an item of a section before `section` fails with DNW_BAD_ITEM; one
+   of a message of fewer than DNW_HEADER_SIZE octets with DNW_MESSAGE_CUT; one for which the buffer has no room after the
+   first `len` octets with DNW_NO_ROOM; and the 65536th of a section with DNW_MESSAGE_TOO_LONG. */
 uint32_t dnw_writer_begin(uint8_t *message, size_t message_size, uint16_t id, uint16_t flags, struct dnw_writer *writer);
 
-/* Appends a question: the wire form of its name, its type and its class. It fails as dnw_name_print does if the name is no wire form,
-   and else by the rules above. */
+/* Appends a question: the wire form of its name, its type and its class. It fails as dnw_name_print does if the name is no
+   wire form, and else by the rules above. */
 uint32_t dnw_writer_question(uint8_t *message, size_t message_size, const uint8_t *name, size_t name_len, uint16_t query_type,
                              uint16_t record_class, struct dnw_writer *writer);
 
-/* Appends a record to a section: DNW_SECTION_ANSWERS, DNW_SECTION_AUTHORITIES or DNW_SECTION_ADDITIONALS. `owner` is a wire form. The
-   data are put as they are, and names in them have to be whole; whether they are data of the type is not tested here, but by
-   dnw_message_pack. It fails with DNW_BAD_ITEM if `section` is another number; as dnw_name_print does if the owner is no wire form;
-   with DNW_DATA_TOO_LONG if there are more than 65535 octets of data; and else by the rules above. An OPT record that is put so is not
-   counted in `opt_count`. */
+/* Appends a record to a section: DNW_SECTION_ANSWERS, DNW_SECTION_AUTHORITIES or DNW_SECTION_ADDITIONALS. `owner` is a wire
+   form. The data are put as they are, and names in them have to be whole; whether they are data of the type is not tested
+   here, but by dnw_message_pack. It fails with DNW_BAD_ITEM if `section` is another number; as dnw_name_print does if the
+   owner is no wire form; with DNW_DATA_TOO_LONG if there are more than 65535 octets of data; and else by the rules above. An
+   OPT record that is put so is not counted in `opt_count`. */
 uint32_t dnw_writer_record(uint8_t *message, size_t message_size, uint32_t section, const uint8_t *owner, size_t owner_len,
                            uint16_t record_type, uint16_t record_class, uint32_t ttl, const uint8_t *octets, size_t octets_len,
                            struct dnw_writer *writer);
 
-/* Appends an OPT record to the additional records (RFC 6891, section 6.1): the octets of the largest message that the sender accepts,
-   where less than 512 is put as 512; the high eight bits of the response code, `response_code >> 4`; the version, which is 0; DO; and
-   the options, each two octets of code, two of length, and as many octets as that. Whether they are options is not tested here, but by
-   dnw_message_pack. It fails with DNW_DUPLICATE_EDNS if `opt_count` is not 0; with DNW_DATA_TOO_LONG if there are more than 65535
-   octets of options; and else by the rules above. */
+/* Appends an OPT record to the additional records (RFC 6891, section 6.1): the octets of the largest message that the sender
+   accepts, where less than 512 is put as 512; the high eight bits of the response code, `response_code >> 4`; the version,
+   which is 0; DO; and the options, each two octets of code, two of length, and as many octets as that. Whether they are
+   options is not tested here, but by dnw_message_pack. It fails with DNW_DUPLICATE_EDNS if `opt_count` is not 0; with
+   DNW_DATA_TOO_LONG if there are more than 65535 octets of options; and else by the rules above. */
 uint32_t dnw_writer_edns(uint8_t *message, size_t message_size, uint16_t max_payload, uint8_t rcode_high, uint8_t version,
                          bool dnssec_ok, const uint8_t *options, size_t options_len, struct dnw_writer *writer);
 

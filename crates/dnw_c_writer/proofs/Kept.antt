@@ -10,7 +10,12 @@ use Rattle.dnw_reading.proofs.Counts.{NameAt-labels, Reads-own}
 use Rattle.dnw_record.specs.Records.{fixed_size, length_field}
 use Rattle.dnw_message.specs.Messages.{Item, ItemAt, ItemsAt, Rest, none, one_more, question_rest, record_rest}
 use Rattle.dnw_message.proofs.InTurn.{items-more}
-use Rattle.dnw_c_writer.specs.Messages.{HasItems}
+
+-- So many items follow one another from p to e, and no name has a pointer.
+pub record HasItems (rest : Rest) (b : List ℕ) (p count e : ℕ) : Type 0 where
+  pub items : List Item
+  pub at : ItemsAt rest b p items e 0
+  pub counted : length items ≡ count
 
 -- the octets from the header's end up to n are in both
 pub record Kept (b b' : List ℕ) (n : ℕ) : Type 0 where

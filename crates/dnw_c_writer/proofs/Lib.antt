@@ -1,3 +1,4 @@
+mod Chains
 mod Forms
 mod Kept
 mod Pieces

@@ -1,5 +1,5 @@
 -- A message stays a message when an item is appended.
-use Rattle.std.proofs.Common.{◌≡◌, ◌≢◌, ◌≤◌, ◌<◌, ℕ, zero, suc, ◌+◌, List, [], ◌∷◌, ◌++◌, length, slice_range, refl, sym, ap, subst, ◌∙◌, ⊎_elim, arith, length-append}
+use Rattle.std.proofs.Common.{◌≡◌, ◌≢◌, ◌≤◌, ◌<◌, ℕ, zero, suc, ◌+◌, List, [], ◌∷◌, ◌++◌, drop, length, slice_range, refl, sym, ap, subst, ◌∙◌, ⊎_elim, arith, length-append}
 use Rattle.std.specs.Int.{w16, from_be_bytes, to_be_bytes}
 use Rattle.std.proofs.lemmas.Bool.Decides.{leb_tells}
 use Rattle.std.proofs.lemmas.Nat.{from_be_bytes-to_be_bytes_2}
@@ -12,11 +12,12 @@ use Rattle.dnw_message.specs.Messages.{Item, ItemAt, question_rest, record_rest}
 use Rattle.dnw_reading.specs.Buffers.{put}
 use Rattle.dnw_reading.specs.Reading.{NameAt}
 use Rattle.dnw_record.specs.Records.{length_field}
-use Rattle.dnw_c_writer.specs.Messages.{HasItems, IsMessage}
+use Rattle.dnw_c_writer.specs.Messages.{IsMessage}
 use Rattle.dnw_c_writer.specs.WriterCalls.{Appends, AppendsRecord, Begins, IsForm, IsOfRecords, PutsEdns, PutsQuestion, PutsRecord, count_of, count_offset, empty_header, put_at, question_fields, record_fields, with_count}
 use Rattle.dnw_c_writer.specs.declared.writer.Writer.{Writer}
 use Rattle.dnw_c_writer.proofs.Forms.{form_read, root_form}
-use Rattle.dnw_c_writer.proofs.Kept.{Kept, empty, has-more, has-none, items-on, kept-has, question-stable, record-stable}
+use Rattle.dnw_c_writer.proofs.Chains.{Chain, chain-of, message-of}
+use Rattle.dnw_c_writer.proofs.Kept.{HasItems, Kept, empty, has-more, has-none, items-on, kept-has, question-stable, record-stable}
 use Rattle.dnw_c_writer.proofs.Pieces.{length-put_at, put_at-put_at, range-after, range-before, range-first, range-here}
 
 -- ---- what an item that is appended leaves, and counts
@@ -61,9 +62,9 @@ grown section item w b b' last (room, is) =
 
 -- the buffer is a message of so many octets, whose last section this is
 abbrev Ends : List ℕ → ℕ → ℕ → ℕ → Type 0
-Ends b len section opt_count = IsMessage b (record { len = len; section = section; opt_count = opt_count })
+Ends b len section opt_count = Chain b (record { len = len; section = section; opt_count = opt_count })
 
-grow-questions : (b b' : List ℕ) (w : Writer) (e : ℕ) (x : Item) → Grown 1 b b' w.len → IsMessage b w → w.section ≤ 1
+grow-questions : (b b' : List ℕ) (w : Writer) (e : ℕ) (x : Item) → Grown 1 b b' w.len → Chain b w → w.section ≤ 1
     → ItemAt question_rest b' w.len x e 0 → Ends b' e 1 w.opt_count
 grow-questions b b' w e x g m order item =
     let z2 = m.no_more 2 (omega (arith, order)) (omega arith) in
@@ -79,10 +80,11 @@ grow-questions b b' w e x g m order item =
       has_answers = empty record_rest b' e (count_of b' 2) (g.others 2 (omega arith) (omega arith) ∙ z2);
       has_authorities = empty record_rest b' e (count_of b' 3) (g.others 3 (omega arith) (omega arith) ∙ z3);
       has_additionals = empty record_rest b' e (count_of b' 4) (g.others 4 (omega arith) (omega arith) ∙ z4);
+      fits = item.inside;
       no_more = λ s more few. g.others s (omega (arith, more)) few ∙ m.no_more s (omega (arith, order, more)) few;
     }
 
-grow-answers : (b b' : List ℕ) (w : Writer) (e : ℕ) (x : Item) → Grown 2 b b' w.len → IsMessage b w → w.section ≤ 2
+grow-answers : (b b' : List ℕ) (w : Writer) (e : ℕ) (x : Item) → Grown 2 b b' w.len → Chain b w → w.section ≤ 2
     → ItemAt record_rest b' w.len x e 0 → Ends b' e 2 w.opt_count
 grow-answers b b' w e x g m order item =
     let z3 = m.no_more 3 (omega (arith, order)) (omega arith) in
@@ -99,10 +101,11 @@ grow-answers b b' w e x g m order item =
       has_answers = has-more g.kept (record-stable b b' w.len g.kept) old first (omega arith) item g.counted;
       has_authorities = empty record_rest b' e (count_of b' 3) (g.others 3 (omega arith) (omega arith) ∙ z3);
       has_additionals = empty record_rest b' e (count_of b' 4) (g.others 4 (omega arith) (omega arith) ∙ z4);
+      fits = item.inside;
       no_more = λ s more few. g.others s (omega (arith, more)) few ∙ m.no_more s (omega (arith, order, more)) few;
     }
 
-grow-authorities : (b b' : List ℕ) (w : Writer) (e : ℕ) (x : Item) → Grown 3 b b' w.len → IsMessage b w → w.section ≤ 3
+grow-authorities : (b b' : List ℕ) (w : Writer) (e : ℕ) (x : Item) → Grown 3 b b' w.len → Chain b w → w.section ≤ 3
     → ItemAt record_rest b' w.len x e 0 → Ends b' e 3 w.opt_count
 grow-authorities b b' w e x g m order item =
     let z4 = m.no_more 4 (omega (arith, order)) (omega arith) in
@@ -119,10 +122,11 @@ grow-authorities b b' w e x g m order item =
       has_answers = kept-has g.kept stable m.has_answers first third (g.others 2 (omega arith) (omega arith));
       has_authorities = has-more g.kept stable old (omega (arith, first, second)) (omega arith) item g.counted;
       has_additionals = empty record_rest b' e (count_of b' 4) (g.others 4 (omega arith) (omega arith) ∙ z4);
+      fits = item.inside;
       no_more = λ s more few. g.others s (omega (arith, more)) few ∙ m.no_more s (omega (arith, order, more)) few;
     }
 
-grow-additionals : (b b' : List ℕ) (w : Writer) (e : ℕ) (x : Item) → Grown 4 b b' w.len → IsMessage b w
+grow-additionals : (b b' : List ℕ) (w : Writer) (e : ℕ) (x : Item) → Grown 4 b b' w.len → Chain b w
     → ItemAt record_rest b' w.len x e 0 → Ends b' e 4 w.opt_count
 grow-additionals b b' w e x g m item =
     let stable = record-stable b b' w.len g.kept in
@@ -138,10 +142,11 @@ grow-additionals b b' w e x g m item =
       has_answers = kept-has g.kept stable m.has_answers first (omega (arith, third, fourth)) (g.others 2 (omega arith) (omega arith));
       has_authorities = kept-has g.kept stable m.has_authorities (omega (arith, first, second)) fourth (g.others 3 (omega arith) (omega arith));
       has_additionals = has-more g.kept stable m.has_additionals (omega (arith, first, second, third)) (omega arith) item g.counted;
+      fits = item.inside;
       no_more = λ s more few. absurd (omega (arith, more, few));
     }
 
-grow-records : (section : ℕ) (b b' : List ℕ) (w : Writer) (e : ℕ) (x : Item) → IsOfRecords section → Grown section b b' w.len → IsMessage b w → w.section ≤ section
+grow-records : (section : ℕ) (b b' : List ℕ) (w : Writer) (e : ℕ) (x : Item) → IsOfRecords section → Grown section b b' w.len → Chain b w → w.section ≤ section
     → ItemAt record_rest b' w.len x e 0 → Ends b' e section w.opt_count
 grow-records zero b b' w e x (least, most) g m order item = absurd (omega (arith, least))
 grow-records (suc zero) b b' w e x (least, most) g m order item = absurd (omega (arith, least))
@@ -171,9 +176,10 @@ begin-whole id flags old new after (fits, is, state) =
       has_answers = empty record_rest b header_size (count_of b 2) refl;
       has_authorities = empty record_rest b header_size (count_of b 3) refl;
       has_additionals = empty record_rest b header_size (count_of b 4) refl;
+      fits = omega (arith, length-append (empty_header id flags) (drop header_size old));
       no_more = no-counts id flags old;
     } in
-    subst (λ l. IsMessage l after) (sym is) (subst (IsMessage b) (sym state) whole)
+    subst (λ l. IsMessage l after) (sym is) (subst (IsMessage b) (sym state) (message-of b _ whole))
 
 -- an item that is appended begins with its name
 name-read : (section : ℕ) (name rest : List ℕ) (w : Writer) (b b' : List ℕ) → section ≤ 4 → IsForm name → Appends section (name ++ rest) w b b'
@@ -201,7 +207,7 @@ question-whole name query_type class before after old new (form, appends, state)
     let e = before.len + (length name + 4) in
     let x : Item = record { labels = ls; name_end = before.len + length name } in
     let item : ItemAt question_rest new before.len x e 0 = record { name = name_is; ends = omega arith; inside = omega (arith, inside, length-append name fields) } in
-    subst (IsMessage new) (sym state) (grow-questions old new before e x (grown 1 (name ++ fields) before old new (omega arith) appends) m appends.0.in_order item)
+    subst (IsMessage new) (sym state) (message-of new _ (grow-questions old new before e x (grown 1 (name ++ fields) before old new (omega arith) appends) (chain-of old before m) appends.0.in_order item))
 
 -- the fields of a record that is appended say how long its data are
 length-read : (section : ℕ) (owner fields octets : List ℕ) (w : Writer) (b b' : List ℕ) → section ≤ 4 → Appends section (owner ++ (fields ++ octets)) w b b' → length fields ≡ 10
@@ -232,7 +238,7 @@ record-whole section owner record_type class ttl octets before after old new ran
       ends = omega (arith, len);
       inside = omega (arith, inside, length-append owner (fields ++ octets), length-append fields octets);
     } in
-    subst (IsMessage new) (sym state) (grow-records section old new before e x range (grown section (owner ++ (fields ++ octets)) before old new range.1 appends) m appends.0.in_order item)
+    subst (IsMessage new) (sym state) (message-of new _ (grow-records section old new before e x range (grown section (owner ++ (fields ++ octets)) before old new range.1 appends) (chain-of old before m) appends.0.in_order item))
 
 pub put-whole : (section : ℕ) (owner : List ℕ) (record_type class ttl : ℕ) (octets : List ℕ) (before after : Writer) (old new : List ℕ)
     → PutsRecord section owner record_type class ttl octets before after old new → IsMessage old before → IsMessage new after
@@ -241,16 +247,7 @@ put-whole section owner record_type class ttl octets before after old new (range
 
 -- how many OPT records there are is not said by the message
 other-count : (b : List ℕ) (w : Writer) (count : ℕ) → IsMessage b (record { len = w.len; section = w.section; opt_count = count }) → IsMessage b w
-other-count b w count m = record {
-  answers = m.answers;
-  authorities = m.authorities;
-  additionals = m.additionals;
-  has_questions = m.has_questions;
-  has_answers = m.has_answers;
-  has_authorities = m.has_authorities;
-  has_additionals = m.has_additionals;
-  no_more = m.no_more;
-}
+other-count b w count m = record { message = m.message; at = m.at; end = m.end; fits = m.fits; no_more = m.no_more }
 
 pub edns-whole : (max_payload ttl : ℕ) (options : List ℕ) (before after : Writer) (old new : List ℕ) → PutsEdns max_payload ttl options before after old new
     → IsMessage old before → IsMessage new after

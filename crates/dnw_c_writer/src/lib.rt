@@ -3,7 +3,8 @@
 //!
 //! A slice is passed as a pointer and then a length. What is known of a message that is written is in a struct of the caller's, and
 //! in the header at the start of the buffer. Both are tested, whatever they say, nothing is kept from one call to the next, and
-//! nothing is allocated. Read `specs/WriterCalls.antt` first: what a call puts, and why it puts nothing.
+//! nothing is allocated. Read `specs/WriterCalls.antt` first: what a call puts, and why it puts nothing. `specs/Messages.antt` says that
+//! what was begun is a message, and each call keeps that.
 #![tactic(auto)]
 
 /// EDNS, headers, questions and records, as they are put.
