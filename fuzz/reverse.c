@@ -50,7 +50,8 @@ static uint32_t model_reverse(const uint8_t *address, size_t len, struct model_n
     return DNW_DONE;
 }
 
-/* The number that a label is: an octet in decimal, with zeros and a plus sign before it if need be, or a hexadecimal digit. */
+/* The number that a label in lower case is: an octet in decimal, with zeros and a plus sign before it if need be, or a
+   hexadecimal digit. */
 static bool model_label(const uint8_t *label, size_t label_len, size_t len, unsigned *number)
 {
     static const char digits[] = "0123456789abcdef";
@@ -59,8 +60,7 @@ static bool model_label(const uint8_t *label, size_t label_len, size_t len, unsi
     if (len == IPV6 && label_len != 1)
         return false;
     for (size_t i = has_sign; i < label_len; i++) {
-        uint8_t c = label[i] >= 'A' && label[i] <= 'Z' ? label[i] | 32 : label[i];
-        const char *digit = c == 0 ? NULL : strchr(digits, c);
+        const char *digit = label[i] == 0 ? NULL : strchr(digits, label[i]);
         if (digit == NULL || (len == IPV4 && digit - digits > 9))
             return false;
         *number = (len == IPV4 ? 10 : 16) * *number + (unsigned)(digit - digits);
