@@ -7,9 +7,9 @@
 //! what was begun is a message, and each call keeps that.
 #![tactic(auto)]
 
-/// EDNS, headers, questions and records, as they are put.
+/// Items of messages, as they are appended and counted.
 pub mod items;
-/// Names, as they are given.
+/// Names that are given by their wire forms.
 pub mod owners;
 /// The functions for C.
 pub mod writer;
