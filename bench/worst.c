@@ -2,6 +2,7 @@
 
    worst search LIMIT SECONDS FILE [SEED]    writes the best message that was found into FILE, and prints its shape
    worst read LIMIT COUNT FILE               reads the message in FILE so many times: for valgrind
+   worst time LIMIT COUNT FILE               prints the least milliseconds of so many readings
 
    A shape is a question, a chain of pointers in the data of a first record, and groups of records: how many labels they have
    of their own, of how many octets, to what their owners point, and how many octets of data they have. A message that is
@@ -12,7 +13,7 @@
 #include <string.h>
 #include <time.h>
 
-enum { MOST = 65535, POINTERS_REACH = 0x4000, GROUPS = 4, GENES = 3 + 7 * GROUPS };
+enum { MOST = 65535, POINTERS_REACH = 0x4000, GROUPS = 2, GENES = 3 + 7 * GROUPS };
 
 /* What the genes of a group are, after those of the question and the chain. */
 enum gene { RECORDS, LABELS, OCTETS, TARGET, PLACE, DATA, NESTED };
@@ -129,30 +130,50 @@ static uint32_t read_once(const struct message *m, size_t limit)
     return dnw_message_read(m->octets, m->len, limit, &read, &fault);
 }
 
+static double once(const struct message *m, size_t limit)
+{
+    struct timespec from, to;
+    clock_gettime(CLOCK_PROCESS_CPUTIME_ID, &from);
+    read_once(m, limit);
+    clock_gettime(CLOCK_PROCESS_CPUTIME_ID, &to);
+    return (double)(to.tv_sec - from.tv_sec) * 1e3 + (double)(to.tv_nsec - from.tv_nsec) / 1e6;
+}
+
 /* The least of some readings, in milliseconds of this process. */
 static double cost(const struct message *m, size_t limit, int rounds)
 {
     double least = 1e9;
     for (int i = 0; i < rounds; i++) {
-        struct timespec from, to;
-        clock_gettime(CLOCK_PROCESS_CPUTIME_ID, &from);
-        read_once(m, limit);
-        clock_gettime(CLOCK_PROCESS_CPUTIME_ID, &to);
-        double took = (double)(to.tv_sec - from.tv_sec) * 1e3 + (double)(to.tv_nsec - from.tv_nsec) / 1e6;
+        double took = once(m, limit);
         least = took < least ? took : least;
     }
     return least;
 }
 
-/* Changes some genes: to any value, or to one near it. */
+/* Whether one message takes longer than another. They take turns, since what else runs here slows down both. */
+static bool takes_longer(const struct message *m, const struct message *other, size_t limit, int rounds)
+{
+    double least = 1e9, others = 1e9;
+    for (int i = 0; i < rounds; i++) {
+        double took = once(m, limit), other_took = once(other, limit);
+        least = took < least ? took : least;
+        others = other_took < others ? other_took : others;
+        if ((i == 1 && least < others * 0.8) || (i == 4 && least < others * 0.97))
+            return false;
+    }
+    return least > others * 1.005;
+}
+
+/* Changes some genes: to any value, to a small one, or to one near what it was. */
 static void mutate(struct shape *shape, int changes)
 {
     for (int n = 1 + below(changes); n > 0; n--) {
         int gene = below(GENES), most = most_of(gene), value = shape->genes[gene];
-        switch (below(4)) {
+        switch (below(5)) {
         case 0: value = below(most + 1); break;
-        case 1: value = value * 2; break;
-        case 2: value = value / 2; break;
+        case 1: value = below(16); break;
+        case 2: value = value * 2; break;
+        case 3: value = value / 2; break;
         default: value += below(9) - 4;
         }
         shape->genes[gene] = value < 0 ? 0 : value > most ? most : value;
@@ -173,39 +194,67 @@ static void print_shape(const struct shape *shape)
     }
 }
 
-/* Climbs from shapes by chance, and where nothing was better for a while starts again: from another one, or from the best, after
-   some changes. */
-static struct shape search(size_t limit, double seconds)
+/* Climbs from shapes by chance and from the best, after some changes, by the least of three readings. What was good for nothing for a
+   while is left for another start. */
+static long explore(struct shape *best, size_t limit, double until)
 {
-    static struct message m;
-    struct shape best = {{0}}, here = {{0}};
-    double best_cost = 0, here_cost = 0, until = (double)time(NULL) + seconds;
+    static struct message best_made, made;
+    struct shape here = *best;
+    double here_cost = 0;
     long tried = 0, starts = 0;
+    make(best, &best_made);
     for (int since = 1 << 20; (double)time(NULL) < until; since++, tried++) {
         struct shape next = here;
         if (since > 400) {
-            next = best;
-            for (int gene = 0; gene < GENES && starts % 2 == 0; gene++)
+            next = *best;
+            for (int gene = 0; gene < GENES && starts % 3 != 2; gene++)
                 next.genes[gene] = below(most_of(gene) + 1);
-            mutate(&next, GENES / 4);
+            mutate(&next, GENES / 3);
             here_cost = since = 0;
             starts++;
         }
         mutate(&next, 2);
-        make(&next, &m);
-        double took = cost(&m, limit, 3);
+        make(&next, &made);
+        double took = cost(&made, limit, 3);
         if (took <= here_cost * 1.002)
             continue;
         since = 0;
         here = next;
         here_cost = took;
-        if (took > best_cost && (took = cost(&m, limit, 15)) > best_cost) {
-            best = here;
-            best_cost = took;
+        if (takes_longer(&made, &best_made, limit, 15)) {
+            *best = here;
+            best_made = made;
         }
     }
-    make(&best, &m);
-    printf("limit %zu: %.2f ms, the worst of %ld shapes, from %ld starts\n", limit, best_cost, tried, starts);
+    return tried;
+}
+
+/* Climbs from a shape alone, in small steps that are measured with more care. */
+static long polish(struct shape *best, size_t limit, double until)
+{
+    static struct message best_made, made;
+    long tried = 0;
+    make(best, &best_made);
+    for (; (double)time(NULL) < until; tried++) {
+        struct shape next = *best;
+        mutate(&next, 2);
+        make(&next, &made);
+        if (takes_longer(&made, &best_made, limit, 15)) {
+            *best = next;
+            best_made = made;
+        }
+    }
+    return tried;
+}
+
+static struct shape search(size_t limit, double seconds)
+{
+    static struct message made;
+    struct shape best = {{0}};
+    double from = (double)time(NULL);
+    long tried = explore(&best, limit, from + seconds / 2) + polish(&best, limit, from + seconds);
+    make(&best, &made);
+    printf("limit %zu: %.2f ms, the worst of %ld shapes\n", limit, cost(&made, limit, 200), tried);
     return best;
 }
 
@@ -228,6 +277,10 @@ int main(int argc, char **argv)
     if (file == NULL)
         return 1;
     m.len = fread(m.octets, 1, MOST, file);
+    if (strcmp(argv[1], "time") == 0) {
+        printf("%.2f\n", cost(&m, limit, (int)number));
+        return 0;
+    }
     uint32_t result = 0;
     for (int i = 0; i < (int)number; i++)
         result = read_once(&m, limit);
