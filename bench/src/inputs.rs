@@ -1,4 +1,6 @@
 //! What is measured: the same inputs in every run, from a generator with a fixed seed.
+#[path = "families.rs"] // `doors` has this file by its path
+mod families;
 
 #[derive(Clone, Copy)]
 pub enum Kind {
@@ -36,8 +38,11 @@ pub struct Task {
     pub few: u64,
 }
 
+/// Octets, and where the names begin that are read from them.
+type Input = (Vec<u8>, Vec<u32>);
+
 /// How many names are many, as those of a large zone.
-const MANY: usize = 100_000;
+const MANY: usize = 1_000_000;
 
 /// A linear congruential generator.
 struct Random(u64);
@@ -95,6 +100,9 @@ fn forms(texts: &[String]) -> Vec<u8> {
     texts.iter().flat_map(|text| form(text)).collect()
 }
 
+/// A pointer has 14 bits (RFC 1035, section 4.1.4).
+const POINTERS_REACH: usize = 0x4000;
+
 /// A message whose names share their suffixes by pointers.
 struct Message {
     bytes: Vec<u8>,
@@ -114,7 +122,9 @@ impl Message {
                 self.bytes.extend((0xC000 | *place as u16).to_be_bytes());
                 return;
             }
-            self.known.push((rest.clone(), self.bytes.len()));
+            if self.bytes.len() < POINTERS_REACH {
+                self.known.push((rest.clone(), self.bytes.len()));
+            }
             let label = rest[0] as usize + 1;
             self.bytes.extend(rest.drain(..label));
         }
@@ -147,18 +157,18 @@ impl Message {
     }
 }
 
-/// A response of records whose names share their suffixes by pointers, and where these names start.
-fn message() -> (Vec<u8>, Vec<u32>) {
+/// A response of the addresses of these names, which share their suffixes by pointers, and where the names start.
+fn owners(texts: &[String]) -> Input {
     let (mut message, mut starts) = (Message::new(), vec![]);
-    for text in texts(20, 1) {
+    for text in texts {
         starts.push(message.bytes.len() as u32);
-        message.address(&text, 1);
+        message.address(text, 1);
     }
     (message.bytes, starts)
 }
 
 /// The 30 records of a response, after a header that is not looked into.
-fn records() -> (Vec<u8>, Vec<u32>) {
+fn records() -> Input {
     let mut message = Message::new();
     message.records();
     (message.bytes, vec![])
@@ -166,7 +176,7 @@ fn records() -> (Vec<u8>, Vec<u32>) {
 
 /// A response of the same 30 records: the alias and its addresses answer the question, the name servers are authority records,
 /// and their addresses additional ones.
-fn response() -> (Vec<u8>, Vec<u32>) {
+fn response() -> Input {
     let mut message = Message::new();
     let header: Vec<u8> = [0x1234u16, 0x8180, 1, 7, 12, 11].iter().flat_map(|word| word.to_be_bytes()).collect();
     message.bytes.copy_from_slice(&header);
@@ -178,7 +188,7 @@ fn response() -> (Vec<u8>, Vec<u32>) {
 
 /// A message of 65,535 octets with as many records as there is room for, whose owners have 127 labels and follow 12 pointers,
 /// which is what 65,536 pointers in all allow. The data are empty, of a type that is not known.
-fn many_labels() -> (Vec<u8>, Vec<u32>) {
+fn many_labels() -> Input {
     let mut bytes = vec![0u8; 12];
     bytes.extend(b"\x01a".repeat(127));
     bytes.extend([0, 0, 1, 0, 1]);
@@ -199,7 +209,7 @@ fn many_labels() -> (Vec<u8>, Vec<u32>) {
 
 /// A message of 65,535 octets whose first record has a chain of 8,000 pointers for data, and each other record (of type NS) a
 /// pointer to its end.
-fn many_pointers() -> (Vec<u8>, Vec<u32>) {
+fn many_pointers() -> Input {
     let mut bytes = vec![0u8; 12];
     bytes.extend([0, 0xFF, 0, 0, 1, 0, 0, 0, 0]);
     bytes.extend((1u16 + 2 * 8000).to_be_bytes());
@@ -221,14 +231,14 @@ fn many_pointers() -> (Vec<u8>, Vec<u32>) {
 }
 
 /// A response that was recorded, in hexadecimal.
-fn recorded(hex: &str) -> (Vec<u8>, Vec<u32>) {
+fn recorded(hex: &str) -> Input {
     let digits: Vec<char> = hex.chars().filter(|c| !c.is_whitespace()).collect();
     let two = |digits: &[char]| u8::from_str_radix(&digits.iter().collect::<String>(), 16).expect("hexadecimal digits");
     (digits.chunks(2).map(two).collect(), vec![])
 }
 
 /// A root after as many pointers, each to the one before.
-fn chain(pointers: usize) -> (Vec<u8>, Vec<u32>) {
+fn chain(pointers: usize) -> Input {
     let (mut bytes, mut last) = (vec![0u8], 0);
     for _ in 0..pointers {
         let place = last as u16;
@@ -239,7 +249,7 @@ fn chain(pointers: usize) -> (Vec<u8>, Vec<u32>) {
 }
 
 /// 127 labels of a byte, each but the first before a pointer to the label before.
-fn deep() -> (Vec<u8>, Vec<u32>) {
+fn deep() -> Input {
     let (mut bytes, mut last) = (b"\x01a\0".to_vec(), 0);
     for _ in 1..127 {
         let place = last as u16;
@@ -251,7 +261,7 @@ fn deep() -> (Vec<u8>, Vec<u32>) {
 }
 
 /// Names that differ only in a number, so that most suffixes look alike.
-fn numbered(count: usize, pattern: impl Fn(usize) -> String) -> (Vec<u8>, Vec<u32>) {
+fn numbered(count: usize, pattern: impl Fn(usize) -> String) -> Input {
     (forms(&(0..count).map(pattern).collect::<Vec<_>>()), vec![])
 }
 
@@ -262,24 +272,8 @@ fn one_octet_labels(i: usize) -> String {
     labels.map(|label| format!("{label}.")).collect()
 }
 
-const SERVICES: [&str; 10] = ["api", "cart", "checkout", "frontend", "grafana", "ingress", "ledger", "orders", "redis", "users"];
-
-const WORDS: [&str; 11] = ["alpha", "bravo", "charlie", "delta", "echo", "foxtrot", "golf", "hotel", "india", "juliett", "kilo"];
-
-/// The names of ten mail zones: a zone, and what stands below it.
-fn mail_name(i: usize) -> String {
-    let below = ["", "mail.", "_dmarc.", "s1._domainkey."][i % 4];
-    format!("{below}customer{}.example.", i / 4)
-}
-
-/// A name for an address of the documentation's network 2001:db8::/32 (RFC 3596, section 2.5).
-fn reverse_ipv6(i: usize) -> String {
-    let digits = format!("20010db8000000010000000000{:06x}", 0x1234 + 77 * i);
-    digits.chars().rev().map(|digit| format!("{digit}.")).collect::<String>() + "ip6.arpa."
-}
-
 /// Texts with an escape in front, in the middle and everywhere.
-fn escaped() -> (Vec<u8>, Vec<u32>) {
+fn escaped() -> Input {
     let lines = (0..200).map(|i| format!("\\_a{i}.example.com.\nhost{i}.ex\\-ample.com.\n\\x\\y\\z{i}.\\e\\x.com.\n"));
     (lines.collect::<String>().into_bytes(), vec![])
 }
@@ -289,83 +283,122 @@ fn leaked(name: String) -> &'static str {
     Box::leak(name.into_boxed_str())
 }
 
-pub fn tasks() -> Vec<Task> {
-    let mut tasks = vec![];
-    let mut add = |name, what, kind, (bytes, starts): (Vec<u8>, Vec<u32>), operations, few| {
-        tasks.push(Task { name, what, kind, bytes, starts, operations, few })
-    };
-    add("read-plain", "a name of four labels, whole", Kind::Read, (form("mail.eu.example.com."), vec![0]), 1, 2000);
-    add("read-message", "20 names of a compressed message", Kind::Read, message(), 20, 100);
-    add("read-chain", "a root after 7999 pointers", Kind::Read, chain(7999), 1, 5);
-    add("read-deep", "127 labels over 126 pointers", Kind::Read, deep(), 1, 100);
-    let one = form("mail.eu.example.com.");
-    add("emit-1", "a name of four labels into a new message", Kind::Emit, (one, vec![]), 1, 2000);
-    add("emit-20", "20 names into a new message", Kind::Emit, (forms(&texts(20, 2)), vec![]), 20, 50);
-    add("emit-100", "100 names into a new message", Kind::Emit, (forms(&texts(100, 3)), vec![]), 100, 20);
-    let thousand = texts(1000, 4);
-    let lines = thousand.join("\n") + "\n";
-    add("parse", "1000 texts of names", Kind::Parse, (lines.into_bytes(), vec![]), 1000, 5);
-    add("parse-escaped", "600 texts with escapes", Kind::Parse, escaped(), 600, 5);
-    let long = "a".repeat(60_000) + ".\n";
-    add("parse-long", "a label of 60,000 characters, which is too long", Kind::Parse, (long.into_bytes(), vec![]), 1, 20);
-    let names = forms(&thousand);
-    add("print", "1000 names", Kind::Print, (names.clone(), vec![]), 1000, 5);
-    let host = |i| format!("host{i:04}.example.com.");
-    add("emit-hosts", "120 numbered hosts of one zone", Kind::Emit, numbered(120, host), 120, 10);
-    let www = |i| format!("www.host{i:04}.example.com.");
-    add("emit-www", "120 names www.host0000.example.com. and on", Kind::Emit, numbered(120, www), 120, 10);
-    let long = |i| format!("{}{i:04}.example.com.", "x".repeat(59));
-    let ptr = |i| format!("{i:04}.2.0.192.in-addr.arpa.");
-    add("emit-ptr", "120 reverse names of one network", Kind::Emit, numbered(120, ptr), 120, 10);
-    let full = |i| format!("{}{i:04}.{}.{}.{}.", "a".repeat(59), "b".repeat(63), "c".repeat(63), "d".repeat(61));
-    add("emit-255", "120 names of 255 octets that differ in front", Kind::Emit, numbered(120, full), 120, 5);
-    add("emit-127", "20 names of 127 labels, most of which are alike", Kind::Emit, numbered(20, one_octet_labels), 20, 5);
-    add("emit-lower", "20 names into a new message, in lower case", Kind::EmitLower, (forms(&texts(20, 6)), vec![]), 20, 50);
-    add("emit-63", "120 labels of 63 octets that end in a number", Kind::Emit, numbered(120, long), 120, 10);
-    let rack = |i| format!("r{:02}-u{:02}.dc1.example.net.", i / 5, i % 5);
-    add("emit-racks", "20 numbered racks of a data centre", Kind::Emit, numbered(20, rack), 20, 50);
-    let pod = |i| format!("10-42-{}-{}.{}.pod.cluster.local.", i % 4, 7 * i, ["default", "kube-system"][i % 2]);
-    add("emit-pods", "20 names of pods of Kubernetes", Kind::Emit, numbered(20, pod), 20, 50);
-    let service = |i| format!("_http._tcp.{}.{}.svc.cluster.local.", SERVICES[i % 10], ["shop", "monitoring"][i / 10]);
-    add("emit-services", "20 names of services of Kubernetes", Kind::Emit, numbered(20, service), 20, 50);
-    add("emit-mail", "20 names of mail zones", Kind::Emit, numbered(20, mail_name), 20, 50);
-    let policy = |i| format!("{}{i}.example.{}.rpz.example.net.", ["ads", "malware", "track"][i % 3], ["com", "org"][i % 2]);
-    add("emit-policy", "20 names of a policy zone", Kind::Emit, numbered(20, policy), 20, 50);
-    let next = |i: usize| format!("{}.example.org.", WORDS[(i + 1) / 2]);
-    add("emit-nsec", "20 names of a chain of NSEC records, each as next name and as owner", Kind::Emit, numbered(20, next), 20, 50);
-    add("emit-ip6", "20 reverse names of one IPv6 network", Kind::Emit, numbered(20, reverse_ipv6), 20, 50);
-    add("clone", "1000 names into a vector with room", Kind::Clone, (names.clone(), vec![]), 1000, 5);
-    add("collect", "1000 names read into a growing vector", Kind::Collect, (names.clone(), vec![]), 1000, 5);
-    add("compare", "1000 names, each with the next", Kind::Compare, (names.clone(), vec![]), 1000, 5);
-    add("sort", "1000 names", Kind::Sort, (names.clone(), vec![]), 1000, 5);
-    add("hash", "1000 names by SipHash 1-3", Kind::Hash, (names, vec![]), 1000, 5);
-    // In canonical order, since the numbers are.
-    let host = |i| format!("host{i:06}.example.com.");
-    let many = numbered(MANY, host);
-    let each = MANY as u64;
-    add("bulk-build", "100,000 names copied into a vector with room", Kind::Clone, many.clone(), each, 1);
-    add("bulk-find", "each of 100,000 names looked up in a vector", Kind::Find, many.clone(), each, 1);
-    add("bulk-list", "100,000 names of a vector, in order", Kind::List, many.clone(), each, 1);
-    add("table-build", "100,000 names put into a table of wire forms", Kind::TableBuild, many.clone(), each, 1);
-    add("table-find", "each of 100,000 names looked up in a table", Kind::TableFind, many.clone(), each, 1);
-    add("table-list", "100,000 names of a table, in order", Kind::TableList, many, each, 1);
-    add("read-records", "30 records of a response, with their names", Kind::ReadRecords, records(), 30, 100);
-    add("emit-records", "30 records into a new message", Kind::EmitRecords, records(), 30, 100);
-    add("read-fields", "the data of 30 records of a response, by their fields", Kind::ReadFields, response(), 30, 200);
-    let responses = [
-        ("30-records", response()),
-        ("mail", recorded(include_str!("../messages/mail.hex"))),
-        ("root", recorded(include_str!("../messages/root.hex"))),
-        ("www", recorded(include_str!("../messages/www.hex"))),
-        ("texts", recorded(include_str!("../messages/texts.hex"))),
-        ("nxdomain", recorded(include_str!("../messages/nxdomain.hex"))),
-    ];
-    add("read-labels", "65,535 octets, owners of 127 labels", Kind::ReadMessage, many_labels(), 1, 2);
-    add("read-pointers", "65,535 octets, data of 8,000 pointers", Kind::ReadMessage, many_pointers(), 1, 1);
-    for (name, message) in responses {
-        let (read, write) = (format!("read-{name}"), format!("write-{name}"));
-        add(leaked(read), "a response, with all its names and data", Kind::ReadMessage, message.clone(), 1, 200);
-        add(leaked(write), "a response, of its questions and records", Kind::WriteMessage, message, 1, 200);
+/// The tasks that are asked for. The inputs of others are not made.
+struct Tasks<'a> {
+    wanted: &'a dyn Fn(&str) -> bool,
+    made: Vec<Task>,
+}
+
+impl Tasks<'_> {
+    fn add(&mut self, name: &'static str, what: &'static str, kind: Kind, input: impl FnOnce() -> Input, operations: u64, few: u64) {
+        if (self.wanted)(name) {
+            let (bytes, starts) = input();
+            self.made.push(Task { name, what, kind, bytes, starts, operations, few });
+        }
     }
-    tasks
+
+    fn readings(&mut self) {
+        let plain = || (form("mail.eu.example.com."), vec![0]);
+        self.add("read-plain", "a name of four labels, whole", Kind::Read, plain, 1, 2000);
+        self.add("read-message", "20 names of a compressed message", Kind::Read, || owners(&texts(20, 1)), 20, 100);
+        self.add("read-chain", "a root after 7999 pointers", Kind::Read, || chain(7999), 1, 5);
+        self.add("read-deep", "127 labels over 126 pointers", Kind::Read, deep, 1, 100);
+    }
+
+    fn writings(&mut self) {
+        let one = || (form("mail.eu.example.com."), vec![]);
+        self.add("emit-1", "a name of four labels into a new message", Kind::Emit, one, 1, 2000);
+        self.add("emit-20", "20 names into a new message", Kind::Emit, || (forms(&texts(20, 2)), vec![]), 20, 50);
+        self.add("emit-100", "100 names into a new message", Kind::Emit, || (forms(&texts(100, 3)), vec![]), 100, 20);
+        let host = |i| format!("host{i:04}.example.com.");
+        self.add("emit-hosts", "120 numbered hosts of one zone", Kind::Emit, || numbered(120, host), 120, 10);
+        let www = |i| format!("www.host{i:04}.example.com.");
+        self.add("emit-www", "120 names www.host0000.example.com. and on", Kind::Emit, || numbered(120, www), 120, 10);
+        let ptr = |i| format!("{i:04}.2.0.192.in-addr.arpa.");
+        self.add("emit-ptr", "120 reverse names of one network", Kind::Emit, || numbered(120, ptr), 120, 10);
+        let full = |i| format!("{}{i:04}.{}.{}.{}.", "a".repeat(59), "b".repeat(63), "c".repeat(63), "d".repeat(61));
+        self.add("emit-255", "120 names of 255 octets that differ in front", Kind::Emit, || numbered(120, full), 120, 5);
+        let alike = || numbered(20, one_octet_labels);
+        self.add("emit-127", "20 names of 127 labels, most of which are alike", Kind::Emit, alike, 20, 5);
+        let lower = || (forms(&texts(20, 6)), vec![]);
+        self.add("emit-lower", "20 names into a new message, in lower case", Kind::EmitLower, lower, 20, 50);
+        let long = |i| format!("{}{i:04}.example.com.", "x".repeat(59));
+        self.add("emit-63", "120 labels of 63 octets that end in a number", Kind::Emit, || numbered(120, long), 120, 10);
+    }
+
+    fn texts(&mut self) {
+        let lines = || ((texts(1000, 4).join("\n") + "\n").into_bytes(), vec![]);
+        self.add("parse", "1000 texts of names", Kind::Parse, lines, 1000, 5);
+        self.add("parse-escaped", "600 texts with escapes", Kind::Parse, escaped, 600, 5);
+        let long = || (("a".repeat(60_000) + ".\n").into_bytes(), vec![]);
+        self.add("parse-long", "a label of 60,000 characters, which is too long", Kind::Parse, long, 1, 20);
+    }
+
+    fn names(&mut self) {
+        let names = || (forms(&texts(1000, 4)), vec![]);
+        self.add("print", "1000 names", Kind::Print, names, 1000, 5);
+        self.add("clone", "1000 names into a vector with room", Kind::Clone, names, 1000, 5);
+        self.add("collect", "1000 names read into a growing vector", Kind::Collect, names, 1000, 5);
+        self.add("compare", "1000 names, each with the next", Kind::Compare, names, 1000, 5);
+        self.add("sort", "1000 names", Kind::Sort, names, 1000, 5);
+        self.add("hash", "1000 names by SipHash 1-3", Kind::Hash, names, 1000, 5);
+    }
+
+    /// Each family is written into a new message, and read as the owners of a compressed one.
+    fn families(&mut self) {
+        for family in families::all() {
+            let (write, read) = (format!("emit-{}", family.name), format!("owners-{}", family.name));
+            let (count, few) = (family.count as u64, 1000 / family.count as u64);
+            let names: Vec<String> = (0..family.count).map(family.pattern).collect();
+            self.add(leaked(write), family.what, Kind::Emit, || (forms(&names), vec![]), count, few);
+            self.add(leaked(read), family.what, Kind::Read, || owners(&names), count, few);
+        }
+    }
+
+    /// In canonical order, since the numbers are.
+    fn bulk(&mut self) {
+        let many = || numbered(MANY, |i| format!("host{i:06}.example.com."));
+        let each = MANY as u64;
+        self.add("bulk-build", "a million names copied into a vector with room", Kind::Clone, many, each, 1);
+        self.add("bulk-find", "each of a million names looked up in a vector", Kind::Find, many, each, 1);
+        self.add("bulk-list", "a million names of a vector, in order", Kind::List, many, each, 1);
+        self.add("table-build", "a million names put into a table of wire forms", Kind::TableBuild, many, each, 1);
+        self.add("table-find", "each of a million names looked up in a table", Kind::TableFind, many, each, 1);
+        self.add("table-list", "a million names of a table, in order", Kind::TableList, many, each, 1);
+    }
+
+    fn messages(&mut self) {
+        self.add("read-records", "30 records of a response, with their names", Kind::ReadRecords, records, 30, 100);
+        self.add("emit-records", "30 records into a new message", Kind::EmitRecords, records, 30, 100);
+        let what = "the data of 30 records of a response, by their fields";
+        self.add("read-fields", what, Kind::ReadFields, response, 30, 200);
+        self.add("read-labels", "65,535 octets, owners of 127 labels", Kind::ReadMessage, many_labels, 1, 2);
+        self.add("read-pointers", "65,535 octets, data of 8,000 pointers", Kind::ReadMessage, many_pointers, 1, 1);
+        let responses = [
+            ("30-records", response()),
+            ("mail", recorded(include_str!("../messages/mail.hex"))),
+            ("root", recorded(include_str!("../messages/root.hex"))),
+            ("www", recorded(include_str!("../messages/www.hex"))),
+            ("texts", recorded(include_str!("../messages/texts.hex"))),
+            ("nxdomain", recorded(include_str!("../messages/nxdomain.hex"))),
+        ];
+        for (name, message) in responses {
+            let (read, write) = (format!("read-{name}"), format!("write-{name}"));
+            self.add(leaked(read), "a response, with all its names and data", Kind::ReadMessage, || message.clone(), 1, 200);
+            self.add(leaked(write), "a response, of its questions and records", Kind::WriteMessage, || message.clone(), 1, 200);
+        }
+    }
+}
+
+/// The tasks of these names.
+pub fn tasks(wanted: &dyn Fn(&str) -> bool) -> Vec<Task> {
+    let mut tasks = Tasks { wanted, made: vec![] };
+    tasks.readings();
+    tasks.writings();
+    tasks.texts();
+    tasks.families();
+    tasks.names();
+    tasks.bulk();
+    tasks.messages();
+    tasks.made
 }

@@ -83,6 +83,11 @@ fn measure(task: &Task) {
     }
 }
 
+/// Tasks over a million names take minutes each under valgrind, so they are done only if they are asked for.
+fn is_bulk(name: &str) -> bool {
+    name.starts_with("bulk-") || name.starts_with("table-")
+}
+
 /// A line for each task: its name, how often it is done if instructions are counted, its operations, and why the
 /// contenders cannot be compared, if they cannot.
 fn list(tasks: &[Task]) {
@@ -91,17 +96,25 @@ fn list(tasks: &[Task]) {
     }
 }
 
+/// Writes the octets of a task into a file, and where its names start into FILE.starts, for a program that reads them there.
+fn write_input(task: &Task, file: &str) {
+    let starts: String = task.starts.iter().map(|start| format!("{start}\n")).collect();
+    std::fs::write(file, &task.bytes).expect("a file that can be written");
+    std::fs::write(format!("{file}.starts"), starts).expect("a file that can be written");
+}
+
 fn main() {
-    let tasks = inputs::tasks();
     let words: Vec<String> = std::env::args().skip(1).collect();
+    let one = |name: &str| inputs::tasks(&|it| it == name).pop().expect("a task");
     match words.iter().map(String::as_str).collect::<Vec<_>>()[..] {
-        [] => tasks.iter().for_each(measure),
-        ["--list"] => list(&tasks),
+        [] => inputs::tasks(&|name| !is_bulk(name)).iter().for_each(measure),
+        ["--list"] => list(&inputs::tasks(&|name| !is_bulk(name))),
+        ["--list", "bulk"] => list(&inputs::tasks(&is_bulk)),
+        ["--input", name, file] => write_input(&one(name), file),
         ["--one", name, who, count] => {
-            let task = tasks.iter().find(|t| t.name == name).expect("a task");
             let (_, run) = CONTENDERS.iter().find(|(n, _)| *n == who).expect("a contender");
-            println!("{}", run(task, count.parse().expect("a number")));
+            println!("{}", run(&one(name), count.parse().expect("a number")));
         }
-        _ => panic!("usage: dnw-bench [--list | --one TASK CONTENDER COUNT]"),
+        _ => panic!("usage: dnw-bench [--list [bulk] | --input TASK FILE | --one TASK CONTENDER COUNT]"),
     }
 }

@@ -22,24 +22,39 @@ fn sum<T>(items: impl IntoIterator<Item = T>, value: impl FnMut(T) -> u64) -> u6
     items.into_iter().map(value).fold(0, u64::wrapping_add)
 }
 
+/// The tasks that a door does: each is a row of a table in docs/PERFORMANCE.md.
+const TASKS: [&str; 12] = [
+    "read-plain",
+    "read-message",
+    "read-deep",
+    "emit-1",
+    "emit-20",
+    "parse",
+    "print",
+    "compare",
+    "sort",
+    "hash",
+    "read-records",
+    "emit-records",
+];
+
 /// What is added for a failure.
 const FAILED: u64 = 1 << 40;
 
 fn main() {
-    let tasks = inputs::tasks();
     let words: Vec<String> = std::env::args().skip(1).collect();
     match words.iter().map(String::as_str).collect::<Vec<_>>()[..] {
         ["--list"] => {
-            for task in &tasks {
-                for (name, _) in DOORS.iter().filter(|(_, door)| door(task, 0).is_some()) {
-                    println!("{} {} {name} {}", task.name, task.few, task.operations);
+            for task in inputs::tasks(&|name| TASKS.contains(&name)) {
+                for (name, _) in DOORS.iter().filter(|(_, door)| door(&task, 0).is_some()) {
+                    println!("{} {} {name} {} {}", task.name, task.few, task.operations, task.what);
                 }
             }
         }
         ["--one", name, door, count] => {
-            let task = tasks.iter().find(|task| task.name == name).expect("a task");
+            let task = inputs::tasks(&|it| it == name).pop().expect("a task");
             let (_, run) = DOORS.iter().find(|(name, _)| *name == door).expect("a door");
-            println!("{}", run(task, count.parse().expect("a number")).expect("a task of this door"));
+            println!("{}", run(&task, count.parse().expect("a number")).expect("a task of this door"));
         }
         _ => panic!("usage: dnw-bench-doors --list | --one TASK DOOR COUNT"),
     }
