@@ -37,7 +37,8 @@ fn pod(i: usize) -> String {
     format!("10-42-{}-{}.{}.pod.cluster.local.", i % 4, 7 * i, ["default", "kube-system"][i % 2])
 }
 
-const SERVICES: [&str; 10] = ["api", "cart", "checkout", "frontend", "grafana", "ingress", "ledger", "orders", "redis", "users"];
+const SERVICES: [&str; 10] =
+    ["api", "cart", "checkout", "frontend", "grafana", "ingress", "ledger", "orders", "redis", "users"];
 
 fn service(i: usize) -> String {
     format!("_http._tcp.{}.{}.svc.cluster.local.", SERVICES[i % 10], ["shop", "monitoring"][i / 10])
@@ -70,7 +71,8 @@ fn country(i: usize) -> String {
     format!("{below}{}.", ["de", "fr", "jp", "nl", "uk"][i / 4])
 }
 
-const WORDS: [&str; 11] = ["alpha", "bravo", "charlie", "delta", "echo", "foxtrot", "golf", "hotel", "india", "juliett", "kilo"];
+const WORDS: [&str; 11] =
+    ["alpha", "bravo", "charlie", "delta", "echo", "foxtrot", "golf", "hotel", "india", "juliett", "kilo"];
 
 fn next(i: usize) -> String {
     format!("{}.example.org.", WORDS[(i + 1) / 2])

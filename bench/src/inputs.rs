@@ -290,7 +290,15 @@ struct Tasks<'a> {
 }
 
 impl Tasks<'_> {
-    fn add(&mut self, name: &'static str, what: &'static str, kind: Kind, input: impl FnOnce() -> Input, operations: u64, few: u64) {
+    fn add(
+        &mut self,
+        name: &'static str,
+        what: &'static str,
+        kind: Kind,
+        input: impl FnOnce() -> Input,
+        operations: u64,
+        few: u64,
+    ) {
         if (self.wanted)(name) {
             let (bytes, starts) = input();
             self.made.push(Task { name, what, kind, bytes, starts, operations, few });
@@ -317,13 +325,15 @@ impl Tasks<'_> {
         let ptr = |i| format!("{i:04}.2.0.192.in-addr.arpa.");
         self.add("emit-ptr", "120 reverse names of one network", Kind::Emit, || numbered(120, ptr), 120, 10);
         let full = |i| format!("{}{i:04}.{}.{}.{}.", "a".repeat(59), "b".repeat(63), "c".repeat(63), "d".repeat(61));
-        self.add("emit-255", "120 names of 255 octets that differ in front", Kind::Emit, || numbered(120, full), 120, 5);
+        let full = || numbered(120, full);
+        self.add("emit-255", "120 names of 255 octets that differ in front", Kind::Emit, full, 120, 5);
         let alike = || numbered(20, one_octet_labels);
         self.add("emit-127", "20 names of 127 labels, most of which are alike", Kind::Emit, alike, 20, 5);
         let lower = || (forms(&texts(20, 6)), vec![]);
         self.add("emit-lower", "20 names into a new message, in lower case", Kind::EmitLower, lower, 20, 50);
         let long = |i| format!("{}{i:04}.example.com.", "x".repeat(59));
-        self.add("emit-63", "120 labels of 63 octets that end in a number", Kind::Emit, || numbered(120, long), 120, 10);
+        let long = || numbered(120, long);
+        self.add("emit-63", "120 labels of 63 octets that end in a number", Kind::Emit, long, 120, 10);
     }
 
     fn texts(&mut self) {
@@ -384,8 +394,9 @@ impl Tasks<'_> {
         ];
         for (name, message) in responses {
             let (read, write) = (format!("read-{name}"), format!("write-{name}"));
-            self.add(leaked(read), "a response, with all its names and data", Kind::ReadMessage, || message.clone(), 1, 200);
-            self.add(leaked(write), "a response, of its questions and records", Kind::WriteMessage, || message.clone(), 1, 200);
+            let input = || message.clone();
+            self.add(leaked(read), "a response, with all its names and data", Kind::ReadMessage, input, 1, 200);
+            self.add(leaked(write), "a response, of its questions and records", Kind::WriteMessage, input, 1, 200);
         }
     }
 }
