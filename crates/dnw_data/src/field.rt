@@ -64,7 +64,7 @@ impl<'r> Field<'r> {
     /// data do. If it fails, the cursor is unchanged. It does not allocate.
     ///
     /// It fails with the error of reading a name there, or with `InsufficientBytes` if the data end within the field.
-    // Inlined, since LLVM takes a large result that is returned through memory apart, octet by octet.
+    // Inlined with all that it calls, since LLVM takes a large result that is returned through memory apart, octet by octet.
     #[inline(always)]
     pub fn read(kind: Kind, reader: &mut BinDecoder<'r>) -> Result<Self, DecodeError>
         ensures ok { IfOk result (λ field. TakesField kind reader.old (seen field) reader.new) }
@@ -151,6 +151,7 @@ fn append_items(items: &Items<'_>, out: &mut Vec<u8>) -> Result<(), AllocError>
 }
 
 /// Reads a field that is a name.
+#[inline(always)]
 fn read_name<'r>(reader: &mut BinDecoder<'r>) -> Result<Field<'r>, DecodeError>
     ensures ok { IfOk result (λ field. TakesNameField reader.old (seen field) reader.new) }
     ensures err { IfErr result (FailsName reader.old) }
@@ -161,6 +162,7 @@ fn read_name<'r>(reader: &mut BinDecoder<'r>) -> Result<Field<'r>, DecodeError>
 }
 
 /// Reads a field that is no name: it is its own octets.
+#[inline(always)]
 fn read_own<'r>(kind: Kind, reader: &mut BinDecoder<'r>) -> Result<Field<'r>, DecodeError>
     ensures ok { IfOk result (λ field. TakesOwn kind reader.old (seen field) reader.new) }
     ensures err { IfErr result (FailsOwn kind reader.old) }
@@ -204,6 +206,7 @@ fn counted_size(left: &[u8]) -> usize
 }
 
 /// Returns the field that these octets are. Only a list may fail.
+#[inline(always)]
 fn of_octets<'r>(kind: Kind, own: &'r [u8]) -> Result<Field<'r>, DecodeError>
     requires size { length own.now ≡ own_size kind own.now }
     ensures ok { IfOk result (λ field. (own_fault kind own.now ≡ None) × (seen field ≡ own_value kind own.now)) }
