@@ -21,7 +21,12 @@ import dns.rdata
 import dns.rdataclass
 import dns.rdatatype
 
-REPLIES = pathlib.Path(__file__).resolve().parent.parent / "diff" / "servers" / "replies.txt"
+SERVERS = pathlib.Path(__file__).resolve().parent.parent / "diff" / "servers"
+# It adds to dnspython the types that this has no class for.
+sys.path.insert(0, str(SERVERS))
+import record as _  # noqa: E402, F401
+
+REPLIES = SERVERS / "replies.txt"
 WORDS = "+notcp +norecurse +noedns +nocookie +ignore +nocmd +nostats +tries=1 +time=5 +noall +comments +question +answer +authority +additional"
 
 
