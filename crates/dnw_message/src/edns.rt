@@ -16,6 +16,9 @@ const MIN_PAYLOAD: u16 = 512;
 /// Why the EDNS of a message breaks a rule.
 #[derive(Debug, Clone, Copy, PartialEq, Eq, Error)]
 pub enum EdnsError {
+    /// An `OPT` record outside the additional section (RFC 6891, section 6.1.1).
+    #[error("OPT record outside the additional section")]
+    OutsideAdditionals,
     /// More than one `OPT` record in the additional section (RFC 6891, section 6.1.1).
     #[error("more than one OPT record")]
     DuplicateEdns,
@@ -257,7 +260,7 @@ pub(crate) fn next_opt<'m>(records: &mut Records<'m>) -> Option<RecordRef<'m>>
 }
 
 /// Returns `true` for `OPT`.
-fn is_opt(kind: RecordType) -> bool
+pub(crate) fn is_opt(kind: RecordType) -> bool
     ensures { result ≡ is_opt kind }
 {
     matches!(kind, RecordType::OPT)
