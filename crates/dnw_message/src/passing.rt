@@ -5,10 +5,9 @@ ghost use Rattle.dnw_error.specs.declared.error.DecodeError.{DecodeError};
 ghost use Rattle.dnw_message.specs.Messages.{Item, ItemAt, ItemsAt, FailsItem, FailsHere, FailsWithin, part, rest_of};
 ghost use Rattle.dnw_message.specs.Inside.Passing.{FailsOne, PassesItem, PassesItems, opt_at};
 
-use crate::edns::is_opt;
+use crate::edns::is_opt_code;
 use crate::error::{MessageError, MessageErrorKind, Section};
 use dnw_base::decoder::BinDecoder;
-use dnw_codes::record_type::RecordType;
 use dnw_error::error::DecodeError;
 use dnw_name::name_ref::NameRef;
 use dnw_reading::walk::ReadSteps;
@@ -92,6 +91,5 @@ fn pass_rest(reader: &mut BinDecoder<'_>, section: Section) -> Result<bool, Deco
     }
     let fields = reader.read_slice(RECORD_FIELDS)?.unverified();
     reader.skip(u16::from_be_bytes([fields[8], fields[9]]) as usize)?;
-    let kind = RecordType::from(u16::from_be_bytes([fields[0], fields[1]]));
-    Ok(is_opt(kind))
+    Ok(is_opt_code(u16::from_be_bytes([fields[0], fields[1]])))
 }
