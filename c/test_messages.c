@@ -79,6 +79,8 @@ static void refuses_messages(void)
 #define NO_EDNS "\000\000\200\003\000\000\000\000\000\000\000\000"
 #define ONE_MORE(count) "\000\000\200\003\000\000\000\000\000\000\000" count
 #define EMPTY_OPT(owner) owner "\000\051\001\000\000\000\000\000\000\000"
+#define OPT_AS_ANSWER "\000\000\200\003\000\000\000\001\000\000\000\000" EMPTY_OPT("\000")
+#define OPT_AS_AUTHORITY "\000\000\200\003\000\000\000\000\000\001\000\001" EMPTY_OPT("\000") EMPTY_OPT("\000")
 
 static void reads_edns(void)
 {
@@ -92,6 +94,8 @@ static void reads_edns(void)
     EXPECT(dnw_edns_read(BYTES(referral), 2, &edns) == DNW_TOO_MANY_POINTERS);
     EXPECT(dnw_edns_read(BYTES(ONE_MORE("\002") EMPTY_OPT("\000")), 0, &edns) == DNW_MESSAGE_CUT);
     EXPECT(dnw_edns_read(BYTES(ONE_MORE("\002") EMPTY_OPT("\000") EMPTY_OPT("\000")), 0, &edns) == DNW_DUPLICATE_EDNS);
+    EXPECT(dnw_edns_read(BYTES(OPT_AS_ANSWER), 0, &edns) == DNW_OUTSIDE_ADDITIONALS);
+    EXPECT(dnw_edns_read(BYTES(OPT_AS_AUTHORITY), 0, &edns) == DNW_OUTSIDE_ADDITIONALS);
     EXPECT(dnw_edns_read(BYTES(ONE_MORE("\001") EMPTY_OPT("\001a\000")), 0, &edns) == DNW_OWNER_NOT_ROOT);
     EXPECT(dnw_edns_read(BYTES(ONE_MORE("\001") "\000\000\051\001\000\000\000\000\000\000\004\000\003\000\001"), 0, &edns) ==
            DNW_CUT_OPTION);
@@ -232,6 +236,8 @@ static void refuses_to_pack(void)
     EXPECT(pack(BYTES("\000\000\000\000\000\001\000\000\000\000\000\000\100"), 512, sizeof copy, &packed) ==
            DNW_RESERVED_OCTET);
     EXPECT(pack(BYTES(ONE_MORE("\002") EMPTY_OPT("\000") EMPTY_OPT("\000")), 512, sizeof copy, &packed) == DNW_DUPLICATE_EDNS);
+    EXPECT(pack(BYTES(OPT_AS_ANSWER), 512, sizeof copy, &packed) == DNW_OUTSIDE_ADDITIONALS);
+    EXPECT(pack(BYTES(OPT_AS_AUTHORITY), 512, sizeof copy, &packed) == DNW_OUTSIDE_ADDITIONALS);
     EXPECT(pack(BYTES(ONE_MORE("\001") EMPTY_OPT("\001a\000")), 512, sizeof copy, &packed) == DNW_OWNER_NOT_ROOT);
     EXPECT(pack(BYTES(ONE_MORE("\001") "\000\000\051\001\000\000\000\000\000\000\004\000\003\000\001"), 512, sizeof copy,
                 &packed) == DNW_CUT_OPTION);

@@ -100,7 +100,8 @@ static uint32_t write_section(struct model_writer *w, const uint8_t *message, si
         } else {
             CHECK(model_record(message, len, *at, &name, &record) == DNW_DONE);
             *at = record.end;
-            if (section == 3 && record.record_type == DNW_TYPE_OPT)
+            CHECK(section == 3 || record.record_type != DNW_TYPE_OPT);
+            if (record.record_type == DNW_TYPE_OPT)
                 continue;
             uint32_t failure = data_failure(message, &record);
             if (failure != DNW_DONE)

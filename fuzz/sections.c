@@ -99,18 +99,29 @@ static bool is_same(const struct dnw_message *a, const struct dnw_message *b)
            a->additionals == b->additionals && a->end == b->end;
 }
 
-/* What a checked message says by EDNS. */
-static uint32_t model_edns(const uint8_t *message, size_t len, const struct dnw_message *read, struct dnw_edns *edns)
+/* How many OPT records are among so many records of a checked message. Puts the first of them. */
+static size_t find_opts(const uint8_t *message, size_t len, size_t at, size_t count, struct dnw_record *opt)
 {
-    size_t at = read->additionals, found = 0;
-    struct dnw_record record, opt = {.owner_len = 1};
-    for (size_t i = 0; i < read->additional_count; i++, at = record.end) {
+    size_t found = 0;
+    struct dnw_record record;
+    for (size_t i = 0; i < count; i++, at = record.end) {
         struct model_name owner;
         CHECK(model_record(message, len, at, &owner, &record) == DNW_DONE);
         if (record.record_type == DNW_TYPE_OPT && found++ == 0)
-            opt = record;
+            *opt = record;
     }
+    return found;
+}
+
+/* What a checked message says by EDNS. */
+static uint32_t model_edns(const uint8_t *message, size_t len, const struct dnw_message *read, struct dnw_edns *edns)
+{
+    struct dnw_record opt = {.owner_len = 1}, other;
+    size_t outside = find_opts(message, len, read->answers, read->answer_count + (size_t)read->authority_count, &other);
+    size_t found = find_opts(message, len, read->additionals, read->additional_count, &opt);
     *edns = (struct dnw_edns){.max_payload = 512, .response_code = read->response_code};
+    if (outside > 0)
+        return DNW_OUTSIDE_ADDITIONALS;
     if (found > 1)
         return DNW_DUPLICATE_EDNS;
     if (opt.owner_len != 1)

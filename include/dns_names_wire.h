@@ -72,7 +72,8 @@ enum dnw_failure {
     DNW_NOT_RRSIG = 36,        /* a record that should be an RRSIG and is none */
     DNW_NOT_COVERED = 37,      /* an RRSIG that covers none of the records */
     DNW_TOO_FEW_LABELS = 38,   /* an RRSIG whose owner has fewer labels than it counts */
-    DNW_DATA_TOO_LONG = 39     /* a record whose data, with their names whole, have more than 65535 octets */
+    DNW_DATA_TOO_LONG = 39,    /* a record whose data, with their names whole, have more than 65535 octets */
+    DNW_OUTSIDE_ADDITIONALS = 40 /* an OPT record among the answers or the authorities of a message */
 };
 
 /* `len` bytes were put into the buffer, and the name's own octets end at offset `end` of the message. */
@@ -229,8 +230,9 @@ struct dnw_edns {
 };
 
 /* Reads a message as dnw_message_read does, and puts what its additional section says by EDNS. It does not allocate. It fails
-   as dnw_message_read; with DNW_DUPLICATE_EDNS if there are two OPT records or more; with DNW_OWNER_NOT_ROOT if the only one is
-   not owned by the root; and else with DNW_CUT_OPTION if its data are not options up to their end. */
+   as dnw_message_read; with DNW_OUTSIDE_ADDITIONALS if an OPT record is among the answers or the authorities; with
+   DNW_DUPLICATE_EDNS if there are two or more; with DNW_OWNER_NOT_ROOT if the only one is not owned by the root; and else with
+   DNW_CUT_OPTION if its data are not options up to their end. */
 uint32_t dnw_edns_read(const uint8_t *message, size_t message_len, size_t max_pointers, struct dnw_edns *edns);
 
 /* `len` octets of a message were put into the buffer. `truncated` is the TC bit of its header. */

@@ -273,6 +273,12 @@ class DataTooLong(DnsError):
         super().__init__(reason or error_text(self.number), offset)
 
 
+class OutsideAdditionals(DnsError):
+    """An OPT record among the answers or the authorities of a message."""
+
+    number = 40
+
+
 # What an item of each section is called, by the section's number in `dns_names_wire.h`.
 SECTIONS = ("header", "question", "answer", "authority", "additional")
 

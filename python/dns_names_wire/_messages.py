@@ -345,8 +345,8 @@ class Message:
     def edns(self) -> Optional[Edns]:
         """What the message says by EDNS, or None without an OPT record.
 
-        Raises `DuplicateEdns` if there are two OPT records or more, `OwnerNotRoot` if the only one is not owned by the root,
-        and `CutOption` if its data are not options up to their end.
+        Raises `OutsideAdditionals` if an OPT record is among the answers or the authorities, `DuplicateEdns` if there are two or
+        more, `OwnerNotRoot` if the only one is not owned by the root, and `CutOption` if its data are not options up to their end.
         """
         read = self._read_edns()
         if not read.is_present:

@@ -178,6 +178,8 @@ class Messages(unittest.TestCase):
         opt = Record(Name("."), 0, dnw.Unknown(41, b""), 512)
         self.assertRaises(dnw.DuplicateEdns, Message.build(additionals=[opt], edns=Edns()).to_wire)
         self.assertRaises(dnw.DuplicateEdns, lambda: Message.build(additionals=[opt, opt]).edns)
+        self.assertRaises(dnw.OutsideAdditionals, Message.build(answers=[opt]).to_wire)
+        self.assertRaises(dnw.OutsideAdditionals, Message.build(authorities=[opt], edns=Edns()).to_wire)
 
 
 class Records(unittest.TestCase):

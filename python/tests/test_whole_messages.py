@@ -145,6 +145,11 @@ class WholeMessages(unittest.TestCase):
         ]:
             with self.assertRaises(failure):
                 Message.from_wire(with_additionals(*records)).edns
+        # An OPT record as an answer or as an authority.
+        for counts in ["000100000000", "000000010000", "000100000001", "000000010001"]:
+            message = Message.from_wire(bytes.fromhex("000080000000" + counts) + 2 * opt("00", ""))
+            for fails in [lambda: message.edns, lambda: message.response_code, message.to_wire]:
+                self.assertRaises(dnw.OutsideAdditionals, fails)
 
     def test_fields_that_are_none(self):
         for kind, data, failure in [

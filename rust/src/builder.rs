@@ -382,9 +382,9 @@ impl MessageBuilder {
     ///
     /// # Errors
     ///
-    /// `MessageTooLong` if the header and the OPT record have more than `max_size` octets; `DuplicateEdns` if a record that was
-    /// added is another OPT record; as [`Record::fields`](crate::Record::fields) if a record was made of octets that are no data of
-    /// its type; or `NoMemory`.
+    /// `MessageTooLong` if the header and the OPT record have more than `max_size` octets; `OutsideAdditionals` if a record that was
+    /// added to the answers or the authorities is an OPT record; `DuplicateEdns` if one that was added is a second OPT record; as
+    /// [`Record::fields`](crate::Record::fields) if a record was made of octets that are no data of its type; or `NoMemory`.
     ///
     /// ```
     /// use dns_names_wire::{ErrorKind, Message, MessageBuilder, Name, RecordType, Texts, RData};

@@ -230,12 +230,14 @@ pub enum ErrorKind {
     TooFewLabels,
     /// Data of a record of more than 65535 octets, or a character string of more than 255, that is to be written.
     DataTooLong,
+    /// An OPT record among the answers or the authorities of a message.
+    OutsideAdditionals,
     /// Another failure, by its number in `dns_names_wire.h`.
     Other(u32),
 }
 
 /// The failures of the C library that this crate names, each with its number in `dns_names_wire.h`.
-const NUMBERS: [(u32, ErrorKind); 31] = [
+const NUMBERS: [(u32, ErrorKind); 32] = [
     (1, ErrorKind::NoMemory),
     (3, ErrorKind::MessageCut),
     (4, ErrorKind::PointerNotBack),
@@ -267,6 +269,7 @@ const NUMBERS: [(u32, ErrorKind); 31] = [
     (37, ErrorKind::NotCovered),
     (38, ErrorKind::TooFewLabels),
     (39, ErrorKind::DataTooLong),
+    (40, ErrorKind::OutsideAdditionals),
 ];
 
 impl ErrorKind {

@@ -160,8 +160,8 @@ impl<'a> Message<'a> {
     ///
     /// # Errors
     ///
-    /// `DuplicateEdns` if there are two OPT records or more; `OwnerNotRoot` if the only one is not owned by the root; and
-    /// `CutOption` if its data are not options up to their end.
+    /// `OutsideAdditionals` if an OPT record is among the answers or the authorities; `DuplicateEdns` if there are two or more;
+    /// `OwnerNotRoot` if the only one is not owned by the root; and `CutOption` if its data are not options up to their end.
     ///
     /// ```
     /// use dns_names_wire::Message;
@@ -188,10 +188,12 @@ impl<'a> Message<'a> {
 
     /// What is said by EDNS, and the offset of the options; nothing without an OPT record.
     fn read_edns(&self) -> Result<Option<(door::Edns, usize)>, Error> {
-        let mut records = self.additionals().filter(|record| record.record_type() == RecordType::OPT);
+        let is_opt = |record: &Record| record.record_type() == RecordType::OPT;
+        let is_outside = self.answers().chain(self.authorities()).any(|record| is_opt(&record));
+        let mut records = self.additionals().filter(is_opt);
         let opt = match (records.next(), records.next()) {
-            (None, _) => return Ok(None),
-            (Some(opt), None) if self.octets.get(opt.owner().start()) == Some(&0) => opt,
+            (None, _) if !is_outside => return Ok(None),
+            (Some(opt), None) if !is_outside && self.octets.get(opt.owner().start()) == Some(&0) => opt,
             _ => {
                 let read = door::read_edns(self.octets, self.max_pointers)?;
                 return Ok(Some((read.clone(), read.options_offset)));

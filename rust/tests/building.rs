@@ -178,6 +178,8 @@ fn what_fails_leaves_a_message_unchanged() {
     // As a second OPT record is.
     let opt = RecordBuf::from_octets(&root, RecordType::OPT, Class::from(512), 0, b"").unwrap();
     assert_eq!(message.clone().additionals([&opt, &opt]).finish(512).unwrap_err().kind(), ErrorKind::DuplicateEdns);
+    assert_eq!(message.clone().answers([&opt]).finish(512).unwrap_err().kind(), ErrorKind::OutsideAdditionals);
+    assert_eq!(message.clone().authorities([&opt]).finish(512).unwrap_err().kind(), ErrorKind::OutsideAdditionals);
     assert_eq!(
         message.edns(&Edns::new(512)).additionals([opt]).finish(512).unwrap_err().kind(),
         ErrorKind::DuplicateEdns

@@ -219,6 +219,14 @@ fn edns_breaks_its_rules() {
     assert_eq!(kind(&[]), Ok(()));
     assert_eq!(kind(&[opt("00", "")]), Ok(()));
     assert_eq!(kind(&[opt("00", ""), opt("00", "")]), Err(ErrorKind::DuplicateEdns));
+    // An OPT record as an answer or as an authority.
+    for counts in ["0001 0000 0000", "0000 0001 0000", "0001 0000 0001", "0000 0001 0001"] {
+        let octets = octets(&format!("0000 8000 0000 {counts} {}", [opt("00", ""), opt("00", "")].concat()));
+        let message = Message::read(&octets).unwrap();
+        assert_eq!(message.edns().map(|_| ()).map_err(Error::kind), Err(ErrorKind::OutsideAdditionals));
+        assert_eq!(message.response_code().unwrap_err().number(), 40);
+        assert_eq!(message.to_wire(512).unwrap_err().kind(), ErrorKind::OutsideAdditionals);
+    }
     assert_eq!(kind(&[opt("016100", "")]), Err(ErrorKind::OwnerNotRoot));
     assert_eq!(kind(&[opt("00", "00030001")]), Err(ErrorKind::CutOption));
     // A size below 512 counts as 512 (RFC 6891, section 6.2.3).

@@ -154,8 +154,8 @@ pub use Rattle.dnw_header.specs.Headers.{TakesHeader, flag, flags_of, header_of,
 pub use Rattle.dnw_header.specs.OpCodes.{op_code, op_entry, op_of_code}
 pub use Rattle.dnw_header.specs.ResponseCodes.{response_code, response_entry, response_of_code}
 pub use Rattle.dnw_header.specs.Responses.{response_to}
-pub use Rattle.dnw_message.specs.Edns.{EdnsValue, FailsEdns, FailsOpt, HasEdns, HasOpt, HasOptions, IsEdns, IsResponseCode, OptionValue}
-pub use Rattle.dnw_message.specs.Edns.{first_option, is_opt, opts_in}
+pub use Rattle.dnw_message.specs.Edns.{EdnsValue, FailsEdns, FailsOnlyOpt, FailsOpt, HasEdns, HasOpt, HasOptions, IsEdns, IsResponseCode, OptionValue}
+pub use Rattle.dnw_message.specs.Edns.{OptsAre, first_option, is_opt, opts_in, opts_outside}
 pub use Rattle.dnw_message.specs.MessageLaws.{MessagesDontFail, OneMessage, OneMessageError}
 pub use Rattle.dnw_message.specs.Messages.{FailsHere, FailsItem, FailsMessage, FailsWithin, Item, ItemAt, ItemsAt, MessageAt, MessageValue}
 pub use Rattle.dnw_message.specs.Messages.{QueryValue, SectionAt, SectionsBegin, no_header, part, question_rest, record_rest, rest_of}

@@ -29,7 +29,10 @@ enum Refusal {
     /// A message was refused.
     #[error("refused: {0}")]
     Message(MessageError),
-    /// What a message says by EDNS was refused.
+    /// An `OPT` record is outside the additional section.
+    #[error("refused: {0}")]
+    Outside(EdnsError),
+    /// What the additional section says by EDNS was refused.
     #[error("refused: Additionals from offset {offset} on: {error}")]
     Edns {
         /// The offset at which the additional records begin.

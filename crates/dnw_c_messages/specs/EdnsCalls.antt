@@ -7,7 +7,7 @@ use Rattle.dnw_message.specs.Edns.{EdnsValue, FailsEdns, HasEdns, IsResponseCode
 use Rattle.dnw_message.specs.Messages.{FailsMessage, MessageAt, MessageValue}
 use Rattle.dnw_header.specs.ResponseCodes.{response_code}
 use Rattle.dnw_message.specs.declared.edns.EdnsError.{EdnsError}
-use Rattle.dnw_message.specs.declared.edns.EdnsError.TheVariants.{CutOption, DuplicateEdns, OwnerNotRoot}
+use Rattle.dnw_message.specs.declared.edns.EdnsError.TheVariants.{CutOption, DuplicateEdns, OutsideAdditionals, OwnerNotRoot}
 use Rattle.dnw_message.specs.declared.error.MessageError.{MessageError}
 use Rattle.dnw_header.specs.declared.response_code.ResponseCode.{ResponseCode}
 use Rattle.dnw_c_messages.specs.MessageCalls.{of_message}
@@ -39,6 +39,7 @@ abbrev pub IsRead : MessageValue → ReadEdns → Type 0
 IsRead m found = (e : Option EdnsValue) × (code : ResponseCode) × HasEdns m e × IsResponseCode m code × (found ≡ read_edns e code)
 
 abbrev pub of_edns : EdnsError → Failure
+of_edns OutsideAdditionals = why.OutsideAdditionals
 of_edns DuplicateEdns = why.DuplicateEdns
 of_edns OwnerNotRoot = why.OwnerNotRoot
 of_edns CutOption = why.CutOption

@@ -88,6 +88,7 @@ pub(crate) fn of_edns(error: EdnsError) -> Failure
     ensures { result ≡ of_edns error }
 {
     match error {
+        EdnsError::OutsideAdditionals => Failure::OutsideAdditionals,
         EdnsError::DuplicateEdns => Failure::DuplicateEdns,
         EdnsError::OwnerNotRoot => Failure::OwnerNotRoot,
         EdnsError::CutOption => Failure::CutOption,

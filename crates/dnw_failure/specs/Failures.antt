@@ -55,6 +55,7 @@ failure_entry why.NotRrsig = entry 36 (codes "the record is no RRSIG")
 failure_entry why.NotCovered = entry 37 (codes "the RRSIG covers none of the records")
 failure_entry why.TooFewLabels = entry 38 (codes "the owner has fewer labels than the RRSIG counts")
 failure_entry why.DataTooLong = entry 39 (codes "the data of a record, or a text in them, are too long")
+failure_entry why.OutsideAdditionals = entry 40 (codes "an OPT record is outside the additional section")
 
 abbrev pub number : Failure → ℕ
 number failure = (failure_entry failure).code

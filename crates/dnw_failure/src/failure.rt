@@ -86,6 +86,8 @@ pub enum Failure {
     TooFewLabels,
     /// The data of a record, with their names whole, are longer than two octets can say.
     DataTooLong,
+    /// An `OPT` record is among the answers or the authorities.
+    OutsideAdditionals,
 }
 
 /// The table of the failures: each with its number in C and a text about it. The rule that is named gets the rows, after
@@ -132,6 +134,7 @@ macro_rules! failures {
             NotCovered = 37, "the RRSIG covers none of the records";
             TooFewLabels = 38, "the owner has fewer labels than the RRSIG counts";
             DataTooLong = 39, "the data of a record, or a text in them, are too long";
+            OutsideAdditionals = 40, "an OPT record is outside the additional section";
         }
     };
 }

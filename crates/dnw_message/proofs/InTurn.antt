@@ -1,7 +1,8 @@
 -- Items that follow one another, and where they are.
-use Rattle.std.proofs.Common.{◌≡◌, ℕ, zero, suc, ◌+◌, ◌-◌, ◌<◌, Option, List, [], ◌∷◌, ◌++◌, length, length-append, None, refl, sym, ap, ◌∙◌, subst, arith}
+use Rattle.std.proofs.Common.{◌≡◌, ℕ, zero, suc, ◌+◌, ◌-◌, ◌<◌, Bool, true, false, ◌||◌, Option, List, [], ◌∷◌, ◌++◌, length, length-append, None, refl, sym, ap, ◌∙◌, subst, arith}
 use Rattle.std.specs.Int.{w16, from_be_bytes}
 use Rattle.std.proofs.lemmas.Bool.{ne_eqb, le-leb, lt-leb}
+use Rattle.std.proofs.lemmas.List.Folds.{list_any-append}
 use Rattle.std.proofs.lemmas.Option.{get_or_from_slice_get}
 use Rattle.dnw_codes.specs.declared.record_type.RecordType.{RecordType}
 use Rattle.dnw_codes.specs.declared.dns_class.DNSClass.{DNSClass}
@@ -15,25 +16,24 @@ use Rattle.dnw_message.specs.Queries.{TakesQuery}
 use Rattle.dnw_message.specs.declared.error.MessageError.{MessageError}
 use Rattle.dnw_message.specs.declared.error.Section.{Section}
 use Rattle.dnw_message.specs.Inside.Kept.{AreLeft, end_in_steps, item_at, item_end, items_in, name_end}
-use Rattle.dnw_message.specs.Inside.Passing.{FailsOne, PassesItem, PassesItems}
+use Rattle.dnw_message.specs.Inside.Passing.{FailsOne, PassesItem, PassesItems, any_opt, opt_at}
 
 -- ---- one item
 
 -- a decoder that takes a name, and moves past what follows it
-pub item-passed : (rest : Rest) (d at after : Decoder) (ls : List (List ℕ)) (k : ℕ) → TakesName d at ls k
-    → HasLeft at (rest at.bytes at.index) → after ≡ advanced at (rest at.bytes at.index)
-    → (x : Item) × ItemAt rest d.bytes d.index x after.index k × (after ≡ record { bytes = d.bytes; index = after.index })
-    × (x ≡ record { labels = ls; name_end = at.index })
-item-passed rest d at after ls k h room is =
+pub item-passed : (s : Section) (d at after : Decoder) (ls : List (List ℕ)) (k : ℕ) (found : Bool) → TakesName d at ls k
+    → HasLeft at (rest_of s at.bytes at.index) → after ≡ advanced at (rest_of s at.bytes at.index) → found ≡ opt_at s at.bytes at.index
+    → (x : Item) × ItemAt (rest_of s) d.bytes d.index x after.index k × (after ≡ record { bytes = d.bytes; index = after.index })
+    × (found ≡ opt_at s d.bytes x.name_end)
+item-passed s d at after ls k found h room is found_is =
     let moved = h.moved in
     let inside = rw moved at room in
-    let there : after ≡ record { bytes = d.bytes; index = h.end + rest d.bytes h.end } = rw moved at is in
-    let ends : after.index ≡ h.end + rest d.bytes h.end = ap (λ (x : Decoder). x.index) there in
-    let at_end : h.end ≡ at.index = sym (ap (λ (x : Decoder). x.index) moved) in (
+    let there : after ≡ record { bytes = d.bytes; index = h.end + rest_of s d.bytes h.end } = rw moved at is in
+    let ends : after.index ≡ h.end + rest_of s d.bytes h.end = ap (λ (x : Decoder). x.index) there in (
       record { labels = ls; name_end = h.end },
       record { name = h.name; ends = ends; inside = omega (arith, inside, ends) },
       there ∙ ap (λ i. record { bytes = d.bytes; index = i }) (sym ends),
-      ap (λ i. record { labels = ls; name_end = i }) at_end,
+      rw moved at found_is,
     )
 
 same-query : (ls : List (List ℕ)) (kind kind' : RecordType) (class class' : DNSClass) → kind ≡ kind' → class ≡ class'
@@ -74,22 +74,34 @@ items-more {rest} {b} {p} {q} {e} {j} {k} {xs} {x} (one_more {j = i} {k = l} {x 
 
 -- ---- the walk
 
-pub passes-more : (rest : Rest) (n : ℕ) (d m a : Decoder) (left now after : ℕ) → PassesItems rest n d m left now → PassesItem rest m a now after
-    → PassesItems rest (n + 1) d a left after
-passes-more rest n d m a left now after h one =
+or-false : (b : Bool) → b ≡ (b || false)
+or-false true = refl
+or-false false = refl
+
+found-more : (s : Section) (b b' : List ℕ) (xs : List Item) (x : Item) (found is : Bool) → b ≡ b' → found ≡ any_opt s b' xs → is ≡ opt_at s b x.name_end
+    → (found || is) ≡ any_opt s b' (xs ++ x ∷ [])
+found-more s b b' xs x found is same h one =
+    let last = one ∙ ap (λ c. opt_at s c x.name_end) same ∙ or-false (opt_at s b' x.name_end) in
+    rw (h, last) (sym (list_any-append (λ (y : Item). opt_at s b' y.name_end) xs (x ∷ [])))
+
+pub passes-more : (s : Section) (n : ℕ) (d m a : Decoder) (left now after : ℕ) (found is : Bool) → PassesItems s n d m left now found
+    → PassesItem s m a now after is → PassesItems s (n + 1) d a left after (found || is)
+passes-more s n d m a left now after found is h one =
+    let rest = rest_of s in
     let at : ItemAt rest d.bytes m.index one.item a.index one.pointers = subst (λ b. ItemAt rest b m.index one.item a.index one.pointers) h.same one.at in
     record {
       items = h.items ++ one.item ∷ [];
       pointers = h.pointers + one.pointers;
       at = items-more h.at at;
       counted = omega (arith, length-append h.items (one.item ∷ []), h.counted);
+      found_is = found-more s m.bytes d.bytes h.items one.item found is h.same h.found_is one.found_is;
       taken = omega (arith, h.taken, one.taken);
       same = one.same ∙ h.same;
     }
 
-pub fails-within : (section : Section) (n count : ℕ) (d m : Decoder) (left now : ℕ) (error : MessageError) → n < count
-    → PassesItems (rest_of section) n d m left now → FailsOne section n m now error → FailsWithin d.bytes d.index (part section count) left error
-fails-within section n count d m left now error less h fails =
+pub fails-within : (section : Section) (n count : ℕ) (d m : Decoder) (left now : ℕ) (found : Bool) (error : MessageError) → n < count
+    → PassesItems section n d m left now found → FailsOne section n m now error → FailsWithin d.bytes d.index (part section count) left error
+fails-within section n count d m left now found error less h fails =
     let left_is : left - h.pointers ≡ now = omega (arith, h.taken) in
     let why = rw h.same at fails.why in
     record {

@@ -3,3 +3,4 @@ pub mod Whole
 pub mod Lending
 pub mod OneMessage
 pub mod Extension
+pub mod OptCodes

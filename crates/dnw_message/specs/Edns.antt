@@ -1,12 +1,12 @@
--- EDNS: an OPT record in the additional section (RFC 6891, section 6.1).
-use Rattle.std.specs.Prelude.{◌≡◌, ◌≢◌, ℕ, ◌+◌, ◌*◌, ◌/◌, ◌%◌, ◌^◌, ◌≤◌, ◌==◌, max, nat_le, if◌then◌else◌, Bool, true, false, Option, Some, None, List, [], ◌∷◌, filter, length, drop, slice_range, ◌⊎◌}
+-- EDNS: an OPT record in the additional section, and in no other (RFC 6891, section 6.1).
+use Rattle.std.specs.Prelude.{◌≡◌, ◌≢◌, ℕ, ◌+◌, ◌*◌, ◌/◌, ◌%◌, ◌^◌, ◌≤◌, ◌==◌, ◌++◌, max, nat_le, if◌then◌else◌, Bool, true, false, Option, Some, None, List, [], ◌∷◌, filter, length, drop, slice_range, ◌⊎◌}
 use Rattle.std.specs.Int.{bit_at}
 use Rattle.dnw_codes.specs.declared.record_type.RecordType.{RecordType}
 use Rattle.dnw_codes.specs.declared.record_type.RecordType.TheVariants.{OPT}
 use Rattle.dnw_codes.specs.DnsClasses.{class_code, min_payload}
 use Rattle.dnw_record.specs.Records.{RecordValue, data_octets, number_at}
 use Rattle.dnw_message.specs.declared.edns.EdnsError.{EdnsError}
-use Rattle.dnw_message.specs.declared.edns.EdnsError.TheVariants.{CutOption, DuplicateEdns, OwnerNotRoot}
+use Rattle.dnw_message.specs.declared.edns.EdnsError.TheVariants.{CutOption, DuplicateEdns, OutsideAdditionals, OwnerNotRoot}
 use Rattle.dnw_header.specs.declared.response_code.ResponseCode.{ResponseCode}
 use Rattle.dnw_header.specs.ResponseCodes.{response_code, response_of_code}
 use Rattle.dnw_message.specs.Messages.{MessageValue}
@@ -60,6 +60,7 @@ IsEdns r e =
 
 -- The record is not owned by the root, or its data are no options.
 abbrev pub FailsOpt : RecordValue → EdnsError → Type 0
+FailsOpt r OutsideAdditionals = ⊥
 FailsOpt r DuplicateEdns = ⊥
 FailsOpt r OwnerNotRoot = r.owner ≢ []
 FailsOpt r CutOption = (r.owner ≡ []) × (¬ (HasOptions (data_octets r)))
@@ -74,26 +75,38 @@ is_opt kind = false
 abbrev pub opts_in : List RecordValue → List RecordValue
 opts_in records = filter (λ r. is_opt r.record_type) records
 
--- What a message says by EDNS: nothing without an OPT record in the additional section.
-abbrev pub HasEdns : MessageValue → Option EdnsValue → Type 0
-HasEdns m None = opts_in m.additionals ≡ []
-HasEdns m (Some e) = (r : RecordValue) × (opts_in m.additionals ≡ r ∷ []) × IsEdns r e
+-- the OPT records outside the additional section
+abbrev pub opts_outside : MessageValue → List RecordValue
+opts_outside m = opts_in (m.answers ++ m.authorities)
 
--- the only OPT record in the additional section, if there is one
+-- All OPT records of a message are in its additional section, and they are these.
+abbrev pub OptsAre : MessageValue → List RecordValue → Type 0
+OptsAre m opts = (opts_outside m ≡ []) × (opts_in m.additionals ≡ opts)
+
+-- What a message says by EDNS: nothing without an OPT record.
+abbrev pub HasEdns : MessageValue → Option EdnsValue → Type 0
+HasEdns m None = OptsAre m []
+HasEdns m (Some e) = (r : RecordValue) × OptsAre m (r ∷ []) × IsEdns r e
+
+-- the only OPT record of a message, if there is one
 abbrev pub IsOnlyOpt : MessageValue → Option RecordValue → Type 0
-IsOnlyOpt m None = opts_in m.additionals ≡ []
-IsOnlyOpt m (Some r) = opts_in m.additionals ≡ r ∷ []
+IsOnlyOpt m None = OptsAre m []
+IsOnlyOpt m (Some r) = OptsAre m (r ∷ [])
 
 -- It is there, and it is not broken; or there is none.
 abbrev pub HasOpt : MessageValue → Option RecordValue → Type 0
-HasOpt m None = opts_in m.additionals ≡ []
-HasOpt m (Some r) = (opts_in m.additionals ≡ r ∷ []) × (e : EdnsValue) × IsEdns r e
+HasOpt m None = OptsAre m []
+HasOpt m (Some r) = OptsAre m (r ∷ []) × (e : EdnsValue) × IsEdns r e
 
--- There are two or more, or the only one fails.
+-- OPT records are where none may be, or too many: outside the additional section, or two or more in it.
+abbrev pub FailsOnlyOpt : MessageValue → EdnsError → Type 0
+FailsOnlyOpt m error =
+    ((opts_outside m ≢ []) × (error ≡ OutsideAdditionals))
+    ⊎ ((opts_outside m ≡ []) × (2 ≤ length (opts_in m.additionals)) × (error ≡ DuplicateEdns))
+
+-- So it is, or the only one breaks a rule.
 abbrev pub FailsEdns : MessageValue → EdnsError → Type 0
-FailsEdns m error =
-    ((2 ≤ length (opts_in m.additionals)) × (error ≡ DuplicateEdns))
-    ⊎ ((r : RecordValue) × (opts_in m.additionals ≡ r ∷ []) × FailsOpt r error)
+FailsEdns m error = FailsOnlyOpt m error ⊎ ((r : RecordValue) × OptsAre m (r ∷ []) × FailsOpt r error)
 
 abbrev pub high_bits : Option EdnsValue → ℕ
 high_bits None = 0

@@ -1,6 +1,7 @@
 //! Extension mechanisms for DNS, version 0 (RFC 6891).
 ghost use Rattle.std.specs.Prelude.{◌≡◌, ◌↔◌, [], ◌∷◌, Some, None, IsTrue, IfOk, IfErr, MatchOption};
 ghost use Rattle.std.specs.Iterator.{YieldsFirst, item_count};
+ghost use Rattle.dnw_codes.specs.RecordTypes.{type_of_code};
 ghost use Rattle.dnw_message.specs.Edns.{EdnsValue, FailsOpt, HasOptions, IsEdns, OptionValue, first_option, is_opt, opts_in};
 ghost use Rattle.dnw_message.specs.Inside.Options.{options_of};
 
@@ -13,9 +14,15 @@ use thiserror::Error;
 /// The least size of a message that a sender can be taken to accept, in octets (RFC 6891, section 6.2.3).
 const MIN_PAYLOAD: u16 = 512;
 
+/// The code of the type `OPT` (RFC 6891, section 6.1.1).
+const OPT_CODE: u16 = 41;
+
 /// Why the EDNS of a message breaks a rule.
 #[derive(Debug, Clone, Copy, PartialEq, Eq, Error)]
 pub enum EdnsError {
+    /// An `OPT` record outside the additional section (RFC 6891, section 6.1.1).
+    #[error("OPT record outside the additional section")]
+    OutsideAdditionals,
     /// More than one `OPT` record in the additional section (RFC 6891, section 6.1.1).
     #[error("more than one OPT record")]
     DuplicateEdns,
@@ -254,6 +261,13 @@ pub(crate) fn next_opt<'m>(records: &mut Records<'m>) -> Option<RecordRef<'m>>
             return Some(record);
         }
     }
+}
+
+/// Returns `true` for the code of `OPT`. It does not look a type up.
+pub(crate) fn is_opt_code(code: u16) -> bool
+    ensures { result ≡ is_opt (type_of_code code) }
+{
+    code == OPT_CODE
 }
 
 /// Returns `true` for `OPT`.

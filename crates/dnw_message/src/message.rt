@@ -1,7 +1,8 @@
 //! Messages, which are read without copying.
-ghost use Rattle.std.specs.Prelude.{◌≡◌, ℕ, ◌<◌, ◌≤◌, length, drop, slice_range, IfOk, IfErr};
+ghost use Rattle.std.specs.Prelude.{◌≡◌, [], ℕ, ◌<◌, ◌≤◌, length, drop, slice_range, IfOk, IfErr};
+ghost use Rattle.std.specs.Bool.{FalseIff};
 ghost use Rattle.dnw_header.specs.Headers.{header_of, header_size};
-ghost use Rattle.dnw_message.specs.Edns.{FailsEdns, HasEdns, HasOpt, IsOnlyOpt, IsResponseCode, opts_in};
+ghost use Rattle.dnw_message.specs.Edns.{FailsEdns, FailsOnlyOpt, HasEdns, HasOpt, IsOnlyOpt, IsResponseCode, opts_outside};
 ghost use Rattle.dnw_message.specs.Messages.{MessageAt, FailsMessage, SectionsBegin, no_header};
 
 use crate::edns::{EdnsError, EdnsRef, next_opt};
@@ -43,6 +44,7 @@ pub struct MessageRef<'m> {
     authorities: usize,
     additionals: usize,
     end: usize,
+    opt_outside: bool,
 }
 
 impl<'m> Model for MessageRef<'m> {
@@ -53,7 +55,7 @@ impl<'m> Model for MessageRef<'m> {
 
     ghost view = { λ m. message_in m.message.now m.header m.answers m.authorities m.additionals m.end };
 
-    ghost invariant = { λ m. IsKept m.message.now m.header m.answers m.authorities m.additionals m.end };
+    ghost invariant = { λ m. IsKept m.message.now m.header m.answers m.authorities m.additionals m.end m.opt_outside };
 }
 
 impl<'m> MessageRef<'m> {
@@ -83,9 +85,9 @@ impl<'m> MessageRef<'m> {
         let mut reader = reader_at(octets, Header::LEN);
         pass_section(&mut reader, Section::Queries, counts.queries, &mut left)?;
         let answers = reader.index();
-        pass_section(&mut reader, Section::Answers, counts.answers, &mut left)?;
+        let in_answers = pass_section(&mut reader, Section::Answers, counts.answers, &mut left)?;
         let authorities = reader.index();
-        pass_section(
+        let in_authorities = pass_section(
             &mut reader,
             Section::Authorities,
             counts.authorities,
@@ -105,6 +107,7 @@ impl<'m> MessageRef<'m> {
             authorities,
             additionals,
             end: reader.index(),
+            opt_outside: in_answers | in_authorities,
         })
     }
 
@@ -156,10 +159,11 @@ impl<'m> MessageRef<'m> {
         )
     }
 
-    /// Returns what the message says by EDNS, or `None` without an `OPT` record in the additional section (RFC 6891).
+    /// Returns what the message says by EDNS, or `None` without an `OPT` record (RFC 6891).
     ///
-    /// It fails with `DuplicateEdns` if there are two or more, with `OwnerNotRoot` if the only one is not owned by the root, or
-    /// else with `CutOption` if its data are not options up to their end.
+    /// It fails with `OutsideAdditionals` if an `OPT` record is among the answers or the authorities, with `DuplicateEdns` if
+    /// there are two or more, with `OwnerNotRoot` if the only one is not owned by the root, or else with `CutOption` if its data
+    /// are not options up to their end.
     pub fn edns(&self) -> Result<Option<EdnsRef<'m>>, EdnsError>
         ensures ok { IfOk result (HasEdns self.now) }
         ensures err { IfErr result (FailsEdns self.now) }
@@ -170,7 +174,7 @@ impl<'m> MessageRef<'m> {
         Ok(Some(EdnsRef::read(&opt)?))
     }
 
-    /// Returns the `OPT` record in the additional section, if there is one (RFC 6891, section 6.1.1). It fails as `edns` does.
+    /// Returns the `OPT` record of the message, if there is one (RFC 6891, section 6.1.1). It fails as `edns` does.
     pub fn opt(&self) -> Result<Option<RecordRef<'m>>, EdnsError>
         ensures ok { IfOk result (HasOpt self.now) }
         ensures err { IfErr result (FailsEdns self.now) }
@@ -185,8 +189,11 @@ impl<'m> MessageRef<'m> {
     /// Returns the only `OPT` record, whatever its options are.
     fn only_opt(&self) -> Result<Option<RecordRef<'m>>, EdnsError>
         ensures ok { IfOk result (IsOnlyOpt self.now) }
-        ensures err { IfErr result (λ error. (2 ≤ length (opts_in self.now.additionals)) × (error ≡ EdnsError.DuplicateEdns)) }
+        ensures err { IfErr result (FailsOnlyOpt self.now) }
     {
+        if self.has_opt_outside() {
+            return Err(EdnsError::OutsideAdditionals);
+        }
         let mut records = self.additionals();
         let Some(opt) = next_opt(&mut records) else {
             return Ok(None);
@@ -195,6 +202,14 @@ impl<'m> MessageRef<'m> {
             return Err(EdnsError::DuplicateEdns);
         }
         Ok(Some(opt))
+    }
+
+    /// Returns `true` if an `OPT` record is among the answers or the authorities.
+    #[inline(always)]
+    fn has_opt_outside(&self) -> bool
+        ensures { FalseIff result (opts_outside self.now ≡ []) }
+    {
+        self.opt_outside
     }
 
     /// Returns the response code, with the high bits that EDNS has (RFC 6891, section 6.1.3). It fails as `edns` does.

@@ -9,7 +9,7 @@ use Rattle.dnw_record.specs.Records.{RecordValue}
 use Rattle.dnw_rdata.specs.declared.record.Record.{Record}
 use Rattle.dnw_rdata.specs.AnyRecords.{EmitsAnyRecord, EmitsCopyOf, HasFields, IsCopyOf}
 use Rattle.dnw_rdata.proofs.WrittenCopies.{some-copy}
-use Rattle.dnw_message.specs.Edns.{is_opt, opts_in}
+use Rattle.dnw_message.specs.Edns.{is_opt, opts_in, opts_outside}
 use Rattle.dnw_message.specs.Messages.{MessageValue, QueryValue}
 use Rattle.dnw_header.specs.declared.header.Header.{Header}
 use Rattle.dnw_header.specs.declared.header.Metadata.{Metadata}
@@ -112,11 +112,11 @@ ends-with (Some r) metadata most entries outcomes header start d f bytes small (
     (messages_end_with metadata most entries outcomes r header start d f (Ok tt) small (omega (arith, room)) first adds last).0 bytes done
 
 pub whole-copied : (m : MessageValue) (most : ℕ) (last : Option Record) (header : Header) (start : Encoder) (q a u d f : Draft) (bytes : List ℕ) → most ≤ 65535
-    → IsLastOf (opts_in m.additionals) last → BeginsBefore last m.header.metadata most (fresh [] 0) header start
+    → opts_outside m ≡ [] → IsLastOf (opts_in m.additionals) last → BeginsBefore last m.header.metadata most (fresh [] 0) header start
     → AddsItems (map query_entry m.queries) (record { header = header; encoder = start }) q → AddsCopies Answers m.answers q a
     → AddsCopies Authorities m.authorities a u → AddsCopies Additionals (plain_in m.additionals) u d → AddsLast last most d (Ok tt) f → Ends f bytes
     → IsCopied m most bytes
-whole-copied m most last header start q a u d f bytes small last_is first queries (ans, ans_are, answers) (us, us_are, authorities) (ds, ds_are, additionals) ending done =
+whole-copied m most last header start q a u d f bytes small none_outside last_is first queries (ans, ans_are, answers) (us, us_are, authorities) (ds, ds_are, additionals) ending done =
     let from : Draft = record { header = header; encoder = start } in
     let (outcomes, all, settled) = items-append (map query_entry m.queries) (ans ++ (us ++ ds)) from q d queries
     (items-append ans (us ++ ds) q a d answers (items-append us ds a u d authorities additionals)) in
@@ -129,6 +129,7 @@ whole-copied m most last header start q a u d f bytes small last_is first querie
       answers_are = ans_are;
       authorities_are = us_are;
       additionals_are = ds_are;
+      none_outside = none_outside;
       last_is = last_is;
       written = ends-with last m.header.metadata most (map query_entry m.queries ++ (ans ++ (us ++ ds))) outcomes header start d f bytes small first all ending done;
       settled = settled;

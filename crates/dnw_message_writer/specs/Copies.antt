@@ -11,7 +11,7 @@ use Rattle.dnw_rdata.specs.DataPieces.{kinds_of}
 use Rattle.dnw_rdata.specs.DataCopies.{FailsToCopy, data_start}
 use Rattle.dnw_rdata.specs.AnyRecords.{IsCopyOf, name_of}
 use Rattle.dnw_rdata.specs.AnyRecordLaws.{any_record_size}
-use Rattle.dnw_message.specs.Edns.{FailsEdns, is_opt, opts_in}
+use Rattle.dnw_message.specs.Edns.{FailsEdns, is_opt, opts_in, opts_outside}
 use Rattle.dnw_header.specs.Headers.{header_size}
 use Rattle.dnw_message.specs.Messages.{MessageValue, QueryValue}
 use Rattle.dnw_header.specs.declared.header.Header.{Header}
@@ -94,7 +94,8 @@ WrittenBefore None metadata most entries outcomes bytes = Written metadata most 
 WrittenBefore (Some last) metadata most entries outcomes bytes = WrittenWith metadata most entries outcomes last bytes
 
 -- The octets are a copy of a message: it has the metadata, and of the questions and the records, in their sections and order,
--- each that has room. Memory ran out for none. The OPT record is the last, and octets were held back for it.
+-- each that has room. Memory ran out for none. The OPT record is the last, and octets were held back for it; none is outside
+-- the additional section.
 pub record IsCopied (m : MessageValue) (most : ℕ) (bytes : List ℕ) : Type 0 where
   pub answers : List Entry
   pub authorities : List Entry
@@ -104,6 +105,7 @@ pub record IsCopied (m : MessageValue) (most : ℕ) (bytes : List ℕ) : Type 0 
   pub answers_are : AllZip (IsEntryOf Answers) m.answers answers
   pub authorities_are : AllZip (IsEntryOf Authorities) m.authorities authorities
   pub additionals_are : AllZip (IsEntryOf Additionals) (plain_in m.additionals) additionals
+  pub none_outside : opts_outside m ≡ []
   pub last_is : IsLastOf (opts_in m.additionals) last
   pub written : WrittenBefore last m.header.metadata most (map query_entry m.queries ++ (answers ++ (authorities ++ additionals))) outcomes bytes
   pub settled : AllByRecursion IsSettled outcomes
@@ -124,7 +126,7 @@ FailsCopies xs (Data offset error) = (x : RecordValue) × IsAmong xs x × FailsC
 FailsCopies xs (Edns error) = ⊥
 FailsCopies xs (Proto error) = error ≡ Memory
 
--- The OPT record is not copied: there are two, or it breaks a rule of EDNS, or memory ran out.
+-- The OPT record is not copied: it breaks a rule of EDNS, or memory ran out.
 abbrev pub FailsLast : MessageValue → CopyError → Type 0
 FailsLast m (Data offset error) = FailsCopies m.additionals (Data offset error)
 FailsLast m (Edns error) = FailsEdns m error

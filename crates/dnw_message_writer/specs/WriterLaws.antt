@@ -50,8 +50,9 @@ abbrev pub EdnsComesBack : Type 0
 EdnsComesBack = (e : WireEdns) (r : Record) (x : RecordValue) → IsOptOf e r → RecordIsRead r x
     → (x.record_type ≡ OPT) × IsEdns x (edns_value e x.start x.len)
 
--- So a message that ends with this OPT record, and has no other in its additional section, is read with this EDNS.
+-- So a message that ends with this OPT record, and has no other, is read with this EDNS.
 abbrev pub MessagesHaveEdns : Type 0
 MessagesHaveEdns = (metadata : Metadata) (c : Contents) (last : Record) (e : WireEdns) (bytes : List ℕ) (m : MessageValue) (k : ℕ)
-    → Holds metadata (ending_with last c) bytes → IsOptOf e last → AllByRecursion IsNoOpt c.additionals → MessageAt bytes m k
+    → Holds metadata (ending_with last c) bytes → IsOptOf e last → AllByRecursion IsNoOpt c.answers → AllByRecursion IsNoOpt c.authorities
+    → AllByRecursion IsNoOpt c.additionals → MessageAt bytes m k
     → (start : ℕ) × (len : ℕ) × HasEdns m (Some (edns_value e start len))

@@ -25,7 +25,7 @@ pub fn written_messages_are_read()
 {}
 
 /// EDNS that is written is read as the same, with a payload size of at least 512: from its record, and from a message that
-/// ends with it and has no other `OPT` record among the additional ones.
+/// ends with it and has no other `OPT` record.
 pub fn edns_comes_back()
     ensures record { EdnsComesBack }
     ensures message { MessagesHaveEdns }

@@ -217,6 +217,39 @@ fn rules_of_edns(rt: HostRuntime) -> Result<(), Fail> {
     Ok(())
 }
 
+/// An `OPT` record as an answer or as an authority, alone or with one among the additional records, breaks the first rule of
+/// EDNS. It is a record of the message all the same.
+#[test]
+fn opt_is_an_additional_record(rt: HostRuntime) -> Result<(), Fail> {
+    for (section, answers, authorities) in [(7, 1, 0), (9, 0, 1)] {
+        // `TWO` as a message of one record, and as one of a record in each of two sections.
+        for additionals in [0, 1] {
+            let octets = with([(section, 1), (11, additionals)]);
+            let message = MessageRef::read(&octets)?;
+            assert_eq!(rt; message.answers().count(), answers);
+            assert_eq!(rt; message.authorities().count(), authorities);
+            assert_eq!(rt; message.additionals().count(), usize::from(additionals));
+            assert!(rt; matches!(message.edns(), Err(EdnsError::OutsideAdditionals)));
+            assert!(rt; matches!(message.opt(), Err(EdnsError::OutsideAdditionals)));
+            assert!(rt; matches!(message.response_code(), Err(EdnsError::OutsideAdditionals)));
+        }
+        // A record of another type in the section, and the `OPT` record among the additional ones.
+        let mut other = with([(section, 1), (11, 1)]);
+        other[14] = 0x2a;
+        assert!(rt; MessageRef::read(&other)?.edns()?.is_some());
+        // The `OPT` record in the section, before one of another type.
+        let mut first = with([(section, 2), (11, 0)]);
+        first[29] = 0x2a;
+        assert!(rt;
+            matches!(
+                MessageRef::read(&first)?.edns(),
+                Err(EdnsError::OutsideAdditionals)
+            )
+        );
+    }
+    Ok(())
+}
+
 #[test]
 fn opt_belongs_to_the_root(rt: HostRuntime) -> Result<(), Fail> {
     let octets =

@@ -433,5 +433,13 @@ fn messages_that_are_not_copied(rt: HostRuntime) -> Result<(), Fail> {
             Err(CopyError::Edns(EdnsError::DuplicateEdns))
         )
     );
+    // An `OPT` record as an authority.
+    let outside = b"\0\0\0\0\0\0\0\0\0\x01\0\0\0\0\x29\x02\0\0\0\0\0\0\0";
+    assert!(rt;
+        matches!(
+            copied(alloc, outside, 512),
+            Err(CopyError::Edns(EdnsError::OutsideAdditionals))
+        )
+    );
     Ok(())
 }

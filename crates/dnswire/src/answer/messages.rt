@@ -66,6 +66,9 @@ fn in_additionals<T: Drop>(
 ) -> Result<T, Refusal> {
     match found {
         Ok(found) => Ok(found),
+        Err(EdnsError::OutsideAdditionals) => {
+            Err(Refusal::Outside(EdnsError::OutsideAdditionals))
+        }
         Err(error) => Err(Refusal::Edns {
             offset: message.section_offsets().additionals,
             error,

@@ -1,10 +1,12 @@
 -- How the sections of a message are kept: where each begins, and how many items it has.
-use Rattle.std.specs.Prelude.{ℕ, zero, suc, ◌+◌, ◌≤◌, ◌==◌, nat_le, if◌then◌else◌, List, [], ◌∷◌, map, length, slice_index}
+use Rattle.std.specs.Prelude.{◌≡◌, ℕ, zero, suc, ◌+◌, ◌≤◌, ◌==◌, nat_le, if◌then◌else◌, Bool, List, [], ◌∷◌, ◌++◌, map, length, slice_index}
+use Rattle.std.specs.Bool.{FalseIff}
 use Rattle.dnw_base.specs.Limits.{max_label, max_labels}
 use Rattle.dnw_reading.specs.Inside.Found.{labels_at}
 use Rattle.dnw_record.specs.Records.{RecordValue}
 use Rattle.dnw_header.specs.declared.header.Header.{Header}
 use Rattle.dnw_header.specs.Headers.{header_size}
+use Rattle.dnw_message.specs.Edns.{opts_in}
 use Rattle.dnw_message.specs.Messages.{Item, ItemsAt, MessageValue, QueryValue, Rest, query_of, question_rest, record_in, record_rest}
 
 -- where the own octets of the name at p end, after at most n labels
@@ -58,13 +60,15 @@ message_in b h answers authorities additionals end = record {
   end = end;
 }
 
--- Each section of a message is left from its start on, and ends where the next one begins.
-pub record IsKept (b : List ℕ) (h : Header) (answers authorities additionals end : ℕ) : Type 0 where
+-- Each section of a message is left from its start on, and ends where the next one begins. The flag is set just if there are
+-- OPT records outside the additional section.
+pub record IsKept (b : List ℕ) (h : Header) (answers authorities additionals end : ℕ) (opt_outside : Bool) : Type 0 where
   pub queries : AreLeft question_rest b header_size h.counts.queries
   pub answers_left : AreLeft record_rest b answers h.counts.answers
   pub authorities_left : AreLeft record_rest b authorities h.counts.authorities
   pub additionals_left : AreLeft record_rest b additionals h.counts.additionals
   pub in_turn : EndAt question_rest b header_size h.counts.queries answers × EndAt record_rest b answers h.counts.answers authorities
       × EndAt record_rest b authorities h.counts.authorities additionals × EndAt record_rest b additionals h.counts.additionals end
+  pub outside : FalseIff opt_outside (opts_in (records_in b answers h.counts.answers ++ records_in b authorities h.counts.authorities) ≡ [])
   pub within : end ≤ length b
   pub starts : (header_size ≤ length b) × (answers ≤ length b) × (authorities ≤ length b) × (additionals ≤ length b)

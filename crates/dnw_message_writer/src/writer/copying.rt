@@ -3,7 +3,7 @@ ghost use Rattle.std.specs.Prelude.{◌≡◌, ◌∷◌, [], map, IfErr, IfOk, 
 ghost use Rattle.dnw_error.specs.declared.error.ProtoError.{ProtoError};
 ghost use Rattle.dnw_encoder.specs.EncoderValue.{value, lender};
 ghost use Rattle.dnw_rdata.specs.AnyRecords.{IsCopyOf};
-ghost use Rattle.dnw_message.specs.Edns.{is_opt, opts_in};
+ghost use Rattle.dnw_message.specs.Edns.{is_opt, opts_in, opts_outside};
 ghost use Rattle.dnw_message_writer.specs.Drafts.{Draft};
 ghost use Rattle.dnw_message_writer.specs.Copies.{AddsCopies, AddsCopy, AddsItems, BeginsBefore, FailsCopies, FailsCopy, FailsCopyOf, FailsLast};
 ghost use Rattle.dnw_message_writer.specs.Copies.{FailsToBegin, HasRecords, IsCopied, IsLastOf, IsSettled, plain_in, query_entry};
@@ -73,8 +73,8 @@ impl From<ProtoError> for CopyError {
 /// record, the copy is truncated (RFC 2181, section 9).
 ///
 /// An `OPT` record becomes the last record, and octets are held back for it, so that it is always there. It fails if the
-/// message has two, or one that breaks a rule of EDNS, or if the data of a record are no fields of its type, since names in
-/// them are written anew. Then the buffer is empty.
+/// message breaks a rule of EDNS, as `MessageRef::edns` reports it, or if the data of a record are no fields of its type, since
+/// names in them are written anew. Then the buffer is empty.
 pub fn copy(
     alloc: Global,
     buffer: &mut Vec<u8>,
@@ -129,7 +129,7 @@ fn copy_into(
 
 /// Returns a copy of the `OPT` record of a message, if it has one.
 fn last_of(alloc: Global, message: &MessageRef<'_>) -> Result<Option<Record>, CopyError>
-    ensures ok { IfOk result (IsLastOf (opts_in message.now.additionals)) }
+    ensures ok { IfOk result (λ last. (opts_outside message.now ≡ []) × IsLastOf (opts_in message.now.additionals) last) }
     ensures err { IfErr result (FailsLast message.now) }
 {
     let Some(opt) = message.opt()? else {

@@ -81,5 +81,5 @@ returns-clause-ok c =
     let additionals = subst (λ (xs : List RecordValue). AddsCopies Additionals (plain_in xs) u d) c.additionals.ensures c.in_ok-copy_additionals.ensures.ok in
     let w = value c.close.new.encoder in
     subst (IsCopied m c.args.max_size) (search rules)
-    (whole-copied m c.args.max_size last header start q a u d f w.bytes (omega (arith, c.ranges.max_size.fits)) c.in_ok-last.ensures.ok begins queries answers authorities additionals
+    (whole-copied m c.args.max_size last header start q a u d f w.bytes (omega (arith, c.ranges.max_size.fits)) c.in_ok-last.ensures.ok.0 c.in_ok-last.ensures.ok.1 begins queries answers authorities additionals
     c.in_ok-add_last.ensures.adds (w, c.close.ensures.closes, refl))
