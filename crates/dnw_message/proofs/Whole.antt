@@ -80,19 +80,22 @@ found-outside b xs ys f g f_is g_is =
     let both : any_opt section.Answers b (xs ++ ys) ≡ (f || g) = rw (f_is, g_is) (list_any-append (λ (x : Item). opt_at section.Answers b x.name_end) xs ys) in
     subst₂ (λ found rs. FalseIff found (opts_in rs ≡ [])) both (map-append (record_in b) xs ys) (found-there b (xs ++ ys))
 
+found-inside : (b : List ℕ) (xs : List Item) (f : Bool) → f ≡ any_opt section.Additionals b xs → FalseIff f (opts_in (map (record_in b) xs) ≡ [])
+found-inside b xs f is = rw is (found-there b xs)
+
 pub message-passed : (b : List ℕ) (most : ℕ) (h : Header) (d d' d'' d''' end : Decoder) (l l' l'' l''' : ℕ) (f f' f'' f''' : Bool) → header_size ≤ length b
     → h ≡ header_of (slice_range b 0 header_size) → d ≡ record { bytes = b; index = header_size }
     → PassesItems section.Queries h.counts.queries d d' most l f → PassesItems section.Answers h.counts.answers d' d'' l l' f'
     → PassesItems section.Authorities h.counts.authorities d'' d''' l' l'' f'' → PassesItems section.Additionals h.counts.additionals d''' end l'' l''' f'''
     → ((k : ℕ) × MessageAt b (message_in b h d'.index d''.index d'''.index end.index) k × (k ≤ most))
-    × IsKept b h d'.index d''.index d'''.index end.index (f' || f'')
+    × IsKept b h d'.index d''.index d'''.index end.index (f' || f'') f'''
 message-passed b most h d d' d'' d''' end l l' l'' l''' f f' f'' f''' whole is start queries answers authorities additionals =
     let bytes = ap (λ (x : Decoder). x.bytes) start in
     let index = ap (λ (x : Decoder). x.index) start in
     let (q, q_left, q_ends, b1, i1, _) = section-left section.Queries b h.counts.queries d d' most l f bytes queries (omega (arith, whole, index)) in
     let (a, a_left, a_ends, b2, i2, a_found) = section-left section.Answers b h.counts.answers d' d'' l l' f' b1 answers i1 in
     let (n, n_left, n_ends, b3, i3, n_found) = section-left section.Authorities b h.counts.authorities d'' d''' l' l'' f'' b2 authorities i2 in
-    let (x, x_left, x_ends, _, i4, _) = section-left section.Additionals b h.counts.additionals d''' end l'' l''' f''' b3 additionals i3 in
+    let (x, x_left, x_ends, _, i4, x_found) = section-left section.Additionals b h.counts.additionals d''' end l'' l''' f''' b3 additionals i3 in
     let last = parts-on b (part section.Additionals h.counts.additionals) [] [] d''' end l'' l''' end.index 0 f''' b3 additionals done in
     let third = parts-on b (part section.Authorities h.counts.authorities) _ _ d'' d''' l' l'' end.index _ f'' b2 authorities last in
     let second = parts-on b (part section.Answers h.counts.answers) _ _ d' d'' l l' end.index _ f' b1 answers third in
@@ -123,15 +126,16 @@ message-passed b most h d d' d'' d''' end l l' l'' l''' f f' f'' f''' whole is s
         additionals_left = x_left;
         in_turn = (subst (λ p. EndAt question_rest b p h.counts.queries d'.index) index q_ends, a_ends, n_ends, x_ends);
         outside = found-outside b _ _ f' f'' a_found n_found;
+        inside = found-inside b _ f''' x_found;
         within = i4;
         starts = (whole, i1, i2, i3);
       },
     )
 
 -- the sections of a message that is kept
-pub sections-begin : (b : List ℕ) (h : Header) (answers authorities additionals end : ℕ) (outside : Bool) → IsKept b h answers authorities additionals end outside
+pub sections-begin : (b : List ℕ) (h : Header) (answers authorities additionals end : ℕ) (outside inside : Bool) → IsKept b h answers authorities additionals end outside inside
     → SectionsBegin (message_in b h answers authorities additionals end) (record { answers = answers; authorities = authorities; additionals = additionals })
-sections-begin b h answers authorities additionals end outside kept =
+sections-begin b h answers authorities additionals end outside inside kept =
     let (q, a, n, x) = kept.in_turn in (
       (items_in question_rest b header_size h.counts.queries, q.0, q.1, refl),
       (items_in record_rest b answers h.counts.answers, a.0, a.1, refl),

@@ -2,7 +2,7 @@
 ghost use Rattle.std.specs.Prelude.{◌≡◌, [], ℕ, ◌<◌, ◌≤◌, length, drop, slice_range, IfOk, IfErr};
 ghost use Rattle.std.specs.Bool.{FalseIff};
 ghost use Rattle.dnw_header.specs.Headers.{header_of, header_size};
-ghost use Rattle.dnw_message.specs.Edns.{FailsEdns, FailsOnlyOpt, HasEdns, HasOpt, IsOnlyOpt, IsResponseCode, opts_outside};
+ghost use Rattle.dnw_message.specs.Edns.{FailsEdns, FailsOnlyOpt, HasEdns, HasOpt, IsOnlyOpt, IsResponseCode, opts_in, opts_outside};
 ghost use Rattle.dnw_message.specs.Messages.{MessageAt, FailsMessage, SectionsBegin, no_header};
 
 use crate::edns::{EdnsError, EdnsRef, next_opt};
@@ -45,6 +45,7 @@ pub struct MessageRef<'m> {
     additionals: usize,
     end: usize,
     opt_outside: bool,
+    opt_inside: bool,
 }
 
 impl<'m> Model for MessageRef<'m> {
@@ -55,7 +56,7 @@ impl<'m> Model for MessageRef<'m> {
 
     ghost view = { λ m. message_in m.message.now m.header m.answers m.authorities m.additionals m.end };
 
-    ghost invariant = { λ m. IsKept m.message.now m.header m.answers m.authorities m.additionals m.end m.opt_outside };
+    ghost invariant = { λ m. IsKept m.message.now m.header m.answers m.authorities m.additionals m.end m.opt_outside m.opt_inside };
 }
 
 impl<'m> MessageRef<'m> {
@@ -94,7 +95,7 @@ impl<'m> MessageRef<'m> {
             &mut left,
         )?;
         let additionals = reader.index();
-        pass_section(
+        let in_additionals = pass_section(
             &mut reader,
             Section::Additionals,
             counts.additionals,
@@ -108,6 +109,7 @@ impl<'m> MessageRef<'m> {
             additionals,
             end: reader.index(),
             opt_outside: in_answers | in_authorities,
+            opt_inside: in_additionals,
         })
     }
 
@@ -194,10 +196,11 @@ impl<'m> MessageRef<'m> {
         if self.has_opt_outside() {
             return Err(EdnsError::OutsideAdditionals);
         }
-        let mut records = self.additionals();
-        let Some(opt) = next_opt(&mut records) else {
+        if !self.has_opt_inside() {
             return Ok(None);
-        };
+        }
+        let mut records = self.additionals();
+        let opt = next_opt(&mut records).unwrap();
         if next_opt(&mut records).is_some() {
             return Err(EdnsError::DuplicateEdns);
         }
@@ -210,6 +213,14 @@ impl<'m> MessageRef<'m> {
         ensures { FalseIff result (opts_outside self.now ≡ []) }
     {
         self.opt_outside
+    }
+
+    /// Returns `true` if an `OPT` record is among the additional records.
+    #[inline(always)]
+    fn has_opt_inside(&self) -> bool
+        ensures { FalseIff result (opts_in self.now.additionals ≡ []) }
+    {
+        self.opt_inside
     }
 
     /// Returns the response code, with the high bits that EDNS has (RFC 6891, section 6.1.3). It fails as `edns` does.

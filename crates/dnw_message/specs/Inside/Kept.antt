@@ -60,9 +60,9 @@ message_in b h answers authorities additionals end = record {
   end = end;
 }
 
--- Each section of a message is left from its start on, and ends where the next one begins. The flag is set just if there are
--- OPT records outside the additional section.
-pub record IsKept (b : List ℕ) (h : Header) (answers authorities additionals end : ℕ) (opt_outside : Bool) : Type 0 where
+-- Each section of a message is left from its start on, and ends where the next one begins. The flags are set just if there are
+-- OPT records outside the additional section, and in it.
+pub record IsKept (b : List ℕ) (h : Header) (answers authorities additionals end : ℕ) (opt_outside opt_inside : Bool) : Type 0 where
   pub queries : AreLeft question_rest b header_size h.counts.queries
   pub answers_left : AreLeft record_rest b answers h.counts.answers
   pub authorities_left : AreLeft record_rest b authorities h.counts.authorities
@@ -70,5 +70,6 @@ pub record IsKept (b : List ℕ) (h : Header) (answers authorities additionals e
   pub in_turn : EndAt question_rest b header_size h.counts.queries answers × EndAt record_rest b answers h.counts.answers authorities
       × EndAt record_rest b authorities h.counts.authorities additionals × EndAt record_rest b additionals h.counts.additionals end
   pub outside : FalseIff opt_outside (opts_in (records_in b answers h.counts.answers ++ records_in b authorities h.counts.authorities) ≡ [])
+  pub inside : FalseIff opt_inside (opts_in (records_in b additionals h.counts.additionals) ≡ [])
   pub within : end ≤ length b
   pub starts : (header_size ≤ length b) × (answers ≤ length b) × (authorities ≤ length b) × (additionals ≤ length b)
