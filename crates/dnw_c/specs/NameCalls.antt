@@ -1,5 +1,5 @@
 -- Why the functions for C that take one name fail.
-use Rattle.std.specs.Prelude.{◌≡◌, ◌≢◌, ◌<◌, ◌⊎◌, ℕ, Bool, true, List, length, Ok, Err, IsUtf8}
+use Rattle.std.specs.Prelude.{◌≡◌, ◌<◌, ◌⊎◌, ℕ, Bool, true, List, length, Ok, Err, IsUtf8}
 use Rattle.std.specs.Str.{chars}
 use Rattle.dnw_error.specs.Fault.{Fault, HasOwnText}
 use Rattle.dnw_base.specs.Names.{NameValue, lower, wire}
@@ -7,8 +7,9 @@ use Rattle.dnw_text.specs.NameText.{name_text, name_from_text}
 use Rattle.dnw_reading.specs.Reading.{NameAt}
 use Rattle.dnw_failure.specs.Failures.{of_fault}
 use Rattle.dnw_failure.specs.Offsets.{HasNoName}
+use Rattle.dnw_failure.specs.WireForms.{IsFormOf, IsNoForm}
 use Rattle.dnw_failure.specs.declared.failure.Failure.{Failure}
-use Rattle.dnw_failure.specs.declared.failure.Failure.TheVariants.{NoMemory, NoRoom, NotUtf8, BytesLeft}
+use Rattle.dnw_failure.specs.declared.failure.Failure.TheVariants.{NoMemory, NoRoom, NotUtf8}
 
 -- the text of a name that is read from a message, which is fully qualified
 abbrev pub absolute_text : List (List ℕ) → List ℕ
@@ -40,16 +41,6 @@ FailsToParse text size failure =
     ⊎ ((fault : Fault) × IsUtf8 text × (name_from_text (chars text) ≡ Err fault)
     × ((failure ≡ of_fault fault) ⊎ (HasOwnText fault × (failure ≡ NoMemory))))
     ⊎ ((name : NameValue) × IsUtf8 text × (name_from_text (chars text) ≡ Ok name) × (size < length (wire name.labels)) × (failure ≡ NoRoom))
-
--- The octets are the wire form of these labels, whole.
-abbrev pub IsFormOf : List ℕ → List (List ℕ) → Type 0
-IsFormOf form labels = (k : ℕ) × NameAt form 0 labels (length form) k
-
--- The octets are no wire form: no name is at their start, or bytes follow after it.
-abbrev pub IsNoForm : List ℕ → Failure → Type 0
-IsNoForm form failure =
-    HasNoName form 0 failure
-    ⊎ ((labels : List (List ℕ)) × (end : ℕ) × (k : ℕ) × NameAt form 0 labels end k × (end ≢ length form) × (failure ≡ BytesLeft))
 
 -- One of two is no wire form: the first that is none decides.
 abbrev pub FailsAsForms : List ℕ → List ℕ → Failure → Type 0

@@ -6,7 +6,8 @@ use Rattle.dnw_form.specs.Edits.{append_name, prepend_label}
 use Rattle.dnw_label.specs.LabelText.{label_from_bytes}
 use Rattle.dnw_reading.specs.Buffers.{put}
 use Rattle.dnw_failure.specs.Failures.{of_fault}
-use Rattle.dnw_c.specs.NameCalls.{FailsAsForms, IsFormOf, IsNoForm}
+use Rattle.dnw_failure.specs.WireForms.{IsFormOf, IsNoForm}
+use Rattle.dnw_c.specs.NameCalls.{FailsAsForms}
 use Rattle.dnw_failure.specs.declared.failure.Failure.{Failure}
 use Rattle.dnw_failure.specs.declared.failure.Failure.TheVariants.{NoRoom}
 

@@ -9,7 +9,7 @@ use Rattle.dnw_reverse.specs.declared.net.IpNet.{IpNet}
 use Rattle.dnw_reverse.specs.Arpa.{ArpaFault, ArpaPrefix, arpa_prefix, reverse_name}
 use Rattle.dnw_reverse.specs.ArpaNets.{IsNetOf}
 use Rattle.dnw_reading.specs.Buffers.{put}
-use Rattle.dnw_c.specs.NameCalls.{IsNoForm}
+use Rattle.dnw_failure.specs.WireForms.{IsNoForm}
 use Rattle.dnw_c.specs.NameEdits.{IsNameOf, PutsName}
 use Rattle.dnw_failure.specs.declared.failure.Failure.{Failure}
 use Rattle.dnw_failure.specs.declared.failure.Failure.TheVariants.{NoRoom, BadAddress, NotReverse}

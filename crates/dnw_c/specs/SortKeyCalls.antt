@@ -1,7 +1,7 @@
 -- Why no sort key is put.
 use Rattle.std.specs.Prelude.{◌≡◌, ◌<◌, ◌⊎◌, ℕ, List, length}
 use Rattle.dnw_order.specs.SortKeys.{sort_key}
-use Rattle.dnw_c.specs.NameCalls.{IsFormOf, IsNoForm}
+use Rattle.dnw_failure.specs.WireForms.{IsFormOf, IsNoForm}
 use Rattle.dnw_failure.specs.declared.failure.Failure.{Failure}
 use Rattle.dnw_failure.specs.declared.failure.Failure.TheVariants.{NoRoom}
 

@@ -6,7 +6,8 @@ ghost use Rattle.dnw_order.specs.Order.{labels_cmp, IsZoneOf};
 ghost use Rattle.dnw_reading.specs.Buffers.{put};
 ghost use Rattle.dnw_failure.specs.Failures.{NumberOf, number};
 ghost use Rattle.dnw_failure.specs.Signs.{sign};
-ghost use Rattle.dnw_c.specs.NameCalls.{FailsAsForms, FailsToLower, IsFormOf, IsNoForm};
+ghost use Rattle.dnw_failure.specs.WireForms.{IsFormOf, IsNoForm};
+ghost use Rattle.dnw_c.specs.NameCalls.{FailsAsForms, FailsToLower};
 ghost use Rattle.dnw_failure.specs.declared.failure.Failure.TheVariants.{NoRoom};
 
 use crate::names::put_form;

@@ -3,7 +3,7 @@ ghost use Rattle.std.specs.Prelude.{◌≡◌, ◌≢◌, List, ℕ, ◌<◌, le
 ghost use Rattle.dnw_order.specs.SortKeys.{max_sort_key, sort_key};
 ghost use Rattle.dnw_reading.specs.Buffers.{put};
 ghost use Rattle.dnw_failure.specs.Failures.{NumberOf, number};
-ghost use Rattle.dnw_c.specs.NameCalls.{IsFormOf};
+ghost use Rattle.dnw_failure.specs.WireForms.{IsFormOf};
 ghost use Rattle.dnw_c.specs.SortKeyCalls.{FailsToKey};
 ghost use Rattle.dnw_failure.specs.declared.failure.Failure.TheVariants.{NoRoom};
 

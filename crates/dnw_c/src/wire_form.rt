@@ -2,7 +2,7 @@
 ghost use Rattle.std.specs.Prelude.{◌<◌, length, reverse, IfOk, IfErr, MatchOption};
 ghost use Rattle.dnw_base.specs.Limits.{max_name};
 ghost use Rattle.dnw_form.specs.Inside.WireBytes.{closed, IsWire};
-ghost use Rattle.dnw_c.specs.NameCalls.{IsFormOf, IsNoForm};
+ghost use Rattle.dnw_failure.specs.WireForms.{IsFormOf, IsNoForm};
 ghost use Rattle.dnw_c.specs.Inside.LastLengths.{HasLastLengths};
 
 use dnw_base::decoder::BinDecoder;

@@ -25,12 +25,12 @@ form_fits form ls k name = omega (arith, ap length (form_is form ls k name), len
 
 -- the root
 pub root_form : IsForm (0 ∷ [])
-root_form = ([], 0, record { reads = zero_octet tt refl; fits = omega arith })
+root_form = ([], (0, record { reads = zero_octet tt refl; fits = omega arith }))
 
 -- a wire form that stands in a message is read there
 pub form_read : (form b : List ℕ) (p : ℕ) → p + length form ≤ length b → slice_range b p (p + length form) ≡ form → IsForm form
     → (ls : List (List ℕ)) × NameAt b p ls (p + length form) 0
-form_read form b p fits stands (ls, k, name) =
+form_read form b p fits stands (ls, (k, name)) =
     let is = form_is form ls k name in
     let stands' : take (length form) (drop p b) ≡ form = ap (λ n. take n (drop p b)) (omega arith) ∙ stands in
     let end : p + encoded_size ls ≡ p + length form = omega (arith, ap length is, length-wire ls) in

@@ -7,25 +7,18 @@ use Rattle.dnw_codes.specs.DnsClasses.{class_code}
 use Rattle.dnw_codes.specs.RecordTypes.{type_code}
 use Rattle.dnw_codes.specs.declared.dns_class.DNSClass.TheVariants as class
 use Rattle.dnw_codes.specs.declared.record_type.RecordType.TheVariants as kind
-use Rattle.dnw_failure.specs.Offsets.{HasNoName}
+use Rattle.dnw_failure.specs.WireForms.{IsFormOf, IsNoForm}
 use Rattle.dnw_failure.specs.declared.failure.Failure.{Failure}
 use Rattle.dnw_failure.specs.declared.failure.Failure.TheVariants as why
 use Rattle.dnw_header.specs.Headers.{flag, header_field, header_size}
 use Rattle.dnw_reading.specs.Buffers.{put}
-use Rattle.dnw_reading.specs.Reading.{NameAt}
 use Rattle.dnw_c_writer.specs.declared.writer.Writer.{Writer}
 
 -- ---- names
 
 -- The octets are the wire form of a name, whole.
 abbrev pub IsForm : List ℕ → Type 0
-IsForm form = (labels : List (List ℕ)) × (k : ℕ) × NameAt form 0 labels (length form) k
-
--- They are none: no name is at their start, or octets follow after it.
-abbrev pub IsNoForm : List ℕ → Failure → Type 0
-IsNoForm form failure =
-    HasNoName form 0 failure
-    ⊎ ((labels : List (List ℕ)) × (end : ℕ) × (k : ℕ) × NameAt form 0 labels end k × (end ≢ length form) × (failure ≡ why.BytesLeft))
+IsForm form = (labels : List (List ℕ)) × IsFormOf form labels
 
 -- ---- what is put
 

@@ -1,7 +1,8 @@
 //! Names that are given by their wire forms.
-ghost use Rattle.dnw_c_writer.specs.WriterCalls.{IsForm, IsNoForm};
 ghost use Rattle.std.specs.Prelude.{◌≤◌, length, OnOk, IfErr};
 ghost use Rattle.dnw_base.specs.Limits.{max_name};
+ghost use Rattle.dnw_failure.specs.WireForms.{IsNoForm};
+ghost use Rattle.dnw_c_writer.specs.WriterCalls.{IsForm};
 
 use dnw_failure::failure::{Failure, of_decode};
 use dnw_failure::names::name_ref_at;

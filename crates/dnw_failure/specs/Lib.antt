@@ -1,3 +1,4 @@
 pub mod Failures
 pub mod Offsets
 pub mod Signs
+pub mod WireForms
