@@ -273,8 +273,20 @@ impl Candidates {
     }
 
     /// Keeps the candidates before an offset.
-    #[tactic(auto, using(crate::proofs::CandidateLists::kept_same))]
+    #[inline(always)]
     pub fn trim(&mut self, offset: usize)
+        ensures { self.new ≡ candidates_before offset self.old }
+    {
+        if self.held.end() > offset {
+            self.remove_from(offset);
+        }
+    }
+
+    /// Removes the candidates from an offset on. It is apart, since mostly there are none.
+    #[cold]
+    #[inline(never)]
+    #[tactic(auto, using(crate::proofs::CandidateLists::kept_same))]
+    fn remove_from(&mut self, offset: usize)
         ensures { self.new ≡ candidates_before offset self.old }
     {
         let held = self.held.len();

@@ -15,7 +15,9 @@ pub(crate) fn are_same(own: &[u8], other: &[u8]) -> bool
         return false;
     }
     if own.len() > FEW {
-        return own == other;
+        // Most that differ do so at their end.
+        let last = own.len() - 4;
+        return has_same_four(own, other, last) && own == other;
     }
     let mut index = 0;
     'eights: while own.len() - index >= 8 {

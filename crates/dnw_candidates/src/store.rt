@@ -241,16 +241,21 @@ impl Store {
     }
 
     /// Keeps the candidates before an offset.
-    #[inline]
-    #[tactic(auto, using(crate::proofs::Held::all_before))]
     pub(crate) fn retain_before(&mut self, offset: usize)
         ensures { self.new ≡ candidates_before offset self.old }
     {
-        if self.end > offset {
-            self.entries.retain(|entry| (entry.start as usize) < offset);
-            self.end = offset;
-            self.cut();
-        }
+        self.entries.retain(|entry| (entry.start as usize) < offset);
+        self.end = offset;
+        self.cut();
+    }
+
+    /// Returns an offset that all candidates are before.
+    #[inline(always)]
+    #[tactic(auto, using(crate::proofs::Held::all_before))]
+    pub(crate) fn end(&self) -> usize
+        ensures { (offset : ℕ) → result ≤ offset → candidates_before offset self.now ≡ self.now }
+    {
+        self.end
     }
 
     /// Removes the bytes after those of the last entry.

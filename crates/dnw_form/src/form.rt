@@ -74,6 +74,17 @@ impl WireForm {
         }
     }
 
+    /// Copies octets that are a wire form in the place of this one, as `from_octets`.
+    #[inline(always)]
+    #[tactic(auto, using(crate::proofs::Wires::few_octets))]
+    pub fn copy_octets(&mut self, octets: &[u8])
+        requires { IsWire octets.now }
+        ensures { self.new ≡ labels_of octets.now }
+    {
+        self.bytes.copy_from(octets);
+        self.lengths = few_lengths(octets);
+    }
+
     /// Returns the octets.
     #[inline(always)]
     pub fn as_bytes(&self) -> &[u8]
@@ -195,6 +206,16 @@ impl WireForm {
             bytes: self.bytes.clone(),
             lengths: self.lengths,
         }
+    }
+
+    /// Copies another form in the place of this one: only the octets that it has, and not all its room.
+    #[inline(always)]
+    #[tactic(auto, using(crate::proofs::Wires::few_octets))]
+    pub fn clone_from(&mut self, source: &Self)
+        ensures { self.new ≡ source.now }
+    {
+        self.bytes.copy_from(source.bytes.as_slice());
+        self.lengths = source.lengths;
     }
 }
 

@@ -106,6 +106,16 @@ impl Octets {
         self.len = (len + octets.len()) as u8;
     }
 
+    /// Copies octets in the place of these.
+    #[inline(always)]
+    pub fn copy_from(&mut self, octets: &[u8])
+        requires { length octets.now ≤ max_name }
+        ensures { self.new ≡ octets.now }
+    {
+        put_at(&mut self.room, 0, octets);
+        self.len = octets.len() as u8;
+    }
+
     /// Puts an octet in the place of another.
     #[inline(always)]
     pub fn set(&mut self, index: usize, octet: u8)

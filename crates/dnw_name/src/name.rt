@@ -1,5 +1,5 @@
 //! Domain names.
-ghost use Rattle.std.specs.Prelude.{◌≡◌, ◌≢◌, ℕ, ◌+◌, ◌^◌, ◌<◌, ◌≤◌, ◌↔◌, false, true, List, [], ◌∷◌, length, min, Some, Ok, Result, IsTrue, IfOk, IfErr, OnErr, IsErrOf, IsOkAnd, string_bytes};
+ghost use Rattle.std.specs.Prelude.{◌≡◌, ◌≢◌, ℕ, ◌+◌, ◌^◌, ◌<◌, ◌≤◌, ◌↔◌, false, true, List, [], ◌∷◌, length, min, Some, Ok, Result, IsTrue, IfOk, IfErr, OnOk, OnErr, IsErrOf, IsOkAnd, string_bytes};
 ghost use Rattle.std.specs.Iterator.{IsFinite, size};
 ghost use Rattle.std.specs.List.{AllByRecursion};
 ghost use Rattle.std.specs.Option.{option_copied};
@@ -10,6 +10,7 @@ ghost use Rattle.dnw_base.specs.Decoder.{Decoder};
 ghost use Rattle.dnw_base.specs.Labels.{wildcard};
 ghost use Rattle.dnw_base.specs.Names.{NameValue, AreLabels, encoded_size, IsWildcard, lower, wire};
 ghost use Rattle.dnw_reading.specs.Reading.{TakesName, StopsAt};
+ghost use Rattle.dnw_form.specs.Inside.WireBytes.{labels_of, IsWire};
 ghost use Rattle.dnw_form.specs.Edits.{append_label, prepend_label, append_name, append_domain, base_name, trim_to, into_wildcard};
 ghost use Rattle.dnw_text.specs.NameText.{max_text, name_text, name_from_text, name_from_text_at, IsLabelText};
 ghost use Rattle.dnw_order.specs.Order.{IsLocalhost, IsZoneOfCase, IsZoneOf};
@@ -143,6 +144,27 @@ impl Name {
     {
         let name = NameRef::read_counted(decoder, steps)?;
         Ok(name.copied(alloc))
+    }
+
+    /// Reads the name at the cursor as `read` does, in the place of this one. It fails as `read`, and then both the cursor
+    /// and this name are unchanged.
+    ///
+    /// It moves nothing but the name's own octets, so it is the call for names that are read one after another.
+    #[inline(always)]
+    pub fn read_into(&mut self, decoder: &mut BinDecoder<'_>) -> Result<(), DecodeError>
+        ensures ok { OnOk result (IsTrue self.new.is_fqdn × (k : ℕ) × TakesName decoder.old decoder.new self.new.labels k) }
+        ensures err { IfErr result (λ e. (k : ℕ) × (j : ℕ) × StopsAt decoder.old e k j) }
+        ensures same { OnErr result ((decoder.new ≡ decoder.old) × (self.new ≡ self.old)) }
+
+        // It accepts what the definition accepts, and fails where the definition stops.
+        ensures accepts { (after : Decoder) (ls : List (List ℕ)) (k : ℕ) → TakesName decoder.old after ls k
+            → IsOkAnd result (λ _. self.new ≡ record { is_fqdn = true; labels = ls }) × (decoder.new ≡ after) }
+        ensures fails { (error : DecodeError) (k j : ℕ) → StopsAt decoder.old error k j → IsErrOf result error }
+        ensures no_memory { IsErrOf result DecodeError.Memory → ⊥ }
+    {
+        let name = NameRef::read(decoder)?;
+        name.clone_into(self);
+        Ok(())
     }
 
     /// Returns `true` for the root: the name is fully qualified and has no labels.
@@ -379,6 +401,26 @@ impl Name {
             is_fqdn: self.is_fqdn,
             form: self.form.clone(),
         }
+    }
+
+    /// Copies `source` in the place of this name: only the octets that it has, so it takes fewer instructions than
+    /// `copied`. It does not allocate and cannot fail.
+    #[inline(always)]
+    pub fn clone_from(&mut self, source: &Self)
+        ensures { self.new ≡ source.now }
+    {
+        self.is_fqdn = source.is_fqdn;
+        self.form.clone_from(&source.form);
+    }
+
+    /// Copies octets that are a wire form in the place of this name. It is fully qualified.
+    #[inline(always)]
+    pub(crate) fn copy_octets(&mut self, octets: &[u8])
+        requires { IsWire octets.now }
+        ensures { self.new ≡ record { is_fqdn = true; labels = labels_of octets.now } }
+    {
+        self.is_fqdn = true;
+        self.form.copy_octets(octets);
     }
 
     /// Creates a name from text. It is fully qualified if the text ends in a dot. The text `.` is the root, and the

@@ -6,6 +6,7 @@ ghost use Rattle.dnw_reading.specs.Buffers.{put};
 ghost use Rattle.dnw_reading.specs.Reading.{TakesName, StopsAt};
 ghost use Rattle.dnw_base.specs.Names.{AreLabels, encoded_size, lower, wire};
 ghost use Rattle.dnw_reading.specs.Inside.Found.{labels_at};
+ghost use Rattle.dnw_form.specs.Inside.WireBytes.{labels_of, IsWire};
 ghost use Rattle.dnw_order.specs.Order.{labels_cmp, IsZoneOf};
 
 use crate::name::Name;
@@ -220,15 +221,34 @@ impl<'a> NameRef<'a> {
         Some(size)
     }
 
+    /// Copies the name in the place of another, as `to_name` does into a new one. It is fully qualified.
+    #[inline(always)]
+    pub fn clone_into(&self, name: &mut Name)
+        ensures { name.new ≡ record { is_fqdn = true; labels = self.now } }
+    {
+        match self.piece() {
+            Some(octets) => name.copy_octets(octets),
+            None => *name = self.gathered(),
+        }
+    }
+
     /// Copies the name, as `to_name`.
     #[inline(always)]
     pub(crate) fn copied(&self, alloc: Global) -> Name
         ensures { result ≡ record { is_fqdn = true; labels = self.now } }
     {
-        let size = self.encoded_len();
-        if let Some(octets) = self.piece() {
-            return Name::qualified(WireForm::from_octets(alloc, octets));
+        match self.piece() {
+            Some(octets) => Name::qualified(WireForm::from_octets(alloc, octets)),
+            None => self.gathered(),
         }
+    }
+
+    /// Copies the name piece by piece.
+    #[inline(always)]
+    fn gathered(&self) -> Name
+        ensures { result ≡ record { is_fqdn = true; labels = self.now } }
+    {
+        let size = self.encoded_len();
         let mut room = [0; MAX_NAME];
         copy::copy_runs(&mut room, self.message, self.first);
         Name::qualified(WireForm::from_wire(Octets::from_array(room, size)))
@@ -249,7 +269,8 @@ impl<'a> NameRef<'a> {
     /// Returns the wire form if it is in the message in one piece: no pointer follows the first label.
     #[inline(always)]
     fn piece(&self) -> Option<&'a [u8]>
-        ensures { IfSome result (λ octets. octets.now ≡ wire self.now) }
+        ensures wire { IfSome result (λ octets. octets.now ≡ wire self.now) }
+        ensures form { IfSome result (λ octets. IsWire octets.now × (labels_of octets.now ≡ self.now)) }
     {
         let labels = self.labels_in_place()?;
         Some(labels.as_wire())

@@ -208,14 +208,18 @@ impl<'a> BinEncoder<'a> {
         ensures same { OnErr result (value self.new ≡ value self.old) }
         ensures lender { lender self.new ≡ lender self.old }
     {
-        if front.is_empty() && self.offset == self.buffer.len() {
-            self.buffer.extend_from_slice(&pointer_octets(target))?;
-            self.offset += 2;
+        if self.offset < self.buffer.len() {
+            self.buffer.resize(self.offset + front.len() + 2, 0)?;
+            self.put(front);
+            self.put(&pointer_octets(target));
             return Ok(());
         }
-        self.buffer.resize(self.offset + front.len() + 2, 0)?;
-        self.put(front);
-        self.put(&pointer_octets(target));
+        self.buffer.reserve(front.len() + 2)?;
+        if !front.is_empty() {
+            self.buffer.extend_from_slice(front)?;
+        }
+        self.buffer.extend_from_slice(&pointer_octets(target))?;
+        self.offset += front.len() + 2;
         Ok(())
     }
 

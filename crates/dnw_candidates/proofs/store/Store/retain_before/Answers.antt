@@ -12,8 +12,8 @@ invariant_of-self c =
     rw (filter_same _ (λ (e : Entry). nat_lt e.start c.args.offset) _ (λ x b f q. search rules) _ _ c.retain.ensures.filtered)
     (are_held_before _ _ c.args.offset c.self.inside.entries.items c.self.invariant)
 
-pub returns-then-self-offset : goal.returns-then-self-offset
-returns-then-self-offset c =
+pub returns : goal.returns
+returns c =
     let kept = filter_same _ (λ (e : Entry). nat_lt e.start c.args.offset) _
     (λ x b f q. search rules) _ _ c.retain.ensures.filtered in
     let bytes = c.self.inside.bytes.items in

@@ -1,4 +1,4 @@
-use Rattle.std.proofs.Common.{◌≡◌, List, ℕ, ap, ◌∙◌, subst}
+use Rattle.std.proofs.Common.{ap, ◌∙◌, subst}
 use Rattle.dnw_base.specs.Names.{AreLabels, wire}
 use Rattle.dnw_form.proofs.Wires.{labels_of-form}
 use Rattle.dnw_reading.proofs.Copying.{LiesAt-plain}

@@ -4,18 +4,11 @@ use Rattle.dnw_base.proofs.Wires.{length-wire}
 use Rattle.dnw_reading.proofs.Copying.{wire_taken}
 use Rattle.dnw_form.specs.Inside.WireBytes.{IsWire, labels_of}
 use Rattle.dnw_form.proofs.Wires.{labels_of-form}
-use Rattle.dnw_name.proofs.name_ref.NameRef.copied.Goals as goal
-use Rattle.dnw_name.proofs.name_ref.NameRef.copied.Goals.{After-from_array}
+use Rattle.dnw_name.proofs.name_ref.NameRef.gathered.Goals as goal
+use Rattle.dnw_name.proofs.name_ref.NameRef.gathered.Goals.{After-from_array}
 
 abbrev qualified : List (List ℕ) → NameValue
 qualified ls = record { is_fqdn = true; labels = ls }
-
-pub from_octets-requires : goal.from_octets-requires
-from_octets-requires c = (labels_of-form _ _ c.in-Some.ensures c.encoded_len-size.ensures.labels).0
-
-pub returns-in-Some : goal.returns-in-Some
-returns-in-Some c =
-    c.qualified.ensures ∙ ap qualified (c.from_octets.ensures ∙ (labels_of-form _ _ c.in-Some.ensures c.encoded_len-size.ensures.labels).1)
 
 pub copy_runs-requires-clause-fits : goal.copy_runs-requires-clause-fits
 copy_runs-requires-clause-fits c =
@@ -31,4 +24,4 @@ pub from_wire-requires : goal.from_wire-requires
 from_wire-requires c = (form c).0
 
 pub returns : goal.returns
-returns c = c.qualified-2.ensures ∙ ap qualified (c.from_wire.ensures ∙ (form (goal.at.returns c).After-from_array).1)
+returns c = c.qualified.ensures ∙ ap qualified (c.from_wire.ensures ∙ (form (goal.at.returns c).After-from_array).1)
