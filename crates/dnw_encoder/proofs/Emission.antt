@@ -28,7 +28,7 @@ module _ (v : Encoder) (ls : List (List ℕ)) (room : HasRoom v (encoded_size ls
   -- memory for the bytes is refused
   undone : (m : Encoder) (error : ProtoError) (more : List Candidate)
       → Writes (record v { candidates = v.candidates ++ more }) (wire ls) (Err error) m
-      → EmitsAs v ls None (Err error) (record m { candidates = take (length v.candidates) m.candidates })
+      → EmitsAs v ls None (Err Memory) (record m { candidates = take (length v.candidates) m.candidates })
   undone m Memory more h =
       let back : take (length v.candidates) (v.candidates ++ more) ≡ v.candidates = take_at v.candidates more (length v.candidates) refl in
       (room, inl h.1, ap (λ (x : Encoder). record x { candidates = take (length v.candidates) x.candidates }) h.2 ∙ ap (λ (cs : List Candidate). record v { candidates = cs }) back)
@@ -36,7 +36,7 @@ module _ (v : Encoder) (ls : List (List ℕ)) (room : HasRoom v (encoded_size ls
   undone m error more h = absurd h
 
   pub whole_undone : (u m : Encoder) (bytes : List ℕ) (error : ProtoError) (more : List Candidate) → u ≡ record v { candidates = v.candidates ++ more }
-      → bytes ≡ wire ls → Writes u bytes (Err error) m → EmitsAs v ls None (Err error) (record m { candidates = take (length v.candidates) m.candidates })
+      → bytes ≡ wire ls → Writes u bytes (Err error) m → EmitsAs v ls None (Err Memory) (record m { candidates = take (length v.candidates) m.candidates })
   whole_undone u m bytes error more same is h =
       undone m error more (subst (λ b. Writes (record v { candidates = v.candidates ++ more }) b (Err error) m) is (subst (λ x. Writes x bytes (Err error) m) same h))
 
@@ -73,14 +73,14 @@ pub kept-front : (v : Encoder) (ls : List (List ℕ)) (n place : ℕ) → n ≤ 
 kept-front v ls n place within = ap (kept v ls) (sym (length-take-le n ls within))
 
 -- memory for the bytes is refused
-pub shared_undone : (v u m : Encoder) (ls : List (List ℕ)) (share : Share) (front : List ℕ) (error : ProtoError) (more : List Candidate)
+pub shared_undone : (v u m : Encoder) (ls : List (List ℕ)) (share : Share) (front : List ℕ) (more : List Candidate)
     → HasRoom v (length (labels_wire ls)) → u ≡ record v { candidates = v.candidates ++ more } → front ≡ labels_wire share.front
-    → Grows u (length (front ++ pointer_to share.target)) → m ≡ u → error ≡ Memory
-    → EmitsAs v ls (Some share) (Err error) (record m { candidates = take (length v.candidates) m.candidates })
-shared_undone v u m ls share front error more room first is grows same memory =
+    → Grows u (length (front ++ pointer_to share.target)) → m ≡ u
+    → EmitsAs v ls (Some share) (Err Memory) (record m { candidates = take (length v.candidates) m.candidates })
+shared_undone v u m ls share front more room first is grows same =
     let back : take (length v.candidates) (v.candidates ++ more) ≡ v.candidates = take_at v.candidates more (length v.candidates) refl in
     let needs = subst (λ f. Grows v (length (f ++ pointer_to share.target))) is (subst (λ x. Grows x (length (front ++ pointer_to share.target))) first grows) in
-    rw memory (
+    (
       room,
       inl needs,
       ap (λ (x : Encoder). record x { candidates = take (length v.candidates) x.candidates }) (same ∙ first)

@@ -1,5 +1,5 @@
 //! Writing messages of a bounded size.
-ghost use Rattle.std.specs.Prelude.{◌≡◌, ℕ, ◌+◌, ◌%◌, ◌<◌, ◌≤◌, ◌↔◌, Bool, ◌==◌, List, [], ◌∷◌, ◌++◌, length, slice_range, IsTrue, take, IfSome, OnOk, OnErr, IfErr, vec_len};
+ghost use Rattle.std.specs.Prelude.{◌≡◌, ℕ, ◌+◌, ◌%◌, ◌<◌, ◌≤◌, ◌↔◌, Bool, false, ◌==◌, List, [], ◌∷◌, ◌++◌, length, slice_range, IsTrue, take, IfSome, OnOk, OnErr, IfErr, vec_len};
 ghost use Rattle.std.specs.Int.{w16, w32, to_be_bytes};
 ghost use Rattle.std.specs.Int.{cast_unsigned as unsigned};
 ghost use Rattle.dnw_base.specs.Limits.{max_message, pointer_reach};
@@ -364,11 +364,20 @@ impl<'a> BinEncoder<'a> {
         ensures ok { OnOk result (HasRoom (value self.now) len) }
         ensures err { IfErr result (λ e. ((value self.now).max_size < (value self.now).offset + len) × (e ≡ ProtoError.MaxBufferSizeExceeded (value self.now).max_size)) }
     {
-        let max = self.max_size as usize;
-        if len > max || self.offset > max - len {
-            return Err(ProtoError::MaxBufferSizeExceeded(max));
+        if !self.has_room(len) {
+            return Err(ProtoError::MaxBufferSizeExceeded(self.max_size as usize));
         }
         Ok(())
+    }
+
+    /// Returns `true` if `len` more bytes do not go past the maximum.
+    #[inline(always)]
+    fn has_room(&self, len: usize) -> bool
+        ensures yes { IsTrue result → HasRoom (value self.now) len }
+        ensures no { result ≡ false → (value self.now).max_size < (value self.now).offset + len }
+    {
+        let max = self.max_size as usize;
+        len <= max && self.offset <= max - len
     }
 }
 

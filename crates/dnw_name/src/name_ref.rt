@@ -237,10 +237,10 @@ impl<'a> NameRef<'a> {
     pub(crate) fn copied(&self, alloc: Global) -> Name
         ensures { result ≡ record { is_fqdn = true; labels = self.now } }
     {
-        match self.piece() {
-            Some(octets) => Name::qualified(WireForm::from_octets(alloc, octets)),
-            None => self.gathered(),
+        if let Some(octets) = self.piece() {
+            return Name::qualified(WireForm::from_octets(alloc, octets));
         }
+        self.gathered()
     }
 
     /// Copies the name piece by piece.

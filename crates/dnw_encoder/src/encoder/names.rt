@@ -1,16 +1,16 @@
 //! Names, written whole or with a pointer (RFC 1035, section 4.1.4).
-ghost use Rattle.std.specs.Prelude.{◌≡◌, ◌≢◌, ℕ, ◌+◌, ◌<◌, ◌≤◌, List, [], ◌++◌, length, MatchOption, IfSome, IfErr, OnOk, OnErr, Some, None};
+ghost use Rattle.std.specs.Prelude.{◌≡◌, ◌≢◌, ℕ, ◌+◌, ◌<◌, ◌≤◌, List, [], ◌++◌, length, MatchOption, IfSome, OnOk, OnErr, Some, None};
 ghost use Rattle.dnw_base.specs.Limits.{max_message, pointer_offsets, pointer_reach};
-ghost use Rattle.dnw_error.specs.declared.error.ProtoError.{ProtoError};
 ghost use Rattle.dnw_base.specs.Names.{AreLabels};
 ghost use Rattle.dnw_encoder.specs.Encoder.{Grows, written};
 ghost use Rattle.dnw_encoder.specs.EmittedName.{EmitsLabels, EmitsAs, PointsNowhere, compresses, counted, kept, pointer_to, so_far};
 ghost use Rattle.dnw_encoder.specs.Inside.Sharing.{IsSuffix, share_of};
+ghost use Rattle.dnw_encoder.specs.Inside.Unwritten.{reported};
 ghost use Rattle.dnw_candidates.specs.Candidates.{FindsUsable};
 
 use super::{BinEncoder, NameEncoding};
 use dnw_base::limits::{POINTER_MARK, POINTER_REACH};
-use dnw_error::error::ProtoResult;
+use dnw_error::error::{ProtoError, ProtoResult};
 use dnw_form::wire_labels::WireLabels;
 use dnw_name::name::Name;
 use std::alloc::{AllocError, Global};
@@ -26,6 +26,16 @@ struct Suffix {
     target: u16,
 }
 
+/// Why a name is not written.
+// It fits in a register, and a `ProtoError` does not.
+#[derive(Clone, Copy)]
+enum Unwritten {
+    /// It does not fit into the maximum size.
+    Full,
+    /// Memory ran out.
+    Memory,
+}
+
 /// Returns the two octets of a pointer: 14 bits after two that are set.
 #[inline(always)]
 fn pointer_octets(target: u16) -> [u8; 2]
@@ -39,8 +49,24 @@ impl<'a> BinEncoder<'a> {
     ghost use Rattle.dnw_encoder.specs.EncoderValue.{value, lender};
 
     /// Writes labels in their own case: with a pointer if the mode allows one and a suffix is found.
+    #[inline(always)]
     pub(crate) fn emit_labels(&mut self, name: &WireLabels<'_>) -> ProtoResult<()>
         ensures writes { EmitsLabels (value self.old) name.now result (value self.new) }
+        ensures lender { lender self.new ≡ lender self.old }
+    {
+        match self.write_labels(name) {
+            Ok(()) => Ok(()),
+            Err(Unwritten::Full) => {
+                Err(ProtoError::MaxBufferSizeExceeded(self.max_size as usize))
+            }
+            Err(Unwritten::Memory) => Err(ProtoError::Memory),
+        }
+    }
+
+    /// Does what `emit_labels` does.
+    #[inline(never)]
+    fn write_labels(&mut self, name: &WireLabels<'_>) -> Result<(), Unwritten>
+        ensures writes { EmitsLabels (value self.old) name.now (reported (value self.old).max_size result) (value self.new) }
         ensures lender { lender self.new ≡ lender self.old }
     {
         if self.candidates.len() == 0 || !self.compresses() {
@@ -123,42 +149,50 @@ impl<'a> BinEncoder<'a> {
     }
 
     /// Writes a name whole.
-    fn emit_whole(&mut self, name: &WireLabels<'_>) -> ProtoResult<()>
+    fn emit_whole(&mut self, name: &WireLabels<'_>) -> Result<(), Unwritten>
         ensures labels { AreLabels name.now }
-        ensures writes { EmitsAs (value self.old) name.now None result (value self.new) }
+        ensures writes { EmitsAs (value self.old) name.now None (reported (value self.old).max_size result) (value self.new) }
         ensures lender { lender self.new ≡ lender self.old }
     {
         let wire = name.as_wire();
-        self.test_room(wire.len())?;
+        if !self.has_room(wire.len()) {
+            return Err(Unwritten::Full);
+        }
         let names = self.counted();
         let stored = self.candidates.len();
-        self.keep_suffixes(name, Name::MAX_LENGTH)?;
-        if let Err(error) = self.emit_vec(wire) {
+        let Ok(()) = self.keep_suffixes(name, Name::MAX_LENGTH) else {
+            return Err(Unwritten::Memory);
+        };
+        let Ok(()) = self.emit_vec(wire) else {
             self.candidates.truncate(stored);
-            return Err(error);
-        }
+            return Err(Unwritten::Memory);
+        };
         self.names = names;
         Ok(())
     }
 
     /// Writes the labels before a suffix, and a pointer for the suffix.
-    fn emit_shared(&mut self, name: &WireLabels<'_>, suffix: Suffix) -> ProtoResult<()>
+    fn emit_shared(&mut self, name: &WireLabels<'_>, suffix: Suffix) -> Result<(), Unwritten>
         requires suffix { IsSuffix (value self.old) name.now suffix.labels suffix.size suffix.target }
         requires reached { suffix.target < pointer_reach }
         ensures labels { AreLabels name.now }
-        ensures writes { EmitsAs (value self.old) name.now (Some (share_of name.now suffix.labels suffix.target)) result (value self.new) }
+        ensures writes { EmitsAs (value self.old) name.now (Some (share_of name.now suffix.labels suffix.target)) (reported (value self.old).max_size result) (value self.new) }
         ensures lender { lender self.new ≡ lender self.old }
     {
         let wire = name.as_wire();
-        self.test_room(wire.len() - 1)?;
+        if !self.has_room(wire.len() - 1) {
+            return Err(Unwritten::Full);
+        }
         let names = self.counted();
         let held = self.candidates.len();
-        self.keep_suffixes(name, suffix.labels)?;
+        let Ok(()) = self.keep_suffixes(name, suffix.labels) else {
+            return Err(Unwritten::Memory);
+        };
         let pointer = self.offset + suffix.size;
-        if let Err(error) = self.write_front(&wire[..suffix.size], suffix.target) {
+        let Ok(()) = self.write_front(&wire[..suffix.size], suffix.target) else {
             self.candidates.truncate(held);
-            return Err(error);
-        }
+            return Err(Unwritten::Memory);
+        };
         self.candidates.trim(pointer);
         self.names = names;
         Ok(())
@@ -196,30 +230,26 @@ impl<'a> BinEncoder<'a> {
     }
 
     /// Writes the labels before a pointer, and the pointer, and ends the buffer there.
-    fn write_front(&mut self, front: &[u8], target: u16) -> ProtoResult<()>
+    #[inline(always)]
+    fn write_front(&mut self, front: &[u8], target: u16) -> Result<(), AllocError>
         requires reached { target < pointer_offsets }
         requires fits { (value self.old).offset + length front.now ≤ max_message }
         ensures ok { OnOk result (value self.new ≡ record (value self.old) {
           bytes = so_far (value self.old) ++ (front.now ++ pointer_to target);
           offset = (value self.old).offset + length (front.now ++ pointer_to target);
         }) }
-        ensures err { IfErr result (λ e. e ≡ ProtoError.Memory) }
         ensures needed { OnErr result (Grows (value self.old) (length (front.now ++ pointer_to target))) }
         ensures same { OnErr result (value self.new ≡ value self.old) }
         ensures lender { lender self.new ≡ lender self.old }
     {
-        if self.offset < self.buffer.len() {
-            self.buffer.resize(self.offset + front.len() + 2, 0)?;
-            self.put(front);
-            self.put(&pointer_octets(target));
+        if front.is_empty() && self.offset == self.buffer.len() {
+            self.buffer.extend_from_slice(&pointer_octets(target))?;
+            self.offset += 2;
             return Ok(());
         }
-        self.buffer.reserve(front.len() + 2)?;
-        if !front.is_empty() {
-            self.buffer.extend_from_slice(front)?;
-        }
-        self.buffer.extend_from_slice(&pointer_octets(target))?;
-        self.offset += front.len() + 2;
+        self.buffer.resize(self.offset + front.len() + 2, 0)?;
+        self.put(front);
+        self.put(&pointer_octets(target));
         Ok(())
     }
 
