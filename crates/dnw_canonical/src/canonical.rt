@@ -1,11 +1,12 @@
 //! What a signature covers.
-ghost use Rattle.std.specs.Prelude.{◌≡◌, ℕ, ◌≤◌, length, IfOk, IfErr, Ok, IsTrue, ◌↔◌};
+ghost use Rattle.std.specs.Prelude.{◌≡◌, ℕ, ◌≤◌, ◌++◌, length, IfOk, IfErr, OnOk, Ok, IsTrue, ◌↔◌};
 ghost use Rattle.std.specs.List.{AllByRecursion, flat_map};
 ghost use Rattle.dnw_base.specs.Limits.{max_message};
+ghost use Rattle.dnw_base.specs.Names.{lower, wire};
 ghost use Rattle.dnw_encoder.specs.Encoder.{Encoder};
 ghost use Rattle.dnw_rdata.specs.AnyRecords.{EmitsRData};
 ghost use Rattle.dnw_canonical.specs.CanonicalData.{IsCanonical};
-ghost use Rattle.dnw_canonical.specs.RecordSets.{AreCanonical, FailsSet, IsOfSet, IsRecordSet, IsSet, IsInOrder, set_head, set_record};
+ghost use Rattle.dnw_canonical.specs.RecordSets.{AreCanonical, FailsSet, IsOfSet, IsRecordSet, IsSet, IsInOrder, set_head, set_record, signed_owner};
 ghost use Rattle.dnw_canonical.specs.SignedFields.{FailsSignedFields, IsSignedFields};
 ghost use Rattle.dnw_canonical.specs.Inside.Going.{AreShort, HasLength, all_items, canonical_start};
 
@@ -117,20 +118,27 @@ fn head_of(
     labels: u8,
     original_ttl: u32,
 ) -> Result<Vec<u8>, AllocError>
-    requires { labels ≤ length first.now.name.labels }
     ensures { IfOk result (λ head. head.items ≡ set_head first.now labels original_ttl) }
 {
-    let owner = first.name.to_lowercase().unwrap();
-    let last = owner.trim_to(labels as usize).unwrap();
     let mut head = Vec::new(alloc);
-    if (labels as usize) < owner.wire_labels().len() {
-        head.extend_from_slice(WILDCARD)?;
-    }
-    head.extend_from_slice(last.as_wire())?;
+    put_owner(&first.name, labels, &mut head)?;
     head.extend_from_slice(&u16::to_be_bytes(u16::from(first.data.record_type())))?;
     head.extend_from_slice(&u16::to_be_bytes(u16::from(first.dns_class)))?;
     head.extend_from_slice(&u32::to_be_bytes(original_ttl))?;
     Ok(head)
+}
+
+/// Appends the owner as it was signed: in lower case, and if it has more than `labels` labels, the last of them after `*`.
+fn put_owner(name: &Name, labels: u8, head: &mut Vec<u8>) -> Result<(), AllocError>
+    ensures { OnOk result (head.new.items ≡ head.old.items ++ wire (signed_owner (lower name.now.labels) labels)) }
+{
+    let owner = name.to_lowercase().unwrap();
+    if owner.wire_labels().len() <= labels as usize {
+        return head.extend_from_slice(owner.as_wire());
+    }
+    let last = owner.trim_to(labels as usize).unwrap();
+    head.extend_from_slice(WILDCARD)?;
+    head.extend_from_slice(last.as_wire())
 }
 
 /// Returns the canonical octets of the data of each record, in turn.
