@@ -4,6 +4,7 @@ use dns_names_wire::binary::BinEncodable;
 use dns_names_wire::decoder::BinDecoder;
 use dns_names_wire::encoder::{BinEncoder, NameEncoding};
 use dns_names_wire::error::DecodeError;
+use dns_names_wire::name::Name;
 use dns_names_wire::name_ref::NameRef;
 use dns_names_wire::restrict::Restrict;
 use std::test::Fail;
@@ -48,6 +49,50 @@ fn a_borrowed_name_is_copied_into_a_buffer(rt: HostRuntime) -> Result<(), Fail> 
     assert_eq!(rt; buffer, [0xff; 6]);
     assert_eq!(rt; name.copy_wire(&mut buffer[..5]), Some(5));
     assert_eq!(rt; buffer, *b"\x01a\x01b\x00\xff");
+    Ok(())
+}
+
+#[test]
+fn names_are_read_in_the_place_of_others(rt: HostRuntime) -> Result<(), Fail> {
+    // The names of RFC 1035, section 4.1.4, and a pointer to itself.
+    let message = hex::decode(
+        rt.alloc(),
+        "01460349534904415250410003464f4fc000c00600c015",
+    )?;
+    let names = [
+        b"\x01F\x03ISI\x04ARPA\x00".as_slice(),
+        b"\x03FOO\x01F\x03ISI\x04ARPA\x00".as_slice(),
+        b"\x04ARPA\x00".as_slice(),
+        b"\x00".as_slice(),
+    ];
+    let mut decoder = BinDecoder::new(message.as_slice());
+    let mut name = Name::from_ascii(rt.alloc(), "relative")?;
+    for wire in names {
+        name.read_into(&mut decoder).map_err(|_| "a name")?;
+        assert_eq!(rt; name.as_wire(), wire);
+        assert!(rt; name.is_fqdn());
+    }
+    assert!(rt; matches!(name.read_into(&mut decoder), Err(DecodeError::PointerNotPriorToLabel { idx: 21, ptr: 21 })));
+    assert_eq!(rt; decoder.index(), 21);
+    assert!(rt; name.is_root());
+    Ok(())
+}
+
+#[test]
+fn a_name_is_copied_in_the_place_of_another(rt: HostRuntime) -> Result<(), Fail> {
+    // The most labels.
+    let mut long = Name::root(rt.alloc());
+    for _ in 0..127 {
+        long = long.append_label(rt.alloc(), b"a".as_slice())?;
+    }
+    let short = Name::from_ascii(rt.alloc(), "b")?;
+    let mut name = Name::root(rt.alloc());
+    name.clone_from(&long);
+    assert_eq!(rt; name.encoded_len(), 255);
+    assert!(rt; name == long);
+    name.clone_from(&short);
+    assert_eq!(rt; name.as_wire(), b"\x01b\x00".as_slice());
+    assert!(rt; name == short && !name.is_fqdn());
     Ok(())
 }
 
