@@ -79,8 +79,7 @@ pub shared_undone : (v u m : Encoder) (ls : List (List ℕ)) (share : Share) (fr
     → EmitsAs v ls (Some share) (Err Memory) (record m { candidates = take (length v.candidates) m.candidates })
 shared_undone v u m ls share front more room first is grows same =
     let back : take (length v.candidates) (v.candidates ++ more) ≡ v.candidates = take_at v.candidates more (length v.candidates) refl in
-    let needs = subst (λ f. Grows v (length (f ++ pointer_to share.target))) is (subst (λ x. Grows x (length (front ++ pointer_to share.target))) first grows) in
-    (
+    let needs = subst (λ f. Grows v (length (f ++ pointer_to share.target))) is (subst (λ x. Grows x (length (front ++ pointer_to share.target))) first grows) in (
       room,
       inl needs,
       ap (λ (x : Encoder). record x { candidates = take (length v.candidates) x.candidates }) (same ∙ first)

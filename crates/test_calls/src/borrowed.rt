@@ -55,10 +55,7 @@ fn a_borrowed_name_is_copied_into_a_buffer(rt: HostRuntime) -> Result<(), Fail> 
 #[test]
 fn names_are_read_in_the_place_of_others(rt: HostRuntime) -> Result<(), Fail> {
     // The names of RFC 1035, section 4.1.4, and a pointer to itself.
-    let message = hex::decode(
-        rt.alloc(),
-        "01460349534904415250410003464f4fc000c00600c015",
-    )?;
+    let message = hex::decode(rt.alloc(), "01460349534904415250410003464f4fc000c00600c015")?;
     let names = [
         b"\x01F\x03ISI\x04ARPA\x00".as_slice(),
         b"\x03FOO\x01F\x03ISI\x04ARPA\x00".as_slice(),
@@ -72,7 +69,12 @@ fn names_are_read_in_the_place_of_others(rt: HostRuntime) -> Result<(), Fail> {
         assert_eq!(rt; name.as_wire(), wire);
         assert!(rt; name.is_fqdn());
     }
-    assert!(rt; matches!(name.read_into(&mut decoder), Err(DecodeError::PointerNotPriorToLabel { idx: 21, ptr: 21 })));
+    assert!(rt;
+        matches!(
+            name.read_into(&mut decoder),
+            Err(DecodeError::PointerNotPriorToLabel { idx: 21, ptr: 21 })
+        )
+    );
     assert_eq!(rt; decoder.index(), 21);
     assert!(rt; name.is_root());
     Ok(())

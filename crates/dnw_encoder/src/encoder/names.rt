@@ -27,7 +27,7 @@ struct Suffix {
 }
 
 /// Why a name is not written.
-// It fits in a register, and a `ProtoError` does not.
+// A `ProtoError` does not fit in a register.
 #[derive(Clone, Copy)]
 enum Unwritten {
     /// It does not fit into the maximum size.
@@ -63,7 +63,7 @@ impl<'a> BinEncoder<'a> {
         }
     }
 
-    /// Does what `emit_labels` does.
+    /// Does what `emit_labels` does, by a result that fits in a register.
     #[inline(never)]
     fn write_labels(&mut self, name: &WireLabels<'_>) -> Result<(), Unwritten>
         ensures writes { EmitsLabels (value self.old) name.now (reported (value self.old).max_size result) (value self.new) }
