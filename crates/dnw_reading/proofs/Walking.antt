@@ -1,12 +1,12 @@
 -- What a walk knows before and after each element.
-use Rattle.std.proofs.Common.{◌≡◌, ℕ, suc, ◌+◌, ◌<◌, ◌≤◌, ◌==◌, if◌then◌else◌, Bool, true, false, eqb-true, IsTrue, Option, Some, None, List, [], ◌∷◌, ◌++◌, length, slice_get, slice_range, unwrap_or, refl, sym, ◌∙◌, append_assoc, zero-add, add-zero, arith}
+use Rattle.std.proofs.Common.{◌≡◌, ℕ, suc, ◌+◌, ◌≤◌, IsTrue, Option, Some, None, List, [], ◌∷◌, ◌++◌, length, slice_get, slice_range, unwrap_or, refl, sym, ◌∙◌, append_assoc, zero-add, add-zero, arith}
 use Rattle.std.proofs.lemmas.List.{length_push, append-nil}
 use Rattle.std.proofs.lemmas.Option.{slice_get_within}
 use Rattle.dnw_reading.specs.declared.walk.Walked.{Walked}
 use Rattle.dnw_base.specs.Names.{encoded_size}
-use Rattle.dnw_base.proofs.Wires.{encoded_size_push, no_labels_size}
+use Rattle.dnw_base.proofs.Wires.{encoded_size_push}
 use Rattle.dnw_reading.specs.Reading.{IsWithin, NameAt, zero_octet, label}
-use Rattle.dnw_reading.specs.Inside.Walking.{IsLabelAt, IsPointerAt, once_followed, GoesOn, Leads, WalksOn, first_label, LeadsOn}
+use Rattle.dnw_reading.specs.Inside.Walking.{IsLabelAt, IsPointerAt, once_followed, GoesOn, Leads, WalksOn}
 use Rattle.dnw_reading.specs.Inside.Found.{IsFound}
 use Rattle.dnw_reading.proofs.Counts.{length-label}
 use Rattle.dnw_reading.proofs.Stand.{Reads-wider}
@@ -98,20 +98,10 @@ module _ {b : List ℕ} {start first p s limit end size pointers labels : ℕ} (
             rw count (h.stops error k (suc j) (label c w l.octet l.some l.few l.there short f));
       }
 
-  -- a pointer is followed: the first label is after it, if no label is before it
-  Leads-pointer : (t : ℕ) → IsPointerAt b p s t → (none : Bool) → (IsTrue none → size ≡ 1)
-      → Leads b (if none then t else first) t t (Some s) h.passed
-  Leads-pointer t at true one = Leads-start _ _ _ _ ((no_labels_size h.passed).0 (h.passed_size ∙ one refl))
-  Leads-pointer t at false one = record {
-    more = suc h.leads.more;
-    own = λ e. h.leads.own (p + 2);
-    earlier = omega (arith, at.prior, h.leads.earlier);
-    goes_on = goes-pointer w h.leads.goes_on t at;
-  }
-
-  pub WalksOn-pointer : (t e : ℕ) → IsPointerAt b p s t → e ≡ unwrap_or (once_followed pointers end) (p + 2)
-      → WalksOn b start (first_label size first t) t t s e size (suc pointers) labels
-  WalksOn-pointer t e at end_is =
+  -- a pointer is followed, wherever the first label is then
+  pub WalksOn-pointer : (t e to : ℕ) → IsPointerAt b p s t → e ≡ unwrap_or (once_followed pointers end) (p + 2)
+      → Leads b to t t (Some s) h.passed → WalksOn b start to t t s e size (suc pointers) labels
+  WalksOn-pointer t e to at end_is leads =
       record {
         passed = h.passed;
         passed_size = h.passed_size;
@@ -122,26 +112,18 @@ module _ {b : List ℕ} {start first p s limit end size pointers labels : ℕ} (
         back = omega (arith, h.back, at.prior);
         inside = omega (arith, h.order, slice_get_within b p at.high at.first);
         whole = λ zero. absurd (omega arith);
-        leads = Leads-pointer t at (size == 1) (eqb-true size 1);
+        leads = leads;
         goes_on = rw (← end_is) at (goes-pointer w h.goes_on t at);
         stops = λ error k j f.
             let count : suc pointers + k ≡ pointers + suc k = omega arith in
             rw count (h.stops error (suc k) j (Stops-jump w at f));
       }
 
-first_again : (none : Bool) (u t first : ℕ) → (if none then u else (if none then t else first)) ≡ (if none then u else first)
-first_again true u t first = refl
-first_again false u t first = refl
-
--- after pointers that follow one another, one more
-pub LeadsOn-pointer : {b : List ℕ} {s limit n t next m : ℕ} → LeadsOn b s limit n t next m → t < next
-    → (u : ℕ) → IsPointerAt b t t u → LeadsOn b s limit n u t (m + 1)
-LeadsOn-pointer {n} {t} on less u at =
-    let count : n + suc on.more ≡ suc (n + on.more) = omega arith in
-    record {
-      more = suc on.more;
-      count = omega (arith, on.count);
-      back = omega (arith, on.back, at.prior);
-      walks = λ start first end size labels h.
-          rw (count, sym (first_again (size == 1) u t first)) (WalksOn-pointer (on.walks start first end size labels h) less u end at refl);
-    }
+  -- it is after a label
+  pub Leads-pointer : (t : ℕ) → IsPointerAt b p s t → Leads b first t t (Some s) h.passed
+  Leads-pointer t at = record {
+    more = suc h.leads.more;
+    own = λ e. h.leads.own (p + 2);
+    earlier = omega (arith, at.prior, h.leads.earlier);
+    goes_on = goes-pointer w h.leads.goes_on t at;
+  }

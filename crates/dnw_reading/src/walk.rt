@@ -1,8 +1,8 @@
 //! The walk over the elements of a name in a message, which copies nothing (RFC 1035, section 4.1.4).
-ghost use Rattle.std.specs.Prelude.{◌≡◌, ℕ, ◌+◌, ◌^◌, ◌<◌, ◌≤◌, min, length, slice_get, Some, unwrap_or, IfOk, IfErr, IfSome, IfNone, OnOk};
+ghost use Rattle.std.specs.Prelude.{◌≡◌, ℕ, ◌+◌, ◌<◌, ◌≤◌, min, length, slice_get, Some, unwrap_or, IfOk, IfErr, IfSome, IfNone, OnOk};
 ghost use Rattle.dnw_reading.specs.Reading.{IsWithin, Stops, FaultAt, target};
 ghost use Rattle.dnw_base.specs.Limits.{max_label, max_labels, pointer_mark, pointer_offsets};
-ghost use Rattle.dnw_reading.specs.Inside.Walking.{IsPointerAt, IsElement, IsNoElement, once_followed, first_label, LeadsOn};
+ghost use Rattle.dnw_reading.specs.Inside.Walking.{IsElement, IsNoElement, once_followed};
 ghost use Rattle.dnw_reading.specs.Inside.Found.{IsFound};
 
 use dnw_base::limits::{MAX_LABEL, MAX_NAME, POINTER_MARK};
@@ -100,10 +100,11 @@ fn walk_elements(
             }
             Ok(Element::Pointer(target)) => {
                 end = own_end(steps.pointers, end, position + 2);
-                let pointers = &mut steps.pointers;
-                follow_pointers(message, target, &mut segment, &mut limit, pointers);
-                first = first_label(size, first, segment);
-                position = segment;
+                steps.pointers += 1;
+                first = if size == 1 { target } else { first };
+                limit = segment;
+                segment = target;
+                position = target;
             }
         }
     }
@@ -115,54 +116,6 @@ fn own_end(pointers: usize, end: usize, here: usize) -> usize
     ensures { result ≡ unwrap_or (once_followed pointers end) here }
 {
     if pointers == 0 { here } else { end }
-}
-
-/// Returns where the first label is, after pointers that lead to `segment`: there, if no label is before them.
-#[inline(always)]
-fn first_label(size: usize, first: usize, segment: usize) -> usize
-    ensures { result ≡ first_label size first segment }
-{
-    if size == 1 { segment } else { first }
-}
-
-/// Follows the pointer to `target`, and each pointer that stands where the one before it leads. Then `segment` is the target
-/// of the last one, and `limit` the start of the segment before.
-// They have a loop of their own, since a message can be a long chain of pointers.
-#[inline(always)]
-fn follow_pointers(
-    message: &[u8],
-    target: usize,
-    segment: &mut usize,
-    limit: &mut usize,
-    pointers: &mut usize,
-)
-    requires prior { target < segment.old }
-    requires inside { segment.old < length message.now }
-    requires few { pointers.old + segment.old < 2 ^ 64 }
-    ensures { LeadsOn message.now target segment.old pointers.old segment.new limit.new pointers.new }
-{
-    *pointers += 1;
-    *limit = *segment;
-    *segment = target;
-    'pointers: while let Some(target) = next_pointer(message, *segment) {
-        *pointers += 1;
-        *limit = *segment;
-        *segment = target;
-    }
-}
-
-/// Returns the target of the pointer at the start of a segment, if one is there and points before it.
-#[inline(always)]
-fn next_pointer(message: &[u8], segment: usize) -> Option<usize>
-    requires { segment + 1 < length message.now }
-    ensures { IfSome result (IsPointerAt message.now segment segment) }
-{
-    let high = message[segment];
-    if high < POINTER_MARK {
-        return None;
-    }
-    let target = pointer_target(high, message[segment + 1]);
-    if target < segment { Some(target) } else { None }
 }
 
 /// Returns the element at an offset, in a segment that began at `segment`, if one may begin there. `limit` is the end of

@@ -1,5 +1,5 @@
 -- How a walk over a name goes: what it knows between two elements.
-use Rattle.std.specs.Prelude.{◌≡◌, ℕ, zero, suc, ◌+◌, ◌<◌, ◌≤◌, ◌==◌, if◌then◌else◌, Option, Some, None, List, ◌++◌, length, slice_get, unwrap_or}
+use Rattle.std.specs.Prelude.{◌≡◌, ℕ, zero, suc, ◌+◌, ◌<◌, ◌≤◌, Option, Some, None, List, ◌++◌, length, slice_get, unwrap_or}
 use Rattle.dnw_error.specs.declared.error.DecodeError.{DecodeError}
 use Rattle.dnw_reading.specs.declared.walk.Element.{Element}
 use Rattle.dnw_reading.specs.declared.walk.Element.TheVariants.{End, Label, Pointer}
@@ -70,17 +70,3 @@ pub record WalksOn (b : List ℕ) (start first p s limit end size pointers label
   pub goes_on : GoesOn b start p s (once_followed pointers limit) passed (λ e. unwrap_or (once_followed pointers end) e) pointers
   pub stops : (error : DecodeError) (k j : ℕ)
       → Stops b p s (once_followed pointers limit) size error k j → Stops b start start None 1 error (pointers + k) (labels + j)
-
--- where the first label is, after pointers that lead to s: there, if no label is before them
-abbrev pub first_label : ℕ → ℕ → ℕ → ℕ
-first_label size first s = if size == 1 then s else first
-
--- A pointer leads to s after n others, and more pointers lead from there to t, which makes m. The segments before s and t
--- began at limit and next. What a walk knows at s, it knows at t.
-pub record LeadsOn (b : List ℕ) (s limit n t next m : ℕ) : Type 0 where
-  pub more : ℕ
-  pub count : m ≡ suc (n + more)
-  pub back : more + t ≤ s
-  pub walks : (start first end size labels : ℕ)
-      → WalksOn b start (first_label size first s) s s limit end size (suc n) labels
-      → WalksOn b start (first_label size first t) t t next end size (suc (n + more)) labels

@@ -1,6 +1,7 @@
-use Rattle.std.proofs.Common.{refl, add-zero, eqb-true}
+use Rattle.std.proofs.Common.{refl, ◌∙◌, add-zero, add-one, eqb-true}
+use Rattle.dnw_base.proofs.Wires.{no_labels_size}
 use Rattle.dnw_reading.specs.Reading.{too_long}
-use Rattle.dnw_reading.proofs.Walking.{WalksOn-start, WalksOn-end, WalksOn-label, WalksOn-pointer}
+use Rattle.dnw_reading.proofs.Walking.{Leads-start, WalksOn-start, WalksOn-end, WalksOn-label, WalksOn-pointer, Leads-pointer}
 use Rattle.dnw_reading.proofs.walk.walk_elements.Goals as goal
 
 pub elements-init : goal.elements-init
@@ -29,9 +30,16 @@ elements-preserved-in-Ok-Label c =
     let within = rw c.in-Ok-Label.is at c.next_element.ensures.within in
     WalksOn-label c.elements.invariant within c.in-Ok-Label.len there c.if-size-gt-MAX_NAME.false
 
+pub elements-preserved-then-size-eq1 : goal.elements-preserved-then-size-eq1
+elements-preserved-then-size-eq1 c =
+    let there = rw (c.in-Ok-Pointer.is, c.in-Ok-Pointer.field-0-is) at c.next_element.ensures.ok in
+    let within = rw c.in-Ok-Pointer.is at c.next_element.ensures.within in
+    let leads = Leads-start _ _ _ _ ((no_labels_size c.elements.invariant.passed).0 (c.elements.invariant.passed_size ∙ c.if-size-eq1.true)) in
+    rw add-one (WalksOn-pointer c.elements.invariant within _ _ _ there c.own_end-end.ensures leads)
+
 pub elements-preserved : goal.elements-preserved
 elements-preserved c =
     let there = rw (c.in-Ok-Pointer.is, c.in-Ok-Pointer.field-0-is) at c.next_element.ensures.ok in
     let within = rw c.in-Ok-Pointer.is at c.next_element.ensures.within in
-    let on = WalksOn-pointer c.elements.invariant within _ _ there c.own_end-end.ensures in
-    rw (c.first_label-first.ensures, c.follow_pointers.ensures.count) (c.follow_pointers.ensures.walks _ _ _ _ _ on)
+    let leads = Leads-pointer c.elements.invariant within c.in-Ok-Pointer.target there in
+    rw add-one (WalksOn-pointer c.elements.invariant within _ _ _ there c.own_end-end.ensures leads)
