@@ -14,6 +14,8 @@ int main(void)
     EXPECT(dnw_read_names(message, sizeof message, starts, 4, 0) == 0);
     EXPECT(dnw_read_names(message, sizeof message, starts, 4, 3) == 3 * sum);
     EXPECT(dnw_read_names(message, sizeof message, refused, 2, 1) == (uint64_t)1 << 41);
+    EXPECT(dnw_read_over(message, sizeof message, starts, 4, 3) == 3 * sum);
+    EXPECT(dnw_read_over(message, sizeof message, refused, 2, 1) == (uint64_t)1 << 41);
     EXPECT(dnw_parse_names(BYTES("a.bc.\n.\n"), 2) == 14);
     EXPECT(dnw_parse_names(BYTES("a..\na\n"), 1) == ((uint64_t)1 << 40) + 3);
     EXPECT(dnw_parse_names(BYTES("\377"), 1) == 0);
@@ -24,6 +26,7 @@ int main(void)
     EXPECT(dnw_emit_names(BYTES("\001a\000"), 0) == 0);
     EXPECT(dnw_emit_lower(BYTES("\001A\002bc\000\001A\002bc\000"), 2) == 24);
     EXPECT(dnw_clone_names(BYTES("\001a\002bc\000\000"), 3) == 6);
+    EXPECT(dnw_copy_over(BYTES("\001a\002bc\000\000"), 3) == 3 * (6 + 1));
     EXPECT(dnw_collect_names(BYTES("\001a\002bc\000\000"), 3) == 6);
     EXPECT(dnw_collect_names(BYTES("\001a"), 1) == (uint64_t)1 << 40);
     EXPECT(dnw_compare(BYTES("\001b\000\001A\000\001a\000\001c\000"), 2) == 2 * (2 + 1 + 0));

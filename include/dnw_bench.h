@@ -17,6 +17,9 @@ extern "C" {
 /* Reads the name at each start: the offset after it, and 65536 times the size of its wire form. */
 uint64_t dnw_read_names(const uint8_t *message, size_t len, const uint32_t *starts, size_t n, uint64_t count);
 
+/* Reads the name at each start in the place of the one before: as dnw_read_names. */
+uint64_t dnw_read_over(const uint8_t *message, size_t len, const uint32_t *starts, size_t n, uint64_t count);
+
 /* Writes all names into a new message, compressed: the length of the message. */
 uint64_t dnw_emit_names(const uint8_t *names, size_t len, uint64_t count);
 
@@ -25,6 +28,9 @@ uint64_t dnw_emit_lower(const uint8_t *names, size_t len, uint64_t count);
 
 /* Copies each name into a vector with room for all: the length of the vector. */
 uint64_t dnw_clone_names(const uint8_t *names, size_t len, uint64_t count);
+
+/* Copies each name in the place of the one before: the sizes of the wire forms. */
+uint64_t dnw_copy_over(const uint8_t *names, size_t len, uint64_t count);
 
 /* Reads each name into a growing vector: the length of the vector. */
 uint64_t dnw_collect_names(const uint8_t *names, size_t len, uint64_t count);

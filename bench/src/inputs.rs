@@ -5,11 +5,13 @@ mod families;
 #[derive(Clone, Copy)]
 pub enum Kind {
     Read,
+    ReadOver,
     Emit,
     EmitLower,
     Parse,
     Print,
     Clone,
+    CopyOver,
     Collect,
     Compare,
     Sort,
@@ -309,6 +311,8 @@ impl Tasks<'_> {
         let plain = || (form("mail.eu.example.com."), vec![0]);
         self.add("read-plain", "a name of four labels, whole", Kind::Read, plain, 1, 2000);
         self.add("read-message", "20 names of a compressed message", Kind::Read, || owners(&texts(20, 1)), 20, 100);
+        let message = || owners(&texts(20, 1));
+        self.add("read-over", "the same, each in the place of the one before", Kind::ReadOver, message, 20, 100);
         self.add("read-chain", "a root after 7999 pointers", Kind::Read, || chain(7999), 1, 5);
         self.add("read-deep", "127 labels over 126 pointers", Kind::Read, deep, 1, 100);
     }
@@ -348,6 +352,7 @@ impl Tasks<'_> {
         let names = || (forms(&texts(1000, 4)), vec![]);
         self.add("print", "1000 names", Kind::Print, names, 1000, 5);
         self.add("clone", "1000 names into a vector with room", Kind::Clone, names, 1000, 5);
+        self.add("copy-over", "1000 names, each in the place of the one before", Kind::CopyOver, names, 1000, 5);
         self.add("collect", "1000 names read into a growing vector", Kind::Collect, names, 1000, 5);
         self.add("compare", "1000 names, each with the next", Kind::Compare, names, 1000, 5);
         self.add("sort", "1000 names", Kind::Sort, names, 1000, 5);

@@ -3,11 +3,13 @@ use crate::inputs::{Kind, Task};
 
 extern "C" {
     fn dnw_read_names(message: *const u8, len: usize, starts: *const u32, n: usize, count: u64) -> u64;
+    fn dnw_read_over(message: *const u8, len: usize, starts: *const u32, n: usize, count: u64) -> u64;
     fn dnw_emit_names(names: *const u8, len: usize, count: u64) -> u64;
     fn dnw_emit_lower(names: *const u8, len: usize, count: u64) -> u64;
     fn dnw_parse_names(texts: *const u8, len: usize, count: u64) -> u64;
     fn dnw_to_ascii(names: *const u8, len: usize, count: u64) -> u64;
     fn dnw_clone_names(names: *const u8, len: usize, count: u64) -> u64;
+    fn dnw_copy_over(names: *const u8, len: usize, count: u64) -> u64;
     fn dnw_collect_names(names: *const u8, len: usize, count: u64) -> u64;
     fn dnw_compare(names: *const u8, len: usize, count: u64) -> u64;
     fn dnw_sort(names: *const u8, len: usize, count: u64) -> u64;
@@ -30,11 +32,13 @@ pub fn run(task: &Task, count: u64) -> u64 {
     unsafe {
         match task.kind {
             Kind::Read => dnw_read_names(bytes, len, task.starts.as_ptr(), task.starts.len(), count),
+            Kind::ReadOver => dnw_read_over(bytes, len, task.starts.as_ptr(), task.starts.len(), count),
             Kind::Emit => dnw_emit_names(bytes, len, count),
             Kind::EmitLower => dnw_emit_lower(bytes, len, count),
             Kind::Parse => dnw_parse_names(bytes, len, count),
             Kind::Print => dnw_to_ascii(bytes, len, count),
             Kind::Clone => dnw_clone_names(bytes, len, count),
+            Kind::CopyOver => dnw_copy_over(bytes, len, count),
             Kind::Collect => dnw_collect_names(bytes, len, count),
             Kind::Compare => dnw_compare(bytes, len, count),
             Kind::Sort => dnw_sort(bytes, len, count),

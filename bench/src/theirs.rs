@@ -12,6 +12,10 @@ const REFUSED: u64 = 1 << 40;
 pub fn run(task: &Task, count: u64) -> u64 {
     match task.kind {
         Kind::Read => repeat(count, || read_each(black_box(&task.bytes), &task.starts)),
+        Kind::ReadOver => {
+            let mut name = Name::root();
+            repeat(count, || read_each_over(&mut name, black_box(&task.bytes), &task.starts))
+        }
         Kind::Emit => {
             let names = names_of(&task.bytes);
             repeat(count, || emit_each(black_box(&names), false))
@@ -32,6 +36,10 @@ pub fn run(task: &Task, count: u64) -> u64 {
         Kind::Clone | Kind::TableBuild => {
             let names = names_of(&task.bytes);
             repeat(count, || clone_each(black_box(&names)).len() as u64)
+        }
+        Kind::CopyOver => {
+            let (names, mut copy) = (names_of(&task.bytes), Name::root());
+            repeat(count, || copy_each_over(&mut copy, black_box(&names)))
         }
         Kind::Collect => repeat(count, || black_box(names_of(black_box(&task.bytes))).len() as u64),
         Kind::Compare => {
@@ -71,7 +79,7 @@ pub fn run(task: &Task, count: u64) -> u64 {
     }
 }
 
-fn repeat(count: u64, once: impl Fn() -> u64) -> u64 {
+fn repeat(count: u64, mut once: impl FnMut() -> u64) -> u64 {
     (0..count).fold(0, |all, _| all.wrapping_add(once()))
 }
 
@@ -87,6 +95,25 @@ fn read_each(message: &[u8], starts: &[u32]) -> u64 {
             Ok(name) => decoder.index() as u64 + 65536 * encoded(black_box(&name)),
             Err(_) => REFUSED,
         }
+    })
+}
+
+fn read_each_over(name: &mut Name, message: &[u8], starts: &[u32]) -> u64 {
+    sum_mut(starts, |start| {
+        let mut decoder = BinDecoder::new(message);
+        decoder.read_slice(*start as usize).expect("an offset of the message");
+        match Name::read(&mut decoder) {
+            Ok(read) => *name = read,
+            Err(_) => return REFUSED,
+        }
+        decoder.index() as u64 + 65536 * encoded(black_box(name))
+    })
+}
+
+fn copy_each_over(copy: &mut Name, names: &[Name]) -> u64 {
+    sum_mut(names, |name| {
+        copy.clone_from(name);
+        encoded(black_box(copy))
     })
 }
 

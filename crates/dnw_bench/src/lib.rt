@@ -42,6 +42,19 @@ pub extern "C" fn dnw_read_names(alloc: Global, msg: &[u8], starts: &[u32], coun
     sum
 }
 
+/// Reads the name at each start in the place of the one before: as [`dnw_read_names`].
+#[unsafe(no_mangle)]
+pub extern "C" fn dnw_read_over(alloc: Global, msg: &[u8], starts: &[u32], count: u64) -> u64
+    ensures idle { count ≡ 0 → result ≡ 0 }
+{
+    let mut name = Name::new(alloc);
+    let mut sum = 0u64;
+    for _round in 0..count {
+        sum = sum.wrapping_add(read_each_over(&mut name, msg, starts));
+    }
+    sum
+}
+
 /// Writes the names of a list, compressed, into a new message: its length. The list has to be one of wire forms; else
 /// the result is 0.
 #[unsafe(no_mangle)]
@@ -91,6 +104,22 @@ pub extern "C" fn dnw_clone_names(alloc: Global, names: &[u8], count: u64) -> u6
             Ok(copies) => copies.len() as u64,
             Err(_) => FAILURE,
         });
+    }
+    sum
+}
+
+/// Copies each name of a list in the place of the one before: the sum of their sizes.
+#[unsafe(no_mangle)]
+pub extern "C" fn dnw_copy_over(alloc: Global, names: &[u8], count: u64) -> u64
+    ensures idle { count ≡ 0 → result ≡ 0 }
+{
+    let Ok(names) = names_of(alloc, names) else {
+        return 0;
+    };
+    let mut copy = Name::new(alloc);
+    let mut sum = 0u64;
+    for _round in 0..count {
+        sum = sum.wrapping_add(copy_each_over(&mut copy, names.as_slice()));
     }
     sum
 }
@@ -499,6 +528,34 @@ fn read_one(alloc: Global, msg: &[u8], start: u32) -> u64 {
             .wrapping_add(closing(&name)),
         Err(_) => FAILURE,
     }
+}
+
+fn read_each_over(name: &mut Name, msg: &[u8], starts: &[u32]) -> u64 {
+    let mut sum = 0u64;
+    for start in starts {
+        sum = sum.wrapping_add(read_one_over(name, msg, *start));
+    }
+    sum
+}
+
+#[inline]
+fn read_one_over(name: &mut Name, msg: &[u8], start: u32) -> u64 {
+    let mut decoder = BinDecoder::new(msg);
+    if decoder.skip(start as usize).is_err() || name.read_into(&mut decoder).is_err() {
+        return FAILURE;
+    }
+    (decoder.index() as u64)
+        .wrapping_add(65536 * name.encoded_len() as u64)
+        .wrapping_add(closing(name))
+}
+
+fn copy_each_over(copy: &mut Name, names: &[Name]) -> u64 {
+    let mut sum = 0u64;
+    for name in names {
+        copy.clone_from(name);
+        sum = sum.wrapping_add(size(copy));
+    }
+    sum
 }
 
 /// Returns the size of a name's wire form.
