@@ -149,7 +149,7 @@ impl Name {
     /// Reads the name at the cursor as `read` does, in the place of this one. It fails as `read`, and then both the cursor
     /// and this name are unchanged.
     ///
-    /// It moves nothing but the name's own octets, so it is the call for names that are read one after another.
+    /// No new name is made and moved, so it takes fewer instructions than `read` for names that are read one after another.
     #[inline(always)]
     pub fn read_into(&mut self, decoder: &mut BinDecoder<'_>) -> Result<(), DecodeError>
         ensures ok { OnOk result (IsTrue self.new.is_fqdn × (k : ℕ) × TakesName decoder.old decoder.new self.new.labels k) }
