@@ -15,7 +15,7 @@ pub(crate) fn are_same(own: &[u8], other: &[u8]) -> bool
         return false;
     }
     if own.len() > FEW {
-        // Most that differ do so at their end.
+        // Candidates that share a tag mostly differ after the octets that the tag comes of.
         let last = own.len() - 4;
         return has_same_four(own, other, last) && own == other;
     }
