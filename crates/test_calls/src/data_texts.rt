@@ -152,7 +152,8 @@ fn record_octets(alloc: Global, code: u16, data: &[u8]) -> Result<Vec<u8>, Fail>
     let mut octets = Vec::from_slice(alloc, &[0])?;
     octets.extend_from_slice(&code.to_be_bytes())?;
     octets.extend_from_slice(&[0, 1, 0, 0, 1, 44])?;
-    octets.extend_from_slice(&(data.len() as u16).to_be_bytes())?;
+    let len = u16::try_from(data.len()).map_err(|_| "data of a record")?;
+    octets.extend_from_slice(&len.to_be_bytes())?;
     octets.extend_from_slice(data)?;
     Ok(octets)
 }

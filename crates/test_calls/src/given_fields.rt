@@ -189,13 +189,8 @@ fn bytes_and_names_become_records_and_come_back(rt: HostRuntime) -> Result<(), F
     assert!(rt; record.name == Name::from_ascii(alloc, "a.")?);
     assert!(rt; record.dns_class == DNSClass::CH);
     assert_eq!(rt; record.ttl, 300);
-    let Some(
-        WireRecord {
-            rdata: WireData::Bytes(bytes),
-            ..
-        },
-    ) = record.to_wire_record(alloc)?
-    else {
+    let WireRecord { rdata, .. } = record.to_wire_record(alloc)?.ok_or("a record of bytes")?;
+    let WireData::Bytes(bytes) = rdata else {
         return Err(Fail::from("bytes"));
     };
     assert!(rt; bytes.as_slice() == b"\x7f\x00\x00\x01".as_slice());
@@ -208,13 +203,8 @@ fn bytes_and_names_become_records_and_come_back(rt: HostRuntime) -> Result<(), F
         return Err(Fail::from("a name"));
     };
     assert!(rt; record.data.octets() == b"\x01b\x01a\x00".as_slice());
-    let Some(
-        WireRecord {
-            rdata: WireData::Name { name, encoding },
-            ..
-        },
-    ) = record.to_wire_record(alloc)?
-    else {
+    let WireRecord { rdata, .. } = record.to_wire_record(alloc)?.ok_or("a record of a name")?;
+    let WireData::Name { name, encoding } = rdata else {
         return Err(Fail::from("a name again"));
     };
     assert!(rt; name == Name::from_ascii(alloc, "b.a.")?);

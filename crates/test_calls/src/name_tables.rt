@@ -11,9 +11,9 @@ use uses::table::{NameTable, PushError};
 /// Makes a table of the names of RFC 4034, section 6.1, of all or of every second one.
 fn table_of(alloc: Global, all: bool) -> Result<NameTable, Fail> {
     let mut table = NameTable::new(alloc);
-    for i in 0..IN_ORDER.len() {
+    for (i, wire) in IN_ORDER.iter().enumerate() {
         if all || i % 2 == 0 {
-            let name = name_of(alloc, IN_ORDER[i])?;
+            let name = name_of(alloc, wire)?;
             table.push(&name).map_err(|_| "a name in order")?;
         }
     }
@@ -25,12 +25,12 @@ fn names_in_the_order_of_the_rfc_are_kept(rt: HostRuntime) -> Result<(), Fail> {
     let alloc = rt.alloc();
     let table = table_of(alloc, true)?;
     assert_eq!(rt; table.len(), 9);
-    for i in 0..IN_ORDER.len() {
-        let name = name_of(alloc, IN_ORDER[i])?;
+    for (i, wire) in IN_ORDER.iter().enumerate() {
+        let name = name_of(alloc, wire)?;
         let Some(kept) = table.get(i) else {
             return Err("a name")?;
         };
-        assert_eq!(rt; kept.to_name(alloc)?.as_wire(), IN_ORDER[i]);
+        assert_eq!(rt; kept.to_name(alloc)?.as_wire(), *wire);
         assert_eq!(rt; table.find(&name), Ok(i));
     }
     assert!(rt; table.get(9).is_none());
@@ -42,8 +42,8 @@ fn names_that_are_not_there_have_their_place(rt: HostRuntime) -> Result<(), Fail
     let alloc = rt.alloc();
     let table = table_of(alloc, false)?;
     assert_eq!(rt; table.len(), 5);
-    for i in 0..IN_ORDER.len() {
-        let name = name_of(alloc, IN_ORDER[i])?;
+    for (i, wire) in IN_ORDER.iter().enumerate() {
+        let name = name_of(alloc, wire)?;
         let wanted = if i % 2 == 0 {
             Ok(i / 2)
         } else {

@@ -67,15 +67,15 @@ fn a_script_may_have_many_steps(rt: HostRuntime) -> Result<(), Fail> {
 fn a_script_may_have_many_placeholders(rt: HostRuntime) -> Result<(), Fail> {
     let alloc = rt.alloc();
     for count in [1usize, 255, 256, 4_097, 32_767] {
-        let mut steps = Vec::with_capacity(alloc, count + 1)?;
+        let mut steps = Vec::with_capacity(alloc, count.saturating_add(1))?;
         for _ in 0..count {
             steps.push(Step::Reserve)?;
         }
         steps.push(Step::Fill {
-            place: count - 1,
+            place: count.saturating_sub(1),
             value: 1,
         })?;
-        assert!(rt; runs(alloc, steps.as_slice(), 2 * count)?);
+        assert!(rt; runs(alloc, steps.as_slice(), count.saturating_mul(2))?);
     }
     Ok(())
 }
@@ -88,14 +88,21 @@ fn a_step_may_write_a_whole_message(rt: HostRuntime) -> Result<(), Fail> {
     }
     // A record of the root has 11 octets before its data.
     for len in [0usize, 1, 255, 256, 65_524] {
-        assert!(rt; runs(alloc, &[Step::Record(record(alloc, len)?)], 11 + len)?);
+        let end = len.saturating_add(11);
+        assert!(rt; runs(alloc, &[Step::Record(record(alloc, len)?)], end)?);
         let mut bytes = Vec::new(alloc);
         let mut encoder = BinEncoder::new(&mut bytes);
         record(alloc, len)?.emit(&mut encoder)?;
-        assert_eq!(rt; encoder.offset(), 11 + len);
+        assert_eq!(rt; encoder.offset(), end);
     }
     for len in [0usize, 1, 255] {
-        assert!(rt; runs(alloc, &[Step::Text(zeros(alloc, len)?)], 1 + len)?);
+        assert!(rt;
+            runs(
+                alloc,
+                &[Step::Text(zeros(alloc, len)?)],
+                len.saturating_add(1)
+            )?
+        );
     }
     Ok(())
 }
@@ -105,9 +112,12 @@ fn writes_items(alloc: Global, items: Vec<Item>, len: usize) -> ProtoResult<bool
     let wanted = items.len();
     let mut bytes = Vec::new(alloc);
     let replies = script::run(alloc, &mut bytes, &[Step::Items(items)])?;
+    let [reply] = replies.as_slice() else {
+        return Ok(false);
+    };
     Ok(matches!(
-        replies.as_slice(),
-        [Reply::Items { count, error: None, len: told }] if *count == wanted && *told == len
+        reply,
+        Reply::Items { count, error: None, len: told } if *count == wanted && *told == len
     ))
 }
 
@@ -147,14 +157,16 @@ fn bytes_are_written_at_the_end_and_before_it(rt: HostRuntime) -> Result<(), Fai
         let mut bytes = Vec::new(alloc);
         let mut encoder = BinEncoder::new(&mut bytes);
         encoder.emit_vec(data.as_slice())?;
+        assert!(rt; len / 2 <= encoder.len());
         encoder.set_offset(len / 2);
-        encoder.emit_vec(&data.as_slice()[len / 2..])?;
+        encoder.emit_vec(data.as_slice().get(len / 2..).ok_or("a half")?)?;
         encoder.set_offset(0);
         data.emit(&mut encoder)?;
         assert_eq!(rt; encoder.len(), len);
         assert_eq!(rt; data.to_bytes(alloc)?.len(), len);
         encoder.set_offset(0);
-        encoder.emit_character_data_unrestricted(&data.as_slice()[1..])?;
+        let text = data.as_slice().get(1..).ok_or("a text")?;
+        encoder.emit_character_data_unrestricted(text)?;
         assert_eq!(rt; encoder.len(), len);
     }
     Ok(())
@@ -165,17 +177,21 @@ fn a_placeholder_is_reserved_at_the_end_and_before_it(rt: HostRuntime) -> Result
     let alloc = rt.alloc();
     for len in [0usize, 1, 2, 255, 256, 65_533] {
         let mut bytes = zeros(alloc, len)?;
-        let mut encoder = BinEncoder::with_offset(&mut bytes, len as u32);
+        let offset = u32::try_from(len).map_err(|_| "an offset")?;
+        assert_eq!(rt; bytes.len(), len);
+        let mut encoder = BinEncoder::with_offset(&mut bytes, offset);
         let place = encoder.place::<u16>()?;
         encoder.emit_at(place, 0x0102)?;
-        assert_eq!(rt; encoder.offset(), len + 2);
+        assert_eq!(rt; encoder.offset(), len.saturating_add(2));
+        assert!(rt; len <= encoder.len());
         encoder.set_offset(len);
         let place = encoder.place::<u16>()?;
         place.replace(&mut encoder, 0x0304)?;
+        assert!(rt; len / 2 <= encoder.len());
         encoder.set_offset(len / 2);
         let place = encoder.place::<u16>()?;
         encoder.emit_at(place, 0x0506)?;
-        assert_eq!(rt; encoder.len(), len / 2 + 2);
+        assert_eq!(rt; encoder.len(), (len / 2).saturating_add(2));
         assert!(rt; encoder.into_bytes().as_slice().ends_with(b"\x05\x06"));
     }
     Ok(())
@@ -184,26 +200,28 @@ fn a_placeholder_is_reserved_at_the_end_and_before_it(rt: HostRuntime) -> Result
 #[test]
 fn an_encoder_may_keep_many_candidates(rt: HostRuntime) -> Result<(), Fail> {
     let alloc = rt.alloc();
-    for count in [1usize, 64, 65, 255, 256, 257, 1_000] {
+    for count in [1u16, 64, 65, 255, 256, 257, 1_000] {
         let mut bytes = Vec::new(alloc);
-        let mut encoder = BinEncoder::new(&mut bytes).with_limits(count, 65_536);
+        let mut encoder = BinEncoder::new(&mut bytes).with_limits(usize::from(count), 65_536);
+        let mut last = 0;
         for number in 0..count {
-            encoder.emit_vec(&[2, (number / 256) as u8, (number % 256) as u8])?;
-            encoder.store_label_pointer(3 * number, 3 * number + 3)?;
+            let [high, low] = number.to_be_bytes();
+            last = encoder.len();
+            encoder.emit_vec(&[2, high, low])?;
+            assert!(rt; last < encoder.offset() && encoder.len() <= 3_000);
+            encoder.store_label_pointer(last, encoder.len())?;
         }
-        let last = 3 * (count - 1);
-        assert_eq!(rt;
-            encoder.get_label_pointer(last, last + 3),
-            Some(last as u16)
-        );
+        let end = encoder.len();
+        assert!(rt; last < encoder.offset() && last < end && end <= 3_000);
+        let found = encoder.get_label_pointer(last, end);
+        assert_eq!(rt; found.map(usize::from), Some(last));
         encoder.set_offset(last);
         encoder.trim();
         encoder.emit_vec(&[2, 255, 255])?;
-        encoder.store_label_pointer(last, last + 3)?;
-        assert_eq!(rt;
-            encoder.get_label_pointer(last, last + 3),
-            Some(last as u16)
-        );
+        assert!(rt; last < encoder.offset() && end == encoder.len());
+        encoder.store_label_pointer(last, end)?;
+        let found = encoder.get_label_pointer(last, end);
+        assert_eq!(rt; found.map(usize::from), Some(last));
     }
     Ok(())
 }
@@ -220,13 +238,13 @@ fn many_names_are_compressed(rt: HostRuntime) -> Result<(), Fail> {
             names.push(Name::from_ascii(alloc, text.as_str())?)?;
         }
         assert!(rt; matches!(encoder.emit_all(names.iter()), Ok(written) if written == count));
-        // The first is whole, and the others point to its zone.
+        // The first is whole in 16 octets, and the others point to its zone and take 12.
         let len = encoder.len();
-        assert_eq!(rt; len, 16 + 12 * (count - 1));
+        assert_eq!(rt; len, count.saturating_mul(12).saturating_add(4));
         for name in names.as_slice() {
             name.emit(&mut encoder)?;
         }
-        assert_eq!(rt; encoder.len(), len + 2 * count);
+        assert_eq!(rt; encoder.len(), count.saturating_mul(2).saturating_add(len));
     }
     Ok(())
 }
@@ -239,7 +257,7 @@ fn a_list_may_have_many_items(rt: HostRuntime) -> Result<(), Fail> {
         let mut bytes = Vec::new(alloc);
         let mut encoder = BinEncoder::new(&mut bytes);
         assert!(rt; matches!(encoder.emit_all(items.iter()), Ok(written) if written == count));
-        assert_eq!(rt; encoder.len(), 2 * count);
+        assert_eq!(rt; encoder.len(), count.saturating_mul(2));
     }
     Ok(())
 }
@@ -250,14 +268,18 @@ fn a_set_may_have_all_types(rt: HostRuntime) -> Result<(), Fail> {
     for count in COUNTS {
         let mut types = Vec::new(alloc);
         for code in 0..count {
-            types.push(RecordType::from(code as u16))?;
+            let code = u16::try_from(code).map_err(|_| "a code")?;
+            types.push(RecordType::from(code))?;
         }
         let set = RecordTypeSet::new(alloc, types)?;
         assert_eq!(rt; set.iter().count(), count);
         let copy = set.clone()?;
         // Each window of 256 types takes 34 octets, and a shorter one as many as its last type asks for.
-        let last = count % 256;
-        let wanted = count / 256 * 34 + if last == 0 { 0 } else { 2 + last.div_ceil(8) };
+        let last = match count % 256 {
+            0 => 0,
+            types => types.div_ceil(8).saturating_add(2),
+        };
+        let wanted = (count / 256).saturating_mul(34).saturating_add(last);
         assert_eq!(rt; copy.to_bytes(alloc)?.len(), wanted);
     }
     Ok(())

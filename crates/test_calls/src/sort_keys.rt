@@ -28,9 +28,12 @@ pub(crate) fn name_of(alloc: Global, wire: &[u8]) -> Result<Name, Fail> {
 
 #[test]
 fn keys_are_in_the_order_of_the_rfc(rt: HostRuntime) -> Result<(), Fail> {
-    for i in 1..IN_ORDER.len() {
-        let before = name_of(rt.alloc(), IN_ORDER[i - 1])?;
-        let after = name_of(rt.alloc(), IN_ORDER[i])?;
+    for pair in IN_ORDER.windows(2) {
+        let [before, after] = pair else {
+            return Err("two names")?;
+        };
+        let before = name_of(rt.alloc(), before)?;
+        let after = name_of(rt.alloc(), after)?;
         let mut before_key = [0; MAX_SORT_KEY_LENGTH];
         let mut after_key = [0; MAX_SORT_KEY_LENGTH];
         assert!(rt; before.sort_key(&mut before_key) < after.sort_key(&mut after_key));

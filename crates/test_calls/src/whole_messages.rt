@@ -37,7 +37,7 @@ const MAIL_LEN: usize = 287;
 const MAIL_ADDRESS: usize = 260;
 
 #[test]
-fn mail_exchangers_with_edns(rt: HostRuntime) -> Result<(), Fail> {
+fn the_header_and_the_question(rt: HostRuntime) -> Result<(), Fail> {
     let alloc = rt.alloc();
     let octets = hex::decode(alloc, MAIL)?;
     let message = MessageRef::read(octets.as_slice())?;
@@ -48,11 +48,20 @@ fn mail_exchangers_with_edns(rt: HostRuntime) -> Result<(), Fail> {
     assert!(rt; metadata.authoritative && !metadata.truncation && !metadata.recursion_desired);
     let owner = Name::from_ascii(alloc, "example.org.")?;
     let mut queries = message.queries();
-    let query = queries.next().unwrap();
+    let query = queries.next().ok_or("a question")?;
     assert!(rt; query.name().eq_name(&owner));
     assert_eq!(rt; query.query_type(), RecordType::ANY);
     assert_eq!(rt; query.query_class(), DNSClass::IN);
     assert!(rt; queries.next().is_none());
+    Ok(())
+}
+
+#[test]
+fn mail_exchangers(rt: HostRuntime) -> Result<(), Fail> {
+    let alloc = rt.alloc();
+    let octets = hex::decode(alloc, MAIL)?;
+    let message = MessageRef::read(octets.as_slice())?;
+    let owner = Name::from_ascii(alloc, "example.org.")?;
     let types = [
         RecordType::MX,
         RecordType::MX,
@@ -63,27 +72,36 @@ fn mail_exchangers_with_edns(rt: HostRuntime) -> Result<(), Fail> {
     ];
     let mut answers = message.answers();
     for kind in types {
-        let record = answers.next().unwrap();
+        let record = answers.next().ok_or("an answer")?;
         assert_eq!(rt; record.record_type(), kind);
         assert_eq!(rt; record.ttl(), 3600);
         assert_eq!(rt; record.owner().eq_name(&owner), kind != RecordType::SRV);
     }
     assert!(rt; answers.next().is_none());
     assert!(rt; message.authorities().next().is_none());
-    let edns = message.edns()?.unwrap();
+    Ok(())
+}
+
+/// The question takes 17 octets after the header, and the owner of the first answer is a pointer. The additional records are an
+/// address of 16 octets, whose owner is a pointer, and the `OPT` record of 11.
+#[test]
+fn edns_and_the_offsets(rt: HostRuntime) -> Result<(), Fail> {
+    let octets = hex::decode(rt.alloc(), MAIL)?;
+    let message = MessageRef::read(octets.as_slice())?;
+    let edns = message.edns()?.ok_or("EDNS")?;
     assert_eq!(rt; edns.max_payload(), 1232);
     assert_eq!(rt; edns.version(), 0);
     assert!(rt; edns.dnssec_ok() && edns.options().next().is_none());
+    assert!(rt; edns.options_offset() == MAIL_LEN && edns.options_len() == 0);
     assert_eq!(rt; message.response_code()?, ResponseCode::NoError);
     assert_eq!(rt; message.end(), MAIL_LEN);
-    // The question takes 17 octets after the header, and the owner of the first answer is a pointer. The additional records are
-    // an address of 16 octets, whose owner is a pointer, and the OPT record of 11.
     let offsets = message.section_offsets();
     assert_eq!(rt; offsets.answers, 29);
-    assert_eq!(rt; message.answers().next().unwrap().rdata_offset(), 41);
     assert!(rt; offsets.authorities == MAIL_LEN - 27 && offsets.additionals == MAIL_LEN - 27);
-    assert!(rt; edns.options_offset() == MAIL_LEN && edns.options_len() == 0);
-    assert_eq!(rt; message.opt()?.unwrap().rdata_offset(), MAIL_LEN);
+    let first = message.answers().next().ok_or("an answer")?;
+    assert_eq!(rt; first.rdata_offset(), 41);
+    let opt = message.opt()?.ok_or("an OPT record")?;
+    assert_eq!(rt; opt.rdata_offset(), MAIL_LEN);
     Ok(())
 }
 
@@ -98,10 +116,16 @@ fn a_name_that_does_not_exist(rt: HostRuntime) -> Result<(), Fail> {
     assert!(rt; metadata.authentic_data && metadata.checking_disabled && !metadata.authoritative);
     assert_eq!(rt; message.response_code()?, ResponseCode::NXDomain);
     let mut authorities = message.authorities();
-    assert_eq!(rt; authorities.next().unwrap().record_type(), RecordType::SOA);
-    assert_eq!(rt; authorities.next().unwrap().record_type(), RecordType::NSEC);
+    assert_eq!(rt;
+        authorities.next().ok_or("a record")?.record_type(),
+        RecordType::SOA
+    );
+    assert_eq!(rt;
+        authorities.next().ok_or("another")?.record_type(),
+        RecordType::NSEC
+    );
     assert!(rt; authorities.next().is_none());
-    let edns = message.edns()?.unwrap();
+    let edns = message.edns()?.ok_or("EDNS")?;
     assert_eq!(rt; edns.max_payload(), 4096);
     assert!(rt; !edns.dnssec_ok());
     Ok(())
@@ -113,10 +137,9 @@ fn headers_are_written_as_they_were(rt: HostRuntime) -> Result<(), Fail> {
     for text in [MAIL, NXDOMAIN] {
         let octets = hex::decode(alloc, text)?;
         let header = Header::from_bytes(alloc, octets.as_slice())?;
-        assert_eq!(rt;
-            header.to_bytes(alloc)?.as_slice(),
-            &octets.as_slice()[..12]
-        );
+        let written = header.to_bytes(alloc)?;
+        assert_eq!(rt; written.len(), 12);
+        assert!(rt; octets.as_slice().starts_with(written.as_slice()));
         let mut decoder = BinDecoder::new(octets.as_slice());
         Header::read(alloc, &mut decoder)?;
         QueryRef::read_next(&mut decoder)?;
@@ -150,7 +173,8 @@ fn cut_messages_say_where(rt: HostRuntime) -> Result<(), Fail> {
         (MAIL_LEN - 1, Section::Additionals, 1, MAIL_LEN - 11),
     ];
     for (end, section, item, offset) in ends {
-        let Err(error) = MessageRef::read(&octets.as_slice()[..end]) else {
+        let cut = octets.as_slice().get(..end).ok_or("octets")?;
+        let Err(error) = MessageRef::read(cut) else {
             return Err(Fail::from("a cut message was read"));
         };
         assert_eq!(rt; error.section, section);
@@ -188,7 +212,9 @@ fn with(changes: [(usize, u8); 2]) -> [u8; 38] {
     let mut octets = [0; 38];
     octets.copy_from_slice(TWO);
     for (at, octet) in changes {
-        octets[at] = octet;
+        if let Some(changed) = octets.get_mut(at) {
+            *changed = octet;
+        }
     }
     octets
 }
@@ -200,9 +226,9 @@ fn rules_of_edns(rt: HostRuntime) -> Result<(), Fail> {
     assert!(rt; matches!(message.opt(), Err(EdnsError::DuplicateEdns)));
     assert!(rt; matches!(message.response_code(), Err(EdnsError::DuplicateEdns)));
     let one = with([(11, 1), (0, 0)]);
-    let edns = MessageRef::read(&one)?.edns()?.unwrap();
+    let edns = MessageRef::read(&one)?.edns()?.ok_or("EDNS")?;
     let mut options = edns.options();
-    let option = options.next().unwrap();
+    let option = options.next().ok_or("an option")?;
     assert_eq!(rt; option.code(), 3);
     assert!(rt; option.octets().is_empty() && options.next().is_none());
     let longer = with([(11, 1), (26, 1)]);
@@ -211,7 +237,7 @@ fn rules_of_edns(rt: HostRuntime) -> Result<(), Fail> {
     // The first record becomes one of type 0x2a, so that the second is the only `OPT`.
     let second = with([(14, 0x2a), (0, 0)]);
     let message = MessageRef::read(&second)?;
-    assert_eq!(rt; message.edns()?.unwrap().max_payload(), 512);
+    assert_eq!(rt; message.edns()?.ok_or("EDNS")?.max_payload(), 512);
     assert_eq!(rt; message.response_code()?, ResponseCode::BADVERS);
     assert_eq!(rt; u16::from(message.response_code()?), 16);
     Ok(())
@@ -221,14 +247,14 @@ fn rules_of_edns(rt: HostRuntime) -> Result<(), Fail> {
 /// EDNS. It is a record of the message all the same.
 #[test]
 fn opt_is_an_additional_record(rt: HostRuntime) -> Result<(), Fail> {
-    for (section, answers, authorities) in [(7, 1, 0), (9, 0, 1)] {
+    for (section, is_answer) in [(7, true), (9, false)] {
         // `TWO` as a message of one record, and as one of a record in each of two sections.
         for additionals in [0, 1] {
             let octets = with([(section, 1), (11, additionals)]);
             let message = MessageRef::read(&octets)?;
-            assert_eq!(rt; message.answers().count(), answers);
-            assert_eq!(rt; message.authorities().count(), authorities);
-            assert_eq!(rt; message.additionals().count(), usize::from(additionals));
+            assert_eq!(rt; message.answers().next().is_some(), is_answer);
+            assert_eq!(rt; message.authorities().next().is_some(), !is_answer);
+            assert_eq!(rt; message.additionals().next().is_some(), additionals == 1);
             assert!(rt; matches!(message.edns(), Err(EdnsError::OutsideAdditionals)));
             assert!(rt; matches!(message.opt(), Err(EdnsError::OutsideAdditionals)));
             assert!(rt; matches!(message.response_code(), Err(EdnsError::OutsideAdditionals)));

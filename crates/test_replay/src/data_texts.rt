@@ -20,10 +20,13 @@ pub(crate) fn answer(alloc: Global, kind: &str, words: &str) -> ProtoResult<Stri
 
 /// Returns the text of data, which must be parsed as the same data.
 fn printed(alloc: Global, code: u16, data: &[u8]) -> ProtoResult<String> {
+    let Ok(len) = u16::try_from(data.len()) else {
+        return Err(BAD_LINE);
+    };
     let mut message = Vec::from_slice(alloc, &[0])?;
     message.extend_from_slice(&code.to_be_bytes())?;
     message.extend_from_slice(&[0, 1, 0, 0, 0, 0])?;
-    message.extend_from_slice(&(data.len() as u16).to_be_bytes())?;
+    message.extend_from_slice(&len.to_be_bytes())?;
     message.extend_from_slice(data)?;
     let Ok(record) = RecordRef::read_next(&mut BinDecoder::new(message.as_slice())) else {
         return Err(BAD_LINE);

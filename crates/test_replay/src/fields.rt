@@ -17,9 +17,6 @@ pub(crate) fn answer(alloc: Global, words: &str) -> ProtoResult<String> {
     let (start, message) = first_word(others)?;
     let start: usize = number(start)?;
     let message = octets(alloc, message)?;
-    if start > message.len() {
-        return Err(BAD_LINE);
-    }
     let kind = RecordType::from(number::<u16>(code)?);
     let walked = walked(alloc, message.as_slice(), start, kind)?;
     let read = read_in_turn(alloc, message.as_slice(), start, kind)?;
@@ -51,6 +48,9 @@ fn read_in_turn(
 
 /// Returns the words of the fields that `Fields` returns.
 fn walked(alloc: Global, message: &[u8], start: usize, kind: RecordType) -> ProtoResult<String> {
+    if start > message.len() {
+        return Err(BAD_LINE);
+    }
     let mut answer = String::new(alloc);
     for field in Fields::new(message, start, kind) {
         let word = match field {

@@ -27,19 +27,18 @@ pub(crate) fn name_of(alloc: Global, text: &str) -> ProtoResult<Name> {
 fn push_label(wire: &mut Vec<u8>, label: &str) -> ProtoResult<()> {
     let start = wire.len();
     wire.push(0)?;
-    let mut rest = label.as_bytes();
-    while let [first, others @ ..] = rest {
-        rest = others;
-        let octet = match (*first, others) {
-            (b'=', [high, low, after @ ..]) => {
-                rest = after;
-                hex_digit(*high)?
-                    .saturating_mul(16)
-                    .saturating_add(hex_digit(*low)?)
-            }
-            _ => *first,
+    let mut parts = label.split('=');
+    wire.extend_from_slice(parts.next().unwrap_or("").as_bytes())?;
+    for part in parts {
+        let [high, low, others @ ..] = part.as_bytes() else {
+            return Err(BAD_LINE);
         };
-        wire.push(octet)?;
+        wire.push(
+            hex_digit(*high)?
+                .saturating_mul(16)
+                .saturating_add(hex_digit(*low)?),
+        )?;
+        wire.extend_from_slice(others)?;
     }
     let len = wire.len().saturating_sub(start).saturating_sub(1);
     if let Some(octet) = wire.get_mut(start) {
