@@ -3,7 +3,10 @@
 //! It is looked for in the folder that the environment variable `DNW_LIB_DIR` names, and if that is not set in `lib` beside
 //! this file, which a distribution has. Else, in a checkout of the repository, `tools/c-library` builds it, for which the
 //! Rattle toolchain (`rt`) has to be there.
+//!
+//! An archive is for one processor, on Linux. For another target the build stops here, and not in the linker.
 use std::env;
+use std::fs;
 use std::path::{Path, PathBuf};
 use std::process::{exit, Command};
 
@@ -11,7 +14,7 @@ const ARCHIVE: &str = "libdns_names_wire.a";
 
 fn main() {
     println!("cargo:rerun-if-env-changed=DNW_LIB_DIR");
-    let folder = folder().unwrap_or_else(|problem| {
+    let folder = is_linux().and_then(|()| folder()).and_then(fits_target).unwrap_or_else(|problem| {
         eprintln!("dns-names-wire: {problem}");
         exit(1);
     });
@@ -43,5 +46,38 @@ fn build(tool: &Path) -> Result<PathBuf, String> {
     match Command::new(tool).arg(&out).status() {
         Ok(status) if status.success() => Ok(out),
         _ => Err(format!("{} failed: it needs the Rattle toolchain; or set DNW_LIB_DIR", tool.display())),
+    }
+}
+
+fn target(part: &str) -> String {
+    env::var(format!("CARGO_CFG_TARGET_{part}")).expect("cargo sets it")
+}
+
+fn is_linux() -> Result<(), String> {
+    match target("OS").as_str() {
+        "linux" => Ok(()),
+        other => Err(format!("the proved library is for Linux, and this build is for {other}")),
+    }
+}
+
+/// The folder, if its archive has code for the processor that the build is for.
+fn fits_target(folder: PathBuf) -> Result<PathBuf, String> {
+    let archive = folder.join(ARCHIVE);
+    let octets = fs::read(&archive).map_err(|error| format!("{}: {error}", archive.display()))?;
+    let (own, wanted) = (processor(&octets), target("ARCH"));
+    if own == Some(wanted.as_str()) {
+        return Ok(folder);
+    }
+    let own = own.unwrap_or("another processor");
+    Err(format!("{} is for {own}, and this build is for {wanted}: there is no archive for that", archive.display()))
+}
+
+/// The processor of the first object of an archive, by the header of its ELF file.
+fn processor(archive: &[u8]) -> Option<&'static str> {
+    let start = archive.windows(4).position(|octets| octets == b"\x7fELF")?;
+    match archive.get(start + 18..start + 20)? {
+        [62, 0] => Some("x86_64"),
+        [183, 0] => Some("aarch64"),
+        _ => None,
     }
 }

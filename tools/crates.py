@@ -1,6 +1,13 @@
-"""The crates of this repository, as crates.txt lists them."""
+#!/usr/bin/env python3
+"""The crates of this repository, as crates.txt lists them.
+
+usage: tools/crates.py archives        the crates that are joined to the C library, one a line
+       tools/crates.py below CRATE     a crate and all of this repository that it stands on, lowest first, one a line
+"""
 
 import pathlib
+import re
+import sys
 
 ROOT = pathlib.Path(__file__).resolve().parent.parent
 
@@ -19,3 +26,27 @@ def listed():
 def below(name, crates):
     """The crates of the repository that a crate stands on, and what they stand on."""
     return {found for it in crates[name] if it in crates for found in {it} | below(it, crates)}
+
+
+def archives():
+    """The crates that are joined to the C library: those whose functions C calls."""
+    return [head[0] for head, _ in rows() if "staticlib" in head and re.match(r"dnw_c(_|$)", head[0])]
+
+
+def in_order(name, crates):
+    """A crate and those that it stands on, each after those that it stands on itself."""
+    needed = below(name, crates) | {name}
+    return sorted(needed, key=lambda it: (len(below(it, crates)), it))
+
+
+def main(words):
+    if words == ["archives"]:
+        print("\n".join(archives()))
+    elif len(words) == 2 and words[0] == "below" and words[1] in listed():
+        print("\n".join(in_order(words[1], listed())))
+    else:
+        sys.exit(__doc__)
+
+
+if __name__ == "__main__":
+    main(sys.argv[1:])

@@ -1,4 +1,7 @@
-"""Arguments: what is none raises TypeError or ValueError with the argument's name."""
+"""Arguments: what is none raises TypeError or ValueError with the argument's name.
+
+What is returned is of the very type that is named, and no subclass, whose own methods could say another length or other octets
+than there are."""
 
 import operator
 from typing import Optional, Union
@@ -14,15 +17,15 @@ def text(what: str, value: object) -> bytes:
     """The UTF-8 of a text. Half a surrogate pair stays, for the library to refuse."""
     if not isinstance(value, str):
         raise wrong_type(what, "a str is", value)
-    return value.encode("utf-8", "surrogatepass")
+    return str.encode(value, "utf-8", "surrogatepass")
 
 
 def octets(what: str, value: object) -> bytes:
     """Bytes; what is not `bytes` already is copied."""
-    if isinstance(value, bytes):
+    if type(value) is bytes:
         return value
-    if isinstance(value, (bytearray, memoryview)):
-        return bytes(value)
+    if isinstance(value, (bytes, bytearray, memoryview)):
+        return memoryview(value).tobytes()
     raise wrong_type(what, "bytes are", value)
 
 
@@ -32,6 +35,8 @@ def number(what: str, value: object, most: Optional[int] = None) -> int:
         whole = operator.index(value)  # type: ignore[arg-type]
     except TypeError:
         raise wrong_type(what, "an int is", value) from None
+    if type(whole) is not int:
+        whole = int.__add__(whole, 0)
     if whole < 0 and most is None:
         raise ValueError(f"{what}: {whole} is negative")
     if most is not None and not 0 <= whole <= most:

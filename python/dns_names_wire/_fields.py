@@ -1,7 +1,6 @@
 """The fields of the data of records, as values of Python."""
 
 import struct
-import threading
 from ctypes import byref
 from ipaddress import IPv4Address, IPv6Address
 from typing import Any, Callable, Dict, Iterator, List, Optional, Tuple, Union
@@ -77,26 +76,17 @@ Placed = Tuple[Name, int]
 Names = Dict[int, Placed]
 
 
-class _Room(threading.local):
-    """Where a name is put, for each thread."""
-
-    def __init__(self) -> None:
-        self.form, self.read = Form(), ReadName()
-        self.result = byref(self.read)
-
-
-_room = _Room()
 _name_read = library.dnw_name_read
 _name_of = Name._of
 
 
 def _read(message: bytes, end: int, offset: int) -> Placed:
-    room = _room
-    number = _name_read(message, end, offset, room.form, FORM_SIZE, room.result)
+    # Room of its own for each call, since a signal handler may read another name in between.
+    form, read = Form(), ReadName()
+    number = _name_read(message, end, offset, form, FORM_SIZE, byref(read))
     if number:
         check(number, offset)
-    read = room.read
-    return _name_of(taken(room.form, read.len), True), read.end
+    return _name_of(taken(form, read.len), True), read.end
 
 
 def name_at(message: bytes, end: int, offset: int, names: Names) -> Placed:

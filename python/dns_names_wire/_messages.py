@@ -2,7 +2,6 @@
 
 import secrets
 import struct
-import threading
 from ctypes import byref, c_char
 from dataclasses import dataclass, field, replace
 from functools import lru_cache
@@ -170,10 +169,10 @@ class Message:
         """
         whole = message if type(message) is bytes else _checks.octets("message", message)
         most = max_pointers if max_pointers is _MAX_POINTERS else _checks.number("max_pointers", max_pointers, _MOST_POINTERS)
-        room = _room
-        number = _message_read(whole, len(whole), most, room.read_at, room.fault_at)
+        # Room of its own for each call, since a signal handler may read another message in between.
+        read, fault = Read(), MessageFault()
+        number = _message_read(whole, len(whole), most, byref(read), byref(fault))
         if number:
-            fault = room.fault
             check_item(number, SECTIONS[fault.section], fault.item, fault.offset)
         names: Names = {}
         id, flags, asked, answer_count, authority_count, additional_count = _HEADER.unpack_from(whole)
@@ -460,13 +459,4 @@ def _questions(whole: bytes, count: int, names: Names) -> Tuple[Tuple[Question, 
     return tuple(questions), offset
 
 
-class _Room(threading.local):
-    """Where the library puts what it read of a message, for each thread."""
-
-    def __init__(self) -> None:
-        self.read, self.fault = Read(), MessageFault()
-        self.read_at, self.fault_at = byref(self.read), byref(self.fault)
-
-
-_room = _Room()
 _message_read = library.dnw_message_read

@@ -170,7 +170,7 @@ class Name:
         True
         """
         is_in = ctypes.c_bool()
-        check(library.dnw_name_in_zone(*self._slice(), *wire_of("zone", zone), byref(is_in)))
+        check(library.dnw_name_in_zone(*_slice(self), *wire_of("zone", zone), byref(is_in)))
         return is_in.value
 
     @property
@@ -185,7 +185,7 @@ class Name:
     def lower(self) -> "Name":
         """The name with its ASCII letters in lower case."""
         form, length = Form(), ctypes.c_size_t()
-        check(library.dnw_name_to_lowercase(*self._slice(), form, FORM_SIZE, byref(length)))
+        check(library.dnw_name_to_lowercase(*_slice(self), form, FORM_SIZE, byref(length)))
         return Name._of(taken(form, length.value), self._is_fqdn)
 
     def append(self, suffix: "Name") -> "Name":
@@ -195,7 +195,7 @@ class Name:
         Name('www.example.com.')
         """
         form, length = Form(), ctypes.c_size_t()
-        check(library.dnw_name_append(*self._slice(), *wire_of("suffix", suffix), form, FORM_SIZE, byref(length)))
+        check(library.dnw_name_append(*_slice(self), *wire_of("suffix", suffix), form, FORM_SIZE, byref(length)))
         return Name._of(taken(form, length.value), suffix._is_fqdn)
 
     def __add__(self, suffix: object) -> "Name":
@@ -213,7 +213,7 @@ class Name:
         """
         octets = _checks.octets("label", label)
         form, length = Form(), ctypes.c_size_t()
-        check(library.dnw_name_prepend_label(octets, len(octets), *self._slice(), form, FORM_SIZE, byref(length)))
+        check(library.dnw_name_prepend_label(octets, len(octets), *_slice(self), form, FORM_SIZE, byref(length)))
         return Name._of(taken(form, length.value), self._is_fqdn)
 
     def trim_to(self, labels: int) -> "Name":
@@ -224,7 +224,7 @@ class Name:
         """
         count = min(_checks.number("labels", labels), FORM_SIZE)
         form, length = Form(), ctypes.c_size_t()
-        check(library.dnw_name_trim(*self._slice(), count, form, FORM_SIZE, byref(length)))
+        check(library.dnw_name_trim(*_slice(self), count, form, FORM_SIZE, byref(length)))
         return Name._of(taken(form, length.value), self._is_fqdn)
 
     def to_wildcard(self) -> "Name":
@@ -234,7 +234,7 @@ class Name:
         Name('*.example.com.')
         """
         form, length = Form(), ctypes.c_size_t()
-        check(library.dnw_name_to_wildcard(*self._slice(), form, FORM_SIZE, byref(length)))
+        check(library.dnw_name_to_wildcard(*_slice(self), form, FORM_SIZE, byref(length)))
         return Name._of(taken(form, length.value), self._is_fqdn)
 
     def compare(self, other: "Name") -> int:
@@ -243,7 +243,7 @@ class Name:
         if self._is_fqdn != other._is_fqdn:
             return 1 if self._is_fqdn else -1
         order = ctypes.c_int32()
-        check(library.dnw_name_compare(*self._slice(), *others, byref(order)))
+        check(library.dnw_name_compare(*_slice(self), *others, byref(order)))
         return order.value
 
     def sort_key(self) -> bytes:
@@ -266,12 +266,9 @@ class Name:
         octets: Any = key[: length.value]
         return bytes(octets)
 
-    def _slice(self) -> Tuple[bytes, int]:
-        return self._wire, len(self._wire)
-
     def __str__(self) -> str:
         text, length = Text(), ctypes.c_size_t()
-        check(library.dnw_name_print(*self._slice(), self._is_fqdn, text, TEXT_SIZE, byref(length)))
+        check(library.dnw_name_print(*_slice(self), self._is_fqdn, text, TEXT_SIZE, byref(length)))
         return taken(text, length.value).decode("ascii")
 
     def __format__(self, spec: str) -> str:
@@ -297,7 +294,7 @@ class Name:
         if self._wire == other._wire:
             return True
         is_equal = ctypes.c_bool()
-        check(library.dnw_name_equal(*self._slice(), *other._slice(), byref(is_equal)))
+        check(library.dnw_name_equal(*_slice(self), *_slice(other), byref(is_equal)))
         return is_equal.value
 
     def __hash__(self) -> int:
@@ -331,14 +328,21 @@ class Name:
 
 # A Name is made by its slots, which are set nowhere else.
 _set_wire: Callable[[Name, bytes], None] = Name.__dict__["_wire"].__set__
+_get_wire: Callable[[Name], bytes] = Name.__dict__["_wire"].__get__
 _set_is_fqdn: Callable[[Name, bool], None] = Name.__dict__["_is_fqdn"].__set__
+
+
+def _slice(name: Name) -> Tuple[bytes, int]:
+    """The wire form and its length, also of a subclass that has methods of its own."""
+    wire = _get_wire(name)
+    return wire, len(wire)
 
 
 def wire_of(what: str, name: object) -> Tuple[bytes, int]:
     """The wire form of an argument that is a name, and its length."""
     if not isinstance(name, Name):
         raise _checks.wrong_type(what, "a Name is", name)
-    return name._slice()
+    return _slice(name)
 
 
 def sort_names(names: Iterable[Name]) -> List[Name]:

@@ -6,6 +6,7 @@ import doctest
 import os
 import pathlib
 import pickle
+import signal
 import subprocess
 import sys
 import tempfile
@@ -70,6 +71,97 @@ class Reading(unittest.TestCase):
             next(read)
         with self.assertRaises(dnw.MessageCut):
             list(names(b"\x00", 2))
+
+
+class Subclasses(unittest.TestCase):
+    """Subclasses of bytes, str, int and Name that say of themselves what is not so: what counts are the octets of the object."""
+
+    class Long(bytes):
+        def __len__(self):
+            return 1 << 40
+
+        def __bytes__(self):
+            return b"\x3f"
+
+        def __iter__(self):
+            return iter([63])
+
+        def __getitem__(self, at):
+            return 63
+
+    class Other(str):
+        def encode(self, *arguments):
+            return Subclasses.Long(b"b.")
+
+        def __len__(self):
+            return 1 << 40
+
+    class Far(int):
+        def __index__(self):
+            return 1 << 40
+
+        def __le__(self, other):
+            return True
+
+        __ge__ = __lt__ = __gt__ = __le__
+
+    def test_bytes(self):
+        self.assertEqual(read_name(self.Long(b"\x01a\x00")), read_name(b"\x01a\x00"))
+        with self.assertRaises(dnw.MessageCut):
+            read_name(self.Long(b"\x02a"))
+        self.assertEqual(Name.from_wire(self.Long(b"\x01a\x00")), Name("a."))
+        self.assertEqual(Name(".").prepend_label(self.Long(b"a")), Name("a."))
+        record = dnw.read_record(self.Long(bytes.fromhex("00 0010 0001 00000000 0002 0161")))
+        self.assertEqual((record.data, record.end), (dnw.TXT((b"a",)), 13))
+        self.assertEqual(dnw.TXT((self.Long(b"a"),)).to_wire(), b"\x01a")
+        self.assertEqual(dnw.Message.from_wire(self.Long(bytes(12))).wire, bytes(12))
+        self.assertEqual(dnw.data_from_wire(16, self.Long(b"\x01a")), dnw.TXT((b"a",)))
+        self.assertEqual(list(dnw.TypeSet.from_bitmap(self.Long(b"\x00\x01\x40"))), [dnw.RecordType.A])
+
+    def test_texts(self):
+        self.assertEqual(Name(self.Other("a.")), Name("a."))
+        self.assertEqual(dnw.Record.from_text(self.Other("a. 60 IN A 192.0.2.1")).owner, Name("a."))
+        self.assertEqual(dnw.RecordType.from_text(self.Other("MX")), dnw.RecordType.MX)
+
+    def test_numbers(self):
+        self.assertEqual(Name("b.a.").trim_to(self.Far(1)), Name("a."))
+        self.assertEqual(read_name(b"\x00\x01a\x00", self.Far(1)).name, Name("a."))
+        with self.assertRaises(ValueError):
+            dnw.MX(self.Far(65536), Name("a.")).to_wire()
+
+    def test_names(self):
+        class Wide(Name):
+            _wire = b"\x3f"
+
+            def _slice(self):
+                return b"", 1 << 40
+
+        name = Wide("a.b.")
+        self.assertTrue(name.is_in(Name("b.")))
+        self.assertEqual(str(name), "a.b.")
+        self.assertEqual(Name("www").append(name), Name("www.a.b."))
+
+
+class Interrupted(unittest.TestCase):
+    def test_a_signal_handler_reads_names_too(self):
+        """What is read between two steps of a reading changes nothing of it."""
+        texts = [bytes([65 + number]) * 9 for number in range(20)]
+        message = b"".join(b"\x09" + text + b"\x00" for text in texts)
+        wrong = []
+
+        def handler(signum, frame):
+            wrong.extend(it for it in (dnw.read_record(b"\x01z" + bytes(11)).owner,) if it != Name("z."))
+
+        before = signal.signal(signal.SIGALRM, handler)
+        signal.setitimer(signal.ITIMER_REAL, 0.0001, 0.0001)
+        try:
+            for _ in range(300):
+                self.assertEqual([read.name.labels[0] for read in names(message)], texts)
+                self.assertEqual(dnw.data_from_wire(2, b"\x09" + texts[3] + b"\x00").name.labels[0], texts[3])
+        finally:
+            signal.setitimer(signal.ITIMER_REAL, 0)
+            signal.signal(signal.SIGALRM, before)
+        self.assertEqual(wrong, [])
 
 
 class Texts(unittest.TestCase):

@@ -15,6 +15,6 @@ new-requires c =
 
 pub returns : goal.returns
 returns c =
-    c.new.ensures
-    ∙ (labels_of-form _ c.args.self.now ((LiesAt-plain c.self.invariant c.if-not-self.false).1 ∙ ap wire c.self.view_is)
-    (subst AreLabels c.self.view_is (StandsAt-labels c.self.invariant.stands))).1
+    let form = labels_of-form _ c.args.self.now ((LiesAt-plain c.self.invariant c.if-not-self.false).1 ∙ ap wire c.self.view_is)
+    (subst AreLabels c.self.view_is (StandsAt-labels c.self.invariant.stands)) in
+    cc form.1

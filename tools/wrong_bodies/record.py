@@ -1,0 +1,94 @@
+"""What was refused, so that it need not be tried again: `.ci/refused` has a line for each edit, with its name, a key, and how it was refused.
+
+A key is a sum over all that a refusal rests on: the edit; the code, specs and proofs of its crate; the specs and contracts of the
+crates below, also what the crate's line in crates.txt says; the toolchain; and the version of this tool."""
+
+import functools
+import hashlib
+import subprocess
+import threading
+
+from crates import ROOT, below, listed
+
+from wrong_bodies.edits import texts_of
+from wrong_bodies.source import contracts_of
+
+FILE = ROOT / ".ci" / "refused"
+# Is raised if edits are judged in another way, so that what was recorded counts for nothing.
+VERSION = 1
+HEAD = """\
+# The wrong bodies that the prover refused, as tools/wrong-bodies --record writes them: name, key, and how each was refused.
+"""
+# Of the edits that are recorded, a run tries one in so many.
+ONE_IN = 10
+
+
+def sum_of(*texts):
+    found = hashlib.sha256()
+    for text in texts:
+        found.update(f"{len(text)}:{text}".encode())
+    return found.hexdigest()
+
+
+@functools.lru_cache(maxsize=None)
+def toolchain():
+    return subprocess.run(["rt", "version"], capture_output=True, check=True, text=True).stdout
+
+
+@functools.lru_cache(maxsize=None)
+def shown_by(crate):
+    """The sum of what a crate shows to those above it: its specs, and its contracts."""
+    texts = sorted(texts_of(crate).items())
+    return sum_of(*(part for path, text in texts if path.startswith("specs/") for part in (path, text)),
+                  *(part for path, text in texts if path.startswith("src/") for part in (path, contracts_of(text))))
+
+
+@functools.lru_cache(maxsize=None)
+def rests_on(crate):
+    """The sum of all that the refusals of a crate's edits rest on, but the edits."""
+    crates = listed()
+    own = [part for pair in sorted(texts_of(crate).items()) for part in pair]
+    lower = [part for it in sorted(below(crate, crates)) for part in (it, shown_by(it))]
+    return sum_of(str(VERSION), toolchain(), crate, *sorted(crates[crate]), sum_of(*own), sum_of(*lower))
+
+
+def key_of(edit):
+    return sum_of(rests_on(edit.crate), edit.text)[:32]
+
+
+class Record:
+    """The file, which is written anew after each change if `keeps` is set."""
+
+    def __init__(self, keeps=False):
+        lines = FILE.read_text(encoding="utf-8").split("\n") if FILE.is_file() else []
+        self.rows = {name: (key, how) for name, key, how in (line.split(" ", 2) for line in lines if line and line[0] != "#")}
+        self.keeps, self.lock = keeps, threading.Lock()
+
+    def has(self, edit):
+        return self.rows.get(edit.label, ("",))[0] == key_of(edit)
+
+    def is_sampled(self, edit, commit):
+        """Whether this run tries an edit that is recorded: one in ten does, another one for each commit."""
+        return int(sum_of(commit, edit.label), 16) % ONE_IN == 0
+
+    def note(self, verdicts):
+        """Notes how edits were refused, or that they were not."""
+        with self.lock:
+            for edit, how in verdicts.items():
+                self.rows.pop(edit.label, None)
+                if how:
+                    self.rows[edit.label] = (key_of(edit), how)
+            if self.keeps:
+                self.write()
+
+    def drop_gone(self, labels):
+        """Drops the rows of edits that are no more."""
+        with self.lock:
+            self.rows = {name: row for name, row in self.rows.items() if name in labels}
+            if self.keeps:
+                self.write()
+
+    def write(self):
+        rows = "".join(f"{name} {key} {how}\n" for name, (key, how) in sorted(self.rows.items()))
+        FILE.with_suffix(".new").write_text(HEAD + rows, encoding="utf-8")
+        FILE.with_suffix(".new").replace(FILE)
