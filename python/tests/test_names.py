@@ -157,7 +157,7 @@ class Interrupted(unittest.TestCase):
         try:
             for _ in range(300):
                 self.assertEqual([read.name.labels[0] for read in names(message)], texts)
-                self.assertEqual(dnw.data_from_wire(2, b"\x09" + texts[3] + b"\x00").name.labels[0], texts[3])
+                self.assertEqual(dnw.data_from_wire(2, b"\x09" + texts[3] + b"\x00").target.labels[0], texts[3])
         finally:
             signal.setitimer(signal.ITIMER_REAL, 0)
             signal.signal(signal.SIGALRM, before)
