@@ -112,7 +112,7 @@ static void parses_what_is_printed(void)
     EXPECT(gives(LINE("example.com. 172800 IN NS ns.example.com."), OCTETS(NS_OF_COM)));
     EXPECT(gives(LINE("ns.example.com. 172800 IN A 192.0.2.1"), OCTETS(A_OF("\002ns" COM, "\001", TTL))));
     EXPECT(gives(LINE(". 16809984 CLASS1232 OPT \\# 6 000A0002ABCD"), OCTETS(OPT)));
-    EXPECT(gives(LINE(". 0 IN MX \\# 1 05"), OCTETS(CUT_MX)));
+    EXPECT(fails(LINE(". 0 IN MX \\# 1 05")) == DNW_BAD_DATA);
     EXPECT(gives(LINE("\\.. 10 CH TXT \"a\\\"b\" \"c d\""), OCTETS(TXT)));
 }
 
@@ -160,7 +160,7 @@ static void parses_data(void)
     EXPECT(gives(DATA_BELOW(DNW_TYPE_MX, "10 mail", COM), OCTETS("\000\012\004mail" COM)));
     EXPECT(gives(DATA_BELOW(DNW_TYPE_CNAME, "@", COM), OCTETS(COM)));
     EXPECT(gives(DATA(DNW_TYPE_TXT, "a \"b c\" \\100"), OCTETS("\001a\003b c\001d")));
-    EXPECT(gives(DATA(DNW_TYPE_MX, "\\# 1 05"), OCTETS("\005")));
+    EXPECT(gives(DATA(DNW_TYPE_MX, "\\# 3 000500"), OCTETS("\000\005\000")));
     EXPECT(gives(DATA(65280, "\\# 0"), OCTETS("")));
 }
 
@@ -172,6 +172,11 @@ static void refuses_data(void)
     EXPECT(fails(DATA(DNW_TYPE_CNAME, "a")) == DNW_BAD_DATA);
     EXPECT(fails(DATA(65280, "00")) == DNW_BAD_DATA);
     EXPECT(fails(DATA(65280, "\\# 2 00")) == DNW_BAD_DATA);
+    /* in the form of any data too, only data of the type are taken, without pointers */
+    EXPECT(fails(DATA(DNW_TYPE_NS, "\\# 2 C00C")) == DNW_BAD_DATA);
+    EXPECT(fails(DATA(DNW_TYPE_A, "\\# 3 010203")) == DNW_BAD_DATA);
+    EXPECT(fails(DATA(DNW_TYPE_MX, "\\# 1 00")) == DNW_BAD_DATA);
+    EXPECT(fails(DATA(DNW_TYPE_A, "\\# 0")) == DNW_BAD_DATA);
     EXPECT(fails(DATA(DNW_TYPE_TXT, "\303(")) == DNW_NOT_UTF8);
     EXPECT(fails(DATA_BELOW(DNW_TYPE_A, "192.0.2.1", "\100")) == DNW_RESERVED_OCTET);
     EXPECT(fails(DATA_BELOW(DNW_TYPE_A, "\377", "\000.")) == DNW_BYTES_LEFT);

@@ -48,6 +48,13 @@ static uint32_t record(size_t size, uint32_t section, const uint8_t *owner, size
                                   &writer));
 }
 
+/* Appends an OPT record with the call for any record: no flags, a payload size of 1232, and no options. */
+static uint32_t opt_record(uint32_t section, const uint8_t *owner, size_t owner_len)
+{
+    keep();
+    return done(dnw_writer_record(message, ROOM, section, owner, owner_len, DNW_TYPE_OPT, 1232, 0, BYTES(""), &writer));
+}
+
 static uint32_t edns(size_t size, uint16_t max_payload, bool dnssec_ok, const uint8_t *options, size_t len)
 {
     keep();
@@ -142,6 +149,43 @@ static void puts_edns(void)
     EXPECT(read.is_present && read.dnssec_ok && read.max_payload == 65535 && read.options_offset == 23 && read.options_len == 4);
 }
 
+/* An OPT record is the only one, in the additional section, and owned by the root (RFC 6891, section 6.1.1 and 6.1.2), whichever
+   call appends it. So what is written breaks no rule of EDNS when it is read. */
+static void has_one_opt_record(void)
+{
+    struct dnw_edns read;
+    begin_new();
+    for (uint32_t section = DNW_SECTION_ANSWERS; section < DNW_SECTION_ADDITIONALS; section++)
+        EXPECT(opt_record(section, BYTES(ROOT)) == DNW_OUTSIDE_ADDITIONALS);
+    EXPECT(opt_record(DNW_SECTION_QUESTIONS, BYTES(ROOT)) == DNW_BAD_ITEM);
+    EXPECT(opt_record(DNW_SECTION_ADDITIONALS, BYTES("\001a\000")) == DNW_OWNER_NOT_ROOT);
+    EXPECT(opt_record(DNW_SECTION_ADDITIONALS, BYTES("\001a")) == DNW_MESSAGE_CUT);
+    EXPECT(opt_record(DNW_SECTION_ADDITIONALS, BYTES(ROOT)) == DNW_DONE);
+    EXPECT(writer.len == 23 && writer.section == DNW_SECTION_ADDITIONALS && writer.opt_count == 1);
+    EXPECT(memcmp(message + 4, "\000\000\000\000\000\000\000\001" "\000\000\051\004\320\000\000\000\000\000\000", 19) == 0);
+    EXPECT(opt_record(DNW_SECTION_ADDITIONALS, BYTES(ROOT)) == DNW_DUPLICATE_EDNS);
+    EXPECT(opt_record(DNW_SECTION_ADDITIONALS, BYTES("\001a\000")) == DNW_DUPLICATE_EDNS);
+    EXPECT(opt_record(DNW_SECTION_ANSWERS, BYTES(ROOT)) == DNW_OUTSIDE_ADDITIONALS);
+    EXPECT(edns(ROOM, 1232, true, BYTES("")) == DNW_DUPLICATE_EDNS);
+    EXPECT(record(ROOM, DNW_SECTION_ADDITIONALS, BYTES(ROOT), BYTES("")) == DNW_DONE && writer.opt_count == 1);
+    EXPECT(dnw_edns_read(message, writer.len, 0, &read) == DNW_DONE);
+    EXPECT(read.is_present && read.max_payload == 1232 && read.options_offset == 23 && read.options_len == 0);
+    begin_new();
+    EXPECT(edns(ROOM, 1232, true, BYTES("")) == DNW_DONE);
+    EXPECT(opt_record(DNW_SECTION_ADDITIONALS, BYTES(ROOT)) == DNW_DUPLICATE_EDNS);
+    /* the data are tested after that, and then the writer */
+    static const uint8_t octets[65536];
+    keep();
+    EXPECT(done(dnw_writer_record(message, ROOM, DNW_SECTION_ADDITIONALS, BYTES(ROOT), DNW_TYPE_OPT, 1232, 0, octets, sizeof octets,
+                                  &writer)) == DNW_DUPLICATE_EDNS);
+    begin_new();
+    keep();
+    EXPECT(done(dnw_writer_record(message, ROOM, DNW_SECTION_ADDITIONALS, BYTES(ROOT), DNW_TYPE_OPT, 1232, 0, octets, sizeof octets,
+                                  &writer)) == DNW_DATA_TOO_LONG);
+    writer.section = 5;
+    EXPECT(opt_record(DNW_SECTION_ADDITIONALS, BYTES(ROOT)) == DNW_BAD_ITEM);
+}
+
 static void minds_the_order(void)
 {
     begin_new();
@@ -196,12 +240,13 @@ static void takes_any_writer(void)
 {
     const struct dnw_writer full = {ROOM, DNW_SECTION_ANSWERS, 0};
     begin_new();
-    const size_t lens[] = {ROOM - 4, ROOM, ROOM + 1, SIZE_MAX - 4, SIZE_MAX};
-    for (size_t i = 0; i < 5; i++) {
+    const size_t lens[] = {ROOM - 4, ROOM, ROOM + 1, 65524, 65536, SIZE_MAX - 4, SIZE_MAX};
+    for (size_t i = 0; i < 7; i++) {
+        uint32_t failure = i < 4 ? DNW_NO_ROOM : DNW_MESSAGE_TOO_LONG;
         writer = (struct dnw_writer){lens[i], 0, 0};
-        EXPECT(question(ROOM, BYTES(ROOT)) == DNW_NO_ROOM);
-        EXPECT(record(ROOM, DNW_SECTION_ANSWERS, BYTES(ROOT), BYTES("")) == DNW_NO_ROOM);
-        EXPECT(edns(ROOM, 0, false, BYTES("")) == DNW_NO_ROOM);
+        EXPECT(question(ROOM, BYTES(ROOT)) == failure);
+        EXPECT(record(ROOM, DNW_SECTION_ANSWERS, BYTES(ROOT), BYTES("")) == failure);
+        EXPECT(edns(ROOM, 0, false, BYTES("")) == failure);
     }
     for (size_t len = 0; len < DNW_HEADER_SIZE; len++) {
         writer = (struct dnw_writer){len, 0, 0};
@@ -227,16 +272,28 @@ static void takes_any_writer(void)
     EXPECT(record(ROOM, DNW_SECTION_ANSWERS, BYTES(ROOT), BYTES("")) == DNW_DONE && writer.len == ROOM);
 }
 
-static void counts_to_65535(void)
+/* A message has at most 65,535 octets (RFC 1035, section 4.2.2), also in a longer buffer: its header and 13,104 questions of the
+   root, and three octets are left. */
+static void ends_at_65535_octets(void)
 {
-    static uint8_t many[12 + 5 * 65536];
+    static uint8_t many[65536];
     struct dnw_writer w;
     EXPECT(dnw_writer_begin(many, sizeof many, 0, 0, &w) == DNW_DONE);
-    for (size_t i = 0; i < 65535; i++)
+    for (size_t i = 0; i < 13104; i++)
         EXPECT(dnw_writer_question(many, sizeof many, BYTES(ROOT), DNW_TYPE_A, DNW_CLASS_IN, &w) == DNW_DONE);
-    EXPECT(w.len == sizeof many - 5 && many[4] == 255 && many[5] == 255);
+    EXPECT(w.len == 65532 && many[4] == 13104 / 256 && many[5] == 13104 % 256);
     EXPECT(dnw_writer_question(many, sizeof many, BYTES(ROOT), DNW_TYPE_A, DNW_CLASS_IN, &w) == DNW_MESSAGE_TOO_LONG);
-    EXPECT(w.len == sizeof many - 5 && many[4] == 255 && many[5] == 255 && many[6] == 0 && many[sizeof many - 1] == 0);
+    EXPECT(dnw_writer_record(many, sizeof many, DNW_SECTION_ANSWERS, BYTES(ROOT), DNW_TYPE_A, DNW_CLASS_IN, 0, BYTES(""), &w) ==
+           DNW_MESSAGE_TOO_LONG);
+    EXPECT(dnw_writer_edns(many, sizeof many, 0, 0, 0, false, BYTES(""), &w) == DNW_MESSAGE_TOO_LONG);
+    /* a longer buffer would not help, so that is said before that there is no room */
+    EXPECT(dnw_writer_question(many, 65532, BYTES(ROOT), DNW_TYPE_A, DNW_CLASS_IN, &w) == DNW_MESSAGE_TOO_LONG);
+    EXPECT(w.len == 65532 && w.section == DNW_SECTION_QUESTIONS && w.opt_count == 0);
+    EXPECT(many[4] == 13104 / 256 && many[5] == 13104 % 256 && many[7] == 0 && many[11] == 0 && many[65532] == 0);
+}
+
+static void counts_to_65535(void)
+{
     /* the counts are those of the header, whoever set them */
     begin_new();
     message[10] = message[11] = 255;
@@ -253,16 +310,20 @@ static uint32_t put_octets(uint8_t *large, size_t size, const uint8_t *octets, s
 
 static void measures_data(void)
 {
-    static uint8_t large[12 + 11 + 65535], octets[65536];
+    static uint8_t large[65536 + 11], octets[65536];
     struct dnw_writer w;
     memset(octets, 7, sizeof octets);
     EXPECT(dnw_writer_begin(large, sizeof large, 0, 0, &w) == DNW_DONE);
     EXPECT(put_octets(large, sizeof large, octets, 65536, &w) == DNW_DATA_TOO_LONG);
     EXPECT(dnw_writer_edns(large, sizeof large, 0, 0, 0, false, octets, 65536, &w) == DNW_DATA_TOO_LONG);
+    /* the most data of a message with one record: its header has 12 octets, and the record 11 before its data */
+    EXPECT(put_octets(large, sizeof large, octets, 65535, &w) == DNW_MESSAGE_TOO_LONG);
+    EXPECT(put_octets(large, sizeof large, octets, 65513, &w) == DNW_MESSAGE_TOO_LONG);
+    EXPECT(dnw_writer_edns(large, sizeof large, 0, 0, 0, false, octets, 65513, &w) == DNW_MESSAGE_TOO_LONG);
     EXPECT(w.len == 12 && w.section == 0 && w.opt_count == 0 && large[7] == 0 && large[11] == 0 && large[12] == 0);
-    EXPECT(put_octets(large, sizeof large - 1, octets, 65535, &w) == DNW_NO_ROOM);
-    EXPECT(put_octets(large, sizeof large, octets, 65535, &w) == DNW_DONE);
-    EXPECT(w.len == sizeof large && large[21] == 255 && large[22] == 255 && large[23] == 7 && large[sizeof large - 1] == 7);
+    EXPECT(put_octets(large, 65534, octets, 65512, &w) == DNW_NO_ROOM);
+    EXPECT(put_octets(large, 65535, octets, 65512, &w) == DNW_DONE);
+    EXPECT(w.len == 65535 && large[21] == 255 && large[22] == 232 && large[23] == 7 && large[65534] == 7 && large[65535] == 0);
     EXPECT(memcmp(large + 12, "\000\377\000\000\001\000\000\000\000", 9) == 0);
 }
 
@@ -292,9 +353,11 @@ int main(void)
     begins();
     appends();
     puts_edns();
+    has_one_opt_record();
     minds_the_order();
     refuses_names();
     takes_any_writer();
+    ends_at_65535_octets();
     counts_to_65535();
     measures_data();
     is_packed();

@@ -285,7 +285,7 @@ KINDS = ["blank", "l:", "c:", "at", "include", "origin", "ttl", "eol"]
 def rows():
     """The texts of the worked examples."""
     for row in open(os.path.join(HERE, "rows", "tokens.txt")):
-        if row.startswith("lex "):
+        if row.startswith("lex ") and "×" not in row:
             yield bytes.fromhex(row.split(" ")[1].strip("-")).decode()
 
 
@@ -308,7 +308,9 @@ def cut(asked, text):
 def main():
     asked, r = Asked(Oracle(sys.argv[1])), Random(17)
     out = ["# Tokens and times of hickory-proto 0.26.3, by diff/make_txt.py. README.md has the format."]
+    out += ["# the texts of the worked examples are cut after each of their characters"]
     out += [cut(asked, text) for text in rows()]
+    out += ["# Texts by a generator."]
     seen = set()
     for make, count in [(zone, 750), (lambda r: changed(r, zone(r)), 950), (hostile, 900)]:
         for _ in range(count):

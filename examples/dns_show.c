@@ -1,9 +1,9 @@
 /* Prints a DNS message as dig does, or sorts names, with the C library.
 
-       dns_show [FILE]          prints the message of a file or of standard input, in binary or in hexadecimal
-       dns_show --sort [FILE]   prints the names of a file, one a line, in canonical order (RFC 4034, section 6.1)
+       dns_show [FILE]          prints the message in a file or on standard input, in binary or in hexadecimal
+       dns_show --sort [FILE]   prints the names in a file, one a line, in canonical order (RFC 4034, section 6.1)
 
-   It exits with 1 if the input is rejected and with 2 on a usage error.
+   It exits with 1 if the input is rejected, and with 2 on a usage error.
 
        cc -Iinclude examples/dns_show.c -ldns_names_wire -o dns_show */
 #include <arpa/inet.h>
@@ -58,7 +58,7 @@ static struct bytes read_all(const char *path)
     return all;
 }
 
-/* If the bytes are hexadecimal digits and blanks, what they stand for takes their place. */
+/* If the bytes are hexadecimal digits and white space, replaces them with the octets that they encode. */
 static void from_hex(struct bytes *all)
 {
     size_t digits = 0;
@@ -82,7 +82,7 @@ static void from_hex(struct bytes *all)
     all->len = len / 2;
 }
 
-/* A cursor over a part of a message, which ends at `end`. */
+/* A cursor over a part of a message, up to `end`. */
 struct cursor {
     const struct bytes *message;
     size_t at, end;
@@ -127,8 +127,8 @@ static void show_name(struct cursor *from)
     printf("%.*s", (int)read.len, (const char *)text);
 }
 
-/* What the data of a type is made of: n a name, 1, 2, 4 a number of so many octets, a A, 6 AAAA, s strings, t a tag and a
-   value, x hexadecimal, b a bitmap of types. */
+/* The fields of the data of a type: n is a name; 1, 2 and 4 are a number of as many octets; a is the address of A, and 6 that
+   of AAAA; s is strings, t a tag and a value, x octets in hexadecimal, and b a type bitmap. */
 static const struct {
     unsigned code;
     const char *data;
@@ -235,7 +235,7 @@ static void show_field(struct cursor *data, char field)
     }
 }
 
-/* Prints a record's data: by its type, or as RFC 3597 does. */
+/* Prints a record's data: by its type, or as in RFC 3597. */
 static void show_data(struct cursor *data, unsigned type)
 {
     const char *fields = data_of(type);
@@ -253,7 +253,7 @@ static void show_data(struct cursor *data, unsigned type)
         reject(data->at, "octets are left in a record", 27);
 }
 
-/* The pseudorecord OPT (RFC 6891), whose class is a size and whose TTL has a version and flags. */
+/* The OPT pseudo-record (RFC 6891): its class is a size, and its TTL has the version and the flags. */
 static void show_edns(unsigned size, unsigned long ttl)
 {
     printf("; EDNS: version: %lu, flags:%s; udp: %u\n", ttl >> 16 & 255, ttl & 0x8000 ? " do" : "", size);
@@ -309,7 +309,7 @@ static void show_code(const char *const *texts, size_t count, const char *other,
         printf("%s%u", other, code);
 }
 
-/* Prints the header, and puts how many records each section has. */
+/* Prints the header, and stores the number of records in each section. */
 static void show_header(struct cursor *from, unsigned counts[4])
 {
     static const struct {

@@ -1,10 +1,10 @@
 #!/usr/bin/env python3
 """Prints a DNS message as dig does, or sorts names, with the Python package.
 
-    dns_show.py [FILE]          prints the message of a file or of standard input, in binary or in hexadecimal
-    dns_show.py --sort [FILE]   prints the names of a file, one a line, in canonical order (RFC 4034, section 6.1)
+    dns_show.py [FILE]          prints the message in a file or on standard input, in binary or in hexadecimal
+    dns_show.py --sort [FILE]   prints the names in a file, one a line, in canonical order (RFC 4034, section 6.1)
 
-It exits with 1 if the input is rejected and with 2 on a usage error.
+It exits with 1 if the input is rejected, and with 2 on a usage error.
 """
 
 import ipaddress
@@ -15,8 +15,8 @@ import sys
 
 from dns_names_wire import DnsError, Name, TypeSet, class_text, read_name, read_record, type_text
 
-# What the data of a type is made of: n a name, 1, 2, 4 a number of so many octets, a A, 6 AAAA, s strings, t a tag and a
-# value, x hexadecimal, b a bitmap of types.
+# The fields of the data of a type: n is a name; 1, 2 and 4 are a number of as many octets; a is the address of A, and 6 that
+# of AAAA; s is strings, t a tag and a value, x octets in hexadecimal, and b a type bitmap.
 FIELDS_OF = {
     "A": "a", "NS": "n", "CNAME": "n", "SOA": "nn44444", "PTR": "n", "MX": "2n", "TXT": "s", "AAAA": "6", "SRV": "222n",
     "DNAME": "n", "DS": "211x", "NSEC": "nb", "CAA": "1t",
@@ -27,11 +27,11 @@ FLAGS = {0x8000: "qr", 0x0400: "aa", 0x0200: "tc", 0x0100: "rd", 0x0080: "ra", 0
 
 
 class Rejected(Exception):
-    """The input is no message: the offset, and why."""
+    """The input is rejected: the offset, and why."""
 
 
 class Cursor:
-    """A cursor over a part of a message, which ends at `end`."""
+    """A cursor over a part of a message, up to `end`."""
 
     def __init__(self, message, at, end):
         self.message, self.at, self.end = message, at, end
@@ -103,7 +103,7 @@ FIELDS = {
 
 
 def data_text(data, kind):
-    """A record's data: by its type, or as RFC 3597 does."""
+    """Returns the text of a record's data: by its type, or as in RFC 3597."""
     fields = FIELDS_OF.get(kind)
     if fields is None:
         octets = data.rest()
@@ -160,7 +160,7 @@ def show_sorted(text):
     names, at = [], 0
     for line in text.splitlines(keepends=True):
         try:
-            # by its wire form it is fully qualified
+            # a name from its wire form is fully qualified
             names.append(Name.from_wire(Name(line.rstrip(b"\n").decode()).wire))
         except DnsError as error:
             raise Rejected(at, error.reason) from error
@@ -172,7 +172,7 @@ def show_sorted(text):
 
 
 def message_of(octets):
-    """The octets, or if they are hexadecimal digits and blanks what they stand for."""
+    """Returns the octets; or, if they are hexadecimal digits and white space, the octets that they encode."""
     if not re.fullmatch(rb"[0-9A-Fa-f\s]*", octets):
         return octets
     digits = b"".join(octets.split())
@@ -205,6 +205,6 @@ def main(words):
 
 
 if __name__ == "__main__":
-    # A reader of the output that closes it, as `head` does, ends this program without a word.
+    # If the reader of the output closes it, as `head` does, this program ends silently.
     signal.signal(signal.SIGPIPE, signal.SIG_DFL)
     sys.exit(main(sys.argv[1:]))

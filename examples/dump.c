@@ -1,4 +1,5 @@
-/* Prints a DNS message, each of its records as a line of a master file: dump FILE, in binary, or on standard input. */
+/* Prints a DNS message, each record as a line of a master file: dump [FILE]. The message is binary, in a file or on standard
+   input. */
 #include <stdio.h>
 
 #include "dns_names_wire.h"
@@ -22,7 +23,7 @@ static void print_header(const struct dnw_message *read)
            read->checking_disabled ? " cd" : "");
 }
 
-/* Prints so many questions from an offset on. */
+/* Prints `count` questions from an offset on. */
 static uint32_t print_questions(const uint8_t *message, size_t len, size_t offset, size_t count)
 {
     uint8_t name[DNW_TEXT_SIZE], kind[DNW_CODE_SIZE], class[DNW_CODE_SIZE];
@@ -41,7 +42,7 @@ static uint32_t print_questions(const uint8_t *message, size_t len, size_t offse
     return DNW_DONE;
 }
 
-/* Prints so many records from an offset on. */
+/* Prints `count` records from an offset on. */
 static uint32_t print_records(const char *title, const uint8_t *message, size_t len, size_t offset, size_t count)
 {
     static uint8_t text[TEXT_MAX];

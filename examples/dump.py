@@ -1,5 +1,5 @@
 #!/usr/bin/env python3
-"""Prints a DNS message as dig does: dump.py FILE, in binary, or on standard input."""
+"""Prints a DNS message as dig does: dump.py [FILE]. The message is binary, in a file or on standard input."""
 
 import sys
 

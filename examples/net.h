@@ -1,5 +1,5 @@
-/* The network of resolve.c and serve.c: messages over UDP and TCP, where each comes after two octets of its length (RFC 1035,
-   section 4.2.2). */
+/* The network code of resolve.c and serve.c: messages over UDP, and over TCP, where each message has two octets of its length
+   before it (RFC 1035, section 4.2.2). */
 #include <arpa/inet.h>
 #include <poll.h>
 #include <stdbool.h>
@@ -37,7 +37,7 @@ static inline ssize_t get_framed(int stream, uint8_t *message)
     return len >= 0 && recv(stream, message, (size_t)len, MSG_WAITALL) == len ? len : -1;
 }
 
-/* Asks a server, and puts the first message that is a reply, for which there are NET_MAX octets of room. Returns its length. */
+/* Asks a server, stores the first message that is a reply in `reply`, which has NET_MAX octets, and returns its length. */
 static inline size_t ask(int kind, const char *address, const char *port, const uint8_t *query, size_t len,
                   bool (*is_reply)(const uint8_t *message, size_t len), uint8_t *reply)
 {
@@ -57,8 +57,8 @@ static inline size_t ask(int kind, const char *address, const char *port, const 
     return 0;
 }
 
-/* Serves on a port of 127.0.0.1, or on any that is free if it is 0, and prints it. `respond` puts a response of at most NET_MAX
-   octets, and returns its length, or 0 for none. */
+/* Serves on a port of 127.0.0.1, or on any free port if it is 0, and prints the port. `respond` stores a response of at most
+   NET_MAX octets, and returns its length, or 0 if there is none. */
 static inline void serve(const char *port, size_t (*respond)(const uint8_t *request, size_t len, bool is_udp, uint8_t *response))
 {
     static uint8_t request[NET_MAX], response[NET_MAX];

@@ -1,4 +1,4 @@
-/* Asks a name server for records, over UDP, and again over TCP if the answer was cut: resolve ADDRESS PORT NAME TYPE */
+/* Asks a name server for records over UDP, and over TCP if the reply is truncated: resolve ADDRESS PORT NAME TYPE */
 #include <string.h>
 #include <sys/random.h>
 
@@ -6,13 +6,14 @@
 #include "net.h"
 
 enum { TEXT_MAX = 1 << 20 };
-/* RD, a question and an additional record; and an OPT record: messages of 1232 octets are accepted (RFC 6891, section 6.1.2). */
+/* RD, and the counts of one question and one additional record; and an OPT record that accepts messages of 1232 octets (RFC
+   6891, section 6.1.2). */
 static const uint8_t HEAD[] = {1, 0, 0, 1, 0, 0, 0, 0, 0, 1}, OPT[] = {0, 0, DNW_TYPE_OPT, 4, 208, 0, 0, 0, 0, 0, 0};
 
 static uint8_t query[DNW_HEADER_SIZE + DNW_FORM_SIZE + 4 + sizeof OPT];
 static size_t question_end;
 
-/* Puts the query, and where its question ends. */
+/* Sets `query`, and `question_end` to the end of its question. */
 static void put_query(const char *text, const char *type)
 {
     struct dnw_parsed_name name;
@@ -30,7 +31,7 @@ static void put_query(const char *text, const char *type)
     memcpy(query + question_end, OPT, sizeof OPT);
 }
 
-/* A reply has the id and the question of the query (RFC 5452, section 9.1). Others are not from the server, or are late. */
+/* A reply has the id and the question of the query (RFC 5452, section 9.1). Others are late, or not from the server. */
 static bool is_reply(const uint8_t *message, size_t len)
 {
     struct dnw_message read;

@@ -1,19 +1,19 @@
 #!/usr/bin/env python3
-"""Asks a name server for records, over UDP, and again over TCP if the answer was cut: resolve.py ADDRESS PORT NAME TYPE"""
+"""Asks a name server for records over UDP, and over TCP if the reply is truncated: resolve.py ADDRESS PORT NAME TYPE"""
 
 import socket
 import sys
 
 from dns_names_wire import DnsError, Message, make_query
 
-# The octets of a message that goes through most networks in one piece.
+# The size of a message that goes through most networks without fragmentation.
 PAYLOAD = 1232
 TRIES = 3
 SECONDS = 2
 
 
 def over_udp(server, query):
-    """The first message that is a reply to the query. Others are not from the server, or are late."""
+    """Returns the first message that is a reply to the query. Others are ignored: they are late, or not from the server."""
     family = socket.AF_INET6 if ":" in server[0] else socket.AF_INET
     with socket.socket(family, socket.SOCK_DGRAM) as channel:
         channel.settimeout(SECONDS)
@@ -35,7 +35,7 @@ def over_udp(server, query):
 
 
 def over_tcp(server, query):
-    """Each message comes after two octets of its length (RFC 1035, section 4.2.2)."""
+    """Each message has two octets of its length before it (RFC 1035, section 4.2.2)."""
     with socket.create_connection(server, SECONDS) as channel, channel.makefile("rwb") as stream:
         octets = query.to_wire()
         stream.write(len(octets).to_bytes(2, "big") + octets)

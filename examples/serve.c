@@ -1,7 +1,7 @@
 /* Answers queries from the records of a zone, over UDP and TCP on 127.0.0.1: serve PORT FILE
 
-   FILE has a record a line, the SOA record first. With port 0, any that is free is taken; it is printed. A response that is longer
-   than the requester accepts is cut, with TC (RFC 2181, section 9). */
+   FILE has one record a line, the SOA record first. With port 0, any free port is used. The port is printed. A response that
+   is longer than the requester accepts is truncated, with TC (RFC 2181, section 9). */
 #include <string.h>
 
 #include "dns_names_wire.h"
@@ -11,7 +11,8 @@ enum { PAYLOAD = 1232, NOERROR = 0, FORMERR = 1, NXDOMAIN = 3, NOTIMP = 4, REFUS
 static uint8_t zone[1 << 24], plain[(1 << 24) + 2 * NET_MAX], owner[DNW_FORM_SIZE];
 static size_t zone_len;
 
-/* Puts the answers to a question, or the SOA record as an authority if there are none (RFC 2308), after `at` octets of `plain`. */
+/* Stores the answers to a question after the first `at` octets of `plain`; or, if there are none, the SOA record in the
+   Authority section (RFC 2308). */
 static size_t put_records(const uint8_t *name, size_t name_len, uint16_t type, size_t at, int *code)
 {
     bool is_owner, is_above;
@@ -20,7 +21,7 @@ static size_t put_records(const uint8_t *name, size_t name_len, uint16_t type, s
         dnw_record_read(zone, zone_len, start, owner, sizeof owner, &own);
         dnw_name_equal(owner, own.owner_len, name, name_len, &is_owner);
         dnw_name_in_zone(owner, own.owner_len, name, name_len, &is_above);
-        *code = is_above ? NOERROR : *code; /* a name exists if it owns records, or one below it does (RFC 8020) */
+        *code = is_above ? NOERROR : *code; /* a name exists if it owns records, or if one below it does (RFC 8020) */
         if (is_owner && (type == own.record_type || type == DNW_TYPE_ANY || own.record_type == DNW_TYPE_CNAME)) {
             memcpy(plain + at, zone + start, own.end - start);
             at += own.end - start;
@@ -34,7 +35,8 @@ static size_t put_records(const uint8_t *name, size_t name_len, uint16_t type, s
     return at + own.end;
 }
 
-/* Puts the response to a request, over UDP in as many octets as it accepts. Returns its length, or 0 for none. */
+/* Stores the response to a request; over UDP in at most as many octets as the requester accepts. Returns its length, or 0 if
+   there is no response. */
 static size_t respond(const uint8_t *request, size_t len, bool is_udp, uint8_t *response)
 {
     uint8_t name[DNW_FORM_SIZE], opt[] = {0, 0, DNW_TYPE_OPT, PAYLOAD >> 8, PAYLOAD & 255, 0, 0, 0, 0, 0, 0};
@@ -49,7 +51,7 @@ static size_t respond(const uint8_t *request, size_t len, bool is_udp, uint8_t *
     bool is_broken = dnw_edns_read(request, len, DNW_MAX_POINTERS, &edns) != DNW_DONE || read.question_count != 1;
     int code = is_broken ? FORMERR : edns.version > 0 ? BADVERS : read.op_code != 0 ? NOTIMP : REFUSED;
     size_t at = read.question_count == 1 ? read.answers : DNW_HEADER_SIZE;
-    memcpy(plain, request, at); /* the header, and the question, whose name has none before it to point to */
+    memcpy(plain, request, at); /* the header and the question, whose name cannot be compressed */
     memcpy(plain + 4, (uint8_t[8]){0, read.question_count == 1}, 8);
     if (code == REFUSED && plain[at - 2] == 0 && plain[at - 1] == DNW_CLASS_IN) {
         dnw_name_read(request, len, DNW_HEADER_SIZE, name, sizeof name, &asked);

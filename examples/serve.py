@@ -1,8 +1,9 @@
 #!/usr/bin/env python3
 """Answers queries from a table of records, over UDP and TCP on 127.0.0.1: serve.py PORT FILE
 
-FILE has a record of a zone a line, the SOA record first. Names without a dot at their end are not taken. With port 0, any that is
-free is taken; it is printed. A response that is longer than the requester accepts is cut, with TC (RFC 2181, section 9).
+FILE has one record of a zone a line, the SOA record first. Names without a last dot are rejected. With port 0, any free port
+is used. The port is printed. A response that is longer than the requester accepts is truncated, with TC (RFC 2181, section
+9).
 """
 
 import socketserver
@@ -11,7 +12,7 @@ import threading
 
 from dns_names_wire import DnsError, Message, OpCode, Record, RecordClass, RecordType, ResponseCode
 
-# The octets of a message that goes through most networks in one piece.
+# The size of a message that goes through most networks without fragmentation.
 PAYLOAD = 1232
 
 
@@ -28,14 +29,14 @@ def reply_to(table, request):
     answers = [record for record in own if record.record_type in wanted or RecordType.ANY in wanted]
     if answers:
         return request.reply(answers, authoritative=True)
-    # A name exists if it owns records, or one below it does (RFC 8020).
+    # A name exists if it owns records, or if a name below it does (RFC 8020).
     exists = any(record.owner in question.name for record in table)
     code = None if exists else ResponseCode.NXDOMAIN
     return request.reply(authorities=table[:1], authoritative=True, response_code=code)
 
 
 def respond(table, octets, most):
-    """The octets of the response to those of a request, or nothing if these are no request."""
+    """Returns the octets of the response to a request, or no octets if it is not a request."""
     try:
         request = Message.from_wire(octets)
     except DnsError:

@@ -1,12 +1,13 @@
-/* Prints the octets that each signature of a DNS message covers: signed FILE, in binary, or on standard input.
+/* Prints the octets that each signature of a DNS message covers: signed [FILE]. The message is binary, in a file or on
+   standard input.
 
-   A line has the owner of an RRSIG, the type that it covers, the tag of its key, and the octets in hexadecimal: a validator tests
-   the signature over these by the key (RFC 4035, section 5.3). */
+   Each line has the owner of an RRSIG, the type that it covers, the tag of its key, and the octets in hexadecimal. A validator
+   verifies the signature over these octets with the key (RFC 4035, section 5.3). */
 #include <stdio.h>
 
 #include "dns_names_wire.h"
 
-/* A signature covers no more than SIGNED_MAX octets, if its records are from a message of MESSAGE_MAX. */
+/* A signature covers at most SIGNED_MAX octets if its records are from a message of MESSAGE_MAX octets. */
 enum { MESSAGE_MAX = 65535, SIGNED_MAX = 1 << 22, KEY_TAG = 16 };
 
 static int fail(uint32_t failure, size_t offset)
@@ -22,7 +23,7 @@ static uint16_t number_at(const uint8_t *octets)
     return (uint16_t)(octets[0] << 8 | octets[1]);
 }
 
-/* Prints what an RRSIG covers. The octets of the message end where its section does. */
+/* Prints the octets that an RRSIG covers. `end` is the end of its section. */
 static uint32_t print_signed(const uint8_t *message, size_t end, size_t start, size_t rrsig, const struct dnw_record *record)
 {
     static uint8_t octets[SIGNED_MAX];

@@ -1,8 +1,9 @@
 #!/usr/bin/env python3
-"""Prints the octets that each signature of a DNS message covers: signed.py FILE, in binary, or on standard input.
+"""Prints the octets that each signature of a DNS message covers: signed.py [FILE]. The message is binary, in a file or on
+standard input.
 
-A line has the owner of an RRSIG, the type that it covers, the tag of its key, and the octets in hexadecimal: a validator tests the
-signature over these by the key (RFC 4035, section 5.3).
+Each line has the owner of an RRSIG, the type that it covers, the tag of its key, and the octets in hexadecimal. A validator
+verifies the signature over these octets with the key (RFC 4035, section 5.3).
 """
 
 import sys

@@ -140,6 +140,21 @@ static void parses_line(struct part text, struct part origin)
     }
 }
 
+/* Data that are parsed are fields of their type, and no name in them is a pointer: so they can be put into any message. */
+static void are_plain(uint16_t type, const uint8_t *data, size_t len)
+{
+    const char *row = model_fields_of(type);
+    struct dnw_fields fields = {0, 0};
+    struct dnw_field field;
+    struct model_name name;
+    do {
+        size_t at = fields.offset, number = fields.number;
+        CHECK(model_next(data, len, type, &fields, &field) == DNW_DONE);
+        if (number < strlen(row) && row[number] == 'n')
+            CHECK(model_read(data, len, at, &name) == DNW_DONE && name.len == name.end - at);
+    } while (field.kind != DNW_FIELD_END);
+}
+
 static void parses_data(uint16_t type, struct part text, struct part origin)
 {
     size_t len = 7;
@@ -155,6 +170,7 @@ static void parses_data(uint16_t type, struct part text, struct part origin)
         return;
     }
     CHECK(holds(data, MOST, data, len));
+    are_plain(type, data, len);
     wanted[0] = 0;
     put_number(wanted + 1, type, 2);
     put_number(wanted + 3, DNW_CLASS_IN, 2);

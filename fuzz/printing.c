@@ -197,6 +197,9 @@ static void add_field(struct made *line, struct made *octets, const uint8_t *mes
 
 static struct made line, octets;
 
+/* Whether the data are fields of their type, and so are parsed from what is printed. */
+static bool are_fields;
+
 /* Adds the text of a record's data, and the data with names that are not compressed. */
 static void add_data(const uint8_t *message, const struct dnw_record *record)
 {
@@ -212,7 +215,10 @@ static void add_data(const uint8_t *message, const struct dnw_record *record)
         octets.len = octets_len;
         add(&octets, message + record->data_offset, record->data_len);
     }
-    if (failure != DNW_DONE || (strcmp(row, "o") == 0 && !is_base64(record->record_type))) {
+    are_fields = failure == DNW_DONE;
+    /* NXT, a name and octets, has an old bitmap, and no text of its own */
+    bool has_text = strcmp(row, "no") != 0 && (strcmp(row, "o") != 0 || is_base64(record->record_type));
+    if (!are_fields || !has_text) {
         line.len = line_len;
         add_text(&line, " \\#");
         add_number(&line, octets.len == octets_len ? " %u" : " %u ", (uint32_t)(octets.len - octets_len));
@@ -245,13 +251,13 @@ static size_t model_line(const uint8_t *message, const struct model_name *owner,
 
 static const struct dnw_printed_record none = {7, 7};
 
-/* A line gives the record that it was printed from, without compression. */
+/* A line gives the record that it was printed from, without compression, if its data are fields of their type. */
 static void parses_back(const uint8_t *text, size_t len)
 {
     static uint8_t record[MOST];
     size_t record_len;
-    CHECK(dnw_record_parse(text, len, text, 0, record, MOST, &record_len) == DNW_DONE);
-    CHECK(record_len == octets.len && memcmp(record, octets.bytes, record_len) == 0);
+    CHECK(dnw_record_parse(text, len, text, 0, record, MOST, &record_len) == (are_fields ? DNW_DONE : DNW_BAD_DATA));
+    CHECK(!are_fields || (record_len == octets.len && memcmp(record, octets.bytes, record_len) == 0));
 }
 
 static void prints(const uint8_t *message, size_t len, size_t start)

@@ -46,6 +46,8 @@ static uint32_t model_append(uint32_t section, const uint8_t *head, size_t head_
         return DNW_BAD_ITEM;
     if (model.len < 12)
         return DNW_MESSAGE_CUT;
+    if (model.len > 65535 || head_len + len > 65535 - model.len)
+        return DNW_MESSAGE_TOO_LONG;
     if (model.len > buffer_size || head_len + len > buffer_size - model.len)
         return DNW_NO_ROOM;
     uint32_t count = model_number(wanted + 2 + 2 * section, 2);
@@ -93,6 +95,16 @@ static uint32_t model_append_record(uint32_t section, struct part owner, uint16_
     return model_append(section, head, len, data.bytes, data.len);
 }
 
+/* An OPT record is the only one, in the additional section, and of the root. */
+static uint32_t model_allow_opt(uint32_t section, struct part owner)
+{
+    if (section != 4)
+        return DNW_OUTSIDE_ADDITIONALS;
+    if (model.opt_count != 0)
+        return DNW_DUPLICATE_EDNS;
+    return owner.len == 1 ? DNW_DONE : DNW_OWNER_NOT_ROOT;
+}
+
 static uint32_t model_put_record(uint32_t section, struct part owner, uint16_t type, uint16_t class, uint32_t ttl,
                                  struct part data)
 {
@@ -100,7 +112,13 @@ static uint32_t model_put_record(uint32_t section, struct part owner, uint16_t t
     if (section != 2 && section != 3 && section != 4)
         return DNW_BAD_ITEM;
     uint32_t failure = model_form(owner.bytes, owner.len, &read);
-    return failure != DNW_DONE ? failure : model_append_record(section, owner, type, class, ttl, data);
+    if (failure == DNW_DONE && type == DNW_TYPE_OPT)
+        failure = model_allow_opt(section, owner);
+    if (failure == DNW_DONE)
+        failure = model_append_record(section, owner, type, class, ttl, data);
+    if (failure == DNW_DONE && type == DNW_TYPE_OPT)
+        model.opt_count = 1;
+    return failure;
 }
 
 static uint32_t model_edns(uint16_t max_payload, uint8_t rcode_high, uint8_t version, bool dnssec_ok, struct part options)
@@ -190,14 +208,17 @@ static void make_call(struct part *rest)
     }
 }
 
-/* What was written since the last beginning is a whole message. */
+/* What was written since the last beginning is a whole message, and breaks no rule of where its OPT record is. */
 static void expect_message(void)
 {
     struct dnw_message read;
     struct dnw_message_fault fault;
+    struct dnw_edns said;
     if (!is_sound)
         return;
     CHECK(dnw_message_read(buffer, writer.len, 0, &read, &fault) == DNW_DONE && read.end == writer.len);
+    uint32_t answer = dnw_edns_read(buffer, writer.len, 0, &said);
+    CHECK(answer == DNW_CUT_OPTION || (answer == DNW_DONE && said.is_present == (writer.opt_count == 1)));
 }
 
 int LLVMFuzzerTestOneInput(const uint8_t *data, size_t size)

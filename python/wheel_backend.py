@@ -2,8 +2,9 @@
 
     DNW_LIB_DIR=FOLDER python3 wheel_backend.py OUT
 
-The wheel has the shared library `libdns_names_wire.so`. It is taken from the folder that the environment variable DNW_LIB_DIR
-names; if that is not set, `tools/c-library` of the repository builds it, for which the Rattle toolchain has to be there.
+The wheel has the shared library `libdns_names_wire.so`. It is taken from the folder that the environment variable
+DNW_LIB_DIR names; if that is not set, `tools/c-library` of the repository builds it, for which the Rattle toolchain has
+to be there.
 """
 
 import base64
@@ -21,7 +22,7 @@ HERE = pathlib.Path(__file__).resolve().parent
 LIBRARY = "libdns_names_wire.so"
 LICENCES = ["NOTICE", "LICENSE-APACHE", "LICENSE-MIT"]
 NAME = "dns_names_wire"
-# The version stands in rust/Cargo.toml alone.
+# The version is only in rust/Cargo.toml.
 VERSION = re.search(r'^version = "(.+)"$', (HERE.parent / "rust/Cargo.toml").read_text(), re.M)[1]
 METADATA = f"""Metadata-Version: 2.1
 Name: dns-names-wire
@@ -35,7 +36,8 @@ Description-Content-Type: text/markdown
 
 
 def platform_tag(library):
-    """Of Linux, with the version of glibc that the library asks for (PEP 600); of other systems that of Python."""
+    """Returns the platform tag: for Linux with the version of glibc that the library needs (PEP 600), or else
+    Python's."""
     platform = sysconfig.get_platform().replace("-", "_").replace(".", "_")
     wanted = [int(version) for version in re.findall(rb"GLIBC_2\.(\d+)", library)]
     if platform.startswith("linux_") and wanted:
@@ -54,7 +56,7 @@ def shared_library():
 
 
 def contents(tag, library):
-    """The files of the wheel, by name, but for the list of them."""
+    """Returns the files of the wheel by name, except RECORD."""
     package = HERE / NAME
     files = {f"{NAME}/{path.name}": path.read_bytes() for path in sorted(package.glob("*.py"))}
     files[f"{NAME}/py.typed"] = b""
@@ -67,7 +69,7 @@ def contents(tag, library):
 
 
 def record(files):
-    """A line for each file with its hash and size, and one for the list itself."""
+    """Returns RECORD: a line for each file with its hash and size, and one for itself."""
     lines = []
     for name, content in files.items():
         digest = base64.urlsafe_b64encode(hashlib.sha256(content).digest()).rstrip(b"=").decode()
@@ -77,7 +79,7 @@ def record(files):
 
 
 def build_wheel(wheel_directory, config_settings=None, metadata_directory=None):
-    """Builds the wheel and returns its file name (PEP 517). The same files give the same wheel."""
+    """Builds the wheel and returns its file name (PEP 517). The same files always make the same wheel."""
     library = shared_library()
     tag = f"py3-none-{platform_tag(library)}"
     files = contents(tag, library)

@@ -1,10 +1,10 @@
 //! Finds the archive `libdns_names_wire.a` and links it.
 //!
-//! It is looked for in the folder that the environment variable `DNW_LIB_DIR` names, and if that is not set in `lib` beside
-//! this file, which a distribution has. Else, in a checkout of the repository, `tools/c-library` builds it, for which the
-//! Rattle toolchain (`rt`) has to be there.
+//! It is taken from the folder that the environment variable `DNW_LIB_DIR` names; if that is not set, from `lib` beside
+//! this file, which a packaged crate has. If neither is there, in a checkout of the repository, `tools/c-library`
+//! builds it, which needs the Rattle toolchain (`rt`).
 //!
-//! An archive is for one processor, on Linux. For another target the build stops here, and not in the linker.
+//! An archive is for one processor, on Linux. For another target the build fails here, and not in the linker.
 use std::env;
 use std::fs;
 use std::path::{Path, PathBuf};
@@ -60,7 +60,7 @@ fn is_linux() -> Result<(), String> {
     }
 }
 
-/// The folder, if its archive has code for the processor that the build is for.
+/// Returns the folder, if its archive has code for the processor of the target.
 fn fits_target(folder: PathBuf) -> Result<PathBuf, String> {
     let archive = folder.join(ARCHIVE);
     let octets = fs::read(&archive).map_err(|error| format!("{}: {error}", archive.display()))?;
@@ -72,7 +72,7 @@ fn fits_target(folder: PathBuf) -> Result<PathBuf, String> {
     Err(format!("{} is for {own}, and this build is for {wanted}: there is no archive for that", archive.display()))
 }
 
-/// The processor of the first object of an archive, by the header of its ELF file.
+/// Returns the processor of the first object of an archive, from its ELF header.
 fn processor(archive: &[u8]) -> Option<&'static str> {
     let start = archive.windows(4).position(|octets| octets == b"\x7fELF")?;
     match archive.get(start + 18..start + 20)? {

@@ -59,7 +59,7 @@ UNNAMED = {"bind": set(), "knot": {"HIP", "MB", "MD", "MF", "MG", "MR", "NULL", 
 REFUSED = {"bind": {"MD", "MF"}, "knot": set(), "powerdns": set()}
 
 # The types whose data have a text of their own here. Those of the others are shown as RFC 3597 does.
-TEXTS = set("""A NS MD MF CNAME SOA MB MG MR PTR HINFO MINFO MX TXT RP AFSDB SIG KEY AAAA SRV NAPTR KX CERT DNAME DS SSHFP
+TEXTS = set("""A NS MD MF CNAME SOA MB MG MR PTR HINFO MINFO MX TXT RP AFSDB RT PX SIG KEY AAAA SRV NAPTR KX CERT DNAME DS SSHFP
     RRSIG DNSKEY NSEC3PARAM TLSA SMIMEA CDS CDNSKEY OPENPGPKEY ZONEMD SPF URI CAA NSEC NSEC3 CSYNC EUI48 EUI64 SVCB HTTPS""".split())
 
 # Those whose letters are hexadecimal digits, which dnspython has in lower case.

@@ -1,10 +1,10 @@
 #!/usr/bin/env python3
-"""Makes the responses of this folder and what has to be printed for them, both with dnspython (python3-dnspython).
+"""Makes the responses in this folder, and what has to be printed for them, with dnspython (python3-dnspython).
 
     /usr/bin/python3 examples/responses/make.py
 
-Each response is NAME.hex, and its text NAME.txt, by dnspython's reader and its texts of names and data. So the texts do not
-come from the programs that are tested with them. Types that the programs do not decode are shown as RFC 3597 does.
+Each response is NAME.hex, and its text NAME.txt, from dnspython's reader and its texts of names and data. So the texts do not
+come from the programs that are tested with them. Types that the programs do not decode are printed as in RFC 3597.
 """
 
 import pathlib

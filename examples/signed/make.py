@@ -1,12 +1,12 @@
 #!/usr/bin/env python3
-"""Makes the signed response of this folder and what has to be printed for it, with dnspython (python3-dnspython).
+"""Makes the signed response in this folder, and what has to be printed for it, with dnspython (python3-dnspython).
 
     /usr/bin/python3 examples/signed/make.py
 
-response.hex is a response with signatures of a new key, which is in key.txt: records in any order and with letters in either case,
-times to live that have run down, and a set that a wildcard made. response.octets has a line for each RRSIG: the owner, the type
-covered, the tag of the key and the octets that are signed, which dnspython puts together and has found the signature right for. So
-they do not come from the programs that are tested with them.
+response.hex is a response with signatures by a new key, which is in key.txt. Its records are in any order, with letters in either
+case and decreased TTLs, and a wildcard made one of the sets. response.octets has a line for each RRSIG: the owner, the type
+covered, the tag of the key and the signed octets. dnspython makes these and verifies the signatures over them, so they do not come
+from the programs that are tested with them.
 """
 
 import pathlib
@@ -29,7 +29,7 @@ ZONE = dns.name.from_text("Example.")
 QUESTION = "a.z.W.Example."
 LEFT = 1234
 
-# For each section how many labels are signed, the owner, the type and the data.
+# For each section: the number of labels in the RRSIG, the owner, the type and the data.
 ANSWERS = [
     (2, QUESTION, "MX", ["10 MAIL.w.example.", "10 a.mail.example.", "1 ai.Example."]),
     (2, "AI.example.", "A", ["192.0.2.99", "192.0.2.9", "10.0.0.255"]),
@@ -47,7 +47,7 @@ ADDITIONALS = [
 
 
 def signature_of(name, labels, rdataset, private, key):
-    """An RRSIG of a set of a name, with so many labels."""
+    """Returns an RRSIG of a set of a name, with this number of labels."""
     fields = dict(algorithm=key.algorithm, labels=labels, original_ttl=3600, expiration=4000000000, inception=1700000000)
     template = RRSIG(1, dns.rdatatype.RRSIG, rdataset.rdtype, **fields, key_tag=dns.dnssec.key_id(key), signer=ZONE, signature=b"")
     octets = dns.dnssec._make_rrsig_signature_data((name, rdataset), template)
@@ -58,7 +58,7 @@ def signature_of(name, labels, rdataset, private, key):
 
 
 def signed(entries, private, key):
-    """The sets of a section, each with its RRSIG."""
+    """Returns the sets of a section, each with its RRSIG."""
     for labels, owner, kind, texts in entries:
         name, data = dns.name.from_text(owner), dns.rdataset.from_text("IN", kind, LEFT, *texts)
         rrsig = signature_of(name, labels, data, private, key)
@@ -67,7 +67,7 @@ def signed(entries, private, key):
 
 
 def lines(wire):
-    """For each RRSIG of a response what has to be printed."""
+    """Returns what has to be printed for each RRSIG of a response."""
     sets, each = dns.message.from_wire(wire), dns.message.from_wire(wire, one_rr_per_rrset=True)
     for section, records in zip(sets.sections, each.sections):
         for owner, rrsig in ((it.name, it[0]) for it in records if it.rdtype == dns.rdatatype.RRSIG):

@@ -1,15 +1,14 @@
-"""The lowest layer of DNS: domain names, the records of messages, and record types and classes are read and written, and
-the tokens of master files are read, by a library whose every function is proved.
+"""Bindings to a proved library that reads and writes DNS names, records and messages, and reads master files.
 
-The library is the shared library of the C library of `dns-names-wire`, which the wheel has. Its reader accepts exactly the
-names of RFC 1035, section 4.1.4, and no input makes it read outside the message, loop or crash. This package gives it Python's
-types, over ctypes. The package itself is not proved. It uses only the standard library of Python.
+The library is the shared C library of `dns-names-wire`, which the wheel has. Its reader accepts exactly the names of
+RFC 1035, section 4.1.4, and no input makes it read outside the message, loop or crash. This package calls it by ctypes.
+The package itself is not proved. It uses only Python's standard library.
 
-The shared library is looked for in the folder that the environment variable DNW_LIB_DIR names, and if that is not set
-beside this file.
+The shared library is taken from the folder that the environment variable DNW_LIB_DIR names, or, if that is not set,
+from the folder of this file.
 
-Failures are exceptions below `DnsError`, which say why and, if that is known, where. An argument of a wrong type raises
-`TypeError`, and one that is out of bounds `ValueError`, with the argument's name.
+Wrong input raises a subclass of `DnsError`, with the reason and, if it is known, the offset. An argument of a wrong
+type raises `TypeError`, and one that is out of bounds raises `ValueError`, with the argument's name.
 
 >>> message = bytes.fromhex("123401000001000000000000 0377777707 6578616d706c65 03636f6d 00 0001 0001")
 >>> name, end = read_name(message, 12)

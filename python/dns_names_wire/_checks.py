@@ -1,7 +1,6 @@
-"""Arguments: what is none raises TypeError or ValueError with the argument's name.
+"""Checks of arguments. A wrong argument raises TypeError or ValueError with the argument's name.
 
-What is returned is of the very type that is named, and no subclass, whose own methods could say another length or other octets
-than there are."""
+A returned value is never of a subclass, since its methods could return another length or other octets than it has."""
 
 import operator
 from typing import Optional, Union
@@ -14,14 +13,14 @@ def wrong_type(what: str, wanted: str, value: object) -> TypeError:
 
 
 def text(what: str, value: object) -> bytes:
-    """The UTF-8 of a text. Half a surrogate pair stays, for the library to refuse."""
+    """Returns the UTF-8 of a text. Half a surrogate pair is kept, and the library rejects it."""
     if not isinstance(value, str):
         raise wrong_type(what, "a str is", value)
     return str.encode(value, "utf-8", "surrogatepass")
 
 
 def octets(what: str, value: object) -> bytes:
-    """Bytes; what is not `bytes` already is copied."""
+    """Returns the value as `bytes`. Other types are copied."""
     if type(value) is bytes:
         return value
     if isinstance(value, (bytes, bytearray, memoryview)):
@@ -30,7 +29,7 @@ def octets(what: str, value: object) -> bytes:
 
 
 def number(what: str, value: object, most: Optional[int] = None) -> int:
-    """A number from 0 on, to `most` if there is a most."""
+    """Returns the value as an `int` of at least 0, and at most `most` if that is given."""
     try:
         whole = operator.index(value)  # type: ignore[arg-type]
     except TypeError:

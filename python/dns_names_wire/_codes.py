@@ -24,7 +24,7 @@ def _code(function: Callable[..., int], text: str) -> int:
 
 
 def type_text(code: int) -> str:
-    """The name of the record type with a code, or `TYPE` and the code if it has none (RFC 3597, section 5).
+    """Returns the name of a record type, or `TYPE` and the code if it has none (RFC 3597, section 5).
 
     >>> type_text(28), type_text(65280)
     ('AAAA', 'TYPE65280')
@@ -33,7 +33,7 @@ def type_text(code: int) -> str:
 
 
 def type_code(text: str) -> int:
-    """The code of the record type with a text as `type_text` gives it, in upper or lower case. Raises `UnknownText`.
+    """Parses the text of a record type, in upper or lower case, and returns its code. Raises `UnknownText`.
 
     >>> type_code("AAAA"), type_code("type65280")
     (28, 65280)
@@ -42,7 +42,7 @@ def type_code(text: str) -> int:
 
 
 def class_text(code: int) -> str:
-    """The name of the class with a code, or `CLASS` and the code if it has none (RFC 3597, section 5).
+    """Returns the name of a class, or `CLASS` and the code if it has none (RFC 3597, section 5).
 
     >>> class_text(1), class_text(7)
     ('IN', 'CLASS7')
@@ -51,7 +51,7 @@ def class_text(code: int) -> str:
 
 
 def class_code(text: str) -> int:
-    """The code of the class with a text as `class_text` gives it, in upper or lower case. Raises `UnknownText`.
+    """Parses the text of a class, in upper or lower case, and returns its code. Raises `UnknownText`.
 
     >>> class_code("CH"), class_code("class7")
     (3, 7)
@@ -60,7 +60,7 @@ def class_code(text: str) -> int:
 
 
 class _Code(int):
-    """A code from 0 on, which is an `int`, and whose text is its name."""
+    """A code, as an `int`. `str` returns its name."""
 
     _text_of: ClassVar[Callable[[int], str]]
     _code_of: ClassVar[Callable[[str], int]]
@@ -75,7 +75,7 @@ class _Code(int):
 
     @classmethod
     def of(cls: Type[_Own], code: int) -> _Own:
-        """The code with a number, which is made once."""
+        """Returns the code with a number. Each is created once."""
         made: Optional[_Own] = cls._made.get(code)
         if made is None:
             made = cls._made[code] = cls(code)
@@ -83,7 +83,7 @@ class _Code(int):
 
     @classmethod
     def from_text(cls: Type[_Own], text: str) -> _Own:
-        """The code with a text, in upper or lower case. Raises `UnknownText`."""
+        """Returns the code with a name, in upper or lower case. Raises `UnknownText`."""
         return cls(cls._code_of(text))
 
     def __str__(self) -> str:
@@ -98,7 +98,7 @@ class _Code(int):
 
 
 class RecordType(_Code):
-    """A record type: its code, as an `int`, with constants for all that have a name.
+    """A record type: its code, as an `int`. There is a constant for each type that has a name.
 
     >>> RecordType.AAAA, RecordType.AAAA == 28, str(RecordType.AAAA)
     (RecordType.AAAA, True, 'AAAA')
@@ -151,7 +151,7 @@ class RecordType(_Code):
 
 
 class RecordClass(_Code):
-    """A class: its code, as an `int`, with constants for all that have a name.
+    """A class: its code, as an `int`. There is a constant for each class that has a name.
 
     >>> RecordClass.IN, RecordClass.IN == 1, RecordClass(7), str(RecordClass(7))
     (RecordClass.IN, True, RecordClass(7), 'CLASS7')
@@ -210,8 +210,8 @@ _RESPONSE_CODES = {
 
 
 class OpCode(_Code):
-    """What a message is for, of four bits: a code, as an `int`, with constants for all that have a name (RFC 1035, section 4.1.1;
-    RFC 1996; RFC 2136).
+    """The operation code of a message, four bits, as an `int`. There is a constant for each code that has a name (RFC
+    1035, section 4.1.1; RFC 1996; RFC 2136).
 
     >>> OpCode.UPDATE, OpCode.UPDATE == 5, str(OpCode(7)), OpCode.from_text("notify")
     (OpCode.UPDATE, True, 'RESERVED7', OpCode.NOTIFY)
@@ -229,9 +229,9 @@ class OpCode(_Code):
 
 
 class ResponseCode(_Code):
-    """What became of a request, of four bits, or of twelve with EDNS: a code, as an `int`, with constants for all that have a name
-    (RFC 1035, section 4.1.1; RFC 2136, section 2.2; RFC 6891, section 9; RFC 8945, section 3; RFC 2930, section 2.6; RFC
-    7873, section 8).
+    """The response code of a message, four bits, or twelve with EDNS, as an `int`. There is a constant for each code
+    that has a name (RFC 1035, section 4.1.1; RFC 2136, section 2.2; RFC 6891, section 9; RFC 8945, section 3; RFC 2930,
+    section 2.6; RFC 7873, section 8).
 
     >>> ResponseCode.NXDOMAIN, ResponseCode.NXDOMAIN == 3, str(ResponseCode(23)), ResponseCode.from_text("refused")
     (ResponseCode.NXDOMAIN, True, 'BADCOOKIE', ResponseCode.REFUSED)
@@ -264,7 +264,7 @@ class ResponseCode(_Code):
 
 
 def _set_constants(kind: Type[_Code]) -> None:
-    """Gives each declared constant its code, which is that of its name."""
+    """Sets each declared constant to the code of its name."""
     for name in kind.__annotations__:
         if name.isupper():
             setattr(kind, name, kind.from_text(name))

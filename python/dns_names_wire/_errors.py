@@ -8,7 +8,7 @@ from ._library import ErrorText, library, taken
 
 
 class TextRule(enum.IntEnum):
-    """A rule that the text of a name breaks, by its number in `dns_names_wire.h`. As a text it is a sentence.
+    """A rule that the text of a name breaks, by its number in `dns_names_wire.h`. `str` returns it as a sentence.
 
     >>> print(TextRule.EMPTY_LABEL)
     a label of the text is empty
@@ -26,15 +26,17 @@ class TextRule(enum.IntEnum):
 
 
 class DnsError(ValueError):
-    """A call failed. Each failure is a class below this one.
+    """A call failed. Each error is a subclass.
 
-    `number` is its number in `dns_names_wire.h`, `reason` says in words what is wrong, and `offset` says where, or is None
-    if that is not known: the octet of the message at which the name or record should begin, the character of the master
-    file's text after which there is no token, or the character of a name's text with which it is no name, whatever follows.
-    There `rule` is the `TextRule` that is broken, and else None. Of a message that is too long, `part` is the number of the
-    parts that were added before the one that does not fit, and else None. If a whole message was read, `section` is "header",
-    "question", "answer", "authority" or "additional" and `item` the number in its section of the first item that is not there,
-    from 0 on, and else None.
+    `number` is its number in `dns_names_wire.h`, and `reason` is what is wrong, in words. The other attributes are None
+    if they do not apply:
+
+    - `offset` is where the input is wrong: the octet of the message at which the name or record should begin, the
+      character of a master file after which no valid token is next, or the first wrong character of the text of a name.
+    - `rule` is the `TextRule` that the text of a name breaks.
+    - `part` is the index of the part that does not fit, if a message that is written is too long.
+    - `section` is "header", "question", "answer", "authority" or "additional", and `item` is the index in that section
+      of the first item that is wrong, if a whole message was read.
 
     >>> from dns_names_wire import read_name
     >>> try:
@@ -85,13 +87,14 @@ class MessageCut(DnsError):
 
 
 class PointerNotBack(DnsError):
-    """A compression pointer does not point to before the segment of the name that it ends."""
+    """A compression pointer does not point backwards, to before the segment that it ends. A segment is a run of labels
+    and the pointer or zero octet after it."""
 
     number = 4
 
 
 class ReservedOctet(DnsError):
-    """An octet from 64 to 191 where a label or a pointer should begin."""
+    """An octet from 64 to 191 at the start of a label or a pointer."""
 
     number = 5
 
@@ -121,13 +124,13 @@ class BadText(DnsError):
 
 
 class NotUtf8(DnsError):
-    """A text has no UTF-8, as one with half a surrogate pair."""
+    """A text has no UTF-8, for example since it has half a surrogate pair."""
 
     number = 10
 
 
 class BytesLeft(DnsError):
-    """Bytes follow after a name that should be all there is."""
+    """Bytes follow a name that should end the input."""
 
     number = 11
 
@@ -139,7 +142,7 @@ class MessageTooLong(DnsError):
 
 
 class UnknownText(DnsError):
-    """A text that is the name of no type or class."""
+    """A text that is not the name of a type or class."""
 
     number = 14
 
@@ -151,13 +154,13 @@ class NotOrdered(DnsError):
 
 
 class BadBitmap(DnsError):
-    """A bitmap that is out of bounds, or longer than 65535 octets."""
+    """A type bitmap that is not valid, or longer than 65535 octets."""
 
     number = 16
 
 
 class BadTime(DnsError):
-    """A text that is no time to live, or one of more than 4294967295 seconds."""
+    """A text that is not a TTL, or a TTL above 4294967295 seconds."""
 
     number = 17
 
@@ -169,7 +172,7 @@ class TextCut(DnsError):
 
 
 class IllegalCharacter(DnsError):
-    """A character where it may not stand."""
+    """A character that is not allowed there."""
 
     number = 19
 
@@ -181,25 +184,25 @@ class ControlCharacter(DnsError):
 
 
 class UnclosedList(DnsError):
-    """A text that ends in a list, before its `)`."""
+    """A text that ends within a list, before its `)`."""
 
     number = 21
 
 
 class UnclosedQuote(DnsError):
-    """A text that ends in a quoted text, before its closing quote."""
+    """A text that ends within a quoted text, before its closing quote."""
 
     number = 22
 
 
 class UnknownEntry(DnsError):
-    """A `$` that begins none of `$INCLUDE`, `$ORIGIN` and `$TTL`."""
+    """A `$` that is not the start of `$INCLUDE`, `$ORIGIN` or `$TTL`."""
 
     number = 23
 
 
 class WrongDataLength(DnsError):
-    """A name in a record's data whose own octets are fewer or more than the data."""
+    """The fields of a record's data do not end where the data do."""
 
     number = 24
 
@@ -223,13 +226,13 @@ class DuplicateEdns(DnsError):
 
 
 class OwnerNotRoot(DnsError):
-    """An OPT record that is not owned by the root."""
+    """An OPT record whose owner is not the root."""
 
     number = 32
 
 
 class CutOption(DnsError):
-    """An option of an OPT record that is not all there."""
+    """An option of an OPT record that is cut."""
 
     number = 33
 
@@ -241,13 +244,13 @@ class BadParams(DnsError):
 
 
 class BadData(DnsError):
-    """A text that is no data of its record type, or that of more than 65535 octets."""
+    """A text that is not data of the record type, or that has more than 65535 octets of data."""
 
     number = 35
 
 
 class NotRrsig(DnsError):
-    """A record that should be an RRSIG and is none."""
+    """A record that should be an RRSIG and is of another type."""
 
     number = 36
 
@@ -265,7 +268,7 @@ class TooFewLabels(DnsError):
 
 
 class DataTooLong(DnsError):
-    """Data of a record of more than 65535 octets, or a character string of more than 255, that are to be written."""
+    """Data of more than 65535 octets, or a character string of more than 255, that should be written."""
 
     number = 39
 
@@ -274,12 +277,12 @@ class DataTooLong(DnsError):
 
 
 class OutsideAdditionals(DnsError):
-    """An OPT record among the answers or the authorities of a message."""
+    """An OPT record in the Answer or Authority section of a message."""
 
     number = 40
 
 
-# What an item of each section is called, by the section's number in `dns_names_wire.h`.
+# The word for an item of each section, by the section's number in `dns_names_wire.h`.
 SECTIONS = ("header", "question", "answer", "authority", "additional")
 
 _NO_MEMORY = 1
@@ -287,14 +290,14 @@ _CLASSES: Dict[int, Type[DnsError]] = {error.number: error for error in DnsError
 
 
 def error_text(number: int) -> str:
-    """The C library's text for a number, which is empty for one that stands for nothing."""
+    """Returns the C library's text of an error number, which is empty if there is no such error."""
     room = ErrorText()
     length = library.dnw_error_text(number, room, len(room))
     return taken(room, length).decode("ascii")
 
 
 def check(number: int, offset: Optional[int] = None) -> None:
-    """Raises the exception for a number other than 0: `MemoryError` if the library could not allocate."""
+    """Raises the exception for a number other than 0: `MemoryError` if the library is out of memory."""
     if number == 0:
         return
     if number == _NO_MEMORY:
@@ -303,14 +306,14 @@ def check(number: int, offset: Optional[int] = None) -> None:
 
 
 def check_item(number: int, section: str, item: int, offset: int) -> None:
-    """The same for an item of a message."""
+    """As `check`, for an item of a message."""
     if number not in (0, _NO_MEMORY):
         raise _CLASSES.get(number, DnsError)(error_text(number), offset, section=section, item=item)
     check(number)
 
 
 def check_text(number: int, text: bytes) -> None:
-    """The same for the text of a name: the exception says where the text goes wrong, and by which rule."""
+    """As `check`, for the text of a name: the exception has the offset and the rule."""
     offset = c_size_t()
     broken = library.dnw_name_text_fault(text, len(text), byref(offset)) if number else 0
     if broken == 0 or number == _NO_MEMORY:

@@ -1,4 +1,4 @@
-"""The fields of the data of records, as values of Python."""
+"""The fields of the data of records, as Python values."""
 
 import struct
 from ctypes import byref
@@ -24,7 +24,7 @@ def _number(octets: bytes) -> int:
 
 
 def _texts(octets: bytes) -> Tuple[bytes, ...]:
-    """Character strings, each after its length octet."""
+    """Returns character strings, each of which has a length octet before it."""
     texts, at = [], 0
     while at < len(octets):
         end = at + 1 + octets[at]
@@ -34,7 +34,7 @@ def _texts(octets: bytes) -> Tuple[bytes, ...]:
 
 
 def pairs(octets: bytes) -> Tuple[Tuple[int, bytes], ...]:
-    """Service parameters or options: each two octets of key, two of length, and as many octets as that."""
+    """Returns service parameters or options. Each is two octets of key, two of length, and as many octets as that."""
     found, at = [], 0
     while at < len(octets):
         end = at + 4 + _number(octets[at + 2 : at + 4])
@@ -43,7 +43,7 @@ def pairs(octets: bytes) -> Tuple[Tuple[int, bytes], ...]:
     return tuple(found)
 
 
-# The value of each kind of field but names, by its number in dns_names_wire.h.
+# The value of each kind of field except names, by its number in dns_names_wire.h.
 _VALUES: Dict[int, Callable[[bytes], FieldValue]] = {
     2: _number,
     3: IPv4Address,
@@ -59,7 +59,7 @@ _VALUES: Dict[int, Callable[[bytes], FieldValue]] = {
 
 
 def fields(message: bytes, start: int, end: int, record_type: int) -> Iterator[FieldValue]:
-    """The fields of data of a type from an offset of a message to another."""
+    """Returns an iterator over the fields of data of a type between two offsets of a message."""
     next_field, read = Fields(start, 0), Read()
     while True:
         check(library.dnw_field_next(message, end, record_type, byref(next_field), byref(read)), next_field.offset)
@@ -71,7 +71,7 @@ def fields(message: bytes, start: int, end: int, record_type: int) -> Iterator[F
             yield _VALUES[read.kind](message[read.offset : read.offset + read.len])
 
 
-# A name of a message, and the offset after its own octets; and those that were read in a message, each by its offset.
+# A name of a message, and the offset after its own octets; and the names that were read in a message, by their offsets.
 Placed = Tuple[Name, int]
 Names = Dict[int, Placed]
 
@@ -81,7 +81,7 @@ _name_of = Name._of
 
 
 def _read(message: bytes, end: int, offset: int) -> Placed:
-    # Room of its own for each call, since a signal handler may read another name in between.
+    # Each call has its own room, since a signal handler may read another name in between.
     form, read = Form(), ReadName()
     number = _name_read(message, end, offset, form, FORM_SIZE, byref(read))
     if number:
@@ -90,7 +90,8 @@ def _read(message: bytes, end: int, offset: int) -> Placed:
 
 
 def name_at(message: bytes, end: int, offset: int, names: Names) -> Placed:
-    """The name at an offset of a message up to another. `names` are those that were read there, each by its offset."""
+    """Returns the name at an offset of a message that ends at `end`. `names` are those that were read before, by
+    offset."""
     known = names.get(offset)
     if known is not None and known[1] <= end:
         return known
@@ -101,7 +102,7 @@ def name_at(message: bytes, end: int, offset: int, names: Names) -> Placed:
             at += 1 + length
             continue
         if length >= 192:
-            # Labels and a pointer to a name that is known, and whole before them.
+            # Labels and a pointer to a known name, which ends before them.
             known = names.get((length & 63) << 8 | message[at + 1])
             if known is None or known[1] > offset:
                 break
@@ -117,7 +118,7 @@ def name_at(message: bytes, end: int, offset: int, names: Names) -> Placed:
 
 
 def checked_name(message: bytes, offset: int, names: Names) -> Placed:
-    """The name at an offset of a message of which all owners were checked, where one is. `names` as in `name_at`."""
+    """Returns the name at an offset of a message whose names were checked. `names` is as in `name_at`."""
     known = names.get(offset)
     if known is not None:
         return known
@@ -133,7 +134,7 @@ def checked_name(message: bytes, offset: int, names: Names) -> Placed:
         else:
             target = (length & 63) << 8 | message[at + 1]
             if at == offset and 0 < message[target] < 64:
-                # A pointer alone, to labels: others may point to these too.
+                # A pointer alone, to labels. Other names may point to these labels too.
                 names[offset] = found = checked_name(message, target, names)[0], at + 2
                 return found
             parts += message[start:at]
@@ -147,7 +148,7 @@ def checked_name(message: bytes, offset: int, names: Names) -> Placed:
     return found
 
 
-# How `struct` unpacks a field of fixed size, by its letter, and what is made of it.
+# How `struct` unpacks a field of fixed size, by its letter, and the function that makes the value.
 _FORMATS: Dict[str, Tuple[str, Optional[Callable[[Any], Any]]]] = {
     "1": ("B", None),
     "2": ("H", None),
@@ -160,12 +161,13 @@ _FORMATS: Dict[str, Tuple[str, Optional[Callable[[Any], Any]]]] = {
     "T": ("I", None),
 }
 
-# A step in which data are read: how several fields of fixed size are unpacked and what is made of each, or the letter of a field.
+# A step of reading data: how several fields of fixed size are unpacked and their values are made, or the letter of one
+# field.
 _Step = Tuple[Optional[struct.Struct], List[Tuple[int, Callable[[Any], Any]]], str]
 
 
 def _steps(kinds: str) -> Optional[List[_Step]]:
-    """The steps of fields of these kinds, or None if the library has to read one of them."""
+    """Returns the steps for fields of these kinds, or None if the library has to read one of them."""
     steps: List[_Step] = []
     at = 0
     while at < len(kinds):
@@ -189,8 +191,8 @@ _STEPS: Dict[str, Optional[List[_Step]]] = {}
 
 
 def plain_values(message: bytes, start: int, end: int, kinds: str, names: Names) -> Optional[List[FieldValue]]:
-    """The values of fields of these kinds, as letters of `Data`, if they are there up to the end; else None, and the library has to
-    say what is wrong, or to read fields of other kinds."""
+    """Returns the values of fields of these kinds, by the letters of `Data`. Returns None if they do not end at `end`,
+    or if some have other kinds; then the library has to read them, or to report what is wrong."""
     if kinds == "n":
         if start >= end:
             return None

@@ -25,7 +25,7 @@ ErrorText = c_char * 64
 
 
 def taken(buffer: "ctypes.Array[c_char]", length: int) -> bytes:
-    """The first bytes of a buffer. No others are copied."""
+    """Returns the first bytes of a buffer. No others are copied."""
     octets: Any = buffer[:length]
     return bytes(octets)
 
@@ -121,7 +121,7 @@ class Token(ctypes.Structure):
     _fields_ = [("kind", c_uint32), ("len", c_size_t), ("count", c_size_t)]
 
 
-# A slice of bytes is two arguments: bytes that are read, or a buffer that is written, and their length.
+# A slice of bytes is two arguments: the bytes that are read, or the buffer that is written, and the length.
 _READ = (c_char_p, c_size_t)
 _WRITTEN = (c_char_p, c_size_t)
 

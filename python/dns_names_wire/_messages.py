@@ -21,8 +21,8 @@ from ._records import Record, section_records
 
 # The type and the class of a question.
 _CODES = struct.Struct("!HH")
-# An OPT record before its data: the root, the type, the size, the high bits of the response code, the version, the flags, and the
-# number of octets of options.
+# An OPT record before its data: the root, the type, the size, the high bits of the response code, the version, the
+# flags, and the number of octets of options.
 _OPT = struct.Struct("!xHHBBHH")
 _DNSSEC_OK = 0x8000
 # The id, the flags and the codes, and the counts of a header.
@@ -34,9 +34,9 @@ _MOST_POINTERS = 2**64 - 1
 
 @dataclass(frozen=True)
 class Header:
-    """The fields of a header but for the counts (RFC 1035, section 4.1.1; RFC 4035, section 3.2).
+    """The fields of a header except for the counts (RFC 1035, section 4.1.1; RFC 4035, section 3.2).
 
-    `response_code` is the low four bits of the response code; `Message.response_code` has the others too.
+    `response_code` is the low four bits of the response code; `Message.response_code` has all bits.
     """
 
     id: int = 0
@@ -52,7 +52,7 @@ class Header:
 
     @property
     def flags(self) -> Tuple[str, ...]:
-        """The names of the flags that are set, in the order in which the header has them."""
+        """The names of the flags that are set, in the order of their bits."""
         named = [
             ("QR", self.is_response),
             ("AA", self.authoritative),
@@ -65,7 +65,7 @@ class Header:
         return tuple(name for name, is_set in named if is_set)
 
     def _octets(self, *counts: int) -> bytes:
-        """The octets, with the low four bits of the response code."""
+        """Returns the octets, with the low four bits of the response code."""
         flags = (
             bool(self.is_response) << 15
             | _checks.number("op_code", self.op_code, 15) << 11
@@ -82,7 +82,7 @@ class Header:
 
 @dataclass(frozen=True)
 class Question:
-    """A question (RFC 1035, section 4.1.2): a name, a type and a class. As a text it is these, with spaces between."""
+    """A question (RFC 1035, section 4.1.2). `str` returns its name, class and type, with spaces between them."""
 
     name: Name
     question_type: RecordType
@@ -92,7 +92,7 @@ class Question:
         return f"{self.name} {self.question_class} {self.question_type}"
 
     def to_wire(self) -> bytes:
-        """The octets, the name not compressed."""
+        """Returns the octets, without compression."""
         wire, _ = wire_of("name", self.name)
         codes = (_checks.number(what, code, _MOST) for what, code in
                  [("question_type", self.question_type), ("question_class", self.question_class)])
@@ -101,10 +101,10 @@ class Question:
 
 @dataclass(frozen=True)
 class Edns:
-    """What a message says by EDNS (RFC 6891, section 6.1).
+    """The EDNS fields of a message (RFC 6891, section 6.1).
 
-    `max_payload` is the octets of the largest message that the sender accepts, at least 512. The options are pairs of a code
-    and its octets.
+    `max_payload` is the size of the largest message that the sender accepts, at least 512 octets. The options are pairs
+    of a code and its octets.
     """
 
     max_payload: int = 1232
@@ -113,7 +113,7 @@ class Edns:
     options: Tuple[Tuple[int, bytes], ...] = ()
 
     def _record(self, code: int) -> Record:
-        """The OPT record (RFC 6891, section 6.1.2), with the high bits of a response code."""
+        """Returns the OPT record (RFC 6891, section 6.1.2), with the high bits of a response code."""
         options = put_pairs("options", self.options)
         if len(options) > _MOST:
             raise DataTooLong()
@@ -126,9 +126,9 @@ class Edns:
 class Message:
     """A message that was checked as a whole (RFC 1035, section 4). `Message.from_wire` reads it.
 
-    The data of its records are not looked into; `Record.fields` does. Octets after the message are its `trailing` ones. Two
-    messages are equal if all their octets are. `Message.build`, `Message.query` and `Message.reply` make one, whose `wire` is not
-    compressed; `to_wire` writes it, or any other, compressed and within a size.
+    The data of its records are not checked; `Record.fields` does. `trailing` is the octets after the message. Two
+    messages are equal if all their octets are. `Message.build`, `Message.query` and `Message.reply` make a message,
+    whose `wire` is not compressed; `to_wire` writes any message, compressed and within a size.
 
     >>> message = Message.from_wire(bytes.fromhex("123484000001000100000000 016200 0001 0001 c00c 0001 0001 0000003c 0004 c0000201"))
     >>> message.id, message.flags
@@ -161,15 +161,15 @@ class Message:
 
     @classmethod
     def from_wire(cls, message: Bytes, *, max_pointers: int = _MAX_POINTERS) -> "Message":
-        """Reads the message at the start of these octets.
+        """Reads the message at the start of these octets. More octets may follow.
 
-        Raises the exception of the first question or record that is not there, whose `section`, `item` and `offset` say which:
-        as `read_name` if its name is none, `MessageCut` if the octets end within it or within the header, and
-        `TooManyPointers` if the names up to it follow more than `max_pointers` compression pointers in all.
+        Raises the exception of the first question or record that is wrong, with its `section`, `item` and `offset`: as
+        `read_name` for its name, `MessageCut` if the octets end within it or within the header, and `TooManyPointers`
+        if the names up to it follow more than `max_pointers` compression pointers in total.
         """
         whole = message if type(message) is bytes else _checks.octets("message", message)
         most = max_pointers if max_pointers is _MAX_POINTERS else _checks.number("max_pointers", max_pointers, _MOST_POINTERS)
-        # Room of its own for each call, since a signal handler may read another message in between.
+        # Each call has its own room, since a signal handler may read another message in between.
         read, fault = Read(), MessageFault()
         number = _message_read(whole, len(whole), most, byref(read), byref(fault))
         if number:
@@ -182,7 +182,7 @@ class Message:
         additionals, end = section_records(whole, offset, additional_count, names) if additional_count else ((), offset)
         header = object.__new__(Header)
         header.__dict__.update(_fields_of(flags), id=id)
-        # There is nothing more for __init__ to do.
+        # All fields are set here, so __init__ need not be called.
         made = object.__new__(cls)
         made.__dict__.update(
             header=header,
@@ -206,11 +206,11 @@ class Message:
         additionals: Iterable[Record] = (),
         edns: Optional[Edns] = None,
     ) -> "Message":
-        """A message of these. What is said by EDNS is written as the last of the additional records. A response code above 15 is
-        written by EDNS too, so that the message then has an OPT record in any case (RFC 6891, section 6.1.3).
+        """Makes a message. The EDNS fields become the last record of the Additional section. A response code above 15
+        needs EDNS, so the message then always has an OPT record (RFC 6891, section 6.1.3).
 
-        Raises `ValueError` if a section has more than 65535 items or a number is out of bounds, and `DataTooLong` if the options
-        have more than 65535 octets.
+        Raises `ValueError` if a section has more than 65535 items or a number is out of bounds, and `DataTooLong` if
+        the options have more than 65535 octets.
 
         >>> from dns_names_wire import Header, MX, Name, Record
         >>> record = Record(Name("a."), 60, MX(preference=10, exchange=Name("mail.a.")))
@@ -240,7 +240,7 @@ class Message:
         recursion_desired: bool = True,
         edns: Optional[Edns] = None,
     ) -> "Message":
-        """A query for records of a name. Without an `id` it gets one by chance (RFC 5452, section 9.2).
+        """Makes a query for records of a name. The default `id` is random (RFC 5452, section 9.2).
 
         >>> Message.query(Name("a."), RecordType.NS, id=7).to_wire().hex()
         '00070100000100000000000001610000020001'
@@ -261,12 +261,12 @@ class Message:
         response_code: Optional[int] = None,
         edns: Optional[Edns] = None,
     ) -> "Message":
-        """A reply to this request, with what it says: the id, the operation, RD, CD and the questions (RFC 1035, section 4.1.1; RFC
-        4035, section 3.2.2), and with EDNS if it has that (RFC 6891, section 6.1.1): `edns`, or DO as there, version 0, and 1232
-        octets as the largest message that is accepted.
+        """Makes a reply to this request. It repeats the id, the operation code, RD, CD and the questions of the request
+        (RFC 1035, section 4.1.1; RFC 4035, section 3.2.2). It has EDNS if the request has (RFC 6891, section 6.1.1):
+        `edns`, or the same DO, version 0, and 1232 octets as the largest message that is accepted.
 
-        The response code is NOERROR if none is given; but FORMERR if what the request says by EDNS breaks a rule, and BADVERS if it
-        is of a later version (RFC 6891, sections 6.1.1 and 6.1.3).
+        The default response code is NOERROR; or FORMERR if the EDNS of the request is not valid, or BADVERS if its
+        version is above 0 (RFC 6891, sections 6.1.1 and 6.1.3).
 
         >>> Message.query(Name("a."), RecordType.NS, id=7).reply(response_code=ResponseCode.NXDOMAIN)
         <Message 7 QR RD [1, 0, 0, 0]>
@@ -291,7 +291,8 @@ class Message:
         return Message.build(header, self.questions, answers, authorities, additionals, own)
 
     def is_reply_to(self, request: "Message") -> bool:
-        """Whether this is a response with the id, the operation and the questions of a request (RFC 5452, section 9.1).
+        """Returns whether this is a response with the id, the operation code and the questions of a request (RFC 5452,
+        section 9.1).
 
         >>> request = Message.query(Name("a."), RecordType.NS)
         >>> request.reply().is_reply_to(request), request.is_reply_to(request)
@@ -302,13 +303,14 @@ class Message:
         return own.is_response and same
 
     def to_wire(self, max_size: int = 512) -> bytes:
-        """The message with its names compressed, in at most `max_size` octets: 512 over UDP without EDNS, what the requester accepts
-        with it, and 65535 over TCP. Of the questions and records each is written that has room; if an answer or an authority has
-        none, TC is set (RFC 2181, section 9). An OPT record is always there, and the last.
+        """Returns the message with its names compressed, in at most `max_size` octets: 512 over UDP without EDNS, what
+        the requester accepts with EDNS, and 65535 over TCP. Questions and records that do not fit are left out. TC is
+        set if a record of the Answer or Authority section is left out (RFC 2181, section 9). An OPT record is
+        never left out, and is last.
 
-        Raises as `edns`, as `Record.fields` if the data of a record are no fields of its type, `MessageTooLong` if the header and
-        the OPT record have more than `max_size` octets, and `TooManyPointers` if the names follow more than 65,536 compression
-        pointers.
+        Raises as `edns`, as `Record.fields` if the data of a record are not valid, `MessageTooLong` if the header and
+        the OPT record have more than `max_size` octets, and `TooManyPointers` if the names follow more than 65,536
+        compression pointers.
 
         >>> record = Record.from_text("a. 60 IN TXT " + " ".join(["abcdefgh"] * 100))
         >>> reply = Message.query(Name("a."), RecordType.TXT, id=7).reply([record])
@@ -327,25 +329,26 @@ class Message:
             size = most
 
     def to_text(self) -> str:
-        """The lines that `dig` prints, as `str` gives them."""
+        """Returns the lines that `dig` prints, as `str` does."""
         return str(self)
 
     @property
     def id(self) -> int:
-        """The number by which a requester knows the response to its request."""
+        """The id of a request, which its response repeats."""
         return self.header.id
 
     @property
     def flags(self) -> Tuple[str, ...]:
-        """The names of the flags that are set, as `Header.flags`."""
+        """The names of the flags that are set. See `Header.flags`."""
         return self.header.flags
 
     @property
     def edns(self) -> Optional[Edns]:
-        """What the message says by EDNS, or None without an OPT record.
+        """The EDNS fields of the message, or None if it has no OPT record.
 
-        Raises `OutsideAdditionals` if an OPT record is among the answers or the authorities, `DuplicateEdns` if there are two or
-        more, `OwnerNotRoot` if the only one is not owned by the root, and `CutOption` if its data are not options up to their end.
+        Raises `OutsideAdditionals` if an OPT record is in the Answer or Authority section, `DuplicateEdns` if there are
+        two or more, `OwnerNotRoot` if the owner of the only one is not the root, and `CutOption` if its data end within
+        an option.
         """
         read = self._read_edns()
         if not read.is_present:
@@ -355,7 +358,7 @@ class Message:
 
     @property
     def response_code(self) -> ResponseCode:
-        """The response code, with the high bits that EDNS has (RFC 6891, section 6.1.3). Raises as `edns`."""
+        """The response code, with the high bits from the OPT record (RFC 6891, section 6.1.3). Raises as `edns`."""
         return ResponseCode.of(self._read_edns().response_code)
 
     def _read_edns(self) -> ReadEdns:
@@ -371,7 +374,7 @@ class Message:
         return f"<Message {self.id} {' '.join(self.flags)} {counts}>"
 
 
-# What the items of each part of a message are called, for errors.
+# The words for the items of each section, for errors.
 _PARTS = ("questions", "answers", "authorities", "additionals")
 
 
@@ -384,7 +387,7 @@ def make_query(
     payload: Optional[int] = None,
     id: Optional[int] = None,
 ) -> Message:
-    """`Message.query`, with texts as well. A `payload`, or `want_dnssec`, which sets DO, makes it say so by EDNS.
+    """As `Message.query`, but also takes texts. A `payload`, or `want_dnssec`, which sets DO, adds EDNS.
 
     >>> print(make_query("www.example.", "AAAA", payload=1232).questions[0])
     www.example. IN AAAA
@@ -399,7 +402,7 @@ def make_query(
 
 
 def make_response(query: Message, *, recursion_available: bool = False) -> Message:
-    """`query.reply()`, without records yet.
+    """The same as `query.reply()`, without records.
 
     >>> make_response(make_query("a.", "NS", id=7))
     <Message 7 QR RD [1, 0, 0, 0]>
@@ -408,7 +411,7 @@ def make_response(query: Message, *, recursion_available: bool = False) -> Messa
 
 
 def _lines(message: Message) -> Iterator[str]:
-    """The lines that `dig` prints of a message, but for tabs."""
+    """Returns the lines that `dig` prints for a message, with spaces in place of tabs."""
     try:
         edns, status = message.edns, message.response_code
     except DnsError:
@@ -430,7 +433,7 @@ def _lines(message: Message) -> Iterator[str]:
 
 @lru_cache(maxsize=1024)
 def _fields_of(flags: int) -> Dict[str, Any]:
-    """The fields of a header that its second number has."""
+    """Returns the fields in the second number of a header."""
     return {
         "id": 0,
         "is_response": bool(flags & 0x8000),
@@ -446,7 +449,7 @@ def _fields_of(flags: int) -> Dict[str, Any]:
 
 
 def _questions(whole: bytes, count: int, names: Names) -> Tuple[Tuple[Question, ...], int]:
-    """So many questions of a message, which was checked, and where they end."""
+    """Returns `count` questions of a message that was checked, and the offset after them."""
     questions, offset = [], _HEADER.size
     for _ in range(count):
         name, end = checked_name(whole, offset, names)

@@ -15,12 +15,12 @@ _sort_key = library.dnw_name_sort_key
 class Name:
     """A domain name: at most 255 octets of wire form (RFC 1035, section 3.1), and whether it is fully qualified.
 
-    It does not change. Case is kept, and ignored when names are compared and hashed (RFC 4343). The order is canonical
-    (RFC 4034, section 6.1), after all names that are not fully qualified.
+    It is immutable. Case is kept, and is ignored when names are compared and hashed (RFC 4343). The order is canonical
+    (RFC 4034, section 6.1); names that are not fully qualified are before all others.
 
-    Its items are its labels: `len(name)` is their number, and `for label in name` goes from the first to the one before the
-    root. `a + b` appends, `bytes(name)` is the wire form, and `name in zone` is `name.is_in(zone)`. Every name is true, the
-    root also.
+    Its items are its labels: `len(name)` is their number, and `for label in name` goes from the first to the one before
+    the root. `a + b` appends, `bytes(name)` is the wire form, and `name in zone` is `name.is_in(zone)`. A name is
+    always truthy, even the root.
 
     >>> name, zone = Name("www.Example.com."), Name("example.com.")
     >>> name in zone, zone < name, name == Name("WWW.example.com.")
@@ -40,10 +40,11 @@ class Name:
     _hash: int
 
     def __new__(cls, text: str = "") -> "Name":
-        """The name with a text (RFC 1035, section 5.1), fully qualified if it ends in a dot.
+        """Parses a name (RFC 1035, section 5.1). It is fully qualified if it ends in a dot.
 
-        A label has ASCII letters, digits, `_`, `-` if it does not begin with it, `*` if it begins with it, and dots that are
-        escaped. Raises `BadText`, `LabelTooLong` or `NameTooLong` if it is the text of no name, with the offset and the rule.
+        A label has ASCII letters, digits, `_`, `-` except as its first character, `*` only as its first character, and
+        dots that are escaped. Raises `BadText`, `LabelTooLong` or `NameTooLong` if the text is not a name, with the
+        offset and the rule.
         """
         encoded = _checks.text("text", text)
         form, parsed = Form(), ParsedName()
@@ -59,7 +60,8 @@ class Name:
 
     @classmethod
     def from_wire(cls, wire: Bytes, *, is_fqdn: bool = True) -> "Name":
-        """The name with a wire form, fully qualified or not. Raises as `read_name`, and `BytesLeft` if more follows after it.
+        """Returns the name with this wire form, fully qualified or not. Raises as `read_name`, and `BytesLeft` if bytes
+        follow the name.
 
         >>> Name.from_wire(b"\\x01a\\x00")
         Name('a.')
@@ -72,7 +74,7 @@ class Name:
 
     @classmethod
     def from_text(cls, text: str, origin: Optional["Name"] = None) -> "Name":
-        """The name with a text, as `Name(text)`; with an origin, it completes a name without a dot at its end, and is `@`.
+        """Parses a name, as `Name(text)`. An origin is appended to a name without a last dot, and `@` is the origin.
 
         >>> Name.from_text("www", Name("example."))
         Name('www.example.')
@@ -83,14 +85,14 @@ class Name:
         return name if name._is_fqdn else name.append(origin)
 
     def to_text(self) -> str:
-        """The text, as `str` gives it."""
+        """Returns the text, as `str` does."""
         return str(self)
 
     @classmethod
     def from_labels(cls, labels: Iterable[Bytes]) -> "Name":
-        """The fully qualified name with some labels, each of any 1 to 63 octets.
+        """Returns the fully qualified name with these labels, each of any 1 to 63 octets.
 
-        Raises `BadText` if a label is empty, `LabelTooLong` or `NameTooLong`: that of the first label that does not fit.
+        Raises `BadText` if a label is empty, `LabelTooLong` or `NameTooLong`, for the first label that does not fit.
 
         >>> Name.from_labels([b"www", b"example", b"com"])
         Name('www.example.com.')
@@ -164,7 +166,7 @@ class Name:
         return name.is_in(self)
 
     def is_in(self, zone: "Name") -> bool:
-        """Whether the name's last labels are those of the zone, ignoring case (RFC 1034, section 4.2).
+        """Returns whether the name's last labels are those of the zone, ignoring case (RFC 1034, section 4.2).
 
         >>> Name("www.Example.com.").is_in(Name("example.com."))
         True
@@ -175,7 +177,7 @@ class Name:
 
     @property
     def parent(self) -> "Name":
-        """The name without its first label: the name above it. A name without labels stays as it is.
+        """The name without its first label. A name without labels is its own parent.
 
         >>> Name("www.example.com.").parent
         Name('example.com.')
@@ -183,13 +185,14 @@ class Name:
         return self.trim_to(max(len(self) - 1, 0))
 
     def lower(self) -> "Name":
-        """The name with its ASCII letters in lower case."""
+        """Returns the name with its ASCII letters in lower case."""
         form, length = Form(), ctypes.c_size_t()
         check(library.dnw_name_to_lowercase(*_slice(self), form, FORM_SIZE, byref(length)))
         return Name._of(taken(form, length.value), self._is_fqdn)
 
     def append(self, suffix: "Name") -> "Name":
-        """The name with the labels of another after its own, fully qualified if the other is. May raise `NameTooLong`.
+        """Returns the name with the labels of another name after its own, fully qualified if the other is. May raise
+        `NameTooLong`.
 
         >>> Name("www").append(Name("example.com."))
         Name('www.example.com.')
@@ -204,7 +207,7 @@ class Name:
         return self.append(suffix)
 
     def prepend_label(self, label: Bytes) -> "Name":
-        """The name with a label, of any 1 to 63 octets, before its own.
+        """Returns the name with a label, of any 1 to 63 octets, before its own labels.
 
         Raises `BadText` if the label is empty, `LabelTooLong` or `NameTooLong`.
 
@@ -217,7 +220,7 @@ class Name:
         return Name._of(taken(form, length.value), self._is_fqdn)
 
     def trim_to(self, labels: int) -> "Name":
-        """The name of the last labels, as many as this, or the whole name if it has fewer.
+        """Returns the name with only the last `labels` labels, or the whole name if it has fewer.
 
         >>> Name("www.example.com.").trim_to(2)
         Name('example.com.')
@@ -228,7 +231,7 @@ class Name:
         return Name._of(taken(form, length.value), self._is_fqdn)
 
     def to_wildcard(self) -> "Name":
-        """The name with `*` in place of its first label (RFC 4592, section 2.1.1). The root stays the root.
+        """Returns the name with `*` in place of its first label (RFC 4592, section 2.1.1). The root is unchanged.
 
         >>> Name("www.example.com.").to_wildcard()
         Name('*.example.com.')
@@ -238,7 +241,7 @@ class Name:
         return Name._of(taken(form, length.value), self._is_fqdn)
 
     def compare(self, other: "Name") -> int:
-        """-1, 0 or 1 if this name is before, equal to or after the other."""
+        """Returns -1, 0 or 1 if this name is before, equal to or after the other."""
         others = wire_of("other", other)
         if self._is_fqdn != other._is_fqdn:
             return 1 if self._is_fqdn else -1
@@ -247,18 +250,19 @@ class Name:
         return order.value
 
     def sort_key(self) -> bytes:
-        """Octets whose order is the canonical order of names (RFC 4034, section 6.1), at most 504. It has the labels alone,
-        whether the name is fully qualified or not.
+        """Returns a key of at most 504 octets. The order of keys is the canonical order of names (RFC 4034, section
+        6.1). The key does not depend on whether the name is fully qualified.
 
-        Keys are equal exactly if the labels are, ignoring case, and the keys of the names in a zone are those that begin
-        with the zone's key. To sort many names by it is much faster than without a key, and `sort_names` is faster still.
+        Keys are equal exactly if the labels are, ignoring case. The keys of the names in a zone are those that begin
+        with the zone's key. Sorting many names by their keys is much faster than without, and `sort_names` is faster
+        still.
 
         >>> sorted(map(Name, ["z.example.", "example.", "Z.a.example."]), key=Name.sort_key)
         [Name('example.'), Name('Z.a.example.'), Name('z.example.')]
         >>> Name("WWW.example.").sort_key()
         b'example\\x00www\\x00'
         """
-        # It is called once for each of many names, so it calls no more functions than it has to.
+        # It is called for many names, so it calls as few functions as possible.
         wire, key, length = self._wire, SortKey(), c_size_t()
         failure = _sort_key(wire, len(wire), key, SORT_KEY_SIZE, byref(length))
         if failure:
@@ -275,7 +279,7 @@ class Name:
         return format(str(self), spec)
 
     def __repr__(self) -> str:
-        """An expression with this value: by its text if that is read back, else by its wire form."""
+        """Returns an expression with this value: by its text if that round-trips, or by its wire form."""
         text = str(self)
         try:
             back = Name(text)
@@ -326,30 +330,30 @@ class Name:
         return self.compare(other) >= 0
 
 
-# A Name is made by its slots, which are set nowhere else.
+# The slots of a Name are set only when it is created.
 _set_wire: Callable[[Name, bytes], None] = Name.__dict__["_wire"].__set__
 _get_wire: Callable[[Name], bytes] = Name.__dict__["_wire"].__get__
 _set_is_fqdn: Callable[[Name, bool], None] = Name.__dict__["_is_fqdn"].__set__
 
 
 def _slice(name: Name) -> Tuple[bytes, int]:
-    """The wire form and its length, also of a subclass that has methods of its own."""
+    """Returns the wire form and its length, whatever methods a subclass has."""
     wire = _get_wire(name)
     return wire, len(wire)
 
 
 def wire_of(what: str, name: object) -> Tuple[bytes, int]:
-    """The wire form of an argument that is a name, and its length."""
+    """Returns the wire form of an argument that has to be a name, and its length."""
     if not isinstance(name, Name):
         raise _checks.wrong_type(what, "a Name is", name)
     return _slice(name)
 
 
 def sort_names(names: Iterable[Name]) -> List[Name]:
-    """The names in order, by one call of the library: as `sorted(names)`, and much faster.
+    """Sorts names as `sorted(names)` does, but in one call of the library, which is much faster.
 
-    So every name that is not fully qualified is before those that are, both in canonical order (RFC 4034, section 6.1), and
-    names that are equal keep their order.
+    Names that are not fully qualified are before those that are, both in canonical order (RFC 4034, section 6.1). Equal
+    names keep their order.
 
     >>> sort_names(map(Name, ["z.example.", "example.", "Z.a.example.", "z"]))
     [Name('z'), Name('example.'), Name('Z.a.example.'), Name('z.example.')]
@@ -370,7 +374,7 @@ class NameAt(NamedTuple):
 
 
 def placed(message: Bytes, start: int) -> Tuple[bytes, int]:
-    """The message as `bytes`, and the offset for the library: one octet past the message if it is past it at all."""
+    """Returns the message as `bytes`, and the offset, but at most one octet past the message."""
     whole = _checks.octets("message", message)
     return whole, min(_checks.number("start", start), len(whole) + 1)
 
@@ -379,7 +383,8 @@ def read_name(message: Bytes, start: int = 0) -> NameAt:
     """Reads the name at an offset of a message, following compression pointers (RFC 1035, section 4.1.4).
 
     Raises `MessageCut` (also if `start` is past the message), `PointerNotBack`, `ReservedOctet`, `SegmentsOverlap` or
-    `NameTooLong` if there is none, and `ValueError` if `start` is negative. A message that is not `bytes` is copied.
+    `NameTooLong` if no valid name is there, and `ValueError` if `start` is negative. A message that is not `bytes` is
+    copied.
 
     >>> read_name(b"\\x01b\\x00\\x01a\\xc0\\x00", 3)
     NameAt(name=Name('a.b.'), end=7)
@@ -391,7 +396,7 @@ def read_name(message: Bytes, start: int = 0) -> NameAt:
 
 
 def names(message: Bytes, start: int = 0) -> Iterator[NameAt]:
-    """The names that follow one another in a message, from an offset to its end. Raises as `read_name`.
+    """Returns an iterator over the consecutive names in a message, from an offset to the end. Raises as `read_name`.
 
     >>> [str(name) for name, _ in names(b"\\x01b\\x00\\x01a\\xc0\\x00")]
     ['b.', 'a.b.']

@@ -16,13 +16,13 @@ from ._types import TypeSet
 
 _Own = TypeVar("_Own", bound="Data")
 
-# The octets of the longest record, and for how many there is room at first.
+# The octets of the longest record, and the initial size of a buffer.
 _MOST = FORM_SIZE + 10 + 65535
 _USUAL_SIZE = 512
 
 
 def parsed(parse: Callable[..., int], text: str, origin: Optional[Name]) -> bytes:
-    """The octets that a function of the library puts for a text and an origin."""
+    """Returns the octets that a function of the library stores for a text and an origin."""
     encoded, wire, size, length = _checks.text("text", text), b"", _USUAL_SIZE, c_size_t()
     if origin is not None:
         wire, _ = wire_of("origin", origin)
@@ -36,7 +36,7 @@ def parsed(parse: Callable[..., int], text: str, origin: Optional[Name]) -> byte
 
 
 def printed(message: bytes, start: int) -> str:
-    """The line of the record at an offset of a message."""
+    """Returns the line of the record at an offset of a message."""
     size, result = _USUAL_SIZE, PrintedRecord()
     while True:
         room = (c_char * size)()
@@ -48,8 +48,8 @@ def printed(message: bytes, start: int) -> str:
 
 
 def data_from_wire(record_type: int, octets: Bytes) -> "Data":
-    """The data of a type that octets are, in which no name is compressed: the class of the type, or `Unknown`. Raises as
-    `Record.fields`.
+    """Reads data of a type from octets, in which no name is compressed. Returns the class of the type, or `Unknown`.
+    Raises as `Record.fields`.
 
     >>> data_from_wire(15, bytes.fromhex("000a016100"))
     MX(preference=10, exchange=Name('a.'))
@@ -59,7 +59,7 @@ def data_from_wire(record_type: int, octets: Bytes) -> "Data":
 
 
 def data_in(message: bytes, start: int, end: int, record_type: int, names: Names) -> "Data":
-    """The data of a type from an offset of a message to another, and the names that were read there before."""
+    """Returns the data of a type between two offsets of a message. `names` are those that were read there before."""
     kind = CLASSES.get(record_type)
     if kind is None:
         return Unknown(RecordType.of(record_type), message[start:end])
@@ -67,16 +67,16 @@ def data_in(message: bytes, start: int, end: int, record_type: int, names: Names
     if values is None:
         found: Any = fields(message, start, end, record_type)
         return kind(*found)
-    # As many values as the class has fields, each of its type: there is nothing for __init__ to do.
+    # There is a value for each field of the class, of its type, so __init__ need not be called.
     made = object.__new__(kind)
     made.__dict__.update(zip(kind.__dataclass_fields__, values))
     return made
 
 
 def data_from_text(record_type: int, text: str, origin: Optional[Name] = None) -> "Data":
-    """The data of a type that have a text in master files. An origin completes names without a dot at their end.
+    """Parses data of a type from their text in master files. The origin is appended to names without a last dot.
 
-    Raises `BadData` if the text is no data of the type.
+    Raises `BadData` if the text is not data of the type.
 
     >>> data_from_text(15, "10 mail", Name("example."))
     MX(preference=10, exchange=Name('mail.example.'))
@@ -86,8 +86,8 @@ def data_from_text(record_type: int, text: str, origin: Optional[Name] = None) -
     return data_from_wire(code, octets)
 
 
-# The fields of data, each with its letter: numbers of so many octets, a time, octets after their number, octets up to the end, texts,
-# and service parameters.
+# The fields of data, each with its letter: numbers of as many octets, a time, octets after a length octet, octets up to
+# the end, texts, and service parameters.
 U8 = Annotated[int, "1"]
 U16 = Annotated[int, "2"]
 U32 = Annotated[int, "4"]
@@ -99,7 +99,7 @@ Rest = Annotated[bytes, "o"]
 Strings = Annotated[Tuple[bytes, ...], "S"]
 Params = Annotated[Tuple[Tuple[int, bytes], ...], "P"]
 
-# The letters of fields whose type says what they are: a name, addresses, a type and a bitmap of types.
+# The letters of fields that are known by their Python type: a name, addresses, a record type and a type bitmap.
 _LETTERS: Dict[Any, str] = {Name: "n", IPv4Address: "i", IPv6Address: "I", RecordType: "t", TypeSet: "B"}
 
 
@@ -109,14 +109,14 @@ def _letter(annotation: Any) -> str:
 
 
 class Data:
-    """The data of a record. Below it is a dataclass for each type.
+    """The data of a record. There is a subclass for each type, which is a dataclass.
 
     >>> from dns_names_wire import MX, Name
     >>> MX(preference=10, exchange=Name("a.")).to_wire().hex()
     '000a016100'
     """
 
-    # The code of the type, if the class is of one, and a letter for each field, which its annotation has.
+    # The code of the type, if the class has one, and the letters of the fields, from their annotations.
     _code: ClassVar[Optional[int]] = None
     _kinds: ClassVar[str]
     __dataclass_fields__: ClassVar[Dict[str, Any]]
@@ -133,13 +133,13 @@ class Data:
         return RecordType.of(self._own_code())
 
     def to_wire(self) -> bytes:
-        """The octets, names not compressed. Raises `DataTooLong` if a text has more than 255 octets, and `ValueError` if a number
-        is out of bounds."""
+        """Returns the octets, without compression. Raises `DataTooLong` if a text has more than 255 octets, and
+        `ValueError` if a number is out of bounds."""
         return b"".join([_PUT[kind](name, getattr(self, name)) for name, kind in zip(self.__dataclass_fields__, self._kinds)])
 
     def to_text(self) -> str:
-        """The text in master files: the fields of the type, or that of any data, as `\\# 4 0A000001` (RFC 3597, section 5). Raises as
-        `to_wire`.
+        """Returns the text in master files: in the form of the type, or in that of any data, `\\# 4 0A000001` (RFC
+        3597, section 5). Raises as `to_wire`.
 
         >>> from dns_names_wire import MX, Name
         >>> MX(preference=10, exchange=Name("a.")).to_text()
@@ -154,12 +154,13 @@ class Data:
 
     @classmethod
     def from_wire(cls: Type[_Own], octets: Bytes) -> _Own:
-        """The data that octets are, in which no name is compressed. Raises as `Record.fields`."""
+        """Reads the data from octets, in which no name is compressed. Raises as `Record.fields`."""
         return cls._own(data_from_wire(cls._own_code(), octets))
 
     @classmethod
     def from_text(cls: Type[_Own], text: str, origin: Optional[Name] = None) -> _Own:
-        """The data that have a text in master files. An origin completes names without a dot at their end. Raises `BadData`.
+        """Parses the data from their text in master files. The origin is appended to names without a last dot. Raises
+        `BadData`.
 
         >>> from dns_names_wire import MX, Name
         >>> MX.from_text("10 a", origin=Name("b."))
@@ -204,11 +205,11 @@ def _pair(name: str, pair: Tuple[int, bytes]) -> bytes:
 
 
 def put_pairs(name: str, value: Any) -> bytes:
-    """Service parameters or options, each a key and its octets."""
+    """Returns the octets of service parameters or options, each a key and its octets."""
     return b"".join(_pair(name, pair) for pair in value)
 
 
-# The octets of a field, by its letter, its name and its value.
+# Functions that return the octets of a field from its name and value, by its letter.
 _PUT: Dict[str, Callable[[str, Any], bytes]] = {
     **{str(octets): _number(octets) for octets in (1, 2, 4, 6, 8)},
     "n": lambda name, value: wire_of(name, value)[0],
@@ -226,7 +227,7 @@ _PUT: Dict[str, Callable[[str, Any], bytes]] = {
 
 @dataclass(frozen=True)
 class A(Data, code=1):
-    """An IPv4 address (RFC 1035, section 3.4.1). It may be given as a text."""
+    """An IPv4 address (RFC 1035, section 3.4.1). It may be passed as a text."""
 
     address: IPv4Address
 
@@ -237,7 +238,7 @@ class A(Data, code=1):
 
 @dataclass(frozen=True)
 class AAAA(Data, code=28):
-    """An IPv6 address (RFC 3596, section 2.2). It may be given as a text."""
+    """An IPv6 address (RFC 3596, section 2.2). It may be passed as a text."""
 
     address: IPv6Address
 
@@ -264,7 +265,7 @@ class MF(_Target, code=4):
 
 
 class CNAME(_Target, code=5):
-    """The name that an alias stands for (RFC 1035, section 3.3.1)."""
+    """The canonical name of an alias (RFC 1035, section 3.3.1)."""
 
 
 class MB(_Target, code=7):
@@ -280,16 +281,16 @@ class MR(_Target, code=9):
 
 
 class PTR(_Target, code=12):
-    """Another name (RFC 1035, section 3.3.12)."""
+    """A pointer to another name (RFC 1035, section 3.3.12)."""
 
 
 class DNAME(_Target, code=39):
-    """The name that a whole subtree is an alias of (RFC 6672)."""
+    """The name that a subtree is an alias of (RFC 6672)."""
 
 
 @dataclass(frozen=True)
 class SOA(Data, code=6):
-    """The start of a zone (RFC 1035, section 3.3.13)."""
+    """The start of a zone of authority (RFC 1035, section 3.3.13)."""
 
     mname: Name
     rname: Name
@@ -302,7 +303,7 @@ class SOA(Data, code=6):
 
 @dataclass(frozen=True)
 class HINFO(Data, code=13):
-    """What a host is (RFC 1035, section 3.3.2)."""
+    """The CPU and the operating system of a host (RFC 1035, section 3.3.2)."""
 
     cpu: String
     os: String
@@ -318,7 +319,7 @@ class MINFO(Data, code=14):
 
 @dataclass(frozen=True)
 class MX(Data, code=15):
-    """Where mail goes (RFC 1035, section 3.3.9)."""
+    """A mail server for a domain (RFC 1035, section 3.3.9)."""
 
     preference: U16
     exchange: Name
@@ -332,12 +333,12 @@ class TXT(Data, code=16):
 
 
 class SPF(TXT, code=99):
-    """Texts, which TXT has taken the place of (RFC 7208, section 3.1)."""
+    """SPF texts, now in TXT records (RFC 7208, section 3.1)."""
 
 
 @dataclass(frozen=True)
 class RP(Data, code=17):
-    """Who is responsible, and the name of a text (RFC 1183, section 2.2)."""
+    """The person responsible for a name, and the owner of a TXT record (RFC 1183, section 2.2)."""
 
     mbox: Name
     txt: Name
@@ -345,7 +346,7 @@ class RP(Data, code=17):
 
 @dataclass(frozen=True)
 class AFSDB(Data, code=18):
-    """A server of a file system (RFC 1183, section 1)."""
+    """A server of an AFS or DCE cell (RFC 1183, section 1)."""
 
     subtype: U16
     hostname: Name
@@ -353,7 +354,7 @@ class AFSDB(Data, code=18):
 
 @dataclass(frozen=True)
 class SRV(Data, code=33):
-    """Where a service is (RFC 2782)."""
+    """The host and the port of a service (RFC 2782)."""
 
     priority: U16
     weight: U16
@@ -389,7 +390,7 @@ class CERT(Data, code=37):
 
 @dataclass(frozen=True)
 class DS(Data, code=43):
-    """The digest of a child's key (RFC 4034, section 5.1)."""
+    """The digest of a key of a child zone (RFC 4034, section 5.1)."""
 
     key_tag: U16
     algorithm: U8
@@ -431,7 +432,7 @@ class SIG(RRSIG, code=24):
 
 @dataclass(frozen=True)
 class NSEC(Data, code=47):
-    """The next name of a zone, and the types of this one (RFC 4034, section 4.1)."""
+    """The next name in a zone, and the types at this name (RFC 4034, section 4.1)."""
 
     next: Name
     types: TypeSet
@@ -457,7 +458,7 @@ class CDNSKEY(DNSKEY, code=60):
 
 @dataclass(frozen=True)
 class NSEC3(Data, code=50):
-    """The next hash of a zone, and the types of this name (RFC 5155, section 3.2)."""
+    """The next hash in a zone, and the types at this name (RFC 5155, section 3.2)."""
 
     algorithm: U8
     flags: U8
@@ -493,7 +494,7 @@ class SMIMEA(TLSA, code=53):
 
 @dataclass(frozen=True)
 class CSYNC(Data, code=62):
-    """What a parent may copy from its child (RFC 7477, section 2.1)."""
+    """The types that a parent zone may copy from its child (RFC 7477, section 2.1)."""
 
     serial: U32
     flags: U16
@@ -512,7 +513,8 @@ class ZONEMD(Data, code=63):
 
 @dataclass(frozen=True)
 class SVCB(Data, code=64):
-    """How to reach a service (RFC 9460, section 2.2). The parameters are pairs of a key and its value, by ascending keys."""
+    """How to reach a service (RFC 9460, section 2.2). The parameters are pairs of a key and its value, in ascending
+    order."""
 
     priority: U16
     target: Name
@@ -525,21 +527,21 @@ class HTTPS(SVCB, code=65):
 
 @dataclass(frozen=True)
 class EUI48(Data, code=108):
-    """An address of 48 bits, as a number (RFC 7043, section 3)."""
+    """An EUI-48 address, as a number (RFC 7043, section 3)."""
 
     eui: U48
 
 
 @dataclass(frozen=True)
 class EUI64(Data, code=109):
-    """An address of 64 bits, as a number (RFC 7043, section 4)."""
+    """An EUI-64 address, as a number (RFC 7043, section 4)."""
 
     eui: U64
 
 
 @dataclass(frozen=True)
 class URI(Data, code=256):
-    """Where a resource is (RFC 7553, section 4)."""
+    """The URI of a service (RFC 7553, section 4)."""
 
     priority: U16
     weight: U16
@@ -548,7 +550,7 @@ class URI(Data, code=256):
 
 @dataclass(frozen=True)
 class CAA(Data, code=257):
-    """Which authorities may issue certificates (RFC 8659, section 4.1)."""
+    """The authorities that may issue certificates for a domain (RFC 8659, section 4.1)."""
 
     flags: U8
     tag: String
@@ -568,7 +570,7 @@ class Unknown(Data):
         return RecordType.of(_checks.number("of_type", self.of_type, 65535))
 
     def to_wire(self) -> bytes:
-        """The octets."""
+        """Returns the octets."""
         return _checks.octets("octets", self.octets)
 
 
@@ -579,5 +581,5 @@ def _classes(kind: Type[Data]) -> Dict[int, Type[Data]]:
     return found
 
 
-#: The class of each type's data, by its code.
+#: The class for the data of each type, by its code.
 CLASSES: Dict[int, Type[Data]] = _classes(Data)

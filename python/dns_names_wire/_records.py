@@ -14,13 +14,13 @@ from ._library import Record as Read
 from ._names import Name, placed, wire_of
 from ._rdata import CLASSES, Data, data_in, parsed, printed
 
-# What is between the owner and the data: the type, the class, the time to live and the number of octets of data.
+# What is between the owner and the data: the type, the class, the TTL and the data length.
 _FIXED = struct.Struct("!HHIH")
 _MOST = 65535
 
 
 class _NoNames(Dict[int, Placed]):
-    """The names that were read in the wire form of a record, in which none is compressed: none is kept."""
+    """The names read in the wire form of a record, where no name is compressed. It keeps none."""
 
     def __setitem__(self, offset: int, name: Placed) -> None:
         """Keeps nothing."""
@@ -30,11 +30,11 @@ _NO_NAMES = _NoNames()
 
 
 class Record:
-    """A record that was read in a message, or that was made (RFC 1035, section 4.1.3).
+    """A record of a message, or one that was made (RFC 1035, section 4.1.3).
 
-    It keeps its message, and reads its owner and its data when they are asked for. `Record(owner, ttl, data)` makes one of class
-    IN. As a text it is a line of a master file (RFC 1035, section 5.1); data without a text of their own are shown as any data
-    are, as `\\# 4 0A000001` (RFC 3597, section 5). Its escapes have decimal digits, and not octal ones as those of a `Name`.
+    It keeps its message, and reads its owner and its data when they are first used. `Record(owner, ttl, data)` makes
+    one of class IN. `str` returns a line of a master file (RFC 1035, section 5.1). Data without a text of their own are
+    printed as `\\# 4 0A000001` (RFC 3597, section 5). Escapes are decimal; those of a `Name` are octal.
 
     >>> from dns_names_wire import MX, Name, Record
     >>> record = Record(Name("a."), 60, MX(preference=10, exchange=Name("b.a.")))
@@ -58,7 +58,7 @@ class Record:
     _data: Optional[Data]
 
     def __init__(self, owner: Name, ttl: int, data: Data, record_class: int = RecordClass.IN) -> None:
-        """Raises `DataTooLong` if the data have more than 65535 octets, or a text in it more than 255."""
+        """Raises `DataTooLong` if the data have more than 65535 octets, or a text in them more than 255."""
         if not isinstance(data, Data):
             raise _checks.wrong_type("data", "a class of data is", data)
         form, _ = wire_of("owner", owner)
@@ -77,19 +77,20 @@ class Record:
 
     @classmethod
     def _of(cls, message: bytes, start: int, owner_end: int, names: Names) -> "Record":
-        """The record that is in a message, where its owner ends at an offset; and the names that were read there before."""
+        """Returns the record in a message whose owner ends at `owner_end`. `names` are those that were read there
+        before."""
         record = cls.__new__(cls)
         record._set(message, start, owner_end, names)
         return record
 
     @classmethod
     def from_text(cls, text: str, origin: Optional[Name] = None) -> "Record":
-        """The record that a line of a master file is (RFC 1035, section 5.1): the owner, the time to live, the class, the type and
-        the data. The class may stand before the time to live, or be left out for IN. An origin completes names without a dot at
-        their end, and is `@`; without one they are rejected. Parentheses and comments are no part of a line.
+        """Parses a line of a master file (RFC 1035, section 5.1): the owner, the TTL, the class, the type and the data.
+        The class may be before the TTL, or be left out for IN. The origin is appended to names without a last dot, and
+        `@` is the origin; without an origin such names are rejected. Parentheses and comments are not supported.
 
-        Raises `BadText` if the first word is no name, `BadTime` if no time to live is there, `UnknownText` if no type is there, and
-        `BadData` if the rest is no data of the type.
+        Raises `BadText` if the first word is not a name, `BadTime` if there is no TTL, `UnknownText` if there is no
+        type, and `BadData` if the rest is not data of the type.
 
         >>> print(Record.from_text("www 1h IN CNAME @", origin=Name("example.")))
         www.example. 3600 IN CNAME example.
@@ -99,11 +100,11 @@ class Record:
 
     @classmethod
     def _made(cls, wire: bytes, owner_end: int) -> "Record":
-        """The record that octets are, no name compressed, where its owner ends at an offset."""
+        """Returns the record with this wire form, whose owner ends at `owner_end`."""
         return cls._of(wire, 0, owner_end, _NO_NAMES)
 
     def to_text(self) -> str:
-        """The line of a master file, as `str` gives it."""
+        """Returns the line of a master file, as `str` does."""
         return str(self)
 
     @property
@@ -127,12 +128,12 @@ class Record:
 
     @property
     def ttl(self) -> int:
-        """The time to live, in seconds."""
+        """The TTL, in seconds."""
         return self._ttl
 
     @property
     def data(self) -> Data:
-        """The data: the class of its type, as `MX`, or `Unknown`. Raises as `fields`.
+        """The data, of the class for their type, as `MX`, or `Unknown`. Raises as `fields`.
 
         >>> read_record(bytes.fromhex("00 000f 0001 00000000 0005 000a 016100")).data
         MX(preference=10, exchange=Name('a.'))
@@ -149,7 +150,7 @@ class Record:
 
     @property
     def data_offset(self) -> int:
-        """The offset of the data in the message, at which their names are read."""
+        """The offset of the data in the message."""
         return self._data_offset
 
     @property
@@ -158,17 +159,17 @@ class Record:
         return self._end
 
     def to_wire(self) -> bytes:
-        """The octets of the record, names not compressed."""
+        """Returns the octets of the record, without compression."""
         if self._names is _NO_NAMES:
             return self._message
         data = self.data.to_wire() if "n" in getattr(CLASSES.get(self._type), "_kinds", "") else self.raw_data
         return self.owner.wire + _FIXED.pack(self._type, self._class, self._ttl, len(data)) + data
 
     def data_name(self, skip: int = 0) -> Name:
-        """Reads the data as a name, or what is left of them after some octets: two for MX, six for SRV.
+        """Reads the data after the first `skip` octets as a name: after two for MX, after six for SRV.
 
-        Raises as `read_name`, `WrongDataLength` if the name's own octets are not as many, and `MessageCut` if the data have
-        fewer octets than are skipped.
+        Raises as `read_name`, `WrongDataLength` if the name does not end where the data do, and `MessageCut` if the
+        data have fewer octets than are skipped.
         """
         start = self._data_offset + _checks.number("skip", skip)
         if start > self._end:
@@ -179,11 +180,11 @@ class Record:
         return Name._of(taken(form, length.value), True)
 
     def fields(self) -> Tuple[FieldValue, ...]:
-        """The fields of the data, by the table of the type: names, numbers, addresses, octets, tuples of texts, sets of types
-        and pairs of keys and values. Data of a type without fields are octets.
+        """Returns the fields of the data, by the record's type: names, numbers, addresses, octets, tuples of texts,
+        sets of types and pairs of keys and values. Data of an unknown type are one field of octets.
 
-        Raises as `read_name` if a field should be a name and is none; `MessageCut` if the data end within a field;
-        `WrongDataLength` if octets are left after the last one; and `BadBitmap` or `BadParams`.
+        Raises as `read_name` for a name, `MessageCut` if the data end within a field, `WrongDataLength` if octets are
+        left after the last field, and `BadBitmap` or `BadParams`.
 
         >>> read_record(bytes.fromhex("00 000f 0001 00000000 0005 000a 016100")).fields()
         (10, Name('a.'))
@@ -191,17 +192,21 @@ class Record:
         return tuple(fields(self._message, self._data_offset, self._end, self._type))
 
     def signed_octets(self, records: Iterable["Record"]) -> bytes:
-        """The octets that the signature of this RRSIG covers (RFC 4034, section 3.1.8.1): its data up to the signature, and those of
-        these records that have its owner, its class and the type covered, as a set in canonical form and order (RFC 4034, section
-        6), each once, with the original time to live. If the owner has more labels than the RRSIG counts, it is the wildcard that
-        made the records (RFC 4035, section 5.3.2).
+        """Returns the octets that the signature of this RRSIG covers (RFC 4034, section 3.1.8.1): the bytes to verify
+        or to sign.
 
-        The records are a section of a message, or others, as those that are to be signed: then the signature of the RRSIG is empty.
-        Whether a signature is right, and in its time, is not tested.
+        These are its data up to the signature, and the covered records: those of `records` with its owner, its class
+        and the type covered, as a set in canonical form and order (RFC 4034, section 6), each once, with the original
+        TTL. If the owner has more labels than the RRSIG counts, it is replaced by the wildcard that made the records
+        (RFC 4035, section 5.3.2).
 
-        Raises `NotRrsig` if this record is of another type; `NotCovered` if it covers none of the records; `TooFewLabels` if its
-        owner has fewer labels than it counts; `DataTooLong` if the data of a record have more than 65535 octets once their names are
-        whole; and as `fields` if its own data, or those of a record that it covers, are none.
+        To verify a signature, pass a section of a message. To make one, pass the records to sign, and leave the
+        signature of the RRSIG empty. The signature and its times are not checked.
+
+        Raises `NotRrsig` if this record is of another type; `NotCovered` if it covers none of the records;
+        `TooFewLabels` if its owner has fewer labels than it counts; `DataTooLong` if the data of a record have more
+        than 65535 octets once their names are uncompressed; and as `fields` for its own data and those of the covered
+        records.
 
         >>> rrsig = Record.from_text("a. 60 IN RRSIG A 13 1 3600 20010909014640 20010909014640 7 a. AA==")
         >>> rrsig.signed_octets([Record.from_text("A. 5 IN A 192.0.2.1")]).hex(" ", -4)
@@ -210,7 +215,7 @@ class Record:
         if self._type != RecordType.RRSIG:
             check(NotRrsig.number)
         kind = self.fields()[0]
-        # The library selects again, and more, but its list has no record that is not to be read.
+        # The library selects again. Other records are left out here, since their data may not be valid.
         found = [it for it in records if (it._type, it._class, it.owner) == (kind, self._class, self.owner)]
         own = self.to_wire()
         wire = own + b"".join(record.to_wire() for record in found)
@@ -227,8 +232,8 @@ class Record:
 
 
 def section_records(whole: bytes, offset: int, count: int, names: Names) -> Tuple[Tuple[Record, ...], int]:
-    """So many records from an offset of a message on, which was checked, and where they end; and the names that were read there
-    before."""
+    """Returns `count` records from an offset of a message that was checked, and the offset after them. `names` are
+    those that were read there before."""
     found, make, unpack, size = [], Record.__new__, _FIXED.unpack_from, _FIXED.size
     for _ in range(count):
         at, length = offset, whole[offset]
@@ -248,7 +253,7 @@ def section_records(whole: bytes, offset: int, count: int, names: Names) -> Tupl
 def read_record(message: Bytes, start: int = 0) -> Record:
     """Reads the record at an offset of a message.
 
-    Raises as `read_name` if no owner is there, `MessageCut` if the message ends before the data do, and `ValueError` if
+    Raises as `read_name` for the owner, `MessageCut` if the message ends before the record does, and `ValueError` if
     `start` is negative. A message that is not `bytes` is copied.
 
     >>> record = read_record(bytes.fromhex("016200 0002 0001 0000003c 0004 0161c000"))
@@ -266,7 +271,8 @@ def read_record(message: Bytes, start: int = 0) -> Record:
 
 
 def records(message: Bytes, start: int) -> Iterator[Record]:
-    """The records that follow one another in a message, from an offset to its end. Raises as `read_record`.
+    """Returns an iterator over the consecutive records in a message, from an offset to the end. Raises as
+    `read_record`.
 
     >>> [record.raw_data.hex() for record in records(bytes.fromhex("00 0001 0001 00000000 0004 c0000201"), 0)]
     ['c0000201']

@@ -13,9 +13,10 @@ Network = Union[ipaddress.IPv4Network, ipaddress.IPv6Network]
 
 
 def reverse_name(address: Union[Address, str]) -> Name:
-    """The reverse name of an address, under which its PTR records are (RFC 1035, section 3.5; RFC 3596, section 2.5).
+    """Returns the reverse name of an address, which owns its PTR records (RFC 1035, section 3.5; RFC 3596, section
+    2.5).
 
-    Raises `ValueError` for a text that is no address.
+    Raises `ValueError` for a text that is not an address.
 
     >>> reverse_name("192.0.2.1")
     Name('1.2.0.192.in-addr.arpa.')
@@ -27,10 +28,10 @@ def reverse_name(address: Union[Address, str]) -> Name:
 
 
 def parse_reverse_name(name: Name) -> Network:
-    """The net that a reverse name stands for. For the reverse name of an address it has that one address.
+    """Returns the net of a reverse name. The net of an address's reverse name has that one address.
 
-    Raises `NotReverse` if the name is not fully qualified, or not below `in-addr.arpa.` or `ip6.arpa.`, or has a label that
-    is no octet in decimal or no hexadecimal digit, or more labels than an address.
+    Raises `NotReverse` if the name is not fully qualified, is not below `in-addr.arpa.` or `ip6.arpa.`, has a label
+    that is not an octet in decimal or a hexadecimal digit, or has more labels than an address.
 
     >>> parse_reverse_name(Name("168.192.in-addr.arpa."))
     IPv4Network('192.168.0.0/16')

@@ -1,4 +1,4 @@
-"""Texts of master files: times to live and tokens."""
+"""Texts of master files: TTLs and tokens."""
 
 import enum
 from ctypes import byref, c_char, c_uint32
@@ -11,9 +11,10 @@ from ._library import Token as _Token
 
 
 def parse_ttl(text: str) -> int:
-    """The seconds of a time to live: groups of digits and a unit of `s`, `m`, `h`, `d` or `w`; the last may lack its unit.
+    """Parses a TTL, and returns its seconds: groups of digits, each with a unit of `s`, `m`, `h`, `d` or `w`. The last
+    group may have no unit.
 
-    Raises `BadTime`, also past 4294967295 seconds.
+    Raises `BadTime`, also above 4294967295 seconds.
 
     >>> parse_ttl("1h30m"), parse_ttl("300")
     (5400, 300)
@@ -24,17 +25,17 @@ def parse_ttl(text: str) -> int:
 
 
 class TokenKind(enum.Enum):
-    """What a token is."""
+    """The kind of a token."""
 
     def __repr__(self) -> str:
         return str(self)
 
     BLANK = 1
-    """White space at the start of a line: the record has the owner of the last one."""
+    """White space at the start of a line: the record has the owner of the record before it."""
     LIST = 2
-    """What stands in parentheses, by its words."""
+    """The words in parentheses."""
     TEXT = 3
-    """A word, or a text in quotes without its quotes and escapes."""
+    """A word, or a quoted text without its quotes and escapes."""
     AT = 4
     """`@`"""
     INCLUDE = 5
@@ -48,17 +49,17 @@ class TokenKind(enum.Enum):
 
 
 class Token(NamedTuple):
-    """A token: its kind, and its texts, which are one of a text, and the words of a list."""
+    """A token: its kind and its texts. A `TEXT` has one, and a `LIST` has one for each word."""
 
     kind: TokenKind
     texts: Tuple[str, ...] = ()
 
 
 def tokens(text: str) -> Iterator[Token]:
-    """The tokens of a text of a master file (RFC 1035, section 5.1), one after another.
+    """Returns an iterator over the tokens of a text of a master file (RFC 1035, section 5.1).
 
-    Raises `TextCut`, `IllegalCharacter`, `ControlCharacter`, `UnclosedList`, `UnclosedQuote` or `UnknownEntry` if no token
-    stands next, and `NotUtf8`, before any token, if the text has half a surrogate pair.
+    Raises `TextCut`, `IllegalCharacter`, `ControlCharacter`, `UnclosedList`, `UnclosedQuote` or `UnknownEntry` if no
+    valid token is next, and `NotUtf8`, before any token, if the text has half a surrogate pair.
 
     >>> for token in tokens("@ MX (10 a.)"):
     ...     print(token.kind.name, *token.texts)

@@ -11,9 +11,9 @@ from ._library import library, taken
 
 
 class TypeSet(AbstractSet[int]):
-    """A set of record types by their codes, as the bitmap of an NSEC or NSEC3 record lists it (RFC 4034, section 4.1.2).
+    """A set of record types by their codes, as in the bitmap of an NSEC or NSEC3 record (RFC 4034, section 4.1.2).
 
-    It does not change, and is equal to other sets of the same codes. It is iterated by ascending codes.
+    It is immutable, and equal to other sets of the same codes. It is iterated in ascending order.
 
     >>> types = TypeSet.from_bitmap(bytes.fromhex("0006400100000003"))
     >>> [str(kind) for kind in types], RecordType.MX in types, 15 in types
@@ -27,15 +27,15 @@ class TypeSet(AbstractSet[int]):
     _codes: FrozenSet[int]
 
     def __init__(self, codes: Iterable[int] = ()) -> None:
-        """The set of some codes, from 0 to 65535."""
+        """Creates the set of these codes, each from 0 to 65535."""
         self._codes = frozenset(_checks.number("codes", code, 65535) for code in codes)
 
     @classmethod
     def from_bitmap(cls, bitmap: Bytes) -> "TypeSet":
-        """The set that a bitmap lists. The last window may be cut anywhere.
+        """Reads a bitmap. The last window may be cut anywhere.
 
-        Raises `BadBitmap` if an octet follows a window of length 0, if a bit is set after the 32nd octet of a window, or if
-        the bitmap has more than 65535 octets.
+        Raises `BadBitmap` if an octet follows a window of length 0, if a bit is set after the 32nd octet of a window,
+        or if the bitmap has more than 65535 octets.
         """
         octets = _checks.octets("bitmap", bitmap)
         size = 8 * len(octets)
@@ -44,7 +44,7 @@ class TypeSet(AbstractSet[int]):
         return cls(codes[: count.value])
 
     def to_bitmap(self) -> bytes:
-        """The bitmap: windows in ascending order, none longer than needed."""
+        """Returns the bitmap: windows in ascending order, none longer than needed."""
         codes = (c_uint16 * max(len(self._codes), 1))(*self._codes)
         # A window has at most 34 octets.
         size = 34 * len({code >> 8 for code in self._codes})
@@ -72,7 +72,7 @@ _MOST_SERIAL = 4294967295
 
 
 def serial_compare(left: int, right: int) -> int:
-    """-1, 0 or 1 if a serial number is before, equal to or after another (RFC 1982, section 3.2).
+    """Returns -1, 0 or 1 if a serial number is before, equal to or after another (RFC 1982, section 3.2).
 
     Raises `NotOrdered` if they are 2^31 apart.
 
@@ -86,7 +86,7 @@ def serial_compare(left: int, right: int) -> int:
 
 
 def serial_add(serial: int, other: int) -> int:
-    """The sum of two serial numbers, which starts again at 0 after 4294967295 (RFC 1982, section 3.1).
+    """Returns the sum of two serial numbers, which wraps to 0 after 4294967295 (RFC 1982, section 3.1).
 
     >>> serial_add(4294967295, 2)
     1

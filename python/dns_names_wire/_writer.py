@@ -12,12 +12,12 @@ from ._names import Name, wire_of
 # The kinds of items, in `dns_names_wire.h`.
 _BYTES, _NAME, _RECORD, _STANDARD_NAME, _CANONICAL_NAME, _OTHER_NAME = range(6)
 
-# The types of RFC 1035 whose data are a name: NS, MD, MF, CNAME, MB, MG, MR and PTR; and DNAME.
+# The types of RFC 1035 whose data are a name (NS, MD, MF, CNAME, MB, MG, MR and PTR), and DNAME.
 _KINDS = {**dict.fromkeys([2, 3, 4, 5, 7, 8, 9, 12], _STANDARD_NAME), 39: _CANONICAL_NAME}
 
 
 class Truncated(NamedTuple):
-    """A message, or as many of its first parts as fit, and how many these are."""
+    """A message, or as many of its first parts as fit, and the number of these parts."""
 
     message: bytes
     parts: int
@@ -28,10 +28,10 @@ def _number(what: str, number: int, octets: int) -> bytes:
 
 
 class MessageWriter:
-    """Writes a message: its header, questions, records and names, each name compressed by those before it (RFC 1035, section
-    4.1.4).
+    """Writes a message from parts: bytes (as its header), questions, records and names. Names are compressed (RFC 1035,
+    section 4.1.4).
 
-    The parts are collected, and written by `finish` from the message's first byte on.
+    The parts are collected, and `finish` writes them from the first byte of the message.
 
     >>> from dns_names_wire import RecordClass, RecordType
     >>> writer = MessageWriter()
@@ -42,21 +42,21 @@ class MessageWriter:
     """
 
     def __init__(self, max_size: int = 65535, canonical: bool = False) -> None:
-        """A writer of messages of at most `max_size` bytes, from 0 to 65535.
+        """Creates a writer for messages of at most `max_size` bytes, from 0 to 65535.
 
-        The names in records' data are written in canonical form or not (RFC 4034, section 6.2).
+        `canonical` sets whether names in record data are written in canonical form (RFC 4034, section 6.2).
         """
         self._max_size, self._canonical = _checks.number("max_size", max_size, 65535), bool(canonical)
-        # of each part its items, as `dnw_message_write` takes them
+        # the items of each part, as `dnw_message_write` takes them
         self._parts: List[List[bytes]] = []
 
     def push(self, name: Name) -> None:
-        """Adds a name. That it is fully qualified is not written."""
+        """Adds a name. Whether it is fully qualified is not written."""
         wire, _ = wire_of("name", name)
         self._parts.append([bytes([_NAME]) + wire])
 
     def raw(self, octets: Bytes) -> None:
-        """Adds bytes as they are, as a message's header."""
+        """Adds bytes unchanged, for example a header."""
         whole = _checks.octets("octets", octets)
         chunks = [whole[at : at + 65535] for at in range(0, len(whole), 65535)]
         self._parts.append([bytes([_BYTES]) + len(chunk).to_bytes(2, "big") + chunk for chunk in chunks])
@@ -68,8 +68,8 @@ class MessageWriter:
         self._parts.append([bytes([_NAME]) + wire, bytes([_BYTES, 0, len(codes)]) + codes])
 
     def record(self, owner: Name, record_type: int, record_class: int, ttl: int, data: Union[Name, Bytes]) -> None:
-        """Adds a record. Data that are a name are compressed if the type is one of RFC 1035 (RFC 3597, section 4); others are
-        written as they are. Raises `ValueError` for data of more than 65535 octets."""
+        """Adds a record. If its data are a `Name`, they are compressed if the type is one of RFC 1035 (RFC 3597,
+        section 4). Bytes are written unchanged. Raises `ValueError` for data of more than 65535 octets."""
         wire, _ = wire_of("owner", owner)
         fields = _number("record_type", record_type, 2) + _number("record_class", record_class, 2) + _number("ttl", ttl, 4)
         kind, octets = _RECORD, data.wire if isinstance(data, Name) else _checks.octets("data", data)
@@ -79,16 +79,17 @@ class MessageWriter:
         self._parts.append([bytes([kind]) + wire + fields + length + octets])
 
     def finish(self) -> bytes:
-        """The message. Raises `MessageTooLong`, with the part that does not fit, if it would be longer than the maximum."""
+        """Returns the message. Raises `MessageTooLong`, with the part that does not fit, if it would be longer than the
+        maximum."""
         message, parts = self.finish_truncated()
         if parts != len(self._parts):
             raise MessageTooLong(error_text(MessageTooLong.number), part=parts)
         return message
 
     def finish_truncated(self) -> Truncated:
-        """The message, or as many of its first parts as fit into the maximum, and how many these are.
+        """Returns the message, or as many of its first parts as fit, and the number of these parts.
 
-        If they are not all, the caller sets the TC bit and the counts of the header (RFC 1035, section 4.1.1).
+        If some do not fit, the caller has to set the TC bit and the counts of the header (RFC 1035, section 4.1.1).
 
         >>> writer = MessageWriter(max_size=4)
         >>> writer.push(Name("a."))
@@ -107,7 +108,8 @@ class MessageWriter:
         return Truncated(message, whole)
 
     def _write(self, parts: int) -> Tuple[bytes, int]:
-        """The message of the first parts, or of as many of their items as fit, and how many items these are."""
+        """Returns the message of the first parts, or of as many of their items as fit, and the number of these
+        items."""
         items = b"".join(item for part in self._parts[:parts] for item in part)
         # An item takes no more octets in a message than in the list.
         size = min(len(items), self._max_size)

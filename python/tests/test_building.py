@@ -1,5 +1,5 @@
-"""Messages and records that are made. Expected octets are what dnspython 2.3.0 writes for the same; the others are worked by hand
-from RFC 1035, sections 4.1 and 5.1, RFC 6891, section 6.1, and RFC 2181, section 9."""
+"""Messages and records that are built. Expected octets are what dnspython 2.3.0 writes for the same, or are worked out
+by hand from RFC 1035, sections 4.1 and 5.1, RFC 6891, section 6.1, and RFC 2181, section 9."""
 
 import dataclasses
 import pickle
@@ -107,14 +107,14 @@ class Messages(unittest.TestCase):
             self.assertEqual(Message.from_wire(REPLY).to_wire(size), wire)
             before = count
         self.assertEqual(before, 0)
-        # The address of ns.example.com. is not needed, so that TC is not set without it.
+        # The address of ns.example.com. is not required, so TC is not set without it.
         read = Message.from_wire(reply.to_wire(len(REPLY) - 1))
         self.assertEqual((read.header.truncation, len(read.additionals)), (False, 1))
         with self.assertRaisesRegex(dnw.MessageTooLong, "^the message would be longer than its maximum$"):
             reply.to_wire(22)
         self.assertEqual(Message.build().to_wire(12), bytes(12))
         self.assertRaises(dnw.MessageTooLong, Message.build().to_wire, 11)
-        # 512 octets, if nothing else is said
+        # 512 octets by default
         long = query().reply([Record(ZONE, 1, dnw.TXT((bytes(255),) * 2))])
         self.assertTrue(Message.from_wire(long.to_wire()).header.truncation)
         self.assertEqual(len(Message.from_wire(long.to_wire(65535)).answers), 1)

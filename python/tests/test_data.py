@@ -1,5 +1,5 @@
-"""Data by type, and records that are made. What is expected of the response is what dnspython 2.3.0 wrote it
-from; the others are worked by hand from RFC 1035, sections 4.1 and 5.1, and RFC 6891, section 6.1."""
+"""Data by type, and records that are built. Expected values are what dnspython 2.3.0 wrote the response from, or are
+worked out by hand from RFC 1035, sections 4.1 and 5.1, and RFC 6891, section 6.1."""
 
 import dataclasses
 import pickle
@@ -79,7 +79,8 @@ class DataByType(unittest.TestCase):
 
 
 class ByChance(unittest.TestCase):
-    """Data by chance, often with a fault: what the package reads by itself is what the library reads, or fails as it does."""
+    """Random data, often with a fault: what the package reads by itself is what the library reads, or fails as it
+    does."""
 
     def setUp(self):
         self.rng = random.Random(1035)
@@ -88,7 +89,7 @@ class ByChance(unittest.TestCase):
         return bytes(self.rng.randrange(256) for _ in range(self.rng.randrange(most)))
 
     def name(self, size):
-        """The octets of a name in a message of so many octets."""
+        """Returns the octets of a name in a message of this length."""
         labels = [self.rng.choice([1, 1, 2, 7, 63, 64]) for _ in range(self.rng.randrange(3))]
         own = b"".join(bytes([length]) + b"a" * length for length in labels)
         target = self.rng.choice([12, 16, self.rng.randrange(size)])

@@ -16,7 +16,7 @@ try:
 except ImportError:
     dns = None
 
-# Data of each type that has a text of its own, but those that dnspython 2.3.0 lacks.
+# Data of each type that has a text of its own, except those that dnspython 2.3.0 lacks.
 TEXTS = """\
 A 192.0.2.1
 NS ns.example.
@@ -58,7 +58,7 @@ WORDS = [b"www", b"WWW", b"a", b"B", b"mail", b"example", b"Example", b"com", b"
 
 
 def some_name(rng):
-    """The wire form of a name of at most 255 octets."""
+    """Returns the wire form of a name of at most 255 octets."""
     labels = [rng.choice(WORDS) for _ in range(rng.randrange(6))]
     while sum(len(label) + 1 for label in labels) > 254:
         labels.pop()
@@ -66,7 +66,7 @@ def some_name(rng):
 
 
 def numbered(text):
-    """A type and data, with the type's code, since dnspython has names for more of them."""
+    """Returns a type and data, with the type's code, since dnspython has names for more types."""
     kind, own = text.split(" ", 1)
     return f"TYPE{int(dns.rdatatype.from_text(kind))} {own}"
 
@@ -104,7 +104,8 @@ class BesideDnspython(unittest.TestCase):
             self.assertEqual([name.wire for name, _ in names(message)], forms)
 
     def test_bytes_that_may_be_no_name(self):
-        """What we accept, dnspython reads as the same name. It accepts more: a segment that runs into the one after it."""
+        """What we accept, dnspython reads as the same name. It accepts more: a segment that runs into the one after
+        it."""
         accepted = 0
         for _ in range(20000):
             message = bytes(self.rng.choice([0, 1, 2, 3, 0xC0, 0x41, 5, 7]) for _ in range(self.rng.randrange(1, 24)))
@@ -131,7 +132,7 @@ class BesideDnspython(unittest.TestCase):
             record = Record.from_text(f"Host.Example. 60 IN {numbered(text)}")
             theirs = dns.rdata.from_text("IN", kind, own)
             self.assertEqual(record.raw_data, theirs.to_wire(), text)
-            # made of values, and written in a message, where names may be compressed
+            # made from values, and written in a message, where names may be compressed
             again = Record(record.owner, 60, record.data)
             self.assertEqual(again.raw_data, record.raw_data, text)
             wire = Message.build(Header(7), [Question(Name("example."), 255, 1)], [again]).to_wire(65535)

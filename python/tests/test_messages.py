@@ -1,5 +1,5 @@
-"""Messages of records, and reverse names. Expected bytes are worked by hand from RFC 1035, sections 3.5 and 4.1.1 to 4.1.4, and
-RFC 3596, section 2.5."""
+"""Messages of records, and reverse names. Expected bytes are worked out by hand from RFC 1035, sections 3.5 and 4.1.1
+to 4.1.4, and RFC 3596, section 2.5."""
 
 import doctest
 import ipaddress
@@ -10,7 +10,7 @@ from importlib import import_module
 import dns_names_wire as dnw
 from dns_names_wire import MessageWriter, Name, read_record, records
 
-# A referral with glue: www.example.com has to be asked for at ns.example.com. The name of the question is at offset 12, so
+# A referral with glue: ns.example.com is the server for www.example.com. The name of the question is at offset 12, so
 # example.com is at 16; the records begin at 33 and 50, and ns.example.com is at 45.
 REFERRAL = bytes.fromhex(
     "1234 8000 0001 0000 0001 0001 03777777 07 6578616d706c65 03636f6d 00 0001 0001"

@@ -1,5 +1,5 @@
-"""The package as its users call it. Expected values are from RFC 1035, section 4.1.4, RFC 4034, section 6.1, or counted by
-hand."""
+"""The package as its users call it. Expected values are from RFC 1035, section 4.1.4, RFC 4034, section 6.1, or counted
+by hand."""
 
 import copy
 import doctest
@@ -74,7 +74,8 @@ class Reading(unittest.TestCase):
 
 
 class Subclasses(unittest.TestCase):
-    """Subclasses of bytes, str, int and Name that say of themselves what is not so: what counts are the octets of the object."""
+    """Subclasses of bytes, str, int and Name whose methods return wrong values: only the octets of the object are
+    used."""
 
     class Long(bytes):
         def __len__(self):
@@ -144,7 +145,7 @@ class Subclasses(unittest.TestCase):
 
 class Interrupted(unittest.TestCase):
     def test_a_signal_handler_reads_names_too(self):
-        """What is read between two steps of a reading changes nothing of it."""
+        """A read between two steps of another read does not change it."""
         texts = [bytes([65 + number]) * 9 for number in range(20)]
         message = b"".join(b"\x09" + text + b"\x00" for text in texts)
         wrong = []

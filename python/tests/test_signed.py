@@ -1,5 +1,6 @@
-"""What signatures cover. Expected octets are worked by hand from RFC 4034, sections 3.1.8.1 and 6, RFC 4035, section 5.3.2, and RFC
-6840, section 5.1, or are dnspython's, if it is installed; and a real signature is tested over them, if `cryptography` is."""
+"""The octets that signatures cover. Expected octets are worked out by hand from RFC 4034, sections 3.1.8.1 and 6, RFC
+4035, section 5.3.2, and RFC 6840, section 5.1, or are dnspython's if it is installed. A real signature is verified over
+them if `cryptography` is."""
 
 import dataclasses
 import pathlib
@@ -92,7 +93,7 @@ class Signed(unittest.TestCase):
         answers = records("a.b. 5 A 192.0.2.2", "a.b. 5 A 192.0.2.1") + [own]
         message = Message.from_wire(Message.query(Name("a.b."), RecordType.A).reply(answers).to_wire())
         self.signs(message.answers[2], message.answers, f"{fields} {FIRST} {SECOND}")
-        # the data of records that are not covered are not looked into
+        # the data of records that are not covered are not checked
         wrong = dnw.read_record(bytes.fromhex("016200 0001 0001 00000000 0001 00"))
         self.signs(message.answers[2], [*message.answers, wrong], f"{fields} {FIRST} {SECOND}")
 

@@ -1,5 +1,5 @@
-"""Types, classes, bitmaps, serial numbers, master files, and names made of names. Expected values are from RFC 4034, section
-4.3, RFC 1982, section 5, RFC 1035, section 5.1, or counted by hand."""
+"""Types, classes, bitmaps, serial numbers, master files, and names made from names. Expected values are from RFC 4034,
+section 4.3, RFC 1982, section 5, RFC 1035, section 5.1, or counted by hand."""
 
 import copy
 import doctest

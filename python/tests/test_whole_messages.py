@@ -1,5 +1,5 @@
-"""Whole messages. The message is written by dnspython 2.3.0, and what is expected of it is what it was written from; the others
-are worked by hand from RFC 1035, section 4.1, and RFC 6891, section 6.1."""
+"""Whole messages. Expected values are what dnspython 2.3.0 wrote the message from, or are worked out by hand from RFC
+1035, section 4.1, and RFC 6891, section 6.1."""
 
 import dataclasses
 import pickle
@@ -9,7 +9,7 @@ from ipaddress import IPv4Address, IPv6Address
 import dns_names_wire as dnw
 from dns_names_wire import Message, Name, Record, RecordType, TypeSet, read_record
 
-# A response with thirteen records of as many types, and an OPT record.
+# A response with thirteen records, each of another type, and an OPT record.
 RESPONSE = bytes.fromhex(
     "123485a7000100090004000103777777076578616d706c6503636f6d0000010001c00c000500010000012c000603776562c010c02d000100"
     "010000003c0004c0000201c02d001c00010000003c001020010db8000000000000000000000001c010000f00010000003c0009000a046d61"
@@ -56,7 +56,7 @@ class WholeMessages(unittest.TestCase):
             message.header.id = 1
 
     def test_a_record_is_a_line(self):
-        # . CH TXT, of 250 strings of 255 octets that are each shown as four characters
+        # . CH TXT, of 250 strings of 255 octets, each printed as four characters
         wire = bytes.fromhex("00 0010 0003 00000009 fa00") + (b"\xff" + bytes(255)) * 250
         self.assertEqual(str(read_record(wire)), ". 9 CH TXT " + " ".join(['"' + "\\000" * 255 + '"'] * 250))
         for octets, line in [
@@ -86,7 +86,7 @@ class WholeMessages(unittest.TestCase):
                 ";; AUTHORITY SECTION:",
             ],
         )
-        # Two OPT records say nothing, and are shown as records.
+        # Two OPT records are not EDNS, and are printed as records.
         shown = str(Message.from_wire(with_additionals(opt("00", ""), opt("00", ""))))
         self.assertTrue(shown.endswith("\n\n;; ADDITIONAL SECTION:" + "\n. 0 CLASS256 OPT \\# 0" * 2), shown)
 
@@ -125,7 +125,7 @@ class WholeMessages(unittest.TestCase):
         self.assertEqual(str(error), "additional 0, at offset 505: the message ends within the name")
 
     def test_pointers_are_counted(self):
-        # The owners of A and AAAA lead over two pointers, the root over none, and the others over one each.
+        # The owners of A and AAAA follow two pointers, the root none, and the others one each.
         Message.from_wire(RESPONSE, max_pointers=15)
         with self.assertRaises(dnw.TooManyPointers) as caught:
             Message.from_wire(RESPONSE, max_pointers=14)
@@ -145,7 +145,7 @@ class WholeMessages(unittest.TestCase):
         ]:
             with self.assertRaises(failure):
                 Message.from_wire(with_additionals(*records)).edns
-        # An OPT record as an answer or as an authority.
+        # An OPT record in the Answer or Authority section.
         for counts in ["000100000000", "000000010000", "000100000001", "000000010001"]:
             message = Message.from_wire(bytes.fromhex("000080000000" + counts) + 2 * opt("00", ""))
             for fails in [lambda: message.edns, lambda: message.response_code, message.to_wire]:

@@ -1,11 +1,11 @@
 //! Prints a DNS message as dig does, or sorts names, with the Rust crate.
 //!
 //! ```text
-//! dns_show [FILE]          prints the message of a file or of standard input, in binary or in hexadecimal
-//! dns_show --sort [FILE]   prints the names of a file, one a line, in canonical order (RFC 4034, section 6.1)
+//! dns_show [FILE]          prints the message in a file or on standard input, in binary or in hexadecimal
+//! dns_show --sort [FILE]   prints the names in a file, one a line, in canonical order (RFC 4034, section 6.1)
 //! ```
 //!
-//! It exits with 1 if the input is rejected and with 2 on a usage error. In the folder of the crate:
+//! It exits with 1 if the input is rejected, and with 2 on a usage error. In the folder of the crate, run it with
 //! `cargo run --example dns_show`.
 use dns_names_wire::{Class, Name, Record, RecordType, TypeSet};
 use std::fmt::Write as _;
@@ -18,7 +18,7 @@ struct Rejected(usize, String);
 
 const CUT: &str = "the message or the record ends too early";
 
-/// A cursor over a part of a message, which ends at `end`.
+/// A cursor over a part of a message, up to `end`.
 struct Cursor<'a> {
     message: &'a [u8],
     at: usize,
@@ -68,8 +68,8 @@ impl<'a> Cursor<'a> {
     }
 }
 
-/// What the data of a type is made of: n a name, 1, 2, 4 a number of so many octets, a A, 6 AAAA, s strings, t a tag and a
-/// value, x hexadecimal, b a bitmap of types.
+/// The fields of the data of a type: n is a name; 1, 2 and 4 are a number of as many octets; a is the address of A, and
+/// 6 that of AAAA; s is strings, t a tag and a value, x octets in hexadecimal, and b a type bitmap.
 const FIELDS: [(&str, &str); 13] = [
     ("A", "a"),
     ("NS", "n"),
@@ -102,7 +102,7 @@ const STATUSES: [(u16, &str); 11] = [
 const FLAGS: [(u16, &str); 7] =
     [(0x8000, "qr"), (0x0400, "aa"), (0x0200, "tc"), (0x0100, "rd"), (0x0080, "ra"), (0x0020, "ad"), (0x0010, "cd")];
 
-/// The text for a code, or another and the code.
+/// Returns the text of a code, or `other` and the code.
 fn code_text(texts: &[(u16, &str)], other: &str, code: u16) -> String {
     match texts.iter().find(|(known, _)| *known == code) {
         Some((_, text)) => text.to_string(),
@@ -162,7 +162,7 @@ fn field_text(data: &mut Cursor, field: char) -> Result<String, Rejected> {
     })
 }
 
-/// A record's data: by its type, or as RFC 3597 does.
+/// Returns the text of a record's data: by its type, or as in RFC 3597.
 fn data_text(mut data: Cursor, kind: &str) -> Result<String, Rejected> {
     let fields = FIELDS.iter().find(|(known, _)| *known == kind).map_or("", |(_, fields)| fields);
     if fields.is_empty() {
@@ -183,7 +183,7 @@ fn record_text(cursor: &mut Cursor) -> Result<String, Rejected> {
     cursor.at = record.end();
     let (kind, class, ttl) = (record.record_type().to_string(), record.class(), record.ttl());
     if kind == "OPT" {
-        // RFC 6891: its class is a size, and its TTL has a version and flags.
+        // RFC 6891: the class is a size, and the TTL has the version and the flags.
         let flags = if ttl & 0x8000 != 0 { " do" } else { "" };
         return Ok(format!("; EDNS: version: {}, flags:{flags}; udp: {}", ttl >> 16 & 255, u16::from(class)));
     }
@@ -244,7 +244,7 @@ fn show_sorted(text: &str, out: &mut String) -> Result<(), Rejected> {
     Ok(())
 }
 
-/// The octets, or if they are hexadecimal digits and blanks what they stand for.
+/// Returns the octets; or, if they are hexadecimal digits and white space, the octets that they encode.
 fn message_of(octets: Vec<u8>) -> Result<Vec<u8>, Rejected> {
     if !octets.iter().all(|octet| octet.is_ascii_hexdigit() || octet.is_ascii_whitespace()) {
         return Ok(octets);
@@ -286,7 +286,7 @@ fn main() {
     });
     let mut out = String::new();
     let outcome = run(sorts, octets, &mut out);
-    // What follows a closed pipe is not printed.
+    // Write errors are ignored, since the reader may close the pipe.
     let _ = std::io::stdout().write_all(out.as_bytes());
     if let Err(Rejected(offset, why)) = outcome {
         eprintln!("dns_show: at offset {offset}: {why}");

@@ -1,4 +1,4 @@
-//! Prints a DNS message as dig does: `dump FILE`, in binary, or on standard input.
+//! Prints a DNS message as dig does: `dump [FILE]`. The message is binary, in a file or on standard input.
 use dns_names_wire::Message;
 use std::io::Read;
 use std::{env, error, fs, io, process};

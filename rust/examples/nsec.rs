@@ -1,7 +1,7 @@
 //! Prints the names of a zone in the order of its NSEC records, each with the next: `nsec FILE`
 //!
-//! FILE has a name a line, in any order. The order is that of sort keys, which compare as names do (RFC 4034, section 6.1), and
-//! the last name is followed by the first (section 4.1.1).
+//! FILE has one name a line, in any order. Names are sorted by their sort keys, which are in canonical order (RFC 4034,
+//! section 6.1). The first name follows the last (section 4.1.1).
 use dns_names_wire::Name;
 use std::collections::BTreeMap;
 use std::{env, error, fs, process};

@@ -1,4 +1,4 @@
-//! Asks a name server for records, over UDP, and again over TCP if the answer was cut: `resolve ADDRESS PORT NAME TYPE`
+//! Asks a name server for records over UDP, and over TCP if the reply is truncated: `resolve ADDRESS PORT NAME TYPE`
 use dns_names_wire::{Edns, Message, MessageBuilder, Name, RecordType};
 use std::collections::hash_map::RandomState;
 use std::hash::{BuildHasher, Hasher};
@@ -9,12 +9,12 @@ use std::{env, error, process};
 
 type Outcome<T> = Result<T, Box<dyn error::Error>>;
 
-/// The octets of a message that goes through most networks in one piece.
+/// The size of a message that goes through most networks without fragmentation.
 const PAYLOAD: u16 = 1232;
 const TRIES: u32 = 3;
 const WAIT: Duration = Duration::from_secs(2);
 
-/// Returns the first message that is a reply to the query. Others are not from the server, or are late.
+/// Returns the first message that is a reply to the query. Others are ignored: they are late, or not from the server.
 fn over_udp(server: SocketAddr, query: &Message) -> Outcome<Vec<u8>> {
     let socket = UdpSocket::bind(if server.is_ipv4() { "0.0.0.0:0" } else { "[::]:0" })?;
     socket.connect(server)?;
@@ -31,7 +31,7 @@ fn over_udp(server: SocketAddr, query: &Message) -> Outcome<Vec<u8>> {
     Err(io::Error::from(io::ErrorKind::TimedOut).into())
 }
 
-/// Each message comes after two octets of its length (RFC 1035, section 4.2.2).
+/// Each message has two octets of its length before it (RFC 1035, section 4.2.2).
 fn over_tcp(server: SocketAddr, query: &Message) -> Outcome<Vec<u8>> {
     let mut stream = TcpStream::connect_timeout(&server, WAIT)?;
     stream.set_read_timeout(Some(WAIT))?;

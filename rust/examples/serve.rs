@@ -1,16 +1,17 @@
 //! Answers queries from a table of records, over UDP and TCP on 127.0.0.1: `serve PORT FILE`
 //!
-//! FILE has a record of a zone a line, the SOA record first. Names without a dot at their end are not taken. With port 0, any that
-//! is free is taken; it is printed. A response that is longer than the requester accepts is cut, with TC (RFC 2181, section 9).
+//! FILE has one record of a zone a line, the SOA record first. Names without a last dot are rejected. With port 0, any
+//! free port is used. The port is printed. A response that is longer than the requester accepts is truncated, with TC
+//! (RFC 2181, section 9).
 use dns_names_wire::{Class, Message, MessageBuilder, OpCode, RecordBuf, RecordType, ResponseCode};
 use std::io::{Read, Write};
 use std::net::{Ipv4Addr, TcpListener, TcpStream, UdpSocket};
 use std::{env, error, fs, io, thread};
 
-/// The octets of a message that goes through most networks in one piece.
+/// The size of a message that goes through most networks without fragmentation.
 const PAYLOAD: u16 = 1232;
 
-/// Returns the records that a request asks for, or why it gets none.
+/// Returns the records that a request asks for, or the response code of an error.
 fn answers<'t>(table: &'t [RecordBuf], request: &Message) -> Result<Vec<&'t RecordBuf>, ResponseCode> {
     let mut questions = request.questions();
     let question = questions.next().filter(|_| questions.len() == 0).ok_or(ResponseCode::FormErr)?;
@@ -21,7 +22,7 @@ fn answers<'t>(table: &'t [RecordBuf], request: &Message) -> Result<Vec<&'t Reco
     if question.class != Class::IN || !zone.zone_of(&name) {
         return Err(ResponseCode::Refused);
     }
-    // A name exists if it owns records, or one below it does (RFC 8020).
+    // A name exists if it owns records, or if a name below it does (RFC 8020).
     if !table.iter().any(|record| name.zone_of(&record.owner().to_name())) {
         return Err(ResponseCode::NXDomain);
     }
@@ -30,12 +31,12 @@ fn answers<'t>(table: &'t [RecordBuf], request: &Message) -> Result<Vec<&'t Reco
     Ok(table.iter().filter(|it| is_wanted(it.record_type()) && it.owner() == name).collect())
 }
 
-/// Returns the response to a request, or nothing if the octets are none.
+/// Returns the response to a request, or `None` if the octets are not a request.
 fn respond(table: &[RecordBuf], octets: &[u8], most: Option<u16>) -> Option<Vec<u8>> {
     let request = Message::read(octets).ok().filter(|request| !request.header().is_response)?;
     let accepted = request.edns().ok().flatten().map_or(512, |edns| edns.max_payload.min(PAYLOAD));
     let (mut reply, soa) = (MessageBuilder::reply_to(&request), &table[..1]);
-    // A request that breaks the rules of EDNS, or is of a later version, has its response code already.
+    // If the EDNS of the request is not valid, or its version is not supported, the response code is set already.
     if reply.header().response_code == ResponseCode::NoError {
         match answers(table, &request) {
             Ok(records) if records.is_empty() => reply.authoritative(true).authorities(soa),

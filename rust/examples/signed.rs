@@ -1,7 +1,8 @@
-//! Prints the octets that each signature of a DNS message covers: `signed FILE`, in binary, or on standard input.
+//! Prints the octets that each signature of a DNS message covers: `signed [FILE]`. The message is binary, in a file or
+//! on standard input.
 //!
-//! A line has the owner of an RRSIG, the type that it covers, the tag of its key, and the octets in hexadecimal: a validator tests
-//! the signature over these by the key (RFC 4035, section 5.3).
+//! Each line has the owner of an RRSIG, the type that it covers, the tag of its key, and the octets in hexadecimal. A
+//! validator verifies the signature over these octets with the key (RFC 4035, section 5.3).
 use dns_names_wire::{Message, RData, RecordType};
 use std::io::Read;
 use std::{env, error, fs, io, process};

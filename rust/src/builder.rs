@@ -1,4 +1,4 @@
-//! Messages that are made section by section.
+//! Messages that are built section by section.
 use crate::codes::{Class, RecordType};
 use crate::door;
 use crate::error::{Error, ErrorKind};
@@ -10,28 +10,29 @@ use crate::record_buf::{put_record, RecordBuf};
 use alloc::vec::Vec;
 use core::borrow::Borrow;
 
-/// The sections, by the order in which they are written.
+/// The sections, in the order in which they are written.
 const QUESTIONS: usize = 0;
 const ANSWERS: usize = 1;
 const AUTHORITIES: usize = 2;
 const ADDITIONALS: usize = 3;
 const SECTIONS: usize = 4;
 
-/// For how many octets there is room at first.
+/// The initial capacity, in octets.
 const USUAL_SIZE: usize = 512;
-/// The octets of the largest message that a reply says its sender accepts, which goes through most networks in one piece.
+/// The largest message that a reply accepts, in octets. It goes through most networks without fragmentation.
 const USUAL_PAYLOAD: u16 = 1232;
 /// The octets of an OPT record before its options.
 const OPT_SIZE: usize = 11;
-/// The greatest response code that a header has room for.
+/// The greatest response code that fits in a header.
 const MOST_IN_HEADER: u16 = 15;
-/// How many items a section takes, with one left for an OPT record. As many records as that have more than 65535 octets.
+/// The most items of a section, with one left for an OPT record. That many records have more than 65535 octets.
 const MOST_ITEMS: u16 = u16::MAX - 1;
-/// DO, in the high octet of the low half of the time to live of an OPT record.
+/// DO, in the high octet of the low half of the TTL of an OPT record.
 const DNSSEC_OK: u8 = 0x80;
 
-/// Builds a message: a query, or a reply to one. Records are added to sections in any order, and
-/// [`finish`](MessageBuilder::finish) writes it: compressed, within a size, with its counts, and with TC if something had no room.
+/// Builds a message: a query, or a reply to one. Sections may be filled in any order.
+/// [`finish`](MessageBuilder::finish) writes the message: compressed, within a size, with its counts, and with TC if
+/// something did not fit.
 ///
 /// ```
 /// use dns_names_wire::{Edns, Message, MessageBuilder, Name, RData, RecordType};
@@ -65,15 +66,15 @@ const DNSSEC_OK: u8 = 0x80;
 #[derive(Clone, Debug)]
 pub struct MessageBuilder {
     header: Header,
-    /// Room for the header, and then the sections, in which no name is compressed.
+    /// A placeholder for the header, and then the sections, without compression.
     octets: Vec<u8>,
-    /// Where each section ends, and how many items it has.
+    /// The offset at which each section ends, and the number of its items.
     ends: [usize; SECTIONS],
     counts: [u16; SECTIONS],
     edns: Option<Opt>,
 }
 
-/// What is said by EDNS.
+/// The EDNS fields.
 #[derive(Clone, Debug)]
 struct Opt {
     max_payload: u16,
@@ -83,7 +84,7 @@ struct Opt {
 }
 
 impl MessageBuilder {
-    /// Returns a message with this header, whose counts are not looked at, and without questions or records.
+    /// Returns a message with this header, without questions and records. The counts of the header are not used.
     ///
     /// ```
     /// use dns_names_wire::{Header, MessageBuilder};
@@ -99,7 +100,7 @@ impl MessageBuilder {
 
     /// Returns a query for records of a name, of class IN, with RD set.
     ///
-    /// The id should be by chance, so that a stranger cannot guess it (RFC 5452, section 9.2).
+    /// The id should be random, so that a stranger cannot guess it (RFC 5452, section 9.2).
     ///
     /// ```
     /// use dns_names_wire::{MessageBuilder, Name, RecordType};
@@ -114,12 +115,12 @@ impl MessageBuilder {
         query
     }
 
-    /// Returns a reply to a request, with what the request says: the id, the operation, RD, CD and the questions (RFC 1035,
-    /// section 4.1.1; RFC 4035, section 3.2.2), and with EDNS if the request has it (RFC 6891, section 6.1.1): DO as there
-    /// (RFC 3225, section 3), version 0, and 1232 octets as the largest message that is accepted.
+    /// Returns a reply to a request. It repeats the id, the operation code, RD, CD and the questions of the request
+    /// (RFC 1035, section 4.1.1; RFC 4035, section 3.2.2). It has EDNS if the request has (RFC 6891, section 6.1.1),
+    /// with the same DO (RFC 3225, section 3), version 0, and 1232 octets as the largest message that is accepted.
     ///
-    /// The response code is `NoError`; but `FormErr` if what the request says by EDNS breaks a rule, and `BADVERS` if it is of a
-    /// later version (RFC 6891, sections 6.1.1 and 6.1.3).
+    /// The response code is `NoError`; or `FormErr` if the EDNS of the request is not valid, or `BADVERS` if its
+    /// version is above 0 (RFC 6891, sections 6.1.1 and 6.1.3).
     ///
     /// ```
     /// use dns_names_wire::{Message, MessageBuilder, Name, RecordType};
@@ -159,7 +160,7 @@ impl MessageBuilder {
         reply
     }
 
-    /// Returns the header, whose counts say nothing.
+    /// Returns the header. Its counts are not used.
     ///
     /// ```
     /// use dns_names_wire::{MessageBuilder, Name, RecordType};
@@ -170,7 +171,7 @@ impl MessageBuilder {
         &self.header
     }
 
-    /// Returns the header to be changed. Its counts are not looked at.
+    /// Returns a mutable reference to the header. Its counts are not used.
     ///
     /// ```
     /// use dns_names_wire::{MessageBuilder, Name, RecordType};
@@ -197,7 +198,7 @@ impl MessageBuilder {
         self
     }
 
-    /// Sets RA: the server follows queries to other servers.
+    /// Sets RA: the server supports recursion.
     ///
     /// ```
     /// use dns_names_wire::{Header, MessageBuilder};
@@ -210,7 +211,7 @@ impl MessageBuilder {
         self
     }
 
-    /// Sets the response code. One above 15 is written by EDNS too, and so the message has an OPT record then (RFC 6891, section
+    /// Sets the response code. One above 15 needs EDNS, so the message then has an OPT record (RFC 6891, section
     /// 6.1.3).
     ///
     /// ```
@@ -225,7 +226,7 @@ impl MessageBuilder {
         self
     }
 
-    /// Says something by EDNS, in place of what was said before. `finish` writes the OPT record last.
+    /// Sets the EDNS fields, in place of those set before. `finish` writes the OPT record last.
     ///
     /// ```
     /// use dns_names_wire::{Edns, Header, Message, MessageBuilder, Pairs};
@@ -261,11 +262,11 @@ impl MessageBuilder {
         self
     }
 
-    /// Adds a record of class IN to those that answer.
+    /// Adds a record of class IN to the Answer section.
     ///
     /// # Errors
     ///
-    /// As [`RecordBuf::new`]. If it fails, the message is unchanged.
+    /// The errors of [`RecordBuf::new`]. The message is then unchanged.
     ///
     /// ```
     /// use dns_names_wire::{rdata::MX, Header, Message, MessageBuilder, Name};
@@ -287,11 +288,11 @@ impl MessageBuilder {
         self.data(ANSWERS, name.into(), ttl, &data.into())
     }
 
-    /// Adds a record of class IN to those that lead to an authority.
+    /// Adds a record of class IN to the Authority section.
     ///
     /// # Errors
     ///
-    /// As [`RecordBuf::new`]. If it fails, the message is unchanged.
+    /// The errors of [`RecordBuf::new`]. The message is then unchanged.
     ///
     /// ```
     /// use dns_names_wire::{Header, Message, MessageBuilder, Name, RData};
@@ -311,11 +312,11 @@ impl MessageBuilder {
         self.data(AUTHORITIES, name.into(), ttl, &data.into())
     }
 
-    /// Adds a record of class IN to those that help.
+    /// Adds a record of class IN to the Additional section.
     ///
     /// # Errors
     ///
-    /// As [`RecordBuf::new`]. If it fails, the message is unchanged.
+    /// The errors of [`RecordBuf::new`]. The message is then unchanged.
     ///
     /// ```
     /// use dns_names_wire::{Header, Message, MessageBuilder, Name};
@@ -334,7 +335,7 @@ impl MessageBuilder {
         self.data(ADDITIONALS, name.into(), ttl, &data.into())
     }
 
-    /// Adds records to those that answer.
+    /// Adds records to the Answer section.
     ///
     /// ```
     /// use dns_names_wire::{Header, Message, MessageBuilder, RecordBuf};
@@ -348,7 +349,7 @@ impl MessageBuilder {
         self.records(ANSWERS, records)
     }
 
-    /// Adds records to those that lead to an authority.
+    /// Adds records to the Authority section.
     ///
     /// ```
     /// use dns_names_wire::{Header, Message, MessageBuilder, RecordBuf};
@@ -362,7 +363,7 @@ impl MessageBuilder {
         self.records(AUTHORITIES, records)
     }
 
-    /// Adds records to those that help.
+    /// Adds records to the Additional section.
     ///
     /// ```
     /// use dns_names_wire::{Header, Message, MessageBuilder, RecordBuf};
@@ -376,15 +377,16 @@ impl MessageBuilder {
         self.records(ADDITIONALS, records)
     }
 
-    /// Returns the message in at most `max_size` octets: 512 over UDP without EDNS, what the requester accepts with it, and
-    /// 65535 over TCP. Of the questions and records each is written that has room; if an answer or an authority has none, TC is
-    /// set (RFC 2181, section 9). The OPT record is always there.
+    /// Returns the message in at most `max_size` octets: 512 over UDP without EDNS, what the requester accepts with
+    /// EDNS, and 65535 over TCP. Questions and records that do not fit are left out. TC is set if a record of the
+    /// Answer or Authority section is left out (RFC 2181, section 9). The OPT record is never left out.
     ///
     /// # Errors
     ///
-    /// `MessageTooLong` if the header and the OPT record have more than `max_size` octets; `OutsideAdditionals` if a record that was
-    /// added to the answers or the authorities is an OPT record; `DuplicateEdns` if one that was added is a second OPT record; as
-    /// [`Record::fields`](crate::Record::fields) if a record was made of octets that are no data of its type; or `NoMemory`.
+    /// `MessageTooLong` if the header and the OPT record have more than `max_size` octets; `OutsideAdditionals` if an
+    /// OPT record was added to the Answer or Authority section; `DuplicateEdns` if there are two OPT records; the
+    /// errors of [`Record::fields`](crate::Record::fields) if a record was made from octets that are not data of its
+    /// type; or `NoMemory`.
     ///
     /// ```
     /// use dns_names_wire::{ErrorKind, Message, MessageBuilder, Name, RecordType, Texts, RData};
@@ -405,12 +407,12 @@ impl MessageBuilder {
         Ok(message)
     }
 
-    /// Replaces `message` by what [`finish`](MessageBuilder::finish) returns, and returns whether its TC bit is set. Its memory is
-    /// kept, so that one message after another can be written into it.
+    /// Replaces `message` with the result of [`finish`](MessageBuilder::finish), and returns whether its TC bit is set.
+    /// Use it to write many messages into one allocation.
     ///
     /// # Errors
     ///
-    /// As [`finish`](MessageBuilder::finish).
+    /// The errors of [`finish`](MessageBuilder::finish).
     ///
     /// ```
     /// use dns_names_wire::{MessageBuilder, Name, RecordType};
@@ -424,7 +426,7 @@ impl MessageBuilder {
         door::pack(&self.to_plain()?, max_size, message)
     }
 
-    /// The message without compression, of any size.
+    /// Returns the message without compression, of any size.
     fn to_plain(&self) -> Result<Vec<u8>, Error> {
         let (code, usual) = (u16::from(self.header.response_code), Opt::of(&Edns::new(USUAL_PAYLOAD)));
         let said = self.edns.as_ref().or_else(|| (code > MOST_IN_HEADER).then_some(&usual));
@@ -458,8 +460,8 @@ impl MessageBuilder {
         self
     }
 
-    /// Moves what was added at the end to the end of its section. More items than a section counts have no room in any message,
-    /// and are left out.
+    /// Moves what was added at the end to the end of its section. If the section is full, the item is left out: it fits
+    /// in no message.
     fn added(&mut self, section: usize, start: usize) {
         let added = self.octets.len() - start;
         if self.counts[section] == MOST_ITEMS {
@@ -482,8 +484,8 @@ impl Opt {
         }
     }
 
-    /// Appends an OPT record (RFC 6891, section 6.1.2) with the high bits of a response code. Options that are too long for a
-    /// record are so for any message.
+    /// Appends an OPT record (RFC 6891, section 6.1.2) with the high bits of a response code. Options that are too long
+    /// for a record are too long for any message.
     fn put(&self, code: u16, octets: &mut Vec<u8>) -> Result<(), Error> {
         let len = u16::try_from(self.options.len()).map_err(|_| ErrorKind::MessageTooLong)?;
         let [type_high, type_low] = RecordType::OPT.code().to_be_bytes();

@@ -8,8 +8,8 @@ use core::str::FromStr;
 
 /// A record type, by its code of 16 bits.
 ///
-/// It is shown by its name, or as `TYPE` and its code if it has none (RFC 3597, section 5). Both texts are parsed, in upper
-/// or lower case, so that what is shown for any code is parsed as that code. `*` is parsed as `ANY`.
+/// It is printed as its name, or as `TYPE` and its code if it has none (RFC 3597, section 5). Both texts are parsed, in
+/// upper or lower case, so every code round-trips. `*` is parsed as `ANY`.
 ///
 /// ```
 /// use dns_names_wire::RecordType;
@@ -25,7 +25,7 @@ use core::str::FromStr;
 #[derive(Clone, Copy, PartialEq, Eq, PartialOrd, Ord, Hash)]
 pub struct RecordType(u16);
 
-/// A class, by its code of 16 bits. It is shown and parsed as a [`RecordType`] is, with `CLASS` in place of `TYPE`.
+/// A class, by its code of 16 bits. It is printed and parsed as a [`RecordType`] is, with `CLASS` in place of `TYPE`.
 ///
 /// ```
 /// use dns_names_wire::Class;
@@ -36,7 +36,7 @@ pub struct RecordType(u16);
 #[derive(Clone, Copy, PartialEq, Eq, PartialOrd, Ord, Hash)]
 pub struct Class(u16);
 
-/// The constants of a kind of codes.
+/// Defines the constants of a code.
 macro_rules! constants {
     ($code:ident { $($(#[doc = $doc:literal])* $name:ident = $number:literal,)* }) => {
         impl $code {
@@ -45,7 +45,7 @@ macro_rules! constants {
                 pub const $name: $code = $code($number);
             )*
 
-            /// All that have a name, by ascending codes.
+            /// All codes that have a name, in ascending order.
             pub const NAMED: &'static [$code] = &[$($code::$name),*];
         }
     };
@@ -53,23 +53,23 @@ macro_rules! constants {
 
 constants! {
     RecordType {
-        /// Code 0, which is the type of no record (RFC 6895, section 3.1).
+        /// Code 0, which no record has as its type (RFC 6895, section 3.1).
         ZERO = 0,
         /// An IPv4 address (RFC 1035, section 3.4.1).
         A = 1,
         /// A name server of a zone (RFC 1035, section 3.3.11).
         NS = 2,
-        /// The name that an alias stands for (RFC 1035, section 3.3.1).
+        /// The canonical name of an alias (RFC 1035, section 3.3.1).
         CNAME = 5,
-        /// The start of a zone (RFC 1035, section 3.3.13).
+        /// The start of a zone of authority (RFC 1035, section 3.3.13).
         SOA = 6,
         /// Any data (RFC 1035, section 3.3.10).
         NULL = 10,
-        /// Another name (RFC 1035, section 3.3.12).
+        /// A pointer to another name (RFC 1035, section 3.3.12).
         PTR = 12,
-        /// What a host is (RFC 1035, section 3.3.2).
+        /// The CPU and the operating system of a host (RFC 1035, section 3.3.2).
         HINFO = 13,
-        /// Where mail goes (RFC 1035, section 3.3.9).
+        /// A mail server for a domain (RFC 1035, section 3.3.9).
         MX = 15,
         /// Text (RFC 1035, section 3.3.14).
         TXT = 16,
@@ -79,27 +79,27 @@ constants! {
         KEY = 25,
         /// An IPv6 address (RFC 3596, section 2.1).
         AAAA = 28,
-        /// Where a service is (RFC 2782).
+        /// The host and the port of a service (RFC 2782).
         SRV = 33,
         /// A rule that rewrites a name (RFC 3403).
         NAPTR = 35,
         /// A certificate (RFC 4398).
         CERT = 37,
-        /// The name that a whole subtree is an alias of (RFC 6672).
+        /// The name that a subtree is an alias of (RFC 6672).
         DNAME = 39,
-        /// The options of a message (RFC 6891).
+        /// The EDNS fields of a message (RFC 6891).
         OPT = 41,
-        /// The digest of a child's key (RFC 4034, section 5).
+        /// The digest of a key of a child zone (RFC 4034, section 5).
         DS = 43,
         /// The fingerprint of an SSH key (RFC 4255).
         SSHFP = 44,
         /// A signature of records (RFC 4034, section 3).
         RRSIG = 46,
-        /// The next name of a zone, and the types of this one (RFC 4034, section 4).
+        /// The next name in a zone, and the types at this name (RFC 4034, section 4).
         NSEC = 47,
         /// A key of a zone (RFC 4034, section 2).
         DNSKEY = 48,
-        /// As NSEC, over hashed names (RFC 5155, section 3).
+        /// As NSEC, with hashed names (RFC 5155, section 3).
         NSEC3 = 50,
         /// How the names of a zone are hashed (RFC 5155, section 4).
         NSEC3PARAM = 51,
@@ -111,23 +111,23 @@ constants! {
         CDS = 59,
         /// The child's copy of a DNSKEY (RFC 7344).
         CDNSKEY = 60,
-        /// A key of OpenPGP (RFC 7929).
+        /// An OpenPGP key (RFC 7929).
         OPENPGPKEY = 61,
-        /// What a parent may copy from its child (RFC 7477).
+        /// The types that a parent zone may copy from its child (RFC 7477).
         CSYNC = 62,
         /// How to reach a service (RFC 9460).
         SVCB = 64,
         /// How to reach a service over HTTPS (RFC 9460).
         HTTPS = 65,
-        /// The signature of a message by a shared key (RFC 8945).
+        /// A signature of a message with a shared key (RFC 8945).
         TSIG = 250,
-        /// The transfer of what changed in a zone, in a question (RFC 1995).
+        /// A transfer of the changes of a zone, in a question (RFC 1995).
         IXFR = 251,
-        /// The transfer of a whole zone, in a question (RFC 5936).
+        /// A transfer of a whole zone, in a question (RFC 5936).
         AXFR = 252,
         /// Any type, in a question (RFC 1035, section 3.2.3).
         ANY = 255,
-        /// Which authorities may issue certificates (RFC 8659).
+        /// The authorities that may issue certificates for a domain (RFC 8659).
         CAA = 257,
         /// An alias at the top of a zone (draft-ietf-dnsop-aname). Its code was never assigned.
         ANAME = 65305,
@@ -171,7 +171,7 @@ macro_rules! code {
             }
         }
 
-        /// The name of a code, in capitals, or the text of RFC 3597, section 5, for one without a name.
+        /// Prints the name of the code in capitals, or the text of RFC 3597, section 5, if it has no name.
         impl fmt::Display for $code {
             fn fmt(&self, f: &mut fmt::Formatter<'_>) -> fmt::Result {
                 f.pad($text(self.0, &mut [0; CODE_SIZE]).map_err(|_| fmt::Error)?)
@@ -184,7 +184,7 @@ macro_rules! code {
             }
         }
 
-        /// Takes a name, or the text of RFC 3597, section 5, in upper or lower case. Fails with `UnknownText`.
+        /// Parses a name, or the text of RFC 3597, section 5, in upper or lower case. Fails with `UnknownText`.
         impl FromStr for $code {
             type Err = Error;
 
@@ -193,7 +193,7 @@ macro_rules! code {
             }
         }
 
-        /// As `str::parse`.
+        /// The same as `str::parse`.
         impl TryFrom<&str> for $code {
             type Error = Error;
 
@@ -207,7 +207,7 @@ macro_rules! code {
 code!(RecordType, door::type_text, door::type_code);
 code!(Class, door::class_text, door::class_code);
 
-/// A serial number of a zone, which starts again at 0 after 4294967295 (RFC 1982).
+/// A serial number of a zone, which wraps to 0 after 4294967295 (RFC 1982).
 ///
 /// Two serial numbers that are 2^31 apart have no order. The order is not transitive.
 ///
@@ -221,7 +221,7 @@ code!(Class, door::class_text, door::class_code);
 #[derive(Clone, Copy, Debug, Default, PartialEq, Eq, Hash)]
 pub struct SerialNumber(pub u32);
 
-/// Its decimal digits.
+/// Prints the number in decimal.
 impl fmt::Display for SerialNumber {
     fn fmt(&self, f: &mut fmt::Formatter<'_>) -> fmt::Result {
         fmt::Display::fmt(&self.0, f)

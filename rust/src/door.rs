@@ -1,8 +1,8 @@
-//! The C library: its declarations, as in `dns_names_wire.h`, and a safe function over each.
+//! The declarations of the C library, as in `dns_names_wire.h`, and a safe function over each.
 //!
-//! This is the one module with `unsafe`. Each call is safe for the same reasons: a slice is passed as its pointer, which is
-//! never null, and its length; a result goes through a `&mut`, which overlaps nothing; the C library keeps no pointer, and
-//! is proved to read and write nothing outside its arguments, whatever the bytes are.
+//! This is the only module with `unsafe`. Each call is safe for the same reasons. A slice is passed as its pointer,
+//! which is never null, and its length. A result is stored through a `&mut`, which overlaps nothing. The C library
+//! keeps no pointer, and is proved to read and write nothing outside its arguments, whatever the bytes are.
 use crate::error::{Error, ErrorKind, Section, TextFault, TextRule};
 use alloc::vec::Vec;
 
@@ -14,7 +14,7 @@ pub(crate) const SORT_KEY_SIZE: usize = 504;
 pub(crate) const TEXT_SIZE: usize = 1004;
 /// The bytes of the longest name of a type or a class.
 pub(crate) const CODE_SIZE: usize = 10;
-/// For how many bytes of a record or of its text there is room at first.
+/// The initial capacity for a record or its text, in bytes.
 const USUAL_SIZE: usize = 512;
 /// The octets of the longest data of a record.
 const DATA_SIZE: usize = 65535;
@@ -372,7 +372,7 @@ pub(crate) fn read(message: &[u8], start: usize, form: &mut [u8; FORM_SIZE]) -> 
     outcome(number, read).map_err(|error| error.at_offset(start))
 }
 
-/// Puts the wire form of the name that a text gives.
+/// Parses the text of a name, and stores its wire form.
 #[inline]
 pub(crate) fn parse(text: &str, form: &mut [u8; FORM_SIZE]) -> Result<ParsedName, Error> {
     let mut parsed = ParsedName::default();
@@ -384,7 +384,7 @@ pub(crate) fn parse(text: &str, form: &mut [u8; FORM_SIZE]) -> Result<ParsedName
     })
 }
 
-/// Returns where a text that gives no name goes wrong.
+/// Returns where a text is not that of a name.
 pub(crate) fn text_fault(text: &str) -> Option<TextFault> {
     let mut offset = 0;
     // SAFETY: a pointer with its length, and one to a number of this type.
@@ -392,7 +392,7 @@ pub(crate) fn text_fault(text: &str) -> Option<TextFault> {
     TextRule::from_number(number).map(|rule| TextFault { offset, rule })
 }
 
-/// Puts the text of the name with a wire form, and returns it.
+/// Stores the text of the name with a wire form, and returns it.
 #[inline]
 pub(crate) fn print<'a>(form: &[u8], is_fqdn: bool, text: &'a mut [u8; TEXT_SIZE]) -> Result<&'a str, Error> {
     let mut len = 0;
@@ -402,7 +402,7 @@ pub(crate) fn print<'a>(form: &[u8], is_fqdn: bool, text: &'a mut [u8; TEXT_SIZE
     Ok(ascii(&text[..len]))
 }
 
-/// Reads the record at an offset of a message, and puts its owner's wire form.
+/// Reads the record at an offset of a message, and stores its owner's wire form.
 #[inline]
 pub(crate) fn read_record(message: &[u8], start: usize, owner: &mut [u8; FORM_SIZE]) -> Result<Record, Error> {
     let (mut record, room) = (Record::default(), owner.as_mut_ptr());
@@ -411,7 +411,7 @@ pub(crate) fn read_record(message: &[u8], start: usize, owner: &mut [u8; FORM_SI
     outcome(number, record).map_err(|error| error.at_offset(start))
 }
 
-/// Puts the wire form of the name that so many octets of a message are, and returns its length.
+/// Reads `len` octets of a message as a name, stores its wire form, and returns the length of that.
 #[inline]
 pub(crate) fn data_name(message: &[u8], at: usize, len: usize, form: &mut [u8; FORM_SIZE]) -> Result<usize, Error> {
     let (mut put, room) = (0, form.as_mut_ptr());
@@ -428,7 +428,7 @@ pub(crate) fn read_message(message: &[u8], max_pointers: usize) -> Result<Messag
     outcome(number, read).map_err(|error| error.at_item(Section::from_number(fault.section), fault.item, fault.offset))
 }
 
-/// Returns what a message says by EDNS.
+/// Returns the EDNS fields of a message.
 pub(crate) fn read_edns(message: &[u8], max_pointers: usize) -> Result<Edns, Error> {
     let mut edns = Edns::default();
     // SAFETY: a pointer with its length, see the module, and one to a struct of this type.
@@ -436,7 +436,7 @@ pub(crate) fn read_edns(message: &[u8], max_pointers: usize) -> Result<Edns, Err
     outcome(number, edns)
 }
 
-/// Returns the next field of the data of a record, which end where `message` does.
+/// Returns the next field of the data of a record. The data end where `message` does.
 #[inline]
 pub(crate) fn next_field(message: &[u8], record_type: u16, fields: &mut Fields) -> Result<Field, Error> {
     let mut field = Field::default();
@@ -445,7 +445,7 @@ pub(crate) fn next_field(message: &[u8], record_type: u16, fields: &mut Fields) 
     outcome(number, field).map_err(|error| error.at_offset(fields.offset))
 }
 
-/// Replaces `message` by the items of a list, up to the first that would go past the maximum. Returns how many items it has,
+/// Replaces `message` with the items of a list, up to the first that does not fit. Returns the number of items written,
 /// and whether these are all.
 pub(crate) fn write_message(
     items: &[u8],
@@ -466,12 +466,12 @@ pub(crate) fn write_message(
         Err(error) if error.kind() == ErrorKind::MessageTooLong => false,
         Err(error) => return Err(error),
     };
-    // SAFETY: so many bytes of the room were written.
+    // SAFETY: these bytes of the room were written.
     unsafe { message.set_len(written.len) };
     Ok((written.count, is_whole))
 }
 
-/// Replaces `text` by the line of the record at an offset of a message, and returns it.
+/// Replaces `text` with the line of the record at an offset of a message, and returns it.
 pub(crate) fn print_record<'a>(message: &[u8], start: usize, text: &'a mut Vec<u8>) -> Result<&'a str, Error> {
     text.clear();
     text.reserve(USUAL_SIZE);
@@ -485,13 +485,14 @@ pub(crate) fn print_record<'a>(message: &[u8], start: usize, text: &'a mut Vec<u
             continue;
         }
         outcome(number, ())?;
-        // SAFETY: so many bytes of the room were written.
+        // SAFETY: these bytes of the room were written.
         unsafe { text.set_len(printed.len) };
         return Ok(ascii(text));
     }
 }
 
-/// Replaces `packed` by a whole message, compressed and in at most so many octets. Returns whether its TC bit is set.
+/// Replaces `packed` with a whole message, compressed and in at most `max_size` octets. Returns whether its TC bit is
+/// set.
 pub(crate) fn pack(message: &[u8], max_size: u16, packed: &mut Vec<u8>) -> Result<bool, Error> {
     packed.clear();
     // A message without compression is not longer when it is packed.
@@ -506,14 +507,14 @@ pub(crate) fn pack(message: &[u8], max_size: u16, packed: &mut Vec<u8>) -> Resul
             continue;
         }
         outcome(number, ())?;
-        // SAFETY: so many bytes of the room were written.
+        // SAFETY: these bytes of the room were written.
         unsafe { packed.set_len(result.len) };
         return Ok(result.truncated);
     }
 }
 
-/// Appends what a call puts into room after the octets, given as a pointer, its size, and a place for how many octets they are.
-/// `most` octets of room are always enough.
+/// Appends what a call stores in the room after the octets. The call takes a pointer to the room, its size, and where
+/// to store the number of octets. `most` octets of room are always enough.
 fn append_put(octets: &mut Vec<u8>, most: usize, put: impl Fn(*mut u8, usize, &mut usize) -> u32) -> Result<(), Error> {
     octets.reserve(USUAL_SIZE);
     loop {
@@ -525,13 +526,13 @@ fn append_put(octets: &mut Vec<u8>, most: usize, put: impl Fn(*mut u8, usize, &m
             continue;
         }
         outcome(number, ())?;
-        // SAFETY: so many bytes of the room were written.
+        // SAFETY: these bytes of the room were written.
         unsafe { octets.set_len(before + len) };
         return Ok(());
     }
 }
 
-/// Appends the octets of the data of a type that a text is. An empty origin is none.
+/// Parses the text of data of a type, and appends the octets. An empty origin means no origin.
 pub(crate) fn parse_data(record_type: u16, text: &str, origin: &[u8], octets: &mut Vec<u8>) -> Result<(), Error> {
     let (text, text_len, name, name_len) = (text.as_ptr(), text.len(), origin.as_ptr(), origin.len());
     // SAFETY: pointers with their lengths, see the module; and the room is not read.
@@ -540,7 +541,7 @@ pub(crate) fn parse_data(record_type: u16, text: &str, origin: &[u8], octets: &m
     })
 }
 
-/// Appends the octets of the record that a line is. An empty origin is none.
+/// Parses the line of a record, and appends the octets. An empty origin means no origin.
 pub(crate) fn parse_record(line: &str, origin: &[u8], octets: &mut Vec<u8>) -> Result<(), Error> {
     let (text, text_len, name, name_len) = (line.as_ptr(), line.len(), origin.as_ptr(), origin.len());
     // SAFETY: pointers with their lengths, see the module; and the room is not read.
@@ -549,8 +550,8 @@ pub(crate) fn parse_record(line: &str, origin: &[u8], octets: &mut Vec<u8>) -> R
     })
 }
 
-/// Returns the octets that the signature of the RRSIG at the front of a list covers, of the records from `start` on. No name is
-/// compressed.
+/// Returns the octets that the signature of an RRSIG covers. The RRSIG is at offset 0 of a list, and the records begin
+/// at `start`. No name is compressed.
 pub(crate) fn signed_octets(list: &[u8], start: usize) -> Result<Vec<u8>, Error> {
     let (mut octets, first, end) = (Vec::new(), list.as_ptr(), list.len());
     // A record is not longer in canonical form, and the signature is left out.
@@ -561,7 +562,7 @@ pub(crate) fn signed_octets(list: &[u8], start: usize) -> Result<Vec<u8>, Error>
     Ok(octets)
 }
 
-/// Puts the wire form of the reverse name of an address of 4 or 16 bytes, and returns its length.
+/// Stores the wire form of the reverse name of an address of 4 or 16 bytes, and returns its length.
 pub(crate) fn reverse_name(address: &[u8], form: &mut [u8; FORM_SIZE]) -> Result<usize, Error> {
     let mut len = 0;
     // SAFETY: pointers with their lengths, see the module.
@@ -569,7 +570,7 @@ pub(crate) fn reverse_name(address: &[u8], form: &mut [u8; FORM_SIZE]) -> Result
     outcome(number, len)
 }
 
-/// Puts the address of the net that a reverse name stands for.
+/// Stores the address of the net of a reverse name.
 pub(crate) fn reverse_parse(form: &[u8], address: &mut [u8; 16]) -> Result<Net, Error> {
     let mut net = Net::default();
     // SAFETY: pointers with their lengths, see the module.
@@ -604,7 +605,7 @@ pub(crate) fn in_zone(name: &[u8], zone: &[u8]) -> Result<bool, Error> {
     outcome(number, is)
 }
 
-/// Puts a wire form in lower case, and returns its length.
+/// Stores a wire form in lower case, and returns its length.
 #[inline]
 pub(crate) fn to_lowercase(form: &[u8], lowered: &mut [u8; FORM_SIZE]) -> Result<usize, Error> {
     let mut len = 0;
@@ -613,7 +614,7 @@ pub(crate) fn to_lowercase(form: &[u8], lowered: &mut [u8; FORM_SIZE]) -> Result
     outcome(number, len)
 }
 
-/// Puts the sort key of a name, and returns its length.
+/// Stores the sort key of a name, and returns its length.
 pub(crate) fn sort_key(form: &[u8], key: &mut [u8; SORT_KEY_SIZE]) -> Result<usize, Error> {
     let mut len = 0;
     // SAFETY: pointers with their lengths, see the module.
@@ -621,14 +622,14 @@ pub(crate) fn sort_key(form: &[u8], key: &mut [u8; SORT_KEY_SIZE]) -> Result<usi
     outcome(number, len)
 }
 
-/// Puts the numbers of the names of a list in canonical order of the names.
+/// Stores the indexes of the names of a list in canonical order of the names.
 pub(crate) fn names_sort(names: &[u8], order: &mut [usize]) -> Result<(), Error> {
     // SAFETY: pointers with their lengths, see the module.
     let number = unsafe { dnw_names_sort(names.as_ptr(), names.len(), order.as_mut_ptr(), order.len()) };
     outcome(number, ())
 }
 
-/// Puts the labels of a name and those of another, and returns the length.
+/// Stores the labels of a name and those of another, and returns the length.
 pub(crate) fn append(name: &[u8], suffix: &[u8], form: &mut [u8; FORM_SIZE]) -> Result<usize, Error> {
     let (mut len, room) = (0, form.as_mut_ptr());
     // SAFETY: pointers with their lengths, see the module.
@@ -637,7 +638,7 @@ pub(crate) fn append(name: &[u8], suffix: &[u8], form: &mut [u8; FORM_SIZE]) -> 
     outcome(number, len)
 }
 
-/// Puts a label and those of a name, and returns the length.
+/// Stores a label and those of a name, and returns the length.
 pub(crate) fn prepend_label(label: &[u8], name: &[u8], form: &mut [u8; FORM_SIZE]) -> Result<usize, Error> {
     let (mut len, room) = (0, form.as_mut_ptr());
     // SAFETY: pointers with their lengths, see the module.
@@ -647,7 +648,7 @@ pub(crate) fn prepend_label(label: &[u8], name: &[u8], form: &mut [u8; FORM_SIZE
     outcome(number, len)
 }
 
-/// Puts the last labels of a name, and returns the length.
+/// Stores the last labels of a name, and returns the length.
 pub(crate) fn trim(name: &[u8], labels: usize, form: &mut [u8; FORM_SIZE]) -> Result<usize, Error> {
     let mut len = 0;
     // SAFETY: pointers with their lengths, see the module.
@@ -655,7 +656,7 @@ pub(crate) fn trim(name: &[u8], labels: usize, form: &mut [u8; FORM_SIZE]) -> Re
     outcome(number, len)
 }
 
-/// Puts a name with `*` in place of its first label, and returns the length.
+/// Stores a name with `*` in place of its first label, and returns the length.
 pub(crate) fn to_wildcard(name: &[u8], form: &mut [u8; FORM_SIZE]) -> Result<usize, Error> {
     let mut len = 0;
     // SAFETY: pointers with their lengths, see the module.
@@ -663,7 +664,7 @@ pub(crate) fn to_wildcard(name: &[u8], form: &mut [u8; FORM_SIZE]) -> Result<usi
     outcome(number, len)
 }
 
-/// Puts the text of a type, and returns it.
+/// Stores the text of a type, and returns it.
 pub(crate) fn type_text(code: u16, text: &mut [u8; CODE_SIZE]) -> Result<&str, Error> {
     let mut len = 0;
     // SAFETY: pointers with their lengths, see the module.
@@ -672,7 +673,7 @@ pub(crate) fn type_text(code: u16, text: &mut [u8; CODE_SIZE]) -> Result<&str, E
     Ok(ascii(&text[..len]))
 }
 
-/// Returns the code of the type that a text gives.
+/// Parses the text of a type, and returns its code.
 pub(crate) fn type_code(text: &str) -> Result<u16, Error> {
     let mut code = 0;
     // SAFETY: pointers with their lengths, see the module.
@@ -680,7 +681,7 @@ pub(crate) fn type_code(text: &str) -> Result<u16, Error> {
     outcome(number, code)
 }
 
-/// Puts the text of a class, and returns it.
+/// Stores the text of a class, and returns it.
 pub(crate) fn class_text(code: u16, text: &mut [u8; CODE_SIZE]) -> Result<&str, Error> {
     let mut len = 0;
     // SAFETY: pointers with their lengths, see the module.
@@ -689,7 +690,7 @@ pub(crate) fn class_text(code: u16, text: &mut [u8; CODE_SIZE]) -> Result<&str, 
     Ok(ascii(&text[..len]))
 }
 
-/// Returns the code of the class that a text gives.
+/// Parses the text of a class, and returns its code.
 pub(crate) fn class_code(text: &str) -> Result<u16, Error> {
     let mut code = 0;
     // SAFETY: pointers with their lengths, see the module.
@@ -697,7 +698,7 @@ pub(crate) fn class_code(text: &str) -> Result<u16, Error> {
     outcome(number, code)
 }
 
-/// Compares two serial numbers: -1, 0 or 1, or an error if they are not ordered.
+/// Compares two serial numbers: -1, 0 or 1, or an error if they have no order.
 pub(crate) fn serial_compare(left: u32, right: u32) -> Result<i32, Error> {
     let mut order = 0;
     // SAFETY: a pointer to a number of this type.
@@ -711,7 +712,7 @@ pub(crate) fn serial_add(serial: u32, other: u32) -> u32 {
     unsafe { dnw_serial_add(serial, other) }
 }
 
-/// Puts the codes that a bitmap lists, and returns how many.
+/// Stores the codes in a bitmap, and returns their number.
 pub(crate) fn types_read(bitmap: &[u8], codes: &mut [u16]) -> Result<usize, Error> {
     let mut count = 0;
     // SAFETY: pointers with their lengths, see the module.
@@ -719,7 +720,7 @@ pub(crate) fn types_read(bitmap: &[u8], codes: &mut [u16]) -> Result<usize, Erro
     outcome(number, count)
 }
 
-/// Puts the bitmap of codes, and returns its length.
+/// Stores the bitmap of codes, and returns its length.
 pub(crate) fn types_write(codes: &[u16], bitmap: &mut [u8]) -> Result<usize, Error> {
     let mut len = 0;
     // SAFETY: pointers with their lengths, see the module.
@@ -727,7 +728,7 @@ pub(crate) fn types_write(codes: &[u16], bitmap: &mut [u8]) -> Result<usize, Err
     outcome(number, len)
 }
 
-/// Returns the seconds of a time to live.
+/// Parses a TTL, and returns its seconds.
 pub(crate) fn ttl(text: &str) -> Result<u32, Error> {
     let mut seconds = 0;
     // SAFETY: pointers with their lengths, see the module.
@@ -735,8 +736,8 @@ pub(crate) fn ttl(text: &str) -> Result<u32, Error> {
     outcome(number, seconds)
 }
 
-/// Finds the next token of a text, and puts its texts. Returns its kind and these, each word of a list with a zero byte after
-/// it.
+/// Finds the next token of a text, and stores its texts. Returns its kind and the texts. Each word of a list has a zero
+/// byte after it.
 #[inline]
 pub(crate) fn next_token<'a>(text: &str, lexer: &mut Lexer, words: &'a mut [u8]) -> Result<(u32, &'a str), Error> {
     let mut token = Token::default();
@@ -746,11 +747,11 @@ pub(crate) fn next_token<'a>(text: &str, lexer: &mut Lexer, words: &'a mut [u8])
     outcome(number, ())?;
     let put = &words[..token.len];
     debug_assert!(core::str::from_utf8(put).is_ok());
-    // SAFETY: the C library is proved to put texts in UTF-8.
+    // SAFETY: the C library is proved to store texts in UTF-8.
     Ok((token.kind, unsafe { core::str::from_utf8_unchecked(put) }))
 }
 
-/// Puts the text for a number, and returns it. It is empty if the number stands for nothing.
+/// Stores the text of an error number, and returns it. It is empty if there is no such error.
 pub(crate) fn error_text(number: u32, text: &mut [u8; ERROR_TEXT_SIZE]) -> &str {
     // SAFETY: a pointer with its length, see the module.
     let len = unsafe { dnw_error_text(number, text.as_mut_ptr(), ERROR_TEXT_SIZE) };

@@ -2,7 +2,7 @@
 use crate::door;
 use core::fmt;
 
-/// Why a call fails, and where: [`kind`](Error::kind) and [`offset`](Error::offset). It is shown as a sentence.
+/// Why a call fails, and where: [`kind`](Error::kind) and [`offset`](Error::offset). It is printed as a sentence.
 ///
 /// ```
 /// use dns_names_wire::{ErrorKind, Name};
@@ -27,28 +27,28 @@ enum Place {
 }
 
 impl Error {
-    /// The failure with a number of `dns_names_wire.h` other than 0.
+    /// Returns the error with a number of `dns_names_wire.h` other than 0.
     pub(crate) fn from_number(number: u32) -> Self {
         let named = NUMBERS.iter().find(|(own, _)| *own == number);
         named.map_or(ErrorKind::Other(number), |(_, kind)| *kind).into()
     }
 
-    /// The same failure at an offset of the message or the text.
+    /// Returns the same error at an offset of the message or the text.
     pub(crate) fn at_offset(self, offset: usize) -> Self {
         Error { place: Some(Place::Offset(offset)), ..self }
     }
 
-    /// The same failure at the fault of the text.
+    /// Returns the same error at the fault of the text.
     pub(crate) fn at_fault(self, fault: TextFault) -> Self {
         Error { place: Some(Place::Text(fault)), ..self }
     }
 
-    /// The same failure at a part of the message that is written.
+    /// Returns the same error at a part of the message that is written.
     pub(crate) fn at_part(self, part: usize) -> Self {
         Error { place: Some(Place::Part(part)), ..self }
     }
 
-    /// The same failure at an item of a message.
+    /// Returns the same error at an item of a message.
     pub(crate) fn at_item(self, section: Section, item: u16, offset: usize) -> Self {
         Error { place: Some(Place::Item(section, item, offset)), ..self }
     }
@@ -64,14 +64,13 @@ impl Error {
         self.kind
     }
 
-    /// Returns the offset in octets at which the input goes wrong, if it is known:
+    /// Returns the offset in octets at which the input is wrong, if it is known:
     ///
-    /// - in a message, at which the name, the question, the record or the field that was read should begin; or the end of a
-    ///   record whose data have fewer octets than were passed over;
-    /// - in a wire form, after its name, for `BytesLeft`;
-    /// - in the text of a name, at which it goes wrong. What is before it is a name by itself, and no longer beginning of the
-    ///   text is one. An escape counts as one character;
-    /// - in a master file, after which there is no token.
+    /// - in a message, the start of the name, question, record or field that cannot be read; or the end of a record
+    ///   whose data have fewer octets than were to be skipped;
+    /// - in a wire form, the end of its name, for `BytesLeft`;
+    /// - in the text of a name, the end of the longest prefix that is a name. An escape counts as one character;
+    /// - in a master file, the offset after which no valid token is next.
     ///
     /// ```
     /// use dns_names_wire::{Name, TextRule};
@@ -89,7 +88,7 @@ impl Error {
         }
     }
 
-    /// Returns the rule that the text of a name breaks, if it is one that was wrong.
+    /// Returns the rule that the text of a name breaks, if such a text is wrong.
     ///
     /// ```
     /// let error = dns_names_wire::Name::from_ascii("a..bc").unwrap_err();
@@ -102,8 +101,7 @@ impl Error {
         }
     }
 
-    /// Returns which part of a message that is written does not fit, for `MessageTooLong`: the number of the parts that were
-    /// added before it.
+    /// Returns the index of the part that does not fit, if a message that is written is too long (`MessageTooLong`).
     ///
     /// ```
     /// use dns_names_wire::MessageWriter;
@@ -119,12 +117,12 @@ impl Error {
         }
     }
 
-    /// Returns the section of the first item of a message that is not there, if a whole message was read.
+    /// Returns the section of the first question or record that is wrong, if a whole message was read.
     ///
     /// ```
     /// use dns_names_wire::{Message, Section};
     ///
-    /// // one answer, of which the owner alone is there
+    /// // one answer, cut after its owner
     /// let error = Message::read(b"\0\0\x80\0\0\0\0\x01\0\0\0\0\0").unwrap_err();
     /// assert_eq!((error.section(), error.item(), error.offset()), (Some(Section::Answers), Some(0), Some(12)));
     /// assert_eq!(error.to_string(), "answer 0, at offset 12: the message ends within the name");
@@ -136,7 +134,7 @@ impl Error {
         }
     }
 
-    /// Returns the number of that item in its section, from 0 on.
+    /// Returns the index of that question or record in its section.
     ///
     /// ```
     /// assert_eq!(dns_names_wire::Message::read(b"").unwrap_err().item(), Some(0));
@@ -148,7 +146,7 @@ impl Error {
         }
     }
 
-    /// Returns the kind's number in `dns_names_wire.h`.
+    /// Returns the number of the kind in `dns_names_wire.h`.
     ///
     /// ```
     /// assert_eq!(dns_names_wire::Name::read(b"", 0).unwrap_err().number(), 3);
@@ -158,7 +156,7 @@ impl Error {
     }
 }
 
-/// What is wrong. It is shown as a sentence, which is the C library's.
+/// What is wrong. It is printed as the C library's text for it.
 ///
 /// ```
 /// use dns_names_wire::ErrorKind;
@@ -168,13 +166,14 @@ impl Error {
 #[derive(Clone, Copy, Debug, PartialEq, Eq, Hash)]
 #[non_exhaustive]
 pub enum ErrorKind {
-    /// The C library could not allocate.
+    /// The C library is out of memory.
     NoMemory,
     /// The message ends within the name, or before it.
     MessageCut,
-    /// A compression pointer does not point to before the segment of the name that it ends.
+    /// A compression pointer does not point backwards, to before the segment that it ends. A segment is a run of labels
+    /// and the pointer or zero octet after it.
     PointerNotBack,
-    /// An octet from 64 to 191 where a label or a pointer should begin.
+    /// An octet from 64 to 191 at the start of a label or a pointer.
     ReservedOctet,
     /// A segment of the name runs into the one that points to it.
     SegmentsOverlap,
@@ -182,31 +181,31 @@ pub enum ErrorKind {
     NameTooLong,
     /// A label takes more than 63 octets.
     LabelTooLong,
-    /// A text has a label, a character or an escape that is not allowed; [`Error::rule`] says which rule it breaks.
+    /// A text has a label, a character or an escape that is not allowed. [`Error::rule`] is the rule that it breaks.
     BadText,
-    /// Bytes follow after a name that should be all there is.
+    /// Bytes follow a name that should end the input.
     BytesLeft,
     /// The message would be longer than its maximum.
     MessageTooLong,
-    /// A text that is the name of no type or class.
+    /// A text that is not the name of a type or class.
     UnknownText,
-    /// A bitmap that is out of bounds, or longer than 65535 octets.
+    /// A type bitmap that is not valid, or longer than 65535 octets.
     BadBitmap,
-    /// A text that is no time to live, or one of more than 4294967295 seconds.
+    /// A text that is not a TTL, or a TTL above 4294967295 seconds.
     BadTime,
     /// A text that ends within an escape, or after a carriage return.
     TextCut,
-    /// A character where it may not stand.
+    /// A character that is not allowed there.
     IllegalCharacter,
     /// A control character that is not white space.
     ControlCharacter,
-    /// A text that ends in a list, before its `)`.
+    /// A text that ends within a list, before its `)`.
     UnclosedList,
-    /// A text that ends in a quoted text, before its closing quote.
+    /// A text that ends within a quoted text, before its closing quote.
     UnclosedQuote,
-    /// A `$` that begins none of `$INCLUDE`, `$ORIGIN` and `$TTL`.
+    /// A `$` that is not the start of `$INCLUDE`, `$ORIGIN` or `$TTL`.
     UnknownEntry,
-    /// A name in a record's data whose own octets are fewer or more than the data.
+    /// The fields of a record's data do not end where the data do.
     WrongDataLength,
     /// A name that is not the reverse name of an address or a net.
     NotReverse,
@@ -214,29 +213,29 @@ pub enum ErrorKind {
     TooManyPointers,
     /// A message with more than one OPT record.
     DuplicateEdns,
-    /// An OPT record that is not owned by the root.
+    /// An OPT record whose owner is not the root.
     OwnerNotRoot,
-    /// An option of an OPT record that is not all there.
+    /// An option of an OPT record that is cut.
     CutOption,
     /// Service parameters that are not in ascending order.
     BadParams,
-    /// A text that is no data of its record type, or that of more than 65535 octets.
+    /// A text that is not data of the record type, or that has more than 65535 octets of data.
     BadData,
-    /// A record that should be an RRSIG and is none.
+    /// A record that should be an RRSIG and is of another type.
     NotRrsig,
     /// An RRSIG that covers none of the records.
     NotCovered,
     /// An RRSIG whose owner has fewer labels than it counts.
     TooFewLabels,
-    /// Data of a record of more than 65535 octets, or a character string of more than 255, that is to be written.
+    /// Data of more than 65535 octets, or a character string of more than 255, that should be written.
     DataTooLong,
-    /// An OPT record among the answers or the authorities of a message.
+    /// An OPT record in the Answer or Authority section of a message.
     OutsideAdditionals,
-    /// Another failure, by its number in `dns_names_wire.h`.
+    /// Another error, by its number in `dns_names_wire.h`.
     Other(u32),
 }
 
-/// The failures of the C library that this crate names, each with its number in `dns_names_wire.h`.
+/// The errors of the C library that have a name in this crate, each with its number in `dns_names_wire.h`.
 const NUMBERS: [(u32, ErrorKind); 32] = [
     (1, ErrorKind::NoMemory),
     (3, ErrorKind::MessageCut),
@@ -293,7 +292,7 @@ impl From<ErrorKind> for Error {
     }
 }
 
-/// Where a text that gives no name goes wrong, and the rule that it breaks there. See [`Name::text_fault`].
+/// Where a text is not that of a name, and the rule that it breaks there. See [`Name::text_fault`].
 ///
 /// [`Name::text_fault`]: crate::Name::text_fault
 ///
@@ -303,13 +302,13 @@ impl From<ErrorKind> for Error {
 /// ```
 #[derive(Clone, Copy, Debug, PartialEq, Eq, Hash)]
 pub struct TextFault {
-    /// The offset in octets of the character or escape with which the text is no name, whatever follows.
+    /// The offset in octets of the first wrong character or escape: the end of the longest prefix that is a name.
     pub offset: usize,
     /// The rule that is broken there.
     pub rule: TextRule,
 }
 
-/// A rule for the text of a name. It is shown as a sentence, which is the C library's.
+/// A rule for the text of a name. It is printed as the C library's text for it.
 ///
 /// ```
 /// assert_eq!(dns_names_wire::TextRule::EmptyLabel.to_string(), "a label of the text is empty");
@@ -317,18 +316,18 @@ pub struct TextFault {
 #[derive(Clone, Copy, Debug, PartialEq, Eq, Hash)]
 #[non_exhaustive]
 pub enum TextRule {
-    /// A label has a character.
+    /// A label has at least one character.
     EmptyLabel = 28,
     /// A label has at most 63 octets.
     LabelTooLong = 8,
     /// A name has at most 255 octets.
     NameTooLong = 7,
-    /// A label begins with a letter, a digit, `_` or `*`, and goes on with letters, digits, `_` and `-`; other dots in it
-    /// are escaped.
+    /// A label begins with a letter, a digit, `_` or `*`, and goes on with letters, digits, `_` and `-`. A dot in it is
+    /// escaped.
     Character = 19,
-    /// An escape of digits has three, from 0 to 7.
+    /// An escape of digits has three digits from 0 to 7.
     Digit = 29,
-    /// An escape is whole before the text ends.
+    /// The text does not end within an escape.
     UnfinishedEscape = 18,
 }
 
@@ -342,13 +341,13 @@ impl TextRule {
         TextRule::UnfinishedEscape,
     ];
 
-    /// The rule with a number of `dns_names_wire.h`, if there is one.
+    /// Returns the rule with a number of `dns_names_wire.h`, if there is one.
     pub(crate) fn from_number(number: u32) -> Option<Self> {
         Self::ALL.into_iter().find(|rule| *rule as u32 == number)
     }
 }
 
-/// A part of a message (RFC 1035, section 4.1). One of its items is shown as a word.
+/// A section of a message (RFC 1035, section 4.1). It is printed as the word for one of its items.
 ///
 /// ```
 /// assert_eq!(dns_names_wire::Section::Authorities.to_string(), "authority");
@@ -357,18 +356,18 @@ impl TextRule {
 pub enum Section {
     /// The header.
     Header,
-    /// The questions.
+    /// The Question section.
     Questions,
-    /// The records that answer.
+    /// The Answer section.
     Answers,
-    /// The records that lead to an authority.
+    /// The Authority section.
     Authorities,
-    /// The records that help.
+    /// The Additional section.
     Additionals,
 }
 
 impl Section {
-    /// The section with a number of `dns_names_wire.h`.
+    /// Returns the section with a number of `dns_names_wire.h`.
     pub(crate) fn from_number(number: u32) -> Self {
         match number {
             1 => Section::Questions,
@@ -392,7 +391,7 @@ impl fmt::Display for Section {
     }
 }
 
-/// Shows the C library's text for a number.
+/// Prints the C library's text for a number.
 fn show(number: u32, f: &mut fmt::Formatter<'_>) -> fmt::Result {
     let mut room = [0; door::ERROR_TEXT_SIZE];
     match door::error_text(number, &mut room) {
@@ -433,11 +432,11 @@ impl fmt::Display for TextRule {
     }
 }
 
-/// It has no source: the C library reports no more than the kind.
+/// It has no source, since the C library reports only the kind.
 #[cfg(feature = "std")]
 impl std::error::Error for Error {}
 
-/// An error of kind `InvalidData`, or `OutOfMemory` for `NoMemory`, from which this one can be had back.
+/// Returns an error of kind `InvalidData`, or `OutOfMemory` for `NoMemory`, with this error inside.
 ///
 /// ```
 /// let error: std::io::Error = dns_names_wire::Name::read(b"", 0).unwrap_err().into();

@@ -8,7 +8,7 @@ use crate::{Ipv4Addr, Ipv6Addr};
 use alloc::vec::Vec;
 use core::iter::FusedIterator;
 
-/// A field of the data of a record. All but the set of types is borrowed from the message.
+/// A field of the data of a record. All but `Types` borrow from the message.
 #[derive(Clone, Debug, PartialEq, Eq)]
 #[non_exhaustive]
 pub enum Field<'a> {
@@ -24,23 +24,24 @@ pub enum Field<'a> {
     Type(RecordType),
     /// A time, in seconds since 1970, as a serial number (RFC 4034, section 3.1.5).
     Time(u32),
-    /// A text: a character string without its length octet (RFC 1035, section 3.3), or the rest of the data if that is a text.
+    /// A text: a character string without its length octet (RFC 1035, section 3.3), or the rest of the data if that is
+    /// text.
     Text(&'a [u8]),
     /// Other octets.
     Octets(&'a [u8]),
-    /// Character strings up to the end.
+    /// Character strings up to the end of the data.
     Texts(Texts<'a>),
-    /// Record types, as a bitmap lists them (RFC 4034, section 4.1.2).
+    /// A type bitmap (RFC 4034, section 4.1.2).
     Types(TypeSet),
     /// Service parameters, each a key and its value (RFC 9460, section 2.2).
     Params(Pairs<'a>),
 }
 
-/// The fields of the data of a record, one after another. See [`Record::fields`](crate::Record::fields).
+/// An iterator over the fields of the data of a record. See [`Record::fields`](crate::Record::fields).
 ///
-/// An item may be an error, after which nothing follows: as [`NameRef::read`] if the field should be a name and is none;
-/// `MessageCut` if the data end within the field; `WrongDataLength` if octets are left after the last field; `BadBitmap` or
-/// `BadParams` if the types or the parameters are out of order; or `NoMemory` for a set of types.
+/// It ends after an error: one of [`NameRef::read`] if the field should be a name; `MessageCut` if the data end within
+/// the field; `WrongDataLength` if octets are left after the last field; `BadBitmap` or `BadParams` if a type bitmap or
+/// service parameters are not valid; or `NoMemory` for a type bitmap.
 ///
 /// ```
 /// use dns_names_wire::{ErrorKind, Record};
@@ -52,7 +53,7 @@ pub enum Field<'a> {
 /// ```
 #[derive(Clone, Debug)]
 pub struct Fields<'a> {
-    /// the message up to where the data end
+    /// the message up to the end of the data
     message: &'a [u8],
     record_type: RecordType,
     next: door::Fields,
@@ -85,7 +86,7 @@ impl<'a> Fields<'a> {
     }
 }
 
-/// One field after another, each of a kind that the table of the type has at its place. See [`RData`](crate::RData).
+/// Reads one field after another, each of the kind that the type has there. See [`RData`](crate::RData).
 impl<'a> Fields<'a> {
     /// Reads the next field, and returns where it is.
     #[inline]
@@ -102,7 +103,7 @@ impl<'a> Fields<'a> {
         Ok(&self.message[field.offset..field.offset + field.len])
     }
 
-    /// Reads a field of so many octets, which needs no call.
+    /// Reads a field of `N` octets, without a call of the C library.
     #[inline]
     fn array<const N: usize>(&mut self) -> Result<[u8; N], Error> {
         let octets = self.message.get(self.next.offset..).and_then(|left| left.get(..N));
@@ -195,19 +196,19 @@ impl<'a> Fields<'a> {
     }
 }
 
-/// Appends a field of a kind, as [`Fields`] reads it.
+/// Appends a field, in the form that [`Fields`] reads.
 pub(crate) mod put {
     use super::{Error, ErrorKind, Ipv4Addr, Ipv6Addr, NameRef, Pairs, RecordType, Texts, TypeSet, Vec};
 
     type Put = Result<(), Error>;
 
-    /// Appends octets that the library checks when the message is packed.
+    /// Appends octets, which the C library checks when the message is packed.
     pub(crate) fn rest(octets: &mut Vec<u8>, value: &[u8]) -> Put {
         octets.extend_from_slice(value);
         Ok(())
     }
 
-    /// Appends octets after their number, which is one octet.
+    /// Appends a length octet and octets.
     pub(crate) fn string(octets: &mut Vec<u8>, value: &[u8]) -> Put {
         octets.push(u8::try_from(value.len()).map_err(|_| Error::from(ErrorKind::DataTooLong))?);
         rest(octets, value)
@@ -267,12 +268,12 @@ pub(crate) mod put {
     }
 }
 
-/// The number that octets are, the highest first.
+/// Returns the number in octets, the highest octet first.
 fn number(octets: &[u8]) -> u64 {
     octets.iter().fold(0, |number, octet| number << 8 | u64::from(*octet))
 }
 
-/// Octets of an address, which are as many.
+/// Returns octets as an array of their length.
 fn array<const N: usize>(octets: &[u8], offset: usize) -> Result<[u8; N], Error> {
     octets.try_into().map_err(|_| Error::from(ErrorKind::MessageCut).at_offset(offset))
 }
@@ -309,11 +310,11 @@ impl FusedIterator for Fields<'_> {}
 pub struct Texts<'a>(&'a [u8]);
 
 impl<'a> Texts<'a> {
-    /// Returns the character strings that octets are, each after its length octet.
+    /// Returns the character strings in octets, where each has a length octet before it.
     ///
     /// # Errors
     ///
-    /// `MessageCut` if the last one is not all there, or there is none.
+    /// `MessageCut` if the last one is cut, or there is none.
     ///
     /// ```
     /// use dns_names_wire::Texts;
@@ -333,7 +334,7 @@ impl<'a> Texts<'a> {
         }
     }
 
-    /// Returns the octets of some texts, each after its length octet, of which [`Texts::from_wire`] makes texts again.
+    /// Returns the octets of texts, each with a length octet before it. They round-trip through [`Texts::from_wire`].
     ///
     /// # Errors
     ///
@@ -368,7 +369,8 @@ impl<'a> Iterator for Texts<'a> {
 
 impl FusedIterator for Texts<'_> {}
 
-/// Numbers with octets: service parameters, each a key and its value, or options of EDNS, each a code and its octets.
+/// Pairs of a number and octets: service parameters, each a key and its value, or EDNS options, each a code and its
+/// octets.
 ///
 /// ```
 /// use dns_names_wire::{Field, Record};
@@ -385,11 +387,11 @@ impl FusedIterator for Texts<'_> {}
 pub struct Pairs<'a>(pub(crate) &'a [u8]);
 
 impl<'a> Pairs<'a> {
-    /// Returns the pairs that octets are: each two octets of number, two of length, and as many octets as that.
+    /// Returns the pairs in octets. Each is two octets of number, two of length, and as many octets as that.
     ///
     /// # Errors
     ///
-    /// `MessageCut` if the last one is not all there.
+    /// `MessageCut` if the last one is cut.
     ///
     /// ```
     /// use dns_names_wire::Pairs;
@@ -409,7 +411,7 @@ impl<'a> Pairs<'a> {
         Ok(Pairs(octets))
     }
 
-    /// Returns the octets of some pairs, of which [`Pairs::from_wire`] makes pairs again.
+    /// Returns the octets of pairs. They round-trip through [`Pairs::from_wire`].
     ///
     /// # Errors
     ///

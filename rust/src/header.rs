@@ -1,7 +1,7 @@
 //! The headers of messages, and the codes in them.
 use core::fmt;
 
-/// A code of a header: an enum with names, and a variant for what has none.
+/// Defines an enum for a code of a header, with a variant for codes without a name.
 macro_rules! codes {
     ($(#[$doc:meta])* $code:ident($number:ty) { $($(#[$variant_doc:meta])* $name:ident = $value:literal $text:literal,)* }) => {
         $(#[$doc])*
@@ -31,7 +31,7 @@ macro_rules! codes {
             }
         }
 
-        /// As `dig` shows it; a code without a name is `RESERVED` and its number.
+        /// Prints the code as `dig` does. A code without a name is `RESERVED` and its number.
         impl fmt::Display for $code {
             fn fmt(&self, f: &mut fmt::Formatter<'_>) -> fmt::Result {
                 match self {
@@ -44,7 +44,7 @@ macro_rules! codes {
 }
 
 codes! {
-    /// What a message is for, of four bits (RFC 1035, section 4.1.1).
+    /// The operation code of a message, four bits (RFC 1035, section 4.1.1).
     ///
     /// ```
     /// use dns_names_wire::OpCode;
@@ -53,21 +53,22 @@ codes! {
     /// assert_eq!((OpCode::Query.to_string(), OpCode::from(7).to_string()), ("QUERY".into(), "RESERVED7".into()));
     /// ```
     OpCode(u8) {
-        /// A question (RFC 1035, section 4.1.1).
+        /// A standard query (RFC 1035, section 4.1.1).
         Query = 0 "QUERY",
-        /// An inverse question, which is obsolete (RFC 3425).
+        /// An inverse query, which is obsolete (RFC 3425).
         IQuery = 1 "IQUERY",
-        /// The status of a server (RFC 1035, section 4.1.1).
+        /// A request for the status of a server (RFC 1035, section 4.1.1).
         Status = 2 "STATUS",
         /// A zone has changed (RFC 1996).
         Notify = 4 "NOTIFY",
-        /// A zone is to be changed (RFC 2136).
+        /// A request to change a zone (RFC 2136).
         Update = 5 "UPDATE",
     }
 }
 
 codes! {
-    /// What became of a request, of four bits, or of twelve with EDNS (RFC 1035, section 4.1.1; RFC 6891, section 6.1.3).
+    /// The response code of a message, four bits, or twelve with EDNS (RFC 1035, section 4.1.1; RFC 6891, section
+    /// 6.1.3).
     ///
     /// ```
     /// use dns_names_wire::ResponseCode;
@@ -78,15 +79,15 @@ codes! {
     ResponseCode(u16) {
         /// No error (RFC 1035, section 4.1.1).
         NoError = 0 "NOERROR",
-        /// The request has no form that the server knows (RFC 1035, section 4.1.1).
+        /// The server could not interpret the request (RFC 1035, section 4.1.1).
         FormErr = 1 "FORMERR",
         /// The server failed (RFC 1035, section 4.1.1).
         ServFail = 2 "SERVFAIL",
         /// The name does not exist (RFC 1035, section 4.1.1).
         NXDomain = 3 "NXDOMAIN",
-        /// The server cannot do this kind of request (RFC 1035, section 4.1.1).
+        /// The server does not support this kind of request (RFC 1035, section 4.1.1).
         NotImp = 4 "NOTIMP",
-        /// The server will not do it (RFC 1035, section 4.1.1).
+        /// The server refuses the request (RFC 1035, section 4.1.1).
         Refused = 5 "REFUSED",
         /// A name exists that should not (RFC 2136, section 2.2).
         YXDomain = 6 "YXDOMAIN",
@@ -94,27 +95,28 @@ codes! {
         YXRRSet = 7 "YXRRSET",
         /// Records do not exist that should (RFC 2136, section 2.2).
         NXRRSet = 8 "NXRRSET",
-        /// The server is no authority, or the request is not authorized (RFC 2136, section 2.2; RFC 8945, section 5.2).
+        /// The server is not authoritative, or the request is not authorized (RFC 2136, section 2.2; RFC 8945, section
+        /// 5.2).
         NotAuth = 9 "NOTAUTH",
         /// A name is not in the zone (RFC 2136, section 2.2).
         NotZone = 10 "NOTZONE",
-        /// The type of the operation is not known (RFC 8490, section 10.2).
+        /// The server does not support the DSO type (RFC 8490, section 10.2).
         DsoTypeNI = 11 "DSOTYPENI",
-        /// A version of EDNS that the server does not know (RFC 6891, section 9).
+        /// The server does not support the EDNS version (RFC 6891, section 9).
         BADVERS = 16 "BADVERS",
-        /// A key that is not known (RFC 8945, section 3).
+        /// The key is not known (RFC 8945, section 3).
         BADKEY = 17 "BADKEY",
-        /// A signature that is out of its time (RFC 8945, section 3).
+        /// The time of the signature is out of range (RFC 8945, section 3).
         BADTIME = 18 "BADTIME",
-        /// A mode of TKEY that is not known (RFC 2930, section 2.6).
+        /// The mode of TKEY is not known (RFC 2930, section 2.6).
         BADMODE = 19 "BADMODE",
-        /// A name of a key that is there already (RFC 2930, section 2.6).
+        /// The name of the key is taken (RFC 2930, section 2.6).
         BADNAME = 20 "BADNAME",
-        /// An algorithm that is not known (RFC 2930, section 2.6).
+        /// The algorithm is not known (RFC 2930, section 2.6).
         BADALG = 21 "BADALG",
-        /// A signature that was cut too short (RFC 8945, section 3).
+        /// The signature was truncated too much (RFC 8945, section 3).
         BADTRUNC = 22 "BADTRUNC",
-        /// A server's cookie that is bad or not there (RFC 7873, section 8).
+        /// The server cookie is bad or missing (RFC 7873, section 8).
         BADCOOKIE = 23 "BADCOOKIE",
     }
 }
@@ -132,33 +134,33 @@ codes! {
 #[derive(Clone, Copy, Debug, PartialEq, Eq, Hash)]
 #[non_exhaustive]
 pub struct Header {
-    /// The number by which a requester knows the response to its request.
+    /// The id of a request, which its response repeats.
     pub id: u16,
     /// QR: whether the message is a response.
     pub is_response: bool,
-    /// What the message is for.
+    /// The operation code.
     pub op_code: OpCode,
     /// AA: the server is an authority for the name of the question.
     pub authoritative: bool,
-    /// TC: the message was cut to the size that may be sent.
+    /// TC: the message was truncated to fit the maximum size.
     pub truncation: bool,
-    /// RD: the name server is to follow the query to other servers.
+    /// RD: the requester asks for recursion.
     pub recursion_desired: bool,
-    /// RA: the name server can do so.
+    /// RA: the server supports recursion.
     pub recursion_available: bool,
-    /// AD: the data are authentic by the rules of the server.
+    /// AD: the server considers the data authentic.
     pub authentic_data: bool,
-    /// CD: the requester checks the data itself.
+    /// CD: the requester verifies the data itself.
     pub checking_disabled: bool,
-    /// The low four bits of the response code; [`Message::response_code`](crate::Message::response_code) has the others too.
+    /// The low four bits of the response code. [`Message::response_code`](crate::Message::response_code) has all bits.
     pub response_code: ResponseCode,
-    /// How many questions there are.
+    /// The number of questions.
     pub question_count: u16,
-    /// How many records answer.
+    /// The number of records in the Answer section.
     pub answer_count: u16,
-    /// How many records lead to an authority.
+    /// The number of records in the Authority section.
     pub authority_count: u16,
-    /// How many records help, with an OPT record.
+    /// The number of records in the Additional section, including an OPT record.
     pub additional_count: u16,
 }
 
@@ -184,7 +186,7 @@ impl Default for Header {
 }
 
 impl Header {
-    /// The octets before the counts.
+    /// Returns the octets before the counts.
     pub(crate) fn first_octets(&self) -> [u8; 4] {
         let [id_high, id_low] = self.id.to_be_bytes();
         let bit = |is_set: bool, at: u8| u8::from(is_set) << at;
@@ -200,7 +202,7 @@ impl Header {
         [id_high, id_low, high, low]
     }
 
-    /// The flags by the names that `dig` shows, in the order of their bits.
+    /// Returns the flags by the names that `dig` prints, in the order of their bits.
     pub(crate) fn flags(&self) -> [(&'static str, bool); 7] {
         [
             ("qr", self.is_response),

@@ -1,9 +1,9 @@
-//! The lowest layer of DNS: domain names, the records of messages, and record types and classes are read and written, and the
-//! tokens of master files are read, by a library whose every function is proved.
+//! Bindings to a proved library that reads and writes DNS names, records and messages, and reads master files.
 //!
-//! The library is the static archive of the C library of `dns-names-wire`. Its reader accepts exactly the names of RFC
-//! 1035, section 4.1.4, and no input makes it read outside the message, loop or panic. This crate gives it Rust's types. The
-//! crate itself is not proved: it is small, has no dependency, and its only `unsafe` is in the module of the declarations.
+//! The library is the static archive of the C library of `dns-names-wire`, whose every function is proved. Its reader
+//! accepts exactly the names of RFC 1035, section 4.1.4, and no input makes it read outside the message, loop or panic.
+//! This crate itself is not proved: it is small, has no dependency, and its only `unsafe` is in the module of the C
+//! declarations.
 //!
 //! ```
 //! use dns_names_wire::{Error, Name};
@@ -18,29 +18,29 @@
 //!
 //! | to | use |
 //! |---|---|
-//! | read a name of a message, a text or a wire form | [`Name::read`], [`Name::from_ascii`] or `str::parse`, [`Name::from_wire`] |
-//! | pass over names, or walk their labels, without copying them | [`NameRef`], [`names()`] |
-//! | make names of names and labels | [`Name::from_labels`], [`Name::append`], [`Name::prepend_label`], [`Name::base_name`], [`Name::trim_to`], [`Name::to_wildcard`] |
+//! | read a name from a message, a text or a wire form | [`Name::read`], [`Name::from_ascii`] or `str::parse`, [`Name::from_wire`] |
+//! | skip names, or iterate over their labels, without a copy | [`NameRef`], [`names()`] |
+//! | make names from names and labels | [`Name::from_labels`], [`Name::append`], [`Name::prepend_label`], [`Name::base_name`], [`Name::trim_to`], [`Name::to_wildcard`] |
 //! | print, compare, sort, hash | `Display`, `Ord`, `Hash`, [`sort_names`], [`Name::sort_key`], [`Name::zone_of`], [`Name::to_lowercase`] |
 //! | check a whole message, and read its header, its sections and its EDNS | [`Message`] |
 //! | read the records of a message, and their data by type or field by field | [`Record`], [`records()`], [`Record::data`] and [`RData`], [`Record::fields`] |
-//! | show records as lines of master files, and messages as `dig` does | `Display` of [`Record`] and [`Message`] |
+//! | print records as lines of master files, and messages as `dig` does | `Display` of [`Record`] and [`Message`] |
 //! | build queries and replies, section by section, and write them within a size | [`MessageBuilder`] |
-//! | make records of data by type, or parse them from lines of master files | [`RecordBuf`] |
-//! | test signatures, or make them | [`Record::signed_octets`] |
+//! | make records from data by type, or parse them from lines of master files | [`RecordBuf`] |
+//! | verify signatures, or make them | [`Record::signed_octets`] |
 //! | write any list of names, questions, records and bytes, with compression | [`MessageWriter`] |
-//! | go from addresses to their reverse names, and back | [`Name::from_ip`], [`Name::parse_arpa_name`] |
-//! | name types and classes, read and write bitmaps of types, compare serial numbers | [`RecordType`], [`Class`], [`TypeSet`], [`SerialNumber`] |
+//! | convert addresses to reverse names, and back | [`Name::from_ip`], [`Name::parse_arpa_name`] |
+//! | name types and classes, read and write type bitmaps, compare serial numbers | [`RecordType`], [`Class`], [`TypeSet`], [`SerialNumber`] |
 //! | read master files | [`tokens`](tokens()), [`parse_ttl`] |
 //!
-//! Values may be sent to and shared by threads. Calls fail with an [`Error`], which says what is wrong and
-//! where, and never panic on input.
+//! All types are `Send` and `Sync`. A call that fails returns an [`Error`], which has what is wrong and where. No input
+//! makes a call panic.
 //!
-//! Without its feature `std`, which is on by default, the crate needs only `core`, `alloc`, Rust 1.77 and the system's C library,
-//! and has neither reverse names nor the traits of errors.
+//! The feature `std` is on by default. Without it, the crate needs Rust 1.77, `core`, `alloc` and the system's C
+//! library, and has no reverse names and no error traits.
 //!
-//! Cargo finds the archive as `build.rs` says: in the folder that the environment variable `DNW_LIB_DIR` names, or in `lib`
-//! of this crate. In a checkout of the repository it is built if the Rattle toolchain is there.
+//! `build.rs` takes the archive from the folder that the environment variable `DNW_LIB_DIR` names, or from `lib` in
+//! this crate. In a checkout of the repository it builds the archive, if the Rattle toolchain is there.
 #![cfg_attr(not(feature = "std"), no_std)]
 #![deny(unsafe_code)]
 #![warn(missing_docs)]
@@ -86,7 +86,7 @@ pub use text::{parse_ttl, tokens, Token, Tokens};
 pub use type_set::TypeSet;
 pub use writer::MessageWriter;
 
-/// The program of the page is a test.
+/// Makes the program in the README a test.
 #[cfg(doctest)]
 #[doc = include_str!("../README.md")]
 struct Page;

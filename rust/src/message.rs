@@ -10,16 +10,16 @@ use alloc::vec::Vec;
 use core::fmt;
 use core::iter::FusedIterator;
 
-/// How many compression pointers the names of a message may follow in all, if no other number is given.
+/// How many compression pointers the names of a message may follow in total, by default.
 const MAX_POINTERS: usize = 65536;
 
 /// The octets of a header (RFC 1035, section 4.1.1).
 pub(crate) const HEADER_SIZE: usize = 12;
-/// Of which the last are the counts.
+/// The octets of the counts, at the end of the header.
 pub(crate) const COUNTS_SIZE: usize = 8;
 
-/// A message that was checked as a whole (RFC 1035, section 4): its header, its questions and its records are all there. It
-/// borrows the octets that it was read from.
+/// A message that was checked as a whole (RFC 1035, section 4): its header, its questions and its records are all
+/// there. It borrows the octets that it was read from.
 ///
 /// ```
 /// use dns_names_wire::{Field, Message, RecordType};
@@ -45,13 +45,14 @@ pub struct Message<'a> {
 }
 
 impl<'a> Message<'a> {
-    /// Reads the message at the start of these octets, whatever follows it. The data of records are not looked into.
+    /// Reads the message at the start of these octets. More octets may follow. The data of records are not checked.
     ///
     /// # Errors
     ///
-    /// The error of the first question or record that is not there, which [`Error::section`], [`Error::item`] and
-    /// [`Error::offset`] name: as [`Name::read`](crate::Name::read) if its name is none, `MessageCut` if the octets end within
-    /// it or within the header, and `TooManyPointers` if the names up to it follow more than 65,536 compression pointers.
+    /// The error of the first question or record that is wrong; [`Error::section`], [`Error::item`] and
+    /// [`Error::offset`] return which it is. The errors are those of [`Name::read`](crate::Name::read) for its name,
+    /// `MessageCut` if the octets end within it or within the header, and `TooManyPointers` if the names up to it
+    /// follow more than 65,536 compression pointers in total.
     ///
     /// ```
     /// use dns_names_wire::{ErrorKind, Message, Section};
@@ -63,11 +64,12 @@ impl<'a> Message<'a> {
         Message::read_limited(octets, MAX_POINTERS)
     }
 
-    /// Reads as [`read`](Message::read) does, if the names follow no more than `max_pointers` compression pointers in all.
+    /// Reads as [`read`](Message::read) does, with `max_pointers` as the most compression pointers that the names may
+    /// follow in total.
     ///
     /// # Errors
     ///
-    /// As [`read`](Message::read).
+    /// The errors of [`read`](Message::read).
     ///
     /// ```
     /// use dns_names_wire::{ErrorKind, Message};
@@ -108,7 +110,7 @@ impl<'a> Message<'a> {
         }
     }
 
-    /// Returns the questions, one after another.
+    /// Returns an iterator over the questions.
     ///
     /// ```
     /// let message = dns_names_wire::Message::read(b"\0\0\0\0\0\x01\0\0\0\0\0\0\0\0\x02\0\x01")?;
@@ -119,7 +121,7 @@ impl<'a> Message<'a> {
         Questions { message: self.octets, offset: HEADER_SIZE, left: self.read.question_count }
     }
 
-    /// Returns the records that answer, one after another.
+    /// Returns an iterator over the records of the Answer section.
     ///
     /// ```
     /// let message = dns_names_wire::Message::read(b"\0\0\0\0\0\0\0\0\0\0\0\0")?;
@@ -130,7 +132,7 @@ impl<'a> Message<'a> {
         self.records_from(self.read.answers, self.read.answer_count)
     }
 
-    /// Returns the records that lead to an authority, one after another.
+    /// Returns an iterator over the records of the Authority section.
     ///
     /// ```
     /// let message = dns_names_wire::Message::read(b"\0\0\0\0\0\0\0\0\0\0\0\0")?;
@@ -141,7 +143,7 @@ impl<'a> Message<'a> {
         self.records_from(self.read.authorities, self.read.authority_count)
     }
 
-    /// Returns the records that help, one after another. An OPT record is among them.
+    /// Returns an iterator over the records of the Additional section. An OPT record is among them.
     ///
     /// ```
     /// let message = dns_names_wire::Message::read(b"\0\0\0\0\0\0\0\0\0\0\0\0")?;
@@ -156,12 +158,13 @@ impl<'a> Message<'a> {
         SectionRecords { message: self.octets, offset, left }
     }
 
-    /// Returns what the message says by EDNS, or `None` without an OPT record (RFC 6891).
+    /// Returns the EDNS fields of the message, or `None` if it has no OPT record (RFC 6891).
     ///
     /// # Errors
     ///
-    /// `OutsideAdditionals` if an OPT record is among the answers or the authorities; `DuplicateEdns` if there are two or more;
-    /// `OwnerNotRoot` if the only one is not owned by the root; and `CutOption` if its data are not options up to their end.
+    /// `OutsideAdditionals` if an OPT record is in the Answer or Authority section; `DuplicateEdns` if there are two or
+    /// more; `OwnerNotRoot` if the owner of the only one is not the root; and `CutOption` if its data end within an
+    /// option.
     ///
     /// ```
     /// use dns_names_wire::Message;
@@ -186,7 +189,7 @@ impl<'a> Message<'a> {
         }))
     }
 
-    /// What is said by EDNS, and the offset of the options; nothing without an OPT record.
+    /// Returns the EDNS fields and the offset of the options, or `None` if there is no OPT record.
     fn read_edns(&self) -> Result<Option<(door::Edns, usize)>, Error> {
         let is_opt = |record: &Record| record.record_type() == RecordType::OPT;
         let is_outside = self.answers().chain(self.authorities()).any(|record| is_opt(&record));
@@ -199,7 +202,7 @@ impl<'a> Message<'a> {
                 return Ok(Some((read.clone(), read.options_offset)));
             }
         };
-        // The record alone, after a header, says the same, so that the whole message is not read again.
+        // The record alone, after a header, has the same fields, so the whole message is not read again.
         let (start, mut alone) = (opt.owner().start(), Vec::new());
         alone.extend_from_slice(&self.octets[..HEADER_SIZE]);
         alone[HEADER_SIZE - COUNTS_SIZE..].copy_from_slice(&[0, 0, 0, 0, 0, 0, 0, 1]);
@@ -208,11 +211,11 @@ impl<'a> Message<'a> {
         Ok(Some((read, opt.data_offset())))
     }
 
-    /// Returns the response code, with the high bits that EDNS has (RFC 6891, section 6.1.3).
+    /// Returns the response code, with the high bits from the OPT record (RFC 6891, section 6.1.3).
     ///
     /// # Errors
     ///
-    /// As [`edns`](Message::edns).
+    /// The errors of [`edns`](Message::edns).
     ///
     /// ```
     /// use dns_names_wire::{Message, ResponseCode};
@@ -225,8 +228,8 @@ impl<'a> Message<'a> {
         Ok(self.read_edns()?.map_or(self.read.response_code, |(read, _)| read.response_code).into())
     }
 
-    /// Returns whether the message is a response with the id, the operation and the questions of a request, of which names are
-    /// compared without case (RFC 5452, section 9.1).
+    /// Returns whether the message is a response with the id, the operation code and the questions of a request (RFC
+    /// 5452, section 9.1). Names are compared ignoring case.
     ///
     /// ```
     /// use dns_names_wire::{Message, MessageBuilder, Name, RecordType};
@@ -244,14 +247,16 @@ impl<'a> Message<'a> {
             && self.questions().eq(request.questions())
     }
 
-    /// Returns the message written again: compressed, in at most `max_size` octets, with the OPT record last. Of the questions and
-    /// records each is written that has room; if an answer or an authority has none, TC is set (RFC 2181, section 9).
+    /// Returns the message written again: compressed, in at most `max_size` octets, with the OPT record last. Questions
+    /// and records that do not fit are left out. TC is set if a record of the Answer or Authority section is left out
+    /// (RFC 2181, section 9).
     ///
     /// # Errors
     ///
-    /// As [`edns`](Message::edns); as [`Record::fields`] if the data of a record are no fields of its type; `MessageTooLong` if the
-    /// header and the OPT record have more than `max_size` octets; `TooManyPointers` if the names follow more than 65,536
-    /// compression pointers, which [`read_limited`](Message::read_limited) may have allowed; or `NoMemory`.
+    /// The errors of [`edns`](Message::edns); those of [`Record::fields`] if the data of a record are not valid;
+    /// `MessageTooLong` if the header and the OPT record have more than `max_size` octets; `TooManyPointers` if the
+    /// names follow more than 65,536 compression pointers, which [`read_limited`](Message::read_limited) may have
+    /// allowed; or `NoMemory`.
     ///
     /// ```
     /// let octets = b"\0\0\x84\0\0\x01\0\x01\0\0\0\0\x01b\0\0\x05\0\x01\x01b\0\0\x05\0\x01\0\0\0\0\0\x05\x01a\x01b\0";
@@ -266,7 +271,7 @@ impl<'a> Message<'a> {
         Ok(packed)
     }
 
-    /// Returns the octets of the message, without those after it.
+    /// Returns the octets of the message, without those that follow it.
     ///
     /// ```
     /// let message = dns_names_wire::Message::read(b"\0\0\0\0\0\0\0\0\0\0\0\0and more")?;
@@ -277,7 +282,7 @@ impl<'a> Message<'a> {
         &self.octets[..self.read.end]
     }
 
-    /// Returns the octets after the message, if it was read from more.
+    /// Returns the octets that follow the message.
     ///
     /// ```
     /// assert!(dns_names_wire::Message::read(b"\0\0\0\0\0\0\0\0\0\0\0\0")?.trailing().is_empty());
@@ -288,7 +293,7 @@ impl<'a> Message<'a> {
     }
 }
 
-/// As `dig` prints it: the header, what is said by EDNS, the questions, and the records of each section.
+/// Prints the message as `dig` does: the header, the EDNS fields, the questions, and the records of each section.
 ///
 /// ```
 /// use dns_names_wire::Message;
@@ -345,7 +350,7 @@ impl fmt::Debug for Message<'_> {
     }
 }
 
-/// A question (RFC 1035, section 4.1.2). It is shown as its name, its class and its type, with tabs between.
+/// A question (RFC 1035, section 4.1.2). It is printed as its name, its class and its type, with tabs between them.
 #[derive(Clone, Copy, Debug, PartialEq, Eq)]
 #[non_exhaustive]
 pub struct Question<'a> {
@@ -363,7 +368,7 @@ impl fmt::Display for Question<'_> {
     }
 }
 
-/// The questions of a message, one after another. See [`Message::questions`].
+/// An iterator over the questions of a message. See [`Message::questions`].
 #[derive(Clone, Debug)]
 pub struct Questions<'a> {
     message: &'a [u8],
@@ -376,7 +381,7 @@ impl<'a> Iterator for Questions<'a> {
 
     fn next(&mut self) -> Option<Question<'a>> {
         self.left = self.left.checked_sub(1)?;
-        // The message was checked, so that nothing is missing here.
+        // The message was checked, so nothing is missing here.
         let (end, _) = pass_name(self.message, self.offset)?;
         let name = NameRef::checked(self.message, self.offset, end);
         let fields = self.message.get(name.end()..name.end() + 4)?;
@@ -394,7 +399,7 @@ impl ExactSizeIterator for Questions<'_> {}
 
 impl FusedIterator for Questions<'_> {}
 
-/// The records of a section of a message, one after another. See [`Message::answers`].
+/// An iterator over the records of a section of a message. See [`Message::answers`].
 #[derive(Clone, Debug)]
 pub struct SectionRecords<'a> {
     message: &'a [u8],
@@ -407,7 +412,7 @@ impl<'a> Iterator for SectionRecords<'a> {
 
     fn next(&mut self) -> Option<Record<'a>> {
         self.left = self.left.checked_sub(1)?;
-        // The message was checked, so that nothing is missing here.
+        // The message was checked, so nothing is missing here.
         let record = Record::checked(self.message, self.offset)?;
         self.offset = record.end();
         Some(record)
@@ -422,11 +427,11 @@ impl ExactSizeIterator for SectionRecords<'_> {}
 
 impl FusedIterator for SectionRecords<'_> {}
 
-/// What a message says by EDNS (RFC 6891, section 6.1). See [`Message::edns`].
+/// The EDNS fields of a message (RFC 6891, section 6.1). See [`Message::edns`].
 #[derive(Clone, Copy, Debug, PartialEq, Eq)]
 #[non_exhaustive]
 pub struct Edns<'a> {
-    /// The octets of the largest message that the sender accepts, at least 512.
+    /// The size of the largest message that the sender accepts, at least 512 octets.
     pub max_payload: u16,
     /// The version: 0 for RFC 6891.
     pub version: u8,
@@ -436,7 +441,8 @@ pub struct Edns<'a> {
 }
 
 impl<'a> Edns<'a> {
-    /// Returns what a sender says who accepts messages of so many octets: version 0, not DO, and no options.
+    /// Returns the EDNS fields of a sender that accepts messages of `max_payload` octets: version 0, DO not set, and no
+    /// options.
     ///
     /// ```
     /// use dns_names_wire::Edns;
@@ -449,7 +455,7 @@ impl<'a> Edns<'a> {
         Edns { max_payload, version: 0, dnssec_ok: false, options: &[] }
     }
 
-    /// Returns the same with these options, each a code and its octets, in place of others.
+    /// Returns the same fields with these options in place of the former ones. Each is a code and its octets.
     ///
     /// ```
     /// use dns_names_wire::{Edns, Pairs};
@@ -463,7 +469,7 @@ impl<'a> Edns<'a> {
         Edns { options: options.0, ..self }
     }
 
-    /// Returns the options, each its code and its octets.
+    /// Returns the options, each a code and its octets.
     ///
     /// ```
     /// let message = dns_names_wire::Message::read(b"\0\0\0\0\0\0\0\0\0\0\0\x01\0\0\x29\x02\0\0\0\0\0\0\0")?;

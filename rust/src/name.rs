@@ -11,9 +11,9 @@ use std::net::IpAddr;
 
 /// A domain name: at most 255 octets of wire form (RFC 1035, section 3.1), and whether it is fully qualified.
 ///
-/// It keeps its wire form in place, so that no call here allocates but those that make a text. Case is kept, and ignored
-/// when names are compared, ordered and hashed (RFC 4343). The order is canonical (RFC 4034, section 6.1), after all names
-/// that are not fully qualified.
+/// The wire form is stored inline, so a name does not allocate. Case is kept, and is ignored when names are compared,
+/// ordered and hashed (RFC 4343). The order is canonical (RFC 4034, section 6.1); names that are not fully qualified
+/// are before all others.
 ///
 /// ```
 /// use dns_names_wire::Name;
@@ -34,7 +34,7 @@ pub struct Name {
     is_fqdn: bool,
 }
 
-/// Why `expect` holds: only the C library makes a `Name`, other than the root.
+/// Why `expect` never fails: every `Name` but the empty ones was made by the C library.
 const VALID: &str = "the wire form of a name";
 
 impl Name {
@@ -47,7 +47,7 @@ impl Name {
         Name { form: [0; FORM_SIZE], len: 1, is_fqdn: false }
     }
 
-    /// Returns the root: no labels, fully qualified.
+    /// Returns the root, which has no labels and is fully qualified.
     ///
     /// ```
     /// assert_eq!(dns_names_wire::Name::root().to_string(), ".");
@@ -56,12 +56,13 @@ impl Name {
         Name { is_fqdn: true, ..Name::new() }
     }
 
-    /// The fully qualified name with a wire form that the C library has put.
+    /// Returns the fully qualified name with a wire form from the C library.
     pub(crate) fn of_form(form: [u8; FORM_SIZE], len: usize) -> Self {
         Name { form, len: len as u8, is_fqdn: true }
     }
 
-    /// Returns the reverse name of an address, under which its PTR records are (RFC 1035, section 3.5; RFC 3596, section 2.5).
+    /// Returns the reverse name of an address, which owns its PTR records (RFC 1035, section 3.5; RFC 3596, section
+    /// 2.5).
     ///
     /// ```
     /// use std::net::Ipv4Addr;
@@ -79,13 +80,13 @@ impl Name {
         Name::of_form(form, len.expect("an address of 4 or 16 bytes"))
     }
 
-    /// Reads the name at an offset of a message, following compression pointers (RFC 1035, section 4.1.4). Returns it and
-    /// the offset after its own octets.
+    /// Reads the name at an offset of a message, following compression pointers (RFC 1035, section 4.1.4). Returns it
+    /// and the offset after its own octets.
     ///
     /// # Errors
     ///
     /// `MessageCut` (also if `start` is past the message), `PointerNotBack`, `ReservedOctet`, `SegmentsOverlap` or
-    /// `NameTooLong` if there is no name.
+    /// `NameTooLong` if no valid name is there.
     ///
     /// ```
     /// use dns_names_wire::{Error, ErrorKind, Name};
@@ -104,12 +105,12 @@ impl Name {
         Ok((Name::of_form(form, read.len), read.end))
     }
 
-    /// Replaces this name by the one at an offset of a message, and returns the offset after that name's own octets. It is
-    /// [`Name::read`] without a new name: of many names, each can be read over the one before.
+    /// Replaces this name with the one at an offset of a message, and returns the offset after that name's own octets.
+    /// Use it in place of [`Name::read`] to read many names into one `Name`.
     ///
     /// # Errors
     ///
-    /// As [`Name::read`]; the name is then unchanged.
+    /// The errors of [`Name::read`]. The name is then unchanged.
     ///
     /// ```
     /// use dns_names_wire::{Error, ErrorKind, Name};
@@ -131,11 +132,11 @@ impl Name {
         Ok(read.end)
     }
 
-    /// Returns the fully qualified name whose wire form this is, compressed or not: the name at offset 0, if it is all there is.
+    /// Returns the fully qualified name with this wire form: the name at offset 0, up to the end. It may be compressed.
     ///
     /// # Errors
     ///
-    /// As [`Name::read`], and `BytesLeft` if bytes follow after it.
+    /// The errors of [`Name::read`], and `BytesLeft` if bytes follow the name.
     ///
     /// ```
     /// use dns_names_wire::{Error, ErrorKind, Name};
@@ -151,14 +152,15 @@ impl Name {
         }
     }
 
-    /// Returns the name with a text (RFC 1035, section 5.1): labels between dots, fully qualified if it ends in a dot.
-    /// A label has ASCII letters, digits, `_`, `-` if it does not begin with it, `*` if it begins with it, and dots that are
-    /// escaped, as `\\.` or in octal digits.
+    /// Parses a name (RFC 1035, section 5.1): labels with dots between them. It is fully qualified if it ends in a dot.
+    ///
+    /// A label has ASCII letters, digits, `_`, `-` except as its first character, `*` only as its first character, and
+    /// dots that are escaped, as `\\.` or in octal digits.
     ///
     /// # Errors
     ///
-    /// `BadText`, `LabelTooLong` or `NameTooLong` if it is the text of no name, with the offset and the rule; or `NoMemory` in
-    /// place of `BadText`.
+    /// `BadText`, `LabelTooLong` or `NameTooLong` if the text is not a name, with the offset and the rule; or
+    /// `NoMemory` in place of `BadText`.
     ///
     /// ```
     /// use dns_names_wire::{Error, Name};
@@ -177,9 +179,9 @@ impl Name {
         Ok(name)
     }
 
-    /// Returns where a text goes wrong and the rule that it breaks there, or `None` if it gives a name.
+    /// Returns where a text is wrong and the rule that it breaks there, or `None` if it is the text of a name.
     ///
-    /// What is before the offset is a name by itself, and no longer beginning of the text is one. An escape counts as one
+    /// The text before the offset is a name, and no longer prefix of the text is one. An escape counts as one
     /// character.
     ///
     /// ```
@@ -192,12 +194,12 @@ impl Name {
         door::text_fault(text)
     }
 
-    /// Returns the fully qualified name with some labels, each of any 1 to 63 octets.
+    /// Returns the fully qualified name with these labels, each of any 1 to 63 octets.
     ///
     /// # Errors
     ///
-    /// `BadText` if a label is empty, `LabelTooLong` if it has more than 63 octets, or `NameTooLong`: that of the first label
-    /// that does not fit.
+    /// `BadText` if a label is empty, `LabelTooLong` if it has more than 63 octets, or `NameTooLong`: the error of the
+    /// first label that does not fit.
     ///
     /// ```
     /// use dns_names_wire::{Error, ErrorKind, Name};
@@ -277,7 +279,7 @@ impl Name {
         self.as_wire().starts_with(b"\x01*")
     }
 
-    /// Returns the number of labels, without a `*` at the start, as the Labels field of an RRSIG record has it (RFC 4034,
+    /// Returns the number of labels, without a `*` at the start, as in the Labels field of an RRSIG record (RFC 4034,
     /// section 3.1.3). `labels().len()` is the number of all labels.
     ///
     /// ```
@@ -292,7 +294,7 @@ impl Name {
         (self.labels().len() - usize::from(self.is_wildcard())) as u8
     }
 
-    /// Returns the labels, from the first to the one before the root, or from the other end.
+    /// Returns an iterator over the labels, from the first to the one before the root, or from the other end.
     ///
     /// ```
     /// let name: dns_names_wire::Name = "www.example.com.".parse()?;
@@ -305,7 +307,8 @@ impl Name {
         Labels::new(self.as_wire(), 0)
     }
 
-    /// Returns whether `name` is in this zone: its last labels are those of the zone, ignoring case (RFC 1034, section 4.2).
+    /// Returns whether `name` is in this zone: its last labels are those of the zone, ignoring case (RFC 1034, section
+    /// 4.2).
     ///
     /// ```
     /// use dns_names_wire::Name;
@@ -319,7 +322,7 @@ impl Name {
         door::in_zone(name.as_wire(), self.as_wire()).expect(VALID)
     }
 
-    /// Returns whether the labels are equal, ignoring case, whether the names are fully qualified or not.
+    /// Returns whether the labels are equal, ignoring case and whether the names are fully qualified.
     ///
     /// ```
     /// use dns_names_wire::Name;
@@ -334,11 +337,11 @@ impl Name {
             && (self.as_wire() == other.as_wire() || door::equal(self.as_wire(), other.as_wire()).expect(VALID))
     }
 
-    /// Returns octets whose order, as bytes, is the canonical order of names (RFC 4034, section 6.1), at most 504. It has the
-    /// labels alone, whether the name is fully qualified or not.
+    /// Returns a key of at most 504 octets. The order of keys as bytes is the canonical order of names (RFC 4034,
+    /// section 6.1). The key does not depend on whether the name is fully qualified.
     ///
-    /// Keys are equal exactly if the labels are, ignoring case, and the keys of the names in a zone are those that begin with
-    /// the zone's key. A database that orders its keys by `memcmp` so keeps names in canonical order.
+    /// Keys are equal exactly if the labels are, ignoring case. The keys of the names in a zone are those that begin
+    /// with the zone's key. So a database that orders its keys by `memcmp` keeps names in canonical order.
     ///
     /// ```
     /// use dns_names_wire::Name;
@@ -367,7 +370,7 @@ impl Name {
         lowered
     }
 
-    /// Returns the name with the labels of another after its own, fully qualified if the other is.
+    /// Returns the name with the labels of another name after its own. It is fully qualified if the other is.
     ///
     /// # Errors
     ///
@@ -386,7 +389,7 @@ impl Name {
         Ok(name)
     }
 
-    /// Returns the name with a label, of any octets, before its own.
+    /// Returns the name with a label, of any octets, before its own labels.
     ///
     /// # Errors
     ///
@@ -404,7 +407,7 @@ impl Name {
         Ok(name)
     }
 
-    /// Returns the name of the last `labels` labels, or the whole name if it has fewer.
+    /// Returns the name with only the last `labels` labels, or the whole name if it has fewer.
     ///
     /// ```
     /// let name: dns_names_wire::Name = "www.example.com.".parse()?;
@@ -417,7 +420,7 @@ impl Name {
         name
     }
 
-    /// Returns the name without its first label: the name above it. A name without labels stays as it is.
+    /// Returns the name without its first label: its parent. A name without labels is unchanged.
     ///
     /// ```
     /// use dns_names_wire::Name;
@@ -430,7 +433,7 @@ impl Name {
         self.trim_to(self.labels().len().saturating_sub(1))
     }
 
-    /// Returns the name with `*` in place of its first label (RFC 4592, section 2.1.1). The root stays the root.
+    /// Returns the name with `*` in place of its first label (RFC 4592, section 2.1.1). The root is unchanged.
     ///
     /// ```
     /// use dns_names_wire::Name;
@@ -444,13 +447,13 @@ impl Name {
         name
     }
 
-    /// Returns the net that a reverse name stands for: its address, and how many of its first bits name the net. Of the
-    /// reverse name of an address these are all.
+    /// Returns the net of a reverse name: its address and the length of its prefix in bits. For the reverse name of an
+    /// address, the prefix is the whole address.
     ///
     /// # Errors
     ///
-    /// `NotReverse` if the name is none: if it is not fully qualified, or not below `in-addr.arpa.` or `ip6.arpa.`, or has a
-    /// label that is no octet in decimal or no hexadecimal digit, or more labels than an address.
+    /// `NotReverse` if the name is not fully qualified, is not below `in-addr.arpa.` or `ip6.arpa.`, has a label that
+    /// is not an octet in decimal or a hexadecimal digit, or has more labels than an address.
     ///
     /// ```
     /// use dns_names_wire::Name;
@@ -479,9 +482,10 @@ impl Name {
     }
 }
 
-/// Sorts names by one call of the C library: as `names.sort()` does, and faster for many names. So every name that is not
-/// fully qualified is before those that are, both in canonical order (RFC 4034, section 6.1), and names that are equal keep
-/// their order.
+/// Sorts names as `names.sort()` does, but in one call of the C library, which is faster for many names.
+///
+/// Names that are not fully qualified are before those that are, both in canonical order (RFC 4034, section 6.1). Equal
+/// names keep their order.
 ///
 /// ```
 /// use dns_names_wire::{sort_names, Name};
@@ -497,7 +501,7 @@ pub fn sort_names(names: &mut [Name]) {
     }
     let mut order = alloc::vec![0; names.len()];
     if door::names_sort(&forms, &mut order).is_err() {
-        // Its memory ran out: each name is read, and there is room for the numbers.
+        // It ran out of memory: the names are valid, and there is room for the numbers.
         return names.sort();
     }
     let (absolute, relative): (Vec<_>, Vec<_>) = order.into_iter().partition(|&number| names[number].is_fqdn);
@@ -511,7 +515,7 @@ impl Default for Name {
     }
 }
 
-/// As [`Name::from_ip`].
+/// The same as [`Name::from_ip`].
 #[cfg(feature = "std")]
 impl From<IpAddr> for Name {
     fn from(address: IpAddr) -> Name {
@@ -522,13 +526,13 @@ impl From<IpAddr> for Name {
 impl FromStr for Name {
     type Err = Error;
 
-    /// As [`Name::from_ascii`].
+    /// The same as [`Name::from_ascii`].
     fn from_str(text: &str) -> Result<Self, Error> {
         Name::from_ascii(text)
     }
 }
 
-/// As [`Name::from_ascii`].
+/// The same as [`Name::from_ascii`].
 impl TryFrom<&str> for Name {
     type Error = Error;
 
@@ -537,15 +541,15 @@ impl TryFrom<&str> for Name {
     }
 }
 
-/// The octets of [`Name::as_wire`]. There is no `Borrow<[u8]>`, since names that differ in case are equal, and their octets
-/// are not.
+/// The same as [`Name::as_wire`]. There is no `Borrow<[u8]>`, since names that differ in case are equal and their
+/// octets are not.
 impl AsRef<[u8]> for Name {
     fn as_ref(&self) -> &[u8] {
         self.as_wire()
     }
 }
 
-/// The labels, as [`Name::labels`].
+/// The same as [`Name::labels`].
 impl<'a> IntoIterator for &'a Name {
     type Item = &'a [u8];
     type IntoIter = Labels<'a>;
@@ -555,9 +559,10 @@ impl<'a> IntoIterator for &'a Name {
     }
 }
 
-/// The text of RFC 1035, section 5.1, in ASCII, with a last dot if the name is fully qualified: letters, digits, `_`, `-` and
-/// `*` as [`Name::from_ascii`] takes them, other graphic characters after a backslash, and any other octet as three octal
-/// digits. It fails only if the C library cannot allocate.
+/// Prints the name in ASCII (RFC 1035, section 5.1), with a last dot if it is fully qualified.
+///
+/// Letters, digits, `_`, `-` and `*` are printed as [`Name::from_ascii`] takes them, other graphic characters after a
+/// backslash, and any other octet as a backslash and three octal digits.
 impl fmt::Display for Name {
     fn fmt(&self, f: &mut fmt::Formatter<'_>) -> fmt::Result {
         self.with_text(|text| f.pad(text)).map_err(|_| fmt::Error)?
@@ -602,9 +607,10 @@ impl Hash for Name {
     }
 }
 
-/// The labels of a name, from either end. See [`Name::labels`] and [`NameRef::labels`](crate::NameRef::labels).
+/// An iterator over the labels of a name, from either end. See [`Name::labels`] and
+/// [`NameRef::labels`](crate::NameRef::labels).
 ///
-/// Their number, and a step from the back, take a walk over the labels that are left.
+/// `len` and `next_back` walk over all labels that are left.
 ///
 /// ```
 /// let name: dns_names_wire::Name = "www.example.com.".parse()?;
@@ -617,26 +623,27 @@ impl Hash for Name {
 pub struct Labels<'a> {
     message: &'a [u8],
     at: usize,
-    /// how many there are, once a step from the back was made
+    /// the number of labels that are left, known after the first step from the back
     left: Option<usize>,
 }
 
 impl<'a> Labels<'a> {
-    /// The labels of the name at an offset of a message, which the C library has accepted there.
+    /// Returns the labels of the name at an offset of a message. The C library must have accepted the name.
     #[inline]
     pub(crate) fn new(message: &'a [u8], at: usize) -> Self {
         Labels { message, at, left: None }
     }
 
-    /// Returns how many there are.
+    /// Returns the number of labels that are left.
     fn count_left(&self) -> usize {
         let mut at = self.at;
         self.left.unwrap_or_else(|| core::iter::from_fn(|| step(self.message, &mut at)).count())
     }
 }
 
-/// Returns the label at an offset of a message, or after pointers there, and moves the offset after it; or `None` at the end
-/// of the name. The C library has accepted a name there, so that each step is within the message, and each pointer goes back.
+/// Returns the label at an offset of a message, following pointers, and moves the offset after it. Returns `None` at
+/// the end of the name. The C library has accepted the name, so each step is within the message, and each pointer
+/// points backwards.
 #[inline]
 fn step<'a>(message: &'a [u8], at: &mut usize) -> Option<&'a [u8]> {
     loop {

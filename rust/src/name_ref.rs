@@ -1,4 +1,4 @@
-//! Names that stay in their message.
+//! Names that are borrowed from a message.
 use crate::door::{self, FORM_SIZE};
 use crate::error::Error;
 use crate::name::{Labels, Name};
@@ -7,9 +7,9 @@ use core::cmp::Ordering;
 use core::fmt;
 use core::hash::{Hash, Hasher};
 
-/// A name that was read in a message and stays there: the message and two offsets. It is fully qualified.
+/// A name that is borrowed from its message: the message and two offsets. It is fully qualified.
 ///
-/// To print or compare one costs a copy on the stack each time; read a [`Name`] if that is done often.
+/// Each print or comparison copies the name to the stack. If that is done often, read a [`Name`].
 ///
 /// ```
 /// use dns_names_wire::NameRef;
@@ -33,7 +33,7 @@ impl<'a> NameRef<'a> {
     ///
     /// # Errors
     ///
-    /// As [`Name::read`].
+    /// The errors of [`Name::read`].
     ///
     /// ```
     /// use dns_names_wire::{Error, ErrorKind, NameRef};
@@ -47,7 +47,7 @@ impl<'a> NameRef<'a> {
         Ok(NameRef { message, start, end: read.end })
     }
 
-    /// The name at an offset of a message, where it was read before, with the offset after its own octets.
+    /// Returns the name at an offset of a message, where it was read before, with the offset after its own octets.
     #[inline]
     pub(crate) fn checked(message: &'a [u8], start: usize, end: usize) -> Self {
         NameRef { message, start, end }
@@ -107,7 +107,7 @@ impl<'a> NameRef<'a> {
         Labels::new(self.message, self.start)
     }
 
-    /// Returns the sort key of the name, as [`Name::sort_key`] does.
+    /// Returns the sort key of the name. See [`Name::sort_key`].
     ///
     /// ```
     /// let name = dns_names_wire::NameRef::read(b"\x01b\0\x01a\xC0\0", 3)?;
@@ -131,8 +131,8 @@ impl<'a> NameRef<'a> {
     }
 }
 
-/// Returns the offset after the own octets of a name that was read before, and whether they end in a pointer; or nothing, if
-/// the message ends before them.
+/// Returns the offset after the own octets of a name that was read before, and whether they end in a pointer. Returns
+/// `None` if the message ends first.
 #[inline]
 pub(crate) fn pass_name(message: &[u8], start: usize) -> Option<(usize, bool)> {
     let mut at = start;
@@ -171,7 +171,7 @@ impl<'a> From<&'a Name> for NameRef<'a> {
     }
 }
 
-/// By labels, ignoring case, whatever their messages.
+/// Compares labels, ignoring case. The messages may differ.
 impl PartialEq for NameRef<'_> {
     fn eq(&self, other: &Self) -> bool {
         self.to_name() == other.to_name()
@@ -186,7 +186,7 @@ impl PartialEq<Name> for NameRef<'_> {
     }
 }
 
-/// The labels, as [`NameRef::labels`].
+/// The same as [`NameRef::labels`].
 impl<'a> IntoIterator for &NameRef<'a> {
     type Item = &'a [u8];
     type IntoIter = Labels<'a>;
@@ -214,7 +214,7 @@ impl Hash for NameRef<'_> {
     }
 }
 
-/// The names that follow one another in a message. See [`names`].
+/// An iterator over consecutive names in a message. See [`names`].
 #[derive(Clone, Debug)]
 pub struct Names<'a> {
     message: &'a [u8],
@@ -222,7 +222,7 @@ pub struct Names<'a> {
     has_failed: bool,
 }
 
-/// Returns the names that follow one another in a message, from an offset to its end. After an error it ends.
+/// Returns an iterator over the consecutive names in a message, from an offset to the end. It ends after an error.
 ///
 /// ```
 /// use dns_names_wire::names;
@@ -235,7 +235,7 @@ pub fn names(message: &[u8], start: usize) -> Names<'_> {
 }
 
 impl Names<'_> {
-    /// Returns the offset of the message at which the next name begins, or after an error the one at which there is none.
+    /// Returns the offset in the message of the next name, or after an error the offset at which no valid name begins.
     ///
     /// ```
     /// let mut names = dns_names_wire::names(b"\x01b\0\x40", 0);

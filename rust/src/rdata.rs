@@ -7,7 +7,7 @@ use crate::type_set::TypeSet;
 use crate::{IpAddr, Ipv4Addr, Ipv6Addr};
 use alloc::vec::Vec;
 
-/// Data of several fields: a struct, read and written field by field, each by its kind.
+/// Defines structs for data with several fields. Each field is read and written by its kind.
 macro_rules! structs {
     ($($(#[$doc:meta])* $name:ident $(<$life:lifetime>)? {
         $($(#[$field_doc:meta])* $field:ident: $type:ty = $kind:ident,)*
@@ -32,53 +32,53 @@ macro_rules! structs {
 }
 
 structs! {
-    /// The start of a zone (RFC 1035, section 3.3.13).
+    /// The start of a zone of authority (RFC 1035, section 3.3.13).
     SOA<'a> {
-        /// The name server that has the original of the zone.
+        /// The primary name server of the zone.
         mname: NameRef<'a> = name,
-        /// The mailbox of who is responsible.
+        /// The mailbox of the person responsible for the zone.
         rname: NameRef<'a> = name,
         /// The version of the zone, a [`SerialNumber`](crate::SerialNumber).
         serial: u32 = u32,
-        /// The seconds before the zone should be refreshed.
+        /// The seconds until the zone should be refreshed.
         refresh: u32 = u32,
-        /// The seconds before a refresh that failed should be tried again.
+        /// The seconds until a failed refresh should be tried again.
         retry: u32 = u32,
         /// The seconds after which the zone is no longer authoritative.
         expire: u32 = u32,
-        /// The seconds for which it is known that a name does not exist (RFC 2308, section 4).
+        /// The TTL of negative answers, in seconds (RFC 2308, section 4).
         minimum: u32 = u32,
     }
 
-    /// Two mailboxes (RFC 1035, section 3.3.7), or a mailbox and the name of a text (RFC 1183, section 2.2).
+    /// Two mailboxes (RFC 1035, section 3.3.7), or a mailbox and the owner of a TXT record (RFC 1183, section 2.2).
     Mailboxes<'a> {
         /// The first mailbox.
         mailbox: NameRef<'a> = name,
-        /// The second one, or the name that has a TXT record.
+        /// The second mailbox, or the owner of a TXT record.
         other: NameRef<'a> = name,
     }
 
-    /// A host with a preference, as where mail goes (RFC 1035, section 3.3.9).
+    /// A mail server for a domain (RFC 1035, section 3.3.9), or another host with a preference.
     MX<'a> {
-        /// The lower, the more it is preferred.
+        /// Lower values are preferred.
         preference: u16 = u16,
         /// The host.
         exchange: NameRef<'a> = name,
     }
 
-    /// What a host is (RFC 1035, section 3.3.2).
+    /// The CPU and the operating system of a host (RFC 1035, section 3.3.2).
     HINFO<'a> {
-        /// The processor.
+        /// The CPU.
         cpu: &'a [u8] = string,
         /// The operating system.
         os: &'a [u8] = string,
     }
 
-    /// Where a service is (RFC 2782).
+    /// The host and the port of a service (RFC 2782).
     SRV<'a> {
-        /// The lower, the sooner it is tried.
+        /// Lower values are tried first.
         priority: u16 = u16,
-        /// How often it is taken among those of its priority.
+        /// How often the host is chosen among those of the same priority.
         weight: u16 = u16,
         /// The port.
         port: u16 = u16,
@@ -88,15 +88,15 @@ structs! {
 
     /// A rule that rewrites a name (RFC 3403, section 4.1).
     NAPTR<'a> {
-        /// The order in which rules are taken.
+        /// The order in which rules are applied.
         order: u16 = u16,
         /// The preference among rules of the same order.
         preference: u16 = u16,
-        /// What follows the rule.
+        /// What to do after the rule.
         flags: &'a [u8] = string,
         /// The service.
         service: &'a [u8] = string,
-        /// A regular expression that gives the next name.
+        /// A regular expression that makes the next name.
         regexp: &'a [u8] = string,
         /// The next name.
         replacement: NameRef<'a> = name,
@@ -104,7 +104,7 @@ structs! {
 
     /// A certificate (RFC 4398, section 2).
     CERT<'a> {
-        /// The kind of certificate.
+        /// The type of the certificate.
         certificate_type: u16 = u16,
         /// The tag of its key.
         key_tag: u16 = u16,
@@ -114,13 +114,13 @@ structs! {
         certificate: &'a [u8] = rest,
     }
 
-    /// The digest of a child's key (RFC 4034, section 5.1).
+    /// The digest of a key of a child zone (RFC 4034, section 5.1).
     DS<'a> {
         /// The tag of the key.
         key_tag: u16 = u16,
         /// The algorithm of the key.
         algorithm: u8 = u8,
-        /// The kind of digest.
+        /// The digest algorithm.
         digest_type: u8 = u8,
         /// The digest.
         digest: &'a [u8] = rest,
@@ -130,7 +130,7 @@ structs! {
     SSHFP<'a> {
         /// The algorithm of the key.
         algorithm: u8 = u8,
-        /// The kind of fingerprint.
+        /// The fingerprint algorithm.
         fp_type: u8 = u8,
         /// The fingerprint.
         fingerprint: &'a [u8] = rest,
@@ -138,7 +138,7 @@ structs! {
 
     /// A key of a zone (RFC 4034, section 2.1).
     DNSKEY<'a> {
-        /// 256 for a key of a zone, 257 for one that its parent vouches for.
+        /// 256 for a zone key, 257 for a zone key that is also a secure entry point.
         flags: u16 = u16,
         /// Always 3.
         protocol: u8 = u8,
@@ -154,13 +154,13 @@ structs! {
         type_covered: RecordType = record_type,
         /// The algorithm.
         algorithm: u8 = u8,
-        /// How many labels the owner has, without that of a wildcard.
+        /// The number of labels of the owner, without a `*` at the start.
         labels: u8 = u8,
-        /// The time to live of the records in their zone.
+        /// The TTL of the records in their zone.
         original_ttl: u32 = u32,
-        /// When the signature ends, in seconds since 1970, as a [`SerialNumber`](crate::SerialNumber).
+        /// When the signature expires, in seconds since 1970, as a [`SerialNumber`](crate::SerialNumber).
         expiration: u32 = u32,
-        /// When it begins.
+        /// When the signature becomes valid, in the same form.
         inception: u32 = u32,
         /// The tag of the key.
         key_tag: u16 = u16,
@@ -170,7 +170,7 @@ structs! {
         signature: &'a [u8] = rest,
     }
 
-    /// The next name of a zone, and the types of this one (RFC 4034, section 4.1).
+    /// The next name in a zone, and the types at this name (RFC 4034, section 4.1).
     NSEC<'a> {
         /// The next name.
         next: NameRef<'a> = name,
@@ -178,15 +178,15 @@ structs! {
         types: TypeSet = types,
     }
 
-    /// The next hash of a zone, and the types of this name (RFC 5155, section 3.2).
+    /// The next hash in a zone, and the types at this name (RFC 5155, section 3.2).
     NSEC3<'a> {
-        /// The hash function.
+        /// The hash algorithm.
         algorithm: u8 = u8,
-        /// 1 if names that are not signed may be between the hashes.
+        /// 1 for opt-out: unsigned delegations may be between the hashes.
         flags: u8 = u8,
-        /// How often more the hash is taken.
+        /// The number of additional iterations of the hash.
         iterations: u16 = u16,
-        /// What is appended before each.
+        /// The salt, which is appended before each iteration.
         salt: &'a [u8] = counted,
         /// The next hash.
         next: &'a [u8] = counted,
@@ -196,35 +196,35 @@ structs! {
 
     /// How the names of a zone are hashed (RFC 5155, section 4.2).
     NSEC3PARAM<'a> {
-        /// The hash function.
+        /// The hash algorithm.
         algorithm: u8 = u8,
         /// Always 0.
         flags: u8 = u8,
-        /// How often more the hash is taken.
+        /// The number of additional iterations of the hash.
         iterations: u16 = u16,
-        /// What is appended before each.
+        /// The salt, which is appended before each iteration.
         salt: &'a [u8] = counted,
     }
 
-    /// A certificate that is to be met (RFC 6698, section 2.1; RFC 8162, section 2).
+    /// A certificate to match (RFC 6698, section 2.1; RFC 8162, section 2).
     TLSA<'a> {
-        /// How it is to be met.
+        /// The certificate usage: what has to match.
         usage: u8 = u8,
-        /// Whether the certificate or its key is given.
+        /// The selector: the whole certificate, or its public key.
         selector: u8 = u8,
-        /// Whether it is given whole or as a hash.
+        /// The matching type: the selected content itself, or a hash of it.
         mtype: u8 = u8,
-        /// It or its hash.
+        /// The content or its hash.
         cert: &'a [u8] = rest,
     }
 
-    /// What a parent may copy from its child (RFC 7477, section 2.1).
+    /// The types that a parent zone may copy from its child (RFC 7477, section 2.1).
     CSYNC {
-        /// The serial number from which on it may.
+        /// The lowest serial number of the child at which the parent may copy.
         serial: u32 = u32,
-        /// Whether it may at once, and whether the serial number counts.
+        /// Whether the parent may copy immediately (1), and whether the serial number is used (2).
         flags: u16 = u16,
-        /// The types that it may copy.
+        /// The types to copy.
         types: TypeSet = types,
     }
 
@@ -234,7 +234,7 @@ structs! {
         serial: u32 = u32,
         /// How the records are collated.
         scheme: u8 = u8,
-        /// The hash function.
+        /// The hash algorithm.
         hash_algorithm: u8 = u8,
         /// The digest.
         digest: &'a [u8] = rest,
@@ -242,42 +242,43 @@ structs! {
 
     /// How to reach a service (RFC 9460, section 2.2).
     SVCB<'a> {
-        /// 0 for an alias; else the lower, the more it is preferred.
+        /// 0 for an alias. Of others, lower values are preferred.
         priority: u16 = u16,
-        /// The host, or the root for the owner.
+        /// The host, or the root for the owner itself.
         target: NameRef<'a> = name,
         /// The parameters, each a key and its value.
         params: Pairs<'a> = params,
     }
 
-    /// Where a resource is (RFC 7553, section 4).
+    /// The URI of a service (RFC 7553, section 4).
     URI<'a> {
-        /// The lower, the sooner it is tried.
+        /// Lower values are tried first.
         priority: u16 = u16,
-        /// How often it is taken among those of its priority.
+        /// How often the URI is chosen among those of the same priority.
         weight: u16 = u16,
-        /// The resource.
+        /// The URI.
         target: &'a [u8] = rest,
     }
 
-    /// Which authorities may issue certificates (RFC 8659, section 4.1).
+    /// The authorities that may issue certificates for a domain (RFC 8659, section 4.1).
     CAA<'a> {
-        /// 128 if who does not know the tag may issue none.
+        /// 128 if an authority that does not know the tag must not issue.
         flags: u8 = u8,
-        /// The property.
+        /// The tag of the property.
         tag: &'a [u8] = string,
-        /// Its value.
+        /// The value of the property.
         value: &'a [u8] = rest,
     }
 }
 
-/// The data of a type: a variant for each, with its code, of one value of a kind or of a struct.
+/// Defines `RData`: a variant for each type, with its code, which has one value of a kind or a struct.
 macro_rules! variants {
     (
         one { $($(#[$doc:meta])* $name:ident = $code:literal: $type:ty = $kind:ident,)* }
         several { $($(#[$other_doc:meta])* $other:ident = $other_code:literal: $struct:ident $(<$life:lifetime>)?,)* }
     ) => {
-        /// The data of a record, by its type. Names and octets are borrowed from the message, or from whoever writes one.
+        /// The data of a record, by its type. Names and octets are borrowed, from a message that was read or from the
+        /// caller.
         ///
         /// ```
         /// use dns_names_wire::{rdata::MX, RData, Record};
@@ -295,7 +296,7 @@ macro_rules! variants {
         pub enum RData<'a> {
             $($(#[$doc])* $name($type),)*
             $($(#[$other_doc])* $other($struct $(<$life>)?),)*
-            /// Data of a type that is none of these.
+            /// Data of any other type.
             Unknown {
                 /// The type.
                 record_type: RecordType,
@@ -320,7 +321,7 @@ macro_rules! variants {
                 }
             }
 
-            /// Reads data of a type. The fields are at their start.
+            /// Reads the data of a type from their first field on.
             #[inline]
             pub(crate) fn take(record_type: RecordType, mut fields: Fields<'a>) -> Result<Self, Error> {
                 match record_type.code() {
@@ -334,12 +335,12 @@ macro_rules! variants {
                         fields.end()?;
                         Ok(RData::$other(value))
                     })*
-                    // Octets up to the end, which need no reading.
+                    // Octets up to the end, which need not be parsed.
                     _ => Ok(RData::Unknown { record_type, octets: fields.left() }),
                 }
             }
 
-            /// Appends the octets, names not compressed.
+            /// Appends the octets, without compression.
             pub(crate) fn put(&self, octets: &mut Vec<u8>) -> Result<(), Error> {
                 match self {
                     $(RData::$name(value) => put::$kind(octets, value),)*
@@ -361,7 +362,7 @@ variants! {
         MD = 3: NameRef<'a> = name,
         /// A host that forwards mail, which is obsolete (RFC 1035, section 3.3.5).
         MF = 4: NameRef<'a> = name,
-        /// The name that an alias stands for (RFC 1035, section 3.3.1).
+        /// The canonical name of an alias (RFC 1035, section 3.3.1).
         CNAME = 5: NameRef<'a> = name,
         /// A host of a mailbox (RFC 1035, section 3.3.3).
         MB = 7: NameRef<'a> = name,
@@ -369,39 +370,39 @@ variants! {
         MG = 8: NameRef<'a> = name,
         /// The new name of a mailbox (RFC 1035, section 3.3.8).
         MR = 9: NameRef<'a> = name,
-        /// Another name (RFC 1035, section 3.3.12).
+        /// A pointer to another name (RFC 1035, section 3.3.12).
         PTR = 12: NameRef<'a> = name,
         /// Texts (RFC 1035, section 3.3.14).
         TXT = 16: Texts<'a> = texts,
         /// An IPv6 address (RFC 3596, section 2.2).
         AAAA = 28: Ipv6Addr = ipv6,
-        /// The name that a whole subtree is an alias of (RFC 6672).
+        /// The name that a subtree is an alias of (RFC 6672).
         DNAME = 39: NameRef<'a> = name,
-        /// Texts, which TXT has taken the place of (RFC 7208, section 3.1).
+        /// SPF texts, now in TXT records (RFC 7208, section 3.1).
         SPF = 99: Texts<'a> = texts,
-        /// An address of 48 bits (RFC 7043, section 3).
+        /// An EUI-48 address (RFC 7043, section 3).
         EUI48 = 108: [u8; 6] = eui48,
-        /// An address of 64 bits (RFC 7043, section 4).
+        /// An EUI-64 address (RFC 7043, section 4).
         EUI64 = 109: [u8; 8] = eui64,
     }
     several {
-        /// The start of a zone.
+        /// The start of a zone of authority.
         SOA = 6: SOA<'a>,
         /// A mailbox for requests and one for errors (RFC 1035, section 3.3.7).
         MINFO = 14: Mailboxes<'a>,
-        /// What a host is.
+        /// The CPU and the operating system of a host.
         HINFO = 13: HINFO<'a>,
-        /// Where mail goes.
+        /// A mail server for a domain.
         MX = 15: MX<'a>,
-        /// Who is responsible (RFC 1183, section 2.2).
+        /// The person responsible for a name (RFC 1183, section 2.2).
         RP = 17: Mailboxes<'a>,
-        /// A server of a file system (RFC 1183, section 1).
+        /// A server of an AFS or DCE cell (RFC 1183, section 1).
         AFSDB = 18: MX<'a>,
         /// A signature of a message (RFC 2931).
         SIG = 24: RRSIG<'a>,
         /// A key of a host (RFC 2535, section 3.1).
         KEY = 25: DNSKEY<'a>,
-        /// Where a service is.
+        /// The host and the port of a service.
         SRV = 33: SRV<'a>,
         /// A rule that rewrites a name.
         NAPTR = 35: NAPTR<'a>,
@@ -409,17 +410,17 @@ variants! {
         KX = 36: MX<'a>,
         /// A certificate.
         CERT = 37: CERT<'a>,
-        /// The digest of a child's key.
+        /// The digest of a key of a child zone.
         DS = 43: DS<'a>,
         /// The fingerprint of an SSH key.
         SSHFP = 44: SSHFP<'a>,
         /// A signature of records.
         RRSIG = 46: RRSIG<'a>,
-        /// The next name of a zone, and the types of this one.
+        /// The next name in a zone, and the types at this name.
         NSEC = 47: NSEC<'a>,
         /// A key of a zone.
         DNSKEY = 48: DNSKEY<'a>,
-        /// The next hash of a zone, and the types of this name.
+        /// The next hash in a zone, and the types at this name.
         NSEC3 = 50: NSEC3<'a>,
         /// How the names of a zone are hashed.
         NSEC3PARAM = 51: NSEC3PARAM<'a>,
@@ -431,7 +432,7 @@ variants! {
         CDS = 59: DS<'a>,
         /// The child's copy of a DNSKEY (RFC 7344, section 3.2).
         CDNSKEY = 60: DNSKEY<'a>,
-        /// What a parent may copy from its child.
+        /// The types that a parent zone may copy from its child.
         CSYNC = 62: CSYNC,
         /// The digest of a zone.
         ZONEMD = 63: ZONEMD<'a>,
@@ -439,15 +440,15 @@ variants! {
         SVCB = 64: SVCB<'a>,
         /// How to reach a service over HTTPS.
         HTTPS = 65: SVCB<'a>,
-        /// Where a resource is.
+        /// The URI of a service.
         URI = 256: URI<'a>,
-        /// Which authorities may issue certificates.
+        /// The authorities that may issue certificates for a domain.
         CAA = 257: CAA<'a>,
     }
 }
 
 impl<'a> RData<'a> {
-    /// Returns the address of A or AAAA data. `IpAddr`, `Ipv4Addr` and `Ipv6Addr` have `TryFrom` for the same.
+    /// Returns the address of A or AAAA data. `IpAddr`, `Ipv4Addr` and `Ipv6Addr` implement `TryFrom` for the same.
     ///
     /// ```
     /// use std::net::{IpAddr, Ipv4Addr, Ipv6Addr};
@@ -466,11 +467,12 @@ impl<'a> RData<'a> {
         }
     }
 
-    /// Returns the octets of the data, names not compressed.
+    /// Returns the octets of the data, without compression.
     ///
     /// # Errors
     ///
-    /// `DataTooLong` if a field has more octets than its length says: 255 of a character string; or `NoMemory`.
+    /// `DataTooLong` if a character string, or another field with a length octet, has more than 255 octets; or
+    /// `NoMemory`.
     ///
     /// ```
     /// assert_eq!(dns_names_wire::RData::from(std::net::Ipv4Addr::LOCALHOST).to_wire()?, [127, 0, 0, 1]);
@@ -504,7 +506,7 @@ impl From<IpAddr> for RData<'_> {
     }
 }
 
-/// Data of another type come back as the error.
+/// Returns data of another type as the error.
 impl<'a> TryFrom<RData<'a>> for IpAddr {
     type Error = RData<'a>;
 
@@ -513,7 +515,7 @@ impl<'a> TryFrom<RData<'a>> for IpAddr {
     }
 }
 
-/// Data of another type come back as the error.
+/// Returns data of another type as the error.
 impl<'a> TryFrom<RData<'a>> for Ipv4Addr {
     type Error = RData<'a>;
 
@@ -525,7 +527,7 @@ impl<'a> TryFrom<RData<'a>> for Ipv4Addr {
     }
 }
 
-/// Data of another type come back as the error.
+/// Returns data of another type as the error.
 impl<'a> TryFrom<RData<'a>> for Ipv6Addr {
     type Error = RData<'a>;
 

@@ -10,13 +10,13 @@ use crate::record_buf::put_record;
 use alloc::vec::Vec;
 use core::fmt;
 
-/// The octets of a record between its owner and its data: type, class, time to live and the data's length.
+/// The octets of a record between its owner and its data: type, class, TTL and data length.
 const FIXED_SIZE: usize = 10;
-/// The parts of a record's text: the owner, the time to live, the class, the type and the data.
+/// The parts of a record's text: the owner, the TTL, the class, the type and the data.
 const TEXT_PARTS: usize = 5;
 
-/// A record that was read in a message (RFC 1035, section 4.1.3). Its owner and its data stay in the message, and the data are
-/// not looked into before [`data`](Record::data) or [`fields`](Record::fields).
+/// A record that was read from a message (RFC 1035, section 4.1.3). Its owner and its data are borrowed from the
+/// message. The data are not checked until [`data`](Record::data) or [`fields`](Record::fields) is called.
 ///
 /// ```
 /// use dns_names_wire::{RData, Record};
@@ -45,7 +45,7 @@ impl<'a> Record<'a> {
     ///
     /// # Errors
     ///
-    /// As [`Name::read`] if no owner is there, and `MessageCut` if the message ends before the data do.
+    /// The errors of [`Name::read`] for the owner, and `MessageCut` if the message ends before the record does.
     ///
     /// ```
     /// use dns_names_wire::{Error, ErrorKind, Record};
@@ -62,7 +62,7 @@ impl<'a> Record<'a> {
         Ok(Record { owner, record_type, class, ttl: read.ttl, end: read.end })
     }
 
-    /// The record at an offset of a message that was checked as a whole, so that it is there.
+    /// Returns the record at an offset of a message that was checked as a whole.
     #[inline]
     pub(crate) fn checked(message: &'a [u8], start: usize) -> Option<Self> {
         let (owner_end, _) = pass_name(message, start)?;
@@ -118,7 +118,7 @@ impl<'a> Record<'a> {
         self.class.into()
     }
 
-    /// Returns the time to live, in seconds.
+    /// Returns the TTL, in seconds.
     ///
     /// ```
     /// // b. NS a.b., the data compressed
@@ -147,7 +147,7 @@ impl<'a> Record<'a> {
     ///
     /// # Errors
     ///
-    /// As [`fields`](Record::fields): that of the first field that is not there.
+    /// The first error of [`fields`](Record::fields).
     ///
     /// ```
     /// use dns_names_wire::{RData, Record};
@@ -174,7 +174,7 @@ impl<'a> Record<'a> {
         &self.message()[self.data_offset()..self.end]
     }
 
-    /// Returns the offset of the data in the message, at which their names are read.
+    /// Returns the offset of the data in the message.
     ///
     /// ```
     /// // b. NS a.b., the data compressed
@@ -186,11 +186,11 @@ impl<'a> Record<'a> {
         self.owner.end() + FIXED_SIZE
     }
 
-    /// Reads the data as a name, as those of NS, CNAME and PTR are.
+    /// Reads the data as a name, for types such as NS, CNAME and PTR.
     ///
     /// # Errors
     ///
-    /// As [`Name::read`], and `WrongDataLength` if the name's own octets are not as many as the data.
+    /// The errors of [`Name::read`], and `WrongDataLength` if the name does not end where the data do.
     ///
     /// ```
     /// // b. NS a.b., the data compressed
@@ -202,11 +202,11 @@ impl<'a> Record<'a> {
         self.data_name_after(0)
     }
 
-    /// Reads what is left of the data after so many octets as a name: after two for MX, after six for SRV.
+    /// Reads the data after the first `octets` octets as a name: after two for MX, after six for SRV.
     ///
     /// # Errors
     ///
-    /// As [`data_name`](Record::data_name), and `MessageCut` if the data have fewer octets.
+    /// The errors of [`data_name`](Record::data_name), and `MessageCut` if the data have fewer octets.
     ///
     /// ```
     /// // the root, MX 10 a.
@@ -222,8 +222,8 @@ impl<'a> Record<'a> {
         Ok(Name::of_form(form, len))
     }
 
-    /// Returns the fields of the data, one after another, by the table of the record's type. Data of a type without fields are
-    /// one field of octets. After an error it ends.
+    /// Returns an iterator over the fields of the data, by the record's type. Data of an unknown type are one field of
+    /// octets. It ends after an error.
     ///
     /// ```
     /// use dns_names_wire::{Field, Record};
@@ -240,19 +240,24 @@ impl<'a> Record<'a> {
         Fields::new(&self.message()[..self.end], self.data_offset(), self.record_type())
     }
 
-    /// Returns the octets that the signature of this RRSIG covers (RFC 4034, section 3.1.8.1): its data up to the signature, and
-    /// those of these records that have its owner, its class and the type covered, as a set in canonical form and order (RFC 4034,
-    /// section 6), each once, with the original time to live. If the owner has more labels than the RRSIG counts, it is the
-    /// wildcard that made the records (RFC 4035, section 5.3.2).
+    /// Returns the octets that the signature of this RRSIG covers (RFC 4034, section 3.1.8.1): the bytes to verify or
+    /// to sign.
     ///
-    /// The records are a section of a message, as [`Message::answers`](crate::Message::answers), or others, as those that are to be
-    /// signed: then the signature of the RRSIG is empty. Whether a signature is right, and in its time, is not tested.
+    /// These are its data up to the signature, and the covered records: those of `records` with its owner, its class
+    /// and the type covered, as a set in canonical form and order (RFC 4034, section 6), each once, with the original
+    /// TTL. If the owner has more labels than the RRSIG counts, it is replaced by the wildcard that made the records
+    /// (RFC 4035, section 5.3.2).
+    ///
+    /// To verify a signature, pass a section of a message, as [`Message::answers`](crate::Message::answers). To make
+    /// one, pass the records to sign, and leave the signature of the RRSIG empty. The signature and its times are not
+    /// checked.
     ///
     /// # Errors
     ///
-    /// `NotRrsig` if this record is of another type; `NotCovered` if it covers none of the records; `TooFewLabels` if its owner has
-    /// fewer labels than it counts; `DataTooLong` if the data of a record have more than 65535 octets once their names are whole;
-    /// as [`data`](Record::data) if its own data, or those of a record that it covers, are none; or `NoMemory`.
+    /// `NotRrsig` if this record is of another type; `NotCovered` if it covers none of the records; `TooFewLabels` if
+    /// its owner has fewer labels than it counts; `DataTooLong` if the data of a record have more than 65535 octets
+    /// once their names are uncompressed; the errors of [`data`](Record::data) for its own data and those of the
+    /// covered records; or `NoMemory`.
     ///
     /// ```
     /// use dns_names_wire::RecordBuf;
@@ -278,7 +283,7 @@ impl<'a> Record<'a> {
         self.put(&mut list)?;
         let start = list.len();
         for record in records.into_iter().map(Into::into) {
-            // The library selects again, and more, but its list has no record that is not to be read.
+            // The C library selects again. Other records are left out here, since their data may not be valid.
             if record.record_type() == covered && record.class == self.class && record.owner == self.owner {
                 record.put(&mut list)?;
             }
@@ -286,7 +291,8 @@ impl<'a> Record<'a> {
         door::signed_octets(&list, start)
     }
 
-    /// Appends the octets, no name compressed, and returns where the owner ends. If it fails, nothing is appended.
+    /// Appends the octets, without compression, and returns the offset at which the owner ends. If it fails, nothing is
+    /// appended.
     pub(crate) fn put(&self, octets: &mut Vec<u8>) -> Result<usize, Error> {
         let data = self.data()?;
         let fields = (self.record_type(), self.class(), self.ttl);
@@ -306,14 +312,14 @@ impl<'a> Record<'a> {
     }
 }
 
-/// A line of a master file without its end (RFC 1035, section 5.1): the owner, the time to live, the class, the type and the
-/// data, with tabs between. Data without a text of their own are shown as any data are: `\# 4 0A000001` (RFC 3597, section 5).
-/// Escapes have decimal digits, as `\032`, and not octal ones as those of a [`Name`].
+/// Prints a line of a master file, without its end (RFC 1035, section 5.1): the owner, the TTL, the class, the type and
+/// the data, with tabs between them. Data without a text of their own are printed as `\# 4 0A000001` (RFC 3597, section
+/// 5). Escapes are decimal, as `\032`; those of a [`Name`] are octal.
 impl fmt::Display for Record<'_> {
     fn fmt(&self, f: &mut fmt::Formatter<'_>) -> fmt::Result {
         let mut line = Vec::new();
         let line = door::print_record(self.message(), self.owner.start(), &mut line).map_err(|_| fmt::Error)?;
-        // No text of an owner, a time, a class or a type has a space.
+        // No owner, TTL, class or type has a space in its text.
         line.splitn(TEXT_PARTS, ' ').enumerate().try_for_each(|(number, text)| match number {
             0 => f.write_str(text),
             _ => write!(f, "\t{text}"),
@@ -333,7 +339,7 @@ impl fmt::Debug for Record<'_> {
     }
 }
 
-/// The records that follow one another in a message. See [`records`].
+/// An iterator over consecutive records in a message. See [`records`].
 #[derive(Clone, Debug)]
 pub struct Records<'a> {
     message: &'a [u8],
@@ -341,7 +347,7 @@ pub struct Records<'a> {
     has_failed: bool,
 }
 
-/// Returns the records that follow one another in a message, from an offset to its end. After an error it ends.
+/// Returns an iterator over the consecutive records in a message, from an offset to the end. It ends after an error.
 ///
 /// ```
 /// use dns_names_wire::{records, Error, Name};
@@ -357,7 +363,8 @@ pub fn records(message: &[u8], start: usize) -> Records<'_> {
 }
 
 impl Records<'_> {
-    /// Returns the offset of the message at which the next record begins, or after an error the one at which there is none.
+    /// Returns the offset in the message of the next record, or after an error the offset at which no valid record
+    /// begins.
     ///
     /// ```
     /// let mut records = dns_names_wire::records(b"\0\0\x01\0\x01\0\0\0\0\0\0\x40", 0);

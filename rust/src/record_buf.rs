@@ -1,4 +1,4 @@
-//! Records that own their octets, to be written.
+//! Records that own their octets.
 use crate::codes::{Class, RecordType};
 use crate::door;
 use crate::error::{Error, ErrorKind};
@@ -16,8 +16,8 @@ const TTL: usize = 4;
 const LENGTH: usize = 8;
 const FIXED_SIZE: usize = 10;
 
-/// A record that owns its octets, no name compressed: what a [`Record`] is to a message that was read, this is to one that is
-/// written. It is made of data by type, or parsed from a line of a master file.
+/// A record that owns its octets, without compression. It is made from data by type, or parsed from a line of a master
+/// file, and a [`MessageBuilder`](crate::MessageBuilder) writes it. [`Record`] is the borrowed form.
 ///
 /// ```
 /// use dns_names_wire::{rdata::MX, Name, RecordBuf};
@@ -32,16 +32,17 @@ const FIXED_SIZE: usize = 10;
 #[derive(Clone, PartialEq, Eq, Hash)]
 pub struct RecordBuf {
     octets: Vec<u8>,
-    /// where the owner ends
+    /// the offset at which the owner ends
     fixed: usize,
 }
 
 impl RecordBuf {
-    /// Returns the record of class IN with these data.
+    /// Returns a record of class IN with these data.
     ///
     /// # Errors
     ///
-    /// `DataTooLong` if the data have more than 65535 octets, or a character string in them more than 255; or `NoMemory`.
+    /// `DataTooLong` if the data have more than 65535 octets, or a character string in them more than 255; or
+    /// `NoMemory`.
     ///
     /// ```
     /// use dns_names_wire::{Name, RecordBuf};
@@ -57,11 +58,11 @@ impl RecordBuf {
         Ok(RecordBuf { octets, fixed })
     }
 
-    /// Returns the record whose data are these octets, in which no name is compressed.
+    /// Returns a record with these octets as its data. Names in them must not be compressed. They are not checked.
     ///
     /// # Errors
     ///
-    /// `DataTooLong` if they are more than 65535.
+    /// `DataTooLong` if there are more than 65535 octets.
     ///
     /// ```
     /// use dns_names_wire::{Class, Name, RecordBuf, RecordType};
@@ -86,16 +87,16 @@ impl RecordBuf {
         Ok(RecordBuf { octets, fixed })
     }
 
-    /// Returns the record that a line of a master file is (RFC 1035, section 5.1): the owner, the time to live, the class, the
-    /// type and the data. The class may stand before the time to live, or be left out for IN. Names without a dot at their end
-    /// get the labels of the origin, and `@` is the origin. Parentheses and comments are no part of a line.
+    /// Parses a line of a master file (RFC 1035, section 5.1): the owner, the TTL, the class, the type and the data.
+    /// The class may be before the TTL, or be left out for IN. The origin is appended to names without a last dot, and
+    /// `@` is the origin. Parentheses and comments are not supported.
     ///
     /// `str::parse` does the same without an origin, and rejects such names.
     ///
     /// # Errors
     ///
-    /// `BadText` if the first word is no name, `BadTime` if no time to live is there, `UnknownText` if no type is there,
-    /// `BadData` if the rest is no data of the type; or `NoMemory`.
+    /// `BadText` if the first word is not a name, `BadTime` if there is no TTL, `UnknownText` if there is no type,
+    /// `BadData` if the rest is not data of the type; or `NoMemory`.
     ///
     /// ```
     /// use dns_names_wire::{ErrorKind, Name, RecordBuf};
@@ -111,11 +112,12 @@ impl RecordBuf {
         RecordBuf::parse(line, origin.as_wire())
     }
 
-    /// Returns the record of class IN whose data have a text in master files. An origin completes names without a dot.
+    /// Returns a record of class IN, with data parsed from their text in master files. The origin is appended to names
+    /// without a last dot.
     ///
     /// # Errors
     ///
-    /// `BadData` if the text is no data of the type; or `NoMemory`.
+    /// `BadData` if the text is not data of the type; or `NoMemory`.
     ///
     /// ```
     /// use dns_names_wire::{Name, RecordBuf, RecordType};
@@ -160,7 +162,7 @@ impl RecordBuf {
         self
     }
 
-    /// Returns the record with another time to live.
+    /// Returns the record with another TTL.
     ///
     /// ```
     /// let record = "a. 1 IN A 192.0.2.1".parse::<dns_names_wire::RecordBuf>()?.with_ttl(60);
@@ -172,7 +174,7 @@ impl RecordBuf {
         self
     }
 
-    /// Returns the record as one that was read in its own octets.
+    /// Returns the record as a [`Record`] that borrows its octets.
     ///
     /// ```
     /// let record: dns_names_wire::RecordBuf = "a. 1 IN A 192.0.2.1".parse()?;
@@ -183,7 +185,7 @@ impl RecordBuf {
         Record::checked(&self.octets, 0).expect("a record is whole")
     }
 
-    /// Returns the octets of the record, no name compressed.
+    /// Returns the octets of the record, without compression.
     ///
     /// ```
     /// let record: dns_names_wire::RecordBuf = "a. 1 IN A 192.0.2.1".parse()?;
@@ -228,7 +230,7 @@ impl RecordBuf {
         self.as_record().class()
     }
 
-    /// Returns the time to live, in seconds.
+    /// Returns the TTL, in seconds.
     ///
     /// ```
     /// assert_eq!("a. 1h A 192.0.2.1".parse::<dns_names_wire::RecordBuf>()?.ttl(), 3600);
@@ -242,7 +244,7 @@ impl RecordBuf {
     ///
     /// # Errors
     ///
-    /// As [`Record::data`], if the record was made of octets that are no data of its type.
+    /// The errors of [`Record::data`], if the record was made from octets that are not data of its type.
     ///
     /// ```
     /// use dns_names_wire::{RData, RecordBuf};
@@ -266,7 +268,8 @@ impl RecordBuf {
     }
 }
 
-/// Appends a record, whose data the function appends, and returns where its owner ends. If it fails, nothing is appended.
+/// Appends a record, and returns the offset at which its owner ends. The function appends its data. If it fails,
+/// nothing is appended.
 pub(crate) fn put_record(
     octets: &mut Vec<u8>,
     owner: NameRef<'_>,
@@ -295,7 +298,7 @@ pub(crate) fn put_record(
     }
 }
 
-/// A line of a master file, as a [`Record`] is shown.
+/// Prints a line of a master file, as [`Record`] does.
 impl fmt::Display for RecordBuf {
     fn fmt(&self, f: &mut fmt::Formatter<'_>) -> fmt::Result {
         fmt::Display::fmt(&self.as_record(), f)
@@ -308,7 +311,7 @@ impl fmt::Debug for RecordBuf {
     }
 }
 
-/// As [`RecordBuf::from_text`], without an origin.
+/// The same as [`RecordBuf::from_text`], without an origin.
 impl FromStr for RecordBuf {
     type Err = Error;
 
@@ -323,7 +326,7 @@ impl<'a> From<&'a RecordBuf> for Record<'a> {
     }
 }
 
-/// Fails as [`Record::data`].
+/// Fails with the errors of [`Record::data`].
 impl TryFrom<Record<'_>> for RecordBuf {
     type Error = Error;
 
@@ -334,7 +337,7 @@ impl TryFrom<Record<'_>> for RecordBuf {
     }
 }
 
-/// The octets, as [`RecordBuf::as_wire`].
+/// The same as [`RecordBuf::as_wire`].
 impl AsRef<[u8]> for RecordBuf {
     fn as_ref(&self) -> &[u8] {
         self.as_wire()

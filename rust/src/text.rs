@@ -1,16 +1,16 @@
-//! Texts of master files: times to live and tokens.
+//! Texts of master files: TTLs and tokens.
 use crate::door;
 use crate::error::Error;
 use alloc::string::String;
 use alloc::vec;
 use alloc::vec::Vec;
 
-/// Returns the seconds of a time to live: groups of digits and a unit of `s`, `m`, `h`, `d` or `w`, of which the last may
-/// lack its unit.
+/// Parses a TTL, and returns its seconds: groups of digits, each with a unit of `s`, `m`, `h`, `d` or `w`. The last
+/// group may have no unit.
 ///
 /// # Errors
 ///
-/// `BadTime`, also past 4294967295 seconds, or `NoMemory` in its place.
+/// `BadTime`, also above 4294967295 seconds; or `NoMemory` in its place.
 ///
 /// ```
 /// use dns_names_wire::{parse_ttl, ErrorKind};
@@ -32,11 +32,11 @@ pub fn parse_ttl(text: &str) -> Result<u32, Error> {
 /// ```
 #[derive(Clone, Debug, PartialEq, Eq, Hash)]
 pub enum Token {
-    /// White space at the start of a line: the record has the owner of the last one.
+    /// White space at the start of a line: the record has the owner of the record before it.
     Blank,
-    /// What stands in parentheses, by its words.
+    /// The words in parentheses.
     List(Vec<String>),
-    /// A word, or a text in quotes without its quotes and escapes.
+    /// A word, or a quoted text without its quotes and escapes.
     Text(String),
     /// `@`
     At,
@@ -50,7 +50,7 @@ pub enum Token {
     LineEnd,
 }
 
-/// The tokens of a text. See [`tokens`].
+/// An iterator over the tokens of a text. See [`tokens`].
 #[derive(Clone, Debug)]
 pub struct Tokens<'a> {
     text: &'a str,
@@ -59,12 +59,12 @@ pub struct Tokens<'a> {
     has_ended: bool,
 }
 
-/// Returns the tokens of a text of a master file (RFC 1035, section 5.1), one after another. After an error it ends.
+/// Returns an iterator over the tokens of a text of a master file (RFC 1035, section 5.1). It ends after an error.
 ///
 /// # Errors
 ///
-/// `TextCut`, `IllegalCharacter`, `ControlCharacter`, `UnclosedList`, `UnclosedQuote` or `UnknownEntry` if no token stands
-/// next, with the offset of [`Tokens::offset`]; or `NoMemory`.
+/// `TextCut`, `IllegalCharacter`, `ControlCharacter`, `UnclosedList`, `UnclosedQuote` or `UnknownEntry` if no valid
+/// token is next, with the offset of [`Tokens::offset`]; or `NoMemory`.
 ///
 /// ```
 /// use dns_names_wire::{tokens, Token};
@@ -80,8 +80,8 @@ pub fn tokens(text: &str) -> Tokens<'_> {
 }
 
 impl Tokens<'_> {
-    /// Returns the offset in the text of the next token, or of the white space before it. After an error, no token begins
-    /// there.
+    /// Returns the offset in the text of the next token, or of the white space before it. After an error, no valid
+    /// token begins there.
     ///
     /// ```
     /// let text = "a 1h\nb $FOO";
@@ -94,7 +94,7 @@ impl Tokens<'_> {
         self.lexer.offset
     }
 
-    /// The token of a kind with these texts, or none at the end of the text.
+    /// Returns the token of a kind with these words, or `None` at the end of the text.
     #[inline]
     fn token(kind: u32, words: &str) -> Option<Token> {
         match kind {

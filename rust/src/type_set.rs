@@ -1,4 +1,4 @@
-//! Sets of record types, as bitmaps list them.
+//! Sets of record types, read from and written to bitmaps.
 use crate::codes::RecordType;
 use crate::door;
 use crate::error::Error;
@@ -7,9 +7,9 @@ use alloc::vec::{self, Vec};
 use core::fmt;
 use core::iter::FusedIterator;
 
-/// A set of record types, as the bitmap of an NSEC or NSEC3 record lists it (RFC 4034, section 4.1.2).
+/// A set of record types, as in the bitmap of an NSEC or NSEC3 record (RFC 4034, section 4.1.2).
 ///
-/// It is iterated, and shown, by ascending codes.
+/// It is iterated and printed in ascending order of the codes.
 ///
 /// ```
 /// use dns_names_wire::{RecordType, TypeSet};
@@ -37,12 +37,12 @@ impl TypeSet {
         TypeSet::default()
     }
 
-    /// Returns the set that a bitmap lists. The last window may be cut anywhere.
+    /// Reads a bitmap. The last window may be cut anywhere.
     ///
     /// # Errors
     ///
-    /// `BadBitmap` if an octet follows a window of length 0, if a bit is set after the 32nd octet of a window, or if the
-    /// bitmap has more than 65535 octets; or `NoMemory`.
+    /// `BadBitmap` if an octet follows a window of length 0, if a bit is set after the 32nd octet of a window, or if
+    /// the bitmap has more than 65535 octets; or `NoMemory`.
     ///
     /// ```
     /// use dns_names_wire::{Error, ErrorKind, TypeSet};
@@ -52,7 +52,7 @@ impl TypeSet {
     /// # Ok::<(), Error>(())
     /// ```
     pub fn from_bitmap(bitmap: &[u8]) -> Result<Self, Error> {
-        // Each code is a bit that is set.
+        // Each bit that is set is a code.
         let most = bitmap.iter().map(|octet| octet.count_ones() as usize).sum();
         let mut codes = alloc::vec![0; most];
         let count = door::types_read(bitmap, &mut codes)?;
@@ -63,7 +63,7 @@ impl TypeSet {
     ///
     /// # Errors
     ///
-    /// Only `NoMemory`.
+    /// `NoMemory`.
     ///
     /// ```
     /// use dns_names_wire::{RecordType, TypeSet};
@@ -73,7 +73,7 @@ impl TypeSet {
     /// ```
     pub fn to_bitmap(&self) -> Result<Vec<u8>, Error> {
         let codes: Vec<u16> = self.types.iter().map(|kind| kind.code()).collect();
-        // A window has at most 34 octets, and there are as many as first octets of codes.
+        // A window has at most 34 octets, and there is one for each first octet of a code.
         let windows = codes.windows(2).filter(|pair| pair[0] >> 8 != pair[1] >> 8).count() + 1;
         let mut bitmap = alloc::vec![0; 34 * windows];
         let len = door::types_write(&codes, &mut bitmap)?;
@@ -114,7 +114,7 @@ impl TypeSet {
         self.types.is_empty()
     }
 
-    /// Adds a type, and returns whether it was not in the set before.
+    /// Adds a type, and returns whether it is new in the set.
     ///
     /// ```
     /// use dns_names_wire::{RecordType, TypeSet};
@@ -145,7 +145,7 @@ impl TypeSet {
         found.map(|at| self.types.remove(at)).is_ok()
     }
 
-    /// Returns the types, by ascending codes.
+    /// Returns an iterator over the types, in ascending order of the codes.
     ///
     /// ```
     /// use dns_names_wire::{RecordType, TypeSet};
@@ -158,7 +158,7 @@ impl TypeSet {
     }
 }
 
-/// The types, with blanks between.
+/// Prints the types, with spaces between them.
 impl fmt::Display for TypeSet {
     fn fmt(&self, f: &mut fmt::Formatter<'_>) -> fmt::Result {
         let texts: Vec<String> = self.iter().map(|kind| kind.to_string()).collect();

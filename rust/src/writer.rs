@@ -13,14 +13,14 @@ const STANDARD_NAME: u8 = 3;
 const CANONICAL_NAME: u8 = 4;
 const OTHER_NAME: u8 = 5;
 
-/// For how many bytes of items there is room at first.
+/// The initial capacity, in bytes of items.
 const USUAL_SIZE: usize = 512;
 
-/// Writes a message: its header, questions, records and names, each name compressed by those before it (RFC 1035, section
-/// 4.1.4).
+/// Writes a message from parts: bytes (as its header), questions, records and names. Names are compressed (RFC 1035,
+/// section 4.1.4).
 ///
-/// The parts are collected, and written by [`finish`](MessageWriter::finish) from the message's first byte on. A part that
-/// does not fit, a record of too much data among them, is found there, and so no call that adds a part fails.
+/// The parts are collected, and [`finish`](MessageWriter::finish) writes them from the first byte of the message.
+/// Adding a part never fails: `finish` fails if a part does not fit, or has too much data.
 ///
 /// ```
 /// use dns_names_wire::{records, Class, MessageWriter, Name, RecordType};
@@ -39,14 +39,14 @@ const USUAL_SIZE: usize = 512;
 /// ```
 #[derive(Clone, Debug)]
 pub struct MessageWriter {
-    /// What `dnw_message_write` takes.
+    /// The list of items that `dnw_message_write` takes.
     list: Vec<u8>,
-    /// How many items the list has, and how many parts they are.
+    /// The number of items in the list, and the number of parts.
     items: usize,
     parts: usize,
-    /// The parts that are not one item each.
+    /// The parts that are not exactly one item.
     joined: Vec<Joined>,
-    /// Whether a part is longer than any message. Neither that part nor a later one is in the list.
+    /// Whether a part is longer than any message. That part and later ones are not in the list.
     is_over: bool,
     max_size: u16,
     is_canonical: bool,
@@ -55,14 +55,14 @@ pub struct MessageWriter {
 /// A part of no item or of more than one.
 #[derive(Clone, Debug)]
 struct Joined {
-    /// How many items there are before it, and how many bytes of the list.
+    /// The number of items before it, and of their bytes in the list.
     before: usize,
     start: usize,
     items: usize,
 }
 
 impl MessageWriter {
-    /// Returns a writer of messages of at most 65535 bytes.
+    /// Returns a writer for messages of at most 65535 bytes.
     ///
     /// ```
     /// assert!(dns_names_wire::MessageWriter::new().finish()?.is_empty());
@@ -72,7 +72,7 @@ impl MessageWriter {
         MessageWriter::with_max_size(u16::MAX)
     }
 
-    /// Returns a writer of messages of at most `max_size` bytes.
+    /// Returns a writer for messages of at most `max_size` bytes.
     ///
     /// ```
     /// use dns_names_wire::{ErrorKind, MessageWriter};
@@ -101,7 +101,7 @@ impl MessageWriter {
         self
     }
 
-    /// Adds a name. That it is fully qualified is not written.
+    /// Adds a name. Whether it is fully qualified is not written.
     ///
     /// ```
     /// use dns_names_wire::{MessageWriter, Name};
@@ -114,7 +114,7 @@ impl MessageWriter {
         self.add_part(|list| add_name(list, name))
     }
 
-    /// Adds bytes as they are, as a message's header.
+    /// Adds bytes unchanged, for example a header.
     ///
     /// ```
     /// assert_eq!(dns_names_wire::MessageWriter::new().bytes(b"\x12\x34").finish()?, b"\x12\x34");
@@ -140,8 +140,8 @@ impl MessageWriter {
         self.add_part(|list| add_name(list, name) + add_bytes(list, &[type_high, type_low, class_high, class_low]))
     }
 
-    /// Adds a record, of which the data are written as they are. One with more than 65535 octets of data is longer than any
-    /// message, so that [`finish`](MessageWriter::finish) then fails with `MessageTooLong`.
+    /// Adds a record. Its data are written unchanged. If they have more than 65535 octets,
+    /// [`finish`](MessageWriter::finish) fails with `MessageTooLong`.
     ///
     /// ```
     /// use dns_names_wire::{Class, MessageWriter, Name, RecordType};
@@ -155,7 +155,8 @@ impl MessageWriter {
         self.add_record(RECORD, (owner, record_type, class, ttl), data)
     }
 
-    /// Adds a record, of which the data are a name. It is compressed if the type is one of RFC 1035 (RFC 3597, section 4).
+    /// Adds a record whose data are a name. The name is compressed if the type is one of RFC 1035 (RFC 3597, section
+    /// 4).
     ///
     /// ```
     /// use dns_names_wire::{Class, MessageWriter, Name, RecordType};
@@ -187,7 +188,8 @@ impl MessageWriter {
     ///
     /// # Errors
     ///
-    /// `MessageTooLong` if it would be longer than the maximum, with [the part](Error::part) that does not fit; or `NoMemory`.
+    /// `MessageTooLong` if it would be longer than the maximum, with [the part](Error::part) that does not fit; or
+    /// `NoMemory`.
     ///
     /// ```
     /// use dns_names_wire::{ErrorKind, MessageWriter, Name};
@@ -202,12 +204,12 @@ impl MessageWriter {
         Ok(message)
     }
 
-    /// Replaces `message` by the message. Its memory is kept: with [`clear`](MessageWriter::clear), one message after another
-    /// can be written without an allocation in Rust.
+    /// Replaces `message` with the message. Use it with [`clear`](MessageWriter::clear) to write many messages without
+    /// an allocation in Rust.
     ///
     /// # Errors
     ///
-    /// As [`finish`](MessageWriter::finish); `message` then has the first parts that fit, or nothing.
+    /// The errors of [`finish`](MessageWriter::finish). Then `message` has the first parts that fit, or is empty.
     ///
     /// ```
     /// use dns_names_wire::{MessageWriter, Name};
@@ -227,8 +229,8 @@ impl MessageWriter {
         }
     }
 
-    /// Returns the message, or as many of its first parts as fit into the maximum, and how many these are. If they are not
-    /// all, the caller sets the TC bit and the counts of the header (RFC 1035, section 4.1.1).
+    /// Returns the message, or as many of its first parts as fit, and the number of these parts. If some do not fit,
+    /// the caller has to set the TC bit and the counts of the header (RFC 1035, section 4.1.1).
     ///
     /// # Errors
     ///
@@ -248,7 +250,7 @@ impl MessageWriter {
         Ok((message, parts))
     }
 
-    /// Removes all that was added, and keeps the memory for another message.
+    /// Removes all parts, and keeps the memory for another message.
     ///
     /// ```
     /// use dns_names_wire::{MessageWriter, Name};
@@ -265,7 +267,7 @@ impl MessageWriter {
         self
     }
 
-    /// Replaces `message` by as many of the first parts as fit into the maximum, and returns how many these are.
+    /// Replaces `message` with as many of the first parts as fit, and returns their number.
     fn put_whole_parts(&self, message: &mut Vec<u8>) -> Result<usize, Error> {
         let (items, is_whole) = self.write(self.list.len(), message)?;
         if is_whole && !self.is_over {
@@ -278,7 +280,7 @@ impl MessageWriter {
         Ok(parts)
     }
 
-    /// Returns how many whole parts the first items are, and the part in the middle of which they end.
+    /// Returns the number of whole parts in the first `items` items, and the part that they cut, if any.
     fn whole_parts(&self, items: usize) -> (usize, Option<&Joined>) {
         let mut parts = items;
         for part in &self.joined {
@@ -291,7 +293,8 @@ impl MessageWriter {
         (parts, None)
     }
 
-    /// Writes the items in the first bytes of the list. Returns how many it wrote, and whether these are all.
+    /// Writes the items in the first `end` bytes of the list. Returns the number of items written, and whether these
+    /// are all.
     fn write(&self, end: usize, message: &mut Vec<u8>) -> Result<(usize, bool), Error> {
         door::write_message(&self.list[..end], self.max_size, self.is_canonical, message)
     }
@@ -317,7 +320,7 @@ impl MessageWriter {
         }
     }
 
-    /// Adds a part. The function adds its items to the list, and returns how many.
+    /// Adds a part. The function adds its items to the list, and returns their number.
     fn add_part(&mut self, add: impl FnOnce(&mut Vec<u8>) -> usize) -> &mut Self {
         if !self.is_over {
             let (before, start) = (self.items, self.list.len());
@@ -347,7 +350,7 @@ fn add_name(list: &mut Vec<u8>, name: &Name) -> usize {
     1
 }
 
-/// Adds items of bytes, and returns how many.
+/// Adds items of bytes, and returns their number.
 fn add_bytes(list: &mut Vec<u8>, bytes: &[u8]) -> usize {
     let chunks = bytes.chunks(u16::MAX.into());
     let items = chunks.len();

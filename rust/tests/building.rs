@@ -1,5 +1,5 @@
-//! Messages and records that are made. Expected octets are what dnspython 2.3.0 writes for the same; the others are worked by
-//! hand from RFC 1035, sections 4.1 and 5.1, RFC 6891, section 6.1, and RFC 2181, section 9.
+//! Messages and records that are built. Expected octets are what dnspython 2.3.0 writes for the same, or are worked out
+//! by hand from RFC 1035, sections 4.1 and 5.1, RFC 6891, section 6.1, and RFC 2181, section 9.
 use dns_names_wire::rdata::{CSYNC, MX, SOA, SRV};
 use dns_names_wire::{
     Class, Edns, Error, ErrorKind, Header, Message, MessageBuilder, Name, OpCode, Pairs, RData, Record, RecordBuf,
@@ -32,7 +32,7 @@ fn query() -> Vec<u8> {
     MessageBuilder::query(0x1234, &name("www.example.com."), RecordType::A).edns(&Edns::new(1232)).finish(512).unwrap()
 }
 
-/// Adds the records of the reply, those of later sections first.
+/// Adds the records of the reply, starting with the last section.
 fn fill(reply: &mut MessageBuilder) -> Result<(), Error> {
     let names = ["example.com.", "www.example.com.", "web.example.com.", "mail.example.com.", "ns.example.com."];
     let [zone, www, web, mail, ns] = names.map(name);
@@ -77,7 +77,8 @@ fn a_query_and_its_reply_are_written() {
     assert!(read.is_reply_to(&Message::read(&upper).unwrap()));
 }
 
-/// Each record less has room for fewer octets; TC says that an answer or an authority is not there, and OPT always is.
+/// With fewer octets, fewer records fit. TC is set if one of the Answer or Authority section is left out. OPT always
+/// fits.
 #[test]
 fn a_reply_has_no_more_than_the_size() {
     let octets_of_query = query();
@@ -97,7 +98,7 @@ fn a_reply_has_no_more_than_the_size() {
         assert_eq!(read.additionals().last().map(|record| record.record_type()), Some(RecordType::OPT));
         assert_eq!(Message::read(&whole).unwrap().to_wire(size).unwrap(), message);
     }
-    // The address of ns.example.com. is not needed, so that TC is not set without it.
+    // The address of ns.example.com. is not required, so TC is not set without it.
     let without = whole.len() as u16 - 1;
     assert!(!reply.finish_into(without, &mut message).unwrap());
     assert_eq!(Message::read(&message).unwrap().additionals().len(), 1);
@@ -121,7 +122,7 @@ fn a_reply_has_what_its_request_says() {
     let request = request.finish(512).unwrap();
     let reply = MessageBuilder::reply_to(&Message::read(&request).unwrap()).finish(512).unwrap();
     assert_eq!(reply, octets("abcd a110 0001 0000 0000 0001 016100 0006 0003 00 0029 04d0 00008000 0000"));
-    // A later version, and an OPT record too much
+    // A later version, and one OPT record too many
     let later = octets("0001 0000 0000 0000 0000 0001 00 0029 0200 00010000 0000");
     let two = octets("0001 0000 0000 0000 0000 0002 00 0029 0200 00000000 0000 00 0029 0200 00000000 0000");
     let reply = MessageBuilder::reply_to(&Message::read(&later).unwrap()).finish(512).unwrap();
@@ -172,10 +173,10 @@ fn what_fails_leaves_a_message_unchanged() {
     assert_eq!(message.additional(&root, 0, data.clone()).unwrap_err().kind(), ErrorKind::DataTooLong);
     assert_eq!(RecordBuf::new(&root, 0, data).unwrap_err().number(), 39);
     assert_eq!(message.finish(512), Ok(before));
-    // Octets that are no data of their type are found when the message is written.
+    // Octets that are not data of their type are found when the message is written.
     let wrong = RecordBuf::from_octets(&root, RecordType::A, Class::IN, 0, &[1, 2, 3]).unwrap();
     assert_eq!(message.clone().answers([&wrong]).finish(512).unwrap_err().kind(), ErrorKind::MessageCut);
-    // As a second OPT record is.
+    // So is a second OPT record.
     let opt = RecordBuf::from_octets(&root, RecordType::OPT, Class::from(512), 0, b"").unwrap();
     assert_eq!(message.clone().additionals([&opt, &opt]).finish(512).unwrap_err().kind(), ErrorKind::DuplicateEdns);
     assert_eq!(message.clone().answers([&opt]).finish(512).unwrap_err().kind(), ErrorKind::OutsideAdditionals);
@@ -186,7 +187,7 @@ fn what_fails_leaves_a_message_unchanged() {
     );
 }
 
-/// More than a section counts: none of them have room in a message, and the rest do not change its count.
+/// More records than a section can count: they fit in no message, and do not change its count.
 #[test]
 fn a_section_counts_no_more_than_65535() {
     let record = RecordBuf::from_octets(&Name::root(), RecordType::from(65280), Class::IN, 0, b"").unwrap();
@@ -242,7 +243,7 @@ fn records_are_parsed_and_shown() {
     for (line, hex) in LINES {
         let parsed = record(line);
         assert_eq!(parsed.as_wire(), octets(hex), "{line}");
-        // Hexadecimal digits are shown in lower or upper case.
+        // Hexadecimal digits are printed in lower or upper case.
         assert_eq!(parsed.to_string().replace('\t', " ").to_lowercase(), line.to_lowercase());
         assert_eq!(record(&parsed.to_string()), parsed);
         let again = RecordBuf::new(parsed.owner(), parsed.ttl(), parsed.data().unwrap()).unwrap();
@@ -307,7 +308,7 @@ fn texts_that_are_no_records() {
     assert_eq!(texts(256).parse::<RecordBuf>().unwrap_err().kind(), ErrorKind::BadData);
 }
 
-/// A record of a message, with its names whole.
+/// A record of a message, with its names uncompressed.
 #[test]
 fn records_are_taken_from_messages() {
     let reply = octets(REPLY);

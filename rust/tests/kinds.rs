@@ -1,4 +1,4 @@
-//! Types, classes, bitmaps, serial numbers, master files, and names made of names. Expected values are from RFC 4034,
+//! Types, classes, bitmaps, serial numbers, master files, and names made from names. Expected values are from RFC 4034,
 //! section 4.3, RFC 1982, section 5, RFC 1035, sections 5.1 and 5.3, or counted by hand.
 use dns_names_wire::{parse_ttl, tokens, Class, ErrorKind, Name, RecordType, SerialNumber, Token, TypeSet};
 use std::cmp::Ordering;
@@ -56,7 +56,7 @@ fn codes_have_texts() {
     assert!(RecordType::from(1) < RecordType::from(2));
 }
 
-/// RFC 3597, section 5: also what has no name.
+/// RFC 3597, section 5: also codes without a name.
 #[test]
 fn every_code_is_parsed_from_what_is_shown() {
     for code in 0..=u16::MAX {
@@ -157,7 +157,7 @@ fn tokens_of_a_master_file() {
     assert_eq!(error.to_string(), "at offset 2: a character stands where it may not");
 }
 
-/// Tokens of any length, at any offset, are found in a long text as in a short one.
+/// Tokens of any length, at any offset, are the same in a long text as in a short one.
 #[test]
 fn long_texts_have_the_tokens_of_their_parts() {
     for len in (1..70).chain([127, 128, 129, 1000, 10_000]) {

@@ -1,9 +1,9 @@
-//! Messages of records, and reverse names. Expected bytes are worked by hand from RFC 1035, sections 3.5 and 4.1.1 to 4.1.4,
-//! and RFC 3596, section 2.5.
+//! Messages of records, and reverse names. Expected bytes are worked out by hand from RFC 1035, sections 3.5 and 4.1.1
+//! to 4.1.4, and RFC 3596, section 2.5.
 use dns_names_wire::{records, Class, Error, ErrorKind, MessageWriter, Name, Record, RecordType};
 use std::net::{IpAddr, Ipv4Addr, Ipv6Addr};
 
-/// A referral with glue: www.example.com has to be asked for at ns.example.com. The name of the question is at offset 12, so
+/// A referral with glue: ns.example.com is the server for www.example.com. The name of the question is at offset 12, so
 /// example.com is at 16; the records begin at 33 and 50, and ns.example.com is at 45.
 const REFERRAL: &[u8] = b"\x12\x34\x80\0\0\x01\0\0\0\x01\0\x01\x03www\x07example\x03com\0\0\x01\0\x01\
     \xC0\x10\0\x02\0\x01\0\x02\xA3\0\0\x05\x02ns\xC0\x10\xC0\x2D\0\x01\0\x01\0\x02\xA3\0\0\x04\xC0\0\x02\x01";
@@ -77,7 +77,8 @@ fn parts_of_two_items_and_of_none_are_whole_or_left_out() {
     }
 }
 
-/// The names of NS, DNAME and a private type, in and out of canonical form (RFC 3597, section 4; RFC 4034, section 6.2).
+/// The names of NS, DNAME and a private type, in and out of canonical form (RFC 3597, section 4; RFC 4034, section
+/// 6.2).
 #[test]
 fn types_decide_how_their_names_are_written() {
     let write = |kind: u16, is_canonical| {
@@ -93,7 +94,8 @@ fn types_decide_how_their_names_are_written() {
     assert_eq!(write(65280, true), b"\x01B\x01A\0");
 }
 
-/// A record is wrong at the offset at which it should begin, and its data at which the name in them should, or at their end.
+/// The error of a record has the offset of its start; that of its data has the offset of the name in them, or of their
+/// end.
 #[test]
 fn each_fault_of_a_record_is_its_error() {
     fn fault<T>(read: Result<T, Error>) -> Option<(ErrorKind, usize)> {

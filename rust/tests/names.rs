@@ -1,5 +1,5 @@
-//! The crate as its users call it. Expected values are from RFC 1035, section 4.1.4, RFC 4034, section 6.1, or counted by
-//! hand.
+//! The crate as its users call it. Expected values are from RFC 1035, section 4.1.4, RFC 4034, section 6.1, or counted
+//! by hand.
 use dns_names_wire::{
     names, records, sort_names, tokens, Class, Error, ErrorKind, Labels, MessageWriter, Name, NameRef, Names, Record,
     RecordType, Records, SerialNumber, TextFault, TextRule, Token, Tokens, TypeSet,
@@ -338,7 +338,7 @@ fn hash(name: &Name) -> u64 {
     state.finish()
 }
 
-/// What the crate does itself, the walk over labels, hashes and equality, agrees with what the C library says.
+/// What the crate does itself (iterating over labels, hashes and equality) agrees with the C library.
 #[test]
 fn random_messages() {
     let (mut random, mut last, mut accepted, mut equal) = (Random(1), Name::root(), 0, 0);

@@ -1,8 +1,8 @@
-//! What signatures cover. Expected octets are worked by hand from RFC 4034, sections 3.1.8.1 and 6, RFC 4035, section 5.3.2, and RFC
-//! 6840, section 5.1.
+//! The octets that signatures cover. Expected octets are worked out by hand from RFC 4034, sections 3.1.8.1 and 6, RFC
+//! 4035, section 5.3.2, and RFC 6840, section 5.1.
 use dns_names_wire::{Class, ErrorKind, Message, MessageBuilder, Name, Record, RecordBuf, RecordType};
 
-/// An RRSIG of `a.B.` that covers a type with so many labels, and its fields up to the signature in hexadecimal.
+/// An RRSIG of `a.B.` that covers a type and counts `labels` labels, and its fields up to the signature in hexadecimal.
 fn rrsig(covered: &str, labels: u8) -> (RecordBuf, String) {
     let text = format!("a.B. 5 IN RRSIG {covered} 13 {labels} 3600 20010909014640 20010909014640 7 B. c2ln");
     let code = covered.parse::<RecordType>().unwrap().code();
@@ -79,7 +79,7 @@ fn sections_of_messages_are_read() {
     let read = message.answers().last().unwrap();
     let wanted = octets(&format!("{fields} {FIRST} {SECOND}"));
     assert_eq!(read.signed_octets(message.answers()), Ok(wanted.clone()));
-    // The data of records that are not covered are not looked into.
+    // The data of records that are not covered are not checked.
     let others = message.answers().chain([wrong.as_record()]);
     assert_eq!(read.signed_octets(others), Ok(wanted));
 }

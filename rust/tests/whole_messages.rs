@@ -1,12 +1,12 @@
-//! Whole messages. The message is written by dnspython 2.3.0, and what is expected of it is what it was written from; the others
-//! are worked by hand from RFC 1035, section 4.1, and RFC 6891, section 6.1.
+//! Whole messages. Expected values are what dnspython 2.3.0 wrote the message from, or are worked out by hand from RFC
+//! 1035, section 4.1, and RFC 6891, section 6.1.
 use dns_names_wire::rdata::{CAA, DS, MX, NSEC3, RRSIG, SOA, SRV, SVCB, TLSA};
 use dns_names_wire::{
     Error, ErrorKind, Field, Message, Name, NameRef, OpCode, Pairs, RData, Record, RecordType, ResponseCode, Section,
     Texts, TypeSet,
 };
 
-/// A response with thirteen records of as many types, and an OPT record.
+/// A response with thirteen records, each of another type, and an OPT record.
 const RESPONSE: &str = "\
     123485a7000100090004000103777777076578616d706c6503636f6d0000010001c00c000500010000012c000603776562c010c02d00\
     0100010000003c0004c0000201c02d001c00010000003c001020010db8000000000000000000000001c010000f00010000003c000900\
@@ -54,7 +54,8 @@ fn a_response_is_read() {
     assert!(owners[3..].iter().all(|owner| owner == "example.com."));
     assert!(message.answers().skip(1).all(|record| record.ttl() == 60));
     assert!(message.authorities().all(|record| record.ttl() == 3600));
-    // two lines of the header; EDNS, one question, nine answers and four authorities, each after an empty line and a title
+    // two lines of the header; EDNS, one question, nine answers and four authorities, each after an empty line and a
+    // title
     assert_eq!(message.to_string().lines().count(), 2 + 3 + 3 + 11 + 6);
     assert_eq!((message.octets(), message.trailing().len()), (&response[..], 0));
     let edns = message.edns().unwrap().unwrap();
@@ -145,7 +146,7 @@ fn data_are_read_by_type() {
     }
 }
 
-/// Data that are written have the octets that were read, names not compressed, and are read as the same.
+/// Data that were read and are written again have the same octets, without compression, and read back as the same.
 #[test]
 fn data_are_written_as_they_are_read() {
     let response = octets(RESPONSE);
@@ -201,7 +202,7 @@ fn each_beginning_of_a_message_fails_at_its_item() {
 #[test]
 fn pointers_are_counted() {
     let response = octets(RESPONSE);
-    // The owners of A and AAAA lead over two pointers, the root over none, and the others over one each.
+    // The owners of A and AAAA follow two pointers, the root none, and the others one each.
     assert!(Message::read_limited(&response, 15).is_ok());
     let error = Message::read_limited(&response, 14).unwrap_err();
     assert_eq!(
@@ -219,7 +220,7 @@ fn edns_breaks_its_rules() {
     assert_eq!(kind(&[]), Ok(()));
     assert_eq!(kind(&[opt("00", "")]), Ok(()));
     assert_eq!(kind(&[opt("00", ""), opt("00", "")]), Err(ErrorKind::DuplicateEdns));
-    // An OPT record as an answer or as an authority.
+    // An OPT record in the Answer or Authority section.
     for counts in ["0001 0000 0000", "0000 0001 0000", "0001 0000 0001", "0000 0001 0001"] {
         let octets = octets(&format!("0000 8000 0000 {counts} {}", [opt("00", ""), opt("00", "")].concat()));
         let message = Message::read(&octets).unwrap();
@@ -258,7 +259,7 @@ fn fields_that_are_none() {
 
 #[test]
 fn a_record_is_a_line() {
-    // . CH TXT, of 250 strings of 255 octets that are each shown as four characters
+    // . CH TXT, of 250 strings of 255 octets, each printed as four characters
     let data: Vec<u8> = [&[255][..], &[0; 255]].concat().repeat(250);
     let octets = [&b"\0\0\x10\0\x03\0\0\0\x09\xFA\0"[..], &data].concat();
     let line = format!(".\t9\tCH\tTXT\t{}", vec![format!("\"{}\"", "\\000".repeat(255)); 250].join(" "));
@@ -295,8 +296,8 @@ fn a_message_is_shown_with_edns_or_with_what_is_none() {
     );
 }
 
-/// Data by chance, often with a fault: the data by type fail as the first field that is none does, or have the octets that the
-/// fields have.
+/// Random data, often with a fault: the data by type fail as the first wrong field does, or have the same octets as the
+/// fields.
 #[test]
 fn data_fail_as_their_fields_do() {
     let mut state = 1035_u32;
@@ -308,7 +309,7 @@ fn data_fail_as_their_fields_do() {
     };
     let (mut whole, mut broken) = (0, 0);
     for _ in 0..40_000 {
-        // a name, and a record of it
+        // a name, and a record that it owns
         let code = [1, 2, 6, 13, 15, 16, 17, 28, 33, 35, 43, 46, 47, 50, 51, 62, 64, 99, 108, 109, 257, 65280]
             [chance(22) as usize];
         let mut octets = b"\x01a\x01b\0\xC0\0".to_vec();

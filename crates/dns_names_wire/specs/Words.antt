@@ -135,7 +135,7 @@ pub use Rattle.dnw_field_text.specs.Tags.{IsTag, IsTagText}
 pub use Rattle.dnw_field_text.specs.Strings.{with_octet}
 pub use Rattle.dnw_field_text.specs.Times.{IsDateText, IsDay, IsMoment, IsTimeText, two_at}
 -- Texts of the data of records.
-pub use Rattle.dnw_data_text.specs.DataTexts.{FailsText, IsDataText, IsPlainData, IsTextOf}
+pub use Rattle.dnw_data_text.specs.DataTexts.{ArePlain, FailsText, IsDataText, IsPlainData, IsTextOf}
 pub use Rattle.dnw_data_text.specs.Generic.{generic_text, max_data, IsGeneric}
 pub use Rattle.dnw_record_text.specs.RecordLines.{FailsRecordLine, IsRecordLine, line_octets, record_line}
 pub use Rattle.dnw_data_text.specs.declared.error.DataTextError.{DataTextError}
@@ -146,7 +146,7 @@ pub use Rattle.dnw_svcb_text.specs.ParamTexts.{param_text, params_text}
 pub use Rattle.dnw_svcb_text.specs.ParamWords.{IsParam}
 pub use Rattle.dnw_svcb_text.specs.ParamLaws.{IsParamValue, ParamsComeBack}
 pub use Rattle.dnw_data_text.specs.DataTextLaws.{AddressesComeBack as FieldAddressesComeBack, CountedComeBack, IdentifiersComeBack as FieldIdentifiersComeBack, NamesComeBack as FieldNamesComeBack, NumbersComeBack, OctetsComeBack, SegmentsComeBack, StringsComeBack, TypesComeBack}
-pub use Rattle.dnw_data_text.specs.DataTextLaws.{DataAreUnambiguous, DataComeBack, GenericComesBack, ListsComeBack, PrintedDataAreSame, TextsAreParsed, IsReadBack as IsFieldReadBack, FieldComesBack, Follows as FollowsField, IsRead as IsReadType, IsData as IsDataOctets}
+pub use Rattle.dnw_data_text.specs.DataTextLaws.{DataAreUnambiguous, DataComeBack, GenericComesBack, GenericIsParsed, ListsComeBack, PrintedDataAreSame, TextsAreParsed, IsReadBack as IsFieldReadBack, FieldComesBack, Follows as FollowsField, IsRead as IsReadType, IsData as IsDataOctets}
 pub use Rattle.dnw_record_text.specs.RecordTextLaws.{LinesAreUnambiguous, LinesComeBack, PrintedLinesAreSame, line_head}
 -- Whole messages: headers, sections and EDNS.
 pub use Rattle.dnw_header.specs.HeaderLaws.{HeaderFits, HeadersReadBack, HeadersWriteBack}

@@ -36,13 +36,14 @@ pub mod record_data {
     pub use dnw_sets::record_data::RecordDataDecodable;
 }
 
-/// Codes: types and classes of records, sets of types, and serial numbers.
+/// Codes: types and classes of records, sets of types, serial numbers, and types that are read from the data of a record.
 pub mod codes {
     pub use dnw_codes::code_text::{CodeText, MAX_CODE_TEXT};
     pub use dnw_codes::dns_class::DNSClass;
     pub use dnw_codes::record_type::RecordType;
     pub use dnw_codes::serial_number::SerialNumber;
     pub use dnw_error::from_str::FromStr;
+    pub use dnw_sets::record_data::RecordDataDecodable;
     pub use dnw_sets::record_type_set::{RecordTypeSet, TypeIter};
 }
 
@@ -87,6 +88,7 @@ pub mod encoder {
 /// The errors of this layer.
 pub mod error {
     pub use dnw_error::error::{DecodeError, ProtoError, ProtoResult};
+    pub use dnw_txt::errors::{LexerError, ParseError, ParseResult};
 }
 
 /// Texts of single values in master files: numbers, octets, times, addresses, character strings, tags, hashed names and
@@ -150,11 +152,14 @@ pub mod message {
     pub use dnw_message_writer::writer::{AddError, CopyError, Entry, MessageWriter, copy, write};
 }
 
-/// Domain names, and what follows from the definitions of reading them.
+/// Domain names, owned and within a message, and what follows from the definitions of reading them.
 pub mod name {
     pub use dnw_form::label_iter::LabelIter;
     pub use dnw_name::name::Name;
+    pub use dnw_name::name_ref::NameRef;
     pub use dnw_reading::laws;
+    pub use dnw_reading::ref_labels::RefLabels;
+    pub use dnw_reading::walk::ReadSteps;
     pub use dnw_reverse::laws::{names_give_prefixes, reverse_names_come_back};
 }
 

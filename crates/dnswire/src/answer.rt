@@ -1,51 +1,26 @@
 //! What the program answers to its words.
 
-mod messages;
 mod names;
 
-use dns_names_wire::message::{EdnsError, MessageError};
 use dns_names_wire::{BinDecoder, DecodeError, Name, ProtoError};
 use hex::FromHexError;
 use std::alloc::{AllocError, AllocFailed, Global};
 use std::io;
-use std::io::{Read, Write};
+use std::io::Write;
 use thiserror::Error;
 
 /// Why there is no answer.
 #[derive(Debug, Drop, Error)]
 enum Refusal {
     /// The words ask for nothing that the program does.
-    #[error("usage: dnswire whole NAME | read START HEX | names NAME.. | message HEX | message - | query NAME TYPE [--edns]")]
+    #[error("usage: dnswire whole NAME | read START HEX | names NAME..")]
     Usage,
-    /// Standard input could not be read.
-    #[error("refused: standard input: {0}")]
-    Input(io::Error),
     /// A name was refused, or memory ran out.
     #[error("refused: {0}")]
     Proto(ProtoError),
     /// A name within a message was refused.
     #[error("refused: {0}")]
     Decode(DecodeError),
-    /// A message was refused.
-    #[error("refused: {0}")]
-    Message(MessageError),
-    /// An `OPT` record is outside the additional section.
-    #[error("refused: {0}")]
-    Outside(EdnsError),
-    /// What the additional section says by EDNS was refused.
-    #[error("refused: Additionals from offset {offset} on: {error}")]
-    Edns {
-        /// The offset at which the additional records begin.
-        offset: usize,
-        /// What is wrong.
-        error: EdnsError,
-    },
-}
-
-impl From<io::Error> for Refusal {
-    fn from(e: io::Error) -> Self {
-        Refusal::Input(e)
-    }
 }
 
 impl From<ProtoError> for Refusal {
@@ -57,12 +32,6 @@ impl From<ProtoError> for Refusal {
 impl From<DecodeError> for Refusal {
     fn from(e: DecodeError) -> Self {
         Refusal::Decode(e)
-    }
-}
-
-impl From<MessageError> for Refusal {
-    fn from(e: MessageError) -> Self {
-        Refusal::Message(e)
     }
 }
 
@@ -79,14 +48,9 @@ impl From<AllocError> for Refusal {
 }
 
 /// Writes the answer to the words, the program's own name not among them, and returns the exit status: 0 for an
-/// answer, 1 for a refusal, 2 for words that ask for nothing.
-pub fn answer<I: Read, W: Write>(
-    alloc: Global,
-    words: &[String],
-    input: &mut I,
-    out: &mut W,
-) -> io::Result<u8> {
-    match reply(alloc, words, input) {
+/// answer, 1 for a refusal, 2 for words that ask for nothing. It fails if the answer cannot be written.
+pub fn answer<W: Write>(alloc: Global, words: &[String], out: &mut W) -> io::Result<u8> {
+    match reply(alloc, words) {
         Ok(text) => {
             writeln!(out, "{text}")?;
             Ok(0)
@@ -101,25 +65,13 @@ pub fn answer<I: Read, W: Write>(
     }
 }
 
-fn reply<I: Read>(alloc: Global, words: &[String], input: &mut I) -> Result<String, Refusal> {
+fn reply(alloc: Global, words: &[String]) -> Result<String, Refusal> {
     match words {
         [command, name] if command.as_str() == "whole" => whole(alloc, name.as_str()),
         [command, start, message] if command.as_str() == "read" => {
             read(alloc, start.as_str(), message.as_str())
         }
         [command, _, ..] if command.as_str() == "names" => names::shared(alloc, &words[1..]),
-        [command, dash] if command.as_str() == "message" && dash.as_str() == "-" => {
-            messages::listing(alloc, given(alloc, input)?.as_slice())
-        }
-        [command, message] if command.as_str() == "message" => {
-            messages::listing(alloc, octets(alloc, message.as_str())?.as_slice())
-        }
-        [command, name, kind] if command.as_str() == "query" => {
-            messages::query(alloc, name.as_str(), kind.as_str(), false)
-        }
-        [command, name, kind, edns] if command.as_str() == "query" && edns.as_str() == "--edns" => {
-            messages::query(alloc, name.as_str(), kind.as_str(), true)
-        }
         _ => Err(Refusal::Usage),
     }
 }
@@ -132,8 +84,8 @@ fn whole(alloc: Global, name: &str) -> Result<String, Refusal> {
 
 /// The name at a place of a message, and where the name's own octets end.
 fn read(alloc: Global, start: &str, message: &str) -> Result<String, Refusal> {
-    let message = octets(alloc, message)?;
     let start = place(start)?;
+    let message = octets(alloc, message)?;
     let mut decoder = BinDecoder::new(message.as_slice());
     if decoder.read_slice(start).is_err() {
         return Err(Refusal::Usage);
@@ -149,22 +101,6 @@ fn place(text: &str) -> Result<usize, Refusal> {
         return Err(Refusal::Usage);
     }
     text.parse::<usize>().map_err(|_| Refusal::Usage)
-}
-
-/// Octets from standard input. If all of it is hexadecimal digits, spaces and ends of lines, the digits are the octets; else it
-/// is the octets.
-fn given<I: Read>(alloc: Global, input: &mut I) -> Result<Vec<u8>, Refusal> {
-    let mut bytes = Vec::new(alloc);
-    input.read_to_end(&mut bytes)?;
-    let mut digits = String::new(alloc);
-    for byte in &bytes {
-        if byte.is_ascii_hexdigit() {
-            digits.push(char::from(*byte))?;
-        } else if !byte.is_ascii_whitespace() {
-            return Ok(bytes);
-        }
-    }
-    octets(alloc, digits.as_str())
 }
 
 /// Octets in hexadecimal digits of either case.

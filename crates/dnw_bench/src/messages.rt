@@ -40,8 +40,8 @@ fn header_size(header: &Header) -> u64 {
 
 fn query_size(query: &QueryRef<'_>) -> u64 {
     name_size(query.name())
-        .wrapping_add(u64::from(u16::from(query.query_type())))
-        .wrapping_add(u64::from(u16::from(query.query_class())))
+        .wrapping_add(u64::from(query.query_type().code()))
+        .wrapping_add(u64::from(query.query_class().code()))
 }
 
 fn records_size(records: Records<'_>) -> u64 {
@@ -57,8 +57,8 @@ fn record_size(record: &RecordRef<'_>) -> u64 {
         return 0;
     }
     name_size(record.owner())
-        .wrapping_add(u64::from(u16::from(record.record_type())))
-        .wrapping_add(u64::from(u16::from(record.class())))
+        .wrapping_add(u64::from(record.record_type().code()))
+        .wrapping_add(u64::from(record.class().code()))
         .wrapping_add(u64::from(record.ttl()))
         .wrapping_add(fields_size(&mut record.fields()))
 }
@@ -125,7 +125,7 @@ fn field_size(field: &Field<'_>) -> u64 {
             let octets = address.octets();
             u64::from(octets[0]).wrapping_add(u64::from(octets[15]))
         }
-        Field::TypeCode(kind) => u64::from(u16::from(*kind)),
+        Field::TypeCode(kind) => u64::from(kind.code()),
         Field::Time(time) => u64::from(time.get()),
         Field::Counted(octets) | Field::Octets(octets) => octets_size(octets),
         Field::Texts(items) | Field::Types(items) | Field::Params(items) => items_size(items),

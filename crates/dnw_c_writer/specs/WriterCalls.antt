@@ -1,6 +1,6 @@
 -- How the functions for C write a message item by item, and why one puts nothing. The sections have numbers: 1 for the questions, 2
 -- for the answers, 3 for the authorities and 4 for the additional records (RFC 1035, section 4.1).
-use Rattle.std.specs.Prelude.{◌≡◌, ◌≢◌, ◌<◌, ◌≤◌, ◌⊎◌, ℕ, suc, ◌+◌, ◌*◌, ◌^◌, Bool, List, [], ◌∷◌, ◌++◌, length, take, drop, replicate}
+use Rattle.std.specs.Prelude.{◌≡◌, ◌≢◌, ◌<◌, ◌≤◌, ◌⊎◌, ◌==◌, ℕ, suc, ◌+◌, ◌*◌, ◌^◌, if◌then◌else◌, Bool, true, List, [], ◌∷◌, ◌++◌, length, take, drop, replicate}
 use Rattle.std.specs.Int.{w16, w32, to_be_bytes}
 use Rattle.dnw_base.specs.Limits.{max_message}
 use Rattle.dnw_codes.specs.DnsClasses.{class_code}
@@ -57,10 +57,12 @@ edns_ttl rcode_high version dnssec_ok = rcode_high * 2 ^ 24 + version * 2 ^ 16 +
 -- ---- items
 
 -- An item of a section and of so many octets may follow on those of a message: its section is that of the last item or a later one,
--- the message has its header, the buffer has room, and the count of the section can say one more.
+-- the message has its header, and it stays within the 65,535 octets that a message may have (RFC 1035, section 4.2.2); the buffer
+-- has room, and the count of the section can say one more.
 pub record HasRoom (section len : ℕ) (w : Writer) (message : List ℕ) : Type 0 where
   pub in_order : w.section ≤ section
   pub begun : header_size ≤ w.len
+  pub short : w.len + len ≤ max_message
   pub fits : w.len + len ≤ length message
   pub countable : count_of message section < max_message
 
@@ -69,9 +71,10 @@ abbrev pub FailsToAppend : ℕ → ℕ → Writer → List ℕ → Failure → T
 FailsToAppend section len w message failure =
     ((section < w.section) × (failure ≡ why.BadItem))
     ⊎ ((w.section ≤ section) × (w.len < header_size) × (failure ≡ why.MessageCut))
-    ⊎ ((w.section ≤ section) × (header_size ≤ w.len) × (length message < w.len + len) × (failure ≡ why.NoRoom))
-    ⊎ ((w.section ≤ section) × (header_size ≤ w.len) × (w.len + len ≤ length message) × (count_of message section ≡ max_message)
-    × (failure ≡ why.MessageTooLong))
+    ⊎ ((w.section ≤ section) × (header_size ≤ w.len) × (max_message < w.len + len) × (failure ≡ why.MessageTooLong))
+    ⊎ ((w.section ≤ section) × (header_size ≤ w.len) × (w.len + len ≤ max_message) × (length message < w.len + len) × (failure ≡ why.NoRoom))
+    ⊎ ((w.section ≤ section) × (header_size ≤ w.len) × (w.len + len ≤ max_message) × (w.len + len ≤ length message)
+    × (count_of message section ≡ max_message) × (failure ≡ why.MessageTooLong))
 
 -- The item has room, and its octets are put after the message, and counted. The other octets are unchanged.
 abbrev pub Appends : ℕ → List ℕ → Writer → List ℕ → List ℕ → Type 0
@@ -99,12 +102,46 @@ PutsQuestion name query_type class before after old new =
 abbrev pub FailsToPutQuestion : List ℕ → Writer → List ℕ → Failure → Type 0
 FailsToPutQuestion name w message failure = IsNoForm name failure ⊎ (IsForm name × FailsToAppend 1 (length name + 4) w message failure)
 
+-- ---- OPT records
+
+-- the type of OPT records
+abbrev pub is_opt : ℕ → Bool
+is_opt record_type = record_type == type_code kind.OPT
+
+-- An OPT record is the only one of its message, among the additional records, and owned by the root (RFC 6891, section 6.1.1).
+pub record IsOnlyOpt (section : ℕ) (owner : List ℕ) (w : Writer) : Type 0 where
+  pub inside : section ≡ 4
+  pub first : w.opt_count ≡ 0
+  pub of_root : owner ≡ 0 ∷ []
+
+-- A record of any other type may follow on what the message has.
+abbrev pub IsAllowed : ℕ → List ℕ → ℕ → Writer → Type 0
+IsAllowed section owner record_type w = is_opt record_type ≡ true → IsOnlyOpt section owner w
+
+-- It is an OPT record that may not, and the first of these rules that is broken decides why.
+abbrev pub FailsToAllow : ℕ → List ℕ → ℕ → Writer → Failure → Type 0
+FailsToAllow section owner record_type w failure =
+    (is_opt record_type ≡ true)
+    × (((section ≢ 4) × (failure ≡ why.OutsideAdditionals))
+    ⊎ ((section ≡ 4) × (w.opt_count ≢ 0) × (failure ≡ why.DuplicateEdns))
+    ⊎ ((section ≡ 4) × (w.opt_count ≡ 0) × (owner ≢ 0 ∷ []) × (failure ≡ why.OwnerNotRoot)))
+
+-- how many OPT records a message has after one more record
+abbrev pub opts_after : ℕ → ℕ → ℕ
+opts_after record_type count = if is_opt record_type then 1 else count
+
+-- ---- records
+
+-- what is known of a message after one more record
+abbrev pub after_record : ℕ → ℕ → ℕ → Writer → Writer
+after_record section record_type len w = record { len = w.len + len; section = section; opt_count = opts_after record_type w.opt_count }
+
 -- A record is appended: its owner, its type, class, time to live and the length of its data, and these.
 abbrev pub AppendsRecord : ℕ → List ℕ → ℕ → ℕ → ℕ → List ℕ → Writer → Writer → List ℕ → List ℕ → Type 0
 AppendsRecord section owner record_type class ttl octets before after old new =
     (length octets ≤ max_message)
     × Appends section (owner ++ (record_fields record_type class ttl (length octets) ++ octets)) before old new
-    × (after ≡ after_item section (length owner + (10 + length octets)) before)
+    × (after ≡ after_record section record_type (length owner + (10 + length octets)) before)
 
 -- Its data are longer than two octets can say, or it may not follow.
 abbrev pub FailsToAppendRecord : ℕ → List ℕ → List ℕ → Writer → List ℕ → Failure → Type 0
@@ -118,22 +155,22 @@ IsOfRecords section = (2 ≤ section) × (section ≤ 4)
 
 abbrev pub PutsRecord : ℕ → List ℕ → ℕ → ℕ → ℕ → List ℕ → Writer → Writer → List ℕ → List ℕ → Type 0
 PutsRecord section owner record_type class ttl octets before after old new =
-    IsOfRecords section × IsForm owner × AppendsRecord section owner record_type class ttl octets before after old new
+    IsOfRecords section × IsForm owner × IsAllowed section owner record_type before
+    × AppendsRecord section owner record_type class ttl octets before after old new
 
-abbrev pub FailsToPutRecord : ℕ → List ℕ → List ℕ → Writer → List ℕ → Failure → Type 0
-FailsToPutRecord section owner octets w message failure =
+abbrev pub FailsToPutRecord : ℕ → List ℕ → ℕ → List ℕ → Writer → List ℕ → Failure → Type 0
+FailsToPutRecord section owner record_type octets w message failure =
     (((section < 2) ⊎ (4 < section)) × (failure ≡ why.BadItem))
     ⊎ (IsOfRecords section × IsNoForm owner failure)
-    ⊎ (IsOfRecords section × IsForm owner × FailsToAppendRecord section owner octets w message failure)
+    ⊎ (IsOfRecords section × IsForm owner × FailsToAllow section owner record_type w failure)
+    ⊎ (IsOfRecords section × IsForm owner × IsAllowed section owner record_type w × FailsToAppendRecord section owner octets w message failure)
 
 -- The OPT record of a message that has none is appended to the additional records (RFC 6891, section 6.1.2): owned by the root, with
 -- the payload size as its class, and the options as its data.
 abbrev pub PutsEdns : ℕ → ℕ → List ℕ → Writer → Writer → List ℕ → List ℕ → Type 0
 PutsEdns max_payload ttl options before after old new =
     (before.opt_count ≡ 0)
-    × AppendsRecord 4 (0 ∷ []) (type_code kind.OPT) (class_code (class.OPT max_payload)) ttl options before
-    (record { len = after.len; section = after.section; opt_count = before.opt_count }) old new
-    × (after.opt_count ≡ 1)
+    × AppendsRecord 4 (0 ∷ []) (type_code kind.OPT) (class_code (class.OPT max_payload)) ttl options before after old new
 
 abbrev pub FailsToPutEdns : List ℕ → Writer → List ℕ → Failure → Type 0
 FailsToPutEdns options w message failure =

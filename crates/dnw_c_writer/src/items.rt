@@ -4,6 +4,7 @@ ghost use Rattle.dnw_base.specs.Limits.{max_message, max_name};
 ghost use Rattle.dnw_c_writer.specs.WriterCalls.{Appends, FailsToAppend, HasRoom, after_item, count_of, put_at, record_fields};
 
 use crate::writer::Writer;
+use dnw_base::limits::MAX_MESSAGE;
 use dnw_failure::failure::Failure;
 use dnw_header::header::Header;
 
@@ -44,7 +45,11 @@ fn next_count(message: &[u8], section: u32, len: usize, writer: &Writer) -> Resu
     if writer.len < Header::LEN {
         return Err(Failure::MessageCut);
     }
-    if message.len() < writer.len || message.len() - writer.len < len {
+    let most = usize::from(MAX_MESSAGE);
+    if writer.len > most || most - writer.len < len {
+        return Err(Failure::MessageTooLong);
+    }
+    if message.len() < writer.len + len {
         return Err(Failure::NoRoom);
     }
     let at = 2 + 2 * section as usize;

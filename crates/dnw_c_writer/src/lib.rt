@@ -9,6 +9,8 @@
 
 /// Items of messages, as they are appended and counted.
 pub mod items;
+/// `OPT` records, of which a message has one at most.
+pub mod opts;
 /// Names that are given by their wire forms.
 pub mod owners;
 /// The functions for C.

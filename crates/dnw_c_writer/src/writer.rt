@@ -1,11 +1,12 @@
 //! Messages, written item by item.
-ghost use Rattle.std.specs.Prelude.{◌≡◌, ◌≢◌, ◌≤◌, length, IfOk, OnOk, IfErr, OnErr};
+ghost use Rattle.std.specs.Prelude.{◌≡◌, ◌≢◌, ◌<◌, ◌≤◌, ◌^◌, length, IfOk, OnOk, IfErr, OnErr};
 ghost use Rattle.dnw_base.specs.Limits.{max_name};
 ghost use Rattle.dnw_failure.specs.Failures.{NumberOf};
 ghost use Rattle.dnw_c_writer.specs.Messages.{IsMessage};
 ghost use Rattle.dnw_c_writer.specs.WriterCalls.{AppendsRecord, Begins, FailsToAppendRecord, FailsToBegin, FailsToPutEdns, FailsToPutQuestion, FailsToPutRecord, PutsEdns, PutsQuestion, PutsRecord, edns_ttl, question_fields};
 
 use crate::items::{append, record_fields};
+use crate::opts::{check_opt, opts_after};
 use crate::owners::check_form;
 use dnw_codes::dns_class::DNSClass;
 use dnw_codes::record_type::RecordType;
@@ -18,7 +19,7 @@ const QUESTIONS: u32 = 1;
 /// The number of the section of answers.
 const ANSWERS: u32 = 2;
 /// The number of the section of additional records.
-const ADDITIONALS: u32 = 4;
+pub(crate) const ADDITIONALS: u32 = 4;
 
 /// What is known of a message that is written: the number of its octets, the number of the section of the last item, or 0, and the
 /// number of `OPT` records.
@@ -87,7 +88,7 @@ pub extern "C" fn dnw_writer_record(
     ensures ok { result ≡ 0
         → PutsRecord section owner.now record_type class ttl octets.now writer.old writer.new message.old message.new }
     ensures whole { result ≡ 0 → IsMessage message.old writer.old → IsMessage message.new writer.new }
-    ensures err { result ≢ 0 → NumberOf (FailsToPutRecord section owner.now octets.now writer.old message.old) result }
+    ensures err { result ≢ 0 → NumberOf (FailsToPutRecord section owner.now record_type octets.now writer.old message.old) result }
     ensures same { result ≢ 0 → (message.new ≡ message.old) × (writer.new ≡ writer.old) }
 {
     match put_record(
@@ -186,13 +187,15 @@ fn put_record(
     writer: &mut Writer,
 ) -> Result<(), Failure>
     ensures ok { OnOk result (PutsRecord section owner.now record_type class ttl octets.now writer.old writer.new message.old message.new) }
-    ensures err { IfErr result (FailsToPutRecord section owner.now octets.now writer.old message.old) }
+    ensures err { IfErr result (FailsToPutRecord section owner.now record_type octets.now writer.old message.old) }
     ensures same { OnErr result ((message.new ≡ message.old) × (writer.new ≡ writer.old)) }
+    ensures fits { record_type < 2 ^ 16 }
 {
     if section < ANSWERS || section > ADDITIONALS {
         return Err(Failure::BadItem);
     }
     check_form(owner)?;
+    check_opt(section, owner, record_type, writer)?;
     append_record(
         message,
         section,
@@ -231,9 +234,7 @@ fn put_edns(
         ttl,
         options,
         writer,
-    )?;
-    writer.opt_count = 1;
-    Ok(())
+    )
 }
 
 /// Appends a record whose owner is a wire form.
@@ -257,7 +258,9 @@ fn append_record(
         return Err(Failure::DataTooLong);
     };
     let fields = record_fields(record_type, class, ttl, len);
-    append(message, section, owner, &fields, octets, writer)
+    append(message, section, owner, &fields, octets, writer)?;
+    writer.opt_count = opts_after(record_type, writer.opt_count);
+    Ok(())
 }
 
 /// Returns the fields of a question after its name.

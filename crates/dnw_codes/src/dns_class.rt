@@ -56,6 +56,28 @@ macro_rules! classes {
 const NAMED: &[DNSClass] = &classes!(all);
 
 impl DNSClass {
+    /// Returns the code of the class on the wire, as `u16::from` does.
+    ///
+    /// ```
+    /// DNSClass::IN.code(); // 1
+    /// DNSClass::OPT(100).code(); // 512
+    /// ```
+    #[inline]
+    pub fn code(self) -> u16
+        ensures { result ≡ class_code self }
+    {
+        u16::from(self)
+    }
+
+    /// Returns the name of the class in capitals, or `OPT` or `UNKNOWN`, as `<&str>::from` does.
+    /// [`to_text`](DNSClass::to_text) has a text for those two too.
+    #[inline]
+    pub fn name(self) -> &'static str
+        ensures { result.now ≡ class_name self }
+    {
+        <&str>::from(self)
+    }
+
     /// Returns the class with this name, in capitals, or `ANY` for `*` (RFC 1035, section 3.2.5). No text names `OPT` or
     /// `Unknown`.
     #[tactic(auto, unfolding(crate::specs::DnsClasses::class_of_name))]

@@ -152,6 +152,28 @@ macro_rules! types {
 const NAMED: &[RecordType] = &types!(all);
 
 impl RecordType {
+    /// Returns the code of the type on the wire, as `u16::from` does.
+    ///
+    /// ```
+    /// RecordType::AAAA.code(); // 28
+    /// RecordType::Unknown(65280).code(); // 65280
+    /// ```
+    #[inline]
+    pub fn code(self) -> u16
+        ensures { result ≡ type_code self }
+    {
+        u16::from(self)
+    }
+
+    /// Returns the name of the type in capitals, or `Unknown`, as `<&str>::from` does.
+    /// [`to_text`](RecordType::to_text) has a text for `Unknown` too.
+    #[inline]
+    pub fn name(self) -> &'static str
+        ensures { result.now ≡ type_name self }
+    {
+        <&str>::from(self)
+    }
+
     /// Returns `true` for `ANY`.
     #[inline]
     pub fn is_any(self) -> bool

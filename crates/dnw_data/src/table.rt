@@ -78,6 +78,7 @@ pub fn fields_of(record_type: RecordType) -> &'static [Kind]
         16 => &[TEXTS], // TXT
         17 => &[LOWERED, LOWERED], // RP
         18 => &[Kind::U16, LOWERED], // AFSDB
+        21 => &[Kind::U16, LOWERED], // RT
         // SIG
         24 => &[
             Kind::TypeCode,
@@ -91,8 +92,10 @@ pub fn fields_of(record_type: RecordType) -> &'static [Kind]
             BASE64,
         ],
         25 => &[Kind::U16, Kind::U8, Kind::U8, BASE64], // KEY
+        26 => &[Kind::U16, LOWERED, LOWERED], // PX
         28 => &[Kind::Ipv6], // AAAA
         29 => &[HEX], // LOC
+        30 => &[LOWERED, HEX], // NXT
         33 => &[Kind::U16, Kind::U16, Kind::U16, LOWERED], // SRV
         35 => &[Kind::U16, Kind::U16, TEXT, TEXT, TEXT, LOWERED], // NAPTR
         36 => &[Kind::U16, LOWERED], // KX

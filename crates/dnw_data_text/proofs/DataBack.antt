@@ -17,7 +17,7 @@ use Rattle.dnw_field_text.specs.Octets.{IsOctets}
 use Rattle.dnw_svcb_text.proofs.ParamTextsBack.{drop-fit, take-fit}
 use Rattle.dnw_data.specs.FieldWires.{field_wire}
 use Rattle.dnw_word_text.specs.Words.{is_end, word, after_spaces}
-use Rattle.dnw_data_text.specs.Generic.{mark, max_data}
+use Rattle.dnw_data_text.specs.Generic.{mark, max_data, IsGeneric}
 use Rattle.dnw_data_text.specs.Parsing.{takes_all, AreFieldTexts}
 use Rattle.dnw_data_text.specs.Printing.{Prints, PrintsFields}
 use Rattle.dnw_data_text.specs.DataTexts.{without_space, AreWire, IsOwnText, IsPlainData, IsTextOf}
@@ -107,7 +107,8 @@ same-start origin (kind ∷ kinds) text start (v ∷ values) e are = rw e are
 -- ---- data
 
 own-back : (origin : Option NameValue) (r : RecordValue) (text : List ℕ) → AreBytes r.message → IsOwnText (record_fields r) text
-    → (own : List ℕ) × IsPlainData r own × ((max_data < length own) ⊎ IsTextOf origin (fields_of (type_code r.record_type)) text own)
+    → (own : List ℕ) × IsPlainData r own
+    × ((max_data < length own) ⊎ IsGeneric text own ⊎ IsTextOf origin (fields_of (type_code r.record_type)) text own)
 own-back origin r text h (form, printed, prints, e) =
     let kinds = fields_of (type_code r.record_type) in
     let d = (record_fields r).reader in
@@ -121,7 +122,7 @@ own-back origin r text h (form, printed, prints, e) =
         | inl many ↦ inl many
         | inr few ↦
             let are = back few in
-            inr (inr (λ same. are.other (ap word (sym start) ∙ same), form, values, same-start origin kinds printed text values start (are.reads origin), refl))
+            inr (inr (inr (λ same. are.other (ap word (sym start) ∙ same), form, values, same-start origin kinds printed text values start (are.reads origin), refl)))
       ],
     )
 

@@ -53,7 +53,7 @@ some zero = omega arith
 some (suc n) = omega arith
 
 -- what is after a length octet
-counted-fit : (shown : Shown) (d : Decoder) → AreBytes d.bytes → HasLeft d (size_at (kinds.Counted shown) d) → IsString (drop 1 (own_at (kinds.Counted shown) d))
+pub counted-fit : (shown : Shown) (d : Decoder) → AreBytes d.bytes → HasLeft d (size_at (kinds.Counted shown) d) → IsString (drop 1 (own_at (kinds.Counted shown) d))
 counted-fit shown d h left =
     let own = own_at (kinds.Counted shown) d in
     let len = own-len (kinds.Counted shown) d left in

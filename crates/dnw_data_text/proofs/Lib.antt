@@ -15,3 +15,4 @@ pub mod FieldValues
 pub mod DataBack
 pub mod NoFault
 pub mod OneText
+pub mod Wires

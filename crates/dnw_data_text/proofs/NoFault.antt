@@ -1,5 +1,5 @@
 -- A text that is data of a type has no fault.
-use Rattle.std.proofs.Common.{◌≡◌, ℕ, Bool, true, false, List, [], ◌∷◌, length, sym, ◌∙◌, subst, inl, inr}
+use Rattle.std.proofs.Common.{◌≡◌, ◌⊎◌, ℕ, Bool, true, false, List, [], ◌∷◌, length, sym, ◌∙◌, subst, inl, inr}
 use Rattle.std.specs.Prelude.{Option}
 use Rattle.dnw_base.specs.Names.{NameValue}
 use Rattle.dnw_data.specs.declared.kind.Kind.{Kind}
@@ -7,9 +7,11 @@ use Rattle.dnw_data.specs.Values.{FieldValue}
 use Rattle.dnw_word_text.specs.Words.{after_spaces, after_word}
 use Rattle.dnw_data_text.specs.declared.error.DataTextError.{DataTextError}
 use Rattle.dnw_data_text.specs.declared.error.DataTextError.TheVariants.{Memory}
+use Rattle.dnw_data_text.specs.DataTexts.{ArePlain, FailsGeneric}
 use Rattle.dnw_data_text.specs.Generic.{AreOctets, IsSized, FailsSized}
 use Rattle.dnw_data_text.specs.Parsing.{ReadsBy, AreFieldTexts, FailsFields, takes_all}
-use Rattle.dnw_data_text.specs.DataTextLaws.{TextsAreParsed}
+use Rattle.dnw_data_text.specs.DataTextLaws.{GenericIsParsed, TextsAreParsed}
+use Rattle.dnw_data_text.proofs.GenericText.{one-sized}
 
 one-rest : (all : Bool) (origin : Option NameValue) (kind : Kind) (left r s : List ℕ) (v w : FieldValue) → ReadsBy all origin kind left v r → ReadsBy all origin kind left w s
     → r ≡ s
@@ -33,10 +35,23 @@ sized-fails len left own e (n, size, are) (inr (inl (m, also, none, is))) =
     absurd (none own (subst (λ (k : ℕ). AreOctets k (after_spaces (after_word (after_spaces left))) own) same are))
 sized-fails len left own e (n, size, are) (inr (inr memory)) = memory.3
 
+generic-fails : (kinds : List Kind) (len : ℕ) (left own : List ℕ) (e : DataTextError) → IsSized left own → FailsGeneric kinds len left e
+    → (e ≡ Memory) ⊎ (¬ (ArePlain kinds own))
+generic-fails kinds len left own e sized (inl fails) = inl (sized-fails len left own e sized fails)
+generic-fails kinds len left own e sized (inr (inl memory)) = inl memory
+generic-fails kinds len left own e sized (inr (inr (other, also, none, is))) =
+    inr (λ plain. none (subst (λ (xs : List ℕ). ArePlain kinds xs) (one-sized left own other sized also) plain))
+
+pub generic-parsed : GenericIsParsed
+generic-parsed origin kinds text own e (marked, sized) (inl fails) = generic-fails kinds (length text) (after_word (after_spaces text)) own e sized fails.1
+generic-parsed origin kinds text own e (marked, sized) (inr (inl fails)) = absurd (fails.0 marked)
+generic-parsed origin kinds text own e (marked, sized) (inr (inr fails)) = absurd (fails.0 marked)
+
 pub parsed : TextsAreParsed
-parsed origin kinds text own e (inl (marked, sized)) (inl fails) = sized-fails (length text) (after_word (after_spaces text)) own e sized fails.1
-parsed origin kinds text own e (inl (marked, sized)) (inr (inl fails)) = absurd (fails.0 marked)
-parsed origin kinds text own e (inl (marked, sized)) (inr (inr fails)) = absurd (fails.0 marked)
+parsed origin kinds text own e (inl (generic, plain)) fails = elim (generic-parsed origin kinds text own e generic fails) [
+  | inl memory ↦ memory
+  | inr none ↦ absurd (none plain)
+]
 parsed origin kinds text own e (inr (other, form, values, are, is)) (inl fails) = absurd (other fails.0)
 parsed origin kinds text own e (inr (other, form, values, are, is)) (inr (inl fails)) = let no : true ≡ false = sym form ∙ fails.1 in absurd cc
 parsed origin kinds text own e (inr (other, form, values, are, is)) (inr (inr (marked, has, inl memory))) = memory

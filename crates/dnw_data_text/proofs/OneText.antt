@@ -27,10 +27,12 @@ use Rattle.dnw_data.specs.FieldWires.{field_wire}
 use Rattle.dnw_word_text.specs.ParamLists.{AreParamWords}
 use Rattle.dnw_word_text.specs.TypeLists.{AreTypeWords}
 use Rattle.dnw_word_text.specs.Words.{after_spaces, after_word, joined, word}
-use Rattle.dnw_data_text.specs.DataTexts.{IsPlainData}
+use Rattle.dnw_data_text.specs.DataTexts.{IsPlainData, IsTextOf}
+use Rattle.dnw_data_text.specs.Generic.{IsGeneric}
 use Rattle.dnw_data_text.specs.DataTextLaws.{DataAreUnambiguous, PrintedDataAreSame}
 use Rattle.dnw_data_text.specs.Parsing.{takes_all, AreAll, AreFieldTexts, AreStringWords, IsIdentifier, IsNumber, IsWord, ReadsField, Spells, eui48, eui64}
 use Rattle.dnw_data_text.proofs.DataBack.{back, data-fit}
+use Rattle.dnw_data_text.proofs.GenericText.{one-generic}
 use Rattle.dnw_word_text.proofs.OneBitmap.{back-fit, front-fit, one-bitmap}
 
 -- ---- words
@@ -155,18 +157,23 @@ one-fields origin (kind ∷ kinds) left (v ∷ vs) (w ∷ ws) hv hw (rest, reads
     ap (λ (z : FieldValue). z ∷ vs) first.0 ∙ ap (λ (zs : List FieldValue). w ∷ zs) same
 
 pub unambiguous : DataAreUnambiguous
-unambiguous origin kinds text own other h k (inl x) (inl y) = one-hex _ own other x.1.2.1 y.1.2.1
-unambiguous origin kinds text own other h k (inl x) (inr y) = absurd (y.0 x.0)
-unambiguous origin kinds text own other h k (inr x) (inl y) = absurd (x.0 y.0)
+unambiguous origin kinds text own other h k (inl x) (inl y) = one-generic text own other x.0 y.0
+unambiguous origin kinds text own other h k (inl x) (inr y) = absurd (y.0 x.0.0)
+unambiguous origin kinds text own other h k (inr x) (inl y) = absurd (x.0 y.0.0)
 unambiguous origin kinds text own other h k (inr x) (inr y) =
     let vs = x.2 in
     let ws = y.2 in
     x.4 ∙ ap (λ (zs : List FieldValue). flat_map field_wire zs) (one-fields origin kinds text vs ws (subst IsOctets x.4 h) (subst IsOctets y.4 k) x.3 y.3) ∙ sym y.4
+
+same-generic : (origin : Option NameValue) (kinds : List Kind) (text own other : List ℕ) → IsGeneric text own → IsTextOf origin kinds text other → own ≡ other
+same-generic origin kinds text own other h (inl is) = one-generic text own other h is.0
+same-generic origin kinds text own other h (inr is) = absurd (is.0 h.0)
 
 pub printed : PrintedDataAreSame
 printed origin r text own h print fit is =
     let (plain, are, done) = back origin r text h print in
     elim done [
       | inl many ↦ inr (plain, are, many)
-      | inr also ↦ inl (subst (λ (xs : List ℕ). IsPlainData r xs) (unambiguous origin (fields_of (code_of r.record_type)) text plain own (data-fit r plain h are) fit also is) are)
+      | inr (inl shown) ↦ inl (subst (λ (xs : List ℕ). IsPlainData r xs) (same-generic origin (fields_of (code_of r.record_type)) text plain own shown is) are)
+      | inr (inr also) ↦ inl (subst (λ (xs : List ℕ). IsPlainData r xs) (unambiguous origin (fields_of (code_of r.record_type)) text plain own (data-fit r plain h are) fit also is) are)
     ]

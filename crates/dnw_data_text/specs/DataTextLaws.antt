@@ -28,7 +28,7 @@ use Rattle.dnw_data_text.specs.declared.error.DataTextError.TheVariants.{Memory}
 use Rattle.dnw_data_text.specs.Generic.{mark, max_data, generic_text, IsGeneric}
 use Rattle.dnw_word_text.specs.Words.{is_end, word, after_spaces}
 use Rattle.dnw_data_text.specs.Printing.{Prints}
-use Rattle.dnw_data_text.specs.DataTexts.{FailsText, IsDataText, IsPlainData, IsTextOf}
+use Rattle.dnw_data_text.specs.DataTexts.{ArePlain, FailsText, IsDataText, IsPlainData, IsTextOf}
 use Rattle.dnw_data_text.specs.Parsing.{takes_all, ReadsField}
 
 -- octets of data: their number is written in two octets (RFC 1035, section 3.2.1)
@@ -106,16 +106,24 @@ ListsComeBack =
 abbrev pub StringsComeBack : Type 0
 StringsComeBack = (own : List ℕ) → IsOctets own → 1 ≤ length own → FieldComesBack (kinds.List lists.Texts) (texts (items lists.Texts own))
 
--- What is printed of data, in whatever form, is parsed as their octets, with names that are not compressed, if these are not more
--- than data may have. Names are printed whole, so the origin does not matter.
+-- What is printed of data in their type's own form is parsed as their octets, with names that are not compressed, if these are not
+-- more than data may have. Names are printed whole, so the origin does not matter. What is printed in the form that any data have
+-- is those octets too; it is parsed if they are data of the type.
 abbrev pub DataComeBack : Type 0
 DataComeBack = (origin : Option NameValue) (r : RecordValue) (text : List ℕ) → AreBytes r.message → IsDataText r text
-    → (own : List ℕ) × IsPlainData r own × ((max_data < length own) ⊎ IsTextOf origin (fields_of (code_of r.record_type)) text own)
+    → (own : List ℕ) × IsPlainData r own
+    × ((max_data < length own) ⊎ IsGeneric text own ⊎ IsTextOf origin (fields_of (code_of r.record_type)) text own)
 
 -- If a text is data of a type, parsing it fails for no other reason than memory.
 abbrev pub TextsAreParsed : Type 0
 TextsAreParsed = (origin : Option NameValue) (kinds : List Kind) (text own : List ℕ) (error : DataTextError)
     → IsTextOf origin kinds text own → FailsText origin kinds text error → error ≡ Memory
+
+-- If a text is octets in the form that any data have, parsing it fails for no other reason than memory, or that they are no data of
+-- the type.
+abbrev pub GenericIsParsed : Type 0
+GenericIsParsed = (origin : Option NameValue) (kinds : List Kind) (text own : List ℕ) (error : DataTextError)
+    → IsGeneric text own → FailsText origin kinds text error → (error ≡ Memory) ⊎ (¬ (ArePlain kinds own))
 
 -- No text is two lists of octets. A bitmap of types does not say that its items are below 256, so the law supposes it.
 abbrev pub DataAreUnambiguous : Type 0

@@ -5,7 +5,7 @@ use Rattle.dnw_error.specs.declared.error.DecodeError.{DecodeError}
 use Rattle.dnw_base.specs.Decoder.{Decoder}
 use Rattle.dnw_base.specs.Names.{NameValue}
 use Rattle.dnw_data.specs.declared.kind.Kind.{Kind}
-use Rattle.dnw_data.specs.declared.kind.Kind.TheVariants.{Octets}
+use Rattle.dnw_data.specs.declared.kind.Kind.TheVariants.{Name, Octets}
 use Rattle.dnw_data.specs.declared.kind.Shown.TheVariants.{Hex}
 use Rattle.dnw_data.specs.Values.{FieldValue}
 use Rattle.dnw_data.specs.Fields.{TakesField, FailsField}
@@ -14,17 +14,19 @@ use Rattle.dnw_record.specs.Records.{RecordValue, data_octets}
 use Rattle.dnw_record.specs.RecordFields.{record_fields}
 use Rattle.dnw_data_text.specs.declared.error.DataTextError.{DataTextError}
 use Rattle.dnw_data_text.specs.declared.error.DataTextError.TheVariants.{Memory}
-use Rattle.dnw_data_text.specs.declared.error.Wanted.TheVariants.{Generic}
+use Rattle.dnw_data_text.specs.declared.error.Wanted.TheVariants.{Data, Generic}
 use Rattle.dnw_data_text.specs.Faults.{fault}
 use Rattle.dnw_word_text.specs.Words.{after_spaces, word, after_word}
-use Rattle.dnw_data_text.specs.Generic.{mark, generic_text, IsGeneric, FailsSized}
+use Rattle.dnw_data_text.specs.Generic.{mark, generic_text, hex_words, IsGeneric, IsSized, FailsSized}
 use Rattle.dnw_data_text.specs.Printing.{PrintsFields, HasNoText}
 use Rattle.dnw_data_text.specs.Parsing.{AreFieldTexts, FailsFields}
 use Rattle.dnw_data.specs.FieldWires.{IsLong, field_wire}
 
--- Data that are octets alone have no form of their own.
+-- Data that are octets alone have no form of their own; nor has NXT, which is a name and octets, and whose octets are a bitmap of
+-- types in an old form (RFC 2535, section 5.2).
 abbrev pub has_own_form : List Kind → Bool
 has_own_form (Octets Hex ∷ []) = false
+has_own_form (Name form ∷ Octets Hex ∷ []) = false
 has_own_form kinds = true
 
 -- ---- the octets of data, with names that are not compressed
@@ -48,6 +50,10 @@ abbrev pub IsPlainData : RecordValue → List ℕ → Type 0
 IsPlainData r own =
     AreWire (record_fields r).kinds (record_fields r).reader own
     ⊎ (AreNoFields (record_fields r).kinds (record_fields r).reader × (own ≡ data_octets r))
+
+-- Octets are data of these kinds without pointers: the fields that are read from them alone are, uncompressed, these octets.
+abbrev pub ArePlain : List Kind → List ℕ → Type 0
+ArePlain kinds own = AreWire kinds (record { bytes = own; index = 0 }) own
 
 -- ---- printing
 
@@ -79,12 +85,23 @@ IsFieldsText origin kinds text own =
     (word (after_spaces text) ≢ mark) × (has_own_form kinds ≡ true) × (values : List FieldValue) × AreFieldTexts origin kinds text values
     × (own ≡ flat_map field_wire values)
 
+-- the text is these octets in the form that any data have, and they are data of the type, without pointers: nothing is said in
+-- that form that could not be said in the type's own, and it can be copied into any message (RFC 3597, sections 4 and 5)
+abbrev pub IsGenericData : List Kind → List ℕ → List ℕ → Type 0
+IsGenericData kinds text own = IsGeneric text own × ArePlain kinds own
+
 abbrev pub IsTextOf : Option NameValue → List Kind → List ℕ → List ℕ → Type 0
-IsTextOf origin kinds text own = IsGeneric text own ⊎ IsFieldsText origin kinds text own
+IsTextOf origin kinds text own = IsGenericData kinds text own ⊎ IsFieldsText origin kinds text own
+
+-- why what is after `\#` is no data of a type, in a text of this length: no number and octets, or the octets are no such data
+abbrev pub FailsGeneric : List Kind → ℕ → List ℕ → DataTextError → Type 0
+FailsGeneric kinds len left e =
+    FailsSized len left e ⊎ (e ≡ Memory)
+    ⊎ ((own : List ℕ) × IsSized left own × (¬ (ArePlain kinds own)) × (e ≡ fault 1 (len - length (hex_words left)) Data))
 
 -- why a text is no data of a type
 abbrev pub FailsText : Option NameValue → List Kind → List ℕ → DataTextError → Type 0
 FailsText origin kinds text e =
-    ((word (after_spaces text) ≡ mark) × FailsSized (length text) (after_word (after_spaces text)) e)
+    ((word (after_spaces text) ≡ mark) × FailsGeneric kinds (length text) (after_word (after_spaces text)) e)
     ⊎ ((word (after_spaces text) ≢ mark) × (has_own_form kinds ≡ false) × (e ≡ fault 0 (length text - length (after_spaces text)) Generic))
     ⊎ ((word (after_spaces text) ≢ mark) × (has_own_form kinds ≡ true) × ((e ≡ Memory) ⊎ FailsFields origin (length kinds) (length text) kinds text e))

@@ -33,11 +33,13 @@ IsSize size n = IsUtf8 size × IsNumberText max_data size n
 abbrev pub AreOctets : ℕ → List ℕ → List ℕ → Type 0
 AreOctets n words octets = IsUtf8 (joined words) × IsHexText (joined words) octets × (length octets ≡ n)
 
+-- what is after the number
+abbrev pub hex_words : List ℕ → List ℕ
+hex_words left = after_spaces (after_word (after_spaces left))
+
 -- after `\#` is the number of these octets, and then they are
 abbrev pub IsSized : List ℕ → List ℕ → Type 0
-IsSized left octets =
-    let size = after_spaces left in
-    (n : ℕ) × IsSize (word size) n × AreOctets n (after_spaces (after_word size)) octets
+IsSized left octets = (n : ℕ) × IsSize (word (after_spaces left)) n × AreOctets n (hex_words left) octets
 
 -- the text is these octets
 abbrev pub IsGeneric : List ℕ → List ℕ → Type 0
@@ -47,7 +49,7 @@ IsGeneric text octets = (word (after_spaces text) ≡ mark) × IsSized (after_wo
 abbrev pub FailsSized : ℕ → List ℕ → DataTextError → Type 0
 FailsSized len left e =
     let size = after_spaces left in
-    let words = after_spaces (after_word size) in
+    let words = hex_words left in
     (((n : ℕ) → ¬ (IsSize (word size) n)) × (e ≡ fault 0 (len - length size) Size))
     ⊎ ((n : ℕ) × IsSize (word size) n × ((octets : List ℕ) → ¬ (AreOctets n words octets)) × (e ≡ fault 1 (len - length words) (Octets n)))
     ⊎ ((n : ℕ) × IsSize (word size) n × (1 ≤ length words) × (e ≡ Memory))

@@ -1,17 +1,19 @@
 //! The text of the data of records.
-ghost use Rattle.std.specs.Prelude.{◌≡◌, ◌⊎◌, ◌++◌, ℕ, List, length, flat_map, IfOk, MatchResult, string_bytes};
+ghost use Rattle.std.specs.Prelude.{◌≡◌, ◌≤◌, ◌⊎◌, ◌++◌, ℕ, List, [], length, flat_map, IfOk, MatchBool, MatchResult, string_bytes};
 ghost use Rattle.std.specs.Option.{option_copied};
 ghost use Rattle.dnw_codes.specs.RecordTypes.{type_code};
+ghost use Rattle.dnw_reading.specs.ReadingLaws.{AreBytes};
 ghost use Rattle.dnw_data.specs.Table.{fields_of};
 ghost use Rattle.dnw_data.specs.Values.{FieldValue};
 ghost use Rattle.dnw_data_text.specs.declared.error.DataTextError.TheVariants.{Memory};
 ghost use Rattle.dnw_data_text.specs.Parsing.{AreFieldTexts, FailsFields};
 ghost use Rattle.dnw_data.specs.FieldWires.{field_wire};
-ghost use Rattle.dnw_data_text.specs.DataTexts.{has_own_form, without_space, IsPlainData, IsDataText, IsTextOf, FailsText};
+ghost use Rattle.dnw_data_text.specs.Generic.{IsSized};
+ghost use Rattle.dnw_data_text.specs.DataTexts.{has_own_form, without_space, ArePlain, IsPlainData, IsDataText, IsTextOf, FailsGeneric, FailsText};
 ghost use Rattle.dnw_data_text.specs.Inside.Wires.{AppendsWires};
 
 use crate::error::{DataTextError, Wanted};
-use crate::generic::{Generic, MARK, parse_sized};
+use crate::generic::{Generic, MARK, hex_words, parse_sized};
 use crate::parsing::{Place, parse_fields};
 use crate::printing::{is_ended, next_field, write_fields};
 use dnw_codes::record_type::RecordType;
@@ -42,7 +44,9 @@ pub fn data_text(alloc: Global, record: &RecordRef<'_>) -> Result<String, AllocE
 }
 
 /// Returns the octets of the data that a text is, for a type, with names that are not compressed. The text is in the type's
-/// own form or in that of any data; an origin completes names without a dot at their end.
+/// own form or in that of any data, `\# 4 0A000001`; an origin completes names without a dot at their end. Octets in the form of
+/// any data have to be data of the type, without compression pointers, as RFC 3597 wants it (sections 4 and 5): so what is
+/// returned can be put into any message.
 ///
 /// Parentheses and comments are not part of a text. It fails with the number of the first field that is not as wanted, and
 /// where in the text it should be.
@@ -71,7 +75,7 @@ pub fn parse_bytes(
     let start = after_spaces(text);
     let (word, rest) = split_word(start);
     if word == MARK {
-        return parse_sized(alloc, rest, text.len());
+        return parse_generic(alloc, record_type, rest, text.len());
     }
     let kinds = fields_of(record_type);
     if !has_own_form(kinds) {
@@ -82,6 +86,50 @@ pub fn parse_bytes(
         });
     }
     parse_own(alloc, kinds, text, origin)
+}
+
+/// Returns the octets after `\#` in a text of this length, if they are data of the type.
+fn parse_generic(
+    alloc: Global,
+    record_type: RecordType,
+    left: &[u8],
+    len: usize,
+) -> Result<Vec<u8>, DataTextError>
+    requires within { length left.now ≤ len }
+    ensures { MatchResult result (λ own. IsSized left.now own.items × ArePlain (fields_of (type_code record_type)) own.items)
+        (FailsGeneric (fields_of (type_code record_type)) len left.now) }
+{
+    let octets = parse_sized(alloc, left, len)?;
+    if is_plain(alloc, record_type, octets.as_slice())? {
+        return Ok(octets);
+    }
+    Err(DataTextError::Wanted {
+        field: 1,
+        offset: len - hex_words(left).len(),
+        wanted: Wanted::Data,
+    })
+}
+
+/// Returns `true` if octets are data of a type, and no name in them is compressed.
+fn is_plain(alloc: Global, record_type: RecordType, octets: &[u8]) -> Result<bool, AllocError>
+    ensures { IfOk result (λ is. MatchBool is (ArePlain (fields_of (type_code record_type)) octets.now) (¬ (ArePlain (fields_of (type_code record_type)) octets.now))) }
+{
+    let mut fields = Fields::new(octets, 0, record_type);
+    let mut written = Vec::new(alloc);
+    let are_fields = append_fields(fields_of(record_type), &mut fields, &mut written)?;
+    Ok(is_written_as(record_type, octets, are_fields, written.as_slice()))
+}
+
+/// Returns `true` if octets are fields, and what these are written as are the same octets.
+fn is_written_as(record_type: RecordType, octets: &[u8], are_fields: bool, written: &[u8]) -> bool
+    requires bytes { AreBytes octets.now }
+    requires appends { AppendsWires (fields_of (type_code record_type)) (record { bytes = octets.now; index = 0 }) [] written.now are_fields }
+    ensures { MatchBool result (ArePlain (fields_of (type_code record_type)) octets.now) (¬ (ArePlain (fields_of (type_code record_type)) octets.now)) }
+{
+    if !are_fields {
+        return false;
+    }
+    written == octets
 }
 
 /// Returns the octets of the fields that a text is.
@@ -107,7 +155,10 @@ fn parse_own(
 fn has_own_form(kinds: &[Kind]) -> bool
     ensures { result ≡ has_own_form kinds.now }
 {
-    !matches!(kinds, [Kind::Octets(Shown::Hex)])
+    !matches!(
+        kinds,
+        [Kind::Octets(Shown::Hex)] | [Kind::Name(_), Kind::Octets(Shown::Hex)]
+    )
 }
 
 /// Returns a text without the space that it begins with.

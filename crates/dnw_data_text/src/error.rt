@@ -14,6 +14,8 @@ pub enum Wanted {
     Size,
     /// That many octets in hexadecimal.
     Octets(u16),
+    /// Octets that are data of the type, without compression pointers.
+    Data,
     /// Nothing more.
     End,
 }

@@ -3,7 +3,7 @@ ghost use Rattle.std.specs.Prelude.{◌≡◌, ◌≤◌, ℕ, List, [], length,
 ghost use Rattle.std.specs.Str.{IsUtf8};
 ghost use Rattle.dnw_data_text.specs.Faults.{fault};
 ghost use Rattle.dnw_word_text.specs.Words.{joined};
-ghost use Rattle.dnw_data_text.specs.Generic.{generic_text, IsSize, AreOctets, IsSized, FailsSized};
+ghost use Rattle.dnw_data_text.specs.Generic.{generic_text, hex_words, IsSize, AreOctets, IsSized, FailsSized};
 
 use crate::error::{DataTextError, Wanted};
 use dnw_field_text::error::FieldTextError;
@@ -55,6 +55,15 @@ pub(crate) fn parse_sized(alloc: Global, left: &[u8], len: usize) -> Result<Vec<
             wanted: Wanted::Octets(size),
         }),
     }
+}
+
+/// Returns what is after the number that follows `\#`.
+pub(crate) fn hex_words(left: &[u8]) -> &[u8]
+    ensures words { result.now ≡ hex_words left.now }
+    ensures within { length result.now ≤ length left.now }
+{
+    let (_, rest) = split_word(after_spaces(left));
+    after_spaces(rest)
 }
 
 /// Returns the number that a word writes.

@@ -36,6 +36,24 @@ macro_rules! ops {
     };
 }
 
+impl OpCode {
+    /// Returns the code of the operation, as `u8::from` does.
+    #[inline]
+    pub fn code(self) -> u8
+        ensures { result ≡ op_code self }
+    {
+        u8::from(self)
+    }
+
+    /// Returns the name of the operation, as IANA's registry spells it, or `Unknown`, as `<&str>::from` does.
+    #[inline]
+    pub fn name(self) -> &'static str
+        ensures { result.now ≡ (op_entry self).name }
+    {
+        <&str>::from(self)
+    }
+}
+
 /// The name of an operation, as IANA's registry spells it, or `Unknown`.
 impl From<OpCode> for &'static str {
     ghost use Rattle.std.specs.Prelude.{◌≡◌};

@@ -85,6 +85,24 @@ macro_rules! responses {
     };
 }
 
+impl ResponseCode {
+    /// Returns the code of the response, as `u16::from` does.
+    #[inline]
+    pub fn code(self) -> u16
+        ensures { result ≡ response_code self }
+    {
+        u16::from(self)
+    }
+
+    /// Returns the name of the response, as IANA's registry spells it, or `Unknown`, as `<&str>::from` does.
+    #[inline]
+    pub fn name(self) -> &'static str
+        ensures { result.now ≡ (response_entry self).name }
+    {
+        <&str>::from(self)
+    }
+}
+
 /// The name of a response, as IANA's registry spells it, or `Unknown`.
 impl From<ResponseCode> for &'static str {
     ghost use Rattle.std.specs.Prelude.{◌≡◌};

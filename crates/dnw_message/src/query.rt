@@ -1,5 +1,5 @@
 //! Questions in a message, which are read without copying.
-ghost use Rattle.std.specs.Prelude.{◌≡◌, IfOk, IfErr};
+ghost use Rattle.std.specs.Prelude.{◌≡◌, IfOk, IfErr, OnErr};
 ghost use Rattle.dnw_message.specs.Queries.{TakesQuery, FailsQuery};
 
 use dnw_base::decoder::BinDecoder;
@@ -28,21 +28,19 @@ impl<'m> Model for QueryRef<'m> {
 }
 
 impl<'m> QueryRef<'m> {
-    /// Reads the question at the cursor, and leaves the cursor after it. If it fails, the cursor may be past the name.
+    /// Reads the question at the cursor, and leaves the cursor after it. If it fails, the cursor is unchanged.
     ///
     /// It fails with the error of reading the name, or with `InsufficientBytes` if the type and the class are not all there.
     pub fn read_next(reader: &mut BinDecoder<'m>) -> Result<Self, DecodeError>
         ensures ok { IfOk result (λ q. TakesQuery reader.old q reader.new) }
         ensures err { IfErr result (FailsQuery reader.old) }
+        ensures same { OnErr result (reader.new ≡ reader.old) }
     {
-        let name = NameRef::read(reader)?;
-        let query_type = RecordType::from(reader.read_u16()?.unverified());
-        let query_class = DNSClass::from(reader.read_u16()?.unverified());
-        Ok(QueryRef {
-            name,
-            query_type,
-            query_class,
-        })
+        let mut ahead = BinDecoder::new(reader.message());
+        ahead.skip(reader.index()).unwrap();
+        let query = read_on(&mut ahead)?;
+        *reader = ahead;
+        Ok(query)
     }
 
     /// Returns the name that is asked for.
@@ -68,4 +66,20 @@ impl<'m> QueryRef<'m> {
     {
         self.query_class
     }
+}
+
+/// Reads a question at the cursor. If it fails, the cursor may be past the name.
+#[inline(always)]
+fn read_on<'m>(reader: &mut BinDecoder<'m>) -> Result<QueryRef<'m>, DecodeError>
+    ensures ok { IfOk result (λ q. TakesQuery reader.old q reader.new) }
+    ensures err { IfErr result (FailsQuery reader.old) }
+{
+    let name = NameRef::read(reader)?;
+    let query_type = RecordType::from(reader.read_u16()?.unverified());
+    let query_class = DNSClass::from(reader.read_u16()?.unverified());
+    Ok(QueryRef {
+        name,
+        query_type,
+        query_class,
+    })
 }

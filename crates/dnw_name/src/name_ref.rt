@@ -154,20 +154,21 @@ impl<'a> NameRef<'a> {
         order::cmp_labels(self.wire_labels(&mut [0; MAX_NAME]), other.wire_labels())
     }
 
-    /// Returns `true` if this name is the zone of `name`: its labels are the last ones of `name`, ignoring ASCII case (RFC
-    /// 1034, section 4.2, and RFC 4343). Whether `name` is fully qualified is ignored.
-    pub fn zone_of(&self, name: &Name) -> bool
-        ensures { IsTrue result ↔ IsZoneOf self.now name.now.labels }
-    {
-        order::is_zone_of(self.wire_labels(&mut [0; MAX_NAME]), name.wire_labels())
-    }
-
-    /// Returns `true` if this name is in the zone: its last labels are those of `zone`, ignoring ASCII case (RFC 1034,
-    /// section 4.2, and RFC 4343). Whether `zone` is fully qualified is ignored.
-    pub fn is_in(&self, zone: &Name) -> bool
+    /// Returns `true` if `zone` is a zone of this name: its labels are the last ones of this name, ignoring ASCII case (RFC
+    /// 1034, section 4.2, and RFC 4343). Whether `zone` is fully qualified is ignored.
+    ///
+    /// `Name::zone_of` asks the other way round: there `self` is the zone.
+    pub fn zone_of(&self, zone: &Name) -> bool
         ensures { IsTrue result ↔ IsZoneOf zone.now.labels self.now }
     {
         order::is_zone_of(zone.wire_labels(), self.wire_labels(&mut [0; MAX_NAME]))
+    }
+
+    /// Returns `true` if this name is in the zone. It is another name for `zone_of`, and the same call as `Name::is_in`.
+    pub fn is_in(&self, zone: &Name) -> bool
+        ensures { IsTrue result ↔ IsZoneOf zone.now.labels self.now }
+    {
+        self.zone_of(zone)
     }
 
     /// Copies the name. It is fully qualified. This does not allocate and cannot fail.

@@ -89,6 +89,10 @@ after-space : (origin : Option NameValue) (kinds : List Kind) (text own : List �
 after-space origin kinds text own (inl generic) = inl generic
 after-space origin kinds text own (inr (other, form, values, are, e)) = inr (other, form, values, same-start origin kinds text (32 ∷ text) values refl are, e)
 
+pub without-space : (origin : Option NameValue) (kinds : List Kind) (text own : List ℕ) → IsTextOf origin kinds (32 ∷ text) own → IsTextOf origin kinds text own
+without-space origin kinds text own (inl generic) = inl generic
+without-space origin kinds text own (inr (other, form, values, are, e)) = inr (other, form, values, same-start origin kinds (32 ∷ text) text values refl are, e)
+
 slice-fit : (xs : List ℕ) (i j : ℕ) → IsOctets xs → IsOctets (slice_range xs i j)
 slice-fit xs i j h = take-fit (j - i) (drop i xs) (drop-fit i xs h)
 
@@ -105,10 +109,10 @@ pub record IsReadRecord (r : RecordValue) : Type 0 where
   class_is : r.class ≡ class_of_code class_number
 
 -- what is after the owner
-abbrev line_rest : RecordValue → List ℕ → List ℕ
+abbrev pub line_rest : RecordValue → List ℕ → List ℕ
 line_rest r text = 32 ∷ (decimal r.ttl ++ (32 ∷ (class_text r.class ++ (32 ∷ (type_text r.record_type ++ (32 ∷ text))))))
 
-head-back : (r : RecordValue) (text : List ℕ) → IsReadRecord r → IsHead (line_rest r text) (line_head r) (32 ∷ text)
+pub head-back : (r : RecordValue) (text : List ℕ) → IsReadRecord r → IsHead (line_rest r text) (line_head r) (32 ∷ text)
 head-back r text is =
     let code : type_code r.record_type ≡ is.type_number = ap (λ k. type_code k) is.type_is ∙ code-back is.type_number in
     let number : class_code r.class ≡ is.class_number = ap (λ k. class_code k) is.class_is ∙ class-back is.class_number in
@@ -134,21 +138,32 @@ head-back r text is =
     subst (λ (left : List ℕ). HasClassNext left r.class rest3) (sym ttl.1) (inl (is_class, sym name.1)) in
     (rest3, inl (is_ttl, has_class), is_type, sym last.1)
 
-line-back : (origin : Option NameValue) (r : RecordValue) (text own : List ℕ) → IsReadRecord r → IsDataOf origin r.record_type (32 ∷ text) own
-    → IsRecordLine origin (record_line r text) (line_octets r.owner (line_head r) own)
-unfolding IsRecordLine
-line-back origin r text own is data_is =
+-- the owner, and what is after it
+pub record Split (origin : Option NameValue) (r : RecordValue) (text : List ℕ) : Type 0 where
+  pub named : name_at origin (word (record_line r text)) ≡ Some r.owner
+  pub left : after_word (record_line r text) ≡ line_rest r text
+
+pub split : (origin : Option NameValue) (r : RecordValue) (text : List ℕ) → IsReadRecord r → Split origin r text
+split origin r text is =
     let w = full_name_text r.owner in
     let rest = line_rest r text in
     let len = name-len r.owner rest is.octets refl in
     let first : word (w ++ rest) ≡ w = take_at w rest _ (sym len) in
     let left : after_word (w ++ rest) ≡ rest = drop_at w rest _ (sym len) in
     let whole : record_line r text ≡ w ++ rest = simp append_assoc in
+    record {
+      named = ap (λ (xs : List ℕ). name_at origin (word xs)) whole ∙ ap (name_at origin) first ∙ name-is origin r.owner is.labels is.octets;
+      left = ap after_word whole ∙ left;
+    }
+
+line-back : (origin : Option NameValue) (r : RecordValue) (text own : List ℕ) → IsReadRecord r → IsDataOf origin r.record_type (32 ∷ text) own
+    → IsRecordLine origin (record_line r text) (line_octets r.owner (line_head r) own)
+unfolding IsRecordLine
+line-back origin r text own is data_is =
+    let parts = split origin r text is in
     let octets = line_octets r.owner (line_head r) own in
-    let after : IsAfterOwner origin r.owner rest octets = (line_head r, 32 ∷ text, own, head-back r text is, data_is, refl) in
-    let line : IsRecordLine origin (w ++ rest) octets =
-    (r.owner, ap (name_at origin) first ∙ name-is origin r.owner is.labels is.octets, subst (λ (xs : List ℕ). IsAfterOwner origin r.owner xs octets) (sym left) after) in
-    subst (λ (xs : List ℕ). IsRecordLine origin xs octets) (sym whole) line
+    let after : IsAfterOwner origin r.owner (line_rest r text) octets = (line_head r, 32 ∷ text, own, head-back r text is, data_is, refl) in
+    (r.owner, parts.named, subst (λ (xs : List ℕ). IsAfterOwner origin r.owner xs octets) (sym parts.left) after)
 
 pub record-read : (b : List ℕ) (labels : List (List ℕ)) (p end k : ℕ) → AreBytes b → NameAt b p labels end k → IsReadRecord (record_of b labels end)
 record-read b labels p end k h name =
@@ -180,7 +195,8 @@ lines origin b p e r text h at print =
         | inl many ↦ inl many
         | inr few ↦ elim done [
           | inl many ↦ inl many
-          | inr is ↦ inr (line-back origin r text own read (after-space origin (fields_of (type_code r.record_type)) text own is, few))
+          | inr (inl shown) ↦ inr (inl shown)
+          | inr (inr is) ↦ inr (inr (line-back origin r text own read (after-space origin (fields_of (type_code r.record_type)) text own is, few)))
         ]
       ],
     )

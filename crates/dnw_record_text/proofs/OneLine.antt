@@ -1,10 +1,9 @@
 -- A line is one record at most.
-use Rattle.std.proofs.Common.{◌≡◌, ◌<◌, ℕ, zero, suc, List, [], ◌∷◌, ◌++◌, length, slice_index, sym, ap, ◌∙◌, subst, arith, inl, inr}
+use Rattle.std.proofs.Common.{◌≡◌, ℕ, List, ◌∷◌, ◌++◌, length, sym, ap, ◌∙◌, subst, inl, inr}
+use Rattle.std.specs.Prelude.{Option}
 use Rattle.std.specs.Int.{w16, w32, to_be_bytes}
-use Rattle.std.specs.List.{AllByRecursion}
 use Rattle.std.proofs.lemmas.Option.{same_Some}
-use Rattle.dnw_base.specs.Labels.{IsLabel}
-use Rattle.dnw_base.specs.Names.{labels_wire, wire}
+use Rattle.dnw_base.specs.Names.{NameValue, wire}
 use Rattle.dnw_codes.specs.DnsClasses.{class_code}
 use Rattle.dnw_codes.specs.RecordTypes.{type_code, type_of_text}
 use Rattle.dnw_codes.specs.declared.dns_class.DNSClass.{DNSClass}
@@ -18,11 +17,9 @@ use Rattle.dnw_record_text.specs.declared.record_line.LineHead.{LineHead}
 use Rattle.dnw_data_text.specs.DataTexts.{IsTextOf}
 use Rattle.dnw_record_text.specs.RecordTextLaws.{line_head, LinesAreUnambiguous, PrintedLinesAreSame}
 use Rattle.dnw_record_text.specs.RecordLines.{record_line, after_next_word, line_octets, next_word, HasClassNext, HasTtlAndClass, IsHead, IsRecordLine}
-use Rattle.dnw_data_text.proofs.DataBack.{data-fit}
-use Rattle.dnw_data_text.proofs.FieldValues.{both-fit, four-fit, name-fit, two-fit}
-use Rattle.dnw_record_text.proofs.LinesBack.{IsReadRecord, lines, record-read}
+use Rattle.dnw_record_text.proofs.LinesBack.{IsReadRecord, head-back, line_rest, record-read, split, without-space}
 use Rattle.dnw_word_text.proofs.OneBitmap.{back-fit}
-use Rattle.dnw_data_text.proofs.OneText.{unambiguous}
+use Rattle.dnw_data_text.proofs.OneText.{printed, unambiguous}
 
 one-class : (left : List ℕ) (c d : DNSClass) (r s : List ℕ) → HasClassNext left c r → HasClassNext left d s → (c ≡ d) × (r ≡ s)
 one-class left c d r s (inl x) (inl y) = (same_Some c d (sym x.0.1 ∙ y.0.1), x.1 ∙ sym y.1)
@@ -65,31 +62,29 @@ unambiguous-lines origin line a b h k (owner, named, (head, text, own, is, (spel
     e ∙ ap (λ (ls : List (List ℕ)). line_octets ls head own) same_owner ∙ ap (λ (x : LineHead). line_octets named_by x own) same_head
     ∙ ap (λ (xs : List ℕ). line_octets named_by other xs) same ∙ sym f
 
-zero-fit : (i : ℕ) → slice_index (0 ∷ []) i < 256
-zero-fit zero = omega arith
-zero-fit (suc i) = omega arith
-
-line-fit : (owner : List (List ℕ)) (head : LineHead) (own : List ℕ) → AllByRecursion IsLabel owner → AllByRecursion IsOctets owner → IsOctets own → IsOctets (line_octets owner head own)
-line-fit owner head own are h k =
-    let kind = to_be_bytes w16 (type_code head.record_type) in
-    let class = to_be_bytes w16 (class_code head.class) in
-    let ttl = to_be_bytes w32 head.ttl in
-    let size = to_be_bytes w16 (length own) in
-    let x = both-fit (wire owner) kind (both-fit (labels_wire owner) (0 ∷ []) (name-fit owner are h) zero-fit) (two-fit _) in
-    let y = both-fit (wire owner ++ kind) class x (two-fit _) in
-    let z = both-fit (wire owner ++ kind ++ class) ttl y (four-fit _) in
-    both-fit (wire owner ++ kind ++ class ++ ttl ++ size) own (both-fit (wire owner ++ kind ++ class ++ ttl) size z (two-fit _)) k
+-- the data of a line that was printed of a record
+line-data : (origin : Option NameValue) (r : RecordValue) (text octets : List ℕ) → IsReadRecord r → IsRecordLine origin (record_line r text) octets
+    → (own : List ℕ) × IsTextOf origin (fields_of (type_code r.record_type)) text own × (octets ≡ line_octets r.owner (line_head r) own)
+unfolding IsRecordLine
+line-data origin r text octets read (owner, named, (head, rest, own, is, (spelled, few), e)) =
+    let parts = split origin r text read in
+    let same_owner = same_Some owner r.owner (sym named ∙ parts.named) in
+    let moved : IsHead (line_rest r text) head rest = subst (λ (xs : List ℕ). IsHead xs head rest) parts.left is in
+    let (same_head, same_text) = one-head (line_rest r text) head (line_head r) rest (32 ∷ text) moved (head-back r text read) in
+    let whole : IsTextOf origin (fields_of (type_code r.record_type)) (32 ∷ text) own =
+    subst (λ (x : LineHead). IsTextOf origin (fields_of (type_code x.record_type)) (32 ∷ text) own) same_head
+    (subst (λ (t : List ℕ). IsTextOf origin (fields_of (type_code head.record_type)) t own) same_text spelled) in (
+      own,
+      without-space origin (fields_of (type_code r.record_type)) text own whole,
+      e ∙ ap (λ (ls : List (List ℕ)). line_octets ls head own) same_owner ∙ ap (λ (x : LineHead). line_octets r.owner x own) same_head,
+    )
 
 pub printed-lines : PrintedLinesAreSame
 printed-lines origin b p e r text octets h at print fit line =
-    let (own, plain, done) = lines origin b p e r text h at print in
     let read : IsReadRecord r = subst (λ (x : RecordValue). IsReadRecord x) (sym at.is) (record-read b at.labels p at.owner_end at.pointers h at.owner_read) in
     let bytes : AreBytes r.message = subst (λ (x : RecordValue). AreBytes x.message) (sym at.is) h in
-    let whole = line-fit r.owner (line_head r) own read.labels.each read.octets (data-fit r own bytes plain) in (
-      own,
-      plain,
-      elim done [
-        | inl many ↦ inl many
-        | inr is ↦ inr (unambiguous-lines origin (record_line r text) octets (line_octets r.owner (line_head r) own) fit whole line is)
-      ],
-    )
+    let (own, is, same) = line-data origin r text octets read line in
+    elim (printed origin r text own bytes print (own-fit r.owner (line_head r) own octets same fit) is) [
+      | inl plain ↦ (own, plain, inr same)
+      | inr (long, plain, many) ↦ (long, plain, inl many)
+    ]

@@ -2,7 +2,7 @@
 use Rattle.std.specs.Prelude.{◌≡◌, ◌<◌, ◌⊎◌, ℕ, List, length, Option}
 use Rattle.dnw_base.specs.Names.{NameValue}
 use Rattle.dnw_data_text.specs.DataTexts.{IsDataText, IsPlainData}
-use Rattle.dnw_data_text.specs.Generic.{max_data}
+use Rattle.dnw_data_text.specs.Generic.{max_data, IsGeneric}
 use Rattle.dnw_field_text.specs.Octets.{IsOctets}
 use Rattle.dnw_reading.specs.ReadingLaws.{AreBytes}
 use Rattle.dnw_record.specs.Records.{RecordAt, RecordValue}
@@ -13,11 +13,12 @@ use Rattle.dnw_record_text.specs.declared.record_line.LineHead.{LineHead}
 abbrev pub line_head : RecordValue → LineHead
 line_head r = record { record_type = r.record_type; class = r.class; ttl = r.ttl }
 
--- A record of a message that is printed as a line is parsed as the octets of the same record, with names that are not compressed.
+-- A record of a message that is printed as a line is parsed as the octets of the same record, with names that are not compressed;
+-- or its data are printed as those octets in the form that any data have.
 abbrev pub LinesComeBack : Type 0
 LinesComeBack = (origin : Option NameValue) (b : List ℕ) (p e : ℕ) (r : RecordValue) (text : List ℕ) → AreBytes b → RecordAt b p r e → IsDataText r text
     → (own : List ℕ) × IsPlainData r own
-    × ((max_data < length own) ⊎ IsRecordLine origin (record_line r text) (line_octets r.owner (line_head r) own))
+    × ((max_data < length own) ⊎ IsGeneric text own ⊎ IsRecordLine origin (record_line r text) (line_octets r.owner (line_head r) own))
 
 -- No line is two records.
 abbrev pub LinesAreUnambiguous : Type 0

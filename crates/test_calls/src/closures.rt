@@ -6,6 +6,7 @@ use dns_names_wire::restrict::Restrict;
 #[test]
 fn verdicts(rt: HostRuntime) {
     let five = Restrict::new(5u8);
+    // a test that fails hands the value back
     let failed = five.verify(|n| *n > 5);
     assert!(rt; !failed.is_valid());
     assert!(rt; matches!(failed.then(|n| *n / 2), Err(&5)));

@@ -12,6 +12,8 @@ mod callers;
 #[cfg(test)]
 mod closures;
 #[cfg(test)]
+mod conversions;
+#[cfg(test)]
 mod data_texts;
 #[cfg(test)]
 mod field_texts;

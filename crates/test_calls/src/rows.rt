@@ -105,6 +105,7 @@ fn a_refused_record_leaves_the_count_of_names(rt: HostRuntime) -> Result<(), Fai
 #[test]
 fn a_data_name_has_the_length_of_the_data(rt: HostRuntime) -> Result<(), Fail> {
     let alloc = rt.alloc();
+    // the name in data ends before them
     let longer = b"\x00\x00\x02\x00\x01\x00\x00\x00\x00\x00\x04\x01a\x00\x00";
     assert!(rt;
         matches!(
@@ -112,6 +113,7 @@ fn a_data_name_has_the_length_of_the_data(rt: HostRuntime) -> Result<(), Fail> {
             Err(DecodeError::IncorrectRDataLengthRead { read: 3, len: 4 })
         )
     );
+    // the name in data goes on after them
     let shorter = b"\x00\x00\x02\x00\x01\x00\x00\x00\x00\x00\x02\x01a\x00";
     assert!(rt;
         matches!(

@@ -1,9 +1,12 @@
 //! Records as steps of scripts.
 
 use crate::sections::{Data, Row, record_of};
-use dns_names_wire::encoder::{CANDIDATE_LIMIT, RDataEncoding};
+use dns_names_wire::binary::BinDecodable;
+use dns_names_wire::decoder::BinDecoder;
+use dns_names_wire::encoder::{CANDIDATE_LIMIT, NAME_LIMIT, RDataEncoding};
 use dns_names_wire::error::{ProtoError, ProtoResult};
 use dns_names_wire::name::Name;
+use dns_names_wire::record::RecordRef;
 use dns_names_wire::record_type::RecordType;
 use dns_names_wire::script::{self, Reply, Step};
 use std::alloc::Global;
@@ -74,8 +77,11 @@ fn records_share_names_with_what_is_before_them(rt: HostRuntime) -> Result<(), F
     let alloc = rt.alloc();
     let steps = vec![in alloc;
         owner(alloc)?,
+        // a record after its owner's name begins with a pointer
         Step::Record(record_of(alloc, ADDRESS)?),
+        // the name in the data of a standard record is compressed, and read back
         with_name(alloc, RecordType::NS, "b.a.", RDataEncoding::StandardRecord)?,
+        // the name in other data is written whole
         with_name(alloc, RecordType::CNAME, "b.a.", RDataEncoding::Other)?,
     ]?;
     let mut bytes = Vec::new(alloc);
@@ -87,6 +93,11 @@ fn records_share_names_with_what_is_before_them(rt: HostRuntime) -> Result<(), F
     assert!(rt; bytes.as_slice().starts_with(WITH_ADDRESS));
     assert!(rt; &bytes.as_slice()[19..35] == next.as_slice());
     assert!(rt; bytes.as_slice().ends_with(last));
+    let mut decoder = BinDecoder::new(bytes.as_slice());
+    decoder.skip(19)?;
+    let server = RecordRef::read(alloc, &mut decoder)?.data_name(alloc)?;
+    assert_eq!(rt; server.as_wire(), b"\x01b\x01a\x00".as_slice());
+    assert_eq!(rt; decoder.index(), 35);
     Ok(())
 }
 
@@ -100,22 +111,26 @@ fn a_refused_record_leaves_nothing(rt: HostRuntime) -> Result<(), Fail> {
         Step::Max(19),
         Step::Record(record_of(alloc, ADDRESS)?),
     ]?;
-    let mut bytes = Vec::new(alloc);
+    // a record without room is refused whole, and written where it has room
     // With two names to be compressed, the second record shares its owner only if the first one is not counted.
-    let replies = script::run_limited(alloc, &mut bytes, steps.as_slice(), CANDIDATE_LIMIT, 2)?;
-    assert_eq!(rt; replies.len(), 5);
-    assert!(rt; are_done(&replies.as_slice()[..2], &[3, 3]));
-    assert!(rt;
-        matches!(
-            replies.as_slice()[2],
-            Reply::Refused {
-                error: ProtoError::MaxBufferSizeExceeded(18),
-                len: 3
-            }
-        )
-    );
-    assert!(rt; are_done(&replies.as_slice()[3..], &[3, 19]));
-    assert_eq!(rt; bytes.as_slice(), WITH_ADDRESS);
+    for names in [NAME_LIMIT, 2] {
+        let mut bytes = Vec::new(alloc);
+        let replies =
+            script::run_limited(alloc, &mut bytes, steps.as_slice(), CANDIDATE_LIMIT, names)?;
+        assert_eq!(rt; replies.len(), 5);
+        assert!(rt; are_done(&replies.as_slice()[..2], &[3, 3]));
+        assert!(rt;
+            matches!(
+                replies.as_slice()[2],
+                Reply::Refused {
+                    error: ProtoError::MaxBufferSizeExceeded(18),
+                    len: 3
+                }
+            )
+        );
+        assert!(rt; are_done(&replies.as_slice()[3..], &[3, 19]));
+        assert_eq!(rt; bytes.as_slice(), WITH_ADDRESS);
+    }
     Ok(())
 }
 

@@ -101,8 +101,8 @@ pub(crate) fn has_rows(alloc: Global, message: &[u8], rows: &[Row<'_>]) -> Proto
 fn is_row(alloc: Global, record: &RecordRef<'_>, row: Row<'_>) -> ProtoResult<bool> {
     let owner = Name::from_ascii(alloc, row.owner)?;
     let head = record.owner().eq_name(&owner)
-        && u16::from(record.record_type()) == u16::from(row.kind)
-        && u16::from(record.class()) == u16::from(DNSClass::IN)
+        && record.record_type().code() == row.kind.code()
+        && record.class().code() == DNSClass::IN.code()
         && record.ttl() == TTL;
     match row.data {
         Data::Bytes(bytes) => Ok(head && record.rdata() == bytes),

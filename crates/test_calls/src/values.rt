@@ -10,6 +10,7 @@ use dns_names_wire::name::Name;
 use dns_names_wire::record_data::RecordDataDecodable;
 use dns_names_wire::record_type::RecordType;
 use dns_names_wire::restrict::Restrict;
+use std::fmt;
 use std::test::Fail;
 
 /// The numbers 1, -2 and 3, the type AAAA, the class IN and the name `A.`
@@ -66,5 +67,48 @@ fn a_placeholder_is_filled(rt: HostRuntime) -> Result<(), Fail> {
     encoder.emit_u8(42)?;
     encoder.emit_at(place, 1)?;
     assert_eq!(rt; encoder.into_bytes().as_slice(), b"\x00\x01\x2a".as_slice());
+    Ok(())
+}
+
+/// A sink that takes texts, or none.
+#[derive(Drop)]
+struct Sink {
+    is_open: bool,
+    len: usize,
+}
+
+impl fmt::Write for Sink {
+    fn write_str(&mut self, text: &str) -> fmt::Result {
+        if !self.is_open {
+            return Err(fmt::Error);
+        }
+        self.len = self.len.saturating_add(text.len());
+        Ok(())
+    }
+}
+
+#[test]
+fn a_label_is_written_unless_its_sink_fails(rt: HostRuntime) -> Result<(), Fail> {
+    // 63 octets of which each takes four characters are the longest text.
+    let long = [0; 63];
+    for (bytes, len) in [
+        (b"a".as_slice(), 1),
+        (b"a.b".as_slice(), 4),
+        (long.as_slice(), 252),
+    ] {
+        let label = Label::from_raw_bytes(rt.alloc(), bytes)?;
+        let mut open = Sink {
+            is_open: true,
+            len: 0,
+        };
+        assert!(rt; label.write_ascii(&mut open).is_ok());
+        assert_eq!(rt; open.len, len);
+        let mut closed = Sink {
+            is_open: false,
+            len: 0,
+        };
+        assert!(rt; label.write_ascii(&mut closed).is_err());
+        assert_eq!(rt; closed.len, 0);
+    }
     Ok(())
 }

@@ -144,8 +144,39 @@ fn headers_are_written_as_they_were(rt: HostRuntime) -> Result<(), Fail> {
         Header::read(alloc, &mut decoder)?;
         QueryRef::read_next(&mut decoder)?;
         RecordRef::read_next(&mut decoder)?;
-        assert_eq!(rt; u8::from(header.metadata.op_code), 0);
+        assert_eq!(rt; header.metadata.op_code.code(), 0);
     }
+    Ok(())
+}
+
+/// A decoder of the first octets of a message, at an offset.
+fn cut(message: &[u8], end: usize, start: usize) -> Result<BinDecoder<'_>, DecodeError> {
+    let mut decoder = BinDecoder::new(message.get(..end).ok_or(DecodeError::InsufficientBytes)?);
+    decoder.skip(start)?;
+    Ok(decoder)
+}
+
+#[test]
+fn a_question_or_record_that_is_cut_leaves_the_cursor(rt: HostRuntime) -> Result<(), Fail> {
+    let octets = hex::decode(rt.alloc(), MAIL)?;
+    // The question is after the header, and takes 13 octets of its name and four; the first record takes 12 and nine of data.
+    for end in 12..29 {
+        let mut decoder = cut(octets.as_slice(), end, 12)?;
+        assert!(rt; QueryRef::read_next(&mut decoder).is_err());
+        assert_eq!(rt; decoder.index(), 12);
+    }
+    for end in 29..50 {
+        let mut decoder = cut(octets.as_slice(), end, 29)?;
+        assert!(rt; RecordRef::read_next(&mut decoder).is_err());
+        assert_eq!(rt; decoder.index(), 29);
+        assert!(rt; RecordRef::read(rt.alloc(), &mut decoder).is_err());
+        assert_eq!(rt; decoder.index(), 29);
+    }
+    let mut decoder = cut(octets.as_slice(), 50, 12)?;
+    assert!(rt; QueryRef::read_next(&mut decoder).is_ok());
+    assert_eq!(rt; decoder.index(), 29);
+    assert!(rt; RecordRef::read_next(&mut decoder).is_ok());
+    assert_eq!(rt; decoder.index(), 50);
     Ok(())
 }
 
@@ -239,7 +270,7 @@ fn rules_of_edns(rt: HostRuntime) -> Result<(), Fail> {
     let message = MessageRef::read(&second)?;
     assert_eq!(rt; message.edns()?.ok_or("EDNS")?.max_payload(), 512);
     assert_eq!(rt; message.response_code()?, ResponseCode::BADVERS);
-    assert_eq!(rt; u16::from(message.response_code()?), 16);
+    assert_eq!(rt; message.response_code()?.code(), 16);
     Ok(())
 }
 

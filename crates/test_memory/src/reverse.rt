@@ -13,6 +13,7 @@ use std::net::{IpAddr, Ipv4Addr, Ipv6Addr};
 pub(crate) const NAME: &str = "reverse";
 
 /// Shows the reverse names of two addresses, the nets that are read from them, and two zones.
+// reverse names are made and read while each growth is refused
 pub(crate) fn run_reverse<W: Write>(alloc: Global, out: &mut W) -> io::Result<()> {
     let v4 = Ipv4Addr::new(26, 3, 0, 103);
     let v6 = Ipv6Addr::new(0x2001, 0xdb8, 0, 0, 0, 0, 0, 1);

@@ -1,6 +1,8 @@
 //! Scenarios are run.
 
-use crate::edits::{EDITS, LOWER_EDITS, run_edits, run_lower_edits};
+use crate::edits::{
+    EDITS, LABELS, LOWER_EDITS, READINGS, run_edits, run_labels, run_lower_edits, run_readings,
+};
 use crate::reverse;
 use crate::scenarios::{SCENARIOS, Scenario};
 use crate::script_run::run_script;
@@ -13,63 +15,61 @@ use std::alloc::Global;
 use std::io;
 use std::io::Write;
 
+/// The scenarios that are calls of their own, and neither steps nor texts.
+const CALLS: &[&str] = &[LABELS, EDITS, LOWER_EDITS, READINGS, reverse::NAME];
+
 /// Runs the scenario or the script of this name, or under the name `all` each one after a line with its name. Returns
 /// whether there is one.
 pub(crate) fn run_named<W: Write>(alloc: Global, name: &[u8], out: &mut W) -> io::Result<bool> {
     let all = name == b"all".as_slice();
     let mut found = all;
     for scenario in SCENARIOS {
-        if all {
-            writeln!(out, "== {}", scenario.name)?;
-            run_scenario(alloc, scenario, out)?;
-        } else if name == scenario.name.as_bytes() {
+        if all || name == scenario.name.as_bytes() {
             found = true;
+            show_head(out, all, scenario.name)?;
             run_scenario(alloc, scenario, out)?;
         }
     }
     for script in SCRIPTS {
-        if all {
-            writeln!(out, "== {}", script.name)?;
-            run_script(alloc, script, out)?;
-        } else if name == script.name.as_bytes() {
+        if all || name == script.name.as_bytes() {
             found = true;
+            show_head(out, all, script.name)?;
             run_script(alloc, script, out)?;
         }
     }
     for text in LEXED {
-        if all {
-            writeln!(out, "== {}", text.name)?;
-            run_lexed(alloc, text, out)?;
-        } else if name == text.name.as_bytes() {
+        if all || name == text.name.as_bytes() {
             found = true;
+            show_head(out, all, text.name)?;
             run_lexed(alloc, text, out)?;
         }
     }
     for text in TIMES {
-        if all {
-            writeln!(out, "== {}", text.name)?;
-            run_time(alloc, text, out)?;
-        } else if name == text.name.as_bytes() {
+        if all || name == text.name.as_bytes() {
             found = true;
+            show_head(out, all, text.name)?;
             run_time(alloc, text, out)?;
         }
     }
-    if all || name == EDITS.as_bytes() {
-        found = true;
-        show_head(out, all, EDITS)?;
-        run_edits(alloc, out)?;
-    }
-    if all || name == LOWER_EDITS.as_bytes() {
-        found = true;
-        show_head(out, all, LOWER_EDITS)?;
-        run_lower_edits(alloc, out)?;
-    }
-    if all || name == reverse::NAME.as_bytes() {
-        found = true;
-        show_head(out, all, reverse::NAME)?;
-        reverse::run_reverse(alloc, out)?;
+    for calls in CALLS {
+        if all || name == calls.as_bytes() {
+            found = true;
+            show_head(out, all, calls)?;
+            run_calls(alloc, calls, out)?;
+        }
     }
     Ok(found)
+}
+
+/// Makes the calls of the scenario of this name.
+fn run_calls<W: Write>(alloc: Global, name: &str, out: &mut W) -> io::Result<()> {
+    match name {
+        LABELS => run_labels(alloc, out),
+        EDITS => run_edits(alloc, out),
+        LOWER_EDITS => run_lower_edits(alloc, out),
+        READINGS => run_readings(alloc, out),
+        _ => reverse::run_reverse(alloc, out),
+    }
 }
 
 /// Writes the line before a scenario, if all are run.

@@ -47,16 +47,61 @@ fn show_left<W: Write>(out: &mut W, message: &[u8]) -> io::Result<()> {
 }
 
 fn show_replies<W: Write>(out: &mut W, lines: &[Line], replies: &[Reply]) -> io::Result<()> {
-    for (line, reply) in lines.iter().zip(replies) {
-        show_line(out, *line)?;
-        show_reply(out, reply)?;
+    let mut rest = replies;
+    for line in lines {
+        let (own, others) = taken(rest, line.count());
+        match line {
+            Line::Roots(_) => show_roots(out, own)?,
+            _ => {
+                for reply in own {
+                    show_line(out, *line)?;
+                    show_reply(out, reply)?;
+                }
+            }
+        }
+        rest = others;
     }
     Ok(())
+}
+
+/// Returns the first replies, so many of them or all that there are, and those after them.
+fn taken(replies: &[Reply], count: usize) -> (&[Reply], &[Reply]) {
+    match (replies.get(..count), replies.get(count..)) {
+        (Some(own), Some(others)) => (own, others),
+        _ => (replies, &[]),
+    }
+}
+
+/// Writes which roots were refused, how many were written, and the length after the last one.
+fn show_roots<W: Write>(out: &mut W, replies: &[Reply]) -> io::Result<()> {
+    let mut last = 0usize;
+    for (i, reply) in replies.iter().enumerate() {
+        match reply {
+            Reply::Done { len } => last = *len,
+            other => {
+                write!(out, "root {i}")?;
+                show_reply(out, other)?;
+            }
+        }
+    }
+    let count = count_done(replies);
+    writeln!(out, "roots -> {count} done; len {last}")
+}
+
+fn count_done(replies: &[Reply]) -> usize {
+    let mut count = 0usize;
+    for reply in replies {
+        if let Reply::Done { len: _ } = reply {
+            count = count.saturating_add(1);
+        }
+    }
+    count
 }
 
 fn show_line<W: Write>(out: &mut W, line: Line) -> io::Result<()> {
     match line {
         Line::Name(text) => write!(out, "name {text:?}"),
+        Line::Roots(count) => write!(out, "roots {count}"),
         Line::Bytes(bytes) => {
             write!(out, "bytes ")?;
             show_bytes(out, bytes)
@@ -96,17 +141,38 @@ fn show_readings<W: Write>(
     message: &[u8],
 ) -> io::Result<()> {
     let mut place = 0;
-    for (line, reply) in lines.iter().zip(replies) {
-        match (line, reply) {
-            (Line::Record(..), Reply::Done { .. }) => show_record(alloc, out, message, place)?,
-            _ => show_names(alloc, out, message, place, accepted_names(*line, reply))?,
+    let mut rest = replies;
+    for line in lines {
+        let (own, others) = taken(rest, line.count());
+        if let Line::Roots(_) = line {
+            check_roots(alloc, out, message, place, count_done(own))?;
         }
-        place = match reply {
-            Reply::Done { len } | Reply::Refused { len, .. } | Reply::Items { len, .. } => *len,
-            Reply::NoPlace => place,
-        };
+        for reply in own {
+            show_reading(alloc, out, *line, reply, message, place)?;
+            place = match reply {
+                Reply::Done { len } | Reply::Refused { len, .. } | Reply::Items { len, .. } => *len,
+                Reply::NoPlace => place,
+            };
+        }
+        rest = others;
     }
     Ok(())
+}
+
+/// Reads the names of an accepted step, or its record. Roots are read together.
+fn show_reading<W: Write>(
+    alloc: Global,
+    out: &mut W,
+    line: Line,
+    reply: &Reply,
+    message: &[u8],
+    place: usize,
+) -> io::Result<()> {
+    match (line, reply) {
+        (Line::Roots(_), _) => Ok(()),
+        (Line::Record(..), Reply::Done { .. }) => show_record(alloc, out, message, place),
+        _ => show_names(alloc, out, message, place, accepted_names(line, reply)),
+    }
 }
 
 /// How many names an accepted step or the accepted items of one have.
@@ -144,6 +210,29 @@ fn show_names<W: Write>(
         }
     }
     Ok(())
+}
+
+/// Reads so many roots, of which the first stands at the place, and writes how many they are.
+fn check_roots<W: Write>(
+    alloc: Global,
+    out: &mut W,
+    message: &[u8],
+    place: usize,
+    count: usize,
+) -> io::Result<()> {
+    let mut decoder = BinDecoder::new(message);
+    if decoder.read_slice(place).is_err() {
+        return writeln!(out, "{place}: past the end");
+    }
+    for _ in 0..count {
+        let place = decoder.index();
+        match Name::read(alloc, &mut decoder) {
+            Ok(name) if name.is_root() => {}
+            Ok(name) => return writeln!(out, "{place}: {name}"),
+            Err(e) => return writeln!(out, "{place}: {e}"),
+        }
+    }
+    writeln!(out, "{place}: {count} roots")
 }
 
 /// Reads the record at this offset.

@@ -10,6 +10,8 @@ use std::alloc::Global;
 #[derive(Clone, Copy)]
 pub enum Line {
     Name(&'static str),
+    /// So many steps, each of the root's name.
+    Roots(usize),
     Bytes(&'static [u8]),
     Max(u16),
     Reserve,
@@ -20,6 +22,16 @@ pub enum Line {
     Items(&'static [&'static [&'static str]]),
 }
 
+impl Line {
+    /// Returns how many steps it makes.
+    pub(crate) fn count(self) -> usize {
+        match self {
+            Line::Roots(count) => count,
+            _ => 1,
+        }
+    }
+}
+
 /// A script, which is run over no bytes.
 #[derive(Clone, Copy)]
 pub struct Script {
@@ -28,9 +40,12 @@ pub struct Script {
 }
 
 /// Every script. `tools/test` makes each of their allocations fail in turn.
-pub const SCRIPTS: &[Script] = &[SHARING, PLACED, UNDONE, RECORD, MANY, LONG, HOSTS];
+pub const SCRIPTS: &[Script] = &[
+    SHARING, PLACED, UNDONE, RECORD, MANY, LONG, HOSTS, ROOTS, COUNTED,
+];
 
 /// Each name shares what it can with those before it.
+// each growth of four names that share their suffixes is refused in turn
 const SHARING: Script = Script {
     name: "script_sharing",
     lines: &[
@@ -42,6 +57,7 @@ const SHARING: Script = Script {
 };
 
 /// A place is filled once.
+// each growth of two names after a placeholder that is filled is refused in turn
 const PLACED: Script = Script {
     name: "script_place",
     lines: &[
@@ -54,6 +70,7 @@ const PLACED: Script = Script {
 };
 
 /// An item is undone, and bytes stand where it stood.
+// each growth of items of which one is undone is refused in turn
 const UNDONE: Script = Script {
     name: "script_items",
     lines: &[
@@ -103,7 +120,8 @@ const LONG: Script = Script {
     ],
 };
 
-/// One name more than candidates are kept, which share nothing.
+/// One name more than candidates are kept, which share nothing; and then the last and the first again.
+// each growth of 65 names, and of the last and the first of them again, is refused in turn
 const HOSTS: Script = Script {
     name: "script_hosts",
     lines: &[
@@ -172,14 +190,42 @@ const HOSTS: Script = Script {
         Line::Name("mc."),
         Line::Name("md."),
         Line::Name("me."),
+        Line::Name("me."),
+        Line::Name("aa."),
+    ],
+};
+
+/// The name that ends the script is the last one that is compressed.
+// each growth of 120 names is refused in turn
+const ROOTS: Script = Script {
+    name: "script_roots",
+    lines: &[Line::Name("a."), Line::Roots(118), Line::Name("a.")],
+};
+
+/// The name that ends the script is one too many to be compressed, if no name before it was refused. The placeholder keeps the
+/// first allocation of the buffer small.
+// a name that is refused for memory is not counted
+const COUNTED: Script = Script {
+    name: "script_counted",
+    lines: &[
+        Line::Reserve,
+        Line::Name("a."),
+        Line::Roots(119),
+        Line::Name("a."),
     ],
 };
 
 /// The steps of a script.
 pub(crate) fn steps(alloc: Global, lines: &[Line]) -> ProtoResult<Vec<Step>> {
-    let mut steps = Vec::with_capacity(alloc, lines.len())?;
+    let mut count = 0usize;
     for line in lines {
-        steps.push(step(alloc, *line)?)?;
+        count = count.saturating_add(line.count());
+    }
+    let mut steps = Vec::with_capacity(alloc, count)?;
+    for line in lines {
+        for _ in 0..line.count() {
+            steps.push(step(alloc, *line)?)?;
+        }
     }
     Ok(steps)
 }
@@ -187,6 +233,7 @@ pub(crate) fn steps(alloc: Global, lines: &[Line]) -> ProtoResult<Vec<Step>> {
 fn step(alloc: Global, line: Line) -> ProtoResult<Step> {
     Ok(match line {
         Line::Name(text) => Step::Name(Name::from_ascii(alloc, text)?),
+        Line::Roots(_) => Step::Name(Name::root(alloc)),
         Line::Bytes(bytes) => Step::Bytes(Vec::from_slice(alloc, bytes)?),
         Line::Max(size) => Step::Max(size),
         Line::Reserve => Step::Reserve,

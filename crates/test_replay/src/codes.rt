@@ -104,8 +104,8 @@ fn class_of(word: &str) -> ProtoResult<DNSClass> {
 
 /// Returns a type's code, Debug text and name, and the answers of its tests.
 fn shown_type(alloc: Global, kind: RecordType) -> ProtoResult<String> {
-    let name: &str = kind.into();
-    let mut shown = format!(in alloc; "{} {kind:?} {name}", u16::from(kind))?;
+    let name = kind.name();
+    let mut shown = format!(in alloc; "{} {kind:?} {name}", kind.code())?;
     let tests = [
         (kind.is_any(), "any"),
         (kind.is_cert(), "cert"),
@@ -126,7 +126,7 @@ fn shown_type(alloc: Global, kind: RecordType) -> ProtoResult<String> {
     let printed = format!(in alloc; "{kind}")?;
     let octets = kind.to_bytes(alloc)?;
     if printed.as_str() != name
-        || RecordType::from_bytes(alloc, octets.as_slice())? != RecordType::from(u16::from(kind))
+        || RecordType::from_bytes(alloc, octets.as_slice())? != RecordType::from(kind.code())
     {
         push_word(&mut shown, "differs from its text or octets")?;
     }
@@ -135,12 +135,12 @@ fn shown_type(alloc: Global, kind: RecordType) -> ProtoResult<String> {
 
 /// Returns a class's code, Debug text and name.
 fn shown_class(alloc: Global, class: DNSClass) -> ProtoResult<String> {
-    let name: &str = class.into();
-    let mut shown = format!(in alloc; "{} {class:?} {name}", u16::from(class))?;
+    let name = class.name();
+    let mut shown = format!(in alloc; "{} {class:?} {name}", class.code())?;
     let printed = format!(in alloc; "{class}")?;
     let octets = class.to_bytes(alloc)?;
     if printed.as_str() != name
-        || DNSClass::from_bytes(alloc, octets.as_slice())? != DNSClass::from(u16::from(class))
+        || DNSClass::from_bytes(alloc, octets.as_slice())? != DNSClass::from(class.code())
     {
         push_word(&mut shown, "differs from its text or octets")?;
     }
@@ -270,7 +270,7 @@ fn codes_of(alloc: Global, set: &RecordTypeSet) -> ProtoResult<String> {
         if !codes.is_empty() {
             codes.push_str(",")?;
         }
-        let code = u16::from(kind);
+        let code = kind.code();
         if RecordType::from(code) != kind {
             codes.push_str("U")?;
         }

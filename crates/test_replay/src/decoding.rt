@@ -6,6 +6,7 @@ use crate::notation::{
 use dns_names_wire::binary::BinDecodable;
 use dns_names_wire::decoder::BinDecoder;
 use dns_names_wire::error::{DecodeError, ProtoResult};
+use dns_names_wire::lower_name::LowerName;
 use dns_names_wire::name::Name;
 use dns_names_wire::restrict::Restrict;
 use std::alloc::Global;
@@ -54,6 +55,10 @@ fn call_without(alloc: Global, name: &str, decoder: &mut BinDecoder<'_>) -> Prot
             shown_octets(alloc, read)
         }
         "name" => shown_name(alloc, Name::read(alloc, decoder)),
+        "lower" => match LowerName::read(alloc, decoder) {
+            Ok(name) => shown_name(alloc, Ok(name.into_name())),
+            Err(error) => shown_error(alloc, error),
+        },
         "peek" => Ok(match decoder.peek() {
             Some(octet) => format!(in alloc; "{}", octet.unverified())?,
             None => String::from_str(alloc, "none")?,
@@ -92,8 +97,18 @@ fn call_with(
             *decoder = decoder.clone(number);
             Ok(String::from_str(alloc, "ok")?)
         }
+        "copy" if len <= decoder.message().len() => shown_decoder(alloc, &decoder.clone(number)),
         _ => Err(BAD_LINE),
     }
+}
+
+/// Returns a decoder's index, how many octets it has left, and the next one.
+fn shown_decoder(alloc: Global, decoder: &BinDecoder<'_>) -> ProtoResult<String> {
+    let (index, len) = (decoder.index(), decoder.len());
+    Ok(match decoder.peek() {
+        Some(octet) => format!(in alloc; "{index},{len},{}", octet.unverified())?,
+        None => format!(in alloc; "{index},{len},none")?,
+    })
 }
 
 /// Returns a number that was read, or the error.

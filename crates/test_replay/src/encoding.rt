@@ -139,6 +139,8 @@ fn step(
         }
         "fill" => fill(alloc, rest, encoder, places),
         "since" => since(alloc, rest, encoder, places),
+        "holds" => holds(alloc, rest, encoder, places),
+        "all" => all(alloc, rest, encoder),
         "slp" | "glp" | "slice" => {
             let (start, end) = rest.split_once(':').ok_or(BAD_LINE)?;
             look(alloc, kind, number(start)?, number(end)?, encoder)
@@ -197,6 +199,34 @@ fn since(
             Ok(format!(in alloc; "since:{}", encoder.len_since_place(place))?)
         }
         _ => Ok(String::from_str(alloc, "noplace")?),
+    }
+}
+
+/// Returns whether the encoder holds a placeholder.
+fn holds(
+    alloc: Global,
+    index: &str,
+    encoder: &BinEncoder<'_>,
+    places: &[Option<Place<u16>>],
+) -> ProtoResult<String> {
+    match places.get(number::<usize>(index)?) {
+        Some(Some(place)) => Ok(format!(in alloc; "holds:{}", encoder.holds(place))?),
+        _ => Ok(String::from_str(alloc, "noplace")?),
+    }
+}
+
+/// Writes the numbers of 16 bits between commas as a list of items, and returns how many were written.
+fn all(alloc: Global, words: &str, encoder: &mut BinEncoder<'_>) -> ProtoResult<String> {
+    let mut numbers = Vec::new(alloc);
+    for word in words.split(',') {
+        numbers.push(number::<u16>(word)?)?;
+    }
+    if encoder.offset() != encoder.len() {
+        return Err(BAD_LINE);
+    }
+    match encoder.emit_all(numbers.iter()) {
+        Ok(count) => Ok(format!(in alloc; "all:{count}:{}", encoder.len())?),
+        Err(error) => reply(alloc, Err(error), encoder),
     }
 }
 

@@ -73,7 +73,7 @@ fn field_word(alloc: Global, field: &Field<'_>) -> Result<String, AllocError> {
         Field::U64(number) => format!(in alloc; "u64={number}"),
         Field::Ipv4(address) => format!(in alloc; "ipv4={address}"),
         Field::Ipv6(address) => format!(in alloc; "ipv6={address}"),
-        Field::TypeCode(kind) => format!(in alloc; "type={}", u16::from(*kind)),
+        Field::TypeCode(kind) => format!(in alloc; "type={}", kind.code()),
         Field::Time(time) => format!(in alloc; "time={}", time.get()),
         Field::Counted(octets) => octets_word(alloc, "counted", octets),
         Field::Octets(octets) => octets_word(alloc, "octets", octets),

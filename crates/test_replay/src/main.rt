@@ -5,6 +5,7 @@
 //! on purpose, by reason, and how many not on purpose. It exits with 1 if there is one of these.
 #![tactic(auto)]
 
+mod bounds;
 mod buffer;
 mod codes;
 mod data_texts;
@@ -29,6 +30,7 @@ mod scripts;
 mod tally;
 mod texts;
 mod tokens;
+mod walking;
 
 use std::io;
 use std::io::{BufRead, BufReader};

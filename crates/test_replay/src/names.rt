@@ -35,7 +35,7 @@ fn in_zone(alloc: Global, name: &Name, zone: &Name) -> ProtoResult<String> {
     let borrowed = name.as_name_ref().is_in(zone);
     if is_in != borrowed
         || is_in != zone.zone_of(name)
-        || is_in != zone.as_name_ref().zone_of(name)
+        || is_in != name.as_name_ref().zone_of(zone)
     {
         return Err(ProtoError::Message("the calls do not agree"));
     }

@@ -3,9 +3,11 @@
 //! - `ip ADDRESS`: the text of the address's reverse name. `moves` follows if another way to the name gives another one, or
 //!   if the name is not read as the address with all of its bits.
 //! - `arpa NAME`: the net that the name stands for, as `ADDRESS/BITS`, or `!` and the text of the error.
+//! - `arpa-error NAME`: the Debug text of the error, or the net.
 //! - `net ADDRESS BITS`: the net, or `!` and the text of the error.
 //! - `zone ZONE`, `zone-made KIND`: a zone's name and its seven usages, of a function or a constructor of `usage`.
 //! - `zone-has ZONE ADDRESS`: `true` if the address's reverse name is in the zone.
+//! - `zone-is ZONE ADDRESS`: `true` if the address's reverse name is the zone's name.
 //! - `to-ip TEXT`: the address that a text writes, or `none`.
 //! - `into KIND TEXT`: the text of the name that `IntoName` makes of the text, as a `str`, `string`, `string-ref`, `name`,
 //!   `lower` or `lower-ref`, or `!` and the text of the error.
@@ -27,15 +29,20 @@ pub(crate) fn answer(alloc: Global, kind: &str, rest: &str) -> ProtoResult<Strin
     match kind {
         "ip" => reverse_name(alloc, address_of(rest)?),
         "arpa" => net_text(alloc, notation::name_of(alloc, rest)?.parse_arpa_name()),
+        "arpa-error" => match notation::name_of(alloc, rest)?.parse_arpa_name() {
+            Ok(net) => Ok(format!(in alloc; "{net}")?),
+            Err(error) => Ok(format!(in alloc; "{error:?}")?),
+        },
         "net" => {
             let (address, bits) = first_word(rest)?;
             net_text(alloc, IpNet::new(address_of(address)?, number(bits)?))
         }
         "zone" => zones::zone(alloc, rest),
         "zone-made" => zones::made(alloc, rest),
-        "zone-has" => {
+        "zone-has" | "zone-is" => {
             let (zone, address) = first_word(rest)?;
-            zones::holds(alloc, zone, address_of(address)?)
+            let name = Name::from_ip(alloc, address_of(address)?)?;
+            zones::compared(alloc, zone, &name, kind)
         }
         "to-ip" => match rest.to_ip() {
             Some(address) => Ok(format!(in alloc; "{address}")?),

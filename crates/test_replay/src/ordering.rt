@@ -26,6 +26,8 @@ pub(crate) fn answer(alloc: Global, kind: &str, words: &str) -> ProtoResult<Stri
         }
         "edits" => edits(alloc, words),
         "from_labels" => from_labels(alloc, words),
+        "from-texts" => from_texts(alloc, words),
+        "trimmed" => trimmed(alloc, words),
         _ => edit(alloc, kind, words),
     }
 }
@@ -185,6 +187,33 @@ fn from_labels(alloc: Global, words: &str) -> ProtoResult<String> {
         }
     }
     shown(alloc, Name::from_labels(alloc, labels))
+}
+
+/// Makes a name of labels, each a text, and returns it and the length of its wire form.
+fn from_texts(alloc: Global, words: &str) -> ProtoResult<String> {
+    let mut labels = Vec::new(alloc);
+    for word in words.split(' ') {
+        labels.push(word)?;
+    }
+    match Name::from_labels(alloc, labels) {
+        Ok(name) => {
+            let length = name.encoded_len();
+            let name = shown(alloc, Ok(name))?;
+            Ok(format!(in alloc; "{name} {length}")?)
+        }
+        Err(error) => Ok(error_word(alloc, &error)?),
+    }
+}
+
+/// Returns whether the last labels of a name, so many of them, equal another name, hash alike, and have an equal wire form.
+fn trimmed(alloc: Global, words: &str) -> ProtoResult<String> {
+    let (whole, words) = first_word(words)?;
+    let (count, other) = first_word(words)?;
+    let last = name(alloc, whole)?.trim_to(number(count)?)?;
+    let other = name(alloc, other)?;
+    let alike = hash_of(&last) == hash_of(&other);
+    let same = last.as_wire() == other.as_wire();
+    Ok(format!(in alloc; "{} {alike} {same}", last == other)?)
 }
 
 /// Edits one name.

@@ -3,8 +3,8 @@
 use crate::notation::BAD_LINE;
 use crate::tally::Tally;
 use crate::{
-    codes, data_texts, decoding, encoding, errors, fields, labels, names, nets, ordering, readings,
-    record_sets, records, restrict, scripts, texts, tokens,
+    bounds, codes, data_texts, decoding, encoding, errors, fields, labels, names, nets, ordering,
+    readings, record_sets, records, restrict, scripts, texts, tokens, walking,
 };
 use dns_names_wire::error::ProtoResult;
 use std::alloc::Global;
@@ -38,6 +38,8 @@ pub(crate) fn answer(
         | "cmp"
         | "edits"
         | "from_labels"
+        | "from-texts"
+        | "trimmed"
         | "base_name"
         | "into_wildcard"
         | "trim_to"
@@ -48,6 +50,8 @@ pub(crate) fn answer(
         | "back"
         | "lower-name"
         | "tests" => { ordering::answer(alloc, kind, words) }
+        "walk" | "borrowed" => walking::answer(alloc, kind, words),
+        "extremes" | "clamp" => bounds::answer(alloc, kind, words),
         "class"
         | "class-cmp"
         | "class-name"
@@ -70,7 +74,9 @@ pub(crate) fn answer(
         "decode" | "from-bytes" => decoding::answer(alloc, kind, words),
         "restrict" => restrict::answer(alloc, words),
         "encode" | "encode-numbered" | "to-bytes" => encoding::answer(alloc, kind, words),
-        "script" | "script-end" | "items" => scripts::answer(alloc, kind, words),
+        "script" | "script-end" | "script-replies" | "script-done" | "items" => {
+            scripts::answer(alloc, kind, words)
+        }
         "error" => errors::answer(alloc, words),
         "fields" => fields::answer(alloc, words),
         "record" => records::answer(alloc, words),
@@ -79,9 +85,16 @@ pub(crate) fn answer(
         "lex" | "lex-cuts" | "lex-texts" | "lex-zone" | "time" | "times" => {
             tokens::answer(alloc, kind, words, tally)
         }
-        "ip" | "arpa" | "net" | "zone" | "zone-made" | "zone-has" | "to-ip" | "into" => {
-            nets::answer(alloc, kind, words)
-        }
+        "ip"
+        | "arpa"
+        | "arpa-error"
+        | "net"
+        | "zone"
+        | "zone-made"
+        | "zone-has"
+        | "zone-is"
+        | "to-ip"
+        | "into" => nets::answer(alloc, kind, words),
         _ => Err(BAD_LINE),
     }
 }

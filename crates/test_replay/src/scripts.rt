@@ -13,24 +13,14 @@ use std::alloc::Global;
 /// Returns the answer to a request about scripts.
 pub(crate) fn answer(alloc: Global, kind: &str, words: &str) -> ProtoResult<String> {
     match kind {
-        "script" => Ok(run(alloc, words)?.whole),
-        "script-end" => Ok(run(alloc, words)?.end),
+        "script" | "script-end" | "script-replies" | "script-done" => run(alloc, kind, words),
         "items" => emit_items(alloc, words),
         _ => Err(BAD_LINE),
     }
 }
 
-/// What comes of a script.
-#[derive(Drop)]
-struct Outcome {
-    /// The replies, the message, and its names.
-    whole: String,
-    /// The last reply, and the last two octets.
-    end: String,
-}
-
-/// Runs the steps, one a word, after what the buffer has.
-fn run(alloc: Global, words: &str) -> ProtoResult<Outcome> {
+/// Runs the steps, one a word, after what the buffer has, and returns what this kind of request is about.
+fn run(alloc: Global, kind: &str, words: &str) -> ProtoResult<String> {
     let mut buffer = Buffer::new(alloc, words)?;
     let start = buffer.bytes.len();
     if start > 65536 {
@@ -55,28 +45,44 @@ fn run(alloc: Global, words: &str) -> ProtoResult<Outcome> {
         buffer.bytes.as_slice(),
     );
     let names = read_back(alloc, message, start, steps, replies)?;
-    Ok(Outcome {
-        whole: whole(alloc, replies, message, names.as_str())?,
-        end: end(alloc, replies, message)?,
-    })
+    let last = message
+        .get(message.len().saturating_sub(2)..)
+        .unwrap_or(message);
+    match kind {
+        "script" => {
+            let told = reply_words(alloc, replies)?;
+            let message = hexadecimal(alloc, message)?;
+            Ok(format!(in alloc; "{told} | {message} |{names}")?)
+        }
+        "script-replies" => {
+            let told = reply_words(alloc, replies)?;
+            Ok(format!(in alloc; "{told} | {}", hexadecimal(alloc, last)?)?)
+        }
+        "script-end" => {
+            let told = reply_word(alloc, replies.last().ok_or(BAD_LINE)?)?;
+            Ok(format!(in alloc; "{told} {}", hexadecimal(alloc, last)?)?)
+        }
+        _ => Ok(format!(in alloc; "{} {}", count_done(replies), message.len())?),
+    }
 }
 
-fn whole(alloc: Global, replies: &[Reply], message: &[u8], names: &str) -> ProtoResult<String> {
+fn reply_words(alloc: Global, replies: &[Reply]) -> ProtoResult<String> {
     let mut told = String::new(alloc);
     for reply in replies {
         push_word(&mut told, reply_word(alloc, reply)?.as_str())?;
     }
-    let message = hexadecimal(alloc, message)?;
-    Ok(format!(in alloc; "{told} | {message} |{names}")?)
+    Ok(told)
 }
 
-fn end(alloc: Global, replies: &[Reply], message: &[u8]) -> ProtoResult<String> {
-    let reply = reply_word(alloc, replies.last().ok_or(BAD_LINE)?)?;
-    let last = message
-        .get(message.len().saturating_sub(2)..)
-        .unwrap_or(message);
-    let last = hexadecimal(alloc, last)?;
-    Ok(format!(in alloc; "{reply} {last}")?)
+/// Returns how many steps were done.
+fn count_done(replies: &[Reply]) -> usize {
+    let mut count = 0usize;
+    for reply in replies {
+        if let Reply::Done { len: _ } = reply {
+            count = count.saturating_add(1);
+        }
+    }
+    count
 }
 
 fn reply_word(alloc: Global, reply: &Reply) -> ProtoResult<String> {

@@ -86,7 +86,7 @@ impl Reading {
     fn lex(&mut self, text: &str) -> ProtoResult<()> {
         self.texts = self.texts.saturating_add(1);
         let mut lexer = Lexer::new(text);
-        for _ in 0..=text.len() {
+        for _ in 0..=text.chars().count() {
             match lexer.next_token(self.alloc) {
                 Ok(Some(token)) => self.token(&token)?,
                 Ok(None) => {

@@ -9,3 +9,4 @@ pub mod TextsBack
 pub mod TableNames
 pub mod TableOrder
 pub mod TablePush
+pub mod LabelsLeft

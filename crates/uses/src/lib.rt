@@ -3,6 +3,7 @@
 #![tactic(auto)]
 
 pub mod bitmap;
+pub mod conversions;
 pub mod copying;
 pub mod denial;
 pub mod example;

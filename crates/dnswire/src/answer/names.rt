@@ -10,7 +10,7 @@ use std::alloc::Global;
 
 /// The message that the texts' names make, in hexadecimal, and a line for each name: its place, and the text that is
 /// read back there.
-pub fn shared(alloc: Global, texts: &[String]) -> Result<String, Refusal> {
+pub(super) fn shared(alloc: Global, texts: &[String]) -> Result<String, Refusal> {
     let mut message = Vec::new(alloc);
     write(alloc, steps(alloc, texts)?.as_slice(), &mut message)?;
     let mut listing = hex::encode(alloc, message.as_slice())?;

@@ -1,8 +1,9 @@
 //! Records in a message, which are read without copying.
 ghost use Rattle.std.specs.Prelude.{◌≡◌, ℕ, ◌+◌, List, length, true, IfOk, IfErr, OnErr, IsErrOf, IsOkAnd, slice_range};
 ghost use Rattle.dnw_error.specs.declared.error.DecodeError.{DecodeError};
+ghost use Rattle.dnw_base.specs.Decoder.{Decoder};
 ghost use Rattle.dnw_base.specs.Names.{NameValue};
-ghost use Rattle.dnw_record.specs.Records.{TakesRecord, FailsRecord, HasDataName, FailsDataName, data_octets, fixed_size};
+ghost use Rattle.dnw_record.specs.Records.{RecordValue, TakesRecord, FailsRecord, HasDataName, FailsDataName, data_octets, fixed_size};
 ghost use Rattle.dnw_record.specs.RecordFields.{record_fields};
 ghost use Rattle.dnw_record.specs.FixedFields.{FieldsOf};
 
@@ -58,13 +59,23 @@ impl<'r> RecordRef<'r> {
     ghost use Rattle.std.specs.Prelude.{◌≡◌, ℕ, length};
     ghost use Rattle.dnw_record.specs.Records.{data_octets};
 
-    /// Reads the record at the cursor as `read` does, but needs no allocator. If it fails, the cursor may be past the owner.
+    /// Reads the record at the cursor as `read` does, but needs no allocator. If it fails, the cursor is unchanged.
     #[inline(always)]
     pub fn read_next(reader: &mut BinDecoder<'r>) -> Result<Self, DecodeError>
         ensures ok { IfOk result (λ r. TakesRecord reader.old r reader.new) }
         ensures err { IfErr result (FailsRecord reader.old) }
+        ensures same { OnErr result (reader.new ≡ reader.old) }
+
+        // It accepts what the definition accepts, and fails where the definition does.
+        ensures accepts { (r : RecordValue) (after : Decoder) → TakesRecord reader.old r after
+            → IsOkAnd result (λ x. x ≡ r) × (reader.new ≡ after) }
+        ensures fails { (error : DecodeError) → FailsRecord reader.old error → IsErrOf result error }
     {
-        read_on(reader)
+        let mut ahead = BinDecoder::new(reader.message());
+        ahead.skip(reader.index()).unwrap();
+        let record = read_on(&mut ahead)?;
+        *reader = ahead;
+        Ok(record)
     }
 
     /// Returns the name that owns the record.
@@ -229,11 +240,7 @@ impl<'r> BinDecodable<'r> for RecordRef<'r> {
     /// It fails with the error of reading the owner, or with `InsufficientBytes` if the fields or the data after it are
     /// not all there.
     fn read(_alloc: Global, decoder: &mut BinDecoder<'r>) -> Result<Self, DecodeError> {
-        let mut reader = BinDecoder::new(decoder.message());
-        reader.skip(decoder.index()).unwrap();
-        let record = read_on(&mut reader)?;
-        *decoder = reader;
-        Ok(record)
+        RecordRef::read_next(decoder)
     }
 
     fn from_bytes(alloc: Global, bytes: &'r [u8]) -> Result<Self, DecodeError> {

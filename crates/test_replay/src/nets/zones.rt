@@ -6,7 +6,6 @@ use dns_names_wire::name::Name;
 use dns_names_wire::usage;
 use dns_names_wire::usage::ZoneUsage;
 use std::alloc::Global;
-use std::net::IpAddr;
 
 /// Returns the name and the usages of a zone, or the name alone if the function returns no more.
 pub(crate) fn zone(alloc: Global, zone: &str) -> ProtoResult<String> {
@@ -33,12 +32,14 @@ pub(crate) fn made(alloc: Global, kind: &str) -> ProtoResult<String> {
     shown(alloc, &zone)
 }
 
-/// Returns whether the reverse name of an address is in a zone.
-pub(crate) fn holds(alloc: Global, zone: &str, address: IpAddr) -> ProtoResult<String> {
+/// Returns whether a name is in a zone, or is the zone's name.
+pub(crate) fn compared(alloc: Global, zone: &str, name: &Name, kind: &str) -> ProtoResult<String> {
     let zone = named(alloc, zone)?;
-    let name = Name::from_ip(alloc, address)?;
-    let is_in = zone.zone_of(&name);
-    Ok(format!(in alloc; "{is_in}")?)
+    let is_so = match kind {
+        "zone-has" => zone.zone_of(name),
+        _ => zone.name() == name,
+    };
+    Ok(format!(in alloc; "{is_so}")?)
 }
 
 fn named(alloc: Global, zone: &str) -> ProtoResult<ZoneUsage> {

@@ -1,5 +1,5 @@
 use Rattle.dnw_data_text.proofs.DataBack.{back}
-use Rattle.dnw_data_text.proofs.NoFault.{parsed}
+use Rattle.dnw_data_text.proofs.NoFault.{generic-parsed, parsed}
 use Rattle.dnw_data_text.proofs.laws.data_come_back.Goals as goal
 
 pub returns-clause-back : goal.returns-clause-back
@@ -7,3 +7,6 @@ returns-clause-back c = back
 
 pub returns-clause-parsed : goal.returns-clause-parsed
 returns-clause-parsed c = parsed
+
+pub returns-clause-generic : goal.returns-clause-generic
+returns-clause-generic c = generic-parsed

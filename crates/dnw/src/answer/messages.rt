@@ -25,7 +25,7 @@ const EDNS: WireEdns<'static> = WireEdns {
 };
 
 /// Returns a message as text: its header, what it says by EDNS, each item of its sections in a line, and how many octets follow it.
-pub fn listing(alloc: Global, octets: &[u8]) -> Result<String, Refusal> {
+pub(super) fn listing(alloc: Global, octets: &[u8]) -> Result<String, Refusal> {
     let message = MessageRef::read(octets)?;
     let edns = in_additionals(&message, message.edns())?;
     let response = in_additionals(&message, message.response_code())?;
@@ -156,7 +156,7 @@ fn flags_of(metadata: &Metadata) -> [(bool, &'static str); 7] {
 fn op_text(alloc: Global, op: OpCode) -> Result<String, Refusal> {
     match op {
         OpCode::Unknown(code) => Ok(format!(in alloc; "RESERVED{code}")?),
-        _ => capitals(alloc, op.into()),
+        _ => capitals(alloc, op.name()),
     }
 }
 
@@ -164,7 +164,7 @@ fn op_text(alloc: Global, op: OpCode) -> Result<String, Refusal> {
 fn response_text(alloc: Global, response: ResponseCode) -> Result<String, Refusal> {
     match response {
         ResponseCode::Unknown(code) => Ok(format!(in alloc; "RESERVED{code}")?),
-        _ => capitals(alloc, response.into()),
+        _ => capitals(alloc, response.name()),
     }
 }
 
@@ -229,7 +229,12 @@ fn push_record(alloc: Global, text: &mut String, record: &RecordRef<'_>) -> Resu
 
 /// Returns a query for the records of a type that a name has, in the class IN, in hexadecimal. It asks for recursion; its id is
 /// 0, for the sender to replace.
-pub fn query(alloc: Global, name: &str, kind: &str, has_edns: bool) -> Result<String, Refusal> {
+pub(super) fn query(
+    alloc: Global,
+    name: &str,
+    kind: &str,
+    has_edns: bool,
+) -> Result<String, Refusal> {
     let Some(query_type) = RecordType::from_text(kind) else {
         return Err(Refusal::Usage);
     };

@@ -2,7 +2,7 @@ use Rattle.std.proofs.Common.{ap, ◌∙◌}
 use Rattle.dnw_codes.specs.RecordTypes.{type_of_code}
 use Rattle.dnw_codes.specs.DnsClasses.{class_of_code}
 use Rattle.dnw_message.proofs.InTurn.{query-taken}
-use Rattle.dnw_message.proofs.query.QueryRef.read_next.Goals as goal
+use Rattle.dnw_message.proofs.query.read_on.Goals as goal
 
 pub returns-clause-ok : goal.returns-clause-ok
 returns-clause-ok c =

@@ -1,0 +1,134 @@
+//! What the program answers to its words.
+
+mod messages;
+
+use dns_names_wire::ProtoError;
+use dns_names_wire::message::{EdnsError, MessageError};
+use hex::FromHexError;
+use std::alloc::{AllocError, AllocFailed, Global};
+use std::io;
+use std::io::{Read, Write};
+use thiserror::Error;
+
+/// Why there is no answer.
+#[derive(Debug, Drop, Error)]
+enum Refusal {
+    /// The words ask for nothing that the program does.
+    #[error("usage: dnw message HEX | message - | query NAME TYPE [--edns]")]
+    Usage,
+    /// Standard input could not be read.
+    #[error("refused: standard input: {0}")]
+    Input(io::Error),
+    /// A name was refused, or memory ran out.
+    #[error("refused: {0}")]
+    Proto(ProtoError),
+    /// A message was refused.
+    #[error("refused: {0}")]
+    Message(MessageError),
+    /// An `OPT` record is outside the additional section.
+    #[error("refused: {0}")]
+    Outside(EdnsError),
+    /// What the additional section says by EDNS was refused.
+    #[error("refused: Additionals from offset {offset} on: {error}")]
+    Edns {
+        /// The offset at which the additional records begin.
+        offset: usize,
+        /// What is wrong.
+        error: EdnsError,
+    },
+}
+
+impl From<io::Error> for Refusal {
+    fn from(e: io::Error) -> Self {
+        Refusal::Input(e)
+    }
+}
+
+impl From<ProtoError> for Refusal {
+    fn from(e: ProtoError) -> Self {
+        Refusal::Proto(e)
+    }
+}
+
+impl From<MessageError> for Refusal {
+    fn from(e: MessageError) -> Self {
+        Refusal::Message(e)
+    }
+}
+
+impl<T: Drop> From<AllocFailed<T>> for Refusal {
+    fn from(_: AllocFailed<T>) -> Self {
+        Refusal::Proto(ProtoError::Memory)
+    }
+}
+
+impl From<AllocError> for Refusal {
+    fn from(_: AllocError) -> Self {
+        Refusal::Proto(ProtoError::Memory)
+    }
+}
+
+/// Writes the answer to the words, the program's own name not among them, and returns the exit status: 0 for an
+/// answer, 1 for a refusal, 2 for words that ask for nothing. It fails if the answer cannot be written.
+pub fn answer<I: Read, W: Write>(
+    alloc: Global,
+    words: &[String],
+    input: &mut I,
+    out: &mut W,
+) -> io::Result<u8> {
+    match reply(alloc, words, input) {
+        Ok(text) => {
+            writeln!(out, "{text}")?;
+            Ok(0)
+        }
+        Err(refusal) => {
+            writeln!(out, "{refusal}")?;
+            Ok(match refusal {
+                Refusal::Usage => 2,
+                _ => 1,
+            })
+        }
+    }
+}
+
+fn reply<I: Read>(alloc: Global, words: &[String], input: &mut I) -> Result<String, Refusal> {
+    match words {
+        [command, dash] if command.as_str() == "message" && dash.as_str() == "-" => {
+            messages::listing(alloc, given(alloc, input)?.as_slice())
+        }
+        [command, message] if command.as_str() == "message" => {
+            messages::listing(alloc, octets(alloc, message.as_str())?.as_slice())
+        }
+        [command, name, kind] if command.as_str() == "query" => {
+            messages::query(alloc, name.as_str(), kind.as_str(), false)
+        }
+        [command, name, kind, edns] if command.as_str() == "query" && edns.as_str() == "--edns" => {
+            messages::query(alloc, name.as_str(), kind.as_str(), true)
+        }
+        _ => Err(Refusal::Usage),
+    }
+}
+
+/// Octets from standard input. If all of it is hexadecimal digits, spaces and ends of lines, the digits are the octets; else it
+/// is the octets.
+fn given<I: Read>(alloc: Global, input: &mut I) -> Result<Vec<u8>, Refusal> {
+    let mut bytes = Vec::new(alloc);
+    input.read_to_end(&mut bytes)?;
+    let mut digits = String::new(alloc);
+    for byte in &bytes {
+        if byte.is_ascii_hexdigit() {
+            digits.push(char::from(*byte))?;
+        } else if !byte.is_ascii_whitespace() {
+            return Ok(bytes);
+        }
+    }
+    octets(alloc, digits.as_str())
+}
+
+/// Octets in hexadecimal digits of either case.
+fn octets(alloc: Global, text: &str) -> Result<Vec<u8>, Refusal> {
+    hex::decode(alloc, text).map_err(|e| match e {
+        FromHexError::OutOfMemory => Refusal::Proto(ProtoError::Memory),
+        _ => Refusal::Usage,
+    })
+}

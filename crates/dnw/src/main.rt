@@ -1,0 +1,39 @@
+//! `dnw` shows whole messages, and makes queries.
+#![tactic(auto)]
+
+mod answer;
+
+use answer::answer;
+use std::io::{Read, Write};
+use std::process::ExitCode;
+use std::rt::Env;
+use std::{env, io};
+
+/// The words after the program's name. It fails with `InvalidData` if one of them is not UTF-8.
+fn words<E: Env + AllocGlobal>(env: &E) -> io::Result<Vec<String>> {
+    let mut words = Vec::new(env.alloc());
+    for word in env::args(env)?.skip(1) {
+        words.push(word)?;
+    }
+    Ok(words)
+}
+
+fn run<E: Env + AllocGlobal, I: Read, W: Write>(
+    env: &E,
+    input: &mut I,
+    out: &mut W,
+) -> io::Result<u8> {
+    match words(env) {
+        Ok(words) => answer(env.alloc(), words.as_slice(), input, out),
+        // Words that are not text ask for nothing that the program does, as no words do.
+        Err(e) if e.kind() == io::ErrorKind::InvalidData => answer(env.alloc(), &[], input, out),
+        Err(e) => Err(e),
+    }
+}
+
+fn main(rt: HostRuntime) -> ExitCode {
+    match run(&rt, &mut rt.reader(), &mut io::writer(&rt)) {
+        Ok(status) => ExitCode::from(status),
+        Err(_) => ExitCode::FAILURE,
+    }
+}
