@@ -1,4 +1,4 @@
-/* Functions for benchmarks: the static library libdnw_bench.a, which `rt lib` builds in crates/dnw_bench. They are there
+/* Functions for benchmarks: the static library libtest_bench.a, which `rt lib` builds in crates/test_bench. They are there
    to be timed: they promise to be safe and to return, and 0 if `count` is 0.
 
    Each does its set-up once, works through its input `count` times, and returns the sum of the checksums modulo 2^64. A

@@ -30,7 +30,7 @@ def below(name, crates):
 
 def archives():
     """The crates that are joined to the C library: those whose functions C calls."""
-    return [head[0] for head, _ in rows() if "staticlib" in head and re.match(r"dnw_c(_|$)", head[0])]
+    return [head[0] for head, _ in rows() if "staticlib" in head and re.match("dnw_c_", head[0])]
 
 
 def in_order(name, crates):

@@ -4,14 +4,14 @@ use Rattle.std.specs.Prelude.{IfOk, nat_lt}
 use Rattle.std.specs.List.{AllByRecursion}
 use Rattle.std.specs.Str.{chars}
 use Rattle.std.proofs.lemmas.Bool.{cond_both, ltb-false}
-use Rattle.dnw_error.specs.Fault.{Fault, LabelTooLong, MalformedLabel, NameTooLong, ◌>>=◌}
+use Rattle.dnw_base.specs.Fault.{Fault, LabelTooLong, MalformedLabel, NameTooLong, ◌>>=◌}
 use Rattle.dnw_base.specs.Limits.{max_label, max_name}
 use Rattle.dnw_base.specs.Names.{NameValue, AreLabels, encoded_size}
 use Rattle.dnw_base.proofs.Wires.{AllByRecursion-push}
-use Rattle.dnw_label.specs.LabelText.{dot, is_label_text}
-use Rattle.dnw_form.specs.Edits.{with_label}
-use Rattle.dnw_text.specs.NameText.{TextElement, Char, Dot, Stop, Outside, elements, with_text, name_from_elements, name_from_text, name_text, IsLabelText}
-use Rattle.dnw_text.proofs.ReadBack.{read_back}
+use Rattle.dnw_name_form.specs.LabelText.{dot, is_label_text}
+use Rattle.dnw_name_form.specs.Edits.{with_label}
+use Rattle.dnw_name_ascii.specs.NameText.{TextElement, Char, Dot, Stop, Outside, elements, with_text, name_from_elements, name_from_text, name_text, IsLabelText}
+use Rattle.dnw_name_ascii.proofs.ReadBack.{read_back}
 
 -- labels that fit into a name and stand for themselves as text
 record AreTexts (ls : List (List ℕ)) : Type 0 where

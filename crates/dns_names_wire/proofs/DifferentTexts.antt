@@ -6,10 +6,10 @@ use Rattle.std.proofs.lemmas.Bool.{agree_below_at, and_parts, not-true, eqb-true
 use Rattle.std.proofs.lemmas.List.{append-nil}
 use Rattle.dnw_base.specs.Labels.{IsLabel}
 use Rattle.dnw_base.specs.Names.{NameValue, AreLabels}
-use Rattle.dnw_label.specs.LabelText.{dot, backslash, is_plain, byte_text, octal_escape, label_text}
-use Rattle.dnw_reading.specs.ReadingLaws.{AreBytes}
-use Rattle.dnw_text.specs.NameText.{State, Outside, Escaped, AfterOne, AfterTwo, is_octal_digit, name_text}
-use Rattle.dnw_text.proofs.Joined.{dotted, joined-cons}
+use Rattle.dnw_name_form.specs.LabelText.{dot, backslash, is_plain, byte_text, octal_escape, label_text}
+use Rattle.dnw_name_read.specs.ReadingLaws.{AreBytes}
+use Rattle.dnw_name_ascii.specs.NameText.{State, Outside, Escaped, AfterOne, AfterTwo, is_octal_digit, name_text}
+use Rattle.dnw_name_ascii.proofs.Joined.{dotted, joined-cons}
 use Rattle.dns_names_wire.specs.TextLaws.{AreByteLabels}
 
 abbrev name_of : Bool → List (List ℕ) → NameValue

@@ -3,8 +3,8 @@ use Rattle.std.proofs.Common.{◌≡◌, Bool, true, false, List, [], ℕ, lengt
 use Rattle.std.proofs.lemmas.List.{append-nil}
 use Rattle.dnw_base.specs.Names.{wire}
 use Rattle.dnw_base.proofs.Wires.{length-wire}
-use Rattle.dnw_reading.proofs.Back.{Reads-wire}
-use Rattle.dnw_text.specs.NameText.{name_text}
+use Rattle.dnw_name_read.proofs.Back.{Reads-wire}
+use Rattle.dnw_name_ascii.specs.NameText.{name_text}
 use Rattle.dns_names_wire.specs.TextLaws.{BytesAndTextsAgree, dotted_text}
 
 text_of : (is_fqdn : Bool) (ls : List (List ℕ)) → name_text (record { is_fqdn = true; labels = ls }) ≡ dotted_text (record { is_fqdn = is_fqdn; labels = ls })

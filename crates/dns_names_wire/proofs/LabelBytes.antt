@@ -2,12 +2,12 @@
 use Rattle.std.proofs.Common.{◌≡◌, ℕ, zero, suc, true, List, [], ◌∷◌, arith}
 use Rattle.std.specs.List.{AllByRecursion, list_all}
 use Rattle.std.proofs.lemmas.Bool.{and_parts}
-use Rattle.dnw_label.specs.LabelText.{may_begin, may_follow}
-use Rattle.dnw_reading.specs.Reading.{NameAt}
-use Rattle.dnw_reading.specs.ReadingLaws.{AreBytes}
-use Rattle.dnw_text.specs.NameText.{IsLabelText}
-use Rattle.dnw_text.proofs.ByteTexts.{IsRead-begin, IsRead-follow}
-use Rattle.dnw_data_text.proofs.FieldValues.{labels-fit}
+use Rattle.dnw_name_form.specs.LabelText.{may_begin, may_follow}
+use Rattle.dnw_name_read.specs.Reading.{NameAt}
+use Rattle.dnw_name_read.specs.ReadingLaws.{AreBytes}
+use Rattle.dnw_name_ascii.specs.NameText.{IsLabelText}
+use Rattle.dnw_name_ascii.proofs.ByteTexts.{IsRead-begin, IsRead-follow}
+use Rattle.dnw_zone_data.proofs.FieldValues.{labels-fit}
 use Rattle.dns_names_wire.specs.TextLaws.{AreByteLabels}
 
 pub read_labels_are_bytes : (b : List ℕ) (p : ℕ) (labels : List (List ℕ)) (e k : ℕ) → AreBytes b → NameAt b p labels e k → AreByteLabels labels

@@ -1,10 +1,10 @@
 -- Types and their codes come back.
 use Rattle.std.proofs.Common.{◌≡◌, Bool, true, false, refl, sym, ap, ◌∙◌}
-use Rattle.dnw_codes.specs.declared.record_type.RecordType.{RecordType}
-use Rattle.dnw_codes.specs.declared.record_type.RecordType.TheVariants.{Unknown}
-use Rattle.dnw_codes.specs.RecordTypes.{is_unknown, type_code, type_of_code}
+use Rattle.dnw_base.specs.declared.record_type.RecordType.{RecordType}
+use Rattle.dnw_base.specs.declared.record_type.RecordType.TheVariants.{Unknown}
+use Rattle.dnw_base.specs.RecordTypes.{is_unknown, type_code, type_of_code}
 use Rattle.dns_names_wire.specs.CodeLaws.{NamedTypesComeBack, TypeCodesComeBack, UnknownTypesComeBack}
-use Rattle.dnw_data_text.proofs.TypesBack.{code-back}
+use Rattle.dnw_zone_data.proofs.TypesBack.{code-back}
 
 pub codes : TypeCodesComeBack
 codes = code-back

@@ -1,11 +1,11 @@
 -- What follows from the tables of types and classes (RFC 6895, section 3). Each is the clause of a public function, and so proved.
 use Rattle.std.specs.Prelude.{◌≡◌, ◌≢◌, ◌↔◌, ℕ, max, true, false}
-use Rattle.dnw_codes.specs.declared.record_type.RecordType.{RecordType}
-use Rattle.dnw_codes.specs.declared.record_type.RecordType.TheVariants as rr
-use Rattle.dnw_codes.specs.declared.dns_class.DNSClass.{DNSClass}
-use Rattle.dnw_codes.specs.declared.dns_class.DNSClass.TheVariants as class
-use Rattle.dnw_codes.specs.RecordTypes.{is_unknown, type_code, type_of_code}
-use Rattle.dnw_codes.specs.DnsClasses.{class_code, class_of_code, class_rank, min_payload}
+use Rattle.dnw_base.specs.declared.record_type.RecordType.{RecordType}
+use Rattle.dnw_base.specs.declared.record_type.RecordType.TheVariants as rr
+use Rattle.dnw_base.specs.declared.dns_class.DNSClass.{DNSClass}
+use Rattle.dnw_base.specs.declared.dns_class.DNSClass.TheVariants as class
+use Rattle.dnw_base.specs.RecordTypes.{is_unknown, type_code, type_of_code}
+use Rattle.dnw_base.specs.DnsClasses.{class_code, class_of_code, class_rank, min_payload}
 
 -- Each code comes back from its type.
 abbrev pub TypeCodesComeBack : Type 0

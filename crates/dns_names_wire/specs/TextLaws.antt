@@ -4,10 +4,10 @@ use Rattle.std.specs.Prelude.{◌≡◌, ℕ, true, if◌then◌else◌, List, [
 use Rattle.std.specs.List.{AllByRecursion}
 use Rattle.std.specs.Str.{chars}
 use Rattle.dnw_base.specs.Names.{NameValue, AreLabels, wire}
-use Rattle.dnw_label.specs.LabelText.{dot}
-use Rattle.dnw_reading.specs.Reading.{NameAt}
-use Rattle.dnw_reading.specs.ReadingLaws.{AreBytes}
-use Rattle.dnw_text.specs.NameText.{name_from_text, name_text, IsLabelText}
+use Rattle.dnw_name_form.specs.LabelText.{dot}
+use Rattle.dnw_name_read.specs.Reading.{NameAt}
+use Rattle.dnw_name_read.specs.ReadingLaws.{AreBytes}
+use Rattle.dnw_name_ascii.specs.NameText.{name_from_text, name_text, IsLabelText}
 
 -- each octet of each label is below 256
 abbrev pub AreByteLabels : List (List ℕ) → Type 0

@@ -5,77 +5,77 @@
 pub use Rattle.dnw_base.specs.Limits.{max_label, max_labels, max_name, max_character_data, max_message}
 pub use Rattle.dnw_base.specs.Limits.{pointer_mark, pointer_offsets, pointer_reach}
 -- Errors.
-pub use Rattle.dnw_error.specs.declared.error.ProtoError.{ProtoError}
-pub use Rattle.dnw_error.specs.Fault.{Fault, Follows, NeedsErrorText, Updates}
-pub use Rattle.dnw_error.specs.Copies.{IsDecodeCopyOf, OwnsText, OwnsDecodeText}
+pub use Rattle.dnw_base.specs.declared.error.ProtoError.{ProtoError}
+pub use Rattle.dnw_base.specs.Fault.{Fault, Follows, NeedsErrorText, Updates}
+pub use Rattle.dnw_base.specs.Copies.{IsDecodeCopyOf, OwnsText, OwnsDecodeText}
 -- Untrusted values.
 pub use Rattle.dnw_base.specs.Checked.{difference}
 pub use Rattle.dnw_base.specs.Verified.{verified_value, verified_verdict}
 -- Labels, names and their wire form.
 pub use Rattle.dnw_base.specs.Labels.{IsLabel, wildcard}
 pub use Rattle.dnw_base.specs.Names.{NameValue, AreLabels, IsWildcard, encoded_size, lower, wire, labels_wire}
-pub use Rattle.dnw_form.specs.Edits.{append_label, prepend_label, append_name, append_domain, from_labels, with_label}
-pub use Rattle.dnw_form.specs.Edits.{base_name, trim_to, into_wildcard}
+pub use Rattle.dnw_name_form.specs.Edits.{append_label, prepend_label, append_name, append_domain, from_labels, with_label}
+pub use Rattle.dnw_name_form.specs.Edits.{base_name, trim_to, into_wildcard}
 -- Order, equality, hash and sort keys of labels and names.
-pub use Rattle.dnw_label.specs.LabelOrder.{label_cmp, label_eq, label_hash_input, lower_label, octets_cmp}
-pub use Rattle.dnw_order.specs.Order.{labels_cmp, labels_cmp_case, name_cmp, name_cmp_case, name_eq, name_eq_case, name_hash_input, IsZoneOf}
-pub use Rattle.dnw_order.specs.Order.{IsZoneOfCase, IsLocalhost, localhost}
-pub use Rattle.dnw_label.specs.LabelOrder.{IsTotalPreorder, IsOctet, AreOctets, octet_cmp_ignore_case}
-pub use Rattle.dnw_order.specs.OrderLaws.{name_cmp_total, name_cmp_case_total, name_ties, name_case_ties, name_eq_parts, name_eq_case_parts}
-pub use Rattle.dnw_order.specs.SortKeys.{escape_octet, label_key, max_sort_key, sort_key}
-pub use Rattle.dnw_order.specs.SortKeyLaws.{KeysCompare, KeysCompareNames, KeysAreEqual, ZonesBegin, KeysAreShort}
+pub use Rattle.dnw_name_form.specs.LabelOrder.{label_cmp, label_eq, label_hash_input, lower_label, octets_cmp}
+pub use Rattle.dnw_name_order.specs.Order.{labels_cmp, labels_cmp_case, name_cmp, name_cmp_case, name_eq, name_eq_case, name_hash_input, IsZoneOf}
+pub use Rattle.dnw_name_order.specs.Order.{IsZoneOfCase, IsLocalhost, localhost}
+pub use Rattle.dnw_name_form.specs.LabelOrder.{IsTotalPreorder, IsOctet, AreOctets, octet_cmp_ignore_case}
+pub use Rattle.dnw_name_order.specs.OrderLaws.{name_cmp_total, name_cmp_case_total, name_ties, name_case_ties, name_eq_parts, name_eq_case_parts}
+pub use Rattle.dnw_name_order.specs.SortKeys.{escape_octet, label_key, max_sort_key, sort_key}
+pub use Rattle.dnw_name_order.specs.SortKeyLaws.{KeysCompare, KeysCompareNames, KeysAreEqual, ZonesBegin, KeysAreShort}
 pub use Rattle.dnw_name.specs.FromLabels.{JoinsItems, JoinsAll, RunsOutAt}
 -- Names in lower case.
-pub use Rattle.dnw_lower.specs.LowerNames.{lowered, IsLower, lower_name_from_text, lower_name_hash_input, TakesLowerName}
+pub use Rattle.dnw_name_lower.specs.LowerNames.{lowered, IsLower, lower_name_from_text, lower_name_hash_input, TakesLowerName}
 -- Types and classes of records.
-pub use Rattle.dnw_codes.specs.declared.record_type.RecordType.{RecordType}
-pub use Rattle.dnw_codes.specs.RecordTypes.{type_code, type_name, type_text, type_of_code, type_of_name, type_of_text, type_cmp, type_hash, is_dnssec, is_unknown}
-pub use Rattle.dnw_codes.specs.declared.dns_class.DNSClass.{DNSClass}
-pub use Rattle.dnw_codes.specs.DnsClasses.{class_code, class_name, class_text, class_of_code, class_of_name, class_of_text, class_cmp, class_hash, class_rank, min_payload}
+pub use Rattle.dnw_base.specs.declared.record_type.RecordType.{RecordType}
+pub use Rattle.dnw_base.specs.RecordTypes.{type_code, type_name, type_text, type_of_code, type_of_name, type_of_text, type_cmp, type_hash, is_dnssec, is_unknown}
+pub use Rattle.dnw_base.specs.declared.dns_class.DNSClass.{DNSClass}
+pub use Rattle.dnw_base.specs.DnsClasses.{class_code, class_name, class_text, class_of_code, class_of_name, class_of_text, class_cmp, class_hash, class_rank, min_payload}
 pub use Rattle.dns_names_wire.specs.CodeLaws.{TypeCodesComeBack, NamedTypesComeBack, UnknownTypesComeBack}
 pub use Rattle.dns_names_wire.specs.CodeLaws.{ClassCodesComeBack, NamedClassesComeBack, UnknownClassesComeBack, SizesStayUnknown}
-pub use Rattle.dnw_error.specs.Naming.{Looks, ReportsType, ReportsClass}
+pub use Rattle.dnw_base.specs.Naming.{Looks, ReportsType, ReportsClass}
 -- Texts of labels and names.
-pub use Rattle.dnw_label.specs.LabelText.{dot, label_from_bytes, label_from_text, label_text}
-pub use Rattle.dnw_text.specs.NameText.{IsLabelText, max_text, name_from_text, name_from_text_at, name_text}
-pub use Rattle.dnw_text.specs.TextFaults.{Gives, GoesWrong, GoesWrongBy, IsNameText, rule_of}
+pub use Rattle.dnw_name_form.specs.LabelText.{dot, label_from_bytes, label_from_text, label_text}
+pub use Rattle.dnw_name_ascii.specs.NameText.{IsLabelText, max_text, name_from_text, name_from_text_at, name_text}
+pub use Rattle.dnw_name_ascii.specs.TextFaults.{Gives, GoesWrong, GoesWrongBy, IsNameText, rule_of}
 -- Nets and reverse names.
-pub use Rattle.dnw_reverse.specs.declared.net.IpNet.{IpNet}
-pub use Rattle.dnw_reverse.specs.Nets.{NetValue, ipv4_size, ipv6_size}
-pub use Rattle.dnw_reverse.specs.NetTexts.{net_addr, net_prefix_len, ip_size, IsPastSize, ip_net_text}
-pub use Rattle.dnw_reverse.specs.Arpa.{ArpaPrefix, ArpaFault, GivesPrefix, GiveValues, IsArpaPrefix, arpa_labels, arpa_name, arpa_prefix, ip_prefix, reverse_name}
-pub use Rattle.dnw_reverse.specs.ArpaNets.{IsNetOf, ReadsNet}
-pub use Rattle.dnw_reverse.specs.ArpaLaws.{IsIpAddr, NamesGivePrefixes, PrefixesComeBack, TextsComeBack, AddressesArePrefixes, AddressesComeBack}
+pub use Rattle.dnw_name_arpa.specs.declared.net.IpNet.{IpNet}
+pub use Rattle.dnw_name_arpa.specs.Nets.{NetValue, ipv4_size, ipv6_size}
+pub use Rattle.dnw_name_arpa.specs.NetTexts.{net_addr, net_prefix_len, ip_size, IsPastSize, ip_net_text}
+pub use Rattle.dnw_name_arpa.specs.Arpa.{ArpaPrefix, ArpaFault, GivesPrefix, GiveValues, IsArpaPrefix, arpa_labels, arpa_name, arpa_prefix, ip_prefix, reverse_name}
+pub use Rattle.dnw_name_arpa.specs.ArpaNets.{IsNetOf, ReadsNet}
+pub use Rattle.dnw_name_arpa.specs.ArpaLaws.{IsIpAddr, NamesGivePrefixes, PrefixesComeBack, TextsComeBack, AddressesArePrefixes, AddressesComeBack}
 -- Special-use zones, and what gives a name.
-pub use Rattle.dnw_usage.specs.Usages.{Zone}
-pub use Rattle.dnw_usage.specs.Zones.{reverse_zone, test_zone, localhost_zone, local_zone, invalid_zone, example_zone, usual_zone, onion_zone}
-pub use Rattle.dnw_usage.specs.Zones.{default_value, localhost_value, in_addr_arpa_127_value, ip6_arpa_1_value, local_value, in_addr_arpa_169_254_value}
-pub use Rattle.dnw_usage.specs.Zones.{ip6_arpa_fe_8_value, ip6_arpa_fe_9_value, ip6_arpa_fe_b_value, invalid_value, onion_value}
-pub use Rattle.dnw_lower.specs.AddressTexts.{ReadsIp}
+pub use Rattle.dnw_name_zones.specs.Usages.{Zone}
+pub use Rattle.dnw_name_zones.specs.Zones.{reverse_zone, test_zone, localhost_zone, local_zone, invalid_zone, example_zone, usual_zone, onion_zone}
+pub use Rattle.dnw_name_zones.specs.Zones.{default_value, localhost_value, in_addr_arpa_127_value, ip6_arpa_1_value, local_value, in_addr_arpa_169_254_value}
+pub use Rattle.dnw_name_zones.specs.Zones.{ip6_arpa_fe_8_value, ip6_arpa_fe_9_value, ip6_arpa_fe_b_value, invalid_value, onion_value}
+pub use Rattle.dnw_name_lower.specs.AddressTexts.{ReadsIp}
 -- Reading a message.
 pub use Rattle.dnw_base.specs.Decoder.{Decoder, Takes, TakesCopy, advanced, next_bytes}
-pub use Rattle.dnw_reading.specs.Reading.{Reads, Stops, NameAt, FaultAt, TakesName, StopsAt, target}
-pub use Rattle.dnw_reading.specs.Buffers.{put}
+pub use Rattle.dnw_name_read.specs.Reading.{Reads, Stops, NameAt, FaultAt, TakesName, StopsAt, target}
+pub use Rattle.dnw_name_read.specs.Buffers.{put}
 pub use Rattle.dnw_name.specs.Decodable.{LacksBytes, StopsSomehow, TakesU16, TakesU32, TakesI32, TakesNameValue}
-pub use Rattle.dnw_reading.specs.ReadingLaws.{NameOrFault, NotBoth, OneName, OneFault, ReadsBack, StandsBefore, StandsWider}
-pub use Rattle.dnw_reading.specs.ReadingLaws.{NameSteps, FaultSteps, OwnOctets}
+pub use Rattle.dnw_name_read.specs.ReadingLaws.{NameOrFault, NotBoth, OneName, OneFault, ReadsBack, StandsBefore, StandsWider}
+pub use Rattle.dnw_name_read.specs.ReadingLaws.{NameSteps, FaultSteps, OwnOctets}
 -- Writing a message.
-pub use Rattle.dnw_encoder.specs.EncoderValue.{value, lender}
-pub use Rattle.dnw_encoder.specs.Encoder.{CandidatesPrecede, Encoder, fresh, Writes, WritesText, TakesRoom, HasRoom, Holds, Stores}
-pub use Rattle.dnw_encoder.specs.Encoder.{reserved, trimmed, mode_of_rdata, usual_candidates, usual_names}
-pub use Rattle.dnw_encoder.specs.Emitting.{Outcome, Emits, Frame, InTurn, EmitsAt, EmitsItem, EmitsItems, FillsPlace, WritesLen, FailsUnchanged}
-pub use Rattle.dnw_encoder.specs.declared.encoder.modes.NameEncoding.TheVariants.{Compressed, Uncompressed, UncompressedLowercase}
-pub use Rattle.dnw_encoder.specs.EmittingLaws.{frame, fails-unchanged}
-pub use Rattle.dnw_encoder.specs.EmittedName.{EmitsName, EmitsLabels, pointer_to}
-pub use Rattle.dnw_encoder.specs.NameFrames.{frame-name}
-pub use Rattle.dnw_encoder.specs.Guards.{Guards, guarded, former}
-pub use Rattle.dnw_encoder.specs.Marks.{MarkValue, mark_of, rewound, RewindingUndoes}
-pub use Rattle.dnw_candidates.specs.Candidates.{Finds, FindsUsable, suffixes}
-pub use Rattle.dnw_encoder.specs.EncoderLaws.{NameComesBack, NameIsRead, NamesTakeNoMore, PointersSave, FramesFollow, ItemsKeepFrame}
-pub use Rattle.dnw_encoder.specs.EncoderLaws.{FillsTakeNoMemory, FillsStayBounded, ItemsStayBounded, NamesStayBounded, PlacesStayBounded, WritesStayBounded}
-pub use Rattle.dnw_encoder.specs.EncoderLaws.{StaysBounded}
-pub use Rattle.dnw_encoder.specs.CandidateLaws.{KeepsPreceding, NewPrecede, WritesPrecede, TextsPrecede, PlacesPrecede, FillsPrecede, NamesPrecede}
-pub use Rattle.dnw_encoder.specs.CandidateLaws.{StoresPrecede, TrimsPrecede, RewindsPrecede, ItemsPrecede, ItemPrecedes}
+pub use Rattle.dnw_write.specs.EncoderValue.{value, lender}
+pub use Rattle.dnw_write.specs.Encoder.{CandidatesPrecede, Encoder, fresh, Writes, WritesText, TakesRoom, HasRoom, Holds, Stores}
+pub use Rattle.dnw_write.specs.Encoder.{reserved, trimmed, mode_of_rdata, usual_candidates, usual_names}
+pub use Rattle.dnw_write.specs.Emitting.{Outcome, Emits, Frame, InTurn, EmitsAt, EmitsItem, EmitsItems, FillsPlace, WritesLen, FailsUnchanged}
+pub use Rattle.dnw_write.specs.declared.encoder.modes.NameEncoding.TheVariants.{Compressed, Uncompressed, UncompressedLowercase}
+pub use Rattle.dnw_write.specs.EmittingLaws.{frame, fails-unchanged}
+pub use Rattle.dnw_write.specs.EmittedName.{EmitsName, EmitsLabels, pointer_to}
+pub use Rattle.dnw_write.specs.NameFrames.{frame-name}
+pub use Rattle.dnw_write.specs.Guards.{Guards, guarded, former}
+pub use Rattle.dnw_write.specs.Marks.{MarkValue, mark_of, rewound, RewindingUndoes}
+pub use Rattle.dnw_write_suffixes.specs.Candidates.{Finds, FindsUsable, suffixes}
+pub use Rattle.dnw_write.specs.EncoderLaws.{NameComesBack, NameIsRead, NamesTakeNoMore, PointersSave, FramesFollow, ItemsKeepFrame}
+pub use Rattle.dnw_write.specs.EncoderLaws.{FillsTakeNoMemory, FillsStayBounded, ItemsStayBounded, NamesStayBounded, PlacesStayBounded, WritesStayBounded}
+pub use Rattle.dnw_write.specs.EncoderLaws.{StaysBounded}
+pub use Rattle.dnw_write.specs.CandidateLaws.{KeepsPreceding, NewPrecede, WritesPrecede, TextsPrecede, PlacesPrecede, FillsPrecede, NamesPrecede}
+pub use Rattle.dnw_write.specs.CandidateLaws.{StoresPrecede, TrimsPrecede, RewindsPrecede, ItemsPrecede, ItemPrecedes}
 -- Resource records.
 pub use Rattle.dnw_record.specs.Records.{RecordValue, RecordAt, record_of, TakesRecord, FailsRecord, HasDataName, FailsDataName, data_octets}
 pub use Rattle.dnw_record.specs.declared.record.WireRecord.{WireRecord}
@@ -89,28 +89,28 @@ pub use Rattle.dnw_record.specs.Parts.{WirePart, EmitsWirePart, EmitsWireParts, 
 -- The fields of the data of records.
 pub use Rattle.dnw_record.specs.RecordFields.{record_fields}
 -- Scripts.
-pub use Rattle.dnw_script.specs.Script.{Action, action, write_record, EmitsPart, EmitsScriptItem}
-pub use Rattle.dnw_script.specs.declared.script.Reply.{Reply}
-pub use Rattle.dnw_script.specs.declared.script.Reply.TheVariants.{Done, Refused}
-pub use Rattle.dnw_script.specs.Pieces.{Account, Piece, RecordStands, opening}
-pub use Rattle.dnw_script.specs.Replies.{RepliesTo}
-pub use Rattle.dnw_script.specs.Finished.{Finished, Shortest, largest_max}
-pub use Rattle.dnw_script.specs.Runs.{Run}
-pub use Rattle.dnw_script.specs.Ran.{Ran}
-pub use Rattle.dnw_script.specs.ItemFrames.{frame-part, frame-item}
-pub use Rattle.dnw_script.specs.ScriptLaws.{RunsReply, RunsFinish, RunsStayUseful, RunsAreShortest, RunsUndoRecords, HasData, StandingRecordsAreRead}
-pub use Rattle.dnw_script.specs.ScriptLaws.{RunsStayBounded, PartsOfScriptsStayBounded, ItemsOfScriptsStayBounded}
+pub use Rattle.dnw_write_script.specs.Script.{Action, action, write_record, EmitsPart, EmitsScriptItem}
+pub use Rattle.dnw_write_script.specs.declared.script.Reply.{Reply}
+pub use Rattle.dnw_write_script.specs.declared.script.Reply.TheVariants.{Done, Refused}
+pub use Rattle.dnw_write_script.specs.Pieces.{Account, Piece, RecordStands, opening}
+pub use Rattle.dnw_write_script.specs.Replies.{RepliesTo}
+pub use Rattle.dnw_write_script.specs.Finished.{Finished, Shortest, largest_max}
+pub use Rattle.dnw_write_script.specs.Runs.{Run}
+pub use Rattle.dnw_write_script.specs.Ran.{Ran}
+pub use Rattle.dnw_write_script.specs.ItemFrames.{frame-part, frame-item}
+pub use Rattle.dnw_write_script.specs.ScriptLaws.{RunsReply, RunsFinish, RunsStayUseful, RunsAreShortest, RunsUndoRecords, HasData, StandingRecordsAreRead}
+pub use Rattle.dnw_write_script.specs.ScriptLaws.{RunsStayBounded, PartsOfScriptsStayBounded, ItemsOfScriptsStayBounded}
 -- Master files: tokens, and times to live.
-pub use Rattle.dnw_txt.specs.Tokens.{TokenValue, LexFault, LexState, LexerValue}
-pub use Rattle.dnw_txt.specs.Lexing.{token_value, Lexes, Calls, EndsInTime}
-pub use Rattle.dnw_txt.specs.Times.{max_ttl, time_seconds, IsNoTtl, IsParseTime}
+pub use Rattle.dnw_zone_lexer.specs.Tokens.{TokenValue, LexFault, LexState, LexerValue}
+pub use Rattle.dnw_zone_lexer.specs.Lexing.{token_value, Lexes, Calls, EndsInTime}
+pub use Rattle.dnw_zone_lexer.specs.Times.{max_ttl, time_seconds, IsNoTtl, IsParseTime}
 -- Sets of record types, keys, serial numbers, and record data.
-pub use Rattle.dnw_sets.specs.TypeSets.{AreWindows, EndWithin, HasBit, IsSetOf, Window, bitmap_types, set_codes, windows_codes, windows_of, windows_within}
-pub use Rattle.dnw_sets.specs.TypeSets.{HasOwnMemory, YieldsSome}
-pub use Rattle.dnw_sets.specs.Keys.{key_cmp, key_eq, key_hash}
-pub use Rattle.dnw_codes.specs.Serials.{distance, serial_cmp, serial_sum}
-pub use Rattle.dnw_sets.specs.RecordData.{TakesTypeSet, FailsTypeSet, TypeSetRunsOut, HasBitmap}
-pub use Rattle.dnw_sets.specs.SetLaws.{BitmapsAreWindows, BitmapsListFew, SetsComeBack, WindowsListBits, most_types}
+pub use Rattle.dnw_data.specs.TypeSets.{AreWindows, EndWithin, HasBit, IsSetOf, Window, bitmap_types, set_codes, windows_codes, windows_of, windows_within}
+pub use Rattle.dnw_data.specs.TypeSets.{HasOwnMemory, YieldsSome}
+pub use Rattle.dnw_name_zones.specs.Keys.{key_cmp, key_eq, key_hash}
+pub use Rattle.dnw_base.specs.Serials.{distance, serial_cmp, serial_sum}
+pub use Rattle.dnw_data.specs.RecordData.{TakesTypeSet, FailsTypeSet, TypeSetRunsOut, HasBitmap}
+pub use Rattle.dnw_data.specs.SetLaws.{BitmapsAreWindows, BitmapsListFew, SetsComeBack, WindowsListBits, most_types}
 -- What follows from the definitions of texts.
 pub use Rattle.dns_names_wire.specs.TextLaws.{AreByteLabels, TextsDiffer, ReadLabelsAreBytes, TextLabelsAreBytes}
 pub use Rattle.dns_names_wire.specs.TextLaws.{AcceptedLabels, AcceptedReadBack, qualified, dotted_text, BytesAndTextsAgree}
@@ -124,77 +124,77 @@ unfoldable pub use Rattle.dnw_data.specs.Table.{fields_of}
 pub use Rattle.dnw_data.specs.Values.{FieldValue, counted_size, own_fault, own_size, own_value, seen}
 pub use Rattle.dnw_data.specs.Walks.{FieldsAre, FieldsLeft, IsEnded, NextField, fields_at, steps_left}
 -- Texts of single values.
-pub use Rattle.dnw_field_text.specs.Numbers.{IsNumberText, max_u16, max_u32, max_u48, max_u8}
-pub use Rattle.dnw_field_text.specs.Octets.{IsBase64Text, IsHexText, IsOctets, IsSalt, IsSaltText, base64_text, hex_text, salt_text}
-pub use Rattle.dnw_field_text.specs.Spelling.{Appends, ComesBack}
-pub use Rattle.dnw_digit_text.specs.Base32.{IsHash, IsHashText, base32_octets, base32_text, base32_value, is_base32}
-pub use Rattle.dnw_digit_text.specs.Pairs.{IsIdentifier, IsPairsText, pairs_octets, pairs_text}
-pub use Rattle.dnw_field_text.specs.Strings.{IsLongText, IsString, IsStringText, IsText, IsTextWithin, Plain, octet_text}
-pub use Rattle.dnw_field_text.specs.Strings.{octets_from, quote, string_octets, string_text}
-pub use Rattle.dnw_field_text.specs.Tags.{IsTag, IsTagText}
-pub use Rattle.dnw_field_text.specs.Strings.{with_octet}
-pub use Rattle.dnw_field_text.specs.Times.{IsDateText, IsDay, IsMoment, IsTimeText, two_at}
+pub use Rattle.dnw_zone_values.specs.Numbers.{IsNumberText, max_u16, max_u32, max_u48, max_u8}
+pub use Rattle.dnw_zone_values.specs.Octets.{IsBase64Text, IsHexText, IsOctets, IsSalt, IsSaltText, base64_text, hex_text, salt_text}
+pub use Rattle.dnw_zone_values.specs.Spelling.{Appends, ComesBack}
+pub use Rattle.dnw_zone_values.specs.Base32.{IsHash, IsHashText, base32_octets, base32_text, base32_value, is_base32}
+pub use Rattle.dnw_zone_values.specs.Pairs.{IsIdentifier, IsPairsText, pairs_octets, pairs_text}
+pub use Rattle.dnw_zone_values.specs.Strings.{IsLongText, IsString, IsStringText, IsText, IsTextWithin, Plain, octet_text}
+pub use Rattle.dnw_zone_values.specs.Strings.{octets_from, quote, string_octets, string_text}
+pub use Rattle.dnw_zone_values.specs.Tags.{IsTag, IsTagText}
+pub use Rattle.dnw_zone_values.specs.Strings.{with_octet}
+pub use Rattle.dnw_zone_values.specs.Times.{IsDateText, IsDay, IsMoment, IsTimeText, two_at}
 -- Texts of the data of records.
-pub use Rattle.dnw_data_text.specs.DataTexts.{ArePlain, FailsText, IsDataText, IsPlainData, IsTextOf}
-pub use Rattle.dnw_data_text.specs.Generic.{generic_text, max_data, IsGeneric}
-pub use Rattle.dnw_record_text.specs.RecordLines.{FailsRecordLine, IsRecordLine, line_octets, record_line}
-pub use Rattle.dnw_data_text.specs.declared.error.DataTextError.{DataTextError}
-pub use Rattle.dnw_data_text.specs.declared.error.DataTextError.TheVariants.{Memory as OutOfMemory}
+pub use Rattle.dnw_zone_data.specs.DataTexts.{ArePlain, FailsText, IsDataText, IsPlainData, IsTextOf}
+pub use Rattle.dnw_zone_data.specs.Generic.{generic_text, max_data, IsGeneric}
+pub use Rattle.dnw_zone_record.specs.RecordLines.{FailsRecordLine, IsRecordLine, line_octets, record_line}
+pub use Rattle.dnw_zone_data.specs.declared.error.DataTextError.{DataTextError}
+pub use Rattle.dnw_zone_data.specs.declared.error.DataTextError.TheVariants.{Memory as OutOfMemory}
 -- Service parameters as text.
-pub use Rattle.dnw_svcb_text.specs.Params.{ParamValue, in_key_order, params_wire}
-pub use Rattle.dnw_svcb_text.specs.ParamTexts.{param_text, params_text}
-pub use Rattle.dnw_svcb_text.specs.ParamWords.{IsParam}
-pub use Rattle.dnw_svcb_text.specs.ParamLaws.{IsParamValue, ParamsComeBack}
-pub use Rattle.dnw_data_text.specs.DataTextLaws.{AddressesComeBack as FieldAddressesComeBack, CountedComeBack, IdentifiersComeBack as FieldIdentifiersComeBack, NamesComeBack as FieldNamesComeBack, NumbersComeBack, OctetsComeBack, SegmentsComeBack, StringsComeBack, TypesComeBack}
-pub use Rattle.dnw_data_text.specs.DataTextLaws.{DataAreUnambiguous, DataComeBack, GenericComesBack, GenericIsParsed, ListsComeBack, PrintedDataAreSame, TextsAreParsed, IsReadBack as IsFieldReadBack, FieldComesBack, Follows as FollowsField, IsRead as IsReadType, IsData as IsDataOctets}
-pub use Rattle.dnw_record_text.specs.RecordTextLaws.{LinesAreUnambiguous, LinesComeBack, PrintedLinesAreSame, line_head}
+pub use Rattle.dnw_zone_svcb.specs.Params.{ParamValue, in_key_order, params_wire}
+pub use Rattle.dnw_zone_svcb.specs.ParamTexts.{param_text, params_text}
+pub use Rattle.dnw_zone_svcb.specs.ParamWords.{IsParam}
+pub use Rattle.dnw_zone_svcb.specs.ParamLaws.{IsParamValue, ParamsComeBack}
+pub use Rattle.dnw_zone_data.specs.DataTextLaws.{AddressesComeBack as FieldAddressesComeBack, CountedComeBack, IdentifiersComeBack as FieldIdentifiersComeBack, NamesComeBack as FieldNamesComeBack, NumbersComeBack, OctetsComeBack, SegmentsComeBack, StringsComeBack, TypesComeBack}
+pub use Rattle.dnw_zone_data.specs.DataTextLaws.{DataAreUnambiguous, DataComeBack, GenericComesBack, GenericIsParsed, ListsComeBack, PrintedDataAreSame, TextsAreParsed, IsReadBack as IsFieldReadBack, FieldComesBack, Follows as FollowsField, IsRead as IsReadType, IsData as IsDataOctets}
+pub use Rattle.dnw_zone_record.specs.RecordTextLaws.{LinesAreUnambiguous, LinesComeBack, PrintedLinesAreSame, line_head}
 -- Whole messages: headers, sections and EDNS.
-pub use Rattle.dnw_header.specs.HeaderLaws.{HeaderFits, HeadersReadBack, HeadersWriteBack}
-pub use Rattle.dnw_header.specs.Headers.{TakesHeader, flag, flags_of, header_of, header_size, header_wire, is_set, metadata_of}
-pub use Rattle.dnw_header.specs.OpCodes.{op_code, op_entry, op_of_code}
-pub use Rattle.dnw_header.specs.ResponseCodes.{response_code, response_entry, response_of_code}
-pub use Rattle.dnw_header.specs.Responses.{response_to}
-pub use Rattle.dnw_message.specs.Edns.{EdnsValue, FailsEdns, FailsOnlyOpt, FailsOpt, HasEdns, HasOpt, HasOptions, IsEdns, IsResponseCode, OptionValue}
-pub use Rattle.dnw_message.specs.Edns.{OptsAre, first_option, is_opt, opts_in, opts_outside}
-pub use Rattle.dnw_message.specs.MessageLaws.{MessagesDontFail, OneMessage, OneMessageError}
-pub use Rattle.dnw_message.specs.Messages.{FailsHere, FailsItem, FailsMessage, FailsWithin, Item, ItemAt, ItemsAt, MessageAt, MessageValue}
-pub use Rattle.dnw_message.specs.Messages.{QueryValue, SectionAt, SectionsBegin, no_header, part, question_rest, record_rest, rest_of}
-pub use Rattle.dnw_message.specs.Queries.{FailsQuery, TakesQuery}
+pub use Rattle.dnw_message_header.specs.HeaderLaws.{HeaderFits, HeadersReadBack, HeadersWriteBack}
+pub use Rattle.dnw_message_header.specs.Headers.{TakesHeader, flag, flags_of, header_of, header_size, header_wire, is_set, metadata_of}
+pub use Rattle.dnw_message_header.specs.OpCodes.{op_code, op_entry, op_of_code}
+pub use Rattle.dnw_message_header.specs.ResponseCodes.{response_code, response_entry, response_of_code}
+pub use Rattle.dnw_message_header.specs.Responses.{response_to}
+pub use Rattle.dnw_message_read.specs.Edns.{EdnsValue, FailsEdns, FailsOnlyOpt, FailsOpt, HasEdns, HasOpt, HasOptions, IsEdns, IsResponseCode, OptionValue}
+pub use Rattle.dnw_message_read.specs.Edns.{OptsAre, first_option, is_opt, opts_in, opts_outside}
+pub use Rattle.dnw_message_read.specs.MessageLaws.{MessagesDontFail, OneMessage, OneMessageError}
+pub use Rattle.dnw_message_read.specs.Messages.{FailsHere, FailsItem, FailsMessage, FailsWithin, Item, ItemAt, ItemsAt, MessageAt, MessageValue}
+pub use Rattle.dnw_message_read.specs.Messages.{QueryValue, SectionAt, SectionsBegin, no_header, part, question_rest, record_rest, rest_of}
+pub use Rattle.dnw_message_read.specs.Queries.{FailsQuery, TakesQuery}
 -- Whole messages that are written.
-pub use Rattle.dnw_message_writer.specs.Drafts.{Added, Adds, AddsAll, AddsEntry, AddsLast, AddsMany, AddsSet, Begins, Closes, Draft, Ends, counted, counted_by, cuts, is_open}
-pub use Rattle.dnw_message_writer.specs.QueryFrames.{frame-query}
-pub use Rattle.dnw_message_writer.specs.Together.{EmitsInTurn, EmitsTogether, records_size}
-pub use Rattle.dnw_message_writer.specs.WireQueries.{EmitsQuery, EmitsQueryFields, QueryFits}
-pub use Rattle.dnw_message_writer.specs.ReadBack.{IsReadAs, QueryIsRead}
-pub use Rattle.dnw_message_writer.specs.ReadRecords.{RecordIsRead, RecordStands as RecordIsThere}
-pub use Rattle.dnw_message_writer.specs.WriterLaws.{EdnsComesBack, MessagesAreWritten, MessagesEndWith, MessagesHaveEdns, ReadingNeverFails, WrittenMessagesAreRead}
-pub use Rattle.dnw_message_writer.specs.Writers.{BeginsWith, Finishes, draft, last_of, lent}
-pub use Rattle.dnw_message_writer.specs.Replies.{BeginsReply}
-pub use Rattle.dnw_message_writer.specs.Written.{Contents, Written, WrittenWith, contents_from, counts_of, ending_with, header_for, most_pointers, nothing}
-pub use Rattle.dnw_message_writer.specs.Copies.{AddsCopies, AddsItems, FailsCopies, FailsCopy, FailsCopyOf, IsAmong, IsCopied, IsEntryOf, IsLastOf, IsSettled}
-pub use Rattle.dnw_message_writer.specs.Copies.{FailsToBegin, WrittenBefore, last_size, plain_in, query_entry}
-pub use Rattle.dnw_message_writer.specs.WireEdns.{IsNoOpt, IsOptOf, OptionFits, edns_ttl, edns_value, option_wire, options_wire}
-pub use Rattle.dnw_message_writer.specs.declared.writer.Entry.{Entry}
-pub use Rattle.dnw_header.specs.declared.header.HeaderCounts.{HeaderCounts}
-pub use Rattle.dnw_header.specs.declared.header.Metadata.{Metadata}
+pub use Rattle.dnw_message_write.specs.Drafts.{Added, Adds, AddsAll, AddsEntry, AddsLast, AddsMany, AddsSet, Begins, Closes, Draft, Ends, counted, counted_by, cuts, is_open}
+pub use Rattle.dnw_message_write.specs.QueryFrames.{frame-query}
+pub use Rattle.dnw_message_write.specs.Together.{EmitsInTurn, EmitsTogether, records_size}
+pub use Rattle.dnw_message_write.specs.WireQueries.{EmitsQuery, EmitsQueryFields, QueryFits}
+pub use Rattle.dnw_message_write.specs.ReadBack.{IsReadAs, QueryIsRead}
+pub use Rattle.dnw_message_write.specs.ReadRecords.{RecordIsRead, RecordStands as RecordIsThere}
+pub use Rattle.dnw_message_write.specs.WriterLaws.{EdnsComesBack, MessagesAreWritten, MessagesEndWith, MessagesHaveEdns, ReadingNeverFails, WrittenMessagesAreRead}
+pub use Rattle.dnw_message_write.specs.Writers.{BeginsWith, Finishes, draft, last_of, lent}
+pub use Rattle.dnw_message_write.specs.Replies.{BeginsReply}
+pub use Rattle.dnw_message_write.specs.Written.{Contents, Written, WrittenWith, contents_from, counts_of, ending_with, header_for, most_pointers, nothing}
+pub use Rattle.dnw_message_write.specs.Copies.{AddsCopies, AddsItems, FailsCopies, FailsCopy, FailsCopyOf, IsAmong, IsCopied, IsEntryOf, IsLastOf, IsSettled}
+pub use Rattle.dnw_message_write.specs.Copies.{FailsToBegin, WrittenBefore, last_size, plain_in, query_entry}
+pub use Rattle.dnw_message_write.specs.WireEdns.{IsNoOpt, IsOptOf, OptionFits, edns_ttl, edns_value, option_wire, options_wire}
+pub use Rattle.dnw_message_write.specs.declared.writer.Entry.{Entry}
+pub use Rattle.dnw_message_header.specs.declared.header.HeaderCounts.{HeaderCounts}
+pub use Rattle.dnw_message_header.specs.declared.header.Metadata.{Metadata}
 -- the data of records of any type, and records that are written from them
-pub use Rattle.dnw_rdata.specs.declared.record.Record.{Record}
-pub use Rattle.dnw_rdata.specs.declared.rdata.RDataError.{RDataError}
-pub use Rattle.dnw_rdata.specs.declared.from_fields.FromFieldsError.{FromFieldsError}
-pub use Rattle.dnw_rdata.specs.DataPieces.{ArePiecesOf, DataPiece, DataValue, HasPieces, IsData, IsDataOfType, kinds_of, octets_of, piece_octets}
-pub use Rattle.dnw_rdata.specs.DataCopies.{Copies, FailsToCopy, TakesPiece, TakesPieces, alone, data_start}
-pub use Rattle.dnw_rdata.specs.GivenFields.{AreFieldsOf, FailsGivenFields, IsFieldOf}
-pub use Rattle.dnw_rdata.specs.WireRecords.{HaveNameAndOthers, HaveNoName, IsOfWireRecord, SaysData, SaysRecord, wire_data_octets}
-pub use Rattle.dnw_rdata.specs.AnyRecords.{AnyNumbersFit, EmitsAnyRecord, EmitsCopyOf, EmitsRData, HasFields, IsCopyOf, encoding_of, mode_of, parts_of}
-pub use Rattle.dnw_rdata.specs.AnyRecordFrames.{frame-any_record, frame-copy}
-pub use Rattle.dnw_rdata.specs.AnyRecordLaws.{AnyRecordsAreRead, AnyRecordsFit, AnyRecordsPrecede, AnyRecordsStayBounded, CandidatesAreRead, DataHaveFields}
-pub use Rattle.dnw_rdata.specs.AnyRecordLaws.{NamesKeepRead, NewAreRead, PlainDataAreOctets, ReadsAs, RefusedAnyUndo, WholeDataAreOctets, WritesKeepRead}
-pub use Rattle.dnw_rdata.specs.AnyRecordLaws.{any_record_size, value_of, values_of, written_piece, written_pieces}
-pub use Rattle.dnw_rdata.specs.AnyRecordFrames.{frame-rdata}
+pub use Rattle.dnw_record_owned.specs.declared.record.Record.{Record}
+pub use Rattle.dnw_record_owned.specs.declared.rdata.RDataError.{RDataError}
+pub use Rattle.dnw_record_owned.specs.declared.from_fields.FromFieldsError.{FromFieldsError}
+pub use Rattle.dnw_record_owned.specs.DataPieces.{ArePiecesOf, DataPiece, DataValue, HasPieces, IsData, IsDataOfType, kinds_of, octets_of, piece_octets}
+pub use Rattle.dnw_record_owned.specs.DataCopies.{Copies, FailsToCopy, TakesPiece, TakesPieces, alone, data_start}
+pub use Rattle.dnw_record_owned.specs.GivenFields.{AreFieldsOf, FailsGivenFields, IsFieldOf}
+pub use Rattle.dnw_record_owned.specs.WireRecords.{HaveNameAndOthers, HaveNoName, IsOfWireRecord, SaysData, SaysRecord, wire_data_octets}
+pub use Rattle.dnw_record_owned.specs.AnyRecords.{AnyNumbersFit, EmitsAnyRecord, EmitsCopyOf, EmitsRData, HasFields, IsCopyOf, encoding_of, mode_of, parts_of}
+pub use Rattle.dnw_record_owned.specs.AnyRecordFrames.{frame-any_record, frame-copy}
+pub use Rattle.dnw_record_owned.specs.AnyRecordLaws.{AnyRecordsAreRead, AnyRecordsFit, AnyRecordsPrecede, AnyRecordsStayBounded, CandidatesAreRead, DataHaveFields}
+pub use Rattle.dnw_record_owned.specs.AnyRecordLaws.{NamesKeepRead, NewAreRead, PlainDataAreOctets, ReadsAs, RefusedAnyUndo, WholeDataAreOctets, WritesKeepRead}
+pub use Rattle.dnw_record_owned.specs.AnyRecordLaws.{any_record_size, value_of, values_of, written_piece, written_pieces}
+pub use Rattle.dnw_record_owned.specs.AnyRecordFrames.{frame-rdata}
 -- records in canonical form
-pub use Rattle.dnw_canonical.specs.declared.error.CanonicalError.{CanonicalError}
-pub use Rattle.dnw_canonical.specs.CanonicalData.{IsCanonical, canonical_piece, canonical_pieces}
-pub use Rattle.dnw_canonical.specs.RecordSets.{AreCanonical, FailsFrom, FailsSet, FirstOther, IsMember, IsOfSet, IsRecordSet, IsSet, IsInOrder}
-pub use Rattle.dnw_canonical.specs.RecordSets.{set_head, set_record, signed_owner}
-pub use Rattle.dnw_canonical.specs.SignedFields.{FailsSignedFields, IsRrsig, IsSignedFields, before_signer}
-pub use Rattle.dnw_canonical.specs.CanonicalLaws.{AreAmong, DependsOnSet, IsLike, IsLikeData, KeepsInAnyOrder}
+pub use Rattle.dnw_signed.specs.declared.error.CanonicalError.{CanonicalError}
+pub use Rattle.dnw_signed.specs.CanonicalData.{IsCanonical, canonical_piece, canonical_pieces}
+pub use Rattle.dnw_signed.specs.RecordSets.{AreCanonical, FailsFrom, FailsSet, FirstOther, IsMember, IsOfSet, IsRecordSet, IsSet, IsInOrder}
+pub use Rattle.dnw_signed.specs.RecordSets.{set_head, set_record, signed_owner}
+pub use Rattle.dnw_signed.specs.SignedFields.{FailsSignedFields, IsRrsig, IsSignedFields, before_signer}
+pub use Rattle.dnw_signed.specs.CanonicalLaws.{AreAmong, DependsOnSet, IsLike, IsLikeData, KeepsInAnyOrder}

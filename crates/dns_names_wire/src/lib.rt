@@ -5,53 +5,53 @@
 #![tactic(auto)]
 
 pub use dnw_base::decoder::BinDecoder;
+pub use dnw_base::dns_class::DNSClass;
+pub use dnw_base::error::{DecodeError, ProtoError, ProtoResult};
+pub use dnw_base::from_str::FromStr;
+pub use dnw_base::record_type::RecordType;
 pub use dnw_base::restrict::Restrict;
-pub use dnw_codes::dns_class::DNSClass;
-pub use dnw_codes::record_type::RecordType;
-pub use dnw_codes::serial_number::SerialNumber;
-pub use dnw_encoder::binary::BinEncodable;
-pub use dnw_encoder::encoder::{BinEncoder, NameEncoding, Place, RDataEncoding};
-pub use dnw_error::error::{DecodeError, ProtoError, ProtoResult};
-pub use dnw_error::from_str::FromStr;
-pub use dnw_label::label::{IntoLabel, Label};
-pub use dnw_lower::into_name::IntoName;
-pub use dnw_lower::lower_name::LowerName;
+pub use dnw_base::serial_number::SerialNumber;
+pub use dnw_data::record_type_set::RecordTypeSet;
 pub use dnw_name::binary::BinDecodable;
 pub use dnw_name::name::Name;
 pub use dnw_name::name_ref::NameRef;
+pub use dnw_name_arpa::net::{IpNet, Ipv4Net, Ipv6Net};
+pub use dnw_name_form::label::{IntoLabel, Label};
+pub use dnw_name_lower::into_name::IntoName;
+pub use dnw_name_lower::lower_name::LowerName;
+pub use dnw_name_zones::rr_key::RrKey;
+pub use dnw_name_zones::usage::ZoneUsage;
 pub use dnw_record::record::{RecordRef, WireData, WireRecord};
-pub use dnw_reverse::net::{IpNet, Ipv4Net, Ipv6Net};
-pub use dnw_sets::record_type_set::RecordTypeSet;
-pub use dnw_sets::rr_key::RrKey;
-pub use dnw_usage::usage::ZoneUsage;
+pub use dnw_write::binary::BinEncodable;
+pub use dnw_write::encoder::{BinEncoder, NameEncoding, Place, RDataEncoding};
 
 /// Types that are read from messages or written into them.
 pub mod binary {
-    pub use dnw_encoder::binary::{BinEncodable, EncodedSize};
     pub use dnw_name::binary::BinDecodable;
+    pub use dnw_write::binary::{BinEncodable, EncodedSize};
 }
 
 /// Types that are read from the data of a record.
 pub mod record_data {
-    pub use dnw_sets::record_data::RecordDataDecodable;
+    pub use dnw_data::record_data::RecordDataDecodable;
 }
 
 /// Codes: types and classes of records, sets of types, serial numbers, and types that are read from the data of a record.
 pub mod codes {
-    pub use dnw_codes::code_text::{CodeText, MAX_CODE_TEXT};
-    pub use dnw_codes::dns_class::DNSClass;
-    pub use dnw_codes::record_type::RecordType;
-    pub use dnw_codes::serial_number::SerialNumber;
-    pub use dnw_error::from_str::FromStr;
-    pub use dnw_sets::record_data::RecordDataDecodable;
-    pub use dnw_sets::record_type_set::{RecordTypeSet, TypeIter};
+    pub use dnw_base::code_text::{CodeText, MAX_CODE_TEXT};
+    pub use dnw_base::dns_class::DNSClass;
+    pub use dnw_base::from_str::FromStr;
+    pub use dnw_base::record_type::RecordType;
+    pub use dnw_base::serial_number::SerialNumber;
+    pub use dnw_data::record_data::RecordDataDecodable;
+    pub use dnw_data::record_type_set::{RecordTypeSet, TypeIter};
 }
 
 /// Records in canonical form: the octets that a signature covers, and what follows from their definitions.
 pub mod canonical {
-    pub use dnw_canonical::canonical::{record_set, signed_fields};
-    pub use dnw_canonical::error::CanonicalError;
-    pub use dnw_canonical::laws;
+    pub use dnw_signed::canonical::{record_set, signed_fields};
+    pub use dnw_signed::error::CanonicalError;
+    pub use dnw_signed::laws;
 }
 
 /// What follows from the tables of types and classes, for callers' proofs.
@@ -59,11 +59,11 @@ pub mod code_laws;
 
 /// The text of records and their data in master files, by the table of fields and in the form that any data have.
 pub mod data_text {
-    pub use dnw_data_text::data_text::{data_text, parse};
-    pub use dnw_data_text::error::{DataTextError, Wanted};
-    pub use dnw_data_text::generic::Generic;
-    pub use dnw_record_text::laws;
-    pub use dnw_record_text::record_line::{RecordLineError, parse_record, record_text};
+    pub use dnw_zone_data::data_text::{data_text, parse};
+    pub use dnw_zone_data::error::{DataTextError, Wanted};
+    pub use dnw_zone_data::generic::Generic;
+    pub use dnw_zone_record::laws;
+    pub use dnw_zone_record::record_line::{RecordLineError, parse_record, record_text};
 }
 
 /// A cursor over the bytes of a message.
@@ -73,13 +73,13 @@ pub mod decoder {
 
 /// The classes of records. `FromStr` is for their names in text.
 pub mod dns_class {
-    pub use dnw_codes::dns_class::DNSClass;
-    pub use dnw_error::from_str::FromStr;
+    pub use dnw_base::dns_class::DNSClass;
+    pub use dnw_base::from_str::FromStr;
 }
 
 /// Writing messages of a bounded size, and what follows from the definitions of writing.
 pub mod encoder {
-    pub use dnw_encoder::encoder::{
+    pub use dnw_write::encoder::{
         BinEncoder, CANDIDATE_LIMIT, Mark, ModalEncoder, NAME_LIMIT, NameEncoding, Place,
         RDataEncoding, laws,
     };
@@ -87,25 +87,25 @@ pub mod encoder {
 
 /// The errors of this layer.
 pub mod error {
-    pub use dnw_error::error::{DecodeError, ProtoError, ProtoResult};
-    pub use dnw_txt::errors::{LexerError, ParseError, ParseResult};
+    pub use dnw_base::error::{DecodeError, ProtoError, ProtoResult};
+    pub use dnw_zone_lexer::errors::{LexerError, ParseError, ParseResult};
 }
 
 /// Texts of single values in master files: numbers, octets, times, addresses, character strings, tags, hashed names and
 /// identifiers of hardware.
 pub mod field_text {
-    pub use dnw_digit_text::base32::{Base32Hex, parse_hash};
-    pub use dnw_digit_text::laws;
-    pub use dnw_digit_text::pairs::{Pairs, parse_pairs};
-    pub use dnw_field_text::address::{parse_ipv4, parse_ipv6};
-    pub use dnw_field_text::error::FieldTextError;
-    pub use dnw_field_text::number::{parse_u8, parse_u16, parse_u32, parse_u48};
-    pub use dnw_field_text::octets::{
+    pub use dnw_zone_values::address::{parse_ipv4, parse_ipv6};
+    pub use dnw_zone_values::base32::{Base32Hex, parse_hash};
+    pub use dnw_zone_values::error::FieldTextError;
+    pub use dnw_zone_values::laws;
+    pub use dnw_zone_values::number::{parse_u8, parse_u16, parse_u32, parse_u48};
+    pub use dnw_zone_values::octets::{
         Base64, Hexadecimal, Salt, parse_base64, parse_hexadecimal, parse_salt,
     };
-    pub use dnw_field_text::string::{CharacterString, parse_string, parse_text};
-    pub use dnw_field_text::tag::{parse_tag, tag_text};
-    pub use dnw_field_text::time::{parse_time, time_text};
+    pub use dnw_zone_values::pairs::{Pairs, parse_pairs};
+    pub use dnw_zone_values::string::{CharacterString, parse_string, parse_text};
+    pub use dnw_zone_values::tag::{parse_tag, tag_text};
+    pub use dnw_zone_values::time::{parse_time, time_text};
 }
 
 /// The fields of the data of records, by one table of record types, and what follows from their definitions.
@@ -120,68 +120,68 @@ pub mod fields {
 
 /// Types that give a name: names, texts and addresses.
 pub mod into_name {
-    pub use dnw_lower::into_name::IntoName;
+    pub use dnw_name_lower::into_name::IntoName;
 }
 
 /// Labels, of which names are made.
 pub mod label {
-    pub use dnw_label::label::{CaseInsensitive, CaseSensitive, IntoLabel, Label, LabelCmp};
+    pub use dnw_name_form::label::{CaseInsensitive, CaseSensitive, IntoLabel, Label, LabelCmp};
 }
 
 /// Domain names in lower case, as zones and caches are keyed.
 pub mod lower_name {
-    pub use dnw_lower::lower_name::LowerName;
+    pub use dnw_name_lower::lower_name::LowerName;
 }
 
 /// Whole messages, which are checked once and read without a copy, and written item by item: headers, sections and EDNS.
 pub mod message {
-    pub use dnw_header::header::{Header, HeaderCounts, MessageType, Metadata};
-    pub use dnw_header::op_code::OpCode;
-    pub use dnw_header::response_code::ResponseCode;
-    pub use dnw_message::edns::{EdnsError, EdnsOption, EdnsOptions, EdnsRef};
-    pub use dnw_message::error::{MessageError, MessageErrorKind, Section};
-    pub use dnw_message::items::{Queries, Records};
-    pub use dnw_message::laws;
-    pub use dnw_message::message::{MessageRef, SectionOffsets};
-    pub use dnw_message::query::QueryRef;
-    pub use dnw_message_writer::edns::{WireEdns, WireOption};
-    pub use dnw_message_writer::laws::{
+    pub use dnw_message_header::header::{Header, HeaderCounts, MessageType, Metadata};
+    pub use dnw_message_header::op_code::OpCode;
+    pub use dnw_message_header::response_code::ResponseCode;
+    pub use dnw_message_read::edns::{EdnsError, EdnsOption, EdnsOptions, EdnsRef};
+    pub use dnw_message_read::error::{MessageError, MessageErrorKind, Section};
+    pub use dnw_message_read::items::{Queries, Records};
+    pub use dnw_message_read::laws;
+    pub use dnw_message_read::message::{MessageRef, SectionOffsets};
+    pub use dnw_message_read::query::QueryRef;
+    pub use dnw_message_write::edns::{WireEdns, WireOption};
+    pub use dnw_message_write::laws::{
         edns_comes_back, messages_are_written, messages_end_with, written_messages_are_read,
     };
-    pub use dnw_message_writer::query::WireQuery;
-    pub use dnw_message_writer::writer::{AddError, CopyError, Entry, MessageWriter, copy, write};
+    pub use dnw_message_write::query::WireQuery;
+    pub use dnw_message_write::writer::{AddError, CopyError, Entry, MessageWriter, copy, write};
 }
 
 /// Domain names, owned and within a message, and what follows from the definitions of reading them.
 pub mod name {
-    pub use dnw_form::label_iter::LabelIter;
     pub use dnw_name::name::Name;
     pub use dnw_name::name_ref::NameRef;
-    pub use dnw_reading::laws;
-    pub use dnw_reading::ref_labels::RefLabels;
-    pub use dnw_reading::walk::ReadSteps;
-    pub use dnw_reverse::laws::{names_give_prefixes, reverse_names_come_back};
+    pub use dnw_name_arpa::laws::{names_give_prefixes, reverse_names_come_back};
+    pub use dnw_name_form::label_iter::LabelIter;
+    pub use dnw_name_read::laws;
+    pub use dnw_name_read::ref_labels::RefLabels;
+    pub use dnw_name_read::walk::ReadSteps;
 }
 
 /// Names within a message, which are walked without a copy.
 pub mod name_ref {
     pub use dnw_name::name_ref::NameRef;
-    pub use dnw_reading::ref_labels::RefLabels;
-    pub use dnw_reading::walk::ReadSteps;
+    pub use dnw_name_read::ref_labels::RefLabels;
+    pub use dnw_name_read::walk::ReadSteps;
 }
 
 /// Nets of IP addresses.
 pub mod net {
-    pub use dnw_reverse::net::{IpNet, Ipv4Net, Ipv6Net};
+    pub use dnw_name_arpa::net::{IpNet, Ipv4Net, Ipv6Net};
 }
 
 /// The data of records of any type, and records that are written from them, by the table of `fields`.
 pub mod rdata {
-    pub use dnw_rdata::checked::CheckedRecord;
-    pub use dnw_rdata::from_fields::FromFieldsError;
-    pub use dnw_rdata::laws;
-    pub use dnw_rdata::rdata::{RData, RDataError};
-    pub use dnw_rdata::record::Record;
+    pub use dnw_record_owned::checked::CheckedRecord;
+    pub use dnw_record_owned::from_fields::FromFieldsError;
+    pub use dnw_record_owned::laws;
+    pub use dnw_record_owned::rdata::{RData, RDataError};
+    pub use dnw_record_owned::record::Record;
 }
 
 /// Resource records: written whole or not at all, and read without a copy.
@@ -191,13 +191,13 @@ pub mod record {
 
 /// The types of records. `FromStr` is for their names in text.
 pub mod record_type {
-    pub use dnw_codes::record_type::RecordType;
-    pub use dnw_error::from_str::FromStr;
+    pub use dnw_base::from_str::FromStr;
+    pub use dnw_base::record_type::RecordType;
 }
 
 /// Sets of record types, as NSEC, NSEC3 and CSYNC have them.
 pub mod record_type_set {
-    pub use dnw_sets::record_type_set::{
+    pub use dnw_data::record_type_set::{
         RecordTypeSet, TypeIter, bitmaps_list_bits, sets_come_back,
     };
 }
@@ -209,27 +209,27 @@ pub mod restrict {
 
 /// Keys of sets of records: a name and a type.
 pub mod rr_key {
-    pub use dnw_sets::rr_key::RrKey;
+    pub use dnw_name_zones::rr_key::RrKey;
 }
 
 /// Scripts: messages written step by step.
 pub mod script {
-    pub use dnw_script::script::{Item, Part, Reply, Step, laws, run, run_limited};
+    pub use dnw_write_script::script::{Item, Part, Reply, Step, laws, run, run_limited};
 }
 
 /// Serial numbers of zones (RFC 1982).
 pub mod serial_number {
-    pub use dnw_codes::serial_number::SerialNumber;
+    pub use dnw_base::serial_number::SerialNumber;
 }
 
 /// Sort keys of names, which compare as bytes as the names do in canonical order, and what follows from their definition.
 pub mod sort_key {
-    pub use dnw_order::sort_key::{MAX_SORT_KEY_LENGTH, laws};
+    pub use dnw_name_order::sort_key::{MAX_SORT_KEY_LENGTH, laws};
 }
 
 /// Where a text that gives no name goes wrong.
 pub mod text_fault {
-    pub use dnw_text::fault::{TextFault, TextRule, fault_of};
+    pub use dnw_name_ascii::fault::{TextFault, TextRule, fault_of};
 }
 
 /// What follows from the definitions of texts, for callers' proofs.
@@ -237,14 +237,14 @@ pub mod text_laws;
 
 /// Master files: their tokens, and times to live (RFC 1035, section 5.1).
 pub mod txt {
-    pub use dnw_txt::errors::{LexerError, ParseError, ParseResult};
-    pub use dnw_txt::ttl::parse_ttl;
-    pub use dnw_txt::zone_lex::{Lexer, Token};
+    pub use dnw_zone_lexer::errors::{LexerError, ParseError, ParseResult};
+    pub use dnw_zone_lexer::ttl::parse_ttl;
+    pub use dnw_zone_lexer::zone_lex::{Lexer, Token};
 }
 
 /// Special-use zones: what is special about their names, and for whom (RFC 6761).
 pub mod usage {
-    pub use dnw_usage::usage::{
+    pub use dnw_name_zones::usage::{
         AppUsage, AuthUsage, CacheUsage, OpUsage, RegistryUsage, ResolverUsage, UserUsage,
         ZoneUsage, default, in_addr_arpa, in_addr_arpa_127, in_addr_arpa_169_254, invalid,
         ip6_arpa, ip6_arpa_1, ip6_arpa_fe_8, ip6_arpa_fe_9, ip6_arpa_fe_b, local, localhost, onion,

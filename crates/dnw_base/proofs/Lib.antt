@@ -1,2 +1,5 @@
+pub mod Digits
+pub mod PrintedTypes
+pub mod PrintedClasses
 pub mod Wires
 pub mod DecoderReads

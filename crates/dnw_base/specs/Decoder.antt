@@ -1,7 +1,7 @@
 -- What a contract sees of a decoder, and what a read does to it.
 use Rattle.std.specs.Prelude.{◌≡◌, ℕ, ◌+◌, ◌≤◌, List, length, slice_range, Result, Ok, Err}
-use Rattle.dnw_error.specs.declared.error.DecodeError.{DecodeError}
-use Rattle.dnw_error.specs.declared.error.DecodeError.TheVariants.{InsufficientBytes, Memory}
+use Rattle.dnw_base.specs.declared.error.DecodeError.{DecodeError}
+use Rattle.dnw_base.specs.declared.error.DecodeError.TheVariants.{InsufficientBytes, Memory}
 
 -- A decoder: the whole message, and the index of the next octet, its cursor.
 pub record Decoder : Type 0 where

@@ -1,6 +1,15 @@
+pub mod Entries
+pub mod CodeTexts
+pub mod RecordTypes
+pub mod DnsClasses
+pub mod Serials
+pub mod Fault
+pub mod Copies
+pub mod Naming
 pub mod Limits
 pub mod Labels
 pub mod Names
 pub mod Decoder
 pub mod Verified
 pub mod Checked
+pub mod Inside

@@ -3,8 +3,8 @@ ghost use Rattle.std.specs.Prelude.{◌≡◌, ℕ, ◌+◌, ◌-◌, ◌≤◌,
 ghost use Rattle.std.specs.Int.{w16, w32, from_be_bytes, cast_signed};
 ghost use Rattle.dnw_base.specs.Decoder.{Decoder, Takes, TakesCopy, next_bytes, advanced};
 
+use crate::error::DecodeError;
 use crate::restrict::Restrict;
-use dnw_error::error::DecodeError;
 use std::alloc::Global;
 use std::marker::Model;
 

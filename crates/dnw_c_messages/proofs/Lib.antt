@@ -1,5 +1,10 @@
 mod Taken
-mod Items
+mod WrittenItems
 pub mod MessageSizes
 mod RecordEnds
 pub mod TypeCodes
+mod Chains
+mod Forms
+mod Kept
+mod Pieces
+mod Wholes

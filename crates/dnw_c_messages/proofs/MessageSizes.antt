@@ -4,9 +4,9 @@ use Rattle.std.proofs.lemmas.List.{length-take, length-drop}
 use Rattle.dnw_base.specs.Decoder.{Decoder, advanced}
 use Rattle.dnw_base.specs.Names.{NameValue, encoded_size}
 use Rattle.dnw_base.proofs.Wires.{encoded_size-cons}
-use Rattle.dnw_reading.specs.Reading.{NameAt, Reads, zero_octet, label, pointer}
-use Rattle.dnw_reading.proofs.Counts.{length-label}
-use Rattle.dnw_encoder.specs.Encoder.{Encoder}
+use Rattle.dnw_name_read.specs.Reading.{NameAt, Reads, zero_octet, label, pointer}
+use Rattle.dnw_name_read.proofs.Counts.{length-label}
+use Rattle.dnw_write.specs.Encoder.{Encoder}
 use Rattle.dnw_record.specs.Records.{RecordValue}
 use Rattle.dnw_record.specs.RecordLaws.{data_size, passed_size, record_size}
 use Rattle.dnw_record.proofs.Parts.{done-bytes, done-name, fits-fields}
@@ -14,7 +14,7 @@ use Rattle.dnw_record.proofs.Passing.{fits-passed}
 use Rattle.dnw_c_messages.specs.declared.writing.Kind.{Kind}
 use Rattle.dnw_c_messages.specs.declared.writing.Kind.TheVariants as Kinds
 use Rattle.dnw_c_messages.specs.MessageItems.{AllWireForms, Bytes, EmitsItem, HasLittleRoom, HasNoPointer, HasWireForms, Item, ItemBegins, Name, Record, RecordOfName, TakesItem, TakesOf, WritesItems, WritesWhole, after_one, at_start, block_len, more, none, new_encoder}
-use Rattle.dnw_c_messages.proofs.Items.{item_ends, item_onward}
+use Rattle.dnw_c_messages.proofs.WrittenItems.{item_ends, item_onward}
 
 -- ---- what an item takes in the list
 

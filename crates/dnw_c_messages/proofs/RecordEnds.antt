@@ -1,7 +1,7 @@
 -- Where the octets of a name end.
 use Rattle.std.proofs.Common.{◌≡◌, ℕ, ◌+◌, ◌-◌, ◌≤◌, List, subst, arith}
-use Rattle.dnw_reading.specs.Reading.{NameAt}
-use Rattle.dnw_reading.proofs.Counts.{Reads-own}
+use Rattle.dnw_name_read.specs.Reading.{NameAt}
+use Rattle.dnw_name_read.proofs.Counts.{Reads-own}
 
 -- after they begin
 pub ends-after : {b : List ℕ} {p e k : ℕ} {ls : List (List ℕ)} → NameAt b p ls e k → p ≤ e

@@ -1,15 +1,15 @@
 -- A field that is read at an offset of a message.
 use Rattle.std.proofs.Common.{◌≡◌, ℕ, ◌+◌, ◌≤◌, List, length, Result, Ok, Err, ap, ◌∙◌, subst, arith}
 use Rattle.std.specs.Prelude.{⊤}
-use Rattle.dnw_error.specs.declared.error.DecodeError.{DecodeError}
-use Rattle.dnw_error.specs.declared.error.DecodeError.TheVariants.{InsufficientBytes}
+use Rattle.dnw_base.specs.declared.error.DecodeError.{DecodeError}
+use Rattle.dnw_base.specs.declared.error.DecodeError.TheVariants.{InsufficientBytes}
 use Rattle.dnw_base.specs.Decoder.{Decoder, Takes}
 use Rattle.dnw_data.proofs.Taking.{moves-on}
 use Rattle.dnw_data.specs.Fields.{TakesField}
 use Rattle.dnw_data.specs.Values.{FieldValue}
 use Rattle.dnw_data.specs.declared.kind.Kind.{Kind}
 use Rattle.dnw_data.specs.declared.kind.Kind.TheVariants as kinds
-use Rattle.dnw_failure.specs.Offsets.{at_offset}
+use Rattle.dnw_c_base.specs.Offsets.{at_offset}
 use Rattle.dnw_c_messages.specs.FieldCalls.{head_of}
 
 -- a decoder that is moved to an offset of the message

@@ -6,8 +6,8 @@ use Rattle.std.specs.declared.vec.IntoIter.{IntoIter}
 use Rattle.std.proofs.lemmas.Iterator.{items_from_drains}
 use Rattle.std.proofs.lemmas.Iterator.Adapters.{YieldsList-from_vec}
 use Rattle.std.proofs.lemmas.List.{map-id}
-use Rattle.dnw_codes.specs.declared.record_type.RecordType.{RecordType}
-use Rattle.dnw_sets.specs.TypeSets.{IsSetOf, bitmap_types, windows_of}
+use Rattle.dnw_base.specs.declared.record_type.RecordType.{RecordType}
+use Rattle.dnw_data.specs.TypeSets.{IsSetOf, bitmap_types, windows_of}
 
 -- the iterator of a vector gives its elements
 pub vec_gave : {A Z : Type 0} (it : IntoIter A Z) (all xs : List A) → into_iter_items it ≡ all → into_iter_len it ≡ length all

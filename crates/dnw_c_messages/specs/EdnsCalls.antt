@@ -1,15 +1,15 @@
 -- What the functions for C put of the EDNS of a message, and why there is none (RFC 6891).
 use Rattle.std.specs.Prelude.{◌≡◌, ◌⊎◌, ℕ, ◌≤◌, true, false, Option, Some, None, List}
-use Rattle.dnw_codes.specs.DnsClasses.{min_payload}
-use Rattle.dnw_failure.specs.declared.failure.Failure.{Failure}
-use Rattle.dnw_failure.specs.declared.failure.Failure.TheVariants as why
-use Rattle.dnw_message.specs.Edns.{EdnsValue, FailsEdns, HasEdns, IsResponseCode}
-use Rattle.dnw_message.specs.Messages.{FailsMessage, MessageAt, MessageValue}
-use Rattle.dnw_header.specs.ResponseCodes.{response_code}
-use Rattle.dnw_message.specs.declared.edns.EdnsError.{EdnsError}
-use Rattle.dnw_message.specs.declared.edns.EdnsError.TheVariants.{CutOption, DuplicateEdns, OutsideAdditionals, OwnerNotRoot}
-use Rattle.dnw_message.specs.declared.error.MessageError.{MessageError}
-use Rattle.dnw_header.specs.declared.response_code.ResponseCode.{ResponseCode}
+use Rattle.dnw_base.specs.DnsClasses.{min_payload}
+use Rattle.dnw_c_base.specs.declared.failure.Failure.{Failure}
+use Rattle.dnw_c_base.specs.declared.failure.Failure.TheVariants as why
+use Rattle.dnw_message_read.specs.Edns.{EdnsValue, FailsEdns, HasEdns, IsResponseCode}
+use Rattle.dnw_message_read.specs.Messages.{FailsMessage, MessageAt, MessageValue}
+use Rattle.dnw_message_header.specs.ResponseCodes.{response_code}
+use Rattle.dnw_message_read.specs.declared.edns.EdnsError.{EdnsError}
+use Rattle.dnw_message_read.specs.declared.edns.EdnsError.TheVariants.{CutOption, DuplicateEdns, OutsideAdditionals, OwnerNotRoot}
+use Rattle.dnw_message_read.specs.declared.error.MessageError.{MessageError}
+use Rattle.dnw_message_header.specs.declared.response_code.ResponseCode.{ResponseCode}
 use Rattle.dnw_c_messages.specs.MessageCalls.{of_message}
 use Rattle.dnw_c_messages.specs.declared.edns.ReadEdns.{ReadEdns}
 

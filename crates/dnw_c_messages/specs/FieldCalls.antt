@@ -7,11 +7,11 @@ use Rattle.dnw_data.specs.declared.kind.Kind.{Kind}
 use Rattle.dnw_data.specs.declared.kind.Kind.TheVariants as kinds
 use Rattle.dnw_data.specs.declared.kind.ListKind.TheVariants as lists
 use Rattle.dnw_data.specs.declared.kind.Shown.TheVariants.{Text, Tag}
-use Rattle.dnw_error.specs.declared.error.DecodeError.{DecodeError}
-use Rattle.dnw_failure.specs.Failures.{of_decode}
-use Rattle.dnw_failure.specs.Offsets.{at_offset}
-use Rattle.dnw_failure.specs.declared.failure.Failure.{Failure}
-use Rattle.dnw_failure.specs.declared.failure.Failure.TheVariants.{MessageCut, WrongDataLength}
+use Rattle.dnw_base.specs.declared.error.DecodeError.{DecodeError}
+use Rattle.dnw_c_base.specs.Failures.{of_decode}
+use Rattle.dnw_c_base.specs.Offsets.{at_offset}
+use Rattle.dnw_c_base.specs.declared.failure.Failure.{Failure}
+use Rattle.dnw_c_base.specs.declared.failure.Failure.TheVariants.{MessageCut, WrongDataLength}
 use Rattle.dnw_c_messages.specs.declared.fields.FieldCursor.{FieldCursor}
 use Rattle.dnw_c_messages.specs.declared.fields.ReadField.{ReadField}
 

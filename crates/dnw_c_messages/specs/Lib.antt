@@ -5,3 +5,5 @@ pub mod PackCalls
 pub mod MessageItems
 pub mod RecordCalls
 pub mod TypeLists
+pub mod Messages
+pub mod WriterCalls

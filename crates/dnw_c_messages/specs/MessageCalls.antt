@@ -1,18 +1,18 @@
 -- What the functions for C put of a whole message, and where one goes wrong (RFC 1035, section 4).
 use Rattle.std.specs.Prelude.{◌≡◌, ℕ, ◌≤◌, List}
-use Rattle.dnw_failure.specs.Failures.{of_decode}
-use Rattle.dnw_failure.specs.declared.failure.Failure.{Failure}
-use Rattle.dnw_failure.specs.declared.failure.Failure.TheVariants as why
-use Rattle.dnw_header.specs.Headers.{is_response}
-use Rattle.dnw_message.specs.Messages.{FailsMessage, MessageAt, MessageValue, SectionsBegin}
-use Rattle.dnw_header.specs.OpCodes.{op_code}
-use Rattle.dnw_header.specs.ResponseCodes.{response_code}
-use Rattle.dnw_message.specs.declared.error.MessageError.{MessageError}
-use Rattle.dnw_message.specs.declared.error.MessageErrorKind.{MessageErrorKind}
-use Rattle.dnw_message.specs.declared.error.MessageErrorKind.TheVariants.{Decode, TooManyPointers}
-use Rattle.dnw_message.specs.declared.error.Section.{Section}
-use Rattle.dnw_message.specs.declared.error.Section.TheVariants as section
-use Rattle.dnw_message.specs.declared.message.SectionOffsets.{SectionOffsets}
+use Rattle.dnw_c_base.specs.Failures.{of_decode}
+use Rattle.dnw_c_base.specs.declared.failure.Failure.{Failure}
+use Rattle.dnw_c_base.specs.declared.failure.Failure.TheVariants as why
+use Rattle.dnw_message_header.specs.Headers.{is_response}
+use Rattle.dnw_message_read.specs.Messages.{FailsMessage, MessageAt, MessageValue, SectionsBegin}
+use Rattle.dnw_message_header.specs.OpCodes.{op_code}
+use Rattle.dnw_message_header.specs.ResponseCodes.{response_code}
+use Rattle.dnw_message_read.specs.declared.error.MessageError.{MessageError}
+use Rattle.dnw_message_read.specs.declared.error.MessageErrorKind.{MessageErrorKind}
+use Rattle.dnw_message_read.specs.declared.error.MessageErrorKind.TheVariants.{Decode, TooManyPointers}
+use Rattle.dnw_message_read.specs.declared.error.Section.{Section}
+use Rattle.dnw_message_read.specs.declared.error.Section.TheVariants as section
+use Rattle.dnw_message_read.specs.declared.message.SectionOffsets.{SectionOffsets}
 use Rattle.dnw_c_messages.specs.declared.message.MessageFault.{MessageFault}
 use Rattle.dnw_c_messages.specs.declared.message.ReadMessage.{ReadMessage}
 

@@ -4,27 +4,27 @@
 -- record as it stands in a message. Names may be wire forms, which are names of any message.
 use Rattle.std.specs.Prelude.{◌≡◌, ◌≢◌, ◌<◌, ◌≤◌, ◌⊎◌, ℕ, ◌+◌, ⊤, Bool, true, Some, List, [], length, slice_get, Ok, Err}
 use Rattle.std.specs.Int.{w16, from_be_bytes}
-use Rattle.dnw_error.specs.declared.error.DecodeError.{DecodeError}
-use Rattle.dnw_error.specs.declared.error.ProtoError.{ProtoError}
+use Rattle.dnw_base.specs.declared.error.DecodeError.{DecodeError}
+use Rattle.dnw_base.specs.declared.error.ProtoError.{ProtoError}
 use Rattle.dnw_base.specs.Names.{NameValue}
 use Rattle.dnw_base.specs.Decoder.{Decoder, HasLeft, next_bytes, advanced}
-use Rattle.dnw_reading.specs.Reading.{NameAt, TakesName}
+use Rattle.dnw_name_read.specs.Reading.{NameAt, TakesName}
 use Rattle.dnw_name.specs.Decodable.{StopsSomehow}
-use Rattle.dnw_encoder.specs.Encoder.{Encoder, Writes, fresh}
-use Rattle.dnw_encoder.specs.Emitting.{Outcome}
-use Rattle.dnw_encoder.specs.EmittedName.{EmitsName}
-use Rattle.dnw_encoder.specs.declared.encoder.modes.RDataEncoding.{RDataEncoding}
-use Rattle.dnw_encoder.specs.declared.encoder.modes.RDataEncoding.TheVariants.{StandardRecord, Canonical, Other}
+use Rattle.dnw_write.specs.Encoder.{Encoder, Writes, fresh}
+use Rattle.dnw_write.specs.Emitting.{Outcome}
+use Rattle.dnw_write.specs.EmittedName.{EmitsName}
+use Rattle.dnw_write.specs.declared.encoder.modes.RDataEncoding.{RDataEncoding}
+use Rattle.dnw_write.specs.declared.encoder.modes.RDataEncoding.TheVariants.{StandardRecord, Canonical, Other}
 use Rattle.dnw_record.specs.declared.record.WireRecord.{WireRecord}
 use Rattle.dnw_record.specs.declared.record.WireData.TheVariants as Data
 use Rattle.dnw_record.specs.Records.{RecordValue, TakesRecord, FailsRecord, HasDataName, FailsDataName}
 use Rattle.dnw_record.specs.PassedRecords.{PassesRecord, owner_name}
 use Rattle.dnw_record.specs.WrittenRecords.{EmitsRecord}
-use Rattle.dnw_reading.specs.Buffers.{put}
-use Rattle.dnw_failure.specs.Failures.{of_proto}
-use Rattle.dnw_failure.specs.Offsets.{at_offset}
-use Rattle.dnw_failure.specs.declared.failure.Failure.{Failure}
-use Rattle.dnw_failure.specs.declared.failure.Failure.TheVariants.{BadItem, MessageTooLong, NoRoom}
+use Rattle.dnw_name_read.specs.Buffers.{put}
+use Rattle.dnw_c_base.specs.Failures.{of_proto}
+use Rattle.dnw_c_base.specs.Offsets.{at_offset}
+use Rattle.dnw_c_base.specs.declared.failure.Failure.{Failure}
+use Rattle.dnw_c_base.specs.declared.failure.Failure.TheVariants.{BadItem, MessageTooLong, NoRoom}
 use Rattle.dnw_c_messages.specs.declared.writing.Kind.{Kind}
 use Rattle.dnw_c_messages.specs.declared.writing.Kind.TheVariants as Kinds
 use Rattle.dnw_c_messages.specs.declared.writing.WrittenMessage.{WrittenMessage}

@@ -1,15 +1,15 @@
 -- What the function for C puts that writes a message again, and why it puts nothing.
 use Rattle.std.specs.Prelude.{◌≡◌, ◌<◌, ◌⊎◌, ℕ, ◌≤◌, Bool, List, length, take}
-use Rattle.dnw_failure.specs.Failures.{of_decode, of_proto}
-use Rattle.dnw_failure.specs.declared.failure.Failure.{Failure}
-use Rattle.dnw_failure.specs.declared.failure.Failure.TheVariants as why
-use Rattle.dnw_header.specs.Headers.{header_of, header_size}
-use Rattle.dnw_message.specs.Messages.{FailsMessage, MessageAt, MessageValue}
-use Rattle.dnw_message.specs.declared.error.MessageError.{MessageError}
-use Rattle.dnw_message_writer.specs.Copies.{FailsCopy, IsCopied}
-use Rattle.dnw_message_writer.specs.declared.writer.copying.CopyError.{CopyError}
-use Rattle.dnw_message_writer.specs.declared.writer.copying.CopyError.TheVariants.{Data, Edns, Proto}
-use Rattle.dnw_reading.specs.Buffers.{put}
+use Rattle.dnw_c_base.specs.Failures.{of_decode, of_proto}
+use Rattle.dnw_c_base.specs.declared.failure.Failure.{Failure}
+use Rattle.dnw_c_base.specs.declared.failure.Failure.TheVariants as why
+use Rattle.dnw_message_header.specs.Headers.{header_of, header_size}
+use Rattle.dnw_message_read.specs.Messages.{FailsMessage, MessageAt, MessageValue}
+use Rattle.dnw_message_read.specs.declared.error.MessageError.{MessageError}
+use Rattle.dnw_message_write.specs.Copies.{FailsCopy, IsCopied}
+use Rattle.dnw_message_write.specs.declared.writer.copying.CopyError.{CopyError}
+use Rattle.dnw_message_write.specs.declared.writer.copying.CopyError.TheVariants.{Data, Edns, Proto}
+use Rattle.dnw_name_read.specs.Buffers.{put}
 use Rattle.dnw_c_messages.specs.EdnsCalls.{of_edns}
 use Rattle.dnw_c_messages.specs.MessageCalls.{of_message}
 use Rattle.dnw_c_messages.specs.declared.packing.PackedMessage.{PackedMessage}

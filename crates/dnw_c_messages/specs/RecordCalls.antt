@@ -1,16 +1,16 @@
 -- The records of messages, and why none is read (RFC 1035, sections 3.2.1 and 4.1.3).
 use Rattle.std.specs.Prelude.{◌≡◌, ◌≢◌, ◌<◌, ◌⊎◌, ℕ, ◌+◌, List, length}
-use Rattle.dnw_error.specs.declared.error.DecodeError.{DecodeError}
-use Rattle.dnw_codes.specs.RecordTypes.{type_code}
-use Rattle.dnw_codes.specs.DnsClasses.{class_code}
+use Rattle.dnw_base.specs.declared.error.DecodeError.{DecodeError}
+use Rattle.dnw_base.specs.RecordTypes.{type_code}
+use Rattle.dnw_base.specs.DnsClasses.{class_code}
 use Rattle.dnw_base.specs.Names.{wire}
-use Rattle.dnw_reading.specs.Reading.{NameAt}
+use Rattle.dnw_name_read.specs.Reading.{NameAt}
 use Rattle.dnw_record.specs.Records.{RecordAt, RecordValue, FailsRecord}
-use Rattle.dnw_reading.specs.Buffers.{put}
-use Rattle.dnw_failure.specs.Failures.{of_decode}
-use Rattle.dnw_failure.specs.Offsets.{HasNoName, at_offset}
-use Rattle.dnw_failure.specs.declared.failure.Failure.{Failure}
-use Rattle.dnw_failure.specs.declared.failure.Failure.TheVariants.{NoRoom, WrongDataLength}
+use Rattle.dnw_name_read.specs.Buffers.{put}
+use Rattle.dnw_c_base.specs.Failures.{of_decode}
+use Rattle.dnw_c_base.specs.Offsets.{HasNoName, at_offset}
+use Rattle.dnw_c_base.specs.declared.failure.Failure.{Failure}
+use Rattle.dnw_c_base.specs.declared.failure.Failure.TheVariants.{NoRoom, WrongDataLength}
 use Rattle.dnw_c_messages.specs.declared.records.ReadRecord.{ReadRecord}
 
 -- what C learns of a record that ends at an offset, beside its owner's wire form

@@ -1,11 +1,11 @@
 -- Lists of type codes, and the bitmaps that stand for them (RFC 4034, section 4.1.2).
 use Rattle.std.specs.Prelude.{◌≡◌, ◌<◌, ◌≤◌, ◌⊎◌, ℕ, List, length, map, true, false}
-use Rattle.dnw_codes.specs.declared.record_type.RecordType.{RecordType}
-use Rattle.dnw_codes.specs.RecordTypes.{type_code, type_of_code}
+use Rattle.dnw_base.specs.declared.record_type.RecordType.{RecordType}
+use Rattle.dnw_base.specs.RecordTypes.{type_code, type_of_code}
 use Rattle.dnw_base.specs.Limits.{max_message}
-use Rattle.dnw_sets.specs.TypeSets.{IsSetOf, Encodes, bitmap_types, in_bounds, set_codes, windows_of}
-use Rattle.dnw_failure.specs.declared.failure.Failure.{Failure}
-use Rattle.dnw_failure.specs.declared.failure.Failure.TheVariants.{NoMemory, NoRoom, BadBitmap}
+use Rattle.dnw_data.specs.TypeSets.{IsSetOf, Encodes, bitmap_types, in_bounds, set_codes, windows_of}
+use Rattle.dnw_c_base.specs.declared.failure.Failure.{Failure}
+use Rattle.dnw_c_base.specs.declared.failure.Failure.TheVariants.{NoMemory, NoRoom, BadBitmap}
 
 -- The codes are those that a bitmap lists, each once, in ascending order.
 abbrev pub AreListed : List ℕ → List ℕ → Type 0

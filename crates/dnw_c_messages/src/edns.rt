@@ -1,12 +1,12 @@
 //! What messages say by EDNS.
 ghost use Rattle.std.specs.Prelude.{◌≡◌, ◌≢◌, IfOk, IfErr};
-ghost use Rattle.dnw_failure.specs.Failures.{NumberOf};
+ghost use Rattle.dnw_c_base.specs.Failures.{NumberOf};
 ghost use Rattle.dnw_c_messages.specs.EdnsCalls.{FailsToReadEdns, IsRead, FailsToSay, PutsEdns, of_edns};
 
 use crate::message::of_message;
-use dnw_failure::failure::Failure;
-use dnw_message::edns::EdnsError;
-use dnw_message::message::MessageRef;
+use dnw_c_base::failure::Failure;
+use dnw_message_read::edns::EdnsError;
+use dnw_message_read::message::MessageRef;
 
 /// The size that any receiver accepts, in octets (RFC 1035, section 4.2.1).
 const MIN_PAYLOAD: u16 = 512;

@@ -1,17 +1,17 @@
 //! The fields of the data of records, of which the caller keeps an offset and a number.
 ghost use Rattle.std.specs.Prelude.{◌≡◌, ◌≢◌, ◌≤◌, ◌+◌, ◌-◌, ◌^◌, length, IfOk, IfErr};
 ghost use Rattle.dnw_data.specs.Fields.{FailsField};
-ghost use Rattle.dnw_failure.specs.Failures.{NumberOf};
-ghost use Rattle.dnw_failure.specs.Offsets.{at_offset};
+ghost use Rattle.dnw_c_base.specs.Failures.{NumberOf};
+ghost use Rattle.dnw_c_base.specs.Offsets.{at_offset};
 ghost use Rattle.dnw_c_messages.specs.FieldCalls.{EndsAt, FailsToReadField, FailsToTake, PutsField, TakesAs, field_kind, head_of};
 
 use dnw_base::decoder::BinDecoder;
-use dnw_codes::record_type::RecordType;
+use dnw_base::error::DecodeError;
+use dnw_base::record_type::RecordType;
+use dnw_c_base::failure::{Failure, of_decode};
 use dnw_data::field::Field;
 use dnw_data::kind::{Kind, ListKind, Shown};
 use dnw_data::table::fields_of;
-use dnw_error::error::DecodeError;
-use dnw_failure::failure::{Failure, of_decode};
 
 /// Where the next field of the data of a record is: its offset in the message, and the number of the fields before it.
 #[repr(C)]

@@ -1,17 +1,17 @@
 //! Whole messages: their headers, where their sections are, and where they go wrong.
 ghost use Rattle.std.specs.Prelude.{◌≡◌, ◌≢◌, IfOk, IfErr};
-ghost use Rattle.dnw_message.specs.Messages.{MessageValue};
-ghost use Rattle.dnw_message.specs.declared.error.MessageError.{MessageError};
-ghost use Rattle.dnw_message.specs.declared.message.SectionOffsets.{SectionOffsets};
-ghost use Rattle.dnw_message.specs.Messages.{FailsMessage, SectionsBegin};
-ghost use Rattle.dnw_failure.specs.Failures.{NumberOf};
+ghost use Rattle.dnw_message_read.specs.Messages.{MessageValue};
+ghost use Rattle.dnw_message_read.specs.declared.error.MessageError.{MessageError};
+ghost use Rattle.dnw_message_read.specs.declared.message.SectionOffsets.{SectionOffsets};
+ghost use Rattle.dnw_message_read.specs.Messages.{FailsMessage, SectionsBegin};
+ghost use Rattle.dnw_c_base.specs.Failures.{NumberOf};
 ghost use Rattle.dnw_c_messages.specs.MessageCalls.{FailsToReadMessage, PutsMessage, fault_of, of_message, read_message, section_number};
 
-use dnw_error::error::DecodeError;
-use dnw_failure::failure::{Failure, of_decode};
-use dnw_header::header::MessageType;
-use dnw_message::error::{MessageError, MessageErrorKind, Section};
-use dnw_message::message::MessageRef;
+use dnw_base::error::DecodeError;
+use dnw_c_base::failure::{Failure, of_decode};
+use dnw_message_header::header::MessageType;
+use dnw_message_read::error::{MessageError, MessageErrorKind, Section};
+use dnw_message_read::message::MessageRef;
 
 /// A message that was read: the fields of its header, the offsets at which its sections of records begin, and the offset
 /// after it.

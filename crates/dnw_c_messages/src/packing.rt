@@ -1,16 +1,16 @@
 //! Messages, written again in fewer octets.
 ghost use Rattle.std.specs.Prelude.{◌≡◌, ◌≢◌, ◌≤◌, length, IfOk, IfErr, OnErr};
-ghost use Rattle.dnw_failure.specs.Failures.{NumberOf};
-ghost use Rattle.dnw_header.specs.Headers.{header_size};
+ghost use Rattle.dnw_c_base.specs.Failures.{NumberOf};
+ghost use Rattle.dnw_message_header.specs.Headers.{header_size};
 ghost use Rattle.dnw_c_messages.specs.PackCalls.{FailsToMakeCopy, FailsToPack, HasCopy, PutsCopy, is_cut, of_copy};
 
 use crate::edns::of_edns;
 use crate::message::of_message;
-use dnw_failure::buffer::put;
-use dnw_failure::failure::{Failure, of_decode, of_proto};
-use dnw_header::header::Header;
-use dnw_message::message::MessageRef;
-use dnw_message_writer::writer::{CopyError, copy};
+use dnw_c_base::buffer::put;
+use dnw_c_base::failure::{Failure, of_decode, of_proto};
+use dnw_message_header::header::Header;
+use dnw_message_read::message::MessageRef;
+use dnw_message_write::writer::{CopyError, copy};
 use std::alloc::Global;
 
 /// A message that was packed: the number of octets that were put, and the bit TC of its header.

@@ -2,15 +2,15 @@
 ghost use Rattle.std.specs.Prelude.{◌≡◌, ◌≢◌, ◌<◌, length, IfOk, IfErr, OnErr};
 ghost use Rattle.dnw_base.specs.Limits.{max_name};
 ghost use Rattle.dnw_record.specs.Records.{FailsRecord, RecordAt};
-ghost use Rattle.dnw_failure.specs.Failures.{NumberOf, number};
-ghost use Rattle.dnw_failure.specs.Offsets.{at_offset};
+ghost use Rattle.dnw_c_base.specs.Failures.{NumberOf, number};
+ghost use Rattle.dnw_c_base.specs.Offsets.{at_offset};
 ghost use Rattle.dnw_c_messages.specs.RecordCalls.{FailsToReadData, FailsToReadRecord, PutsDataName, PutsRecord};
-ghost use Rattle.dnw_failure.specs.declared.failure.Failure.TheVariants.{NoRoom};
+ghost use Rattle.dnw_c_base.specs.declared.failure.Failure.TheVariants.{NoRoom};
 
 use dnw_base::decoder::BinDecoder;
-use dnw_error::error::DecodeError;
-use dnw_failure::failure::{Failure, of_decode};
-use dnw_failure::names::{name_ref_at, put_name};
+use dnw_base::error::DecodeError;
+use dnw_c_base::failure::{Failure, of_decode};
+use dnw_c_base::names::{name_ref_at, put_name};
 use dnw_name::binary::BinDecodable;
 use dnw_record::record::RecordRef;
 use std::alloc::Global;

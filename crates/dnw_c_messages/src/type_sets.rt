@@ -1,21 +1,21 @@
 //! Bitmaps of types, as NSEC, NSEC3 and CSYNC records have them, and lists of their codes.
 ghost use Rattle.std.specs.Prelude.{◌≡◌, ◌≢◌, ◌≤◌, ◌<◌, ◌⊎◌, ℕ, List, length, map, IfOk, IfErr, OnErr};
-ghost use Rattle.dnw_codes.specs.RecordTypes.{type_code, type_of_code};
-ghost use Rattle.dnw_sets.specs.TypeSets.{Encodes, IsSetOf, bitmap_types, set_codes};
-ghost use Rattle.dnw_sets.specs.SetLaws.{most_types};
-ghost use Rattle.dnw_reading.specs.Buffers.{put};
-ghost use Rattle.dnw_failure.specs.Failures.{NumberOf, number};
+ghost use Rattle.dnw_base.specs.RecordTypes.{type_code, type_of_code};
+ghost use Rattle.dnw_data.specs.TypeSets.{Encodes, IsSetOf, bitmap_types, set_codes};
+ghost use Rattle.dnw_data.specs.SetLaws.{most_types};
+ghost use Rattle.dnw_name_read.specs.Buffers.{put};
+ghost use Rattle.dnw_c_base.specs.Failures.{NumberOf, number};
 ghost use Rattle.dnw_c_messages.specs.TypeLists.{AreListed, FailsToBitmap, FailsToList, IsBitmap, IsBitmapOf, IsNoBitmap};
-ghost use Rattle.dnw_failure.specs.declared.failure.Failure.TheVariants.{BadBitmap, NoMemory, NoRoom};
+ghost use Rattle.dnw_c_base.specs.declared.failure.Failure.TheVariants.{BadBitmap, NoMemory, NoRoom};
 
 use dnw_base::decoder::BinDecoder;
+use dnw_base::error::DecodeError;
+use dnw_base::record_type::RecordType;
 use dnw_base::restrict::Restrict;
-use dnw_codes::record_type::RecordType;
-use dnw_error::error::DecodeError;
-use dnw_failure::buffer::put;
-use dnw_failure::failure::Failure;
-use dnw_sets::record_data::RecordDataDecodable;
-use dnw_sets::record_type_set::RecordTypeSet;
+use dnw_c_base::buffer::put;
+use dnw_c_base::failure::Failure;
+use dnw_data::record_data::RecordDataDecodable;
+use dnw_data::record_type_set::RecordTypeSet;
 use std::alloc::{AllocError, Global};
 
 /// Puts the codes that a bitmap lists, in ascending order, and their number.

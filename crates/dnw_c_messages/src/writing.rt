@@ -2,21 +2,21 @@
 ghost use Rattle.std.specs.Prelude.{◌≡◌, ◌≢◌, ◌<◌, ◌≤◌, ℕ, true, false, Ok, length, IfOk, IfErr, OnOk, OnErr};
 ghost use Rattle.dnw_base.specs.Decoder.{advanced};
 ghost use Rattle.dnw_record.specs.Records.{RecordValue, TakesRecord};
-ghost use Rattle.dnw_encoder.specs.Encoder.{Encoder};
-ghost use Rattle.dnw_encoder.specs.EncoderValue.{value, lender};
-ghost use Rattle.dnw_failure.specs.Failures.{NumberOf, number};
+ghost use Rattle.dnw_write.specs.Encoder.{Encoder};
+ghost use Rattle.dnw_write.specs.EncoderValue.{value, lender};
+ghost use Rattle.dnw_c_base.specs.Failures.{NumberOf, number};
 ghost use Rattle.dnw_c_messages.specs.MessageItems.{CopiesOf, EmitsItem, FailsToCopyItem, FailsToCopyOf, FailsToTakeOf, FailsToWriteMessage, HasBlock, HasLittleRoom, IsKind, IsNoKind, IsRecordOfName, Item, PutsMessage, StopsAfter, TakesBlock, TakesItem, WritesWhole, new_encoder};
 ghost use Rattle.dnw_c_messages.specs.declared.writing.Kind.TheVariants.{Bytes, Name, Record, RecordOfName};
-ghost use Rattle.dnw_failure.specs.declared.failure.Failure.TheVariants.{BadItem, MessageTooLong, NoRoom};
+ghost use Rattle.dnw_c_base.specs.declared.failure.Failure.TheVariants.{BadItem, MessageTooLong, NoRoom};
 
 use dnw_base::decoder::BinDecoder;
-use dnw_encoder::binary::BinEncodable;
-use dnw_encoder::encoder::{BinEncoder, RDataEncoding};
-use dnw_failure::buffer::put;
-use dnw_failure::failure::{Failure, of_proto};
+use dnw_c_base::buffer::put;
+use dnw_c_base::failure::{Failure, of_proto};
 use dnw_name::binary::BinDecodable;
 use dnw_name::name_ref::NameRef;
 use dnw_record::record::{RecordRef, WireData, WireRecord};
+use dnw_write::binary::BinEncodable;
+use dnw_write::encoder::{BinEncoder, RDataEncoding};
 use std::alloc::Global;
 
 /// A message that was written: the number of bytes that were put, and the number of items.

@@ -2,3 +2,8 @@ pub mod Addresses
 pub mod Checking
 pub mod Taking
 pub mod Walking
+pub mod Windows
+pub mod Writing
+pub mod Sets
+pub mod Listed
+pub mod Few

@@ -1,13 +1,13 @@
 -- At each offset there is one field of a kind at most, or one reason why there is none.
 use Rattle.std.proofs.Common.{◌≡◌, ◌+◌, ◌⊎◌, Option, Some, None, length, Result, Ok, Err, IfOk, IfErr, inl, inr, refl, sym, ap, ◌∙◌, ◌≤◌, arith, rules}
 use Rattle.std.specs.Result.{IsErrOf, IsOkAnd}
-use Rattle.dnw_error.specs.declared.error.DecodeError.{DecodeError}
+use Rattle.dnw_base.specs.declared.error.DecodeError.{DecodeError}
 use Rattle.std.proofs.lemmas.Bool.{cases_lt}
-use Rattle.dnw_error.specs.declared.error.DecodeError.TheVariants.{InsufficientBytes}
+use Rattle.dnw_base.specs.declared.error.DecodeError.TheVariants.{InsufficientBytes}
 use Rattle.dnw_base.specs.Decoder.{Decoder, HasLeft, advanced}
-use Rattle.dnw_reading.proofs.Counts.{Reads-own}
-use Rattle.dnw_reading.proofs.Unique.{walk}
-use Rattle.dnw_reading.proofs.Takes.{TakesName-unique, TakesName-not-StopsAt, StopsAt-unique}
+use Rattle.dnw_name_read.proofs.Counts.{Reads-own}
+use Rattle.dnw_name_read.proofs.Unique.{walk}
+use Rattle.dnw_name_read.proofs.Takes.{TakesName-unique, TakesName-not-StopsAt, StopsAt-unique}
 use Rattle.dnw_data.specs.declared.kind.Kind.{Kind}
 use Rattle.dnw_data.specs.declared.kind.Kind.TheVariants.{Name}
 use Rattle.dnw_data.specs.declared.kind.NameForm.{NameForm}

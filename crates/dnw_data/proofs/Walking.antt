@@ -2,8 +2,8 @@
 use Rattle.std.proofs.Common.{◌≡◌, ℕ, ◌+◌, ◌-◌, ◌≤◌, Option, Some, None, Result, Ok, Err, List, [], ◌∷◌, ◌++◌, length, map, inl, inr, refl, sym, ap, ◌∙◌, subst, arith}
 use Rattle.std.specs.Iterator.{AlwaysYields}
 use Rattle.std.proofs.lemmas.Bool.{cases_eq}
-use Rattle.dnw_error.specs.declared.error.DecodeError.{DecodeError}
-use Rattle.dnw_error.specs.declared.error.DecodeError.TheVariants.{IncorrectRDataLengthRead}
+use Rattle.dnw_base.specs.declared.error.DecodeError.{DecodeError}
+use Rattle.dnw_base.specs.declared.error.DecodeError.TheVariants.{IncorrectRDataLengthRead}
 use Rattle.dnw_base.specs.Decoder.{Decoder}
 use Rattle.dnw_data.specs.declared.kind.Kind.{Kind}
 use Rattle.dnw_data.specs.declared.field.Field.{Field}

@@ -4,7 +4,7 @@ use Rattle.std.specs.Prelude.{◌≡◌, ℕ, ◌<◌, ◌^◌, Bool, true, fals
 use Rattle.std.specs.Int.{w16, w32, w64, to_be_bytes}
 use Rattle.std.specs.Net.Addr.{octets_of}
 use Rattle.dnw_base.specs.Names.{AreLabels, label_wire, wire}
-use Rattle.dnw_codes.specs.RecordTypes.{type_code as code_of}
+use Rattle.dnw_base.specs.RecordTypes.{type_code as code_of}
 use Rattle.dnw_data.specs.Lists.{list_fault}
 use Rattle.dnw_data.specs.Values.{FieldValue, name, u8, u16, u32, u48, u64, ipv4, ipv6, type_code, time, counted, octets, texts, types, params}
 

@@ -1,10 +1,10 @@
 -- The fields of the data of a record. A decoder reads a message up to where the data end: so a field's own octets end there
 -- too, while pointers lead anywhere before.
 use Rattle.std.specs.Prelude.{◌≡◌, ℕ, Some, None, List, drop, ◌⊎◌}
-use Rattle.dnw_error.specs.declared.error.DecodeError.{DecodeError}
-use Rattle.dnw_error.specs.declared.error.DecodeError.TheVariants.{InsufficientBytes}
+use Rattle.dnw_base.specs.declared.error.DecodeError.{DecodeError}
+use Rattle.dnw_base.specs.declared.error.DecodeError.TheVariants.{InsufficientBytes}
 use Rattle.dnw_base.specs.Decoder.{Decoder, HasLeft, next_bytes, advanced}
-use Rattle.dnw_reading.specs.Reading.{TakesName, StopsAt}
+use Rattle.dnw_name_read.specs.Reading.{TakesName, StopsAt}
 use Rattle.dnw_data.specs.declared.kind.Kind.{Kind}
 use Rattle.dnw_data.specs.declared.kind.Kind.TheVariants.{Name}
 use Rattle.dnw_data.specs.Values.{FieldValue, name, own_size, own_fault, own_value}

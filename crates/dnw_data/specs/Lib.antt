@@ -6,4 +6,7 @@ pub mod FieldWires
 pub mod Walks
 pub mod DataLaws
 pub mod Items
+pub mod TypeSets
+pub mod RecordData
+pub mod SetLaws
 pub mod Inside

@@ -5,8 +5,8 @@
 -- not asked of them here. The keys of parameters ascend; what their values are is not looked into.
 use Rattle.std.specs.Prelude.{ℕ, zero, suc, ◌+◌, Bool, true, ◌&&◌, nat_le, nat_lt, if◌then◌else◌, Option, Some, None, List, [], ◌∷◌, length, drop, slice_index, slice_range}
 use Rattle.std.specs.Int.{w16, from_be_bytes}
-use Rattle.dnw_error.specs.declared.error.DecodeError.{DecodeError}
-use Rattle.dnw_error.specs.declared.error.DecodeError.TheVariants.{InsufficientBytes, NsecBitmapOutOfBounds, SvcParamsOutOfOrder}
+use Rattle.dnw_base.specs.declared.error.DecodeError.{DecodeError}
+use Rattle.dnw_base.specs.declared.error.DecodeError.TheVariants.{InsufficientBytes, NsecBitmapOutOfBounds, SvcParamsOutOfOrder}
 use Rattle.dnw_data.specs.declared.kind.ListKind.{ListKind}
 use Rattle.dnw_data.specs.declared.kind.ListKind.TheVariants.{Texts, Types, Params}
 

@@ -1,7 +1,7 @@
 //! Fields of the data of a record.
 ghost use Rattle.std.specs.Prelude.{◌≡◌, ◌++◌, length, None, Some, IfOk, IfErr, OnErr, OnOk, IsErrOf, IsOkAnd};
 ghost use Rattle.std.specs.Int.{w16, w32, from_be_bytes};
-ghost use Rattle.dnw_error.specs.declared.error.DecodeError.{DecodeError};
+ghost use Rattle.dnw_base.specs.declared.error.DecodeError.{DecodeError};
 ghost use Rattle.dnw_base.specs.Decoder.{Decoder};
 ghost use Rattle.dnw_base.specs.Names.{AreLabels, wire};
 ghost use Rattle.dnw_data.specs.Lists.{list_fault};
@@ -12,10 +12,10 @@ ghost use Rattle.dnw_data.specs.Fields.{TakesNameField, FailsName, TakesOwn, Fai
 use crate::kind::{Kind, ListKind};
 use crate::lists::Items;
 use dnw_base::decoder::BinDecoder;
+use dnw_base::error::DecodeError;
 use dnw_base::limits::MAX_NAME;
-use dnw_codes::record_type::RecordType;
-use dnw_codes::serial_number::SerialNumber;
-use dnw_error::error::DecodeError;
+use dnw_base::record_type::RecordType;
+use dnw_base::serial_number::SerialNumber;
 use dnw_name::name_ref::NameRef;
 use std::alloc::AllocError;
 use std::net::{Ipv4Addr, Ipv6Addr};

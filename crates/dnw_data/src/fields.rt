@@ -1,7 +1,7 @@
 //! The fields of the data of a record, one after another.
 ghost use Rattle.std.specs.Prelude.{◌≡◌, ◌≤◌, length};
 ghost use Rattle.std.specs.Iterator.{at_most};
-ghost use Rattle.dnw_codes.specs.RecordTypes.{type_code};
+ghost use Rattle.dnw_base.specs.RecordTypes.{type_code};
 ghost use Rattle.dnw_data.specs.Table.{fields_of};
 ghost use Rattle.dnw_data.specs.Walks.{NextField, IsEnded, fields_at, steps_left};
 
@@ -9,8 +9,8 @@ use crate::field::Field;
 use crate::kind::Kind;
 use crate::table;
 use dnw_base::decoder::BinDecoder;
-use dnw_codes::record_type::RecordType;
-use dnw_error::error::DecodeError;
+use dnw_base::error::DecodeError;
+use dnw_base::record_type::RecordType;
 use std::marker::Model;
 use thiserror::Error;
 

@@ -4,7 +4,7 @@ ghost use Rattle.dnw_data.specs.Lists.{tag_of, count_of, item_size, may_come, ou
 ghost use Rattle.dnw_data.specs.Inside.Heads.{IsHead};
 
 use crate::kind::ListKind;
-use dnw_error::error::DecodeError;
+use dnw_base::error::DecodeError;
 use std::marker::Model;
 
 /// The most octets of a window of a bitmap (RFC 4034, section 4.1.2).

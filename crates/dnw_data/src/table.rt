@@ -1,10 +1,10 @@
 //! The table of the fields of each record type.
 ghost use Rattle.std.specs.Prelude.{◌≡◌};
-ghost use Rattle.dnw_codes.specs.RecordTypes.{type_code};
+ghost use Rattle.dnw_base.specs.RecordTypes.{type_code};
 ghost use Rattle.dnw_data.specs.Table.{fields_of};
 
 use crate::kind::{Kind, ListKind, NameForm, Shown};
-use dnw_codes::record_type::RecordType;
+use dnw_base::record_type::RecordType;
 
 /// A name of a type of RFC 1035.
 const NAME: Kind = Kind::Name(NameForm::Compressible);

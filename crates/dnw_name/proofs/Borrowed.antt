@@ -2,10 +2,10 @@
 use Rattle.std.proofs.Common.{◌≡◌, ℕ, ◌+◌, List, length, true, refl, arith}
 use Rattle.std.proofs.lemmas.List.{take_all}
 use Rattle.dnw_base.specs.Names.{AreLabels, encoded_size, wire}
-use Rattle.dnw_reading.specs.Reading.{NameAt}
-use Rattle.dnw_reading.specs.Inside.Found.{LiesAt, labels_at}
-use Rattle.dnw_reading.proofs.Back.{NameAt-form}
-use Rattle.dnw_reading.proofs.Found.{labels_at-NameAt}
+use Rattle.dnw_name_read.specs.Reading.{NameAt}
+use Rattle.dnw_name_read.specs.Inside.Found.{LiesAt, labels_at}
+use Rattle.dnw_name_read.proofs.Back.{NameAt-form}
+use Rattle.dnw_name_read.proofs.Found.{labels_at-NameAt}
 
 name_at : (form : List ℕ) (ls : List (List ℕ)) → form ≡ wire ls → AreLabels ls → NameAt form 0 ls (0 + encoded_size ls) 0
 name_at form ls is are = NameAt-form form form 0 ls (omega arith) (take_all (length form) form (omega arith)) is are

@@ -2,10 +2,10 @@
 use Rattle.std.proofs.Common.{◌≡◌, ℕ, ◌+◌, ◌≤◌, false, true≢false, List, [], ◌∷◌, ◌++◌, length, map, Result, Ok, Err, refl, sym, ap, ◌∙◌, arith, length-append}
 use Rattle.std.specs.Result.{is_ok, IsErr}
 use Rattle.std.specs.List.{list_all}
-use Rattle.dnw_error.specs.declared.error.ProtoError.{ProtoError}
-use Rattle.dnw_error.specs.declared.error.ProtoError.TheVariants.{Memory}
-use Rattle.dnw_error.specs.Fault.{Fault, FailsOr, Follows, ◌>>=◌}
-use Rattle.dnw_form.specs.Edits.{made, with_label, with_labels}
+use Rattle.dnw_base.specs.declared.error.ProtoError.{ProtoError}
+use Rattle.dnw_base.specs.declared.error.ProtoError.TheVariants.{Memory}
+use Rattle.dnw_base.specs.Fault.{Fault, FailsOr, Follows, ◌>>=◌}
+use Rattle.dnw_name_form.specs.Edits.{made, with_label, with_labels}
 use Rattle.dnw_name.specs.Inside.Joined.{HasJoined}
 use Rattle.dnw_name.specs.declared.name.joining.Joining.{Joining}
 

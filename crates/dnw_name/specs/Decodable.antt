@@ -3,14 +3,14 @@
 use Rattle.std.specs.Prelude.{◌≡◌, ℕ, ℤ, true}
 use Rattle.std.specs.Int.{w16, w32, from_be_bytes, cast_signed}
 use Rattle.dnw_base.specs.Decoder.{Decoder, HasLeft, next_bytes, advanced}
-use Rattle.dnw_error.specs.declared.error.DecodeError.{DecodeError}
-use Rattle.dnw_error.specs.declared.error.DecodeError.TheVariants.{InsufficientBytes}
-use Rattle.dnw_codes.specs.declared.record_type.RecordType.{RecordType}
-use Rattle.dnw_codes.specs.declared.dns_class.DNSClass.{DNSClass}
-use Rattle.dnw_codes.specs.RecordTypes.{type_of_code}
-use Rattle.dnw_codes.specs.DnsClasses.{class_of_code}
+use Rattle.dnw_base.specs.declared.error.DecodeError.{DecodeError}
+use Rattle.dnw_base.specs.declared.error.DecodeError.TheVariants.{InsufficientBytes}
+use Rattle.dnw_base.specs.declared.record_type.RecordType.{RecordType}
+use Rattle.dnw_base.specs.declared.dns_class.DNSClass.{DNSClass}
+use Rattle.dnw_base.specs.RecordTypes.{type_of_code}
+use Rattle.dnw_base.specs.DnsClasses.{class_of_code}
 use Rattle.dnw_base.specs.Names.{NameValue}
-use Rattle.dnw_reading.specs.Reading.{TakesName, StopsAt}
+use Rattle.dnw_name_read.specs.Reading.{TakesName, StopsAt}
 
 abbrev pub TakesU16 : Decoder → ℕ → Decoder → Type 0
 TakesU16 before n after = HasLeft before 2 × (n ≡ from_be_bytes w16 (next_bytes before 2)) × (after ≡ advanced before 2)

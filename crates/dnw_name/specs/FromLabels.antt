@@ -2,11 +2,11 @@
 use Rattle.std.specs.Prelude.{◌≡◌, ℕ, ◌⊎◌, List, map, Some, Result, Err}
 use Rattle.std.specs.Iterator.{Drains, YieldsThen}
 use Rattle.std.specs.declared.option.Option.{Option}
-use Rattle.dnw_error.specs.declared.error.ProtoError.{ProtoError}
-use Rattle.dnw_error.specs.declared.error.ProtoError.TheVariants.{Memory}
-use Rattle.dnw_error.specs.Fault.{Fault, Follows, NeedsErrorText}
+use Rattle.dnw_base.specs.declared.error.ProtoError.{ProtoError}
+use Rattle.dnw_base.specs.declared.error.ProtoError.TheVariants.{Memory}
+use Rattle.dnw_base.specs.Fault.{Fault, Follows, NeedsErrorText}
 use Rattle.dnw_base.specs.Names.{NameValue}
-use Rattle.dnw_form.specs.Edits.{from_labels}
+use Rattle.dnw_name_form.specs.Edits.{from_labels}
 
 module _ {S L : Type 0} (next_gives : S → Option L → S → Type 0) (label_of : L → Result (List ℕ) Fault) (may_run_out : L → Type 0) where
   -- the iterator gave these items and ended, and the result is what their labels give

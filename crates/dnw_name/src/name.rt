@@ -5,30 +5,30 @@ ghost use Rattle.std.specs.List.{AllByRecursion};
 ghost use Rattle.std.specs.Option.{option_copied};
 ghost use Rattle.std.specs.Str.{chars};
 ghost use Rattle.dnw_base.specs.Limits.{max_labels, pointer_offsets};
-ghost use Rattle.dnw_error.specs.Fault.{Follows, NeedsErrorText};
+ghost use Rattle.dnw_base.specs.Fault.{Follows, NeedsErrorText};
 ghost use Rattle.dnw_base.specs.Decoder.{Decoder};
 ghost use Rattle.dnw_base.specs.Labels.{wildcard};
 ghost use Rattle.dnw_base.specs.Names.{NameValue, AreLabels, encoded_size, IsWildcard, lower, wire};
-ghost use Rattle.dnw_reading.specs.Reading.{TakesName, StopsAt};
-ghost use Rattle.dnw_form.specs.Inside.WireBytes.{labels_of, IsWire};
-ghost use Rattle.dnw_form.specs.Edits.{append_label, prepend_label, append_name, append_domain, base_name, trim_to, into_wildcard};
-ghost use Rattle.dnw_text.specs.NameText.{max_text, name_text, name_from_text, name_from_text_at, IsLabelText};
-ghost use Rattle.dnw_order.specs.Order.{IsLocalhost, IsZoneOfCase, IsZoneOf};
+ghost use Rattle.dnw_name_read.specs.Reading.{TakesName, StopsAt};
+ghost use Rattle.dnw_name_form.specs.Inside.WireBytes.{labels_of, IsWire};
+ghost use Rattle.dnw_name_form.specs.Edits.{append_label, prepend_label, append_name, append_domain, base_name, trim_to, into_wildcard};
+ghost use Rattle.dnw_name_ascii.specs.NameText.{max_text, name_text, name_from_text, name_from_text_at, IsLabelText};
+ghost use Rattle.dnw_name_order.specs.Order.{IsLocalhost, IsZoneOfCase, IsZoneOf};
 ghost use Rattle.dnw_name.specs.FromLabels.{JoinsItems};
 
 use crate::name::joining::Joining;
 use crate::name_ref::NameRef;
 use arrayvec::ArrayString;
 use dnw_base::decoder::BinDecoder;
+use dnw_base::error::{DecodeError, ProtoError, ProtoResult};
 use dnw_base::limits::MAX_NAME;
-use dnw_error::error::{DecodeError, ProtoError, ProtoResult};
-use dnw_form::form::WireForm;
-pub use dnw_form::label_iter::LabelIter;
-use dnw_form::wire_labels::WireLabels;
-use dnw_label::label::IntoLabel;
-use dnw_order::order;
-use dnw_reading::walk::ReadSteps;
-use dnw_text::text;
+use dnw_name_ascii::text;
+use dnw_name_form::form::WireForm;
+use dnw_name_form::label::IntoLabel;
+pub use dnw_name_form::label_iter::LabelIter;
+use dnw_name_form::wire_labels::WireLabels;
+use dnw_name_order::order;
+use dnw_name_read::walk::ReadSteps;
 use std::alloc::Global;
 use std::fmt;
 use std::marker::Model;
@@ -468,7 +468,7 @@ impl Name {
     /// label stands for itself as text, `from_ascii` gives the name back. It has at most 1004 bytes.
     ///
     /// It fails with `Memory`, but not for the relative name without labels, whose text is empty.
-    #[tactic(auto, using(dnw_text::proofs::ReadBack::read_back, dnw_text::proofs::TextSizes::texts_are_short))]
+    #[tactic(auto, using(dnw_name_ascii::proofs::ReadBack::read_back, dnw_name_ascii::proofs::TextSizes::texts_are_short))]
     pub fn to_ascii(&self, alloc: Global) -> ProtoResult<String>
         ensures ok { IfOk result (λ text. string_bytes text ≡ name_text self.now) }
         ensures reads_back { AllByRecursion IsLabelText self.now.labels → IfOk result (λ text. name_from_text (chars (string_bytes text)) ≡ Ok self.now) }

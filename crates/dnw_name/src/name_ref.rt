@@ -2,24 +2,24 @@
 ghost use Rattle.std.specs.Prelude.{◌≡◌, ℕ, List, ◌+◌, ◌<◌, ◌≤◌, ◌↔◌, true, min, [], length, Ok, IsTrue, IfOk, IfErr, IfSome, IfNone, OnErr, IsErrOf, IsOkAnd};
 ghost use Rattle.dnw_base.specs.Decoder.{Decoder};
 ghost use Rattle.dnw_base.specs.Limits.{max_labels, max_name, pointer_offsets};
-ghost use Rattle.dnw_reading.specs.Buffers.{put};
-ghost use Rattle.dnw_reading.specs.Reading.{TakesName, StopsAt};
+ghost use Rattle.dnw_name_read.specs.Buffers.{put};
+ghost use Rattle.dnw_name_read.specs.Reading.{TakesName, StopsAt};
 ghost use Rattle.dnw_base.specs.Names.{AreLabels, encoded_size, lower, wire};
-ghost use Rattle.dnw_reading.specs.Inside.Found.{labels_at};
-ghost use Rattle.dnw_form.specs.Inside.WireBytes.{labels_of, IsWire};
-ghost use Rattle.dnw_order.specs.Order.{labels_cmp, IsZoneOf};
+ghost use Rattle.dnw_name_read.specs.Inside.Found.{labels_at};
+ghost use Rattle.dnw_name_form.specs.Inside.WireBytes.{labels_of, IsWire};
+ghost use Rattle.dnw_name_order.specs.Order.{labels_cmp, IsZoneOf};
 
 use crate::name::Name;
 use dnw_base::decoder::BinDecoder;
+use dnw_base::error::{DecodeError, ProtoResult};
 use dnw_base::limits::MAX_NAME;
-use dnw_error::error::{DecodeError, ProtoResult};
-use dnw_form::form::WireForm;
-use dnw_form::octets::Octets;
-use dnw_form::wire_labels::WireLabels;
-use dnw_order::order;
-use dnw_reading::copy;
-use dnw_reading::ref_labels::RefLabels;
-use dnw_reading::walk::{self, ReadSteps};
+use dnw_name_form::form::WireForm;
+use dnw_name_form::octets::Octets;
+use dnw_name_form::wire_labels::WireLabels;
+use dnw_name_order::order;
+use dnw_name_read::copy;
+use dnw_name_read::ref_labels::RefLabels;
+use dnw_name_read::walk::{self, ReadSteps};
 use std::alloc::Global;
 use std::cmp::Ordering;
 use std::marker::Model;
@@ -40,8 +40,8 @@ pub struct NameRef<'a> {
 impl<'a> Model for NameRef<'a> {
     ghost use Rattle.std.specs.Prelude.{List, ℕ};
     ghost use Rattle.dnw_base.specs.Names.{AreLabels, encoded_size, lower, wire};
-    ghost use Rattle.dnw_order.specs.Order.{IsZoneOf};
-    ghost use Rattle.dnw_reading.specs.Inside.Found.{labels_at, LiesAt};
+    ghost use Rattle.dnw_name_order.specs.Order.{IsZoneOf};
+    ghost use Rattle.dnw_name_read.specs.Inside.Found.{labels_at, LiesAt};
 
     ghost Value = { List (List ℕ) };
 

@@ -1,11 +1,11 @@
 //! Sort keys of names, owned and in messages.
 ghost use Rattle.std.specs.Prelude.{◌≡◌, ◌≤◌, length};
-ghost use Rattle.dnw_order.specs.SortKeys.{max_sort_key, sort_key};
+ghost use Rattle.dnw_name_order.specs.SortKeys.{max_sort_key, sort_key};
 
 use crate::name::Name;
 use crate::name_ref::NameRef;
 use dnw_base::limits::MAX_NAME;
-use dnw_order::sort_key::{self, MAX_SORT_KEY_LENGTH};
+use dnw_name_order::sort_key::{self, MAX_SORT_KEY_LENGTH};
 
 impl Name {
     /// Puts the sort key of the name at the front of a buffer, and returns it. Keys compare as bytes as the names do in

@@ -3,11 +3,11 @@ use Rattle.std.proofs.Common.{◌≡◌, ℕ, ◌+◌, ◌-◌, ◌≤◌, max, 
 use Rattle.std.specs.Int.{w16, to_be_bytes}
 use Rattle.std.proofs.Math.Nat.{le-max_left, le-max_right, max-le}
 use Rattle.dnw_base.specs.Names.{NameValue}
-use Rattle.dnw_encoder.specs.Encoder.{Encoder, Writes, reserved}
-use Rattle.dnw_encoder.specs.EncoderLaws.{StaysBounded}
-use Rattle.dnw_encoder.specs.EmittedName.{EmitsName}
-use Rattle.dnw_encoder.proofs.Bounds.{fills_stay_bounded, places_stay_bounded, writes_stay_bounded}
-use Rattle.dnw_encoder.proofs.NameBack.{names_stay_bounded}
+use Rattle.dnw_write.specs.Encoder.{Encoder, Writes, reserved}
+use Rattle.dnw_write.specs.EncoderLaws.{StaysBounded}
+use Rattle.dnw_write.specs.EmittedName.{EmitsName}
+use Rattle.dnw_write.proofs.Bounds.{fills_stay_bounded, places_stay_bounded, writes_stay_bounded}
+use Rattle.dnw_write.proofs.NameBack.{names_stay_bounded}
 use Rattle.dnw_record.specs.declared.record.WireData.{WireData}
 use Rattle.dnw_record.specs.declared.record.WireData.TheVariants.{Bytes, Name}
 use Rattle.dnw_record.specs.Parts.{EmitsCounted, EmitsSized, EmitsWirePart, EmitsWireParts, Then, WirePart, Write, bytes_part, in_encoding, name_part, text_part}

@@ -7,14 +7,14 @@ use Rattle.std.proofs.lemmas.List.{append-nil, drop-append-le, drop_at, get_or-t
 use Rattle.std.proofs.lemmas.List.Elements.{All-append, All-cons, All-nil, All-take, All-weaker, Contains-append_right}
 use Rattle.dnw_base.specs.Limits.{pointer_reach}
 use Rattle.dnw_base.specs.Names.{encoded_size, labels_wire, wire}
-use Rattle.dnw_candidates.specs.Candidates.{Candidate, suffixes}
-use Rattle.dnw_candidates.proofs.CandidateLists.{kept_all, length-labels_wire}
-use Rattle.dnw_encoder.specs.declared.encoder.modes.NameEncoding.{NameEncoding}
-use Rattle.dnw_encoder.specs.declared.encoder.modes.NameEncoding.TheVariants.{Compressed, Uncompressed, UncompressedLowercase}
-use Rattle.dnw_encoder.specs.Encoder.{CandidatesPrecede, Encoder}
-use Rattle.dnw_encoder.specs.EmittedName.{Chooses, Share, compresses, emitted, form, in_mode, is_compressed, kept, newly_kept, pointer_to}
-use Rattle.dnw_encoder.proofs.Emission.{labels_wire-append, length-suffixes}
-use Rattle.dnw_encoder.proofs.Suffixes.{kept-some, length-all}
+use Rattle.dnw_write_suffixes.specs.Candidates.{Candidate, suffixes}
+use Rattle.dnw_write_suffixes.proofs.CandidateLists.{kept_all, length-labels_wire}
+use Rattle.dnw_write.specs.declared.encoder.modes.NameEncoding.{NameEncoding}
+use Rattle.dnw_write.specs.declared.encoder.modes.NameEncoding.TheVariants.{Compressed, Uncompressed, UncompressedLowercase}
+use Rattle.dnw_write.specs.Encoder.{CandidatesPrecede, Encoder}
+use Rattle.dnw_write.specs.EmittedName.{Chooses, Share, compresses, emitted, form, in_mode, is_compressed, kept, newly_kept, pointer_to}
+use Rattle.dnw_write.proofs.Emission.{labels_wire-append, length-suffixes}
+use Rattle.dnw_write.proofs.Suffixes.{kept-some, length-all}
 
 -- ---- labels and suffixes
 

@@ -3,19 +3,19 @@ use Rattle.std.proofs.Common.{◌≡◌, ℕ, ◌+◌, ◌-◌, ◌^◌, ◌<◌
 use Rattle.std.specs.Int.{w16, to_be_bytes}
 use Rattle.std.proofs.lemmas.List.{append-nil, drop_all, drop_at, length-append, take_all, take_at}
 use Rattle.std.proofs.lemmas.Nat.{from_be_bytes-to_be_bytes_2, from_be_bytes-to_be_bytes_4}
-use Rattle.dnw_codes.specs.RecordTypes.{type_code, type_of_code}
-use Rattle.dnw_codes.specs.DnsClasses.{class_code, class_of_code}
+use Rattle.dnw_base.specs.RecordTypes.{type_code, type_of_code}
+use Rattle.dnw_base.specs.DnsClasses.{class_code, class_of_code}
 use Rattle.dnw_base.specs.Limits.{max_message}
 use Rattle.dnw_base.specs.Names.{encoded_size, wire}
 use Rattle.dnw_base.proofs.Wires.{length-wire}
-use Rattle.dnw_reading.specs.Reading.{NameAt}
-use Rattle.dnw_reading.proofs.Back.{slice_range-middle}
-use Rattle.dnw_reading.proofs.Stand.{Reads-append}
-use Rattle.dnw_encoder.specs.Encoder.{Encoder, filled, reserved, written}
-use Rattle.dnw_encoder.specs.EmittedName.{Chooses, Share, emitted, form, in_mode, is_compressed}
-use Rattle.dnw_encoder.specs.EmittingLaws.{frame, frames-follow, take-all}
-use Rattle.dnw_encoder.specs.NameFrames.{frame-name}
-use Rattle.dnw_encoder.proofs.NameBack.{name_is_read}
+use Rattle.dnw_name_read.specs.Reading.{NameAt}
+use Rattle.dnw_name_read.proofs.Back.{slice_range-middle}
+use Rattle.dnw_name_read.proofs.Stand.{Reads-append}
+use Rattle.dnw_write.specs.Encoder.{Encoder, filled, reserved, written}
+use Rattle.dnw_write.specs.EmittedName.{Chooses, Share, emitted, form, in_mode, is_compressed}
+use Rattle.dnw_write.specs.EmittingLaws.{frame, frames-follow, take-all}
+use Rattle.dnw_write.specs.NameFrames.{frame-name}
+use Rattle.dnw_write.proofs.NameBack.{name_is_read}
 use Rattle.dnw_record.specs.declared.record.WireData.{WireData}
 use Rattle.dnw_record.specs.declared.record.WireData.TheVariants.{Bytes, Name}
 use Rattle.dnw_record.specs.Records.{RecordAt, class_field, fields_at, length_field, record_of, ttl_field, type_field}

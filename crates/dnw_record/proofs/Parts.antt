@@ -1,15 +1,15 @@
 -- How many bytes parts and records take, and why they are refused.
 use Rattle.std.proofs.Common.{◌≡◌, ℕ, ◌+◌, ◌<◌, ◌≤◌, List, [], ◌∷◌, ◌++◌, length, Option, Some, None, Ok, Err, inl, inr, refl, sym, ap, ◌∙◌, subst, arith}
-use Rattle.dnw_error.specs.declared.error.ProtoError.{ProtoError}
-use Rattle.dnw_error.specs.declared.error.ProtoError.TheVariants.{CharacterDataTooLong, MaxBufferSizeExceeded, Memory}
+use Rattle.dnw_base.specs.declared.error.ProtoError.{ProtoError}
+use Rattle.dnw_base.specs.declared.error.ProtoError.TheVariants.{CharacterDataTooLong, MaxBufferSizeExceeded, Memory}
 use Rattle.dnw_base.specs.Limits.{max_character_data}
 use Rattle.dnw_base.specs.Names.{AreLabels, NameValue, encoded_size}
-use Rattle.dnw_encoder.specs.Encoder.{Encoder, TakesRoom, Writes, reserved, written}
-use Rattle.dnw_encoder.specs.declared.encoder.modes.NameEncoding.{NameEncoding}
-use Rattle.dnw_encoder.specs.Emitting.{Outcome}
-use Rattle.dnw_encoder.specs.EmittedName.{Chooses, EmitsAs, EmitsName, Share, in_mode, room_for}
-use Rattle.dnw_encoder.proofs.NameBack.{names_take_no_more, pointers_save, size-in_mode}
-use Rattle.dnw_encoder.proofs.Suffixes.{length-all}
+use Rattle.dnw_write.specs.Encoder.{Encoder, TakesRoom, Writes, reserved, written}
+use Rattle.dnw_write.specs.declared.encoder.modes.NameEncoding.{NameEncoding}
+use Rattle.dnw_write.specs.Emitting.{Outcome}
+use Rattle.dnw_write.specs.EmittedName.{Chooses, EmitsAs, EmitsName, Share, in_mode, room_for}
+use Rattle.dnw_write.proofs.NameBack.{names_take_no_more, pointers_save, size-in_mode}
+use Rattle.dnw_write.proofs.Suffixes.{length-all}
 use Rattle.dnw_base.proofs.Wires.{length-wire}
 use Rattle.dnw_record.specs.declared.record.WireRecord.{WireRecord}
 use Rattle.dnw_record.specs.declared.record.WireData.{WireData}

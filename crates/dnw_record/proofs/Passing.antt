@@ -1,19 +1,19 @@
 -- Records of messages that are passed on: they keep what records keep, and are read back.
 use Rattle.std.proofs.Common.{◌≡◌, ℕ, ◌+◌, ◌-◌, ◌≤◌, List, [], ◌++◌, length, slice_range, Ok, Err, inl, inr, refl, sym, ap, ◌∙◌, subst, append_assoc, arith}
 use Rattle.std.proofs.lemmas.List.{append-nil, length-append}
-use Rattle.dnw_error.specs.declared.error.ProtoError.{ProtoError}
-use Rattle.dnw_codes.specs.RecordTypes.{type_code}
-use Rattle.dnw_codes.specs.DnsClasses.{class_code}
-use Rattle.dnw_reading.specs.Reading.{NameAt}
-use Rattle.dnw_reading.proofs.Back.{slice_range-middle}
-use Rattle.dnw_reading.proofs.Stand.{Reads-append}
-use Rattle.dnw_encoder.specs.Encoder.{CandidatesPrecede, Encoder, Writes, written}
-use Rattle.dnw_encoder.specs.EmittedName.{EmitsName, in_mode}
-use Rattle.dnw_encoder.specs.EmittingLaws.{frame}
-use Rattle.dnw_encoder.specs.NameFrames.{frame-name}
-use Rattle.dnw_encoder.specs.Marks.{mark_of}
-use Rattle.dnw_encoder.proofs.NameBack.{name_is_read}
-use Rattle.dnw_encoder.proofs.Preceding.{names_precede, rewinding_undoes, rewinds_precede, writes_precede}
+use Rattle.dnw_base.specs.declared.error.ProtoError.{ProtoError}
+use Rattle.dnw_base.specs.RecordTypes.{type_code}
+use Rattle.dnw_base.specs.DnsClasses.{class_code}
+use Rattle.dnw_name_read.specs.Reading.{NameAt}
+use Rattle.dnw_name_read.proofs.Back.{slice_range-middle}
+use Rattle.dnw_name_read.proofs.Stand.{Reads-append}
+use Rattle.dnw_write.specs.Encoder.{CandidatesPrecede, Encoder, Writes, written}
+use Rattle.dnw_write.specs.EmittedName.{EmitsName, in_mode}
+use Rattle.dnw_write.specs.EmittingLaws.{frame}
+use Rattle.dnw_write.specs.NameFrames.{frame-name}
+use Rattle.dnw_write.specs.Marks.{mark_of}
+use Rattle.dnw_write.proofs.NameBack.{name_is_read}
+use Rattle.dnw_write.proofs.Preceding.{names_precede, rewinding_undoes, rewinds_precede, writes_precede}
 use Rattle.dnw_record.specs.Parts.{Then, Write}
 use Rattle.dnw_record.specs.Records.{RecordValue, data_octets, fields_at, length_field, record_of}
 use Rattle.dnw_record.specs.PassedRecords.{PassesFields, fixed_octets, owner_name}

@@ -1,10 +1,10 @@
 -- Parts and records keep every candidate before the offset.
 use Rattle.std.proofs.Common.{[], ◌∷◌, Ok, Err, inl, inr, sym, ◌∙◌, subst}
-use Rattle.dnw_encoder.specs.Encoder.{CandidatesPrecede, Writes, reserved}
-use Rattle.dnw_encoder.specs.EmittedName.{EmitsName}
-use Rattle.dnw_encoder.specs.Marks.{mark_of}
-use Rattle.dnw_encoder.specs.CandidateLaws.{KeepsPreceding}
-use Rattle.dnw_encoder.proofs.Preceding.{names_precede, places_precede, rewinding_undoes, rewinds_precede, texts_precede, writes_precede}
+use Rattle.dnw_write.specs.Encoder.{CandidatesPrecede, Writes, reserved}
+use Rattle.dnw_write.specs.EmittedName.{EmitsName}
+use Rattle.dnw_write.specs.Marks.{mark_of}
+use Rattle.dnw_write.specs.CandidateLaws.{KeepsPreceding}
+use Rattle.dnw_write.proofs.Preceding.{names_precede, places_precede, rewinding_undoes, rewinds_precede, texts_precede, writes_precede}
 use Rattle.dnw_record.specs.declared.record.WireRecord.{WireRecord}
 use Rattle.dnw_record.specs.declared.record.WireData.TheVariants.{Bytes, Name}
 use Rattle.dnw_record.specs.Parts.{EmitsSized, EmitsWireParts, Then, Write, bytes_part, in_encoding, name_part, text_part}

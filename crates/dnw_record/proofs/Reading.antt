@@ -4,11 +4,11 @@ use Rattle.std.specs.Prelude.{⊤}
 use Rattle.dnw_base.specs.Decoder.{Decoder, Takes}
 use Rattle.dnw_base.proofs.DecoderReads.{Takes-enough}
 use Rattle.dnw_base.specs.Names.{NameValue}
-use Rattle.dnw_error.specs.declared.error.DecodeError.{DecodeError}
-use Rattle.dnw_error.specs.declared.error.DecodeError.TheVariants.{IncorrectRDataLengthRead}
-use Rattle.dnw_reading.specs.Reading.{NameAt, FaultAt, StopsAt, TakesName}
-use Rattle.dnw_reading.proofs.Counts.{Reads-own}
-use Rattle.dnw_reading.proofs.Unique.{Reads-unique, Stops-unique, Reads-not-Stops}
+use Rattle.dnw_base.specs.declared.error.DecodeError.{DecodeError}
+use Rattle.dnw_base.specs.declared.error.DecodeError.TheVariants.{IncorrectRDataLengthRead}
+use Rattle.dnw_name_read.specs.Reading.{NameAt, FaultAt, StopsAt, TakesName}
+use Rattle.dnw_name_read.proofs.Counts.{Reads-own}
+use Rattle.dnw_name_read.proofs.Unique.{Reads-unique, Stops-unique, Reads-not-Stops}
 use Rattle.dnw_record.specs.Records.{RecordValue, RecordAt, TakesRecord, FailsRecord, LacksRecord, HasRest, HasDataName, FailsDataName, record_of}
 
 -- a decoder that skips to an index of a message is there

@@ -2,10 +2,10 @@
 use Rattle.std.specs.Prelude.{◌≡◌, ℕ, suc, ◌+◌, ◌-◌, List, [], ◌∷◌, length, Ok, Err, ◌⊎◌}
 use Rattle.std.specs.Int.{w16, to_be_bytes}
 use Rattle.dnw_base.specs.Names.{NameValue, encoded_size}
-use Rattle.dnw_encoder.specs.declared.encoder.modes.NameEncoding.{NameEncoding}
-use Rattle.dnw_encoder.specs.Encoder.{Encoder, HasRoom, TakesRoom, Writes, WritesText, filled, reserved}
-use Rattle.dnw_encoder.specs.Emitting.{Outcome, Emits}
-use Rattle.dnw_encoder.specs.EmittedName.{EmitsName}
+use Rattle.dnw_write.specs.declared.encoder.modes.NameEncoding.{NameEncoding}
+use Rattle.dnw_write.specs.Encoder.{Encoder, HasRoom, TakesRoom, Writes, WritesText, filled, reserved}
+use Rattle.dnw_write.specs.Emitting.{Outcome, Emits}
+use Rattle.dnw_write.specs.EmittedName.{EmitsName}
 
 -- A part of a message: a name in a mode, bytes, or character data.
 pub data WirePart : Type 0 where

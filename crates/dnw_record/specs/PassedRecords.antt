@@ -3,13 +3,13 @@
 -- have no pointers (RFC 3597, section 4), which would lead into the message that they came from.
 use Rattle.std.specs.Prelude.{◌≡◌, ℕ, ◌<◌, ◌^◌, true, List, ◌++◌, length, Ok, Err}
 use Rattle.std.specs.Int.{w16, w32, to_be_bytes}
-use Rattle.dnw_codes.specs.RecordTypes.{type_code}
-use Rattle.dnw_codes.specs.DnsClasses.{class_code}
+use Rattle.dnw_base.specs.RecordTypes.{type_code}
+use Rattle.dnw_base.specs.DnsClasses.{class_code}
 use Rattle.dnw_base.specs.Names.{NameValue}
-use Rattle.dnw_encoder.specs.Encoder.{Encoder, Writes}
-use Rattle.dnw_encoder.specs.Emitting.{Emits}
-use Rattle.dnw_encoder.specs.EmittedName.{EmitsName}
-use Rattle.dnw_encoder.specs.Marks.{mark_of, rewound}
+use Rattle.dnw_write.specs.Encoder.{Encoder, Writes}
+use Rattle.dnw_write.specs.Emitting.{Emits}
+use Rattle.dnw_write.specs.EmittedName.{EmitsName}
+use Rattle.dnw_write.specs.Marks.{mark_of, rewound}
 use Rattle.dnw_record.specs.Parts.{Then}
 use Rattle.dnw_record.specs.Records.{RecordValue, data_octets}
 

@@ -1,6 +1,6 @@
 -- The fields of the data of a record in a message.
 use Rattle.std.specs.Prelude.{◌+◌, slice_range}
-use Rattle.dnw_codes.specs.RecordTypes.{type_code}
+use Rattle.dnw_base.specs.RecordTypes.{type_code}
 use Rattle.dnw_data.specs.Table.{fields_of}
 use Rattle.dnw_data.specs.Walks.{FieldsLeft, fields_at}
 use Rattle.dnw_record.specs.Records.{RecordValue}

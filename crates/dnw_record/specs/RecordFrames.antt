@@ -2,15 +2,15 @@
 use Rattle.std.proofs.Common.{◌≡◌, ℕ, ◌+◌, ◌-◌, ◌≤◌, List, ◌++◌, length, take, drop, replicate, Ok, Err, inl, inr, refl, sym, ap, ◌∙◌, subst, arith}
 use Rattle.std.specs.Int.{w16, to_be_bytes}
 use Rattle.std.proofs.lemmas.List.{length-append, length-take, length-replicate, length-drop, length-take-le, take-append-le, take-take}
-use Rattle.dnw_error.specs.declared.error.ProtoError.{ProtoError}
-use Rattle.dnw_error.specs.declared.error.ProtoError.TheVariants.{MaxBufferSizeExceeded, Memory}
-use Rattle.dnw_encoder.specs.declared.encoder.modes.NameEncoding.{NameEncoding}
-use Rattle.dnw_encoder.specs.Encoder.{Encoder, TakesRoom, Writes, filled, mode_of_rdata, reserved}
-use Rattle.dnw_encoder.specs.Emitting.{Outcome, Frame}
-use Rattle.dnw_encoder.specs.EmittingLaws.{candidates_before-twice, frame, frame-moved, frame-same, frame-text, frames-follow, take-all}
-use Rattle.dnw_encoder.specs.EmittedName.{EmitsName}
-use Rattle.dnw_encoder.specs.NameFrames.{frame-name}
-use Rattle.dnw_encoder.specs.Marks.{mark_of, rewound}
+use Rattle.dnw_base.specs.declared.error.ProtoError.{ProtoError}
+use Rattle.dnw_base.specs.declared.error.ProtoError.TheVariants.{MaxBufferSizeExceeded, Memory}
+use Rattle.dnw_write.specs.declared.encoder.modes.NameEncoding.{NameEncoding}
+use Rattle.dnw_write.specs.Encoder.{Encoder, TakesRoom, Writes, filled, mode_of_rdata, reserved}
+use Rattle.dnw_write.specs.Emitting.{Outcome, Frame}
+use Rattle.dnw_write.specs.EmittingLaws.{candidates_before-twice, frame, frame-moved, frame-same, frame-text, frames-follow, take-all}
+use Rattle.dnw_write.specs.EmittedName.{EmitsName}
+use Rattle.dnw_write.specs.NameFrames.{frame-name}
+use Rattle.dnw_write.specs.Marks.{mark_of, rewound}
 use Rattle.dnw_record.specs.declared.record.WireRecord.{WireRecord}
 use Rattle.dnw_record.specs.declared.record.WireData.{WireData}
 use Rattle.dnw_record.specs.declared.record.WireData.TheVariants.{Bytes, Name}

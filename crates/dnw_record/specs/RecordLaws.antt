@@ -1,18 +1,18 @@
 -- What follows from the definitions of records. Each is the clause of a public function, and so proved.
 use Rattle.std.specs.Prelude.{◌≡◌, ℕ, ◌+◌, ◌-◌, ◌<◌, ◌≤◌, List, ◌++◌, length, slice_range, Ok, Err, ◌⊎◌}
 use Rattle.std.specs.Int.{w16, w32, to_be_bytes}
-use Rattle.dnw_error.specs.declared.error.ProtoError.{ProtoError}
-use Rattle.dnw_error.specs.declared.error.ProtoError.TheVariants.{MaxBufferSizeExceeded, Memory}
-use Rattle.dnw_codes.specs.RecordTypes.{type_code, type_of_code}
-use Rattle.dnw_codes.specs.DnsClasses.{class_code, class_of_code}
+use Rattle.dnw_base.specs.declared.error.ProtoError.{ProtoError}
+use Rattle.dnw_base.specs.declared.error.ProtoError.TheVariants.{MaxBufferSizeExceeded, Memory}
+use Rattle.dnw_base.specs.RecordTypes.{type_code, type_of_code}
+use Rattle.dnw_base.specs.DnsClasses.{class_code, class_of_code}
 use Rattle.dnw_base.specs.Limits.{max_message}
 use Rattle.dnw_base.specs.Names.{encoded_size}
-use Rattle.dnw_reading.specs.Reading.{NameAt}
-use Rattle.dnw_encoder.specs.declared.encoder.modes.NameEncoding.{NameEncoding}
-use Rattle.dnw_encoder.specs.EmittedName.{in_mode}
-use Rattle.dnw_encoder.specs.Encoder.{CandidatesPrecede, Encoder}
-use Rattle.dnw_encoder.specs.EncoderLaws.{StaysBounded}
-use Rattle.dnw_encoder.specs.CandidateLaws.{KeepsPreceding}
+use Rattle.dnw_name_read.specs.Reading.{NameAt}
+use Rattle.dnw_write.specs.declared.encoder.modes.NameEncoding.{NameEncoding}
+use Rattle.dnw_write.specs.EmittedName.{in_mode}
+use Rattle.dnw_write.specs.Encoder.{CandidatesPrecede, Encoder}
+use Rattle.dnw_write.specs.EncoderLaws.{StaysBounded}
+use Rattle.dnw_write.specs.CandidateLaws.{KeepsPreceding}
 use Rattle.dnw_record.specs.declared.record.WireRecord.{WireRecord}
 use Rattle.dnw_record.specs.declared.record.WireData.{WireData}
 use Rattle.dnw_record.specs.declared.record.WireData.TheVariants.{Bytes, Name}

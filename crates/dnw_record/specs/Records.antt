@@ -2,15 +2,15 @@
 -- four of the time to live, two of the length of the data, and the data.
 use Rattle.std.specs.Prelude.{◌≡◌, ◌≢◌, ℕ, ◌+◌, ◌-◌, ◌≤◌, true, List, length, slice_range, ◌⊎◌}
 use Rattle.std.specs.Int.{w16, w32, from_be_bytes}
-use Rattle.dnw_error.specs.declared.error.DecodeError.{DecodeError}
-use Rattle.dnw_error.specs.declared.error.DecodeError.TheVariants.{IncorrectRDataLengthRead, InsufficientBytes}
-use Rattle.dnw_codes.specs.declared.record_type.RecordType.{RecordType}
-use Rattle.dnw_codes.specs.declared.dns_class.DNSClass.{DNSClass}
-use Rattle.dnw_codes.specs.RecordTypes.{type_of_code}
-use Rattle.dnw_codes.specs.DnsClasses.{class_of_code}
+use Rattle.dnw_base.specs.declared.error.DecodeError.{DecodeError}
+use Rattle.dnw_base.specs.declared.error.DecodeError.TheVariants.{IncorrectRDataLengthRead, InsufficientBytes}
+use Rattle.dnw_base.specs.declared.record_type.RecordType.{RecordType}
+use Rattle.dnw_base.specs.declared.dns_class.DNSClass.{DNSClass}
+use Rattle.dnw_base.specs.RecordTypes.{type_of_code}
+use Rattle.dnw_base.specs.DnsClasses.{class_of_code}
 use Rattle.dnw_base.specs.Decoder.{Decoder}
 use Rattle.dnw_base.specs.Names.{NameValue}
-use Rattle.dnw_reading.specs.Reading.{NameAt, FaultAt}
+use Rattle.dnw_name_read.specs.Reading.{NameAt, FaultAt}
 use Rattle.dnw_name.specs.Decodable.{StopsSomehow}
 
 -- A record of a message: the labels of its owner, its type, class and time to live, and where its data are, and how many

@@ -1,15 +1,15 @@
 -- How a record is written (RFC 1035, section 4.1.3): its fields in turn, and the length once the data are written.
 use Rattle.std.specs.Prelude.{◌≡◌, ℕ, ◌<◌, ◌^◌, Bool, List, ◌++◌, Ok, Err}
 use Rattle.std.specs.Int.{w16, w32, to_be_bytes}
-use Rattle.dnw_codes.specs.RecordTypes.{type_code}
-use Rattle.dnw_codes.specs.DnsClasses.{class_code}
+use Rattle.dnw_base.specs.RecordTypes.{type_code}
+use Rattle.dnw_base.specs.DnsClasses.{class_code}
 use Rattle.dnw_base.specs.Names.{NameValue}
-use Rattle.dnw_encoder.specs.declared.encoder.modes.NameEncoding.{NameEncoding}
-use Rattle.dnw_encoder.specs.declared.encoder.modes.RDataEncoding.{RDataEncoding}
-use Rattle.dnw_encoder.specs.Encoder.{Encoder, Writes, mode_of_rdata}
-use Rattle.dnw_encoder.specs.Emitting.{Outcome, Emits}
-use Rattle.dnw_encoder.specs.EmittedName.{EmitsName}
-use Rattle.dnw_encoder.specs.Marks.{mark_of, rewound}
+use Rattle.dnw_write.specs.declared.encoder.modes.NameEncoding.{NameEncoding}
+use Rattle.dnw_write.specs.declared.encoder.modes.RDataEncoding.{RDataEncoding}
+use Rattle.dnw_write.specs.Encoder.{Encoder, Writes, mode_of_rdata}
+use Rattle.dnw_write.specs.Emitting.{Outcome, Emits}
+use Rattle.dnw_write.specs.EmittedName.{EmitsName}
+use Rattle.dnw_write.specs.Marks.{mark_of, rewound}
 use Rattle.dnw_record.specs.Parts.{EmitsSized, Then, WirePart, bytes_part, name_part, in_encoding}
 use Rattle.dnw_record.specs.declared.record.WireRecord.{WireRecord}
 use Rattle.dnw_record.specs.declared.record.WireData.{WireData}

@@ -1,8 +1,8 @@
 //! Resource records (RFC 1035, sections 3.2.1 and 4.1.3): `WireRecord` is written, `RecordRef` is read.
-use dnw_codes::dns_class::DNSClass;
-use dnw_codes::record_type::RecordType;
-use dnw_encoder::encoder::RDataEncoding;
+use dnw_base::dns_class::DNSClass;
+use dnw_base::record_type::RecordType;
 use dnw_name::name::Name;
+use dnw_write::encoder::RDataEncoding;
 
 pub mod laws;
 mod passing;

@@ -115,8 +115,13 @@ fn a_refused_record_leaves_nothing(rt: HostRuntime) -> Result<(), Fail> {
     // With two names to be compressed, the second record shares its owner only if the first one is not counted.
     for names in [NAME_LIMIT, 2] {
         let mut bytes = Vec::new(alloc);
-        let replies =
-            script::run_limited(alloc, &mut bytes, steps.as_slice(), CANDIDATE_LIMIT, names)?;
+        let replies = script::run_limited(
+            alloc,
+            &mut bytes,
+            steps.as_slice(),
+            CANDIDATE_LIMIT,
+            names,
+        )?;
         assert_eq!(rt; replies.len(), 5);
         assert!(rt; are_done(&replies.as_slice()[..2], &[3, 3]));
         assert!(rt;

@@ -80,42 +80,24 @@ fn run_label_edits<W: Write>(
     out: &mut W,
 ) -> io::Result<()> {
     let bytes = b"mail".as_slice();
-    let Ok(label) = Label::from_raw_bytes(alloc, bytes) else {
+    let (Ok(label), Ok(given)) = (
+        Label::from_raw_bytes(alloc, bytes),
+        Label::from_raw_bytes(alloc, bytes),
+    ) else {
         return writeln!(out, "no label");
     };
-    show(
-        out,
-        "append_label of bytes",
-        other.clone().and_then(|it| it.append_label(alloc, bytes)),
-    )?;
-    show(
-        out,
-        "append_label of a &Label",
-        other.clone().and_then(|it| it.append_label(alloc, &label)),
-    )?;
-    show(
-        out,
-        "append_label of a Label",
-        match label.clone() {
-            Ok(label) => other.clone().and_then(|it| it.append_label(alloc, label)),
-            Err(error) => Err(error),
-        },
-    )?;
-    show(
-        out,
-        "prepend_label of bytes",
-        name.prepend_label(alloc, bytes),
-    )?;
-    show(
-        out,
-        "prepend_label of a &Label",
-        name.prepend_label(alloc, &label),
-    )?;
-    show(
-        out,
-        "prepend_label of a Label",
-        name.prepend_label(alloc, label),
-    )
+    let longer = other.clone().and_then(|it| it.append_label(alloc, bytes));
+    show(out, "append_label of bytes", longer)?;
+    let longer = other.clone().and_then(|it| it.append_label(alloc, &label));
+    show(out, "append_label of a &Label", longer)?;
+    let longer = other.clone().and_then(|it| it.append_label(alloc, given));
+    show(out, "append_label of a Label", longer)?;
+    let longer = name.prepend_label(alloc, bytes);
+    show(out, "prepend_label of bytes", longer)?;
+    let longer = name.prepend_label(alloc, &label);
+    show(out, "prepend_label of a &Label", longer)?;
+    let longer = name.prepend_label(alloc, label);
+    show(out, "prepend_label of a Label", longer)
 }
 
 /// Shows what copies and edits of `Www.Example.Com.` as a `LowerName` return.

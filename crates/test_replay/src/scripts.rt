@@ -45,6 +45,17 @@ fn run(alloc: Global, kind: &str, words: &str) -> ProtoResult<String> {
         buffer.bytes.as_slice(),
     );
     let names = read_back(alloc, message, start, steps, replies)?;
+    shown(alloc, kind, replies, message, names.as_str())
+}
+
+/// Returns what a kind of request is about: the replies, the message and its names, or some of them.
+fn shown(
+    alloc: Global,
+    kind: &str,
+    replies: &[Reply],
+    message: &[u8],
+    names: &str,
+) -> ProtoResult<String> {
     let last = message
         .get(message.len().saturating_sub(2)..)
         .unwrap_or(message);

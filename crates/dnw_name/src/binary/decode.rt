@@ -1,22 +1,22 @@
 //! Types that can be read from a message.
 ghost use Rattle.std.specs.Prelude.{◌≡◌, ℕ, ℤ, IfOk, IfErr, OnErr, IsErrOf, IsOkAnd};
 ghost use Rattle.dnw_base.specs.Decoder.{Decoder};
-ghost use Rattle.dnw_error.specs.declared.error.DecodeError.{DecodeError};
+ghost use Rattle.dnw_base.specs.declared.error.DecodeError.{DecodeError};
 ghost use Rattle.dnw_name.specs.Decodable.{TakesU16, TakesU32, TakesI32, TakesType, TakesClass, LacksBytes, TakesNameValue, StopsSomehow};
 
 use crate::name::Name;
 use dnw_base::decoder::BinDecoder;
+use dnw_base::dns_class::DNSClass;
+use dnw_base::error::DecodeError;
+use dnw_base::record_type::RecordType;
 use dnw_base::restrict::Restrict;
-use dnw_codes::dns_class::DNSClass;
-use dnw_codes::record_type::RecordType;
-use dnw_error::error::DecodeError;
 use std::alloc::Global;
 
 /// Types that can be read from a message. Each says which octets are one of its values, so generic callers know what
 /// they read.
 pub trait BinDecodable<'r>: Sized {
     ghost use Rattle.dnw_base.specs.Decoder.{Decoder};
-    ghost use Rattle.dnw_error.specs.declared.error.DecodeError.{DecodeError};
+    ghost use Rattle.dnw_base.specs.declared.error.DecodeError.{DecodeError};
 
     // The decoder is at this value, and after it afterwards.
     ghost stands: { Decoder → Self → Decoder → Type 0 };

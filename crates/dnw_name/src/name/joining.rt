@@ -1,13 +1,13 @@
 //! Labels that are joined into a name one after another.
 ghost use Rattle.std.specs.Prelude.{◌≡◌, ℕ, ◌+◌, ◌^◌, ◌<◌, ◌↔◌, List, [], ◌∷◌, ◌++◌, Result, Ok, OnOk, IfOk, IfErr, IsErr, IsTrue, MatchOption};
-ghost use Rattle.dnw_error.specs.Fault.{Fault, Follows, NeedsErrorText};
-ghost use Rattle.dnw_form.specs.Edits.{joined};
+ghost use Rattle.dnw_base.specs.Fault.{Fault, Follows, NeedsErrorText};
+ghost use Rattle.dnw_name_form.specs.Edits.{joined};
 ghost use Rattle.dnw_name.specs.Inside.Joined.{HasJoined};
 
+use dnw_base::error::{DecodeError, ProtoError, ProtoResult};
 use dnw_base::limits::MAX_NAME;
-use dnw_error::error::{DecodeError, ProtoError, ProtoResult};
-use dnw_form::form::WireForm;
-use dnw_label::label::{IntoLabel, Label};
+use dnw_name_form::form::WireForm;
+use dnw_name_form::label::{IntoLabel, Label};
 use std::alloc::Global;
 
 /// Labels that are joined into a name one after another.

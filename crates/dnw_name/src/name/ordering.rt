@@ -3,11 +3,11 @@ ghost use Rattle.std.specs.Prelude.{◌≡◌, ◌↔◌, IsTrue, refl};
 ghost use Rattle.std.specs.Cmp.{partial_equiv_from_equiv};
 ghost use Rattle.std.specs.Ordering.{as_partial_cmp};
 ghost use Rattle.dnw_base.specs.Names.{lower};
-ghost use Rattle.dnw_order.specs.Order.{name_cmp, name_cmp_case, name_eq, name_hash_input};
-ghost use Rattle.dnw_order.specs.OrderLaws.{name_cmp_total, name_eq_equiv, name_ties, name_order, name_hash_alike};
+ghost use Rattle.dnw_name_order.specs.Order.{name_cmp, name_cmp_case, name_eq, name_hash_input};
+ghost use Rattle.dnw_name_order.specs.OrderLaws.{name_cmp_total, name_eq_equiv, name_ties, name_order, name_hash_alike};
 
 use crate::name::Name;
-use dnw_order::order;
+use dnw_name_order::order;
 use std::cmp::Ordering;
 use std::hash::{Hash, Hasher};
 

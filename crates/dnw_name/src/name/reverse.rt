@@ -1,14 +1,14 @@
 //! Reverse names.
 ghost use Rattle.std.specs.Prelude.{◌≡◌, Ok};
 ghost use Rattle.std.specs.declared.net.ip_addr.IpAddr.TheVariants.{V4, V6};
-ghost use Rattle.dnw_reverse.specs.Arpa.{arpa_prefix, reverse_name};
-ghost use Rattle.dnw_reverse.specs.ArpaNets.{ReadsNet};
+ghost use Rattle.dnw_name_arpa.specs.Arpa.{arpa_prefix, reverse_name};
+ghost use Rattle.dnw_name_arpa.specs.ArpaNets.{ReadsNet};
 
 use crate::name::Name;
-use dnw_error::error::{ProtoError, ProtoResult};
-use dnw_reverse::net::IpNet;
-use dnw_reverse::reading::read_net;
-use dnw_reverse::writing::{ipv4_form, ipv6_form};
+use dnw_base::error::{ProtoError, ProtoResult};
+use dnw_name_arpa::net::IpNet;
+use dnw_name_arpa::reading::read_net;
+use dnw_name_arpa::writing::{ipv4_form, ipv6_form};
 use std::alloc::Global;
 use std::net::{IpAddr, Ipv4Addr, Ipv6Addr};
 

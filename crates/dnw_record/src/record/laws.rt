@@ -14,7 +14,7 @@ pub fn refused_records_undo()
 {}
 
 /// Parts, data, records and those that are passed on keep every candidate before the offset, whether they are written or refused; see
-/// `dnw_encoder::encoder::laws::candidates_precede` for a new encoder and other writes.
+/// `dnw_write::encoder::laws::candidates_precede` for a new encoder and other writes.
 pub fn candidates_precede()
     ensures part { PartPrecedes }
     ensures parts { PartsPrecede }

@@ -1,13 +1,13 @@
 //! Records of a message are passed on into another one.
 ghost use Rattle.std.specs.Prelude.{◌≡◌, OnOk};
-ghost use Rattle.dnw_encoder.specs.EncoderValue.{value, lender};
+ghost use Rattle.dnw_write.specs.EncoderValue.{value, lender};
 ghost use Rattle.dnw_record.specs.PassedRecords.{FieldsFit, IsSound, PassesFields, PassesRecord, fixed_octets};
 ghost use Rattle.dnw_record.specs.RecordFrames.{frame-passed};
 
 use super::RecordRef;
-use dnw_encoder::binary::BinEncodable;
-use dnw_encoder::encoder::BinEncoder;
-use dnw_error::error::ProtoResult;
+use dnw_base::error::ProtoResult;
+use dnw_write::binary::BinEncodable;
+use dnw_write::encoder::BinEncoder;
 
 /// A record of a message is passed on without a copy: its owner is written as a name, in the encoder's mode, and its data
 /// as the octets that they are. As a `WireRecord` it is written whole or not at all.

@@ -1,6 +1,6 @@
 //! Records in a message, which are read without copying.
 ghost use Rattle.std.specs.Prelude.{◌≡◌, ℕ, ◌+◌, List, length, true, IfOk, IfErr, OnErr, IsErrOf, IsOkAnd, slice_range};
-ghost use Rattle.dnw_error.specs.declared.error.DecodeError.{DecodeError};
+ghost use Rattle.dnw_base.specs.declared.error.DecodeError.{DecodeError};
 ghost use Rattle.dnw_base.specs.Decoder.{Decoder};
 ghost use Rattle.dnw_base.specs.Names.{NameValue};
 ghost use Rattle.dnw_record.specs.Records.{RecordValue, TakesRecord, FailsRecord, HasDataName, FailsDataName, data_octets, fixed_size};
@@ -8,10 +8,10 @@ ghost use Rattle.dnw_record.specs.RecordFields.{record_fields};
 ghost use Rattle.dnw_record.specs.FixedFields.{FieldsOf};
 
 use dnw_base::decoder::BinDecoder;
-use dnw_codes::dns_class::DNSClass;
-use dnw_codes::record_type::RecordType;
+use dnw_base::dns_class::DNSClass;
+use dnw_base::error::DecodeError;
+use dnw_base::record_type::RecordType;
 use dnw_data::fields::Fields;
-use dnw_error::error::DecodeError;
 use dnw_name::binary::BinDecodable;
 use dnw_name::name::Name;
 use dnw_name::name_ref::NameRef;

@@ -1,16 +1,16 @@
 //! Records are written.
 ghost use Rattle.std.specs.Prelude.{◌≡◌, OnOk};
-ghost use Rattle.dnw_encoder.specs.Encoder.{mode_of_rdata};
-ghost use Rattle.dnw_encoder.specs.EncoderValue.{value, lender};
+ghost use Rattle.dnw_write.specs.Encoder.{mode_of_rdata};
+ghost use Rattle.dnw_write.specs.EncoderValue.{value, lender};
 ghost use Rattle.dnw_record.specs.WrittenRecords.{EmitsData, EmitsDataName, EmitsFields, EmitsRecord, NumbersFit, type_class_ttl};
 ghost use Rattle.dnw_record.specs.Parts.{EmitsSized};
 ghost use Rattle.dnw_record.specs.RecordFrames.{frame-data, frame-record};
 
 use super::{WireData, WireRecord};
-use dnw_encoder::binary::BinEncodable;
-use dnw_encoder::encoder::{BinEncoder, RDataEncoding};
-use dnw_error::error::ProtoResult;
+use dnw_base::error::ProtoResult;
 use dnw_name::name::Name;
+use dnw_write::binary::BinEncodable;
+use dnw_write::encoder::{BinEncoder, RDataEncoding};
 
 impl BinEncodable for WireData {
     ghost emits = { EmitsData };

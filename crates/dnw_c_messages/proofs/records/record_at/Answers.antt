@@ -1,6 +1,6 @@
 use Rattle.std.proofs.Common.{inl}
 use Rattle.std.proofs.lemmas.Result.{err_from_is_err_and}
-use Rattle.dnw_failure.proofs.Starts.{skipped_past}
+use Rattle.dnw_c_base.proofs.Starts.{skipped_past}
 use Rattle.dnw_c_messages.proofs.records.record_at.Goals as goal
 
 pub returns-in_err-skip-clause-err : goal.returns-in_err-skip-clause-err

@@ -1,8 +1,8 @@
 use Rattle.std.proofs.Common.{ap, arith, length}
 use Rattle.std.proofs.lemmas.List.{length-map}
 use Rattle.std.proofs.lemmas.Result.{IfErr-weaker}
-use Rattle.dnw_codes.specs.RecordTypes.{type_code}
-use Rattle.dnw_sets.proofs.Few.{bitmaps_list_few}
+use Rattle.dnw_base.specs.RecordTypes.{type_code}
+use Rattle.dnw_data.proofs.Few.{bitmaps_list_few}
 use Rattle.dnw_c_messages.proofs.type_sets.read.Goals as goal
 
 pub returns-clause-room : goal.returns-clause-room

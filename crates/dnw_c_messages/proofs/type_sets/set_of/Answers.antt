@@ -1,7 +1,7 @@
 use Rattle.std.proofs.Common.{◌≡◌, List, length, subst, ◌∙◌, arith}
 use Rattle.std.specs.Vec.Iter.{into_iter_len}
-use Rattle.dnw_codes.specs.declared.record_type.RecordType.{RecordType}
-use Rattle.dnw_sets.specs.TypeSets.{IsSetOf}
+use Rattle.dnw_base.specs.declared.record_type.RecordType.{RecordType}
+use Rattle.dnw_data.specs.TypeSets.{IsSetOf}
 use Rattle.dnw_c_messages.proofs.TypeCodes.{vec_gave}
 use Rattle.dnw_c_messages.proofs.type_sets.set_of.Goals as goal
 

@@ -1,5 +1,5 @@
 use Rattle.std.proofs.Common.{◌≡◌, ◌++◌, map, drop}
-use Rattle.dnw_codes.specs.RecordTypes.{type_of_code}
+use Rattle.dnw_base.specs.RecordTypes.{type_of_code}
 use Rattle.dnw_c_messages.proofs.type_sets.types_of.Given as goal
 
 -- what is left, from here, gives what all gives from the start

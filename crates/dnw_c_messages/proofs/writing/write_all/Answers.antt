@@ -1,6 +1,6 @@
 use Rattle.std.proofs.Common.{◌≡◌, rules}
 use Rattle.std.proofs.lemmas.Result.{err_from_is_err_and}
-use Rattle.dnw_encoder.specs.EncoderValue.{value}
+use Rattle.dnw_write.specs.EncoderValue.{value}
 use Rattle.dnw_c_messages.specs.MessageItems.{new_encoder}
 use Rattle.dnw_c_messages.proofs.writing.write_all.Goals as goal
 

@@ -1,6 +1,6 @@
 use Rattle.std.proofs.Common.{ap, arith, length}
-use Rattle.dnw_encoder.specs.EncoderValue.{value, lender}
-use Rattle.dnw_c_messages.proofs.Items.{item_onward, no_items, one_more}
+use Rattle.dnw_write.specs.EncoderValue.{value, lender}
+use Rattle.dnw_c_messages.proofs.WrittenItems.{item_onward, no_items, one_more}
 use Rattle.dnw_c_messages.proofs.writing.write_items.Goals as goal
 
 pub list-init : goal.list-init

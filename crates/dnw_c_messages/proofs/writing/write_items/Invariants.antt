@@ -1,6 +1,6 @@
 use Rattle.std.proofs.Common.{◌-◌, length}
-use Rattle.dnw_encoder.specs.EncoderValue.{value, lender}
-use Rattle.dnw_c_messages.proofs.Items.{HasWrittenItems}
+use Rattle.dnw_write.specs.EncoderValue.{value, lender}
+use Rattle.dnw_c_messages.proofs.WrittenItems.{HasWrittenItems}
 use Rattle.dnw_c_messages.proofs.writing.write_items.Given as goal
 
 abbrev pub invariant-list : goal.invariant-list

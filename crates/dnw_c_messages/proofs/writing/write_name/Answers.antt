@@ -1,7 +1,7 @@
-use Rattle.dnw_encoder.specs.EncoderValue.{value}
+use Rattle.dnw_write.specs.EncoderValue.{value}
 use Rattle.dnw_c_messages.specs.declared.writing.Kind.TheVariants as Kinds
 use Rattle.dnw_c_messages.specs.MessageItems.{Name}
-use Rattle.dnw_c_messages.proofs.Items.{not_written}
+use Rattle.dnw_c_messages.proofs.WrittenItems.{not_written}
 use Rattle.dnw_c_messages.proofs.writing.write_name.Goals as goal
 
 pub returns-in-Ok-emit-clause-ok : goal.returns-in-Ok-emit-clause-ok

@@ -1,5 +1,5 @@
 use Rattle.std.proofs.Common.{rules}
-use Rattle.dnw_reading.proofs.Copying.{wire_taken}
+use Rattle.dnw_name_read.proofs.Copying.{wire_taken}
 use Rattle.dnw_data.proofs.field.append_name.Goals as goal
 
 pub returns-clause-appends : goal.returns-clause-appends

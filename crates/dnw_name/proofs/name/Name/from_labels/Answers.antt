@@ -1,7 +1,7 @@
 use Rattle.std.proofs.Common.{[], ◌∷◌, inl, Ok, sym, ap, subst, arith, length-append}
 use Rattle.std.proofs.lemmas.List.{map-append}
 use Rattle.std.proofs.lemmas.Result.{err_from_is_err_and}
-use Rattle.dnw_form.proofs.EditLemmas.{FailsOr-bind}
+use Rattle.dnw_name_form.proofs.EditLemmas.{FailsOr-bind}
 use Rattle.dnw_name.specs.Inside.Joined.{HasJoined}
 use Rattle.dnw_name.proofs.Joins.{made-few}
 use Rattle.dnw_name.proofs.name.Name.from_labels.Goals as goal

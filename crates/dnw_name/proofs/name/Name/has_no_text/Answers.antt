@@ -1,6 +1,6 @@
 use Rattle.std.proofs.Common.{ap, ◌∙◌}
 use Rattle.dnw_base.specs.Names.{NameValue}
-use Rattle.dnw_text.proofs.TextSizes.{some_text}
+use Rattle.dnw_name_ascii.proofs.TextSizes.{some_text}
 use Rattle.dnw_name.proofs.name.Name.has_no_text.Goals as goal
 
 pub returns-then-not-self-clause-some : goal.returns-then-not-self-clause-some

@@ -1,8 +1,8 @@
 -- The constant is the wire form of `localhost`.
 use Rattle.std.proofs.Common.{[], ◌∷◌, ◌∙◌, arith}
 use Rattle.dnw_base.specs.Names.{AreLabels}
-use Rattle.dnw_order.specs.Order.{localhost}
-use Rattle.dnw_form.proofs.Wires.{IsWire-wire, labels_of-wire}
+use Rattle.dnw_name_order.specs.Order.{localhost}
+use Rattle.dnw_name_form.proofs.Wires.{IsWire-wire, labels_of-wire}
 use Rattle.dnw_name.proofs.name.Name.is_localhost.Goals as goal
 
 are_labels : AreLabels (localhost ∷ [])

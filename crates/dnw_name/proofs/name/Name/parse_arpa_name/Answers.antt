@@ -1,5 +1,5 @@
 use Rattle.std.proofs.Common.{refl}
-use Rattle.dnw_reverse.specs.Arpa.{Relative}
+use Rattle.dnw_name_arpa.specs.Arpa.{Relative}
 use Rattle.dnw_name.proofs.name.Name.parse_arpa_name.Goals as goal
 
 pub returns-then-not-self : goal.returns-then-not-self

@@ -1,6 +1,6 @@
 use Rattle.std.proofs.Common.{refl}
 use Rattle.std.proofs.lemmas.Result.{err_from_is_err_and}
-use Rattle.dnw_reading.proofs.Takes.{TakesName-not-StopsAt, no_memory}
+use Rattle.dnw_name_read.proofs.Takes.{TakesName-not-StopsAt, no_memory}
 use Rattle.dnw_name.proofs.name.Name.read_counted.Goals as goal
 
 pub returns-in_err-name-clause-accepts : goal.returns-in_err-name-clause-accepts

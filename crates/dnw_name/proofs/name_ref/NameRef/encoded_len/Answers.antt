@@ -1,6 +1,6 @@
 use Rattle.std.proofs.Common.{subst}
 use Rattle.dnw_base.specs.Names.{AreLabels}
-use Rattle.dnw_reading.proofs.Found.{StandsAt-labels}
+use Rattle.dnw_name_read.proofs.Found.{StandsAt-labels}
 use Rattle.dnw_name.proofs.name_ref.NameRef.encoded_len.Goals as goal
 
 pub returns-clause-labels : goal.returns-clause-labels

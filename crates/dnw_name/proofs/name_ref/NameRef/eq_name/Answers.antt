@@ -1,6 +1,6 @@
 -- Names of different sizes are not the same.
 use Rattle.std.proofs.Common.{eqb-true, sym, ◌∙◌}
-use Rattle.dnw_order.proofs.Comparing.{lower-size}
+use Rattle.dnw_name_order.proofs.Comparing.{lower-size}
 use Rattle.dnw_name.proofs.name_ref.NameRef.eq_name.Goals as goal
 
 pub returns-else-encoded_len : goal.returns-else-encoded_len

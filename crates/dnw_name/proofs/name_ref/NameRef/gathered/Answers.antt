@@ -1,9 +1,9 @@
 use Rattle.std.proofs.Common.{◌≡◌, List, ℕ, length, true, ap, ◌∙◌, arith}
 use Rattle.dnw_base.specs.Names.{NameValue, wire}
 use Rattle.dnw_base.proofs.Wires.{length-wire}
-use Rattle.dnw_reading.proofs.Copying.{wire_taken}
-use Rattle.dnw_form.specs.Inside.WireBytes.{IsWire, labels_of}
-use Rattle.dnw_form.proofs.Wires.{labels_of-form}
+use Rattle.dnw_name_read.proofs.Copying.{wire_taken}
+use Rattle.dnw_name_form.specs.Inside.WireBytes.{IsWire, labels_of}
+use Rattle.dnw_name_form.proofs.Wires.{labels_of-form}
 use Rattle.dnw_name.proofs.name_ref.NameRef.gathered.Goals as goal
 use Rattle.dnw_name.proofs.name_ref.NameRef.gathered.Goals.{After-from_array}
 

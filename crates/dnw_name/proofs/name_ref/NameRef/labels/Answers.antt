@@ -1,4 +1,4 @@
-use Rattle.dnw_reading.proofs.Behind.{StandsAt-more}
+use Rattle.dnw_name_read.proofs.Behind.{StandsAt-more}
 use Rattle.dnw_name.proofs.name_ref.NameRef.labels.Goals as goal
 
 pub new-requires : goal.new-requires

@@ -1,8 +1,8 @@
 use Rattle.std.proofs.Common.{ap, ◌∙◌, subst}
 use Rattle.dnw_base.specs.Names.{AreLabels, wire}
-use Rattle.dnw_form.proofs.Wires.{labels_of-form}
-use Rattle.dnw_reading.proofs.Copying.{LiesAt-plain}
-use Rattle.dnw_reading.proofs.Found.{StandsAt-labels}
+use Rattle.dnw_name_form.proofs.Wires.{labels_of-form}
+use Rattle.dnw_name_read.proofs.Copying.{LiesAt-plain}
+use Rattle.dnw_name_read.proofs.Found.{StandsAt-labels}
 use Rattle.dnw_name.proofs.name_ref.NameRef.labels_in_place.Goals as goal
 
 pub slice_bounds-octets-end : goal.slice_bounds-octets-end

@@ -1,5 +1,5 @@
 use Rattle.std.proofs.Common.{arith}
-use Rattle.dnw_reading.proofs.Found.{NameAt-few}
+use Rattle.dnw_name_read.proofs.Found.{NameAt-few}
 use Rattle.dnw_name.proofs.name_ref.NameRef.num_labels.Goals as goal
 
 pub overflow_cast-result : goal.overflow_cast-result

@@ -3,10 +3,10 @@ use Rattle.std.proofs.Common.{◌-◌, length, refl, ap, arith}
 use Rattle.std.specs.Prelude.{⊤}
 use Rattle.std.proofs.lemmas.Result.{err_from_is_err_and}
 use Rattle.dnw_base.proofs.DecoderReads.{Takes-enough}
-use Rattle.dnw_reading.specs.Reading.{StopsAt, TakesName}
-use Rattle.dnw_reading.specs.Inside.Found.{labels_at}
-use Rattle.dnw_reading.proofs.Counts.{Reads-own}
-use Rattle.dnw_reading.proofs.Takes.{TakesName-unique, TakesName-not-StopsAt, StopsAt-unique, TakesName-moved}
+use Rattle.dnw_name_read.specs.Reading.{StopsAt, TakesName}
+use Rattle.dnw_name_read.specs.Inside.Found.{labels_at}
+use Rattle.dnw_name_read.proofs.Counts.{Reads-own}
+use Rattle.dnw_name_read.proofs.Takes.{TakesName-unique, TakesName-not-StopsAt, StopsAt-unique, TakesName-moved}
 use Rattle.dnw_name.proofs.name_ref.NameRef.read_counted.Goals as goal
 use Rattle.dnw_name.proofs.name_ref.NameRef.read_counted.Goals.{After-from_residual, After-unwrap}
 

@@ -1,8 +1,8 @@
 use Rattle.std.proofs.Common.{◌≡◌, List, ℕ, length, take, ap, ◌∙◌, arith}
 use Rattle.dnw_base.specs.Names.{wire}
 use Rattle.dnw_base.proofs.Wires.{length-wire}
-use Rattle.dnw_reading.proofs.Copying.{wire_taken}
-use Rattle.dnw_form.proofs.Wires.{labels_of-form}
+use Rattle.dnw_name_read.proofs.Copying.{wire_taken}
+use Rattle.dnw_name_form.proofs.Wires.{labels_of-form}
 use Rattle.dnw_name.proofs.name_ref.NameRef.wire_labels.Goals as goal
 use Rattle.dnw_name.proofs.name_ref.NameRef.wire_labels.Goals.{After-copy_runs}
 

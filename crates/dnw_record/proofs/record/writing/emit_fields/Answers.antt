@@ -1,9 +1,9 @@
 -- The owner, the fixed fields and the data are written in turn, up to the first that fails.
 use Rattle.std.proofs.Common.{Ok, Err, inr}
-use Rattle.dnw_encoder.specs.Encoder.{Encoder, Writes}
-use Rattle.dnw_encoder.specs.Emitting.{Outcome}
-use Rattle.dnw_encoder.specs.EmittedName.{EmitsName}
-use Rattle.dnw_encoder.specs.EncoderValue.{value}
+use Rattle.dnw_write.specs.Encoder.{Encoder, Writes}
+use Rattle.dnw_write.specs.Emitting.{Outcome}
+use Rattle.dnw_write.specs.EmittedName.{EmitsName}
+use Rattle.dnw_write.specs.EncoderValue.{value}
 use Rattle.dnw_record.specs.declared.record.WireRecord.{WireRecord}
 use Rattle.dnw_record.specs.Parts.{EmitsSized}
 use Rattle.dnw_record.specs.WrittenRecords.{EmitsData, EmitsFields, type_class_ttl}

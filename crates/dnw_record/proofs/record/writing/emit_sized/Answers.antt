@@ -1,6 +1,6 @@
 -- The data end within the maximum, and so their length fits two octets.
 use Rattle.std.proofs.Common.{arith}
-use Rattle.dnw_encoder.specs.EncoderValue.{value}
+use Rattle.dnw_write.specs.EncoderValue.{value}
 use Rattle.dnw_record.proofs.Parts.{fits-data}
 use Rattle.dnw_record.proofs.record.writing.emit_sized.Goals as goal
 

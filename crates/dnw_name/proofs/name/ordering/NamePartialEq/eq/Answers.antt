@@ -1,5 +1,5 @@
 use Rattle.std.proofs.Common.{◌≡◌, rules, sym, ◌∙◌}
-use Rattle.dnw_order.specs.OrderLaws.{name_eq_test}
+use Rattle.dnw_name_order.specs.OrderLaws.{name_eq_test}
 use Rattle.dnw_name.proofs.name.ordering.NamePartialEq.eq.Goals as goal
 
 pub returns-then-is_fqdn : goal.returns-then-is_fqdn

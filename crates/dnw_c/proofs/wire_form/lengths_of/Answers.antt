@@ -1,6 +1,0 @@
-use Rattle.std.proofs.Common.{arith}
-use Rattle.dnw_form.proofs.Wires.{few_octets}
-use Rattle.dnw_c.proofs.wire_form.lengths_of.Goals as goal
-
-pub returns-then-octets-gt-MAX_NAME : goal.returns-then-octets-gt-MAX_NAME
-returns-then-octets-gt-MAX_NAME c = λ w. absurd (omega (arith, few_octets _ w, c.if-octets-gt-MAX_NAME.true))

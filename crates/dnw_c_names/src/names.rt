@@ -1,0 +1,357 @@
+//! Names read, written, parsed and printed.
+ghost use Rattle.std.specs.Prelude.{◌≡◌, ◌≢◌, ◌⊎◌, ℕ, ◌<◌, ◌≤◌, List, length, Ok, Err, IsUtf8};
+ghost use Rattle.std.specs.Prelude.{IfOk, IfErr, OnOk, OnErr};
+ghost use Rattle.std.specs.Str.{chars};
+ghost use Rattle.dnw_base.specs.Limits.{max_name};
+ghost use Rattle.dnw_base.specs.Names.{NameValue, wire};
+ghost use Rattle.dnw_name_ascii.specs.NameText.{max_text, name_text, name_from_text};
+ghost use Rattle.dnw_name_read.specs.Reading.{NameAt};
+ghost use Rattle.dnw_name.specs.Decodable.{TakesNameValue};
+ghost use Rattle.dnw_write.specs.Encoder.{Encoder};
+ghost use Rattle.dnw_write.specs.EncoderValue.{value, lender};
+ghost use Rattle.dnw_write.specs.EmittedName.{EmitsName};
+ghost use Rattle.dnw_name_read.specs.Buffers.{put};
+ghost use Rattle.dnw_c_names.specs.Buffers.{PutsIfFits};
+ghost use Rattle.dnw_c_base.specs.Failures.{HasText, NumberOf, number};
+ghost use Rattle.dnw_c_base.specs.WireForms.{IsFormOf};
+ghost use Rattle.dnw_c_names.specs.NameCalls.{FailsToParse, FailsToPrint, FailsToPutText, FailsToRead, FailsToReadText, absolute_text};
+ghost use Rattle.dnw_c_names.specs.NameLists.{FailsToCopy, FailsToWrite, StopsWriting, WritesNames, at_first, limited_to};
+ghost use Rattle.dnw_c_base.specs.declared.failure.Failure.{Failure};
+ghost use Rattle.dnw_c_base.specs.declared.failure.Failure.TheVariants.{NoRoom};
+
+use crate::wire_form::labels_of;
+use arrayvec::ArrayString;
+use dnw_base::decoder::BinDecoder;
+use dnw_base::limits::MAX_NAME;
+use dnw_c_base::buffer::put;
+use dnw_c_base::failure::{Failure, of_decode, of_proto, text_of};
+use dnw_c_base::names::{name_ref_at, put_name};
+use dnw_name::name::Name;
+use dnw_name::name_ref::NameRef;
+use dnw_name_ascii::text;
+use dnw_name_form::wire_labels::WireLabels;
+use dnw_write::binary::BinEncodable;
+use dnw_write::encoder::BinEncoder;
+use std::alloc::Global;
+
+/// A name that was read: the number of bytes that were put, and the offset after the name's own octets.
+#[repr(C)]
+#[derive(Clone, Copy)]
+pub struct ReadName {
+    pub len: usize,
+    pub end: usize,
+}
+
+/// A text that was parsed: the number of bytes that were put, and `true` if the name is fully qualified.
+#[repr(C)]
+#[derive(Clone, Copy)]
+pub struct ParsedName {
+    pub len: usize,
+    pub is_fqdn: bool,
+}
+
+/// A list that was written: the number of bytes that were put, and the number of names.
+#[repr(C)]
+#[derive(Clone, Copy)]
+pub struct WrittenNames {
+    pub len: usize,
+    pub count: usize,
+}
+
+/// Reads the name at an offset of a message, and puts its wire form. It does not allocate.
+#[unsafe(no_mangle)]
+pub extern "C" fn dnw_name_read(
+    message: &[u8],
+    start: usize,
+    form: &mut [u8],
+    read: &mut ReadName,
+) -> u32
+    ensures ok { result ≡ 0 → (labels : List (List ℕ)) × (k : ℕ) × NameAt message.now start labels read.new.end k
+        × (form.new ≡ put form.old (wire labels)) × (read.new.len ≡ length (wire labels)) }
+    ensures err { result ≢ 0 → NumberOf (FailsToRead message.now start (length form.old)) result }
+    ensures room { result ≡ number NoRoom → length form.old < max_name }
+    ensures same { result ≢ 0 → (form.new ≡ form.old) × (read.new ≡ read.old) }
+{
+    match read_form(message, start, form) {
+        Ok(name) => {
+            *read = name;
+            0
+        }
+        Err(failure) => failure.number(),
+    }
+}
+
+/// Reads the name at an offset of a message, and puts its text. It does not allocate.
+#[unsafe(no_mangle)]
+pub extern "C" fn dnw_name_read_text(
+    message: &[u8],
+    start: usize,
+    text: &mut [u8],
+    read: &mut ReadName,
+) -> u32
+    ensures ok { result ≡ 0 → (labels : List (List ℕ)) × (k : ℕ) × NameAt message.now start labels read.new.end k
+        × (text.new ≡ put text.old (absolute_text labels)) × (read.new.len ≡ length (absolute_text labels)) }
+    ensures err { result ≢ 0 → NumberOf (FailsToReadText message.now start (length text.old)) result }
+    ensures room { result ≡ number NoRoom → length text.old < max_text }
+    ensures same { result ≢ 0 → (text.new ≡ text.old) × (read.new ≡ read.old) }
+{
+    match read_text(message, start, text) {
+        Ok(name) => {
+            *read = name;
+            0
+        }
+        Err(failure) => failure.number(),
+    }
+}
+
+/// Puts the wire form of the name that a text gives.
+#[unsafe(no_mangle)]
+pub extern "C" fn dnw_name_parse(
+    alloc: Global,
+    text: &[u8],
+    form: &mut [u8],
+    parsed: &mut ParsedName,
+) -> u32
+    ensures ok { result ≡ 0 → (name : NameValue) × IsUtf8 text.now × (name_from_text (chars text.now) ≡ Ok name)
+        × (form.new ≡ put form.old (wire name.labels))
+        × (parsed.new ≡ record { len = length (wire name.labels); is_fqdn = name.is_fqdn }) }
+    ensures err { result ≢ 0 → NumberOf (FailsToParse text.now (length form.old)) result }
+    ensures room { result ≡ number NoRoom → length form.old < max_name }
+    ensures same { result ≢ 0 → (form.new ≡ form.old) × (parsed.new ≡ parsed.old) }
+{
+    match parse(alloc, text, form) {
+        Ok(name) => {
+            *parsed = name;
+            0
+        }
+        Err(failure) => failure.number(),
+    }
+}
+
+/// Puts the text of the name with a wire form. It does not allocate.
+#[unsafe(no_mangle)]
+pub extern "C" fn dnw_name_print(
+    form: &[u8],
+    is_fqdn: bool,
+    text: &mut [u8],
+    len: &mut usize,
+) -> u32
+    ensures ok { result ≡ 0 → (labels : List (List ℕ)) × IsFormOf form.now labels
+        × (text.new ≡ put text.old (name_text (record { is_fqdn = is_fqdn; labels = labels })))
+        × (len.new ≡ length (name_text (record { is_fqdn = is_fqdn; labels = labels }))) }
+    ensures err { result ≢ 0 → NumberOf (FailsToPrint form.now is_fqdn (length text.old)) result }
+    ensures room { result ≡ number NoRoom → length text.old < max_text }
+    ensures same { result ≢ 0 → (text.new ≡ text.old) × (len.new ≡ len.old) }
+{
+    match print(form, is_fqdn, text) {
+        Ok(put) => {
+            *len = put;
+            0
+        }
+        Err(failure) => failure.number(),
+    }
+}
+
+/// Puts a message of the names of a list, each compressed by those before it.
+#[unsafe(no_mangle)]
+pub extern "C" fn dnw_names_write(
+    alloc: Global,
+    names: &[u8],
+    max_size: u16,
+    out: &mut [u8],
+    written: &mut WrittenNames,
+) -> u32
+    ensures ok { result ≡ 0 → (w : Encoder) × WritesNames (at_first names.now) (limited_to max_size) written.new.count w
+        × (out.new ≡ put out.old w.bytes) × (written.new.len ≡ length w.bytes) }
+    ensures err { result ≢ 0 → NumberOf (FailsToWrite names.now max_size (length out.old)) result }
+    ensures same { result ≢ 0 → (out.new ≡ out.old) × (written.new ≡ written.old) }
+{
+    match write(alloc, names, max_size, out) {
+        Ok(list) => {
+            *written = list;
+            0
+        }
+        Err(failure) => failure.number(),
+    }
+}
+
+/// Puts the text for a number if it fits, and returns its length. A number that stands for nothing has an empty text.
+#[unsafe(no_mangle)]
+pub extern "C" fn dnw_error_text(code: u32, text: &mut [u8]) -> usize
+    ensures text { (own : List ℕ) × HasText code own × (result ≡ length own) × PutsIfFits text.old own text.new }
+    ensures few { result ≤ 64 }
+{
+    let own = text_of(code).as_bytes();
+    let _ = put(text, own);
+    own.len()
+}
+
+/// Reads the name at an offset, and puts its wire form.
+fn read_form(message: &[u8], start: usize, form: &mut [u8]) -> Result<ReadName, Failure>
+    ensures ok { IfOk result (λ r. (labels : List (List ℕ)) × (k : ℕ) × NameAt message.now start labels r.end k
+        × (form.new ≡ put form.old (wire labels)) × (r.len ≡ length (wire labels))) }
+    ensures err { IfErr result (FailsToRead message.now start (length form.old)) }
+    ensures room { IfErr result (λ failure. failure ≡ NoRoom → length form.old < max_name) }
+    ensures same { OnErr result (form.new ≡ form.old) }
+{
+    match name_ref_at(message, start) {
+        Ok((name, end)) => {
+            let len = put_name(form, &name)?;
+            Ok(ReadName { len, end })
+        }
+        Err(error) => Err(of_decode(&error)),
+    }
+}
+
+/// Reads the name at an offset, and puts its text.
+fn read_text(message: &[u8], start: usize, text: &mut [u8]) -> Result<ReadName, Failure>
+    ensures ok { IfOk result (λ r. (labels : List (List ℕ)) × (k : ℕ) × NameAt message.now start labels r.end k
+        × (text.new ≡ put text.old (absolute_text labels)) × (r.len ≡ length (absolute_text labels))) }
+    ensures err { IfErr result (FailsToReadText message.now start (length text.old)) }
+    ensures room { IfErr result (λ failure. failure ≡ NoRoom → length text.old < max_text) }
+    ensures same { OnErr result (text.new ≡ text.old) }
+{
+    match name_ref_at(message, start) {
+        Ok((name, end)) => {
+            let len = put_text(text, name.wire_labels(&mut [0; MAX_NAME]), true)?;
+            Ok(ReadName { len, end })
+        }
+        Err(error) => Err(of_decode(&error)),
+    }
+}
+
+/// Puts the wire form of the name that a text gives.
+fn parse(alloc: Global, text: &[u8], form: &mut [u8]) -> Result<ParsedName, Failure>
+    ensures ok { IfOk result (λ r. (name : NameValue) × IsUtf8 text.now × (name_from_text (chars text.now) ≡ Ok name)
+        × (form.new ≡ put form.old (wire name.labels))
+        × (r ≡ record { len = length (wire name.labels); is_fqdn = name.is_fqdn })) }
+    ensures err { IfErr result (FailsToParse text.now (length form.old)) }
+    ensures room { IfErr result (λ failure. failure ≡ NoRoom → length form.old < max_name) }
+    ensures same { OnErr result (form.new ≡ form.old) }
+{
+    let Ok(chars) = str::from_utf8(text) else {
+        return Err(Failure::NotUtf8);
+    };
+    match Name::from_ascii(alloc, chars) {
+        Ok(name) => {
+            let len = put_form(form, &name)?;
+            Ok(ParsedName {
+                len,
+                is_fqdn: name.is_fqdn(),
+            })
+        }
+        Err(fault) => Err(of_proto(&fault)),
+    }
+}
+
+/// Puts the text of the name with a wire form, and returns its length.
+fn print(form: &[u8], is_fqdn: bool, text: &mut [u8]) -> Result<usize, Failure>
+    ensures ok { IfOk result (λ len. (labels : List (List ℕ)) × IsFormOf form.now labels
+        × (text.new ≡ put text.old (name_text (record { is_fqdn = is_fqdn; labels = labels })))
+        × (len ≡ length (name_text (record { is_fqdn = is_fqdn; labels = labels })))) }
+    ensures err { IfErr result (FailsToPrint form.now is_fqdn (length text.old)) }
+    ensures room { IfErr result (λ failure. failure ≡ NoRoom → length text.old < max_text) }
+    ensures same { OnErr result (text.new ≡ text.old) }
+{
+    let labels = labels_of(form)?;
+    put_text(text, labels, is_fqdn)
+}
+
+/// Puts a message of the names of a list.
+fn write(
+    alloc: Global,
+    names: &[u8],
+    max_size: u16,
+    out: &mut [u8],
+) -> Result<WrittenNames, Failure>
+    ensures ok { IfOk result (λ r. (w : Encoder) × WritesNames (at_first names.now) (limited_to max_size) r.count w
+        × (out.new ≡ put out.old w.bytes) × (r.len ≡ length w.bytes)) }
+    ensures err { IfErr result (FailsToWrite names.now max_size (length out.old)) }
+    ensures same { OnErr result (out.new ≡ out.old) }
+{
+    let (bytes, count) = write_all(alloc, names, max_size)?;
+    let len = put(out, bytes.as_slice())?;
+    Ok(WrittenNames { len, count })
+}
+
+/// Returns the bytes of a message of a list's names, and their number.
+fn write_all(alloc: Global, names: &[u8], max_size: u16) -> Result<(Vec<u8>, usize), Failure>
+    ensures ok { IfOk result (λ r. (w : Encoder) × WritesNames (at_first names.now) (limited_to max_size) r.1 w
+        × (r.0.items ≡ w.bytes)) }
+    ensures err { IfErr result (StopsWriting (at_first names.now) (limited_to max_size)) }
+{
+    let mut bytes = Vec::new(alloc);
+    let mut encoder = BinEncoder::new(&mut bytes);
+    encoder.set_max_size(max_size);
+    let count = write_names(names, &mut encoder)?;
+    drop(encoder);
+    Ok((bytes, count))
+}
+
+/// Writes the names of a list, and returns their number.
+fn write_names(names: &[u8], encoder: &mut BinEncoder<'_>) -> Result<usize, Failure>
+    ensures ok { IfOk result (λ count.
+        WritesNames (at_first names.now) (value encoder.old) count (value encoder.new)) }
+    ensures err { IfErr result (StopsWriting (at_first names.now) (value encoder.old)) }
+    ensures lender { lender encoder.new ≡ lender encoder.old }
+{
+    let mut decoder = BinDecoder::new(names);
+    let mut count = 0;
+    'list: while !decoder.is_empty() {
+        write_next(&mut decoder, encoder)?;
+        count += 1;
+    }
+    Ok(count)
+}
+
+/// Writes the name at the cursor of a list.
+fn write_next(decoder: &mut BinDecoder<'_>, encoder: &mut BinEncoder<'_>) -> Result<(), Failure>
+    ensures ok { OnOk result ((name : NameValue) × TakesNameValue decoder.old name decoder.new
+        × EmitsName name (value encoder.old) (Ok tt) (value encoder.new)) }
+    ensures err { IfErr result (FailsToCopy decoder.old (value encoder.old)) }
+    ensures onward { OnOk result (decoder.old.index < decoder.new.index) }
+    ensures within { OnOk result (decoder.new.index ≤ length decoder.new.bytes) }
+    ensures bytes { decoder.new.bytes ≡ decoder.old.bytes }
+    ensures lender { lender encoder.new ≡ lender encoder.old }
+{
+    match NameRef::read(decoder) {
+        Ok(name) => match name.emit(encoder) {
+            Ok(()) => Ok(()),
+            Err(error) => Err(of_proto(&error)),
+        },
+        Err(error) => Err(of_decode(&error)),
+    }
+}
+
+/// Puts the wire form of a name, and returns its length.
+#[tactic(auto, using(dnw_c_base::proofs::Starts::form_size, crate::proofs::Forms::form_fits))]
+pub(crate) fn put_form(form: &mut [u8], name: &Name) -> Result<usize, Failure>
+    ensures ok { IfOk result (λ len. (len ≡ length (wire name.now.labels)) × (form.new ≡ put form.old (wire name.now.labels))) }
+    ensures err { IfErr result (λ failure. (failure ≡ NoRoom) × (length form.old < length (wire name.now.labels))) }
+    ensures room { IfErr result (λ failure. failure ≡ NoRoom → length form.old < max_name) }
+    ensures same { OnErr result (form.new ≡ form.old) }
+{
+    if name.encoded_len() > form.len() {
+        return Err(Failure::NoRoom);
+    }
+    put(form, name.as_wire())
+}
+
+/// Puts the text of a name with these labels, and returns its length.
+#[tactic(auto, using(dnw_name_ascii::proofs::TextSizes::texts_are_short))]
+fn put_text(buffer: &mut [u8], labels: WireLabels<'_>, is_fqdn: bool) -> Result<usize, Failure>
+    ensures ok { IfOk result (λ len. (len ≡ length (name_text (record { is_fqdn = is_fqdn; labels = labels.entry })))
+        × (buffer.new ≡ put buffer.old (name_text (record { is_fqdn = is_fqdn; labels = labels.entry })))) }
+    ensures err { IfErr result (FailsToPutText (name_text (record { is_fqdn = is_fqdn; labels = labels.entry })) (length buffer.old)) }
+    ensures room { IfErr result (λ failure. failure ≡ NoRoom → length buffer.old < max_text) }
+    ensures same { OnErr result (buffer.new ≡ buffer.old) }
+{
+    // The proof reads here that the labels fit together.
+    let _form = labels.as_wire();
+    let mut text = ArrayString::<{ text::MAX_TEXT }>::new();
+    text::push_labels_text(&mut text, labels);
+    if is_fqdn {
+        text.push('.');
+    }
+    put(buffer, text.as_bytes())
+}

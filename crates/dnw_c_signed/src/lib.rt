@@ -1,0 +1,12 @@
+//! The functions of the C library for what signatures cover. `include/dns_names_wire.h` says what each takes and returns, and
+//! `tools/c-library` joins them with those of `dnw_c_names`.
+//!
+//! A slice is passed as a pointer and then a length, and results are put into buffers of the caller. Every input is tested,
+//! whatever the caller promises, and nothing is kept from one call to the next. Read `specs/SigningCalls.antt` first: what a
+//! call puts.
+#![tactic(auto)]
+
+/// The records that an RRSIG covers.
+pub mod covering;
+/// The octets that a signature covers.
+pub mod signing;

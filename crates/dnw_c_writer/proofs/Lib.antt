@@ -1,5 +1,0 @@
-mod Chains
-mod Forms
-mod Kept
-mod Pieces
-mod Wholes

@@ -1,6 +1,0 @@
--- A message without items is one.
-use Rattle.dnw_c_writer.proofs.Wholes.{begin-whole}
-use Rattle.dnw_c_writer.proofs.writer.dnw_writer_begin.Goals as goal
-
-pub returns-in-Ok-clause-whole : goal.returns-in-Ok-clause-whole
-returns-in-Ok-clause-whole c = λ _. begin-whole c.args.id c.args.flags c.args.message.now c.begin.new.message c.in-Ok.begun c.in-Ok.ensures.ok

@@ -1,6 +1,0 @@
--- A message with one more record is one.
-use Rattle.dnw_c_writer.proofs.Wholes.{put-whole}
-use Rattle.dnw_c_writer.proofs.writer.dnw_writer_record.Goals as goal
-
-pub returns-in-Ok-clause-whole : goal.returns-in-Ok-clause-whole
-returns-in-Ok-clause-whole c = λ _. put-whole c.args.section c.args.owner.now c.args.record_type c.args.class c.args.ttl c.args.octets.now c.args.writer.now c.put_record.new.writer c.args.message.now c.put_record.new.message c.put_record.ensures.fits c.in-Ok.ensures.ok

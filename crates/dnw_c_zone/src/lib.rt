@@ -1,0 +1,19 @@
+//! The functions of the C library for the texts of master files: records, tokens, times to live, and the codes of types and
+//! classes; and for serial numbers. `include/dns_names_wire.h` says what each takes and returns, and `tools/c-library` joins them
+//! with those of `dnw_c_names`.
+//!
+//! A slice is passed as a pointer and then a length, and results are put into structs and buffers of the caller. Every input is
+//! tested, whatever the caller promises, and nothing is kept from one call to the next. Read `specs/PrintCalls.antt` first: what
+//! a call puts of a record; and then `specs/ParseCalls.antt`: what it puts of a text.
+#![tactic(auto)]
+
+/// Codes of types and classes, and serial numbers.
+pub mod codes;
+/// Records and data that are texts.
+pub mod parsing;
+/// Records as text.
+pub mod printing;
+/// The tokens of master files.
+pub mod tokens;
+/// Times to live.
+pub mod ttl;

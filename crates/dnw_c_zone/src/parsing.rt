@@ -1,0 +1,188 @@
+//! Records and data that are texts.
+ghost use Rattle.std.specs.Prelude.{◌≡◌, ◌≢◌, ◌≤◌, length, IfOk, IfErr, OnErr};
+ghost use Rattle.dnw_base.specs.RecordTypes.{type_of_code};
+ghost use Rattle.dnw_c_base.specs.Failures.{NumberOf};
+ghost use Rattle.dnw_c_zone.specs.ParseCalls.{FailsToParseData, FailsToParseRecord, HasData, HasRecord, IsNoOrigin, IsOrigin, LacksData, LacksRecord, PutsData, PutsRecord, of_data, of_line};
+
+use dnw_base::decoder::BinDecoder;
+use dnw_base::record_type::RecordType;
+use dnw_c_base::buffer::put;
+use dnw_c_base::failure::{Failure, of_decode};
+use dnw_name::name::Name;
+use dnw_name::name_ref::NameRef;
+use dnw_zone_data::data_text::parse;
+use dnw_zone_data::error::DataTextError;
+use dnw_zone_record::record_line::{MAX_DATA, RecordLineError, parse_record};
+use std::alloc::Global;
+use std::str;
+
+/// Puts the octets of the data that a text is, for the type with a code. The origin is a wire form, or no octets for none.
+#[unsafe(no_mangle)]
+pub extern "C" fn dnw_data_parse(
+    alloc: Global,
+    record_type: u16,
+    text: &[u8],
+    origin: &[u8],
+    octets: &mut [u8],
+    len: &mut usize,
+) -> u32
+    ensures ok { result ≡ 0 → PutsData record_type text.now origin.now octets.old octets.new len.new }
+    ensures err { result ≢ 0 → NumberOf (FailsToParseData record_type text.now origin.now (length octets.old)) result }
+    ensures same { result ≢ 0 → (octets.new ≡ octets.old) × (len.new ≡ len.old) }
+{
+    match put_data(alloc, record_type, text, origin, octets) {
+        Ok(put) => {
+            *len = put;
+            0
+        }
+        Err(failure) => failure.number(),
+    }
+}
+
+/// Puts the octets of the record that a line of a master file is. The origin is a wire form, or no octets for none.
+#[unsafe(no_mangle)]
+pub extern "C" fn dnw_record_parse(
+    alloc: Global,
+    text: &[u8],
+    origin: &[u8],
+    octets: &mut [u8],
+    len: &mut usize,
+) -> u32
+    ensures ok { result ≡ 0 → PutsRecord text.now origin.now octets.old octets.new len.new }
+    ensures err { result ≢ 0 → NumberOf (FailsToParseRecord text.now origin.now (length octets.old)) result }
+    ensures same { result ≢ 0 → (octets.new ≡ octets.old) × (len.new ≡ len.old) }
+{
+    match put_record(alloc, text, origin, octets) {
+        Ok(put) => {
+            *len = put;
+            0
+        }
+        Err(failure) => failure.number(),
+    }
+}
+
+/// Puts data, and returns the number of their octets.
+fn put_data(
+    alloc: Global,
+    record_type: u16,
+    text: &[u8],
+    form: &[u8],
+    octets: &mut [u8],
+) -> Result<usize, Failure>
+    ensures ok { IfOk result (PutsData record_type text.now form.now octets.old octets.new) }
+    ensures err { IfErr result (FailsToParseData record_type text.now form.now (length octets.old)) }
+    ensures same { OnErr result (octets.new ≡ octets.old) }
+{
+    let origin = match origin_of(alloc, form) {
+        Ok(origin) => origin,
+        Err(failure) => return Err(failure),
+    };
+    let own = match data_of(alloc, record_type, text, &origin) {
+        Ok(own) => own,
+        Err(failure) => return Err(failure),
+    };
+    match put(octets, own.as_slice()) {
+        Ok(len) => Ok(len),
+        Err(failure) => Err(failure),
+    }
+}
+
+/// Puts a record, and returns the number of its octets.
+fn put_record(alloc: Global, text: &[u8], form: &[u8], octets: &mut [u8]) -> Result<usize, Failure>
+    ensures ok { IfOk result (PutsRecord text.now form.now octets.old octets.new) }
+    ensures err { IfErr result (FailsToParseRecord text.now form.now (length octets.old)) }
+    ensures same { OnErr result (octets.new ≡ octets.old) }
+{
+    let origin = match origin_of(alloc, form) {
+        Ok(origin) => origin,
+        Err(failure) => return Err(failure),
+    };
+    let own = match record_of(alloc, text, &origin) {
+        Ok(own) => own,
+        Err(failure) => return Err(failure),
+    };
+    match put(octets, own.as_slice()) {
+        Ok(len) => Ok(len),
+        Err(failure) => Err(failure),
+    }
+}
+
+/// Returns the name that a wire form is, or none for no octets.
+fn origin_of(alloc: Global, form: &[u8]) -> Result<Option<Name>, Failure>
+    ensures ok { IfOk result (IsOrigin form.now) }
+    ensures err { IfErr result (IsNoOrigin form.now) }
+{
+    if form.is_empty() {
+        return Ok(None);
+    }
+    let mut decoder = BinDecoder::new(form);
+    let name = match NameRef::read(&mut decoder) {
+        Ok(name) => name,
+        Err(error) => return Err(of_decode(&error)),
+    };
+    if decoder.index() < form.len() {
+        return Err(Failure::BytesLeft);
+    }
+    Ok(Some(name.to_name(alloc).unwrap()))
+}
+
+/// Returns the octets of data of the type with a code.
+fn data_of(
+    alloc: Global,
+    record_type: u16,
+    text: &[u8],
+    origin: &Option<Name>,
+) -> Result<Vec<u8>, Failure>
+    ensures ok { IfOk result (λ own. HasData origin.now (type_of_code record_type) text.now own.items) }
+    ensures err { IfErr result (LacksData origin.now (type_of_code record_type) text.now) }
+{
+    let Ok(text) = str::from_utf8(text) else {
+        return Err(Failure::NotUtf8);
+    };
+    match parse(alloc, RecordType::from(record_type), text, origin.as_ref()) {
+        Ok(own) if own.len() <= MAX_DATA => Ok(own),
+        Ok(_) => Err(Failure::BadData),
+        Err(error) => Err(of_data(&error)),
+    }
+}
+
+/// Returns the octets of a record.
+fn record_of(alloc: Global, text: &[u8], origin: &Option<Name>) -> Result<Vec<u8>, Failure>
+    ensures ok { IfOk result (λ own. HasRecord origin.now text.now own.items) }
+    ensures err { IfErr result (LacksRecord origin.now text.now) }
+{
+    let Ok(text) = str::from_utf8(text) else {
+        return Err(Failure::NotUtf8);
+    };
+    match parse_record(alloc, text, origin.as_ref()) {
+        Ok(own) => Ok(own),
+        Err(error) => Err(of_line(&error)),
+    }
+}
+
+/// Returns the failure that stands for why a text is no data.
+fn of_data(error: &DataTextError) -> Failure
+    ensures { result ≡ of_data error.now }
+{
+    match error {
+        DataTextError::Memory => Failure::NoMemory,
+        DataTextError::Wanted {
+            field: _,
+            offset: _,
+            wanted: _,
+        } => Failure::BadData,
+    }
+}
+
+/// Returns the failure that stands for why a line is no record.
+fn of_line(error: &RecordLineError) -> Failure
+    ensures { result ≡ of_line error.now }
+{
+    match error {
+        RecordLineError::NoOwner => Failure::BadText,
+        RecordLineError::NoTimeToLive => Failure::BadTime,
+        RecordLineError::NoType => Failure::UnknownText,
+        RecordLineError::Data(_) | RecordLineError::TooLong => Failure::BadData,
+        RecordLineError::Memory => Failure::NoMemory,
+    }
+}

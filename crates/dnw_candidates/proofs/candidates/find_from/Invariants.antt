@@ -1,6 +1,0 @@
-use Rattle.dnw_candidates.specs.Inside.Marks.{NoneBefore}
-use Rattle.dnw_candidates.proofs.candidates.find_from.Given as goal
-
--- none of those before is usable
-abbrev pub invariant-search : goal.invariant-search
-invariant-search l = NoneBefore l.message l.labels l.held l.index

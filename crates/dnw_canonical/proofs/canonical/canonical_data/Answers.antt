@@ -1,9 +1,0 @@
--- The data of one record after another are put into canonical form.
-use Rattle.dnw_canonical.proofs.Going.{all_listed, lists_from}
-use Rattle.dnw_canonical.proofs.canonical.canonical_data.Goals as goal
-
-pub records-init : goal.records-init
-records-init c = lists_from c.args.records.now c.new-all.result.items c.new-all.ensures.items c.requires
-
-pub returns : goal.returns
-returns c = record { ok = all_listed c.args.records.now c.records.left.now c.records.all.items c.in_default.ensures.cases c.records.invariant }

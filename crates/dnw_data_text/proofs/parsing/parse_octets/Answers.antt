@@ -1,4 +1,0 @@
-use Rattle.dnw_data_text.proofs.parsing.parse_octets.Goals as goal
-
-pub returns-in-Text : goal.returns-in-Text
-returns-in-Text c = rw c.in-Text.is c.parse_text.ensures

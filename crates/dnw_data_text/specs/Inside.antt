@@ -1,5 +1,0 @@
--- What no public clause cites: what the parts of a call return.
-pub mod Steps
-pub mod Reads
-pub mod StringWords
-pub mod Wires

@@ -1,3 +1,0 @@
-pub mod PairsText
-pub mod Groups
-pub mod Identifiers

@@ -1,2 +1,0 @@
-pub mod Base32
-pub mod Pairs

@@ -1,5 +1,0 @@
-use Rattle.dnw_encoder.specs.EmittingLaws.{frames-follow, frame-in_turn}
-use Rattle.dnw_encoder.proofs.encoder.laws.frames_follow.Goals as goal
-
-pub returns : goal.returns
-returns g c = record { items = frame-in_turn g.E.BinEncodable.emits g.met.E.BinEncodable.keeps_frame; parts = frames-follow }

@@ -1,9 +1,0 @@
-use Rattle.std.proofs.Common.{inl}
-use Rattle.dnw_field_text.proofs.Calendar.{times_agree}
-use Rattle.dnw_field_text.proofs.laws.times_come_back.Goals as goal
-
-pub returns-clause-one : goal.returns-clause-one
-returns-clause-one c = times_agree
-
-pub returns-clause-printed : goal.returns-clause-printed
-returns-clause-printed c = λ text seconds fits date. inl (date, fits)

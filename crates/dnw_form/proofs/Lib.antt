@@ -1,5 +1,0 @@
-pub mod Wires
-pub mod OpenWires
-pub mod EditLemmas
-pub mod LowerWires
-pub mod LastLengths

@@ -1,5 +1,0 @@
-use Rattle.std.proofs.Common.{◌≡◌, drop}
-use Rattle.dnw_form.proofs.wire_labels.without_first.Given as goal
-
-abbrev pub invariant-passed : goal.invariant-passed
-invariant-passed l = l.labels ≡ drop l.counter l.fn.labels

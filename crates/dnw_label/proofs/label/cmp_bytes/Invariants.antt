@@ -1,6 +1,0 @@
-use Rattle.std.proofs.Common.{◌≡◌, drop}
-use Rattle.std.specs.Cmp.Lexicographic.{slice_cmp}
-use Rattle.dnw_label.proofs.label.cmp_bytes.Given as goal
-
-abbrev pub invariant-loop-i : goal.invariant-loop-i
-invariant-loop-i g l = slice_cmp g.F.LabelCmp.order l.left l.right ≡ slice_cmp g.F.LabelCmp.order (drop l.i l.left) (drop l.i l.right)

@@ -1,2 +1,0 @@
-pub mod LabelText
-pub mod LabelOrder

@@ -1,4 +1,0 @@
-use Rattle.dnw_message.proofs.message.MessageRef.has_opt_inside.Goals as goal
-
-pub returns : goal.returns
-returns c = rw (← c.self.view_is) c.self.invariant.inside

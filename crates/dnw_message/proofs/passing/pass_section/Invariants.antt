@@ -1,5 +1,0 @@
-use Rattle.dnw_message.specs.Inside.Passing.{PassesItems}
-use Rattle.dnw_message.proofs.passing.pass_section.Given as goal
-
-abbrev pub invariant-loop-item : goal.invariant-loop-item
-invariant-loop-item l = PassesItems l.fn.section l.item l.fn.reader l.reader l.fn.left l.left l.found

@@ -1,0 +1,14 @@
+use Rattle.std.proofs.Common.{length, sym, ap, ◌∙◌, arith}
+use Rattle.dnw_message_read.proofs.Extension.{options-after, options-first}
+use Rattle.dnw_message_read.proofs.edns.EdnsOptionsIterator.next.Goals as goal
+
+pub returns-clause-steps : goal.returns-clause-steps
+returns-clause-steps c = sym c.self.view_is ∙ options-first _ _ _ c.in_ok-option.ensures c.self.invariant
+
+pub invariant_of-self : goal.invariant_of-self
+invariant_of-self c = options-after _ _ _ c.in_ok-option.ensures c.self.invariant
+
+pub returns-clause-goes : goal.returns-clause-goes
+returns-clause-goes c =
+    let shorter = ap length (returns-clause-steps c) in
+    record { on = λ _. (tt, tt, omega arith); keeps = tt; rests = λ _. tt }

@@ -1,0 +1,4 @@
+use Rattle.dnw_message_read.proofs.message.MessageRef.has_opt_outside.Goals as goal
+
+pub returns : goal.returns
+returns c = rw (← c.self.view_is) c.self.invariant.outside

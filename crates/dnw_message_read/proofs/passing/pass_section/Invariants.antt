@@ -1,0 +1,5 @@
+use Rattle.dnw_message_read.specs.Inside.Passing.{PassesItems}
+use Rattle.dnw_message_read.proofs.passing.pass_section.Given as goal
+
+abbrev pub invariant-loop-item : goal.invariant-loop-item
+invariant-loop-item l = PassesItems l.fn.section l.item l.fn.reader l.reader l.fn.left l.left l.found

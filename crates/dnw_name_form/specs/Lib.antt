@@ -1,0 +1,4 @@
+pub mod LabelText
+pub mod LabelOrder
+pub mod Edits
+pub mod Inside

@@ -1,0 +1,129 @@
+-- What a walk knows before and after each element.
+use Rattle.std.proofs.Common.{◌≡◌, ℕ, suc, ◌+◌, ◌≤◌, IsTrue, Option, Some, None, List, [], ◌∷◌, ◌++◌, length, slice_get, slice_range, unwrap_or, refl, sym, ◌∙◌, append_assoc, zero-add, add-zero, arith}
+use Rattle.std.proofs.lemmas.List.{length_push, append-nil}
+use Rattle.std.proofs.lemmas.Option.{slice_get_within}
+use Rattle.dnw_name_read.specs.declared.walk.Walked.{Walked}
+use Rattle.dnw_base.specs.Names.{encoded_size}
+use Rattle.dnw_base.proofs.Wires.{encoded_size_push}
+use Rattle.dnw_name_read.specs.Reading.{IsWithin, NameAt, zero_octet, label}
+use Rattle.dnw_name_read.specs.Inside.Walking.{IsLabelAt, IsPointerAt, once_followed, GoesOn, Leads, WalksOn}
+use Rattle.dnw_name_read.specs.Inside.Found.{IsFound}
+use Rattle.dnw_name_read.proofs.Counts.{length-label}
+use Rattle.dnw_name_read.proofs.Stand.{Reads-wider}
+use Rattle.dnw_name_read.proofs.Steps.{Reads-jump, Stops-jump}
+use Rattle.dnw_name_read.proofs.Found.{labels_at-NameAt, StandsAt-found}
+
+-- a walk begins at the start, in a segment with any limit
+pub Leads-start : (b : List ℕ) (p : ℕ) (limit : Option ℕ) (passed : List (List ℕ)) → passed ≡ [] → Leads b p p p limit passed
+Leads-start b p limit passed none = record {
+  more = 0;
+  own = λ e. e;
+  earlier = omega arith;
+  goes_on = record { reads = λ ls e k r. rw (none, zero-add) (Reads-wider p None (omega arith) tt r) };
+}
+
+pub WalksOn-start : (b : List ℕ) (p end : ℕ) → WalksOn b p p p p (length b) end 1 0 0
+WalksOn-start b p end = record {
+  passed = [];
+  passed_size = refl;
+  passed_count = refl;
+  few = omega arith;
+  fits = omega arith;
+  order = omega arith;
+  back = omega arith;
+  inside = omega arith;
+  whole = λ _. refl;
+  leads = Leads-start b p None [] refl;
+  goes_on = record { reads = λ ls e k r. rw zero-add r };
+  stops = λ error k j f. rw (zero-add k, zero-add j) f;
+}
+
+module _ {b : List ℕ} {start p s pointers : ℕ} {limit : Option ℕ} {passed : List (List ℕ)} {own : ℕ → ℕ} (w : IsWithin p limit)
+    (on : GoesOn b start p s limit passed own pointers) where
+  -- a name ends, a label is passed, a pointer is followed
+  goes-end : slice_get b p ≡ Some 0 → encoded_size passed ≤ 255 → NameAt b start passed (own (p + 1)) pointers
+  goes-end g fits = record { reads = rw (append-nil, add-zero) at (on.reads [] (p + 1) 0 (zero_octet w g)); fits = fits }
+
+  goes-label : (c : ℕ) → IsLabelAt b p c → GoesOn b start (p + 1 + c) s limit (passed ++ slice_range b (p + 1) (p + 1 + c) ∷ []) own pointers
+  goes-label c l = record {
+    reads = λ ls e k r. rw append_assoc (on.reads (slice_range b (p + 1) (p + 1 + c) ∷ ls) e k (label c w l.octet l.some l.few l.there r));
+  }
+
+  goes-pointer : (t : ℕ) → IsPointerAt b p s t → GoesOn b start t t (Some s) passed (λ e. own (p + 2)) (suc pointers)
+  goes-pointer t at = record {
+    reads = λ ls e k r. let count : suc pointers + k ≡ pointers + suc k = omega arith in rw count (on.reads ls (p + 2) (suc k) (Reads-jump w at r));
+  }
+
+module _ {b : List ℕ} {start first p s limit end size pointers labels : ℕ} (h : WalksOn b start first p s limit end size pointers labels)
+    (w : IsWithin p (once_followed pointers limit)) where
+  -- the name ends here
+  pub WalksOn-end : slice_get b p ≡ Some 0 → (walked : Walked) → walked.first ≡ first → walked.size ≡ size
+      → walked.end ≡ unwrap_or (once_followed pointers end) (p + 1) → (IsTrue walked.in_one_piece → s ≡ first)
+      → IsFound b start walked labels pointers
+  WalksOn-end g walked first_is size_is end_is plain =
+      let fits : encoded_size h.passed ≤ 255 = omega (arith, h.passed_size, h.fits) in
+      let size_of : walked.size ≡ encoded_size h.passed = size_is ∙ sym h.passed_size in
+      let name : NameAt b start h.passed walked.end pointers = rw end_is (goes-end w h.goes_on g fits) in
+      let there : NameAt b walked.first h.passed (h.leads.own (p + 1)) h.leads.more = rw first_is (goes-end w h.leads.goes_on g fits) in
+      record {
+        stands = StandsAt-found b start _ _ _ _ (h.passed, name, size_of, sym h.passed_count);
+        lies = record {
+          end = h.leads.own (p + 1);
+          pointers = h.leads.more;
+          stands = StandsAt-found b walked.first _ _ _ _ (h.passed, there, size_of, sym h.passed_count);
+          plain = λ whole. let same = plain whole in omega (arith, h.leads.earlier);
+        };
+        same = labels_at-NameAt _ _ _ _ _ there ∙ sym (labels_at-NameAt _ _ _ _ _ name);
+      }
+
+  -- a label is passed
+  pub WalksOn-label : (c : ℕ) → IsLabelAt b p c → size + 1 + c ≤ 255
+      → WalksOn b start first (p + 1 + c) s limit end (size + 1 + c) pointers (labels + 1)
+  WalksOn-label c l short =
+      let new : List ℕ = slice_range b (p + 1) (p + 1 + c) in
+      record {
+        passed = h.passed ++ new ∷ [];
+        passed_size = omega (arith, h.passed_size, encoded_size_push h.passed new, length-label b p c l.there);
+        passed_count = omega (arith, length_push h.passed new, h.passed_count);
+        few = omega (arith, h.few, l.some);
+        fits = short;
+        order = omega (arith, h.order);
+        back = h.back;
+        inside = h.inside;
+        whole = h.whole;
+        leads = record { more = h.leads.more; own = h.leads.own; earlier = h.leads.earlier; goes_on = goes-label w h.leads.goes_on c l };
+        goes_on = goes-label w h.goes_on c l;
+        stops = λ error k j f.
+            let count : labels + 1 + j ≡ labels + suc j = omega arith in
+            rw count (h.stops error k (suc j) (label c w l.octet l.some l.few l.there short f));
+      }
+
+  -- a pointer is followed, wherever the first label is then
+  pub WalksOn-pointer : (t e to : ℕ) → IsPointerAt b p s t → e ≡ unwrap_or (once_followed pointers end) (p + 2)
+      → Leads b to t t (Some s) h.passed → WalksOn b start to t t s e size (suc pointers) labels
+  WalksOn-pointer t e to at end_is leads =
+      record {
+        passed = h.passed;
+        passed_size = h.passed_size;
+        passed_count = h.passed_count;
+        few = h.few;
+        fits = h.fits;
+        order = omega arith;
+        back = omega (arith, h.back, at.prior);
+        inside = omega (arith, h.order, slice_get_within b p at.high at.first);
+        whole = λ zero. absurd (omega arith);
+        leads = leads;
+        goes_on = rw (← end_is) at (goes-pointer w h.goes_on t at);
+        stops = λ error k j f.
+            let count : suc pointers + k ≡ pointers + suc k = omega arith in
+            rw count (h.stops error (suc k) j (Stops-jump w at f));
+      }
+
+  -- it is after a label
+  pub Leads-pointer : (t : ℕ) → IsPointerAt b p s t → Leads b first t t (Some s) h.passed
+  Leads-pointer t at = record {
+    more = suc h.leads.more;
+    own = λ e. h.leads.own (p + 2);
+    earlier = omega (arith, at.prior, h.leads.earlier);
+    goes_on = goes-pointer w h.leads.goes_on t at;
+  }

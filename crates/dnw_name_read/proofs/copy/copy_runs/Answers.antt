@@ -1,0 +1,24 @@
+use Rattle.std.proofs.Common.{length, ap, arith}
+use Rattle.dnw_base.specs.Names.{wire}
+use Rattle.dnw_name_read.proofs.Behind.{here}
+use Rattle.dnw_name_read.proofs.Copying.{Copies-size, Copies-end, Copies-label}
+use Rattle.dnw_name_read.proofs.copy.copy_runs.Goals as goal
+
+pub returns-then-octet-eq0 : goal.returns-then-octet-eq0
+returns-then-octet-eq0 c = Copies-end c.elements.invariant _ c.if-octet-eq0.true c.put_run.ensures
+
+-- a label leaves fewer octets to be written
+pub elements-smaller-then-octet-lt-POINTER_MARK : goal.elements-smaller-then-octet-lt-POINTER_MARK
+elements-smaller-then-octet-lt-POINTER_MARK c =
+    let now = c.elements.invariant in
+    omega (arith, Copies-size now, Copies-size (Copies-label now c.if-octet-eq0.false c.if-octet-lt-POINTER_MARK.true), now.order)
+
+pub bounds-message-position-else-octet-lt-POINTER_MARK : goal.bounds-message-position-else-octet-lt-POINTER_MARK
+bounds-message-position-else-octet-lt-POINTER_MARK c = ((here c.elements.invariant.on).pointer c.if-octet-lt-POINTER_MARK.false).there
+
+-- and a pointer as many
+pub elements-smaller : goal.elements-smaller
+elements-smaller c =
+    let now = c.elements.invariant in
+    let pointer = rw (← c.pointer_target-run.ensures) at ((here now.on).pointer c.if-octet-lt-POINTER_MARK.false) in
+    omega (arith, now.back, pointer.prior, ap (λ ls. length (wire ls)) pointer.labels)

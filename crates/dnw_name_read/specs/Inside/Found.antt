@@ -1,0 +1,76 @@
+-- How a name in a message is kept: the message, and where the name is.
+use Rattle.std.specs.Prelude.{◌≡◌, ℕ, Bool, IsTrue, zero, suc, ◌+◌, ◌<◌, ◌≤◌, ◌==◌, nat_le, if◌then◌else◌, Option, List, [], ◌∷◌, ◌++◌, length, slice_index, slice_range}
+use Rattle.dnw_name_read.specs.declared.walk.Walked.{Walked}
+use Rattle.dnw_base.specs.Limits.{max_label, max_labels, pointer_mark}
+use Rattle.dnw_base.specs.Names.{encoded_size, wire}
+use Rattle.dnw_name_read.specs.Buffers.{put}
+use Rattle.dnw_name_read.specs.Reading.{target, Reads, NameAt}
+
+-- the labels that are read at p in at most n steps
+abbrev pub labels_in_steps : ℕ → List ℕ → ℕ → List (List ℕ)
+labels_in_steps zero b p = []
+labels_in_steps (suc n) b p =
+    if slice_index b p == 0 then []
+    else if nat_le (slice_index b p) max_label then slice_range b (p + 1) (p + 1 + slice_index b p) ∷ labels_in_steps n b (p + 1 + slice_index b p)
+    else labels_in_steps n b (target (slice_index b p) (slice_index b (p + 1)))
+
+-- the labels of the name at p: it takes at most p pointers, 127 labels and the closing zero
+unfoldable pub labels_at : List ℕ → ℕ → List (List ℕ)
+labels_at b p = labels_in_steps (p + (max_labels + 1)) b p
+
+-- A name is at p, takes so many octets in its wire form, and its own octets end at e.
+pub record StandsAt (b : List ℕ) (p e size count pointers : ℕ) : Type 0 where
+  pub name : NameAt b p (labels_at b p) e pointers
+  pub size_is : size ≡ encoded_size (labels_at b p)
+  pub count_is : count ≡ length (labels_at b p)
+
+-- Such a name, which follows no pointer from there on if it is in one piece: then its own octets are its wire form.
+pub record LiesAt (b : List ℕ) (p size count : ℕ) (in_one_piece : Bool) : Type 0 where
+  pub end : ℕ
+  pub pointers : ℕ
+  pub stands : StandsAt b p end size count pointers
+  pub plain : IsTrue in_one_piece → pointers ≡ 0
+
+-- What a walk from p has found: the name, and where its first label is.
+pub record IsFound (b : List ℕ) (p : ℕ) (walked : Walked) (count pointers : ℕ) : Type 0 where
+  pub stands : StandsAt b p walked.end walked.size count pointers
+  pub lies : LiesAt b walked.first walked.size count walked.in_one_piece
+  pub same : labels_at b walked.first ≡ labels_at b p
+
+-- The labels at p are read there, in a segment that began at s.
+pub record ReadsOn (b : List ℕ) (s p : ℕ) : Type 0 where
+  pub limit : Option ℕ
+  pub end : ℕ
+  pub pointers : ℕ
+  pub reads : Reads b p s limit (labels_at b p) end pointers
+  pub back : s ≤ p
+  pub few : length (labels_at b p) ≤ max_labels
+  pub inside : p < length b
+
+-- A copy has come to position and put what is written at the front of a buffer, with the octets from run on still to be
+-- written: what is written, these octets and the wire form of the labels that follow make the wire form of the whole name.
+pub record Copies (b : List ℕ) (start run position : ℕ) (buffer out : List ℕ) (filled : ℕ) : Type 0 where
+  pub segment : ℕ
+  pub on : ReadsOn b segment position
+  pub order : run ≤ position
+  pub back : segment ≤ run
+  pub written : List ℕ
+  pub whole : written ++ (slice_range b run position ++ wire (labels_at b position)) ≡ wire (labels_at b start)
+  pub size : filled ≡ length written
+  pub is : out ≡ put buffer written
+
+-- The labels at p are read there.
+pub record MoreAt (b : List ℕ) (p : ℕ) : Type 0 where
+  pub segment : ℕ
+  pub on : ReadsOn b segment p
+
+-- Pointers lead from p to t, the offset of a label or of the end of the name.
+pub record LeadsTo (b : List ℕ) (p t : ℕ) : Type 0 where
+  pub more : MoreAt b t
+  pub same : labels_at b t ≡ labels_at b p
+  pub last : slice_index b t < pointer_mark
+
+-- So many labels are left to be read at p.
+pub record IsLeftAt (b : List ℕ) (p left : ℕ) : Type 0 where
+  pub more : MoreAt b p
+  pub counted : left ≡ length (labels_at b p)

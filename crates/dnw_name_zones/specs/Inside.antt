@@ -1,0 +1,2 @@
+-- What no public clause cites: the laws of keys.
+pub mod KeyLaws

@@ -1,0 +1,4 @@
+pub mod Usages
+pub mod Zones
+pub mod Keys
+pub mod Inside

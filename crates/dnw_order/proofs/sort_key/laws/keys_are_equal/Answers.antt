@@ -1,5 +1,0 @@
-use Rattle.dnw_order.proofs.SortKeys.{keys_are_equal as law}
-use Rattle.dnw_order.proofs.sort_key.laws.keys_are_equal.Goals as goal
-
-pub returns : goal.returns
-returns c = law

@@ -1,5 +1,0 @@
-use Rattle.dnw_order.proofs.SortKeys.{zones_begin as law}
-use Rattle.dnw_order.proofs.sort_key.laws.zones_begin.Goals as goal
-
-pub returns : goal.returns
-returns c = law

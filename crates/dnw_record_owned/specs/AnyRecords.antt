@@ -1,0 +1,96 @@
+-- How a record of any type is written (RFC 1035, section 4.1.3): its owner, type, class and time to live, and its data with
+-- their length. Data are written as parts: each name is one, and so are all octets from one name to the next.
+use Rattle.std.specs.Prelude.{◌≡◌, ℕ, ◌<◌, ◌^◌, Bool, true, List, [], ◌∷◌, ◌++◌, Ok, Err}
+use Rattle.std.specs.Int.{w16, w32, to_be_bytes}
+use Rattle.dnw_base.specs.declared.record_type.RecordType.{RecordType}
+use Rattle.dnw_base.specs.declared.dns_class.DNSClass.{DNSClass}
+use Rattle.dnw_base.specs.RecordTypes.{type_code}
+use Rattle.dnw_base.specs.DnsClasses.{class_code}
+use Rattle.dnw_base.specs.Names.{NameValue}
+use Rattle.dnw_data.specs.declared.kind.NameForm.{NameForm}
+use Rattle.dnw_data.specs.declared.kind.NameForm.TheVariants.{Compressible, Lowered, Plain}
+use Rattle.dnw_write.specs.declared.encoder.modes.NameEncoding.{NameEncoding}
+use Rattle.dnw_write.specs.declared.encoder.modes.RDataEncoding.{RDataEncoding}
+use Rattle.dnw_write.specs.declared.encoder.modes.RDataEncoding.TheVariants.{StandardRecord, Canonical, Other}
+use Rattle.dnw_write.specs.Encoder.{Encoder, Writes, mode_of_rdata}
+use Rattle.dnw_write.specs.Emitting.{Emits}
+use Rattle.dnw_write.specs.EmittedName.{EmitsName}
+use Rattle.dnw_write.specs.Marks.{mark_of, rewound}
+use Rattle.dnw_record.specs.Records.{RecordValue}
+use Rattle.dnw_record.specs.Parts.{EmitsSized, EmitsWireParts, Then, WirePart, bytes_part, name_part}
+use Rattle.dnw_record_owned.specs.declared.record.Record.{Record}
+use Rattle.dnw_record_owned.specs.DataCopies.{Copies, data_start}
+use Rattle.dnw_record_owned.specs.DataPieces.{DataValue, HasPieces, DataPiece, kinds_of, name_piece, octets_piece}
+
+-- ---- data
+
+-- how names of this form are written: as other names; whole, and lowered in canonical form; or whole (RFC 3597, section 4,
+-- RFC 4034, section 6.2, and RFC 6840, section 5.1)
+abbrev pub encoding_of : NameForm → RDataEncoding
+encoding_of Compressible = StandardRecord
+encoding_of Lowered = Canonical
+encoding_of Plain = Other
+
+-- the mode that a name of this form is written in, by the mode in force, in canonical form or not
+abbrev pub mode_of : NameForm → NameEncoding → Bool → NameEncoding
+mode_of form mode canonical = mode_of_rdata (encoding_of form) canonical mode
+
+-- a name of data, which is fully qualified
+abbrev pub name_of : List (List ℕ) → NameValue
+name_of labels = record { is_fqdn = true; labels = labels }
+
+-- the parts of pieces that follow octets which are still to be written, by the mode in force, in canonical form or not
+abbrev pub parts_after : List ℕ → List DataPiece → NameEncoding → Bool → List WirePart
+parts_after run [] mode canonical = bytes_part run ∷ []
+parts_after run (octets_piece own ∷ pieces) mode canonical = parts_after (run ++ own) pieces mode canonical
+parts_after run (name_piece form labels ∷ pieces) mode canonical =
+    bytes_part run ∷ name_part (mode_of form mode canonical) (name_of labels) ∷ parts_after [] pieces mode canonical
+
+abbrev pub parts_of : List DataPiece → NameEncoding → Bool → List WirePart
+parts_of pieces mode canonical = parts_after [] pieces mode canonical
+
+-- The octets are written as the parts of their pieces.
+abbrev pub EmitsRData : Emits DataValue
+EmitsRData x v outcome w =
+    (pieces : List DataPiece) × HasPieces (kinds_of x.record_type) x.octets pieces
+    × EmitsWireParts (parts_of pieces v.encoding v.canonical) v outcome w
+
+-- ---- records
+
+-- the type, the class and the time to live
+abbrev pub fixed_octets : RecordType → DNSClass → ℕ → List ℕ
+fixed_octets record_type class ttl = to_be_bytes w16 (type_code record_type) ++ (to_be_bytes w16 (class_code class) ++ to_be_bytes w32 ttl)
+
+abbrev pub type_class_ttl : Record → List ℕ
+type_class_ttl r = fixed_octets r.data.record_type r.dns_class r.ttl
+
+-- The record is a copy of one of a message: with its owner, class and time to live, and its data, in which every name has its
+-- wire form.
+abbrev pub IsCopyOf : RecordValue → Record → Type 0
+IsCopyOf x r =
+    (r.name ≡ name_of x.owner) × (r.dns_class ≡ x.class) × (r.ttl ≡ x.ttl) × (r.data.record_type ≡ x.record_type)
+    × Copies (kinds_of x.record_type) (data_start x) r.data.octets
+
+-- the owner, the type, the class, the time to live, and the data with their length
+abbrev pub EmitsAnyFields : Emits Record
+EmitsAnyFields r = Then (EmitsName r.name) (Then (λ v. Writes v (type_class_ttl r)) (EmitsSized (EmitsRData r.data)))
+
+-- The numbers of a record fit their fields, as those of the code do.
+abbrev pub FixedFit : RecordType → DNSClass → ℕ → Type 0
+FixedFit record_type class ttl = (type_code record_type < 2 ^ 16) × (class_code class < 2 ^ 16) × (ttl < 2 ^ 32)
+
+abbrev pub AnyNumbersFit : Record → Type 0
+AnyNumbersFit r = FixedFit r.data.record_type r.dns_class r.ttl
+
+-- A record is written whole, or undone whole: then the encoder is back at its mark, whichever field failed.
+abbrev pub EmitsAnyRecord : Emits Record
+EmitsAnyRecord r v (Ok done) w = AnyNumbersFit r × EmitsAnyFields r v (Ok tt) w
+EmitsAnyRecord r v (Err error) w = (u : Encoder) × EmitsAnyFields r v (Err error) u × (w ≡ rewound u (mark_of v))
+
+-- The data of a record of a message are fields of its type, up to their end.
+abbrev pub HasFields : RecordValue → Type 0
+HasFields x = (octets : List ℕ) × Copies (kinds_of x.record_type) (data_start x) octets
+
+-- A record of a message is written as its copy is: whole or not at all.
+abbrev pub EmitsCopyOf : Emits RecordValue
+EmitsCopyOf x v outcome w = (r : Record) × IsCopyOf x r × EmitsAnyRecord r v outcome w

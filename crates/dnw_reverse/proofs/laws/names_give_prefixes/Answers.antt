@@ -1,5 +1,0 @@
-use Rattle.dnw_reverse.proofs.Prefixes.{names_give}
-use Rattle.dnw_reverse.proofs.laws.names_give_prefixes.Goals as goal
-
-pub returns : goal.returns
-returns c = names_give

@@ -1,5 +1,0 @@
-use Rattle.dnw_sets.proofs.Sets.{not-failed}
-use Rattle.dnw_sets.proofs.record_data.LowerNameRecordDataDecodable.read_data.Goals as goal
-
-pub returns-clause-accepts : goal.returns-clause-accepts
-returns-clause-accepts c name after h = let (ok, there) = c.read.ensures.accepts name after h in not-failed _ _ c.read.result ok

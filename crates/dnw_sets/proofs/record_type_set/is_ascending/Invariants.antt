@@ -1,8 +1,0 @@
-use Rattle.std.proofs.Common.{◌∷◌, drop}
-use Rattle.std.specs.List.Sorted.{IsStrictlySortedBy}
-use Rattle.dnw_codes.specs.RecordTypes.{type_cmp}
-use Rattle.dnw_sets.proofs.record_type_set.is_ascending.Given as goal
-
--- if the last type and those that are left ascend, all do
-abbrev pub invariant-loop-kind : goal.invariant-loop-kind
-invariant-loop-kind l = IsStrictlySortedBy type_cmp (l.last ∷ drop l.kind-index l.others) → IsStrictlySortedBy type_cmp l.types

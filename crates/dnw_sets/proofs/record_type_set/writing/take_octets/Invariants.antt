@@ -1,5 +1,0 @@
-use Rattle.dnw_sets.proofs.Writing.{TakenOctets}
-use Rattle.dnw_sets.proofs.record_type_set.writing.take_octets.Given as goal
-
-abbrev pub invariant-loop-index : goal.invariant-loop-index
-invariant-loop-index l = TakenOctets l.first l.index l.octets.items l.codes l.rest

@@ -1,0 +1,55 @@
+//! Why there are no octets that a signature covers.
+
+use std::alloc::{AllocError, AllocFailed};
+use thiserror::Error;
+
+/// Why there are no octets that a signature covers.
+#[derive(Debug, Drop, Error)]
+pub enum CanonicalError {
+    /// There are no records.
+    #[error("no records")]
+    NoRecords,
+    /// The owner has fewer labels than the signature's number of labels says (RFC 4035, section 5.3.2).
+    #[error("the owner has fewer labels than the signature says")]
+    TooFewLabels,
+    /// A record has another owner, type or class than the first one, so they are no set.
+    #[error("record {record} has another owner, type or class than the first one")]
+    NotInSet {
+        /// The number of the record, from 0.
+        record: usize,
+    },
+    /// The data of a record are longer than their length of two octets can say.
+    #[error("the data of record {record} are too long")]
+    DataTooLong {
+        /// The number of the record, from 0.
+        record: usize,
+    },
+    /// The data are not those of an RRSIG.
+    #[error("no data of an RRSIG")]
+    NotRrsig,
+    /// An allocation failed.
+    #[error("out of memory")]
+    Memory,
+}
+
+impl From<AllocError> for CanonicalError {
+    ghost use Rattle.std.specs.Prelude.{◌≡◌};
+    ghost use Rattle.dnw_signed.specs.declared.error.CanonicalError.TheVariants.{Memory};
+
+    ghost from_gives = { λ _ e. e ≡ Memory };
+
+    fn from(_: AllocError) -> Self {
+        CanonicalError::Memory
+    }
+}
+
+impl<T: Drop> From<AllocFailed<T>> for CanonicalError {
+    ghost use Rattle.std.specs.Prelude.{◌≡◌};
+    ghost use Rattle.dnw_signed.specs.declared.error.CanonicalError.TheVariants.{Memory};
+
+    ghost from_gives = { λ _ e. e ≡ Memory };
+
+    fn from(_: AllocFailed<T>) -> Self {
+        CanonicalError::Memory
+    }
+}

@@ -1,5 +1,0 @@
-use Rattle.dnw_svcb_text.proofs.Steps.{value-some}
-use Rattle.dnw_svcb_text.proofs.values.nothing_of.Goals as goal
-
-pub returns-in_default : goal.returns-in_default
-returns-in_default c = λ own is. value-some c.args.form own c.in_default.not-Nothing is

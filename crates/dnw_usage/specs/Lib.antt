@@ -1,2 +1,0 @@
-pub mod Usages
-pub mod Zones

@@ -1,0 +1,137 @@
+-- Types of bitmaps, one after another.
+use Rattle.std.proofs.Common.{◌≡◌, ◌≢◌, ◌≤◌, ◌<◌, ℕ, zero, suc, ◌+◌, ◌*◌, true, false, List, [], ◌∷◌, ◌++◌, length, take, drop, refl, sym, ap, ◌∙◌, subst, arith, append_assoc, append-nil, length-append}
+use Rattle.std.specs.Prelude.{Option, Some, None, option_map, flat_map, nat_le}
+use Rattle.std.specs.Iterator.{Drains}
+use Rattle.std.specs.Vec.Iter.{into_iter_items, into_iter_len, into_iter_steps}
+use Rattle.std.specs.declared.vec.IntoIter.{IntoIter}
+use Rattle.std.proofs.lemmas.Iterator.{items_from_drains}
+use Rattle.std.proofs.lemmas.Iterator.Adapters.{YieldsList-from_vec}
+use Rattle.std.proofs.lemmas.List.{map-id, take_at, drop_at}
+use Rattle.std.proofs.lemmas.Bool.{le-leb, lt-leb}
+use Rattle.std.proofs.lemmas.List.Concat.{flat_map-append}
+use Rattle.dnw_base.specs.declared.record_type.RecordType.{RecordType}
+use Rattle.dnw_data.specs.TypeSets.{bits, bit_codes, octets_codes, window_size}
+use Rattle.dnw_data.proofs.Windows.{bits-next}
+use Rattle.dnw_base.specs.RecordTypes.{type_of_text}
+use Rattle.dnw_zone_svcb.specs.Inside.Steps.{IsSpaced}
+use Rattle.dnw_zone_data.specs.Words.{after_spaces, word, after_word}
+use Rattle.dnw_zone_data.specs.TypeLists.{is_window, codes_within, code_text, codes_text, PrintsTypes, IsTypeWord, AreTypeWords}
+use Rattle.dnw_zone_data.specs.Appending.{AppendedInPart}
+use Rattle.dnw_zone_data.specs.Inside.TypeWords.{LeadToTypes}
+
+-- the iterator of a vector gives its elements
+pub vec_gave : {A Z : Type 0} (it : IntoIter A Z) (all xs : List A) → into_iter_items it ≡ all → into_iter_len it ≡ length all
+    → Drains into_iter_steps it xs → xs ≡ all
+vec_gave it all xs items len (rest, (last, yielded, ended)) =
+    sym (map-id xs) ∙ items_from_drains xs (last, yielded, λ _. (rest, ended)) (YieldsList-from_vec all items len)
+
+-- codes before others
+abbrev pub after : List ℕ → Option (List ℕ) → Option (List ℕ)
+after found codes = option_map (λ own. found ++ own) codes
+
+pub after_nil : (codes : Option (List ℕ)) → codes ≡ after [] codes
+after_nil None = refl
+after_nil (Some own) = refl
+
+pub after_all : (found own : List ℕ) (codes : Option (List ℕ)) → after found (after own codes) ≡ after (found ++ own) codes
+after_all found own None = refl
+after_all found own (Some others) = ap Some (sym (append_assoc found own others))
+
+pub codes-append : (a b : List ℕ) → codes_text (a ++ b) ≡ codes_text a ++ codes_text b
+codes-append a b = flat_map-append code_text a b
+
+-- ---- words
+
+pub types-more : (text : List ℕ) (done : List RecordType) (left : List ℕ) (kind : RecordType) → LeadToTypes text done left → left ≢ [] → IsTypeWord (word left) kind
+    → LeadToTypes text (done ++ kind ∷ []) (after_spaces (after_word left))
+types-more text [] left kind h some is = (
+  subst (λ (xs : List ℕ). xs ≢ []) h some,
+  subst (λ (xs : List ℕ). IsTypeWord (word xs) kind) h is,
+  ap (λ (xs : List ℕ). after_spaces (after_word xs)) h,
+)
+types-more text (d ∷ done) left kind h some is = (h.0, h.1, types-more (after_word (after_spaces text)) done left kind h.2 some is)
+
+pub types-end : (text : List ℕ) (done : List RecordType) (left : List ℕ) → LeadToTypes text done left → left ≡ [] → AreTypeWords text done
+types-end text [] left h none = sym h ∙ none
+types-end text (d ∷ done) left h none = (h.0, h.1, types-end (after_word (after_spaces text)) done left h.2 none)
+
+pub types-stop : (text : List ℕ) (done kinds : List RecordType) (left : List ℕ) → LeadToTypes text done left → left ≢ []
+    → ((kind : RecordType) → ¬ (IsTypeWord (word left) kind)) → AreTypeWords text kinds → ⊥
+types-stop text [] [] left h some none are = some (h ∙ are)
+types-stop text [] (s ∷ kinds) left h some none are = none s (subst (λ (xs : List ℕ). IsTypeWord (word xs) s) (sym h) are.1)
+types-stop text (d ∷ done) [] left h some none are = h.0 are
+types-stop text (d ∷ done) (s ∷ kinds) left h some none are = types-stop (after_word (after_spaces text)) done kinds left h.2 some none are.2
+
+-- no type has an empty name
+pub word-some : (w : List ℕ) (kind : RecordType) → IsTypeWord w kind → 0 < length w
+unfolding type_of_text
+word-some [] kind is = let no : None ≡ Some kind = is.1 in cc
+word-some (c ∷ w) kind is = omega arith
+
+-- ---- windows
+
+-- one bit more
+pub bit-more : (old mid whole : List ℕ) (first octet bit : ℕ) → bit < 8 → mid ≡ old ++ codes_text (bit_codes first octet bit)
+    → old ++ codes_text (flat_map (bit_codes first octet) (drop bit bits)) ≡ whole
+    → mid ++ codes_text (flat_map (bit_codes first octet) (drop (bit + 1) bits)) ≡ whole
+bit-more old mid whole first octet bit within e so_far =
+    let own = bit_codes first octet bit in
+    let others = flat_map (bit_codes first octet) (drop (bit + 1) bits) in
+    ap (λ (xs : List ℕ). xs ++ codes_text others) e ∙ append_assoc old (codes_text own) (codes_text others)
+    ∙ ap (λ (xs : List ℕ). old ++ xs) (sym (codes-append own others))
+    ∙ ap (λ (xs : List ℕ). old ++ codes_text (flat_map (bit_codes first octet) xs)) (sym (bits-next bit within)) ∙ so_far
+
+-- a window, if there is one
+window : (n number len : ℕ) (left rest more own others : List ℕ) → left ≡ number ∷ rest → rest ≡ len ∷ more → more ≡ own ++ others → length own ≡ len → is_window own ≡ true
+    → codes_within (suc n) left ≡ after (octets_codes (window_size * number) own) (codes_within n others)
+window n number len left rest more own others first second whole size is =
+    let front : take len more ≡ own = ap (take len) whole ∙ take_at own others len size in
+    let back : drop len more ≡ others = ap (drop len) whole ∙ drop_at own others len size in
+    let fits : nat_le len (length more) ≡ true = le-leb len (length more) (omega (arith, size, ap length whole, length-append own others)) in
+    rw (first, second, fits, front, back, is) refl
+
+-- one window more
+pub window-more : (all left rest more own others : List ℕ) (found : List ℕ) (n number len : ℕ) → codes_within (length all) all ≡ after found (codes_within n left)
+    → length left ≤ n → left ≡ number ∷ rest → rest ≡ len ∷ more → more ≡ own ++ others → length own ≡ len → is_window own ≡ true
+    → (m : ℕ) × (length others ≤ m) × (codes_within (length all) all ≡ after (found ++ octets_codes (window_size * number) own) (codes_within m others))
+window-more all left rest more own others found zero number len so_far few first second whole size is = absurd (omega (arith, few, ap length first))
+window-more all left rest more own others found (suc n) number len so_far few first second whole size is = (
+  n,
+  omega (arith, few, ap length first, ap length second, ap length whole, length-append own others),
+  so_far ∙ ap (after found) (window n number len left rest more own others first second whole size is) ∙ after_all found (octets_codes (window_size * number) own) (codes_within n others),
+)
+
+-- no window
+pub no-number : (n number : ℕ) (left rest : List ℕ) → length left ≤ n → left ≡ number ∷ rest → rest ≡ [] → codes_within n left ≡ None
+no-number zero number left rest few first none = absurd (omega (arith, few, ap length first))
+no-number (suc n) number left rest few first none = rw (first, none) refl
+
+pub no-octets : (n number len : ℕ) (left rest more : List ℕ) → length left ≤ n → left ≡ number ∷ rest → rest ≡ len ∷ more → length more < len → codes_within n left ≡ None
+no-octets zero number len left rest more few first second short = absurd (omega (arith, few, ap length first))
+no-octets (suc n) number len left rest more few first second short =
+    let fits : nat_le len (length more) ≡ false = lt-leb len (length more) short in
+    rw (first, second, fits) refl
+
+pub no-window : (n number len : ℕ) (left rest more own others : List ℕ) → length left ≤ n → left ≡ number ∷ rest → rest ≡ len ∷ more → more ≡ own ++ others
+    → length own ≡ len → is_window own ≡ false → codes_within n left ≡ None
+no-window zero number len left rest more own others few first second whole size is = absurd (omega (arith, few, ap length first))
+no-window (suc n) number len left rest more own others few first second whole size is =
+    let front : take len more ≡ own = ap (take len) whole ∙ take_at own others len size in
+    let fits : nat_le len (length more) ≡ true = le-leb len (length more) (omega (arith, size, ap length whole, length-append own others)) in
+    rw (first, second, fits, front, is) refl
+
+spaced : (codes : List ℕ) → IsSpaced (codes_text codes)
+spaced [] = tt
+spaced (code ∷ codes) = refl
+
+pub no-types : (all left : List ℕ) (found : List ℕ) (n : ℕ) → codes_within (length all) all ≡ after found (codes_within n left)
+    → codes_within n left ≡ None → (old new : List ℕ) → new ≡ old ++ codes_text found → AppendedInPart (PrintsTypes all) old new false
+no-types all left found n so_far none old new e =
+    (λ text own. let no : None ≡ Some own.0 = ap (after found) (sym none) ∙ sym so_far ∙ own.1 in cc, (codes_text found, spaced found, e))
+
+pub all-types : (all left old new : List ℕ) (found : List ℕ) (n : ℕ) → codes_within (length all) all ≡ after found (codes_within n left)
+    → left ≡ [] → new ≡ old ++ codes_text found → AppendedInPart (PrintsTypes all) old new true
+all-types all left old new found n so_far none e =
+    let end : codes_within n left ≡ Some [] = ap (codes_within n) none in
+    let whole : codes_within (length all) all ≡ Some found = so_far ∙ ap (after found) end ∙ ap Some (append-nil found) in
+    (codes_text found, (found, whole, refl), e)

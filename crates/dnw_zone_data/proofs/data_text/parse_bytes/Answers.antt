@@ -1,0 +1,21 @@
+-- What is after the mark is the number and the octets.
+use Rattle.std.proofs.Common.{◌≡◌, ℕ, List, length, inl, sym, ap, ◌∙◌, subst}
+use Rattle.std.proofs.lemmas.Result.{MatchResult-weaker}
+use Rattle.std.proofs.lemmas.Slice.Eq.{bytes_eq-Decides}
+use Rattle.dnw_base.specs.RecordTypes.{type_code}
+use Rattle.dnw_data.specs.Table.{fields_of}
+use Rattle.dnw_zone_data.specs.Words.{after_spaces, after_word, word}
+use Rattle.dnw_zone_data.specs.DataTexts.{FailsGeneric}
+use Rattle.dnw_zone_data.specs.Generic.{mark, IsSized}
+use Rattle.dnw_zone_data.proofs.data_text.parse_bytes.Goals as goal
+
+pub returns-then-eq : goal.returns-then-eq
+returns-then-eq c =
+    let text = c.args.text.now in
+    let start = c.after_spaces-start.ensures.rest in
+    let first : word (after_spaces text) ≡ c.split_word.result.0.now = sym (c.split_word.ensures.word ∙ ap word start) in
+    let marked : word (after_spaces text) ≡ mark = first ∙ (bytes_eq-Decides c.split_word.result.0.now mark).0 (sym c.eq.ensures ∙ c.if-eq.true) in
+    let left : c.split_word.result.1.now ≡ after_word (after_spaces text) = c.split_word.ensures.rest ∙ ap after_word start in
+    MatchResult-weaker c.parse_generic.result c.parse_generic.ensures
+    (λ own has. inl ((marked, subst (λ (xs : List ℕ). IsSized xs own.items) left has.0), has.1))
+    (λ e fails. inl (marked, subst (λ (xs : List ℕ). FailsGeneric (fields_of (type_code c.args.record_type)) (length text) xs e) left fails))

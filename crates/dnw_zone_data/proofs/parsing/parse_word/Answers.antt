@@ -1,0 +1,66 @@
+use Rattle.std.proofs.Common.{List, ℕ, ◌++◌, IfOk, refl, sym, ap, ◌∙◌, subst}
+use Rattle.std.specs.Net.Addr.{ipv4_octets, ipv6_segments}
+use Rattle.std.specs.Net.Grammar.{IsIpv4Text, IsIpv6Text}
+use Rattle.dnw_base.specs.RecordTypes.{type_of_text}
+use Rattle.dnw_data.specs.Values.{ipv4, ipv6, type_code, counted}
+use Rattle.dnw_zone_data.specs.Parsing.{AreOctetsOf, Spells, IsOctetsOf, IsNumberOf, IsIdentifier, eui48, eui64}
+use Rattle.std.specs.Int.{w16, to_be_bytes}
+use Rattle.std.specs.Option.{option_copied}
+use Rattle.dnw_zone_data.proofs.NumberKinds.{as-number}
+use Rattle.dnw_zone_data.specs.Appending.{AppendsOne}
+use Rattle.dnw_zone_data.proofs.parsing.parse_word.Goals as goal
+
+pub returns-in-Name : goal.returns-in-Name
+returns-in-Name c = rw c.in-Name.is c.parse_name.ensures
+
+pub returns-in_default-parse_ipv4 : goal.returns-in_default-parse_ipv4
+returns-in_default-parse_ipv4 c =
+    rw c.in-Ipv4.is (λ value own. c.in_default-parse_ipv4.ensures.1 own.0 (subst (λ (t : List ℕ). IsIpv4Text t own.0) (sym c.in-Ok.ensures.cases.0) own.2))
+
+pub returns-in_default-parse_ipv6 : goal.returns-in_default-parse_ipv6
+returns-in_default-parse_ipv6 c =
+    rw c.in-Ipv6.is (λ value own. c.in_default-parse_ipv6.ensures.1 own.0 (subst (λ (t : List ℕ). IsIpv6Text t own.0) (sym c.in-Ok.ensures.cases.0) own.2))
+
+pub returns-in-U48 : goal.returns-in-U48
+returns-in-U48 c =
+    let Is : List ℕ → Type 0 = λ t. IfOk c.parse_eui48.result (AppendsOne (IsIdentifier 6 eui48 t) c.args.out.now.items c.parse_eui48.new.out.items) in
+    rw c.in-U48.is (subst Is c.in-Ok.ensures.cases.0 c.parse_eui48.ensures)
+
+pub returns-in-U64 : goal.returns-in-U64
+returns-in-U64 c =
+    let Is : List ℕ → Type 0 = λ t. IfOk c.parse_eui64.result (AppendsOne (IsIdentifier 8 eui64 t) c.args.out.now.items c.parse_eui64.new.out.items) in
+    rw c.in-U64.is (subst Is c.in-Ok.ensures.cases.0 c.parse_eui64.ensures)
+
+pub returns-in-Counted : goal.returns-in-Counted
+returns-in-Counted c =
+    let Is : List ℕ → Type 0 = λ t. IfOk c.parse_counted.result (AppendsOne (AreOctetsOf (Spells c.in-Counted.shown) counted t) c.args.out.now.items c.parse_counted.new.out.items) in
+    rw c.in-Counted.is (subst Is c.in-Ok.ensures.cases.0 c.parse_counted.ensures)
+
+pub returns-in-Octets : goal.returns-in-Octets
+returns-in-Octets c =
+    let Is : List ℕ → Type 0 = λ t. IfOk c.parse_octets.result (AppendsOne (IsOctetsOf c.in-Octets.shown t) c.args.out.now.items c.parse_octets.new.out.items) in
+    rw c.in-Octets.is (subst Is c.in-Ok.ensures.cases.0 c.parse_octets.ensures)
+
+pub returns-in_default-kind : goal.returns-in_default-kind
+returns-in_default-kind c =
+    let Is : List ℕ → Type 0 = λ t. IfOk c.parse_number.result (AppendsOne (IsNumberOf c.args.kind t) c.args.out.now.items c.parse_number.new.out.items) in
+    let no = c.in_default-kind in
+    as-number (option_copied c.args.origin) c.args.kind c.args.word.now c.args.out.now.items c.parse_number.new.out.items c.parse_number.result c.in_default.not-Name no.not-Ipv4 no.not-Ipv6 no.not-TypeCode no.not-U48 no.not-U64 no.not-Counted no.not-Octets (subst Is c.in-Ok.ensures.cases.0 c.parse_number.ensures)
+
+pub returns-in_ok-extend_from_slice-in-Ipv4 : goal.returns-in_ok-extend_from_slice-in-Ipv4
+returns-in_ok-extend_from_slice-in-Ipv4 c =
+    let a = c.in-Ok-parse_ipv4.address in
+    let same = c.in-Ok.ensures.cases in
+    rw c.in-Ipv4.is (ipv4 (ipv4_octets a), (a, same.1, subst (λ (t : List ℕ). IsIpv4Text t a) same.0 c.in-Ok-parse_ipv4.ensures, refl), c.in_ok-extend_from_slice-in-Ipv4.ensures.items ∙ ap (λ (xs : List ℕ). c.args.out.now.items ++ xs) c.octets.ensures)
+
+pub returns-in_ok-extend_from_slice-in-Ipv6 : goal.returns-in_ok-extend_from_slice-in-Ipv6
+returns-in_ok-extend_from_slice-in-Ipv6 c =
+    let a = c.in-Ok-parse_ipv6.address in
+    let same = c.in-Ok.ensures.cases in
+    rw c.in-Ipv6.is (ipv6 (ipv6_segments a), (a, same.1, subst (λ (t : List ℕ). IsIpv6Text t a) same.0 c.in-Ok-parse_ipv6.ensures, refl), c.in_ok-extend_from_slice-in-Ipv6.ensures.items ∙ ap (λ (xs : List ℕ). c.args.out.now.items ++ xs) c.octets-in-Ipv6.ensures)
+
+pub returns-in_ok-extend_from_slice-in-TypeCode : goal.returns-in_ok-extend_from_slice-in-TypeCode
+returns-in_ok-extend_from_slice-in-TypeCode c =
+    let code = c.in-Some.code in
+    let same = c.in-Ok.ensures.cases in
+    rw c.in-TypeCode.is (type_code code, (code, same.1, ap type_of_text (sym same.0) ∙ sym c.in-Some.ensures, refl), c.in_ok-extend_from_slice-in-TypeCode.ensures.items ∙ ap (λ (xs : List ℕ). c.args.out.now.items ++ xs) (c.to_be_bytes.ensures ∙ ap (to_be_bytes w16) c.from.ensures))

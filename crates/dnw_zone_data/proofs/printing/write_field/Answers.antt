@@ -1,0 +1,25 @@
+use Rattle.std.proofs.Common.{List, ℕ, subst, IfOk}
+use Rattle.std.specs.Prelude.{string_bytes}
+use Rattle.dnw_zone_data.specs.Printing.{PrintsStrings}
+use Rattle.dnw_zone_data.specs.Appending.{Appended}
+use Rattle.dnw_zone_data.specs.TypeLists.{PrintsTypes}
+use Rattle.dnw_zone_data.specs.ParamLists.{PrintsParams}
+use Rattle.dnw_zone_data.proofs.ParamWalks.{writes-params}
+use Rattle.dnw_zone_data.proofs.printing.write_field.Goals as goal
+
+pub returns-in-Texts : goal.returns-in-Texts
+returns-in-Texts c =
+    let Is : List ℕ → Type 0 = λ own. IfOk c.write_strings.result (Appended (PrintsStrings own) (string_bytes c.args.out.now) (string_bytes c.write_strings.new.out)) in
+    rw c.in-Texts.is (subst Is c.as_bytes.ensures.octets c.write_strings.ensures)
+
+pub returns-in-Types : goal.returns-in-Types
+returns-in-Types c =
+    let Is : List ℕ → Type 0 = λ own. IfOk c.write_types.result (Appended (PrintsTypes own) (string_bytes c.args.out.now) (string_bytes c.write_types.new.out)) in
+    rw c.in-Types.is (subst Is c.as_bytes-in-Types.ensures.octets c.write_types.ensures)
+
+pub returns-in-Params : goal.returns-in-Params
+returns-in-Params c =
+    let own : List ℕ = c.as_bytes-in-Params.result.now in
+    let done = writes-params own (string_bytes c.args.out.now) (string_bytes c.write_params.new.out) c.write_params.result c.write_params.ensures.ok in
+    let Is : List ℕ → Type 0 = λ xs. IfOk c.write_params.result (Appended (PrintsParams xs) (string_bytes c.args.out.now) (string_bytes c.write_params.new.out)) in
+    rw c.in-Params.is (subst Is c.as_bytes-in-Params.ensures.octets done)

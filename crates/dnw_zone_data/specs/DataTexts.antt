@@ -1,0 +1,107 @@
+-- The text of the data of a record: its fields' text, or the form that any data have (RFC 3597, section 5) if they are no
+-- fields of their type, or if a field or the type has no text.
+use Rattle.std.specs.Prelude.{◌≡◌, ◌≢◌, ℕ, ◌-◌, ◌==◌, ◌⊎◌, Bool, true, false, List, [], ◌∷◌, ◌++◌, length, flat_map, if◌then◌else◌, Option}
+use Rattle.dnw_base.specs.declared.error.DecodeError.{DecodeError}
+use Rattle.dnw_base.specs.Decoder.{Decoder}
+use Rattle.dnw_base.specs.Names.{NameValue}
+use Rattle.dnw_data.specs.declared.kind.Kind.{Kind}
+use Rattle.dnw_data.specs.declared.kind.Kind.TheVariants.{Name, Octets}
+use Rattle.dnw_data.specs.declared.kind.Shown.TheVariants.{Hex}
+use Rattle.dnw_data.specs.Values.{FieldValue}
+use Rattle.dnw_data.specs.Fields.{TakesField, FailsField}
+use Rattle.dnw_data.specs.Walks.{IsAtEnd, FieldsLeft}
+use Rattle.dnw_record.specs.Records.{RecordValue, data_octets}
+use Rattle.dnw_record.specs.RecordFields.{record_fields}
+use Rattle.dnw_zone_data.specs.declared.error.DataTextError.{DataTextError}
+use Rattle.dnw_zone_data.specs.declared.error.DataTextError.TheVariants.{Memory}
+use Rattle.dnw_zone_data.specs.declared.error.Wanted.TheVariants.{Data, Generic}
+use Rattle.dnw_zone_data.specs.Faults.{fault}
+use Rattle.dnw_zone_data.specs.Words.{after_spaces, word, after_word}
+use Rattle.dnw_zone_data.specs.Generic.{mark, generic_text, hex_words, IsGeneric, IsSized, FailsSized}
+use Rattle.dnw_zone_data.specs.Printing.{PrintsFields, HasNoText}
+use Rattle.dnw_zone_data.specs.Parsing.{AreFieldTexts, FailsFields}
+use Rattle.dnw_data.specs.FieldWires.{IsLong, field_wire}
+
+-- Data that are octets alone have no form of their own; nor has NXT, which is a name and octets, and whose octets are a bitmap of
+-- types in an old form (RFC 2535, section 5.2).
+abbrev pub has_own_form : List Kind → Bool
+has_own_form (Octets Hex ∷ []) = false
+has_own_form (Name form ∷ Octets Hex ∷ []) = false
+has_own_form kinds = true
+
+-- ---- the octets of data, with names that are not compressed
+
+-- The data are fields of these kinds, and these octets.
+abbrev pub AreWire : List Kind → Decoder → List ℕ → Type 0
+AreWire [] d own = IsAtEnd d × (own ≡ [])
+AreWire (kind ∷ kinds) d own =
+    (value : FieldValue) × (after : Decoder) × (others : List ℕ) × TakesField kind d value after × AreWire kinds after others
+    × (own ≡ field_wire value ++ others)
+
+-- A field cannot be read.
+abbrev pub AreNoFields : List Kind → Decoder → Type 0
+AreNoFields [] d = ¬ (IsAtEnd d)
+AreNoFields (kind ∷ kinds) d =
+    ((error : DecodeError) × FailsField kind d error)
+    ⊎ ((value : FieldValue) × (after : Decoder) × TakesField kind d value after × (IsLong value ⊎ AreNoFields kinds after))
+
+-- the octets of the fields, or those of the message if the data are no fields of their type
+abbrev pub IsPlainData : RecordValue → List ℕ → Type 0
+IsPlainData r own =
+    AreWire (record_fields r).kinds (record_fields r).reader own
+    ⊎ (AreNoFields (record_fields r).kinds (record_fields r).reader × (own ≡ data_octets r))
+
+-- Octets are data of these kinds without pointers: the fields that are read from them alone are, uncompressed, these octets.
+abbrev pub ArePlain : List Kind → List ℕ → Type 0
+ArePlain kinds own = AreWire kinds (record { bytes = own; index = 0 }) own
+
+-- ---- printing
+
+-- a text without the space that it may begin with
+abbrev pub without_space : List ℕ → List ℕ
+without_space [] = []
+without_space (c ∷ cs) = if c == 32 then cs else c ∷ cs
+
+-- the text of the fields
+abbrev pub IsOwnText : FieldsLeft → List ℕ → Type 0
+IsOwnText left text =
+    (has_own_form left.kinds ≡ true) × (own : List ℕ) × PrintsFields left.kinds left.reader own × (text ≡ without_space own)
+
+-- there is none
+abbrev pub LacksText : FieldsLeft → Type 0
+LacksText left = (has_own_form left.kinds ≡ false) ⊎ HasNoText left.kinds left.reader
+
+-- the text of the data of a record
+abbrev pub IsDataText : RecordValue → List ℕ → Type 0
+IsDataText r text =
+    IsOwnText (record_fields r) text
+    ⊎ (LacksText (record_fields r) × (own : List ℕ) × IsPlainData r own × (text ≡ generic_text own))
+
+-- ---- parsing
+
+-- the text is these octets, in the type's own form
+abbrev pub IsFieldsText : Option NameValue → List Kind → List ℕ → List ℕ → Type 0
+IsFieldsText origin kinds text own =
+    (word (after_spaces text) ≢ mark) × (has_own_form kinds ≡ true) × (values : List FieldValue) × AreFieldTexts origin kinds text values
+    × (own ≡ flat_map field_wire values)
+
+-- the text is these octets in the form that any data have, and they are data of the type, without pointers: nothing is said in
+-- that form that could not be said in the type's own, and it can be copied into any message (RFC 3597, sections 4 and 5)
+abbrev pub IsGenericData : List Kind → List ℕ → List ℕ → Type 0
+IsGenericData kinds text own = IsGeneric text own × ArePlain kinds own
+
+abbrev pub IsTextOf : Option NameValue → List Kind → List ℕ → List ℕ → Type 0
+IsTextOf origin kinds text own = IsGenericData kinds text own ⊎ IsFieldsText origin kinds text own
+
+-- why what is after `\#` is no data of a type, in a text of this length: no number and octets, or the octets are no such data
+abbrev pub FailsGeneric : List Kind → ℕ → List ℕ → DataTextError → Type 0
+FailsGeneric kinds len left e =
+    FailsSized len left e ⊎ (e ≡ Memory)
+    ⊎ ((own : List ℕ) × IsSized left own × (¬ (ArePlain kinds own)) × (e ≡ fault 1 (len - length (hex_words left)) Data))
+
+-- why a text is no data of a type
+abbrev pub FailsText : Option NameValue → List Kind → List ℕ → DataTextError → Type 0
+FailsText origin kinds text e =
+    ((word (after_spaces text) ≡ mark) × FailsGeneric kinds (length text) (after_word (after_spaces text)) e)
+    ⊎ ((word (after_spaces text) ≢ mark) × (has_own_form kinds ≡ false) × (e ≡ fault 0 (length text - length (after_spaces text)) Generic))
+    ⊎ ((word (after_spaces text) ≢ mark) × (has_own_form kinds ≡ true) × ((e ≡ Memory) ⊎ FailsFields origin (length kinds) (length text) kinds text e))

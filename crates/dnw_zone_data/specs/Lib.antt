@@ -1,0 +1,13 @@
+pub mod Words
+pub mod NameTexts
+pub mod NameReading
+pub mod Appending
+pub mod TypeLists
+pub mod ParamLists
+pub mod Faults
+pub mod Generic
+pub mod Printing
+pub mod Parsing
+pub mod DataTexts
+pub mod DataTextLaws
+pub mod Inside

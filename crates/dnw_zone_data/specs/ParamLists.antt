@@ -1,0 +1,25 @@
+-- Lists of service parameters as text (RFC 9460, section 2.1): in any order when they are parsed, and in the order of their keys
+-- when they are printed.
+use Rattle.std.specs.Prelude.{ℕ, ◌≡◌, ◌≢◌, List, [], ◌∷◌, Some}
+use Rattle.dnw_data.specs.declared.kind.ListKind.TheVariants as lists
+use Rattle.dnw_data.specs.Values.{FieldValue, params, items}
+use Rattle.dnw_zone_svcb.specs.Params.{ParamValue, in_key_order, params_wire}
+use Rattle.dnw_zone_svcb.specs.ParamTexts.{params_text}
+use Rattle.dnw_zone_svcb.specs.ParamWords.{IsParam}
+use Rattle.dnw_zone_data.specs.Words.{after_spaces, word, after_word}
+
+-- The text is that of the parameters that octets are, each after a space.
+abbrev pub PrintsParams : List ℕ → List ℕ → Type 0
+PrintsParams own text = params_text own ≡ Some text
+
+-- the words of a text are these parameters
+abbrev pub AreParamWords : List ℕ → List ParamValue → Type 0
+AreParamWords left [] = after_spaces left ≡ []
+AreParamWords left (p ∷ ps) =
+    (after_spaces left ≢ []) × IsParam (word (after_spaces left)) p × AreParamWords (after_word (after_spaces left)) ps
+
+-- the words of a text are parameters, no key is there twice, and these are their octets; there may be none
+abbrev pub AreParams : List ℕ → FieldValue → Type 0
+AreParams left value =
+    (listed : List ParamValue) × (own : List ParamValue) × AreParamWords left listed × (in_key_order [] listed ≡ Some own)
+    × (value ≡ params (items lists.Params (params_wire own)))

@@ -1,0 +1,156 @@
+-- Which fields texts give (RFC 1035, section 5.1), and the octets that fields are.
+use Rattle.std.specs.Prelude.{Bool, true, false, ◌≡◌, ◌≢◌, ℕ, ◌-◌, ◌⊎◌, Option, Some, List, [], ◌∷◌, length, flat_map}
+use Rattle.std.specs.Int.{w64, from_be_bytes}
+use Rattle.std.specs.Net.Addr.{ipv4_octets, ipv6_segments}
+use Rattle.std.specs.Net.Grammar.{IsIpv4Text, IsIpv6Text}
+use Rattle.std.specs.declared.net.Ipv4Addr.{Ipv4Addr}
+use Rattle.std.specs.declared.net.Ipv6Addr.{Ipv6Addr}
+use Rattle.std.specs.Str.{IsUtf8}
+use Rattle.dnw_base.specs.Names.{NameValue, label_wire}
+use Rattle.dnw_base.specs.declared.record_type.RecordType.{RecordType}
+use Rattle.dnw_base.specs.RecordTypes.{type_of_text}
+use Rattle.dnw_data.specs.declared.kind.Kind.{Kind}
+use Rattle.dnw_data.specs.declared.kind.Kind.TheVariants as kinds
+use Rattle.dnw_data.specs.declared.kind.ListKind.{ListKind}
+use Rattle.dnw_data.specs.declared.kind.ListKind.TheVariants as lists
+use Rattle.dnw_data.specs.declared.kind.Shown.{Shown}
+use Rattle.dnw_data.specs.declared.kind.Shown.TheVariants.{Text, Tag, Hex, Base32Hex, Base64}
+use Rattle.dnw_data.specs.Values.{FieldValue, name, u8, u16, u32, u48, u64, ipv4, ipv6, type_code, time, counted, octets, texts, items}
+use Rattle.dnw_zone_values.specs.Numbers.{max_u8, max_u16, max_u32, IsNumberText}
+use Rattle.dnw_zone_values.specs.Octets.{IsHexText, IsBase64Text, IsSaltText}
+use Rattle.dnw_zone_values.specs.Strings.{IsStringText, IsLongText}
+use Rattle.dnw_zone_values.specs.Tags.{IsTagText}
+use Rattle.dnw_zone_values.specs.Base32.{IsHashText}
+use Rattle.dnw_zone_values.specs.Pairs.{IsPairsText}
+use Rattle.dnw_zone_values.specs.Times.{IsTimeText}
+use Rattle.dnw_zone_data.specs.declared.error.DataTextError.{DataTextError}
+use Rattle.dnw_zone_data.specs.declared.error.Wanted.TheVariants.{Field, End}
+use Rattle.dnw_zone_data.specs.Words.{after_spaces, word, after_word, joined}
+use Rattle.dnw_zone_data.specs.Faults.{fault}
+use Rattle.dnw_zone_data.specs.NameReading.{name_at}
+use Rattle.dnw_zone_data.specs.TypeLists.{AreTypes}
+use Rattle.dnw_zone_data.specs.ParamLists.{AreParams}
+
+-- ---- the fields of words
+
+-- a number of this size, as the field that it makes
+abbrev pub IsNumber : ℕ → (ℕ → FieldValue) → List ℕ → FieldValue → Type 0
+IsNumber max field text value = (n : ℕ) × IsUtf8 text × IsNumberText max text n × (value ≡ field n)
+
+-- octets in a spelling
+abbrev pub AreOctetsOf : (List ℕ → List ℕ → Type 0) → (List ℕ → FieldValue) → List ℕ → FieldValue → Type 0
+AreOctetsOf Spells field text value = (own : List ℕ) × IsUtf8 text × Spells text own × (value ≡ field own)
+
+-- a word is a name, completed by the origin
+abbrev pub IsName : Option NameValue → List ℕ → FieldValue → Type 0
+IsName origin text value = (labels : List (List ℕ)) × (name_at origin text ≡ Some labels) × (value ≡ name labels)
+
+-- a word is a number or a time of this kind
+abbrev pub IsNumberOf : Kind → List ℕ → FieldValue → Type 0
+IsNumberOf kinds.U8 text value = IsNumber max_u8 u8 text value
+IsNumberOf kinds.U16 text value = IsNumber max_u16 u16 text value
+IsNumberOf kinds.U32 text value = IsNumber max_u32 u32 text value
+IsNumberOf kinds.Time text value = (n : ℕ) × IsUtf8 text × IsTimeText text n × (value ≡ time n)
+IsNumberOf kind text value = ⊥
+
+-- pairs of digits are so many octets, as the field that they make
+abbrev pub IsIdentifier : ℕ → (List ℕ → FieldValue) → List ℕ → FieldValue → Type 0
+IsIdentifier size field text value = (own : List ℕ) × IsUtf8 text × IsPairsText text own × (length own ≡ size) × (value ≡ field own)
+
+-- the numbers of identifiers, by their octets
+abbrev pub eui48 : List ℕ → FieldValue
+eui48 own = u48 (from_be_bytes w64 (0 ∷ 0 ∷ own))
+
+abbrev pub eui64 : List ℕ → FieldValue
+eui64 own = u64 (from_be_bytes w64 own)
+
+-- a word writes octets that have a length octet before them
+abbrev pub Spells : Shown → List ℕ → List ℕ → Type 0
+Spells Text text own = IsStringText text own
+Spells Tag text own = IsTagText text own
+Spells Hex text own = IsSaltText text own
+Spells Base32Hex text own = IsHashText text own
+Spells shown text own = ⊥
+
+-- a word is octets up to the end, written as a string is
+abbrev pub IsOctetsOf : Shown → List ℕ → FieldValue → Type 0
+IsOctetsOf Text text value = AreOctetsOf IsLongText octets text value
+IsOctetsOf shown text value = ⊥
+
+-- a word is a field of this kind
+abbrev pub IsWord : Option NameValue → Kind → List ℕ → FieldValue → Type 0
+IsWord origin (kinds.Name form) text value = IsName origin text value
+IsWord origin kinds.Ipv4 text value = (a : Ipv4Addr) × IsUtf8 text × IsIpv4Text text a × (value ≡ ipv4 (ipv4_octets a))
+IsWord origin kinds.Ipv6 text value = (a : Ipv6Addr) × IsUtf8 text × IsIpv6Text text a × (value ≡ ipv6 (ipv6_segments a))
+IsWord origin kinds.TypeCode text value = (code : RecordType) × IsUtf8 text × (type_of_text text ≡ Some code) × (value ≡ type_code code)
+IsWord origin kinds.U48 text value = IsIdentifier 6 eui48 text value
+IsWord origin kinds.U64 text value = IsIdentifier 8 eui64 text value
+IsWord origin (kinds.Counted shown) text value = AreOctetsOf (Spells shown) counted text value
+IsWord origin (kinds.Octets shown) text value = IsOctetsOf shown text value
+IsWord origin kind text value = IsNumberOf kind text value
+
+-- a word is this string
+abbrev pub IsStringWord : List ℕ → List ℕ → Type 0
+IsStringWord text own = IsUtf8 text × IsStringText text own
+
+-- the words of a text are these strings
+abbrev pub AreStringWords : List ℕ → List (List ℕ) → Type 0
+AreStringWords left [] = after_spaces left ≡ []
+AreStringWords left (string ∷ strings) =
+    (after_spaces left ≢ []) × IsStringWord (word (after_spaces left)) string
+    × AreStringWords (after_word (after_spaces left)) strings
+
+-- one string or more
+abbrev pub AreTexts : List ℕ → FieldValue → Type 0
+AreTexts left value =
+    (first : List ℕ) × (others : List (List ℕ)) × AreStringWords left (first ∷ others)
+    × (value ≡ texts (items lists.Texts (flat_map label_wire (first ∷ others))))
+
+-- kinds that take all words that are left
+abbrev pub takes_all : Kind → Bool
+takes_all (kinds.Octets Hex) = true
+takes_all (kinds.Octets Base64) = true
+takes_all (kinds.List list) = true
+takes_all kind = false
+
+-- all words write octets as one
+abbrev pub AllSpell : Shown → List ℕ → List ℕ → Type 0
+AllSpell Hex left own = IsUtf8 (joined left) × IsHexText (joined left) own
+AllSpell Base64 left own = IsUtf8 (joined left) × IsBase64Text (joined left) own
+AllSpell shown left own = ⊥
+
+-- all words are the items of a list
+abbrev pub AreList : ListKind → List ℕ → FieldValue → Type 0
+AreList lists.Texts left value = AreTexts left value
+AreList lists.Types left value = AreTypes left value
+AreList lists.Params left value = AreParams left value
+
+-- all words are a field of this kind
+abbrev pub AreAll : Kind → List ℕ → FieldValue → Type 0
+AreAll (kinds.Octets shown) left value = (own : List ℕ) × AllSpell shown left own × (value ≡ octets own)
+AreAll (kinds.List list) left value = AreList list left value
+AreAll kind left value = ⊥
+
+-- All words are the field, or the first is.
+abbrev pub ReadsBy : Bool → Option NameValue → Kind → List ℕ → FieldValue → List ℕ → Type 0
+ReadsBy true origin kind left value rest = AreAll kind left value × (rest ≡ [])
+ReadsBy false origin kind left value rest = IsWord origin kind (word left) value × (rest ≡ after_word left)
+
+-- The first word of a text, or all, are a field of this kind, and this is after it.
+abbrev pub ReadsField : Option NameValue → Kind → List ℕ → FieldValue → List ℕ → Type 0
+ReadsField origin kind left value rest = ReadsBy (takes_all kind) origin kind left value rest
+
+-- The text is these fields of these kinds.
+abbrev pub AreFieldTexts : Option NameValue → List Kind → List ℕ → List FieldValue → Type 0
+AreFieldTexts origin [] left [] = after_spaces left ≡ []
+AreFieldTexts origin (kind ∷ kinds) left (value ∷ values) =
+    (rest : List ℕ) × ReadsField origin kind (after_spaces left) value rest × AreFieldTexts origin kinds rest values
+AreFieldTexts origin kinds left values = ⊥
+
+-- The text goes wrong at a field, or goes on after the last: of so many fields, in a text of this length.
+abbrev pub FailsFields : Option NameValue → ℕ → ℕ → List Kind → List ℕ → DataTextError → Type 0
+FailsFields origin count len [] left e = (after_spaces left ≢ []) × (e ≡ fault count (len - length (after_spaces left)) End)
+FailsFields origin count len (kind ∷ kinds) left e =
+    (((value : FieldValue) (rest : List ℕ) → ¬ (ReadsField origin kind (after_spaces left) value rest))
+    × (e ≡ fault (count - length (kind ∷ kinds)) (len - length (after_spaces left)) (Field kind)))
+    ⊎ ((value : FieldValue) × (rest : List ℕ) × ReadsField origin kind (after_spaces left) value rest × FailsFields origin count len kinds rest e)

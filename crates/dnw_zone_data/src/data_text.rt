@@ -1,0 +1,210 @@
+//! The text of the data of records.
+ghost use Rattle.std.specs.Prelude.{◌≡◌, ◌≤◌, ◌⊎◌, ◌++◌, ℕ, List, [], length, flat_map, IfOk, MatchBool, MatchResult, string_bytes};
+ghost use Rattle.std.specs.Option.{option_copied};
+ghost use Rattle.dnw_base.specs.RecordTypes.{type_code};
+ghost use Rattle.dnw_name_read.specs.ReadingLaws.{AreBytes};
+ghost use Rattle.dnw_data.specs.Table.{fields_of};
+ghost use Rattle.dnw_data.specs.Values.{FieldValue};
+ghost use Rattle.dnw_zone_data.specs.declared.error.DataTextError.TheVariants.{Memory};
+ghost use Rattle.dnw_zone_data.specs.Parsing.{AreFieldTexts, FailsFields};
+ghost use Rattle.dnw_data.specs.FieldWires.{field_wire};
+ghost use Rattle.dnw_zone_data.specs.Generic.{IsSized};
+ghost use Rattle.dnw_zone_data.specs.DataTexts.{has_own_form, without_space, ArePlain, IsPlainData, IsDataText, IsTextOf, FailsGeneric, FailsText};
+ghost use Rattle.dnw_zone_data.specs.Inside.Wires.{AppendsWires};
+
+use crate::error::{DataTextError, Wanted};
+use crate::generic::{Generic, MARK, hex_words, parse_sized};
+use crate::parsing::{Place, parse_fields};
+use crate::printing::{is_ended, next_field, write_fields};
+use crate::words::{after_spaces, split_word};
+use dnw_base::record_type::RecordType;
+use dnw_data::fields::Fields;
+use dnw_data::kind::{Kind, Shown};
+use dnw_data::table::fields_of;
+use dnw_name::name::Name;
+use dnw_record::record::RecordRef;
+use std::alloc::{AllocError, Global};
+
+/// Returns the text of the data of a record in a master file: its fields with a space between them, or the form that any data
+/// have, as `\# 4 0A000001`, if its type or a field has no text, or if the data are no fields of their type.
+///
+/// It fails only if it runs out of memory.
+pub fn data_text(alloc: Global, record: &RecordRef<'_>) -> Result<String, AllocError>
+    ensures { IfOk result (λ text. IsDataText «record».now (string_bytes text)) }
+{
+    let kinds = fields_of(record.record_type());
+    if has_own_form(kinds) {
+        let mut text = String::new(alloc);
+        if write_fields(alloc, kinds, &mut record.fields(), &mut text)? {
+            return without_space(alloc, text.as_str());
+        }
+    }
+    let octets = plain_octets(alloc, record, kinds)?;
+    format!(in alloc; "{}", Generic(octets.as_slice()))
+}
+
+/// Returns the octets of the data that a text is, for a type, with names that are not compressed. The text is in the type's
+/// own form or in that of any data, `\# 4 0A000001`; an origin completes names without a dot at their end. Octets in the form of
+/// any data have to be data of the type, without compression pointers, as RFC 3597 wants it (sections 4 and 5): so what is
+/// returned can be put into any message.
+///
+/// Parentheses and comments are not part of a text. It fails with the number of the first field that is not as wanted, and
+/// where in the text it should be.
+pub fn parse(
+    alloc: Global,
+    record_type: RecordType,
+    text: &str,
+    origin: Option<&Name>,
+) -> Result<Vec<u8>, DataTextError>
+    ensures { MatchResult result (λ own. IsTextOf (option_copied origin.entry) (fields_of (type_code record_type)) text.now own.items)
+        (FailsText (option_copied origin.entry) (fields_of (type_code record_type)) text.now) }
+{
+    parse_bytes(alloc, record_type, text.as_bytes(), origin)
+}
+
+/// Returns the octets of the data that the bytes of a text are, as `parse` does.
+pub fn parse_bytes(
+    alloc: Global,
+    record_type: RecordType,
+    text: &[u8],
+    origin: Option<&Name>,
+) -> Result<Vec<u8>, DataTextError>
+    ensures { MatchResult result (λ own. IsTextOf (option_copied origin.entry) (fields_of (type_code record_type)) text.now own.items)
+        (FailsText (option_copied origin.entry) (fields_of (type_code record_type)) text.now) }
+{
+    let start = after_spaces(text);
+    let (word, rest) = split_word(start);
+    if word == MARK {
+        return parse_generic(alloc, record_type, rest, text.len());
+    }
+    let kinds = fields_of(record_type);
+    if !has_own_form(kinds) {
+        return Err(DataTextError::Wanted {
+            field: 0,
+            offset: text.len() - start.len(),
+            wanted: Wanted::Generic,
+        });
+    }
+    parse_own(alloc, kinds, text, origin)
+}
+
+/// Returns the octets after `\#` in a text of this length, if they are data of the type.
+fn parse_generic(
+    alloc: Global,
+    record_type: RecordType,
+    left: &[u8],
+    len: usize,
+) -> Result<Vec<u8>, DataTextError>
+    requires within { length left.now ≤ len }
+    ensures { MatchResult result (λ own. IsSized left.now own.items × ArePlain (fields_of (type_code record_type)) own.items)
+        (FailsGeneric (fields_of (type_code record_type)) len left.now) }
+{
+    let octets = parse_sized(alloc, left, len)?;
+    if is_plain(alloc, record_type, octets.as_slice())? {
+        return Ok(octets);
+    }
+    Err(DataTextError::Wanted {
+        field: 1,
+        offset: len - hex_words(left).len(),
+        wanted: Wanted::Data,
+    })
+}
+
+/// Returns `true` if octets are data of a type, and no name in them is compressed.
+fn is_plain(alloc: Global, record_type: RecordType, octets: &[u8]) -> Result<bool, AllocError>
+    ensures { IfOk result (λ is. MatchBool is (ArePlain (fields_of (type_code record_type)) octets.now) (¬ (ArePlain (fields_of (type_code record_type)) octets.now))) }
+{
+    let mut fields = Fields::new(octets, 0, record_type);
+    let mut written = Vec::new(alloc);
+    let are_fields = append_fields(fields_of(record_type), &mut fields, &mut written)?;
+    Ok(is_written_as(record_type, octets, are_fields, written.as_slice()))
+}
+
+/// Returns `true` if octets are fields, and what these are written as are the same octets.
+fn is_written_as(record_type: RecordType, octets: &[u8], are_fields: bool, written: &[u8]) -> bool
+    requires bytes { AreBytes octets.now }
+    requires appends { AppendsWires (fields_of (type_code record_type)) (record { bytes = octets.now; index = 0 }) [] written.now are_fields }
+    ensures { MatchBool result (ArePlain (fields_of (type_code record_type)) octets.now) (¬ (ArePlain (fields_of (type_code record_type)) octets.now)) }
+{
+    if !are_fields {
+        return false;
+    }
+    written == octets
+}
+
+/// Returns the octets of the fields that a text is.
+fn parse_own(
+    alloc: Global,
+    kinds: &[Kind],
+    text: &[u8],
+    origin: Option<&Name>,
+) -> Result<Vec<u8>, DataTextError>
+    ensures { MatchResult result (λ own. (values : List FieldValue) × AreFieldTexts (option_copied origin.entry) kinds.now text.now values × (own.items ≡ flat_map field_wire values))
+        (λ e. (e ≡ Memory) ⊎ FailsFields (option_copied origin.entry) (length kinds.now) (length text.now) kinds.now text.now e) }
+{
+    let place = Place {
+        count: kinds.len(),
+        len: text.len(),
+    };
+    let mut octets = Vec::new(alloc);
+    parse_fields(alloc, place, kinds, text, origin, &mut octets)?;
+    Ok(octets)
+}
+
+/// Returns `true` if data of these kinds have a form of their own.
+fn has_own_form(kinds: &[Kind]) -> bool
+    ensures { result ≡ has_own_form kinds.now }
+{
+    !matches!(
+        kinds,
+        [Kind::Octets(Shown::Hex)] | [Kind::Name(_), Kind::Octets(Shown::Hex)]
+    )
+}
+
+/// Returns a text without the space that it begins with.
+fn without_space(alloc: Global, text: &str) -> Result<String, AllocError>
+    ensures { IfOk result (λ rest. string_bytes rest ≡ without_space text.now) }
+{
+    let bytes = text.as_bytes();
+    if !bytes.is_empty() && bytes[0] == b' ' {
+        return String::from_str(alloc, &text[1..]);
+    }
+    String::from_str(alloc, text)
+}
+
+/// Returns the octets of the data, with names that are not compressed.
+fn plain_octets(
+    alloc: Global,
+    record: &RecordRef<'_>,
+    kinds: &[Kind],
+) -> Result<Vec<u8>, AllocError>
+    requires { kinds.now ≡ fields_of (type_code «record».now.record_type) }
+    ensures { IfOk result (λ own. IsPlainData «record».now own.items) }
+{
+    let mut octets = Vec::new(alloc);
+    if append_fields(kinds, &mut record.fields(), &mut octets)? {
+        return Ok(octets);
+    }
+    Vec::from_slice(alloc, record.rdata())
+}
+
+/// Appends the octets of fields. Returns `false` if one cannot be read.
+fn append_fields<'r>(
+    kinds: &[Kind],
+    fields: &mut Fields<'r>,
+    out: &mut Vec<u8>,
+) -> Result<bool, AllocError>
+    requires kinds { fields.old.kinds ≡ kinds.now }
+    ensures { IfOk result (AppendsWires kinds.now fields.old.reader out.old.items out.new.items) }
+{
+    let Some((_, others)) = kinds.split_first() else {
+        return Ok(is_ended(fields));
+    };
+    let Some(field) = next_field(fields) else {
+        return Ok(false);
+    };
+    if !field.append_to(out)? {
+        return Ok(false);
+    }
+    append_fields(others, fields, out)
+}

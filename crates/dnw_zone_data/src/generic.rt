@@ -1,0 +1,106 @@
+//! The form that any data have (RFC 3597, section 5).
+ghost use Rattle.std.specs.Prelude.{◌≡◌, ◌≤◌, ℕ, List, [], length, Some, IfOk, OnErr, IfErr, MatchResult, MatchOption};
+ghost use Rattle.std.specs.Str.{IsUtf8};
+ghost use Rattle.dnw_zone_data.specs.Faults.{fault};
+ghost use Rattle.dnw_zone_data.specs.Words.{joined};
+ghost use Rattle.dnw_zone_data.specs.Generic.{generic_text, hex_words, IsSize, AreOctets, IsSized, FailsSized};
+
+use crate::error::{DataTextError, Wanted};
+use crate::words::{after_spaces, split_word, without_spaces};
+use dnw_zone_values::error::FieldTextError;
+use dnw_zone_values::number::parse_u16;
+use dnw_zone_values::octets::{Hexadecimal, parse_hexadecimal};
+use std::alloc::{AllocError, Global};
+use std::{fmt, str};
+
+/// The word that the form begins with.
+pub(crate) const MARK: &[u8] = b"\\#";
+
+/// Data in the form that any data have: `\#`, the number of octets, and the octets in hexadecimal.
+#[derive(Clone, Copy, Debug)]
+pub struct Generic<'a>(pub &'a [u8]);
+
+impl fmt::Display for Generic<'_> {
+    ghost output = { λ octets. Some (generic_text octets.0.now) };
+
+    fn fmt<W: fmt::Write>(&self, f: &mut fmt::Formatter<W>) -> fmt::Result {
+        write!(f, "\\# {}", self.0.len())?;
+        if self.0.is_empty() {
+            return Ok(());
+        }
+        write!(f, " {}", Hexadecimal(self.0))
+    }
+}
+
+/// Parses the number and the octets after `\#`, in a text of this length.
+pub(crate) fn parse_sized(alloc: Global, left: &[u8], len: usize) -> Result<Vec<u8>, DataTextError>
+    requires within { length left.now ≤ len }
+    ensures { MatchResult result (λ octets. IsSized left.now octets.items) (FailsSized len left.now) }
+{
+    let left = after_spaces(left);
+    let (word, rest) = split_word(left);
+    let Some(size) = size_of(word) else {
+        return Err(DataTextError::Wanted {
+            field: 0,
+            offset: len - left.len(),
+            wanted: Wanted::Size,
+        });
+    };
+    let words = after_spaces(rest);
+    match octets_of(alloc, size, words)? {
+        Some(octets) => Ok(octets),
+        None => Err(DataTextError::Wanted {
+            field: 1,
+            offset: len - words.len(),
+            wanted: Wanted::Octets(size),
+        }),
+    }
+}
+
+/// Returns what is after the number that follows `\#`.
+pub(crate) fn hex_words(left: &[u8]) -> &[u8]
+    ensures words { result.now ≡ hex_words left.now }
+    ensures within { length result.now ≤ length left.now }
+{
+    let (_, rest) = split_word(after_spaces(left));
+    after_spaces(rest)
+}
+
+/// Returns the number that a word writes.
+fn size_of(word: &[u8]) -> Option<u16>
+    ensures { MatchOption result ((n : ℕ) → ¬ (IsSize word.now n)) (IsSize word.now) }
+{
+    let text = str::from_utf8(word).ok()?;
+    parse_u16(text).ok()
+}
+
+/// Returns what no words write: no octets, if there are to be none.
+fn no_octets(alloc: Global, size: u16) -> Option<Vec<u8>>
+    ensures { MatchOption result ((octets : List ℕ) → ¬ (AreOctets size [] octets)) (λ octets. AreOctets size [] octets.items) }
+{
+    if size == 0 {
+        Some(Vec::new(alloc))
+    } else {
+        None
+    }
+}
+
+/// Returns the octets that words write in hexadecimal, if there are so many. Without words it takes no memory.
+fn octets_of(alloc: Global, size: u16, words: &[u8]) -> Result<Option<Vec<u8>>, AllocError>
+    ensures ok { IfOk result (λ x. MatchOption x ((octets : List ℕ) → ¬ (AreOctets size words.now octets)) (λ octets. AreOctets size words.now octets.items)) }
+    ensures err { OnErr result (1 ≤ length words.now) }
+{
+    if words.is_empty() {
+        return Ok(no_octets(alloc, size));
+    }
+    let joined = without_spaces(alloc, words)?;
+    let Ok(text) = str::from_utf8(joined.as_slice()) else {
+        return Ok(None);
+    };
+    let mut octets = Vec::new(alloc);
+    match parse_hexadecimal(text, &mut octets) {
+        Ok(()) if octets.len() == usize::from(size) => Ok(Some(octets)),
+        Err(FieldTextError::Memory) => Err(AllocError),
+        _ => Ok(None),
+    }
+}

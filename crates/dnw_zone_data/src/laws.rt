@@ -1,0 +1,31 @@
+//! What is printed of data and of their fields is parsed as the same.
+//!
+//! The functions do nothing. Each is there for its clauses.
+ghost use Rattle.dnw_zone_data.specs.DataTextLaws.{GenericComesBack, GenericIsParsed, DataComeBack, TextsAreParsed, NumbersComeBack, TypesComeBack, AddressesComeBack, NamesComeBack, SegmentsComeBack, IdentifiersComeBack, CountedComeBack, OctetsComeBack, StringsComeBack, ListsComeBack};
+
+/// Fields of these kinds come back, whatever follows them.
+pub fn fields_come_back()
+    ensures numbers { NumbersComeBack }
+    ensures types { TypesComeBack }
+    ensures addresses { AddressesComeBack }
+    ensures names { NamesComeBack }
+    ensures segments { SegmentsComeBack }
+    ensures identifiers { IdentifiersComeBack }
+    ensures counted { CountedComeBack }
+    ensures octets { OctetsComeBack }
+    ensures strings { StringsComeBack }
+    ensures lists { ListsComeBack }
+{}
+
+/// Octets in the form that any data have come back.
+pub fn generic_comes_back()
+    ensures { GenericComesBack }
+{}
+
+/// Whole data come back, of each type and in each form. So what is printed is parsed, unless memory runs out, the data have
+/// more octets than data may have, or they are octets that are no data of their type.
+pub fn data_come_back()
+    ensures back { DataComeBack }
+    ensures parsed { TextsAreParsed }
+    ensures generic { GenericIsParsed }
+{}

@@ -1,0 +1,20 @@
+//! The text of the data of records in master files (RFC 1035, section 5.1): how it is split into words, and the texts of names, of
+//! lists of record types, of service parameters and of whole data by the table of fields; and the form that any data have (RFC 3597,
+//! section 5).
+//!
+//! It stands on records and on the texts of single values. Read `specs/Words.antt` first: what a word is. `specs/Printing.antt` has the
+//! text of each kind of field.
+#![tactic(auto)]
+
+pub mod data_text;
+pub mod error;
+pub mod generic;
+pub mod laws;
+pub mod name;
+pub mod name_reading;
+pub mod params;
+mod parsing;
+mod printing;
+mod spelling;
+pub mod types;
+pub mod words;

@@ -1,0 +1,358 @@
+//! Fields in texts.
+ghost use Rattle.std.specs.Prelude.{◌≡◌, ◌≤◌, ◌⊎◌, ◌++◌, ℕ, List, Bool, [], length, flat_map, IfOk, IfErr, IfSome, MatchOption};
+ghost use Rattle.std.specs.Option.{option_copied, option_map};
+ghost use Rattle.dnw_data.specs.Values.{FieldValue, counted, octets};
+ghost use Rattle.dnw_zone_values.specs.Strings.{IsLongText};
+ghost use Rattle.dnw_zone_data.specs.declared.error.DataTextError.TheVariants.{Memory};
+ghost use Rattle.dnw_zone_data.specs.Parsing.{IsName, IsNumberOf, AreOctetsOf, IsOctetsOf, IsIdentifier, eui48, eui64, Spells, IsWord, AreTexts, AreList, takes_all, AllSpell, AreAll, ReadsField, AreFieldTexts, FailsFields};
+ghost use Rattle.dnw_data.specs.FieldWires.{field_wire};
+ghost use Rattle.dnw_zone_data.specs.Inside.Reads.{AppendsRest, IsEndedBy};
+ghost use Rattle.dnw_zone_data.specs.Appending.{AppendsOne};
+
+use crate::error::{DataTextError, Wanted};
+use crate::name_reading::read_name;
+use crate::params::parse_params;
+use crate::spelling::{base64_of, hex_of, pairs_of, spelled, string_of_word, text_of};
+use crate::types::parse_types;
+use crate::words::{after_spaces, split_word, without_spaces};
+use dnw_base::record_type::RecordType;
+use dnw_data::kind::{Kind, ListKind, Shown};
+use dnw_name::name::Name;
+use dnw_zone_values::address::{parse_ipv4, parse_ipv6};
+use dnw_zone_values::number::{parse_u8, parse_u16, parse_u32};
+use dnw_zone_values::time::parse_time;
+use std::alloc::{AllocError, Global};
+use std::str;
+
+/// Where a field is: in a text of this length, of so many fields.
+#[derive(Clone, Copy)]
+pub(crate) struct Place {
+    /// The number of all fields.
+    pub(crate) count: usize,
+    /// The length of the whole text.
+    pub(crate) len: usize,
+}
+
+/// Appends the octets of the fields that are left.
+pub(crate) fn parse_fields(
+    alloc: Global,
+    place: Place,
+    kinds: &[Kind],
+    left: &[u8],
+    origin: Option<&Name>,
+    out: &mut Vec<u8>,
+) -> Result<(), DataTextError>
+    requires count { length kinds.now ≤ place.count }
+    requires within { length left.now ≤ place.len }
+    ensures ok { IfOk result (λ _. (values : List FieldValue) × AreFieldTexts (option_copied origin.entry) kinds.now left.now values
+        × (out.new.items ≡ out.old.items ++ flat_map field_wire values)) }
+    ensures err { IfErr result (λ e. (e ≡ Memory) ⊎ FailsFields (option_copied origin.entry) place.count place.len kinds.now left.now e) }
+{
+    let left = after_spaces(left);
+    let field = place.count - kinds.len();
+    let offset = place.len - left.len();
+    let Some((kind, others)) = kinds.split_first() else {
+        if left.is_empty() {
+            return Ok(());
+        }
+        let wanted = Wanted::End;
+        return Err(DataTextError::Wanted {
+            field,
+            offset,
+            wanted,
+        });
+    };
+    let Some(rest) = parse_field(alloc, *kind, left, origin, out)? else {
+        let wanted = Wanted::Field(*kind);
+        return Err(DataTextError::Wanted {
+            field,
+            offset,
+            wanted,
+        });
+    };
+    parse_fields(alloc, place, others, rest, origin, out)
+}
+
+/// Appends the octets of the field that a text begins with. Returns what is after it, or `None` if it is none of this kind.
+fn parse_field<'t>(
+    alloc: Global,
+    kind: Kind,
+    left: &'t [u8],
+    origin: Option<&Name>,
+    out: &mut Vec<u8>,
+) -> Result<Option<&'t [u8]>, AllocError>
+    ensures reads { IfOk result (λ rest. AppendsRest (ReadsField (option_copied origin.entry) kind left.now) out.old.items out.new.items (option_map (λ r. r.now) rest)) }
+    ensures within { IfOk result (λ rest. IfSome rest (λ r. length r.now ≤ length left.now)) }
+{
+    if takes_all(kind) {
+        return parse_all(alloc, kind, left, out);
+    }
+    let (word, rest) = split_word(left);
+    if parse_word(alloc, kind, word, origin, out)? {
+        Ok(Some(rest))
+    } else {
+        Ok(None)
+    }
+}
+
+/// Appends the octets of the field that all words are. Returns what is after it, or `None` if they are none of this kind.
+fn parse_all<'t>(
+    alloc: Global,
+    kind: Kind,
+    left: &'t [u8],
+    out: &mut Vec<u8>,
+) -> Result<Option<&'t [u8]>, AllocError>
+    ensures reads { IfOk result (λ rest. AppendsRest (λ value r. AreAll kind left.now value × (r ≡ [])) out.old.items out.new.items (option_map (λ r. r.now) rest)) }
+    ensures within { IfOk result (λ rest. IfSome rest (λ r. length r.now ≤ length left.now)) }
+{
+    match kind {
+        Kind::Octets(shown) => Ok(ended(parse_joined(alloc, shown, left, out)?)),
+        Kind::List(list) => Ok(ended(parse_list(alloc, list, left, out)?)),
+        _ => Ok(None),
+    }
+}
+
+/// Returns nothing that is left, if all was read.
+fn ended<'t>(read: bool) -> Option<&'t [u8]>
+    ensures { IsEndedBy read (option_map (λ r. r.now) result) }
+{
+    if read { Some(&[]) } else { None }
+}
+
+/// Appends the octets that all words write as one. Returns `false` if they write none.
+fn parse_joined(
+    alloc: Global,
+    shown: Shown,
+    left: &[u8],
+    out: &mut Vec<u8>,
+) -> Result<bool, AllocError>
+    ensures { IfOk result (AppendsOne (λ value. (own : List ℕ) × AllSpell shown left.now own × (value ≡ octets own)) out.old.items out.new.items) }
+{
+    let Some(own) = joined_octets(alloc, shown, left)? else {
+        return Ok(false);
+    };
+    out.extend_from_slice(own.as_slice())?;
+    Ok(true)
+}
+
+/// Returns the octets that all words write as one, if any.
+fn joined_octets(alloc: Global, shown: Shown, left: &[u8]) -> Result<Option<Vec<u8>>, AllocError>
+    ensures { IfOk result (λ x. MatchOption x ((own : List ℕ) → ¬ (AllSpell shown left.now own)) (λ own. AllSpell shown left.now own.items)) }
+{
+    let joined = without_spaces(alloc, left)?;
+    let Ok(text) = str::from_utf8(joined.as_slice()) else {
+        return Ok(None);
+    };
+    match shown {
+        Shown::Hex => hex_of(alloc, text),
+        Shown::Base64 => base64_of(alloc, text),
+        Shown::Text | Shown::Tag | Shown::Base32Hex => Ok(None),
+    }
+}
+
+/// Appends the octets of the items that all words are. Returns `false` if they are none of this kind.
+fn parse_list(
+    alloc: Global,
+    list: ListKind,
+    left: &[u8],
+    out: &mut Vec<u8>,
+) -> Result<bool, AllocError>
+    ensures { IfOk result (AppendsOne (AreList list left.now) out.old.items out.new.items) }
+{
+    match list {
+        ListKind::Texts => parse_texts(alloc, left, out),
+        ListKind::Types => parse_types(alloc, left, out),
+        ListKind::Params => parse_params(alloc, left, out),
+    }
+}
+
+/// Appends the octets of the strings that all words are. Returns `false` if one is no string, or there is none.
+fn parse_texts(alloc: Global, text: &[u8], out: &mut Vec<u8>) -> Result<bool, AllocError>
+    ensures { IfOk result (AppendsOne (AreTexts text.now) out.old.items out.new.items) }
+{
+    let mut left = after_spaces(text);
+    if left.is_empty() {
+        return Ok(false);
+    }
+    'strings: while !left.is_empty() {
+        let (word, rest) = split_word(left);
+        let Some(own) = string_of_word(alloc, word)? else {
+            return Ok(false);
+        };
+        let octets = own.as_slice();
+        out.push(octets.len() as u8)?;
+        out.extend_from_slice(octets)?;
+        left = after_spaces(rest);
+    }
+    Ok(true)
+}
+
+/// Returns `true` for kinds that take all words that are left.
+fn takes_all(kind: Kind) -> bool
+    ensures { result ≡ takes_all kind }
+{
+    matches!(
+        kind,
+        Kind::Octets(Shown::Hex | Shown::Base64) | Kind::List(_)
+    )
+}
+
+/// Appends the octets of a word's field. Returns `false` if it is none of this kind.
+fn parse_word(
+    alloc: Global,
+    kind: Kind,
+    word: &[u8],
+    origin: Option<&Name>,
+    out: &mut Vec<u8>,
+) -> Result<bool, AllocError>
+    ensures { IfOk result (AppendsOne (IsWord (option_copied origin.entry) kind word.now) out.old.items out.new.items) }
+{
+    if let Kind::Name(_) = kind {
+        return parse_name(alloc, word, origin, out);
+    }
+    let Ok(text) = str::from_utf8(word) else {
+        return Ok(false);
+    };
+    match kind {
+        Kind::Ipv4 => {
+            let Ok(address) = parse_ipv4(text) else {
+                return Ok(false);
+            };
+            out.extend_from_slice(&address.octets())?;
+        }
+        Kind::Ipv6 => {
+            let Ok(address) = parse_ipv6(text) else {
+                return Ok(false);
+            };
+            out.extend_from_slice(&address.octets())?;
+        }
+        Kind::TypeCode => {
+            let Some(code) = RecordType::from_text(text) else {
+                return Ok(false);
+            };
+            out.extend_from_slice(&u16::from(code).to_be_bytes())?;
+        }
+        Kind::U48 => return parse_eui48(alloc, text, out),
+        Kind::U64 => return parse_eui64(alloc, text, out),
+        Kind::Counted(shown) => return parse_counted(alloc, shown, text, out),
+        Kind::Octets(shown) => return parse_octets(alloc, shown, text, out),
+        _ => return parse_number(kind, text, out),
+    }
+    Ok(true)
+}
+
+/// Appends the wire form of a name. Returns `false` if the word is none.
+fn parse_name(
+    alloc: Global,
+    word: &[u8],
+    origin: Option<&Name>,
+    out: &mut Vec<u8>,
+) -> Result<bool, AllocError>
+    ensures { IfOk result (AppendsOne (IsName (option_copied origin.entry) word.now) out.old.items out.new.items) }
+{
+    let Some(form) = read_name(alloc, word, origin) else {
+        return Ok(false);
+    };
+    out.extend_from_slice(form.as_bytes())?;
+    Ok(true)
+}
+
+/// Appends the octets of a number or a time. Returns `false` if the text is none of this kind.
+fn parse_number(kind: Kind, text: &str, out: &mut Vec<u8>) -> Result<bool, AllocError>
+    ensures { IfOk result (AppendsOne (IsNumberOf kind text.now) out.old.items out.new.items) }
+{
+    match kind {
+        Kind::U8 => {
+            let Ok(number) = parse_u8(text) else {
+                return Ok(false);
+            };
+            out.push(number)?;
+        }
+        Kind::U16 => {
+            let Ok(number) = parse_u16(text) else {
+                return Ok(false);
+            };
+            out.extend_from_slice(&number.to_be_bytes())?;
+        }
+        Kind::U32 => {
+            let Ok(number) = parse_u32(text) else {
+                return Ok(false);
+            };
+            out.extend_from_slice(&number.to_be_bytes())?;
+        }
+        Kind::Time => {
+            let Ok(seconds) = parse_time(text) else {
+                return Ok(false);
+            };
+            out.extend_from_slice(&seconds.to_be_bytes())?;
+        }
+        _ => return Ok(false),
+    }
+    Ok(true)
+}
+
+/// Appends the octets of an identifier of six. Returns `false` if the text is none.
+fn parse_eui48(alloc: Global, text: &str, out: &mut Vec<u8>) -> Result<bool, AllocError>
+    ensures { IfOk result (AppendsOne (IsIdentifier 6 eui48 text.now) out.old.items out.new.items) }
+{
+    let Some(own) = pairs_of(alloc, 6, text)? else {
+        return Ok(false);
+    };
+    out.extend_from_slice(own.as_slice())?;
+    Ok(true)
+}
+
+/// Appends the octets of an identifier of eight. Returns `false` if the text is none.
+fn parse_eui64(alloc: Global, text: &str, out: &mut Vec<u8>) -> Result<bool, AllocError>
+    ensures { IfOk result (AppendsOne (IsIdentifier 8 eui64 text.now) out.old.items out.new.items) }
+{
+    let Some(own) = pairs_of(alloc, 8, text)? else {
+        return Ok(false);
+    };
+    out.extend_from_slice(own.as_slice())?;
+    Ok(true)
+}
+
+/// Appends a length octet and the octets that a text writes. Returns `false` if it writes none.
+fn parse_counted(
+    alloc: Global,
+    shown: Shown,
+    text: &str,
+    out: &mut Vec<u8>,
+) -> Result<bool, AllocError>
+    ensures { IfOk result (AppendsOne (AreOctetsOf (Spells shown) counted text.now) out.old.items out.new.items) }
+{
+    let Some(own) = spelled(alloc, shown, text)? else {
+        return Ok(false);
+    };
+    let octets = own.as_slice();
+    out.push(octets.len() as u8)?;
+    out.extend_from_slice(octets)?;
+    Ok(true)
+}
+
+/// Appends the octets of a text that is one word. Returns `false` if it is none.
+fn parse_octets(
+    alloc: Global,
+    shown: Shown,
+    text: &str,
+    out: &mut Vec<u8>,
+) -> Result<bool, AllocError>
+    ensures { IfOk result (AppendsOne (IsOctetsOf shown text.now) out.old.items out.new.items) }
+{
+    match shown {
+        Shown::Text => parse_text(alloc, text, out),
+        Shown::Tag | Shown::Hex | Shown::Base32Hex | Shown::Base64 => Ok(false),
+    }
+}
+
+/// Appends the octets of a text of any length. Returns `false` if the text is none.
+fn parse_text(alloc: Global, text: &str, out: &mut Vec<u8>) -> Result<bool, AllocError>
+    ensures { IfOk result (AppendsOne (AreOctetsOf IsLongText octets text.now) out.old.items out.new.items) }
+{
+    let Some(own) = text_of(alloc, text)? else {
+        return Ok(false);
+    };
+    out.extend_from_slice(own.as_slice())?;
+    Ok(true)
+}

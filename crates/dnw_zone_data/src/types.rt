@@ -1,0 +1,147 @@
+//! Lists of record types: the types of a bitmap (RFC 4034, section 4.2).
+ghost use Rattle.std.specs.Prelude.{◌≡◌, ◌≤◌, ◌<◌, ◌+◌, ◌*◌, ◌++◌, ℕ, List, length, IfOk, MatchOption, string_bytes};
+ghost use Rattle.dnw_base.specs.declared.record_type.RecordType.{RecordType};
+ghost use Rattle.dnw_data.specs.TypeSets.{bit_codes, octet_codes, octets_codes};
+ghost use Rattle.dnw_zone_data.specs.TypeLists.{codes_text, is_window, PrintsTypes, IsTypeWord, AreTypeWords, AreBitmap, AreTypes};
+ghost use Rattle.dnw_zone_data.specs.Appending.{Appended, AppendedInPart, AppendsOne};
+
+use crate::words::{after_spaces, split_word};
+use dnw_base::record_type::RecordType;
+use dnw_data::record_type_set::RecordTypeSet;
+use std::alloc::{AllocError, Global};
+use std::str;
+
+/// The most octets of a window: one bit for each of its 256 codes (RFC 4034, section 4.1.2).
+const MAX_OCTETS: usize = 32;
+
+/// Appends the types of a bitmap, each after a space. Returns `false` if a window could be shorter, or is cut; nothing is changed
+/// then.
+pub fn write_types(octets: &[u8], out: &mut String) -> Result<bool, AllocError>
+    ensures { IfOk result (Appended (PrintsTypes octets.now) (string_bytes out.old) (string_bytes out.new)) }
+{
+    let start = out.len();
+    let is_whole = push_windows(octets, out)?;
+    if !is_whole {
+        out.truncate(start);
+    }
+    Ok(is_whole)
+}
+
+/// Appends the types of a bitmap. Returns `false` if a window could be shorter, or is cut; some types may be appended then.
+fn push_windows(octets: &[u8], out: &mut String) -> Result<bool, AllocError>
+    ensures { IfOk result (AppendedInPart (PrintsTypes octets.now) (string_bytes out.old) (string_bytes out.new)) }
+{
+    let mut left = octets;
+    while let Some((number, rest)) = left.split_first() {
+        let Some((len, rest)) = rest.split_first() else {
+            return Ok(false);
+        };
+        let Some((own, after)) = rest.split_at_checked(usize::from(*len)) else {
+            return Ok(false);
+        };
+        if !is_window(own) {
+            return Ok(false);
+        }
+        write_octets(256 * u32::from(*number), own, out)?;
+        left = after;
+    }
+    Ok(true)
+}
+
+/// Returns `true` if octets are those of a window that is as short as it can be.
+fn is_window(octets: &[u8]) -> bool
+    ensures { result ≡ is_window octets.now }
+{
+    match octets.last() {
+        Some(last) => octets.len() <= MAX_OCTETS && *last != 0,
+        None => false,
+    }
+}
+
+/// Appends the types whose bits are set in octets, of which the highest bit stands for the code `first`.
+fn write_octets(first: u32, octets: &[u8], out: &mut String) -> Result<(), AllocError>
+    requires { first + 8 * length octets.now ≤ 65536 }
+    ensures { IfOk result (λ _. string_bytes out.new ≡ string_bytes out.old ++ codes_text (octets_codes first octets.now)) }
+{
+    let mut code = first;
+    let mut left = octets;
+    while let Some((octet, rest)) = left.split_first() {
+        write_octet(code, *octet, out)?;
+        code += 8;
+        left = rest;
+    }
+    Ok(())
+}
+
+/// Appends the types whose bits are set in an octet, of which the highest bit stands for the code `first`.
+fn write_octet(first: u32, octet: u8, out: &mut String) -> Result<(), AllocError>
+    requires { first + 8 ≤ 65536 }
+    ensures { IfOk result (λ _. string_bytes out.new ≡ string_bytes out.old ++ codes_text (octet_codes first octet)) }
+{
+    for bit in 0..8 {
+        write_bit(first, octet, bit, out)?;
+    }
+    Ok(())
+}
+
+/// Appends the type of a bit of an octet, if it is set.
+fn write_bit(first: u32, octet: u8, bit: u32, out: &mut String) -> Result<(), AllocError>
+    requires bit { bit < 8 }
+    requires fits { first + 8 ≤ 65536 }
+    ensures { IfOk result (λ _. string_bytes out.new ≡ string_bytes out.old ++ codes_text (bit_codes first octet bit)) }
+{
+    if (octet >> (7 - bit)) % 2 != 1 {
+        return Ok(());
+    }
+    let kind = RecordType::from((first + bit) as u16);
+    out.push(' ')?;
+    out.push_str(kind.to_text().as_str())?;
+    Ok(())
+}
+
+/// Appends the bitmap of the types that all words are. Returns `false` if one is no type.
+pub fn parse_types(alloc: Global, text: &[u8], out: &mut Vec<u8>) -> Result<bool, AllocError>
+    ensures { IfOk result (AppendsOne (AreTypes text.now) out.old.items out.new.items) }
+{
+    let Some(listed) = types_of_words(alloc, text)? else {
+        return Ok(false);
+    };
+    let set = set_of(alloc, listed)?;
+    out.extend_from_slice(set.as_bytes())?;
+    Ok(true)
+}
+
+/// Returns the set of types.
+fn set_of(alloc: Global, listed: Vec<RecordType>) -> Result<RecordTypeSet, AllocError>
+    ensures { IfOk result (λ set. AreBitmap listed.items set.encoding) }
+{
+    match RecordTypeSet::new(alloc, listed) {
+        Ok(set) => Ok(set),
+        Err(_) => Err(AllocError),
+    }
+}
+
+/// Returns the types that all words are, or `None` if one is none.
+fn types_of_words(alloc: Global, text: &[u8]) -> Result<Option<Vec<RecordType>>, AllocError>
+    ensures { IfOk result (λ x. MatchOption x ((listed : List RecordType) → ¬ (AreTypeWords text.now listed)) (λ listed. AreTypeWords text.now listed.items)) }
+{
+    let mut listed = Vec::new(alloc);
+    let mut left = after_spaces(text);
+    'types: while !left.is_empty() {
+        let (word, rest) = split_word(left);
+        let Some(kind) = type_of_word(word) else {
+            return Ok(None);
+        };
+        listed.push(kind)?;
+        left = after_spaces(rest);
+    }
+    Ok(Some(listed))
+}
+
+/// Returns the type that a word is.
+fn type_of_word(word: &[u8]) -> Option<RecordType>
+    ensures { MatchOption result ((kind : RecordType) → ¬ (IsTypeWord word.now kind)) (IsTypeWord word.now) }
+{
+    let text = str::from_utf8(word).ok()?;
+    RecordType::from_text(text)
+}

@@ -1,0 +1,298 @@
+//! Records as lines of master files (RFC 1035, section 5.1), printed and parsed.
+ghost use Rattle.std.specs.Prelude.{◌≡◌, ◌≤◌, ℕ, List, length, IfOk, IfErr, MatchOption, string_bytes};
+ghost use Rattle.std.specs.Option.{option_copied};
+ghost use Rattle.dnw_base.specs.declared.dns_class.DNSClass.{DNSClass};
+ghost use Rattle.dnw_base.specs.declared.record_type.RecordType.{RecordType};
+ghost use Rattle.dnw_zone_data.specs.DataTexts.{IsDataText};
+ghost use Rattle.dnw_zone_data.specs.Generic.{max_data};
+ghost use Rattle.dnw_zone_record.specs.RecordLines.{FailsAfterOwner, FailsDataOf, FailsHead, FailsRecordLine, FailsRecordOf, HasClassNext, HasTtlAndClass, IsAfterOwner, IsClassWord, IsDataOf, IsHead, IsRecordLine, IsRecordOf, IsTtlWord, IsTypeWord, LacksTtl, LacksTtlWord, LacksTypeWord, after_next_word, line_octets, next_word, record_line};
+
+use dnw_base::dns_class::DNSClass;
+use dnw_base::record_type::RecordType;
+use dnw_name::name::Name;
+use dnw_name_form::form::WireForm;
+use dnw_record::record::RecordRef;
+use dnw_zone_data::data_text::{data_text, parse_bytes};
+use dnw_zone_data::error::DataTextError;
+use dnw_zone_data::name::write_name;
+use dnw_zone_data::name_reading::read_name;
+use dnw_zone_data::words::{after_spaces, split_word};
+use dnw_zone_lexer::ttl::parse_ttl;
+use std::alloc::{AllocError, Global};
+use std::str;
+use thiserror::Error;
+
+/// Data have at most so many octets, since their number is written in two (RFC 1035, section 3.2.1).
+pub const MAX_DATA: usize = 65535;
+
+/// Why a line is no record.
+#[derive(Debug, Drop, Error)]
+pub enum RecordLineError {
+    /// The line does not begin with a name.
+    #[error("no owner")]
+    NoOwner,
+    /// No time to live is after the owner, nor after the class there.
+    #[error("no time to live")]
+    NoTimeToLive,
+    /// No type is after the time to live and the class.
+    #[error("no type")]
+    NoType,
+    /// The rest of the line is no data of the type. The offset is counted from after the type.
+    #[error("{0}")]
+    Data(DataTextError),
+    /// The data have more than 65535 octets.
+    #[error("data of more than 65535 octets")]
+    TooLong,
+    /// An allocation failed.
+    #[error("out of memory")]
+    Memory,
+}
+
+impl From<AllocError> for RecordLineError {
+    ghost use Rattle.std.specs.Prelude.{◌≡◌};
+    ghost use Rattle.dnw_zone_record.specs.declared.record_line.RecordLineError.TheVariants.{Memory};
+
+    ghost from_gives = { λ _ e. e ≡ Memory };
+
+    fn from(_: AllocError) -> Self {
+        RecordLineError::Memory
+    }
+}
+
+/// What a line has between the owner and the data.
+#[derive(Clone, Copy)]
+pub(crate) struct LineHead {
+    pub(crate) record_type: RecordType,
+    pub(crate) class: DNSClass,
+    pub(crate) ttl: u32,
+}
+
+/// Returns a record as a line of a master file (RFC 1035, section 5.1): the owner, the time to live, the class, the type and
+/// the data, with a space between them.
+///
+/// It fails only if it runs out of memory.
+pub fn record_text(alloc: Global, record: &RecordRef<'_>) -> Result<String, AllocError>
+    ensures { IfOk result (λ line. (text : List ℕ) × IsDataText «record».now text × (string_bytes line ≡ record_line «record».now text)) }
+{
+    let text = data_text(alloc, record)?;
+    let line = line_of(alloc, record, text.as_str())?;
+    Ok(line)
+}
+
+/// Returns the line of a record whose data have this text.
+fn line_of(alloc: Global, record: &RecordRef<'_>, text: &str) -> Result<String, AllocError>
+    ensures { IfOk result (λ line. string_bytes line ≡ record_line «record».now text.now) }
+{
+    let ttl = record.ttl();
+    let class = record.class().to_text();
+    let record_type = record.record_type().to_text();
+    let mut line = String::new(alloc);
+    write_name(record.owner(), &mut line)?;
+    write!(
+        line,
+        " {ttl} {} {} {text}",
+        class.as_str(),
+        record_type.as_str()
+    )?;
+    Ok(line)
+}
+
+/// Returns the octets of the record that a line of a master file is, with names that are not compressed: the owner, two octets
+/// of type, two of class, four of time to live, two of the length of the data, and the data.
+///
+/// The line has the owner, the time to live, the class, the type and the data, as `record_text` prints them. The class may be
+/// before the time to live, or left out for `IN`. An origin completes names without a dot at their end. Parentheses and comments
+/// are not part of a line, and nothing is known of a line before: so the owner and the time to live must be there.
+#[tactic(auto, unfolding(crate::specs::RecordLines::FailsRecordLine))]
+pub fn parse_record(
+    alloc: Global,
+    line: &str,
+    origin: Option<&Name>,
+) -> Result<Vec<u8>, RecordLineError>
+    ensures ok { IfOk result (λ own. IsRecordLine (option_copied origin.entry) line.now own.items) }
+    ensures err { IfErr result (FailsRecordLine (option_copied origin.entry) line.now) }
+{
+    let (word, rest) = split_word(line.as_bytes());
+    record_of(alloc, word, rest, origin)
+}
+
+/// Returns the octets of a record whose owner is a word, and of which a text has the rest.
+fn record_of(
+    alloc: Global,
+    word: &[u8],
+    rest: &[u8],
+    origin: Option<&Name>,
+) -> Result<Vec<u8>, RecordLineError>
+    ensures ok { IfOk result (λ own. IsRecordOf (option_copied origin.entry) word.now rest.now own.items) }
+    ensures err { IfErr result (FailsRecordOf (option_copied origin.entry) word.now rest.now) }
+{
+    let Some(owner) = read_name(alloc, word, origin) else {
+        return Err(RecordLineError::NoOwner);
+    };
+    match after_owner(alloc, &owner, rest, origin) {
+        Ok(octets) => Ok(octets),
+        Err(error) => Err(error),
+    }
+}
+
+/// Returns the octets of a record of this owner, of which the text has the rest.
+fn after_owner(
+    alloc: Global,
+    owner: &WireForm,
+    left: &[u8],
+    origin: Option<&Name>,
+) -> Result<Vec<u8>, RecordLineError>
+    ensures ok { IfOk result (λ own. IsAfterOwner (option_copied origin.entry) owner.now left.now own.items) }
+    ensures err { IfErr result (FailsAfterOwner (option_copied origin.entry) left.now) }
+{
+    let (head, text) = head_of(alloc, left)?;
+    let own = data_of(alloc, head.record_type, text, origin)?;
+    let octets = octets_of(alloc, owner, head, own.as_slice())?;
+    Ok(octets)
+}
+
+/// Returns what is between the owner and the data, and the text of the data.
+fn head_of(alloc: Global, text: &[u8]) -> Result<(LineHead, &[u8]), RecordLineError>
+    ensures ok { IfOk result (λ r. IsHead text.now r.0 r.1.now) }
+    ensures err { IfErr result (FailsHead text.now) }
+{
+    match ttl_and_class(alloc, text) {
+        Some((ttl, class, left)) => before_type(ttl, class, left),
+        None => Err(RecordLineError::NoTimeToLive),
+    }
+}
+
+/// Returns what is between the owner and the data, of which the text has the type, and the text of the data.
+fn before_type(ttl: u32, class: DNSClass, left: &[u8]) -> Result<(LineHead, &[u8]), RecordLineError>
+    ensures ok { IfOk result (λ r. (r.0.ttl ≡ ttl) × (r.0.class ≡ class) × IsTypeWord (next_word left.now) r.0.record_type × (r.1.now ≡ after_next_word left.now)) }
+    ensures err { IfErr result (λ e. (e ≡ RecordLineError.NoType) × LacksTypeWord left.now) }
+{
+    let (word, rest) = next_word(left);
+    let Some(record_type) = type_of(word) else {
+        return Err(RecordLineError::NoType);
+    };
+    let head = LineHead {
+        record_type,
+        class,
+        ttl,
+    };
+    Ok((head, rest))
+}
+
+/// Returns the time to live and the class that a text begins with, in either order, and what is after them.
+fn ttl_and_class(alloc: Global, text: &[u8]) -> Option<(u32, DNSClass, &[u8])>
+    ensures { MatchOption result (LacksTtl text.now) (λ r. HasTtlAndClass text.now r.0 r.1 r.2.now) }
+{
+    let (word, rest) = next_word(text);
+    match ttl_of(alloc, word) {
+        Some(ttl) => {
+            let (class, rest) = class_or_in(rest);
+            Some((ttl, class, rest))
+        }
+        None => class_and_ttl(alloc, text),
+    }
+}
+
+/// Returns the class and then the time to live that a text begins with, and what is after them.
+fn class_and_ttl(alloc: Global, text: &[u8]) -> Option<(u32, DNSClass, &[u8])>
+    requires { LacksTtlWord text.now }
+    ensures { MatchOption result (LacksTtl text.now) (λ r. HasTtlAndClass text.now r.0 r.1 r.2.now) }
+{
+    let (word, rest) = next_word(text);
+    let Some(class) = class_of(word) else {
+        return None;
+    };
+    let (word, rest) = next_word(rest);
+    let Some(ttl) = ttl_of(alloc, word) else {
+        return None;
+    };
+    Some((ttl, class, rest))
+}
+
+/// Returns the class that a text begins with, or `IN`, and what is after it.
+fn class_or_in(text: &[u8]) -> (DNSClass, &[u8])
+    ensures { HasClassNext text.now result.0 result.1.now }
+{
+    let (word, rest) = next_word(text);
+    match class_of(word) {
+        Some(class) => (class, rest),
+        None => (DNSClass::IN, text),
+    }
+}
+
+/// Returns the next word of a text, and what is after it.
+fn next_word(text: &[u8]) -> (&[u8], &[u8])
+    ensures word { result.0.now ≡ next_word text.now }
+    ensures rest { result.1.now ≡ after_next_word text.now }
+{
+    split_word(after_spaces(text))
+}
+
+/// Returns the time to live that a word is.
+#[tactic(auto, using(crate::proofs::RecordWords::no_time))]
+fn ttl_of(alloc: Global, word: &[u8]) -> Option<u32>
+    ensures { MatchOption result ((n : ℕ) → ¬ (IsTtlWord word.now n)) (IsTtlWord word.now) }
+{
+    let Ok(text) = str::from_utf8(word) else {
+        return None;
+    };
+    match parse_ttl(alloc, text) {
+        Ok(seconds) => Some(seconds),
+        // If memory runs out for the error's text, the word is no time to live all the same.
+        Err(_) => None,
+    }
+}
+
+/// Returns the class that a word is.
+fn class_of(word: &[u8]) -> Option<DNSClass>
+    ensures { MatchOption result ((class : DNSClass) → ¬ (IsClassWord word.now class)) (IsClassWord word.now) }
+{
+    let text = str::from_utf8(word).ok()?;
+    DNSClass::from_text(text)
+}
+
+/// Returns the record type that a word is.
+fn type_of(word: &[u8]) -> Option<RecordType>
+    ensures { MatchOption result ((kind : RecordType) → ¬ (IsTypeWord word.now kind)) (IsTypeWord word.now) }
+{
+    let text = str::from_utf8(word).ok()?;
+    RecordType::from_text(text)
+}
+
+/// Returns the octets of the data that a text is.
+fn data_of(
+    alloc: Global,
+    record_type: RecordType,
+    text: &[u8],
+    origin: Option<&Name>,
+) -> Result<Vec<u8>, RecordLineError>
+    ensures ok { IfOk result (λ own. IsDataOf (option_copied origin.entry) record_type text.now own.items) }
+    ensures err { IfErr result (FailsDataOf (option_copied origin.entry) record_type text.now) }
+{
+    match parse_bytes(alloc, record_type, text, origin) {
+        Ok(own) if own.len() <= MAX_DATA => Ok(own),
+        Ok(_) => Err(RecordLineError::TooLong),
+        Err(DataTextError::Memory) => Err(RecordLineError::Memory),
+        Err(error) => Err(RecordLineError::Data(error)),
+    }
+}
+
+/// Returns the octets of a record.
+fn octets_of(
+    alloc: Global,
+    owner: &WireForm,
+    head: LineHead,
+    own: &[u8],
+) -> Result<Vec<u8>, AllocError>
+    requires { length own.now ≤ max_data }
+    ensures { IfOk result (λ octets. octets.items ≡ line_octets owner.now head own.now) }
+{
+    let mut octets = Vec::new(alloc);
+    octets.extend_from_slice(owner.as_bytes())?;
+    octets.extend_from_slice(&u16::from(head.record_type).to_be_bytes())?;
+    octets.extend_from_slice(&u16::from(head.class).to_be_bytes())?;
+    octets.extend_from_slice(&head.ttl.to_be_bytes())?;
+    octets.extend_from_slice(&(own.len() as u16).to_be_bytes())?;
+    octets.extend_from_slice(own)?;
+    Ok(octets)
+}

@@ -1,0 +1,9 @@
+pub mod Spelling
+pub mod Numbers
+pub mod Octets
+pub mod Strings
+pub mod Times
+pub mod Tags
+pub mod Base32
+pub mod Pairs
+pub mod Inside

@@ -1,0 +1,141 @@
+//! Octets in hexadecimal and in base 64 (RFC 4648), and the salts of NSEC3 (RFC 5155).
+//!
+//! Several tokens that make one value are joined before they are parsed.
+ghost use Rattle.std.specs.Prelude.{◌≡◌, ◌<◌, Some, slice_index};
+ghost use Rattle.hex.specs.Hex.{upper_digits};
+ghost use Rattle.dnw_zone_values.specs.Spelling.{Appends};
+ghost use Rattle.dnw_zone_values.specs.Octets.{hex_text, base64_text, salt_text, IsHexText, IsBase64Text, IsSaltText};
+ghost use Rattle.dnw_zone_values.specs.declared.error.FieldTextError.TheVariants.{Hexadecimal as HexWanted, Base64 as Base64Wanted, Salt as SaltWanted};
+
+use crate::error::FieldTextError;
+use base64::DecodeAllocError;
+use base64::display::Base64Display;
+use base64::engine::general_purpose::STANDARD;
+use std::{fmt, str};
+
+/// Octets that are printed in hexadecimal, as `49FD46E6` (RFC 4648, section 8).
+#[derive(Clone, Copy, Debug)]
+pub struct Hexadecimal<'a>(pub &'a [u8]);
+
+impl fmt::Display for Hexadecimal<'_> {
+    ghost output = { λ octets. Some (hex_text octets.0.now) };
+
+    fn fmt<W: fmt::Write>(&self, f: &mut fmt::Formatter<W>) -> fmt::Result {
+        for octet in self.0 {
+            let digits = [hex_digit(*octet / 16), hex_digit(*octet % 16)];
+            f.write_str(str::from_utf8(&digits).map_err(|_| fmt::Error)?)?;
+        }
+        Ok(())
+    }
+}
+
+/// Octets that are printed in base 64 with its padding, as `Zm9vYg==` (RFC 4648, section 4).
+#[derive(Clone, Copy, Debug)]
+pub struct Base64<'a>(pub &'a [u8]);
+
+impl fmt::Display for Base64<'_> {
+    ghost output = { λ octets. Some (base64_text octets.0.now) };
+
+    fn fmt<W: fmt::Write>(&self, f: &mut fmt::Formatter<W>) -> fmt::Result {
+        f.write(Base64Display::new(self.0, &STANDARD))
+    }
+}
+
+/// The salt of an NSEC3 record, printed in hexadecimal, or as `-` if it has no octets (RFC 5155, section 3.3).
+#[derive(Clone, Copy, Debug)]
+pub struct Salt<'a>(pub &'a [u8]);
+
+impl fmt::Display for Salt<'_> {
+    ghost output = { λ salt. Some (salt_text salt.0.now) };
+
+    fn fmt<W: fmt::Write>(&self, f: &mut fmt::Formatter<W>) -> fmt::Result {
+        if self.0.is_empty() {
+            f.write_str("-")
+        } else {
+            f.write(Hexadecimal(self.0))
+        }
+    }
+}
+
+/// Appends the octets that a text writes in hexadecimal, two digits for each in either case.
+///
+/// Fails with `Hexadecimal` if the text is something else, and with `Memory`; `octets` is then unchanged.
+///
+/// ```
+/// parse_hexadecimal("49fd46E6", &mut octets)?; // 0x49, 0xfd, 0x46, 0xe6
+/// ```
+pub fn parse_hexadecimal(text: &str, octets: &mut Vec<u8>) -> Result<(), FieldTextError>
+    ensures { Appends HexWanted IsHexText text.now octets.old.items octets.new.items result }
+{
+    append_hexadecimal(text, FieldTextError::Hexadecimal, octets)
+}
+
+/// Appends the octets that a text writes in base 64 with its padding.
+///
+/// Fails with `Base64` if the text is something else, and with `Memory`; `octets` is then unchanged.
+///
+/// ```
+/// parse_base64("Zm9vYg==", &mut octets)?; // b"foob"
+/// ```
+pub fn parse_base64(text: &str, octets: &mut Vec<u8>) -> Result<(), FieldTextError>
+    ensures { Appends Base64Wanted IsBase64Text text.now octets.old.items octets.new.items result }
+{
+    if text.is_empty() {
+        return Ok(());
+    }
+    match STANDARD.decode_vec(text.as_bytes(), octets) {
+        Ok(()) => Ok(()),
+        Err(DecodeAllocError::OutOfMemory) => Err(FieldTextError::Memory),
+        Err(DecodeAllocError::DecodeError(_)) => Err(FieldTextError::Base64),
+    }
+}
+
+/// Appends the octets of a salt: at most 255 in hexadecimal, and none for `-`.
+///
+/// Fails with `Salt` if the text is something else, and with `Memory`; `octets` is then unchanged.
+pub fn parse_salt(text: &str, octets: &mut Vec<u8>) -> Result<(), FieldTextError>
+    ensures { Appends SaltWanted IsSaltText text.now octets.old.items octets.new.items result }
+{
+    if text == "-" {
+        return Ok(());
+    }
+    match text.len() {
+        1..=510 => append_hexadecimal(text, FieldTextError::Salt, octets),
+        _ => Err(FieldTextError::Salt),
+    }
+}
+
+/// Appends the octets that a text writes in hexadecimal. Fails with `wanted` if the text is something else.
+fn append_hexadecimal(
+    text: &str,
+    wanted: FieldTextError,
+    octets: &mut Vec<u8>,
+) -> Result<(), FieldTextError>
+    ensures { Appends wanted IsHexText text.now octets.old.items octets.new.items result }
+{
+    if text.len() % 2 != 0 {
+        return Err(wanted);
+    }
+    let start = octets.len();
+    let Some(end) = start.checked_add(text.len() / 2) else {
+        return Err(FieldTextError::Memory);
+    };
+    octets.resize(end, 0)?;
+    if hex::decode_to_slice(text, &mut octets.as_mut_slice()[start..]).is_err() {
+        octets.truncate(start);
+        return Err(wanted);
+    }
+    Ok(())
+}
+
+/// Returns the digit of a number below 16.
+fn hex_digit(number: u8) -> u8
+    requires { number < 16 }
+    ensures { result ≡ slice_index upper_digits number }
+{
+    if number < 10 {
+        b'0' + number
+    } else {
+        b'A' + (number - 10)
+    }
+}
