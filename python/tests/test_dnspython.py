@@ -28,6 +28,8 @@ MX 10 mail.example.
 TXT "v=spf1 -all" "" "a\\"b\\\\c\\200"
 RP mbox.example. txt.example.
 AFSDB 1 host.example.
+RT 10 relay.example.
+PX 10 map.example. x400.example.
 AAAA 2001:db8::1
 SRV 1 2 53 target.example.
 NAPTR 100 10 "u" "E2U+sip" "!^.*$!sip:info@example.com!" .

@@ -37,6 +37,8 @@ MX 10 Mail.Example.
 TXT "A" "a"
 RP M.Example. T.Example.
 AFSDB 1 Host.Example.
+RT 10 Relay.Example.
+PX 10 Map.Example. X400.Example.
 SRV 1 2 53 Target.Example.
 NAPTR 100 10 "U" "E2U+sip" "" Re.Example.
 KX 10 Kx.Example.
