@@ -5,7 +5,8 @@ use Rattle.dnw_base.specs.declared.record_type.RecordType.TheVariants as rr
 use Rattle.dnw_base.specs.declared.dns_class.DNSClass.{DNSClass}
 use Rattle.dnw_base.specs.declared.dns_class.DNSClass.TheVariants as class
 use Rattle.dnw_base.specs.RecordTypes.{is_unknown, type_code, type_of_code}
-use Rattle.dnw_base.specs.DnsClasses.{class_code, class_of_code, class_rank, min_payload}
+use Rattle.dnw_base.specs.DnsClasses.{class_code, class_of_code, class_rank}
+use Rattle.dnw_base.specs.Limits.{min_payload}
 
 -- Each code comes back from its type.
 abbrev pub TypeCodesComeBack : Type 0

@@ -2,8 +2,8 @@
 -- `Rattle.dns_names_wire.specs.Words.{TakesName, wire}` and names no crate below this one.
 
 -- Limits (RFC 1035, section 2.3.4).
-pub use Rattle.dnw_base.specs.Limits.{max_label, max_labels, max_name, max_character_data, max_message}
-pub use Rattle.dnw_base.specs.Limits.{pointer_mark, pointer_offsets, pointer_reach}
+pub use Rattle.dnw_base.specs.Limits.{max_label, max_labels, max_name, max_character_data, max_message, max_pointers}
+pub use Rattle.dnw_base.specs.Limits.{min_payload, max_data, max_window, pointer_mark, pointer_offsets, pointer_reach}
 -- Errors.
 pub use Rattle.dnw_base.specs.declared.error.ProtoError.{ProtoError}
 pub use Rattle.dnw_base.specs.Fault.{Fault, Follows, NeedsErrorText, Updates}
@@ -31,7 +31,7 @@ pub use Rattle.dnw_name_lower.specs.LowerNames.{lowered, IsLower, lower_name_fro
 pub use Rattle.dnw_base.specs.declared.record_type.RecordType.{RecordType}
 pub use Rattle.dnw_base.specs.RecordTypes.{type_code, type_name, type_text, type_of_code, type_of_name, type_of_text, type_cmp, type_hash, is_dnssec, is_unknown}
 pub use Rattle.dnw_base.specs.declared.dns_class.DNSClass.{DNSClass}
-pub use Rattle.dnw_base.specs.DnsClasses.{class_code, class_name, class_text, class_of_code, class_of_name, class_of_text, class_cmp, class_hash, class_rank, min_payload}
+pub use Rattle.dnw_base.specs.DnsClasses.{class_code, class_name, class_text, class_of_code, class_of_name, class_of_text, class_cmp, class_hash, class_rank}
 pub use Rattle.dns_names_wire.specs.CodeLaws.{TypeCodesComeBack, NamedTypesComeBack, UnknownTypesComeBack}
 pub use Rattle.dns_names_wire.specs.CodeLaws.{ClassCodesComeBack, NamedClassesComeBack, UnknownClassesComeBack, SizesStayUnknown}
 pub use Rattle.dnw_base.specs.Naming.{Looks, ReportsType, ReportsClass}
@@ -136,7 +136,7 @@ pub use Rattle.dnw_zone_values.specs.Strings.{with_octet}
 pub use Rattle.dnw_zone_values.specs.Times.{IsDateText, IsDay, IsMoment, IsTimeText, two_at}
 -- Texts of the data of records.
 pub use Rattle.dnw_zone_data.specs.DataTexts.{ArePlain, FailsText, IsDataText, IsPlainData, IsTextOf}
-pub use Rattle.dnw_zone_data.specs.Generic.{generic_text, max_data, IsGeneric}
+pub use Rattle.dnw_zone_data.specs.Generic.{generic_text, IsGeneric}
 pub use Rattle.dnw_zone_record.specs.RecordLines.{FailsRecordLine, IsRecordLine, line_octets, record_line}
 pub use Rattle.dnw_zone_data.specs.declared.error.DataTextError.{DataTextError}
 pub use Rattle.dnw_zone_data.specs.declared.error.DataTextError.TheVariants.{Memory as OutOfMemory}

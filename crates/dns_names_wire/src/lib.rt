@@ -7,7 +7,6 @@
 pub use dnw_base::decoder::BinDecoder;
 pub use dnw_base::dns_class::DNSClass;
 pub use dnw_base::error::{DecodeError, ProtoError, ProtoResult};
-pub use dnw_base::from_str::FromStr;
 pub use dnw_base::record_type::RecordType;
 pub use dnw_base::restrict::Restrict;
 pub use dnw_base::serial_number::SerialNumber;
@@ -40,7 +39,6 @@ pub mod record_data {
 pub mod codes {
     pub use dnw_base::code_text::{CodeText, MAX_CODE_TEXT};
     pub use dnw_base::dns_class::DNSClass;
-    pub use dnw_base::from_str::FromStr;
     pub use dnw_base::record_type::RecordType;
     pub use dnw_base::serial_number::SerialNumber;
     pub use dnw_data::record_data::RecordDataDecodable;
@@ -71,10 +69,9 @@ pub mod decoder {
     pub use dnw_base::decoder::BinDecoder;
 }
 
-/// The classes of records. `FromStr` is for their names in text.
+/// The classes of records.
 pub mod dns_class {
     pub use dnw_base::dns_class::DNSClass;
-    pub use dnw_base::from_str::FromStr;
 }
 
 /// Writing messages of a bounded size, and what follows from the definitions of writing.
@@ -189,9 +186,8 @@ pub mod record {
     pub use dnw_record::record::{RecordRef, WireData, WireRecord, laws};
 }
 
-/// The types of records. `FromStr` is for their names in text.
+/// The types of records.
 pub mod record_type {
-    pub use dnw_base::from_str::FromStr;
     pub use dnw_base::record_type::RecordType;
 }
 

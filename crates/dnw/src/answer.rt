@@ -2,7 +2,7 @@
 
 mod messages;
 
-use dns_names_wire::ProtoError;
+use dns_names_wire::{DecodeError, ProtoError};
 use dns_names_wire::message::{EdnsError, MessageError};
 use hex::FromHexError;
 use std::alloc::{AllocError, AllocFailed, Global};
@@ -27,7 +27,7 @@ enum Refusal {
     Message(MessageError),
     /// An `OPT` record is outside the additional section.
     #[error("refused: {0}")]
-    Outside(EdnsError),
+    Decode(DecodeError),
     /// What the additional section says by EDNS was refused.
     #[error("refused: Additionals from offset {offset} on: {error}")]
     Edns {

@@ -10,11 +10,8 @@ use Rattle.std.specs.Hash.{HashWrites}
 use Rattle.dnw_base.specs.declared.dns_class.DNSClass.{DNSClass}
 use Rattle.dnw_base.specs.declared.dns_class.DNSClass.TheVariants.{IN, CH, HS, NONE, ANY, OPT, Unknown}
 use Rattle.dnw_base.specs.Entries.{Entry, entry}
+use Rattle.dnw_base.specs.Limits.{min_payload}
 use Rattle.dnw_base.specs.CodeTexts.{numbered, code_after}
-
--- the least size of a message that a requestor can be taken to accept (RFC 6891, section 6.2.3)
-abbrev pub min_payload : ℕ
-min_payload = 512
 
 -- the table of the classes
 abbrev pub class_entry : DNSClass → Entry

@@ -2,16 +2,18 @@
 ghost use Rattle.std.specs.Prelude.{◌≡◌, ◌↔◌, max, Some, IsTrue, find};
 ghost use Rattle.std.specs.Ordering.{eq_by_cmp};
 ghost use Rattle.std.specs.Str.{str_eq_ignore_ascii_case};
-ghost use Rattle.dnw_base.specs.DnsClasses.{class_code, class_name, class_of_code, class_text, class_of_text, class_rank, class_number, class_of_name, find_class, class_cmp, min_payload};
+ghost use Rattle.dnw_base.specs.DnsClasses.{class_code, class_name, class_of_code, class_text, class_of_text, class_rank, class_number, class_of_name, find_class, class_cmp};
+ghost use Rattle.dnw_base.specs.Limits.{min_payload};
+ghost use Rattle.dnw_base.specs.Naming.{Looks, ReportsClass};
 
 use crate::code_text::{CodeText, code_after, is_alike, named, numbered};
+use crate::error::DecodeError;
+use crate::limits::MIN_PAYLOAD;
 use crate::of_table;
+use std::alloc::Global;
 use std::cmp::Ordering;
 use std::fmt;
 use std::hash::{Hash, Hasher};
-
-/// The least size of a message that `OPT` stands for, in octets (RFC 6891, section 6.2.3).
-const MIN_PAYLOAD: u16 = 512;
 
 /// The class of a record: nearly always `IN` (RFC 1035, section 3.2.4).
 ///
@@ -88,6 +90,21 @@ impl DNSClass {
             return Some(DNSClass::ANY);
         }
         find_class(NAMED, name)
+    }
+
+    /// Returns the class that [`from_name`](DNSClass::from_name) returns.
+    ///
+    /// It fails with `UnknownDnsClassStr` if there is none. Only the copy of the text in that error is allocated; if that
+    /// fails, it fails with `Memory`.
+    pub fn from_str(alloc: Global, str: &str) -> Result<Self, DecodeError>
+        ensures { Looks (class_of_name str.now) (ReportsClass str.now) result }
+    {
+        if let Some(class) = DNSClass::from_name(str) {
+            return Ok(class);
+        }
+        let mut text = String::new(alloc);
+        text.push_str(str)?;
+        Err(DecodeError::UnknownDnsClassStr(text))
     }
 
     /// Returns the class that a text gives in a zone file, in upper or lower case: a name, `*` for `ANY`, or `CLASS` and a

@@ -233,27 +233,22 @@ impl ProtoError {
         ensures ok { IfOk result (IsCopyOf self.now) }
         ensures err { IfErr result (λ e. (e ≡ Memory) × OwnsText self.now) }
     {
-        match self {
-            ProtoError::CharacterDataTooLong { max, len } => Ok(ProtoError::CharacterDataTooLong {
-                max: *max,
-                len: *len,
-            }),
-            ProtoError::Decode(cause) => match cause.clone() {
-                Ok(cause) => Ok(ProtoError::Decode(cause)),
-                Err(_) => Err(ProtoError::Memory),
+        Ok(match *self {
+            Self::CharacterDataTooLong { max, len } => Self::CharacterDataTooLong { max, len },
+            Self::Decode(ref cause) => match cause.clone() {
+                Ok(cause) => return Ok(Self::Decode(cause)),
+                Err(_) => return Err(Self::Memory),
             },
-            ProtoError::MaxBufferSizeExceeded(max) => Ok(ProtoError::MaxBufferSizeExceeded(*max)),
-            ProtoError::Message(text) => Ok(ProtoError::Message(text)),
-            ProtoError::Msg(text) => Ok(ProtoError::Msg(text.clone()?)),
-            ProtoError::NotAllRecordsWritten { count } => {
-                Ok(ProtoError::NotAllRecordsWritten { count: *count })
-            }
-            ProtoError::NotAResponse => Ok(ProtoError::NotAResponse),
-            ProtoError::Utf8 => Ok(ProtoError::Utf8),
-            ProtoError::FromUtf8 => Ok(ProtoError::FromUtf8),
-            ProtoError::ParseInt => Ok(ProtoError::ParseInt),
-            ProtoError::Memory => Ok(ProtoError::Memory),
-        }
+            Self::MaxBufferSizeExceeded(max) => Self::MaxBufferSizeExceeded(max),
+            Self::Message(text) => Self::Message(text),
+            Self::Msg(ref text) => return Ok(Self::Msg(text.clone()?)),
+            Self::NotAllRecordsWritten { count } => Self::NotAllRecordsWritten { count },
+            Self::NotAResponse => Self::NotAResponse,
+            Self::Utf8 => Self::Utf8,
+            Self::FromUtf8 => Self::FromUtf8,
+            Self::ParseInt => Self::ParseInt,
+            Self::Memory => Self::Memory,
+        })
     }
 }
 
@@ -266,70 +261,35 @@ impl DecodeError {
         ensures ok { IfOk result (IsDecodeCopyOf self.now) }
         ensures err { IfErr result (λ e. (e ≡ Memory) × OwnsDecodeText self.now) }
     {
-        match self {
-            DecodeError::UnknownDnsClassStr(text) => {
-                Ok(DecodeError::UnknownDnsClassStr(text.clone()?))
-            }
-            DecodeError::UnknownRecordTypeStr(text) => {
-                Ok(DecodeError::UnknownRecordTypeStr(text.clone()?))
-            }
-            DecodeError::IncorrectRDataLengthRead { read, len } => {
-                Ok(DecodeError::IncorrectRDataLengthRead {
-                    read: *read,
-                    len: *len,
-                })
-            }
-            DecodeError::InsufficientBytes => Ok(DecodeError::InsufficientBytes),
-            DecodeError::InvalidEmptyRecord => Ok(DecodeError::InvalidEmptyRecord),
-            DecodeError::InvalidPreviousIndex => Ok(DecodeError::InvalidPreviousIndex),
-            DecodeError::PointerNotPriorToLabel { idx, ptr } => {
-                Ok(DecodeError::PointerNotPriorToLabel {
-                    idx: *idx,
-                    ptr: *ptr,
-                })
-            }
-            DecodeError::LabelBytesTooLong(len) => Ok(DecodeError::LabelBytesTooLong(*len)),
-            DecodeError::UnrecognizedLabelCode(code) => {
-                Ok(DecodeError::UnrecognizedLabelCode(*code))
-            }
-            DecodeError::DomainNameTooLong(len) => Ok(DecodeError::DomainNameTooLong(*len)),
-            DecodeError::LabelOverlapsWithOther { label, other } => {
-                Ok(DecodeError::LabelOverlapsWithOther {
-                    label: *label,
-                    other: *other,
-                })
-            }
-            DecodeError::UnknownDigestAlgorithm(code) => {
-                Ok(DecodeError::UnknownDigestAlgorithm(*code))
-            }
-            DecodeError::UnknownDnsClassValue(code) => Ok(DecodeError::UnknownDnsClassValue(*code)),
-            DecodeError::UnknownRecordTypeValue(code) => {
-                Ok(DecodeError::UnknownRecordTypeValue(*code))
-            }
-            DecodeError::UnrecognizedNsec3Flags(flags) => {
-                Ok(DecodeError::UnrecognizedNsec3Flags(*flags))
-            }
-            DecodeError::UnrecognizedCsyncFlags(flags) => {
-                Ok(DecodeError::UnrecognizedCsyncFlags(*flags))
-            }
-            DecodeError::UnknownNsec3HashAlgorithm(code) => {
-                Ok(DecodeError::UnknownNsec3HashAlgorithm(*code))
-            }
-            DecodeError::RecordAfterSig => Ok(DecodeError::RecordAfterSig),
-            DecodeError::RecordNotInAdditionalSection(kind) => {
-                Ok(DecodeError::RecordNotInAdditionalSection(*kind))
-            }
-            DecodeError::DuplicateEdns => Ok(DecodeError::DuplicateEdns),
-            DecodeError::SvcParamsOutOfOrder => Ok(DecodeError::SvcParamsOutOfOrder),
-            DecodeError::SvcParamMissingValue => Ok(DecodeError::SvcParamMissingValue),
-            DecodeError::NsecBitmapOutOfBounds => Ok(DecodeError::NsecBitmapOutOfBounds),
-            DecodeError::CaaTagInvalid => Ok(DecodeError::CaaTagInvalid),
-            DecodeError::NaptrFlagsInvalid => Ok(DecodeError::NaptrFlagsInvalid),
-            DecodeError::UnknownAddressFamily(family) => {
-                Ok(DecodeError::UnknownAddressFamily(*family))
-            }
-            DecodeError::Utf8 => Ok(DecodeError::Utf8),
-            DecodeError::Memory => Ok(DecodeError::Memory),
-        }
+        Ok(match *self {
+            Self::IncorrectRDataLengthRead { read, len } => Self::IncorrectRDataLengthRead { read, len },
+            Self::InsufficientBytes => Self::InsufficientBytes,
+            Self::InvalidEmptyRecord => Self::InvalidEmptyRecord,
+            Self::InvalidPreviousIndex => Self::InvalidPreviousIndex,
+            Self::PointerNotPriorToLabel { idx, ptr } => Self::PointerNotPriorToLabel { idx, ptr },
+            Self::LabelBytesTooLong(len) => Self::LabelBytesTooLong(len),
+            Self::UnrecognizedLabelCode(code) => Self::UnrecognizedLabelCode(code),
+            Self::DomainNameTooLong(len) => Self::DomainNameTooLong(len),
+            Self::LabelOverlapsWithOther { label, other } => Self::LabelOverlapsWithOther { label, other },
+            Self::UnknownDigestAlgorithm(code) => Self::UnknownDigestAlgorithm(code),
+            Self::UnknownDnsClassStr(ref text) => return Ok(Self::UnknownDnsClassStr(text.clone()?)),
+            Self::UnknownDnsClassValue(code) => Self::UnknownDnsClassValue(code),
+            Self::UnknownRecordTypeStr(ref text) => return Ok(Self::UnknownRecordTypeStr(text.clone()?)),
+            Self::UnknownRecordTypeValue(code) => Self::UnknownRecordTypeValue(code),
+            Self::UnrecognizedNsec3Flags(flags) => Self::UnrecognizedNsec3Flags(flags),
+            Self::UnrecognizedCsyncFlags(flags) => Self::UnrecognizedCsyncFlags(flags),
+            Self::UnknownNsec3HashAlgorithm(code) => Self::UnknownNsec3HashAlgorithm(code),
+            Self::RecordAfterSig => Self::RecordAfterSig,
+            Self::RecordNotInAdditionalSection(record_type) => Self::RecordNotInAdditionalSection(record_type),
+            Self::DuplicateEdns => Self::DuplicateEdns,
+            Self::SvcParamsOutOfOrder => Self::SvcParamsOutOfOrder,
+            Self::SvcParamMissingValue => Self::SvcParamMissingValue,
+            Self::NsecBitmapOutOfBounds => Self::NsecBitmapOutOfBounds,
+            Self::CaaTagInvalid => Self::CaaTagInvalid,
+            Self::NaptrFlagsInvalid => Self::NaptrFlagsInvalid,
+            Self::UnknownAddressFamily(family) => Self::UnknownAddressFamily(family),
+            Self::Utf8 => Self::Utf8,
+            Self::Memory => Self::Memory,
+        })
     }
 }

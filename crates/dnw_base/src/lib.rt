@@ -9,7 +9,6 @@ pub mod code_text;
 pub mod decoder;
 pub mod dns_class;
 pub mod error;
-pub mod from_str;
 pub mod limits;
 pub mod record_type;
 pub mod restrict;

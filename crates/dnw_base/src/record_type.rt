@@ -3,9 +3,12 @@ ghost use Rattle.std.specs.Prelude.{◌≡◌, ◌⊎◌, ◌↔◌, Some, IsTru
 ghost use Rattle.std.specs.Ordering.{eq_by_cmp};
 ghost use Rattle.std.specs.Str.{str_eq_ignore_ascii_case};
 ghost use Rattle.dnw_base.specs.RecordTypes.{type_code, type_name, type_of_code, type_text, type_of_text, find_named, type_of_name, type_cmp, is_unknown, is_written, is_dnssec};
+ghost use Rattle.dnw_base.specs.Naming.{Looks, ReportsType};
 
 use crate::code_text::{CodeText, code_after, is_alike, named, numbered};
+use crate::error::DecodeError;
 use crate::of_table;
+use std::alloc::Global;
 use std::cmp::Ordering;
 use std::fmt;
 use std::hash::{Hash, Hasher};
@@ -297,6 +300,21 @@ impl RecordType {
             return Some(RecordType::ANY);
         }
         find_named(NAMED, name)
+    }
+
+    /// Returns the type that [`from_name`](RecordType::from_name) returns.
+    ///
+    /// It fails with `UnknownRecordTypeStr` if there is none. Only the copy of the text in that error is allocated; if that
+    /// fails, it fails with `Memory`.
+    pub fn from_str(alloc: Global, str: &str) -> Result<Self, DecodeError>
+        ensures { Looks (type_of_name str.now) (ReportsType str.now) result }
+    {
+        if let Some(kind) = RecordType::from_name(str) {
+            return Ok(kind);
+        }
+        let mut text = String::new(alloc);
+        text.push_str(str)?;
+        Err(DecodeError::UnknownRecordTypeStr(text))
     }
 
     /// Returns the type that a text gives in a zone file, in upper or lower case: a name, `*` for `ANY`, or `TYPE` and a

@@ -1,12 +1,14 @@
 -- EDNS: an OPT record in the additional section, and in no other (RFC 6891, section 6.1).
 use Rattle.std.specs.Prelude.{◌≡◌, ◌≢◌, ℕ, ◌+◌, ◌*◌, ◌/◌, ◌%◌, ◌^◌, ◌≤◌, ◌==◌, ◌++◌, max, nat_le, if◌then◌else◌, Bool, true, false, Option, Some, None, List, [], ◌∷◌, filter, length, drop, slice_range, ◌⊎◌}
 use Rattle.std.specs.Int.{bit_at}
+use Rattle.dnw_base.specs.declared.error.DecodeError.TheVariants.{DuplicateEdns, RecordNotInAdditionalSection}
 use Rattle.dnw_base.specs.declared.record_type.RecordType.{RecordType}
 use Rattle.dnw_base.specs.declared.record_type.RecordType.TheVariants.{OPT}
-use Rattle.dnw_base.specs.DnsClasses.{class_code, min_payload}
+use Rattle.dnw_base.specs.DnsClasses.{class_code}
+use Rattle.dnw_base.specs.Limits.{min_payload}
 use Rattle.dnw_record.specs.Records.{RecordValue, data_octets, number_at}
 use Rattle.dnw_message_read.specs.declared.edns.EdnsError.{EdnsError}
-use Rattle.dnw_message_read.specs.declared.edns.EdnsError.TheVariants.{CutOption, DuplicateEdns, OutsideAdditionals, OwnerNotRoot}
+use Rattle.dnw_message_read.specs.declared.edns.EdnsError.TheVariants.{CutOption, Decode, OwnerNotRoot}
 use Rattle.dnw_message_header.specs.declared.response_code.ResponseCode.{ResponseCode}
 use Rattle.dnw_message_header.specs.ResponseCodes.{response_code, response_of_code}
 use Rattle.dnw_message_read.specs.Messages.{MessageValue}
@@ -60,8 +62,7 @@ IsEdns r e =
 
 -- The record is not owned by the root, or its data are no options.
 abbrev pub FailsOpt : RecordValue → EdnsError → Type 0
-FailsOpt r OutsideAdditionals = ⊥
-FailsOpt r DuplicateEdns = ⊥
+FailsOpt r (Decode cause) = ⊥
 FailsOpt r OwnerNotRoot = r.owner ≢ []
 FailsOpt r CutOption = (r.owner ≡ []) × (¬ (HasOptions (data_octets r)))
 
@@ -101,8 +102,8 @@ HasOpt m (Some r) = OptsAre m (r ∷ []) × (e : EdnsValue) × IsEdns r e
 -- OPT records are where none may be, or too many: outside the additional section, or two or more in it.
 abbrev pub FailsOnlyOpt : MessageValue → EdnsError → Type 0
 FailsOnlyOpt m error =
-    ((opts_outside m ≢ []) × (error ≡ OutsideAdditionals))
-    ⊎ ((opts_outside m ≡ []) × (2 ≤ length (opts_in m.additionals)) × (error ≡ DuplicateEdns))
+    ((opts_outside m ≢ []) × (error ≡ Decode (RecordNotInAdditionalSection OPT)))
+    ⊎ ((opts_outside m ≡ []) × (2 ≤ length (opts_in m.additionals)) × (error ≡ Decode DuplicateEdns))
 
 -- So it is, or the only one breaks a rule.
 abbrev pub FailsEdns : MessageValue → EdnsError → Type 0

@@ -6,26 +6,23 @@ ghost use Rattle.dnw_message_read.specs.Edns.{EdnsValue, FailsOpt, HasOptions, I
 ghost use Rattle.dnw_message_read.specs.Inside.Options.{options_of};
 
 use crate::items::Records;
+use dnw_base::error::DecodeError;
+use dnw_base::limits::MIN_PAYLOAD;
 use dnw_base::record_type::RecordType;
 use dnw_record::record::RecordRef;
 use std::marker::Model;
 use thiserror::Error;
 
-/// The least size of a message that a sender can be taken to accept, in octets (RFC 6891, section 6.2.3).
-const MIN_PAYLOAD: u16 = 512;
-
 /// The code of the type `OPT` (RFC 6891, section 6.1.1).
 const OPT_CODE: u16 = 41;
 
 /// Why the EDNS of a message breaks a rule.
-#[derive(Debug, Clone, Copy, PartialEq, Eq, Error)]
+#[derive(Debug, Drop, Error)]
 pub enum EdnsError {
-    /// An `OPT` record outside the additional section (RFC 6891, section 6.1.1).
-    #[error("OPT record outside the additional section")]
-    OutsideAdditionals,
-    /// More than one `OPT` record in the additional section (RFC 6891, section 6.1.1).
-    #[error("more than one OPT record")]
-    DuplicateEdns,
+    /// The message has `OPT` records that it may not have (RFC 6891, section 6.1.1): `RecordNotInAdditionalSection` if one is
+    /// in another section, or `DuplicateEdns` if the additional section has more than one.
+    #[error("{0}")]
+    Decode(DecodeError),
     /// The `OPT` record is not owned by the root (RFC 6891, section 6.1.2).
     #[error("OPT record not owned by the root")]
     OwnerNotRoot,

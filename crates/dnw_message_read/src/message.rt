@@ -3,6 +3,7 @@ ghost use Rattle.std.specs.Prelude.{◌≡◌, [], ℕ, ◌<◌, ◌≤◌, leng
 ghost use Rattle.std.specs.Bool.{FalseIff};
 ghost use Rattle.dnw_message_header.specs.Headers.{header_of, header_size};
 ghost use Rattle.dnw_message_read.specs.Edns.{FailsEdns, FailsOnlyOpt, HasEdns, HasOpt, IsOnlyOpt, IsResponseCode, opts_in, opts_outside};
+ghost use Rattle.dnw_base.specs.Limits.{max_pointers};
 ghost use Rattle.dnw_message_read.specs.Messages.{MessageAt, FailsMessage, SectionsBegin, no_header};
 
 use crate::edns::{EdnsError, EdnsRef, next_opt};
@@ -11,13 +12,12 @@ use crate::items::{Queries, Records};
 use crate::passing::pass_section;
 use dnw_base::decoder::BinDecoder;
 use dnw_base::error::DecodeError;
+use dnw_base::limits::MAX_POINTERS;
+use dnw_base::record_type::RecordType;
 use dnw_message_header::header::Header;
 use dnw_message_header::response_code::ResponseCode;
 use dnw_record::record::RecordRef;
 use std::marker::Model;
-
-/// How many pointers the names of a message may follow in all, if no other number is given.
-const MAX_POINTERS: usize = 65536;
 
 /// The offsets at which the sections of records of a message begin. The questions begin after the header, at `Header::LEN`.
 #[derive(Debug, Clone, Copy, PartialEq, Eq)]
@@ -65,8 +65,8 @@ impl<'m> MessageRef<'m> {
     /// It fails at the first item that is not there. The names of its questions and the owners of its records may follow 65,536
     /// pointers in all; `read_limited` takes another number.
     pub fn read(octets: &'m [u8]) -> Result<Self, MessageError>
-        ensures ok { IfOk result (λ m. (k : ℕ) × MessageAt octets.now m k × (k ≤ 65536)) }
-        ensures err { IfErr result (FailsMessage octets.now 65536) }
+        ensures ok { IfOk result (λ m. (k : ℕ) × MessageAt octets.now m k × (k ≤ max_pointers)) }
+        ensures err { IfErr result (FailsMessage octets.now max_pointers) }
     {
         MessageRef::read_limited(octets, MAX_POINTERS)
     }
@@ -163,9 +163,9 @@ impl<'m> MessageRef<'m> {
 
     /// Returns what the message says by EDNS, or `None` without an `OPT` record (RFC 6891).
     ///
-    /// It fails with `OutsideAdditionals` if an `OPT` record is among the answers or the authorities, with `DuplicateEdns` if
-    /// there are two or more, with `OwnerNotRoot` if the only one is not owned by the root, or else with `CutOption` if its data
-    /// are not options up to their end.
+    /// It fails with `RecordNotInAdditionalSection` if an `OPT` record is among the answers or the authorities, with
+    /// `DuplicateEdns` if there are two or more, with `OwnerNotRoot` if the only one is not owned by the root, or else with
+    /// `CutOption` if its data are not options up to their end.
     pub fn edns(&self) -> Result<Option<EdnsRef<'m>>, EdnsError>
         ensures ok { IfOk result (HasEdns self.now) }
         ensures err { IfErr result (FailsEdns self.now) }
@@ -194,7 +194,7 @@ impl<'m> MessageRef<'m> {
         ensures err { IfErr result (FailsOnlyOpt self.now) }
     {
         if self.has_opt_outside() {
-            return Err(EdnsError::OutsideAdditionals);
+            return Err(EdnsError::Decode(DecodeError::RecordNotInAdditionalSection(RecordType::OPT)));
         }
         if !self.has_opt_inside() {
             return Ok(None);
@@ -202,7 +202,7 @@ impl<'m> MessageRef<'m> {
         let mut records = self.additionals();
         let opt = next_opt(&mut records).unwrap();
         if next_opt(&mut records).is_some() {
-            return Err(EdnsError::DuplicateEdns);
+            return Err(EdnsError::Decode(DecodeError::DuplicateEdns));
         }
         Ok(Some(opt))
     }

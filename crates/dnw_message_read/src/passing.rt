@@ -11,10 +11,9 @@ use dnw_base::decoder::BinDecoder;
 use dnw_base::error::DecodeError;
 use dnw_name::name_ref::NameRef;
 use dnw_name_read::walk::ReadSteps;
+use dnw_record::record::FIXED_SIZE;
 
-/// How many octets of a record are between its owner and its data, and how many of a question are after its name.
-const RECORD_FIELDS: usize = 10;
-
+/// How many octets of a question are after its name (RFC 1035, section 4.1.2).
 const QUESTION_FIELDS: usize = 4;
 
 /// Moves past the items of a section, and returns `true` if an `OPT` record is among them. The pointers that their names follow
@@ -89,7 +88,7 @@ fn pass_rest(reader: &mut BinDecoder<'_>, section: Section) -> Result<bool, Deco
         reader.skip(QUESTION_FIELDS)?;
         return Ok(false);
     }
-    let fields = reader.read_slice(RECORD_FIELDS)?.unverified();
+    let fields = reader.read_slice(FIXED_SIZE)?.unverified();
     reader.skip(u16::from_be_bytes([fields[8], fields[9]]) as usize)?;
     Ok(is_opt_code(u16::from_be_bytes([fields[0], fields[1]])))
 }

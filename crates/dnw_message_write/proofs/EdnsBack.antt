@@ -12,7 +12,8 @@ use Rattle.dnw_base.specs.declared.error.ProtoError.TheVariants.{MaxBufferSizeEx
 use Rattle.dnw_base.specs.declared.record_type.RecordType.TheVariants.{OPT}
 use Rattle.dnw_base.specs.declared.dns_class.DNSClass.{DNSClass}
 use Rattle.dnw_base.specs.declared.dns_class.DNSClass.TheVariants.{Unknown}
-use Rattle.dnw_base.specs.DnsClasses.{class_code, class_of_code, min_payload, named_classes}
+use Rattle.dnw_base.specs.DnsClasses.{class_code, class_of_code, named_classes}
+use Rattle.dnw_base.specs.Limits.{min_payload}
 use Rattle.dnw_base.specs.RecordTypes.{type_code, type_of_code}
 use Rattle.dnw_name_read.proofs.Back.{slice_range-middle}
 use Rattle.dnw_base.specs.Decoder.{Decoder}

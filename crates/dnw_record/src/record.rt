@@ -9,7 +9,7 @@ mod passing;
 mod reading;
 mod writing;
 
-pub use reading::RecordRef;
+pub use reading::{FIXED_SIZE, RecordRef};
 
 /// A record to be written into a message (RFC 1035, section 4.1.3).
 ///

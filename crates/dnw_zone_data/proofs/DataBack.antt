@@ -17,7 +17,8 @@ use Rattle.dnw_zone_values.specs.Octets.{IsOctets}
 use Rattle.dnw_zone_svcb.proofs.ParamTextsBack.{drop-fit, take-fit}
 use Rattle.dnw_data.specs.FieldWires.{field_wire}
 use Rattle.dnw_zone_data.specs.Words.{is_end, word, after_spaces}
-use Rattle.dnw_zone_data.specs.Generic.{mark, max_data, IsGeneric}
+use Rattle.dnw_zone_data.specs.Generic.{mark, IsGeneric}
+use Rattle.dnw_base.specs.Limits.{max_data}
 use Rattle.dnw_zone_data.specs.Parsing.{takes_all, AreFieldTexts}
 use Rattle.dnw_zone_data.specs.Printing.{Prints, PrintsFields}
 use Rattle.dnw_zone_data.specs.DataTexts.{without_space, AreWire, IsOwnText, IsPlainData, IsTextOf}

@@ -25,7 +25,8 @@ use Rattle.dnw_zone_values.specs.Spelling.{ComesBack}
 use Rattle.dnw_zone_values.specs.Strings.{IsString, IsText}
 use Rattle.dnw_zone_data.specs.declared.error.DataTextError.{DataTextError}
 use Rattle.dnw_zone_data.specs.declared.error.DataTextError.TheVariants.{Memory}
-use Rattle.dnw_zone_data.specs.Generic.{mark, max_data, generic_text, IsGeneric}
+use Rattle.dnw_zone_data.specs.Generic.{mark, generic_text, IsGeneric}
+use Rattle.dnw_base.specs.Limits.{max_data}
 use Rattle.dnw_zone_data.specs.Words.{is_end, word, after_spaces}
 use Rattle.dnw_zone_data.specs.Printing.{Prints}
 use Rattle.dnw_zone_data.specs.DataTexts.{ArePlain, FailsText, IsDataText, IsPlainData, IsTextOf}

@@ -8,14 +8,11 @@ use Rattle.dnw_zone_data.specs.declared.error.DataTextError.TheVariants.{Memory}
 use Rattle.dnw_zone_data.specs.declared.error.Wanted.TheVariants.{Size, Octets}
 use Rattle.dnw_zone_data.specs.Words.{after_spaces, word, after_word, joined}
 use Rattle.dnw_zone_data.specs.Faults.{fault}
+use Rattle.dnw_base.specs.Limits.{max_data}
 
 -- the word that the form begins with
 abbrev pub mark : List ℕ
 mark = codes "\\#"
-
--- data have at most so many octets, since their number is written in two (RFC 1035, section 3.2.1)
-abbrev pub max_data : ℕ
-max_data = 65535
 
 -- no word for no octets
 abbrev pub hex_part : List ℕ → List ℕ

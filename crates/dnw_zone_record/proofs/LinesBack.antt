@@ -24,7 +24,7 @@ use Rattle.dnw_zone_svcb.proofs.ParamTextsBack.{drop-fit, take-fit}
 use Rattle.dnw_zone_lexer.specs.Times.{groups_after, time_seconds, total_seconds}
 use Rattle.dnw_zone_data.specs.NameTexts.{full_name_text}
 use Rattle.dnw_zone_data.specs.Words.{is_end, word, after_word}
-use Rattle.dnw_zone_data.specs.Generic.{max_data}
+use Rattle.dnw_base.specs.Limits.{max_data}
 use Rattle.dnw_zone_data.specs.DataTexts.{IsTextOf}
 use Rattle.dnw_zone_data.specs.NameReading.{name_at}
 use Rattle.dnw_zone_record.specs.RecordLines.{record_line, next_word, after_next_word, line_octets, IsRecordLine, IsTtlWord, IsClassWord, IsTypeWord, IsHead, IsDataOf, IsAfterOwner, HasClassNext}

@@ -17,7 +17,7 @@ use Rattle.dnw_zone_record.specs.declared.record_line.LineHead.{LineHead}
 use Rattle.dnw_zone_record.specs.declared.record_line.RecordLineError.{RecordLineError}
 use Rattle.dnw_zone_record.specs.declared.record_line.RecordLineError.TheVariants.{NoOwner, NoTimeToLive, NoType, Data, TooLong, Memory}
 use Rattle.dnw_zone_data.specs.DataTexts.{FailsText, IsTextOf}
-use Rattle.dnw_zone_data.specs.Generic.{max_data}
+use Rattle.dnw_base.specs.Limits.{max_data}
 use Rattle.dnw_zone_data.specs.NameReading.{name_at}
 use Rattle.dnw_zone_data.specs.NameTexts.{full_name_text}
 use Rattle.dnw_zone_data.specs.Words.{after_spaces, after_word, word}

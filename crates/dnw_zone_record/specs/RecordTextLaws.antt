@@ -2,7 +2,8 @@
 use Rattle.std.specs.Prelude.{◌≡◌, ◌<◌, ◌⊎◌, ℕ, List, length, Option}
 use Rattle.dnw_base.specs.Names.{NameValue}
 use Rattle.dnw_zone_data.specs.DataTexts.{IsDataText, IsPlainData}
-use Rattle.dnw_zone_data.specs.Generic.{max_data, IsGeneric}
+use Rattle.dnw_zone_data.specs.Generic.{IsGeneric}
+use Rattle.dnw_base.specs.Limits.{max_data}
 use Rattle.dnw_zone_values.specs.Octets.{IsOctets}
 use Rattle.dnw_name_read.specs.ReadingLaws.{AreBytes}
 use Rattle.dnw_record.specs.Records.{RecordAt, RecordValue}

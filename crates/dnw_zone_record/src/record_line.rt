@@ -4,10 +4,11 @@ ghost use Rattle.std.specs.Option.{option_copied};
 ghost use Rattle.dnw_base.specs.declared.dns_class.DNSClass.{DNSClass};
 ghost use Rattle.dnw_base.specs.declared.record_type.RecordType.{RecordType};
 ghost use Rattle.dnw_zone_data.specs.DataTexts.{IsDataText};
-ghost use Rattle.dnw_zone_data.specs.Generic.{max_data};
+ghost use Rattle.dnw_base.specs.Limits.{max_data};
 ghost use Rattle.dnw_zone_record.specs.RecordLines.{FailsAfterOwner, FailsDataOf, FailsHead, FailsRecordLine, FailsRecordOf, HasClassNext, HasTtlAndClass, IsAfterOwner, IsClassWord, IsDataOf, IsHead, IsRecordLine, IsRecordOf, IsTtlWord, IsTypeWord, LacksTtl, LacksTtlWord, LacksTypeWord, after_next_word, line_octets, next_word, record_line};
 
 use dnw_base::dns_class::DNSClass;
+use dnw_base::limits::MAX_DATA;
 use dnw_base::record_type::RecordType;
 use dnw_name::name::Name;
 use dnw_name_form::form::WireForm;
@@ -21,9 +22,6 @@ use dnw_zone_lexer::ttl::parse_ttl;
 use std::alloc::{AllocError, Global};
 use std::str;
 use thiserror::Error;
-
-/// Data have at most so many octets, since their number is written in two (RFC 1035, section 3.2.1).
-pub const MAX_DATA: usize = 65535;
 
 /// Why a line is no record.
 #[derive(Debug, Drop, Error)]

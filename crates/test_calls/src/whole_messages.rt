@@ -253,9 +253,9 @@ fn with(changes: [(usize, u8); 2]) -> [u8; 38] {
 #[test]
 fn rules_of_edns(rt: HostRuntime) -> Result<(), Fail> {
     let message = MessageRef::read(TWO)?;
-    assert!(rt; matches!(message.edns(), Err(EdnsError::DuplicateEdns)));
-    assert!(rt; matches!(message.opt(), Err(EdnsError::DuplicateEdns)));
-    assert!(rt; matches!(message.response_code(), Err(EdnsError::DuplicateEdns)));
+    assert!(rt; matches!(message.edns(), Err(EdnsError::Decode(DecodeError::DuplicateEdns))));
+    assert!(rt; matches!(message.opt(), Err(EdnsError::Decode(DecodeError::DuplicateEdns))));
+    assert!(rt; matches!(message.response_code(), Err(EdnsError::Decode(DecodeError::DuplicateEdns))));
     let one = with([(11, 1), (0, 0)]);
     let edns = MessageRef::read(&one)?.edns()?.ok_or("EDNS")?;
     let mut options = edns.options();
@@ -286,9 +286,9 @@ fn opt_is_an_additional_record(rt: HostRuntime) -> Result<(), Fail> {
             assert_eq!(rt; message.answers().next().is_some(), is_answer);
             assert_eq!(rt; message.authorities().next().is_some(), !is_answer);
             assert_eq!(rt; message.additionals().next().is_some(), additionals == 1);
-            assert!(rt; matches!(message.edns(), Err(EdnsError::OutsideAdditionals)));
-            assert!(rt; matches!(message.opt(), Err(EdnsError::OutsideAdditionals)));
-            assert!(rt; matches!(message.response_code(), Err(EdnsError::OutsideAdditionals)));
+            assert!(rt; matches!(message.edns(), Err(EdnsError::Decode(DecodeError::RecordNotInAdditionalSection(RecordType::OPT)))));
+            assert!(rt; matches!(message.opt(), Err(EdnsError::Decode(DecodeError::RecordNotInAdditionalSection(RecordType::OPT)))));
+            assert!(rt; matches!(message.response_code(), Err(EdnsError::Decode(DecodeError::RecordNotInAdditionalSection(RecordType::OPT)))));
         }
         // A record of another type in the section, and the `OPT` record among the additional ones.
         let mut other = with([(section, 1), (11, 1)]);
@@ -300,7 +300,7 @@ fn opt_is_an_additional_record(rt: HostRuntime) -> Result<(), Fail> {
         assert!(rt;
             matches!(
                 MessageRef::read(&first)?.edns(),
-                Err(EdnsError::OutsideAdditionals)
+                Err(EdnsError::Decode(DecodeError::RecordNotInAdditionalSection(RecordType::OPT)))
             )
         );
     }

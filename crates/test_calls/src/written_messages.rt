@@ -5,7 +5,7 @@ use dns_names_wire::message::{
     OpCode, ResponseCode, WireEdns, WireOption, WireQuery, copy, write,
 };
 use dns_names_wire::rdata::{RData, Record};
-use dns_names_wire::{DNSClass, Name, ProtoError, ProtoResult, RecordType};
+use dns_names_wire::{DNSClass, DecodeError, Name, ProtoError, ProtoResult, RecordType};
 use std::alloc::Global;
 use std::test::Fail;
 use uses::messages::write_and_read;
@@ -427,7 +427,7 @@ fn messages_that_are_not_copied(rt: HostRuntime) -> Result<(), Fail> {
     assert!(rt;
         matches!(
             copied(alloc, twice, 512),
-            Err(CopyError::Edns(EdnsError::DuplicateEdns))
+            Err(CopyError::Edns(EdnsError::Decode(DecodeError::DuplicateEdns)))
         )
     );
     // An `OPT` record as an authority.
@@ -435,7 +435,7 @@ fn messages_that_are_not_copied(rt: HostRuntime) -> Result<(), Fail> {
     assert!(rt;
         matches!(
             copied(alloc, outside, 512),
-            Err(CopyError::Edns(EdnsError::OutsideAdditionals))
+            Err(CopyError::Edns(EdnsError::Decode(DecodeError::RecordNotInAdditionalSection(RecordType::OPT))))
         )
     );
     Ok(())

@@ -12,7 +12,7 @@ use dns_names_wire::error::{DecodeError, ProtoResult};
 use dns_names_wire::lower_name::LowerName;
 use dns_names_wire::name::Name;
 use dns_names_wire::record_data::RecordDataDecodable;
-use dns_names_wire::record_type::{FromStr, RecordType};
+use dns_names_wire::record_type::RecordType;
 use dns_names_wire::record_type_set::RecordTypeSet;
 use dns_names_wire::restrict::Restrict;
 use dns_names_wire::rr_key::RrKey;

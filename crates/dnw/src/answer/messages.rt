@@ -3,6 +3,7 @@
 use super::Refusal;
 use dns_names_wire::data_text::data_text;
 use dns_names_wire::dns_class::DNSClass;
+use dns_names_wire::error::DecodeError;
 use dns_names_wire::message::{
     AddError, EdnsError, EdnsRef, Entry, MessageRef, MessageType, Metadata, OpCode, Records,
     ResponseCode, Section, WireEdns, WireQuery, write,
@@ -66,8 +67,8 @@ fn in_additionals<T: Drop>(
 ) -> Result<T, Refusal> {
     match found {
         Ok(found) => Ok(found),
-        Err(EdnsError::OutsideAdditionals) => {
-            Err(Refusal::Outside(EdnsError::OutsideAdditionals))
+        Err(EdnsError::Decode(DecodeError::RecordNotInAdditionalSection(record_type))) => {
+            Err(Refusal::Decode(DecodeError::RecordNotInAdditionalSection(record_type)))
         }
         Err(error) => Err(Refusal::Edns {
             offset: message.section_offsets().additionals,

@@ -15,9 +15,6 @@ use dnw_record_owned::record::Record;
 use dnw_write::binary::BinEncodable;
 use dnw_write::encoder::BinEncoder;
 
-/// How many octets of a record are between its owner and its data (RFC 1035, section 4.1.3).
-const RECORD_FIELDS: usize = 10;
-
 /// Writes a message item by item: questions, answers, authority records and additional records, in this order.
 ///
 /// An item that is refused leaves no trace, but that an answer or an authority record without room sets TC (RFC 2181, section
@@ -171,7 +168,7 @@ fn record_size(item: &Record) -> usize
     ensures size { result ≡ any_record_size item.now }
     ensures most { result + header_size < 2 ^ 64 }
 {
-    item.name.encoded_len() + RECORD_FIELDS + item.data.octets().len()
+    item.name.encoded_len() + FIXED_SIZE + item.data.octets().len()
 }
 
 /// Adds the last record, if there is one, within the whole maximum.

@@ -19,7 +19,7 @@ use std::alloc::Global;
 use std::marker::Model;
 
 /// How many octets are between a record's owner and its data: type, class, time to live and length.
-const FIXED_SIZE: usize = 10;
+pub const FIXED_SIZE: usize = 10;
 
 /// A record in a message (RFC 1035, section 4.1.3). It borrows its owner and its data from the message, and nothing here
 /// allocates.

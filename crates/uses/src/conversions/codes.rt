@@ -7,7 +7,7 @@ ghost use Rattle.dns_names_wire.specs.Words.{ReportsClass, ReportsType, class_co
 use dns_names_wire::codes::{CodeText, TypeIter};
 use dns_names_wire::error::{DecodeError, ProtoResult};
 use dns_names_wire::message::{Header, OpCode, ResponseCode};
-use dns_names_wire::{DNSClass, FromStr, RecordType, RecordTypeSet, SerialNumber};
+use dns_names_wire::{DNSClass, RecordType, RecordTypeSet, SerialNumber};
 use std::alloc::{AllocError, Global};
 use std::cmp::Ordering;
 use std::collections::HashSet;

@@ -1,6 +1,7 @@
 use Rattle.std.proofs.Common.{◌/◌, ◌%◌, ◌^◌, ◌==◌, max, sym, ap, ◌∙◌}
 use Rattle.std.specs.Int.{bit_at}
-use Rattle.dnw_base.specs.DnsClasses.{class_code, min_payload}
+use Rattle.dnw_base.specs.DnsClasses.{class_code}
+use Rattle.dnw_base.specs.Limits.{min_payload}
 use Rattle.dnw_message_read.proofs.Extension.{options-there}
 use Rattle.dnw_message_read.proofs.edns.EdnsRef.read.Goals as goal
 
