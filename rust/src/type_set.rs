@@ -72,7 +72,7 @@ impl TypeSet {
     /// # Ok::<(), dns_names_wire::Error>(())
     /// ```
     pub fn to_bitmap(&self) -> Result<Vec<u8>, Error> {
-        let codes: Vec<u16> = self.types.iter().map(|kind| kind.code()).collect();
+        let codes: Vec<u16> = self.types.iter().map(|record_type| record_type.code()).collect();
         // A window has at most 34 octets, and there is one for each first octet of a code.
         let windows = codes.windows(2).filter(|pair| pair[0] >> 8 != pair[1] >> 8).count() + 1;
         let mut bitmap = alloc::vec![0; 34 * windows];
@@ -88,8 +88,8 @@ impl TypeSet {
     ///
     /// assert!(!TypeSet::from([RecordType::A]).contains(RecordType::AAAA));
     /// ```
-    pub fn contains(&self, kind: RecordType) -> bool {
-        self.types.binary_search(&kind).is_ok()
+    pub fn contains(&self, record_type: RecordType) -> bool {
+        self.types.binary_search(&record_type).is_ok()
     }
 
     /// Returns the number of types.
@@ -122,11 +122,11 @@ impl TypeSet {
     /// let mut set = TypeSet::new();
     /// assert!(set.insert(RecordType::A) && !set.insert(RecordType::A));
     /// ```
-    pub fn insert(&mut self, kind: RecordType) -> bool {
-        match self.types.binary_search(&kind) {
+    pub fn insert(&mut self, record_type: RecordType) -> bool {
+        match self.types.binary_search(&record_type) {
             Ok(_) => false,
             Err(at) => {
-                self.types.insert(at, kind);
+                self.types.insert(at, record_type);
                 true
             }
         }
@@ -140,8 +140,8 @@ impl TypeSet {
     /// let mut set = TypeSet::from([RecordType::A]);
     /// assert!(set.remove(RecordType::A) && set.is_empty());
     /// ```
-    pub fn remove(&mut self, kind: RecordType) -> bool {
-        let found = self.types.binary_search(&kind);
+    pub fn remove(&mut self, record_type: RecordType) -> bool {
+        let found = self.types.binary_search(&record_type);
         found.map(|at| self.types.remove(at)).is_ok()
     }
 
@@ -161,7 +161,7 @@ impl TypeSet {
 /// Prints the types, with spaces between them.
 impl fmt::Display for TypeSet {
     fn fmt(&self, f: &mut fmt::Formatter<'_>) -> fmt::Result {
-        let texts: Vec<String> = self.iter().map(|kind| kind.to_string()).collect();
+        let texts: Vec<String> = self.iter().map(|record_type| record_type.to_string()).collect();
         f.pad(&texts.join(" "))
     }
 }

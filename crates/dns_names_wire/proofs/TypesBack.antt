@@ -14,15 +14,15 @@ unfolding type_of_code
 named (Unknown code) is = cc
 named kind is = refl
 
-holds : (kind : RecordType) → is_unknown kind ≡ true → kind ≡ Unknown (type_code kind)
+holds : (record_type : RecordType) → is_unknown record_type ≡ true → record_type ≡ Unknown (type_code record_type)
 holds (Unknown code) is = refl
-holds kind is = cc
+holds record_type is = cc
 
 -- a type with the code of an `Unknown` that comes back has no name
-unnamed : (kind : RecordType) (unknown : Bool) → is_unknown kind ≡ unknown → type_of_code (type_code kind) ≡ Unknown (type_code kind)
-    → is_unknown kind ≡ true
-unnamed kind true is back = is
-unnamed kind false is back = ap is_unknown (sym (named kind is) ∙ back)
+unnamed : (record_type : RecordType) (unknown : Bool) → is_unknown record_type ≡ unknown → type_of_code (type_code record_type) ≡ Unknown (type_code record_type)
+    → is_unknown record_type ≡ true
+unnamed record_type true is back = is
+unnamed record_type false is back = ap is_unknown (sym (named record_type is) ∙ back)
 
 pub unknown : UnknownTypesComeBack
 unknown code = (

@@ -14,12 +14,12 @@ TypeCodesComeBack = (code : ℕ) → type_code (type_of_code code) ≡ code
 
 -- Each type with a name comes back from its code.
 abbrev pub NamedTypesComeBack : Type 0
-NamedTypesComeBack = (kind : RecordType) → is_unknown kind ≡ false → type_of_code (type_code kind) ≡ kind
+NamedTypesComeBack = (record_type : RecordType) → is_unknown record_type ≡ false → type_of_code (type_code record_type) ≡ record_type
 
 -- `Unknown` comes back from its code exactly if no type with a name has that code.
 abbrev pub UnknownTypesComeBack : Type 0
 UnknownTypesComeBack =
-    (code : ℕ) → (type_of_code code ≡ rr.Unknown code) ↔ ((kind : RecordType) → type_code kind ≡ code → is_unknown kind ≡ true)
+    (code : ℕ) → (type_of_code code ≡ rr.Unknown code) ↔ ((record_type : RecordType) → type_code record_type ≡ code → is_unknown record_type ≡ true)
 
 -- Each code comes back from its class.
 abbrev pub ClassCodesComeBack : Type 0

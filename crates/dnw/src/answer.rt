@@ -99,11 +99,11 @@ fn reply<I: Read>(alloc: Global, words: &[String], input: &mut I) -> Result<Stri
         [command, message] if command.as_str() == "message" => {
             messages::listing(alloc, octets(alloc, message.as_str())?.as_slice())
         }
-        [command, name, kind] if command.as_str() == "query" => {
-            messages::query(alloc, name.as_str(), kind.as_str(), false)
+        [command, name, record_type] if command.as_str() == "query" => {
+            messages::query(alloc, name.as_str(), record_type.as_str(), false)
         }
-        [command, name, kind, edns] if command.as_str() == "query" && edns.as_str() == "--edns" => {
-            messages::query(alloc, name.as_str(), kind.as_str(), true)
+        [command, name, record_type, edns] if command.as_str() == "query" && edns.as_str() == "--edns" => {
+            messages::query(alloc, name.as_str(), record_type.as_str(), true)
         }
         _ => Err(Refusal::Usage),
     }

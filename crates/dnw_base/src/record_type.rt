@@ -309,8 +309,8 @@ impl RecordType {
     pub fn from_str(alloc: Global, str: &str) -> Result<Self, DecodeError>
         ensures { Looks (type_of_name str.now) (ReportsType str.now) result }
     {
-        if let Some(kind) = RecordType::from_name(str) {
-            return Ok(kind);
+        if let Some(record_type) = RecordType::from_name(str) {
+            return Ok(record_type);
         }
         let mut text = String::new(alloc);
         text.push_str(str)?;
@@ -361,10 +361,10 @@ impl RecordType {
 }
 
 fn find_any_case(types: &[RecordType], text: &str) -> Option<RecordType>
-    ensures { result ≡ find (λ kind. str_eq_ignore_ascii_case (type_name kind) text.now) types.now }
+    ensures { result ≡ find (λ record_type. str_eq_ignore_ascii_case (type_name record_type) text.now) types.now }
 {
-    types.iter().copied().find(|kind| is_alike(
-        Into::<&str>::into(*kind).as_bytes(),
+    types.iter().copied().find(|record_type| is_alike(
+        Into::<&str>::into(*record_type).as_bytes(),
         text.as_bytes(),
     ))
 }
@@ -372,7 +372,7 @@ fn find_any_case(types: &[RecordType], text: &str) -> Option<RecordType>
 fn find_named(types: &[RecordType], name: &str) -> Option<RecordType>
     ensures { result ≡ find_named types.now name.now }
 {
-    types.iter().copied().find(|kind| kind.is_written() && Into::<&str>::into(*kind) == name)
+    types.iter().copied().find(|record_type| record_type.is_written() && Into::<&str>::into(*record_type) == name)
 }
 
 /// The type with a code: the named one, or `Unknown`.
@@ -380,7 +380,7 @@ impl From<u16> for RecordType {
     ghost use Rattle.std.specs.Prelude.{◌≡◌};
     ghost use Rattle.dnw_base.specs.RecordTypes.{type_code, type_of_code};
 
-    ghost from_gives = { λ code kind. kind ≡ type_of_code code };
+    ghost from_gives = { λ code record_type. record_type ≡ type_of_code code };
 
     #[tactic(auto, unfolding(crate::specs::RecordTypes::type_of_code))]
     fn from(value: u16) -> Self
@@ -396,7 +396,7 @@ impl From<RecordType> for &'static str {
     ghost use Rattle.std.specs.Prelude.{◌≡◌};
     ghost use Rattle.dnw_base.specs.RecordTypes.{type_name};
 
-    ghost from_gives = { λ kind name. name.now ≡ type_name kind };
+    ghost from_gives = { λ record_type name. name.now ≡ type_name record_type };
 
     fn from(rt: RecordType) -> &'static str {
         types!(name_of rt, RecordType::Unknown(_) => "Unknown",)
@@ -408,7 +408,7 @@ impl From<RecordType> for u16 {
     ghost use Rattle.std.specs.Prelude.{◌≡◌};
     ghost use Rattle.dnw_base.specs.RecordTypes.{type_code};
 
-    ghost from_gives = { λ kind code. code ≡ type_code kind };
+    ghost from_gives = { λ record_type code. code ≡ type_code record_type };
 
     fn from(rt: RecordType) -> u16 {
         types!(code_of rt, RecordType::Unknown(code) => code,)
@@ -488,7 +488,7 @@ impl Ord for RecordType {
 }
 
 impl fmt::Display for RecordType {
-    ghost output = { λ kind. Some (type_name kind) };
+    ghost output = { λ record_type. Some (type_name record_type) };
 
     fn fmt<W: fmt::Write>(&self, f: &mut fmt::Formatter<W>) -> fmt::Result {
         f.write_str(Into::<&str>::into(*self))

@@ -61,10 +61,10 @@ codes-ordered : (s t : RecordType) → type_cmp s t ≡ Less → type_code s ≤
 codes-ordered s t h =
     ordered (nat_cmp (type_code s) (type_code t)) (bool_cmp (is_unknown s) (is_unknown t)) (type_code s) (type_code t) (ranked (type_code s) (type_code t) (nat_cmp (type_code s) (type_code t)) refl) h
 
-codes-rise : (kind : RecordType) (types : List RecordType) → IsStrictlySortedBy type_cmp (kind ∷ types) → Rising (type_code kind) (map type_code types)
+codes-rise : (record_type : RecordType) (types : List RecordType) → IsStrictlySortedBy type_cmp (record_type ∷ types) → Rising (type_code record_type) (map type_code types)
 unfolding IsStrictlySortedBy
-codes-rise kind [] h = tt
-codes-rise kind (next ∷ types) h = (codes-ordered kind next h.0.0, codes-rise next types h.1)
+codes-rise record_type [] h = tt
+codes-rise record_type (next ∷ types) h = (codes-ordered record_type next h.0.0, codes-rise next types h.1)
 
 dedup-above : (least code : ℕ) (codes : List ℕ) → least ≤ code → Rising code codes → Above least (dedup_from nat_eq code codes)
 dedup-above least code [] le h = (le, tt)
@@ -141,9 +141,9 @@ coded-above types index codes once done end kept ascending = rw (coded types ind
 
 -- ---- types that already ascend
 
-pub sorted-end : (kind : RecordType) (types : List RecordType) (index : ℕ) → length types ≤ index → IsStrictlySortedBy type_cmp (kind ∷ drop index types)
+pub sorted-end : (record_type : RecordType) (types : List RecordType) (index : ℕ) → length types ≤ index → IsStrictlySortedBy type_cmp (record_type ∷ drop index types)
 unfolding IsStrictlySortedBy
-sorted-end kind types index end = rw (drop_all index types end) (tt, tt)
+sorted-end record_type types index end = rw (drop_all index types end) (tt, tt)
 
 less-all : (x y : RecordType) (ys : List RecordType) → type_cmp x y ≡ Less → AllByRecursion (λ z. type_cmp y z ≡ Less) ys → AllByRecursion (λ z. type_cmp x z ≡ Less) ys
 less-all x y [] h all = tt
@@ -170,9 +170,9 @@ sorted-on types others last index other within less all sorted =
 
 -- ---- a type that is looked for
 
-searchable : (types : List RecordType) (kind : RecordType) → IsStrictlySortedBy type_cmp types → IsNonDecreasingBy (λ y. ordering_index (type_cmp y kind)) types
-searchable types kind ascending =
-    searchable_from_sorted types-total (λ (t : RecordType). t) types kind
+searchable : (types : List RecordType) (record_type : RecordType) → IsStrictlySortedBy type_cmp types → IsNonDecreasingBy (λ y. ordering_index (type_cmp y record_type)) types
+searchable types record_type ascending =
+    searchable_from_sorted types-total (λ (t : RecordType). t) types record_type
     (λ k d low next. rw (types-total.antisymm (get_or types (k + 1) d) (get_or types k d), Less-from_sorted type_cmp types k (k + 1) d ascending (omega arith) next) refl)
 
 unequal : (o : Ordering) → is_eq o ≡ true → (o ≡ Less) ⊎ (o ≡ Greater) → ⊥
@@ -181,16 +181,16 @@ unequal Equal e (inl h) = cc
 unequal Equal e (inr h) = cc
 unequal Greater e h = cc
 
-absent : (types : List RecordType) (kind : RecordType) (i : ℕ) → IsPartitionPoint (λ y. type_cmp y kind ≡ Less) (λ y. type_cmp y kind ≡ Greater) types i → Contains types kind → ⊥
-absent types kind i (before, after) (k, within, is) =
+absent : (types : List RecordType) (record_type : RecordType) (i : ℕ) → IsPartitionPoint (λ y. type_cmp y record_type ≡ Less) (λ y. type_cmp y record_type ≡ Greater) types i → Contains types record_type → ⊥
+absent types record_type i (before, after) (k, within, is) =
     elim (cases_lt k i) [
-      | inl h ↦ unequal (type_cmp kind kind) (types-equal.refl kind) (inl (subst (λ t. type_cmp t kind ≡ Less) is (before k kind (omega arith) h)))
-      | inr h ↦ unequal (type_cmp kind kind) (types-equal.refl kind) (inr (subst (λ t. type_cmp t kind ≡ Greater) is (after k kind h within)))
+      | inl h ↦ unequal (type_cmp record_type record_type) (types-equal.refl record_type) (inl (subst (λ t. type_cmp t record_type ≡ Less) is (before k record_type (omega arith) h)))
+      | inr h ↦ unequal (type_cmp record_type record_type) (types-equal.refl record_type) (inr (subst (λ t. type_cmp t record_type ≡ Greater) is (after k record_type h within)))
     ]
 
-pub searched : (types : List RecordType) (kind : RecordType) (r : Result ℕ ℕ) → IsStrictlySortedBy type_cmp types → IsSearchInRange r (length types)
-    → IsBinarySearchResult (λ y. type_cmp y kind) types r → (is_ok r ≡ true) ↔ Contains types kind
-searched types kind (Ok i) ascending within found = (λ yes. (i, within, types-tied (get_or types i kind) kind (rw (found kind) refl)), λ has. refl)
-searched types kind (Err i) ascending within found = (λ yes. absurd cc, λ has. absurd (absent types kind i (found (searchable types kind ascending)) has))
+pub searched : (types : List RecordType) (record_type : RecordType) (r : Result ℕ ℕ) → IsStrictlySortedBy type_cmp types → IsSearchInRange r (length types)
+    → IsBinarySearchResult (λ y. type_cmp y record_type) types r → (is_ok r ≡ true) ↔ Contains types record_type
+searched types record_type (Ok i) ascending within found = (λ yes. (i, within, types-tied (get_or types i record_type) record_type (rw (found record_type) refl)), λ has. refl)
+searched types record_type (Err i) ascending within found = (λ yes. absurd cc, λ has. absurd (absent types record_type i (found (searchable types record_type ascending)) has))
 
 pub ruleset ascending_steps = (empty-ascends, sorted-end, sorted-on)

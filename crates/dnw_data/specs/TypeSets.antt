@@ -22,8 +22,8 @@ YieldsSome {S} {A} next it = (x : A) × (after : S) × next it (Some x) after
 -- the set of these types: each once, in ascending order
 pub record IsSetOf (listed types : List RecordType) : Type 0 where
   pub ascending : IsStrictlySortedBy type_cmp types
-  pub all : (kind : RecordType) → Contains listed kind → Contains types kind
-  pub no_others : (kind : RecordType) → Contains types kind → Contains listed kind
+  pub all : (record_type : RecordType) → Contains listed record_type → Contains types record_type
+  pub no_others : (record_type : RecordType) → Contains types record_type → Contains listed record_type
 
 -- the codes of types in ascending order, each once
 abbrev pub set_codes : List RecordType → List ℕ

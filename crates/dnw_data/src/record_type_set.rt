@@ -83,8 +83,8 @@ impl RecordTypeSet {
             × (it : I.IntoIter) × I.into_iter_gives types it × YieldsSome I.IntoIter.next_gives it) }
     {
         let mut listed = Vec::new(alloc);
-        for kind in types {
-            listed.push(kind)?;
+        for record_type in types {
+            listed.push(record_type)?;
         }
         settle(&mut listed);
         let codes = codes(alloc, listed.as_slice())?;
@@ -123,10 +123,10 @@ impl RecordTypeSet {
     }
 
     /// Returns `true` if the set has this type.
-    pub fn contains(&self, kind: RecordType) -> bool
-        ensures { IsTrue result ↔ Contains self.now.types kind }
+    pub fn contains(&self, record_type: RecordType) -> bool
+        ensures { IsTrue result ↔ Contains self.now.types record_type }
     {
-        self.types.as_slice().binary_search(&kind).is_ok()
+        self.types.as_slice().binary_search(&record_type).is_ok()
     }
 }
 
@@ -170,11 +170,11 @@ fn is_ascending(types: &[RecordType]) -> bool
         return true;
     };
     let mut last = *first;
-    for kind in others {
-        if u16::from(last) >= u16::from(*kind) {
+    for record_type in others {
+        if u16::from(last) >= u16::from(*record_type) {
             return false;
         }
-        last = *kind;
+        last = *record_type;
     }
     true
 }
@@ -187,8 +187,8 @@ fn codes(alloc: Global, types: &[RecordType]) -> Result<Vec<u16>, AllocError>
     ensures err { OnErr result (1 ≤ length types.now) }
 {
     let mut codes = Vec::new(alloc);
-    for kind in types {
-        codes.push(u16::from(*kind))?;
+    for record_type in types {
+        codes.push(u16::from(*record_type))?;
     }
     codes.dedup();
     Ok(codes)

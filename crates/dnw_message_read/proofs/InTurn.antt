@@ -41,12 +41,12 @@ same-query : (ls : List (List ℕ)) (kind kind' : RecordType) (class class' : DN
 same-query ls kind kind' class class' k c = rw (k, c) refl
 
 -- a decoder that takes a name and two numbers is past a question
-pub query-taken : (d at mid after : Decoder) (ls : List (List ℕ)) (k n m : ℕ) (kind : RecordType) (class : DNSClass) → TakesName d at ls k
+pub query-taken : (d at mid after : Decoder) (ls : List (List ℕ)) (k n m : ℕ) (record_type : RecordType) (class : DNSClass) → TakesName d at ls k
     → HasLeft at 2 × (n ≡ from_be_bytes w16 (next_bytes at 2)) × (mid ≡ advanced at 2)
     → HasLeft mid 2 × (m ≡ from_be_bytes w16 (next_bytes mid 2)) × (after ≡ advanced mid 2)
-    → kind ≡ type_of_code n → class ≡ class_of_code m
-    → TakesQuery d (record { name = ls; query_type = kind; query_class = class }) after
-query-taken d at mid after ls k n m kind class h (room, first, is) (room', second, is') kind_is class_is =
+    → record_type ≡ type_of_code n → class ≡ class_of_code m
+    → TakesQuery d (record { name = ls; query_type = record_type; query_class = class }) after
+query-taken d at mid after ls k n m record_type class h (room, first, is) (room', second, is') kind_is class_is =
     let moved = h.moved in
     let there = rw moved at is in
     let gone = rw there at is' in
@@ -58,7 +58,7 @@ query-taken d at mid after ls k n m kind class h (room, first, is) (room', secon
       h.end + 4,
       k,
       record { name = h.name; ends = refl; inside = omega (arith, inside) },
-      same-query ls kind _ class _ (kind_is ∙ ap type_of_code first') (class_is ∙ ap class_of_code second'),
+      same-query ls record_type _ class _ (kind_is ∙ ap type_of_code first') (class_is ∙ ap class_of_code second'),
       gone ∙ ap (λ i. record { bytes = d.bytes; index = i }) four,
     )
 

@@ -5,14 +5,14 @@ use Rattle.dnw_base.specs.declared.record_type.RecordType.TheVariants.{OPT, Unkn
 use Rattle.dnw_base.specs.RecordTypes.{named_types, type_code, type_of_code}
 use Rattle.dnw_message_read.specs.Edns.{is_opt}
 
-not-opt : (kind : RecordType) (code : ℕ) → type_code kind ≡ code → code ≢ 41 → is_opt kind ≡ false
+not-opt : (record_type : RecordType) (code : ℕ) → type_code record_type ≡ code → code ≢ 41 → is_opt record_type ≡ false
 not-opt OPT code is other = absurd (other (sym is))
-not-opt kind code is other = refl
+not-opt record_type code is other = refl
 
-first-not-opt : (t : Bool) (kind : RecordType) (found : Option RecordType) (code : ℕ) → (type_code kind == code) ≡ t → code ≢ 41
-    → is_opt (unwrap_or found (Unknown code)) ≡ false → is_opt (unwrap_or (cond t (Some kind) found) (Unknown code)) ≡ false
-first-not-opt true kind found code is other h = not-opt kind code (eqb-true (type_code kind) code is) other
-first-not-opt false kind found code is other h = h
+first-not-opt : (t : Bool) (record_type : RecordType) (found : Option RecordType) (code : ℕ) → (type_code record_type == code) ≡ t → code ≢ 41
+    → is_opt (unwrap_or found (Unknown code)) ≡ false → is_opt (unwrap_or (cond t (Some record_type) found) (Unknown code)) ≡ false
+first-not-opt true record_type found code is other h = not-opt record_type code (eqb-true (type_code record_type) code is) other
+first-not-opt false record_type found code is other h = h
 
 none-is-opt : (kinds : List RecordType) (code : ℕ) → code ≢ 41 → is_opt (unwrap_or (find (λ kind. type_code kind == code) kinds) (Unknown code)) ≡ false
 none-is-opt [] code other = refl

@@ -268,8 +268,8 @@ pub(crate) fn is_opt_code(code: u16) -> bool
 }
 
 /// Returns `true` for `OPT`.
-fn is_opt(kind: RecordType) -> bool
-    ensures { result ≡ is_opt kind }
+fn is_opt(record_type: RecordType) -> bool
+    ensures { result ≡ is_opt record_type }
 {
-    matches!(kind, RecordType::OPT)
+    matches!(record_type, RecordType::OPT)
 }

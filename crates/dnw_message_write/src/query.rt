@@ -64,9 +64,9 @@ fn emit_fields(item: &WireQuery, encoder: &mut BinEncoder<'_>) -> ProtoResult<()
     ensures fit { OnOk result (QueryFits item.now) }
     ensures lender { lender encoder.new ≡ lender encoder.old }
 {
-    let kind = u16::from(item.query_type);
+    let record_type = u16::from(item.query_type);
     let class = u16::from(item.query_class);
     item.name.emit(encoder)?;
-    encoder.emit_u16(kind)?;
+    encoder.emit_u16(record_type)?;
     encoder.emit_u16(class)
 }

@@ -117,11 +117,11 @@ pub(crate) fn fixed_octets(record_type: RecordType, class: DNSClass, ttl: u32) -
     ensures octets { result ≡ fixed_octets record_type class ttl }
     ensures fit { FixedFit record_type class ttl }
 {
-    let kind = u16::to_be_bytes(u16::from(record_type));
+    let code = u16::to_be_bytes(u16::from(record_type));
     let class = u16::to_be_bytes(u16::from(class));
     let ttl = u32::to_be_bytes(ttl);
     [
-        kind[0], kind[1], class[0], class[1], ttl[0], ttl[1], ttl[2], ttl[3],
+        code[0], code[1], class[0], class[1], ttl[0], ttl[1], ttl[2], ttl[3],
     ]
 }
 

@@ -115,13 +115,13 @@ impl BinEncodable for u32 {
 
 /// A record type is written as its code.
 impl BinEncodable for RecordType {
-    ghost emits = { λ kind v. Writes v (to_be_bytes w16 (type_code kind)) };
+    ghost emits = { λ record_type v. Writes v (to_be_bytes w16 (type_code record_type)) };
 
-    ghost keeps_frame = { λ kind v outcome w. frame v (to_be_bytes w16 (type_code kind)) outcome w };
+    ghost keeps_frame = { λ record_type v outcome w. frame v (to_be_bytes w16 (type_code record_type)) outcome w };
 
     fn emit(&self, encoder: &mut BinEncoder<'_>) -> ProtoResult<()> {
-        let kind = u16::from(*self);
-        encoder.emit_u16(kind)
+        let record_type = u16::from(*self);
+        encoder.emit_u16(record_type)
     }
 }
 

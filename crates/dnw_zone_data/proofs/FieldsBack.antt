@@ -120,19 +120,19 @@ salt-back own is origin printed rest print end =
     let plain = salt-plain own is.0 in
     plain-by origin (Counted Hex) printed w rest (counted own) refl print plain (salt-some own) end.1 (own, plain-utf8 w plain, (salt own is).0, refl)
 
-pub type-plain : (kind : RecordType) → type_code kind < 65536 → all_plain (type_text kind) ≡ true
+pub type-plain : (record_type : RecordType) → type_code record_type < 65536 → all_plain (type_text record_type) ≡ true
 type-plain (rr.Unknown code) h = plain-append (codes "TYPE") (decimal code) refl (decimal-plain code (omega (arith, h)))
-type-plain kind h = refl
+type-plain record_type h = refl
 
-pub type-some : (kind : RecordType) → 0 < length (type_text kind)
+pub type-some : (record_type : RecordType) → 0 < length (type_text record_type)
 type-some (rr.Unknown code) = omega (arith, length-append (codes "TYPE") (decimal code))
-type-some kind = omega arith
+type-some record_type = omega arith
 
-pub type-back : (kind : RecordType) → IsRead kind → FieldComesBack TypeCode (type_code_of kind)
-type-back kind is origin printed rest print end =
-    let w = type_text kind in
-    let plain = type-plain kind is.0 in
-    plain-by origin TypeCode printed w rest (type_code_of kind) refl print plain (type-some kind) end.1 (kind, plain-utf8 w plain, types_come_back kind is.0 ∙ ap Some is.1, refl)
+pub type-back : (record_type : RecordType) → IsRead record_type → FieldComesBack TypeCode (type_code_of record_type)
+type-back record_type is origin printed rest print end =
+    let w = type_text record_type in
+    let plain = type-plain record_type is.0 in
+    plain-by origin TypeCode printed w rest (type_code_of record_type) refl print plain (type-some record_type) end.1 (record_type, plain-utf8 w plain, types_come_back record_type is.0 ∙ ap Some is.1, refl)
 
 pub longer : (x y : List ℕ) → all_plain x ≡ true → 0 < length x → all_plain y ≡ true → (all_plain (x ++ y) ≡ true) × (0 < length (x ++ y))
 longer x y p some q = (plain-append x y p q, omega (arith, some, length-append x y))

@@ -107,7 +107,7 @@ one-types left [] [] x y = refl
 one-types left [] (t ∷ b) x y = absurd (y.0 x)
 one-types left (s ∷ a) [] x y = absurd (x.0 y)
 one-types left (s ∷ a) (t ∷ b) x y =
-    ap (λ (kind : RecordType). kind ∷ a) (same_Some s t (sym x.1.1 ∙ y.1.1)) ∙ ap (λ (rest : List RecordType). t ∷ rest) (one-types (after_word (after_spaces left)) a b x.2 y.2)
+    ap (λ (record_type : RecordType). record_type ∷ a) (same_Some s t (sym x.1.1 ∙ y.1.1)) ∙ ap (λ (rest : List RecordType). t ∷ rest) (one-types (after_word (after_spaces left)) a b x.2 y.2)
 
 one-params : (left : List ℕ) (a b : List ParamValue) → AreParamWords left a → AreParamWords left b → a ≡ b
 one-params left [] [] x y = refl

@@ -42,31 +42,31 @@ codes-append a b = flat_map-append code_text a b
 
 -- ---- words
 
-pub types-more : (text : List ℕ) (done : List RecordType) (left : List ℕ) (kind : RecordType) → LeadToTypes text done left → left ≢ [] → IsTypeWord (word left) kind
-    → LeadToTypes text (done ++ kind ∷ []) (after_spaces (after_word left))
-types-more text [] left kind h some is = (
+pub types-more : (text : List ℕ) (done : List RecordType) (left : List ℕ) (record_type : RecordType) → LeadToTypes text done left → left ≢ [] → IsTypeWord (word left) record_type
+    → LeadToTypes text (done ++ record_type ∷ []) (after_spaces (after_word left))
+types-more text [] left record_type h some is = (
   subst (λ (xs : List ℕ). xs ≢ []) h some,
-  subst (λ (xs : List ℕ). IsTypeWord (word xs) kind) h is,
+  subst (λ (xs : List ℕ). IsTypeWord (word xs) record_type) h is,
   ap (λ (xs : List ℕ). after_spaces (after_word xs)) h,
 )
-types-more text (d ∷ done) left kind h some is = (h.0, h.1, types-more (after_word (after_spaces text)) done left kind h.2 some is)
+types-more text (d ∷ done) left record_type h some is = (h.0, h.1, types-more (after_word (after_spaces text)) done left record_type h.2 some is)
 
 pub types-end : (text : List ℕ) (done : List RecordType) (left : List ℕ) → LeadToTypes text done left → left ≡ [] → AreTypeWords text done
 types-end text [] left h none = sym h ∙ none
 types-end text (d ∷ done) left h none = (h.0, h.1, types-end (after_word (after_spaces text)) done left h.2 none)
 
 pub types-stop : (text : List ℕ) (done kinds : List RecordType) (left : List ℕ) → LeadToTypes text done left → left ≢ []
-    → ((kind : RecordType) → ¬ (IsTypeWord (word left) kind)) → AreTypeWords text kinds → ⊥
+    → ((record_type : RecordType) → ¬ (IsTypeWord (word left) record_type)) → AreTypeWords text kinds → ⊥
 types-stop text [] [] left h some none are = some (h ∙ are)
 types-stop text [] (s ∷ kinds) left h some none are = none s (subst (λ (xs : List ℕ). IsTypeWord (word xs) s) (sym h) are.1)
 types-stop text (d ∷ done) [] left h some none are = h.0 are
 types-stop text (d ∷ done) (s ∷ kinds) left h some none are = types-stop (after_word (after_spaces text)) done kinds left h.2 some none are.2
 
 -- no type has an empty name
-pub word-some : (w : List ℕ) (kind : RecordType) → IsTypeWord w kind → 0 < length w
+pub word-some : (w : List ℕ) (record_type : RecordType) → IsTypeWord w record_type → 0 < length w
 unfolding type_of_text
-word-some [] kind is = let no : None ≡ Some kind = is.1 in cc
-word-some (c ∷ w) kind is = omega arith
+word-some [] record_type is = let no : None ≡ Some record_type = is.1 in cc
+word-some (c ∷ w) record_type is = omega arith
 
 -- ---- windows
 

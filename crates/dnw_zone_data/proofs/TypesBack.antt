@@ -93,7 +93,7 @@ windows (suc n) (suc m) least (number ∷ len ∷ bytes) codes h few fine print 
 
 pub code-back : (code : ℕ) → type_code (type_of_code code) ≡ code
 unfolding type_of_code
-code-back code = find-code (λ (kind : RecordType). type_code kind) code named_types (rr.Unknown code) refl
+code-back code = find-code (λ (record_type : RecordType). type_code record_type) code named_types (rr.Unknown code) refl
 
 codes-back : (codes : List ℕ) → map type_code (map type_of_code codes) ≡ codes
 codes-back [] = refl
@@ -148,9 +148,9 @@ from-start : (text : List ℕ) (kinds : List RecordType) → AreTypeWords text k
 from-start text [] h = starts-twice text ∙ h
 from-start text (kind ∷ kinds) h = rw (starts-twice text) h
 
-no-type : (kind : RecordType) → IsTypeWord mark kind → ⊥
+no-type : (record_type : RecordType) → IsTypeWord mark record_type → ⊥
 unfolding type_of_text
-no-type kind is = let no : None ≡ Some kind = is.1 in cc
+no-type record_type is = let no : None ≡ Some record_type = is.1 in cc
 
 types-no_mark : (text : List ℕ) (kinds : List RecordType) → AreTypeWords text kinds → word (after_spaces text) ≢ mark
 types-no_mark text [] h e = let no : word [] ≡ mark = ap word (sym h) ∙ e in cc

@@ -66,7 +66,7 @@ NumbersComeBack =
     × ((n : ℕ) → n ≤ max_u32 → FieldComesBack U32 (u32 n)) × ((n : ℕ) → n ≤ max_u32 → FieldComesBack Time (time n))
 
 abbrev pub TypesComeBack : Type 0
-TypesComeBack = (kind : RecordType) → IsRead kind → FieldComesBack TypeCode (type_code kind)
+TypesComeBack = (record_type : RecordType) → IsRead record_type → FieldComesBack TypeCode (type_code record_type)
 
 abbrev pub AddressesComeBack : Type 0
 AddressesComeBack = (a : Ipv4Addr) → IsIpv4Addr a → FieldComesBack Ipv4 (ipv4 (ipv4_octets a))

@@ -93,9 +93,9 @@ fn write_bit(first: u32, octet: u8, bit: u32, out: &mut String) -> Result<(), Al
     if (octet >> (7 - bit)) % 2 != 1 {
         return Ok(());
     }
-    let kind = RecordType::from((first + bit) as u16);
+    let record_type = RecordType::from((first + bit) as u16);
     out.push(' ')?;
-    out.push_str(kind.to_text().as_str())?;
+    out.push_str(record_type.to_text().as_str())?;
     Ok(())
 }
 
@@ -129,10 +129,10 @@ fn types_of_words(alloc: Global, text: &[u8]) -> Result<Option<Vec<RecordType>>,
     let mut left = after_spaces(text);
     'types: while !left.is_empty() {
         let (word, rest) = split_word(left);
-        let Some(kind) = type_of_word(word) else {
+        let Some(record_type) = type_of_word(word) else {
             return Ok(None);
         };
-        listed.push(kind)?;
+        listed.push(record_type)?;
         left = after_spaces(rest);
     }
     Ok(Some(listed))
@@ -140,7 +140,7 @@ fn types_of_words(alloc: Global, text: &[u8]) -> Result<Option<Vec<RecordType>>,
 
 /// Returns the type that a word is.
 fn type_of_word(word: &[u8]) -> Option<RecordType>
-    ensures { MatchOption result ((kind : RecordType) → ¬ (IsTypeWord word.now kind)) (IsTypeWord word.now) }
+    ensures { MatchOption result ((record_type : RecordType) → ¬ (IsTypeWord word.now record_type)) (IsTypeWord word.now) }
 {
     let text = str::from_utf8(word).ok()?;
     RecordType::from_text(text)

@@ -57,7 +57,7 @@ abbrev pub LacksClassWord : List ℕ → Type 0
 LacksClassWord left = (class : DNSClass) → ¬ (IsClassWord (next_word left) class)
 
 abbrev pub LacksTypeWord : List ℕ → Type 0
-LacksTypeWord left = (kind : RecordType) → ¬ (IsTypeWord (next_word left) kind)
+LacksTypeWord left = (record_type : RecordType) → ¬ (IsTypeWord (next_word left) record_type)
 
 -- ---- what is between the owner and the data
 

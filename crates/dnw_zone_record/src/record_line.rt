@@ -251,7 +251,7 @@ fn class_of(word: &[u8]) -> Option<DNSClass>
 
 /// Returns the record type that a word is.
 fn type_of(word: &[u8]) -> Option<RecordType>
-    ensures { MatchOption result ((kind : RecordType) → ¬ (IsTypeWord word.now kind)) (IsTypeWord word.now) }
+    ensures { MatchOption result ((record_type : RecordType) → ¬ (IsTypeWord word.now record_type)) (IsTypeWord word.now) }
 {
     let text = str::from_utf8(word).ok()?;
     RecordType::from_text(text)

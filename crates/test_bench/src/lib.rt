@@ -402,8 +402,8 @@ fn emit_each_record(alloc: Global, records: &[WireRecord]) -> ProtoResult<u64> {
 }
 
 /// Returns `true` if the data of such a record are a name.
-fn has_name(kind: RecordType) -> bool {
-    matches!(kind, RecordType::NS | RecordType::CNAME | RecordType::PTR)
+fn has_name(record_type: RecordType) -> bool {
+    matches!(record_type, RecordType::NS | RecordType::CNAME | RecordType::PTR)
 }
 
 fn lex_all(alloc: Global, text: &str) -> u64 {

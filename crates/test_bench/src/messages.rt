@@ -125,7 +125,7 @@ fn field_size(field: &Field<'_>) -> u64 {
             let octets = address.octets();
             u64::from(octets[0]).wrapping_add(u64::from(octets[15]))
         }
-        Field::TypeCode(kind) => u64::from(kind.code()),
+        Field::TypeCode(record_type) => u64::from(record_type.code()),
         Field::Time(time) => u64::from(time.get()),
         Field::Counted(octets) | Field::Octets(octets) => octets_size(octets),
         Field::Texts(items) | Field::Types(items) | Field::Params(items) => items_size(items),

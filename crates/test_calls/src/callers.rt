@@ -110,7 +110,7 @@ fn the_first_name_in_the_zone_is_found(rt: HostRuntime) -> Result<(), Fail> {
 /// An address of the root, which takes 15 octets.
 const ADDRESS: Row<'static> = Row {
     owner: ".",
-    kind: RecordType::A,
+    record_type: RecordType::A,
     data: Data::Bytes(b"\x01\x02\x03\x04"),
 };
 
@@ -179,7 +179,7 @@ fn a_bitmap_lists_its_types(rt: HostRuntime) -> Result<(), Fail> {
     let alloc = rt.alloc();
     // A, MX, RRSIG and NSEC, as the example of RFC 4034, section 4.3, has them in the window of the first 256 types.
     let bitmap = b"\x00\x06\x40\x01\x00\x00\x00\x03";
-    for (kind, wanted) in [
+    for (record_type, wanted) in [
         (RecordType::A, true),
         (RecordType::MX, true),
         (RecordType::NSEC, true),
@@ -187,7 +187,7 @@ fn a_bitmap_lists_its_types(rt: HostRuntime) -> Result<(), Fail> {
         (RecordType::NS, false),
     ] {
         let mut decoder = BinDecoder::new(bitmap.as_slice());
-        let listed = lists_type(alloc, &mut decoder, Restrict::new(8), kind);
+        let listed = lists_type(alloc, &mut decoder, Restrict::new(8), record_type);
         assert_eq!(rt; listed.map_err(|_| "a bitmap")?, wanted);
     }
     Ok(())

@@ -48,9 +48,9 @@ fn texts_of_codes(rt: HostRuntime) -> Result<(), Fail> {
     let words = codes::written("ch", "type28");
     assert_eq!(rt; words, Some((DNSClass::CH, RecordType::AAAA)));
     assert_eq!(rt; codes::written("IN", "TYPE65536"), None);
-    let (class, kind) = codes::words(DNSClass::IN, RecordType::Unknown(65280));
+    let (class, record_type) = codes::words(DNSClass::IN, RecordType::Unknown(65280));
     assert_eq!(rt; class.as_str(), "IN");
-    assert_eq!(rt; kind.as_str(), "TYPE65280");
+    assert_eq!(rt; record_type.as_str(), "TYPE65280");
     Ok(())
 }
 
@@ -172,7 +172,7 @@ fn names_and_labels_compared(rt: HostRuntime) -> Result<(), Fail> {
 #[test]
 fn keys_and_zones(rt: HostRuntime) -> Result<(), Fail> {
     let alloc = rt.alloc();
-    let key = |text: &str, kind: RecordType| names::key_of(&Name::from_ascii(alloc, text)?, kind);
+    let key = |text: &str, record_type: RecordType| names::key_of(&Name::from_ascii(alloc, text)?, record_type);
     let keys = [
         key("A.", RecordType::NS)?,
         key("a.", RecordType::NS)?,
@@ -278,9 +278,9 @@ fn values_and_their_octets(rt: HostRuntime) -> Result<(), Fail> {
     let name = Name::from_ascii(alloc, "A.")?;
     let octets = wires::question(alloc, &name, RecordType::MX, DNSClass::IN)?;
     assert_eq!(rt; octets.as_slice(), b"\x01A\x00\x00\x0f\x00\x01".as_slice());
-    let (lower, kind, class) = wires::question_of(alloc, octets.as_slice())?;
+    let (lower, record_type, class) = wires::question_of(alloc, octets.as_slice())?;
     assert_eq!(rt; lower.to_ascii(alloc)?.as_str(), "a.");
-    assert_eq!(rt; (class, kind), (DNSClass::IN, RecordType::MX));
+    assert_eq!(rt; (class, record_type), (DNSClass::IN, RecordType::MX));
     assert_eq!(rt;
         wires::numbers(alloc, 1, -2, 4294967295)?,
         (1, -2, 4294967295)

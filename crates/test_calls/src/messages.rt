@@ -12,8 +12,8 @@ fn standard(text: &str) -> Data<'_> {
     Data::Name(text, RDataEncoding::StandardRecord)
 }
 
-fn row<'d>(owner: &'d str, kind: RecordType, data: Data<'d>) -> Row<'d> {
-    Row { owner, kind, data }
+fn row<'d>(owner: &'d str, record_type: RecordType, data: Data<'d>) -> Row<'d> {
+    Row { owner, record_type, data }
 }
 
 #[test]

@@ -13,7 +13,7 @@ use std::test::Fail;
 /// An address of the owner `a.`.
 const ADDRESS: Row<'static> = Row {
     owner: "a.",
-    kind: RecordType::A,
+    record_type: RecordType::A,
     data: Data::Bytes(b"\x01\x02\x03\x04"),
 };
 
@@ -27,14 +27,14 @@ fn records_are_written_after_their_owner(rt: HostRuntime) -> Result<(), Fail> {
     assert_eq!(rt; encoder.len(), 19);
     let server = Row {
         owner: "a.",
-        kind: RecordType::NS,
+        record_type: RecordType::NS,
         data: Data::Name("b.a.", RDataEncoding::StandardRecord),
     };
     record_of(alloc, server)?.emit(&mut encoder)?;
     assert_eq!(rt; encoder.len(), 35);
     let alias = Row {
         owner: "a.",
-        kind: RecordType::CNAME,
+        record_type: RecordType::CNAME,
         data: Data::Name("b.a.", RDataEncoding::Other),
     };
     record_of(alloc, alias)?.emit(&mut encoder)?;

@@ -15,7 +15,7 @@ use std::test::Fail;
 /// An address of the owner `a.`, as a script writes it after that name.
 const ADDRESS: Row<'static> = Row {
     owner: "a.",
-    kind: RecordType::A,
+    record_type: RecordType::A,
     data: Data::Bytes(b"\x01\x02\x03\x04"),
 };
 
@@ -31,13 +31,13 @@ fn owner(alloc: Global) -> ProtoResult<Step> {
 /// Returns the step that writes a record of the owner `a.` with this name as its data.
 fn with_name(
     alloc: Global,
-    kind: RecordType,
+    record_type: RecordType,
     text: &str,
     encoding: RDataEncoding,
 ) -> ProtoResult<Step> {
     let row = Row {
         owner: "a.",
-        kind,
+        record_type,
         data: Data::Name(text, encoding),
     };
     Ok(Step::Record(record_of(alloc, row)?))

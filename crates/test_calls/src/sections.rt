@@ -31,7 +31,7 @@ pub(crate) struct Row<'d> {
     /// The text of its owner.
     pub owner: &'d str,
     /// Its type.
-    pub kind: RecordType,
+    pub record_type: RecordType,
     /// Its data.
     pub data: Data<'d>,
 }
@@ -47,7 +47,7 @@ pub(crate) fn record_of(alloc: Global, row: Row<'_>) -> ProtoResult<WireRecord> 
     };
     Ok(WireRecord {
         owner: Name::from_ascii(alloc, row.owner)?,
-        record_type: row.kind,
+        record_type: row.record_type,
         class: DNSClass::IN,
         ttl: TTL,
         rdata,
@@ -101,7 +101,7 @@ pub(crate) fn has_rows(alloc: Global, message: &[u8], rows: &[Row<'_>]) -> Proto
 fn is_row(alloc: Global, record: &RecordRef<'_>, row: Row<'_>) -> ProtoResult<bool> {
     let owner = Name::from_ascii(alloc, row.owner)?;
     let head = record.owner().eq_name(&owner)
-        && record.record_type().code() == row.kind.code()
+        && record.record_type().code() == row.record_type.code()
         && record.class().code() == DNSClass::IN.code()
         && record.ttl() == TTL;
     match row.data {

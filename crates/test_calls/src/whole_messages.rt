@@ -71,11 +71,11 @@ fn mail_exchangers(rt: HostRuntime) -> Result<(), Fail> {
         RecordType::SRV,
     ];
     let mut answers = message.answers();
-    for kind in types {
+    for record_type in types {
         let record = answers.next().ok_or("an answer")?;
-        assert_eq!(rt; record.record_type(), kind);
+        assert_eq!(rt; record.record_type(), record_type);
         assert_eq!(rt; record.ttl(), 3600);
-        assert_eq!(rt; record.owner().eq_name(&owner), kind != RecordType::SRV);
+        assert_eq!(rt; record.owner().eq_name(&owner), record_type != RecordType::SRV);
     }
     assert!(rt; answers.next().is_none());
     assert!(rt; message.authorities().next().is_none());

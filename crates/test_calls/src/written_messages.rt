@@ -80,7 +80,7 @@ const METADATA: Metadata = Metadata {
 fn record(
     alloc: Global,
     owner: &str,
-    kind: RecordType,
+    record_type: RecordType,
     ttl: u32,
     data: &[u8],
 ) -> ProtoResult<Record> {
@@ -88,7 +88,7 @@ fn record(
         name: Name::from_ascii(alloc, owner)?,
         dns_class: DNSClass::IN,
         ttl,
-        data: RData::new(alloc, kind, data).map_err(|_| ProtoError::Memory)?,
+        data: RData::new(alloc, record_type, data).map_err(|_| ProtoError::Memory)?,
     })
 }
 

@@ -103,30 +103,30 @@ fn class_of(word: &str) -> ProtoResult<DNSClass> {
 }
 
 /// Returns a type's code, Debug text and name, and the answers of its tests.
-fn shown_type(alloc: Global, kind: RecordType) -> ProtoResult<String> {
-    let name = kind.name();
-    let mut shown = format!(in alloc; "{} {kind:?} {name}", kind.code())?;
+fn shown_type(alloc: Global, record_type: RecordType) -> ProtoResult<String> {
+    let name = record_type.name();
+    let mut shown = format!(in alloc; "{} {record_type:?} {name}", record_type.code())?;
     let tests = [
-        (kind.is_any(), "any"),
-        (kind.is_cert(), "cert"),
-        (kind.is_cname(), "cname"),
-        (kind.is_ns(), "ns"),
-        (kind.is_soa(), "soa"),
-        (kind.is_srv(), "srv"),
-        (kind.is_ip_addr(), "ip_addr"),
-        (kind.is_dnssec(), "dnssec"),
-        (kind.is_rrsig(), "rrsig"),
-        (kind.is_zero(), "zero"),
+        (record_type.is_any(), "any"),
+        (record_type.is_cert(), "cert"),
+        (record_type.is_cname(), "cname"),
+        (record_type.is_ns(), "ns"),
+        (record_type.is_soa(), "soa"),
+        (record_type.is_srv(), "srv"),
+        (record_type.is_ip_addr(), "ip_addr"),
+        (record_type.is_dnssec(), "dnssec"),
+        (record_type.is_rrsig(), "rrsig"),
+        (record_type.is_zero(), "zero"),
     ];
     for (holds, test) in tests {
         if holds {
             push_word(&mut shown, test)?;
         }
     }
-    let printed = format!(in alloc; "{kind}")?;
-    let octets = kind.to_bytes(alloc)?;
+    let printed = format!(in alloc; "{record_type}")?;
+    let octets = record_type.to_bytes(alloc)?;
     if printed.as_str() != name
-        || RecordType::from_bytes(alloc, octets.as_slice())? != RecordType::from(kind.code())
+        || RecordType::from_bytes(alloc, octets.as_slice())? != RecordType::from(record_type.code())
     {
         push_word(&mut shown, "differs from its text or octets")?;
     }
@@ -266,12 +266,12 @@ fn shown_set(alloc: Global, set: &RecordTypeSet) -> ProtoResult<String> {
 /// Returns a set's types between commas, as codes, with `U` before that of an `Unknown` whose code has a name.
 fn codes_of(alloc: Global, set: &RecordTypeSet) -> ProtoResult<String> {
     let mut codes = String::new(alloc);
-    for kind in set.iter() {
+    for record_type in set.iter() {
         if !codes.is_empty() {
             codes.push_str(",")?;
         }
-        let code = kind.code();
-        if RecordType::from(code) != kind {
+        let code = record_type.code();
+        if RecordType::from(code) != record_type {
             codes.push_str("U")?;
         }
         write!(codes, "{code}")?;

@@ -32,13 +32,13 @@ fn read_in_turn(
     alloc: Global,
     message: &[u8],
     start: usize,
-    kind: RecordType,
+    record_type: RecordType,
 ) -> ProtoResult<String> {
     let mut answer = String::new(alloc);
     let mut reader = BinDecoder::new(message);
     reader.skip(start)?;
-    for kind in fields_of(kind) {
-        let Ok(field) = Field::read(*kind, &mut reader) else {
+    for record_type in fields_of(record_type) {
+        let Ok(field) = Field::read(*record_type, &mut reader) else {
             return Ok(answer);
         };
         push_word(&mut answer, field_word(alloc, &field)?.as_str())?;
@@ -47,12 +47,12 @@ fn read_in_turn(
 }
 
 /// Returns the words of the fields that `Fields` returns.
-fn walked(alloc: Global, message: &[u8], start: usize, kind: RecordType) -> ProtoResult<String> {
+fn walked(alloc: Global, message: &[u8], start: usize, record_type: RecordType) -> ProtoResult<String> {
     if start > message.len() {
         return Err(BAD_LINE);
     }
     let mut answer = String::new(alloc);
-    for field in Fields::new(message, start, kind) {
+    for field in Fields::new(message, start, record_type) {
         let word = match field {
             Ok(field) => field_word(alloc, &field)?,
             Err(error) => error_word(alloc, &error)?,
@@ -73,7 +73,7 @@ fn field_word(alloc: Global, field: &Field<'_>) -> Result<String, AllocError> {
         Field::U64(number) => format!(in alloc; "u64={number}"),
         Field::Ipv4(address) => format!(in alloc; "ipv4={address}"),
         Field::Ipv6(address) => format!(in alloc; "ipv6={address}"),
-        Field::TypeCode(kind) => format!(in alloc; "type={}", kind.code()),
+        Field::TypeCode(record_type) => format!(in alloc; "type={}", record_type.code()),
         Field::Time(time) => format!(in alloc; "time={}", time.get()),
         Field::Counted(octets) => octets_word(alloc, "counted", octets),
         Field::Octets(octets) => octets_word(alloc, "octets", octets),

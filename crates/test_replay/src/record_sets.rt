@@ -51,8 +51,8 @@ fn signed(alloc: Global, rrsig: &RData, records: &[Record]) -> Result<Vec<u8>, C
 }
 
 /// Returns the data of a type that these octets are.
-fn data_of(alloc: Global, kind: RecordType, octets: &[u8]) -> ProtoResult<RData> {
-    match RData::new(alloc, kind, octets) {
+fn data_of(alloc: Global, record_type: RecordType, octets: &[u8]) -> ProtoResult<RData> {
+    match RData::new(alloc, record_type, octets) {
         Ok(data) => Ok(data),
         Err(_) => Err(BAD_LINE),
     }

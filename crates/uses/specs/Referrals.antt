@@ -11,11 +11,11 @@ abbrev pub AreOctets : List ℕ → RecordValue → Type 0
 AreOctets octets found = data_octets found ≡ octets
 
 -- From p to e the message has a record of this owner, type, class and time to live, with such data.
-pub record HasRecord (message : List ℕ) (labels : List (List ℕ)) (kind : RecordType) (of_class : DNSClass) (seconds : ℕ) (AreData : RecordValue → Type 0) (p e : ℕ) : Type 0 where
+pub record HasRecord (message : List ℕ) (labels : List (List ℕ)) (of_type : RecordType) (of_class : DNSClass) (seconds : ℕ) (AreData : RecordValue → Type 0) (p e : ℕ) : Type 0 where
   pub found : RecordValue
   pub stands : RecordAt message p found e
   pub owner : found.owner ≡ labels
-  pub record_type : found.record_type ≡ kind
+  pub record_type : found.record_type ≡ of_type
   pub class : found.class ≡ of_class
   pub ttl : found.ttl ≡ seconds
   pub rdata : AreData found

@@ -14,11 +14,11 @@ pub fn lists_type(
     alloc: Global,
     decoder: &mut BinDecoder<'_>,
     length: Restrict<u16>,
-    kind: RecordType,
+    record_type: RecordType,
 ) -> Result<bool, DecodeError>
-    ensures { IfOk result (λ listed. IsTrue listed ↔ IsListed (next_bytes decoder.old length) kind) }
+    ensures { IfOk result (λ listed. IsTrue listed ↔ IsListed (next_bytes decoder.old length) record_type) }
 {
     bitmaps_list_bits();
     let set = RecordTypeSet::read_data(alloc, decoder, length)?;
-    Ok(set.contains(kind))
+    Ok(set.contains(record_type))
 }

@@ -102,11 +102,11 @@ fn push_queries(alloc: Global, text: &mut String, message: &MessageRef<'_>) -> R
     text.push_str("\n;; QUESTION SECTION:")?;
     for query in message.queries() {
         let name = query.name().to_name(alloc)?;
-        let (class, kind) = (query.query_class().to_text(), query.query_type().to_text());
+        let (class, record_type) = (query.query_class().to_text(), query.query_type().to_text());
         text.push_str(format!(in alloc;
             "\n;{name}\t{}\t{}",
             class.as_str(),
-            kind.as_str()
+            record_type.as_str()
         )?.as_str())?;
     }
     text.push_str("\n")?;
@@ -216,12 +216,12 @@ fn title_of(section: Section) -> &'static str {
 /// Adds a record in a line: its owner, time to live, class, type and data.
 fn push_record(alloc: Global, text: &mut String, record: &RecordRef<'_>) -> Result<(), Refusal> {
     let owner = record.owner().to_name(alloc)?;
-    let (class, kind) = (record.class().to_text(), record.record_type().to_text());
+    let (class, record_type) = (record.class().to_text(), record.record_type().to_text());
     let front = format!(in alloc;
         "\n{owner}\t{}\t{}\t{}\t",
         record.ttl(),
         class.as_str(),
-        kind.as_str()
+        record_type.as_str()
     )?;
     text.push_str(front.as_str())?;
     text.push_str(data_text(alloc, record)?.as_str())?;
@@ -233,10 +233,10 @@ fn push_record(alloc: Global, text: &mut String, record: &RecordRef<'_>) -> Resu
 pub(super) fn query(
     alloc: Global,
     name: &str,
-    kind: &str,
+    record_type: &str,
     has_edns: bool,
 ) -> Result<String, Refusal> {
-    let Some(query_type) = RecordType::from_text(kind) else {
+    let Some(query_type) = RecordType::from_text(record_type) else {
         return Err(Refusal::Usage);
     };
     let name = Name::from_ascii(alloc, name)?;

@@ -12,10 +12,10 @@ type_from : ℕ → Bool → RecordType
 type_from code true = Unknown code
 type_from code false = type_of_code code
 
-from_itself : (kind : RecordType) → type_from (type_code kind) (is_unknown kind) ≡ kind
+from_itself : (record_type : RecordType) → type_from (type_code record_type) (is_unknown record_type) ≡ record_type
 unfolding type_from type_of_code
 from_itself (Unknown code) = refl
-from_itself kind = refl
+from_itself record_type = refl
 
 pub types-tied : (x y : RecordType) → IsTrue (eq_by_cmp type_cmp x y) → x ≡ y
 types-tied x y h =

@@ -39,8 +39,8 @@ impl<'a> Iterator for TypeIter<'a> {
     ghost remaining = { item_count (λ types. types) };
 
     fn next(&mut self) -> Option<RecordType> {
-        let (kind, rest) = self.rest.split_first()?;
+        let (record_type, rest) = self.rest.split_first()?;
         self.rest = rest;
-        Some(*kind)
+        Some(*record_type)
     }
 }

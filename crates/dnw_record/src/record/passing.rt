@@ -49,11 +49,11 @@ fn fixed_octets(item: &RecordRef<'_>) -> [u8; 10]
     ensures octets { result ≡ fixed_octets item.now }
     ensures fit { FieldsFit item.now }
 {
-    let kind = u16::to_be_bytes(u16::from(item.record_type()));
+    let record_type = u16::to_be_bytes(u16::from(item.record_type()));
     let class = u16::to_be_bytes(u16::from(item.class()));
     let ttl = u32::to_be_bytes(item.ttl());
     let len = u16::to_be_bytes(item.rdata_len());
     [
-        kind[0], kind[1], class[0], class[1], ttl[0], ttl[1], ttl[2], ttl[3], len[0], len[1],
+        record_type[0], record_type[1], class[0], class[1], ttl[0], ttl[1], ttl[2], ttl[3], len[0], len[1],
     ]
 }

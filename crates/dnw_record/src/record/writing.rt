@@ -60,11 +60,11 @@ fn type_class_ttl(item: &WireRecord) -> [u8; 8]
     ensures octets { result ≡ type_class_ttl item.now }
     ensures fit { NumbersFit item.now }
 {
-    let kind = u16::to_be_bytes(u16::from(item.record_type));
+    let record_type = u16::to_be_bytes(u16::from(item.record_type));
     let class = u16::to_be_bytes(u16::from(item.class));
     let ttl = u32::to_be_bytes(item.ttl);
     [
-        kind[0], kind[1], class[0], class[1], ttl[0], ttl[1], ttl[2], ttl[3],
+        record_type[0], record_type[1], class[0], class[1], ttl[0], ttl[1], ttl[2], ttl[3],
     ]
 }
 

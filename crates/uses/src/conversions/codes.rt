@@ -28,10 +28,10 @@ pub fn class_with(code: u16) -> DNSClass
 
 /// Returns `true` if only questions and messages of their own have the type, and no zone: its code is from 128 to 255
 /// (RFC 6895, section 3.1).
-pub fn is_meta(kind: RecordType) -> bool
-    ensures { IsTrue result ↔ ((128 ≤ type_code kind) × (type_code kind ≤ 255)) }
+pub fn is_meta(record_type: RecordType) -> bool
+    ensures { IsTrue result ↔ ((128 ≤ type_code record_type) × (type_code record_type ≤ 255)) }
 {
-    (128..=255).contains(&kind.code())
+    (128..=255).contains(&record_type.code())
 }
 
 /// Returns `true` if two classes have the same code, as `OPT(1024)` and `Unknown(1024)`, which are not equal.
@@ -42,16 +42,16 @@ pub fn have_one_code(class: DNSClass, other: DNSClass) -> bool
 }
 
 /// Returns the names of a class and a type in capitals, as they are printed.
-pub fn names_of(class: DNSClass, kind: RecordType) -> (&'static str, &'static str)
+pub fn names_of(class: DNSClass, record_type: RecordType) -> (&'static str, &'static str)
     ensures class { result.0.now ≡ class_name class }
-    ensures kind { result.1.now ≡ type_name kind }
+    ensures record_type { result.1.now ≡ type_name record_type }
 {
-    (class.name(), kind.name())
+    (class.name(), record_type.name())
 }
 
 /// Returns a class and a type as a line of a dump has them.
-pub fn printed(alloc: Global, class: DNSClass, kind: RecordType) -> Result<String, AllocError> {
-    Ok(format!(in alloc; "{class} {kind} ({class:?} {kind:?})")?)
+pub fn printed(alloc: Global, class: DNSClass, record_type: RecordType) -> Result<String, AllocError> {
+    Ok(format!(in alloc; "{class} {record_type} ({class:?} {record_type:?})")?)
 }
 
 /// Returns the type that a text names, in capitals.
@@ -69,21 +69,21 @@ pub fn named_class(alloc: Global, text: &str) -> Result<DNSClass, DecodeError>
 }
 
 /// Returns the class and the type that words of a master file give, by their names or by their codes.
-pub fn written(class: &str, kind: &str) -> Option<(DNSClass, RecordType)>
+pub fn written(class: &str, record_type: &str) -> Option<(DNSClass, RecordType)>
     ensures class { (x : _) → result ≡ Some x → class_of_text class.now ≡ Some x.0 }
-    ensures kind { (x : _) → result ≡ Some x → type_of_text kind.now ≡ Some x.1 }
+    ensures record_type { (x : _) → result ≡ Some x → type_of_text record_type.now ≡ Some x.1 }
 {
-    Some((DNSClass::from_text(class)?, RecordType::from_text(kind)?))
+    Some((DNSClass::from_text(class)?, RecordType::from_text(record_type)?))
 }
 
 /// Returns the words of a master file for a class and a type.
-pub fn words(class: DNSClass, kind: RecordType) -> (CodeText, CodeText) {
-    (class.to_text(), kind.to_text())
+pub fn words(class: DNSClass, record_type: RecordType) -> (CodeText, CodeText) {
+    (class.to_text(), record_type.to_text())
 }
 
 /// Returns the lesser of two types. By codes, and the type with a name before `Unknown` of its code.
-pub fn lesser(kind: RecordType, other: RecordType) -> RecordType {
-    if other < kind { other } else { kind }
+pub fn lesser(record_type: RecordType, other: RecordType) -> RecordType {
+    if other < record_type { other } else { record_type }
 }
 
 /// Returns the greater of two classes, or `None` if they are equal.
@@ -102,8 +102,8 @@ pub fn count_different(
     classes: &[DNSClass],
 ) -> Result<(usize, usize), AllocError> {
     let mut seen_kinds = HashSet::new(alloc);
-    for kind in kinds {
-        seen_kinds.insert(*kind)?;
+    for record_type in kinds {
+        seen_kinds.insert(*record_type)?;
     }
     let mut seen_classes = HashSet::new(alloc);
     for class in classes {
@@ -154,9 +154,9 @@ pub fn listed_types(alloc: Global, own: &[RecordType]) -> ProtoResult<RecordType
 pub fn set_text(alloc: Global, set: &RecordTypeSet) -> Result<String, AllocError> {
     let mut text = String::new(alloc);
     let kinds: TypeIter<'_> = set.iter();
-    for kind in kinds {
+    for record_type in kinds {
         text.push(' ')?;
-        text.push_str(kind.to_text().as_str())?;
+        text.push_str(record_type.to_text().as_str())?;
     }
     Ok(text)
 }

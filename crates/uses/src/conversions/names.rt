@@ -130,10 +130,10 @@ pub fn are_same(name: &Name, other: &Name) -> bool {
 }
 
 /// Returns the key of the records of a name and a type.
-pub fn key_of(name: &Name, kind: RecordType) -> ProtoResult<RrKey>
-    ensures { result ≡ Ok (record { name = lowered name.now; record_type = kind }) }
+pub fn key_of(name: &Name, record_type: RecordType) -> ProtoResult<RrKey>
+    ensures { result ≡ Ok (record { name = lowered name.now; record_type = record_type }) }
 {
-    Ok(RrKey::new(LowerName::new(name)?, kind))
+    Ok(RrKey::new(LowerName::new(name)?, record_type))
 }
 
 /// Returns the number of different keys, and of different names among them.

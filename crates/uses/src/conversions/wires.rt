@@ -14,11 +14,11 @@ use std::alloc::Global;
 pub fn question(
     alloc: Global,
     name: &Name,
-    kind: RecordType,
+    record_type: RecordType,
     class: DNSClass,
 ) -> ProtoResult<Vec<u8>> {
     let mut octets = name.to_bytes(alloc)?;
-    octets.extend_from_slice(kind.to_bytes(alloc)?.as_slice())?;
+    octets.extend_from_slice(record_type.to_bytes(alloc)?.as_slice())?;
     octets.extend_from_slice(class.to_bytes(alloc)?.as_slice())?;
     Ok(octets)
 }

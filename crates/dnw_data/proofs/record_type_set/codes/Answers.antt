@@ -3,8 +3,8 @@ use Rattle.dnw_data.proofs.record_type_set.codes.Goals as goal
 
 pub returns-clause-codes : goal.returns-clause-codes
 returns-clause-codes c =
-    coded c.args.types.now c.loop-kind.kind-index c.loop-kind.codes.items c.dedup.new.self.items c.loop-kind.invariant c.loop-kind-test.false c.dedup.ensures.filtered
+    coded c.args.types.now c.loop-record_type.record_type-index c.loop-record_type.codes.items c.dedup.new.self.items c.loop-record_type.invariant c.loop-record_type-test.false c.dedup.ensures.filtered
 
 pub returns-clause-above : goal.returns-clause-above
 returns-clause-above c =
-    coded-above c.args.types.now c.loop-kind.kind-index c.loop-kind.codes.items c.dedup.new.self.items c.loop-kind.invariant c.loop-kind-test.false c.dedup.ensures.filtered c.requires
+    coded-above c.args.types.now c.loop-record_type.record_type-index c.loop-record_type.codes.items c.dedup.new.self.items c.loop-record_type.invariant c.loop-record_type-test.false c.dedup.ensures.filtered c.requires

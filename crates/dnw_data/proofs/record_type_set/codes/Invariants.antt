@@ -3,5 +3,5 @@ use Rattle.dnw_base.specs.RecordTypes.{type_code}
 use Rattle.dnw_data.proofs.record_type_set.codes.Given as goal
 
 -- what is left, from here, gives what all gives from the start
-abbrev pub invariant-loop-kind : goal.invariant-loop-kind
-invariant-loop-kind l = l.codes.items ++ map type_code (drop l.kind-index l.types) ≡ map type_code l.types
+abbrev pub invariant-loop-record_type : goal.invariant-loop-record_type
+invariant-loop-record_type l = l.codes.items ++ map type_code (drop l.record_type-index l.types) ≡ map type_code l.types

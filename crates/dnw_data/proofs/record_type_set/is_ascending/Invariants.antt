@@ -4,5 +4,5 @@ use Rattle.dnw_base.specs.RecordTypes.{type_cmp}
 use Rattle.dnw_data.proofs.record_type_set.is_ascending.Given as goal
 
 -- if the last type and those that are left ascend, all do
-abbrev pub invariant-loop-kind : goal.invariant-loop-kind
-invariant-loop-kind l = IsStrictlySortedBy type_cmp (l.last ∷ drop l.kind-index l.others) → IsStrictlySortedBy type_cmp l.types
+abbrev pub invariant-loop-record_type : goal.invariant-loop-record_type
+invariant-loop-record_type l = IsStrictlySortedBy type_cmp (l.last ∷ drop l.record_type-index l.others) → IsStrictlySortedBy type_cmp l.types

@@ -11,14 +11,14 @@ use Rattle.dnw_zone_data.proofs.types.types_of_words.Goals as goal
 pub returns-in_default : goal.returns-in_default
 returns-in_default c = λ listed are.
     let left : List ℕ = c.types.left.now in
-    let none : (kind : RecordType) → ¬ (IsTypeWord (word left) kind) =
-    λ kind is. c.in_default.ensures kind (subst (λ (w : List ℕ). IsTypeWord w kind) (sym c.split_word.ensures.word) is) in
+    let none : (record_type : RecordType) → ¬ (IsTypeWord (word left) record_type) =
+    λ record_type is. c.in_default.ensures record_type (subst (λ (w : List ℕ). IsTypeWord w record_type) (sym c.split_word.ensures.word) is) in
     types-stop c.args.text.now c.types.listed.items listed left c.types.invariant (not-empty left _ c.is_empty.ensures c.types-test.true) none are
 
 pub types-preserved : goal.types-preserved
 types-preserved c =
     let left : List ℕ = c.types.left.now in
-    let kind = c.in-Some.kind in
+    let kind = c.in-Some.record_type in
     let is : IsTypeWord (word left) kind = subst (λ (w : List ℕ). IsTypeWord w kind) c.split_word.ensures.word c.in-Some.ensures in
     let lead = types-more c.args.text.now c.types.listed.items left kind c.types.invariant (not-empty left _ c.is_empty.ensures c.types-test.true) is in
     let rest = c.after_spaces-left-in-types.ensures.rest ∙ ap after_spaces c.split_word.ensures.rest in
@@ -26,7 +26,7 @@ types-preserved c =
 
 pub types-smaller : goal.types-smaller
 types-smaller c =
-    let some = word-some c.split_word.result.0.now c.in-Some.kind c.in-Some.ensures in
+    let some = word-some c.split_word.result.0.now c.in-Some.record_type c.in-Some.ensures in
     omega (arith, some, c.split_word.ensures.whole, c.after_spaces-left-in-types.ensures.within)
 
 pub returns : goal.returns

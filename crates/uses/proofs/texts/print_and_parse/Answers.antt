@@ -10,6 +10,6 @@ returns c =
     let text : List ℕ = string_bytes c.in_ok-text.text in
     let whole = ap (λ (x : RecordValue). x.message) c.in-Ok.ensures.ok.1.is ∙ ap (λ (d : Decoder). d.bytes) c.new.ensures in
     let printed = subst (λ (t : List ℕ). FailsText None (fields_of (type_code c.record_type.result)) t c.in-Err.error) c.as_str.ensures.value c.in-Err.ensures in
-    let fails = subst (λ (kind : RecordType). FailsText None (fields_of (type_code kind)) text c.in-Err.error) c.record_type.ensures printed in
+    let fails = subst (λ (record_type : RecordType). FailsText None (fields_of (type_code record_type)) text c.in-Err.error) c.record_type.ensures printed in
     why c.data_come_back.ensures.back c.data_come_back.ensures.parsed c.data_come_back.ensures.generic None c.in-Ok.record c.args.octets.now text c.in-Err.error
     (λ i. omega (arith, c.type_inv.octets i)) whole c.in_ok-text.ensures fails

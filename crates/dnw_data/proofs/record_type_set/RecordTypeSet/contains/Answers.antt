@@ -5,4 +5,4 @@ pub returns : goal.returns
 returns c =
     let found = rw c.as_slice.ensures.value at c.binary_search.ensures in
     rw (← c.self.view_is, c.is_ok.ensures.value)
-    (searched c.self.inside.types.items c.args.kind c.binary_search.result c.self.invariant found.bound found.position)
+    (searched c.self.inside.types.items c.args.record_type c.binary_search.result c.self.invariant found.bound found.position)
