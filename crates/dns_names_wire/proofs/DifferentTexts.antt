@@ -9,7 +9,7 @@ use Rattle.dnw_base.specs.Names.{NameValue, AreLabels}
 use Rattle.dnw_name_form.specs.LabelText.{dot, backslash, is_plain, byte_text, octal_escape, label_text}
 use Rattle.dnw_name_read.specs.ReadingLaws.{AreBytes}
 use Rattle.dnw_name_ascii.specs.NameText.{State, Outside, Escaped, AfterOne, AfterTwo, is_octal_digit, name_text}
-use Rattle.dnw_name_ascii.proofs.Joined.{dotted, joined-cons}
+use Rattle.dnw_name_ascii.proofs.Joined.{dotted, joined_cons}
 use Rattle.dns_names_wire.specs.TextLaws.{AreByteLabels}
 
 abbrev name_of : Bool → List (List ℕ) → NameValue
@@ -83,46 +83,46 @@ module _ (after : Bool) (l : List ℕ) (b : ℕ) (cs : List ℕ) where
 
 -- ---- labels and names
 
-built-bytes : (after : Bool) (l bs cs : List ℕ) → AreBytes bs → built after Outside l (flat_map (byte_text false) bs ++ cs) ≡ built after Outside (l ++ bs) cs
-built-bytes after l [] cs h = ap (λ (x : List ℕ). built after Outside x cs) (sym (append-nil l))
-built-bytes after l (b ∷ bs) cs h =
+built_bytes : (after : Bool) (l bs cs : List ℕ) → AreBytes bs → built after Outside l (flat_map (byte_text false) bs ++ cs) ≡ built after Outside (l ++ bs) cs
+built_bytes after l [] cs h = ap (λ (x : List ℕ). built after Outside x cs) (sym (append-nil l))
+built_bytes after l (b ∷ bs) cs h =
     let more = flat_map (byte_text false) bs in
     ap (built after Outside l) (append_assoc (byte_text false b) more cs) ∙ built-byte after l b (more ++ cs) false (h 0)
-    ∙ built-bytes after (l ++ b ∷ []) bs cs (λ i. h (suc i)) ∙ ap (λ (x : List ℕ). built after Outside x cs) (append_assoc l (b ∷ []) bs)
+    ∙ built_bytes after (l ++ b ∷ []) bs cs (λ i. h (suc i)) ∙ ap (λ (x : List ℕ). built after Outside x cs) (append_assoc l (b ∷ []) bs)
 
-built-label : (after : Bool) (l cs : List ℕ) → AreBytes l → built after Outside [] (label_text l ++ cs) ≡ built after Outside l cs
-built-label after [] cs h = refl
-built-label after (b ∷ bs) cs h =
+built_label : (after : Bool) (l cs : List ℕ) → AreBytes l → built after Outside [] (label_text l ++ cs) ≡ built after Outside l cs
+built_label after [] cs h = refl
+built_label after (b ∷ bs) cs h =
     let more = flat_map (byte_text false) bs in
     ap (built after Outside []) (append_assoc (byte_text true b) more cs) ∙ built-byte after [] b (more ++ cs) true (h 0)
-    ∙ built-bytes after (b ∷ []) bs cs (λ i. h (suc i))
+    ∙ built_bytes after (b ∷ []) bs cs (λ i. h (suc i))
 
 abbrev last_dot : Bool → List ℕ
 last_dot is_fqdn = if is_fqdn then dot ∷ [] else []
 
-built-rest : (before f : Bool) (l : List ℕ) (ls : List (List ℕ)) → IsLabel l → AllByRecursion IsLabel ls → AreByteLabels ls
+built_rest : (before f : Bool) (l : List ℕ) (ls : List (List ℕ)) → IsLabel l → AllByRecursion IsLabel ls → AreByteLabels ls
     → built before Outside l (flat_map dotted ls ++ last_dot f) ≡ name_of f (l ∷ ls)
-built-rest before true l [] one all bytes = refl
-built-rest before false [] [] one all bytes = let some = one.not_empty in absurd (omega arith)
-built-rest before false (b ∷ l) [] one all bytes = refl
-built-rest before f l (m ∷ ls) one all bytes =
+built_rest before true l [] one all bytes = refl
+built_rest before false [] [] one all bytes = let some = one.not_empty in absurd (omega arith)
+built_rest before false (b ∷ l) [] one all bytes = refl
+built_rest before f l (m ∷ ls) one all bytes =
     let more = flat_map dotted ls in
     ap (λ (x : List ℕ). after_label l (built true Outside [] x)) (append_assoc (label_text m) more (last_dot f))
-    ∙ ap (after_label l) (built-label true m (more ++ last_dot f) bytes.0 ∙ built-rest true f m ls all.0 all.1 bytes.1)
+    ∙ ap (after_label l) (built_label true m (more ++ last_dot f) bytes.0 ∙ built_rest true f m ls all.0 all.1 bytes.1)
 
-name-from-text : (f : Bool) (ls : List (List ℕ)) → AllByRecursion IsLabel ls → AreByteLabels ls → name_from (name_text (name_of f ls)) ≡ name_of f ls
-name-from-text true [] all bytes = refl
-name-from-text false [] all bytes = refl
-name-from-text f ([] ∷ ls) all bytes = let some = all.0.not_empty in absurd (omega arith)
-name-from-text f ((b ∷ l) ∷ ls) all bytes =
+name_from_text : (f : Bool) (ls : List (List ℕ)) → AllByRecursion IsLabel ls → AreByteLabels ls → name_from (name_text (name_of f ls)) ≡ name_of f ls
+name_from_text true [] all bytes = refl
+name_from_text false [] all bytes = refl
+name_from_text f ([] ∷ ls) all bytes = let some = all.0.not_empty in absurd (omega arith)
+name_from_text f ((b ∷ l) ∷ ls) all bytes =
     let more = flat_map dotted ls in
-    let text = joined-cons (b ∷ l) ls in
+    let text = joined_cons (b ∷ l) ls in
     let built_is : built false Outside [] (name_text (name_of f ((b ∷ l) ∷ ls))) ≡ name_of f ((b ∷ l) ∷ ls) =
     ap (λ (x : List ℕ). built false Outside [] (x ++ last_dot f)) text ∙ ap (built false Outside []) (append_assoc (label_text (b ∷ l)) more (last_dot f))
-    ∙ built-label false (b ∷ l) (more ++ last_dot f) bytes.0 ∙ built-rest false f (b ∷ l) ls all.0 all.1 bytes.1 in
+    ∙ built_label false (b ∷ l) (more ++ last_dot f) bytes.0 ∙ built_rest false f (b ∷ l) ls all.0 all.1 bytes.1 in
     ap (λ (n : NameValue). settled n.is_fqdn n.labels) built_is
 
 pub texts_differ : (n m : NameValue) → AreLabels n.labels → AreLabels m.labels → AreByteLabels n.labels → AreByteLabels m.labels
     → name_text n ≡ name_text m → n ≡ m
 texts_differ n m n_are m_are n_bytes m_bytes e =
-    sym (name-from-text n.is_fqdn n.labels n_are.each n_bytes) ∙ (ap name_from e ∙ name-from-text m.is_fqdn m.labels m_are.each m_bytes)
+    sym (name_from_text n.is_fqdn n.labels n_are.each n_bytes) ∙ (ap name_from e ∙ name_from_text m.is_fqdn m.labels m_are.each m_bytes)

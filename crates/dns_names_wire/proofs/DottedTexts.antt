@@ -2,8 +2,8 @@
 use Rattle.std.proofs.Common.{◌≡◌, Bool, true, false, List, [], ℕ, length, refl, sym, arith}
 use Rattle.std.proofs.lemmas.List.{append-nil}
 use Rattle.dnw_base.specs.Names.{wire}
-use Rattle.dnw_base.proofs.Wires.{length-wire}
-use Rattle.dnw_name_read.proofs.Back.{Reads-wire}
+use Rattle.dnw_base.proofs.Wires.{length_wire}
+use Rattle.dnw_name_read.proofs.Back.{Reads_wire}
 use Rattle.dnw_name_ascii.specs.NameText.{name_text}
 use Rattle.dns_names_wire.specs.TextLaws.{BytesAndTextsAgree, dotted_text}
 
@@ -14,5 +14,5 @@ text_of false ls = simp append-nil
 pub bytes_and_texts : BytesAndTextsAgree
 bytes_and_texts n are =
     let form = wire n.labels in
-    let read = Reads-wire form [] [] n.labels 0 0 (length form) refl (omega (arith, length-wire n.labels)) (sym (append-nil form)) are.each in
+    let read = Reads_wire form [] [] n.labels 0 0 (length form) refl (omega (arith, length_wire n.labels)) (sym (append-nil form)) are.each in
     (record { reads = read; fits = are.fit }, text_of n.is_fqdn n.labels)

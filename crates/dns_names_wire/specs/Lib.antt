@@ -40,7 +40,7 @@ pub use Rattle.dnw_write.specs.Encoder
 pub use Rattle.dnw_write.specs.EncoderLaws
 pub use Rattle.dnw_write.specs.EncoderValue
 pub use Rattle.dnw_write.specs.Guards
-pub use Rattle.dnw_write.specs.Marks
+pub use Rattle.dnw_write.specs.Checkpoints
 pub use Rattle.dnw_write.specs.NameFrames
 pub use Rattle.dnw_name_lower.specs.LowerNames
 pub use Rattle.dnw_name_zones.specs.Keys

@@ -3,7 +3,7 @@
 
 -- Limits (RFC 1035, section 2.3.4).
 pub use Rattle.dnw_base.specs.Limits.{max_label, max_labels, max_name, max_character_data, max_message, max_pointers}
-pub use Rattle.dnw_base.specs.Limits.{min_payload, max_data, max_window, pointer_mark, pointer_offsets, pointer_reach}
+pub use Rattle.dnw_base.specs.Limits.{min_payload, max_data, max_window, pointer_bits, pointer_offsets, pointer_reach}
 -- Errors.
 pub use Rattle.dnw_base.specs.declared.error.ProtoError.{ProtoError}
 pub use Rattle.dnw_base.specs.Fault.{Fault, Follows, NeedsErrorText, Updates}
@@ -61,15 +61,15 @@ pub use Rattle.dnw_name_read.specs.ReadingLaws.{NameOrFault, NotBoth, OneName, O
 pub use Rattle.dnw_name_read.specs.ReadingLaws.{NameSteps, FaultSteps, OwnOctets}
 -- Writing a message.
 pub use Rattle.dnw_write.specs.EncoderValue.{value, lender}
-pub use Rattle.dnw_write.specs.Encoder.{CandidatesPrecede, Encoder, fresh, Writes, WritesText, TakesRoom, HasRoom, Holds, Stores}
+pub use Rattle.dnw_write.specs.Encoder.{CandidatesPrecede, Encoder, fresh, Writes, WritesText, TakesRoom, HasRoom, HoldsOctets, Stores}
 pub use Rattle.dnw_write.specs.Encoder.{reserved, trimmed, mode_of_rdata, usual_candidates, usual_names}
 pub use Rattle.dnw_write.specs.Emitting.{Outcome, Emits, Frame, InTurn, EmitsAt, EmitsItem, EmitsItems, FillsPlace, WritesLen, FailsUnchanged}
 pub use Rattle.dnw_write.specs.declared.encoder.modes.NameEncoding.TheVariants.{Compressed, Uncompressed, UncompressedLowercase}
-pub use Rattle.dnw_write.specs.EmittingLaws.{frame, fails-unchanged}
+pub use Rattle.dnw_write.specs.EmittingLaws.{frame, fails_unchanged}
 pub use Rattle.dnw_write.specs.EmittedName.{EmitsName, EmitsLabels, pointer_to}
-pub use Rattle.dnw_write.specs.NameFrames.{frame-name}
+pub use Rattle.dnw_write.specs.NameFrames.{frame_name}
 pub use Rattle.dnw_write.specs.Guards.{Guards, guarded, former}
-pub use Rattle.dnw_write.specs.Marks.{MarkValue, mark_of, rewound, RewindingUndoes}
+pub use Rattle.dnw_write.specs.Checkpoints.{CheckpointValue, checkpoint_of, rewound, RewindingUndoes}
 pub use Rattle.dnw_write_suffixes.specs.Candidates.{Finds, FindsUsable, suffixes}
 pub use Rattle.dnw_write.specs.EncoderLaws.{NameComesBack, NameIsRead, NamesTakeNoMore, PointersSave, FramesFollow, ItemsKeepFrame}
 pub use Rattle.dnw_write.specs.EncoderLaws.{FillsTakeNoMemory, FillsStayBounded, ItemsStayBounded, NamesStayBounded, PlacesStayBounded, WritesStayBounded}
@@ -80,8 +80,8 @@ pub use Rattle.dnw_write.specs.CandidateLaws.{StoresPrecede, TrimsPrecede, Rewin
 pub use Rattle.dnw_record.specs.Records.{RecordValue, RecordAt, record_of, TakesRecord, FailsRecord, HasDataName, FailsDataName, data_octets}
 pub use Rattle.dnw_record.specs.declared.record.WireRecord.{WireRecord}
 pub use Rattle.dnw_record.specs.WrittenRecords.{EmitsData, EmitsRecord, NumbersFit}
-pub use Rattle.dnw_record.specs.PassedRecords.{IsSound, PassesFields, PassesRecord, fixed_octets, owner_name}
-pub use Rattle.dnw_record.specs.RecordFrames.{frame-data, frame-passed, frame-record}
+pub use Rattle.dnw_record.specs.PassedRecords.{IsSound, PassesFields, PassesRecord, passed_octets, owner_name}
+pub use Rattle.dnw_record.specs.RecordFrames.{frame_data, frame_passed, frame_record}
 pub use Rattle.dnw_record.specs.RecordLaws.{RefusedRecordsUndo, RefusedDataUndo, RefusedPassedUndo, PassedFit, PassedAreRead}
 pub use Rattle.dnw_record.specs.RecordLaws.{PartPrecedes, PartsPrecede, CountedPrecede, DataPrecede, RecordsPrecede, PassedPrecede}
 pub use Rattle.dnw_record.specs.RecordLaws.{KeepsBounded, PartStaysBounded, PartsStayBounded, CountedStayBounded, DataStayBounded, RecordsStayBounded, PassedStayBounded}
@@ -97,7 +97,7 @@ pub use Rattle.dnw_write_script.specs.Replies.{RepliesTo}
 pub use Rattle.dnw_write_script.specs.Finished.{Finished, Shortest, largest_max}
 pub use Rattle.dnw_write_script.specs.Runs.{Run}
 pub use Rattle.dnw_write_script.specs.Ran.{Ran}
-pub use Rattle.dnw_write_script.specs.ItemFrames.{frame-part, frame-item}
+pub use Rattle.dnw_write_script.specs.ItemFrames.{frame_part, frame_item}
 pub use Rattle.dnw_write_script.specs.ScriptLaws.{RunsReply, RunsFinish, RunsStayUseful, RunsAreShortest, RunsUndoRecords, HasData, StandingRecordsAreRead}
 pub use Rattle.dnw_write_script.specs.ScriptLaws.{RunsStayBounded, PartsOfScriptsStayBounded, ItemsOfScriptsStayBounded}
 -- Master files: tokens, and times to live.
@@ -145,8 +145,8 @@ pub use Rattle.dnw_zone_svcb.specs.Params.{ParamValue, in_key_order, params_wire
 pub use Rattle.dnw_zone_svcb.specs.ParamTexts.{param_text, params_text}
 pub use Rattle.dnw_zone_svcb.specs.ParamWords.{IsParam}
 pub use Rattle.dnw_zone_svcb.specs.ParamLaws.{IsParamValue, ParamsComeBack}
-pub use Rattle.dnw_zone_data.specs.DataTextLaws.{AddressesComeBack as FieldAddressesComeBack, CountedComeBack, IdentifiersComeBack as FieldIdentifiersComeBack, NamesComeBack as FieldNamesComeBack, NumbersComeBack, OctetsComeBack, SegmentsComeBack, StringsComeBack, TypesComeBack}
-pub use Rattle.dnw_zone_data.specs.DataTextLaws.{DataAreUnambiguous, DataComeBack, GenericComesBack, GenericIsParsed, ListsComeBack, PrintedDataAreSame, TextsAreParsed, IsReadBack as IsFieldReadBack, FieldComesBack, Follows as FollowsField, IsRead as IsReadType, IsData as IsDataOctets}
+pub use Rattle.dnw_zone_data.specs.DataTextLaws.{FieldAddressesComeBack, CountedComeBack, FieldIdentifiersComeBack, FieldNamesComeBack, NumbersComeBack, OctetsComeBack, SegmentsComeBack, StringsComeBack, TypesComeBack}
+pub use Rattle.dnw_zone_data.specs.DataTextLaws.{DataAreUnambiguous, DataComeBack, GenericComesBack, GenericIsParsed, ListsComeBack, PrintedDataAreSame, TextsAreParsed, IsFieldReadBack, FieldComesBack, FollowsField, IsReadType, IsDataOctets}
 pub use Rattle.dnw_zone_record.specs.RecordTextLaws.{LinesAreUnambiguous, LinesComeBack, PrintedLinesAreSame, line_head}
 -- Whole messages: headers, sections and EDNS.
 pub use Rattle.dnw_message_header.specs.HeaderLaws.{HeaderFits, HeadersReadBack, HeadersWriteBack}
@@ -161,12 +161,12 @@ pub use Rattle.dnw_message_read.specs.Messages.{FailsHere, FailsItem, FailsMessa
 pub use Rattle.dnw_message_read.specs.Messages.{QueryValue, SectionAt, SectionsBegin, no_header, part, question_rest, record_rest, rest_of}
 pub use Rattle.dnw_message_read.specs.Queries.{FailsQuery, TakesQuery}
 -- Whole messages that are written.
-pub use Rattle.dnw_message_write.specs.Drafts.{Added, Adds, AddsAll, AddsEntry, AddsLast, AddsMany, AddsSet, Begins, Closes, Draft, Ends, counted, counted_by, cuts, is_open}
-pub use Rattle.dnw_message_write.specs.QueryFrames.{frame-query}
+pub use Rattle.dnw_message_write.specs.Drafts.{Added, Adds, AddsAll, AddsEntry, AddsLast, AddsMany, AddsSet, Begins, Closes, Draft, Ends, counted_one, counted_by, cuts, is_open}
+pub use Rattle.dnw_message_write.specs.QueryFrames.{frame_query}
 pub use Rattle.dnw_message_write.specs.Together.{EmitsInTurn, EmitsTogether, records_size}
 pub use Rattle.dnw_message_write.specs.WireQueries.{EmitsQuery, EmitsQueryFields, QueryFits}
 pub use Rattle.dnw_message_write.specs.ReadBack.{IsReadAs, QueryIsRead}
-pub use Rattle.dnw_message_write.specs.ReadRecords.{RecordIsRead, RecordStands as RecordIsThere}
+pub use Rattle.dnw_message_write.specs.ReadRecords.{RecordIsRead, RecordIsThere}
 pub use Rattle.dnw_message_write.specs.WriterLaws.{EdnsComesBack, MessagesAreWritten, MessagesEndWith, MessagesHaveEdns, ReadingNeverFails, WrittenMessagesAreRead}
 pub use Rattle.dnw_message_write.specs.Writers.{BeginsWith, Finishes, draft, last_of, lent}
 pub use Rattle.dnw_message_write.specs.Replies.{BeginsReply}
@@ -186,15 +186,15 @@ pub use Rattle.dnw_record_owned.specs.DataCopies.{Copies, FailsToCopy, TakesPiec
 pub use Rattle.dnw_record_owned.specs.GivenFields.{AreFieldsOf, FailsGivenFields, IsFieldOf}
 pub use Rattle.dnw_record_owned.specs.WireRecords.{HaveNameAndOthers, HaveNoName, IsOfWireRecord, SaysData, SaysRecord, wire_data_octets}
 pub use Rattle.dnw_record_owned.specs.AnyRecords.{AnyNumbersFit, EmitsAnyRecord, EmitsCopyOf, EmitsRData, HasFields, IsCopyOf, encoding_of, mode_of, parts_of}
-pub use Rattle.dnw_record_owned.specs.AnyRecordFrames.{frame-any_record, frame-copy}
+pub use Rattle.dnw_record_owned.specs.AnyRecordFrames.{frame_any_record, frame_copy}
 pub use Rattle.dnw_record_owned.specs.AnyRecordLaws.{AnyRecordsAreRead, AnyRecordsFit, AnyRecordsPrecede, AnyRecordsStayBounded, CandidatesAreRead, DataHaveFields}
 pub use Rattle.dnw_record_owned.specs.AnyRecordLaws.{NamesKeepRead, NewAreRead, PlainDataAreOctets, ReadsAs, RefusedAnyUndo, WholeDataAreOctets, WritesKeepRead}
-pub use Rattle.dnw_record_owned.specs.AnyRecordLaws.{any_record_size, value_of, values_of, written_piece, written_pieces}
-pub use Rattle.dnw_record_owned.specs.AnyRecordFrames.{frame-rdata}
+pub use Rattle.dnw_record_owned.specs.AnyRecordLaws.{any_record_size, piece_value, piece_values, written_piece, written_pieces}
+pub use Rattle.dnw_record_owned.specs.AnyRecordFrames.{frame_rdata}
 -- records in canonical form
 pub use Rattle.dnw_signed.specs.declared.error.CanonicalError.{CanonicalError}
 pub use Rattle.dnw_signed.specs.CanonicalData.{IsCanonical, canonical_piece, canonical_pieces}
-pub use Rattle.dnw_signed.specs.RecordSets.{AreCanonical, FailsFrom, FailsSet, FirstOther, IsMember, IsOfSet, IsRecordSet, IsSet, IsInOrder}
+pub use Rattle.dnw_signed.specs.RecordSets.{AreCanonical, FailsSetFrom, FailsSet, FirstOther, IsMember, IsOfSet, IsRecordSet, IsSet, IsInOrder}
 pub use Rattle.dnw_signed.specs.RecordSets.{set_head, set_record, signed_owner}
 pub use Rattle.dnw_signed.specs.SignedFields.{FailsSignedFields, IsRrsig, IsSignedFields, before_signer}
 pub use Rattle.dnw_signed.specs.CanonicalLaws.{AreAmong, DependsOnSet, IsLike, IsLikeData, KeepsInAnyOrder}

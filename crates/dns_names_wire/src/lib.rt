@@ -77,7 +77,7 @@ pub mod dns_class {
 /// Writing messages of a bounded size, and what follows from the definitions of writing.
 pub mod encoder {
     pub use dnw_write::encoder::{
-        BinEncoder, CANDIDATE_LIMIT, Mark, ModalEncoder, NAME_LIMIT, NameEncoding, Place,
+        BinEncoder, CANDIDATE_LIMIT, Checkpoint, ModalEncoder, NAME_LIMIT, NameEncoding, Place,
         RDataEncoding, laws,
     };
 }

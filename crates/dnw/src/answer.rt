@@ -2,8 +2,8 @@
 
 mod messages;
 
-use dns_names_wire::{DecodeError, ProtoError};
 use dns_names_wire::message::{EdnsError, MessageError};
+use dns_names_wire::{DecodeError, ProtoError};
 use hex::FromHexError;
 use std::alloc::{AllocError, AllocFailed, Global};
 use std::io;
@@ -102,7 +102,8 @@ fn reply<I: Read>(alloc: Global, words: &[String], input: &mut I) -> Result<Stri
         [command, name, record_type] if command.as_str() == "query" => {
             messages::query(alloc, name.as_str(), record_type.as_str(), false)
         }
-        [command, name, record_type, edns] if command.as_str() == "query" && edns.as_str() == "--edns" => {
+        [command, name, record_type, edns]
+            if command.as_str() == "query" && edns.as_str() == "--edns" => {
             messages::query(alloc, name.as_str(), record_type.as_str(), true)
         }
         _ => Err(Refusal::Usage),

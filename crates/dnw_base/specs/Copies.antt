@@ -20,10 +20,10 @@ OwnsDecodeText (UnknownDnsClassStr text) = Unit {0}
 OwnsDecodeText (UnknownRecordTypeStr text) = Unit {0}
 OwnsDecodeText error = ⊥
 
-abbrev pub IsCopyOf : ProtoError → ProtoError → Type 0
-IsCopyOf (Msg text) copy = CopiesText Msg text copy
-IsCopyOf (Decode cause) copy = (other : DecodeError) × (copy ≡ Decode other) × IsDecodeCopyOf cause other
-IsCopyOf error copy = copy ≡ error
+abbrev pub IsErrorCopyOf : ProtoError → ProtoError → Type 0
+IsErrorCopyOf (Msg text) copy = CopiesText Msg text copy
+IsErrorCopyOf (Decode cause) copy = (other : DecodeError) × (copy ≡ Decode other) × IsDecodeCopyOf cause other
+IsErrorCopyOf error copy = copy ≡ error
 
 -- the error has an allocated text, and so a copy allocates
 abbrev pub OwnsText : ProtoError → Type 0

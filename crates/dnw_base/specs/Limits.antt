@@ -39,8 +39,8 @@ abbrev pub max_window : ℕ
 max_window = 32
 
 -- the first octet from which on an element of a name is a pointer
-abbrev pub pointer_mark : ℕ
-pointer_mark = 192
+abbrev pub pointer_bits : ℕ
+pointer_bits = 192
 
 -- a pointer has 14 bits, and so holds one of as many offsets
 abbrev pub pointer_offsets : ℕ

@@ -267,11 +267,11 @@ impl Eq for DNSClass {
 
 impl Hash for DNSClass {
     ghost use Rattle.dnw_base.specs.DnsClasses.{class_hash};
-    ghost use Rattle.dnw_base.specs.Inside.DnsClassLaws.{classes-hash_alike};
+    ghost use Rattle.dnw_base.specs.Inside.DnsClassLaws.{classes_hash_alike};
 
     ghost hash_input = { class_hash };
 
-    ghost respects_eq = { classes-hash_alike };
+    ghost respects_eq = { classes_hash_alike };
 
     fn hash<H: Hasher>(&self, state: &mut H) {
         u16::from(*self).hash(state);

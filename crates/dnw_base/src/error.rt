@@ -225,12 +225,12 @@ impl From<AllocError> for DecodeError {
 }
 
 impl ProtoError {
-    ghost use Rattle.dnw_base.specs.Copies.{IsCopyOf, OwnsText};
+    ghost use Rattle.dnw_base.specs.Copies.{IsErrorCopyOf, OwnsText};
     ghost use Rattle.dnw_base.specs.declared.error.ProtoError.TheVariants.{Memory};
 
     /// Copies the error. It allocates only if the error has an allocated text, and then may fail with `Memory`.
     pub fn clone(&self) -> Result<Self, Self>
-        ensures ok { IfOk result (IsCopyOf self.now) }
+        ensures ok { IfOk result (IsErrorCopyOf self.now) }
         ensures err { IfErr result (λ e. (e ≡ Memory) × OwnsText self.now) }
     {
         Ok(match *self {
@@ -261,35 +261,39 @@ impl DecodeError {
         ensures ok { IfOk result (IsDecodeCopyOf self.now) }
         ensures err { IfErr result (λ e. (e ≡ Memory) × OwnsDecodeText self.now) }
     {
+        use DecodeError as E;
         Ok(match *self {
-            Self::IncorrectRDataLengthRead { read, len } => Self::IncorrectRDataLengthRead { read, len },
-            Self::InsufficientBytes => Self::InsufficientBytes,
-            Self::InvalidEmptyRecord => Self::InvalidEmptyRecord,
-            Self::InvalidPreviousIndex => Self::InvalidPreviousIndex,
-            Self::PointerNotPriorToLabel { idx, ptr } => Self::PointerNotPriorToLabel { idx, ptr },
-            Self::LabelBytesTooLong(len) => Self::LabelBytesTooLong(len),
-            Self::UnrecognizedLabelCode(code) => Self::UnrecognizedLabelCode(code),
-            Self::DomainNameTooLong(len) => Self::DomainNameTooLong(len),
-            Self::LabelOverlapsWithOther { label, other } => Self::LabelOverlapsWithOther { label, other },
-            Self::UnknownDigestAlgorithm(code) => Self::UnknownDigestAlgorithm(code),
-            Self::UnknownDnsClassStr(ref text) => return Ok(Self::UnknownDnsClassStr(text.clone()?)),
-            Self::UnknownDnsClassValue(code) => Self::UnknownDnsClassValue(code),
-            Self::UnknownRecordTypeStr(ref text) => return Ok(Self::UnknownRecordTypeStr(text.clone()?)),
-            Self::UnknownRecordTypeValue(code) => Self::UnknownRecordTypeValue(code),
-            Self::UnrecognizedNsec3Flags(flags) => Self::UnrecognizedNsec3Flags(flags),
-            Self::UnrecognizedCsyncFlags(flags) => Self::UnrecognizedCsyncFlags(flags),
-            Self::UnknownNsec3HashAlgorithm(code) => Self::UnknownNsec3HashAlgorithm(code),
-            Self::RecordAfterSig => Self::RecordAfterSig,
-            Self::RecordNotInAdditionalSection(record_type) => Self::RecordNotInAdditionalSection(record_type),
-            Self::DuplicateEdns => Self::DuplicateEdns,
-            Self::SvcParamsOutOfOrder => Self::SvcParamsOutOfOrder,
-            Self::SvcParamMissingValue => Self::SvcParamMissingValue,
-            Self::NsecBitmapOutOfBounds => Self::NsecBitmapOutOfBounds,
-            Self::CaaTagInvalid => Self::CaaTagInvalid,
-            Self::NaptrFlagsInvalid => Self::NaptrFlagsInvalid,
-            Self::UnknownAddressFamily(family) => Self::UnknownAddressFamily(family),
-            Self::Utf8 => Self::Utf8,
-            Self::Memory => Self::Memory,
+            E::IncorrectRDataLengthRead { read, len } => E::IncorrectRDataLengthRead { read, len },
+            E::InsufficientBytes => E::InsufficientBytes,
+            E::InvalidEmptyRecord => E::InvalidEmptyRecord,
+            E::InvalidPreviousIndex => E::InvalidPreviousIndex,
+            E::PointerNotPriorToLabel { idx, ptr } => E::PointerNotPriorToLabel { idx, ptr },
+            E::LabelBytesTooLong(len) => E::LabelBytesTooLong(len),
+            E::UnrecognizedLabelCode(code) => E::UnrecognizedLabelCode(code),
+            E::DomainNameTooLong(len) => E::DomainNameTooLong(len),
+            E::LabelOverlapsWithOther { label, other } => E::LabelOverlapsWithOther {
+                label,
+                other,
+            },
+            E::UnknownDigestAlgorithm(code) => E::UnknownDigestAlgorithm(code),
+            E::UnknownDnsClassStr(ref text) => return Ok(E::UnknownDnsClassStr(text.clone()?)),
+            E::UnknownDnsClassValue(code) => E::UnknownDnsClassValue(code),
+            E::UnknownRecordTypeStr(ref text) => return Ok(E::UnknownRecordTypeStr(text.clone()?)),
+            E::UnknownRecordTypeValue(code) => E::UnknownRecordTypeValue(code),
+            E::UnrecognizedNsec3Flags(flags) => E::UnrecognizedNsec3Flags(flags),
+            E::UnrecognizedCsyncFlags(flags) => E::UnrecognizedCsyncFlags(flags),
+            E::UnknownNsec3HashAlgorithm(code) => E::UnknownNsec3HashAlgorithm(code),
+            E::RecordAfterSig => E::RecordAfterSig,
+            E::RecordNotInAdditionalSection(rr) => E::RecordNotInAdditionalSection(rr),
+            E::DuplicateEdns => E::DuplicateEdns,
+            E::SvcParamsOutOfOrder => E::SvcParamsOutOfOrder,
+            E::SvcParamMissingValue => E::SvcParamMissingValue,
+            E::NsecBitmapOutOfBounds => E::NsecBitmapOutOfBounds,
+            E::CaaTagInvalid => E::CaaTagInvalid,
+            E::NaptrFlagsInvalid => E::NaptrFlagsInvalid,
+            E::UnknownAddressFamily(family) => E::UnknownAddressFamily(family),
+            E::Utf8 => E::Utf8,
+            E::Memory => E::Memory,
         })
     }
 }

@@ -26,7 +26,7 @@ pub const MAX_DATA: usize = 65535;
 pub const MAX_WINDOW: usize = 32;
 
 /// The first octet from which on an element of a name is a compression pointer (RFC 1035, section 4.1.4).
-pub const POINTER_MARK: u8 = 192;
+pub const POINTER_BITS: u8 = 192;
 
 /// Names that end before this offset are kept for compression: a pointer holds 14 bits (RFC 1035, section 4.1.4).
 pub const POINTER_REACH: usize = 0x3FFF;

@@ -372,7 +372,8 @@ fn find_any_case(types: &[RecordType], text: &str) -> Option<RecordType>
 fn find_named(types: &[RecordType], name: &str) -> Option<RecordType>
     ensures { result ≡ find_named types.now name.now }
 {
-    types.iter().copied().find(|record_type| record_type.is_written() && Into::<&str>::into(*record_type) == name)
+    types.iter().copied().find(|record_type| record_type.is_written()
+        && Into::<&str>::into(*record_type) == name)
 }
 
 /// The type with a code: the named one, or `Unknown`.
@@ -441,11 +442,11 @@ impl Eq for RecordType {
 
 impl Hash for RecordType {
     ghost use Rattle.dnw_base.specs.RecordTypes.{type_hash};
-    ghost use Rattle.dnw_base.specs.Inside.RecordTypeLaws.{types-hash_alike};
+    ghost use Rattle.dnw_base.specs.Inside.RecordTypeLaws.{types_hash_alike};
 
     ghost hash_input = { type_hash };
 
-    ghost respects_eq = { types-hash_alike };
+    ghost respects_eq = { types_hash_alike };
 
     fn hash<H: Hasher>(&self, state: &mut H) {
         u16::from(*self).hash(state);

@@ -6,9 +6,9 @@ use Rattle.dnw_base.specs.declared.error.DecodeError.{DecodeError}
 use Rattle.dnw_base.specs.declared.error.DecodeError.TheVariants.{InsufficientBytes}
 use Rattle.dnw_base.specs.Decoder.{Decoder, Takes}
 use Rattle.dnw_base.specs.Names.{encoded_size, wire}
-use Rattle.dnw_base.proofs.Wires.{length-wire}
+use Rattle.dnw_base.proofs.Wires.{length_wire}
 use Rattle.dnw_name_read.specs.Reading.{FaultAt, TakesName, no_octet}
-use Rattle.dnw_name_read.proofs.Counts.{Reads-own}
+use Rattle.dnw_name_read.proofs.Counts.{Reads_own}
 
 -- no name is at an offset that is skipped in vain
 pub skipped_past : (first after : Decoder) (message : List ℕ) (start : ℕ) (error : DecodeError)
@@ -23,19 +23,19 @@ skipped_past first after message start InsufficientBytes is takes =
 skipped_past first after message start error is takes = absurd takes
 
 -- a name has octets of its own
-pub takes-onward : {d after : Decoder} {ls : List (List ℕ)} {k : ℕ} → TakesName d after ls k
+pub takes_onward : {d after : Decoder} {ls : List (List ℕ)} {k : ℕ} → TakesName d after ls k
     → d.index < after.index
-takes-onward {d} takes =
-    let (further, inside) = Reads-own takes.name.reads in
+takes_onward {d} takes =
+    let (further, inside) = Reads_own takes.name.reads in
     rw takes.moved further
 
 -- which are within the message
-pub takes-within : {d after : Decoder} {ls : List (List ℕ)} {k : ℕ} → TakesName d after ls k
+pub takes_within : {d after : Decoder} {ls : List (List ℕ)} {k : ℕ} → TakesName d after ls k
     → after.index ≤ length after.bytes
-takes-within {d} takes =
-    let (further, inside) = Reads-own takes.name.reads in
+takes_within {d} takes =
+    let (further, inside) = Reads_own takes.name.reads in
     rw takes.moved inside
 
 -- the wire form of a name has as many octets as its size says
 pub form_size : (ls : List (List ℕ)) → length (wire ls) ≡ encoded_size ls
-form_size = length-wire
+form_size = length_wire

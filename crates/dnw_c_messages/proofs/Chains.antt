@@ -9,10 +9,10 @@ use Rattle.dnw_message_header.specs.declared.header.Header.{Header}
 use Rattle.dnw_message_read.specs.Edns.{is_opt, opts_in}
 use Rattle.dnw_message_read.specs.Messages.{Item, ItemsAt, MessageValue, PartsAt, Rest, done, next, part, query_of, question_rest, record_in, record_rest}
 use Rattle.dnw_message_read.specs.declared.error.Section.TheVariants as kind
-use Rattle.dnw_c_messages.specs.Messages.{IsMessage}
-use Rattle.dnw_c_messages.specs.WriterCalls.{count_of}
+use Rattle.dnw_c_messages.specs.Messages.{IsWholeMessage}
+use Rattle.dnw_c_messages.specs.WriterCalls.{section_count}
 use Rattle.dnw_c_messages.specs.declared.writer.Writer.{Writer}
-use Rattle.dnw_c_messages.proofs.Kept.{HasItems, HasRecords, items-on, opts_of}
+use Rattle.dnw_c_messages.proofs.Kept.{HasItems, HasRecords, items_on, opts_of}
 use Rattle.dnw_record.specs.Records.{RecordValue}
 
 -- the items of each section, with those of the header's counts
@@ -20,33 +20,33 @@ pub record Chain (b : List ℕ) (w : Writer) : Type 0 where
   pub answers : ℕ
   pub authorities : ℕ
   pub additionals : ℕ
-  pub has_questions : HasItems question_rest b header_size (count_of b 1) answers
-  pub has_answers : HasRecords b answers (count_of b 2) 0 authorities
-  pub has_authorities : HasRecords b authorities (count_of b 3) 0 additionals
-  pub has_additionals : HasRecords b additionals (count_of b 4) w.opt_count w.len
+  pub has_questions : HasItems question_rest b header_size (section_count b 1) answers
+  pub has_answers : HasRecords b answers (section_count b 2) 0 authorities
+  pub has_authorities : HasRecords b authorities (section_count b 3) 0 additionals
+  pub has_additionals : HasRecords b additionals (section_count b 4) w.opt_count w.len
   pub one_opt : w.opt_count ≤ 1
   pub fits : w.len ≤ length b
   pub short : w.len ≤ max_message
-  pub no_more : (section : ℕ) → w.section < section → section ≤ 4 → count_of b section ≡ 0
+  pub no_more : (section : ℕ) → w.section < section → section ≤ 4 → section_count b section ≡ 0
 
 -- a field of the header is one of the buffer
-in-header : (b : List ℕ) (p : ℕ) → p + 2 ≤ 12 → header_field (slice_range b 0 header_size) p ≡ header_field b p
-in-header b p within =
+in_header : (b : List ℕ) (p : ℕ) → p + 2 ≤ 12 → header_field (slice_range b 0 header_size) p ≡ header_field b p
+in_header b p within =
     let sum : 12 ≡ p + (12 - p) = omega (arith, within) in
     let whole : take 12 b ≡ take (p + (12 - p)) b = ap (λ n. take n b) sum in
     let few : p + 2 - p ≤ 12 - p = omega (arith, within) in
     ap (from_be_bytes w16) (ap (λ l. take (p + 2 - p) (drop p l)) whole ∙ ap (take (p + 2 - p)) (drop-take p (12 - p) b) ∙ take-take (p + 2 - p) (12 - p) (drop p b) few)
 
-opts-in-both : (xs ys : List RecordValue) → length (opts_in (xs ++ ys)) ≡ length (opts_in xs) + length (opts_in ys)
-opts-in-both xs ys = ap length (filter-append (λ (r : RecordValue). is_opt r.record_type) xs ys) ∙ length-append (opts_in xs) (opts_in ys)
+opts_in_both : (xs ys : List RecordValue) → length (opts_in (xs ++ ys)) ≡ length (opts_in xs) + length (opts_in ys)
+opts_in_both xs ys = ap length (filter-append (λ (r : RecordValue). is_opt r.record_type) xs ys) ∙ length-append (opts_in xs) (opts_in ys)
 
-pub message-of : (b : List ℕ) (w : Writer) → Chain b w → IsMessage b w
-message-of b w c =
+pub message_of : (b : List ℕ) (w : Writer) → Chain b w → IsWholeMessage b w
+message_of b w c =
     let q = c.has_questions in
     let a = c.has_answers.are in
     let n = c.has_authorities.are in
     let r = c.has_additionals.are in
-    let outside = opts-in-both (map (record_in b) a.items) (map (record_in b) n.items) in
+    let outside = opts_in_both (map (record_in b) a.items) (map (record_in b) n.items) in
     let m : MessageValue = record {
       octets = b;
       header = header_of (slice_range b 0 header_size);
@@ -59,17 +59,17 @@ message-of b w c =
     record {
       message = m;
       at = record {
-        whole = omega (arith, items-on q.at, items-on a.at, items-on n.at, items-on r.at, c.fits);
+        whole = omega (arith, items_on q.at, items_on a.at, items_on n.at, items_on r.at, c.fits);
         octets = refl;
         header = refl;
         queries = q.items;
         answers = a.items;
         authorities = n.items;
         additionals = r.items;
-        sections = next q.at (q.counted ∙ sym (in-header b 4 (omega arith)))
-            (next a.at (a.counted ∙ sym (in-header b 6 (omega arith)))
-            (next n.at (n.counted ∙ sym (in-header b 8 (omega arith)))
-            (next r.at (r.counted ∙ sym (in-header b 10 (omega arith))) done)));
+        sections = next q.at (q.counted ∙ sym (in_header b 4 (omega arith)))
+            (next a.at (a.counted ∙ sym (in_header b 6 (omega arith)))
+            (next n.at (n.counted ∙ sym (in_header b 8 (omega arith)))
+            (next r.at (r.counted ∙ sym (in_header b 10 (omega arith))) done)));
         queries_are = refl;
         answers_are = refl;
         authorities_are = refl;
@@ -87,9 +87,9 @@ message-of b w c =
 has : {rest : Rest} {b : List ℕ} {p e k count : ℕ} (c : ℕ) {xs : List Item} → ItemsAt rest b p xs e k → length xs ≡ count → k ≡ 0 → count ≡ c → HasItems rest b p c e
 has {rest} {b} {p} {e} c {xs} items counted zero same = record { items = xs; at = subst (λ i. ItemsAt rest b p xs e i) zero items; counted = counted ∙ same }
 
-has-records : {b : List ℕ} {p e k count : ℕ} (c o : ℕ) {xs : List Item} → ItemsAt record_rest b p xs e k → length xs ≡ count → k ≡ 0 → count ≡ c → opts_of b xs ≡ o
+has_records : {b : List ℕ} {p e k count : ℕ} (c o : ℕ) {xs : List Item} → ItemsAt record_rest b p xs e k → length xs ≡ count → k ≡ 0 → count ≡ c → opts_of b xs ≡ o
     → HasRecords b p c o e
-has-records {b} {p} {e} c o {xs} items counted zero same opts = record {
+has_records {b} {p} {e} c o {xs} items counted zero same opts = record {
   are = record { items = xs; at = subst (λ i. ItemsAt record_rest b p xs e i) zero items; counted = counted ∙ same };
   opts_are = opts;
 }
@@ -100,39 +100,39 @@ record HasOpts (b : List ℕ) (rs ns xs : List Item) (count : ℕ) : Type 0 wher
   authorities : opts_of b ns ≡ 0
   additionals : opts_of b xs ≡ count
 
-has-opts : (b : List ℕ) (rs ns xs : List Item) (count : ℕ) → opts_in (map (record_in b) rs ++ map (record_in b) ns) ≡ [] → opts_of b xs ≡ count
+has_opts : (b : List ℕ) (rs ns xs : List Item) (count : ℕ) → opts_in (map (record_in b) rs ++ map (record_in b) ns) ≡ [] → opts_of b xs ≡ count
     → HasOpts b rs ns xs count
-has-opts b rs ns xs count outside inside =
-    let both = opts-in-both (map (record_in b) rs) (map (record_in b) ns) in
+has_opts b rs ns xs count outside inside =
+    let both = opts_in_both (map (record_in b) rs) (map (record_in b) ns) in
     let zero = ap length outside in
     record { answers = omega (arith, both, zero); authorities = omega (arith, both, zero); additionals = inside }
 
-chain-from : (b : List ℕ) (w : Writer) (h q a n r k : ℕ) (qs rs ns xs : List Item) → h ≡ header_size
+chain_from : (b : List ℕ) (w : Writer) (h q a n r k : ℕ) (qs rs ns xs : List Item) → h ≡ header_size
     → PartsAt b h (part kind.Queries q ∷ part kind.Answers a ∷ part kind.Authorities n ∷ part kind.Additionals r ∷ []) (qs ∷ rs ∷ ns ∷ xs ∷ []) w.len k → k ≡ 0
-    → q ≡ count_of b 1 → a ≡ count_of b 2 → n ≡ count_of b 3 → r ≡ count_of b 4 → HasOpts b rs ns xs w.opt_count → w.opt_count ≤ 1 → w.len ≤ length b
-    → w.len ≤ max_message → ((section : ℕ) → w.section < section → section ≤ 4 → count_of b section ≡ 0) → Chain b w
-chain-from b w h q a n r k qs rs ns xs start (next {q = p1} first l1 (next {q = p2} second l2 (next {q = p3} third l3 (next fourth l4 done)))) zero c1 c2 c3 c4 opts one_opt fits short no_more = record {
+    → q ≡ section_count b 1 → a ≡ section_count b 2 → n ≡ section_count b 3 → r ≡ section_count b 4 → HasOpts b rs ns xs w.opt_count → w.opt_count ≤ 1 → w.len ≤ length b
+    → w.len ≤ max_message → ((section : ℕ) → w.section < section → section ≤ 4 → section_count b section ≡ 0) → Chain b w
+chain_from b w h q a n r k qs rs ns xs start (next {q = p1} first l1 (next {q = p2} second l2 (next {q = p3} third l3 (next fourth l4 done)))) zero c1 c2 c3 c4 opts one_opt fits short no_more = record {
   answers = p1;
   authorities = p2;
   additionals = p3;
-  has_questions = subst (λ p. HasItems question_rest b p (count_of b 1) p1) start (has (count_of b 1) first l1 (omega (arith, zero)) c1);
-  has_answers = has-records (count_of b 2) 0 second l2 (omega (arith, zero)) c2 opts.answers;
-  has_authorities = has-records (count_of b 3) 0 third l3 (omega (arith, zero)) c3 opts.authorities;
-  has_additionals = has-records (count_of b 4) w.opt_count fourth l4 (omega (arith, zero)) c4 opts.additionals;
+  has_questions = subst (λ p. HasItems question_rest b p (section_count b 1) p1) start (has (section_count b 1) first l1 (omega (arith, zero)) c1);
+  has_answers = has_records (section_count b 2) 0 second l2 (omega (arith, zero)) c2 opts.answers;
+  has_authorities = has_records (section_count b 3) 0 third l3 (omega (arith, zero)) c3 opts.authorities;
+  has_additionals = has_records (section_count b 4) w.opt_count fourth l4 (omega (arith, zero)) c4 opts.additionals;
   one_opt = one_opt;
   fits = fits;
   short = short;
   no_more = no_more;
 }
 
-pub chain-of : (b : List ℕ) (w : Writer) → IsMessage b w → Chain b w
-chain-of b w m =
+pub chain_of : (b : List ℕ) (w : Writer) → IsWholeMessage b w → Chain b w
+chain_of b w m =
     let h = m.message.header in
     let counts = m.at.header in
     let outside = rw (m.at.answers_are, m.at.authorities_are) at m.none_outside in
     let inside = rw m.at.additionals_are at m.opts in
     let sections = subst (λ e. PartsAt b header_size (part kind.Queries h.counts.queries ∷ part kind.Answers h.counts.answers ∷ part kind.Authorities h.counts.authorities ∷ part kind.Additionals h.counts.additionals ∷ []) (m.at.queries ∷ m.at.answers ∷ m.at.authorities ∷ m.at.additionals ∷ []) e 0) m.end m.at.sections in
-    chain-from b w header_size h.counts.queries h.counts.answers h.counts.authorities h.counts.additionals 0 m.at.queries m.at.answers m.at.authorities m.at.additionals refl sections refl
-    (ap (λ (x : Header). x.counts.queries) counts ∙ in-header b 4 (omega arith)) (ap (λ (x : Header). x.counts.answers) counts ∙ in-header b 6 (omega arith))
-    (ap (λ (x : Header). x.counts.authorities) counts ∙ in-header b 8 (omega arith)) (ap (λ (x : Header). x.counts.additionals) counts ∙ in-header b 10 (omega arith))
-    (has-opts b m.at.answers m.at.authorities m.at.additionals w.opt_count outside inside) m.one_opt m.fits m.short m.no_more
+    chain_from b w header_size h.counts.queries h.counts.answers h.counts.authorities h.counts.additionals 0 m.at.queries m.at.answers m.at.authorities m.at.additionals refl sections refl
+    (ap (λ (x : Header). x.counts.queries) counts ∙ in_header b 4 (omega arith)) (ap (λ (x : Header). x.counts.answers) counts ∙ in_header b 6 (omega arith))
+    (ap (λ (x : Header). x.counts.authorities) counts ∙ in_header b 8 (omega arith)) (ap (λ (x : Header). x.counts.additionals) counts ∙ in_header b 10 (omega arith))
+    (has_opts b m.at.answers m.at.authorities m.at.additionals w.opt_count outside inside) m.one_opt m.fits m.short m.no_more

@@ -3,25 +3,25 @@ use Rattle.std.proofs.Common.{◌≡◌, ◌≤◌, ℕ, ◌+◌, ◌-◌, Optio
 use Rattle.std.proofs.lemmas.List.{take_all}
 use Rattle.dnw_base.specs.Limits.{max_name}
 use Rattle.dnw_base.specs.Names.{encoded_size, wire}
-use Rattle.dnw_base.proofs.Wires.{length-wire}
+use Rattle.dnw_base.proofs.Wires.{length_wire}
 use Rattle.dnw_name_read.specs.Reading.{NameAt, Reads, zero_octet, label, pointer}
-use Rattle.dnw_name_read.proofs.Back.{NameAt-form}
-use Rattle.dnw_name_read.proofs.Copying.{Reads-plain}
-use Rattle.dnw_name_read.proofs.Counts.{NameAt-labels}
+use Rattle.dnw_name_read.proofs.Back.{NameAt_form}
+use Rattle.dnw_name_read.proofs.Copying.{Reads_plain}
+use Rattle.dnw_name_read.proofs.Counts.{NameAt_labels}
 use Rattle.dnw_c_messages.specs.WriterCalls.{IsForm}
 
 -- in the segment that begins at offset 0 no pointer can be followed
-no-pointers : {b : List ℕ} {p e k : ℕ} {limit : Option ℕ} {ls : List (List ℕ)} → Reads b p 0 limit ls e k → k ≡ 0
-no-pointers (zero_octet w g) = refl
-no-pointers (label c w g one most fit r) = no-pointers r
-no-pointers (pointer high low w g least g' prior r) = absurd (omega (arith, prior))
+no_pointers : {b : List ℕ} {p e k : ℕ} {limit : Option ℕ} {ls : List (List ℕ)} → Reads b p 0 limit ls e k → k ≡ 0
+no_pointers (zero_octet w g) = refl
+no_pointers (label c w g one most fit r) = no_pointers r
+no_pointers (pointer high low w g least g' prior r) = absurd (omega (arith, prior))
 
 -- so octets that are a name are its wire form
 form_is : (form : List ℕ) (ls : List (List ℕ)) (k : ℕ) → NameAt form 0 ls (length form) k → form ≡ wire ls
-form_is form ls k name = sym (take_all (length form - 0) form (omega arith)) ∙ Reads-plain name.reads (no-pointers name.reads)
+form_is form ls k name = sym (take_all (length form - 0) form (omega arith)) ∙ Reads_plain name.reads (no_pointers name.reads)
 
 pub form_fits : (form : List ℕ) (ls : List (List ℕ)) (k : ℕ) → NameAt form 0 ls (length form) k → length form ≤ max_name
-form_fits form ls k name = omega (arith, ap length (form_is form ls k name), length-wire ls, name.fits)
+form_fits form ls k name = omega (arith, ap length (form_is form ls k name), length_wire ls, name.fits)
 
 -- the root
 pub root_form : IsForm (0 ∷ [])
@@ -33,5 +33,5 @@ pub form_read : (form b : List ℕ) (p : ℕ) → p + length form ≤ length b �
 form_read form b p fits stands (ls, (k, name)) =
     let is = form_is form ls k name in
     let stands' : take (length form) (drop p b) ≡ form = ap (λ n. take n (drop p b)) (omega arith) ∙ stands in
-    let end : p + encoded_size ls ≡ p + length form = omega (arith, ap length is, length-wire ls) in
-    (ls, subst (λ e. NameAt b p ls e 0) end (NameAt-form b form p ls (omega (arith, fits)) stands' is (NameAt-labels name)))
+    let end : p + encoded_size ls ≡ p + length form = omega (arith, ap length is, length_wire ls) in
+    (ls, subst (λ e. NameAt b p ls e 0) end (NameAt_form b form p ls (omega (arith, fits)) stands' is (NameAt_labels name)))

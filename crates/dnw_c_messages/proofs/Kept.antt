@@ -2,15 +2,15 @@
 use Rattle.std.proofs.Common.{◌≡◌, ◌≤◌, ℕ, suc, ◌+◌, ◌-◌, Bool, true, false, cond, List, [], ◌∷◌, ◌++◌, length, map, take, drop, slice_range, refl, sym, ap, subst, ◌∙◌, arith, zero-add, length-append, length-drop}
 use Rattle.std.proofs.lemmas.List.{length-take-le}
 use Rattle.dnw_base.specs.Names.{encoded_size, wire}
-use Rattle.dnw_base.proofs.Wires.{length-wire}
+use Rattle.dnw_base.proofs.Wires.{length_wire}
 use Rattle.dnw_name_read.specs.Reading.{NameAt}
-use Rattle.dnw_name_read.proofs.Back.{NameAt-form}
-use Rattle.dnw_name_read.proofs.Copying.{Reads-plain}
-use Rattle.dnw_name_read.proofs.Counts.{NameAt-labels, Reads-own}
-use Rattle.dnw_record.specs.Records.{RecordValue, fields_at, fixed_size, length_field, type_field}
+use Rattle.dnw_name_read.proofs.Back.{NameAt_form}
+use Rattle.dnw_name_read.proofs.Copying.{Reads_plain}
+use Rattle.dnw_name_read.proofs.Counts.{NameAt_labels, Reads_own}
+use Rattle.dnw_record.specs.Records.{RecordValue, fixed_at, fixed_size, length_field, type_field}
 use Rattle.dnw_message_read.specs.Edns.{is_opt, opts_in}
 use Rattle.dnw_message_read.specs.Messages.{Item, ItemAt, ItemsAt, Rest, none, one_more, question_rest, record_in, record_rest}
-use Rattle.dnw_message_read.proofs.InTurn.{items-more}
+use Rattle.dnw_message_read.proofs.InTurn.{items_more}
 
 -- So many items follow one another from p to e, and no name has a pointer.
 pub record HasItems (rest : Rest) (b : List ℕ) (p count e : ℕ) : Type 0 where
@@ -27,65 +27,65 @@ pub record Kept (b b' : List ℕ) (n : ℕ) : Type 0 where
 abbrev pub Stable : Rest → List ℕ → List ℕ → ℕ → Type 0
 Stable rest b b' n = (e : ℕ) → 12 ≤ e → e + rest b e ≤ n → rest b' e ≡ rest b e
 
-pub question-stable : (b b' : List ℕ) (n : ℕ) → Stable question_rest b b' n
-question-stable b b' n e from to = refl
+pub question_stable : (b b' : List ℕ) (n : ℕ) → Stable question_rest b b' n
+question_stable b b' n e from to = refl
 
-pub record-stable : (b b' : List ℕ) (n : ℕ) → Kept b b' n → Stable record_rest b b' n
-record-stable b b' n kept e from to =
+pub record_stable : (b b' : List ℕ) (n : ℕ) → Kept b b' n → Stable record_rest b b' n
+record_stable b b' n kept e from to =
     ap (λ fields. fixed_size + length_field fields) (sym (kept.same e (e + fixed_size) from (omega arith) (omega (arith, to))))
 
 -- a name without pointers
-same-name : {b b' : List ℕ} {p e : ℕ} {ls : List (List ℕ)} → NameAt b p ls e 0 → e ≤ length b' → slice_range b p e ≡ slice_range b' p e
+same_name : {b b' : List ℕ} {p e : ℕ} {ls : List (List ℕ)} → NameAt b p ls e 0 → e ≤ length b' → slice_range b p e ≡ slice_range b' p e
     → NameAt b' p ls e 0
-same-name {b} {b'} {p} {e} {ls} name fits same =
-    let (further, inside) = Reads-own name.reads in
-    let is : slice_range b' p e ≡ wire ls = sym same ∙ Reads-plain name.reads refl in
+same_name {b} {b'} {p} {e} {ls} name fits same =
+    let (further, inside) = Reads_own name.reads in
+    let is : slice_range b' p e ≡ wire ls = sym same ∙ Reads_plain name.reads refl in
     let size : length (slice_range b' p e) ≡ e - p = length-take-le (e - p) (drop p b') (omega (arith, length-drop p b', fits)) in
-    let end : p + encoded_size ls ≡ e = omega (arith, length-wire ls, ap length is, size, further) in
-    subst (λ q. NameAt b' p ls q 0) end (NameAt-form b' (slice_range b' p e) p ls (omega (arith, further, fits)) (ap (λ k. take k (drop p b')) size) is (NameAt-labels name))
+    let end : p + encoded_size ls ≡ e = omega (arith, length_wire ls, ap length is, size, further) in
+    subst (λ q. NameAt b' p ls q 0) end (NameAt_form b' (slice_range b' p e) p ls (omega (arith, further, fits)) (ap (λ k. take k (drop p b')) size) is (NameAt_labels name))
 
-kept-item : {rest : Rest} {b b' : List ℕ} {n p e : ℕ} {x : Item} → Kept b b' n → Stable rest b b' n → ItemAt rest b p x e 0 → 12 ≤ p → e ≤ n
+kept_item : {rest : Rest} {b b' : List ℕ} {n p e : ℕ} {x : Item} → Kept b b' n → Stable rest b b' n → ItemAt rest b p x e 0 → 12 ≤ p → e ≤ n
     → ItemAt rest b' p x e 0
-kept-item {rest} {b} {b'} {n} {p} {e} {x} kept stable item from to =
-    let (further, inside) = Reads-own item.name.reads in
+kept_item {rest} {b} {b'} {n} {p} {e} {x} kept stable item from to =
+    let (further, inside) = Reads_own item.name.reads in
     let name_end : x.name_end ≤ n = omega (arith, item.ends, to) in
     record {
-      name = same-name item.name (omega (arith, name_end, kept.fits)) (kept.same p x.name_end from (omega (arith, further)) name_end);
+      name = same_name item.name (omega (arith, name_end, kept.fits)) (kept.same p x.name_end from (omega (arith, further)) name_end);
       ends = item.ends ∙ ap (λ r. x.name_end + r) (sym (stable x.name_end (omega (arith, from, further)) (omega (arith, item.ends, to))));
       inside = omega (arith, to, kept.fits);
     }
 
-pub items-on : {rest : Rest} {b : List ℕ} {p e k : ℕ} {xs : List Item} → ItemsAt rest b p xs e k → p ≤ e
-items-on none = omega arith
-items-on (one_more first more) =
-    let (further, inside) = Reads-own first.name.reads in omega (arith, further, first.ends, items-on more)
+pub items_on : {rest : Rest} {b : List ℕ} {p e k : ℕ} {xs : List Item} → ItemsAt rest b p xs e k → p ≤ e
+items_on none = omega arith
+items_on (one_more first more) =
+    let (further, inside) = Reads_own first.name.reads in omega (arith, further, first.ends, items_on more)
 
-kept-items : {rest : Rest} {b b' : List ℕ} {n p e k : ℕ} {xs : List Item} → Kept b b' n → Stable rest b b' n → ItemsAt rest b p xs e k → k ≡ 0
+kept_items : {rest : Rest} {b b' : List ℕ} {n p e k : ℕ} {xs : List Item} → Kept b b' n → Stable rest b b' n → ItemsAt rest b p xs e k → k ≡ 0
     → 12 ≤ p → e ≤ n → ItemsAt rest b' p xs e 0
-kept-items kept stable none zero from to = none
-kept-items {rest} {b} {b'} {n} {p} kept stable (one_more {q = q} {j = j} {k = k} {x = x} first more) zero from to =
-    let (further, inside) = Reads-own first.name.reads in
+kept_items kept stable none zero from to = none
+kept_items {rest} {b} {b'} {n} {p} kept stable (one_more {q = q} {j = j} {k = k} {x = x} first more) zero from to =
+    let (further, inside) = Reads_own first.name.reads in
     let plain : ItemAt rest b p x q 0 = subst (λ i. ItemAt rest b p x q i) (omega (arith, zero)) first in
-    one_more (kept-item kept stable plain from (omega (arith, items-on more, to)))
-    (kept-items kept stable more (omega (arith, zero)) (omega (arith, from, further, first.ends)) to)
+    one_more (kept_item kept stable plain from (omega (arith, items_on more, to)))
+    (kept_items kept stable more (omega (arith, zero)) (omega (arith, from, further, first.ends)) to)
 
-pub kept-has : {rest : Rest} {b b' : List ℕ} {n p c c' e : ℕ} → Kept b b' n → Stable rest b b' n → HasItems rest b p c e → 12 ≤ p → e ≤ n → c' ≡ c
+pub kept_has : {rest : Rest} {b b' : List ℕ} {n p c c' e : ℕ} → Kept b b' n → Stable rest b b' n → HasItems rest b p c e → 12 ≤ p → e ≤ n → c' ≡ c
     → HasItems rest b' p c' e
-kept-has kept stable h from to same = record { items = h.items; at = kept-items kept stable h.at refl from to; counted = h.counted ∙ sym same }
+kept_has kept stable h from to same = record { items = h.items; at = kept_items kept stable h.at refl from to; counted = h.counted ∙ sym same }
 
 -- one more item follows
-pub has-more : {rest : Rest} {b b' : List ℕ} {n p c c' e e' : ℕ} {x : Item} → Kept b b' n → Stable rest b b' n → HasItems rest b p c e → 12 ≤ p → e ≤ n
+pub has_more : {rest : Rest} {b b' : List ℕ} {n p c c' e e' : ℕ} {x : Item} → Kept b b' n → Stable rest b b' n → HasItems rest b p c e → 12 ≤ p → e ≤ n
     → ItemAt rest b' e x e' 0 → c' ≡ suc c → HasItems rest b' p c' e'
-has-more {x = x} kept stable h from to item more = record {
+has_more {x = x} kept stable h from to item more = record {
   items = h.items ++ (x ∷ []);
-  at = items-more (kept-items kept stable h.at refl from to) item;
+  at = items_more (kept_items kept stable h.at refl from to) item;
   counted = omega (arith, length-append h.items (x ∷ []), h.counted, more);
 }
 
 -- a section without items ends where it begins
-no-items : {rest : Rest} {b : List ℕ} {p e k : ℕ} {xs : List Item} → ItemsAt rest b p xs e k → length xs ≡ 0 → p ≡ e
-no-items none zero = refl
-no-items (one_more first more) zero = absurd (omega (arith, zero))
+no_items : {rest : Rest} {b : List ℕ} {p e k : ℕ} {xs : List Item} → ItemsAt rest b p xs e k → length xs ≡ 0 → p ≡ e
+no_items none zero = refl
+no_items (one_more first more) zero = absurd (omega (arith, zero))
 
 pub empty : (rest : Rest) (b : List ℕ) (p c : ℕ) → c ≡ 0 → HasItems rest b p c p
 empty rest b p c zero = record { items = []; at = none; counted = sym zero }
@@ -94,7 +94,7 @@ empty rest b p c zero = record { items = []; at = none; counted = sym zero }
 
 -- whether the record whose owner ends at p is an OPT record
 abbrev pub opt_at : List ℕ → ℕ → Bool
-opt_at b p = is_opt (type_field (fields_at b p))
+opt_at b p = is_opt (type_field (fixed_at b p))
 
 -- how many of these records are
 abbrev pub opts_of : List ℕ → List Item → ℕ
@@ -105,68 +105,68 @@ pub record HasRecords (b : List ℕ) (p count opts e : ℕ) : Type 0 where
   pub are : HasItems record_rest b p count e
   pub opts_are : opts_of b are.items ≡ opts
 
-count-same : (is is' : Bool) (r r' : RecordValue) (rs rs' : List RecordValue) → is ≡ is' → length rs ≡ length rs'
+count_same : (is is' : Bool) (r r' : RecordValue) (rs rs' : List RecordValue) → is ≡ is' → length rs ≡ length rs'
     → length (cond is (r ∷ rs) rs) ≡ length (cond is' (r' ∷ rs') rs')
-count-same true true r r' rs rs' same h = ap suc h
-count-same false false r r' rs rs' same h = h
-count-same true false r r' rs rs' same h = cc
-count-same false true r r' rs rs' same h = cc
+count_same true true r r' rs rs' same h = ap suc h
+count_same false false r r' rs rs' same h = h
+count_same true false r r' rs rs' same h = cc
+count_same false true r r' rs rs' same h = cc
 
-count-more : (is : Bool) (r : RecordValue) (rs all : List RecordValue) (n : ℕ) → length all ≡ length rs + n
+count_more : (is : Bool) (r : RecordValue) (rs all : List RecordValue) (n : ℕ) → length all ≡ length rs + n
     → length (cond is (r ∷ all) all) ≡ length (cond is (r ∷ rs) rs) + n
-count-more true r rs all n h = omega (arith, h)
-count-more false r rs all n h = h
+count_more true r rs all n h = omega (arith, h)
+count_more false r rs all n h = h
 
-kept-opts : {b b' : List ℕ} {n p e k : ℕ} {xs : List Item} → Kept b b' n → ItemsAt record_rest b p xs e k → 12 ≤ p → e ≤ n → opts_of b' xs ≡ opts_of b xs
-kept-opts kept none from to = refl
-kept-opts {b} {b'} {n} {p} kept (one_more {q = q} {x = x} {xs = xs} first more) from to =
-    let (further, inside) = Reads-own first.name.reads in
-    let last = items-on more in
+kept_opts : {b b' : List ℕ} {n p e k : ℕ} {xs : List Item} → Kept b b' n → ItemsAt record_rest b p xs e k → 12 ≤ p → e ≤ n → opts_of b' xs ≡ opts_of b xs
+kept_opts kept none from to = refl
+kept_opts {b} {b'} {n} {p} kept (one_more {q = q} {x = x} {xs = xs} first more) from to =
+    let (further, inside) = Reads_own first.name.reads in
+    let last = items_on more in
     let same = kept.same x.name_end (x.name_end + fixed_size) (omega (arith, from, further)) (omega arith) (omega (arith, first.ends, last, to)) in
-    count-same (opt_at b' x.name_end) (opt_at b x.name_end) (record_in b' x) (record_in b x) _ _ (ap (λ fields. is_opt (type_field fields)) (sym same))
-    (kept-opts kept more (omega (arith, from, further, first.ends)) to)
+    count_same (opt_at b' x.name_end) (opt_at b x.name_end) (record_in b' x) (record_in b x) _ _ (ap (λ fields. is_opt (type_field fields)) (sym same))
+    (kept_opts kept more (omega (arith, from, further, first.ends)) to)
 
-opts-more : (b : List ℕ) (xs : List Item) (x : Item) → opts_of b (xs ++ x ∷ []) ≡ opts_of b xs + opts_of b (x ∷ [])
-opts-more b [] x = sym (zero-add (opts_of b (x ∷ [])))
-opts-more b (y ∷ ys) x = count-more (opt_at b y.name_end) (record_in b y) _ _ (opts_of b (x ∷ [])) (opts-more b ys x)
+opts_more : (b : List ℕ) (xs : List Item) (x : Item) → opts_of b (xs ++ x ∷ []) ≡ opts_of b xs + opts_of b (x ∷ [])
+opts_more b [] x = sym (zero-add (opts_of b (x ∷ [])))
+opts_more b (y ∷ ys) x = count_more (opt_at b y.name_end) (record_in b y) _ _ (opts_of b (x ∷ [])) (opts_more b ys x)
 
 -- one record is an OPT record or none
-pub one-opt : (b : List ℕ) (x : Item) (is : Bool) → opt_at b x.name_end ≡ is → opts_of b (x ∷ []) ≡ cond is 1 0
-one-opt b x true is = rw is refl
-one-opt b x false is = rw is refl
+pub one_opt_lem : (b : List ℕ) (x : Item) (is : Bool) → opt_at b x.name_end ≡ is → opts_of b (x ∷ []) ≡ cond is 1 0
+one_opt_lem b x true is = rw is refl
+one_opt_lem b x false is = rw is refl
 
-pub kept-records : {b b' : List ℕ} {n p c c' o e : ℕ} → Kept b b' n → HasRecords b p c o e → 12 ≤ p → e ≤ n → c' ≡ c → HasRecords b' p c' o e
-kept-records {b} {b'} {n} kept h from to same =
+pub kept_records : {b b' : List ℕ} {n p c c' o e : ℕ} → Kept b b' n → HasRecords b p c o e → 12 ≤ p → e ≤ n → c' ≡ c → HasRecords b' p c' o e
+kept_records {b} {b'} {n} kept h from to same =
     let at = h.are.at in
     record {
       are = record {
         items = h.are.items;
-        at = kept-items kept (record-stable b b' n kept) at refl from to;
+        at = kept_items kept (record_stable b b' n kept) at refl from to;
         counted = h.are.counted ∙ sym same;
       };
-      opts_are = kept-opts kept at from to ∙ h.opts_are;
+      opts_are = kept_opts kept at from to ∙ h.opts_are;
     }
 
-pub more-records : {b b' : List ℕ} {n p c c' o o' e e' : ℕ} {x : Item} → Kept b b' n → HasRecords b p c o e → 12 ≤ p → e ≤ n
+pub more_records : {b b' : List ℕ} {n p c c' o o' e e' : ℕ} {x : Item} → Kept b b' n → HasRecords b p c o e → 12 ≤ p → e ≤ n
     → ItemAt record_rest b' e x e' 0 → c' ≡ suc c → o' ≡ o + opts_of b' (x ∷ []) → HasRecords b' p c' o' e'
-more-records {b} {b'} {n} {x = x} kept h from to item more opts =
+more_records {b} {b'} {n} {x = x} kept h from to item more opts =
     let xs = h.are.items in
     record {
       are = record {
         items = xs ++ (x ∷ []);
-        at = items-more (kept-items kept (record-stable b b' n kept) h.are.at refl from to) item;
+        at = items_more (kept_items kept (record_stable b b' n kept) h.are.at refl from to) item;
         counted = omega (arith, length-append xs (x ∷ []), h.are.counted, more);
       };
-      opts_are = omega (arith, opts-more b' xs x, kept-opts kept h.are.at from to, h.opts_are, opts);
+      opts_are = omega (arith, opts_more b' xs x, kept_opts kept h.are.at from to, h.opts_are, opts);
     }
 
-no-opts : (b : List ℕ) (xs : List Item) → length xs ≡ 0 → opts_of b xs ≡ 0
-no-opts b [] zero = refl
-no-opts b (x ∷ xs) zero = absurd (omega (arith, zero))
+no_opts : (b : List ℕ) (xs : List Item) → length xs ≡ 0 → opts_of b xs ≡ 0
+no_opts b [] zero = refl
+no_opts b (x ∷ xs) zero = absurd (omega (arith, zero))
 
-pub records-none : {b : List ℕ} {p c o e : ℕ} → HasRecords b p c o e → c ≡ 0 → (p ≡ e) × (o ≡ 0)
-records-none {b} h zero =
-    let none_there = h.are.counted ∙ zero in (no-items h.are.at none_there, sym h.opts_are ∙ no-opts b h.are.items none_there)
+pub records_none : {b : List ℕ} {p c o e : ℕ} → HasRecords b p c o e → c ≡ 0 → (p ≡ e) × (o ≡ 0)
+records_none {b} h zero =
+    let none_there = h.are.counted ∙ zero in (no_items h.are.at none_there, sym h.opts_are ∙ no_opts b h.are.items none_there)
 
-pub no-records : (b : List ℕ) (p c : ℕ) → c ≡ 0 → HasRecords b p c 0 p
-no-records b p c zero = record { are = record { items = []; at = none; counted = sym zero }; opts_are = refl }
+pub no_records : (b : List ℕ) (p c : ℕ) → c ≡ 0 → HasRecords b p c 0 p
+no_records b p c zero = record { are = record { items = []; at = none; counted = sym zero }; opts_are = refl }

@@ -3,56 +3,56 @@ use Rattle.std.proofs.Common.{◌≡◌, Bool, true, false, ℕ, ◌+◌, ◌-�
 use Rattle.std.proofs.lemmas.List.{length-take, length-drop}
 use Rattle.dnw_base.specs.Decoder.{Decoder, advanced}
 use Rattle.dnw_base.specs.Names.{NameValue, encoded_size}
-use Rattle.dnw_base.proofs.Wires.{encoded_size-cons}
+use Rattle.dnw_base.proofs.Wires.{encoded_size_cons}
 use Rattle.dnw_name_read.specs.Reading.{NameAt, Reads, zero_octet, label, pointer}
-use Rattle.dnw_name_read.proofs.Counts.{length-label}
+use Rattle.dnw_name_read.proofs.Counts.{length_label}
 use Rattle.dnw_write.specs.Encoder.{Encoder}
 use Rattle.dnw_record.specs.Records.{RecordValue}
 use Rattle.dnw_record.specs.RecordLaws.{data_size, passed_size, record_size}
-use Rattle.dnw_record.proofs.Parts.{done-bytes, done-name, fits-fields}
-use Rattle.dnw_record.proofs.Passing.{fits-passed}
+use Rattle.dnw_record.proofs.Parts.{done_bytes, done_name, fits_fields}
+use Rattle.dnw_record.proofs.Passing.{fits_passed}
 use Rattle.dnw_c_messages.specs.declared.writing.Kind.{Kind}
 use Rattle.dnw_c_messages.specs.declared.writing.Kind.TheVariants as Kinds
-use Rattle.dnw_c_messages.specs.MessageItems.{AllWireForms, Bytes, EmitsItem, HasLittleRoom, HasNoPointer, HasWireForms, Item, ItemBegins, Name, Record, RecordOfName, TakesItem, TakesOf, WritesItems, WritesWhole, after_one, at_start, block_len, more, none, new_encoder}
+use Rattle.dnw_c_messages.specs.MessageItems.{AllWireForms, Bytes, EmitsListed, HasLittleRoom, HasNoPointer, HasWireForms, ListedItem, ItemBegins, Name, Record, RecordOfName, TakesListed, TakesOf, WritesItems, WritesWhole, after_one, at_start, block_len, more, none, new_encoder}
 use Rattle.dnw_c_messages.proofs.WrittenItems.{item_ends, item_onward}
 
 -- ---- what an item takes in the list
 
 -- a name that is read without a pointer has as many octets as its wire form
-plain-own : {b : List ℕ} {p s e k : ℕ} {limit : Option ℕ} {ls : List (List ℕ)} → Reads b p s limit ls e k → k ≡ 0 → e ≡ p + encoded_size ls
-plain-own (zero_octet within is) nil = refl
-plain-own {b} {p} {s} {e} {k} (label {ls = ls} c within is some few inside rest) nil =
-    omega (arith, plain-own rest nil, encoded_size-cons (slice_range b (p + 1) (p + 1 + c)) ls, length-label b p c inside)
-plain-own (pointer high low within is mark next back rest) nil = absurd (omega (arith, nil))
+plain_own : {b : List ℕ} {p s e k : ℕ} {limit : Option ℕ} {ls : List (List ℕ)} → Reads b p s limit ls e k → k ≡ 0 → e ≡ p + encoded_size ls
+plain_own (zero_octet within is) nil = refl
+plain_own {b} {p} {s} {e} {k} (label {ls = ls} c within is some few inside rest) nil =
+    omega (arith, plain_own rest nil, encoded_size_cons (slice_range b (p + 1) (p + 1 + c)) ls, length_label b p c inside)
+plain_own (pointer high low within is mark next back rest) nil = absurd (omega (arith, nil))
 
 plain : {b : List ℕ} {p e k : ℕ} {ls : List (List ℕ)} → NameAt b p ls e k → HasNoPointer b p → e ≡ p + encoded_size ls
-plain {k = k} {ls = ls} at bare = plain-own at.reads (bare ls _ k at)
+plain {k = k} {ls = ls} at bare = plain_own at.reads (bare ls _ k at)
 
 -- the octets of an item with its names whole
-abbrev item_size : Item → ℕ
+abbrev item_size : ListedItem → ℕ
 item_size (Bytes bytes) = length bytes
 item_size (Name labels) = encoded_size labels
 item_size (Record x) = passed_size x
 item_size (RecordOfName r) = record_size r
 
-few-range : (bytes : List ℕ) (i n : ℕ) → length (slice_range bytes i (i + n)) ≤ n
-few-range bytes i n = omega (arith, length-take (i + n - i) (drop i bytes))
+few_range : (bytes : List ℕ) (i n : ℕ) → length (slice_range bytes i (i + n)) ≤ n
+few_range bytes i n = omega (arith, length-take (i + n - i) (drop i bytes))
 
 -- The names of a list are wire forms, so an item has as many octets there as it is written with, or more.
-item-own : (kind : Kind) (item : Item) (d after : Decoder) → TakesOf kind d item after → HasWireForms kind d → d.index + item_size item ≤ after.index
-item-own Kinds.Bytes (Bytes bytes) d after (has, is, moved) forms =
+item_own : (kind : Kind) (item : ListedItem) (d after : Decoder) → TakesOf kind d item after → HasWireForms kind d → d.index + item_size item ≤ after.index
+item_own Kinds.Bytes (Bytes bytes) d after (has, is, moved) forms =
     let n = block_len d in
     let end : after.index ≡ d.index + 2 + n = ap (λ (x : Decoder). x.index) moved in
-    omega (arith, end, ap length is, few-range d.bytes (d.index + 2) n)
-item-own Kinds.Name (Name labels) d after (k, takes) forms =
+    omega (arith, end, ap length is, few_range d.bytes (d.index + 2) n)
+item_own Kinds.Name (Name labels) d after (k, takes) forms =
     let end : after.index ≡ takes.end = ap (λ (x : Decoder). x.index) takes.moved in
     omega (arith, end, plain takes.name forms)
-item-own Kinds.Record (Record x) d after (e, at, moved) forms =
+item_own Kinds.Record (Record x) d after (e, at, moved) forms =
     let end : after.index ≡ e = ap (λ (y : Decoder). y.index) moved in
     let own : encoded_size x.owner ≡ encoded_size at.labels = ap (λ (y : RecordValue). encoded_size y.owner) at.is in
     let start : x.start ≡ at.owner_end + 10 = ap (λ (y : RecordValue). y.start) at.is in
-    omega (arith, end, own, start, at.ends, plain at.owner_read forms, few-range x.message x.start x.len)
-item-own (Kinds.RecordOfName encoding) (RecordOfName r) d after (x, (e, at, moved), (owner, _, _, _, name, is, has)) forms =
+    omega (arith, end, own, start, at.ends, plain at.owner_read forms, few_range x.message x.start x.len)
+item_own (Kinds.RecordOfName encoding) (RecordOfName r) d after (x, (e, at, moved), (owner, _, _, _, name, is, has)) forms =
     let end : after.index ≡ e = ap (λ (y : Decoder). y.index) moved in
     let own : encoded_size x.owner ≡ encoded_size at.labels = ap (λ (y : RecordValue). encoded_size y.owner) at.is in
     let same : encoded_size r.owner.labels ≡ encoded_size x.owner = ap (λ (n : NameValue). encoded_size n.labels) owner in
@@ -60,14 +60,14 @@ item-own (Kinds.RecordOfName encoding) (RecordOfName r) d after (x, (e, at, move
     let message : x.message ≡ d.bytes = ap (λ (y : RecordValue). y.message) at.is in
     let there = subst (λ b. NameAt b x.start name.labels (x.start + x.len) has.1) message has.2 in
     omega (arith, end, own, same, start, at.ends, plain at.owner_read forms.0, ap data_size is, plain there (forms.1 x after (e, at, moved)))
-item-own kind item d after takes forms = absurd takes
+item_own kind item d after takes forms = absurd takes
 
-item-written : (item : Item) (v w : Encoder) → EmitsItem item v (Ok tt) w
+item_written : (item : ListedItem) (v w : Encoder) → EmitsListed item v (Ok tt) w
     → (w.offset ≤ v.offset + item_size item) × (w.offset ≤ v.max_size) × (w.max_size ≡ v.max_size)
-item-written (Bytes bytes) v w h = let (few, within, same, _) = done-bytes bytes v w h in (few, within, same)
-item-written (Name labels) v w h = let (few, within, same, _) = done-name (record { is_fqdn = true; labels = labels }) v w h in (few, within, same)
-item-written (Record x) v w h = let (few, within, same, _) = (fits-passed x).done v w h.1 in (few, within, same)
-item-written (RecordOfName r) v w h = let (few, within, same, _) = (fits-fields r).done v w h.1 in (few, within, same)
+item_written (Bytes bytes) v w h = let (few, within, same, _) = done_bytes bytes v w h in (few, within, same)
+item_written (Name labels) v w h = let (few, within, same, _) = done_name (record { is_fqdn = true; labels = labels }) v w h in (few, within, same)
+item_written (Record x) v w h = let (few, within, same, _) = (fits_passed x).done v w h.1 in (few, within, same)
+item_written (RecordOfName r) v w h = let (few, within, same, _) = (fits_fields r).done v w h.1 in (few, within, same)
 
 -- ---- a list
 
@@ -95,7 +95,7 @@ written start empty none = record {
 written start empty (more count d next item v w before takes emits) =
     let h = written start empty before in
     let (onward, within, bytes) = item_onward item d next takes in
-    let (few, inside, kept) = item-written item v w emits in
+    let (few, inside, kept) = item_written item v w emits in
     record {
       begins = after_one d next item h.begins takes;
       within = within;
@@ -105,21 +105,21 @@ written start empty (more count d next item v w before takes emits) =
       maximum = kept ∙ h.maximum;
       short = λ forms.
           let (kind, is, taken) = takes in
-          let own = item-own kind item (advanced d 1) next taken (forms d kind h.begins is) in
+          let own = item_own kind item (advanced d 1) next taken (forms d kind h.begins is) in
           omega (arith, few, h.short forms, own);
     }
 
 -- the items of a message, whole or not
-written-of : (whole : Bool) (list : List ℕ) (first : Encoder) (count : ℕ) (v : Encoder) → first.offset ≡ 0 → length first.bytes ≡ 0
+written_of : (whole : Bool) (list : List ℕ) (first : Encoder) (count : ℕ) (v : Encoder) → first.offset ≡ 0 → length first.bytes ≡ 0
     → WritesWhole whole list first count v → (d : Decoder) × Written list first d v
-written-of true list first count v start empty (d, items, end) = (d, written start empty items)
-written-of false list first count v start empty (d, items, fails) = (d, written start empty items)
+written_of true list first count v start empty (d, items, end) = (d, written start empty items)
+written_of false list first count v start empty (d, items, fails) = (d, written start empty items)
 
 -- A buffer that is too short for a message is shorter than the maximum, and than a list of wire forms.
 pub little_room : (whole : Bool) (list : List ℕ) (max_size : ℕ) (canonical : Bool) (count : ℕ) (v : Encoder) (bytes : List ℕ) (size : ℕ)
     → WritesWhole whole list (new_encoder max_size canonical) count v → bytes ≡ v.bytes → size < length bytes → HasLittleRoom list max_size size
 little_room whole list max_size canonical count v bytes size h is less =
-    let (d, w) = written-of whole list (new_encoder max_size canonical) count v refl refl h in
+    let (d, w) = written_of whole list (new_encoder max_size canonical) count v refl refl h in
     let long = ap length is in (
       omega (arith, less, long, w.ends, w.bounded),
       λ forms. omega (arith, less, long, w.ends, w.short forms, w.within, ap length w.same),

@@ -6,9 +6,9 @@ use borrow.Rule.Slice.PartMut.{put_mid}
 use Rattle.dnw_c_messages.specs.WriterCalls.{put_at}
 
 -- two pieces, the second after the first, are put as one
-pub put_at-put_at : (m : List ℕ) (p q : ℕ) (a b : List ℕ) → q ≡ p + length a → p ≤ length m
+pub put_at_put_at : (m : List ℕ) (p q : ℕ) (a b : List ℕ) → q ≡ p + length a → p ≤ length m
     → put_at (put_at m p a) q b ≡ put_at m p (a ++ b)
-put_at-put_at m p q a b next within =
+put_at_put_at m p q a b next within =
     let front : List ℕ = take p m ++ a in
     let rest : List ℕ = drop (p + length a) m in
     let len : length front ≡ q = omega (arith, next, length-append (take p m) a, length-take-le p m within) in
@@ -20,36 +20,36 @@ put_at-put_at m p q a b next within =
     rw (head, tail) (append_assoc (take p m) a _ ∙ ap (λ l. take p m ++ l) (sym (append_assoc a b _)))
 
 -- the buffer is as long as before
-pub length-put_at : (m : List ℕ) (p : ℕ) (a : List ℕ) → p + length a ≤ length m → length (put_at m p a) ≡ length m
-length-put_at m p a fits =
+pub length_put_at : (m : List ℕ) (p : ℕ) (a : List ℕ) → p + length a ≤ length m → length (put_at m p a) ≡ length m
+length_put_at m p a fits =
     omega (arith, length-append (take p m) (a ++ drop (p + length a) m), length-append a (drop (p + length a) m), length-take-le p m (omega (arith, fits)), length-drop (p + length a) m, fits)
 
-is-mid : (m : List ℕ) (p : ℕ) (a : List ℕ) → put_at m p a ≡ put_mid p (length a) m a
-is-mid m p a = ap (λ r. take p m ++ (a ++ r)) (sym (drop-drop (length a) p m))
+is_mid : (m : List ℕ) (p : ℕ) (a : List ℕ) → put_at m p a ≡ put_mid p (length a) m a
+is_mid m p a = ap (λ r. take p m ++ (a ++ r)) (sym (drop-drop (length a) p m))
 
 -- a range before the octets, and one after them, stay
-pub range-before : (m : List ℕ) (p : ℕ) (a : List ℕ) (i j : ℕ) → i ≤ j → j ≤ p → p ≤ length m
+pub range_before : (m : List ℕ) (p : ℕ) (a : List ℕ) (i j : ℕ) → i ≤ j → j ≤ p → p ≤ length m
     → slice_range (put_at m p a) i j ≡ slice_range m i j
-range-before m p a i j order below within =
+range_before m p a i j order below within =
     let heads : take (i + (j - i)) (put_at m p a) ≡ take (i + (j - i)) m =
-    ap (take (i + (j - i))) (is-mid m p a) ∙ take-put_mid_below p (length a) m a (i + (j - i)) (omega (arith, order, below)) within in
+    ap (take (i + (j - i))) (is_mid m p a) ∙ take-put_mid_below p (length a) m a (i + (j - i)) (omega (arith, order, below)) within in
     sym (drop-take i (j - i) (put_at m p a)) ∙ ap (drop i) heads ∙ drop-take i (j - i) m
 
-pub range-after : (m : List ℕ) (p : ℕ) (a : List ℕ) (i j : ℕ) → p + length a ≤ i → p ≤ length m
+pub range_after : (m : List ℕ) (p : ℕ) (a : List ℕ) (i j : ℕ) → p + length a ≤ i → p ≤ length m
     → slice_range (put_at m p a) i j ≡ slice_range m i j
-range-after m p a i j above within =
-    ap (λ l. take (j - i) (drop i l)) (is-mid m p a) ∙ ap (take (j - i)) (drop-put_mid p (length a) m a i above within refl)
+range_after m p a i j above within =
+    ap (λ l. take (j - i) (drop i l)) (is_mid m p a) ∙ ap (take (j - i)) (drop-put_mid p (length a) m a i above within refl)
 
 -- and between them are the octets
-pub range-here : (m : List ℕ) (p : ℕ) (a : List ℕ) (e : ℕ) → e ≡ p + length a → p ≤ length m → slice_range (put_at m p a) p e ≡ a
-range-here m p a e end within =
-    ap (λ l. slice_range l p e) (is-mid m p a) ∙ between-put_mid p (length a) m a e within (omega (arith, end))
+pub range_here : (m : List ℕ) (p : ℕ) (a : List ℕ) (e : ℕ) → e ≡ p + length a → p ≤ length m → slice_range (put_at m p a) p e ≡ a
+range_here m p a e end within =
+    ap (λ l. slice_range l p e) (is_mid m p a) ∙ between-put_mid p (length a) m a e within (omega (arith, end))
 
 -- the first of two pieces that are put as one
-pub range-first : (m : List ℕ) (p : ℕ) (a b : List ℕ) → p + length (a ++ b) ≤ length m → slice_range (put_at m p (a ++ b)) p (p + length a) ≡ a
-range-first m p a b fits =
+pub range_first : (m : List ℕ) (p : ℕ) (a b : List ℕ) → p + length (a ++ b) ≤ length m → slice_range (put_at m p (a ++ b)) p (p + length a) ≡ a
+range_first m p a b fits =
     let size = length-append a b in
     let within : p ≤ length m = omega (arith, fits) in
-    let first : length (put_at m p a) ≡ length m = length-put_at m p a (omega (arith, fits, size)) in
-    ap (λ l. slice_range l p (p + length a)) (sym (put_at-put_at m p (p + length a) a b refl within))
-    ∙ range-before (put_at m p a) (p + length a) b p (p + length a) (omega arith) (omega arith) (omega (arith, first, fits, size)) ∙ range-here m p a (p + length a) refl within
+    let first : length (put_at m p a) ≡ length m = length_put_at m p a (omega (arith, fits, size)) in
+    ap (λ l. slice_range l p (p + length a)) (sym (put_at_put_at m p (p + length a) a b refl within))
+    ∙ range_before (put_at m p a) (p + length a) b p (p + length a) (omega arith) (omega arith) (omega (arith, first, fits, size)) ∙ range_here m p a (p + length a) refl within

@@ -4,7 +4,7 @@ use Rattle.std.specs.Prelude.{⊤}
 use Rattle.dnw_base.specs.declared.error.DecodeError.{DecodeError}
 use Rattle.dnw_base.specs.declared.error.DecodeError.TheVariants.{InsufficientBytes}
 use Rattle.dnw_base.specs.Decoder.{Decoder, Takes}
-use Rattle.dnw_data.proofs.Taking.{moves-on}
+use Rattle.dnw_data.proofs.Taking.{moves_on}
 use Rattle.dnw_data.specs.Fields.{TakesField}
 use Rattle.dnw_data.specs.Values.{FieldValue}
 use Rattle.dnw_data.specs.declared.kind.Kind.{Kind}
@@ -13,26 +13,26 @@ use Rattle.dnw_c_base.specs.Offsets.{at_offset}
 use Rattle.dnw_c_messages.specs.FieldCalls.{head_of}
 
 -- a decoder that is moved to an offset of the message
-pub skipped-to : (first after : Decoder) (message : List ℕ) (p : ℕ) (r : Result (Unit {0}) DecodeError) → first ≡ record { bytes = message; index = 0 }
+pub skipped_to : (first after : Decoder) (message : List ℕ) (p : ℕ) (r : Result (Unit {0}) DecodeError) → first ≡ record { bytes = message; index = 0 }
     → p ≤ length message → Takes first p (λ (done : Unit {0}). ⊤) r after → after ≡ at_offset message p
-skipped-to first after message p (Ok done) is within takes =
+skipped_to first after message p (Ok done) is within takes =
     let start : 0 + p ≡ p = omega arith in
     takes.2 ∙ (ap (λ (d : Decoder). record { bytes = d.bytes; index = d.index + p }) is ∙ ap (at_offset message) start)
-skipped-to first after message p (Err InsufficientBytes) is within takes = absurd (takes.0 (rw is (omega (arith, within))))
-skipped-to first after message p (Err error) is within takes = absurd takes
+skipped_to first after message p (Err InsufficientBytes) is within takes = absurd (takes.0 (rw is (omega (arith, within))))
+skipped_to first after message p (Err error) is within takes = absurd takes
 
 -- a field has what is before its value
-past-head : (kind : Kind) (d after : Decoder) (v : FieldValue) → TakesField kind d v after → d.index + head_of kind ≤ after.index
-past-head (kinds.Counted shown) d after v h =
+past_head : (kind : Kind) (d after : Decoder) (v : FieldValue) → TakesField kind d v after → d.index + head_of kind ≤ after.index
+past_head (kinds.Counted shown) d after v h =
     let there = ap (λ (x : Decoder). x.index) h.3 in omega (arith, there)
-past-head kind d after v h =
-    let (later, same) = moves-on kind d after v h in omega (arith, later)
+past_head kind d after v h =
+    let (later, same) = moves_on kind d after v h in omega (arith, later)
 
 -- a field ends in the same message, after what is before its value
-pub taken-at : (kind : Kind) (message : List ℕ) (p : ℕ) (d after : Decoder) (v : FieldValue) → d ≡ at_offset message p → TakesField kind d v after
+pub taken_at : (kind : Kind) (message : List ℕ) (p : ℕ) (d after : Decoder) (v : FieldValue) → d ≡ at_offset message p → TakesField kind d v after
     → (p + head_of kind ≤ after.index) × TakesField kind (at_offset message p) v (at_offset message after.index)
-taken-at kind message p d after v is h =
+taken_at kind message p d after v is h =
     let start : TakesField kind (at_offset message p) v after = subst (λ x. TakesField kind x v after) is h in
-    let (later, same) = moves-on kind (at_offset message p) after v start in
+    let (later, same) = moves_on kind (at_offset message p) after v start in
     let there : after ≡ at_offset message after.index = ap (λ bytes. record { bytes = bytes; index = after.index }) same in
-    (past-head kind (at_offset message p) after v start, subst (λ x. TakesField kind (at_offset message p) v x) there start)
+    (past_head kind (at_offset message p) after v start, subst (λ x. TakesField kind (at_offset message p) v x) there start)

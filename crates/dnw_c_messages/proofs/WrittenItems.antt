@@ -6,62 +6,62 @@ use Rattle.dnw_base.specs.declared.error.ProtoError.TheVariants.{MaxBufferSizeEx
 use Rattle.dnw_base.specs.Decoder.{Decoder, advanced}
 use Rattle.dnw_write.specs.Encoder.{Encoder}
 use Rattle.dnw_write.specs.EmittedName.{EmitsAs, Share, in_mode}
-use Rattle.dnw_write.specs.EmittingLaws.{fails-unchanged, frame}
-use Rattle.dnw_write.specs.NameFrames.{frame-name}
-use Rattle.dnw_record.specs.RecordFrames.{frame-fields, frame-passed, frame-passed_fields, frame-record}
+use Rattle.dnw_write.specs.EmittingLaws.{fails_unchanged, frame}
+use Rattle.dnw_write.specs.NameFrames.{frame_name}
+use Rattle.dnw_record.specs.RecordFrames.{frame_fields, frame_passed, frame_passed_fields, frame_record}
 use Rattle.dnw_c_messages.specs.declared.writing.Kind.{Kind}
 use Rattle.dnw_c_messages.specs.declared.writing.Kind.TheVariants as Kinds
 use Rattle.dnw_c_base.specs.Failures.{of_proto}
 use Rattle.dnw_c_base.specs.declared.failure.Failure.{Failure}
-use Rattle.dnw_c_messages.specs.MessageItems.{Item, Bytes, Name, Record, RecordOfName, EmitsItem, FailsToCopyOf, TakesOf, TakesItem, WritesItems, none, more}
-use Rattle.dnw_c_base.proofs.Starts.{takes-onward, takes-within}
-use Rattle.dnw_record.proofs.Reading.{record-own}
+use Rattle.dnw_c_messages.specs.MessageItems.{ListedItem, Bytes, Name, Record, RecordOfName, EmitsListed, FailsToCopyOf, TakesOf, TakesListed, WritesItems, none, more}
+use Rattle.dnw_c_base.proofs.Starts.{takes_onward, takes_within}
+use Rattle.dnw_record.proofs.Reading.{record_own}
 
 -- an item that is written at the buffer's end ends there
-pub item_ends : (item : Item) (v w : Encoder) → v.offset ≡ length v.bytes → EmitsItem item v (Ok tt) w → w.offset ≡ length w.bytes
+pub item_ends : (item : ListedItem) (v w : Encoder) → v.offset ≡ length v.bytes → EmitsListed item v (Ok tt) w → w.offset ≡ length w.bytes
 item_ends (Bytes bytes) v w e h = (frame v bytes (Ok tt) w e h).ends
-item_ends (Name labels) v w e h = (frame-name (record { is_fqdn = true; labels = labels }) v (Ok tt) w e h).ends
-item_ends (Record x) v w e h = (frame-passed x v (Ok tt) w e h).ends
-item_ends (RecordOfName r) v w e h = (frame-record r v (Ok tt) w e h).ends
+item_ends (Name labels) v w e h = (frame_name (record { is_fqdn = true; labels = labels }) v (Ok tt) w e h).ends
+item_ends (Record x) v w e h = (frame_passed x v (Ok tt) w e h).ends
+item_ends (RecordOfName r) v w e h = (frame_record r v (Ok tt) w e h).ends
 
 -- a name that is not written changes nothing
-name-unchanged : (v : Encoder) (labels : List (List ℕ)) (choice : Option Share) (error : ProtoError) (w : Encoder)
+name_unchanged : (v : Encoder) (labels : List (List ℕ)) (choice : Option Share) (error : ProtoError) (w : Encoder)
     → EmitsAs v labels choice (Err error) w → w ≡ v
-name-unchanged v labels choice Memory w h = h.2
-name-unchanged v labels choice (MaxBufferSizeExceeded size) w h = h.2
-name-unchanged v labels choice error w h = absurd h
+name_unchanged v labels choice Memory w h = h.2
+name_unchanged v labels choice (MaxBufferSizeExceeded size) w h = h.2
+name_unchanged v labels choice error w h = absurd h
 
 -- an item that is not written leaves the bytes
-pub item_undone : (item : Item) (v w : Encoder) (error : ProtoError) → v.offset ≡ length v.bytes → EmitsItem item v (Err error) w
+pub item_undone : (item : ListedItem) (v w : Encoder) (error : ProtoError) → v.offset ≡ length v.bytes → EmitsListed item v (Err error) w
     → w.bytes ≡ v.bytes
-item_undone (Bytes bytes) v w error e h = ap (λ (x : Encoder). x.bytes) (fails-unchanged v bytes error w h)
-item_undone (Name labels) v w error e h = ap (λ (x : Encoder). x.bytes) (name-unchanged v (in_mode v.encoding labels) h.choice error w h.written_as)
+item_undone (Bytes bytes) v w error e h = ap (λ (x : Encoder). x.bytes) (fails_unchanged v bytes error w h)
+item_undone (Name labels) v w error e h = ap (λ (x : Encoder). x.bytes) (name_unchanged v (in_mode v.encoding labels) h.choice error w h.written_as)
 item_undone (Record x) v w error e (u, fields, is) =
-    ap (λ (y : Encoder). y.bytes) is ∙ (frame-passed_fields x v (Err error) u e fields).bytes
+    ap (λ (y : Encoder). y.bytes) is ∙ (frame_passed_fields x v (Err error) u e fields).bytes
 item_undone (RecordOfName r) v w error e (u, fields, is) =
-    ap (λ (x : Encoder). x.bytes) is ∙ (frame-fields r v (Err error) u e fields).bytes
+    ap (λ (x : Encoder). x.bytes) is ∙ (frame_fields r v (Err error) u e fields).bytes
 
 -- an item's octets are within the list
-taken-within : (kind : Kind) (item : Item) (d after : Decoder) → TakesOf kind d item after
+taken_within : (kind : Kind) (item : ListedItem) (d after : Decoder) → TakesOf kind d item after
     → (d.index ≤ after.index) × (after.index ≤ length after.bytes) × (after.bytes ≡ d.bytes)
-taken-within Kinds.Bytes (Bytes bytes) d after (has, is, moved) =
+taken_within Kinds.Bytes (Bytes bytes) d after (has, is, moved) =
     rw moved (omega arith, omega (arith, has), refl)
-taken-within Kinds.Name (Name labels) d after (k, takes) =
-    let further = takes-onward takes in
-    (omega (arith, further), takes-within takes, ap (λ (x : Decoder). x.bytes) takes.moved)
-taken-within Kinds.Record (Record x) d after (e, at, moved) =
-    let (further, inside) = record-own at in
+taken_within Kinds.Name (Name labels) d after (k, takes) =
+    let further = takes_onward takes in
+    (omega (arith, further), takes_within takes, ap (λ (x : Decoder). x.bytes) takes.moved)
+taken_within Kinds.Record (Record x) d after (e, at, moved) =
+    let (further, inside) = record_own at in
     rw moved (omega (arith, further), inside, refl)
-taken-within (Kinds.RecordOfName encoding) (RecordOfName r) d after (x, (e, at, moved), is) =
-    let (further, inside) = record-own at in
+taken_within (Kinds.RecordOfName encoding) (RecordOfName r) d after (x, (e, at, moved), is) =
+    let (further, inside) = record_own at in
     rw moved (omega (arith, further), inside, refl)
-taken-within kind item d after h = absurd h
+taken_within kind item d after h = absurd h
 
 -- and follow the one for its kind
-pub item_onward : (item : Item) (d after : Decoder) → TakesItem d item after
+pub item_onward : (item : ListedItem) (d after : Decoder) → TakesListed d item after
     → (d.index < after.index) × (after.index ≤ length after.bytes) × (after.bytes ≡ d.bytes)
 item_onward item d after (kind, is, takes) =
-    let (further, inside, bytes) = taken-within kind item (advanced d 1) after takes in
+    let (further, inside, bytes) = taken_within kind item (advanced d 1) after takes in
     (omega (arith, further), inside, bytes)
 
 -- So many items are written up to the decoder d, into v.
@@ -88,8 +88,8 @@ no_items items first loan d is ends =
     })
 
 -- one more item
-pub one_more : {items : List ℕ} {first v w : Encoder} {loan lent lent' : GName} {d next : Decoder} {count : ℕ} (item : Item)
-    → HasWrittenItems items first loan d v lent count → TakesItem d item next → EmitsItem item v (Ok tt) w → lent' ≡ lent
+pub one_more : {items : List ℕ} {first v w : Encoder} {loan lent lent' : GName} {d next : Decoder} {count : ℕ} (item : ListedItem)
+    → HasWrittenItems items first loan d v lent count → TakesListed d item next → EmitsListed item v (Ok tt) w → lent' ≡ lent
     → HasWrittenItems items first loan next w lent' (count + 1)
 one_more {v = v} {w = w} {d = d} {next = next} {count = count} item h takes emits lender =
     let (onward, within, bytes) = item_onward item d next takes in
@@ -104,6 +104,6 @@ one_more {v = v} {w = w} {d = d} {next = next} {count = count} item h takes emit
     }
 
 -- an item that is taken, and is not written, fails
-pub not_written : (kind : Kind) (item : Item) (d after : Decoder) (v w : Encoder) (error : ProtoError) {failure : Failure} → TakesOf kind d item after
-    → EmitsItem item v (Err error) w → failure ≡ of_proto error → FailsToCopyOf kind d v failure
+pub not_written : (kind : Kind) (item : ListedItem) (d after : Decoder) (v w : Encoder) (error : ProtoError) {failure : Failure} → TakesOf kind d item after
+    → EmitsListed item v (Err error) w → failure ≡ of_proto error → FailsToCopyOf kind d v failure
 not_written kind item d after v w error takes emits is = inr (item, after, error, w, takes, emits, is)

@@ -35,8 +35,8 @@ read_edns (Some e) code = record {
 }
 
 -- This is what a message says by EDNS.
-abbrev pub IsRead : MessageValue → ReadEdns → Type 0
-IsRead m found = (e : Option EdnsValue) × (code : ResponseCode) × HasEdns m e × IsResponseCode m code × (found ≡ read_edns e code)
+abbrev pub IsReadEdns : MessageValue → ReadEdns → Type 0
+IsReadEdns m found = (e : Option EdnsValue) × (code : ResponseCode) × HasEdns m e × IsResponseCode m code × (found ≡ read_edns e code)
 
 abbrev pub of_edns : EdnsError → Failure
 of_edns OutsideAdditionals = why.OutsideAdditionals
@@ -50,7 +50,7 @@ FailsToSay m failure = (error : EdnsError) × FailsEdns m error × (failure ≡ 
 
 -- The octets begin with a message whose names follow so many pointers at most, and what it says by EDNS is put.
 abbrev pub PutsEdns : List ℕ → ℕ → ReadEdns → Type 0
-PutsEdns octets most found = (m : MessageValue) × (k : ℕ) × MessageAt octets m k × (k ≤ most) × IsRead m found
+PutsEdns octets most found = (m : MessageValue) × (k : ℕ) × MessageAt octets m k × (k ≤ most) × IsReadEdns m found
 
 -- There is no such message, or it breaks a rule of EDNS.
 abbrev pub FailsToReadEdns : List ℕ → ℕ → Failure → Type 0

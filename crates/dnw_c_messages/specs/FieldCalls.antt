@@ -55,19 +55,19 @@ TakesAs kind octets before after field =
     EndsAt kind octets before.offset after.offset × (after.number ≡ before.number + 1) × (field ≡ read_field kind before.offset after.offset)
 
 -- There is none.
-abbrev pub FailsToTake : Kind → List ℕ → ℕ → Failure → Type 0
-FailsToTake kind octets p failure = (error : DecodeError) × FailsField kind (at_offset octets p) error × (failure ≡ of_decode error)
+abbrev pub FailsToTakeField : Kind → List ℕ → ℕ → Failure → Type 0
+FailsToTakeField kind octets p failure = (error : DecodeError) × FailsField kind (at_offset octets p) error × (failure ≡ of_decode error)
 
 -- A field of this kind is at the cursor; without a kind there are no more, and the data end there.
-abbrev pub TakesNext : Option Kind → List ℕ → FieldCursor → FieldCursor → ReadField → Type 0
-TakesNext None octets before after field =
+abbrev pub TakesNextField : Option Kind → List ℕ → FieldCursor → FieldCursor → ReadField → Type 0
+TakesNextField None octets before after field =
     (before.offset ≡ length octets) × (after ≡ before) × (field ≡ record { kind = 0; offset = before.offset; len = 0 })
-TakesNext (Some kind) octets before after field = TakesAs kind octets before after field
+TakesNextField (Some kind) octets before after field = TakesAs kind octets before after field
 
 -- It is not; without a kind, octets are left.
-abbrev pub FailsNext : Option Kind → List ℕ → ℕ → Failure → Type 0
-FailsNext None octets p failure = (p < length octets) × (failure ≡ WrongDataLength)
-FailsNext (Some kind) octets p failure = FailsToTake kind octets p failure
+abbrev pub FailsNextField : Option Kind → List ℕ → ℕ → Failure → Type 0
+FailsNextField None octets p failure = (p < length octets) × (failure ≡ WrongDataLength)
+FailsNextField (Some kind) octets p failure = FailsToTakeField kind octets p failure
 
 -- the kind of the field with this number of the type with this code
 abbrev pub kind_at : ℕ → ℕ → Option Kind
@@ -76,10 +76,10 @@ kind_at code number = slice_get (fields_of code) number
 -- The next field of data of the type with this code, which end where the octets do, is put, or there are no more.
 abbrev pub PutsField : List ℕ → ℕ → FieldCursor → FieldCursor → ReadField → Type 0
 PutsField octets code before after field =
-    (before.offset ≤ length octets) × TakesNext (kind_at code before.number) octets before after field
+    (before.offset ≤ length octets) × TakesNextField (kind_at code before.number) octets before after field
 
 -- The cursor is past the octets, or no such field is there.
 abbrev pub FailsToReadField : List ℕ → ℕ → FieldCursor → Failure → Type 0
 FailsToReadField octets code at failure =
     ((length octets < at.offset) × (failure ≡ MessageCut))
-    ⊎ ((at.offset ≤ length octets) × FailsNext (kind_at code at.number) octets at.offset failure)
+    ⊎ ((at.offset ≤ length octets) × FailsNextField (kind_at code at.number) octets at.offset failure)

@@ -33,11 +33,11 @@ use Rattle.dnw_c_messages.specs.declared.writing.WrittenMessage.{WrittenMessage}
 
 -- what is written into a message: bytes as they are, the labels of a name, a record as it is in the list, or a record whose
 -- data are a name
-pub data Item : Type 0 where
-  Bytes : List ℕ → Item
-  Name : List (List ℕ) → Item
-  Record : RecordValue → Item
-  RecordOfName : WireRecord → Item
+pub data ListedItem : Type 0 where
+  Bytes : List ℕ → ListedItem
+  Name : List (List ℕ) → ListedItem
+  Record : RecordValue → ListedItem
+  RecordOfName : WireRecord → ListedItem
 
 -- the octet for a kind
 abbrev pub kind_octet : Kind → ℕ
@@ -79,7 +79,7 @@ IsRecordOfName encoding x r =
     × (name : NameValue) × (r.rdata ≡ Data.Name name encoding) × HasDataName x name
 
 -- After the octet for its kind an item is taken.
-abbrev pub TakesOf : Kind → Decoder → Item → Decoder → Type 0
+abbrev pub TakesOf : Kind → Decoder → ListedItem → Decoder → Type 0
 TakesOf Kinds.Bytes d (Bytes bytes) after = TakesBlock d bytes after
 TakesOf Kinds.Name d (Name labels) after = (k : ℕ) × TakesName d after labels k
 TakesOf Kinds.Record d (Record x) after = TakesRecord d x after
@@ -87,8 +87,8 @@ TakesOf (Kinds.RecordOfName encoding) d (RecordOfName r) after = (x : RecordValu
 TakesOf kind d item after = ⊥
 
 -- The next item of a list is taken.
-abbrev pub TakesItem : Decoder → Item → Decoder → Type 0
-TakesItem d item after = (kind : Kind) × IsKind d kind × TakesOf kind (advanced d 1) item after
+abbrev pub TakesListed : Decoder → ListedItem → Decoder → Type 0
+TakesListed d item after = (kind : Kind) × IsKind d kind × TakesOf kind (advanced d 1) item after
 
 -- no record is there
 abbrev pub HasNoRecord : Decoder → Type 0
@@ -111,11 +111,11 @@ FailsToTakeOf kind d failure = LacksItem kind d × (failure ≡ BadItem)
 -- ---- writing
 
 -- how an item is written
-abbrev pub EmitsItem : Item → Encoder → Outcome → Encoder → Type 0
-EmitsItem (Bytes bytes) v outcome w = Writes v bytes outcome w
-EmitsItem (Name labels) v outcome w = EmitsName (record { is_fqdn = true; labels = labels }) v outcome w
-EmitsItem (Record x) v outcome w = PassesRecord x v outcome w
-EmitsItem (RecordOfName r) v outcome w = EmitsRecord r v outcome w
+abbrev pub EmitsListed : ListedItem → Encoder → Outcome → Encoder → Type 0
+EmitsListed (Bytes bytes) v outcome w = Writes v bytes outcome w
+EmitsListed (Name labels) v outcome w = EmitsName (record { is_fqdn = true; labels = labels }) v outcome w
+EmitsListed (Record x) v outcome w = PassesRecord x v outcome w
+EmitsListed (RecordOfName r) v outcome w = EmitsRecord r v outcome w
 
 -- a new encoder of a message of that size at most, in canonical form or not
 abbrev pub new_encoder : ℕ → Bool → Encoder
@@ -124,19 +124,19 @@ new_encoder max_size canonical = record (fresh [] 0) { max_size = max_size; cano
 -- So many items of a list are written in turn, each after the one before, from its start up to the decoder d.
 pub data WritesItems (list : List ℕ) (first : Encoder) : ℕ → Decoder → Encoder → Type 0 where
   none : WritesItems list first 0 (at_offset list 0) first
-  more : (count : ℕ) (d next : Decoder) (item : Item) (v w : Encoder)
-      → WritesItems list first count d v → TakesItem d item next → EmitsItem item v (Ok tt) w
+  more : (count : ℕ) (d next : Decoder) (item : ListedItem) (v w : Encoder)
+      → WritesItems list first count d v → TakesListed d item next → EmitsListed item v (Ok tt) w
       → WritesItems list first (count + 1) next w
 
 -- After the octet for its kind an item is taken and written.
 abbrev pub CopiesOf : Kind → Decoder → Encoder → Decoder → Encoder → Type 0
-CopiesOf kind d v after w = (item : Item) × TakesOf kind d item after × EmitsItem item v (Ok tt) w
+CopiesOf kind d v after w = (item : ListedItem) × TakesOf kind d item after × EmitsListed item v (Ok tt) w
 
 -- After the octet for its kind an item is taken, and is not written.
 abbrev pub FailsToEmitOf : Kind → Decoder → Encoder → Failure → Type 0
 FailsToEmitOf kind d v failure =
-    (item : Item) × (next : Decoder) × (error : ProtoError) × (w : Encoder) × TakesOf kind d item next
-    × EmitsItem item v (Err error) w × (failure ≡ of_proto error)
+    (item : ListedItem) × (next : Decoder) × (error : ProtoError) × (w : Encoder) × TakesOf kind d item next
+    × EmitsListed item v (Err error) w × (failure ≡ of_proto error)
 
 -- After the octet for its kind an item fails: it is not taken, or not written.
 abbrev pub FailsToCopyOf : Kind → Decoder → Encoder → Failure → Type 0
@@ -190,7 +190,7 @@ HasWireForms (Kinds.RecordOfName encoding) d =
 -- An item of a list begins at the decoder, after those before it.
 pub data ItemBegins (list : List ℕ) : Decoder → Type 0 where
   at_start : ItemBegins list (at_offset list 0)
-  after_one : (d after : Decoder) (item : Item) → ItemBegins list d → TakesItem d item after → ItemBegins list after
+  after_one : (d after : Decoder) (item : ListedItem) → ItemBegins list d → TakesListed d item after → ItemBegins list after
 
 -- All names of a list are wire forms.
 abbrev pub AllWireForms : List ℕ → Type 0

@@ -19,12 +19,12 @@ abbrev pub pack_pointers : ℕ
 pack_pointers = 65536
 
 -- the octets begin with this message
-abbrev pub Begins : List ℕ → MessageValue → Type 0
-Begins octets m = (k : ℕ) × MessageAt octets m k × (k ≤ pack_pointers)
+abbrev pub IsReadMessage : List ℕ → MessageValue → Type 0
+IsReadMessage octets m = (k : ℕ) × MessageAt octets m k × (k ≤ pack_pointers)
 
 -- They begin with a message of which this is a copy, in at most so many octets.
 abbrev pub HasCopy : List ℕ → ℕ → List ℕ → Type 0
-HasCopy octets most copy = (m : MessageValue) × Begins octets m × IsCopied m most copy
+HasCopy octets most copy = (m : MessageValue) × IsReadMessage octets m × IsCopied m most copy
 
 -- bit TC of the header
 abbrev pub is_cut : List ℕ → Bool
@@ -45,7 +45,7 @@ of_copy (Proto error) = of_proto error
 abbrev pub FailsToMakeCopy : List ℕ → ℕ → Failure → Type 0
 FailsToMakeCopy octets most failure =
     ((error : MessageError) × FailsMessage octets pack_pointers error × (failure ≡ of_message error.kind))
-    ⊎ ((m : MessageValue) × (error : CopyError) × Begins octets m × FailsCopy m most error × (failure ≡ of_copy error))
+    ⊎ ((m : MessageValue) × (error : CopyError) × IsReadMessage octets m × FailsCopy m most error × (failure ≡ of_copy error))
 
 -- So it is, or the copy is longer than the buffer.
 abbrev pub FailsToPack : List ℕ → ℕ → ℕ → Failure → Type 0

@@ -34,51 +34,51 @@ empty_header id flags = to_be_bytes w16 id ++ (to_be_bytes w16 flags ++ replicat
 abbrev pub count_offset : ℕ → ℕ
 count_offset section = 2 + 2 * section
 
-abbrev pub count_of : List ℕ → ℕ → ℕ
-count_of message section = header_field message (count_offset section)
+abbrev pub section_count : List ℕ → ℕ → ℕ
+section_count message section = header_field message (count_offset section)
 
 -- the message with one more item counted in a section
 abbrev pub with_count : List ℕ → ℕ → List ℕ
-with_count message section = put_at message (count_offset section) (to_be_bytes w16 (suc (count_of message section)))
+with_count message section = put_at message (count_offset section) (to_be_bytes w16 (suc (section_count message section)))
 
 -- the fields of a question after its name (section 4.1.2), and those of a record between its owner and its data (section 4.1.3)
 abbrev pub question_fields : ℕ → ℕ → List ℕ
 question_fields query_type class = to_be_bytes w16 query_type ++ to_be_bytes w16 class
 
-abbrev pub record_fields : ℕ → ℕ → ℕ → ℕ → List ℕ
-record_fields record_type class ttl len =
+abbrev pub record_head : ℕ → ℕ → ℕ → ℕ → List ℕ
+record_head record_type class ttl len =
     to_be_bytes w16 record_type ++ (to_be_bytes w16 class ++ (to_be_bytes w32 ttl ++ to_be_bytes w16 len))
 
 -- the time to live of an OPT record: the high bits of the response code, the version, and the flags, of which DO is the highest
 -- (RFC 6891, section 6.1.3)
-abbrev pub edns_ttl : ℕ → ℕ → Bool → ℕ
-edns_ttl rcode_high version dnssec_ok = rcode_high * 2 ^ 24 + version * 2 ^ 16 + flag dnssec_ok 15
+abbrev pub opt_ttl : ℕ → ℕ → Bool → ℕ
+opt_ttl rcode_high version dnssec_ok = rcode_high * 2 ^ 24 + version * 2 ^ 16 + flag dnssec_ok 15
 
 -- ---- items
 
 -- An item of a section and of so many octets may follow on those of a message: its section is that of the last item or a later one,
 -- the message has its header, and it stays within the 65,535 octets that a message may have (RFC 1035, section 4.2.2); the buffer
 -- has room, and the count of the section can say one more.
-pub record HasRoom (section len : ℕ) (w : Writer) (message : List ℕ) : Type 0 where
+pub record WriterHasRoom (section len : ℕ) (w : Writer) (message : List ℕ) : Type 0 where
   pub in_order : w.section ≤ section
   pub begun : header_size ≤ w.len
   pub short : w.len + len ≤ max_message
   pub fits : w.len + len ≤ length message
-  pub countable : count_of message section < max_message
+  pub countable : section_count message section < max_message
 
 -- It may not, and the first of these rules that is broken decides why.
-abbrev pub FailsToAppend : ℕ → ℕ → Writer → List ℕ → Failure → Type 0
-FailsToAppend section len w message failure =
+abbrev pub FailsToAppendItem : ℕ → ℕ → Writer → List ℕ → Failure → Type 0
+FailsToAppendItem section len w message failure =
     ((section < w.section) × (failure ≡ why.BadItem))
     ⊎ ((w.section ≤ section) × (w.len < header_size) × (failure ≡ why.MessageCut))
     ⊎ ((w.section ≤ section) × (header_size ≤ w.len) × (max_message < w.len + len) × (failure ≡ why.MessageTooLong))
     ⊎ ((w.section ≤ section) × (header_size ≤ w.len) × (w.len + len ≤ max_message) × (length message < w.len + len) × (failure ≡ why.NoRoom))
     ⊎ ((w.section ≤ section) × (header_size ≤ w.len) × (w.len + len ≤ max_message) × (w.len + len ≤ length message)
-    × (count_of message section ≡ max_message) × (failure ≡ why.MessageTooLong))
+    × (section_count message section ≡ max_message) × (failure ≡ why.MessageTooLong))
 
 -- The item has room, and its octets are put after the message, and counted. The other octets are unchanged.
-abbrev pub Appends : ℕ → List ℕ → Writer → List ℕ → List ℕ → Type 0
-Appends section item w old new = HasRoom section (length item) w old × (new ≡ put_at (with_count old section) w.len item)
+abbrev pub AppendsItem : ℕ → List ℕ → Writer → List ℕ → List ℕ → Type 0
+AppendsItem section item w old new = WriterHasRoom section (length item) w old × (new ≡ put_at (with_count old section) w.len item)
 
 -- what is known of the message after it
 abbrev pub after_item : ℕ → ℕ → Writer → Writer
@@ -87,48 +87,48 @@ after_item section len w = record { len = w.len + len; section = section; opt_co
 -- ---- what the functions put
 
 -- The header without items is put, and is all of the message.
-abbrev pub Begins : ℕ → ℕ → List ℕ → List ℕ → Writer → Type 0
-Begins id flags old new after =
+abbrev pub BeginsWriter : ℕ → ℕ → List ℕ → List ℕ → Writer → Type 0
+BeginsWriter id flags old new after =
     (header_size ≤ length old) × (new ≡ put old (empty_header id flags)) × (after ≡ record { len = header_size; section = 0; opt_count = 0 })
 
-abbrev pub FailsToBegin : List ℕ → Failure → Type 0
-FailsToBegin message failure = (length message < header_size) × (failure ≡ why.NoRoom)
+abbrev pub FailsToBeginWriter : List ℕ → Failure → Type 0
+FailsToBeginWriter message failure = (length message < header_size) × (failure ≡ why.NoRoom)
 
 -- A question is appended: the wire form of its name, its type and its class.
 abbrev pub PutsQuestion : List ℕ → ℕ → ℕ → Writer → Writer → List ℕ → List ℕ → Type 0
 PutsQuestion name query_type class before after old new =
-    IsForm name × Appends 1 (name ++ question_fields query_type class) before old new × (after ≡ after_item 1 (length name + 4) before)
+    IsForm name × AppendsItem 1 (name ++ question_fields query_type class) before old new × (after ≡ after_item 1 (length name + 4) before)
 
 abbrev pub FailsToPutQuestion : List ℕ → Writer → List ℕ → Failure → Type 0
-FailsToPutQuestion name w message failure = IsNoForm name failure ⊎ (IsForm name × FailsToAppend 1 (length name + 4) w message failure)
+FailsToPutQuestion name w message failure = IsNoForm name failure ⊎ (IsForm name × FailsToAppendItem 1 (length name + 4) w message failure)
 
 -- ---- OPT records
 
 -- the type of OPT records
-abbrev pub is_opt : ℕ → Bool
-is_opt record_type = record_type == type_code kind.OPT
+abbrev pub is_opt_code : ℕ → Bool
+is_opt_code record_type = record_type == type_code kind.OPT
 
 -- An OPT record is the only one of its message, among the additional records, and owned by the root (RFC 6891, section 6.1.1).
-pub record IsOnlyOpt (section : ℕ) (owner : List ℕ) (w : Writer) : Type 0 where
+pub record MayBeOpt (section : ℕ) (owner : List ℕ) (w : Writer) : Type 0 where
   pub inside : section ≡ 4
   pub first : w.opt_count ≡ 0
   pub of_root : owner ≡ 0 ∷ []
 
 -- A record of any other type may follow on what the message has.
 abbrev pub IsAllowed : ℕ → List ℕ → ℕ → Writer → Type 0
-IsAllowed section owner record_type w = is_opt record_type ≡ true → IsOnlyOpt section owner w
+IsAllowed section owner record_type w = is_opt_code record_type ≡ true → MayBeOpt section owner w
 
 -- It is an OPT record that may not, and the first of these rules that is broken decides why.
 abbrev pub FailsToAllow : ℕ → List ℕ → ℕ → Writer → Failure → Type 0
 FailsToAllow section owner record_type w failure =
-    (is_opt record_type ≡ true)
+    (is_opt_code record_type ≡ true)
     × (((section ≢ 4) × (failure ≡ why.OutsideAdditionals))
     ⊎ ((section ≡ 4) × (w.opt_count ≢ 0) × (failure ≡ why.DuplicateEdns))
     ⊎ ((section ≡ 4) × (w.opt_count ≡ 0) × (owner ≢ 0 ∷ []) × (failure ≡ why.OwnerNotRoot)))
 
 -- how many OPT records a message has after one more record
 abbrev pub opts_after : ℕ → ℕ → ℕ
-opts_after record_type count = if is_opt record_type then 1 else count
+opts_after record_type count = if is_opt_code record_type then 1 else count
 
 -- ---- records
 
@@ -140,21 +140,21 @@ after_record section record_type len w = record { len = w.len + len; section = s
 abbrev pub AppendsRecord : ℕ → List ℕ → ℕ → ℕ → ℕ → List ℕ → Writer → Writer → List ℕ → List ℕ → Type 0
 AppendsRecord section owner record_type class ttl octets before after old new =
     (length octets ≤ max_message)
-    × Appends section (owner ++ (record_fields record_type class ttl (length octets) ++ octets)) before old new
+    × AppendsItem section (owner ++ (record_head record_type class ttl (length octets) ++ octets)) before old new
     × (after ≡ after_record section record_type (length owner + (10 + length octets)) before)
 
 -- Its data are longer than two octets can say, or it may not follow.
 abbrev pub FailsToAppendRecord : ℕ → List ℕ → List ℕ → Writer → List ℕ → Failure → Type 0
 FailsToAppendRecord section owner octets w message failure =
     ((max_message < length octets) × (failure ≡ why.DataTooLong))
-    ⊎ ((length octets ≤ max_message) × FailsToAppend section (length owner + (10 + length octets)) w message failure)
+    ⊎ ((length octets ≤ max_message) × FailsToAppendItem section (length owner + (10 + length octets)) w message failure)
 
 -- The number is that of a section of records.
 abbrev pub IsOfRecords : ℕ → Type 0
 IsOfRecords section = (2 ≤ section) × (section ≤ 4)
 
-abbrev pub PutsRecord : ℕ → List ℕ → ℕ → ℕ → ℕ → List ℕ → Writer → Writer → List ℕ → List ℕ → Type 0
-PutsRecord section owner record_type class ttl octets before after old new =
+abbrev pub AddsRecord : ℕ → List ℕ → ℕ → ℕ → ℕ → List ℕ → Writer → Writer → List ℕ → List ℕ → Type 0
+AddsRecord section owner record_type class ttl octets before after old new =
     IsOfRecords section × IsForm owner × IsAllowed section owner record_type before
     × AppendsRecord section owner record_type class ttl octets before after old new
 

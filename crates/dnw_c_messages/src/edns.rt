@@ -1,7 +1,7 @@
 //! What messages say by EDNS.
 ghost use Rattle.std.specs.Prelude.{◌≡◌, ◌≢◌, IfOk, IfErr};
 ghost use Rattle.dnw_c_base.specs.Failures.{NumberOf};
-ghost use Rattle.dnw_c_messages.specs.EdnsCalls.{FailsToReadEdns, IsRead, FailsToSay, PutsEdns, of_edns};
+ghost use Rattle.dnw_c_messages.specs.EdnsCalls.{FailsToReadEdns, IsReadEdns, FailsToSay, PutsEdns, of_edns};
 
 use crate::message::of_message;
 use dnw_c_base::failure::Failure;
@@ -53,7 +53,7 @@ fn read(octets: &[u8], max_pointers: usize) -> Result<ReadEdns, Failure>
 
 /// Returns what a message says by EDNS.
 fn said_by(message: &MessageRef<'_>) -> Result<ReadEdns, Failure>
-    ensures ok { IfOk result (IsRead message.now) }
+    ensures ok { IfOk result (IsReadEdns message.now) }
     ensures err { IfErr result (FailsToSay message.now) }
 {
     let response_code = match message.response_code() {

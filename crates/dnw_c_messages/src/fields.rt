@@ -3,7 +3,7 @@ ghost use Rattle.std.specs.Prelude.{◌≡◌, ◌≢◌, ◌≤◌, ◌+◌, �
 ghost use Rattle.dnw_data.specs.Fields.{FailsField};
 ghost use Rattle.dnw_c_base.specs.Failures.{NumberOf};
 ghost use Rattle.dnw_c_base.specs.Offsets.{at_offset};
-ghost use Rattle.dnw_c_messages.specs.FieldCalls.{EndsAt, FailsToReadField, FailsToTake, PutsField, TakesAs, field_kind, head_of};
+ghost use Rattle.dnw_c_messages.specs.FieldCalls.{EndsAt, FailsToReadField, FailsToTakeField, PutsField, TakesAs, field_kind, head_of};
 
 use dnw_base::decoder::BinDecoder;
 use dnw_base::error::DecodeError;
@@ -85,7 +85,7 @@ fn take(kind: Kind, message: &[u8], at: FieldCursor) -> Result<(ReadField, Field
     requires within { at.offset ≤ length message.now }
     requires few { at.number + 1 ≤ 2 ^ 64 - 1 }
     ensures ok { IfOk result (λ r. TakesAs kind message.now at r.1 r.0) }
-    ensures err { IfErr result (FailsToTake kind message.now at.offset) }
+    ensures err { IfErr result (FailsToTakeField kind message.now at.offset) }
 {
     let end = match end_of(kind, message, at.offset) {
         Ok(end) => end,

@@ -1,7 +1,7 @@
 //! Items of messages, as they are appended and counted.
 ghost use Rattle.std.specs.Prelude.{◌≡◌, ◌≤◌, suc, ◌+◌, ◌++◌, length, IfOk, IfErr, OnOk, OnErr};
 ghost use Rattle.dnw_base.specs.Limits.{max_message, max_name};
-ghost use Rattle.dnw_c_messages.specs.WriterCalls.{Appends, FailsToAppend, HasRoom, after_item, count_of, put_at, record_fields};
+ghost use Rattle.dnw_c_messages.specs.WriterCalls.{AppendsItem, FailsToAppendItem, WriterHasRoom, after_item, section_count, put_at, record_head};
 
 use crate::writer::Writer;
 use dnw_base::limits::MAX_MESSAGE;
@@ -19,9 +19,9 @@ pub(crate) fn append(
 ) -> Result<(), Failure>
     requires section { (1 ≤ section) × (section ≤ 4) }
     requires few { (length name.now ≤ max_name) × (length fields.now ≤ 10) × (length rest.now ≤ max_message) }
-    ensures ok { OnOk result (Appends section (name.now ++ (fields.now ++ rest.now)) writer.old message.old message.new
+    ensures ok { OnOk result (AppendsItem section (name.now ++ (fields.now ++ rest.now)) writer.old message.old message.new
         × (writer.new ≡ after_item section (length name.now + (length fields.now + length rest.now)) writer.old)) }
-    ensures err { IfErr result (FailsToAppend section (length name.now + (length fields.now + length rest.now)) writer.old message.old) }
+    ensures err { IfErr result (FailsToAppendItem section (length name.now + (length fields.now + length rest.now)) writer.old message.old) }
     ensures same { OnErr result ((message.new ≡ message.old) × (writer.new ≡ writer.old)) }
 {
     let len = name.len() + (fields.len() + rest.len());
@@ -36,8 +36,8 @@ pub(crate) fn append(
 /// Returns the number of items of a section with one more of so many octets, which has room.
 fn next_count(message: &[u8], section: u32, len: usize, writer: &Writer) -> Result<u16, Failure>
     requires section { (1 ≤ section) × (section ≤ 4) }
-    ensures ok { IfOk result (λ count. HasRoom section len writer.now message.now × (count ≡ suc (count_of message.now section))) }
-    ensures err { IfErr result (FailsToAppend section len writer.now message.now) }
+    ensures ok { IfOk result (λ count. WriterHasRoom section len writer.now message.now × (count ≡ suc (section_count message.now section))) }
+    ensures err { IfErr result (FailsToAppendItem section len writer.now message.now) }
 {
     if section < writer.section {
         return Err(Failure::BadItem);
@@ -80,7 +80,7 @@ fn put_at(message: &mut [u8], at: usize, octets: &[u8])
 
 /// Returns the fields of a record between its owner and its data.
 pub(crate) fn record_fields(record_type: u16, class: u16, ttl: u32, data_len: u16) -> [u8; 10]
-    ensures { result ≡ record_fields record_type class ttl data_len }
+    ensures { result ≡ record_head record_type class ttl data_len }
 {
     let record_type = record_type.to_be_bytes();
     let class = class.to_be_bytes();

@@ -1,6 +1,6 @@
 //! `OPT` records, of which a message has one at most.
 ghost use Rattle.std.specs.Prelude.{◌≡◌, OnOk, IfErr};
-ghost use Rattle.dnw_c_messages.specs.WriterCalls.{FailsToAllow, IsAllowed, is_opt, opts_after};
+ghost use Rattle.dnw_c_messages.specs.WriterCalls.{FailsToAllow, IsAllowed, is_opt_code, opts_after};
 
 use crate::writer::{ADDITIONALS, Writer};
 use dnw_base::record_type::RecordType;
@@ -40,7 +40,7 @@ pub(crate) fn opts_after(record_type: u16, opt_count: u32) -> u32
 
 /// Returns `true` for the type of `OPT` records.
 fn is_opt(record_type: u16) -> bool
-    ensures { result ≡ is_opt record_type }
+    ensures { result ≡ is_opt_code record_type }
 {
     record_type == u16::from(RecordType::OPT)
 }

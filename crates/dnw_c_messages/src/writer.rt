@@ -2,8 +2,8 @@
 ghost use Rattle.std.specs.Prelude.{◌≡◌, ◌≢◌, ◌<◌, ◌≤◌, ◌^◌, length, IfOk, OnOk, IfErr, OnErr};
 ghost use Rattle.dnw_base.specs.Limits.{max_name};
 ghost use Rattle.dnw_c_base.specs.Failures.{NumberOf};
-ghost use Rattle.dnw_c_messages.specs.Messages.{IsMessage};
-ghost use Rattle.dnw_c_messages.specs.WriterCalls.{AppendsRecord, Begins, FailsToAppendRecord, FailsToBegin, FailsToPutEdns, FailsToPutQuestion, FailsToPutRecord, PutsEdns, PutsQuestion, PutsRecord, edns_ttl, question_fields};
+ghost use Rattle.dnw_c_messages.specs.Messages.{IsWholeMessage};
+ghost use Rattle.dnw_c_messages.specs.WriterCalls.{AppendsRecord, BeginsWriter, FailsToAppendRecord, FailsToBeginWriter, FailsToPutEdns, FailsToPutQuestion, FailsToPutRecord, PutsEdns, PutsQuestion, AddsRecord, opt_ttl, question_fields};
 
 use crate::items::{append, record_fields};
 use crate::opts::{check_opt, opts_after};
@@ -39,9 +39,9 @@ pub extern "C" fn dnw_writer_begin(
     flags: u16,
     writer: &mut Writer,
 ) -> u32
-    ensures ok { result ≡ 0 → Begins id flags message.old message.new writer.new }
-    ensures whole { result ≡ 0 → IsMessage message.new writer.new }
-    ensures err { result ≢ 0 → NumberOf (FailsToBegin message.old) result }
+    ensures ok { result ≡ 0 → BeginsWriter id flags message.old message.new writer.new }
+    ensures whole { result ≡ 0 → IsWholeMessage message.new writer.new }
+    ensures err { result ≢ 0 → NumberOf (FailsToBeginWriter message.old) result }
     ensures same { result ≢ 0 → (message.new ≡ message.old) × (writer.new ≡ writer.old) }
 {
     match begin(message, id, flags) {
@@ -63,7 +63,7 @@ pub extern "C" fn dnw_writer_question(
     writer: &mut Writer,
 ) -> u32
     ensures ok { result ≡ 0 → PutsQuestion name.now query_type class writer.old writer.new message.old message.new }
-    ensures whole { result ≡ 0 → IsMessage message.old writer.old → IsMessage message.new writer.new }
+    ensures whole { result ≡ 0 → IsWholeMessage message.old writer.old → IsWholeMessage message.new writer.new }
     ensures err { result ≢ 0 → NumberOf (FailsToPutQuestion name.now writer.old message.old) result }
     ensures same { result ≢ 0 → (message.new ≡ message.old) × (writer.new ≡ writer.old) }
 {
@@ -86,8 +86,8 @@ pub extern "C" fn dnw_writer_record(
     writer: &mut Writer,
 ) -> u32
     ensures ok { result ≡ 0
-        → PutsRecord section owner.now record_type class ttl octets.now writer.old writer.new message.old message.new }
-    ensures whole { result ≡ 0 → IsMessage message.old writer.old → IsMessage message.new writer.new }
+        → AddsRecord section owner.now record_type class ttl octets.now writer.old writer.new message.old message.new }
+    ensures whole { result ≡ 0 → IsWholeMessage message.old writer.old → IsWholeMessage message.new writer.new }
     ensures err { result ≢ 0 → NumberOf (FailsToPutRecord section owner.now record_type octets.now writer.old message.old) result }
     ensures same { result ≢ 0 → (message.new ≡ message.old) × (writer.new ≡ writer.old) }
 {
@@ -118,8 +118,8 @@ pub extern "C" fn dnw_writer_edns(
     writer: &mut Writer,
 ) -> u32
     ensures ok { result ≡ 0
-        → PutsEdns max_payload (edns_ttl rcode_high version dnssec_ok) options.now writer.old writer.new message.old message.new }
-    ensures whole { result ≡ 0 → IsMessage message.old writer.old → IsMessage message.new writer.new }
+        → PutsEdns max_payload (opt_ttl rcode_high version dnssec_ok) options.now writer.old writer.new message.old message.new }
+    ensures whole { result ≡ 0 → IsWholeMessage message.old writer.old → IsWholeMessage message.new writer.new }
     ensures err { result ≢ 0 → NumberOf (FailsToPutEdns options.now writer.old message.old) result }
     ensures same { result ≢ 0 → (message.new ≡ message.old) × (writer.new ≡ writer.old) }
 {
@@ -137,8 +137,8 @@ pub extern "C" fn dnw_writer_edns(
 
 /// Puts a header without items.
 fn begin(message: &mut [u8], id: u16, flags: u16) -> Result<Writer, Failure>
-    ensures ok { IfOk result (Begins id flags message.old message.new) }
-    ensures err { IfErr result (FailsToBegin message.old) }
+    ensures ok { IfOk result (BeginsWriter id flags message.old message.new) }
+    ensures err { IfErr result (FailsToBeginWriter message.old) }
     ensures same { OnErr result (message.new ≡ message.old) }
 {
     let id = id.to_be_bytes();
@@ -186,7 +186,7 @@ fn put_record(
     octets: &[u8],
     writer: &mut Writer,
 ) -> Result<(), Failure>
-    ensures ok { OnOk result (PutsRecord section owner.now record_type class ttl octets.now writer.old writer.new message.old message.new) }
+    ensures ok { OnOk result (AddsRecord section owner.now record_type class ttl octets.now writer.old writer.new message.old message.new) }
     ensures err { IfErr result (FailsToPutRecord section owner.now record_type octets.now writer.old message.old) }
     ensures same { OnErr result ((message.new ≡ message.old) × (writer.new ≡ writer.old)) }
     ensures fits { record_type < 2 ^ 16 }
@@ -274,7 +274,7 @@ fn question_fields(query_type: u16, class: u16) -> [u8; 4]
 
 /// Returns the high bits of the response code, the version and the flags of EDNS as one number.
 fn edns_ttl(rcode_high: u8, version: u8, dnssec_ok: bool) -> u32
-    ensures { result ≡ edns_ttl rcode_high version dnssec_ok }
+    ensures { result ≡ opt_ttl rcode_high version dnssec_ok }
 {
     (u32::from(rcode_high) << 24) + (u32::from(version) << 16) + (u32::from(dnssec_ok) << 15)
 }

@@ -5,7 +5,7 @@ ghost use Rattle.dnw_record.specs.Records.{RecordValue, TakesRecord};
 ghost use Rattle.dnw_write.specs.Encoder.{Encoder};
 ghost use Rattle.dnw_write.specs.EncoderValue.{value, lender};
 ghost use Rattle.dnw_c_base.specs.Failures.{NumberOf, number};
-ghost use Rattle.dnw_c_messages.specs.MessageItems.{CopiesOf, EmitsItem, FailsToCopyItem, FailsToCopyOf, FailsToTakeOf, FailsToWriteMessage, HasBlock, HasLittleRoom, IsKind, IsNoKind, IsRecordOfName, Item, PutsMessage, StopsAfter, TakesBlock, TakesItem, WritesWhole, new_encoder};
+ghost use Rattle.dnw_c_messages.specs.MessageItems.{CopiesOf, EmitsListed, FailsToCopyItem, FailsToCopyOf, FailsToTakeOf, FailsToWriteMessage, HasBlock, HasLittleRoom, IsKind, IsNoKind, IsRecordOfName, ListedItem, PutsMessage, StopsAfter, TakesBlock, TakesListed, WritesWhole, new_encoder};
 ghost use Rattle.dnw_c_messages.specs.declared.writing.Kind.TheVariants.{Bytes, Name, Record, RecordOfName};
 ghost use Rattle.dnw_c_base.specs.declared.failure.Failure.TheVariants.{BadItem, MessageTooLong, NoRoom};
 
@@ -157,8 +157,8 @@ fn write_next(
 ) -> Result<(), Failure>
     requires left { decoder.old.index < length decoder.old.bytes }
     requires ends { (value encoder.old).offset ≡ length (value encoder.old).bytes }
-    ensures ok { OnOk result ((item : Item) × TakesItem decoder.old item decoder.new
-        × EmitsItem item (value encoder.old) (Ok tt) (value encoder.new)) }
+    ensures ok { OnOk result ((item : ListedItem) × TakesListed decoder.old item decoder.new
+        × EmitsListed item (value encoder.old) (Ok tt) (value encoder.new)) }
     ensures err { IfErr result (FailsToCopyItem decoder.old (value encoder.old)) }
     ensures undone { OnErr result ((value encoder.new).bytes ≡ (value encoder.old).bytes) }
     ensures lender { lender encoder.new ≡ lender encoder.old }

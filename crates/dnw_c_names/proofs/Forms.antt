@@ -3,80 +3,80 @@ use Rattle.std.proofs.Common.{◌≡◌, ◌↔◌, ◌≤◌, ℕ, ◌-◌, Opt
 use Rattle.std.proofs.lemmas.List.{append-nil, length-append, length-take-le, nil_from_length, take_all, take-append-drop}
 use Rattle.dnw_base.specs.Limits.{max_name}
 use Rattle.dnw_base.specs.Names.{AreLabels, labels_wire, wire}
-use Rattle.dnw_base.proofs.Wires.{length-wire, wire-cons}
+use Rattle.dnw_base.proofs.Wires.{length_wire, wire_cons}
 use Rattle.dnw_base.specs.Decoder.{Decoder}
 use Rattle.dnw_name_read.specs.Reading.{NameAt, Reads, TakesName, zero_octet, label, pointer}
-use Rattle.dnw_name_read.proofs.Back.{Reads-wire}
-use Rattle.dnw_name_read.proofs.Copying.{Reads-plain}
-use Rattle.dnw_name_read.proofs.Counts.{Reads-labels}
+use Rattle.dnw_name_read.proofs.Back.{Reads_wire}
+use Rattle.dnw_name_read.proofs.Copying.{Reads_plain}
+use Rattle.dnw_name_read.proofs.Counts.{Reads_labels}
 use Rattle.dnw_name_form.specs.Inside.WireBytes.{IsWire, labels_of}
-use Rattle.dnw_name_form.proofs.Wires.{IsWire-front, IsWire-wire, begins_with_zero, labels_of-form, labels_of-wire, size_of_wire}
+use Rattle.dnw_name_form.proofs.Wires.{IsWire_front, IsWire_wire, begins_with_zero, labels_of_form, labels_of_wire, size_of_wire}
 use Rattle.dnw_c_base.proofs.Starts.{form_size}
 
 pub form_fits : (ls : List (List ℕ)) → AreLabels ls → length (wire ls) ≤ max_name
 form_fits ls h = omega (arith, form_size ls, h.fit)
 
 -- in the segment that begins at offset 0 no pointer can be followed
-no-pointers : {b : List ℕ} {p e k : ℕ} {limit : Option ℕ} {ls : List (List ℕ)} → Reads b p 0 limit ls e k → k ≡ 0
-no-pointers (zero_octet w g) = refl
-no-pointers (label c w g one most fit r) = no-pointers r
-no-pointers (pointer high low w g least g' prior r) = absurd (omega (arith, prior))
+no_pointers : {b : List ℕ} {p e k : ℕ} {limit : Option ℕ} {ls : List (List ℕ)} → Reads b p 0 limit ls e k → k ≡ 0
+no_pointers (zero_octet w g) = refl
+no_pointers (label c w g one most fit r) = no_pointers r
+no_pointers (pointer high low w g least g' prior r) = absurd (omega (arith, prior))
 
 -- so octets that end with the name at their start are its wire form
 form_is : (form : List ℕ) (ls : List (List ℕ)) (k : ℕ) → NameAt form 0 ls (length form) k → form ≡ wire ls
-form_is form ls k name = sym (take_all (length form - 0) form (omega arith)) ∙ Reads-plain name.reads (no-pointers name.reads)
+form_is form ls k name = sym (take_all (length form - 0) form (omega arith)) ∙ Reads_plain name.reads (no_pointers name.reads)
 
-are-labels : (form : List ℕ) (ls : List (List ℕ)) (k : ℕ) → NameAt form 0 ls (length form) k → AreLabels ls
-are-labels form ls k name = record { each = Reads-labels name.reads; fit = name.fits }
+are_labels : (form : List ℕ) (ls : List (List ℕ)) (k : ℕ) → NameAt form 0 ls (length form) k → AreLabels ls
+are_labels form ls k name = record { each = Reads_labels name.reads; fit = name.fits }
 
-pub form-is_wire : (form : List ℕ) (ls : List (List ℕ)) (k : ℕ) → NameAt form 0 ls (length form) k → IsWire form
-form-is_wire form ls k name = subst IsWire (sym (form_is form ls k name)) (IsWire-wire ls (are-labels form ls k name))
+pub form_is_wire : (form : List ℕ) (ls : List (List ℕ)) (k : ℕ) → NameAt form 0 ls (length form) k → IsWire form
+form_is_wire form ls k name = subst IsWire (sym (form_is form ls k name)) (IsWire_wire ls (are_labels form ls k name))
 
-pub form-labels : (form : List ℕ) (ls : List (List ℕ)) (k : ℕ) → NameAt form 0 ls (length form) k → labels_of form ≡ ls
-form-labels form ls k name =
-    rw (form_is form ls k name) (labels_of-wire ls (are-labels form ls k name).each)
+pub form_labels : (form : List ℕ) (ls : List (List ℕ)) (k : ℕ) → NameAt form 0 ls (length form) k → labels_of form ≡ ls
+form_labels form ls k name =
+    rw (form_is form ls k name) (labels_of_wire ls (are_labels form ls k name).each)
 
 -- a form is read as its labels
-pub form-name : (form : List ℕ) → IsWire form → NameAt form 0 (labels_of form) (length form) 0
-form-name form w =
+pub form_name : (form : List ℕ) → IsWire form → NameAt form 0 (labels_of form) (length form) 0
+form_name form w =
     let ls = labels_of form in
-    record { reads = Reads-wire form [] [] ls 0 0 (length form) refl (omega (arith, size_of_wire form w)) (w.spelled ∙ sym (append-nil (wire ls))) w.labels.each; fits = w.labels.fit }
+    record { reads = Reads_wire form [] [] ls 0 0 (length form) refl (omega (arith, size_of_wire form w)) (w.spelled ∙ sym (append-nil (wire ls))) w.labels.each; fits = w.labels.fit }
 
 -- ---- octet after octet: the octets are a form if and only if what is left after a label is one
 
-pub form-none : IsWire [] → ⊥
-form-none w = absurd (omega (arith, ap length w.spelled, length-append (labels_wire (labels_of [])) (0 ∷ [])))
+pub form_none : IsWire [] → ⊥
+form_none w = absurd (omega (arith, ap length w.spelled, length-append (labels_wire (labels_of [])) (0 ∷ [])))
 
-pub form-end : (bytes others : List ℕ) → bytes ≡ 0 ∷ others → IsWire bytes ↔ (length others ≡ 0)
-form-end bytes others is = (
+pub form_end : (bytes others : List ℕ) → bytes ≡ 0 ∷ others → IsWire bytes ↔ (length others ≡ 0)
+form_end bytes others is = (
   λ w. let spelled : 0 ∷ others ≡ 0 ∷ [] = sym is ∙ (w.spelled ∙ ap wire (begins_with_zero bytes 0 others is refl)) in
       let none : others ≡ [] = cc in ap length none,
-  λ none. rw (is, nil_from_length others none) (IsWire-wire [] (record { each = tt; fit = omega arith })),
+  λ none. rw (is, nil_from_length others none) (IsWire_wire [] (record { each = tt; fit = omega arith })),
 )
 
-pub form-next : (bytes others : List ℕ) (c : ℕ) → bytes ≡ c ∷ others → (c ≡ 0 → ⊥) → c ≤ 63 → c ≤ length others → length bytes ≤ 255
+pub form_next : (bytes others : List ℕ) (c : ℕ) → bytes ≡ c ∷ others → (c ≡ 0 → ⊥) → c ≤ 63 → c ≤ length others → length bytes ≤ 255
     → IsWire bytes ↔ IsWire (drop c others)
-form-next bytes others c is some short fits few =
+form_next bytes others c is some short fits few =
     let l = take c others in
     let len : length l ≡ c = length-take-le c others fits in (
-      λ w. (IsWire-front bytes c others w is some).others,
+      λ w. (IsWire_front bytes c others w is some).others,
       λ w. let ls = labels_of (drop c others) in
-          let form : bytes ≡ wire (l ∷ ls) = sym (wire-cons l ls ∙ rw (len, ← w.spelled, take-append-drop c others) (sym is)) in
-          (labels_of-form bytes (l ∷ ls) form (record {
+          let form : bytes ≡ wire (l ∷ ls) = sym (wire_cons l ls ∙ rw (len, ← w.spelled, take-append-drop c others) (sym is)) in
+          (labels_of_form bytes (l ∷ ls) form (record {
             each = (record { not_empty = omega (arith, len, some); not_long = omega (arith, len, short) }, w.labels.each);
-            fit = omega (arith, length-wire (l ∷ ls), ap length form, few);
+            fit = omega (arith, length_wire (l ∷ ls), ap length form, few);
           })).0,
     )
 
-pub form-short : (bytes others : List ℕ) (c : ℕ) → bytes ≡ c ∷ others → (c ≡ 0 → ⊥) → IsWire bytes → (c ≤ 63) × (c ≤ length others)
-form-short bytes others c is some w =
-    let front = IsWire-front bytes c others w is some in
+pub form_short : (bytes others : List ℕ) (c : ℕ) → bytes ≡ c ∷ others → (c ≡ 0 → ⊥) → IsWire bytes → (c ≤ 63) × (c ≤ length others)
+form_short bytes others c is some w =
+    let front = IsWire_front bytes c others w is some in
     (omega (arith, front.is_label.not_long, length-take-le c others front.fits), front.fits)
 
 -- what a decoder of the octets has read, if none is left
-pub form-read : (form : List ℕ) (first after : Decoder) (ls : List (List ℕ)) (k : ℕ) → first ≡ record { bytes = form; index = 0 }
+pub form_read : (form : List ℕ) (first after : Decoder) (ls : List (List ℕ)) (k : ℕ) → first ≡ record { bytes = form; index = 0 }
     → TakesName first after ls k → after.index ≡ length after.bytes → NameAt form 0 ls (length form) k
-form-read form first after ls k is takes whole =
+form_read form first after ls k is takes whole =
     let moved = takes.moved in
     let end : takes.end ≡ length form =
     sym (ap (λ (d : Decoder). d.index) moved) ∙ (whole ∙ (ap (λ (d : Decoder). length d.bytes) moved ∙ ap (λ (d : Decoder). length d.bytes) is)) in

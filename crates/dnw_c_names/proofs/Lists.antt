@@ -6,7 +6,7 @@ use Rattle.dnw_base.specs.Names.{NameValue}
 use Rattle.dnw_name.specs.Decodable.{TakesNameValue}
 use Rattle.dnw_write.specs.Encoder.{Encoder}
 use Rattle.dnw_write.specs.EmittedName.{EmitsName}
-use Rattle.dnw_c_names.specs.NameLists.{at_first, WritesNames, none, more, FailsToCopy, StopsWriting, here, later}
+use Rattle.dnw_c_names.specs.NameLists.{at_first, WritesNames, none, more, FailsToCopyName, StopsWriting, here, later}
 use Rattle.dnw_c_base.specs.declared.failure.Failure.{Failure}
 
 -- So many names are read up to the decoder d, and written into v: what is left, from here, gives the whole.
@@ -43,7 +43,7 @@ written_more {names} {first} {v} {m} {d = d} {next = next} {count = count} {name
 -- a name that is left is refused
 pub written_no_more : {names : List ℕ} {first v : Encoder} {loan lent : GName} {d : Decoder} {count : ℕ}
     {failure : Failure}
-    → HasWritten names first loan d v lent count → d.index ≢ length d.bytes → FailsToCopy d v failure
+    → HasWritten names first loan d v lent count → d.index ≢ length d.bytes → FailsToCopyName d v failure
     → StopsWriting (at_first names) first failure
 written_no_more {v = v} {d = d} {failure = failure} h left refuses =
     let within = h.within in

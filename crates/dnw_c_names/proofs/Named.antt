@@ -23,8 +23,8 @@ pub record HasKeyed (list : List ℕ) (d : Decoder) (entries : List (Vec ℕ × 
   pub stops_on : (failure : Failure) → StopsNaming d failure → StopsNaming (at_first list) failure
 
 -- none is read yet
-pub keyed-none : (list : List ℕ) → HasKeyed list (at_first list) []
-keyed-none list = record {
+pub keyed_none : (list : List ℕ) → HasKeyed list (at_first list) []
+keyed_none list = record {
   done = [];
   same_list = refl;
   within = omega arith;
@@ -34,11 +34,11 @@ keyed-none list = record {
 }
 
 -- one more name
-pub keyed-more : {list : List ℕ} {d next : Decoder} {entries after : List (Vec ℕ × ℕ)} {labels : List (List ℕ)} {k : ℕ}
+pub keyed_more : {list : List ℕ} {d next : Decoder} {entries after : List (Vec ℕ × ℕ)} {labels : List (List ℕ)} {k : ℕ}
     → HasKeyed list d entries → TakesName d next labels k
     → ((names : List (List (List ℕ))) → AreKeyed names entries → AreKeyed (names ++ labels ∷ []) after)
     → next.index ≤ length next.bytes → next.bytes ≡ d.bytes → HasKeyed list next after
-keyed-more {list} {d} {next} {labels = labels} {k = k} h takes adds within bytes = record {
+keyed_more {list} {d} {next} {labels = labels} {k = k} h takes adds within bytes = record {
   done = h.done ++ labels ∷ [];
   same_list = bytes ∙ h.same_list;
   within = within;
@@ -50,39 +50,39 @@ keyed-more {list} {d} {next} {labels = labels} {k = k} h takes adds within bytes
 }
 
 -- none is left
-pub keyed-all : {list : List ℕ} {d : Decoder} {entries : List (Vec ℕ × ℕ)} (h : HasKeyed list d entries)
+pub keyed_all : {list : List ℕ} {d : Decoder} {entries : List (Vec ℕ × ℕ)} (h : HasKeyed list d entries)
     → d.index ≡ length d.bytes → HasNames (at_first list) h.done
-keyed-all {list} {d} h ends = subst (HasNames (at_first list)) (append-nil h.done) (h.goes_on [] (none d ends))
+keyed_all {list} {d} h ends = subst (HasNames (at_first list)) (append-nil h.done) (h.goes_on [] (none d ends))
 
 -- one that is left is no name
-keyed-no_more : {list : List ℕ} {d : Decoder} {entries : List (Vec ℕ × ℕ)} {failure : Failure}
+keyed_no_more : {list : List ℕ} {d : Decoder} {entries : List (Vec ℕ × ℕ)} {failure : Failure}
     → HasKeyed list d entries → d.index ≢ length d.bytes → IsNoNextName d failure → StopsNaming (at_first list) failure
-keyed-no_more {d = d} {failure = failure} h left fails =
+keyed_no_more {d = d} {failure = failure} h left fails =
     let within = h.within in
     let before : d.index < length d.bytes = omega (arith, left) in
     h.stops_on failure (here d failure before fails)
 
 -- one that is left is not pushed
-pub keyed-fails : {list : List ℕ} {d : Decoder} {entries : List (Vec ℕ × ℕ)} {failure : Failure}
+pub keyed_fails : {list : List ℕ} {d : Decoder} {entries : List (Vec ℕ × ℕ)} {failure : Failure}
     → HasKeyed list d entries → d.index ≢ length d.bytes → IsNoNextName d failure ⊎ (failure ≡ NoMemory) → FailsToName list failure
-keyed-fails h left (inl unread) = inl (keyed-no_more h left unread)
-keyed-fails {list} {d} h left (inr memory) =
+keyed_fails h left (inl unread) = inl (keyed_no_more h left unread)
+keyed_fails {list} {d} h left (inr memory) =
     let within = h.within in
     let some : 1 ≤ length list = omega (arith, left, within, ap length h.same_list) in
     inr (some, memory)
 
 -- ---- entries
 
-range-more : (n : ℕ) → range_with_len 0 (n + 1) ≡ range_with_len 0 n ++ n ∷ []
-range-more n =
+range_more : (n : ℕ) → range_with_len 0 (n + 1) ≡ range_with_len 0 n ++ n ∷ []
+range_more n =
     let moved = map-range_with_len_more (λ (x : ℕ). x) 0 n n (omega arith) in
     sym (map-id (range_with_len 0 (n + 1))) ∙ moved ∙ ap (λ (l : List ℕ). l ++ n ∷ []) (map-id (range_with_len 0 n))
 
 -- one more key
-pub entry-more : (names : List (List (List ℕ))) (labels : List (List ℕ)) (entries : List (Vec ℕ × ℕ)) (key : Vec ℕ) (number : ℕ)
+pub entry_more : (names : List (List (List ℕ))) (labels : List (List ℕ)) (entries : List (Vec ℕ × ℕ)) (key : Vec ℕ) (number : ℕ)
     → AreKeyed names entries → key.items ≡ sort_key labels → number ≡ length entries
     → AreKeyed (names ++ labels ∷ []) (entries ++ (key, number) ∷ [])
-entry-more names labels entries key number h same count =
+entry_more names labels entries key number h same count =
     let many : number ≡ length names = count ∙ (sym (length-map entries key_of) ∙ ap length h.keys ∙ length-map names sort_key) in
     record {
       keys =
@@ -94,6 +94,6 @@ entry-more names labels entries key number h same count =
           map-append number_of entries ((key, number) ∷ [])
           ∙ ap (λ (l : List ℕ). l ++ number ∷ []) h.numbers
           ∙ ap (λ n. range_with_len 0 (length names) ++ n ∷ []) many
-          ∙ sym (range-more (length names))
+          ∙ sym (range_more (length names))
           ∙ sym (ap (range_with_len 0) (length_push names labels));
     }

@@ -35,8 +35,8 @@ entry_cmp x y = ordering_then (slice_cmp nat_cmp (key_of x) (key_of y)) (nat_cmp
 abbrev HasKey : Names → Entry → Type 0
 HasKey names entry = key_of entry ≡ sort_key (get_or names (number_of entry) [])
 
-has-keys : (names : Names) (entries : List Entry) → AreKeyed names entries → All (HasKey names) entries
-has-keys names entries keyed k d within =
+has_keys : (names : Names) (entries : List Entry) → AreKeyed names entries → All (HasKey names) entries
+has_keys names entries keyed k d within =
     let entry = get_or entries k d in
     let many : length entries ≡ length names = sym (length-map entries key_of) ∙ ap length keyed.keys ∙ length-map names sort_key in
     let inside : k < length names = omega (arith, many, within) in
@@ -47,17 +47,17 @@ has-keys names entries keyed k d within =
     key ∙ ap (λ n. sort_key (get_or names n [])) (sym number)
 
 -- entries compare as their numbers do
-compare-as : (names : Names) (x y : Entry) → HasKey names x → HasKey names y
+compare_as : (names : Names) (x y : Entry) → HasKey names x → HasKey names y
     → entry_cmp x y ≡ numbers_cmp names (number_of x) (number_of y)
-compare-as names x y p q =
+compare_as names x y p q =
     let a = get_or names (number_of x) [] in
     let b = get_or names (number_of y) [] in
     let keys : slice_cmp nat_cmp (key_of x) (key_of y) ≡ labels_cmp a b =
     ap (λ l. slice_cmp nat_cmp l (key_of y)) p ∙ ap (slice_cmp nat_cmp (sort_key a)) q ∙ keys_compare a b in
     ap (λ o. ordering_then o (nat_cmp (number_of x) (number_of y))) keys
 
-numbers-total : (names : Names) → IsTotalOrder (numbers_cmp names)
-numbers-total names =
+numbers_total : (names : Names) → IsTotalOrder (numbers_cmp names)
+numbers_total names =
     then_total (on_total (λ number. get_or names number []) (on_total canonical (lists_total nat_list_cmp_total))) nat_cmp_total
 
 -- the numbers differ
@@ -79,7 +79,7 @@ apart n = IsDistinct-from_apart nat_eq (range_with_len 0 n) (λ i j d before wit
 below : (names : Names) (i j : ℕ) (o : Ordering) → numbers_cmp names i j ≡ o → is_lt (numbers_cmp names j i) ≡ false → nat_eq i j ≡ false → o ≡ Less
 below names i j Less e not other = refl
 below names i j Greater e not other =
-    let back : numbers_cmp names j i ≡ Less = (numbers-total names).antisymm j i ∙ ap ordering_reverse e in
+    let back : numbers_cmp names j i ≡ Less = (numbers_total names).antisymm j i ∙ ap ordering_reverse e in
     absurd (search (rules, tests, sym (ap is_lt back) ∙ not))
 below names i j Equal e not other =
     let same : nat_cmp i j ≡ Equal = tied (labels_cmp (get_or names i []) (get_or names j [])) e in
@@ -109,16 +109,16 @@ step names (d ∷ sorted) has up distinct k within =
     let second : get_or (map number_of all) (k + 1) 0 ≡ number_of y = get_or-map number_of all (k + 1) d 0 inside in
     let kept : is_lt (entry_cmp y x) ≡ false = up k d (omega arith) inside in
     let not : is_lt (numbers_cmp names (number_of y) (number_of x)) ≡ false =
-    ap is_lt (sym (compare-as names y x (has (k + 1) d inside) (has k d (omega (arith, inside))))) ∙ kept in
+    ap is_lt (sym (compare_as names y x (has (k + 1) d inside) (has k d (omega (arith, inside))))) ∙ kept in
     let other : nat_eq (number_of x) (number_of y) ≡ false =
     subst (λ n. nat_eq (number_of x) n ≡ false) second (subst (λ n. nat_eq n (get_or (map number_of all) (k + 1) 0) ≡ false) first
     (apart_from_distinct nat_eq (map number_of all) k (k + 1) 0 distinct (omega arith) within)) in
     rw (first, second) (below names (number_of x) (number_of y) (numbers_cmp names (number_of x) (number_of y)) refl not other)
 
 -- one more number is put
-pub one-more : (entries : List Entry) (order after : List ℕ) (i : ℕ) (d : Entry) → i < length entries → i < length order
+pub one_more : (entries : List Entry) (order after : List ℕ) (i : ℕ) (d : Entry) → i < length entries → i < length order
     → after ≡ put order (map number_of (take i entries)) → set after i (number_of (get_or entries i d)) ≡ put order (map number_of (take (i + 1) entries))
-one-more entries order after i d within room is =
+one_more entries order after i d within room is =
     let y = number_of (get_or entries i d) in
     let p = map number_of (take i entries) in
     let len : length p ≡ i = length-map (take i entries) number_of ∙ length-take-le i entries (omega (arith, within)) in
@@ -133,15 +133,15 @@ one-more entries order after i d within room is =
     ∙ sym (ap (λ l. l ++ drop (length l) order) more ∙ ap (λ n. (p ++ y ∷ []) ++ drop n order) size)
 
 -- sorted entries have the numbers in the order of the names
-pub in-order : (names : Names) (entries sorted : List Entry) → AreKeyed names entries → IsPermutation entries sorted → IsSorted entry_cmp sorted
+pub in_order : (names : Names) (entries sorted : List Entry) → AreKeyed names entries → IsPermutation entries sorted → IsSorted entry_cmp sorted
     → AreInOrder names (map number_of sorted)
-in-order names entries sorted keyed moved up =
+in_order names entries sorted keyed moved up =
     let once : IsPermutation (range_with_len 0 (length names)) (map number_of sorted) =
     subst (λ ns. IsPermutation ns (map number_of sorted)) keyed.numbers (IsPermutation-map number_of entries sorted moved) in
     let distinct : IsDistinct nat_eq (map number_of sorted) =
     IsDistinct-IsPermutation nat_eq nat_eq_equiv.symm (range_with_len 0 (length names)) (map number_of sorted) once (apart (length names)) in
-    let has = All-permutation (HasKey names) entries sorted moved (has-keys names entries keyed) in
+    let has = All-permutation (HasKey names) entries sorted moved (has_keys names entries keyed) in
     record {
       each_once = once;
-      ascend = sorted_from_all_adjacent (numbers-total names) (map number_of sorted) 0 (step names sorted has up distinct);
+      ascend = sorted_from_all_adjacent (numbers_total names) (map number_of sorted) 0 (step names sorted has up distinct);
     }

@@ -33,8 +33,8 @@ FailsToEdit edited size failure =
 abbrev pub PutsAppended : List ℕ → List ℕ → List ℕ → List ℕ → ℕ → Type 0
 PutsAppended form suffix old new len = (n m : NameValue) × IsNameOf form n × IsNameOf suffix m × PutsEdited (append_name n m) old new len
 
-abbrev pub FailsToAppend : List ℕ → List ℕ → ℕ → Failure → Type 0
-FailsToAppend form suffix size failure =
+abbrev pub FailsToAppendName : List ℕ → List ℕ → ℕ → Failure → Type 0
+FailsToAppendName form suffix size failure =
     FailsAsForms form suffix failure
     ⊎ ((n m : NameValue) × IsNameOf form n × IsNameOf suffix m × FailsToEdit (append_name n m) size failure)
 

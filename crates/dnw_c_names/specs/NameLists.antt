@@ -28,15 +28,15 @@ pub data WritesNames : Decoder → Encoder → ℕ → Encoder → Type 0 where
       → WritesNames d v (count + 1) w
 
 -- The next name of a list fails: it cannot be read, or it cannot be written.
-pub data FailsToCopy (d : Decoder) (v : Encoder) : Failure → Type 0 where
-  unread : (error : DecodeError) (k j : ℕ) → StopsAt d error k j → FailsToCopy d v (of_decode error)
+pub data FailsToCopyName (d : Decoder) (v : Encoder) : Failure → Type 0 where
+  unread : (error : DecodeError) (k j : ℕ) → StopsAt d error k j → FailsToCopyName d v (of_decode error)
   unwritten : (name : NameValue) (next : Decoder) (w : Encoder) (error : ProtoError)
-      → TakesNameValue d name next → EmitsName name v (Err error) w → FailsToCopy d v (of_proto error)
+      → TakesNameValue d name next → EmitsName name v (Err error) w → FailsToCopyName d v (of_proto error)
 
 -- Names are read and written in turn up to one that fails.
 pub data StopsWriting : Decoder → Encoder → Failure → Type 0 where
   here : (d : Decoder) (v : Encoder) (failure : Failure)
-      → d.index < length d.bytes → FailsToCopy d v failure → StopsWriting d v failure
+      → d.index < length d.bytes → FailsToCopyName d v failure → StopsWriting d v failure
   later : (d next : Decoder) (name : NameValue) (v m : Encoder) (failure : Failure)
       → TakesNameValue d name next → EmitsName name v (Ok tt) m → StopsWriting next m failure
       → StopsWriting d v failure

@@ -5,7 +5,7 @@ ghost use Rattle.dnw_base.specs.Limits.{max_name};
 ghost use Rattle.dnw_base.specs.Names.{NameValue};
 ghost use Rattle.dnw_name_form.specs.Edits.{into_wildcard, trim_to};
 ghost use Rattle.dnw_c_base.specs.Failures.{NumberOf, number};
-ghost use Rattle.dnw_c_names.specs.NameEdits.{FailsToAppend, FailsToChange, FailsToEdit, FailsToPrepend, PutsAppended, PutsChanged, PutsEdited, PutsPrepended};
+ghost use Rattle.dnw_c_names.specs.NameEdits.{FailsToAppendName, FailsToChange, FailsToEdit, FailsToPrepend, PutsAppended, PutsChanged, PutsEdited, PutsPrepended};
 ghost use Rattle.dnw_c_base.specs.declared.failure.Failure.TheVariants.{NoRoom};
 
 use crate::names::put_form;
@@ -25,7 +25,7 @@ pub extern "C" fn dnw_name_append(
     len: &mut usize,
 ) -> u32
     ensures ok { result ≡ 0 → PutsAppended name.now suffix.now form.old form.new len.new }
-    ensures err { result ≢ 0 → NumberOf (FailsToAppend name.now suffix.now (length form.old)) result }
+    ensures err { result ≢ 0 → NumberOf (FailsToAppendName name.now suffix.now (length form.old)) result }
     ensures room { result ≡ number NoRoom → length form.old < max_name }
     ensures same { result ≢ 0 → (form.new ≡ form.old) × (len.new ≡ len.old) }
 {
@@ -109,7 +109,7 @@ pub extern "C" fn dnw_name_to_wildcard(
 /// Puts a name with the labels of another after its own.
 fn append(alloc: Global, name: &[u8], suffix: &[u8], form: &mut [u8]) -> Result<usize, Failure>
     ensures ok { IfOk result (PutsAppended name.now suffix.now form.old form.new) }
-    ensures err { IfErr result (FailsToAppend name.now suffix.now (length form.old)) }
+    ensures err { IfErr result (FailsToAppendName name.now suffix.now (length form.old)) }
     ensures room { IfErr result (λ failure. failure ≡ NoRoom → length form.old < max_name) }
     ensures same { OnErr result (form.new ≡ form.old) }
 {

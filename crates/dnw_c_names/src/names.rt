@@ -15,7 +15,7 @@ ghost use Rattle.dnw_c_names.specs.Buffers.{PutsIfFits};
 ghost use Rattle.dnw_c_base.specs.Failures.{HasText, NumberOf, number};
 ghost use Rattle.dnw_c_base.specs.WireForms.{IsFormOf};
 ghost use Rattle.dnw_c_names.specs.NameCalls.{FailsToParse, FailsToPrint, FailsToPutText, FailsToRead, FailsToReadText, absolute_text};
-ghost use Rattle.dnw_c_names.specs.NameLists.{FailsToCopy, FailsToWrite, StopsWriting, WritesNames, at_first, limited_to};
+ghost use Rattle.dnw_c_names.specs.NameLists.{FailsToCopyName, FailsToWrite, StopsWriting, WritesNames, at_first, limited_to};
 ghost use Rattle.dnw_c_base.specs.declared.failure.Failure.{Failure};
 ghost use Rattle.dnw_c_base.specs.declared.failure.Failure.TheVariants.{NoRoom};
 
@@ -308,7 +308,7 @@ fn write_names(names: &[u8], encoder: &mut BinEncoder<'_>) -> Result<usize, Fail
 fn write_next(decoder: &mut BinDecoder<'_>, encoder: &mut BinEncoder<'_>) -> Result<(), Failure>
     ensures ok { OnOk result ((name : NameValue) × TakesNameValue decoder.old name decoder.new
         × EmitsName name (value encoder.old) (Ok tt) (value encoder.new)) }
-    ensures err { IfErr result (FailsToCopy decoder.old (value encoder.old)) }
+    ensures err { IfErr result (FailsToCopyName decoder.old (value encoder.old)) }
     ensures onward { OnOk result (decoder.old.index < decoder.new.index) }
     ensures within { OnOk result (decoder.new.index ≤ length decoder.new.bytes) }
     ensures bytes { decoder.new.bytes ≡ decoder.old.bytes }

@@ -4,7 +4,7 @@ use Rattle.std.proofs.lemmas.List.{append-nil}
 use Rattle.dnw_base.specs.Decoder.{Decoder}
 use Rattle.dnw_c_base.specs.declared.failure.Failure.{Failure}
 use Rattle.dnw_record_owned.specs.declared.record.Record.{Record}
-use Rattle.dnw_record.proofs.Reading.{record-own}
+use Rattle.dnw_record.proofs.Reading.{record_own}
 use Rattle.dnw_record.specs.Records.{RecordAt, RecordValue, TakesRecord}
 use Rattle.dnw_c_signed.specs.SigningCalls.{Collects, FailsToCollect, FailsToCollectNext, Selects, none, next}
 use Rattle.dnw_c_signed.specs.declared.covering.Rrsig.{Rrsig}
@@ -16,14 +16,14 @@ pub record IsCollecting (rrsig : Rrsig) (message : List ℕ) (start : ℕ) (d : 
   pub rest : (more : List Record) (e : ℕ) → Collects rrsig message d.index more e → Collects rrsig message start (copies ++ more) e
 
 -- so a decoder that takes one goes on, within the message
-pub takes-on : {d after : Decoder} {r : RecordValue} → TakesRecord d r after → (d.index < after.index) × (after.index ≤ length d.bytes)
-takes-on {d} (e, at, is) = let (further, inside) = record-own at in (rw is further, rw is inside)
+pub takes_on : {d after : Decoder} {r : RecordValue} → TakesRecord d r after → (d.index < after.index) × (after.index ≤ length d.bytes)
+takes_on {d} (e, at, is) = let (further, inside) = record_own at in (rw is further, rw is inside)
 
-pub one-more : {rrsig : Rrsig} {message : List ℕ} {start : ℕ} {d after : Decoder} {copies : List Record} (r : RecordValue) (more : List Record)
+pub one_more : {rrsig : Rrsig} {message : List ℕ} {start : ℕ} {d after : Decoder} {copies : List Record} (r : RecordValue) (more : List Record)
     (now : List Record) → IsCollecting rrsig message start d copies → TakesRecord d r after → Selects rrsig r more → now ≡ copies ++ more
     → IsCollecting rrsig message start after now
-one-more {rrsig} {message} {start} {d} {after} {copies} r more now c (e, at, is) selects grown =
-    let (further, inside) = record-own at in
+one_more {rrsig} {message} {start} {d} {after} {copies} r more now c (e, at, is) selects grown =
+    let (further, inside) = record_own at in
     let here : RecordAt message d.index r e = subst (λ b. RecordAt b d.index r e) c.same at in
     record {
       same = ap (λ (x : Decoder). x.bytes) is ∙ c.same;
@@ -34,22 +34,22 @@ one-more {rrsig} {message} {start} {d} {after} {copies} r more now c (e, at, is)
           (c.rest (more ++ others) end (next d.index e end r more others here selects from));
     }
 
-pub none-yet : (rrsig : Rrsig) (message : List ℕ) (start : ℕ) (d : Decoder) (copies : List Record) → d ≡ record { bytes = message; index = start }
+pub none_yet : (rrsig : Rrsig) (message : List ℕ) (start : ℕ) (d : Decoder) (copies : List Record) → d ≡ record { bytes = message; index = start }
     → start ≤ length message → copies ≡ [] → IsCollecting rrsig message start d copies
-none-yet rrsig message start d copies is within empty =
+none_yet rrsig message start d copies is within empty =
     rw (is, empty) (record { same = refl; within = within; rest = λ more e left. left })
 
-pub all-there : {rrsig : Rrsig} {message : List ℕ} {start : ℕ} {d : Decoder} {copies : List Record} → IsCollecting rrsig message start d copies
+pub all_there : {rrsig : Rrsig} {message : List ℕ} {start : ℕ} {d : Decoder} {copies : List Record} → IsCollecting rrsig message start d copies
     → d.index ≡ length d.bytes → Collects rrsig message start copies (length message)
-all-there {rrsig} {message} {start} {d} {copies} c ends =
+all_there {rrsig} {message} {start} {d} {copies} c ends =
     let end : d.index ≡ length message = ends ∙ ap length c.same in
     subst (λ all. Collects rrsig message start all (length message)) (append-nil copies)
     (c.rest [] (length message) (subst (λ p. Collects rrsig message p [] (length message)) (sym end) none))
 
-pub no-more : {rrsig : Rrsig} {message : List ℕ} {start : ℕ} {d : Decoder} {copies : List Record} (failure : Failure)
+pub no_more : {rrsig : Rrsig} {message : List ℕ} {start : ℕ} {d : Decoder} {copies : List Record} (failure : Failure)
     → IsCollecting rrsig message start d copies → (d.index ≡ length d.bytes → ⊥) → FailsToCollectNext rrsig d failure
     → FailsToCollect rrsig message start failure
-no-more {rrsig} {message} {start} {d} {copies} failure c left fails =
+no_more {rrsig} {message} {start} {d} {copies} failure c left fails =
     let upto : Collects rrsig message start copies d.index =
     subst (λ all. Collects rrsig message start all d.index) (append-nil copies) (c.rest [] d.index none) in
     let within = c.within in

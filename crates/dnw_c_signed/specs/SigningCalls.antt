@@ -57,8 +57,8 @@ FailsToCopyRecord r failure =
 abbrev pub type_covered : List ℕ → ℕ
 type_covered fields = from_be_bytes w16 (slice_range fields 0 2)
 
-abbrev pub labels_of : List ℕ → ℕ
-labels_of fields = get_or fields 3 0
+abbrev pub label_count : List ℕ → ℕ
+label_count fields = get_or fields 3 0
 
 abbrev pub original_ttl : List ℕ → ℕ
 original_ttl fields = from_be_bytes w32 (slice_range fields 4 8)
@@ -120,7 +120,7 @@ abbrev pub IsSigned : List ℕ → ℕ → ℕ → List ℕ → Type 0
 IsSigned message start at octets =
     (rrsig : Rrsig) × (copies : List Record) × (set : List ℕ) × IsRrsigAt message at rrsig
     × Collects rrsig message start copies (length message)
-    × IsRecordSet copies (labels_of rrsig.fields.items) (original_ttl rrsig.fields.items) set × (octets ≡ rrsig.fields.items ++ set)
+    × IsRecordSet copies (label_count rrsig.fields.items) (original_ttl rrsig.fields.items) set × (octets ≡ rrsig.fields.items ++ set)
 
 -- why copies of records are not put into canonical form: copies of what an RRSIG covers are a set, so `NotInSet` does not come
 abbrev pub of_canonical : CanonicalError → Failure
@@ -136,7 +136,7 @@ abbrev pub FailsSigned : Rrsig → List ℕ → ℕ → Failure → Type 0
 FailsSigned rrsig message start failure =
     FailsToCollect rrsig message start failure
     ⊎ ((copies : List Record) × (error : CanonicalError) × Collects rrsig message start copies (length message)
-    × FailsSet copies (labels_of rrsig.fields.items) error × (failure ≡ of_canonical error))
+    × FailsSet copies (label_count rrsig.fields.items) error × (failure ≡ of_canonical error))
     ⊎ (failure ≡ why.NoMemory)
 
 -- There is no RRSIG, or it is there and there is nothing that it signs.

@@ -2,7 +2,7 @@
 ghost use Rattle.std.specs.Prelude.{◌≡◌, ◌≢◌, ◌≤◌, length, IfOk, IfErr, OnErr};
 ghost use Rattle.dnw_c_base.specs.Failures.{NumberOf};
 ghost use Rattle.dnw_signed.specs.SignedFields.{before_signer};
-ghost use Rattle.dnw_c_signed.specs.SigningCalls.{FailsRrsig, FailsToPutSigned, FailsToSign, IsRrsigAt, IsSigned, PutsSigned, labels_of, of_canonical, original_ttl};
+ghost use Rattle.dnw_c_signed.specs.SigningCalls.{FailsRrsig, FailsToPutSigned, FailsToSign, IsRrsigAt, IsSigned, PutsSigned, label_count, of_canonical, original_ttl};
 
 use crate::covering::{Rrsig, copy_of, covered, record_at};
 use dnw_base::record_type::RecordType;
@@ -113,7 +113,7 @@ fn rrsig_at(alloc: Global, message: &[u8], at: usize) -> Result<Rrsig, Failure>
 /// Returns how many labels an RRSIG counts in its owner (RFC 4034, section 3.1.3).
 fn labels_of(fields: &[u8]) -> u8
     requires { before_signer ≤ length fields.now }
-    ensures { result ≡ labels_of fields.now }
+    ensures { result ≡ label_count fields.now }
 {
     fields[3]
 }

@@ -12,15 +12,15 @@ use Rattle.dnw_zone_record.specs.declared.record_line.RecordLineError.{RecordLin
 use Rattle.dnw_c_base.specs.declared.failure.Failure.{Failure}
 use Rattle.dnw_c_base.specs.declared.failure.Failure.TheVariants.{NoRoom}
 use Rattle.dnw_name_read.specs.Buffers.{put}
-use Rattle.dnw_c_zone.specs.ParseCalls.{FailsToPutParsed, HasRecord, IsOrigin, LacksData, LacksRecord, PutsParsed, of_data, of_line}
+use Rattle.dnw_c_zone.specs.ParseCalls.{FailsToPutParsed, HasParsedRecord, IsOrigin, LacksData, LacksParsedRecord, PutsParsed, of_data, of_line}
 
 pub record_ok : (origin copied : Option NameValue) (text given own : List ℕ) → copied ≡ origin → (given ≡ text) × IsUtf8 text
-    → IsRecordLine copied given own → HasRecord origin text own
+    → IsRecordLine copied given own → HasParsedRecord origin text own
 record_ok origin copied text given own same (is, utf8) line =
     (utf8, subst (λ x. IsRecordLine origin x own) is (subst (λ x. IsRecordLine x given own) same line))
 
 pub record_bad : (origin copied : Option NameValue) (text given : List ℕ) (error : RecordLineError) (failure : Failure) → copied ≡ origin
-    → (given ≡ text) × IsUtf8 text → FailsRecordLine copied given error → failure ≡ of_line error → LacksRecord origin text failure
+    → (given ≡ text) × IsUtf8 text → FailsRecordLine copied given error → failure ≡ of_line error → LacksParsedRecord origin text failure
 record_bad origin copied text given error failure same (is, utf8) fails why =
     inr (error, utf8, subst (λ x. FailsRecordLine origin x error) is (subst (λ x. FailsRecordLine x given error) same fails), why)
 

@@ -7,14 +7,14 @@ use Rattle.std.proofs.lemmas.Bool.{both_ways, cases_lt, eqb-true, eqb-false, lt-
 use Rattle.std.proofs.lemmas.List.{append-nil, length-take, nil_from_length, take-append-drop}
 use Rattle.std.proofs.lemmas.Str.{chars-append, chars-nil, encodes-append, encodes-chars, IsCharBoundary-at_seam, IsUtf8-take}
 use lib.Utf8.{encodes}
-use Rattle.dnw_zone_lexer.specs.Lexing.{Fails, FailsWith, Lexes, Reports, token_value}
-use Rattle.dnw_zone_lexer.specs.Tokens.{TokenValue, Step, Gives, Ends, Stops, IsSettled, LexFault, LexState, StartLine, LexerValue, next, next_from, EndOfText, IllegalCharacter, UnrecognizedChar, UnclosedList, UnclosedQuote, UnrecognizedDollar, HasFailed}
+use Rattle.dnw_zone_lexer.specs.Lexing.{FailsStep, FailsWith, Lexes, ReportsCause, token_value}
+use Rattle.dnw_zone_lexer.specs.Tokens.{TokenValue, Step, Gives, Ends, Stops, IsSettledStep, LexFault, LexState, StartLine, LexerValue, next, next_from, EndOfText, IllegalCharacter, UnrecognizedChar, UnclosedList, UnclosedQuote, UnrecognizedDollar, HasFailed}
 use Rattle.dnw_zone_lexer.specs.declared.zone_lex.Token.{Token}
 use Rattle.dnw_zone_lexer.specs.declared.errors.LexerError.{LexerError}
 use Rattle.dnw_zone_lexer.specs.declared.errors.LexerError.TheVariants as why
 use Rattle.dnw_zone_lexer.proofs.Steps.{some_chars}
-use Rattle.dnw_zone_lexer.proofs.Settled.{and_more, on_a_line, settled-more, settled-stays, token_ends}
-use Rattle.dnw_c_zone.specs.TokenCalls.{Decides, Takes, is_decided}
+use Rattle.dnw_zone_lexer.proofs.Settled.{and_more, on_a_line, settled_more, settled_stays, token_ends}
+use Rattle.dnw_c_zone.specs.TokenCalls.{Decides, LexesToken, is_decided}
 use Rattle.dnw_c_zone.specs.Inside.TokenParts.{settles}
 
 -- the octets of a token that stands next in a text
@@ -32,11 +32,11 @@ grown : (state after : LexState) (token : TokenValue) (cs rest more : List ℕ) 
 grown state after token cs rest more gives (inl none) = rw none (rw (append-nil cs, append-nil rest) gives)
 grown state after token cs [] more gives (inr some) = absurd (omega arith)
 grown state after token cs (c ∷ rest) more gives (inr some) =
-    settled-more state more cs (subst IsSettled (sym gives) tt) ∙ ap (and_more more) gives
+    settled_more state more cs (subst IsSettledStep (sym gives) tt) ∙ ap (and_more more) gives
 
 pub taken : (left part more rest : List ℕ) (state after : LexState) (token : TokenValue) (flag : Bool) → left ≡ part ++ more → IsUtf8 part → IsUtf8 rest
     → next_from state (chars part) ≡ Gives token (chars rest) after → ((more ≡ []) ⊎ (1 ≤ length (chars rest))) → IsTrue flag ↔ (after ≡ StartLine)
-    → Takes left state token (length part - length rest) flag
+    → LexesToken left state token (length part - length rest) flag
 taken left part more rest state after token flag is all some gives ends line =
     let ((front, same), on) = token_ends state after (chars part) (chars rest) token gives in
     let (own, cut, text) = own_of part rest front all some same in
@@ -79,7 +79,7 @@ begins_longer (c ∷ front) (d ∷ part) rest more e le =
     (mid, sym (ap (λ (b : ℕ). b ∷ part) head) ∙ ap (λ (l : List ℕ). c ∷ l) is)
 
 -- an error that reports a fault at a character is the same whatever follows
-char_fault : (fault : LexFault) (e : LexerError) → Reports fault e → IsSettled (Stops fault) → is_decided e ≡ true
+char_fault : (fault : LexFault) (e : LexerError) → ReportsCause fault e → IsSettledStep (Stops fault) → is_decided e ≡ true
 char_fault (IllegalCharacter c) e h s = rw h refl
 char_fault (UnrecognizedChar c) e h s = rw h refl
 char_fault EndOfText e h s = absurd s
@@ -88,12 +88,12 @@ char_fault UnclosedQuote e h s = absurd s
 char_fault (UnrecognizedDollar word) e h s = absurd s
 char_fault HasFailed e h s = absurd s
 
-undecided : (step : Step) (e : LexerError) → FailsWith step e → is_decided e ≡ false → IsSettled step → ⊥
+undecided : (step : Step) (e : LexerError) → FailsWith step e → is_decided e ≡ false → IsSettledStep step → ⊥
 undecided (Gives token rest state) e h off s = absurd h
 undecided Ends e h off s = absurd h
 undecided (Stops fault) e h off s = both_ways _ off (char_fault fault e h s)
 
-open_error : (opened : Bool) (step : Step) (e : LexerError) → Fails opened step e → is_decided e ≡ false → IsSettled step → ⊥
+open_error : (opened : Bool) (step : Step) (e : LexerError) → FailsStep opened step e → is_decided e ≡ false → IsSettledStep step → ⊥
 open_error opened step why.EOF h off s = undecided step _ h off s
 open_error opened step (why.IllegalCharacter c) h off s = undecided step _ h off s
 open_error opened step (why.IllegalState text) h off s = undecided step _ h off s
@@ -107,23 +107,23 @@ open_error opened step why.Memory h off s = both_ways _ off refl
 
 -- what is not settled may be another in a longer text
 runs_on : (old new : LexerValue) (found : Result (Option Token) LexerError) (rest : List ℕ) → Lexes old found new → chars rest ≡ new.rest
-    → settles found (length rest) ≡ false → IsSettled (next old) → ⊥
-runs_on old new (Ok (Some token)) [] h e off s = subst IsSettled (h ∙ ap (λ (t : List ℕ). Gives (token_value token) t new.state) (sym e ∙ chars-nil)) s
+    → settles found (length rest) ≡ false → IsSettledStep (next old) → ⊥
+runs_on old new (Ok (Some token)) [] h e off s = subst IsSettledStep (h ∙ ap (λ (t : List ℕ). Gives (token_value token) t new.state) (sym e ∙ chars-nil)) s
 runs_on old new (Ok (Some token)) (b ∷ rest) h e off s = both_ways _ off (lt-ltb 0 (length (b ∷ rest)) (omega arith))
-runs_on old new (Ok None) rest h e off s = subst IsSettled h.0 s
+runs_on old new (Ok None) rest h e off s = subst IsSettledStep h.0 s
 runs_on old new (Err error) rest h e off s = open_error _ (next old) error h.0 off s
 
 -- So no beginning decides that is no longer than such a part.
-none_decides : (left part more : List ℕ) (state : LexState) → left ≡ part ++ more → (1 ≤ length more) → (IsSettled (next_from state (chars part)) → ⊥)
+none_decides : (left part more : List ℕ) (state : LexState) → left ≡ part ++ more → (1 ≤ length more) → (IsSettledStep (next_from state (chars part)) → ⊥)
     → (front : List ℕ) → length front ≤ length part → Decides left state front → ⊥
 none_decides left part more state is some on front le d =
     let (mid, longer) = begins_longer front part d.rest more (sym d.begins ∙ is) le in
     elim d.settled [
       | inl none ↦ absurd (omega (arith, le, some, ap length (sym d.begins ∙ is), length-append front d.rest, length-append part more, ap length none))
       | inr settled ↦
-          let step = settled-more state (chars mid) (chars front) settled in
+          let step = settled_more state (chars mid) (chars front) settled in
           let same = ap (next_from state) (ap chars longer ∙ chars-append front mid d.text) ∙ step in
-          on (subst IsSettled (sym same) (settled-stays (chars mid) _ settled))
+          on (subst IsSettledStep (sym same) (settled_stays (chars mid) _ settled))
     ]
 
 pub undecided_part : (left part more rest : List ℕ) (state : LexState) (old new : LexerValue) (found : Result (Option Token) LexerError) → left ≡ part ++ more
@@ -132,7 +132,7 @@ pub undecided_part : (left part more rest : List ℕ) (state : LexState) (old ne
 undecided_part left part more rest state old new found is off here h e =
     let both = or_parts (length part == length left) (settles found (length rest)) off in
     let some : 1 ≤ length more = omega (arith, eqb-false (length part) (length left) both.0, ap length is, length-append part more) in
-    none_decides left part more state is some (λ s. runs_on old new found rest h e both.1 (subst (λ (l : LexerValue). IsSettled (next l)) (sym here) s))
+    none_decides left part more state is some (λ s. runs_on old new found rest h e both.1 (subst (λ (l : LexerValue). IsSettledStep (next l)) (sym here) s))
 
 -- A part of a part is part of the text, and what begins the text and is no longer begins it.
 pub part_of : (left part text : List ℕ) (size n : ℕ) → part ≡ take size left → text ≡ take n part → (rest : List ℕ) × (left ≡ text ++ rest)

@@ -39,8 +39,8 @@ of_data DataMemory = why.NoMemory
 of_data error = why.BadData
 
 -- The text is these data of a type.
-abbrev pub HasData : Option NameValue → RecordType → List ℕ → List ℕ → Type 0
-HasData origin kind text own = IsUtf8 text × IsDataOf origin kind text own
+abbrev pub HasParsedData : Option NameValue → RecordType → List ℕ → List ℕ → Type 0
+HasParsedData origin kind text own = IsUtf8 text × IsDataOf origin kind text own
 
 -- It is none: not UTF-8, no data of the type, or too many octets, or memory ran out.
 abbrev pub LacksData : Option NameValue → RecordType → List ℕ → Failure → Type 0
@@ -60,12 +60,12 @@ of_line TooLong = why.BadData
 of_line Memory = why.NoMemory
 
 -- The text is a record of these octets.
-abbrev pub HasRecord : Option NameValue → List ℕ → List ℕ → Type 0
-HasRecord origin text own = IsUtf8 text × IsRecordLine origin text own
+abbrev pub HasParsedRecord : Option NameValue → List ℕ → List ℕ → Type 0
+HasParsedRecord origin text own = IsUtf8 text × IsRecordLine origin text own
 
 -- It is none: not UTF-8, or no record.
-abbrev pub LacksRecord : Option NameValue → List ℕ → Failure → Type 0
-LacksRecord origin text failure =
+abbrev pub LacksParsedRecord : Option NameValue → List ℕ → Failure → Type 0
+LacksParsedRecord origin text failure =
     ((¬ (IsUtf8 text)) × (failure ≡ why.NotUtf8))
     ⊎ ((error : RecordLineError) × IsUtf8 text × FailsRecordLine origin text error × (failure ≡ of_line error))
 
@@ -85,16 +85,16 @@ FailsToPutParsed Has Lacks form size failure =
 
 -- The data of the type with this code are put.
 abbrev pub PutsData : ℕ → List ℕ → List ℕ → List ℕ → List ℕ → ℕ → Type 0
-PutsData code text form old new len = PutsParsed (λ origin own. HasData origin (type_of_code code) text own) form old new len
+PutsData code text form old new len = PutsParsed (λ origin own. HasParsedData origin (type_of_code code) text own) form old new len
 
 abbrev pub FailsToParseData : ℕ → List ℕ → List ℕ → ℕ → Failure → Type 0
 FailsToParseData code text form size failure =
-    FailsToPutParsed (λ origin own. HasData origin (type_of_code code) text own) (λ origin. LacksData origin (type_of_code code) text) form size failure
+    FailsToPutParsed (λ origin own. HasParsedData origin (type_of_code code) text own) (λ origin. LacksData origin (type_of_code code) text) form size failure
 
 -- The record is put.
-abbrev pub PutsRecord : List ℕ → List ℕ → List ℕ → List ℕ → ℕ → Type 0
-PutsRecord text form old new len = PutsParsed (λ origin own. HasRecord origin text own) form old new len
+abbrev pub PutsParsedRecord : List ℕ → List ℕ → List ℕ → List ℕ → ℕ → Type 0
+PutsParsedRecord text form old new len = PutsParsed (λ origin own. HasParsedRecord origin text own) form old new len
 
 abbrev pub FailsToParseRecord : List ℕ → List ℕ → ℕ → Failure → Type 0
 FailsToParseRecord text form size failure =
-    FailsToPutParsed (λ origin own. HasRecord origin text own) (λ origin. LacksRecord origin text) form size failure
+    FailsToPutParsed (λ origin own. HasParsedRecord origin text own) (λ origin. LacksParsedRecord origin text) form size failure

@@ -2,8 +2,8 @@
 use Rattle.std.specs.Prelude.{◌≡◌, ◌<◌, ◌≤◌, ◌⊎◌, ℕ, ◌+◌, Bool, true, false, IsTrue, List, [], ◌∷◌, ◌++◌, length, drop, encode_utf8_all, IsUtf8}
 use Rattle.std.specs.List.{flat_map}
 use Rattle.std.specs.Str.{chars}
-use Rattle.dnw_zone_lexer.specs.Tokens.{TokenValue, Blank, Grouped, CharData, AtSign, Include, Origin, Ttl, LineEnd, Gives, Ends, IsSettled, LexState, LexerValue, next, next_from}
-use Rattle.dnw_zone_lexer.specs.Lexing.{FailsNext, line_state}
+use Rattle.dnw_zone_lexer.specs.Tokens.{TokenValue, Blank, Grouped, CharData, AtSign, Include, Origin, Ttl, LineEnd, Gives, Ends, IsSettledStep, LexState, LexerValue, next, next_from}
+use Rattle.dnw_zone_lexer.specs.Lexing.{FailsToken, line_state}
 use Rattle.dnw_zone_lexer.specs.declared.errors.LexerError.{LexerError}
 use Rattle.dnw_zone_lexer.specs.declared.errors.LexerError.TheVariants.{EOF, IllegalCharacter as IllegalChar, UnclosedList as ListError, UnclosedQuotedString, UnrecognizedChar, UnrecognizedDollar, Memory}
 use Rattle.dnw_c_base.specs.declared.failure.Failure.{Failure}
@@ -56,19 +56,19 @@ abbrev pub read_token : TokenValue → ReadToken
 read_token value = record { kind = kind_number value; len = length (token_bytes value); count = word_count value }
 
 -- The token that stands next takes these first octets of what is left, which are UTF-8.
-abbrev pub Takes : List ℕ → LexState → TokenValue → ℕ → Bool → Type 0
-Takes left state value len at_line_start =
+abbrev pub LexesToken : List ℕ → LexState → TokenValue → ℕ → Bool → Type 0
+LexesToken left state value len at_line_start =
     (own rest : List ℕ) × (left ≡ own ++ rest) × IsUtf8 own × (len ≡ length own)
     × (next_from state (chars left) ≡ Gives value (chars rest) (line_state at_line_start))
 
 -- the token that stands next, and after it the lexer
 abbrev pub Advances : List ℕ → LexerState → TokenValue → LexerState → Type 0
 Advances text at value after =
-    (len : ℕ) × Takes (drop at.offset text) (line_state at.at_line_start) value len after.at_line_start × (after.offset ≡ at.offset + len)
+    (len : ℕ) × LexesToken (drop at.offset text) (line_state at.at_line_start) value len after.at_line_start × (after.offset ≡ at.offset + len)
 
 -- No token stands next, and the lexer is after the text.
-abbrev pub IsAtEnd : List ℕ → LexerState → LexerState → Type 0
-IsAtEnd text at after =
+abbrev pub IsAtTextEnd : List ℕ → LexerState → LexerState → Type 0
+IsAtTextEnd text at after =
     IsUtf8 (drop at.offset text) × (next (lexer_at text at) ≡ Ends)
     × (after ≡ record { offset = length text; at_line_start = false })
 
@@ -76,7 +76,7 @@ IsAtEnd text at after =
 abbrev pub TakesToken : List ℕ → LexerState → LexerState → List ℕ → List ℕ → ReadToken → Type 0
 TakesToken text at after old new token =
     ((value : TokenValue) × Advances text at value after × (new ≡ put old (token_bytes value)) × (token ≡ read_token value))
-    ⊎ (IsAtEnd text at after × (new ≡ old) × (token ≡ record { kind = 0; len = 0; count = 0 }))
+    ⊎ (IsAtTextEnd text at after × (new ≡ old) × (token ≡ record { kind = 0; len = 0; count = 0 }))
 
 -- why there is no token
 abbrev pub of_lexer : LexerError → Failure
@@ -95,7 +95,7 @@ pub record Decides (left : List ℕ) (state : LexState) (front : List ℕ) : Typ
   pub rest : List ℕ
   pub begins : left ≡ front ++ rest
   pub text : IsUtf8 front
-  pub settled : (rest ≡ []) ⊎ IsSettled (next_from state (chars front))
+  pub settled : (rest ≡ []) ⊎ IsSettledStep (next_from state (chars front))
 
 -- An error is the same whatever follows: a character that may not stand where it is, and memory that ran out.
 abbrev pub is_decided : LexerError → Bool
@@ -109,7 +109,7 @@ is_decided error = false
 abbrev pub HasError : List ℕ → LexState → Failure → Type 0
 HasError left state failure =
     (front rest : List ℕ) × (error : LexerError) × (left ≡ front ++ rest) × IsUtf8 front
-    × FailsNext (record { rest = chars front; state = state }) error × ((rest ≡ []) ⊎ IsTrue (is_decided error)) × (failure ≡ of_lexer error)
+    × FailsToken (record { rest = chars front; state = state }) error × ((rest ≡ []) ⊎ IsTrue (is_decided error)) × (failure ≡ of_lexer error)
 
 -- No token is found in what is left: no octets that are UTF-8 decide what stands next, or there is an error.
 abbrev pub HasNoToken : List ℕ → LexState → Failure → Type 0
@@ -124,7 +124,7 @@ FailsToPutToken value size failure =
     ((size < length (token_bytes value)) × (failure ≡ NoRoom)) ⊎ (IsList value × (failure ≡ NoMemory))
 
 -- None is found, or its texts are not put.
-abbrev pub FailsToTake : List ℕ → LexerState → ℕ → Failure → Type 0
-FailsToTake text at size failure =
+abbrev pub FailsToTakeToken : List ℕ → LexerState → ℕ → Failure → Type 0
+FailsToTakeToken text at size failure =
     FailsToLex text at failure
     ⊎ ((value : TokenValue) × (after : LexerState) × Advances text at value after × FailsToPutToken value size failure)

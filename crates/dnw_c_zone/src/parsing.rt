@@ -2,7 +2,7 @@
 ghost use Rattle.std.specs.Prelude.{◌≡◌, ◌≢◌, ◌≤◌, length, IfOk, IfErr, OnErr};
 ghost use Rattle.dnw_base.specs.RecordTypes.{type_of_code};
 ghost use Rattle.dnw_c_base.specs.Failures.{NumberOf};
-ghost use Rattle.dnw_c_zone.specs.ParseCalls.{FailsToParseData, FailsToParseRecord, HasData, HasRecord, IsNoOrigin, IsOrigin, LacksData, LacksRecord, PutsData, PutsRecord, of_data, of_line};
+ghost use Rattle.dnw_c_zone.specs.ParseCalls.{FailsToParseData, FailsToParseRecord, HasParsedData, HasParsedRecord, IsNoOrigin, IsOrigin, LacksData, LacksParsedRecord, PutsData, PutsParsedRecord, of_data, of_line};
 
 use dnw_base::decoder::BinDecoder;
 use dnw_base::record_type::RecordType;
@@ -48,7 +48,7 @@ pub extern "C" fn dnw_record_parse(
     octets: &mut [u8],
     len: &mut usize,
 ) -> u32
-    ensures ok { result ≡ 0 → PutsRecord text.now origin.now octets.old octets.new len.new }
+    ensures ok { result ≡ 0 → PutsParsedRecord text.now origin.now octets.old octets.new len.new }
     ensures err { result ≢ 0 → NumberOf (FailsToParseRecord text.now origin.now (length octets.old)) result }
     ensures same { result ≢ 0 → (octets.new ≡ octets.old) × (len.new ≡ len.old) }
 {
@@ -89,7 +89,7 @@ fn put_data(
 
 /// Puts a record, and returns the number of its octets.
 fn put_record(alloc: Global, text: &[u8], form: &[u8], octets: &mut [u8]) -> Result<usize, Failure>
-    ensures ok { IfOk result (PutsRecord text.now form.now octets.old octets.new) }
+    ensures ok { IfOk result (PutsParsedRecord text.now form.now octets.old octets.new) }
     ensures err { IfErr result (FailsToParseRecord text.now form.now (length octets.old)) }
     ensures same { OnErr result (octets.new ≡ octets.old) }
 {
@@ -133,7 +133,7 @@ fn data_of(
     text: &[u8],
     origin: &Option<Name>,
 ) -> Result<Vec<u8>, Failure>
-    ensures ok { IfOk result (λ own. HasData origin.now (type_of_code record_type) text.now own.items) }
+    ensures ok { IfOk result (λ own. HasParsedData origin.now (type_of_code record_type) text.now own.items) }
     ensures err { IfErr result (LacksData origin.now (type_of_code record_type) text.now) }
 {
     let Ok(text) = str::from_utf8(text) else {
@@ -148,8 +148,8 @@ fn data_of(
 
 /// Returns the octets of a record.
 fn record_of(alloc: Global, text: &[u8], origin: &Option<Name>) -> Result<Vec<u8>, Failure>
-    ensures ok { IfOk result (λ own. HasRecord origin.now text.now own.items) }
-    ensures err { IfErr result (LacksRecord origin.now text.now) }
+    ensures ok { IfOk result (λ own. HasParsedRecord origin.now text.now own.items) }
+    ensures err { IfErr result (LacksParsedRecord origin.now text.now) }
 {
     let Ok(text) = str::from_utf8(text) else {
         return Err(Failure::NotUtf8);

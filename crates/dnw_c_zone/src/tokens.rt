@@ -3,7 +3,7 @@ ghost use Rattle.std.specs.Prelude.{◌≡◌, ◌≢◌, ◌<◌, ◌≤◌, �
 ghost use Rattle.dnw_zone_lexer.specs.Lexing.{characters, line_state, token_value};
 ghost use Rattle.dnw_name_read.specs.Buffers.{put};
 ghost use Rattle.dnw_c_base.specs.Failures.{NumberOf, number};
-ghost use Rattle.dnw_c_zone.specs.TokenCalls.{is_decided, Advances, Decides, FailsToLex, FailsToPutToken, FailsToTake, HasError, HasNoToken, IsAtEnd, TakesToken, kind_number, list_bytes, of_lexer, read_token, token_bytes};
+ghost use Rattle.dnw_c_zone.specs.TokenCalls.{is_decided, Advances, Decides, FailsToLex, FailsToPutToken, FailsToTakeToken, HasError, HasNoToken, IsAtTextEnd, TakesToken, kind_number, list_bytes, of_lexer, read_token, token_bytes};
 ghost use Rattle.dnw_c_zone.specs.Inside.TokenParts.{FindsIn, settles};
 ghost use Rattle.dnw_c_base.specs.declared.failure.Failure.TheVariants.{NoMemory, NoRoom, NotUtf8};
 
@@ -40,7 +40,7 @@ pub extern "C" fn dnw_token_next(
     token: &mut ReadToken,
 ) -> u32
     ensures ok { result ≡ 0 → TakesToken text.now lexer.old lexer.new words.old words.new token.new }
-    ensures err { result ≢ 0 → NumberOf (FailsToTake text.now lexer.old (length words.old)) result }
+    ensures err { result ≢ 0 → NumberOf (FailsToTakeToken text.now lexer.old (length words.old)) result }
     ensures room { result ≡ number NoRoom → length words.old < length (drop lexer.old.offset text.now) }
     ensures same { result ≢ 0 → (words.new ≡ words.old) × (lexer.new ≡ lexer.old) × (token.new ≡ token.old) }
 {
@@ -62,7 +62,7 @@ fn take(
     words: &mut [u8],
 ) -> Result<(ReadToken, LexerState), Failure>
     ensures ok { IfOk result (λ r. TakesToken text.now at r.1 words.old words.new r.0) }
-    ensures err { IfErr result (FailsToTake text.now at (length words.old)) }
+    ensures err { IfErr result (FailsToTakeToken text.now at (length words.old)) }
     ensures room { IfErr result (λ failure. failure ≡ NoRoom → length words.old < length (drop at.offset text.now)) }
     ensures same { OnErr result (words.new ≡ words.old) }
 {
@@ -101,7 +101,7 @@ fn advance(
     text: &[u8],
     at: LexerState,
 ) -> Result<(Option<Token>, LexerState), Failure>
-    ensures ok { IfOk result (λ r. MatchOption r.0 (IsAtEnd text.now at r.1) (λ token. Advances text.now at (token_value token) r.1)) }
+    ensures ok { IfOk result (λ r. MatchOption r.0 (IsAtTextEnd text.now at r.1) (λ token. Advances text.now at (token_value token) r.1)) }
     ensures err { IfErr result (FailsToLex text.now at) }
 {
     match take_next(alloc, left_of(text, at.offset), at.at_line_start)? {

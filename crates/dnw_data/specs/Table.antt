@@ -20,8 +20,8 @@ row code fields = record { code = code; fields = fields }
 abbrev pub name : Kind
 name = Name Compressible
 
-abbrev pub lowered : Kind
-lowered = Name Lowered
+abbrev pub lowered_name : Kind
+lowered_name = Name Lowered
 
 abbrev pub plain : Kind
 plain = Name Plain
@@ -62,24 +62,24 @@ table =
     ∷ row 14 (name ∷ name ∷ [])  -- MINFO (RFC 1035, section 3.3.7)
     ∷ row 15 (U16 ∷ name ∷ [])  -- MX (RFC 1035, section 3.3.9)
     ∷ row 16 (texts ∷ [])  -- TXT (RFC 1035, section 3.3.14)
-    ∷ row 17 (lowered ∷ lowered ∷ [])  -- RP (RFC 1183, section 2.2)
-    ∷ row 18 (U16 ∷ lowered ∷ [])  -- AFSDB (RFC 1183, section 1)
-    ∷ row 21 (U16 ∷ lowered ∷ [])  -- RT (RFC 1183, section 3.3)
-    ∷ row 24 (TypeCode ∷ U8 ∷ U8 ∷ U32 ∷ Time ∷ Time ∷ U16 ∷ lowered ∷ base64 ∷ [])  -- SIG (RFC 2535, section 4.1)
+    ∷ row 17 (lowered_name ∷ lowered_name ∷ [])  -- RP (RFC 1183, section 2.2)
+    ∷ row 18 (U16 ∷ lowered_name ∷ [])  -- AFSDB (RFC 1183, section 1)
+    ∷ row 21 (U16 ∷ lowered_name ∷ [])  -- RT (RFC 1183, section 3.3)
+    ∷ row 24 (TypeCode ∷ U8 ∷ U8 ∷ U32 ∷ Time ∷ Time ∷ U16 ∷ lowered_name ∷ base64 ∷ [])  -- SIG (RFC 2535, section 4.1)
     ∷ row 25 (U16 ∷ U8 ∷ U8 ∷ base64 ∷ [])  -- KEY (RFC 2535, section 3.1)
-    ∷ row 26 (U16 ∷ lowered ∷ lowered ∷ [])  -- PX (RFC 2163, section 4)
+    ∷ row 26 (U16 ∷ lowered_name ∷ lowered_name ∷ [])  -- PX (RFC 2163, section 4)
     ∷ row 28 (Ipv6 ∷ [])  -- AAAA (RFC 3596, section 2.2)
     ∷ row 29 (hex ∷ [])  -- LOC (RFC 1876, section 2)
-    ∷ row 30 (lowered ∷ hex ∷ [])  -- NXT (RFC 2535, section 5.2)
-    ∷ row 33 (U16 ∷ U16 ∷ U16 ∷ lowered ∷ [])  -- SRV (RFC 2782)
-    ∷ row 35 (U16 ∷ U16 ∷ text ∷ text ∷ text ∷ lowered ∷ [])  -- NAPTR (RFC 3403, section 4.1)
-    ∷ row 36 (U16 ∷ lowered ∷ [])  -- KX (RFC 2230, section 3)
+    ∷ row 30 (lowered_name ∷ hex ∷ [])  -- NXT (RFC 2535, section 5.2)
+    ∷ row 33 (U16 ∷ U16 ∷ U16 ∷ lowered_name ∷ [])  -- SRV (RFC 2782)
+    ∷ row 35 (U16 ∷ U16 ∷ text ∷ text ∷ text ∷ lowered_name ∷ [])  -- NAPTR (RFC 3403, section 4.1)
+    ∷ row 36 (U16 ∷ lowered_name ∷ [])  -- KX (RFC 2230, section 3)
     ∷ row 37 (U16 ∷ U16 ∷ U8 ∷ base64 ∷ [])  -- CERT (RFC 4398, section 2)
-    ∷ row 39 (lowered ∷ [])  -- DNAME (RFC 6672, section 2.1)
+    ∷ row 39 (lowered_name ∷ [])  -- DNAME (RFC 6672, section 2.1)
     ∷ row 43 (U16 ∷ U8 ∷ U8 ∷ hex ∷ [])  -- DS (RFC 4034, section 5.1)
     ∷ row 44 (U8 ∷ U8 ∷ hex ∷ [])  -- SSHFP (RFC 4255, section 3.1)
     ∷ row 45 (hex ∷ [])  -- IPSECKEY (RFC 4025, section 2.1)
-    ∷ row 46 (TypeCode ∷ U8 ∷ U8 ∷ U32 ∷ Time ∷ Time ∷ U16 ∷ lowered ∷ base64 ∷ [])  -- RRSIG (RFC 4034, section 3.1)
+    ∷ row 46 (TypeCode ∷ U8 ∷ U8 ∷ U32 ∷ Time ∷ Time ∷ U16 ∷ lowered_name ∷ base64 ∷ [])  -- RRSIG (RFC 4034, section 3.1)
     ∷ row 47 (plain ∷ types ∷ [])  -- NSEC (RFC 4034, section 4.1)
     ∷ row 48 (U16 ∷ U8 ∷ U8 ∷ base64 ∷ [])  -- DNSKEY (RFC 4034, section 2.1)
     ∷ row 50 (U8 ∷ U8 ∷ U16 ∷ Counted Hex ∷ Counted Base32Hex ∷ types ∷ [])  -- NSEC3 (RFC 5155, section 3.2)

@@ -1,7 +1,7 @@
 //! Lists that the data of a record end with: character strings, windows of record types, service parameters.
 ghost use Rattle.std.specs.Prelude.{◌≡◌, ◌≤◌, ◌<◌, length, None, Some, IfOk, IfErr, IsTrue};
 ghost use Rattle.dnw_data.specs.Lists.{tag_of, count_of, item_size, may_come, out_of_order, list_fault};
-ghost use Rattle.dnw_data.specs.Inside.Heads.{IsHead};
+ghost use Rattle.dnw_data.specs.Inside.Heads.{IsItemHead};
 
 use crate::kind::ListKind;
 use dnw_base::error::DecodeError;
@@ -133,7 +133,7 @@ fn check(kind: ListKind, octets: &[u8]) -> Result<(), DecodeError>
 
 /// Returns what is before the octets of the first item. It fails if the octets end within the item.
 fn head_of(kind: ListKind, octets: &[u8]) -> Result<Head, DecodeError>
-    ensures ok { IfOk result (λ head. IsHead kind octets.now head × (item_size kind octets.now ≤ length octets.now)) }
+    ensures ok { IfOk result (λ head. IsItemHead kind octets.now head × (item_size kind octets.now ≤ length octets.now)) }
     ensures err { IfErr result (λ e. (length octets.now < item_size kind octets.now) × (e ≡ DecodeError.InsufficientBytes)) }
 {
     let (tag, count, size) = match (kind, octets) {

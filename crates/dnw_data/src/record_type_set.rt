@@ -12,7 +12,7 @@ ghost use Rattle.dnw_write.specs.EmittingLaws.{frame};
 ghost use Rattle.dnw_data.specs.TypeSets.{HasOwnMemory, YieldsSome, IsSetOf, Encodes, set_codes, windows_of, windows_codes, in_bounds, bitmap_types};
 ghost use Rattle.dnw_data.specs.Inside.Bitmaps.{Above};
 ghost use Rattle.dnw_data.specs.RecordData.{TakesTypeSet, FailsTypeSet, TypeSetRunsOut};
-ghost use Rattle.dnw_data.specs.Inside.SetLaws.{sets-equal, sets-per, sets-hash, sets-hash_alike};
+ghost use Rattle.dnw_data.specs.Inside.SetLaws.{sets_equal, sets_per, sets_hash, sets_hash_alike};
 
 use crate::record_data::RecordDataDecodable;
 use dnw_base::decoder::BinDecoder;
@@ -260,7 +260,7 @@ impl BinEncodable for RecordTypeSet {
 impl PartialEq for RecordTypeSet {
     ghost eq = { λ a b. pointwise (eq_by_cmp type_cmp) a.types b.types };
 
-    ghost laws = { sets-per };
+    ghost laws = { sets_per };
 
     fn eq(&self, other: &Self) -> bool {
         self.types == other.types
@@ -268,13 +268,13 @@ impl PartialEq for RecordTypeSet {
 }
 
 impl Eq for RecordTypeSet {
-    ghost laws = { sets-equal };
+    ghost laws = { sets_equal };
 }
 
 impl Hash for RecordTypeSet {
-    ghost hash_input = { sets-hash };
+    ghost hash_input = { sets_hash };
 
-    ghost respects_eq = { sets-hash_alike };
+    ghost respects_eq = { sets_hash_alike };
 
     fn hash<H: Hasher>(&self, state: &mut H) {
         self.types.hash(state);

@@ -41,8 +41,8 @@ metadata_of id flags = record {
   response_code = response_of_code (flags % 16);
 }
 
-abbrev pub counts_of : List ℕ → HeaderCounts
-counts_of octets = record {
+abbrev pub counts_in : List ℕ → HeaderCounts
+counts_in octets = record {
   queries = header_field octets 4;
   answers = header_field octets 6;
   authorities = header_field octets 8;
@@ -51,7 +51,7 @@ counts_of octets = record {
 
 -- the header that twelve octets are
 abbrev pub header_of : List ℕ → Header
-header_of octets = record { metadata = metadata_of (header_field octets 0) (header_field octets 2); counts = counts_of octets }
+header_of octets = record { metadata = metadata_of (header_field octets 0) (header_field octets 2); counts = counts_in octets }
 
 -- The decoder was at a header, and is after it now.
 abbrev pub TakesHeader : Decoder → Header → Decoder → Type 0

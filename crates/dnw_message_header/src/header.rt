@@ -3,7 +3,7 @@ ghost use Rattle.std.specs.Prelude.{◌≡◌, ◌<◌, ◌≤◌, ◌^◌};
 ghost use Rattle.std.specs.Prelude.{refl};
 ghost use Rattle.dnw_name.specs.Decodable.{LacksBytes};
 ghost use Rattle.dnw_write.specs.Encoder.{Writes};
-ghost use Rattle.dnw_write.specs.EmittingLaws.{frame, fails-unchanged};
+ghost use Rattle.dnw_write.specs.EmittingLaws.{frame, fails_unchanged};
 ghost use Rattle.std.proofs.Common.{lit≤};
 ghost use Rattle.dnw_message_header.specs.HeaderLaws.{HeaderFits};
 ghost use Rattle.dnw_message_header.specs.Headers.{TakesHeader, header_of, header_wire, is_set, flag, flags_of, metadata_of};
@@ -185,7 +185,7 @@ impl EncodedSize for Header {
 
     ghost writes_len = { λ header v w h. (header_wire header, refl, h.1) };
 
-    ghost fails_unchanged = { λ header v w error h. fails-unchanged v (header_wire header) error w h };
+    ghost fails_unchanged = { λ header v w error h. fails_unchanged v (header_wire header) error w h };
 }
 
 /// Returns what the id and the flags say.

@@ -7,7 +7,7 @@ use Rattle.dnw_base.specs.DnsClasses.{class_of_code}
 use Rattle.dnw_base.specs.declared.error.DecodeError.{DecodeError}
 use Rattle.dnw_base.specs.declared.error.DecodeError.TheVariants.{InsufficientBytes}
 use Rattle.dnw_name_read.specs.Reading.{FaultAt, NameAt}
-use Rattle.dnw_record.specs.Records.{RecordValue, fields_at, fixed_size, length_field, number_at, record_of}
+use Rattle.dnw_record.specs.Records.{RecordValue, fixed_at, fixed_size, length_field, number_at, record_of}
 use Rattle.dnw_message_header.specs.Headers.{header_of, header_size}
 use Rattle.dnw_message_header.specs.declared.header.Header.{Header}
 use Rattle.dnw_message_read.specs.declared.message.SectionOffsets.{SectionOffsets}
@@ -34,7 +34,7 @@ question_rest b e = 4
 
 -- in a record: type, class, time to live and length, and as many octets of data (section 4.1.3)
 abbrev pub record_rest : Rest
-record_rest b e = fixed_size + length_field (fields_at b e)
+record_rest b e = fixed_size + length_field (fixed_at b e)
 
 abbrev pub rest_of : Section → Rest
 rest_of section.Queries = question_rest
@@ -69,8 +69,8 @@ abbrev pub part : Section → ℕ → Part
 part section count = record { section = section; count = count }
 
 -- the sections after a header
-abbrev pub parts_of : Header → List Part
-parts_of h =
+abbrev pub sections_of : Header → List Part
+sections_of h =
     part section.Queries h.counts.queries ∷ part section.Answers h.counts.answers ∷ part section.Authorities h.counts.authorities
     ∷ part section.Additionals h.counts.additionals ∷ []
 
@@ -118,7 +118,7 @@ pub record MessageAt (b : List ℕ) (m : MessageValue) (k : ℕ) : Type 0 where
   pub answers : List Item
   pub authorities : List Item
   pub additionals : List Item
-  pub sections : PartsAt b header_size (parts_of m.header) (queries ∷ answers ∷ authorities ∷ additionals ∷ []) m.end k
+  pub sections : PartsAt b header_size (sections_of m.header) (queries ∷ answers ∷ authorities ∷ additionals ∷ []) m.end k
   pub queries_are : m.queries ≡ map (query_of b) queries
   pub answers_are : m.answers ≡ map (record_in b) answers
   pub authorities_are : m.authorities ≡ map (record_in b) authorities
@@ -172,4 +172,4 @@ no_header = record { section = section.Header; item = 0; offset = 0; kind = Deco
 abbrev pub FailsMessage : List ℕ → ℕ → MessageError → Type 0
 FailsMessage b most error =
     ((length b < header_size) × (error ≡ no_header))
-    ⊎ ((header_size ≤ length b) × FailsFrom b header_size (parts_of (header_of (slice_range b 0 header_size))) most error)
+    ⊎ ((header_size ≤ length b) × FailsFrom b header_size (sections_of (header_of (slice_range b 0 header_size))) most error)

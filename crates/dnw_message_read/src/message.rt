@@ -194,7 +194,9 @@ impl<'m> MessageRef<'m> {
         ensures err { IfErr result (FailsOnlyOpt self.now) }
     {
         if self.has_opt_outside() {
-            return Err(EdnsError::Decode(DecodeError::RecordNotInAdditionalSection(RecordType::OPT)));
+            return Err(EdnsError::Decode(DecodeError::RecordNotInAdditionalSection(
+                RecordType::OPT,
+            )));
         }
         if !self.has_opt_inside() {
             return Ok(None);

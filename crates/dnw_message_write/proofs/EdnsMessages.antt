@@ -32,21 +32,21 @@ only e last (r ∷ rs) (x ∷ xs) opt (not, others) (one, more) =
 only e last (r ∷ rs) [] opt others h = absurd h
 
 -- none of these is an OPT record
-no-opts : (rs : List Record) (xs : List RecordValue) → AllByRecursion IsNoOpt rs → AllZip RecordIsRead rs xs → opts_in xs ≡ []
-no-opts [] [] others h = refl
-no-opts [] (x ∷ xs) others h = absurd h
-no-opts (r ∷ rs) [] others h = absurd h
-no-opts (r ∷ rs) (x ∷ xs) (not, others) (one, more) =
+no_opts : (rs : List Record) (xs : List RecordValue) → AllByRecursion IsNoOpt rs → AllZip RecordIsRead rs xs → opts_in xs ≡ []
+no_opts [] [] others h = refl
+no_opts [] (x ∷ xs) others h = absurd h
+no_opts (r ∷ rs) [] others h = absurd h
+no_opts (r ∷ rs) (x ∷ xs) (not, others) (one, more) =
     let kind = one.1 in
     let passed : is_opt x.record_type ≡ false = ap is_opt kind ∙ not in
-    ap (λ (b : Bool). cond b (x ∷ opts_in xs) (opts_in xs)) passed ∙ no-opts rs xs others more
+    ap (λ (b : Bool). cond b (x ∷ opts_in xs) (opts_in xs)) passed ∙ no_opts rs xs others more
 
 pub messages_have_edns : MessagesHaveEdns
 messages_have_edns metadata c last e bytes m k holds opt no_answers no_authorities others at =
     let r = written_messages_are_read metadata (ending_with last c) bytes holds in
     let same = one_message bytes r.message m r.pointers k r.is at in
-    let answers = no-opts c.answers r.message.answers no_answers r.answers in
-    let authorities = no-opts c.authorities r.message.authorities no_authorities r.authorities in
+    let answers = no_opts c.answers r.message.answers no_answers r.answers in
+    let authorities = no_opts c.authorities r.message.authorities no_authorities r.authorities in
     let outside = filter-append (λ (x : RecordValue). is_opt x.record_type) r.message.answers r.message.authorities ∙ ap₂ (λ (xs ys : List RecordValue). xs ++ ys) answers authorities in
     let (x, are, edns) = only e last c.additionals r.message.additionals opt others r.additionals in
     (x.start, x.len, subst (λ (m : MessageValue). HasEdns m (Some (edns_value e x.start x.len))) same.0 (x, (outside, are), edns))

@@ -16,10 +16,10 @@ use Rattle.dnw_message_write.specs.declared.section.AddError.TheVariants.{Proto}
 use Rattle.dnw_message_write.specs.declared.writer.Entry.{Entry}
 use Rattle.dnw_message_write.specs.declared.writer.Entry.TheVariants.{Additional}
 use Rattle.dnw_message_write.specs.Drafts.{Added, AddsAll, AddsEntry, AddsLast, Begins, Closes, Draft, Ends, first_header, limited}
-use Rattle.dnw_message_write.specs.ReadRecords.{RecordStands}
-use Rattle.dnw_message_write.specs.Written.{Contents, HasOutcome, HaveOutcomes, Holds, Written, WrittenWith, and_then, contents_from, ending_with, nothing}
+use Rattle.dnw_message_write.specs.ReadRecords.{RecordIsThere}
+use Rattle.dnw_message_write.specs.Written.{Contents, HasOutcome, HaveOutcomes, Holds, Written, WrittenWith, with_entry, contents_from, ending_with, nothing}
 use Rattle.dnw_message_write.specs.WriterLaws.{MessagesAreWritten, MessagesEndWith}
-use Rattle.dnw_message_write.proofs.Standing.{stand-split}
+use Rattle.dnw_message_write.proofs.Standing.{stand_split}
 use Rattle.dnw_message_write.proofs.Holding.{Has, has-limit, size_of, step, steps}
 
 -- ---- the header
@@ -45,8 +45,8 @@ module _ (metadata : Metadata) (top : ℕ) (room : 12 ≤ top) (c : Contents) (d
   finished =
       let b = header_wire d.header ++ has.rest in
       let s = has.spells in
-      let x = stand-split (RecordStands b) c.answers (c.authorities ++ c.additionals) s.records_at (length b) s.of_records s.records in
-      let y = stand-split (RecordStands b) c.authorities c.additionals x.at (length b) x.second x.rest in
+      let x = stand_split (RecordIsThere b) c.answers (c.authorities ++ c.additionals) s.records_at (length b) s.of_records s.records in
+      let y = stand_split (RecordIsThere b) c.authorities c.additionals x.at (length b) x.second x.rest in
       let size : size_of c ≤ 65535 = omega (arith, has.on, has.within, has.small) in
       subst (Holds metadata c) (sym bytes)
       (record {
@@ -69,18 +69,18 @@ module _ (metadata : Metadata) (top : ℕ) (room : 12 ≤ top) (c : Contents) (d
 
 -- ---- the whole
 
-or-false : (b : Bool) → b ≡ (b || false)
-or-false true = refl
-or-false false = refl
+or_false : (b : Bool) → b ≡ (b || false)
+or_false true = refl
+or_false false = refl
 
 -- the encoder with so many zeros
 abbrev zeros : ℕ → ℕ → Encoder
 zeros most n = record (fresh [] 0) { bytes = replicate n 0; offset = n; max_size = most }
 
 -- what was begun has no items
-begun-has : (head : List ℕ) (metadata : Metadata) (most : ℕ) → length head ≡ 12 → 12 ≤ most → most ≤ 65535
+begun_has : (head : List ℕ) (metadata : Metadata) (most : ℕ) → length head ≡ 12 → 12 ≤ most → most ≤ 65535
     → Has head metadata most nothing (record { header = first_header metadata; encoder = zeros most 12 })
-begun-has head metadata most twelve room small =
+begun_has head metadata most twelve room small =
     let size : length (head ++ []) ≡ 12 = omega (arith, length-append head [], twelve) in
     record {
       rest = [];
@@ -98,7 +98,7 @@ begun-has head metadata most twelve room small =
       pointers = 0;
       spells = record { records_at = 12; of_queries = 0; of_records = 0; queries = (refl, refl); records = (sym size, refl); sum = refl };
       few = omega arith;
-      header = ap (λ (x : Bool). record (first_header metadata) { metadata = record metadata { truncation = x } }) (or-false metadata.truncation);
+      header = ap (λ (x : Bool). record (first_header metadata) { metadata = record metadata { truncation = x } }) (or_false metadata.truncation);
       most = refl;
       on = omega arith;
       within = room;
@@ -112,15 +112,15 @@ pub record Begun (last : Header) (metadata : Metadata) (most : ℕ) (entries : L
   pub has : Has (header_wire last) metadata most (contents_from nothing entries outcomes) d
   pub outcomes_are : HaveOutcomes most nothing 12 entries outcomes d.encoder.offset
 
-pub begun-adds : (last : Header) (metadata : Metadata) (most : ℕ) (entries : List Entry) (outcomes : List Added) (header : Header) (start : Encoder) (d : Draft)
+pub begun_adds : (last : Header) (metadata : Metadata) (most : ℕ) (entries : List Entry) (outcomes : List Added) (header : Header) (start : Encoder) (d : Draft)
     → most ≤ 65535 → Begins metadata most (fresh [] 0) (Ok header) start → AddsAll entries (record { header = header; encoder = start }) outcomes d
     → Begun last metadata most entries outcomes d
-begun-adds last metadata most entries outcomes header start d small (first, id, (room, is)) adds =
+begun_adds last metadata most entries outcomes header start d small (first, id, (room, is)) adds =
     let zero : start ≡ zeros most 12 = is in
     let added = subst (λ (x : Encoder). AddsAll entries (record { header = first_header metadata; encoder = x }) outcomes d) zero
     (subst (λ (h : Header). AddsAll entries (record { header = h; encoder = start }) outcomes d) first adds) in
     let begins : Draft = record { header = first_header metadata; encoder = zeros most 12 } in
-    let (has, outcomes_are) = steps (header_wire last) metadata most nothing begins d entries outcomes (begun-has (header_wire last) metadata most refl room small) added in
+    let (has, outcomes_are) = steps (header_wire last) metadata most nothing begins d entries outcomes (begun_has (header_wire last) metadata most refl room small) added in
     record { id = id; room = room; has = has; outcomes_are = outcomes_are }
 
 pub made : (metadata : Metadata) (most : ℕ) (entries : List Entry) (outcomes : List Added) (d : Draft) (w : Encoder)
@@ -138,7 +138,7 @@ made metadata most entries outcomes d w b closes =
 pub messages_are_written : MessagesAreWritten
 messages_are_written metadata most entries outcomes header start d octets small begins adds (w, closes, is) =
     subst (Written metadata most entries outcomes) (sym is)
-    (made metadata most entries outcomes d w (begun-adds d.header metadata most entries outcomes header start d small begins adds) closes)
+    (made metadata most entries outcomes d w (begun_adds d.header metadata most entries outcomes header start d small begins adds) closes)
 
 -- ---- with a last record
 
@@ -147,17 +147,17 @@ abbrev added_as : Outcome → Added
 added_as (Ok done) = Ok tt
 added_as (Err error) = Err (Proto error)
 
-as-added : (last : Record) (most : ℕ) (d e : Draft) (outcome : Outcome) → AddsLast (Some last) most d outcome e
+as_added : (last : Record) (most : ℕ) (d e : Draft) (outcome : Outcome) → AddsLast (Some last) most d outcome e
     → AddsEntry (Additional last) (record d { encoder = limited d.encoder most }) (added_as outcome) e
-as-added last most d e (Ok tt) h = (refl, h.0, h.1)
-as-added last most d e (Err error) h = (refl, h.0, h.1)
+as_added last most d e (Ok tt) h = (refl, h.0, h.1)
+as_added last most d e (Err error) h = (refl, h.0, h.1)
 
-last-ends : (metadata : Metadata) (most : ℕ) (entries : List Entry) (outcomes : List Added) (last : Record) (d e : Draft) (outcome : Outcome)
+last_ends : (metadata : Metadata) (most : ℕ) (entries : List Entry) (outcomes : List Added) (last : Record) (d e : Draft) (outcome : Outcome)
     → Begun e.header metadata (most - any_record_size last) entries outcomes d → most ≤ 65535 → any_record_size last ≤ most
-    → Has (header_wire e.header) metadata most (and_then (contents_from nothing entries outcomes) (Additional last) (added_as outcome)) e
+    → Has (header_wire e.header) metadata most (with_entry (contents_from nothing entries outcomes) (Additional last) (added_as outcome)) e
     → HasOutcome most (contents_from nothing entries outcomes) d.encoder.offset (Additional last) (added_as outcome) e.encoder.offset
     → OnOk outcome ((bytes : List ℕ) → Ends e bytes → WrittenWith metadata most entries outcomes last bytes) × IfErr outcome (λ error. error ≡ Memory)
-last-ends metadata most entries outcomes last d e (Ok tt) b small fits has is = (
+last_ends metadata most entries outcomes last d e (Ok tt) b small fits has is = (
   λ bytes (w, closes, octets).
       let c = ending_with last (contents_from nothing entries outcomes) in
       let room : 12 ≤ most = omega (arith, b.room) in
@@ -171,18 +171,18 @@ last-ends metadata most entries outcomes last d e (Ok tt) b small fits has is = 
       }),
   tt,
 )
-last-ends metadata most entries outcomes last d e (Err Memory) b small fits has is = (tt, refl)
-last-ends metadata most entries outcomes last d e (Err (MaxBufferSizeExceeded size)) b small fits has is =
+last_ends metadata most entries outcomes last d e (Err Memory) b small fits has is = (tt, refl)
+last_ends metadata most entries outcomes last d e (Err (MaxBufferSizeExceeded size)) b small fits has is =
     let h = b.has in
     absurd (omega (arith, is.1, h.within, fits))
-last-ends metadata most entries outcomes last d e (Err error) b small fits has is = absurd is
+last_ends metadata most entries outcomes last d e (Err error) b small fits has is = absurd is
 
 pub messages_end_with : MessagesEndWith
 messages_end_with metadata most entries outcomes last header start d e outcome small fits begins adds ends =
-    let b = begun-adds e.header metadata (most - any_record_size last) entries outcomes header start d (omega (arith, small)) begins adds in
+    let b = begun_adds e.header metadata (most - any_record_size last) entries outcomes header start d (omega (arith, small)) begins adds in
     let c = contents_from nothing entries outcomes in
     let h = b.has in
     let wide = has-limit (header_wire e.header) metadata (most - any_record_size last) c d most h (omega (arith, h.within)) small in
     let (has, outcome_is) = step (header_wire e.header) metadata most c (record d { encoder = limited d.encoder most }) e (Additional last) (added_as outcome) wide
-    (as-added last most d e outcome ends) in
-    last-ends metadata most entries outcomes last d e outcome b small fits has outcome_is
+    (as_added last most d e outcome ends) in
+    last_ends metadata most entries outcomes last d e outcome b small fits has outcome_is

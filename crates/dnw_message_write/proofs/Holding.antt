@@ -15,13 +15,13 @@ use Rattle.dnw_message_write.specs.declared.section.Section.TheVariants as secti
 use Rattle.dnw_message_write.specs.declared.section.AddError.TheVariants.{OutOfOrder, Proto}
 use Rattle.dnw_message_write.specs.declared.writer.Entry.{Entry}
 use Rattle.dnw_message_write.specs.declared.writer.Entry.TheVariants.{Query, Answer, Authority, Additional, Answers, Authorities, Additionals}
-use Rattle.dnw_message_write.specs.Drafts.{Added, AddsAll, AddsEntry, AddsSet, Draft, counted, counted_by, cut_if, cuts, is_open, limited}
-use Rattle.dnw_message_write.specs.ReadRecords.{RecordStands}
-use Rattle.dnw_message_write.specs.Written.{Contents, HasOutcome, HaveOutcomes, QueryStands, Stand, and_then, contents_from, counts_of, entry_size, header_for, section_of}
-use Rattle.dnw_message_write.proofs.Standing.{query-later, record-later, stand-append, stand-later, stand-one}
-use Rattle.dnw_message_write.proofs.Going.{Fails, Goes, Stands, Twin, fails-query, fails-record, goes-query, query_size}
+use Rattle.dnw_message_write.specs.Drafts.{Added, AddsAll, AddsEntry, AddsSet, Draft, counted_one, counted_by, cut_if, cuts, is_open, limited}
+use Rattle.dnw_message_write.specs.ReadRecords.{RecordIsThere}
+use Rattle.dnw_message_write.specs.Written.{Contents, HasOutcome, HaveOutcomes, QueryStands, Stand, with_entry, contents_from, counts_of, entry_size, header_for, section_of}
+use Rattle.dnw_message_write.proofs.Standing.{query_later, record_later, stand_append, stand_later, stand_one}
+use Rattle.dnw_message_write.proofs.Going.{Fails, Goes, Stands, Twin, fails_query, fails_record, goes_query, query_size}
 use Rattle.dnw_message_write.specs.Together.{EmitsInTurn, records_size}
-use Rattle.dnw_message_write.proofs.InTurn.{fails-together, goes-in_turn}
+use Rattle.dnw_message_write.proofs.InTurn.{fails_together, goes_in_turn}
 
 abbrev pub records_of : Contents → List Record
 records_of c = c.answers ++ (c.authorities ++ c.additionals)
@@ -36,38 +36,38 @@ pub record Spells (b : List ℕ) (qs : List WireQuery) (rs : List Record) (k : �
   pub of_queries : ℕ
   pub of_records : ℕ
   pub queries : Stand (QueryStands b) qs 12 records_at of_queries
-  pub records : Stand (RecordStands b) rs records_at (length b) of_records
+  pub records : Stand (RecordIsThere b) rs records_at (length b) of_records
   pub sum : k ≡ of_queries + of_records
 
 -- one more question, if there are no records
-spells-query : (b own : List ℕ) (qs : List WireQuery) (q : WireQuery) (k j : ℕ) → Spells b qs [] k
+spells_query : (b own : List ℕ) (qs : List WireQuery) (q : WireQuery) (k j : ℕ) → Spells b qs [] k
     → QueryStands (b ++ own) q (length b) (length (b ++ own)) j → Spells (b ++ own) (qs ++ q ∷ []) [] (k + j)
-spells-query b own qs q k j h one =
+spells_query b own qs q k j h one =
     let (ends, none) = h.records in
     let Queries = QueryStands (b ++ own) in
-    let all = stand-later QueryStands b own (query-later b own) qs 12 h.records_at h.of_queries h.queries in
+    let all = stand_later QueryStands b own (query_later b own) qs 12 h.records_at h.of_queries h.queries in
     let here = subst (λ e. Stand Queries qs 12 e h.of_queries) ends all in
-    let last = stand-one Queries q (length b) (length (b ++ own)) j one in
+    let last = stand_one Queries q (length b) (length (b ++ own)) j one in
     record {
       records_at = length (b ++ own);
       of_queries = h.of_queries + j;
       of_records = 0;
-      queries = stand-append Queries qs (q ∷ []) 12 (length b) (length (b ++ own)) h.of_queries j here last;
+      queries = stand_append Queries qs (q ∷ []) 12 (length b) (length (b ++ own)) h.of_queries j here last;
       records = (refl, refl);
       sum = omega (arith, h.sum, none);
     }
 
 -- more records
-spells-records : (b own : List ℕ) (qs : List WireQuery) (rs more : List Record) (k j : ℕ) → Spells b qs rs k
-    → Stand (RecordStands (b ++ own)) more (length b) (length (b ++ own)) j → Spells (b ++ own) qs (rs ++ more) (k + j)
-spells-records b own qs rs more k j h others =
-    let all = stand-later RecordStands b own (record-later b own) rs h.records_at (length b) h.of_records h.records in
+spells_records : (b own : List ℕ) (qs : List WireQuery) (rs more : List Record) (k j : ℕ) → Spells b qs rs k
+    → Stand (RecordIsThere (b ++ own)) more (length b) (length (b ++ own)) j → Spells (b ++ own) qs (rs ++ more) (k + j)
+spells_records b own qs rs more k j h others =
+    let all = stand_later RecordIsThere b own (record_later b own) rs h.records_at (length b) h.of_records h.records in
     record {
       records_at = h.records_at;
       of_queries = h.of_queries;
       of_records = h.of_records + j;
-      queries = stand-later QueryStands b own (query-later b own) qs 12 h.records_at h.of_queries h.queries;
-      records = stand-append (RecordStands (b ++ own)) rs more h.records_at (length b) (length (b ++ own)) h.of_records j all others;
+      queries = stand_later QueryStands b own (query_later b own) qs 12 h.records_at h.of_queries h.queries;
+      records = stand_append (RecordIsThere (b ++ own)) rs more h.records_at (length b) (length (b ++ own)) h.of_records j all others;
       sum = omega (arith, h.sum);
     }
 
@@ -134,62 +134,62 @@ both : (x y : Bool) → (x && y) ≡ true → (x ≡ true) × (y ≡ true)
 both true y h = (refl, h)
 both false y h = absurd (true≢false (sym h))
 
-none-if : {X : Type 0} (xs : List X) → (length xs == 0) ≡ true → xs ≡ []
-none-if [] h = refl
-none-if (x ∷ xs) h = let no : length xs + 1 ≡ 0 = grind (arith, common_steps, h) in absurd (omega (arith, no))
+none_if : {X : Type 0} (xs : List X) → (length xs == 0) ≡ true → xs ≡ []
+none_if [] h = refl
+none_if (x ∷ xs) h = let no : length xs + 1 ≡ 0 = grind (arith, common_steps, h) in absurd (omega (arith, no))
 
-so_many_more-is : {X : Type 0} (xs ys : List X) → length xs + length ys ≤ 65535 → min (length xs + length ys) 65535 ≡ length (xs ++ ys)
-so_many_more-is xs ys le = min-eq_left le ∙ sym (length-append xs ys)
+so_many_more_is : {X : Type 0} (xs ys : List X) → length xs + length ys ≤ 65535 → min (length xs + length ys) 65535 ≡ length (xs ++ ys)
+so_many_more_is xs ys le = min-eq_left le ∙ sym (length-append xs ys)
 
-after-queries : (c : Contents) → is_open section.Queries (counts_of c) ≡ true → records_of c ≡ []
-after-queries c h =
+after_queries : (c : Contents) → is_open section.Queries (counts_of c) ≡ true → records_of c ≡ []
+after_queries c h =
     let (a, more) = both (length c.answers == 0) (length c.authorities == 0 && length c.additionals == 0) h in
     let (u, d) = both (length c.authorities == 0) (length c.additionals == 0) more in
-    rw (none-if c.answers a, none-if c.authorities u, none-if c.additionals d) refl
+    rw (none_if c.answers a, none_if c.authorities u, none_if c.additionals d) refl
 
-after-answers : (c : Contents) (rs : List Record) → is_open section.Answers (counts_of c) ≡ true
+after_answers : (c : Contents) (rs : List Record) → is_open section.Answers (counts_of c) ≡ true
     → (c.answers ++ rs) ++ (c.authorities ++ c.additionals) ≡ records_of c ++ rs
-after-answers c rs h =
+after_answers c rs h =
     let (u, d) = both (length c.authorities == 0) (length c.additionals == 0) h in
-    rw (none-if c.authorities u, none-if c.additionals d, append-nil c.answers) (append-nil (c.answers ++ rs))
+    rw (none_if c.authorities u, none_if c.additionals d, append-nil c.answers) (append-nil (c.answers ++ rs))
 
-after-authorities : (c : Contents) (rs : List Record) → is_open section.Authorities (counts_of c) ≡ true
+after_authorities : (c : Contents) (rs : List Record) → is_open section.Authorities (counts_of c) ≡ true
     → c.answers ++ ((c.authorities ++ rs) ++ c.additionals) ≡ records_of c ++ rs
-after-authorities c rs h =
-    rw (none-if c.additionals h, append-nil (c.authorities ++ rs), append-nil c.authorities) (sym (append_assoc c.answers c.authorities rs))
+after_authorities c rs h =
+    rw (none_if c.additionals h, append-nil (c.authorities ++ rs), append-nil c.authorities) (sym (append_assoc c.answers c.authorities rs))
 
-after-additionals : (c : Contents) (rs : List Record) → c.answers ++ (c.authorities ++ (c.additionals ++ rs)) ≡ records_of c ++ rs
-after-additionals c rs =
+after_additionals : (c : Contents) (rs : List Record) → c.answers ++ (c.authorities ++ (c.additionals ++ rs)) ≡ records_of c ++ rs
+after_additionals c rs =
     sym (append_assoc c.answers (c.authorities ++ c.additionals) rs ∙ ap (λ (y : List Record). c.answers ++ y) (append_assoc c.authorities c.additionals rs))
 
 -- ---- one item
 
-or-true : (b : Bool) → (b || true) ≡ true
-or-true true = refl
-or-true false = refl
+or_true : (b : Bool) → (b || true) ≡ true
+or_true true = refl
+or_true false = refl
 
-cut-header : (metadata : Metadata) (c : Contents) (b : Bool) → cut_if b (header_for metadata c) ≡ header_for metadata (record c { cut = b || c.cut })
-cut-header metadata c false = refl
-cut-header metadata c true = ap (λ (x : Bool). record (header_for metadata c) { metadata = record metadata { truncation = x } }) (sym (or-true metadata.truncation))
+cut_header : (metadata : Metadata) (c : Contents) (b : Bool) → cut_if b (header_for metadata c) ≡ header_for metadata (record c { cut = b || c.cut })
+cut_header metadata c false = refl
+cut_header metadata c true = ap (λ (x : Bool). record (header_for metadata c) { metadata = record metadata { truncation = x } }) (sym (or_true metadata.truncation))
 
-cut-by-memory : (c : Contents) (x : Entry) → and_then c x (Err (Proto Memory)) ≡ record c { cut = cuts (section_of x) Memory || c.cut }
-cut-by-memory c (Query q) = refl
-cut-by-memory c (Answer r) = refl
-cut-by-memory c (Authority r) = refl
-cut-by-memory c (Additional r) = refl
-cut-by-memory c (Answers rs) = refl
-cut-by-memory c (Authorities rs) = refl
-cut-by-memory c (Additionals rs) = refl
+cut_by_memory : (c : Contents) (x : Entry) → with_entry c x (Err (Proto Memory)) ≡ record c { cut = cuts (section_of x) Memory || c.cut }
+cut_by_memory c (Query q) = refl
+cut_by_memory c (Answer r) = refl
+cut_by_memory c (Authority r) = refl
+cut_by_memory c (Additional r) = refl
+cut_by_memory c (Answers rs) = refl
+cut_by_memory c (Authorities rs) = refl
+cut_by_memory c (Additionals rs) = refl
 
-cut-by-size : (c : Contents) (x : Entry) (size : ℕ)
-    → and_then c x (Err (Proto (MaxBufferSizeExceeded size))) ≡ record c { cut = cuts (section_of x) (MaxBufferSizeExceeded size) || c.cut }
-cut-by-size c (Query q) size = refl
-cut-by-size c (Answer r) size = refl
-cut-by-size c (Authority r) size = refl
-cut-by-size c (Additional r) size = refl
-cut-by-size c (Answers rs) size = refl
-cut-by-size c (Authorities rs) size = refl
-cut-by-size c (Additionals rs) size = refl
+cut_by_size : (c : Contents) (x : Entry) (size : ℕ)
+    → with_entry c x (Err (Proto (MaxBufferSizeExceeded size))) ≡ record c { cut = cuts (section_of x) (MaxBufferSizeExceeded size) || c.cut }
+cut_by_size c (Query q) size = refl
+cut_by_size c (Answer r) size = refl
+cut_by_size c (Authority r) size = refl
+cut_by_size c (Additional r) size = refl
+cut_by_size c (Answers rs) size = refl
+cut_by_size c (Authorities rs) size = refl
+cut_by_size c (Additionals rs) size = refl
 
 module _ (head : List ℕ) (metadata : Metadata) (top : ℕ) where
   abbrev Draws : Contents → Draft → Type 0
@@ -197,7 +197,7 @@ module _ (head : List ℕ) (metadata : Metadata) (top : ℕ) where
 
   -- an item, with its outcome
   abbrev Steps : Contents → Draft → Entry → Added → Draft → Type 0
-  Steps c d x outcome e = Draws (and_then c x outcome) e × HasOutcome top c d.encoder.offset x outcome e.encoder.offset
+  Steps c d x outcome e = Draws (with_entry c x outcome) e × HasOutcome top c d.encoder.offset x outcome e.encoder.offset
 
   open-now : (c : Contents) (d : Draft) (s : Section) (b : Bool) → Draws c d → is_open s d.header.counts ≡ b → is_open s (counts_of c) ≡ b
   open-now c d s b h free = sym (ap (λ (y : Header). is_open s y.counts) h.header) ∙ free
@@ -226,15 +226,15 @@ module _ (head : List ℕ) (metadata : Metadata) (top : ℕ) where
       let s = section_of x in
       let now = open-now c d s true h free in
       let offset = ap (λ (v : Encoder). v.offset) same in
-      let header = is ∙ (ap (cut_if (cuts s error)) h.header ∙ cut-header metadata c (cuts s error)) in
+      let header = is ∙ (ap (cut_if (cuts s error)) h.header ∙ cut_header metadata c (cuts s error)) in
       let has = still c (cuts s error || c.cut) d e h same header in
       elim why [
         | inl memory ↦ (
-          subst (λ y. Draws y e) (sym (ap (λ (y : ProtoError). and_then c x (Err (Proto y))) memory ∙ (cut-by-memory c x ∙ ap (λ (y : ProtoError). record c { cut = cuts s y || c.cut }) (sym memory)))) has,
+          subst (λ y. Draws y e) (sym (ap (λ (y : ProtoError). with_entry c x (Err (Proto y))) memory ∙ (cut_by_memory c x ∙ ap (λ (y : ProtoError). record c { cut = cuts s y || c.cut }) (sym memory)))) has,
           subst (λ (y : ProtoError). HasOutcome top c d.encoder.offset x (Err (Proto y)) e.encoder.offset) (sym memory) (now, offset),
         )
         | inr large ↦ (
-          subst (λ y. Draws y e) (sym (ap (λ (y : ProtoError). and_then c x (Err (Proto y))) large.0 ∙ (cut-by-size c x d.encoder.max_size ∙ ap (λ (y : ProtoError). record c { cut = cuts s y || c.cut }) (sym large.0)))) has,
+          subst (λ y. Draws y e) (sym (ap (λ (y : ProtoError). with_entry c x (Err (Proto y))) large.0 ∙ (cut_by_size c x d.encoder.max_size ∙ ap (λ (y : ProtoError). record c { cut = cuts s y || c.cut }) (sym large.0)))) has,
           subst (λ (y : ProtoError). HasOutcome top c d.encoder.offset x (Err (Proto y)) e.encoder.offset) (sym large.0)
               (now, omega (arith, large.1, h.most), h.most, offset),
         )
@@ -251,12 +251,12 @@ module _ (head : List ℕ) (metadata : Metadata) (top : ℕ) where
       → AreAdded c x d e rs
   done-records c x d e rs s h emits is same are size header =
       let b = head ++ h.rest in
-      let go = goes-in_turn d.encoder e.encoder b rs h.twin (omega (arith, h.within, h.most)) (omega (arith, h.most, h.small)) emits in
+      let go = goes_in_turn d.encoder e.encoder b rs h.twin (omega (arith, h.within, h.most)) (omega (arith, h.most, h.small)) emits in
       let small : size_of c + length rs ≤ 65535 = omega (arith, h.on, go.on, go.within, h.most, h.small) in
       let head_is : e.header ≡ header_for metadata x = is ∙ (ap (λ (y : Header). record y { counts = counted_by (length rs) s y.counts }) h.header ∙ header small) in
       let j = go.pointers in
       let k = h.pointers + j in
-      let spells = spells-records b go.own c.queries (records_of c) rs h.pointers j h.spells go.there in
+      let spells = spells_records b go.own c.queries (records_of c) rs h.pointers j h.spells go.there in
       let all : Spells (b ++ go.own) x.queries (records_of x) k =
       subst (λ qs. Spells (b ++ go.own) qs (records_of x) k) (sym same) (subst (λ rs. Spells (b ++ go.own) c.queries rs k) (sym are) spells) in (
         has-more head metadata top c x d e (length rs) (records_size rs) _ h go all size head_is,
@@ -268,16 +268,16 @@ module _ (head : List ℕ) (metadata : Metadata) (top : ℕ) where
   done-query c d e q h (free, emits, is) =
       let b = head ++ h.rest in
       let now = open-now c d section.Queries true h free in
-      let go = goes-query d.encoder e.encoder b q h.twin emits in
-      let x = and_then c (Query q) (Ok tt) in
-      let none : records_of c ≡ [] = after-queries c now in
+      let go = goes_query d.encoder e.encoder b q h.twin emits in
+      let x = with_entry c (Query q) (Ok tt) in
+      let none : records_of c ≡ [] = after_queries c now in
       let small : length c.queries + 1 ≤ 65535 = omega (arith, h.on, go.on, go.within, h.most, h.small) in
       let head_is : e.header ≡ header_for metadata x =
-      is ∙ (ap (λ (y : Header). record y { counts = counted section.Queries y.counts }) h.header
-      ∙ ap (λ n. record (header_for metadata c) { counts = record (counts_of c) { queries = n } }) (so_many_more-is c.queries (q ∷ []) small)) in
+      is ∙ (ap (λ (y : Header). record y { counts = counted_one section.Queries y.counts }) h.header
+      ∙ ap (λ n. record (header_for metadata c) { counts = record (counts_of c) { queries = n } }) (so_many_more_is c.queries (q ∷ []) small)) in
       let j = go.pointers in
       let k = h.pointers + j in
-      let spells = spells-query b go.own c.queries q h.pointers j (subst (λ rs. Spells b c.queries rs h.pointers) none h.spells) go.there in
+      let spells = spells_query b go.own c.queries q h.pointers j (subst (λ rs. Spells b c.queries rs h.pointers) none h.spells) go.there in
       let all : Spells (b ++ go.own) x.queries (records_of x) k = subst (λ rs. Spells (b ++ go.own) x.queries rs k) (sym none) spells in (
         has-more head metadata top c x d e 1 (query_size q) _ h go all (omega (arith, length-append c.queries (q ∷ []))) head_is,
         (now, go.few, omega (arith, go.within, h.most)),
@@ -288,23 +288,23 @@ module _ (head : List ℕ) (metadata : Metadata) (top : ℕ) where
   done-answers c d e rs h (free, emits, is) =
       let now = open-now c d section.Answers true h free in
       let counts = λ (le : size_of c + length rs ≤ 65535).
-      ap (λ n. record (header_for metadata c) { counts = record (counts_of c) { answers = n } }) (so_many_more-is c.answers rs (omega (arith, le))) in
-      (now, done-records c (record c { answers = c.answers ++ rs }) d e rs section.Answers h emits is refl (after-answers c rs now) (omega (arith, length-append c.answers rs)) counts)
+      ap (λ n. record (header_for metadata c) { counts = record (counts_of c) { answers = n } }) (so_many_more_is c.answers rs (omega (arith, le))) in
+      (now, done-records c (record c { answers = c.answers ++ rs }) d e rs section.Answers h emits is refl (after_answers c rs now) (omega (arith, length-append c.answers rs)) counts)
 
   done-authorities : (c : Contents) (d e : Draft) (rs : List Record) → Draws c d → AddsSet section.Authorities rs d (Ok tt) e
       → (is_open section.Authorities (counts_of c) ≡ true) × AreAdded c (record c { authorities = c.authorities ++ rs }) d e rs
   done-authorities c d e rs h (free, emits, is) =
       let now = open-now c d section.Authorities true h free in
       let counts = λ (le : size_of c + length rs ≤ 65535).
-      ap (λ n. record (header_for metadata c) { counts = record (counts_of c) { authorities = n } }) (so_many_more-is c.authorities rs (omega (arith, le))) in
-      (now, done-records c (record c { authorities = c.authorities ++ rs }) d e rs section.Authorities h emits is refl (after-authorities c rs now) (omega (arith, length-append c.authorities rs)) counts)
+      ap (λ n. record (header_for metadata c) { counts = record (counts_of c) { authorities = n } }) (so_many_more_is c.authorities rs (omega (arith, le))) in
+      (now, done-records c (record c { authorities = c.authorities ++ rs }) d e rs section.Authorities h emits is refl (after_authorities c rs now) (omega (arith, length-append c.authorities rs)) counts)
 
   done-additionals : (c : Contents) (d e : Draft) (rs : List Record) → Draws c d → AddsSet section.Additionals rs d (Ok tt) e
       → (is_open section.Additionals (counts_of c) ≡ true) × AreAdded c (record c { additionals = c.additionals ++ rs }) d e rs
   done-additionals c d e rs h (free, emits, is) =
       let counts = λ (le : size_of c + length rs ≤ 65535).
-      ap (λ n. record (header_for metadata c) { counts = record (counts_of c) { additionals = n } }) (so_many_more-is c.additionals rs (omega (arith, le))) in
-      (refl, done-records c (record c { additionals = c.additionals ++ rs }) d e rs section.Additionals h emits is refl (after-additionals c rs) (omega (arith, length-append c.additionals rs)) counts)
+      ap (λ n. record (header_for metadata c) { counts = record (counts_of c) { additionals = n } }) (so_many_more_is c.additionals rs (omega (arith, le))) in
+      (refl, done-records c (record c { additionals = c.additionals ++ rs }) d e rs section.Additionals h emits is refl (after_additionals c rs) (omega (arith, length-append c.additionals rs)) counts)
 
   pub step : (c : Contents) (d e : Draft) (x : Entry) (outcome : Added) → Draws c d → AddsEntry x d outcome e → Steps c d x outcome e
   step c d e (Query q) (Ok tt) h add = done-query c d e q h add
@@ -333,13 +333,13 @@ module _ (head : List ℕ) (metadata : Metadata) (top : ℕ) where
   step c d e (Answers rs) (Err OutOfOrder) h (shut, same) = (subst (Draws c) (sym same) h, (open-now c d section.Answers false h shut, ap (λ (y : Draft). y.encoder.offset) same))
   step c d e (Authorities rs) (Err OutOfOrder) h (shut, same) = (subst (Draws c) (sym same) h, (open-now c d section.Authorities false h shut, ap (λ (y : Draft). y.encoder.offset) same))
   step c d e (Additionals rs) (Err OutOfOrder) h (shut, same) = (subst (Draws c) (sym same) h, (open-now c d section.Additionals false h shut, ap (λ (y : Draft). y.encoder.offset) same))
-  step c d e (Query q) (Err (Proto error)) h (free, emits, is) = refused c d e (Query q) error h free (fails-query d.encoder e.encoder q error h.twin.at_end h.twin.precede emits) is
-  step c d e (Answer r) (Err (Proto error)) h (free, emits, is) = refused c d e (Answer r) error h free (fails-record d.encoder e.encoder r error h.twin.at_end h.twin.precede emits) is
-  step c d e (Authority r) (Err (Proto error)) h (free, emits, is) = refused c d e (Authority r) error h free (fails-record d.encoder e.encoder r error h.twin.at_end h.twin.precede emits) is
-  step c d e (Additional r) (Err (Proto error)) h (free, emits, is) = refused c d e (Additional r) error h free (fails-record d.encoder e.encoder r error h.twin.at_end h.twin.precede emits) is
-  step c d e (Answers rs) (Err (Proto error)) h (free, emits, is) = refused c d e (Answers rs) error h free (fails-together d.encoder e.encoder rs.items error h.twin.at_end h.twin.precede emits) is
-  step c d e (Authorities rs) (Err (Proto error)) h (free, emits, is) = refused c d e (Authorities rs) error h free (fails-together d.encoder e.encoder rs.items error h.twin.at_end h.twin.precede emits) is
-  step c d e (Additionals rs) (Err (Proto error)) h (free, emits, is) = refused c d e (Additionals rs) error h free (fails-together d.encoder e.encoder rs.items error h.twin.at_end h.twin.precede emits) is
+  step c d e (Query q) (Err (Proto error)) h (free, emits, is) = refused c d e (Query q) error h free (fails_query d.encoder e.encoder q error h.twin.at_end h.twin.precede emits) is
+  step c d e (Answer r) (Err (Proto error)) h (free, emits, is) = refused c d e (Answer r) error h free (fails_record d.encoder e.encoder r error h.twin.at_end h.twin.precede emits) is
+  step c d e (Authority r) (Err (Proto error)) h (free, emits, is) = refused c d e (Authority r) error h free (fails_record d.encoder e.encoder r error h.twin.at_end h.twin.precede emits) is
+  step c d e (Additional r) (Err (Proto error)) h (free, emits, is) = refused c d e (Additional r) error h free (fails_record d.encoder e.encoder r error h.twin.at_end h.twin.precede emits) is
+  step c d e (Answers rs) (Err (Proto error)) h (free, emits, is) = refused c d e (Answers rs) error h free (fails_together d.encoder e.encoder rs.items error h.twin.at_end h.twin.precede emits) is
+  step c d e (Authorities rs) (Err (Proto error)) h (free, emits, is) = refused c d e (Authorities rs) error h free (fails_together d.encoder e.encoder rs.items error h.twin.at_end h.twin.precede emits) is
+  step c d e (Additionals rs) (Err (Proto error)) h (free, emits, is) = refused c d e (Additionals rs) error h free (fails_together d.encoder e.encoder rs.items error h.twin.at_end h.twin.precede emits) is
 
   -- all items
   pub steps : (c : Contents) (d e : Draft) (xs : List Entry) (outcomes : List Added) → Draws c d → AddsAll xs d outcomes e
@@ -349,5 +349,5 @@ module _ (head : List ℕ) (metadata : Metadata) (top : ℕ) where
   steps c d e (x ∷ xs) [] h all = absurd all
   steps c d e (x ∷ xs) (o ∷ os) h (m, one, more) =
       let (has, outcome) = step c d m x o h one in
-      let (last, outcomes) = steps (and_then c x o) m e xs os has more in
+      let (last, outcomes) = steps (with_entry c x o) m e xs os has more in
       (last, (m.encoder.offset, outcome, outcomes))

@@ -16,7 +16,7 @@ use Rattle.dnw_message_header.proofs.Headers.{headers_read_back}
 use Rattle.dnw_message_read.proofs.OneMessage.{not_both}
 use Rattle.dnw_message_write.specs.declared.query.WireQuery.{WireQuery}
 use Rattle.dnw_message_write.specs.Written.{QueryStands, Stand, header_for}
-use Rattle.dnw_message_write.specs.ReadRecords.{RecordIsRead, RecordStands}
+use Rattle.dnw_message_write.specs.ReadRecords.{RecordIsRead, RecordIsThere}
 use Rattle.dnw_message_write.specs.ReadBack.{QueryIsRead}
 use Rattle.dnw_message_write.specs.WriterLaws.{ReadingNeverFails, WrittenMessagesAreRead}
 
@@ -55,24 +55,24 @@ module _ {X Y : Type 0} (rest : Rest) (of : Item → Y) (same : X → Y → Type
       }
 
 -- the number that two octets are
-number-read : (b : List ℕ) (n p : ℕ) → n < 2 ^ 16 → slice_range b p (p + 2) ≡ to_be_bytes w16 n → number_at b p ≡ n
-number-read b n p fits there = ap (from_be_bytes w16) there ∙ from_be_bytes-to_be_bytes_2 n fits
+number_read : (b : List ℕ) (n p : ℕ) → n < 2 ^ 16 → slice_range b p (p + 2) ≡ to_be_bytes w16 n → number_at b p ≡ n
+number_read b n p fits there = ap (from_be_bytes w16) there ∙ from_be_bytes-to_be_bytes_2 n fits
 
-query-read : (b : List ℕ) (q : WireQuery) (p e k : ℕ) → QueryStands b q p e k → IsRead question_rest (query_of b) QueryIsRead b q p e k
-query-read b q p e k h =
+query_read : (b : List ℕ) (q : WireQuery) (p e k : ℕ) → QueryStands b q p e k → IsRead question_rest (query_of b) QueryIsRead b q p e k
+query_read b q p e k h =
     let end : h.name_end + 4 ≡ h.name_end + 2 + 2 = omega arith in
     record {
       item = record { labels = q.name.labels; name_end = h.name_end };
       at = record { name = h.name; ends = h.ends; inside = h.inside };
       is = (
         refl,
-        ap type_of_code (number-read b (type_code q.query_type) h.name_end h.fit.0 h.query_type),
-        ap class_of_code (number-read b (class_code q.query_class) (h.name_end + 2) h.fit.1 (subst (λ e. slice_range b (h.name_end + 2) e ≡ to_be_bytes w16 (class_code q.query_class)) end h.query_class)),
+        ap type_of_code (number_read b (type_code q.query_type) h.name_end h.fit.0 h.query_type),
+        ap class_of_code (number_read b (class_code q.query_class) (h.name_end + 2) h.fit.1 (subst (λ e. slice_range b (h.name_end + 2) e ≡ to_be_bytes w16 (class_code q.query_class)) end h.query_class)),
       );
     }
 
-record-read : (b : List ℕ) (r : Record) (p e k : ℕ) → RecordStands b r p e k → IsRead record_rest (record_in b) RecordIsRead b r p e k
-record-read b r p e k (x, at, followed, says) =
+record_read : (b : List ℕ) (r : Record) (p e k : ℕ) → RecordIsThere b r p e k → IsRead record_rest (record_in b) RecordIsRead b r p e k
+record_read b r p e k (x, at, followed, says) =
     let ends = at.ends ∙ ap (λ (y : RecordValue). y.start + y.len) at.is in
     record {
       item = record { labels = at.labels; name_end = at.owner_end };
@@ -84,8 +84,8 @@ record-read b r p e k (x, at, followed, says) =
 
 pub written_messages_are_read : WrittenMessagesAreRead
 written_messages_are_read metadata c b h =
-    let records = items-read record_rest (record_in b) RecordIsRead b (RecordStands b) (record-read b) in
-    let q = items-read question_rest (query_of b) QueryIsRead b (QueryStands b) (query-read b) c.queries 12 h.answers_at h.of_queries h.queries in
+    let records = items-read record_rest (record_in b) RecordIsRead b (RecordIsThere b) (record_read b) in
+    let q = items-read question_rest (query_of b) QueryIsRead b (QueryStands b) (query_read b) c.queries 12 h.answers_at h.of_queries h.queries in
     let a = records c.answers h.answers_at h.authorities_at h.of_answers h.answers in
     let u = records c.authorities h.authorities_at h.additionals_at h.of_authorities h.authorities in
     let d = records c.additionals h.additionals_at (length b) h.of_additionals h.additionals in

@@ -45,8 +45,8 @@ counted_by k section.Answers c = record c { answers = so_many_more k c.answers }
 counted_by k section.Authorities c = record c { authorities = so_many_more k c.authorities }
 counted_by k section.Additionals c = record c { additionals = so_many_more k c.additionals }
 
-abbrev pub counted : Section → HeaderCounts → HeaderCounts
-counted s c = counted_by 1 s c
+abbrev pub counted_one : Section → HeaderCounts → HeaderCounts
+counted_one s c = counted_by 1 s c
 
 -- A message without this item is truncated: an answer or an authority record did not fit (RFC 2181, section 9).
 abbrev pub cuts : Section → ProtoError → Bool
@@ -111,7 +111,7 @@ abbrev pub AddsLast : Option Record → ℕ → Draft → Outcome → Draft → 
 AddsLast None most d (Ok done) e = e ≡ d
 AddsLast None most d (Err error) e = ⊥
 AddsLast (Some r) most d (Ok done) e =
-    EmitsAnyRecord r (limited d.encoder most) (Ok tt) e.encoder × (e.header ≡ record d.header { counts = counted section.Additionals d.header.counts })
+    EmitsAnyRecord r (limited d.encoder most) (Ok tt) e.encoder × (e.header ≡ record d.header { counts = counted_one section.Additionals d.header.counts })
 AddsLast (Some r) most d (Err error) e = EmitsAnyRecord r (limited d.encoder most) (Err error) e.encoder × (e.header ≡ d.header)
 
 -- The header is written over the octets that were reserved for it.

@@ -15,5 +15,5 @@ RecordIsRead r x =
     × (x.ttl ≡ r.ttl) × Copies (kinds_of r.data.record_type) (data_start x) r.data.octets
 
 -- From p to e such a record is read, and its owner follows k pointers.
-abbrev pub RecordStands : List ℕ → Record → ℕ → ℕ → ℕ → Type 0
-RecordStands b r p e k = (x : RecordValue) × (at : RecordAt b p x e) × (at.pointers ≡ k) × RecordIsRead r x
+abbrev pub RecordIsThere : List ℕ → Record → ℕ → ℕ → ℕ → Type 0
+RecordIsThere b r p e k = (x : RecordValue) × (at : RecordAt b p x e) × (at.pointers ≡ k) × RecordIsRead r x

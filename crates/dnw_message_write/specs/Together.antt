@@ -2,7 +2,7 @@
 use Rattle.std.specs.Prelude.{◌≡◌, ℕ, ◌+◌, List, [], ◌∷◌, Ok, Err, ◌⊎◌}
 use Rattle.dnw_write.specs.Encoder.{Encoder}
 use Rattle.dnw_write.specs.Emitting.{Emits}
-use Rattle.dnw_write.specs.Marks.{mark_of, rewound}
+use Rattle.dnw_write.specs.Checkpoints.{checkpoint_of, rewound}
 use Rattle.dnw_record_owned.specs.declared.record.Record.{Record}
 use Rattle.dnw_record_owned.specs.AnyRecords.{EmitsAnyRecord}
 use Rattle.dnw_record_owned.specs.AnyRecordLaws.{any_record_size}
@@ -14,10 +14,10 @@ EmitsInTurn [] v (Err error) w = ⊥
 EmitsInTurn (r ∷ rs) v (Ok done) w = (m : Encoder) × EmitsAnyRecord r v (Ok tt) m × EmitsInTurn rs m (Ok tt) w
 EmitsInTurn (r ∷ rs) v (Err error) w = EmitsAnyRecord r v (Err error) w ⊎ ((m : Encoder) × EmitsAnyRecord r v (Ok tt) m × EmitsInTurn rs m (Err error) w)
 
--- They are written whole, or undone whole: then the encoder is back at its mark, whichever record failed.
+-- They are written whole, or undone whole: then the encoder is back at its checkpoint, whichever record failed.
 abbrev pub EmitsTogether : Emits (List Record)
 EmitsTogether rs v (Ok done) w = EmitsInTurn rs v (Ok tt) w
-EmitsTogether rs v (Err error) w = (u : Encoder) × EmitsInTurn rs v (Err error) u × (w ≡ rewound u (mark_of v))
+EmitsTogether rs v (Err error) w = (u : Encoder) × EmitsInTurn rs v (Err error) u × (w ≡ rewound u (checkpoint_of v))
 
 -- the octets of records with their names whole
 abbrev pub records_size : List Record → ℕ

@@ -6,7 +6,7 @@ use Rattle.dnw_base.specs.DnsClasses.{class_code}
 use Rattle.dnw_write.specs.Encoder.{Encoder, Writes}
 use Rattle.dnw_write.specs.Emitting.{Emits}
 use Rattle.dnw_write.specs.EmittedName.{EmitsName}
-use Rattle.dnw_write.specs.Marks.{mark_of, rewound}
+use Rattle.dnw_write.specs.Checkpoints.{checkpoint_of, rewound}
 use Rattle.dnw_record.specs.Parts.{Then}
 use Rattle.dnw_message_write.specs.declared.query.WireQuery.{WireQuery}
 
@@ -18,7 +18,7 @@ abbrev pub EmitsQueryFields : Emits WireQuery
 EmitsQueryFields q =
     Then (EmitsName q.name) (Then (λ v. Writes v (to_be_bytes w16 (type_code q.query_type))) (λ v. Writes v (to_be_bytes w16 (class_code q.query_class))))
 
--- A question is written whole, or undone whole: then the encoder is back at its mark, whichever field failed.
+-- A question is written whole, or undone whole: then the encoder is back at its checkpoint, whichever field failed.
 abbrev pub EmitsQuery : Emits WireQuery
 EmitsQuery q v (Ok done) w = QueryFits q × EmitsQueryFields q v (Ok tt) w
-EmitsQuery q v (Err error) w = (u : Encoder) × EmitsQueryFields q v (Err error) u × (w ≡ rewound u (mark_of v))
+EmitsQuery q v (Err error) w = (u : Encoder) × EmitsQueryFields q v (Err error) u × (w ≡ rewound u (checkpoint_of v))

@@ -22,7 +22,7 @@ use Rattle.dnw_message_write.specs.declared.section.AddError.TheVariants.{OutOfO
 use Rattle.dnw_message_write.specs.declared.writer.Entry.{Entry}
 use Rattle.dnw_message_write.specs.declared.writer.Entry.TheVariants.{Query, Answer, Authority, Additional, Answers, Authorities, Additionals}
 use Rattle.dnw_message_write.specs.WireQueries.{QueryFits}
-use Rattle.dnw_message_write.specs.ReadRecords.{RecordStands}
+use Rattle.dnw_message_write.specs.ReadRecords.{RecordIsThere}
 use Rattle.dnw_message_write.specs.Drafts.{Added, is_open}
 use Rattle.dnw_message_write.specs.Together.{records_size}
 
@@ -40,22 +40,22 @@ abbrev pub nothing : Contents
 nothing = record { queries = []; answers = []; authorities = []; additionals = []; cut = false }
 
 -- one more item, or the records of a set, with its outcome
-abbrev pub and_then : Contents → Entry → Added → Contents
-and_then c (Query q) (Ok done) = record c { queries = c.queries ++ q ∷ [] }
-and_then c (Answer r) (Ok done) = record c { answers = c.answers ++ r ∷ [] }
-and_then c (Authority r) (Ok done) = record c { authorities = c.authorities ++ r ∷ [] }
-and_then c (Additional r) (Ok done) = record c { additionals = c.additionals ++ r ∷ [] }
-and_then c (Answers rs) (Ok done) = record c { answers = c.answers ++ rs.items }
-and_then c (Authorities rs) (Ok done) = record c { authorities = c.authorities ++ rs.items }
-and_then c (Additionals rs) (Ok done) = record c { additionals = c.additionals ++ rs.items }
-and_then c (Answer r) (Err (Proto (MaxBufferSizeExceeded size))) = record c { cut = true }
-and_then c (Authority r) (Err (Proto (MaxBufferSizeExceeded size))) = record c { cut = true }
-and_then c (Answers rs) (Err (Proto (MaxBufferSizeExceeded size))) = record c { cut = true }
-and_then c (Authorities rs) (Err (Proto (MaxBufferSizeExceeded size))) = record c { cut = true }
-and_then c x outcome = c
+abbrev pub with_entry : Contents → Entry → Added → Contents
+with_entry c (Query q) (Ok done) = record c { queries = c.queries ++ q ∷ [] }
+with_entry c (Answer r) (Ok done) = record c { answers = c.answers ++ r ∷ [] }
+with_entry c (Authority r) (Ok done) = record c { authorities = c.authorities ++ r ∷ [] }
+with_entry c (Additional r) (Ok done) = record c { additionals = c.additionals ++ r ∷ [] }
+with_entry c (Answers rs) (Ok done) = record c { answers = c.answers ++ rs.items }
+with_entry c (Authorities rs) (Ok done) = record c { authorities = c.authorities ++ rs.items }
+with_entry c (Additionals rs) (Ok done) = record c { additionals = c.additionals ++ rs.items }
+with_entry c (Answer r) (Err (Proto (MaxBufferSizeExceeded size))) = record c { cut = true }
+with_entry c (Authority r) (Err (Proto (MaxBufferSizeExceeded size))) = record c { cut = true }
+with_entry c (Answers rs) (Err (Proto (MaxBufferSizeExceeded size))) = record c { cut = true }
+with_entry c (Authorities rs) (Err (Proto (MaxBufferSizeExceeded size))) = record c { cut = true }
+with_entry c x outcome = c
 
 abbrev pub contents_from : Contents → List Entry → List Added → Contents
-contents_from c (x ∷ xs) (outcome ∷ outcomes) = contents_from (and_then c x outcome) xs outcomes
+contents_from c (x ∷ xs) (outcome ∷ outcomes) = contents_from (with_entry c x outcome) xs outcomes
 contents_from c xs outcomes = c
 
 abbrev pub counts_of : Contents → HeaderCounts
@@ -113,7 +113,7 @@ HaveOutcomes most c len [] [] end = end ≡ len
 HaveOutcomes most c len [] (outcome ∷ outcomes) end = ⊥
 HaveOutcomes most c len (x ∷ xs) [] end = ⊥
 HaveOutcomes most c len (x ∷ xs) (outcome ∷ outcomes) end =
-    (next : ℕ) × HasOutcome most c len x outcome next × HaveOutcomes most (and_then c x outcome) next xs outcomes end
+    (next : ℕ) × HasOutcome most c len x outcome next × HaveOutcomes most (with_entry c x outcome) next xs outcomes end
 
 -- ---- the octets
 
@@ -133,7 +133,7 @@ Stand one [] p e k = (p ≡ e) × (k ≡ 0)
 Stand one (x ∷ xs) p e k = (m : ℕ) × (j : ℕ) × (others : ℕ) × one x p m j × Stand one xs m e others × (k ≡ j + others)
 
 abbrev pub RecordsStand : List ℕ → List Record → ℕ → ℕ → ℕ → Type 0
-RecordsStand b records p e k = Stand (RecordStands b) records p e k
+RecordsStand b records p e k = Stand (RecordIsThere b) records p e k
 
 -- The most pointers that the names of a written message follow: so many names are compressed, and each has so many labels.
 abbrev pub most_pointers : ℕ

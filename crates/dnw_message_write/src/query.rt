@@ -2,7 +2,7 @@
 ghost use Rattle.std.specs.Prelude.{◌≡◌, OnOk};
 ghost use Rattle.dnw_write.specs.EncoderValue.{value, lender};
 ghost use Rattle.dnw_message_write.specs.WireQueries.{EmitsQuery, EmitsQueryFields, QueryFits};
-ghost use Rattle.dnw_message_write.specs.QueryFrames.{frame-query};
+ghost use Rattle.dnw_message_write.specs.QueryFrames.{frame_query};
 
 use dnw_base::dns_class::DNSClass;
 use dnw_base::error::ProtoResult;
@@ -45,14 +45,14 @@ impl WireQuery {
 impl BinEncodable for WireQuery {
     ghost emits = { EmitsQuery };
 
-    ghost keeps_frame = { frame-query };
+    ghost keeps_frame = { frame_query };
 
     /// Writes the name, the type and the class. If one of them fails, the encoder is put back to where it was.
     fn emit(&self, encoder: &mut BinEncoder<'_>) -> ProtoResult<()> {
-        let mark = encoder.mark();
+        let checkpoint = encoder.checkpoint();
         let outcome = emit_fields(self, encoder);
         if outcome.is_err() {
-            encoder.rewind(mark);
+            encoder.rewind(checkpoint);
         }
         outcome
     }

@@ -1,7 +1,7 @@
 //! Sections of a message that is written, and their items.
 ghost use Rattle.std.specs.Prelude.{◌≡◌};
 ghost use Rattle.dnw_write.specs.EncoderValue.{value, lender};
-ghost use Rattle.dnw_message_write.specs.Drafts.{Adds, Draft, counted, cuts, is_open};
+ghost use Rattle.dnw_message_write.specs.Drafts.{Adds, Draft, counted_one, cuts, is_open};
 
 use dnw_base::error::ProtoError;
 use dnw_message_header::header::{Header, HeaderCounts};
@@ -76,7 +76,7 @@ pub(crate) fn is_open(counts: &HeaderCounts, section: Section) -> bool
 
 /// Counts one more item. No message has room for more than a count holds.
 pub(crate) fn count(counts: &mut HeaderCounts, section: Section)
-    ensures { counts.new ≡ counted section counts.old }
+    ensures { counts.new ≡ counted_one section counts.old }
 {
     match section {
         Section::Queries => counts.queries = counts.queries.saturating_add(1),

@@ -24,14 +24,14 @@ pub(crate) fn add_together(
     if !is_open(&header.counts, section) {
         return Err(AddError::OutOfOrder);
     }
-    let mark = encoder.mark();
+    let checkpoint = encoder.checkpoint();
     match emit_in_turn(encoder, records) {
         Ok(()) => {
             count_all(&mut header.counts, section, records.len());
             Ok(())
         }
         Err(error) => {
-            encoder.rewind(mark);
+            encoder.rewind(checkpoint);
             if cuts(section, &error) {
                 header.metadata.truncation = true;
             }

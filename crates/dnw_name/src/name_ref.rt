@@ -41,13 +41,13 @@ impl<'a> Model for NameRef<'a> {
     ghost use Rattle.std.specs.Prelude.{List, ℕ};
     ghost use Rattle.dnw_base.specs.Names.{AreLabels, encoded_size, lower, wire};
     ghost use Rattle.dnw_name_order.specs.Order.{IsZoneOf};
-    ghost use Rattle.dnw_name_read.specs.Inside.Found.{labels_at, LiesAt};
+    ghost use Rattle.dnw_name_read.specs.Inside.Found.{labels_at, NameLiesAt};
 
     ghost Value = { List (List ℕ) };
 
     ghost view = { λ n. labels_at n.message.now n.first };
 
-    ghost invariant = { λ n. LiesAt n.message.now n.first n.size n.labels n.in_one_piece };
+    ghost invariant = { λ n. NameLiesAt n.message.now n.first n.size n.labels n.in_one_piece };
 }
 
 impl<'a> NameRef<'a> {

@@ -22,17 +22,17 @@ use Rattle.dnw_name_arpa.proofs.Values.{all_push}
 use Rattle.dnw_name_arpa.proofs.ValueLabels.{values_back, value_labels, value_texts, value_sizes}
 
 -- the labels from the last one
-map-reverse : (f : ℕ → List ℕ) (xs : List ℕ) → reverse (map f xs) ≡ map f (reverse xs)
-map-reverse f [] = refl
-map-reverse f (x ∷ xs) =
-    reverse-append (f x ∷ []) (map f xs) ∙ ap (λ (ls : List (List ℕ)). ls ++ f x ∷ []) (map-reverse f xs)
+map_reverse : (f : ℕ → List ℕ) (xs : List ℕ) → reverse (map f xs) ≡ map f (reverse xs)
+map_reverse f [] = refl
+map_reverse f (x ∷ xs) =
+    reverse-append (f x ∷ []) (map f xs) ∙ ap (λ (ls : List (List ℕ)). ls ++ f x ∷ []) (map_reverse f xs)
     ∙ sym (ap (map f) (reverse-append (x ∷ []) xs) ∙ map-append f (reverse xs) (x ∷ []))
 
 from_end : (p : ArpaPrefix) → reverse (arpa_labels p) ≡ arpa ∷ family_label p.family ∷ map (value_label p.family) p.values
 from_end p =
     reverse-append (map (value_label p.family) (reverse p.values)) (family_label p.family ∷ arpa ∷ [])
     ∙ ap (λ (ls : List (List ℕ)). arpa ∷ family_label p.family ∷ ls)
-    (map-reverse (value_label p.family) (reverse p.values) ∙ ap (map (value_label p.family)) (reverse-reverse p.values))
+    (map_reverse (value_label p.family) (reverse p.values) ∙ ap (map (value_label p.family)) (reverse-reverse p.values))
 
 family_itself : (family : Family) → label_eq (family_label family) (family_label family) ≡ true
 family_itself Ipv4 = refl
@@ -119,11 +119,11 @@ whole : (ip : IpAddr) → IsIpAddr ip → length (ip_prefix ip).values ≡ most_
 whole (V4 a) h = h.0
 whole (V6 a) h = omega (arith, h.0, halves_length (ipv6_segments a))
 
-padded-whole : (n : ℕ) (vs : List ℕ) → length vs ≡ n → padded n vs ≡ vs
-padded-whole zero [] e = refl
-padded-whole zero (v ∷ vs) e = absurd (omega arith)
-padded-whole (suc n) [] e = absurd (omega arith)
-padded-whole (suc n) (v ∷ vs) e = ap (λ (ws : List ℕ). v ∷ ws) (padded-whole n vs (omega arith))
+padded_whole : (n : ℕ) (vs : List ℕ) → length vs ≡ n → padded n vs ≡ vs
+padded_whole zero [] e = refl
+padded_whole zero (v ∷ vs) e = absurd (omega arith)
+padded_whole (suc n) [] e = absurd (omega arith)
+padded_whole (suc n) (v ∷ vs) e = ap (λ (ws : List ℕ). v ∷ ws) (padded_whole n vs (omega arith))
 
 segment_is : (s : ℕ) → s ≡ 4096 * (s / 4096) + 256 * (s / 256 % 16) + 16 * (s / 16 % 16) + s % 16
 segment_is s = omega arith
@@ -155,7 +155,7 @@ addresses_come_back ip h (Ok net) (p, reads, of) =
     let same : p ≡ ip_prefix ip = cc in
     let own : IsNetOf (ip_prefix ip) net = subst (λ (q : ArpaPrefix). IsNetOf q net) same of in
     let size = whole ip h in
-    let filled = ap (λ (vs : List ℕ). record { family = (ip_prefix ip).family; values = vs }) (padded-whole (most_values (ip_prefix ip).family) (ip_prefix ip).values size) in (
+    let filled = ap (λ (vs : List ℕ). record { family = (ip_prefix ip).family; values = vs }) (padded_whole (most_values (ip_prefix ip).family) (ip_prefix ip).values size) in (
       net,
       refl,
       same_ip (net_addr net) ip (own.addr ∙ filled),

@@ -30,107 +30,107 @@ ascii (a ∷ l) (b ∷ m) e h =
 text : (l m : List ℕ) → label_eq l m ≡ true → AllByRecursion (λ b. b < 128) m → is_utf8 l ≡ true
 text l m e h = ascii_text l (ascii l m e h)
 
-same-length : (l m : List ℕ) → label_eq l m ≡ true → length l ≡ length m
-same-length [] [] e = refl
-same-length [] (b ∷ m) e = cc
-same-length (a ∷ l) [] e = cc
-same-length (a ∷ l) (b ∷ m) e = grind (arith, same-length l m)
+same_length : (l m : List ℕ) → label_eq l m ≡ true → length l ≡ length m
+same_length [] [] e = refl
+same_length [] (b ∷ m) e = cc
+same_length (a ∷ l) [] e = cc
+same_length (a ∷ l) (b ∷ m) e = grind (arith, same_length l m)
 
 -- ---- what succeeds
 
-ok-first : {A B : Type 0} (r : Result A ArpaFault) (f : A → Result B ArpaFault) (y : B) → (r >>= f) ≡ Ok y → (x : A) × (r ≡ Ok x) × (f x ≡ Ok y)
-ok-first (Ok x) f y e = (x, refl, e)
-ok-first (Err fault) f y e = absurd cc
+ok_first : {A B : Type 0} (r : Result A ArpaFault) (f : A → Result B ArpaFault) (y : B) → (r >>= f) ≡ Ok y → (x : A) × (r ≡ Ok x) × (f x ≡ Ok y)
+ok_first (Ok x) f y e = (x, refl, e)
+ok_first (Err fault) f y e = absurd cc
 
-ok-then : {B : Type 0} (b : Bool) (r : Result B ArpaFault) (fault : ArpaFault) (y : B) → (if b then r else Err fault) ≡ Ok y → (b ≡ true) × (r ≡ Ok y)
-ok-then true r fault y e = (refl, e)
-ok-then false r fault y e = absurd cc
+ok_then : {B : Type 0} (b : Bool) (r : Result B ArpaFault) (fault : ArpaFault) (y : B) → (if b then r else Err fault) ≡ Ok y → (b ≡ true) × (r ≡ Ok y)
+ok_then true r fault y e = (refl, e)
+ok_then false r fault y e = absurd cc
 
-ok-else : {B : Type 0} (b : Bool) (r : Result B ArpaFault) (fault : ArpaFault) (y : B) → (if b then Err fault else r) ≡ Ok y → (b ≡ false) × (r ≡ Ok y)
-ok-else true r fault y e = absurd cc
-ok-else false r fault y e = (refl, e)
+ok_else : {B : Type 0} (b : Bool) (r : Result B ArpaFault) (fault : ArpaFault) (y : B) → (if b then Err fault else r) ≡ Ok y → (b ≡ false) × (r ≡ Ok y)
+ok_else true r fault y e = absurd cc
+ok_else false r fault y e = (refl, e)
 
-ok-text : {B : Type 0} (l : List ℕ) (f : List ℕ → Result B ArpaFault) (y : B) → (as_text l >>= f) ≡ Ok y → f l ≡ Ok y
-ok-text l f y e =
-    let (t, is, more) = ok-first (as_text l) f y e in
-    let (utf8, same) = ok-then (is_utf8 l) (Ok l) NotUtf8 t is in
+ok_text : {B : Type 0} (l : List ℕ) (f : List ℕ → Result B ArpaFault) (y : B) → (as_text l >>= f) ≡ Ok y → f l ≡ Ok y
+ok_text l f y e =
+    let (t, is, more) = ok_first (as_text l) f y e in
+    let (utf8, same) = ok_then (is_utf8 l) (Ok l) NotUtf8 t is in
     let whole : t ≡ l = cc in
     rw whole at more
 
 -- ---- values
 
-values-give : (family : Family) (ls : List (List ℕ)) (vs : List ℕ) → values_of family ls ≡ Ok vs → GiveValues family ls vs
-values-give family [] [] e = tt
-values-give family [] (v ∷ vs) e = absurd cc
-values-give family (l ∷ ls) vs e =
-    let (v, is, more) = ok-first (value_of family l) (λ v. values_of family ls >>= (λ ws. Ok (v ∷ ws))) vs e in
-    let (ws, are, all) = ok-first (values_of family ls) (λ ws. Ok (v ∷ ws)) vs more in
+values_give : (family : Family) (ls : List (List ℕ)) (vs : List ℕ) → values_of family ls ≡ Ok vs → GiveValues family ls vs
+values_give family [] [] e = tt
+values_give family [] (v ∷ vs) e = absurd cc
+values_give family (l ∷ ls) vs e =
+    let (v, is, more) = ok_first (value_of family l) (λ v. values_of family ls >>= (λ ws. Ok (v ∷ ws))) vs e in
+    let (ws, are, all) = ok_first (values_of family ls) (λ ws. Ok (v ∷ ws)) vs more in
     let same : v ∷ ws ≡ vs = cc in
-    subst (GiveValues family (l ∷ ls)) same (is, values-give family ls ws are)
+    subst (GiveValues family (l ∷ ls)) same (is, values_give family ls ws are)
 
-give-values : (family : Family) (ls : List (List ℕ)) (vs : List ℕ) → GiveValues family ls vs → values_of family ls ≡ Ok vs
-give-values family [] [] h = refl
-give-values family [] (v ∷ vs) h = absurd h
-give-values family (l ∷ ls) [] h = absurd h
-give-values family (l ∷ ls) (v ∷ vs) h = rw (h.0, give-values family ls vs h.1) refl
+give_values : (family : Family) (ls : List (List ℕ)) (vs : List ℕ) → GiveValues family ls vs → values_of family ls ≡ Ok vs
+give_values family [] [] h = refl
+give_values family [] (v ∷ vs) h = absurd h
+give_values family (l ∷ ls) [] h = absurd h
+give_values family (l ∷ ls) (v ∷ vs) h = rw (h.0, give_values family ls vs h.1) refl
 
 -- ---- the labels of a family
 
 abbrev IsOf : List ℕ → List (List ℕ) → ArpaPrefix → Type 0
 IsOf second others p = (label_eq second (family_label p.family) ≡ true) × (length others ≤ most_values p.family) × GiveValues p.family others p.values
 
-prefix-is : (family : Family) (second : List ℕ) (ls : List (List ℕ)) (p : ArpaPrefix) → label_eq second (family_label family) ≡ true
+prefix_is : (family : Family) (second : List ℕ) (ls : List (List ℕ)) (p : ArpaPrefix) → label_eq second (family_label family) ≡ true
     → prefix_of family ls ≡ Ok p → IsOf second ls p
-prefix-is family second ls p is e =
-    let (vs, are, last) = ok-first (values_of family (take (most_values family) ls)) _ p e in
-    let (few, made) = ok-else (nat_lt (most_values family) (length ls)) (Ok (record { family = family; values = vs })) (TooManyLabels family) p last in
+prefix_is family second ls p is e =
+    let (vs, are, last) = ok_first (values_of family (take (most_values family) ls)) _ p e in
+    let (few, made) = ok_else (nat_lt (most_values family) (length ls)) (Ok (record { family = family; values = vs })) (TooManyLabels family) p last in
     let le : length ls ≤ most_values family = ltb-false _ _ few in
     let same : record { family = family; values = vs } ≡ p = cc in
-    subst (IsOf second ls) same (is, le, values-give family ls vs (ap (values_of family) (sym (take_all (most_values family) ls le)) ∙ are))
+    subst (IsOf second ls) same (is, le, values_give family ls vs (ap (values_of family) (sym (take_all (most_values family) ls le)) ∙ are))
 
-family-is : (second : List ℕ) (others : List (List ℕ)) (p : ArpaPrefix) (b c : Bool) → label_eq second (family_label Ipv4) ≡ b → label_eq second (family_label Ipv6) ≡ c
+family_is : (second : List ℕ) (others : List (List ℕ)) (p : ArpaPrefix) (b c : Bool) → label_eq second (family_label Ipv4) ≡ b → label_eq second (family_label Ipv6) ≡ c
     → (if b then prefix_of Ipv4 others else if c then prefix_of Ipv6 others else Err UnknownFamily) ≡ Ok p → IsOf second others p
-family-is second others p true c is other e = prefix-is Ipv4 second others p is e
-family-is second others p false true is other e = prefix-is Ipv6 second others p other e
-family-is second others p false false is other e = absurd cc
+family_is second others p true c is other e = prefix_is Ipv4 second others p is e
+family_is second others p false true is other e = prefix_is Ipv6 second others p other e
+family_is second others p false false is other e = absurd cc
 
-is-prefix : (family : Family) (second : List ℕ) (others : List (List ℕ)) (vs : List ℕ) → IsOf second others (record { family = family; values = vs })
+is_prefix : (family : Family) (second : List ℕ) (others : List (List ℕ)) (vs : List ℕ) → IsOf second others (record { family = family; values = vs })
     → prefix_below (second ∷ others) ≡ Ok (record { family = family; values = vs })
-is-prefix Ipv4 second others vs h =
+is_prefix Ipv4 second others vs h =
     rw (
       text second (family_label Ipv4) h.0 (omega arith, (omega arith, (omega arith, (omega arith, (omega arith, (omega arith, (omega arith, tt))))))),
       h.0,
       take_all 4 others h.1,
-      give-values Ipv4 others vs h.2,
+      give_values Ipv4 others vs h.2,
       le-ltb 4 (length others) h.1,
     ) refl
-is-prefix Ipv6 second others vs h =
-    let other : label_eq second (family_label Ipv4) ≡ false = false_from_ne_true _ (λ same. omega (arith, same-length second (family_label Ipv4) same, same-length second (family_label Ipv6) h.0)) in
+is_prefix Ipv6 second others vs h =
+    let other : label_eq second (family_label Ipv4) ≡ false = false_from_ne_true _ (λ same. omega (arith, same_length second (family_label Ipv4) same, same_length second (family_label Ipv6) h.0)) in
     rw (
       text second (family_label Ipv6) h.0 (omega arith, (omega arith, (omega arith, tt))),
       other,
       h.0,
       take_all 32 others h.1,
-      give-values Ipv6 others vs h.2,
+      give_values Ipv6 others vs h.2,
       le-ltb 32 (length others) h.1,
     ) refl
 
 -- ---- the whole name
 
-labels-give : (n : NameValue) (p : ArpaPrefix) (ls : List (List ℕ)) → n.is_fqdn ≡ true → reverse n.labels ≡ ls → prefix_from_end ls ≡ Ok p → GivesPrefix n p
-labels-give n p [] fqdn order e = absurd cc
-labels-give n p (l ∷ []) fqdn order e =
-    let below = ok-then (label_eq l arpa) (prefix_below []) NotArpa p (ok-text l _ p e) in
+labels_give : (n : NameValue) (p : ArpaPrefix) (ls : List (List ℕ)) → n.is_fqdn ≡ true → reverse n.labels ≡ ls → prefix_from_end ls ≡ Ok p → GivesPrefix n p
+labels_give n p [] fqdn order e = absurd cc
+labels_give n p (l ∷ []) fqdn order e =
+    let below = ok_then (label_eq l arpa) (prefix_below []) NotArpa p (ok_text l _ p e) in
     absurd cc
-labels-give n p (l ∷ second ∷ others) fqdn order e =
-    let (is_arpa, below) = ok-then (label_eq l arpa) (prefix_below (second ∷ others)) NotArpa p (ok-text l _ p e) in
-    let (of_family, few, each) = family-is second others p _ _ refl refl (ok-text second _ p below) in
+labels_give n p (l ∷ second ∷ others) fqdn order e =
+    let (is_arpa, below) = ok_then (label_eq l arpa) (prefix_below (second ∷ others)) NotArpa p (ok_text l _ p e) in
+    let (of_family, few, each) = family_is second others p _ _ refl refl (ok_text second _ p below) in
     record { fqdn = fqdn; last = l; second = second; others = others; order = order; below_arpa = is_arpa; of_family = of_family; few = few; each = each }
 
 pub names_give : NamesGivePrefixes
 names_give n p = (
-  λ e. let (fqdn, from_end) = ok-then n.is_fqdn (prefix_from_end (reverse n.labels)) Relative p e in labels-give n p (reverse n.labels) fqdn refl from_end,
+  λ e. let (fqdn, from_end) = ok_then n.is_fqdn (prefix_from_end (reverse n.labels)) Relative p e in labels_give n p (reverse n.labels) fqdn refl from_end,
   λ h.
       rw (h.fqdn, h.order, text h.last arpa h.below_arpa (omega arith, (omega arith, (omega arith, (omega arith, tt)))), h.below_arpa)
-      (is-prefix p.family h.second h.others p.values (h.of_family, h.few, h.each)),
+      (is_prefix p.family h.second h.others p.values (h.of_family, h.few, h.each)),
 )

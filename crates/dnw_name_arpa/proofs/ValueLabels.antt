@@ -10,7 +10,7 @@ use Rattle.std.proofs.lemmas.Str.{IsUtf8-from_ascii, is_utf8-from_IsUtf8}
 use Rattle.std.proofs.lemmas.Str.Ascii.{IsAscii-nil, IsAscii-cons}
 use Rattle.dnw_base.specs.Labels.{IsLabel}
 use Rattle.dnw_base.specs.Names.{encoded_size}
-use Rattle.dnw_base.proofs.Wires.{encoded_size-cons}
+use Rattle.dnw_base.proofs.Wires.{encoded_size_cons}
 use Rattle.dnw_name_form.specs.LabelText.{may_begin, may_follow}
 use Rattle.dnw_name_ascii.specs.NameText.{IsLabelText}
 use Rattle.dnw_name_arpa.specs.Arpa.{GiveValues, octet_of, value_bits, value_label, value_of}
@@ -96,4 +96,4 @@ value_sizes family [] tail h = omega arith
 value_sizes family (v ∷ vs) tail h =
     let short = (value_short family v h.0).short in
     let rest = value_sizes family vs tail h.1 in
-    omega (arith, encoded_size-cons (value_label family v) (map (value_label family) vs ++ tail))
+    omega (arith, encoded_size_cons (value_label family v) (map (value_label family) vs ++ tail))

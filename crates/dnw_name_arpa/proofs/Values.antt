@@ -10,7 +10,7 @@ use Rattle.std.proofs.lemmas.Bool.{and_parts, ltb-true, ne_eqb, false_from_ne_tr
 use Rattle.std.proofs.lemmas.Bool.Decides.{nat_tests}
 use Rattle.std.proofs.lemmas.List.{length-append}
 use Rattle.dnw_name_arpa.specs.Arpa.{ArpaFault, NotANumber, NotOneDigit, NotUtf8, IsArpaPrefix, TooManyLabels, is_octet_text, octet_of, nibble_of, value_bits, value_of, values_of, most_values, ◌>>=◌}
-use Rattle.dnw_name_arpa.specs.Inside.Reading.{ended, prefix_after}
+use Rattle.dnw_name_arpa.specs.Inside.Reading.{ended_prefix, prefix_after}
 use Rattle.dnw_name_arpa.specs.declared.reading.Family.{Family}
 
 pub not_utf8 : (bs : List ℕ) → ¬ (IsUtf8 bs) → is_utf8 bs ≡ false
@@ -39,39 +39,39 @@ no_octet_text ds h = false_from_ne_true (is_octet_text ds) (λ e. h (octet_text_
 
 -- a value more
 value_first : (family : Family) (r : Result (List ℕ) ArpaFault) (vs : List ℕ) (v : ℕ) (many : Bool)
-    → ((r >>= (λ ws. Ok (v ∷ ws))) >>= (λ ws. ended family many (vs ++ ws))) ≡ (r >>= (λ ws. ended family many ((vs ++ v ∷ []) ++ ws)))
-value_first family (Ok ws) vs v many = ap (ended family many) (sym (append_assoc vs (v ∷ []) ws))
+    → ((r >>= (λ ws. Ok (v ∷ ws))) >>= (λ ws. ended_prefix family many (vs ++ ws))) ≡ (r >>= (λ ws. ended_prefix family many ((vs ++ v ∷ []) ++ ws)))
+value_first family (Ok ws) vs v many = ap (ended_prefix family many) (sym (append_assoc vs (v ∷ []) ws))
 value_first family (Err fault) vs v many = refl
 
-pub prefix_after-value : (family : Family) (vs : List ℕ) (l : List ℕ) (ls : List (List ℕ)) (v : ℕ)
+pub prefix_after_value : (family : Family) (vs : List ℕ) (l : List ℕ) (ls : List (List ℕ)) (v : ℕ)
     → length vs < most_values family → value_of family l ≡ Ok v → prefix_after family (vs ++ v ∷ []) ls ≡ prefix_after family vs (l ∷ ls)
-prefix_after-value family vs l ls v room e =
+prefix_after_value family vs l ls v room e =
     let long : length (vs ++ v ∷ []) ≡ length vs + 1 = length-append vs (v ∷ []) in
     let left : most_values family - length vs ≡ suc (most_values family - length (vs ++ v ∷ [])) = omega arith in
     let all : length (vs ++ v ∷ []) + length ls ≡ length vs + length (l ∷ ls) = omega arith in
     rw (left, e, all) (sym (value_first family (values_of family (take (most_values family - length (vs ++ v ∷ [])) ls)) vs v _))
 
-pub prefix_after-fault : (family : Family) (vs : List ℕ) (l : List ℕ) (ls : List (List ℕ)) (fault : ArpaFault)
+pub prefix_after_fault : (family : Family) (vs : List ℕ) (l : List ℕ) (ls : List (List ℕ)) (fault : ArpaFault)
     → length vs < most_values family → value_of family l ≡ Err fault → prefix_after family vs (l ∷ ls) ≡ Err fault
-prefix_after-fault family vs l ls fault room e =
+prefix_after_fault family vs l ls fault room e =
     let left : most_values family - length vs ≡ suc (most_values family - length vs - 1) = omega arith in
     rw (left, e) refl
 
-pub prefix_after-more : (family : Family) (vs : List ℕ) (l : List ℕ) (ls : List (List ℕ))
+pub prefix_after_more : (family : Family) (vs : List ℕ) (l : List ℕ) (ls : List (List ℕ))
     → length vs ≡ most_values family → prefix_after family vs (l ∷ ls) ≡ Err (TooManyLabels family)
-prefix_after-more family vs l ls e =
+prefix_after_more family vs l ls e =
     let none : most_values family - length vs ≡ 0 = omega arith in
     let many : nat_lt (most_values family) (length vs + length (l ∷ ls)) ≡ true = grind (arith, nat_tests) in
     rw (none, many) refl
 
 -- each fault of an octet
-pub octet_of-octet : (l : List ℕ) → is_utf8 l ≡ true → IsNumeral 10 (without_leading_plus l) → digits_value 10 (without_leading_plus l) < 256
+pub octet_of_octet : (l : List ℕ) → is_utf8 l ≡ true → IsNumeral 10 (without_leading_plus l) → digits_value 10 (without_leading_plus l) < 256
     → octet_of l ≡ Ok (digits_value 10 (without_leading_plus l))
-octet_of-octet l utf8 numeral small = rw (utf8, octet_text (without_leading_plus l) numeral small) refl
+octet_of_octet l utf8 numeral small = rw (utf8, octet_text (without_leading_plus l) numeral small) refl
 
-pub octet_of-other : (l : List ℕ) → is_utf8 l ≡ true → ¬ (IsNumeral 10 (without_leading_plus l) × (digits_value 10 (without_leading_plus l) < 256))
+pub octet_of_other : (l : List ℕ) → is_utf8 l ≡ true → ¬ (IsNumeral 10 (without_leading_plus l) × (digits_value 10 (without_leading_plus l) < 256))
     → octet_of l ≡ Err NotANumber
-octet_of-other l utf8 none = rw (utf8, no_octet_text (without_leading_plus l) none) refl
+octet_of_other l utf8 none = rw (utf8, no_octet_text (without_leading_plus l) none) refl
 
 parsed : (ds : List ℕ) (b : Bool) → is_octet_text ds ≡ b
     → OkIff (if b then Ok (digits_value 10 ds) else Err NotANumber) (IsNumeral 10 ds × (digits_value 10 ds < 256)) (digits_value 10 ds)
@@ -83,14 +83,14 @@ pub octet_parses : (l : List ℕ) → is_utf8 l ≡ true → ParsesUnsigned 8 10
 octet_parses l utf8 = rw utf8 (parsed (without_leading_plus l) (is_octet_text (without_leading_plus l)) refl)
 
 -- each fault of a nibble
-pub nibble_of-long : (l : List ℕ) → ¬ (length l ≡ 1) → nibble_of l ≡ Err NotOneDigit
-nibble_of-long l h = rw (ne_eqb (length l) 1 h) refl
+pub nibble_of_long : (l : List ℕ) → ¬ (length l ≡ 1) → nibble_of l ≡ Err NotOneDigit
+nibble_of_long l h = rw (ne_eqb (length l) 1 h) refl
 
-pub nibble_of-bytes : (l : List ℕ) → length l ≡ 1 → is_utf8 l ≡ false → nibble_of l ≡ Err NotUtf8
-nibble_of-bytes l one bytes = rw (one, bytes) refl
+pub nibble_of_bytes : (l : List ℕ) → length l ≡ 1 → is_utf8 l ≡ false → nibble_of l ≡ Err NotUtf8
+nibble_of_bytes l one bytes = rw (one, bytes) refl
 
-pub nibble_of-other : (l : List ℕ) → length l ≡ 1 → is_utf8 l ≡ true → ¬ (digit_value (slice_index l 0) < 16) → nibble_of l ≡ Err NotANumber
-nibble_of-other l one utf8 h =
+pub nibble_of_other : (l : List ℕ) → length l ≡ 1 → is_utf8 l ≡ true → ¬ (digit_value (slice_index l 0) < 16) → nibble_of l ≡ Err NotANumber
+nibble_of_other l one utf8 h =
     let none : is_digit (slice_index l 0) 16 ≡ false = false_from_ne_true (is_digit (slice_index l 0) 16) (λ e. h (ltb-true _ _ e)) in
     rw (one, utf8, none) refl
 
@@ -99,9 +99,9 @@ pub all_push : (P : ℕ → Type 0) (vs : List ℕ) (v : ℕ) → AllByRecursion
 all_push P [] v each h = (h, tt)
 all_push P (w ∷ vs) v each h = (each.0, all_push P vs v each.1 h)
 
-pub IsArpaPrefix-push : (family : Family) (vs : List ℕ) (v : ℕ) → IsArpaPrefix (record { family = family; values = vs })
+pub IsArpaPrefix_push : (family : Family) (vs : List ℕ) (v : ℕ) → IsArpaPrefix (record { family = family; values = vs })
     → length vs < most_values family → v < 2 ^ value_bits family → IsArpaPrefix (record { family = family; values = vs ++ v ∷ [] })
-IsArpaPrefix-push family vs v h room small = record {
+IsArpaPrefix_push family vs v h room small = record {
   few = omega (arith, length-append vs (v ∷ []));
   fit = all_push (λ v. v < 2 ^ value_bits family) vs v h.fit small;
 }

@@ -22,8 +22,8 @@ pub record IsRead (b : ℕ) (text : List ℕ) : Type 0 where
 abbrev stands : ℕ → Bool
 stands b = not (b == dot) && (not (b == backslash) && not (is_control b || is_whitespace b))
 
-IsRead-single : (b : ℕ) → b < 128 → stands b ≡ true → IsRead b (b ∷ [])
-IsRead-single b small h =
+IsRead_single : (b : ℕ) → b < 128 → stands b ≡ true → IsRead b (b ∷ [])
+IsRead_single b small h =
     let first = and_parts (not (b == dot)) _ h in
     let second = and_parts (not (b == backslash)) _ first.1 in
     record {
@@ -33,33 +33,33 @@ IsRead-single b small h =
     }
 
 -- a dot after a backslash
-IsRead-dot : IsRead dot (backslash ∷ dot ∷ [])
+IsRead_dot : IsRead dot (backslash ∷ dot ∷ [])
 unfolding general_category general_category_rows value_in
-IsRead-dot = record {
+IsRead_dot = record {
   small = omega arith;
   ascii = IsAscii-cons backslash (dot ∷ []) (omega arith) (IsAscii-cons dot [] (omega arith) IsAscii-nil);
   read = λ cs. refl;
 }
 
 -- a byte that stands for itself by a table
-pub IsRead-own : (b : ℕ) → is_own b ≡ true → IsRead b (b ∷ [])
-IsRead-own b h =
+pub IsRead_own : (b : ℕ) → is_own b ≡ true → IsRead b (b ∷ [])
+IsRead_own b h =
     let small = ltb-true b 128 (and_parts _ _ h).0 in
-    IsRead-single b small (rw h at (agree_below_at (λ n. not (is_own n) || stands n) (λ n. true) 128 b refl small))
+    IsRead_single b small (rw h at (agree_below_at (λ n. not (is_own n) || stands n) (λ n. true) 128 b refl small))
 
 -- a byte that is a dot, or is written as it is and stands for itself
 abbrev shown : (ℕ → Bool) → Bool → ℕ → Bool
 shown p first b = not (p b) || (b == dot || (is_plain first b && stands b))
 
-IsRead-by : (p : ℕ → Bool) (first : Bool) (b : ℕ) → agree_below (shown p first) (λ n. true) 128 ≡ true → b < 128 → p b ≡ true → IsRead b (byte_text first b)
-IsRead-by p first b table small h =
+IsRead_by : (p : ℕ → Bool) (first : Bool) (b : ℕ) → agree_below (shown p first) (λ n. true) 128 ≡ true → b < 128 → p b ≡ true → IsRead b (byte_text first b)
+IsRead_by p first b table small h =
     elim (or_cases (b == dot) (is_plain first b && stands b) (rw h at (agree_below_at (shown p first) (λ n. true) 128 b table small))) [
-      | inl same ↦ subst (λ (n : ℕ). IsRead n (byte_text first n)) (sym (eqb-true b dot same)) IsRead-dot
-      | inr plain ↦ let parts = and_parts (is_plain first b) _ plain in rw parts.0 (IsRead-single b small parts.1)
+      | inl same ↦ subst (λ (n : ℕ). IsRead n (byte_text first n)) (sym (eqb-true b dot same)) IsRead_dot
+      | inr plain ↦ let parts = and_parts (is_plain first b) _ plain in rw parts.0 (IsRead_single b small parts.1)
     ]
 
-pub IsRead-begin : (b : ℕ) → may_begin b ≡ true → IsRead b (byte_text true b)
-IsRead-begin b h = IsRead-by may_begin true b refl (grind (arith, nat_tests)) h
+pub IsRead_begin : (b : ℕ) → may_begin b ≡ true → IsRead b (byte_text true b)
+IsRead_begin b h = IsRead_by may_begin true b refl (grind (arith, nat_tests)) h
 
-pub IsRead-follow : (b : ℕ) → may_follow b ≡ true → IsRead b (byte_text false b)
-IsRead-follow b h = IsRead-by may_follow false b refl (grind (arith, nat_tests)) h
+pub IsRead_follow : (b : ℕ) → may_follow b ≡ true → IsRead b (byte_text false b)
+IsRead_follow b h = IsRead_by may_follow false b refl (grind (arith, nat_tests)) h

@@ -13,7 +13,7 @@ use Rattle.dnw_name_form.specs.Edits.{with_label}
 use Rattle.dnw_name_ascii.specs.NameText.{Outside}
 use Rattle.dnw_name_ascii.specs.Inside.TextReader.{is_simple, is_own, IsSimpleLabel, IsDottedLabel, BeginsWithLabel, name_from_rest}
 use Rattle.dnw_name_ascii.proofs.TextReading.{at_dot, at_last}
-use Rattle.dnw_name_ascii.proofs.LabelTexts.{Reads-own, Reads-rest, all_weaker, own_simple}
+use Rattle.dnw_name_ascii.proofs.LabelTexts.{Reads_own, Reads_rest, all_weaker, own_simple}
 
 -- a text is what is before a byte, the byte, and what is after it
 pub parts_at : (bs : List ℕ) (n b : ℕ) → n < length bs → get_or bs n 0 ≡ b → bs ≡ take n bs ++ b ∷ drop (n + 1) bs
@@ -21,21 +21,21 @@ parts_at bs n b lt e =
     sym (take-append-drop n bs) ∙ ap (λ (more : List ℕ). take n bs ++ more) (drop_more bs n 0 lt ∙ ap (λ (c : ℕ). c ∷ drop (n + 1) bs) e)
 
 -- such a label is added, and what follows its dot is read on
-pub name_from_rest-label : (ls : List (List ℕ)) (label rest : List ℕ) → IsSimpleLabel label
+pub name_from_rest_label : (ls : List (List ℕ)) (label rest : List ℕ) → IsSimpleLabel label
     → name_from_rest ls [] Outside (chars (label ++ dot ∷ rest)) ≡ (with_label ls label >>= (λ longer. name_from_rest longer [] Outside (chars rest)))
-name_from_rest-label ls label rest s =
-    Reads-rest (Reads-own label s.own) ls [] (dot ∷ rest) ∙ at_dot ls label rest
+name_from_rest_label ls label rest s =
+    Reads_rest (Reads_own label s.own) ls [] (dot ∷ rest) ∙ at_dot ls label rest
     ∙ ap (λ r. (r >>= with_label ls) >>= (λ longer. name_from_rest longer [] Outside (chars rest))) s.written
 
 -- the last label is added, and the name is relative
-pub name_from_rest-last : (ls : List (List ℕ)) (label : List ℕ) → IsSimpleLabel label
+pub name_from_rest_last : (ls : List (List ℕ)) (label : List ℕ) → IsSimpleLabel label
     → name_from_rest ls [] Outside (chars (label ++ [])) ≡ (with_label ls label >>= (λ all. Ok (record { is_fqdn = false; labels = all })))
-name_from_rest-last ls label s =
-    Reads-rest (Reads-own label s.own) ls [] [] ∙ at_last ls label (ne_eqb (length label) 0 (λ z. let some = s.is_label.not_empty in omega arith))
+name_from_rest_last ls label s =
+    Reads_rest (Reads_own label s.own) ls [] [] ∙ at_last ls label (ne_eqb (length label) 0 (λ z. let some = s.is_label.not_empty in omega arith))
     ∙ ap (λ r. (r >>= with_label ls) >>= (λ all. Ok (record { is_fqdn = false; labels = all }))) s.written
 
-pub BeginsWithLabel-dotted : (text : List ℕ) (n : ℕ) → IsUtf8 text → IsDottedLabel text n → BeginsWithLabel text n
-BeginsWithLabel-dotted text n utf8 d =
+pub BeginsWithLabel_dotted : (text : List ℕ) (n : ℕ) → IsUtf8 text → IsDottedLabel text n → BeginsWithLabel text n
+BeginsWithLabel_dotted text n utf8 d =
     let dotted = d.dotted in
     record {
       inside = d.inside;
@@ -43,7 +43,7 @@ BeginsWithLabel-dotted text n utf8 d =
       label = d.simple.is_label;
       read = λ ls.
           ap (λ (t : List ℕ). name_from_rest ls [] Outside (chars t)) (parts_at text n dot d.inside d.dotted)
-          ∙ name_from_rest-label ls (take n text) (drop (n + 1) text) d.simple;
+          ∙ name_from_rest_label ls (take n text) (drop (n + 1) text) d.simple;
     }
 
 follow_simple : (c : ℕ) → is_simple c ≡ true → may_follow c ≡ true

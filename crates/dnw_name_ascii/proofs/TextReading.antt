@@ -9,7 +9,7 @@ use Rattle.std.proofs.lemmas.Slice.Eq.{bytes_eq-Decides}
 use Rattle.dnw_base.specs.Fault.{UnfinishedEscape, ◌>>=◌}
 use Rattle.dnw_name_form.specs.LabelText.{dot}
 use Rattle.dnw_name_ascii.specs.NameText.{TextElement, Char, Dot, Stop, Outside, elements, with_text, name_from_elements, name_from_text}
-use Rattle.dnw_name_ascii.specs.Inside.TextReader.{state_of, elements_from, IsAlike, Begins, name_from_rest, name_from}
+use Rattle.dnw_name_ascii.specs.Inside.TextReader.{state_of, elements_from, IsAlike, CutsText, name_from_rest, name_from}
 use Rattle.dnw_name_ascii.specs.declared.text.State.{State as Held}
 use Rattle.dnw_name_ascii.specs.declared.text.State.TheVariants.{Outside as HeldOutside}
 use Rattle.dnw_name_ascii.specs.declared.text.Move.{Move}
@@ -40,9 +40,9 @@ elements_alike (Dot ∷ es) ls a b lt e =
     ap (λ r. r >>= (λ longer. name_from_elements longer [] es)) (with_text_alike ls a b lt e)
 elements_alike (Stop fault ∷ es) ls a b lt e = refl
 
-pub name_from_elements-alike : (es : List TextElement) (ls : List (List ℕ)) (a b : List ℕ) → IsAlike a b → name_from_elements ls a es ≡ name_from_elements ls b es
-name_from_elements-alike es ls a b (inl e) = ap (λ text. name_from_elements ls text es) e
-name_from_elements-alike es ls a b (inr (lt, e)) = elements_alike es ls a b lt e
+pub name_from_elements_alike : (es : List TextElement) (ls : List (List ℕ)) (a b : List ℕ) → IsAlike a b → name_from_elements ls a es ≡ name_from_elements ls b es
+name_from_elements_alike es ls a b (inl e) = ap (λ text. name_from_elements ls text es) e
+name_from_elements_alike es ls a b (inr (lt, e)) = elements_alike es ls a b lt e
 
 -- what reading gives at a character, by its move
 pub at_move : (r : TextReader) (move : Move) (c : ℕ) (cs : List ℕ) → elements (state_of r.state) (c ∷ cs) ≡ elements_from move c cs
@@ -51,11 +51,11 @@ unfolding name_from name_from_rest
 at_move r move c cs e = ap (name_from_elements r.form r.label) e
 
 -- after bytes that were added to the label
-pub name_from-begins : (r : TextReader) (label text bytes : List ℕ) (n : ℕ) → r.state ≡ HeldOutside → Begins text n bytes → IsAlike label (r.label ++ bytes)
+pub name_from_begins : (r : TextReader) (label text bytes : List ℕ) (n : ℕ) → r.state ≡ HeldOutside → CutsText text n bytes → IsAlike label (r.label ++ bytes)
     → name_from (record r { label = label }) (chars (drop n text)) ≡ name_from r (chars text)
 unfolding name_from name_from_rest
-name_from-begins r label text bytes n state begins alike =
-    rw state (name_from_elements-alike (elements Outside (chars (drop n text))) r.form label (r.label ++ bytes) alike ∙ sym (begins.read r.form r.label))
+name_from_begins r label text bytes n state begins alike =
+    rw state (name_from_elements_alike (elements Outside (chars (drop n text))) r.form label (r.label ++ bytes) alike ∙ sym (begins.read r.form r.label))
 
 -- when the characters end inside an escape
 pub no_end : (state : Held) → (state ≡ HeldOutside → ⊥) → elements (state_of state) [] ≡ Stop UnfinishedEscape ∷ []
@@ -87,9 +87,9 @@ at_dot ls text [] = refl
 at_dot ls text (b ∷ rest) = refl
 
 -- the lone dot is its own character
-pub chars-dot : chars (dot ∷ []) ≡ dot ∷ []
+pub chars_dot : chars (dot ∷ []) ≡ dot ∷ []
 unfolding chars
-chars-dot = refl
+chars_dot = refl
 
 -- any text but the empty one and the lone dot is read from its first character on
 pub plain_chars : (cs : List ℕ) → (cs ≡ [] → ⊥) → (cs ≡ dot ∷ [] → ⊥) → name_from_text cs ≡ name_from_rest [] [] Outside cs
@@ -98,10 +98,10 @@ plain_chars [] some other = absurd (some refl)
 plain_chars (c ∷ []) some other = rw (ne_eqb c dot (λ e. other (ap (λ (n : ℕ). n ∷ []) e))) refl
 plain_chars (c ∷ d ∷ cs) some other = refl
 
-pub name_from_text-plain : (bs : List ℕ) (empty lone : Bool) → IsUtf8 bs → empty ≡ (length bs == 0) → empty ≡ false → lone ≡ bytes_eq bs (dot ∷ []) → lone ≡ false
+pub name_from_text_plain : (bs : List ℕ) (empty lone : Bool) → IsUtf8 bs → empty ≡ (length bs == 0) → empty ≡ false → lone ≡ bytes_eq bs (dot ∷ []) → lone ≡ false
     → name_from_text (chars bs) ≡ name_from_rest [] [] Outside (chars bs)
 unfolding lib.Utf8.encode
-name_from_text-plain bs empty lone text empty_is some lone_is other =
+name_from_text_plain bs empty lone text empty_is some lone_is other =
     plain_chars (chars bs)
     (λ e. both_ways empty some (empty_is ∙ eq-eqb _ _ (ap length (sym (encodes-chars bs text) ∙ ap encodes e))))
     (λ e. both_ways lone other (lone_is ∙ (bytes_eq-Decides bs (dot ∷ [])).1 (sym (encodes-chars bs text) ∙ ap encodes e)))

@@ -6,17 +6,17 @@ use Rattle.std.proofs.lemmas.List.Sums.{sum_by-cons}
 use Rattle.dnw_base.specs.Limits.{max_name}
 use Rattle.dnw_base.specs.Labels.{IsLabel}
 use Rattle.dnw_base.specs.Names.{AreLabels, NameValue, encoded_size}
-use Rattle.dnw_base.proofs.Wires.{encoded_size-cons}
+use Rattle.dnw_base.proofs.Wires.{encoded_size_cons}
 use Rattle.dnw_name_form.specs.LabelText.{dot, label_text, byte_text}
 use Rattle.dnw_name_ascii.specs.NameText.{max_text, name_text}
-use Rattle.dnw_name_ascii.proofs.Joined.{dotted, joined-cons}
+use Rattle.dnw_name_ascii.proofs.Joined.{dotted, joined_cons}
 
 -- four octets for each octet of the labels, and a dot for each of them
 abbrev pub text_room : List (List ℕ) → ℕ
 text_room ls = sum_by (λ l. 4 * length l + 1) ls
 
-pub text_room-cons : (l : List ℕ) (ls : List (List ℕ)) → text_room (l ∷ ls) ≡ 4 * length l + 1 + text_room ls
-text_room-cons l ls = sum_by-cons (λ (m : List ℕ). 4 * length m + 1) l ls
+pub text_room_cons : (l : List ℕ) (ls : List (List ℕ)) → text_room (l ∷ ls) ≡ 4 * length l + 1 + text_room ls
+text_room_cons l ls = sum_by-cons (λ (m : List ℕ). 4 * length m + 1) l ls
 
 -- The room of a text and the size of a wire form, by the number of labels.
 record Sizes (ls : List (List ℕ)) : Type 0 where
@@ -28,8 +28,8 @@ sizes [] each = record { room = refl; labels = omega arith }
 sizes (l ∷ ls) each =
     let others = sizes ls each.1 in
     record {
-      room = omega (arith, others.room, text_room-cons l ls, encoded_size-cons l ls);
-      labels = omega (arith, others.labels, each.0.not_long, encoded_size-cons l ls);
+      room = omega (arith, others.room, text_room_cons l ls, encoded_size_cons l ls);
+      labels = omega (arith, others.labels, each.0.not_long, encoded_size_cons l ls);
     }
 
 pub room_short : (ls : List (List ℕ)) → AllByRecursion IsLabel ls → encoded_size ls ≤ max_name → text_room ls ≤ max_text
@@ -55,13 +55,13 @@ some_in_label (b ∷ bs) h = omega (arith, some_bytes true b, length-append (byt
 
 few_dotted : (ls : List (List ℕ)) → length (flat_map dotted ls) ≤ text_room ls
 few_dotted [] = omega arith
-few_dotted (l ∷ ls) = omega (arith, few_in_label l, few_dotted ls, text_room-cons l ls, length-append (dotted l) (flat_map dotted ls))
+few_dotted (l ∷ ls) = omega (arith, few_in_label l, few_dotted ls, text_room_cons l ls, length-append (dotted l) (flat_map dotted ls))
 
 -- the text of a name with labels is that of the first, those of the others after dots, and maybe a last dot
 length_text : (is_fqdn : Bool) (l : List ℕ) (ls : List (List ℕ)) → length (name_text (record { is_fqdn = is_fqdn; labels = l ∷ ls }))
     ≡ length (label_text l) + length (flat_map dotted ls) + (if is_fqdn then 1 else 0)
-length_text true l ls = omega (arith, length-append (join_with_byte dot (map label_text (l ∷ ls))) (dot ∷ []), ap length (joined-cons l ls), length-append (label_text l) (flat_map dotted ls))
-length_text false l ls = omega (arith, length-append (join_with_byte dot (map label_text (l ∷ ls))) [], ap length (joined-cons l ls), length-append (label_text l) (flat_map dotted ls))
+length_text true l ls = omega (arith, length-append (join_with_byte dot (map label_text (l ∷ ls))) (dot ∷ []), ap length (joined_cons l ls), length-append (label_text l) (flat_map dotted ls))
+length_text false l ls = omega (arith, length-append (join_with_byte dot (map label_text (l ∷ ls))) [], ap length (joined_cons l ls), length-append (label_text l) (flat_map dotted ls))
 
 at_most_one : (b : Bool) → (if b then 1 else 0) ≤ 1
 at_most_one b = grind arith
@@ -70,7 +70,7 @@ short : (is_fqdn : Bool) (ls : List (List ℕ)) → AreLabels ls → length (nam
 short true [] h = omega arith
 short false [] h = omega arith
 short is_fqdn (l ∷ ls) h =
-    omega (arith, length_text is_fqdn l ls, at_most_one is_fqdn, few_in_label l, few_dotted ls, text_room-cons l ls, room_short (l ∷ ls) h.each h.fit)
+    omega (arith, length_text is_fqdn l ls, at_most_one is_fqdn, few_in_label l, few_dotted ls, text_room_cons l ls, room_short (l ∷ ls) h.each h.fit)
 
 some : (is_fqdn : Bool) (ls : List (List ℕ)) → AreLabels ls → (ls ≡ [] → is_fqdn ≡ true) → 1 ≤ length (name_text (record { is_fqdn = is_fqdn; labels = ls }))
 some true [] h named = omega arith

@@ -10,7 +10,7 @@ use Rattle.dnw_base.proofs.Wires.{encoded_size_push}
 use Rattle.dnw_name_form.specs.LabelText.{is_label_text, may_begin, may_follow}
 use Rattle.dnw_name_ascii.specs.NameText.{Char, Dot, with_text, name_from_elements}
 use Rattle.dnw_name_ascii.specs.TextFaults.{rule_of}
-use Rattle.dnw_name_ascii.specs.Inside.TextProgress.{Breaks, BreaksAt, GoesOn, Holds}
+use Rattle.dnw_name_ascii.specs.Inside.TextProgress.{Breaks, BreaksAt, GoesOnWith, HoldsLabels}
 use Rattle.dnw_name_ascii.specs.declared.fault.TextRule.{TextRule}
 use Rattle.dnw_name_ascii.specs.declared.fault.TextRule.TheVariants.{EmptyLabel, LabelTooLong, NameTooLong, Character}
 use Rattle.dnw_name_ascii.specs.declared.fault.Progress.{Progress}
@@ -22,7 +22,7 @@ malformed_rule [] some = absurd (omega (arith, some))
 malformed_rule (b ∷ bs) some = refl
 
 -- a character of n bytes more
-module _ (p : Progress) (c n : ℕ) (is : n ≡ len_utf8 c) (ls : List (List ℕ)) (label : List ℕ) (h : Holds p ls label) where
+module _ (p : Progress) (c n : ℕ) (is : n ≡ len_utf8 c) (ls : List (List ℕ)) (label : List ℕ) (h : HoldsLabels p ls label) where
   abbrev text : List ℕ
   text = label ++ encode_utf8 c
 
@@ -64,7 +64,7 @@ module _ (p : Progress) (c n : ℕ) (is : n ≡ len_utf8 c) (ls : List (List ℕ
       (no_room ls text _ (omega (arith, few, size)) (tested true good) refl past) (never_fits ls text past)
 
   pub pushed : p.label + n ≤ 63 → true ≡ (if p.label == 0 then may_begin c else may_follow c) → p.size + 1 + (p.label + n) ≤ 255
-      → Holds (record { size = p.size; label = p.label + n }) ls text
+      → HoldsLabels (record { size = p.size; label = p.label + n }) ls text
   pushed few good room = record {
     size = h.size;
     most = h.most;
@@ -84,11 +84,11 @@ empty_label p none ls [] h = record {
 }
 empty_label p none ls (b ∷ bs) h = absurd (omega (arith, none, h.len))
 
-pub label_ends : (p : Progress) → (p.label ≡ 0 → ⊥) → GoesOn Dot p (record { size = p.size + (1 + p.label); label = 0 })
+pub label_ends : (p : Progress) → (p.label ≡ 0 → ⊥) → GoesOnWith Dot p (record { size = p.size + (1 + p.label); label = 0 })
 label_ends p some ls label h =
     let positive : 0 < length label = omega (arith, some, h.len) in
     let room = h.fits positive in
-    let held : Holds (record { size = p.size + (1 + p.label); label = 0 }) (ls ++ label ∷ []) [] = record {
+    let held : HoldsLabels (record { size = p.size + (1 + p.label); label = 0 }) (ls ++ label ∷ []) [] = record {
       size = omega (arith, h.size, h.len, encoded_size_push ls label);
       most = omega (arith, room, encoded_size_push ls label);
       len = refl;

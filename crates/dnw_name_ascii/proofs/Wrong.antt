@@ -15,7 +15,7 @@ use Rattle.dnw_name_form.specs.LabelText.{dot}
 use Rattle.dnw_name_ascii.specs.NameText.{TextElement, Stop, Outside, elements, name_from_elements, name_from_text}
 use Rattle.dnw_name_ascii.specs.TextFaults.{Gives, GoesWrong, GoesWrongBy, IsNameText, rule_of}
 use Rattle.dnw_name_ascii.specs.Inside.TextReader.{LeadsInside, state_of}
-use Rattle.dnw_name_ascii.specs.Inside.TextProgress.{BeginsWithElement, BreaksAt, GoesOn, GoesWrongNext, HasRead, Holds, IsUnfinished, IsWithin, ReadsOn, Stops, from_start}
+use Rattle.dnw_name_ascii.specs.Inside.TextProgress.{BeginsWithElement, BreaksAt, GoesOnWith, GoesWrongNext, HasRead, HoldsLabels, IsUnfinished, IsWithinText, ReadsTextOn, StopsText, from_start}
 use Rattle.dnw_name_ascii.specs.declared.text.State.{State}
 use Rattle.dnw_name_ascii.specs.declared.text.State.TheVariants.{Outside as HeldOutside}
 use Rattle.dnw_name_ascii.specs.declared.text.Move.TheVariants.{Enter}
@@ -24,10 +24,10 @@ use Rattle.dnw_name_ascii.specs.declared.fault.TextRule.{TextRule}
 use Rattle.dnw_name_ascii.specs.declared.fault.TextRule.TheVariants.{EmptyLabel, UnfinishedEscape as Unfinished}
 use Rattle.dnw_name_ascii.specs.declared.fault.Progress.{Progress}
 use Rattle.dnw_name_ascii.proofs.Elements.{fits}
-use Rattle.dnw_name_ascii.proofs.TextReading.{plain_chars, chars-dot, no_end}
+use Rattle.dnw_name_ascii.proofs.TextReading.{plain_chars, chars_dot, no_end}
 
 -- one character more
-module _ (text : List ℕ) (state : State) (rest after : List ℕ) (d : ℕ) (w : IsWithin text state rest) (first : chars rest ≡ d ∷ chars after) where
+module _ (text : List ℕ) (state : State) (rest after : List ℕ) (d : ℕ) (w : IsWithinText text state rest) (first : chars rest ≡ d ∷ chars after) where
   parts : chars text ≡ (w.own ++ d ∷ []) ++ chars after
   parts = w.parts ∙ ap (λ l. w.own ++ l) first ∙ sym (append_assoc w.own (d ∷ []) (chars after))
 
@@ -52,7 +52,7 @@ module _ (text : List ℕ) (state : State) (rest after : List ℕ) (d : ℕ) (w 
   }
 
   pub stop_read : (rule : TextRule) (fault : Fault) → rule ≡ rule_of fault → (fault ≡ UnfinishedEscape → ⊥)
-      → ((more : List ℕ) → elements (state_of state) (d ∷ more) ≡ Stop fault ∷ []) → Stops text rule
+      → ((more : List ℕ) → elements (state_of state) (d ∷ more) ≡ Stop fault ∷ []) → StopsText text rule
   stop_read rule fault is other stops = record {
     own = w.own ++ d ∷ [];
     rest = chars after;
@@ -66,7 +66,7 @@ module _ (text : List ℕ) (state : State) (rest after : List ℕ) (d : ℕ) (w 
   }
 
   pub enters : (next : State) → LeadsInside (Enter next) → ((more : List ℕ) → elements (state_of state) (d ∷ more) ≡ elements (state_of next) more)
-      → length after < length rest → IsUtf8 after → IsWithin text next after
+      → length after < length rest → IsUtf8 after → IsWithinText text next after
   enters next inside goes short utf8 = record {
     own = w.own ++ d ∷ [];
     parts = parts;
@@ -84,7 +84,7 @@ module _ (text : List ℕ) (state : State) (rest after : List ℕ) (d : ℕ) (w 
           ∙ (reads (λ more. elements (state_of next) more) goes [] ∙ no_end next (λ e. subst (λ s. LeadsInside (Enter s)) e inside))
 
 -- before the first character
-pub nothing_read : (text : List ℕ) → IsUtf8 text → IsWithin text HeldOutside text
+pub nothing_read : (text : List ℕ) → IsUtf8 text → IsWithinText text HeldOutside text
 nothing_read text utf8 = record {
   own = [];
   parts = refl;
@@ -102,7 +102,7 @@ chars_some text utf8 some = by (chars text) refl
     by [] e = absurd (omega (arith, ap length (sym (encodes-chars text utf8) ∙ ap encodes e), some))
     by (c ∷ cs) e = omega arith
 
-pub text_ends : (text : List ℕ) (state : State) (rest : List ℕ) → IsWithin text state rest → IsUtf8 text → chars rest ≡ [] → 0 < length text → Stops text Unfinished
+pub text_ends : (text : List ℕ) (state : State) (rest : List ℕ) → IsWithinText text state rest → IsUtf8 text → chars rest ≡ [] → 0 < length text → StopsText text Unfinished
 text_ends text state rest w utf8 none some =
     let all : chars text ≡ w.own = w.parts ∙ (ap (λ l. w.own ++ l) none ∙ append-nil w.own) in
     record {
@@ -118,7 +118,7 @@ text_ends text state rest w utf8 none some =
     }
 
 -- a character or an escape was read, or breaks a rule
-pub reads_on : (p q : Progress) (text rest : List ℕ) (e : TextElement) → BeginsWithElement text e rest → GoesOn e p q → ReadsOn p q text rest
+pub reads_on : (p q : Progress) (text rest : List ℕ) (e : TextElement) → BeginsWithElement text e rest → GoesOnWith e p q → ReadsTextOn p q text rest
 reads_on p q text rest e b goes = record {
   own = b.own;
   parts = b.parts;
@@ -133,7 +133,7 @@ whole : (own : List ℕ) (es : List ℕ → List TextElement) → ((more : List 
 whole own es gives = ap (elements Outside) (sym (append-nil own)) ∙ gives []
 
 pub breaks : (p : Progress) (text rest : List ℕ) (e : TextElement) (rule : TextRule) → BeginsWithElement text e rest → BreaksAt e p rule
-    → (ls : List (List ℕ)) (label : List ℕ) → Holds p ls label → GoesWrongNext ls label (chars text) rule
+    → (ls : List (List ℕ)) (label : List ℕ) → HoldsLabels p ls label → GoesWrongNext ls label (chars text) rule
 breaks p text rest e rule b broken ls label h =
     let k = broken ls label h in
     record {
@@ -148,7 +148,7 @@ breaks p text rest e rule b broken ls label h =
       hopeless = λ other more name is. k.hopeless (elements Outside more) name (sym (ap (name_from_elements ls label) (b.gives more)) ∙ is);
     }
 
-pub stops : (text : List ℕ) (rule : TextRule) → Stops text rule → (ls : List (List ℕ)) (label : List ℕ) → GoesWrongNext ls label (chars text) rule
+pub stops : (text : List ℕ) (rule : TextRule) → StopsText text rule → (ls : List (List ℕ)) (label : List ℕ) → GoesWrongNext ls label (chars text) rule
 stops text rule s ls label = record {
   own = s.own;
   rest = s.rest;
@@ -173,7 +173,7 @@ start text utf8 = record {
   utf8 = utf8;
 }
 
-pub next : (text rest after : List ℕ) (p q : Progress) → HasRead text p rest → ReadsOn p q rest after → HasRead text q after
+pub next : (text rest after : List ℕ) (p q : Progress) → HasRead text p rest → ReadsTextOn p q rest after → HasRead text q after
 next text rest after p q r on =
     let (all, label, held, goes) = on.goes_on r.ls r.label r.holds in
     record {
@@ -187,7 +187,7 @@ next text rest after p q r on =
     }
 
 -- what is held gives a name
-gives_name : (p : Progress) (ls : List (List ℕ)) (label : List ℕ) → Holds p ls label → (name : NameValue) × (name_from_elements ls label [] ≡ Ok name)
+gives_name : (p : Progress) (ls : List (List ℕ)) (label : List ℕ) → HoldsLabels p ls label → (name : NameValue) × (name_from_elements ls label [] ≡ Ok name)
 gives_name p ls [] h = (record { is_fqdn = true; labels = ls }, refl)
 gives_name p ls (b ∷ bs) h = (
   record { is_fqdn = false; labels = ls ++ (b ∷ bs) ∷ [] },
@@ -215,7 +215,7 @@ pub left : (text rest : List ℕ) (p : Progress) → IsUtf8 text → HasRead tex
 left text rest p utf8 r = omega (arith, octets_read text rest p utf8 r)
 
 pub wrong : (text rest : List ℕ) (p : Progress) (n : ℕ) (rule : TextRule) → IsUtf8 text → HasRead text p rest → n + length rest ≡ length text
-    → ((ls : List (List ℕ)) → (label : List ℕ) → Holds p ls label → GoesWrongNext ls label (chars rest) rule)
+    → ((ls : List (List ℕ)) → (label : List ℕ) → HoldsLabels p ls label → GoesWrongNext ls label (chars rest) rule)
     → GoesWrongBy from_start (chars text) (record { offset = n; rule = rule })
 wrong text rest p n rule utf8 r at goes =
     let g = goes r.ls r.label r.holds in
@@ -237,7 +237,7 @@ wrong text rest p n rule utf8 r at goes =
 -- a text of one octet that is a dot is the root
 pub lone_dot : (text : List ℕ) → length text ≡ 1 → get_or text 0 0 ≡ dot → IsNameText (chars text)
 lone_dot [] one is = absurd (omega (arith, one))
-lone_dot (b ∷ []) one is = (record { is_fqdn = true; labels = [] }, ap name_from_text (ap (λ (n : ℕ). chars (n ∷ [])) is ∙ chars-dot))
+lone_dot (b ∷ []) one is = (record { is_fqdn = true; labels = [] }, ap name_from_text (ap (λ (n : ℕ). chars (n ∷ [])) is ∙ chars_dot))
 lone_dot (b ∷ c ∷ bs) one is = absurd (omega (arith, one))
 
 -- a longer one that begins with a dot goes wrong after it

@@ -4,7 +4,7 @@ ghost use Rattle.std.specs.Str.{chars};
 ghost use Rattle.dnw_name_form.specs.LabelText.{dot, may_begin, may_follow};
 ghost use Rattle.dnw_name_ascii.specs.NameText.{Char, Dot};
 ghost use Rattle.dnw_name_ascii.specs.TextFaults.{GoesWrong, GoesWrongBy, Gives, IsNameText};
-ghost use Rattle.dnw_name_ascii.specs.Inside.TextProgress.{BeginsWithChar, BeginsWithUnit, BreaksAt, GoesOn, GoesWrongNext, Holds, IsSmall, ReadsOn, from_start};
+ghost use Rattle.dnw_name_ascii.specs.Inside.TextProgress.{BeginsWithChar, BeginsWithUnit, BreaksAt, GoesOnWith, GoesWrongNext, HoldsLabels, IsSmall, ReadsTextOn, from_start};
 
 use crate::text::{Move, State, step};
 use dnw_base::limits::{MAX_LABEL, MAX_NAME};
@@ -117,8 +117,8 @@ impl Progress {
     fn advance<'t>(&mut self, text: &'t str) -> Result<&'t str, TextRule>
         requires some { 0 < length text.now }
         requires small { IsSmall self.old }
-        ensures ok { IfOk result (λ rest. ReadsOn self.old self.new text.now rest.now) }
-        ensures err { IfErr result (λ rule. (ls : List (List ℕ)) → (label : List ℕ) → Holds self.old ls label → GoesWrongNext ls label (chars text.now) rule) }
+        ensures ok { IfOk result (λ rest. ReadsTextOn self.old self.new text.now rest.now) }
+        ensures err { IfErr result (λ rule. (ls : List (List ℕ)) → (label : List ℕ) → HoldsLabels self.old ls label → GoesWrongNext ls label (chars text.now) rule) }
     {
         match unit_of(text) {
             Unit::Dot(rest) => {
@@ -136,7 +136,7 @@ impl Progress {
     /// Adds a character to the label.
     fn push(&mut self, c: char) -> Result<(), TextRule>
         requires { IsSmall self.old }
-        ensures ok { OnOk result (GoesOn (Char c) self.old self.new) }
+        ensures ok { OnOk result (GoesOnWith (Char c) self.old self.new) }
         ensures err { IfErr result (BreaksAt (Char c) self.old) }
     {
         let label = self.label + c.len_utf8();
@@ -156,7 +156,7 @@ impl Progress {
     /// Ends the label.
     fn end_label(&mut self) -> Result<(), TextRule>
         requires { IsSmall self.old }
-        ensures ok { OnOk result (GoesOn Dot self.old self.new) }
+        ensures ok { OnOk result (GoesOnWith Dot self.old self.new) }
         ensures err { IfErr result (BreaksAt Dot self.old) }
     {
         if self.label == 0 {

@@ -9,7 +9,7 @@ ghost use Rattle.dnw_base.specs.Labels.{IsLabel, asterisk};
 ghost use Rattle.dnw_base.specs.Names.{encoded_size};
 ghost use Rattle.dnw_name_form.specs.LabelText.{dot, label_from_text, label_text};
 ghost use Rattle.dnw_name_ascii.specs.NameText.{Outside, Escaped, is_numeric, is_octal_digit, elements, Stop, bad_digit, max_text, with_text, name_from_text};
-ghost use Rattle.dnw_name_ascii.specs.Inside.TextReader.{state_of, elements_from, LeadsInside, escape_len, IsNoLonger, IsAlike, is_simple, IsRun, IsSimpleLabel, IsDottedLabel, PutsLengths, Begins, BeginsWithEscape, BeginsWithLabel, name_from_rest, name_from, reader_len, fails_with};
+ghost use Rattle.dnw_name_ascii.specs.Inside.TextReader.{state_of, elements_from, LeadsInside, escape_len, IsNoLonger, IsAlike, is_simple, IsRun, IsSimpleLabel, IsDottedLabel, PutsLengths, CutsText, BeginsWithEscape, BeginsWithLabel, name_from_rest, name_from, reader_len, fails_with};
 
 use arrayvec::ArrayString;
 use dnw_base::error::{DecodeError, ProtoError, ProtoResult};
@@ -190,7 +190,7 @@ fn octal_digit(c: char) -> Option<u8>
 /// The same, with what reading gives after the escape.
 #[inline(always)]
 fn escape(text: &str) -> Option<char>
-    ensures { IfSome result (λ char. Begins text.now 4 (encode_utf8 char)) }
+    ensures { IfSome result (λ char. CutsText text.now 4 (encode_utf8 char)) }
 {
     octal_escape(text.as_bytes())
 }
@@ -638,7 +638,7 @@ fn simple_len(text: &[u8], known: usize) -> usize
 /// The same, with what reading gives after them.
 #[inline(always)]
 fn run_of(text: &str) -> usize
-    ensures { Begins text.now result (take result text.now) }
+    ensures { CutsText text.now result (take result text.now) }
 {
     run_len(text.as_bytes())
 }

@@ -18,13 +18,13 @@ with_label_fits ls l le =
     rw (le-ltb 255 (encoded_size (ls ++ l ∷ [])) (omega (arith, encoded_size_push ls l, le))) refl
 
 -- what the first part fails with, the whole fails with
-pub FailsOr-bind : {A B : Type 0} (r : Result A Fault) (f : A → Result B Fault) (e : ProtoError)
+pub FailsOr_bind : {A B : Type 0} (r : Result A Fault) (f : A → Result B Fault) (e : ProtoError)
     → FailsOr r (NeedsErrorText r) e → FailsOr (r >>= f) (NeedsErrorText (r >>= f)) e
-FailsOr-bind (Ok x) f Memory h = absurd h
-FailsOr-bind (Ok x) f e h = absurd h
-FailsOr-bind (Err fault) f e h = h
+FailsOr_bind (Ok x) f Memory h = absurd h
+FailsOr_bind (Ok x) f e h = absurd h
+FailsOr_bind (Err fault) f e h = h
 
 -- what fails without memory, fails whatever memory there is
-pub FailsOr-any : {A : Type 0} (r : Result A Fault) (e : ProtoError) → FailsOr r ⊥ e → FailsOr r (NeedsErrorText r) e
-FailsOr-any r Memory h = absurd h
-FailsOr-any r e h = h
+pub FailsOr_any : {A : Type 0} (r : Result A Fault) (e : ProtoError) → FailsOr r ⊥ e → FailsOr r (NeedsErrorText r) e
+FailsOr_any r Memory h = absurd h
+FailsOr_any r e h = h

@@ -19,20 +19,20 @@ clamped_total p = record {
   congr = λ x y z. p.congr (min x 255) (min y 255) (min z 255) (omega arith) (omega arith) (omega arith);
 }
 
-clamped-same : (R : ℕ → ℕ → Ordering) (xs ys : List ℕ) → AreOctets xs → AreOctets ys → slice_cmp (clamped R) xs ys ≡ slice_cmp R xs ys
-clamped-same R [] [] hx hy = refl
-clamped-same R [] (y ∷ ys) hx hy = refl
-clamped-same R (x ∷ xs) [] hx hy = refl
-clamped-same R (x ∷ xs) (y ∷ ys) hx hy =
+clamped_same : (R : ℕ → ℕ → Ordering) (xs ys : List ℕ) → AreOctets xs → AreOctets ys → slice_cmp (clamped R) xs ys ≡ slice_cmp R xs ys
+clamped_same R [] [] hx hy = refl
+clamped_same R [] (y ∷ ys) hx hy = refl
+clamped_same R (x ∷ xs) [] hx hy = refl
+clamped_same R (x ∷ xs) (y ∷ ys) hx hy =
     let low : min x 255 ≡ x = omega (arith, hx.0) in
     let low_too : min y 255 ≡ y = omega (arith, hy.0) in
-    rw (low, low_too, clamped-same R xs ys hx.1 hy.1) refl
+    rw (low, low_too, clamped_same R xs ys hx.1 hy.1) refl
 
 -- so labels are ordered, too
 pub labels_preorder : {R : ℕ → ℕ → Ordering} → IsTotalPreorder IsOctet R → IsTotalPreorder AreOctets (slice_cmp R)
 labels_preorder {R} p =
     let total = lists_total (clamped_total p) in
-    let same = clamped-same R in
+    let same = clamped_same R in
     record {
       antisymm = λ xs ys hx hy. sym (same xs ys hx hy) ∙ total.antisymm xs ys ∙ ap ordering_reverse (same ys xs hy hx);
       trans = λ xs ys zs hx hy hz first second.
@@ -42,25 +42,25 @@ labels_preorder {R} p =
     }
 
 -- if one list has ended, the lengths decide
-pub slice_cmp-ended : {A : Type 0} (R : A → A → Ordering) (or : A) (i : ℕ) (xs ys : List A) (r : Ordering)
+pub slice_cmp_ended : {A : Type 0} (R : A → A → Ordering) (or : A) (i : ℕ) (xs ys : List A) (r : Ordering)
     → MatchOrdering r (length xs < length ys) (length xs ≡ length ys) (length ys < length xs) → i ≡ min (length xs) (length ys)
     → slice_cmp R (drop i xs) (drop i ys) ≡ r
-slice_cmp-ended R or i xs ys Less h e =
+slice_cmp_ended R or i xs ys Less h e =
     let none : length xs ≤ i = omega (arith, h, e) in
     let more : i < length ys = omega (arith, h, e) in
     rw (drop_all i xs none, drop_more ys i or more) refl
-slice_cmp-ended R or i xs ys Equal h e =
+slice_cmp_ended R or i xs ys Equal h e =
     let none : length xs ≤ i = omega (arith, h, e) in
     let none_too : length ys ≤ i = omega (arith, h, e) in
     rw (drop_all i xs none, drop_all i ys none_too) refl
-slice_cmp-ended R or i xs ys Greater h e =
+slice_cmp_ended R or i xs ys Greater h e =
     let none : length ys ≤ i = omega (arith, h, e) in
     let more : i < length xs = omega (arith, h, e) in
     rw (drop_all i ys none, drop_more xs i or more) refl
 
 -- lists whose items are compared through a function are compared item by item under it
-pub slice_cmp-on : {A B : Type 0} (f : A → B) (R : B → B → Ordering) (xs ys : List A) → slice_cmp (on f R) xs ys ≡ slice_cmp R (map f xs) (map f ys)
-slice_cmp-on f R [] [] = refl
-slice_cmp-on f R [] (y ∷ ys) = refl
-slice_cmp-on f R (x ∷ xs) [] = refl
-slice_cmp-on f R (x ∷ xs) (y ∷ ys) = ap (ordering_then (R (f x) (f y))) (slice_cmp-on f R xs ys)
+pub slice_cmp_on : {A B : Type 0} (f : A → B) (R : B → B → Ordering) (xs ys : List A) → slice_cmp (on f R) xs ys ≡ slice_cmp R (map f xs) (map f ys)
+slice_cmp_on f R [] [] = refl
+slice_cmp_on f R [] (y ∷ ys) = refl
+slice_cmp_on f R (x ∷ xs) [] = refl
+slice_cmp_on f R (x ∷ xs) (y ∷ ys) = ap (ordering_then (R (f x) (f y))) (slice_cmp_on f R xs ys)

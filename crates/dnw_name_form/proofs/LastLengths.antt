@@ -41,13 +41,13 @@ pub record Passed (labels rest : List ℕ) (lengths : ℕ) : Type 0 where
   pub whole : labels_of (closed labels) ≡ front ++ labels_of (closed rest)
   pub known : HasLengths (reverse front) lengths
 
-pub Passed-start : (labels : List ℕ) → IsWire (closed labels) → Passed labels labels 0
-Passed-start labels w = record { wire = w; front = []; whole = refl; known = refl }
+pub Passed_start : (labels : List ℕ) → IsWire (closed labels) → Passed labels labels 0
+Passed_start labels w = record { wire = w; front = []; whole = refl; known = refl }
 
 -- the length octet of the next label, and the label
-pub Passed-next : (labels rest : List ℕ) (lengths c : ℕ) (others : List ℕ) → Passed labels rest lengths → Front closed (labels_of (closed rest)) c others
+pub Passed_next : (labels rest : List ℕ) (lengths c : ℕ) (others : List ℕ) → Passed labels rest lengths → Front closed (labels_of (closed rest)) c others
     → Passed labels (drop c others) (lengths % 72057594037927936 * 256 + c)
-Passed-next labels rest lengths c others seen first =
+Passed_next labels rest lengths c others seen first =
     let label = take c others in
     let len : length label ≡ c = length-take-le c others first.fits in
     let known = subst (λ (n : ℕ). HasLengths (label ∷ reverse seen.front) (lengths % 72057594037927936 * 256 + n)) len
@@ -59,7 +59,7 @@ Passed-next labels rest lengths c others seen first =
       known = subst (λ (ls : List (List ℕ)). HasLengths ls (lengths % 72057594037927936 * 256 + c)) (sym (reverse-append seen.front (label ∷ []))) known;
     }
 
-pub Passed-all : (labels rest : List ℕ) (lengths : ℕ) → Passed labels rest lengths → length rest ≡ 0 → HasLengths (reverse (labels_of (closed labels))) lengths
-Passed-all labels rest lengths seen end =
+pub Passed_all : (labels rest : List ℕ) (lengths : ℕ) → Passed labels rest lengths → length rest ≡ 0 → HasLengths (reverse (labels_of (closed labels))) lengths
+Passed_all labels rest lengths seen end =
     let whole : labels_of (closed labels) ≡ seen.front = seen.whole ∙ ap (λ (more : List (List ℕ)). seen.front ++ more) (closed_none rest end) ∙ append-nil seen.front in
     subst (λ (ls : List (List ℕ)). HasLengths (reverse ls) lengths) (sym whole) seen.known

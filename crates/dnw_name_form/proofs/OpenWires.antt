@@ -6,7 +6,7 @@ use Rattle.dnw_base.specs.Labels.{IsLabel}
 use Rattle.dnw_base.specs.Names.{AreLabels, labels_wire}
 use Rattle.dnw_base.proofs.Wires.{encoded_size_push, labels_wire_push}
 use Rattle.dnw_name_form.specs.Inside.WireBytes.{closed, labels_of, IsWire, SplitsLast}
-use Rattle.dnw_name_form.proofs.Wires.{labels_of-form, Front, Front-cons}
+use Rattle.dnw_name_form.proofs.Wires.{labels_of_form, Front, Front_cons}
 
 open_wire : (bytes : List ℕ) → IsWire (closed bytes) → bytes ≡ labels_wire (labels_of (closed bytes))
 open_wire bytes w = append_cancel_right bytes (labels_wire (labels_of (closed bytes))) (0 ∷ []) w.spelled
@@ -17,7 +17,7 @@ OpenFront ls c rest = Front closed ls c rest
 
 first_label : (ls : List (List ℕ)) (c : ℕ) (rest : List ℕ) → AreLabels ls → labels_wire ls ≡ c ∷ rest → OpenFront ls c rest
 first_label [] c rest h e = absurd cc
-first_label (l ∷ ls) c rest h e = Front-cons closed l ls (labels_wire ls) c rest h refl e
+first_label (l ∷ ls) c rest h e = Front_cons closed l ls (labels_wire ls) c rest h refl e
 
 pub open_front : (bytes : List ℕ) (c : ℕ) (rest : List ℕ) → IsWire (closed bytes) → bytes ≡ c ∷ rest → OpenFront (labels_of (closed bytes)) c rest
 open_front bytes c rest w e = first_label (labels_of (closed bytes)) c rest w.labels (sym (open_wire bytes w) ∙ e)
@@ -37,7 +37,7 @@ open_last bytes front last w e =
     rw count (ap (take (length (labels_wire front))) form ∙ take_at (labels_wire front) (length last ∷ last) (length (labels_wire front)) refl) in
     let all : AreLabels (front ++ last ∷ []) = subst AreLabels e w.labels in
     let are : AreLabels front = record { each = each_front front last all.each; fit = omega (arith, encoded_size_push front last, all.fit) } in
-    let (others, same) = labels_of-form (closed (take (length bytes - 1 - length last) bytes)) front (ap closed before) are in
+    let (others, same) = labels_of_form (closed (take (length bytes - 1 - length last) bytes)) front (ap closed before) are in
     (omega (arith, size), record { labels = e ∙ ap (λ (ls : List (List ℕ)). ls ++ last ∷ []) (sym same); others = others })
 
 pub closed_none : (bytes : List ℕ) → length bytes ≡ 0 → labels_of (closed bytes) ≡ []

@@ -18,12 +18,12 @@ lower_twice : (ls : List (List ℕ)) → IsLower (lower ls)
 lower_twice [] = refl
 lower_twice (l ∷ ls) = rw (label_twice l, lower_twice ls) refl
 
-pub lowered-is : (n m : NameValue) → n ≡ lowered m → IsLower n.labels
-lowered-is n m same = rw same (lower_twice m.labels)
+pub lowered_is : (n m : NameValue) → n ≡ lowered m → IsLower n.labels
+lowered_is n m same = rw same (lower_twice m.labels)
 
 -- a fully qualified name is its labels
-pub lowered-same : (n read name : NameValue) → read.is_fqdn ≡ true → n ≡ record { is_fqdn = true; labels = read.labels } → name ≡ lowered read → lowered n ≡ name
-lowered-same n read name fqdn is e = ap lowered is ∙ ap (λ (b : Bool). record { is_fqdn = b; labels = lower read.labels }) (sym fqdn) ∙ sym e
+pub lowered_same : (n read name : NameValue) → read.is_fqdn ≡ true → n ≡ record { is_fqdn = true; labels = read.labels } → name ≡ lowered read → lowered n ≡ name
+lowered_same n read name fqdn is e = ap lowered is ∙ ap (λ (b : Bool). record { is_fqdn = b; labels = lower read.labels }) (sym fqdn) ∙ sym e
 
 same_name : (x y : NameValue) → x.is_fqdn ≡ y.is_fqdn → x.labels ≡ y.labels → x ≡ y
 same_name x y flag labels =

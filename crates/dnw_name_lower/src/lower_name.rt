@@ -12,7 +12,7 @@ ghost use Rattle.dnw_name_order.specs.Order.{name_cmp_case, name_eq_case, IsZone
 ghost use Rattle.dnw_name_order.specs.OrderLaws.{name_cmp_case_total, name_eq_case_equiv, name_case_ties, name_case_order};
 ghost use Rattle.dnw_name.specs.Decodable.{StopsSomehow};
 ghost use Rattle.dnw_write.specs.EmittedName.{EmitsName};
-ghost use Rattle.dnw_write.specs.NameFrames.{frame-name};
+ghost use Rattle.dnw_write.specs.NameFrames.{frame_name};
 ghost use Rattle.dnw_name_lower.specs.LowerNames.{lowered, IsLower, lower_name_from_text, TakesLowerName, lower_name_hash_input, lower_name_hash_alike};
 
 use dnw_base::decoder::BinDecoder;
@@ -256,7 +256,7 @@ impl Hash for LowerName {
 impl BinEncodable for LowerName {
     ghost emits = { EmitsName };
 
-    ghost keeps_frame = { frame-name };
+    ghost keeps_frame = { frame_name };
 
     fn emit(&self, encoder: &mut BinEncoder<'_>) -> ProtoResult<()> {
         self.0.emit(encoder)

@@ -8,32 +8,32 @@ use Rattle.std.specs.declared.cmp.Ordering.TheVariants.{Less, Equal, Greater}
 use Rattle.std.proofs.lemmas.List.{drop_at, length-map, take-append-drop}
 use Rattle.dnw_base.specs.Names.{encoded_size, lower}
 use Rattle.dnw_name_order.specs.Order.{IsZoneOf}
-use Rattle.dnw_base.proofs.Wires.{encoded_size-cons}
-use Rattle.dnw_name_form.proofs.LowerWires.{encoded_size-lower}
+use Rattle.dnw_base.proofs.Wires.{encoded_size_cons}
+use Rattle.dnw_name_form.proofs.LowerWires.{encoded_size_lower}
 use Rattle.dnw_name_form.specs.LabelOrder.{octets_cmp, octet_cmp_ignore_case}
-use Rattle.dnw_name_form.proofs.LabelOrders.{slice_cmp-on}
+use Rattle.dnw_name_form.proofs.LabelOrders.{slice_cmp_on}
 
 -- lower case keeps the size
-pub lower-size : (a b : List (List ℕ)) → lower a ≡ lower b → encoded_size a ≡ encoded_size b
-lower-size a b same = sym (encoded_size-lower a) ∙ ap encoded_size same ∙ encoded_size-lower b
+pub lower_size : (a b : List (List ℕ)) → lower a ≡ lower b → encoded_size a ≡ encoded_size b
+lower_size a b same = sym (encoded_size_lower a) ∙ ap encoded_size same ∙ encoded_size_lower b
 
 -- the last labels are as many as the zone has
-length-lower : (ls : List (List ℕ)) → length (lower ls) ≡ length ls
-length-lower ls = length-map ls (map to_ascii_lowercase)
+length_lower : (ls : List (List ℕ)) → length (lower ls) ≡ length ls
+length_lower ls = length-map ls (map to_ascii_lowercase)
 
-pub IsZoneOf-last : (zone ls : List (List ℕ)) → IsZoneOf zone ls ↔ (lower (drop (length ls - length zone) ls) ≡ lower zone)
-IsZoneOf-last zone ls = (
+pub IsZoneOf_last : (zone ls : List (List ℕ)) → IsZoneOf zone ls ↔ (lower (drop (length ls - length zone) ls) ≡ lower zone)
+IsZoneOf_last zone ls = (
   λ (front, rest, whole, same).
-      let count : length rest ≡ length zone = sym (length-lower rest) ∙ ap length same ∙ length-lower zone in
+      let count : length rest ≡ length zone = sym (length_lower rest) ∙ ap length same ∙ length_lower zone in
       let passed : length front ≡ length ls - length zone = omega (arith, ap length whole, length-append front rest, count) in
       ap lower (ap (drop (length ls - length zone)) whole ∙ drop_at front rest (length ls - length zone) passed) ∙ same,
   λ same. (take (length ls - length zone) ls, drop (length ls - length zone) ls, sym (take-append-drop (length ls - length zone) ls), same),
 )
 
 -- labels that others end in are no longer
-encoded_size-suffix : (front rest : List (List ℕ)) → encoded_size rest ≤ encoded_size (front ++ rest)
-encoded_size-suffix [] rest = omega arith
-encoded_size-suffix (l ∷ front) rest = omega (arith, encoded_size-cons l (front ++ rest), encoded_size-suffix front rest)
+encoded_size_suffix : (front rest : List (List ℕ)) → encoded_size rest ≤ encoded_size (front ++ rest)
+encoded_size_suffix [] rest = omega arith
+encoded_size_suffix (l ∷ front) rest = omega (arith, encoded_size_cons l (front ++ rest), encoded_size_suffix front rest)
 
 -- ---- orders of lists
 
@@ -51,21 +51,21 @@ some_after R [] some = absurd (omega (arith, some))
 some_after R (u ∷ us) some = refl
 
 -- what two lists have in common at the front decides nothing
-pub slice_cmp-passed : {A : Type 0} (R : A → A → Ordering) → ((a : A) → R a a ≡ Equal) → (n : ℕ) (xs ys : List A) → take n xs ≡ take n ys
+pub slice_cmp_passed : {A : Type 0} (R : A → A → Ordering) → ((a : A) → R a a ≡ Equal) → (n : ℕ) (xs ys : List A) → take n xs ≡ take n ys
     → slice_cmp R xs ys ≡ slice_cmp R (drop n xs) (drop n ys)
-slice_cmp-passed R same zero xs ys e = refl
-slice_cmp-passed R same (suc n) [] [] e = refl
-slice_cmp-passed R same (suc n) [] (y ∷ ys) e = absurd cc
-slice_cmp-passed R same (suc n) (x ∷ xs) [] e = absurd cc
-slice_cmp-passed R same (suc n) (x ∷ xs) (y ∷ ys) e =
+slice_cmp_passed R same zero xs ys e = refl
+slice_cmp_passed R same (suc n) [] [] e = refl
+slice_cmp_passed R same (suc n) [] (y ∷ ys) e = absurd cc
+slice_cmp_passed R same (suc n) (x ∷ xs) [] e = absurd cc
+slice_cmp_passed R same (suc n) (x ∷ xs) (y ∷ ys) e =
     let first : x ≡ y = cc in
     let others : take n xs ≡ take n ys = cc in
-    rw (first, same y) (slice_cmp-passed R same n xs ys others)
+    rw (first, same y) (slice_cmp_passed R same n xs ys others)
 
 -- labels that are no longer than the last ones of theirs are these
 pub no_front : (front rest ls : List (List ℕ)) → ls ≡ front ++ rest → encoded_size ls ≤ encoded_size rest → ls ≡ rest
 no_front [] rest ls e le = e
-no_front (l ∷ front) rest ls e le = absurd (omega (arith, ap encoded_size e, encoded_size-cons l (front ++ rest), encoded_size-suffix front rest, le))
+no_front (l ∷ front) rest ls e le = absurd (omega (arith, ap encoded_size e, encoded_size_cons l (front ++ rest), encoded_size_suffix front rest, le))
 
 -- labels that are longer than their last ones keep these when the first is passed
 pub past_first : (between rest ls : List (List ℕ)) (l : List ℕ) (more : List (List ℕ)) → ls ≡ between ++ rest → ls ≡ l ∷ more → encoded_size rest < encoded_size ls
@@ -76,10 +76,10 @@ past_first (m ∷ between) rest ls l more e f lt =
     (between, let same : more ≡ between ++ rest = cc in same)
 
 -- octets that are compared in lower case are those of the lowered labels
-pub slice_cmp-lowered : (xs ys : List (List ℕ)) → slice_cmp (slice_cmp octet_cmp_ignore_case) xs ys ≡ slice_cmp octets_cmp (lower xs) (lower ys)
-slice_cmp-lowered [] [] = refl
-slice_cmp-lowered [] (y ∷ ys) = refl
-slice_cmp-lowered (x ∷ xs) [] = refl
-slice_cmp-lowered (x ∷ xs) (y ∷ ys) =
-    ap (λ (first : Ordering). ordering_then first (slice_cmp (slice_cmp octet_cmp_ignore_case) xs ys)) (slice_cmp-on to_ascii_lowercase nat_cmp x y)
-    ∙ ap (ordering_then (octets_cmp (map to_ascii_lowercase x) (map to_ascii_lowercase y))) (slice_cmp-lowered xs ys)
+pub slice_cmp_lowered : (xs ys : List (List ℕ)) → slice_cmp (slice_cmp octet_cmp_ignore_case) xs ys ≡ slice_cmp octets_cmp (lower xs) (lower ys)
+slice_cmp_lowered [] [] = refl
+slice_cmp_lowered [] (y ∷ ys) = refl
+slice_cmp_lowered (x ∷ xs) [] = refl
+slice_cmp_lowered (x ∷ xs) (y ∷ ys) =
+    ap (λ (first : Ordering). ordering_then first (slice_cmp (slice_cmp octet_cmp_ignore_case) xs ys)) (slice_cmp_on to_ascii_lowercase nat_cmp x y)
+    ∙ ap (ordering_then (octets_cmp (map to_ascii_lowercase x) (map to_ascii_lowercase y))) (slice_cmp_lowered xs ys)

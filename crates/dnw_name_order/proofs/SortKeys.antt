@@ -11,13 +11,13 @@ use Rattle.std.proofs.lemmas.Grind.{flat_map-append}
 use Rattle.std.proofs.lemmas.List.{append-nil, drop-map, drop_at, drop_more, length-map, map-append, reverse-append, reverse-reverse}
 use Rattle.dnw_base.specs.Labels.{IsLabel}
 use Rattle.dnw_base.specs.Names.{encoded_size, lower}
-use Rattle.dnw_base.proofs.Wires.{encoded_size-cons}
+use Rattle.dnw_base.proofs.Wires.{encoded_size_cons}
 use Rattle.dnw_name_form.specs.LabelOrder.{lower_label, octets_cmp}
 use Rattle.dnw_name_order.specs.Order.{canonical, IsZoneOf}
 use Rattle.dnw_name_order.specs.OrderLaws.{lowered_last}
 use Rattle.dnw_name_order.specs.SortKeys.{escape_octet, label_key, sort_key}
 use Rattle.dnw_name_order.specs.SortKeyLaws.{KeysCompare, KeysCompareNames, KeysAreEqual, ZonesBegin, KeysAreShort}
-use Rattle.dnw_name_order.proofs.Comparing.{IsZoneOf-last, none_before, some_after, then_assoc}
+use Rattle.dnw_name_order.proofs.Comparing.{IsZoneOf_last, none_before, some_after, then_assoc}
 
 -- first octets that differ decide
 first_less : (x y : ℕ) (us vs : List ℕ) → x < y → octets_cmp (x ∷ us) (y ∷ vs) ≡ Less
@@ -54,17 +54,17 @@ ended_second (suc zero) us vs = refl
 ended_second (suc (suc x)) us vs = first_greater (suc (suc x)) 0 us vs (omega arith)
 
 -- the first octet of a label stands before the others, and what follows
-label-cons : (x : ℕ) (l us : List ℕ) → label_key (x ∷ l) ++ us ≡ escape_octet x ++ (label_key l ++ us)
-label-cons x l us = ap (λ (bytes : List ℕ). bytes ++ us) (append_assoc (escape_octet x) (flat_map escape_octet l) (0 ∷ [])) ∙ append_assoc (escape_octet x) (label_key l) us
+label_cons : (x : ℕ) (l us : List ℕ) → label_key (x ∷ l) ++ us ≡ escape_octet x ++ (label_key l ++ us)
+label_cons x l us = ap (λ (bytes : List ℕ). bytes ++ us) (append_assoc (escape_octet x) (flat_map escape_octet l) (0 ∷ [])) ∙ append_assoc (escape_octet x) (label_key l) us
 
 -- a label decides, and else what follows it
 label_then : (l m us vs : List ℕ) → octets_cmp (label_key l ++ us) (label_key m ++ vs) ≡ ordering_then (octets_cmp l m) (octets_cmp us vs)
 label_then [] [] us vs = refl
-label_then [] (y ∷ m) us vs = ap (octets_cmp (0 ∷ us)) (label-cons y m vs) ∙ ended_first y us (label_key m ++ vs)
-label_then (x ∷ l) [] us vs = ap (λ (bytes : List ℕ). octets_cmp bytes (0 ∷ vs)) (label-cons x l us) ∙ ended_second x (label_key l ++ us) vs
+label_then [] (y ∷ m) us vs = ap (octets_cmp (0 ∷ us)) (label_cons y m vs) ∙ ended_first y us (label_key m ++ vs)
+label_then (x ∷ l) [] us vs = ap (λ (bytes : List ℕ). octets_cmp bytes (0 ∷ vs)) (label_cons x l us) ∙ ended_second x (label_key l ++ us) vs
 label_then (x ∷ l) (y ∷ m) us vs =
-    ap (λ (bytes : List ℕ). octets_cmp bytes (label_key (y ∷ m) ++ vs)) (label-cons x l us)
-    ∙ ap (octets_cmp (escape_octet x ++ (label_key l ++ us))) (label-cons y m vs)
+    ap (λ (bytes : List ℕ). octets_cmp bytes (label_key (y ∷ m) ++ vs)) (label_cons x l us)
+    ∙ ap (octets_cmp (escape_octet x ++ (label_key l ++ us))) (label_cons y m vs)
     ∙ escaped_cmp x y (label_key l ++ us) (label_key m ++ vs)
     ∙ ap (ordering_then (nat_cmp x y)) (label_then l m us vs)
     ∙ sym (then_assoc (nat_cmp x y) (octets_cmp l m) (octets_cmp us vs))
@@ -151,7 +151,7 @@ last_labels zone ls rest e =
 
 pub zones_begin : ZonesBegin
 zones_begin zone ls = (
-  λ (rest, e). (IsZoneOf-last zone ls).1 (last_labels zone ls rest e),
+  λ (rest, e). (IsZoneOf_last zone ls).1 (last_labels zone ls rest e),
   λ within. key_begins zone ls within,
 )
 
@@ -177,8 +177,8 @@ few_escaped (suc (suc n) ∷ l) = omega (arith, few_escaped l)
 few_ended : (l : List ℕ) → length (label_key l) ≤ length l + length l + 1
 few_ended l = omega (arith, length-append (flat_map escape_octet l) (0 ∷ []), few_escaped l)
 
-sort_key-cons : (l : List ℕ) (ls : List (List ℕ)) → sort_key (l ∷ ls) ≡ sort_key ls ++ label_key (lower_label l)
-sort_key-cons l ls =
+sort_key_cons : (l : List ℕ) (ls : List (List ℕ)) → sort_key (l ∷ ls) ≡ sort_key ls ++ label_key (lower_label l)
+sort_key_cons l ls =
     ap (flat_map label_key) (canonical_front (l ∷ []) ls) ∙ flat_map-append label_key (canonical ls) (lower_label l ∷ [])
     ∙ ap (λ (bytes : List ℕ). sort_key ls ++ bytes) (append-nil (label_key (lower_label l)))
 
@@ -193,10 +193,10 @@ sizes (l ∷ ls) each =
     let others = sizes ls each.1 in
     let small = lower_label l in
     let size : length (sort_key (l ∷ ls)) ≤ length (sort_key ls) + (length l + length l + 1) =
-    omega (arith, ap length (sort_key-cons l ls), length-append (sort_key ls) (label_key small), few_ended small, length-map l to_ascii_lowercase) in
+    omega (arith, ap length (sort_key_cons l ls), length-append (sort_key ls) (label_key small), few_ended small, length-map l to_ascii_lowercase) in
     record {
-      key = omega (arith, size, others.key, encoded_size-cons l ls);
-      labels = omega (arith, others.labels, each.0.not_long, encoded_size-cons l ls);
+      key = omega (arith, size, others.key, encoded_size_cons l ls);
+      labels = omega (arith, others.labels, each.0.not_long, encoded_size_cons l ls);
     }
 
 pub keys_are_short : KeysAreShort

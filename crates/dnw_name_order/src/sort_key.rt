@@ -3,7 +3,7 @@
 //! So names are sorted by their keys with `memcmp`, and a store that compares bytes has them in the order of NSEC.
 ghost use Rattle.std.specs.Prelude.{◌≡◌, ◌+◌, ◌≤◌, length};
 ghost use Rattle.dnw_name_form.specs.LabelOrder.{lower_label};
-ghost use Rattle.dnw_name_order.specs.Inside.KeyBuffers.{Appends};
+ghost use Rattle.dnw_name_order.specs.Inside.KeyBuffers.{AppendsKey};
 ghost use Rattle.dnw_name_order.specs.SortKeys.{escape_octet, label_key, max_sort_key, sort_key};
 
 use crate::from_last::FromLast;
@@ -31,7 +31,7 @@ pub fn of_labels<'b>(labels: WireLabels<'_>, buffer: &'b mut [u8; MAX_SORT_KEY_L
 
 /// Puts the key of labels at the front of a buffer, and returns its length.
 fn put_labels(buffer: &mut [u8; MAX_SORT_KEY_LENGTH], labels: WireLabels<'_>) -> usize
-    ensures { Appends buffer.old 0 (sort_key labels.entry) buffer.new result }
+    ensures { AppendsKey buffer.old 0 (sort_key labels.entry) buffer.new result }
 {
     let mut end = 0;
     let mut rest = FromLast::new(labels.as_wire());
@@ -45,7 +45,7 @@ fn put_labels(buffer: &mut [u8; MAX_SORT_KEY_LENGTH], labels: WireLabels<'_>) ->
 #[inline(always)]
 fn put_label(buffer: &mut [u8; MAX_SORT_KEY_LENGTH], start: usize, label: &[u8]) -> usize
     requires { start + length (label_key (lower_label label.now)) ≤ max_sort_key }
-    ensures { Appends buffer.old start (label_key (lower_label label.now)) buffer.new result }
+    ensures { AppendsKey buffer.old start (label_key (lower_label label.now)) buffer.new result }
 {
     let mut end = start;
     for octet in label {
@@ -59,7 +59,7 @@ fn put_label(buffer: &mut [u8; MAX_SORT_KEY_LENGTH], start: usize, label: &[u8])
 #[inline(always)]
 fn put_octet(buffer: &mut [u8; MAX_SORT_KEY_LENGTH], start: usize, octet: u8) -> usize
     requires { start + length (escape_octet octet) ≤ max_sort_key }
-    ensures { Appends buffer.old start (escape_octet octet) buffer.new result }
+    ensures { AppendsKey buffer.old start (escape_octet octet) buffer.new result }
 {
     if octet > 1 {
         buffer[start] = octet;

@@ -9,52 +9,52 @@ use Rattle.std.proofs.lemmas.Option.{get_or_from_slice_get, slice_get_within}
 use Rattle.dnw_base.specs.Names.{encoded_size, wire}
 use Rattle.dnw_name_read.specs.Buffers.{put}
 use Rattle.dnw_name_read.specs.Reading.{target, Reads, zero_octet, label, pointer}
-use Rattle.dnw_name_read.specs.Inside.Found.{labels_at, StandsAt, LiesAt, Copies}
-use Rattle.dnw_name_read.proofs.Counts.{length-label, Reads-own}
-use Rattle.dnw_base.proofs.Wires.{wire-cons, length-wire}
-use Rattle.dnw_name_read.proofs.Behind.{here, StandsAt-reads}
+use Rattle.dnw_name_read.specs.Inside.Found.{labels_at, StandsAt, NameLiesAt, CopiesRuns}
+use Rattle.dnw_name_read.proofs.Counts.{length_label, Reads_own}
+use Rattle.dnw_base.proofs.Wires.{wire_cons, length_wire}
+use Rattle.dnw_name_read.proofs.Behind.{here, StandsAt_reads}
 
 -- a part is its front and the rest
-pub slice_range-split : (b : List ℕ) (i j k : ℕ) → i ≤ j → j ≤ k → slice_range b i k ≡ slice_range b i j ++ slice_range b j k
-slice_range-split b i j k first second = grind (arith, common_steps, take-add (j - i) (k - j) (drop i b), drop-drop (j - i) i b)
+pub slice_range_split : (b : List ℕ) (i j k : ℕ) → i ≤ j → j ≤ k → slice_range b i k ≡ slice_range b i j ++ slice_range b j k
+slice_range_split b i j k first second = grind (arith, common_steps, take-add (j - i) (k - j) (drop i b), drop-drop (j - i) i b)
 
 -- and its first octet and the rest
-slice_range-cons : (b : List ℕ) (p q : ℕ) → p < length b → p < q → slice_range b p q ≡ get_or b p 0 ∷ slice_range b (p + 1) q
-slice_range-cons b p q inside some =
+slice_range_cons : (b : List ℕ) (p q : ℕ) → p < length b → p < q → slice_range b p q ≡ get_or b p 0 ∷ slice_range b (p + 1) q
+slice_range_cons b p q inside some =
     let many : q - p ≡ suc (q - (p + 1)) = omega arith in
     rw (many, drop-cons b p 0 inside, ← add-one p) refl
 
 -- the octets of a label and the form of what follows make the form of both
-label-form : (b : List ℕ) (p c : ℕ) (ls : List (List ℕ)) → get_or b p 0 ≡ c → p + 1 + c ≤ length b
+label_form : (b : List ℕ) (p c : ℕ) (ls : List (List ℕ)) → get_or b p 0 ≡ c → p + 1 + c ≤ length b
     → slice_range b p (p + 1 + c) ++ wire ls ≡ wire (slice_range b (p + 1) (p + 1 + c) ∷ ls)
-label-form b p c ls octet there =
-    rw (slice_range-cons b p (p + 1 + c) (omega arith) (omega arith), octet, wire-cons, length-label b p c there) refl
+label_form b p c ls octet there =
+    rw (slice_range_cons b p (p + 1 + c) (omega arith) (omega arith), octet, wire_cons, length_label b p c there) refl
 
 -- where no pointer is followed, a name's own octets are its uncompressed form
-pub Reads-plain : {b : List ℕ} {p s e k : ℕ} {limit : Option ℕ} {ls : List (List ℕ)} → Reads b p s limit ls e k → k ≡ 0
+pub Reads_plain : {b : List ℕ} {p s e k : ℕ} {limit : Option ℕ} {ls : List (List ℕ)} → Reads b p s limit ls e k → k ≡ 0
     → slice_range b p e ≡ wire ls
-Reads-plain {b} {p} (zero_octet w g) none =
-    rw (slice_range-cons b p (p + 1) (slice_get_within b p 0 g) (omega arith), get_or_from_slice_get b p 0 0 g, between_none) refl
-Reads-plain {b} {p} (label {e = end} {ls = rest} c w g one most fit r) none =
-    let (behind, _) = Reads-own r in
-    rw (slice_range-split b p (p + 1 + c) end (omega arith) (omega arith), Reads-plain r none) (label-form b p c rest (get_or_from_slice_get b p c 0 g) fit)
-Reads-plain (pointer high low w g least g' prior r) none = absurd (omega arith)
+Reads_plain {b} {p} (zero_octet w g) none =
+    rw (slice_range_cons b p (p + 1) (slice_get_within b p 0 g) (omega arith), get_or_from_slice_get b p 0 0 g, between_none) refl
+Reads_plain {b} {p} (label {e = end} {ls = rest} c w g one most fit r) none =
+    let (behind, _) = Reads_own r in
+    rw (slice_range_split b p (p + 1 + c) end (omega arith) (omega arith), Reads_plain r none) (label_form b p c rest (get_or_from_slice_get b p c 0 g) fit)
+Reads_plain (pointer high low w g least g' prior r) none = absurd (omega arith)
 
 -- such a name stands in one piece, as long as its uncompressed form
-pub LiesAt-plain : {b : List ℕ} {p size count : ℕ} {in_one_piece : Bool} → LiesAt b p size count in_one_piece → IsTrue in_one_piece
+pub LiesAt_plain : {b : List ℕ} {p size count : ℕ} {in_one_piece : Bool} → NameLiesAt b p size count in_one_piece → IsTrue in_one_piece
     → (p + size ≤ length b) × (slice_range b p (p + size) ≡ wire (labels_at b p))
-LiesAt-plain {b} {p} {size} h whole =
-    let (behind, inside) = Reads-own h.stands.name.reads in
-    let form = Reads-plain h.stands.name.reads (h.plain whole) in
+LiesAt_plain {b} {p} {size} h whole =
+    let (behind, inside) = Reads_own h.stands.name.reads in
+    let form = Reads_plain h.stands.name.reads (h.plain whole) in
     let size_is = h.stands.size_is in
-    let end_is : h.end ≡ p + size = omega (arith, length-between b p h.end (omega arith), ap length form, length-wire (labels_at b p)) in
+    let end_is : h.end ≡ p + size = omega (arith, length-between b p h.end (omega arith), ap length form, length_wire (labels_at b p)) in
     (omega arith, rw end_is at form)
 
 -- the copy of a name begins
-pub Copies-start : {b : List ℕ} {p end size count pointers : ℕ} (out : List ℕ) → StandsAt b p end size count pointers → Copies b p p p out out 0
-Copies-start {b} {p} {end} {size} {count} {pointers} out h = record {
+pub Copies_start : {b : List ℕ} {p end size count pointers : ℕ} (out : List ℕ) → StandsAt b p end size count pointers → CopiesRuns b p p p out out 0
+Copies_start {b} {p} {end} {size} {count} {pointers} out h = record {
   segment = p;
-  on = StandsAt-reads b p end size count pointers h;
+  on = StandsAt_reads b p end size count pointers h;
   order = omega arith;
   back = omega arith;
   written = [];
@@ -63,7 +63,7 @@ Copies-start {b} {p} {end} {size} {count} {pointers} out h = record {
   is = refl;
 }
 
-module _ {b : List ℕ} {start run p : ℕ} {buffer out : List ℕ} {filled : ℕ} (h : Copies b start run p buffer out filled) where
+module _ {b : List ℕ} {start run p : ℕ} {buffer out : List ℕ} {filled : ℕ} (h : CopiesRuns b start run p buffer out filled) where
   -- the run that is still to be written
   Copies-run : length (slice_range b run p) ≡ p - run
   Copies-run = length-between b run p (omega (arith, h.on.inside))
@@ -86,23 +86,23 @@ module _ {b : List ℕ} {start run p : ℕ} {buffer out : List ℕ} {filled : �
       → after ≡ put buffer (wire (labels_at b start))
   Copies-end after z is =
       let none : labels_at b p ≡ [] = (here h.on).end z in
-      let last : slice_range b p (p + 1) ≡ 0 ∷ [] = rw (slice_range-cons b p (p + 1) h.on.inside (omega arith), z, between_none) refl in
-      let run_is = slice_range-split b run p (p + 1) h.order (omega arith) in
+      let last : slice_range b p (p + 1) ≡ 0 ∷ [] = rw (slice_range_cons b p (p + 1) h.on.inside (omega arith), z, between_none) refl in
+      let run_is = slice_range_split b run p (p + 1) h.order (omega arith) in
       put_more after _ is ∙ ap (put buffer) (rw (run_is, last) (rw none at h.whole))
 
   -- a label is passed
-  pub Copies-label : (get_or b p 0 ≡ 0 → ⊥) → get_or b p 0 < 192 → Copies b start run (p + 1 + get_or b p 0) buffer out filled
+  pub Copies-label : (get_or b p 0 ≡ 0 → ⊥) → get_or b p 0 < 192 → CopiesRuns b start run (p + 1 + get_or b p 0) buffer out filled
   Copies-label ne less =
       let label = (here h.on).label ne less in
       let c : ℕ = get_or b p 0 in
-      let form = label-form b p c (labels_at b (p + 1 + c)) refl label.there in
+      let form = label_form b p c (labels_at b (p + 1 + c)) refl label.there in
       record {
         segment = h.segment;
         on = label.on;
         order = omega (arith, h.order);
         back = h.back;
         written = h.written;
-        whole = rw (slice_range-split b run p (p + 1 + c) h.order (omega arith), append_assoc, form) (rw label.labels at h.whole);
+        whole = rw (slice_range_split b run p (p + 1 + c) h.order (omega arith), append_assoc, form) (rw label.labels at h.whole);
         size = h.size;
         is = h.is;
       }
@@ -110,7 +110,7 @@ module _ {b : List ℕ} {start run p : ℕ} {buffer out : List ℕ} {filled : �
   -- a pointer is followed, and the run before it is written
   pub Copies-pointer : (to : ℕ) (after : List ℕ) → to ≡ target (get_or b p 0) (get_or b (p + 1) 0) → 192 ≤ get_or b p 0
       → after ≡ take filled out ++ (slice_range b run p ++ drop (filled + length (slice_range b run p)) out)
-      → Copies b start to to buffer after (filled + (p - run))
+      → CopiesRuns b start to to buffer after (filled + (p - run))
   Copies-pointer to after to_is high is =
       let pointer = rw (← to_is) at ((here h.on).pointer high) in
       record {
@@ -127,8 +127,8 @@ module _ {b : List ℕ} {start run p : ℕ} {buffer out : List ℕ} {filled : �
 -- what is taken of a buffer that a wire form was put into
 pub wire_taken : (ls : List (List ℕ)) (size : ℕ) (buffer out : List ℕ) → size ≡ encoded_size ls → out ≡ put buffer (wire ls) → take size out ≡ wire ls
 wire_taken ls size buffer out size_is is =
-    let all : length (wire ls) ≡ size = omega (arith, size_is, length-wire ls) in
+    let all : length (wire ls) ≡ size = omega (arith, size_is, length_wire ls) in
     ap (take size) is ∙ take_at (wire ls) (drop (length (wire ls)) buffer) size all
 
 -- how a copy begins, goes on and ends
-pub ruleset copying = (Copies-start, Copies-end, Copies-label, Copies-pointer)
+pub ruleset copying = (Copies_start, Copies-end, Copies-label, Copies-pointer)

@@ -8,7 +8,7 @@ use Rattle.std.proofs.lemmas.Option.{gets, slice_get_past, slice_get-get_or}
 use Rattle.dnw_base.specs.declared.error.DecodeError.{DecodeError}
 use Rattle.dnw_base.specs.declared.error.DecodeError.TheVariants.{LabelOverlapsWithOther, InsufficientBytes, PointerNotPriorToLabel, DomainNameTooLong, UnrecognizedLabelCode}
 use Rattle.dnw_name_read.specs.Inside.Walking.{IsPointerAt}
-use Rattle.dnw_name_read.proofs.Counts.{octets, octets-label}
+use Rattle.dnw_name_read.proofs.Counts.{octets, octets_label}
 use Rattle.dnw_name_read.specs.Reading.{IsWithin, target, Reads, Stops, zero_octet, label, pointer, overlap, no_octet, half_pointer, not_prior, cut_label, too_long, reserved}
 
 -- the name ends, a label of so many octets stands there, a pointer leads there, or reading stops with an error
@@ -46,25 +46,25 @@ within b p s (Some limit) w = rw (lt-ltb p limit w) refl
 
 -- The step at each kind of octet at which reading goes on. Explicit: b p s limit, the octets, and then the facts of the
 -- constructor of `Reads`, in its order.
-pub step-zero : (b : List ℕ) (p s : ℕ) (limit : Option ℕ) → IsWithin p limit → slice_get b p ≡ Some 0
+pub step_zero : (b : List ℕ) (p s : ℕ) (limit : Option ℕ) → IsWithin p limit → slice_get b p ≡ Some 0
     → step b p s limit ≡ done
-step-zero b p s limit w g = rw (within b p s limit w, g) refl
+step_zero b p s limit w g = rw (within b p s limit w, g) refl
 
-pub step-label : (b : List ℕ) (p s : ℕ) (limit : Option ℕ) (c : ℕ) → IsWithin p limit → slice_get b p ≡ Some c → 1 ≤ c
+pub step_label : (b : List ℕ) (p s : ℕ) (limit : Option ℕ) (c : ℕ) → IsWithin p limit → slice_get b p ≡ Some c → 1 ≤ c
     → c ≤ 63 → p + 1 + c ≤ length b → step b p s limit ≡ text c
-step-label b p s limit c w g one most fit =
+step_label b p s limit c w g one most fit =
     rw (within b p s limit w, g, ne_eqb c 0 (λ e. omega arith), le-leb c 63 most, le-leb (p + 1 + c) (length b) fit) refl
 
-step-high : (b : List ℕ) (p s : ℕ) (limit : Option ℕ) (high : ℕ) → IsWithin p limit → slice_get b p ≡ Some high
+step_high : (b : List ℕ) (p s : ℕ) (limit : Option ℕ) (high : ℕ) → IsWithin p limit → slice_get b p ≡ Some high
     → 192 ≤ high → step b p s limit ≡ pointer_step p s high (slice_get b (p + 1))
-step-high b p s limit high w g least =
+step_high b p s limit high w g least =
     rw (within b p s limit w, g, ne_eqb high 0 (λ e. omega arith), lt-leb high 63 (omega arith), lt-leb high 191 least) refl
 
-pub step-pointer : (b : List ℕ) (p s : ℕ) (limit : Option ℕ) (high low : ℕ) → IsWithin p limit
+pub step_pointer : (b : List ℕ) (p s : ℕ) (limit : Option ℕ) (high low : ℕ) → IsWithin p limit
     → slice_get b p ≡ Some high → 192 ≤ high → slice_get b (p + 1) ≡ Some low → target high low < s
     → step b p s limit ≡ jump (target high low)
-step-pointer b p s limit high low w g least g' prior =
-    rw (step-high b p s limit high w g least, g', lt-ltb (target high low) s prior) refl
+step_pointer b p s limit high low w g least g' prior =
+    rw (step_high b p s limit high w g least, g', lt-ltb (target high low) s prior) refl
 
 -- how a reading goes on after its step
 abbrev pub ReadsBy : List ℕ → ℕ → ℕ → Option ℕ → List (List ℕ) → ℕ → ℕ → Step → Type 0
@@ -76,12 +76,12 @@ ReadsBy b p s limit ls e k (jump t) =
 ReadsBy b p s limit ls e k (halt error) = ⊥
 
 -- a reading goes on as its step says; explicit: the equation for the step, and the reading
-pub Reads-by : {b : List ℕ} {p s e k : ℕ} {limit : Option ℕ} {ls : List (List ℕ)} {next : Step}
+pub Reads_by : {b : List ℕ} {p s e k : ℕ} {limit : Option ℕ} {ls : List (List ℕ)} {next : Step}
     → step b p s limit ≡ next → Reads b p s limit ls e k → ReadsBy b p s limit ls e k next
-Reads-by {b} {p} {s} {limit} is (zero_octet w g) = rw (sym is ∙ step-zero b p s limit w g) (refl, refl, refl)
-Reads-by {b} {p} {s} {limit} is (label c w g one most fit r) = rw (sym is ∙ step-label b p s limit c w g one most fit) (_, refl, r)
-Reads-by {b} {p} {s} {limit} is (pointer high low w g least g' prior r) =
-    rw (sym is ∙ step-pointer b p s limit high low w g least g' prior) (_, _, refl, refl, r)
+Reads_by {b} {p} {s} {limit} is (zero_octet w g) = rw (sym is ∙ step_zero b p s limit w g) (refl, refl, refl)
+Reads_by {b} {p} {s} {limit} is (label c w g one most fit r) = rw (sym is ∙ step_label b p s limit c w g one most fit) (_, refl, r)
+Reads_by {b} {p} {s} {limit} is (pointer high low w g least g' prior r) =
+    rw (sym is ∙ step_pointer b p s limit high low w g least g' prior) (_, _, refl, refl, r)
 
 -- an error, and the counts of pointers and labels with which reading stops
 abbrev pub Stop : Type 0
@@ -100,46 +100,46 @@ fault zero b p s limit n = None
 fault (suc m) b p s limit n = fault_by (fault m b) p s limit n (step b p s limit)
 
 -- a fault is what this says
-pub Stops-fault : (m : ℕ) {b : List ℕ} {p s n k j : ℕ} {limit : Option ℕ} {error : DecodeError} → s + (255 - n) < m
+pub Stops_fault : (m : ℕ) {b : List ℕ} {p s n k j : ℕ} {limit : Option ℕ} {error : DecodeError} → s + (255 - n) < m
     → Stops b p s limit n error k j → fault m b p s limit n ≡ Some (error, k, j)
-Stops-fault zero less f = absurd (omega arith)
-Stops-fault (suc m) {p = p} less (overlap {limit = limit} over) = rw (le-ltb p limit over) refl
-Stops-fault (suc m) {b} {p} {s} {limit = limit} less (no_octet w past) = rw (within b p s limit w, slice_get_past b p past) refl
-Stops-fault (suc m) {b} {p} {s} {limit = limit} less (half_pointer high w g least past) =
-    rw (step-high b p s limit high w g least, slice_get_past b (p + 1) past) refl
-Stops-fault (suc m) {b} {p} {s} {limit = limit} less (not_prior high low w g least g' late) =
-    rw (step-high b p s limit high w g least, g', le-ltb (target high low) s late) refl
-Stops-fault (suc m) {b} {p} {s} {limit = limit} less (pointer high low w g least g' prior f) =
-    rw (step-pointer b p s limit high low w g least g' prior, Stops-fault m (omega arith) f) refl
-Stops-fault (suc m) {b} {p} {s} {limit = limit} less (cut_label c w g one most cut) =
+Stops_fault zero less f = absurd (omega arith)
+Stops_fault (suc m) {p = p} less (overlap {limit = limit} over) = rw (le-ltb p limit over) refl
+Stops_fault (suc m) {b} {p} {s} {limit = limit} less (no_octet w past) = rw (within b p s limit w, slice_get_past b p past) refl
+Stops_fault (suc m) {b} {p} {s} {limit = limit} less (half_pointer high w g least past) =
+    rw (step_high b p s limit high w g least, slice_get_past b (p + 1) past) refl
+Stops_fault (suc m) {b} {p} {s} {limit = limit} less (not_prior high low w g least g' late) =
+    rw (step_high b p s limit high w g least, g', le-ltb (target high low) s late) refl
+Stops_fault (suc m) {b} {p} {s} {limit = limit} less (pointer high low w g least g' prior f) =
+    rw (step_pointer b p s limit high low w g least g' prior, Stops_fault m (omega arith) f) refl
+Stops_fault (suc m) {b} {p} {s} {limit = limit} less (cut_label c w g one most cut) =
     rw (within b p s limit w, g, ne_eqb c 0 (λ e. omega arith), le-leb c 63 most, lt-leb (p + 1 + c) (length b) cut) refl
-Stops-fault (suc m) {b} {p} {s} {n} {limit = limit} less (too_long c w g one most fit long) =
-    rw (step-label b p s limit c w g one most fit, lt-ltb 255 (n + 1 + c) long) refl
-Stops-fault (suc m) {b} {p} {s} {n} {limit = limit} less (label c w g one most fit short f) =
-    rw (step-label b p s limit c w g one most fit, le-ltb 255 (n + 1 + c) short, Stops-fault m (omega arith) f) refl
-Stops-fault (suc m) {b} {p} {s} {limit = limit} less (reserved c w g least most) =
+Stops_fault (suc m) {b} {p} {s} {n} {limit = limit} less (too_long c w g one most fit long) =
+    rw (step_label b p s limit c w g one most fit, lt-ltb 255 (n + 1 + c) long) refl
+Stops_fault (suc m) {b} {p} {s} {n} {limit = limit} less (label c w g one most fit short f) =
+    rw (step_label b p s limit c w g one most fit, le-ltb 255 (n + 1 + c) short, Stops_fault m (omega arith) f) refl
+Stops_fault (suc m) {b} {p} {s} {limit = limit} less (reserved c w g least most) =
     rw (within b p s limit w, g, ne_eqb c 0 (λ e. omega arith), lt-leb c 63 least, le-leb c 191 (omega arith)) refl
 
 -- and a reading whose labels fit, after n octets of the name, does not stop
-pub Reads-no_fault : (m : ℕ) {b : List ℕ} {p s e k : ℕ} {limit : Option ℕ} {ls : List (List ℕ)} (n : ℕ) → s + (255 - n) < m → n + octets ls ≤ 255
+pub Reads_no_fault : (m : ℕ) {b : List ℕ} {p s e k : ℕ} {limit : Option ℕ} {ls : List (List ℕ)} (n : ℕ) → s + (255 - n) < m → n + octets ls ≤ 255
     → Reads b p s limit ls e k → fault m b p s limit n ≡ None
-Reads-no_fault zero n less fits r = absurd (omega arith)
-Reads-no_fault (suc m) {b} {p} {s} {limit = limit} n less fits (zero_octet w g) = rw (step-zero b p s limit w g) refl
-Reads-no_fault (suc m) {b} {p} {s} {limit = limit} n less fits (label {ls = rest} c w g one most fit r) =
-    let size = octets-label b p c rest fit in
-    rw (step-label b p s limit c w g one most fit, le-ltb 255 (n + 1 + c) (omega arith), Reads-no_fault m (n + 1 + c) (omega arith) (omega arith) r) refl
-Reads-no_fault (suc m) {b} {p} {s} {limit = limit} n less fits (pointer high low w g least g' prior r) =
-    rw (step-pointer b p s limit high low w g least g' prior, Reads-no_fault m n (omega arith) fits r) refl
+Reads_no_fault zero n less fits r = absurd (omega arith)
+Reads_no_fault (suc m) {b} {p} {s} {limit = limit} n less fits (zero_octet w g) = rw (step_zero b p s limit w g) refl
+Reads_no_fault (suc m) {b} {p} {s} {limit = limit} n less fits (label {ls = rest} c w g one most fit r) =
+    let size = octets_label b p c rest fit in
+    rw (step_label b p s limit c w g one most fit, le-ltb 255 (n + 1 + c) (omega arith), Reads_no_fault m (n + 1 + c) (omega arith) (omega arith) r) refl
+Reads_no_fault (suc m) {b} {p} {s} {limit = limit} n less fits (pointer high low w g least g' prior r) =
+    rw (step_pointer b p s limit high low w g least g' prior, Reads_no_fault m n (omega arith) fits r) refl
 
 -- what is read or stops where a pointer leads is read or stops at the pointer
-pub Reads-jump : {b : List ℕ} {p s t e k : ℕ} {limit : Option ℕ} {ls : List (List ℕ)} → IsWithin p limit → IsPointerAt b p s t
+pub Reads_jump : {b : List ℕ} {p s t e k : ℕ} {limit : Option ℕ} {ls : List (List ℕ)} → IsWithin p limit → IsPointerAt b p s t
     → Reads b t t (Some s) ls e k → Reads b p s limit ls (p + 2) (suc k)
-Reads-jump {s} w at r =
+Reads_jump {s} w at r =
     pointer at.high at.low w at.first at.marked at.second (rw at.leads at at.prior) (rw at.leads at r)
 
-pub Stops-jump : {b : List ℕ} {p s t n k j : ℕ} {limit : Option ℕ} {error : DecodeError} → IsWithin p limit → IsPointerAt b p s t
+pub Stops_jump : {b : List ℕ} {p s t n k j : ℕ} {limit : Option ℕ} {error : DecodeError} → IsWithin p limit → IsPointerAt b p s t
     → Stops b t t (Some s) n error k j → Stops b p s limit n error (suc k) j
-Stops-jump {s} w at f =
+Stops_jump {s} w at f =
     pointer at.high at.low w at.first at.marked at.second (rw at.leads at at.prior) (rw at.leads at f)
 
 -- what is left of the message ends within a label or a pointer

@@ -4,42 +4,42 @@
 use Rattle.std.proofs.Common.{◌≡◌, ℕ, ◌+◌, ◌≤◌, Option, List, sym, ap, ◌∙◌, ⊎_elim, arith, zero, suc, ◌-◌, ◌<◌, eqb, leb, ltb, Some, None, length, slice_get, [], refl, eqb-true}
 use Rattle.dnw_base.specs.declared.error.DecodeError.{DecodeError}
 use Rattle.dnw_name_read.specs.Reading.{Reads, Stops, zero_octet, label, pointer, too_long, IsWithin, target, overlap, no_octet, half_pointer, not_prior, cut_label, reserved}
-use Rattle.dnw_name_read.proofs.Counts.{octets, octets-label}
-use Rattle.dnw_name_read.proofs.Steps.{Step, Stop, done, text, jump, halt, Reads-by, Reads-no_fault, Stops-fault, step-zero, step-label, step-pointer, pointer_step, octet_step, step, Reads-jump, Stops-jump}
+use Rattle.dnw_name_read.proofs.Counts.{octets, octets_label}
+use Rattle.dnw_name_read.proofs.Steps.{Step, Stop, done, text, jump, halt, Reads_by, Reads_no_fault, Stops_fault, step_zero, step_label, step_pointer, pointer_step, octet_step, step, Reads_jump, Stops_jump}
 use Rattle.std.proofs.lemmas.Bool.{cases_lt, cond_both, eqb-false, leb-true, leb-false, ltb-true, ltb-false}
 use Rattle.std.proofs.lemmas.Option.{gets}
 use Rattle.std.proofs.lemmas.Grind.{common_steps}
 use Rattle.dnw_name_read.specs.Inside.Walking.{IsLabelAt, IsPointerAt}
 
 -- the labels, the end and the count of pointers are unique; explicit: the two readings
-pub Reads-unique : {b : List ℕ} {p s e e' k k' : ℕ} {limit : Option ℕ} {ls ls' : List (List ℕ)}
+pub Reads_unique : {b : List ℕ} {p s e e' k k' : ℕ} {limit : Option ℕ} {ls ls' : List (List ℕ)}
     → Reads b p s limit ls e k → Reads b p s limit ls' e' k' → (ls ≡ ls') × (e ≡ e') × (k ≡ k')
-Reads-unique {b} {p} {s} {limit} (zero_octet w g) h =
-    let (ls_is, e_is, k_is) = Reads-by (step-zero b p s limit w g) h in (sym ls_is, sym e_is, sym k_is)
-Reads-unique {b} {p} {s} {limit} (label c w g one most fit r) h =
-    let (rest, ls_is, r') = Reads-by (step-label b p s limit c w g one most fit) h in
-    let (same, e_is, k_is) = Reads-unique r r' in
+Reads_unique {b} {p} {s} {limit} (zero_octet w g) h =
+    let (ls_is, e_is, k_is) = Reads_by (step_zero b p s limit w g) h in (sym ls_is, sym e_is, sym k_is)
+Reads_unique {b} {p} {s} {limit} (label c w g one most fit r) h =
+    let (rest, ls_is, r') = Reads_by (step_label b p s limit c w g one most fit) h in
+    let (same, e_is, k_is) = Reads_unique r r' in
     (cc, e_is, k_is)
-Reads-unique {b} {p} {s} {limit} (pointer high low w g least g' prior r) h =
-    let (end, followed, e_is, k_is, r') = Reads-by (step-pointer b p s limit high low w g least g' prior) h in
-    let (same, _, same_k) = Reads-unique r r' in
+Reads_unique {b} {p} {s} {limit} (pointer high low w g least g' prior r) h =
+    let (end, followed, e_is, k_is, r') = Reads_by (step_pointer b p s limit high low w g least g' prior) h in
+    let (same, _, same_k) = Reads_unique r r' in
     (same, sym e_is, cc)
 
 -- and so are a fault's error and its counts of pointers and labels; explicit: the two faults
-pub Stops-unique : {b : List ℕ} {p s n k k' j j' : ℕ} {limit : Option ℕ} {error error' : DecodeError}
+pub Stops_unique : {b : List ℕ} {p s n k k' j j' : ℕ} {limit : Option ℕ} {error error' : DecodeError}
     → Stops b p s limit n error k j → Stops b p s limit n error' k' j' → (error ≡ error') × (k ≡ k') × (j ≡ j')
-Stops-unique {s} {n} {k} {k'} {j} {j'} {error} {error'} f f' =
+Stops_unique {s} {n} {k} {k'} {j} {j'} {error} {error'} f f' =
     let m : ℕ = suc (s + (255 - n)) in
-    let both = sym (Stops-fault m (omega arith) f) ∙ Stops-fault m (omega arith) f' in
+    let both = sym (Stops_fault m (omega arith) f) ∙ Stops_fault m (omega arith) f' in
     let same : (let x : Stop = (error, k, j) in x) ≡ (error', k', j') = cc in
     (ap (λ (x : Stop). x.0) same, ap (λ (x : Stop). x.1) same, ap (λ (x : Stop). x.2) same)
 
 -- a reading whose labels fit, after n octets of the name, is no fault; explicit: the reading, the bound, the fault
-pub Reads-not-Stops : {b : List ℕ} {p s e k n followed found : ℕ} {limit : Option ℕ} {ls : List (List ℕ)} {error : DecodeError}
+pub Reads_not_Stops : {b : List ℕ} {p s e k n followed found : ℕ} {limit : Option ℕ} {ls : List (List ℕ)} {error : DecodeError}
     → Reads b p s limit ls e k → n + octets ls ≤ 255 → Stops b p s limit n error followed found → ⊥
-Reads-not-Stops {s} {n} r fits h =
+Reads_not_Stops {s} {n} r fits h =
     let m : ℕ = suc (s + (255 - n)) in
-    let both = sym (Reads-no_fault m n (omega arith) fits r) ∙ Stops-fault m (omega arith) h in cc
+    let both = sym (Reads_no_fault m n (omega arith) fits r) ∙ Stops_fault m (omega arith) h in cc
 
 -- what a step says of the octets at p
 abbrev Sees : List ℕ → ℕ → ℕ → Option ℕ → Step → Type 0
@@ -48,20 +48,20 @@ Sees b p s limit (text c) = IsWithin p limit × IsLabelAt b p c
 Sees b p s limit (jump t) = IsWithin p limit × IsPointerAt b p s t
 Sees b p s limit (halt error) = (n : ℕ) → Stops b p s limit n error 0 0
 
-slice_get-none : (b : List ℕ) (p : ℕ) → slice_get b p ≡ None → length b ≤ p
-slice_get-none b p g = grind (arith, common_steps, gets)
+slice_get_none : (b : List ℕ) (p : ℕ) → slice_get b p ≡ None → length b ≤ p
+slice_get_none b p g = grind (arith, common_steps, gets)
 
 module _ (b : List ℕ) (p s : ℕ) (limit : Option ℕ) (w : IsWithin p limit) where
   pointer_sees : (high : ℕ) → slice_get b p ≡ Some high → 192 ≤ high → (second : Option ℕ) → slice_get b (p + 1) ≡ second
       → Sees b p s limit (pointer_step p s high second)
-  pointer_sees high g least None g' = λ n. half_pointer high w g least (slice_get-none b (p + 1) g')
+  pointer_sees high g least None g' = λ n. half_pointer high w g least (slice_get_none b (p + 1) g')
   pointer_sees high g least (Some low) g' =
       cond_both (ltb (target high low) s) _ _ (Sees b p s limit)
       (λ prior. (w, record { high = high; low = low; first = g; marked = least; second = g'; leads = refl; prior = ltb-true _ _ prior }))
       (λ late n. not_prior high low w g least g' (ltb-false _ _ late))
 
   octet_sees : (octet : Option ℕ) → slice_get b p ≡ octet → Sees b p s limit (octet_step b p s octet)
-  octet_sees None g = λ n. no_octet w (slice_get-none b p g)
+  octet_sees None g = λ n. no_octet w (slice_get_none b p g)
   octet_sees (Some c) g =
       cond_both (eqb c 0) _ _ (Sees b p s limit)
       (λ is. (w, rw (eqb-true c 0 is) at g))
@@ -100,13 +100,13 @@ module _ {A : Type 0} (b : List ℕ) where
       (λ long. fault _ 0 1 (too_long c w l.octet l.some l.few l.there long))
       (λ short.
       on (p + 1 + c) s limit (n + 1 + c) short (let some = l.some in omega arith)
-      (λ ls e k r most. name _ e k (label c w l.octet l.some l.few l.there r) (omega (arith, octets-label b p c ls l.there)))
+      (λ ls e k r most. name _ e k (label c w l.octet l.some l.few l.there r) (omega (arith, octets_label b p c ls l.there)))
       (λ error k j f. fault error k (suc j) (label c w l.octet l.some l.few l.there short f)))
       (cases_lt 255 (n + 1 + c))
   walk_on m on p s limit n fits less (jump t) (w, at) name fault =
       on t t (Some s) n fits (let prior = at.prior in omega arith)
-      (λ ls e k r most. name ls (p + 2) (suc k) (Reads-jump w at r) most)
-      (λ error k j f. fault error (suc k) j (Stops-jump w at f))
+      (λ ls e k r most. name ls (p + 2) (suc k) (Reads_jump w at r) most)
+      (λ error k j f. fault error (suc k) j (Stops_jump w at f))
   walk_on m on p s limit n fits less (halt error) f name fault = fault error 0 0 (f n)
 
   -- a reading that begins with n octets of the name, at most 255, ends in a name or in a fault: a label leaves less of

@@ -8,22 +8,22 @@ use Rattle.dnw_base.proofs.Wires.{encoded_size_push}
 use Rattle.dnw_name_read.specs.Reading.{IsWithin, NameAt, zero_octet, label}
 use Rattle.dnw_name_read.specs.Inside.Walking.{IsLabelAt, IsPointerAt, once_followed, GoesOn, Leads, WalksOn}
 use Rattle.dnw_name_read.specs.Inside.Found.{IsFound}
-use Rattle.dnw_name_read.proofs.Counts.{length-label}
-use Rattle.dnw_name_read.proofs.Stand.{Reads-wider}
-use Rattle.dnw_name_read.proofs.Steps.{Reads-jump, Stops-jump}
-use Rattle.dnw_name_read.proofs.Found.{labels_at-NameAt, StandsAt-found}
+use Rattle.dnw_name_read.proofs.Counts.{length_label}
+use Rattle.dnw_name_read.proofs.Stand.{Reads_wider}
+use Rattle.dnw_name_read.proofs.Steps.{Reads_jump, Stops_jump}
+use Rattle.dnw_name_read.proofs.Found.{labels_at_NameAt, StandsAt_found}
 
 -- a walk begins at the start, in a segment with any limit
-pub Leads-start : (b : List ℕ) (p : ℕ) (limit : Option ℕ) (passed : List (List ℕ)) → passed ≡ [] → Leads b p p p limit passed
-Leads-start b p limit passed none = record {
+pub Leads_start : (b : List ℕ) (p : ℕ) (limit : Option ℕ) (passed : List (List ℕ)) → passed ≡ [] → Leads b p p p limit passed
+Leads_start b p limit passed none = record {
   more = 0;
   own = λ e. e;
   earlier = omega arith;
-  goes_on = record { reads = λ ls e k r. rw (none, zero-add) (Reads-wider p None (omega arith) tt r) };
+  goes_on = record { reads = λ ls e k r. rw (none, zero-add) (Reads_wider p None (omega arith) tt r) };
 }
 
-pub WalksOn-start : (b : List ℕ) (p end : ℕ) → WalksOn b p p p p (length b) end 1 0 0
-WalksOn-start b p end = record {
+pub WalksOn_start : (b : List ℕ) (p end : ℕ) → WalksOn b p p p p (length b) end 1 0 0
+WalksOn_start b p end = record {
   passed = [];
   passed_size = refl;
   passed_count = refl;
@@ -33,7 +33,7 @@ WalksOn-start b p end = record {
   back = omega arith;
   inside = omega arith;
   whole = λ _. refl;
-  leads = Leads-start b p None [] refl;
+  leads = Leads_start b p None [] refl;
   goes_on = record { reads = λ ls e k r. rw zero-add r };
   stops = λ error k j f. rw (zero-add k, zero-add j) f;
 }
@@ -51,7 +51,7 @@ module _ {b : List ℕ} {start p s pointers : ℕ} {limit : Option ℕ} {passed 
 
   goes-pointer : (t : ℕ) → IsPointerAt b p s t → GoesOn b start t t (Some s) passed (λ e. own (p + 2)) (suc pointers)
   goes-pointer t at = record {
-    reads = λ ls e k r. let count : suc pointers + k ≡ pointers + suc k = omega arith in rw count (on.reads ls (p + 2) (suc k) (Reads-jump w at r));
+    reads = λ ls e k r. let count : suc pointers + k ≡ pointers + suc k = omega arith in rw count (on.reads ls (p + 2) (suc k) (Reads_jump w at r));
   }
 
 module _ {b : List ℕ} {start first p s limit end size pointers labels : ℕ} (h : WalksOn b start first p s limit end size pointers labels)
@@ -66,14 +66,14 @@ module _ {b : List ℕ} {start first p s limit end size pointers labels : ℕ} (
       let name : NameAt b start h.passed walked.end pointers = rw end_is (goes-end w h.goes_on g fits) in
       let there : NameAt b walked.first h.passed (h.leads.own (p + 1)) h.leads.more = rw first_is (goes-end w h.leads.goes_on g fits) in
       record {
-        stands = StandsAt-found b start _ _ _ _ (h.passed, name, size_of, sym h.passed_count);
+        stands = StandsAt_found b start _ _ _ _ (h.passed, name, size_of, sym h.passed_count);
         lies = record {
           end = h.leads.own (p + 1);
           pointers = h.leads.more;
-          stands = StandsAt-found b walked.first _ _ _ _ (h.passed, there, size_of, sym h.passed_count);
+          stands = StandsAt_found b walked.first _ _ _ _ (h.passed, there, size_of, sym h.passed_count);
           plain = λ whole. let same = plain whole in omega (arith, h.leads.earlier);
         };
-        same = labels_at-NameAt _ _ _ _ _ there ∙ sym (labels_at-NameAt _ _ _ _ _ name);
+        same = labels_at_NameAt _ _ _ _ _ there ∙ sym (labels_at_NameAt _ _ _ _ _ name);
       }
 
   -- a label is passed
@@ -83,7 +83,7 @@ module _ {b : List ℕ} {start first p s limit end size pointers labels : ℕ} (
       let new : List ℕ = slice_range b (p + 1) (p + 1 + c) in
       record {
         passed = h.passed ++ new ∷ [];
-        passed_size = omega (arith, h.passed_size, encoded_size_push h.passed new, length-label b p c l.there);
+        passed_size = omega (arith, h.passed_size, encoded_size_push h.passed new, length_label b p c l.there);
         passed_count = omega (arith, length_push h.passed new, h.passed_count);
         few = omega (arith, h.few, l.some);
         fits = short;
@@ -116,7 +116,7 @@ module _ {b : List ℕ} {start first p s limit end size pointers labels : ℕ} (
         goes_on = rw (← end_is) at (goes-pointer w h.goes_on t at);
         stops = λ error k j f.
             let count : suc pointers + k ≡ pointers + suc k = omega arith in
-            rw count (h.stops error (suc k) j (Stops-jump w at f));
+            rw count (h.stops error (suc k) j (Stops_jump w at f));
       }
 
   -- it is after a label

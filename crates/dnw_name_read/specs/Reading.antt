@@ -7,7 +7,7 @@ use Rattle.std.specs.Prelude.{◌≡◌, ℕ, suc, ◌+◌, ◌-◌, ◌*◌, �
 use Rattle.dnw_base.specs.declared.error.DecodeError.{DecodeError}
 use Rattle.dnw_base.specs.declared.error.DecodeError.TheVariants.{LabelOverlapsWithOther, InsufficientBytes, PointerNotPriorToLabel, DomainNameTooLong, UnrecognizedLabelCode}
 use Rattle.dnw_base.specs.Decoder.{Decoder}
-use Rattle.dnw_base.specs.Limits.{max_label, max_name, pointer_mark}
+use Rattle.dnw_base.specs.Limits.{max_label, max_name, pointer_bits}
 use Rattle.dnw_base.specs.Names.{encoded_size}
 
 -- an element may begin here
@@ -17,7 +17,7 @@ IsWithin p (Some limit) = p < limit
 
 -- the offset that a pointer points to: the low 14 bits of its two octets
 abbrev pub target : ℕ → ℕ → ℕ
-target high low = (high - pointer_mark) * 256 + low
+target high low = (high - pointer_bits) * 256 + low
 
 -- Reads b p s limit ls e k: in the message b, from offset p on, in a segment that started at s and has this limit, the
 -- labels ls are read, the name's own octets end at e, and k pointers are followed.
@@ -33,7 +33,7 @@ pub data Reads (b : List ℕ) : ℕ → ℕ → Option ℕ → List (List ℕ) �
       → Reads b p s limit (slice_range b (p + 1) (p + 1 + c) ∷ ls) e k
   -- a pointer of two octets, after which the name's own octets end; the second octet may be at the limit
   pointer : {p s e k : ℕ} {limit : Option ℕ} {ls : List (List ℕ)} (high low : ℕ)
-      → IsWithin p limit → slice_get b p ≡ Some high → pointer_mark ≤ high → slice_get b (p + 1) ≡ Some low → target high low < s
+      → IsWithin p limit → slice_get b p ≡ Some high → pointer_bits ≤ high → slice_get b (p + 1) ≡ Some low → target high low < s
       → Reads b (target high low) (target high low) (Some s) ls e k
       → Reads b p s limit ls (p + 2) (suc k)
 
@@ -56,15 +56,15 @@ pub data Stops (b : List ℕ) : ℕ → ℕ → Option ℕ → ℕ → DecodeErr
       → Stops b p s limit n InsufficientBytes 0 0
   -- the second octet of a pointer is missing
   half_pointer : {p s n : ℕ} {limit : Option ℕ} (high : ℕ)
-      → IsWithin p limit → slice_get b p ≡ Some high → pointer_mark ≤ high → length b ≤ p + 1
+      → IsWithin p limit → slice_get b p ≡ Some high → pointer_bits ≤ high → length b ≤ p + 1
       → Stops b p s limit n InsufficientBytes 0 0
   -- a pointer does not point before its own segment
   not_prior : {p s n : ℕ} {limit : Option ℕ} (high low : ℕ)
-      → IsWithin p limit → slice_get b p ≡ Some high → pointer_mark ≤ high → slice_get b (p + 1) ≡ Some low → s ≤ target high low
+      → IsWithin p limit → slice_get b p ≡ Some high → pointer_bits ≤ high → slice_get b (p + 1) ≡ Some low → s ≤ target high low
       → Stops b p s limit n (PointerNotPriorToLabel p (target high low)) 0 0
   -- reading stops after a pointer
   pointer : {p s n k j : ℕ} {limit : Option ℕ} {error : DecodeError} (high low : ℕ)
-      → IsWithin p limit → slice_get b p ≡ Some high → pointer_mark ≤ high → slice_get b (p + 1) ≡ Some low → target high low < s
+      → IsWithin p limit → slice_get b p ≡ Some high → pointer_bits ≤ high → slice_get b (p + 1) ≡ Some low → target high low < s
       → Stops b (target high low) (target high low) (Some s) n error k j
       → Stops b p s limit n error (suc k) j
   -- the message ends within a label
@@ -82,7 +82,7 @@ pub data Stops (b : List ℕ) : ℕ → ℕ → Option ℕ → ℕ → DecodeErr
       → Stops b p s limit n error k (suc j)
   -- an octet from 64 to 191 begins no element
   reserved : {p s n : ℕ} {limit : Option ℕ} (c : ℕ)
-      → IsWithin p limit → slice_get b p ≡ Some c → max_label < c → c < pointer_mark
+      → IsWithin p limit → slice_get b p ≡ Some c → max_label < c → c < pointer_bits
       → Stops b p s limit n (UnrecognizedLabelCode c) 0 0
 
 -- There is no name at p: reading stops with this error, after k pointers and j labels.

@@ -5,7 +5,7 @@ ghost use Rattle.dnw_name_read.specs.Buffers.{put};
 ghost use Rattle.dnw_name_read.specs.Inside.Found.{labels_at, StandsAt};
 
 use crate::walk;
-use dnw_base::limits::POINTER_MARK;
+use dnw_base::limits::POINTER_BITS;
 
 /// Puts the wire form of the name at `start` at the front of a buffer: each run of octets between two pointers in one piece.
 #[tactic(auto, using(crate::proofs::Copying::copying))]
@@ -23,7 +23,7 @@ pub fn copy_runs(out: &mut [u8], message: &[u8], start: usize)
             put_run(out, filled, &message[run..position + 1]);
             return;
         }
-        if octet < POINTER_MARK {
+        if octet < POINTER_BITS {
             position = position + 1 + octet as usize;
         } else {
             put_run(out, filled, &message[run..position]);

@@ -5,7 +5,7 @@ ghost use Rattle.std.specs.Iterator.SizeHint.{IsWithinCount};
 ghost use Rattle.dnw_name_read.specs.Inside.Found.{labels_at, MoreAt, LeadsTo, IsLeftAt};
 
 use crate::walk;
-use dnw_base::limits::POINTER_MARK;
+use dnw_base::limits::POINTER_BITS;
 use std::marker::Model;
 
 /// An iterator over the labels of a name in a message, from the left (RFC 1035, section 4.1.4). Its length is exact.
@@ -89,7 +89,7 @@ fn follow_pointers(message: &[u8], start: usize) -> usize
     ensures { LeadsTo message.now start result }
 {
     let mut position = start;
-    'pointers: while message[position] >= POINTER_MARK {
+    'pointers: while message[position] >= POINTER_BITS {
         position = walk::pointer_target(message[position], message[position + 1]);
     }
     position

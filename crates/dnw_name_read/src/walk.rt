@@ -1,12 +1,12 @@
 //! The walk over the elements of a name in a message, which copies nothing (RFC 1035, section 4.1.4).
 ghost use Rattle.std.specs.Prelude.{◌≡◌, ℕ, ◌+◌, ◌<◌, ◌≤◌, min, length, slice_get, Some, unwrap_or, IfOk, IfErr, IfSome, IfNone, OnOk};
 ghost use Rattle.dnw_name_read.specs.Reading.{IsWithin, Stops, FaultAt, target};
-ghost use Rattle.dnw_base.specs.Limits.{max_label, max_labels, pointer_mark, pointer_offsets};
+ghost use Rattle.dnw_base.specs.Limits.{max_label, max_labels, pointer_bits, pointer_offsets};
 ghost use Rattle.dnw_name_read.specs.Inside.Walking.{IsElement, IsNoElement, once_followed};
 ghost use Rattle.dnw_name_read.specs.Inside.Found.{IsFound};
 
 use dnw_base::error::DecodeError;
-use dnw_base::limits::{MAX_LABEL, MAX_NAME, POINTER_MARK};
+use dnw_base::limits::{MAX_LABEL, MAX_NAME, POINTER_BITS};
 
 /// The number of steps that a reading took, also if it failed.
 #[derive(Clone, Copy, Debug, Default, PartialEq, Eq)]
@@ -163,7 +163,7 @@ pub fn element_at(message: &[u8], position: usize, segment: usize) -> Result<Ele
     if octet as usize <= MAX_LABEL {
         return label_at(message, position, segment, octet as usize);
     }
-    if octet >= POINTER_MARK {
+    if octet >= POINTER_BITS {
         return pointer_at(message, position, segment, octet);
     }
     Err(DecodeError::UnrecognizedLabelCode(octet))
@@ -202,7 +202,7 @@ fn pointer_at(
 ) -> Result<Element, DecodeError>
     requires inside { position < length message.now }
     requires octet { slice_get message.now position ≡ Some high }
-    requires marked { pointer_mark ≤ high }
+    requires marked { pointer_bits ≤ high }
     ensures ok { IfOk result (IsElement message.now position segment) }
     ensures err { IfErr result (IsNoElement message.now position segment) }
 {
@@ -222,8 +222,8 @@ fn pointer_at(
 /// Returns the offset that these two octets point to: their low 14 bits.
 #[inline(always)]
 pub fn pointer_target(high: u8, low: u8) -> usize
-    requires { pointer_mark ≤ high }
+    requires { pointer_bits ≤ high }
     ensures { result ≡ target high low }
 {
-    (high - POINTER_MARK) as usize * 256 + low as usize
+    (high - POINTER_BITS) as usize * 256 + low as usize
 }

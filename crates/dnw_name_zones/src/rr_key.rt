@@ -2,7 +2,7 @@
 ghost use Rattle.std.specs.Prelude.{◌≡◌, Ok, refl};
 ghost use Rattle.std.specs.Ordering.{as_partial_cmp};
 ghost use Rattle.dnw_name_zones.specs.Keys.{key_cmp, key_eq, key_hash};
-ghost use Rattle.dnw_name_zones.specs.Inside.KeyLaws.{keys-total, keys-equal, keys-per, keys-tied, keys-ordered, keys-hash_alike};
+ghost use Rattle.dnw_name_zones.specs.Inside.KeyLaws.{keys_total, keys_equal, keys_per, keys_tied, keys_ordered, keys_hash_alike};
 
 use dnw_base::error::ProtoResult;
 use dnw_base::record_type::RecordType;
@@ -49,7 +49,7 @@ impl RrKey {
 impl PartialEq for RrKey {
     ghost eq = { key_eq };
 
-    ghost laws = { keys-per };
+    ghost laws = { keys_per };
 
     fn eq(&self, other: &Self) -> bool {
         self.name == other.name && self.record_type == other.record_type
@@ -57,13 +57,13 @@ impl PartialEq for RrKey {
 }
 
 impl Eq for RrKey {
-    ghost laws = { keys-equal };
+    ghost laws = { keys_equal };
 }
 
 impl PartialOrd for RrKey {
     ghost partial_cmp = { as_partial_cmp key_cmp };
 
-    ghost laws = { keys-ordered };
+    ghost laws = { keys_ordered };
 
     fn partial_cmp(&self, other: &Self) -> Option<Ordering> {
         Some(self.cmp(other))
@@ -74,11 +74,11 @@ impl PartialOrd for RrKey {
 impl Ord for RrKey {
     ghost cmp = { key_cmp };
 
-    ghost total = { keys-total };
+    ghost total = { keys_total };
 
     ghost matches_partial_cmp = { λ x y. refl };
 
-    ghost matches_eq = { keys-tied };
+    ghost matches_eq = { keys_tied };
 
     fn cmp(&self, other: &Self) -> Ordering {
         let by_name = self.name.cmp(&other.name);
@@ -89,7 +89,7 @@ impl Ord for RrKey {
 impl Hash for RrKey {
     ghost hash_input = { key_hash };
 
-    ghost respects_eq = { keys-hash_alike };
+    ghost respects_eq = { keys_hash_alike };
 
     fn hash<H: Hasher>(&self, state: &mut H) {
         self.name.hash(state);

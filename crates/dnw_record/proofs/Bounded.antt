@@ -11,9 +11,9 @@ use Rattle.dnw_write.proofs.NameBack.{names_stay_bounded}
 use Rattle.dnw_record.specs.declared.record.WireData.{WireData}
 use Rattle.dnw_record.specs.declared.record.WireData.TheVariants.{Bytes, Name}
 use Rattle.dnw_record.specs.Parts.{EmitsCounted, EmitsSized, EmitsWirePart, EmitsWireParts, Then, WirePart, Write, bytes_part, in_encoding, name_part, text_part}
-use Rattle.dnw_record.specs.WrittenRecords.{EmitsData, EmitsFields, data_part, type_class_ttl}
+use Rattle.dnw_record.specs.WrittenRecords.{EmitsData, EmitsFields, data_part, wire_fixed}
 use Rattle.dnw_record.specs.RecordLaws.{CountedStayBounded, DataStayBounded, KeepsBounded, PartStaysBounded, PartsStayBounded, RecordsStayBounded}
-use Rattle.dnw_record.proofs.Parts.{done-bytes, done-name}
+use Rattle.dnw_record.proofs.Parts.{done_bytes, done_name}
 
 -- An accepted write goes on from the offset, within the greater of the buffer's old length and the maximum, which stays.
 pub record GoesOn (v w : Encoder) : Type 0 where
@@ -25,57 +25,57 @@ pub record GoesOn (v w : Encoder) : Type 0 where
 abbrev pub Stays : Write → Type 0
 Stays write = (v w : Encoder) → v.offset ≤ length v.bytes → write v (Ok tt) w → GoesOn v w
 
-goes-then : (v m w : Encoder) → GoesOn v m → GoesOn m w → GoesOn v w
-goes-then v m w f g =
+goes_then : (v m w : Encoder) → GoesOn v m → GoesOn m w → GoesOn v w
+goes_then v m w f g =
     let le : max (length m.bytes) m.max_size ≤ max (length v.bytes) v.max_size = max-le f.bounded (omega (arith, f.same, le-max_right (length v.bytes) v.max_size)) in
     record { bounded = omega (arith, g.bounded, le); inside = g.inside; on = omega (arith, f.on, g.on); same = g.same ∙ f.same }
 
-pub stays-then : (first second : Write) → Stays first → Stays second → Stays (Then first second)
-stays-then first second one two v w le (m, f, s) =
+pub stays_then : (first second : Write) → Stays first → Stays second → Stays (Then first second)
+stays_then first second one two v w le (m, f, s) =
     let go = one v m le f in
-    goes-then v m w go (two m w go.inside s)
+    goes_then v m w go (two m w go.inside s)
 
 -- ---- each write
 
-pub stays-bytes : (d : List ℕ) → Stays (λ v. Writes v d)
-stays-bytes d v w le h =
+pub stays_bytes : (d : List ℕ) → Stays (λ v. Writes v d)
+stays_bytes d v w le h =
     let (bounded, inside) = writes_stay_bounded v w d le h in
-    let (_, _, same, on) = done-bytes d v w h in
+    let (_, _, same, on) = done_bytes d v w h in
     record { bounded = bounded; inside = inside; on = on; same = same }
 
-pub stays-name : (name : NameValue) → Stays (EmitsName name)
-stays-name name v w le h =
+pub stays_name : (name : NameValue) → Stays (EmitsName name)
+stays_name name v w le h =
     let (bounded, inside) = names_stay_bounded name v w le h in
-    let (_, _, same, on) = done-name name v w h in
+    let (_, _, same, on) = done_name name v w h in
     record { bounded = bounded; inside = inside; on = on; same = same }
 
-stays-part : (part : WirePart) → Stays (EmitsWirePart part)
-stays-part (bytes_part d) v w le h = stays-bytes d v w le h
-stays-part (text_part text) v w le h = stays-bytes (length text ∷ text) v w le h.1
-stays-part (name_part mode name) v w le (u, h, is) =
-    let go = stays-name name (in_encoding v mode) u le h in
+stays_part : (part : WirePart) → Stays (EmitsWirePart part)
+stays_part (bytes_part d) v w le h = stays_bytes d v w le h
+stays_part (text_part text) v w le h = stays_bytes (length text ∷ text) v w le h.1
+stays_part (name_part mode name) v w le (u, h, is) =
+    let go = stays_name name (in_encoding v mode) u le h in
     subst (GoesOn v) (sym is) (record { bounded = go.bounded; inside = go.inside; on = go.on; same = go.same })
 
-pub stays-parts : (parts : List WirePart) → Stays (EmitsWireParts parts)
-stays-parts [] v w le h =
+pub stays_parts : (parts : List WirePart) → Stays (EmitsWireParts parts)
+stays_parts [] v w le h =
     subst (GoesOn v) (sym h) (record { bounded = le-max_left (length v.bytes) v.max_size; inside = le; on = omega arith; same = refl })
-stays-parts (part ∷ parts) v w le (m, one, more) =
-    let go = stays-part part v m le one in
-    goes-then v m w go (stays-parts parts m w go.inside more)
+stays_parts (part ∷ parts) v w le (m, one, more) =
+    let go = stays_part part v m le one in
+    goes_then v m w go (stays_parts parts m w go.inside more)
 
 -- the length is filled in where it was reserved
-pub stays-sized : (write : Write) → Stays write → Stays (EmitsSized write)
-stays-sized write stays v w le (room, u, one, is) =
+pub stays_sized : (write : Write) → Stays write → Stays (EmitsSized write)
+stays_sized write stays v w le (room, u, one, is) =
     let (bounded, end) = places_stay_bounded v 2 le room in
     let first : GoesOn v (reserved v 2) = record { bounded = bounded; inside = omega (arith, end); on = omega arith; same = refl } in
     let second = stays (reserved v 2) u first.inside one in
-    let both = goes-then v (reserved v 2) u first second in
+    let both = goes_then v (reserved v 2) u first second in
     let over = fills_stay_bounded u v.offset (to_be_bytes w16 (u.offset - (v.offset + 2))) second.inside (omega (arith, second.on)) in
     subst (GoesOn v) (sym is) (record { bounded = omega (arith, both.bounded, over); inside = omega (arith, second.inside, over); on = both.on; same = both.same })
 
-stays-data : (rdata : WireData) → Stays (EmitsData rdata)
-stays-data (Bytes bytes) v w le h = stays-part (bytes_part bytes.items) v w le h
-stays-data (Name name encoding) v w le h = stays-part (data_part v.encoding v.canonical (Name name encoding)) v w le h
+stays_data : (rdata : WireData) → Stays (EmitsData rdata)
+stays_data (Bytes bytes) v w le h = stays_part (bytes_part bytes.items) v w le h
+stays_data (Name name encoding) v w le h = stays_part (data_part v.encoding v.canonical (Name name encoding)) v w le h
 
 -- ---- the laws
 
@@ -83,22 +83,22 @@ pub keeps : (write : Write) → Stays write → KeepsBounded write
 keeps write stays v w le h = let go = stays v w le h in (go.bounded, go.inside)
 
 pub part_stays_bounded : PartStaysBounded
-part_stays_bounded part = keeps (EmitsWirePart part) (stays-part part)
+part_stays_bounded part = keeps (EmitsWirePart part) (stays_part part)
 
 pub parts_stay_bounded : PartsStayBounded
-parts_stay_bounded parts = keeps (EmitsWireParts parts) (stays-parts parts)
+parts_stay_bounded parts = keeps (EmitsWireParts parts) (stays_parts parts)
 
 pub counted_stay_bounded : CountedStayBounded
 counted_stay_bounded front back =
-    let last : Stays (EmitsSized (EmitsWireParts back)) = stays-sized (EmitsWireParts back) (stays-parts back) in
-    keeps (EmitsCounted front back) (stays-then (EmitsWireParts front) (EmitsSized (EmitsWireParts back)) (stays-parts front) last)
+    let last : Stays (EmitsSized (EmitsWireParts back)) = stays_sized (EmitsWireParts back) (stays_parts back) in
+    keeps (EmitsCounted front back) (stays_then (EmitsWireParts front) (EmitsSized (EmitsWireParts back)) (stays_parts front) last)
 
 pub data_stay_bounded : DataStayBounded
-data_stay_bounded rdata = keeps (EmitsData rdata) (stays-data rdata)
+data_stay_bounded rdata = keeps (EmitsData rdata) (stays_data rdata)
 
 pub records_stay_bounded : RecordsStayBounded
 records_stay_bounded r v w le h =
     let sized : Write = EmitsSized (EmitsData r.rdata) in
-    let fields : Write = λ v. Writes v (type_class_ttl r) in
-    let last : Stays (Then fields sized) = stays-then fields sized (stays-bytes (type_class_ttl r)) (stays-sized (EmitsData r.rdata) (stays-data r.rdata)) in
-    keeps (EmitsFields r) (stays-then (EmitsName r.owner) (Then fields sized) (stays-name r.owner) last) v w le h.1
+    let fields : Write = λ v. Writes v (wire_fixed r) in
+    let last : Stays (Then fields sized) = stays_then fields sized (stays_bytes (wire_fixed r)) (stays_sized (EmitsData r.rdata) (stays_data r.rdata)) in
+    keeps (EmitsFields r) (stays_then (EmitsName r.owner) (Then fields sized) (stays_name r.owner) last) v w le h.1

@@ -7,22 +7,22 @@ use Rattle.dnw_base.specs.RecordTypes.{type_code, type_of_code}
 use Rattle.dnw_base.specs.DnsClasses.{class_code, class_of_code}
 use Rattle.dnw_base.specs.Limits.{max_message}
 use Rattle.dnw_base.specs.Names.{encoded_size, wire}
-use Rattle.dnw_base.proofs.Wires.{length-wire}
+use Rattle.dnw_base.proofs.Wires.{length_wire}
 use Rattle.dnw_name_read.specs.Reading.{NameAt}
-use Rattle.dnw_name_read.proofs.Back.{slice_range-middle}
-use Rattle.dnw_name_read.proofs.Stand.{Reads-append}
+use Rattle.dnw_name_read.proofs.Back.{slice_range_middle}
+use Rattle.dnw_name_read.proofs.Stand.{Reads_append}
 use Rattle.dnw_write.specs.Encoder.{Encoder, filled, reserved, written}
 use Rattle.dnw_write.specs.EmittedName.{Chooses, Share, emitted, form, in_mode, is_compressed}
-use Rattle.dnw_write.specs.EmittingLaws.{frame, frames-follow, take-all}
-use Rattle.dnw_write.specs.NameFrames.{frame-name}
+use Rattle.dnw_write.specs.EmittingLaws.{frame, frames_follow, take_all_lem}
+use Rattle.dnw_write.specs.NameFrames.{frame_name}
 use Rattle.dnw_write.proofs.NameBack.{name_is_read}
 use Rattle.dnw_record.specs.declared.record.WireData.{WireData}
 use Rattle.dnw_record.specs.declared.record.WireData.TheVariants.{Bytes, Name}
-use Rattle.dnw_record.specs.Records.{RecordAt, class_field, fields_at, length_field, record_of, ttl_field, type_field}
-use Rattle.dnw_record.specs.WrittenRecords.{EmitsData, type_class_ttl}
-use Rattle.dnw_record.specs.RecordFrames.{frame-data, frame-grows, frame-record, frame-reserved}
-use Rattle.dnw_record.specs.RecordLaws.{HasBytes, RecordsAreRead, RecordsLie, fields_of}
-use Rattle.dnw_record.proofs.Parts.{fits-fields}
+use Rattle.dnw_record.specs.Records.{RecordAt, class_field, fixed_at, length_field, record_of, ttl_field, type_field}
+use Rattle.dnw_record.specs.WrittenRecords.{EmitsData, wire_fixed}
+use Rattle.dnw_record.specs.RecordFrames.{frame_data, frame_grows, frame_record, frame_reserved}
+use Rattle.dnw_record.specs.RecordLaws.{HasBytes, RecordsAreRead, RecordsLie, fixed_and_length}
+use Rattle.dnw_record.proofs.Parts.{fits_fields}
 
 -- bytes that are written at the end
 pub added : (v w : Encoder) (d : List ℕ) → v.offset ≡ length v.bytes → w ≡ written v d → w.bytes ≡ v.bytes ++ d
@@ -33,59 +33,59 @@ added v w d e is =
     ∙ (ap (λ (x : List ℕ). v.bytes ++ (d ++ x)) behind ∙ ap (λ (x : List ℕ). v.bytes ++ x) (append-nil d)))
 
 -- the bytes of a name, whole or with a pointer
-pub emitted-bytes : (v : Encoder) (ls : List (List ℕ)) (choice : Option Share) → v.offset ≡ length v.bytes
+pub emitted_bytes : (v : Encoder) (ls : List (List ℕ)) (choice : Option Share) → v.offset ≡ length v.bytes
     → ((emitted v ls choice).bytes ≡ v.bytes ++ form ls choice) × ((emitted v ls choice).offset ≡ v.offset + length (form ls choice))
-emitted-bytes v ls None e = (added v (written v (wire ls)) (wire ls) e refl, refl)
-emitted-bytes v ls (Some share) e = (ap (λ (x : List ℕ). x ++ form ls (Some share)) (take-all v.offset v.bytes e), refl)
+emitted_bytes v ls None e = (added v (written v (wire ls)) (wire ls) e refl, refl)
+emitted_bytes v ls (Some share) e = (ap (λ (x : List ℕ). x ++ form ls (Some share)) (take_all_lem v.offset v.bytes e), refl)
 
 -- a name has all its bytes in a mode without compression
 pub full_size : (v : Encoder) (ls : List (List ℕ)) (choice : Option Share) → Chooses v ls choice → is_compressed v.encoding ≡ false
     → length (form ls choice) ≡ encoded_size ls
-full_size v ls None chosen not = length-wire ls
+full_size v ls None chosen not = length_wire ls
 full_size v ls (Some share) chosen not =
     let never : false ≡ true = sym (ap (λ (b : Bool). b && nat_lt v.names v.name_limit) not) ∙ chosen.0 in
     absurd cc
 
 -- two zero bytes are at a new placeholder
-pub reserved-bytes : (v : Encoder) → v.offset ≡ length v.bytes → (reserved v 2).bytes ≡ v.bytes ++ to_be_bytes w16 0
-reserved-bytes v e =
+pub reserved_bytes : (v : Encoder) → v.offset ≡ length v.bytes → (reserved v 2).bytes ≡ v.bytes ++ to_be_bytes w16 0
+reserved_bytes v e =
     let two : v.offset + 2 - length v.bytes ≡ 2 = omega (arith, e) in
     rw (take_all (v.offset + 2) v.bytes (omega (arith, e)), two) refl
 
 -- and others once it is filled
-pub filled-bytes : (v : Encoder) (b old new rest : List ℕ) (p : ℕ) → v.bytes ≡ b ++ (old ++ rest) → length b ≡ p → length old ≡ length new
+pub filled_bytes : (v : Encoder) (b old new rest : List ℕ) (p : ℕ) → v.bytes ≡ b ++ (old ++ rest) → length b ≡ p → length old ≡ length new
     → (filled v p new).bytes ≡ b ++ (new ++ rest)
-filled-bytes v b old new rest p is size same =
+filled_bytes v b old new rest p is size same =
     let back = drop_at (b ++ old) rest (p + length new) (omega (arith, size, same, length-append b old)) in
     rw (is, take_at b (old ++ rest) p size, ← append_assoc b old rest, back) refl
 
 -- data that are bytes are what follows the length
-data-follow : (rdata : WireData) (m u : Encoder) (b front : List ℕ) (p e : ℕ) → m.offset ≡ length m.bytes → EmitsData rdata m (Ok tt) u
+data_follow : (rdata : WireData) (m u : Encoder) (b front : List ℕ) (p e : ℕ) → m.offset ≡ length m.bytes → EmitsData rdata m (Ok tt) u
     → b ≡ front ++ drop m.offset u.bytes → p ≡ length front → e ≡ p + (u.offset - m.offset) → HasBytes b rdata p e
-data-follow (Bytes bytes) m u b front p e at_end h is start ends =
+data_follow (Bytes bytes) m u b front p e at_end h is start ends =
     let d = bytes.items in
     let all : u.bytes ≡ m.bytes ++ d = added m u d at_end h.1 in
     let left : drop m.offset u.bytes ≡ d = ap (drop m.offset) all ∙ drop_at m.bytes d m.offset (sym at_end) in
     let whole : b ≡ front ++ (d ++ []) = is ∙ (ap (λ (x : List ℕ). front ++ x) left ∙ sym (ap (λ (x : List ℕ). front ++ x) (append-nil d))) in
     let offset : u.offset ≡ m.offset + length d = ap (λ (x : Encoder). x.offset) h.1 in
-    ap (λ x. slice_range x p e) whole ∙ slice_range-middle front d [] p e start (omega (arith, ends, offset))
-data-follow (Name name encoding) m u b front p e at_end h is start ends = tt
+    ap (λ x. slice_range x p e) whole ∙ slice_range_middle front d [] p e start (omega (arith, ends, offset))
+data_follow (Name name encoding) m u b front p e at_end h is start ends = tt
 
 pub records_lie : RecordsLie
 records_lie r v w e small h =
     let (a, owner, (d, fixed, (room, u, one, is))) = h.1 in
-    let eight = type_class_ttl r in
-    let fa = frame-name r.owner v (Ok tt) a e owner in
+    let eight = wire_fixed r in
+    let fa = frame_name r.owner v (Ok tt) a e owner in
     let fd = frame a eight (Ok tt) d fa.ends fixed in
-    let fr = frame-reserved d fd.ends in
-    let fu = frame-data r.rdata (reserved d 2) (Ok tt) u fr.ends one in
-    let both = frames-follow d (reserved d 2) u (Ok tt) fd.ends fr fu in
+    let fr = frame_reserved d fd.ends in
+    let fu = frame_data r.rdata (reserved d 2) (Ok tt) u fr.ends one in
+    let both = frames_follow d (reserved d 2) u (Ok tt) fd.ends fr fu in
     let od : d.offset ≡ a.offset + 8 = ap (λ (x : Encoder). x.offset) fixed.1 in
     let ow : w.offset ≡ u.offset = ap (λ (x : Encoder). x.offset) is in
-    let longer : d.offset + 2 ≤ length u.bytes = frame-grows (reserved d 2) u (Ok tt) fr.ends fu in
+    let longer : d.offset + 2 ≤ length u.bytes = frame_grows (reserved d 2) u (Ok tt) fr.ends fu in
     let two = to_be_bytes w16 (u.offset - (d.offset + 2)) in
     let rest = drop (d.offset + 2) u.bytes in
-    let fields = fields_of (type_code r.record_type) (class_code r.class) r.ttl (u.offset - (d.offset + 2)) in
+    let fields = fixed_and_length (type_code r.record_type) (class_code r.class) r.ttl (u.offset - (d.offset + 2)) in
     let before : take d.offset u.bytes ≡ a.bytes ++ eight = both.bytes ∙ added a d eight fa.ends fixed.1 in
     let laid : w.bytes ≡ a.bytes ++ (fields ++ rest) =
     ap (λ (x : Encoder). x.bytes) is ∙ (ap (λ (x : List ℕ). x ++ (two ++ rest)) before ∙ append_assoc a.bytes eight (two ++ rest)) in
@@ -95,25 +95,25 @@ records_lie r v w e small h =
     record {
       owner_end = a.offset;
       pointers = read.0;
-      owner = rw laid (record { reads = Reads-append (fields ++ rest) read.1.reads; fits = read.1.fits });
+      owner = rw laid (record { reads = Reads_append (fields ++ rest) read.1.reads; fits = read.1.fits });
       order = omega (arith, longer, fu.ends, od, ow);
-      few = omega (arith, ((fits-fields r).done v w h.1).1, small);
-      fields = ap (λ x. slice_range x a.offset (a.offset + 10)) laid ∙ (slice_range-middle a.bytes fields rest a.offset (a.offset + 10) fa.ends refl
-          ∙ ap (fields_of (type_code r.record_type) (class_code r.class) r.ttl) number);
-      rdata = data-follow r.rdata (reserved d 2) u w.bytes (a.bytes ++ fields) (a.offset + 10) w.offset fr.ends one
+      few = omega (arith, ((fits_fields r).done v w h.1).1, small);
+      fields = ap (λ x. slice_range x a.offset (a.offset + 10)) laid ∙ (slice_range_middle a.bytes fields rest a.offset (a.offset + 10) fa.ends refl
+          ∙ ap (fixed_and_length (type_code r.record_type) (class_code r.class) r.ttl) number);
+      rdata = data_follow r.rdata (reserved d 2) u w.bytes (a.bytes ++ fields) (a.offset + 10) w.offset fr.ends one
           (laid ∙ sym (append_assoc a.bytes fields rest)) front (omega (arith, longer, fu.ends, od, ow));
       fit = h.0;
-      ends = (frame-record r v (Ok tt) w e h).ends;
+      ends = (frame_record r v (Ok tt) w e h).ends;
     }
 
 -- A record is read after an owner with these fields.
-pub read-after : (b : List ℕ) (labels : List (List ℕ)) (p o k e kind class ttl : ℕ) → NameAt b p labels o k
-    → fields_at b o ≡ fields_of kind class ttl (e - (o + 10)) → (kind < 2 ^ 16) × (class < 2 ^ 16) × (ttl < 2 ^ 32) → o + 10 ≤ e → e ≤ length b → e ≤ max_message
-    → RecordAt b p (record_of b labels o) e × (type_field (fields_at b o) ≡ type_of_code kind) × (class_field (fields_at b o) ≡ class_of_code class)
-    × (ttl_field (fields_at b o) ≡ ttl) × (o + 10 + length_field (fields_at b o) ≡ e)
-read-after b labels p o k e kind class ttl owner fields (kind_fits, class_fits, ttl_fits) order within few =
-    let len : length_field (fields_at b o) ≡ e - (o + 10) = ap length_field fields ∙ from_be_bytes-to_be_bytes_2 (e - (o + 10)) (omega (arith, few)) in
-    let ends : o + 10 + length_field (fields_at b o) ≡ e = omega (arith, len, order) in (
+pub read_after : (b : List ℕ) (labels : List (List ℕ)) (p o k e kind class ttl : ℕ) → NameAt b p labels o k
+    → fixed_at b o ≡ fixed_and_length kind class ttl (e - (o + 10)) → (kind < 2 ^ 16) × (class < 2 ^ 16) × (ttl < 2 ^ 32) → o + 10 ≤ e → e ≤ length b → e ≤ max_message
+    → RecordAt b p (record_of b labels o) e × (type_field (fixed_at b o) ≡ type_of_code kind) × (class_field (fixed_at b o) ≡ class_of_code class)
+    × (ttl_field (fixed_at b o) ≡ ttl) × (o + 10 + length_field (fixed_at b o) ≡ e)
+read_after b labels p o k e kind class ttl owner fields (kind_fits, class_fits, ttl_fits) order within few =
+    let len : length_field (fixed_at b o) ≡ e - (o + 10) = ap length_field fields ∙ from_be_bytes-to_be_bytes_2 (e - (o + 10)) (omega (arith, few)) in
+    let ends : o + 10 + length_field (fixed_at b o) ≡ e = omega (arith, len, order) in (
       record { labels = labels; owner_end = o; pointers = k; owner_read = owner; rest = omega (arith, ends, within); is = refl; ends = sym ends },
       ap type_field fields ∙ ap type_of_code (from_be_bytes-to_be_bytes_2 kind kind_fits),
       ap class_field fields ∙ ap class_of_code (from_be_bytes-to_be_bytes_2 class class_fits),
@@ -127,5 +127,5 @@ records_are_read b mode r p e lies =
     let ends = lies.ends in
     let labels = in_mode mode r.owner.labels in
     let (at, kind, class, ttl, _) =
-    read-after b labels p o lies.pointers e (type_code r.record_type) (class_code r.class) r.ttl lies.owner lies.fields lies.fit lies.order (omega (arith, ends)) lies.few in
+    read_after b labels p o lies.pointers e (type_code r.record_type) (class_code r.class) r.ttl lies.owner lies.fields lies.fit lies.order (omega (arith, ends)) lies.few in
     (record_of b labels o, at, refl, kind, class, ttl, lies.rdata)

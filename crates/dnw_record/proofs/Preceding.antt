@@ -2,26 +2,26 @@
 use Rattle.std.proofs.Common.{[], ◌∷◌, Ok, Err, inl, inr, sym, ◌∙◌, subst}
 use Rattle.dnw_write.specs.Encoder.{CandidatesPrecede, Writes, reserved}
 use Rattle.dnw_write.specs.EmittedName.{EmitsName}
-use Rattle.dnw_write.specs.Marks.{mark_of}
+use Rattle.dnw_write.specs.Checkpoints.{checkpoint_of}
 use Rattle.dnw_write.specs.CandidateLaws.{KeepsPreceding}
 use Rattle.dnw_write.proofs.Preceding.{names_precede, places_precede, rewinding_undoes, rewinds_precede, texts_precede, writes_precede}
 use Rattle.dnw_record.specs.declared.record.WireRecord.{WireRecord}
 use Rattle.dnw_record.specs.declared.record.WireData.TheVariants.{Bytes, Name}
 use Rattle.dnw_record.specs.Parts.{EmitsSized, EmitsWireParts, Then, Write, bytes_part, in_encoding, name_part, text_part}
-use Rattle.dnw_record.specs.WrittenRecords.{EmitsData, EmitsFields, data_part, type_class_ttl}
+use Rattle.dnw_record.specs.WrittenRecords.{EmitsData, EmitsFields, data_part, wire_fixed}
 use Rattle.dnw_record.specs.RecordLaws.{CountedPrecede, DataPrecede, PartPrecedes, PartsPrecede, RecordsPrecede, RefusedRecordsUndo}
-use Rattle.dnw_record.specs.RecordFrames.{frame-fields}
-use Rattle.dnw_record.proofs.Parts.{refused-room}
+use Rattle.dnw_record.specs.RecordFrames.{frame_fields}
+use Rattle.dnw_record.proofs.Parts.{refused_room}
 
-pub precede-then : (first second : Write) → KeepsPreceding first → KeepsPreceding second → KeepsPreceding (Then first second)
-precede-then first second one two v w (Ok tt) p (m, f, s) = two m w (Ok tt) (one v m (Ok tt) p f) s
-precede-then first second one two v w (Err error) p (inl f) = one v w (Err error) p f
-precede-then first second one two v w (Err error) p (inr (m, f, s)) = two m w (Err error) (one v m (Ok tt) p f) s
+pub precede_then : (first second : Write) → KeepsPreceding first → KeepsPreceding second → KeepsPreceding (Then first second)
+precede_then first second one two v w (Ok tt) p (m, f, s) = two m w (Ok tt) (one v m (Ok tt) p f) s
+precede_then first second one two v w (Err error) p (inl f) = one v w (Err error) p f
+precede_then first second one two v w (Err error) p (inr (m, f, s)) = two m w (Err error) (one v m (Ok tt) p f) s
 
-pub precede-sized : (write : Write) → KeepsPreceding write → KeepsPreceding (EmitsSized write)
-precede-sized write keeps v w (Ok tt) p (room, u, one, is) = subst CandidatesPrecede (sym is) (keeps (reserved v 2) u (Ok tt) (places_precede v 2 p) one)
-precede-sized write keeps v w (Err error) p (inl h) = subst CandidatesPrecede (sym (refused-room v (reserved v 2) w 2 error h).0) p
-precede-sized write keeps v w (Err error) p (inr (room, one)) = keeps (reserved v 2) w (Err error) (places_precede v 2 p) one
+pub precede_sized : (write : Write) → KeepsPreceding write → KeepsPreceding (EmitsSized write)
+precede_sized write keeps v w (Ok tt) p (room, u, one, is) = subst CandidatesPrecede (sym is) (keeps (reserved v 2) u (Ok tt) (places_precede v 2 p) one)
+precede_sized write keeps v w (Err error) p (inl h) = subst CandidatesPrecede (sym (refused_room v (reserved v 2) w 2 error h).0) p
+precede_sized write keeps v w (Err error) p (inr (room, one)) = keeps (reserved v 2) w (Err error) (places_precede v 2 p) one
 
 pub part_precedes : PartPrecedes
 part_precedes (bytes_part d) v w outcome p h = writes_precede d v w outcome p h
@@ -36,21 +36,21 @@ parts_precede (part ∷ parts) v w (Err error) p (inl one) = part_precedes part 
 parts_precede (part ∷ parts) v w (Err error) p (inr (m, one, more)) = parts_precede parts m w (Err error) (part_precedes part v m (Ok tt) p one) more
 
 pub counted_precede : CountedPrecede
-counted_precede front back = precede-then (EmitsWireParts front) _ (parts_precede front) (precede-sized (EmitsWireParts back) (parts_precede back))
+counted_precede front back = precede_then (EmitsWireParts front) _ (parts_precede front) (precede_sized (EmitsWireParts back) (parts_precede back))
 
 pub data_precede : DataPrecede
 data_precede (Bytes bytes) v w outcome p h = part_precedes (bytes_part bytes.items) v w outcome p h
 data_precede (Name name encoding) v w outcome p h = part_precedes (data_part v.encoding v.canonical (Name name encoding)) v w outcome p h
 
-fields-precede : (r : WireRecord) → KeepsPreceding (EmitsFields r)
-fields-precede r =
-    precede-then (EmitsName r.owner) _ (names_precede r.owner)
-    (precede-then (λ v. Writes v (type_class_ttl r)) _ (writes_precede (type_class_ttl r)) (precede-sized (EmitsData r.rdata) (data_precede r.rdata)))
+fields_precede : (r : WireRecord) → KeepsPreceding (EmitsFields r)
+fields_precede r =
+    precede_then (EmitsName r.owner) _ (names_precede r.owner)
+    (precede_then (λ v. Writes v (wire_fixed r)) _ (writes_precede (wire_fixed r)) (precede_sized (EmitsData r.rdata) (data_precede r.rdata)))
 
 pub records_precede : RecordsPrecede
-records_precede r v w (Ok tt) p h = fields-precede r v w (Ok tt) p h.1
-records_precede r v w (Err error) p (u, fields, is) = subst CandidatesPrecede (sym is) (rewinds_precede u (mark_of v))
+records_precede r v w (Ok tt) p h = fields_precede r v w (Ok tt) p h.1
+records_precede r v w (Err error) p (u, fields, is) = subst CandidatesPrecede (sym is) (rewinds_precede u (checkpoint_of v))
 
 pub refused_records_undo : RefusedRecordsUndo
 refused_records_undo r v w error at_end precede (u, fields, is) =
-    is ∙ rewinding_undoes v u (Err error) precede (frame-fields r v (Err error) u at_end fields)
+    is ∙ rewinding_undoes v u (Err error) precede (frame_fields r v (Err error) u at_end fields)

@@ -9,7 +9,7 @@ use Rattle.dnw_base.specs.Names.{NameValue}
 use Rattle.dnw_write.specs.Encoder.{Encoder, Writes}
 use Rattle.dnw_write.specs.Emitting.{Emits}
 use Rattle.dnw_write.specs.EmittedName.{EmitsName}
-use Rattle.dnw_write.specs.Marks.{mark_of, rewound}
+use Rattle.dnw_write.specs.Checkpoints.{checkpoint_of, rewound}
 use Rattle.dnw_record.specs.Parts.{Then}
 use Rattle.dnw_record.specs.Records.{RecordValue, data_octets}
 
@@ -18,14 +18,14 @@ abbrev pub owner_name : RecordValue → NameValue
 owner_name x = record { is_fqdn = true; labels = x.owner }
 
 -- the octets between the owner and the data
-abbrev pub fixed_octets : RecordValue → List ℕ
-fixed_octets x =
+abbrev pub passed_octets : RecordValue → List ℕ
+passed_octets x =
     to_be_bytes w16 (type_code x.record_type)
     ++ (to_be_bytes w16 (class_code x.class) ++ (to_be_bytes w32 x.ttl ++ to_be_bytes w16 x.len))
 
 -- the owner, the fixed octets and the data in turn, up to the first that fails
 abbrev pub PassesFields : Emits RecordValue
-PassesFields x = Then (EmitsName (owner_name x)) (Then (λ v. Writes v (fixed_octets x)) (λ v. Writes v (data_octets x)))
+PassesFields x = Then (EmitsName (owner_name x)) (Then (λ v. Writes v (passed_octets x)) (λ v. Writes v (data_octets x)))
 
 -- The numbers of a record fit their fields.
 abbrev pub FieldsFit : RecordValue → Type 0
@@ -35,7 +35,7 @@ FieldsFit x = (type_code x.record_type < 2 ^ 16) × (class_code x.class < 2 ^ 16
 abbrev pub IsSound : RecordValue → Type 0
 IsSound x = FieldsFit x × (length (data_octets x) ≡ x.len)
 
--- A record is passed on whole, or undone whole: then the encoder is back at its mark, whichever field failed.
+-- A record is passed on whole, or undone whole: then the encoder is back at its checkpoint, whichever field failed.
 abbrev pub PassesRecord : Emits RecordValue
 PassesRecord x v (Ok done) w = IsSound x × PassesFields x v (Ok tt) w
-PassesRecord x v (Err error) w = (u : Encoder) × PassesFields x v (Err error) u × (w ≡ rewound u (mark_of v))
+PassesRecord x v (Err error) w = (u : Encoder) × PassesFields x v (Err error) u × (w ≡ rewound u (checkpoint_of v))

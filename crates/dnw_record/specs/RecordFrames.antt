@@ -7,37 +7,37 @@ use Rattle.dnw_base.specs.declared.error.ProtoError.TheVariants.{MaxBufferSizeEx
 use Rattle.dnw_write.specs.declared.encoder.modes.NameEncoding.{NameEncoding}
 use Rattle.dnw_write.specs.Encoder.{Encoder, TakesRoom, Writes, filled, mode_of_rdata, reserved}
 use Rattle.dnw_write.specs.Emitting.{Outcome, Frame}
-use Rattle.dnw_write.specs.EmittingLaws.{candidates_before-twice, frame, frame-moved, frame-same, frame-text, frames-follow, take-all}
+use Rattle.dnw_write.specs.EmittingLaws.{candidates_before_twice, frame, frame_moved, frame_same, frame_text, frames_follow, take_all_lem}
 use Rattle.dnw_write.specs.EmittedName.{EmitsName}
-use Rattle.dnw_write.specs.NameFrames.{frame-name}
-use Rattle.dnw_write.specs.Marks.{mark_of, rewound}
+use Rattle.dnw_write.specs.NameFrames.{frame_name}
+use Rattle.dnw_write.specs.Checkpoints.{checkpoint_of, rewound}
 use Rattle.dnw_record.specs.declared.record.WireRecord.{WireRecord}
 use Rattle.dnw_record.specs.declared.record.WireData.{WireData}
 use Rattle.dnw_record.specs.declared.record.WireData.TheVariants.{Bytes, Name}
 use Rattle.dnw_record.specs.Parts.{EmitsSized, EmitsWirePart, Then, WirePart, Write, bytes_part, in_encoding, name_part, text_part}
 use Rattle.dnw_record.specs.Records.{RecordValue, data_octets}
-use Rattle.dnw_record.specs.PassedRecords.{PassesFields, PassesRecord, fixed_octets, owner_name}
-use Rattle.dnw_record.specs.WrittenRecords.{EmitsData, EmitsFields, EmitsRecord, type_class_ttl}
+use Rattle.dnw_record.specs.PassedRecords.{PassesFields, PassesRecord, passed_octets, owner_name}
+use Rattle.dnw_record.specs.WrittenRecords.{EmitsData, EmitsFields, EmitsRecord, wire_fixed}
 
 -- what writes keep that begin at the buffer's end
 abbrev pub KeepsFrame : Write → Type 0
 KeepsFrame write = (v : Encoder) (outcome : Outcome) (w : Encoder) → v.offset ≡ length v.bytes → write v outcome w → Frame v outcome w
 
-pub frame-then : (first second : Write) → KeepsFrame first → KeepsFrame second → KeepsFrame (Then first second)
-frame-then first second keeps follows v (Ok tt) w e h =
+pub frame_then : (first second : Write) → KeepsFrame first → KeepsFrame second → KeepsFrame (Then first second)
+frame_then first second keeps follows v (Ok tt) w e h =
     let one = keeps v (Ok tt) h.0 e h.1 in
-    frames-follow v h.0 w (Ok tt) e one (follows h.0 (Ok tt) w one.ends h.2)
-frame-then first second keeps follows v (Err error) w e (inl h) = keeps v (Err error) w e h
-frame-then first second keeps follows v (Err error) w e (inr h) =
+    frames_follow v h.0 w (Ok tt) e one (follows h.0 (Ok tt) w one.ends h.2)
+frame_then first second keeps follows v (Err error) w e (inl h) = keeps v (Err error) w e h
+frame_then first second keeps follows v (Err error) w e (inr h) =
     let one = keeps v (Ok tt) h.0 e h.1 in
-    frames-follow v h.0 w (Err error) e one (follows h.0 (Err error) w one.ends h.2)
+    frames_follow v h.0 w (Err error) e one (follows h.0 (Err error) w one.ends h.2)
 
 -- ---- data
 
 -- the mode makes no difference to the frame but for itself
-pub frame-in_mode : (v : Encoder) (mode : NameEncoding) (outcome : Outcome) (u : Encoder) → Frame (in_encoding v mode) outcome u
+pub frame_in_mode : (v : Encoder) (mode : NameEncoding) (outcome : Outcome) (u : Encoder) → Frame (in_encoding v mode) outcome u
     → Frame v outcome (in_encoding u v.encoding)
-frame-in_mode v mode outcome u f =
+frame_in_mode v mode outcome u f =
     record {
       bytes = f.bytes;
       candidates = f.candidates;
@@ -49,33 +49,33 @@ frame-in_mode v mode outcome u f =
       ends = f.ends;
     }
 
-pub frame-wire_part : (part : WirePart) (v : Encoder) (outcome : Outcome) (w : Encoder) → v.offset ≡ length v.bytes → EmitsWirePart part v outcome w → Frame v outcome w
-frame-wire_part (bytes_part bytes) v outcome w e h = frame v bytes outcome w e h
-frame-wire_part (text_part text) v outcome w e h = frame-text v text outcome w e h
-frame-wire_part (name_part mode name) v outcome w e h =
+pub frame_wire_part : (part : WirePart) (v : Encoder) (outcome : Outcome) (w : Encoder) → v.offset ≡ length v.bytes → EmitsWirePart part v outcome w → Frame v outcome w
+frame_wire_part (bytes_part bytes) v outcome w e h = frame v bytes outcome w e h
+frame_wire_part (text_part text) v outcome w e h = frame_text v text outcome w e h
+frame_wire_part (name_part mode name) v outcome w e h =
     let P : Encoder → Type 0 = λ x. Frame v outcome x in
-    subst P (sym h.2) (frame-in_mode v mode outcome h.0 (frame-name name (in_encoding v mode) outcome h.0 e h.1))
+    subst P (sym h.2) (frame_in_mode v mode outcome h.0 (frame_name name (in_encoding v mode) outcome h.0 e h.1))
 
-pub frame-data : (rdata : WireData) (v : Encoder) (outcome : Outcome) (w : Encoder) → v.offset ≡ length v.bytes → EmitsData rdata v outcome w → Frame v outcome w
-frame-data (Bytes bytes) v outcome w e h = frame-wire_part (bytes_part bytes.items) v outcome w e h
-frame-data (Name name encoding) v outcome w e h =
-    frame-wire_part (name_part (mode_of_rdata encoding v.canonical v.encoding) name) v outcome w e h
+pub frame_data : (rdata : WireData) (v : Encoder) (outcome : Outcome) (w : Encoder) → v.offset ≡ length v.bytes → EmitsData rdata v outcome w → Frame v outcome w
+frame_data (Bytes bytes) v outcome w e h = frame_wire_part (bytes_part bytes.items) v outcome w e h
+frame_data (Name name encoding) v outcome w e h =
+    frame_wire_part (name_part (mode_of_rdata encoding v.canonical v.encoding) name) v outcome w e h
 
 -- ---- the length
 
-pub frame-reserved : (v : Encoder) → v.offset ≡ length v.bytes → Frame v (Ok tt) (reserved v 2)
-frame-reserved v e =
+pub frame_reserved : (v : Encoder) → v.offset ≡ length v.bytes → Frame v (Ok tt) (reserved v 2)
+frame_reserved v e =
     let zeros = replicate {A = ℕ} (v.offset + 2 - length v.bytes) 0 in
     let front = take (v.offset + 2) v.bytes in
     let le : v.offset ≤ length front = omega (arith, e, length-take (v.offset + 2) v.bytes) in
     let same : take v.offset (front ++ zeros) ≡ v.bytes =
-    take-append-le v.offset front zeros le ∙ (take-take v.offset (v.offset + 2) v.bytes (omega arith) ∙ take-all v.offset v.bytes e) in
-    frame-moved v (Ok tt) _ _ v.candidates v.names same refl
+    take-append-le v.offset front zeros le ∙ (take-take v.offset (v.offset + 2) v.bytes (omega arith) ∙ take_all_lem v.offset v.bytes e) in
+    frame_moved v (Ok tt) _ _ v.candidates v.names same refl
     (omega (arith, e, length-append front zeros, length-take (v.offset + 2) v.bytes, length-replicate {A = ℕ} (v.offset + 2 - length v.bytes) 0))
 
 -- filling two octets after the start keeps the frame
-frame-filled : (v u : Encoder) (two : List ℕ) → length two ≡ 2 → Frame v (Ok tt) u → v.offset + 2 ≤ u.offset → Frame v (Ok tt) (filled u v.offset two)
-frame-filled v u two size f le =
+frame_filled : (v u : Encoder) (two : List ℕ) → length two ≡ 2 → Frame v (Ok tt) u → v.offset + 2 ≤ u.offset → Frame v (Ok tt) (filled u v.offset two)
+frame_filled v u two size f le =
     let o = v.offset in
     let behind = two ++ drop (o + length two) u.bytes in
     let long : o ≤ length u.bytes = omega (arith, le, f.ends) in
@@ -94,42 +94,42 @@ frame-filled v u two size f le =
     }
 
 -- what follows a frame is no shorter
-pub frame-grows : (v u : Encoder) (outcome : Outcome) → v.offset ≡ length v.bytes → Frame v outcome u → v.offset ≤ length u.bytes
-frame-grows v u outcome e f = omega (arith, e, ap length f.bytes, length-take v.offset u.bytes)
+pub frame_grows : (v u : Encoder) (outcome : Outcome) → v.offset ≡ length v.bytes → Frame v outcome u → v.offset ≤ length u.bytes
+frame_grows v u outcome e f = omega (arith, e, ap length f.bytes, length-take v.offset u.bytes)
 
-frame-room : (v : Encoder) (error : ProtoError) (w : Encoder) → v.offset ≡ length v.bytes → TakesRoom {A = Unit {0}} v 2 (reserved v 2) (Err error) w → Frame v (Err error) w
-frame-room v Memory w e h = let P : Encoder → Type 0 = λ x. Frame v (Err Memory) x in subst P (sym h.2) (frame-same v (Err Memory) e)
-frame-room v (MaxBufferSizeExceeded size) w e h =
+frame_room : (v : Encoder) (error : ProtoError) (w : Encoder) → v.offset ≡ length v.bytes → TakesRoom {A = Unit {0}} v 2 (reserved v 2) (Err error) w → Frame v (Err error) w
+frame_room v Memory w e h = let P : Encoder → Type 0 = λ x. Frame v (Err Memory) x in subst P (sym h.2) (frame_same v (Err Memory) e)
+frame_room v (MaxBufferSizeExceeded size) w e h =
     let P : Encoder → Type 0 = λ x. Frame v (Err (MaxBufferSizeExceeded size)) x in
-    subst P (sym h.2) (frame-same v (Err (MaxBufferSizeExceeded size)) e)
-frame-room v error w e h = absurd h
+    subst P (sym h.2) (frame_same v (Err (MaxBufferSizeExceeded size)) e)
+frame_room v error w e h = absurd h
 
-pub frame-sized : (write : Write) → KeepsFrame write → KeepsFrame (EmitsSized write)
-frame-sized write keeps v (Ok tt) w e (room, u, one, is) =
-    let first = frame-reserved v e in
+pub frame_sized : (write : Write) → KeepsFrame write → KeepsFrame (EmitsSized write)
+frame_sized write keeps v (Ok tt) w e (room, u, one, is) =
+    let first = frame_reserved v e in
     let second = keeps (reserved v 2) (Ok tt) u first.ends one in
-    let both = frames-follow v (reserved v 2) u (Ok tt) e first second in
-    let le : v.offset + 2 ≤ u.offset = omega (arith, second.ends, frame-grows (reserved v 2) u (Ok tt) first.ends second) in
+    let both = frames_follow v (reserved v 2) u (Ok tt) e first second in
+    let le : v.offset + 2 ≤ u.offset = omega (arith, second.ends, frame_grows (reserved v 2) u (Ok tt) first.ends second) in
     let P : Encoder → Type 0 = λ x. Frame v (Ok tt) x in
-    subst P (sym is) (frame-filled v u (to_be_bytes w16 (u.offset - (v.offset + 2))) refl both le)
-frame-sized write keeps v (Err error) w e (inl h) = frame-room v error w e h
-frame-sized write keeps v (Err error) w e (inr h) =
-    let first = frame-reserved v e in
-    frames-follow v (reserved v 2) w (Err error) e first (keeps (reserved v 2) (Err error) w first.ends h.1)
+    subst P (sym is) (frame_filled v u (to_be_bytes w16 (u.offset - (v.offset + 2))) refl both le)
+frame_sized write keeps v (Err error) w e (inl h) = frame_room v error w e h
+frame_sized write keeps v (Err error) w e (inr h) =
+    let first = frame_reserved v e in
+    frames_follow v (reserved v 2) w (Err error) e first (keeps (reserved v 2) (Err error) w first.ends h.1)
 
 -- ---- records
 
-pub frame-fields : (r : WireRecord) → KeepsFrame (EmitsFields r)
-frame-fields r =
-    let fields : KeepsFrame (λ v. Writes v (type_class_ttl r)) = λ v outcome w e h. frame v (type_class_ttl r) outcome w e h in
-    let last = frame-then (λ v. Writes v (type_class_ttl r)) (EmitsSized (EmitsData r.rdata)) fields (frame-sized (EmitsData r.rdata) (frame-data r.rdata)) in
-    frame-then (EmitsName r.owner) _ (λ v outcome w e h. frame-name r.owner v outcome w e h) last
+pub frame_fields : (r : WireRecord) → KeepsFrame (EmitsFields r)
+frame_fields r =
+    let fields : KeepsFrame (λ v. Writes v (wire_fixed r)) = λ v outcome w e h. frame v (wire_fixed r) outcome w e h in
+    let last = frame_then (λ v. Writes v (wire_fixed r)) (EmitsSized (EmitsData r.rdata)) fields (frame_sized (EmitsData r.rdata) (frame_data r.rdata)) in
+    frame_then (EmitsName r.owner) _ (λ v outcome w e h. frame_name r.owner v outcome w e h) last
 
-pub frame-rewound : (v u : Encoder) (error : ProtoError) → Frame v (Err error) u → Frame v (Err error) (rewound u (mark_of v))
-frame-rewound v u error f =
+pub frame_rewound : (v u : Encoder) (error : ProtoError) → Frame v (Err error) u → Frame v (Err error) (rewound u (checkpoint_of v))
+frame_rewound v u error f =
     record {
       bytes = take-take v.offset v.offset u.bytes (omega arith) ∙ f.bytes;
-      candidates = candidates_before-twice v.offset v.offset u.candidates (omega arith) ∙ f.candidates;
+      candidates = candidates_before_twice v.offset v.offset u.candidates (omega arith) ∙ f.candidates;
       encoding = f.encoding;
       canonical = f.canonical;
       max_size = f.max_size;
@@ -138,20 +138,20 @@ frame-rewound v u error f =
       ends = tt;
     }
 
-pub frame-record : (r : WireRecord) (v : Encoder) (outcome : Outcome) (w : Encoder) → v.offset ≡ length v.bytes → EmitsRecord r v outcome w → Frame v outcome w
-frame-record r v (Ok tt) w e h = frame-fields r v (Ok tt) w e h.1
-frame-record r v (Err error) w e (u, fields, is) =
+pub frame_record : (r : WireRecord) (v : Encoder) (outcome : Outcome) (w : Encoder) → v.offset ≡ length v.bytes → EmitsRecord r v outcome w → Frame v outcome w
+frame_record r v (Ok tt) w e h = frame_fields r v (Ok tt) w e h.1
+frame_record r v (Err error) w e (u, fields, is) =
     let P : Encoder → Type 0 = λ x. Frame v (Err error) x in
-    subst P (sym is) (frame-rewound v u error (frame-fields r v (Err error) u e fields))
+    subst P (sym is) (frame_rewound v u error (frame_fields r v (Err error) u e fields))
 
-pub frame-passed_fields : (x : RecordValue) → KeepsFrame (PassesFields x)
-frame-passed_fields x =
+pub frame_passed_fields : (x : RecordValue) → KeepsFrame (PassesFields x)
+frame_passed_fields x =
     let octets : (d : List ℕ) → KeepsFrame (λ v. Writes v d) = λ d v outcome w e h. frame v d outcome w e h in
-    let rest = frame-then (λ v. Writes v (fixed_octets x)) (λ v. Writes v (data_octets x)) (octets (fixed_octets x)) (octets (data_octets x)) in
-    frame-then (EmitsName (owner_name x)) _ (λ v outcome w e h. frame-name (owner_name x) v outcome w e h) rest
+    let rest = frame_then (λ v. Writes v (passed_octets x)) (λ v. Writes v (data_octets x)) (octets (passed_octets x)) (octets (data_octets x)) in
+    frame_then (EmitsName (owner_name x)) _ (λ v outcome w e h. frame_name (owner_name x) v outcome w e h) rest
 
-pub frame-passed : (x : RecordValue) (v : Encoder) (outcome : Outcome) (w : Encoder) → v.offset ≡ length v.bytes → PassesRecord x v outcome w → Frame v outcome w
-frame-passed x v (Ok tt) w e h = frame-passed_fields x v (Ok tt) w e h.1
-frame-passed x v (Err error) w e (u, fields, is) =
+pub frame_passed : (x : RecordValue) (v : Encoder) (outcome : Outcome) (w : Encoder) → v.offset ≡ length v.bytes → PassesRecord x v outcome w → Frame v outcome w
+frame_passed x v (Ok tt) w e h = frame_passed_fields x v (Ok tt) w e h.1
+frame_passed x v (Err error) w e (u, fields, is) =
     let P : Encoder → Type 0 = λ y. Frame v (Err error) y in
-    subst P (sym is) (frame-rewound v u error (frame-passed_fields x v (Err error) u e fields))
+    subst P (sym is) (frame_rewound v u error (frame_passed_fields x v (Err error) u e fields))

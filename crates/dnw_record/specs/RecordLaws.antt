@@ -17,7 +17,7 @@ use Rattle.dnw_record.specs.declared.record.WireRecord.{WireRecord}
 use Rattle.dnw_record.specs.declared.record.WireData.{WireData}
 use Rattle.dnw_record.specs.declared.record.WireData.TheVariants.{Bytes, Name}
 use Rattle.dnw_record.specs.Parts.{EmitsCounted, EmitsWirePart, EmitsWireParts, WirePart, Write}
-use Rattle.dnw_record.specs.Records.{RecordAt, RecordValue, data_octets, fields_at, fixed_size}
+use Rattle.dnw_record.specs.Records.{RecordAt, RecordValue, data_octets, fixed_at, fixed_size}
 use Rattle.dnw_record.specs.PassedRecords.{PassesRecord}
 use Rattle.dnw_record.specs.WrittenRecords.{EmitsData, EmitsRecord, NumbersFit}
 
@@ -111,8 +111,8 @@ PassedFit = (x : RecordValue)
 -- ---- reading back
 
 -- the ten octets after an owner
-abbrev pub fields_of : ℕ → ℕ → ℕ → ℕ → List ℕ
-fields_of kind class ttl len = to_be_bytes w16 kind ++ (to_be_bytes w16 class ++ (to_be_bytes w32 ttl ++ to_be_bytes w16 len))
+abbrev pub fixed_and_length : ℕ → ℕ → ℕ → ℕ → List ℕ
+fixed_and_length kind class ttl len = to_be_bytes w16 kind ++ (to_be_bytes w16 class ++ (to_be_bytes w32 ttl ++ to_be_bytes w16 len))
 
 -- data that are bytes are there
 abbrev pub HasBytes : List ℕ → WireData → ℕ → ℕ → Type 0
@@ -127,7 +127,7 @@ pub record LiesAt (b : List ℕ) (mode : NameEncoding) (r : WireRecord) (p e : �
   pub owner : NameAt b p (in_mode mode r.owner.labels) owner_end pointers
   pub order : owner_end + fixed_size ≤ e
   pub few : e ≤ max_message
-  pub fields : fields_at b owner_end ≡ fields_of (type_code r.record_type) (class_code r.class) r.ttl (e - (owner_end + fixed_size))
+  pub fields : fixed_at b owner_end ≡ fixed_and_length (type_code r.record_type) (class_code r.class) r.ttl (e - (owner_end + fixed_size))
   pub rdata : HasBytes b r.rdata (owner_end + fixed_size) e
   pub fit : NumbersFit r
   pub ends : e ≡ length b

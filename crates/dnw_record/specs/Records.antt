@@ -36,8 +36,8 @@ abbrev pub number_at : List ℕ → ℕ → ℕ
 number_at fields p = from_be_bytes w16 (slice_range fields p (p + 2))
 
 -- the fields after an owner that ends at e
-abbrev pub fields_at : List ℕ → ℕ → List ℕ
-fields_at b e = slice_range b e (e + fixed_size)
+abbrev pub fixed_at : List ℕ → ℕ → List ℕ
+fixed_at b e = slice_range b e (e + fixed_size)
 
 abbrev pub type_field : List ℕ → RecordType
 type_field fields = type_of_code (number_at fields 0)
@@ -56,16 +56,16 @@ abbrev pub record_of : List ℕ → List (List ℕ) → ℕ → RecordValue
 record_of b owner e = record {
   message = b;
   owner = owner;
-  record_type = type_field (fields_at b e);
-  class = class_field (fields_at b e);
-  ttl = ttl_field (fields_at b e);
+  record_type = type_field (fixed_at b e);
+  class = class_field (fixed_at b e);
+  ttl = ttl_field (fixed_at b e);
   start = e + fixed_size;
-  len = length_field (fields_at b e);
+  len = length_field (fixed_at b e);
 }
 
 -- After an owner that ends at e, the fields and the data are there.
 abbrev pub HasRest : List ℕ → ℕ → Type 0
-HasRest b e = e + fixed_size + length_field (fields_at b e) ≤ length b
+HasRest b e = e + fixed_size + length_field (fixed_at b e) ≤ length b
 
 -- There is a record at p: its owner is read there, the other fields and the data are there, and it ends after the data.
 -- What the data are is not looked into.

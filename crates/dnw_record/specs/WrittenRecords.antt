@@ -9,7 +9,7 @@ use Rattle.dnw_write.specs.declared.encoder.modes.RDataEncoding.{RDataEncoding}
 use Rattle.dnw_write.specs.Encoder.{Encoder, Writes, mode_of_rdata}
 use Rattle.dnw_write.specs.Emitting.{Outcome, Emits}
 use Rattle.dnw_write.specs.EmittedName.{EmitsName}
-use Rattle.dnw_write.specs.Marks.{mark_of, rewound}
+use Rattle.dnw_write.specs.Checkpoints.{checkpoint_of, rewound}
 use Rattle.dnw_record.specs.Parts.{EmitsSized, Then, WirePart, bytes_part, name_part, in_encoding}
 use Rattle.dnw_record.specs.declared.record.WireRecord.{WireRecord}
 use Rattle.dnw_record.specs.declared.record.WireData.{WireData}
@@ -34,18 +34,18 @@ data_part mode canonical (Name name encoding) = name_part (mode_of_rdata encodin
 -- ---- records
 
 -- the type, the class and the time to live
-abbrev pub type_class_ttl : WireRecord → List ℕ
-type_class_ttl r = to_be_bytes w16 (type_code r.record_type) ++ (to_be_bytes w16 (class_code r.class) ++ to_be_bytes w32 r.ttl)
+abbrev pub wire_fixed : WireRecord → List ℕ
+wire_fixed r = to_be_bytes w16 (type_code r.record_type) ++ (to_be_bytes w16 (class_code r.class) ++ to_be_bytes w32 r.ttl)
 
 -- the owner, the type, the class, the time to live, and the data with their length
 abbrev pub EmitsFields : Emits WireRecord
-EmitsFields r = Then (EmitsName r.owner) (Then (λ v. Writes v (type_class_ttl r)) (EmitsSized (EmitsData r.rdata)))
+EmitsFields r = Then (EmitsName r.owner) (Then (λ v. Writes v (wire_fixed r)) (EmitsSized (EmitsData r.rdata)))
 
 -- The numbers of a record fit their fields, as those of the code do.
 abbrev pub NumbersFit : WireRecord → Type 0
 NumbersFit r = (type_code r.record_type < 2 ^ 16) × (class_code r.class < 2 ^ 16) × (r.ttl < 2 ^ 32)
 
--- A record is written whole, or undone whole: then the encoder is back at its mark, whichever field failed.
+-- A record is written whole, or undone whole: then the encoder is back at its checkpoint, whichever field failed.
 abbrev pub EmitsRecord : Emits WireRecord
 EmitsRecord r v (Ok done) w = NumbersFit r × EmitsFields r v (Ok tt) w
-EmitsRecord r v (Err error) w = (u : Encoder) × EmitsFields r v (Err error) u × (w ≡ rewound u (mark_of v))
+EmitsRecord r v (Err error) w = (u : Encoder) × EmitsFields r v (Err error) u × (w ≡ rewound u (checkpoint_of v))

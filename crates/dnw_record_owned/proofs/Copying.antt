@@ -10,9 +10,9 @@ use Rattle.dnw_data.specs.declared.fields.FieldError.{FieldError}
 use Rattle.dnw_data.specs.Fields.{TakesField, own_at}
 use Rattle.dnw_data.specs.Values.{FieldValue}
 use Rattle.dnw_data.specs.Walks.{FieldsAre, IsAtEnd}
-use Rattle.dnw_data.proofs.Taking.{moves-on}
-use Rattle.dnw_data.proofs.Walking.{one-reading}
-use Rattle.dnw_record_owned.specs.AnyRecordLaws.{value_of, values_of}
+use Rattle.dnw_data.proofs.Taking.{moves_on}
+use Rattle.dnw_data.proofs.Walking.{one_reading}
+use Rattle.dnw_record_owned.specs.AnyRecordLaws.{piece_value, piece_values}
 use Rattle.std.proofs.lemmas.Option.{none-some}
 use Rattle.dnw_record_owned.specs.declared.rdata.RDataError.{RDataError}
 use Rattle.dnw_record_owned.specs.declared.rdata.RDataError.TheVariants.{Field, Memory}
@@ -21,28 +21,28 @@ use Rattle.dnw_record_owned.specs.DataCopies.{Copies, FailsPiece, FailsToCopy, T
 use Rattle.dnw_record_owned.specs.Inside.Copying.{IsCopying}
 
 -- pieces are those of fields
-pub takes-value : (kind : Kind) (d after : Decoder) (piece : DataPiece) → TakesPiece kind d piece after → TakesField kind d (value_of kind piece) after
-takes-value (Name form) d after piece (labels, k, takes, is) = (labels, k, takes, ap (value_of (Name form)) is)
-takes-value kind d after piece (enough, right, is, there) = (enough, right, ap (value_of kind) is, there)
+pub takes_value : (kind : Kind) (d after : Decoder) (piece : DataPiece) → TakesPiece kind d piece after → TakesField kind d (piece_value kind piece) after
+takes_value (Name form) d after piece (labels, k, takes, is) = (labels, k, takes, ap (piece_value (Name form)) is)
+takes_value kind d after piece (enough, right, is, there) = (enough, right, ap (piece_value kind) is, there)
 
-pub take-values : (start : ℕ) (kinds : List Kind) (d : Decoder) (pieces : List DataPiece) → TakesPieces kinds d pieces
-    → FieldsAre start kinds d (values_of kinds pieces) None
-take-values start [] d [] end = (refl, end)
-take-values start [] d (piece ∷ pieces) takes = absurd takes
-take-values start (kind ∷ kinds) d [] takes = absurd takes
-take-values start (kind ∷ kinds) d (piece ∷ pieces) (after, one, more) =
-    (after, kinds, (takes-value kind d after piece one, refl), take-values start kinds after pieces more)
+pub take_values : (start : ℕ) (kinds : List Kind) (d : Decoder) (pieces : List DataPiece) → TakesPieces kinds d pieces
+    → FieldsAre start kinds d (piece_values kinds pieces) None
+take_values start [] d [] end = (refl, end)
+take_values start [] d (piece ∷ pieces) takes = absurd takes
+take_values start (kind ∷ kinds) d [] takes = absurd takes
+take_values start (kind ∷ kinds) d (piece ∷ pieces) (after, one, more) =
+    (after, kinds, (takes_value kind d after piece one, refl), take_values start kinds after pieces more)
 
 -- Fields that are all read have no first one that is none.
-pub not-both : (kinds : List Kind) (start : Decoder) (pieces : List DataPiece) (error : FieldError) → TakesPieces kinds start pieces
+pub not_both : (kinds : List Kind) (start : Decoder) (pieces : List DataPiece) (error : FieldError) → TakesPieces kinds start pieces
     → FailsToCopy kinds start (Field error) → ⊥
-not-both kinds start pieces error takes (values, _, fails) =
-    none-some _ (one-reading start.index kinds start _ values None (Some error.cause) (take-values start.index kinds start pieces takes) fails).1
+not_both kinds start pieces error takes (values, _, fails) =
+    none-some _ (one_reading start.index kinds start _ values None (Some error.cause) (take_values start.index kinds start pieces takes) fails).1
 
 -- a field has a piece
-pub piece-of : (kind : Kind) (d after : Decoder) (v : FieldValue) → TakesField kind d v after → (piece : DataPiece) × TakesPiece kind d piece after
-piece-of (Name form) d after v (labels, k, takes, is) = (name_piece form labels, (labels, k, takes, refl))
-piece-of kind d after v (enough, right, is, there) = (octets_piece (own_at kind d), (enough, right, refl, there))
+pub piece_of : (kind : Kind) (d after : Decoder) (v : FieldValue) → TakesField kind d v after → (piece : DataPiece) × TakesPiece kind d piece after
+piece_of (Name form) d after v (labels, k, takes, is) = (name_piece form labels, (labels, k, takes, refl))
+piece_of kind d after v (enough, right, is, there) = (octets_piece (own_at kind d), (enough, right, refl, there))
 
 module _ {kinds : List Kind} {start : Decoder} {before : List ℕ} where
   pub begins : IsCopying kinds start before kinds start before
@@ -61,9 +61,9 @@ module _ {kinds : List Kind} {start : Decoder} {before : List ℕ} where
     pub goes-on : {after : Decoder} {longer : List ℕ} (piece : DataPiece) → TakesPiece kind d piece after → longer ≡ octets ++ piece_octets piece
         → IsCopying kinds start before others after longer
     goes-on {after} piece takes more_is =
-        let v = value_of kind piece in
-        let field = takes-value kind d after piece takes in
-        let (later, same) = moves-on kind d after v field in
+        let v = piece_value kind piece in
+        let field = takes_value kind d after piece takes in
+        let (later, same) = moves_on kind d after v field in
         let one : octets_of (c.done ++ piece ∷ []) ≡ octets_of c.done ++ piece_octets piece =
         flat_map-append piece_octets c.done (piece ∷ []) ∙ ap (λ (x : List ℕ). octets_of c.done ++ x) (append-nil (piece_octets piece)) in
         record {

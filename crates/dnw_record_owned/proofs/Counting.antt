@@ -20,12 +20,12 @@ pub record CountsOn (v w : Encoder) : Type 0 where
   pub within : v.names ≤ v.name_limit → w.names ≤ w.name_limit
 
 -- nothing is counted
-counts-same : (v w : Encoder) → w.names ≡ v.names → w.name_limit ≡ v.name_limit → CountsOn v w
-counts-same v w same limit =
+counts_same : (v w : Encoder) → w.names ≡ v.names → w.name_limit ≡ v.name_limit → CountsOn v w
+counts_same v w same limit =
     record { on = omega (arith, same); limit = limit; within = λ le. omega (arith, le, same, limit) }
 
-counts-then : (v m w : Encoder) → CountsOn v m → CountsOn m w → CountsOn v w
-counts-then v m w one more =
+counts_then : (v m w : Encoder) → CountsOn v m → CountsOn m w → CountsOn v w
+counts_then v m w one more =
     record {
       on = omega (arith, one.on, more.on);
       limit = more.limit ∙ one.limit;
@@ -34,52 +34,52 @@ counts-then v m w one more =
 
 -- ---- one name
 
-one-allowed : (v : Encoder) → compresses v ≡ true → v.names + 1 ≤ v.name_limit
-one-allowed v may = search (rules, tests)
+one_allowed : (v : Encoder) → compresses v ≡ true → v.names + 1 ≤ v.name_limit
+one_allowed v may = search (rules, tests)
 
-counted-on : (v : Encoder) → (v.names ≤ counted v) × (v.names ≤ v.name_limit → counted v ≤ v.name_limit)
-counted-on v =
+counted_on : (v : Encoder) → (v.names ≤ counted v) × (v.names ≤ v.name_limit → counted v ≤ v.name_limit)
+counted_on v =
     let M : Bool → Type 0 = λ b. compresses v ≡ b
     → (v.names ≤ (if b then v.names + 1 else v.names)) × (v.names ≤ v.name_limit → (if b then v.names + 1 else v.names) ≤ v.name_limit) in
     let cases : (b : Bool) → M b = λ b. elim b as M [
-      | true ↦ λ may. (omega arith, λ le. one-allowed v may)
+      | true ↦ λ may. (omega arith, λ le. one_allowed v may)
       | false ↦ λ none. (omega arith, λ le. le)
     ] in
     cases (compresses v) refl
 
-counted-as : (v w : Encoder) → w.names ≡ counted v → w.name_limit ≡ v.name_limit → (w.names ≡ counted v) × CountsOn v w
-counted-as v w names limit =
-    let (on, within) = counted-on v in
+counted_as : (v w : Encoder) → w.names ≡ counted v → w.name_limit ≡ v.name_limit → (w.names ≡ counted v) × CountsOn v w
+counted_as v w names limit =
+    let (on, within) = counted_on v in
     (names, record { on = omega (arith, names, on); limit = limit; within = λ le. omega (arith, names, limit, within le) })
 
-pub counts-as : (v w : Encoder) (ls : List (List ℕ)) (choice : Option Share) → EmitsAs v ls choice (Ok tt) w → (w.names ≡ counted v) × CountsOn v w
-counts-as v w ls None h = counted-as v w (ap names_of h.1) (ap limit_of h.1)
-counts-as v w ls (Some share) h = counted-as v w (ap names_of h.1) (ap limit_of h.1)
+pub counts_as : (v w : Encoder) (ls : List (List ℕ)) (choice : Option Share) → EmitsAs v ls choice (Ok tt) w → (w.names ≡ counted v) × CountsOn v w
+counts_as v w ls None h = counted_as v w (ap names_of h.1) (ap limit_of h.1)
+counts_as v w ls (Some share) h = counted_as v w (ap names_of h.1) (ap limit_of h.1)
 
-pub counts-name : (name : NameValue) (v w : Encoder) → EmitsName name v (Ok tt) w → CountsOn v w
-counts-name name v w h = (counts-as v w (in_mode v.encoding name.labels) h.choice h.written_as).1
+pub counts_name : (name : NameValue) (v w : Encoder) → EmitsName name v (Ok tt) w → CountsOn v w
+counts_name name v w h = (counts_as v w (in_mode v.encoding name.labels) h.choice h.written_as).1
 
 -- ---- records
 
-counts-part : (part : WirePart) (v w : Encoder) → EmitsWirePart part v (Ok tt) w → CountsOn v w
-counts-part (bytes_part d) v w h = counts-same v w (ap names_of h.1) (ap limit_of h.1)
-counts-part (text_part d) v w h = counts-same v w (ap names_of h.1.1) (ap limit_of h.1.1)
-counts-part (name_part mode name) v w (u, h, is) =
-    let c = counts-name name (in_encoding v mode) u h in
+counts_part : (part : WirePart) (v w : Encoder) → EmitsWirePart part v (Ok tt) w → CountsOn v w
+counts_part (bytes_part d) v w h = counts_same v w (ap names_of h.1) (ap limit_of h.1)
+counts_part (text_part d) v w h = counts_same v w (ap names_of h.1.1) (ap limit_of h.1.1)
+counts_part (name_part mode name) v w (u, h, is) =
+    let c = counts_name name (in_encoding v mode) u h in
     subst (CountsOn v) (sym is) (record { on = c.on; limit = c.limit; within = c.within })
 
-pub counts-parts : (parts : List WirePart) (v w : Encoder) → EmitsWireParts parts v (Ok tt) w → CountsOn v w
-counts-parts [] v w h = counts-same v w (ap names_of h) (ap limit_of h)
-counts-parts (part ∷ parts) v w (m, one, more) = counts-then v m w (counts-part part v m one) (counts-parts parts m w more)
+pub counts_parts : (parts : List WirePart) (v w : Encoder) → EmitsWireParts parts v (Ok tt) w → CountsOn v w
+counts_parts [] v w h = counts_same v w (ap names_of h) (ap limit_of h)
+counts_parts (part ∷ parts) v w (m, one, more) = counts_then v m w (counts_part part v m one) (counts_parts parts m w more)
 
-pub counts-record : (r : Record) (v w : Encoder) → EmitsAnyRecord r v (Ok tt) w → CountsOn v w
-counts-record r v w (fit, (a, owner, (d, fixed, (room, u, (pieces, has, parts), is)))) =
+pub counts_record : (r : Record) (v w : Encoder) → EmitsAnyRecord r v (Ok tt) w → CountsOn v w
+counts_record r v w (fit, (a, owner, (d, fixed, (room, u, (pieces, has, parts), is)))) =
     let names = ap names_of fixed.1 in
     let limit = ap limit_of fixed.1 in
-    let c = counts-parts (parts_of pieces d.encoding d.canonical) _ u parts in
+    let c = counts_parts (parts_of pieces d.encoding d.canonical) _ u parts in
     let rest : CountsOn a w = record {
       on = omega (arith, c.on, names, ap names_of is);
       limit = ap limit_of is ∙ (c.limit ∙ limit);
       within = λ le. omega (arith, c.within (omega (arith, le, names, limit)), ap names_of is, ap limit_of is);
     } in
-    counts-then v a w (counts-name r.name v a owner) rest
+    counts_then v a w (counts_name r.name v a owner) rest

@@ -16,11 +16,11 @@ use Rattle.dnw_data.specs.Table.{Row, fields_of, hex, row, table}
 use Rattle.dnw_data.specs.Values.{FieldValue, name, u8, u16, u32, u48, u64, ipv4, ipv6, type_code, time, counted, octets, texts, types, params, items}
 use Rattle.dnw_data.specs.Walks.{FieldsAre}
 use Rattle.dnw_data.specs.FieldWires.{IsFieldValue, field_wire}
-use Rattle.dnw_data.proofs.Addresses.{octets-length, segments-back}
+use Rattle.dnw_data.proofs.Addresses.{octets_length, segments_back}
 use Rattle.dnw_record_owned.specs.declared.from_fields.FromFieldsError.{FromFieldsError}
 use Rattle.dnw_record_owned.specs.DataPieces.{ArePiecesOf, DataPiece, HasPieces, IsData, IsPieceOf, name_piece, octets_of, octets_piece, piece_octets}
 use Rattle.dnw_record_owned.specs.DataCopies.{alone}
-use Rattle.dnw_record_owned.specs.AnyRecordLaws.{value_of, values_of}
+use Rattle.dnw_record_owned.specs.AnyRecordLaws.{piece_value, piece_values}
 use Rattle.dnw_record_owned.specs.GivenFields.{AreFieldsOf, FailsGivenFields, IsFieldOf}
 use Rattle.dnw_record_owned.proofs.AnyRecords.{data_have_fields}
 
@@ -36,19 +36,19 @@ takes_all_last [] = true
 takes_all_last (kind ∷ []) = true
 takes_all_last (kind ∷ other ∷ others) = not (takes_all kind) && takes_all_last (other ∷ others)
 
-found-last : (f : Row → Bool) (rows : List Row) (none : Row) → list_all (λ r. takes_all_last r.fields) rows ≡ true → takes_all_last none.fields ≡ true
+found_last : (f : Row → Bool) (rows : List Row) (none : Row) → list_all (λ r. takes_all_last r.fields) rows ≡ true → takes_all_last none.fields ≡ true
     → takes_all_last (unwrap_or (find f rows) none).fields ≡ true
-found-last f [] none all one = one
-found-last f (r ∷ rows) none all one =
+found_last f [] none all one = one
+found_last f (r ∷ rows) none all one =
     let (first, others) = and_parts (takes_all_last r.fields) (list_all (λ r. takes_all_last r.fields) rows) all in
     elim (cases_Bool (f r)) [
       | inl is ↦ rw is first
-      | inr other ↦ rw other (found-last f rows none others one)
+      | inr other ↦ rw other (found_last f rows none others one)
     ]
 
-table-last : (code : ℕ) → takes_all_last (fields_of code) ≡ true
+table_last : (code : ℕ) → takes_all_last (fields_of code) ≡ true
 unfolding fields_of
-table-last code = found-last (λ r. r.code == code) table (row code (hex ∷ [])) refl refl
+table_last code = found_last (λ r. r.code == code) table (row code (hex ∷ [])) refl refl
 
 -- ---- one field
 
@@ -59,11 +59,11 @@ piece_given kind value = octets_piece (field_wire value)
 -- The piece of a value is one of its kind, its octets are those of the value, and it is read as the value.
 abbrev IsGiven : Kind → FieldValue → List ℕ → Type 0
 IsGiven kind value rest =
-    IsPieceOf kind (piece_given kind value) rest × (value_of kind (piece_given kind value) ≡ value)
+    IsPieceOf kind (piece_given kind value) rest × (piece_value kind (piece_given kind value) ≡ value)
     × (piece_octets (piece_given kind value) ≡ field_wire value)
 
-six-octets : (n : ℕ) → n < 2 ^ 48 → from_be_bytes w64 (0 ∷ 0 ∷ drop 2 (to_be_bytes w64 n)) ≡ n
-six-octets n small =
+six_octets : (n : ℕ) → n < 2 ^ 48 → from_be_bytes w64 (0 ∷ 0 ∷ drop 2 (to_be_bytes w64 n)) ≡ n
+six_octets n small =
     let first : n / 72057594037927936 % 256 ≡ 0 = omega arith in
     let second : n / 281474976710656 % 256 ≡ 0 = omega arith in
     let same : to_be_bytes w64 n ≡ 0 ∷ 0 ∷ drop 2 (to_be_bytes w64 n) =
@@ -73,11 +73,11 @@ six-octets n small =
 whole : (own rest : List ℕ) → rest ≡ [] → length own ≡ length (own ++ rest)
 whole own rest none = ap length (sym (append-nil own) ∙ ap (λ (x : List ℕ). own ++ x) (sym none))
 
-same-items : (kind : ListKind) (own : ItemsValue) → own.kind ≡ kind → items kind own.octets ≡ own
-same-items kind own is = ap (λ k. items k own.octets) (sym is)
+same_items : (kind : ListKind) (own : ItemsValue) → own.kind ≡ kind → items kind own.octets ≡ own
+same_items kind own is = ap (λ k. items k own.octets) (sym is)
 
-right-list : (kind : ListKind) (own : ItemsValue) → own.kind ≡ kind → list_fault own.kind own.octets ≡ None → list_fault kind own.octets ≡ None
-right-list kind own is right = subst (λ k. list_fault k own.octets ≡ None) is right
+right_list : (kind : ListKind) (own : ItemsValue) → own.kind ≡ kind → list_fault own.kind own.octets ≡ None → list_fault kind own.octets ≡ None
+right_list kind own is right = subst (λ k. list_fault k own.octets ≡ None) is right
 
 given : (kind : Kind) (value : FieldValue) (rest : List ℕ) → IsFieldOf kind value → IsFieldValue value → (takes_all kind ≡ true → rest ≡ [])
     → IsGiven kind value rest
@@ -85,21 +85,21 @@ given (kinds.Name form) (name labels) rest is fits last = ((refl, fits), refl, r
 given kinds.U8 (u8 n) rest is fits last = ((refl, refl), refl, refl)
 given kinds.U16 (u16 n) rest is fits last = ((refl, refl), ap u16 (from_be_bytes-to_be_bytes_2 n fits), refl)
 given kinds.U32 (u32 n) rest is fits last = ((refl, refl), ap u32 (from_be_bytes-to_be_bytes_4 n fits), refl)
-given kinds.U48 (u48 n) rest is fits last = ((refl, refl), ap u48 (six-octets n is), refl)
+given kinds.U48 (u48 n) rest is fits last = ((refl, refl), ap u48 (six_octets n is), refl)
 given kinds.U64 (u64 n) rest is fits last = ((refl, refl), ap u64 (from_be_bytes-to_be_bytes_8 n fits), refl)
 given kinds.Ipv4 (ipv4 own) rest is fits last = ((fits, refl), refl, refl)
-given kinds.Ipv6 (ipv6 segments) rest is fits last = ((omega (arith, octets-length segments, fits), refl), ap ipv6 (segments-back segments), refl)
+given kinds.Ipv6 (ipv6 segments) rest is fits last = ((omega (arith, octets_length segments, fits), refl), ap ipv6 (segments_back segments), refl)
 given kinds.TypeCode (type_code code) rest is fits last = ((refl, refl), ap type_code (ap type_of_code (from_be_bytes-to_be_bytes_2 _ fits) ∙ is), refl)
 given kinds.Time (time n) rest is fits last = ((refl, refl), ap time (from_be_bytes-to_be_bytes_4 n fits), refl)
 given (kinds.Counted shown) (counted own) rest is fits last = ((omega arith, refl), refl, refl)
 given (kinds.Octets shown) (octets own) rest is fits last = ((whole own rest (last refl), refl), refl, refl)
 given (kinds.List lists.Texts) (texts own) rest (is, some) fits last =
     let size = whole own.octets rest (last refl) in
-    ((omega (arith, size, some, ap (max 1) size), right-list lists.Texts own is fits), ap texts (same-items lists.Texts own is), refl)
+    ((omega (arith, size, some, ap (max 1) size), right_list lists.Texts own is fits), ap texts (same_items lists.Texts own is), refl)
 given (kinds.List lists.Types) (types own) rest is fits last =
-    ((whole own.octets rest (last refl), right-list lists.Types own is fits), ap types (same-items lists.Types own is), refl)
+    ((whole own.octets rest (last refl), right_list lists.Types own is fits), ap types (same_items lists.Types own is), refl)
 given (kinds.List lists.Params) (params own) rest is fits last =
-    ((whole own.octets rest (last refl), right-list lists.Params own is fits), ap params (same-items lists.Params own is), refl)
+    ((whole own.octets rest (last refl), right_list lists.Params own is fits), ap params (same_items lists.Params own is), refl)
 given kind value rest is fits last = absurd is
 
 -- ---- all fields
@@ -108,40 +108,40 @@ abbrev pieces_given : List Kind → List FieldValue → List DataPiece
 pieces_given (kind ∷ kinds) (value ∷ values) = piece_given kind value ∷ pieces_given kinds values
 pieces_given kinds values = []
 
-others-last : (kind : Kind) (kinds : List Kind) → takes_all_last (kind ∷ kinds) ≡ true → takes_all_last kinds ≡ true × (takes_all kind ≡ true → kinds ≡ [])
-others-last kind [] last = (refl, λ all. refl)
-others-last kind (other ∷ others) last =
+others_last : (kind : Kind) (kinds : List Kind) → takes_all_last (kind ∷ kinds) ≡ true → takes_all_last kinds ≡ true × (takes_all kind ≡ true → kinds ≡ [])
+others_last kind [] last = (refl, λ all. refl)
+others_last kind (other ∷ others) last =
     let (first, more) = and_parts (not (takes_all kind)) (takes_all_last (other ∷ others)) last in
     (more, λ all. let wrong = rw all at first in absurd cc)
 
-all-given : (kinds : List Kind) (values : List FieldValue) → AreFieldsOf kinds values → AllByRecursion IsFieldValue values → takes_all_last kinds ≡ true
-    → ArePiecesOf kinds (pieces_given kinds values) × (values_of kinds (pieces_given kinds values) ≡ values)
+all_given : (kinds : List Kind) (values : List FieldValue) → AreFieldsOf kinds values → AllByRecursion IsFieldValue values → takes_all_last kinds ≡ true
+    → ArePiecesOf kinds (pieces_given kinds values) × (piece_values kinds (pieces_given kinds values) ≡ values)
     × (octets_of (pieces_given kinds values) ≡ flat_map field_wire values)
-all-given [] [] are fit last = (tt, refl, refl)
-all-given [] (value ∷ values) are fit last = absurd are
-all-given (kind ∷ kinds) [] are fit last = absurd are
-all-given (kind ∷ kinds) (value ∷ values) (is, are) (fits, fit) last =
-    let (more, end) = others-last kind kinds last in
-    let (pieces, read, own) = all-given kinds values are fit more in
+all_given [] [] are fit last = (tt, refl, refl)
+all_given [] (value ∷ values) are fit last = absurd are
+all_given (kind ∷ kinds) [] are fit last = absurd are
+all_given (kind ∷ kinds) (value ∷ values) (is, are) (fits, fit) last =
+    let (more, end) = others_last kind kinds last in
+    let (pieces, read, own) = all_given kinds values are fit more in
     let one = given kind value (octets_of (pieces_given kinds values)) is fits (λ all. ap (λ (ks : List Kind). octets_of (pieces_given ks values)) (end all)) in (
       (one.0, pieces),
-      ap (λ x. x ∷ values_of kinds (pieces_given kinds values)) one.1 ∙ ap (λ xs. value ∷ xs) read,
+      ap (λ x. x ∷ piece_values kinds (pieces_given kinds values)) one.1 ∙ ap (λ xs. value ∷ xs) read,
       ap (λ (x : List ℕ). x ++ octets_of (pieces_given kinds values)) one.2 ∙ ap (λ (x : List ℕ). field_wire value ++ x) own,
     )
 
-pub are-data : (code : ℕ) (own : List ℕ) (values : List FieldValue) → own ≡ flat_map field_wire values → AreFieldsOf (fields_of code) values
+pub are_data : (code : ℕ) (own : List ℕ) (values : List FieldValue) → own ≡ flat_map field_wire values → AreFieldsOf (fields_of code) values
     → AllByRecursion IsFieldValue values → IsData (fields_of code) own × FieldsAre 0 (fields_of code) (alone own) values None
-are-data code own values is are fit =
-    let (pieces, read, same) = all-given (fields_of code) values are fit (table-last code) in
+are_data code own values is are fit =
+    let (pieces, read, same) = all_given (fields_of code) values are fit (table_last code) in
     let has : HasPieces (fields_of code) own (pieces_given (fields_of code) values) = record { are = pieces; whole = is ∙ sym same } in
     ((_, has), subst (λ vs. FieldsAre 0 (fields_of code) (alone own) vs None) read (data_have_fields (fields_of code) own _ has).0)
 
 -- ---- fields that are refused
 
-pub not-refused : (number : ℕ) (kinds : List Kind) (values : List FieldValue) (error : FromFieldsError) → AreFieldsOf kinds values
+pub not_refused : (number : ℕ) (kinds : List Kind) (values : List FieldValue) (error : FromFieldsError) → AreFieldsOf kinds values
     → FailsGivenFields number kinds values error → ⊥
-not-refused number [] [] error are fails = fails
-not-refused number [] (value ∷ values) error are fails = are
-not-refused number (kind ∷ kinds) [] error are fails = are
-not-refused number (kind ∷ kinds) (value ∷ values) error (is, are) (inl (wrong, _)) = wrong is
-not-refused number (kind ∷ kinds) (value ∷ values) error (is, are) (inr (_, fails)) = not-refused (number + 1) kinds values error are fails
+not_refused number [] [] error are fails = fails
+not_refused number [] (value ∷ values) error are fails = are
+not_refused number (kind ∷ kinds) [] error are fails = are
+not_refused number (kind ∷ kinds) (value ∷ values) error (is, are) (inl (wrong, _)) = wrong is
+not_refused number (kind ∷ kinds) (value ∷ values) error (is, are) (inr (_, fails)) = not_refused (number + 1) kinds values error are fails

@@ -12,24 +12,24 @@ use Rattle.dnw_record_owned.specs.DataPieces.{IsData, name_piece, octets_piece}
 use Rattle.dnw_record_owned.specs.DataCopies.{alone}
 use Rattle.dnw_record_owned.specs.WireRecords.{HaveNoName}
 use Rattle.dnw_record_owned.specs.Inside.Walking.{is_name}
-use Rattle.dnw_record_owned.proofs.AnyRecords.{whole-pieces}
+use Rattle.dnw_record_owned.proofs.AnyRecords.{whole_pieces}
 
-pub one-name : (form : NameForm) (octets : List ℕ) → IsData (Name form ∷ []) octets
+pub one_name : (form : NameForm) (octets : List ℕ) → IsData (Name form ∷ []) octets
     → (labels : List (List ℕ)) × (after : Decoder) × (k : ℕ) × TakesName (alone octets) after labels k × (octets ≡ wire labels)
-one-name form octets ([], has) = absurd has.are
-one-name form octets (octets_piece own ∷ others, has) = absurd has.are.0
-one-name form octets (name_piece own labels ∷ other ∷ others, has) = absurd has.are.1
-one-name form octets (name_piece own labels ∷ [], has) =
-    let (after, (found, k, takes, is), _) = whole-pieces (Name form ∷ []) octets (name_piece own labels ∷ []) has in
+one_name form octets ([], has) = absurd has.are
+one_name form octets (octets_piece own ∷ others, has) = absurd has.are.0
+one_name form octets (name_piece own labels ∷ other ∷ others, has) = absurd has.are.1
+one_name form octets (name_piece own labels ∷ [], has) =
+    let (after, (found, k, takes, is), _) = whole_pieces (Name form ∷ []) octets (name_piece own labels ∷ []) has in
     let same : labels ≡ found = cc in
     (found, after, k, takes, has.whole ∙ append-nil (wire labels) ∙ ap wire same)
 
-pub no-name : (kinds : List Kind) → list_any is_name kinds ≡ false → HaveNoName kinds
-no-name [] none = tt
-no-name (Name form ∷ kinds) none = absurd cc
-no-name (kind ∷ kinds) none = no-name kinds none
+pub no_name : (kinds : List Kind) → list_any is_name kinds ≡ false → HaveNoName kinds
+no_name [] none = tt
+no_name (Name form ∷ kinds) none = absurd cc
+no_name (kind ∷ kinds) none = no_name kinds none
 
-pub some-name : (kinds : List Kind) → list_any is_name kinds ≡ true → HaveNoName kinds → ⊥
-some-name [] some none = absurd cc
-some-name (Name form ∷ kinds) some none = none
-some-name (kind ∷ kinds) some none = some-name kinds some none
+pub some_name : (kinds : List Kind) → list_any is_name kinds ≡ true → HaveNoName kinds → ⊥
+some_name [] some none = absurd cc
+some_name (Name form ∷ kinds) some none = none
+some_name (kind ∷ kinds) some none = some_name kinds some none

@@ -17,29 +17,29 @@ use Rattle.dnw_record_owned.specs.DataPieces.{DataPiece, DataValue, IsData, IsDa
 use Rattle.dnw_record_owned.specs.DataCopies.{Copies, FailsToCopy, alone}
 use Rattle.dnw_record_owned.specs.AnyRecords.{AnyNumbersFit, EmitsAnyFields, EmitsCopyOf, EmitsRData, HasFields, IsCopyOf, parts_of, type_class_ttl}
 use Rattle.dnw_record_owned.specs.Inside.Walking.{EmitsFieldsOf, EmitsPieces, IsReadable, copy_with}
-use Rattle.dnw_record_owned.proofs.AnyRecords.{whole-pieces}
-use Rattle.dnw_write.specs.Marks.{mark_of, rewound}
-use Rattle.dnw_record_owned.proofs.Copying.{not-both}
-use Rattle.dnw_record_owned.proofs.Going.{GoesOn, on-fields}
-use Rattle.dnw_record_owned.proofs.Pieces.{are-pieces, pieces-unique}
+use Rattle.dnw_record_owned.proofs.AnyRecords.{whole_pieces}
+use Rattle.dnw_write.specs.Checkpoints.{checkpoint_of, rewound}
+use Rattle.dnw_record_owned.proofs.Copying.{not_both}
+use Rattle.dnw_record_owned.proofs.Going.{GoesOn, on_fields}
+use Rattle.dnw_record_owned.proofs.Pieces.{are_pieces, pieces_unique}
 
 -- what is read of a decoder is written as the data that are a copy of it
-pub as-data : (x : DataValue) (start : Decoder) → Copies (kinds_of x.record_type) start x.octets → (v : Encoder) (outcome : Outcome) (w : Encoder)
+pub as_data : (x : DataValue) (start : Decoder) → Copies (kinds_of x.record_type) start x.octets → (v : Encoder) (outcome : Outcome) (w : Encoder)
     → EmitsPieces (kinds_of x.record_type) start v outcome w → EmitsRData x v outcome w
-as-data x start (copied, read, is) v outcome w (pieces, takes, h) =
+as_data x start (copied, read, is) v outcome w (pieces, takes, h) =
     let kinds = kinds_of x.record_type in
-    let same = pieces-unique kinds start pieces copied takes read in (
+    let same = pieces_unique kinds start pieces copied takes read in (
       copied,
-      record { are = are-pieces kinds start copied read; whole = is },
+      record { are = are_pieces kinds start copied read; whole = is },
       subst (λ (ps : List DataPiece). EmitsWireParts (parts_of ps v.encoding v.canonical) v outcome w) same h,
     )
 
 -- data are a copy of themselves
-pub own-copy : (x : DataValue) → IsDataOfType x → Copies (kinds_of x.record_type) (alone x.octets) x.octets
-own-copy x (pieces, has) = (pieces, whole-pieces (kinds_of x.record_type) x.octets pieces has, has.whole)
+pub own_copy : (x : DataValue) → IsDataOfType x → Copies (kinds_of x.record_type) (alone x.octets) x.octets
+own_copy x (pieces, has) = (pieces, whole_pieces (kinds_of x.record_type) x.octets pieces has, has.whole)
 
 pub readable : (x : DataValue) → IsDataOfType x → IsReadable (kinds_of x.record_type) (alone x.octets)
-readable x has = let (pieces, takes, is) = own-copy x has in (pieces, takes)
+readable x has = let (pieces, takes, is) = own_copy x has in (pieces, takes)
 
 -- octets that are data are copied as they are
 pub kept : (record_type : RecordType) (octets : List ℕ) (result : Result DataValue RDataError)
@@ -47,40 +47,40 @@ pub kept : (record_type : RecordType) (octets : List ℕ) (result : Result DataV
     → IfErr result (FailsToCopy (kinds_of record_type) (alone octets))
     → IsData (kinds_of record_type) octets → MatchResult result (λ r. r.octets ≡ octets) (λ e. e ≡ Memory)
 kept t octets (Ok r) (_, (pieces', takes', is)) err (pieces, has) =
-    is ∙ ap octets_of (pieces-unique (kinds_of t) (alone octets) pieces' pieces takes' (whole-pieces (kinds_of t) octets pieces has)) ∙ sym has.whole
+    is ∙ ap octets_of (pieces_unique (kinds_of t) (alone octets) pieces' pieces takes' (whole_pieces (kinds_of t) octets pieces has)) ∙ sym has.whole
 kept t octets (Err Memory) ok err (pieces, has) = refl
-kept t octets (Err (Field error)) ok err (pieces, has) = absurd (not-both (kinds_of t) (alone octets) pieces error (whole-pieces (kinds_of t) octets pieces has) err)
+kept t octets (Err (Field error)) ok err (pieces, has) = absurd (not_both (kinds_of t) (alone octets) pieces error (whole_pieces (kinds_of t) octets pieces has) err)
 
 -- what is written after its length is the same in other words
-sized-as : (one two : Write) → ((v : Encoder) (outcome : Outcome) (w : Encoder) → one v outcome w → two v outcome w)
+sized_as : (one two : Write) → ((v : Encoder) (outcome : Outcome) (w : Encoder) → one v outcome w → two v outcome w)
     → (v : Encoder) (outcome : Outcome) (w : Encoder) → EmitsSized one v outcome w → EmitsSized two v outcome w
-sized-as one two same v (Ok tt) w (room, u, h, is) = (room, u, same (reserved v 2) (Ok tt) u h, is)
-sized-as one two same v (Err error) w (inl none) = inl none
-sized-as one two same v (Err error) w (inr (room, h)) = inr (room, same (reserved v 2) (Err error) w h)
+sized_as one two same v (Ok tt) w (room, u, h, is) = (room, u, same (reserved v 2) (Ok tt) u h, is)
+sized_as one two same v (Err error) w (inl none) = inl none
+sized_as one two same v (Err error) w (inr (room, h)) = inr (room, same (reserved v 2) (Err error) w h)
 
 -- all fields but the last are written, and then the last
-then-last : (r : Record) (v a d : Encoder) (outcome : Outcome) (w : Encoder) → EmitsName r.name v (Ok tt) a
+then_last : (r : Record) (v a d : Encoder) (outcome : Outcome) (w : Encoder) → EmitsName r.name v (Ok tt) a
     → Writes a (type_class_ttl r) (Ok tt) d → EmitsSized (EmitsRData r.data) d outcome w → EmitsAnyFields r v outcome w
-then-last r v a d (Ok tt) w owner fixed rdata = (a, owner, (d, fixed, rdata))
-then-last r v a d (Err error) w owner fixed rdata = inr (a, owner, inr (d, fixed, rdata))
+then_last r v a d (Ok tt) w owner fixed rdata = (a, owner, (d, fixed, rdata))
+then_last r v a d (Err error) w owner fixed rdata = inr (a, owner, inr (d, fixed, rdata))
 
-pub fields-on : (r : Record) (start : Decoder) (v a d : Encoder) (outcome : Outcome) (w : Encoder) → Copies (kinds_of r.data.record_type) start r.data.octets
+pub fields_on : (r : Record) (start : Decoder) (v a d : Encoder) (outcome : Outcome) (w : Encoder) → Copies (kinds_of r.data.record_type) start r.data.octets
     → EmitsName r.name v (Ok tt) a → Writes a (type_class_ttl r) (Ok tt) d → EmitsSized (EmitsPieces (kinds_of r.data.record_type) start) d outcome w
     → EmitsAnyFields r v outcome w
-fields-on r start v a d outcome w copied owner fixed rdata =
-    then-last r v a d outcome w owner fixed
-    (sized-as (EmitsPieces (kinds_of r.data.record_type) start) (EmitsRData r.data) (as-data r.data start copied) d outcome w rdata)
+fields_on r start v a d outcome w copied owner fixed rdata =
+    then_last r v a d outcome w owner fixed
+    (sized_as (EmitsPieces (kinds_of r.data.record_type) start) (EmitsRData r.data) (as_data r.data start copied) d outcome w rdata)
 
 -- the copy of a record whose data are fields of its type
-pub some-copy : (x : RecordValue) → HasFields x → (r : Record) × IsCopyOf x r
-some-copy x (octets, copied) = (copy_with x octets, (refl, refl, refl, refl, copied))
+pub some_copy : (x : RecordValue) → HasFields x → (r : Record) × IsCopyOf x r
+some_copy x (octets, copied) = (copy_with x octets, (refl, refl, refl, refl, copied))
 
 -- ---- a record that is written from where it is
 
-pub on-fields-of : (x : RecordValue) → GoesOn (EmitsFieldsOf x)
-on-fields-of x v outcome w (octets, copied, fields) = on-fields (copy_with x octets) v outcome w fields
+pub on_fields_of : (x : RecordValue) → GoesOn (EmitsFieldsOf x)
+on_fields_of x v outcome w (octets, copied, fields) = on_fields (copy_with x octets) v outcome w fields
 
-pub undone : (x : RecordValue) (v u w : Encoder) (outcome : Outcome) → EmitsFieldsOf x v outcome u → is_err outcome ≡ true → w ≡ rewound u (mark_of v)
+pub undone : (x : RecordValue) (v u w : Encoder) (outcome : Outcome) → EmitsFieldsOf x v outcome u → is_err outcome ≡ true → w ≡ rewound u (checkpoint_of v)
     → EmitsCopyOf x v outcome w
 undone x v u w (Ok tt) h err is = absurd (false≢true err)
 undone x v u w (Err error) (octets, copied, fields) err is = (copy_with x octets, (refl, refl, refl, refl, copied), (u, fields, is))

@@ -52,19 +52,19 @@ AnyRecordsFit = (r : Record)
 -- ---- the fields of data
 
 -- the value of the field that a piece is
-abbrev pub value_of : Kind → DataPiece → FieldValue
-value_of kind (name_piece form labels) = name labels
-value_of kind (octets_piece own) = own_value kind own
+abbrev pub piece_value : Kind → DataPiece → FieldValue
+piece_value kind (name_piece form labels) = name labels
+piece_value kind (octets_piece own) = own_value kind own
 
-abbrev pub values_of : List Kind → List DataPiece → List FieldValue
-values_of [] pieces = []
-values_of (kind ∷ kinds) [] = []
-values_of (kind ∷ kinds) (piece ∷ pieces) = value_of kind piece ∷ values_of kinds pieces
+abbrev pub piece_values : List Kind → List DataPiece → List FieldValue
+piece_values [] pieces = []
+piece_values (kind ∷ kinds) [] = []
+piece_values (kind ∷ kinds) (piece ∷ pieces) = piece_value kind piece ∷ piece_values kinds pieces
 
 -- The octets of data have pieces in one way, and their fields are the values of these, with no error.
 abbrev pub DataHaveFields : Type 0
 DataHaveFields = (kinds : List Kind) (octets : List ℕ) (pieces : List DataPiece) → HasPieces kinds octets pieces
-    → FieldsAre 0 kinds (alone octets) (values_of kinds pieces) None
+    → FieldsAre 0 kinds (alone octets) (piece_values kinds pieces) None
     × ((others : List DataPiece) → HasPieces kinds octets others → others ≡ pieces)
 
 -- ---- reading back
@@ -104,7 +104,7 @@ AnyRecordsAreRead = (r : Record) (pieces : List DataPiece) (v w : Encoder) → v
     → (x : RecordValue) × RecordAt w.bytes v.offset x w.offset × (x.owner ≡ in_mode v.encoding r.name.labels)
     × (x.record_type ≡ type_of_code (type_code r.data.record_type)) × (x.class ≡ class_of_code (class_code r.dns_class)) × (x.ttl ≡ r.ttl)
     × FieldsAre x.start (kinds_of r.data.record_type) (record_fields x).reader
-    (values_of (kinds_of r.data.record_type) (written_pieces v.encoding v.canonical pieces)) None
+    (piece_values (kinds_of r.data.record_type) (written_pieces v.encoding v.canonical pieces)) None
     × CandidatesAreRead w
 
 -- ---- octets

@@ -15,7 +15,7 @@ use Rattle.dnw_write.specs.declared.encoder.modes.RDataEncoding.TheVariants.{Sta
 use Rattle.dnw_write.specs.Encoder.{Encoder, Writes, mode_of_rdata}
 use Rattle.dnw_write.specs.Emitting.{Emits}
 use Rattle.dnw_write.specs.EmittedName.{EmitsName}
-use Rattle.dnw_write.specs.Marks.{mark_of, rewound}
+use Rattle.dnw_write.specs.Checkpoints.{checkpoint_of, rewound}
 use Rattle.dnw_record.specs.Records.{RecordValue}
 use Rattle.dnw_record.specs.Parts.{EmitsSized, EmitsWireParts, Then, WirePart, bytes_part, name_part}
 use Rattle.dnw_record_owned.specs.declared.record.Record.{Record}
@@ -82,10 +82,10 @@ FixedFit record_type class ttl = (type_code record_type < 2 ^ 16) × (class_code
 abbrev pub AnyNumbersFit : Record → Type 0
 AnyNumbersFit r = FixedFit r.data.record_type r.dns_class r.ttl
 
--- A record is written whole, or undone whole: then the encoder is back at its mark, whichever field failed.
+-- A record is written whole, or undone whole: then the encoder is back at its checkpoint, whichever field failed.
 abbrev pub EmitsAnyRecord : Emits Record
 EmitsAnyRecord r v (Ok done) w = AnyNumbersFit r × EmitsAnyFields r v (Ok tt) w
-EmitsAnyRecord r v (Err error) w = (u : Encoder) × EmitsAnyFields r v (Err error) u × (w ≡ rewound u (mark_of v))
+EmitsAnyRecord r v (Err error) w = (u : Encoder) × EmitsAnyFields r v (Err error) u × (w ≡ rewound u (checkpoint_of v))
 
 -- The data of a record of a message are fields of its type, up to their end.
 abbrev pub HasFields : RecordValue → Type 0

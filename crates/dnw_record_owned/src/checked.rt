@@ -5,7 +5,7 @@ ghost use Rattle.dnw_record_owned.specs.declared.rdata.RDataError.{RDataError};
 ghost use Rattle.dnw_record_owned.specs.DataPieces.{kinds_of};
 ghost use Rattle.dnw_record_owned.specs.DataCopies.{Copies, FailsToCopy, data_start};
 ghost use Rattle.dnw_record_owned.specs.AnyRecords.{AnyNumbersFit, EmitsCopyOf, HasFields};
-ghost use Rattle.dnw_record_owned.specs.AnyRecordFrames.{frame-copy};
+ghost use Rattle.dnw_record_owned.specs.AnyRecordFrames.{frame_copy};
 ghost use Rattle.dnw_record_owned.specs.Inside.Walking.{EmitsFieldsOf, copy_with};
 
 use crate::record::{emit_sized, fixed_octets};
@@ -62,14 +62,14 @@ impl<'r> CheckedRecord<'r> {
 impl BinEncodable for CheckedRecord<'_> {
     ghost emits = { EmitsCopyOf };
 
-    ghost keeps_frame = { frame-copy };
+    ghost keeps_frame = { frame_copy };
 
     /// Writes the record as `Record` does. If a field fails, the encoder is put back to where it was.
     fn emit(&self, encoder: &mut BinEncoder<'_>) -> ProtoResult<()> {
-        let mark = encoder.mark();
+        let checkpoint = encoder.checkpoint();
         let outcome = emit_fields(&self.item, encoder);
         if outcome.is_err() {
-            encoder.rewind(mark);
+            encoder.rewind(checkpoint);
         }
         outcome
     }

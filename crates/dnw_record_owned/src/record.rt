@@ -9,7 +9,7 @@ ghost use Rattle.dnw_record_owned.specs.Inside.Walking.{EmitsPieces, IsReadable,
 ghost use Rattle.dnw_record_owned.specs.DataCopies.{TakesOwnPiece};
 ghost use Rattle.dnw_record_owned.specs.DataPieces.{DataPiece};
 ghost use Rattle.dnw_record_owned.specs.AnyRecords.{EmitsRData, EmitsAnyFields, EmitsAnyRecord, AnyNumbersFit, FixedFit, encoding_of, fixed_octets, mode_of, name_of};
-ghost use Rattle.dnw_record_owned.specs.AnyRecordFrames.{frame-any_record, frame-rdata};
+ghost use Rattle.dnw_record_owned.specs.AnyRecordFrames.{frame_any_record, frame_rdata};
 
 use crate::rdata::{RData, RDataError};
 use dnw_base::decoder::BinDecoder;
@@ -68,7 +68,7 @@ impl Record {
 impl BinEncodable for Record {
     ghost emits = { EmitsAnyRecord };
 
-    ghost keeps_frame = { frame-any_record };
+    ghost keeps_frame = { frame_any_record };
 
     /// Writes the owner, the type, the class, the time to live, the length and the data. If one of them fails, the encoder
     /// is put back to where it was.
@@ -76,10 +76,10 @@ impl BinEncodable for Record {
     /// Names in the data are written as the table says: compressed if the encoder's mode compresses and the type is one of
     /// RFC 1035 (RFC 3597, section 4), and in canonical form in lower case (RFC 4034, section 6.2, and RFC 6840, section 5.1).
     fn emit(&self, encoder: &mut BinEncoder<'_>) -> ProtoResult<()> {
-        let mark = encoder.mark();
+        let checkpoint = encoder.checkpoint();
         let outcome = emit_fields(self, encoder);
         if outcome.is_err() {
-            encoder.rewind(mark);
+            encoder.rewind(checkpoint);
         }
         outcome
     }
@@ -89,7 +89,7 @@ impl BinEncodable for Record {
 impl BinEncodable for RData {
     ghost emits = { EmitsRData };
 
-    ghost keeps_frame = { frame-rdata };
+    ghost keeps_frame = { frame_rdata };
 
     /// Writes the octets of the data, and each name among them as the table says, as `Record` does.
     fn emit(&self, encoder: &mut BinEncoder<'_>) -> ProtoResult<()> {

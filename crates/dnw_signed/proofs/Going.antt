@@ -9,24 +9,24 @@ use Rattle.dnw_data.specs.declared.kind.NameForm.TheVariants.{Compressible, Lowe
 use Rattle.dnw_write.specs.declared.encoder.modes.NameEncoding.{NameEncoding}
 use Rattle.dnw_write.specs.Encoder.{Encoder}
 use Rattle.dnw_record_owned.specs.declared.record.Record.{Record}
-use Rattle.dnw_record_owned.specs.AnyRecordFrames.{frame-rdata}
+use Rattle.dnw_record_owned.specs.AnyRecordFrames.{frame_rdata}
 use Rattle.dnw_record_owned.specs.AnyRecordLaws.{written_pieces}
 use Rattle.dnw_record_owned.specs.AnyRecords.{EmitsRData}
 use Rattle.dnw_record_owned.specs.DataPieces.{DataPiece, DataValue, name_piece, octets_of, octets_piece}
-use Rattle.dnw_record_owned.proofs.Going.{fits-rdata}
+use Rattle.dnw_record_owned.proofs.Going.{fits_rdata}
 use Rattle.dnw_record_owned.proofs.Octets.{whole_data_are_octets}
 use Rattle.dnw_signed.specs.CanonicalData.{IsCanonical, canonical_piece, canonical_pieces}
-use Rattle.dnw_signed.specs.RecordSets.{AreCanonical, FailsFrom, FailsSet, FirstOther, IsMember, IsRecordSet, IsSet, IsInOrder, set_head, set_record}
+use Rattle.dnw_signed.specs.RecordSets.{AreCanonical, FailsSetFrom, FailsSet, FirstOther, IsMember, IsRecordSet, IsSet, IsInOrder, set_head, set_record}
 use Rattle.dnw_signed.specs.declared.error.CanonicalError.{CanonicalError}
 use Rattle.dnw_signed.specs.declared.error.CanonicalError.TheVariants.{Memory}
 use Rattle.dnw_signed.specs.Inside.Going.{AreShort, HasLength, IsChecking, IsListing, all_items, canonical_start}
 
 -- ---- the check
 
-members-push : (first : Record) (done : List Record) (item : Record) → AllByRecursion (IsMember first) done → IsMember first item
+members_push : (first : Record) (done : List Record) (item : Record) → AllByRecursion (IsMember first) done → IsMember first item
     → AllByRecursion (IsMember first) (done ++ item ∷ [])
-members-push first [] item all one = (one, tt)
-members-push first (r ∷ done) item (is, all) one = (is, members-push first done item all one)
+members_push first [] item all one = (one, tt)
+members_push first (r ∷ done) item (is, all) one = (is, members_push first done item all one)
 
 pub checks_on : (first item : Record) (records left others : List Record) → IsChecking first records left → left ≡ item ∷ others → IsMember first item
     → IsChecking first records others
@@ -34,7 +34,7 @@ checks_on first item records left others c is one =
     record {
       done = c.done ++ item ∷ [];
       split = c.split ∙ ap (λ rs. c.done ++ rs) is ∙ sym (append_assoc c.done (item ∷ []) others);
-      members = members-push first c.done item c.members one;
+      members = members_push first c.done item c.members one;
     }
 
 pub all_checked : (first : Record) (records left : List Record) → IsChecking first records left → left ≡ [] → AllByRecursion (IsMember first) records
@@ -46,9 +46,9 @@ have_lengths first [] all = tt
 have_lengths first (r ∷ records) (one, all) = (one.1, have_lengths first records all)
 
 pub fails_from : (records others : List Record) (first : Record) (labels : ℕ) (error : CanonicalError) → records ≡ first ∷ others
-    → FailsFrom first records labels error → FailsSet records labels error
+    → FailsSetFrom first records labels error → FailsSet records labels error
 fails_from records others first labels error is h =
-    subst (λ rs. FailsSet rs labels error) (sym is) (subst (λ rs. FailsFrom first rs labels error) is h)
+    subst (λ rs. FailsSet rs labels error) (sym is) (subst (λ rs. FailsSetFrom first rs labels error) is h)
 
 pub other_at : (first item : Record) (records left others : List Record) (number : ℕ) (reason : Record → Type 0) → IsChecking first records left
     → left ≡ item ∷ others → number ≡ length records - length left → reason item → FirstOther first records number reason
@@ -82,28 +82,28 @@ joins records first labels ttl all sorted head octets s canonical in_order head_
 
 -- ---- data in canonical form
 
-written-is : (mode : NameEncoding) (pieces : List DataPiece) → written_pieces mode true pieces ≡ canonical_pieces pieces
-written-is mode [] = refl
-written-is mode (octets_piece own ∷ pieces) = ap (λ ps. octets_piece own ∷ ps) (written-is mode pieces)
-written-is mode (name_piece Compressible labels ∷ pieces) = ap (λ ps. canonical_piece (name_piece Compressible labels) ∷ ps) (written-is mode pieces)
-written-is mode (name_piece Lowered labels ∷ pieces) = ap (λ ps. canonical_piece (name_piece Lowered labels) ∷ ps) (written-is mode pieces)
-written-is mode (name_piece Plain labels ∷ pieces) = ap (λ ps. canonical_piece (name_piece Plain labels) ∷ ps) (written-is mode pieces)
+written_is : (mode : NameEncoding) (pieces : List DataPiece) → written_pieces mode true pieces ≡ canonical_pieces pieces
+written_is mode [] = refl
+written_is mode (octets_piece own ∷ pieces) = ap (λ ps. octets_piece own ∷ ps) (written_is mode pieces)
+written_is mode (name_piece Compressible labels ∷ pieces) = ap (λ ps. canonical_piece (name_piece Compressible labels) ∷ ps) (written_is mode pieces)
+written_is mode (name_piece Lowered labels ∷ pieces) = ap (λ ps. canonical_piece (name_piece Lowered labels) ∷ ps) (written_is mode pieces)
+written_is mode (name_piece Plain labels ∷ pieces) = ap (λ ps. canonical_piece (name_piece Plain labels) ∷ ps) (written_is mode pieces)
 
 pub made : (x : DataValue) (w : Encoder) (octets : List ℕ) → EmitsRData x canonical_start (Ok tt) w → octets ≡ w.bytes
     → IsCanonical x octets × (length octets ≤ max_message)
 made x w octets (pieces, has, h) is =
     let whole = whole_data_are_octets x pieces canonical_start w refl has refl (pieces, has, h) in
-    let frame = frame-rdata x canonical_start (Ok tt) w refl (pieces, has, h) in
-    let (_, within, most, _) = (fits-rdata x).done canonical_start w (pieces, has, h) in (
-      (pieces, has, is ∙ whole ∙ ap octets_of (written-is canonical_start.encoding pieces)),
+    let frame = frame_rdata x canonical_start (Ok tt) w refl (pieces, has, h) in
+    let (_, within, most, _) = (fits_rdata x).done canonical_start w (pieces, has, h) in (
+      (pieces, has, is ∙ whole ∙ ap octets_of (written_is canonical_start.encoding pieces)),
       omega (arith, within, most, frame.ends, ap length is),
     )
 
 -- ---- the list
 
-map-push : (vs : List (Vec ℕ)) (v : Vec ℕ) → all_items (vs ++ v ∷ []) ≡ all_items vs ++ v.items ∷ []
-map-push [] v = refl
-map-push (u ∷ vs) v = ap (λ xs. u.items ∷ xs) (map-push vs v)
+map_push : (vs : List (Vec ℕ)) (v : Vec ℕ) → all_items (vs ++ v ∷ []) ≡ all_items vs ++ v.items ∷ []
+map_push [] v = refl
+map_push (u ∷ vs) v = ap (λ xs. u.items ∷ xs) (map_push vs v)
 
 pub lists_on : (item : Record) (records left others : List Record) (vs : List (Vec ℕ)) (v : Vec ℕ) → IsListing records left vs → left ≡ item ∷ others
     → IsCanonical item.data v.items × (length v.items ≤ max_message) → IsListing records others (vs ++ v ∷ [])
@@ -112,7 +112,7 @@ lists_on item records left others vs v c is (canonical, short) =
       short = All-push (λ u. length u.items ≤ max_message) vs v c.short short;
       left_fit = (subst (AllByRecursion HasLength) is c.left_fit).1;
       rest = λ more h.
-          subst (AreCanonical records) (sym (ap (λ xs. xs ++ more) (map-push vs v) ∙ append_assoc (all_items vs) (v.items ∷ []) more))
+          subst (AreCanonical records) (sym (ap (λ xs. xs ++ more) (map_push vs v) ∙ append_assoc (all_items vs) (v.items ∷ []) more))
           (c.rest (v.items ∷ more) (subst (λ rs. AreCanonical rs (v.items ∷ more)) (sym is) (canonical, h)));
     }
 

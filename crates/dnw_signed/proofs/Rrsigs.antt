@@ -6,7 +6,7 @@ use Rattle.dnw_base.specs.declared.error.DecodeError.{DecodeError}
 use Rattle.dnw_base.specs.declared.error.DecodeError.TheVariants.{InsufficientBytes}
 use Rattle.dnw_base.specs.Decoder.{Decoder, HasLeft, Takes, advanced}
 use Rattle.dnw_data.specs.declared.kind.NameForm.TheVariants.{Plain}
-use Rattle.dnw_record_owned.proofs.Pieces.{behind, name-again}
+use Rattle.dnw_record_owned.proofs.Pieces.{behind, name_again}
 use Rattle.dnw_name_read.specs.Reading.{TakesName}
 use Rattle.std.proofs.lemmas.List.{length-append}
 use Rattle.std.specs.List.{AllByRecursion}
@@ -14,7 +14,7 @@ use Rattle.dnw_base.specs.Names.{AreLabels, lower, wire}
 use Rattle.dnw_data.specs.declared.kind.Kind.{Kind}
 use Rattle.dnw_data.specs.declared.kind.Kind.TheVariants.{Name, U8, U16, U32, TypeCode, Time}
 use Rattle.dnw_data.specs.declared.kind.NameForm.{NameForm}
-use Rattle.dnw_data.specs.Table.{base64, fields_of, lowered}
+use Rattle.dnw_data.specs.Table.{base64, fields_of, lowered_name}
 use Rattle.dnw_data.specs.Values.{own_size}
 use Rattle.dnw_record_owned.specs.DataPieces.{ArePiecesOf, DataPiece, DataValue, IsDataOfType, HasPieces, name_piece, octets_of, octets_piece}
 use Rattle.dnw_record_owned.specs.Inside.Copying.{IsNoName}
@@ -37,18 +37,18 @@ record Splits (size : ℕ) (kinds : List Kind) (octets : List ℕ) : Type 0 wher
   count : length front ≡ size
   are : ArePiecesOf kinds rest
 
-own-first : (kind : Kind) (kinds : List Kind) (pieces : List DataPiece) → IsFixed kind → ArePiecesOf (kind ∷ kinds) pieces → Splits (own_size kind []) kinds (octets_of pieces)
-own-first kind kinds [] f are = absurd are
-own-first (Name form) kinds (piece ∷ pieces) f are = absurd f.other
-own-first kind kinds (name_piece form labels ∷ pieces) f are = absurd are.0
-own-first kind kinds (octets_piece own ∷ pieces) f ((size, right), are) =
+own_first : (kind : Kind) (kinds : List Kind) (pieces : List DataPiece) → IsFixed kind → ArePiecesOf (kind ∷ kinds) pieces → Splits (own_size kind []) kinds (octets_of pieces)
+own_first kind kinds [] f are = absurd are
+own_first (Name form) kinds (piece ∷ pieces) f are = absurd f.other
+own_first kind kinds (name_piece form labels ∷ pieces) f are = absurd are.0
+own_first kind kinds (octets_piece own ∷ pieces) f ((size, right), are) =
     record { front = own; rest = pieces; whole = refl; count = size ∙ f.size (own ++ octets_of pieces); are = are }
 
-fixed-first : (front kinds : List Kind) (pieces : List DataPiece) → AllByRecursion IsFixed front → ArePiecesOf (front ++ kinds) pieces → Splits (sizes front) kinds (octets_of pieces)
-fixed-first [] kinds pieces f are = record { front = []; rest = pieces; whole = refl; count = refl; are = are }
-fixed-first (kind ∷ front) kinds pieces (f, fs) are =
-    let one = own-first kind (front ++ kinds) pieces f are in
-    let more = fixed-first front kinds one.rest fs one.are in
+fixed_first : (front kinds : List Kind) (pieces : List DataPiece) → AllByRecursion IsFixed front → ArePiecesOf (front ++ kinds) pieces → Splits (sizes front) kinds (octets_of pieces)
+fixed_first [] kinds pieces f are = record { front = []; rest = pieces; whole = refl; count = refl; are = are }
+fixed_first (kind ∷ front) kinds pieces (f, fs) are =
+    let one = own_first kind (front ++ kinds) pieces f are in
+    let more = fixed_first front kinds one.rest fs one.are in
     record {
       front = one.front ++ more.front;
       rest = more.rest;
@@ -57,25 +57,25 @@ fixed-first (kind ∷ front) kinds pieces (f, fs) are =
       are = more.are;
     }
 
-name-first : (form : NameForm) (kinds : List Kind) (pieces : List DataPiece) → ArePiecesOf (Name form ∷ kinds) pieces
+name_first : (form : NameForm) (kinds : List Kind) (pieces : List DataPiece) → ArePiecesOf (Name form ∷ kinds) pieces
     → (labels : List (List ℕ)) × (rest : List ℕ) × AreLabels labels × (octets_of pieces ≡ wire labels ++ rest)
-name-first form kinds [] are = absurd are
-name-first form kinds (name_piece own labels ∷ pieces) ((is, labels_are), are) = (labels, octets_of pieces, labels_are, refl)
-name-first form kinds (octets_piece own ∷ pieces) are = absurd are.0
+name_first form kinds [] are = absurd are
+name_first form kinds (name_piece own labels ∷ pieces) ((is, labels_are), are) = (labels, octets_of pieces, labels_are, refl)
+name_first form kinds (octets_piece own ∷ pieces) are = absurd are.0
 
 -- the fields before the signer's name
-abbrev fixed-kinds : List Kind
-fixed-kinds = TypeCode ∷ U8 ∷ U8 ∷ U32 ∷ Time ∷ Time ∷ U16 ∷ []
+abbrev fixed_kinds : List Kind
+fixed_kinds = TypeCode ∷ U8 ∷ U8 ∷ U32 ∷ Time ∷ Time ∷ U16 ∷ []
 
-rrsig-kinds : fields_of 46 ≡ fixed-kinds ++ lowered ∷ base64 ∷ []
+rrsig_kinds : fields_of 46 ≡ fixed_kinds ++ lowered_name ∷ base64 ∷ []
 unfolding fields_of
-rrsig-kinds = refl
+rrsig_kinds = refl
 
 always : (kind : Kind) → IsNoName kind → ((left : List ℕ) → own_size kind left ≡ own_size kind []) → IsFixed kind
 always kind other size = record { other = other; size = size }
 
-all-fixed : AllByRecursion IsFixed fixed-kinds
-all-fixed = (
+all_fixed : AllByRecursion IsFixed fixed_kinds
+all_fixed = (
   always TypeCode tt (λ left. refl),
   (
     always U8 tt (λ left. refl),
@@ -98,10 +98,10 @@ pub record RrsigParts (octets : List ℕ) : Type 0 where
   pub signature : List ℕ
   pub whole : octets ≡ fixed ++ (wire signer ++ signature)
 
-parts-of : (octets : List ℕ) (pieces : List DataPiece) → HasPieces (fixed-kinds ++ lowered ∷ base64 ∷ []) octets pieces → RrsigParts octets
-parts-of octets pieces has =
-    let split = fixed-first fixed-kinds (lowered ∷ base64 ∷ []) pieces all-fixed has.are in
-    let (labels, rest, are, is) = name-first _ (base64 ∷ []) split.rest split.are in
+parts_of : (octets : List ℕ) (pieces : List DataPiece) → HasPieces (fixed_kinds ++ lowered_name ∷ base64 ∷ []) octets pieces → RrsigParts octets
+parts_of octets pieces has =
+    let split = fixed_first fixed_kinds (lowered_name ∷ base64 ∷ []) pieces all_fixed has.are in
+    let (labels, rest, are, is) = name_first _ (base64 ∷ []) split.rest split.are in
     record {
       fixed = split.front;
       size = split.count;
@@ -111,25 +111,25 @@ parts-of octets pieces has =
       whole = has.whole ∙ split.whole ∙ ap (λ (x : List ℕ). split.front ++ x) is;
     }
 
-pub rrsig-parts : (x : DataValue) → IsRrsig x → IsDataOfType x → RrsigParts x.octets
-rrsig-parts x rrsig (pieces, has) = parts-of x.octets pieces (subst (λ kinds. HasPieces kinds x.octets pieces) (ap fields_of rrsig ∙ rrsig-kinds) has)
+pub rrsig_parts : (x : DataValue) → IsRrsig x → IsDataOfType x → RrsigParts x.octets
+rrsig_parts x rrsig (pieces, has) = parts_of x.octets pieces (subst (λ kinds. HasPieces kinds x.octets pieces) (ap fields_of rrsig ∙ rrsig_kinds) has)
 
 -- the signer's name is read where it is
-labels-of : DataPiece → List (List ℕ)
-labels-of (name_piece form labels) = labels
-labels-of (octets_piece own) = []
+labels_of : DataPiece → List (List ℕ)
+labels_of (name_piece form labels) = labels
+labels_of (octets_piece own) = []
 
-pub signer-there : (octets : List ℕ) (p : RrsigParts octets) (d : Decoder) → d ≡ record { bytes = octets; index = before_signer }
+pub signer_there : (octets : List ℕ) (p : RrsigParts octets) (d : Decoder) → d ≡ record { bytes = octets; index = before_signer }
     → (after : Decoder) × (k : ℕ) × TakesName d after p.signer k
-unfolding labels-of
-signer-there octets p d at =
-    let (labels, k, takes, is) = name-again Plain p.signer p.fixed p.signature p.are_labels in
+unfolding labels_of
+signer_there octets p d at =
+    let (labels, k, takes, is) = name_again Plain p.signer p.fixed p.signature p.are_labels in
     let here : behind p.fixed (wire p.signer ++ p.signature) ≡ d =
     ap (λ (b : List ℕ). record { bytes = b; index = length p.fixed }) (sym p.whole) ∙ ap (λ n. record { bytes = octets; index = n }) p.size ∙ sym at in (
       behind (p.fixed ++ wire p.signer) p.signature,
       k,
       subst (λ x. TakesName x (behind (p.fixed ++ wire p.signer) p.signature) p.signer k) here
-          (subst (λ ls. TakesName (behind p.fixed (wire p.signer ++ p.signature)) (behind (p.fixed ++ wire p.signer) p.signature) ls k) (sym (ap labels-of is)) takes),
+          (subst (λ ls. TakesName (behind p.fixed (wire p.signer ++ p.signature)) (behind (p.fixed ++ wire p.signer) p.signature) ls k) (sym (ap labels_of is)) takes),
     )
 
 pub skipped : (d after : Decoder) (n : ℕ) (r : Result (Unit {0}) DecodeError) → HasLeft d n → Takes d n (λ _. Unit {0}) r after → IsOk r × (after ≡ advanced d n)
@@ -137,36 +137,36 @@ skipped d after n (Ok done) left h = (search rules, h.2)
 skipped d after n (Err InsufficientBytes) left h = absurd (h.0 left)
 skipped d after n (Err error) left h = absurd h
 
-pub long-enough : (octets : List ℕ) → RrsigParts octets → before_signer ≤ length octets
-long-enough octets p = omega (arith, ap length p.whole, length-append p.fixed (wire p.signer ++ p.signature), p.size)
+pub long_enough : (octets : List ℕ) → RrsigParts octets → before_signer ≤ length octets
+long_enough octets p = omega (arith, ap length p.whole, length-append p.fixed (wire p.signer ++ p.signature), p.size)
 
-pub fixed-part : (octets : List ℕ) (p : RrsigParts octets) → take before_signer octets ≡ p.fixed
-fixed-part octets p =
+pub fixed_part : (octets : List ℕ) (p : RrsigParts octets) → take before_signer octets ≡ p.fixed
+fixed_part octets p =
     ap (λ (x : List ℕ). take before_signer x) p.whole ∙ ap (λ n. take n (p.fixed ++ (wire p.signer ++ p.signature))) (sym p.size)
     ∙ take-append_seam p.fixed (wire p.signer ++ p.signature)
 
 -- ---- results
 
-pub is-ok : {A E : Type 0} (r : Result A E) (P : A → Type 0) → IsOkAnd r P → IsOk r
-is-ok (Ok x) P h = search rules
-is-ok (Err e) P h = absurd h
+pub is_ok : {A E : Type 0} (r : Result A E) (P : A → Type 0) → IsOkAnd r P → IsOk r
+is_ok (Ok x) P h = search rules
+is_ok (Err e) P h = absurd h
 
-pub holds-of : {A E : Type 0} (r : Result A E) (x : A) (P : A → Type 0) → r ≡ Ok x → IsOkAnd r P → P x
-holds-of r x P is h = subst (λ s. IsOkAnd s P) is h
+pub holds_of : {A E : Type 0} (r : Result A E) (x : A) (P : A → Type 0) → r ≡ Ok x → IsOkAnd r P → P x
+holds_of r x P is h = subst (λ s. IsOkAnd s P) is h
 
-value-or : {A E : Type 0} → Result A E → A → A
-value-or (Ok x) other = x
-value-or (Err e) other = other
+value_or : {A E : Type 0} → Result A E → A → A
+value_or (Ok x) other = x
+value_or (Err e) other = other
 
-pub same-value : {A E : Type 0} (r : Result A E) (x y : A) → r ≡ Ok x → r ≡ Ok y → x ≡ y
-unfolding value-or
-same-value r x y is is' = ap (λ s. value-or s x) (sym is ∙ is')
+pub same_value : {A E : Type 0} (r : Result A E) (x y : A) → r ≡ Ok x → r ≡ Ok y → x ≡ y
+unfolding value_or
+same_value r x y is is' = ap (λ s. value_or s x) (sym is ∙ is')
 
 -- ---- what is signed
 
-pub signed-made : (x : DataValue) → IsRrsig x → (p : RrsigParts x.octets) → (none mid out w : List ℕ) (labels : List (List ℕ)) → none ≡ []
+pub signed_made : (x : DataValue) → IsRrsig x → (p : RrsigParts x.octets) → (none mid out w : List ℕ) (labels : List (List ℕ)) → none ≡ []
     → mid ≡ none ++ take before_signer x.octets → out ≡ mid ++ w → w ≡ wire labels → labels ≡ lower p.signer → IsSignedFields x out
-signed-made x rrsig p none mid out w labels none_is mid_is out_is w_is labels_is =
+signed_made x rrsig p none mid out w labels none_is mid_is out_is w_is labels_is =
     record {
       rrsig = rrsig;
       fixed = p.fixed;
@@ -175,6 +175,6 @@ signed-made x rrsig p none mid out w labels none_is mid_is out_is w_is labels_is
       are_labels = p.are_labels;
       signature = p.signature;
       whole = p.whole;
-      signed = out_is ∙ ap (λ (y : List ℕ). y ++ w) (mid_is ∙ ap (λ (y : List ℕ). y ++ take before_signer x.octets) none_is ∙ fixed-part x.octets p)
+      signed = out_is ∙ ap (λ (y : List ℕ). y ++ w) (mid_is ∙ ap (λ (y : List ℕ). y ++ take before_signer x.octets) none_is ∙ fixed_part x.octets p)
           ∙ ap (λ (y : List ℕ). p.fixed ++ y) (w_is ∙ ap wire labels_is);
     }

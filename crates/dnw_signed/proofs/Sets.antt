@@ -13,24 +13,24 @@ use Rattle.std.proofs.lemmas.Map.Lookups.{btree_set_from_contains, CmpEqualImpli
 use Rattle.std.proofs.lemmas.Map.Views.{btree_set_contains_iff}
 use Rattle.std.proofs.lemmas.List.Elements.{All-cons, All-contains, All-nil, All-weaker, Contains-append_cases, Contains-append_left, Contains-append_right, Contains-push}
 
-pub first-of : {X : Type 0} (x : X) (xs : List X) → Contains (x ∷ xs) x
-first-of x xs = Contains-append_left (x ∷ []) xs x (Contains-push [] x)
+pub first_of : {X : Type 0} (x : X) (xs : List X) → Contains (x ∷ xs) x
+first_of x xs = Contains-append_left (x ∷ []) xs x (Contains-push [] x)
 
-pub later-of : {X : Type 0} (x : X) (xs : List X) (q : X) → Contains xs q → Contains (x ∷ xs) q
-later-of x xs q h = Contains-append_right (x ∷ []) xs q h
+pub later_of : {X : Type 0} (x : X) (xs : List X) (q : X) → Contains xs q → Contains (x ∷ xs) q
+later_of x xs q h = Contains-append_right (x ∷ []) xs q h
 
-pub none-of : {X : Type 0} (q : X) → Contains [] q → ⊥
-none-of q (k, less, is) = omega (arith, less)
+pub none_of : {X : Type 0} (q : X) → Contains [] q → ⊥
+none_of q (k, less, is) = omega (arith, less)
 
-one-of : {X : Type 0} (x q : X) → Contains (x ∷ []) q → x ≡ q
-one-of x q (zero, less, is) = is
-one-of x q (suc k, less, is) = absurd (omega (arith, less))
+one_of : {X : Type 0} (x q : X) → Contains (x ∷ []) q → x ≡ q
+one_of x q (zero, less, is) = is
+one_of x q (suc k, less, is) = absurd (omega (arith, less))
 
-pub cases-of : {X : Type 0} (x : X) (xs : List X) (q : X) → Contains (x ∷ xs) q → (x ≡ q) ⊎ Contains xs q
-cases-of {X} x xs q h = either (Contains-append_cases (x ∷ []) xs q h)
+pub cases_of : {X : Type 0} (x : X) (xs : List X) (q : X) → Contains (x ∷ xs) q → (x ≡ q) ⊎ Contains xs q
+cases_of {X} x xs q h = either (Contains-append_cases (x ∷ []) xs q h)
   where
     either : Contains (x ∷ []) q ⊎ Contains xs q → (x ≡ q) ⊎ Contains xs q
-    either (inl one) = inl (one-of x q one)
+    either (inl one) = inl (one_of x q one)
     either (inr more) = inr more
 
 -- lists in strictly ascending order with the same elements
@@ -46,54 +46,54 @@ module _ {X : Type 0} {R : X → X → Ordering} (o : IsTotalOrder R) (exact : C
 
 -- ---- what a list of values has of their keys
 
-Contains-keys : {X Y : Type 0} (f : X → Y) (xs : List X) → All (λ x. Contains (map f xs) (f x)) xs
-Contains-keys {X} f [] = All-nil (λ (x : X). Contains [] (f x))
-Contains-keys f (x ∷ xs) =
-    All-cons (λ y. Contains (f x ∷ map f xs) (f y)) x xs (first-of (f x) (map f xs))
-    (All-weaker _ _ (λ z h. later-of (f x) (map f xs) (f z) h) xs (Contains-keys f xs))
+Contains_keys : {X Y : Type 0} (f : X → Y) (xs : List X) → All (λ x. Contains (map f xs) (f x)) xs
+Contains_keys {X} f [] = All-nil (λ (x : X). Contains [] (f x))
+Contains_keys f (x ∷ xs) =
+    All-cons (λ y. Contains (f x ∷ map f xs) (f y)) x xs (first_of (f x) (map f xs))
+    (All-weaker _ _ (λ z h. later_of (f x) (map f xs) (f z) h) xs (Contains_keys f xs))
 
-Contains-map : {X Y : Type 0} (f : X → Y) (xs : List X) (x : X) → Contains xs x → Contains (map f xs) (f x)
-Contains-map f xs x h = All-contains (λ y. Contains (map f xs) (f y)) xs x (Contains-keys f xs) h
+Contains_map : {X Y : Type 0} (f : X → Y) (xs : List X) (x : X) → Contains xs x → Contains (map f xs) (f x)
+Contains_map f xs x h = All-contains (λ y. Contains (map f xs) (f y)) xs x (Contains_keys f xs) h
 
 -- an element of the keys is the key of an element
 abbrev HasKey : {X Y : Type 0} (f : X → Y) → List X → Y → Type 0
 HasKey {X} f xs q = (x : X) × Contains xs x × (f x ≡ q)
 
-has-key : {X Y : Type 0} (f : X → Y) (x : X) (xs : List X) (q : Y) → (f x ≡ q) ⊎ HasKey f xs q → HasKey f (x ∷ xs) q
-has-key f x xs q (inl is) = (x, first-of x xs, is)
-has-key f x xs q (inr (z, has, is)) = (z, later-of x xs z has, is)
+has_key : {X Y : Type 0} (f : X → Y) (x : X) (xs : List X) (q : Y) → (f x ≡ q) ⊎ HasKey f xs q → HasKey f (x ∷ xs) q
+has_key f x xs q (inl is) = (x, first_of x xs, is)
+has_key f x xs q (inr (z, has, is)) = (z, later_of x xs z has, is)
 
-or-later : {A B C : Type 0} → (B → C) → A ⊎ B → A ⊎ C
-or-later f (inl a) = inl a
-or-later f (inr b) = inr (f b)
+or_later : {A B C : Type 0} → (B → C) → A ⊎ B → A ⊎ C
+or_later f (inl a) = inl a
+or_later f (inr b) = inr (f b)
 
-Contains-from_map : {X Y : Type 0} (f : X → Y) (xs : List X) (q : Y) → Contains (map f xs) q → HasKey f xs q
-Contains-from_map f [] q h = absurd (none-of q h)
-Contains-from_map f (x ∷ xs) q h = has-key f x xs q (or-later (Contains-from_map f xs q) (cases-of (f x) (map f xs) q h))
+Contains_from_map : {X Y : Type 0} (f : X → Y) (xs : List X) (q : Y) → Contains (map f xs) q → HasKey f xs q
+Contains_from_map f [] q h = absurd (none_of q h)
+Contains_from_map f (x ∷ xs) q h = has_key f x xs q (or_later (Contains_from_map f xs q) (cases_of (f x) (map f xs) q h))
 
-AllByRecursion-map : {X Y : Type 0} (f : X → Y) (P : Y → Type 0) (xs : List X) → AllByRecursion (λ x. P (f x)) xs → AllByRecursion P (map f xs)
-AllByRecursion-map f P [] h = tt
-AllByRecursion-map f P (x ∷ xs) (one, more) = (one, AllByRecursion-map f P xs more)
+AllByRecursion_map : {X Y : Type 0} (f : X → Y) (P : Y → Type 0) (xs : List X) → AllByRecursion (λ x. P (f x)) xs → AllByRecursion P (map f xs)
+AllByRecursion_map f P [] h = tt
+AllByRecursion_map f P (x ∷ xs) (one, more) = (one, AllByRecursion_map f P xs more)
 
-IsStrictlySortedBy-map : {X Y : Type 0} (f : X → Y) (R : Y → Y → Ordering) (xs : List X) → IsStrictlySortedBy (on f R) xs → IsStrictlySortedBy R (map f xs)
+IsStrictlySortedBy_map : {X Y : Type 0} (f : X → Y) (R : Y → Y → Ordering) (xs : List X) → IsStrictlySortedBy (on f R) xs → IsStrictlySortedBy R (map f xs)
 unfolding IsStrictlySortedBy
-IsStrictlySortedBy-map f R [] h = tt
-IsStrictlySortedBy-map f R (x ∷ xs) (one, more) = (AllByRecursion-map f (λ y. R (f x) y ≡ Less) xs one, IsStrictlySortedBy-map f R xs more)
+IsStrictlySortedBy_map f R [] h = tt
+IsStrictlySortedBy_map f R (x ∷ xs) (one, more) = (AllByRecursion_map f (λ y. R (f x) y ≡ Less) xs one, IsStrictlySortedBy_map f R xs more)
 
 -- ---- a set: sorted by keys, and without duplicates
 
 module _ {X Y : Type 0} (f : X → Y) (R : Y → Y → Ordering) (o : IsTotalOrder (on f R)) {E : X → X → Bool} (e : IsEquivalence E)
     (ties : (x y : X) → E x y ≡ eq_by_cmp (on f R) x y) (exact : (x y : X) → E x y ≡ true → f x ≡ f y) where
   pub set-ascends : (xs : List X) → IsSorted (on f R) xs → IsStrictlySortedBy R (map f (dedup E xs))
-  set-ascends xs up = IsStrictlySortedBy-map f R (dedup E xs) (IsStrictlySortedBy-dedup o ties xs up)
+  set-ascends xs up = IsStrictlySortedBy_map f R (dedup E xs) (IsStrictlySortedBy-dedup o ties xs up)
 
   pub set-each : (all xs : List X) → IsPermutation all xs → (q : Y) → Contains (map f (dedup E xs)) q → Contains (map f all) q
   set-each all xs moved q h =
-      let (x, has, is) = Contains-from_map f (dedup E xs) q h in
-      subst (Contains (map f all)) is (Contains-map f all x (Contains-permutation xs all x (IsPermutation-sym all xs moved) (Contains-from_dedup E xs x has)))
+      let (x, has, is) = Contains_from_map f (dedup E xs) q h in
+      subst (Contains (map f all)) is (Contains_map f all x (Contains-permutation xs all x (IsPermutation-sym all xs moved) (Contains-from_dedup E xs x has)))
 
   pub set-every : (all xs : List X) → IsPermutation all xs → (q : Y) → Contains (map f all) q → Contains (map f (dedup E xs)) q
   set-every all xs moved q h =
-      let (x, has, is) = Contains-from_map f all q h in
+      let (x, has, is) = Contains_from_map f all q h in
       let (k, y, less, at, same) = Any-dedup e xs x (Contains-permutation all xs x moved has) in
-      subst (Contains (map f (dedup E xs))) (sym (exact x y same) ∙ is) (Contains-map f (dedup E xs) y (k, less, at))
+      subst (Contains (map f (dedup E xs))) (sym (exact x y same) ∙ is) (Contains_map f (dedup E xs) y (k, less, at))

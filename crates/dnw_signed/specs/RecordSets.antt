@@ -85,16 +85,16 @@ pub record FirstOther (first : Record) (records : List Record) (number : ℕ) (r
   pub other : reason r
 
 -- Why there are no octets of records that begin with this one.
-abbrev pub FailsFrom : Record → List Record → ℕ → CanonicalError → Type 0
-FailsFrom first records labels TooFewLabels = length first.name.labels < labels
-FailsFrom first records labels (NotInSet number) = (labels ≤ length first.name.labels) × FirstOther first records number (λ r. ¬ (IsOfSet first r))
-FailsFrom first records labels (DataTooLong number) =
+abbrev pub FailsSetFrom : Record → List Record → ℕ → CanonicalError → Type 0
+FailsSetFrom first records labels TooFewLabels = length first.name.labels < labels
+FailsSetFrom first records labels (NotInSet number) = (labels ≤ length first.name.labels) × FirstOther first records number (λ r. ¬ (IsOfSet first r))
+FailsSetFrom first records labels (DataTooLong number) =
     (labels ≤ length first.name.labels) × FirstOther first records number (λ r. IsOfSet first r × (max_message < length r.data.octets))
-FailsFrom first records labels Memory = (labels ≤ length first.name.labels) × AllByRecursion (IsMember first) records
-FailsFrom first records labels error = ⊥
+FailsSetFrom first records labels Memory = (labels ≤ length first.name.labels) × AllByRecursion (IsMember first) records
+FailsSetFrom first records labels error = ⊥
 
 -- Why there are no octets: there are no records, or the first that is no member; or memory ran out, and the records are a set.
 abbrev pub FailsSet : List Record → ℕ → CanonicalError → Type 0
 FailsSet [] labels NoRecords = Unit {0}
 FailsSet [] labels error = ⊥
-FailsSet (first ∷ others) labels error = FailsFrom first (first ∷ others) labels error
+FailsSet (first ∷ others) labels error = FailsSetFrom first (first ∷ others) labels error

@@ -5,21 +5,21 @@ use Rattle.std.proofs.lemmas.List.{length-append, length-drop, length-take, leng
 use Rattle.dnw_write.specs.Encoder.{Encoder, reserved}
 use Rattle.dnw_write.specs.Emitting.{Outcome, Emits, Frame}
 use Rattle.dnw_write.specs.EncoderLaws.{StaysBounded, WritesStayBounded, PlacesStayBounded, FillsStayBounded, FillsTakeNoMemory, ItemsStayBounded}
-use Rattle.dnw_write.proofs.Places.{length-over}
+use Rattle.dnw_write.proofs.Places.{length_over}
 
-drop-nil : (n : ℕ) → drop {A = ℕ} n [] ≡ []
-drop-nil zero = refl
-drop-nil (suc n) = refl
+drop_nil : (n : ℕ) → drop {A = ℕ} n [] ≡ []
+drop_nil zero = refl
+drop_nil (suc n) = refl
 
 -- the length once bytes are written
-pub length-written : (o : ℕ) (b d : List ℕ) → o ≤ length b → length (take o b ++ (d ++ drop (o + length d) b)) ≡ o + length d + (length b - (o + length d))
-length-written o b d le =
+pub length_written : (o : ℕ) (b d : List ℕ) → o ≤ length b → length (take o b ++ (d ++ drop (o + length d) b)) ≡ o + length d + (length b - (o + length d))
+length_written o b d le =
     omega (arith, length-append (take o b) (d ++ drop (o + length d) b), length-append d (drop (o + length d) b), length-drop (o + length d) b, length-take-le o b le)
 
 pub writes_stay_bounded : WritesStayBounded
 writes_stay_bounded v w bytes within h =
     let size : length w.bytes ≡ v.offset + length bytes + (length v.bytes - (v.offset + length bytes)) =
-    ap (λ (e : Encoder). length e.bytes) h.1 ∙ length-written v.offset v.bytes bytes within in
+    ap (λ (e : Encoder). length e.bytes) h.1 ∙ length_written v.offset v.bytes bytes within in
     let offset : w.offset ≡ v.offset + length bytes = ap (λ (e : Encoder). e.offset) h.1 in
     (omega (arith, size, h.0, le-max_left (length v.bytes) v.max_size, le-max_right (length v.bytes) v.max_size), omega (arith, size, offset))
 
@@ -30,7 +30,7 @@ places_stay_bounded v n within room =
     (omega (arith, size, room, le-max_right (length v.bytes) v.max_size), sym size)
 
 pub fills_stay_bounded : FillsStayBounded
-fills_stay_bounded v place bytes within holds = length-over place v.bytes bytes (omega arith)
+fills_stay_bounded v place bytes within holds = length_over place v.bytes bytes (omega arith)
 
 pub fills_take_no_memory : FillsTakeNoMemory
 fills_take_no_memory v w place bytes within holds h = omega (arith, h.1)

@@ -4,7 +4,7 @@ use Rattle.std.proofs.lemmas.List.{take_all, take_at, length-take-le, take-appen
 use Rattle.dnw_base.specs.declared.error.ProtoError.{ProtoError}
 use Rattle.dnw_base.specs.declared.error.ProtoError.TheVariants.{MaxBufferSizeExceeded, Memory}
 use Rattle.dnw_base.specs.Names.{encoded_size, labels_wire, wire}
-use Rattle.dnw_base.proofs.Wires.{length-wire}
+use Rattle.dnw_base.proofs.Wires.{length_wire}
 use Rattle.dnw_write.specs.Encoder.{Encoder, HasRoom, Grows, Writes, written}
 use Rattle.dnw_write_suffixes.specs.Candidates.{Candidate, candidates_before, suffixes}
 use Rattle.dnw_write.specs.EmittedName.{EmitsAs, Share, counted, emitted, kept, newly_kept, pointer_to, so_far}
@@ -12,14 +12,14 @@ use Rattle.dnw_write.specs.Inside.Sharing.{share_of}
 
 -- ---- all suffixes are kept where there is no pointer
 
-pub length-suffixes : (p : ℕ) (ls : List (List ℕ)) → length (suffixes p ls) ≡ length ls
-length-suffixes p [] = refl
-length-suffixes p (l ∷ ls) = ap suc (length-suffixes (p + 1 + length l) ls)
+pub length_suffixes : (p : ℕ) (ls : List (List ℕ)) → length (suffixes p ls) ≡ length ls
+length_suffixes p [] = refl
+length_suffixes p (l ∷ ls) = ap suc (length_suffixes (p + 1 + length l) ls)
 
-pub kept-all : (v : Encoder) (ls : List (List ℕ)) (n : ℕ) → length ls ≤ n → kept v ls n ≡ newly_kept v ls None
-kept-all v ls n le =
-    let all = take_all n (suffixes v.offset ls) (omega (arith, le, length-suffixes v.offset ls))
-    ∙ sym (take_all (length ls) (suffixes v.offset ls) (omega (arith, length-suffixes v.offset ls))) in
+pub kept_all : (v : Encoder) (ls : List (List ℕ)) (n : ℕ) → length ls ≤ n → kept v ls n ≡ newly_kept v ls None
+kept_all v ls n le =
+    let all = take_all n (suffixes v.offset ls) (omega (arith, le, length_suffixes v.offset ls))
+    ∙ sym (take_all (length ls) (suffixes v.offset ls) (omega (arith, length_suffixes v.offset ls))) in
     ap (λ (cs : List Candidate). if nat_lt (v.offset + length (labels_wire ls)) 16383 then take (v.candidate_limit - length v.candidates) cs else []) all
 
 -- ---- whole
@@ -32,7 +32,7 @@ module _ (v : Encoder) (ls : List (List ℕ)) (room : HasRoom v (encoded_size ls
   undone m Memory more h =
       let back : take (length v.candidates) (v.candidates ++ more) ≡ v.candidates = take_at v.candidates more (length v.candidates) refl in
       (room, inl h.1, ap (λ (x : Encoder). record x { candidates = take (length v.candidates) x.candidates }) h.2 ∙ ap (λ (cs : List Candidate). record v { candidates = cs }) back)
-  undone m (MaxBufferSizeExceeded size) more h = absurd (omega (arith, room, h.0, length-wire ls))
+  undone m (MaxBufferSizeExceeded size) more h = absurd (omega (arith, room, h.0, length_wire ls))
   undone m error more h = absurd h
 
   pub whole_undone : (u m : Encoder) (bytes : List ℕ) (error : ProtoError) (more : List Candidate) → u ≡ record v { candidates = v.candidates ++ more }
@@ -53,10 +53,10 @@ module _ (v : Encoder) (ls : List (List ℕ)) (room : HasRoom v (encoded_size ls
 
 -- ---- with a pointer
 
-pub labels_wire-append : (front back : List (List ℕ)) → labels_wire (front ++ back) ≡ labels_wire front ++ labels_wire back
-labels_wire-append [] back = refl
-labels_wire-append (l ∷ front) back =
-    ap (λ (b : List ℕ). length l ∷ (l ++ b)) (labels_wire-append front back) ∙ ap (λ (b : List ℕ). length l ∷ b) (sym (append_assoc l (labels_wire front) (labels_wire back)))
+pub labels_wire_append : (front back : List (List ℕ)) → labels_wire (front ++ back) ≡ labels_wire front ++ labels_wire back
+labels_wire_append [] back = refl
+labels_wire_append (l ∷ front) back =
+    ap (λ (b : List ℕ). length l ∷ (l ++ b)) (labels_wire_append front back) ∙ ap (λ (b : List ℕ). length l ∷ b) (sym (append_assoc l (labels_wire front) (labels_wire back)))
 
 -- the bytes before the pointer
 pub front_bytes : (ls : List (List ℕ)) (n size : ℕ) (bytes : List ℕ) → bytes ≡ wire ls → size ≡ length (labels_wire (take n ls))
@@ -64,13 +64,13 @@ pub front_bytes : (ls : List (List ℕ)) (n size : ℕ) (bytes : List ℕ) → b
 front_bytes ls n size bytes is size_is =
     let front = labels_wire (take n ls) in
     let behind = labels_wire (drop n ls) in
-    let parts : labels_wire ls ≡ front ++ behind = ap labels_wire (sym (take-append-drop n ls)) ∙ labels_wire-append (take n ls) (drop n ls) in
+    let parts : labels_wire ls ≡ front ++ behind = ap labels_wire (sym (take-append-drop n ls)) ∙ labels_wire_append (take n ls) (drop n ls) in
     let whole : bytes ≡ front ++ (behind ++ 0 ∷ []) = is ∙ (ap (λ (b : List ℕ). b ++ 0 ∷ []) parts ∙ append_assoc front behind (0 ∷ [])) in
     ap (take size) whole ∙ take_at front (behind ++ 0 ∷ []) size (sym size_is)
 
 -- so many suffixes begin before the pointer
-pub kept-front : (v : Encoder) (ls : List (List ℕ)) (n place : ℕ) → n ≤ length ls → kept v ls n ≡ newly_kept v ls (Some (share_of ls n place))
-kept-front v ls n place within = ap (kept v ls) (sym (length-take-le n ls within))
+pub kept_front : (v : Encoder) (ls : List (List ℕ)) (n place : ℕ) → n ≤ length ls → kept v ls n ≡ newly_kept v ls (Some (share_of ls n place))
+kept_front v ls n place within = ap (kept v ls) (sym (length-take-le n ls within))
 
 -- memory for the bytes is refused
 pub shared_undone : (v u m : Encoder) (ls : List (List ℕ)) (share : Share) (front : List ℕ) (more : List Candidate)

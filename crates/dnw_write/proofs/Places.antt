@@ -6,8 +6,8 @@ use Rattle.dnw_write.specs.Encoder.{Encoder, moved_to}
 use Rattle.dnw_write.specs.Emitting.{Emits, Outcome, FillsPlace, WritesLen, FailsUnchanged}
 
 -- bytes written over others are as many as before
-pub length-over : (p : ℕ) (b d : List ℕ) → p + length d ≤ length b → length (take p b ++ (d ++ drop (p + length d) b)) ≡ length b
-length-over p b d le =
+pub length_over : (p : ℕ) (b d : List ℕ) → p + length d ≤ length b → length (take p b ++ (d ++ drop (p + length d) b)) ≡ length b
+length_over p b d le =
     let front : p ≤ length b = omega arith in
     omega (arith, length-append (take p b) (d ++ drop (p + length d) b), length-append d (drop (p + length d) b), length-drop (p + length d) b, length-take-le p b front)
 
@@ -18,7 +18,7 @@ pub still_within : {X : Type 0} (emits : Emits X) (n : ℕ) → WritesLen emits 
 still_within emits n accepts refuses x v u (Ok tt) p holds within e =
     let wrote = accepts x (moved_to v p) u e in
     let size : length u.bytes ≡ length v.bytes =
-    ap (λ (w : Encoder). length w.bytes) wrote.2 ∙ length-over p v.bytes wrote.0 (omega (arith, wrote.1)) in
+    ap (λ (w : Encoder). length w.bytes) wrote.2 ∙ length_over p v.bytes wrote.0 (omega (arith, wrote.1)) in
     omega (arith, size)
 still_within emits n accepts refuses x v u (Err error) p holds within e =
     let same : length u.bytes ≡ length v.bytes = ap (λ (w : Encoder). length w.bytes) (refuses x (moved_to v p) u error e) in

@@ -4,12 +4,12 @@ use Rattle.std.proofs.lemmas.List.{length-append, length-take-le, length-take, t
 use Rattle.std.proofs.lemmas.Bool.Decides.{leb_tells}
 use Rattle.std.proofs.Math.Nat.{eq-or-lt_of_le}
 use Rattle.dnw_base.specs.Names.{encoded_size, labels_wire}
-use Rattle.dnw_base.proofs.Wires.{length-wire}
+use Rattle.dnw_base.proofs.Wires.{length_wire}
 use Rattle.dnw_write.specs.Encoder.{Encoder, written}
 use Rattle.dnw_write.specs.EmittedName.{PointsNowhere, kept, so_far}
 use Rattle.dnw_write_suffixes.specs.Candidates.{IsUsable, IsFirstUsable, suffixes, NoneUsable}
-use Rattle.dnw_write.specs.Inside.Sharing.{NoneBefore, IsSuffix}
-use Rattle.dnw_write_suffixes.proofs.CandidateLists.{length-labels_wire, le_unless}
+use Rattle.dnw_write.specs.Inside.Sharing.{NoneSharedBefore, IsSuffix}
+use Rattle.dnw_write_suffixes.proofs.CandidateLists.{length_labels_wire, le_unless}
 
 -- ---- one label more
 
@@ -20,10 +20,10 @@ drop_suc [] (suc n) l rest e = absurd cc
 drop_suc (x ∷ xs) zero l rest e =
     let same : x ≡ l = cc in
     let others : xs ≡ rest = cc in
-    (omega arith, others, omega (arith, ap length same, length-labels_wire x []))
+    (omega arith, others, omega (arith, ap length same, length_labels_wire x []))
 drop_suc (x ∷ xs) (suc n) l rest e =
     let (within, others, size) = drop_suc xs n l rest e in
-    (omega (arith, within), others, omega (arith, size, length-labels_wire x (take (suc n) xs), length-labels_wire x (take n xs)))
+    (omega (arith, within), others, omega (arith, size, length_labels_wire x (take (suc n) xs), length_labels_wire x (take n xs)))
 
 pub drop_next : (ls : List (List ℕ)) (n : ℕ) (l : List ℕ) (rest : List (List ℕ)) → drop n ls ≡ l ∷ rest
     → (n + 1 ≤ length ls) × (drop (n + 1) ls ≡ rest) × (length (labels_wire (take (n + 1) ls)) ≡ length (labels_wire (take n ls)) + 1 + length l)
@@ -36,14 +36,14 @@ drop_next ls n l rest e =
 pub labels_wire_take : (n : ℕ) (ls : List (List ℕ)) → length (labels_wire (take n ls)) ≤ length (labels_wire ls)
 labels_wire_take zero ls = omega arith
 labels_wire_take (suc n) [] = omega arith
-labels_wire_take (suc n) (l ∷ ls) = omega (arith, labels_wire_take n ls, length-labels_wire l ls, length-labels_wire l (take n ls))
+labels_wire_take (suc n) (l ∷ ls) = omega (arith, labels_wire_take n ls, length_labels_wire l ls, length_labels_wire l (take n ls))
 
 -- and all have one less than the uncompressed form
-pub length-all : (ls : List (List ℕ)) → length (labels_wire ls) + 1 ≡ encoded_size ls
-length-all ls = omega (arith, length-append (labels_wire ls) (0 ∷ []), length-wire ls)
+pub length_all : (ls : List (List ℕ)) → length (labels_wire ls) + 1 ≡ encoded_size ls
+length_all ls = omega (arith, length-append (labels_wire ls) (0 ∷ []), length_wire ls)
 
 -- one more suffix is not found
-pub none_more : (v : Encoder) (ls : List (List ℕ)) (n : ℕ) → NoneBefore v ls n → NoneUsable (so_far v) v.candidates (drop n ls) → NoneBefore v ls (n + 1)
+pub none_more : (v : Encoder) (ls : List (List ℕ)) (n : ℕ) → NoneSharedBefore v ls n → NoneUsable (so_far v) v.candidates (drop n ls) → NoneSharedBefore v ls (n + 1)
 none_more v ls n before here = λ i less.
     ⊎_elim
     (λ same. subst (λ k. NoneUsable (so_far v) v.candidates (drop k ls)) (sym same) here)
@@ -51,7 +51,7 @@ none_more v ls n before here = λ i less.
     (eq-or-lt_of_le (let le : i ≤ n = omega (arith, less) in le))
 
 -- a suffix that is usable begins where none is ruled out
-not_before : (v : Encoder) (ls front back : List (List ℕ)) (n place : ℕ) → NoneBefore v ls n → ls ≡ front ++ back
+not_before : (v : Encoder) (ls front back : List (List ℕ)) (n place : ℕ) → NoneSharedBefore v ls n → ls ≡ front ++ back
     → (before after : _) → IsUsable (so_far v) v.candidates back place before after → n ≤ length front
 not_before v ls front back n place none parts = λ before after u.
     le_unless n (length front) (λ less.
@@ -63,7 +63,7 @@ no_more [] le = refl
 no_more (l ∷ ls) le = absurd (omega (arith, le))
 
 -- none is found at all
-pub nowhere : (v : Encoder) (ls : List (List ℕ)) (n : ℕ) → n ≤ length ls → drop n ls ≡ [] → NoneBefore v ls n → PointsNowhere v ls
+pub nowhere : (v : Encoder) (ls : List (List ℕ)) (n : ℕ) → n ≤ length ls → drop n ls ≡ [] → NoneSharedBefore v ls n → PointsNowhere v ls
 nowhere v ls n within end none = λ front back place before after parts some u.
     let far = not_before v ls front back n place none parts before after u in
     let all : length ls ≤ n = omega (arith, ap length end, length-drop n ls) in
@@ -71,7 +71,7 @@ nowhere v ls n within end none = λ front back place before after parts some u.
 
 -- this one is found first
 pub suffix_found : (v : Encoder) (ls : List (List ℕ)) (n size place : ℕ) (l : List ℕ) (rest : List (List ℕ)) → n ≤ length ls → drop n ls ≡ l ∷ rest
-    → size ≡ length (labels_wire (take n ls)) → NoneBefore v ls n → IsFirstUsable (so_far v) v.candidates (drop n ls) place → IsSuffix v ls n size place
+    → size ≡ length (labels_wire (take n ls)) → NoneSharedBefore v ls n → IsFirstUsable (so_far v) v.candidates (drop n ls) place → IsSuffix v ls n size place
 suffix_found v ls n size place l rest within next size_is none usable = record {
   within = within;
   points = record {
@@ -95,22 +95,22 @@ take_twice a n xs =
     (leb_tells n a)
 
 -- pointers do not reach to the end of the labels
-pub kept-none : (v : Encoder) (ls : List (List ℕ)) (n : ℕ) → 16383 ≤ v.offset + length (labels_wire ls) → kept v ls n ≡ []
-kept-none v ls n far = search (rules, tests)
+pub kept_none : (v : Encoder) (ls : List (List ℕ)) (n : ℕ) → 16383 ≤ v.offset + length (labels_wire ls) → kept v ls n ≡ []
+kept_none v ls n far = search (rules, tests)
 
 -- as many are added as the definition says
-pub kept-some : (v : Encoder) (ls others : List (List ℕ)) (n m : ℕ) → v.offset + length (labels_wire ls) < 16383
+pub kept_some : (v : Encoder) (ls others : List (List ℕ)) (n m : ℕ) → v.offset + length (labels_wire ls) < 16383
     → m ≡ min n (v.candidate_limit - length v.candidates) → others ≡ ls → take m (suffixes v.offset others) ≡ kept v ls n
-kept-some v ls others n m near count same =
+kept_some v ls others n m near count same =
     let all : kept v ls n ≡ take (v.candidate_limit - length v.candidates) (take n (suffixes v.offset ls)) = search (rules, tests) in
     rw (count, same) (sym (take_twice (v.candidate_limit - length v.candidates) n (suffixes v.offset ls)) ∙ sym all)
 
 -- none of them
-pub kept-zero : (v : Encoder) (ls : List (List ℕ)) (n : ℕ) → n ≡ 0 → kept v ls n ≡ []
-kept-zero v ls n none =
+pub kept_zero : (v : Encoder) (ls : List (List ℕ)) (n : ℕ) → n ≡ 0 → kept v ls n ≡ []
+kept_zero v ls n none =
     ⊎_elim
-    (λ (_, far). kept-none v ls n far)
-    (λ (_, near). sym (kept-some v ls ls n 0 near (omega (arith, none)) refl))
+    (λ (_, far). kept_none v ls n far)
+    (λ (_, near). sym (kept_some v ls ls n 0 near (omega (arith, none)) refl))
     (leb_tells 16383 (v.offset + length (labels_wire ls)))
 
 -- ---- the labels before a pointer, and the pointer

@@ -3,7 +3,7 @@
 -- If a suffix of the name has a usable candidate, the longest such suffix is written as a pointer to its first usable
 -- candidate. The labels before the pointer, or all labels, are kept as candidates for later names.
 use Rattle.std.specs.Prelude.{◌≡◌, ◌≢◌, ℕ, ◌+◌, ◌-◌, ◌<◌, ◌≤◌, ◌/◌, ◌%◌, Bool, true, false, ◌&&◌, nat_lt, if◌then◌else◌, List, [], ◌∷◌, ◌++◌, length, take, Option, Some, None, Ok, Err, ◌⊎◌}
-use Rattle.dnw_base.specs.Limits.{pointer_mark, pointer_reach}
+use Rattle.dnw_base.specs.Limits.{pointer_bits, pointer_reach}
 use Rattle.dnw_base.specs.Names.{NameValue, AreLabels, encoded_size, labels_wire, wire, lower}
 use Rattle.dnw_base.specs.declared.error.ProtoError.TheVariants.{MaxBufferSizeExceeded, Memory}
 use Rattle.dnw_write_suffixes.specs.Candidates.{Candidate, IsUsable, IsFirstUsable, candidates_before, suffixes}
@@ -55,7 +55,7 @@ Chooses v labels (Some share) = (compresses v ≡ true) × Points v labels share
 
 -- a pointer to an offset: 14 bits after two that are set
 abbrev pub pointer_to : ℕ → List ℕ
-pointer_to offset = (pointer_mark + offset / 256) ∷ (offset % 256) ∷ []
+pointer_to offset = (pointer_bits + offset / 256) ∷ (offset % 256) ∷ []
 
 abbrev pub form : List (List ℕ) → Option Share → List ℕ
 form labels None = wire labels

@@ -8,28 +8,28 @@ use Rattle.dnw_write.specs.Encoder.{Encoder, Writes, WritesText, written}
 use Rattle.dnw_write_suffixes.specs.Candidates.{Candidate, candidates_before}
 use Rattle.dnw_write.specs.Emitting.{Outcome, Emits, Frame, InTurn}
 
-pub take-all : (o : ℕ) (b : List ℕ) → o ≡ length b → take o b ≡ b
-take-all o b e = rw e (take-length b)
+pub take_all_lem : (o : ℕ) (b : List ℕ) → o ≡ length b → take o b ≡ b
+take_all_lem o b e = rw e (take-length b)
 
-front-written : (o : ℕ) (b d : List ℕ) → o ≡ length b → take o (take o b ++ (d ++ drop (o + length d) b)) ≡ b
-front-written o b d e =
-    let all = take-all o b e in
+front_written : (o : ℕ) (b d : List ℕ) → o ≡ length b → take o (take o b ++ (d ++ drop (o + length d) b)) ≡ b
+front_written o b d e =
+    let all = take_all_lem o b e in
     let le : o ≤ length (take o b) = omega (arith, e, ap length all) in
     take-append-le o (take o b) (d ++ drop (o + length d) b) le ∙ (ap (take o) all ∙ all)
 
-length-written : (o : ℕ) (b d : List ℕ) → o ≡ length b → o + length d ≡ length (take o b ++ (d ++ drop (o + length d) b))
-length-written o b d e =
-    omega (arith, e, ap length (take-all o b e), length-append (take o b) (d ++ drop (o + length d) b), length-append d (drop (o + length d) b), length-drop (o + length d) b)
+length_written : (o : ℕ) (b d : List ℕ) → o ≡ length b → o + length d ≡ length (take o b ++ (d ++ drop (o + length d) b))
+length_written o b d e =
+    omega (arith, e, ap length (take_all_lem o b e), length-append (take o b) (d ++ drop (o + length d) b), length-append d (drop (o + length d) b), length-drop (o + length d) b)
 
-on-ok : (outcome : Outcome) {P : Type 0} → P → OnOk outcome P
-on-ok (Ok done) p = p
-on-ok (Err error) p = tt
+on_ok : (outcome : Outcome) {P : Type 0} → P → OnOk outcome P
+on_ok (Ok done) p = p
+on_ok (Err error) p = tt
 
 -- Where what is new stands after what stood before, the frame is kept.
-pub frame-moved : (v : Encoder) (outcome : Outcome) (b : List ℕ) (o : ℕ) (cs : List Candidate) (names : ℕ) → take v.offset b ≡ v.bytes
+pub frame_moved : (v : Encoder) (outcome : Outcome) (b : List ℕ) (o : ℕ) (cs : List Candidate) (names : ℕ) → take v.offset b ≡ v.bytes
     → candidates_before v.offset cs ≡ candidates_before v.offset v.candidates → o ≡ length b
     → Frame v outcome (record v { bytes = b; offset = o; candidates = cs; names = names })
-frame-moved v outcome b o cs names front kept end =
+frame_moved v outcome b o cs names front kept end =
     record {
       bytes = front;
       candidates = kept;
@@ -38,28 +38,28 @@ frame-moved v outcome b o cs names front kept end =
       max_size = refl;
       candidate_limit = refl;
       name_limit = refl;
-      ends = on-ok outcome end;
+      ends = on_ok outcome end;
     }
 
-pub frame-written : (v : Encoder) (d : List ℕ) → v.offset ≡ length v.bytes → Frame v (Ok tt) (written v d)
-frame-written v d e = frame-moved v (Ok tt) _ _ v.candidates v.names (front-written v.offset v.bytes d e) refl (length-written v.offset v.bytes d e)
+pub frame_written : (v : Encoder) (d : List ℕ) → v.offset ≡ length v.bytes → Frame v (Ok tt) (written v d)
+frame_written v d e = frame_moved v (Ok tt) _ _ v.candidates v.names (front_written v.offset v.bytes d e) refl (length_written v.offset v.bytes d e)
 
-pub frame-same : (v : Encoder) (outcome : Outcome) → v.offset ≡ length v.bytes → Frame v outcome v
-frame-same v outcome e = frame-moved v outcome v.bytes v.offset v.candidates v.names (take-all v.offset v.bytes e) refl e
+pub frame_same : (v : Encoder) (outcome : Outcome) → v.offset ≡ length v.bytes → Frame v outcome v
+frame_same v outcome e = frame_moved v outcome v.bytes v.offset v.candidates v.names (take_all_lem v.offset v.bytes e) refl e
 
 pub frame : (v : Encoder) (d : List ℕ) (outcome : Outcome) (w : Encoder) → v.offset ≡ length v.bytes → Writes v d outcome w → Frame v outcome w
-frame v d (Ok tt) w e h = let P : Encoder → Type 0 = λ x. Frame v (Ok tt) x in subst P (sym h.1) (frame-written v d e)
-frame v d (Err Memory) w e h = let P : Encoder → Type 0 = λ x. Frame v (Err Memory) x in subst P (sym h.2) (frame-same v (Err Memory) e)
+frame v d (Ok tt) w e h = let P : Encoder → Type 0 = λ x. Frame v (Ok tt) x in subst P (sym h.1) (frame_written v d e)
+frame v d (Err Memory) w e h = let P : Encoder → Type 0 = λ x. Frame v (Err Memory) x in subst P (sym h.2) (frame_same v (Err Memory) e)
 frame v d (Err (MaxBufferSizeExceeded size)) w e h =
     let P : Encoder → Type 0 = λ x. Frame v (Err (MaxBufferSizeExceeded size)) x in
-    subst P (sym h.2) (frame-same v (Err (MaxBufferSizeExceeded size)) e)
+    subst P (sym h.2) (frame_same v (Err (MaxBufferSizeExceeded size)) e)
 frame v d (Err error) w e h = absurd h
 
 -- a refused write changes nothing
-pub fails-unchanged : (v : Encoder) (d : List ℕ) (error : ProtoError) (w : Encoder) → Writes v d (Err error) w → w ≡ v
-fails-unchanged v d Memory w h = h.2
-fails-unchanged v d (MaxBufferSizeExceeded size) w h = h.2
-fails-unchanged v d error w h = absurd h
+pub fails_unchanged : (v : Encoder) (d : List ℕ) (error : ProtoError) (w : Encoder) → Writes v d (Err error) w → w ≡ v
+fails_unchanged v d Memory w h = h.2
+fails_unchanged v d (MaxBufferSizeExceeded size) w h = h.2
+fails_unchanged v d error w h = absurd h
 
 -- ---- one frame after another
 
@@ -67,11 +67,11 @@ no_less : (n p q : ℕ) → p ≤ q → nat_lt n q ≡ false → nat_lt n p ≡ 
 no_less n p q le e = search (rules, tests)
 
 -- what stands before the nearer of two places is among what stands before the farther
-pub candidates_before-twice : (p q : ℕ) (cs : List Candidate) → p ≤ q → candidates_before p (candidates_before q cs) ≡ candidates_before p cs
-candidates_before-twice p q [] le = refl
-candidates_before-twice p q (c ∷ cs) le =
+pub candidates_before_twice : (p q : ℕ) (cs : List Candidate) → p ≤ q → candidates_before p (candidates_before q cs) ≡ candidates_before p cs
+candidates_before_twice p q [] le = refl
+candidates_before_twice p q (c ∷ cs) le =
     let others = candidates_before q cs in
-    let rest = candidates_before-twice p q cs le in
+    let rest = candidates_before_twice p q cs le in
     let M : Bool → Type 0 = λ b. nat_lt c.0 q ≡ b → candidates_before p (cond b (c ∷ others) others) ≡ candidates_before p (c ∷ cs) in
     let cases : (b : Bool) → M b = λ b. elim b as M [
       | true ↦ λ e. ap (λ (zs : List Candidate). cond (nat_lt c.0 p) (c ∷ zs) zs) rest
@@ -79,13 +79,13 @@ candidates_before-twice p q (c ∷ cs) le =
     ] in
     cases (nat_lt c.0 q) refl
 
-pub frames-follow : (v m w : Encoder) (outcome : Outcome) → v.offset ≡ length v.bytes → Frame v (Ok tt) m → Frame m outcome w → Frame v outcome w
-frames-follow v m w outcome e f g =
+pub frames_follow : (v m w : Encoder) (outcome : Outcome) → v.offset ≡ length v.bytes → Frame v (Ok tt) m → Frame m outcome w → Frame v outcome w
+frames_follow v m w outcome e f g =
     let le : v.offset ≤ m.offset = omega (arith, e, f.ends, ap length f.bytes, length-take v.offset m.bytes) in
     record {
       bytes = sym (take-take v.offset m.offset w.bytes le) ∙ (ap (take v.offset) g.bytes ∙ f.bytes);
-      candidates = sym (candidates_before-twice v.offset m.offset w.candidates le)
-          ∙ (ap (candidates_before v.offset) g.candidates ∙ (candidates_before-twice v.offset m.offset m.candidates le ∙ f.candidates));
+      candidates = sym (candidates_before_twice v.offset m.offset w.candidates le)
+          ∙ (ap (candidates_before v.offset) g.candidates ∙ (candidates_before_twice v.offset m.offset m.candidates le ∙ f.candidates));
       encoding = g.encoding ∙ f.encoding;
       canonical = g.canonical ∙ f.canonical;
       max_size = g.max_size ∙ f.max_size;
@@ -95,20 +95,20 @@ frames-follow v m w outcome e f g =
     }
 
 -- items in turn
-pub frame-in_turn : {X : Type 0} (emits : Emits X)
+pub frame_in_turn : {X : Type 0} (emits : Emits X)
     → ((x : X) (v : Encoder) (outcome : Outcome) (w : Encoder) → v.offset ≡ length v.bytes → emits x v outcome w → Frame v outcome w)
     → (v w : Encoder) (xs : List X) → v.offset ≡ length v.bytes → InTurn emits v xs w → Frame v (Ok tt) w
-frame-in_turn emits keeps v w [] e h =
+frame_in_turn emits keeps v w [] e h =
     let P : Encoder → Type 0 = λ x. Frame v (Ok tt) x in
-    subst P (sym h) (frame-same v (Ok tt) e)
-frame-in_turn emits keeps v w (x ∷ xs) e h =
+    subst P (sym h) (frame_same v (Ok tt) e)
+frame_in_turn emits keeps v w (x ∷ xs) e h =
     let first = keeps x v (Ok tt) h.0 e h.1 in
-    frames-follow v h.0 w (Ok tt) e first (frame-in_turn emits keeps h.0 w xs first.ends h.2)
+    frames_follow v h.0 w (Ok tt) e first (frame_in_turn emits keeps h.0 w xs first.ends h.2)
 
 -- character data
-pub frame-text : (v : Encoder) (d : List ℕ) (outcome : Outcome) (w : Encoder) → v.offset ≡ length v.bytes → WritesText v d outcome w → Frame v outcome w
-frame-text v d (Ok tt) w e h = frame v (length d ∷ d) (Ok tt) w e h.1
-frame-text v d (Err (CharacterDataTooLong max len)) w e h =
+pub frame_text : (v : Encoder) (d : List ℕ) (outcome : Outcome) (w : Encoder) → v.offset ≡ length v.bytes → WritesText v d outcome w → Frame v outcome w
+frame_text v d (Ok tt) w e h = frame v (length d ∷ d) (Ok tt) w e h.1
+frame_text v d (Err (CharacterDataTooLong max len)) w e h =
     let P : Encoder → Type 0 = λ x. Frame v (Err (CharacterDataTooLong max len)) x in
-    subst P (sym h.3) (frame-same v (Err (CharacterDataTooLong max len)) e)
-frame-text v d (Err error) w e h = frame v (length d ∷ d) (Err error) w e h.1
+    subst P (sym h.3) (frame_same v (Err (CharacterDataTooLong max len)) e)
+frame_text v d (Err error) w e h = frame v (length d ∷ d) (Err error) w e h.1

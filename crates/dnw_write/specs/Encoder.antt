@@ -125,8 +125,8 @@ mode_of_rdata Other canonical mode = Uncompressed
 -- ---- placeholders
 
 -- a placeholder of n bytes ends no later than the offset
-abbrev pub Holds : Encoder → ℕ → ℕ → Type 0
-Holds v place n = place + n ≤ v.offset
+abbrev pub HoldsOctets : Encoder → ℕ → ℕ → Type 0
+HoldsOctets v place n = place + n ≤ v.offset
 
 -- the encoder that writes at another offset
 abbrev pub moved_to : Encoder → ℕ → Encoder

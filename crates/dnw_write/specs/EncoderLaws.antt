@@ -3,7 +3,7 @@ use Rattle.std.specs.Prelude.{◌≡◌, ℕ, ◌+◌, ◌≤◌, max, List, [],
 use Rattle.dnw_base.specs.declared.error.ProtoError.TheVariants.{Memory}
 use Rattle.dnw_base.specs.Names.{NameValue, AreLabels, encoded_size, labels_wire}
 use Rattle.dnw_name_read.specs.Reading.{NameAt, TakesName}
-use Rattle.dnw_write.specs.Encoder.{Encoder, HasRoom, Holds, Writes, fresh, filled, reserved, moved_to}
+use Rattle.dnw_write.specs.Encoder.{Encoder, HasRoom, HoldsOctets, Writes, fresh, filled, reserved, moved_to}
 use Rattle.dnw_write.specs.Emitting.{Outcome, Emits, Frame, InTurn}
 use Rattle.dnw_write.specs.EmittedName.{EmitsName, Points, in_mode, pointer_to}
 
@@ -24,7 +24,7 @@ PlacesStayBounded = (v : Encoder) (n : ℕ) → v.offset ≤ length v.bytes → 
 
 -- A place that is filled leaves the buffer as long as it was.
 abbrev pub FillsStayBounded : Type 0
-FillsStayBounded = (v : Encoder) (place : ℕ) (bytes : List ℕ) → v.offset ≤ length v.bytes → Holds v place (length bytes)
+FillsStayBounded = (v : Encoder) (place : ℕ) (bytes : List ℕ) → v.offset ≤ length v.bytes → HoldsOctets v place (length bytes)
     → length (filled v place bytes).bytes ≡ length v.bytes
 
 -- Nor do items in turn, where none of them does.
@@ -35,7 +35,7 @@ ItemsStayBounded {X} emits =
 
 -- Bytes that are written over a place take no memory, since as many stand there.
 abbrev pub FillsTakeNoMemory : Type 0
-FillsTakeNoMemory = (v w : Encoder) (place : ℕ) (bytes : List ℕ) → v.offset ≤ length v.bytes → Holds v place (length bytes)
+FillsTakeNoMemory = (v w : Encoder) (place : ℕ) (bytes : List ℕ) → v.offset ≤ length v.bytes → HoldsOctets v place (length bytes)
     → Writes (moved_to v place) bytes (Err Memory) w → ⊥
 
 -- Items in turn keep the frame of `emit`.

@@ -5,7 +5,7 @@ pub mod EmittedName
 pub mod EmittingLaws
 pub mod NameFrames
 pub mod Guards
-pub mod Marks
+pub mod Checkpoints
 pub mod EncoderLaws
 pub mod CandidateLaws
 pub mod Inside

@@ -8,7 +8,7 @@ ghost use Rattle.dnw_base.specs.DnsClasses.{class_code};
 ghost use Rattle.dnw_write.specs.Encoder.{Encoder, fresh, Writes};
 ghost use Rattle.dnw_write.specs.EncoderValue.{value, lender};
 ghost use Rattle.dnw_write.specs.Emitting.{Outcome, Frame, WritesLen, FailsUnchanged};
-ghost use Rattle.dnw_write.specs.EmittingLaws.{frame, fails-unchanged};
+ghost use Rattle.dnw_write.specs.EmittingLaws.{frame, fails_unchanged};
 ghost use Rattle.std.proofs.Common.{lit≤};
 
 use crate::encoder::BinEncoder;
@@ -90,7 +90,7 @@ impl EncodedSize for u16 {
 
     ghost writes_len = { λ number v w h. (to_be_bytes w16 number, refl, h.1) };
 
-    ghost fails_unchanged = { λ number v w error h. fails-unchanged v (to_be_bytes w16 number) error w h };
+    ghost fails_unchanged = { λ number v w error h. fails_unchanged v (to_be_bytes w16 number) error w h };
 }
 
 impl BinEncodable for i32 {

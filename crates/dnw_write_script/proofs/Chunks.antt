@@ -4,10 +4,10 @@ use Rattle.std.specs.List.{AllByRecursion, flat_map}
 use Rattle.std.specs.Int.{w16, to_be_bytes}
 use Rattle.std.proofs.lemmas.List.{length-append, append-nil}
 use Rattle.dnw_write.specs.declared.encoder.modes.NameEncoding.{NameEncoding}
-use Rattle.dnw_name_read.proofs.Back.{slice_range-middle}
+use Rattle.dnw_name_read.proofs.Back.{slice_range_middle}
 use Rattle.dnw_record.specs.declared.record.WireRecord.{WireRecord}
 use Rattle.dnw_record.specs.Parts.{WirePart, bytes_part, name_part, text_part}
-use Rattle.dnw_write_script.specs.Pieces.{BytesStand, Piece, PieceAt, Spells, filled_in, place_piece, record_piece, wire_piece}
+use Rattle.dnw_write_script.specs.Pieces.{BytesStand, Piece, PieceAt, PiecesLie, filled_in, place_piece, record_piece, wire_piece}
 
 -- What is written at once: a part, or a record by the mode and in canonical form or not.
 pub data Content : Type 0 where
@@ -66,28 +66,28 @@ Standing x p (c ∷ cs) = Stands x p c × Standing x (p + length (bytes_of c)) c
 
 -- ---- more chunks
 
-pub ends-append : (p : ℕ) (cs ds : List Chunk) → ends_of p (cs ++ ds) ≡ ends_of p cs ++ ends_of (upto p cs) ds
-ends-append p [] ds = refl
-ends-append p (wrote content d ∷ cs) ds = ends-append (p + length d) cs ds
-ends-append p (place value ∷ cs) ds = ap (λ (es : List ℕ). (p + 2) ∷ es) (ends-append (p + 2) cs ds)
+pub ends_append : (p : ℕ) (cs ds : List Chunk) → ends_of p (cs ++ ds) ≡ ends_of p cs ++ ends_of (upto p cs) ds
+ends_append p [] ds = refl
+ends_append p (wrote content d ∷ cs) ds = ends_append (p + length d) cs ds
+ends_append p (place value ∷ cs) ds = ap (λ (es : List ℕ). (p + 2) ∷ es) (ends_append (p + 2) cs ds)
 
-pub upto-laid : (p : ℕ) (cs : List Chunk) → upto p cs ≡ p + length (laid cs)
-upto-laid p [] = omega arith
-upto-laid p (c ∷ cs) = omega (arith, upto-laid (p + length (bytes_of c)) cs, length-append (bytes_of c) (laid cs))
+pub upto_laid : (p : ℕ) (cs : List Chunk) → upto p cs ≡ p + length (laid cs)
+upto_laid p [] = omega arith
+upto_laid p (c ∷ cs) = omega (arith, upto_laid (p + length (bytes_of c)) cs, length-append (bytes_of c) (laid cs))
 
-pub standing-join : (x : List ℕ) (p : ℕ) (cs ds : List Chunk) → Standing x p cs → Standing x (upto p cs) ds → Standing x p (cs ++ ds)
-standing-join x p [] ds h more = more
-standing-join x p (c ∷ cs) ds h more = (h.0, standing-join x (p + length (bytes_of c)) cs ds h.1 more)
+pub standing_join : (x : List ℕ) (p : ℕ) (cs ds : List Chunk) → Standing x p cs → Standing x (upto p cs) ds → Standing x p (cs ++ ds)
+standing_join x p [] ds h more = more
+standing_join x p (c ∷ cs) ds h more = (h.0, standing_join x (p + length (bytes_of c)) cs ds h.1 more)
 
-pub standing-split : (x : List ℕ) (p : ℕ) (cs ds : List Chunk) → Standing x p (cs ++ ds) → Standing x p cs × Standing x (upto p cs) ds
-standing-split x p [] ds h = (tt, h)
-standing-split x p (c ∷ cs) ds h = let (some, more) = standing-split x (p + length (bytes_of c)) cs ds h.1 in ((h.0, some), more)
+pub standing_split : (x : List ℕ) (p : ℕ) (cs ds : List Chunk) → Standing x p (cs ++ ds) → Standing x p cs × Standing x (upto p cs) ds
+standing_split x p [] ds h = (tt, h)
+standing_split x p (c ∷ cs) ds h = let (some, more) = standing_split x (p + length (bytes_of c)) cs ds h.1 in ((h.0, some), more)
 
 -- each placeholder ends before the end
-pub ends-most : (p most : ℕ) (cs : List Chunk) → upto p cs ≤ most → AllByRecursion (λ e. e ≤ most) (ends_of p cs)
-ends-most p most [] le = tt
-ends-most p most (wrote content d ∷ cs) le = ends-most (p + length d) most cs le
-ends-most p most (place value ∷ cs) le = (omega (arith, le, upto-laid (p + 2) cs), ends-most (p + 2) most cs le)
+pub ends_most : (p most : ℕ) (cs : List Chunk) → upto p cs ≤ most → AllByRecursion (λ e. e ≤ most) (ends_of p cs)
+ends_most p most [] le = tt
+ends_most p most (wrote content d ∷ cs) le = ends_most (p + length d) most cs le
+ends_most p most (place value ∷ cs) le = (omega (arith, le, upto_laid (p + 2) cs), ends_most (p + 2) most cs le)
 
 -- ---- bytes that begin with chunks
 
@@ -95,77 +95,77 @@ own : (c : Chunk) → MayBe c (bytes_of c)
 own (wrote content d) = refl
 own (place value) = refl
 
-length-may_be : (c : Chunk) (e : List ℕ) → MayBe c e → length e ≡ length (bytes_of c)
-length-may_be (wrote content d) e may = ap length may
-length-may_be (place value) e may = may
+length_may_be : (c : Chunk) (e : List ℕ) → MayBe c e → length e ≡ length (bytes_of c)
+length_may_be (wrote content d) e may = ap length may
+length_may_be (place value) e may = may
 
-pub begins-laid : (b x more : List ℕ) (cs : List Chunk) → x ≡ b ++ (laid cs ++ more) → Begins b cs x
-begins-laid b x more [] is = (more, is)
-begins-laid b x more (c ∷ cs) is = (bytes_of c, own c, begins-laid (b ++ bytes_of c) x more cs (is ∙ simp append_assoc))
+pub begins_laid : (b x more : List ℕ) (cs : List Chunk) → x ≡ b ++ (laid cs ++ more) → Begins b cs x
+begins_laid b x more [] is = (more, is)
+begins_laid b x more (c ∷ cs) is = (bytes_of c, own c, begins_laid (b ++ bytes_of c) x more cs (is ∙ simp append_assoc))
 
-begins-front : (b x : List ℕ) (cs : List Chunk) → Begins b cs x → (more : List ℕ) × (x ≡ b ++ more)
-begins-front b x [] h = h
-begins-front b x (c ∷ cs) (e, may, h) = let (more, is) = begins-front (b ++ e) x cs h in (e ++ more, is ∙ append_assoc b e more)
+begins_front : (b x : List ℕ) (cs : List Chunk) → Begins b cs x → (more : List ℕ) × (x ≡ b ++ more)
+begins_front b x [] h = h
+begins_front b x (c ∷ cs) (e, may, h) = let (more, is) = begins_front (b ++ e) x cs h in (e ++ more, is ∙ append_assoc b e more)
 
 -- The bytes up to where the others follow begin with the first chunks.
-pub begins-split : (b x : List ℕ) (cs ds : List Chunk) → Begins b (cs ++ ds) x
+pub begins_split : (b x : List ℕ) (cs ds : List Chunk) → Begins b (cs ++ ds) x
     → (y : List ℕ) × (length y ≡ upto (length b) cs) × Begins b cs y × Begins y ds x
-begins-split b x [] ds h = (b, refl, ([], sym (append-nil b)), h)
-begins-split b x (c ∷ cs) ds (e, may, h) =
-    let (y, size, first, more) = begins-split (b ++ e) x cs ds h in
-    let longer : length (b ++ e) ≡ length b + length (bytes_of c) = omega (arith, length-append b e, length-may_be c e may) in
+begins_split b x [] ds h = (b, refl, ([], sym (append-nil b)), h)
+begins_split b x (c ∷ cs) ds (e, may, h) =
+    let (y, size, first, more) = begins_split (b ++ e) x cs ds h in
+    let longer : length (b ++ e) ≡ length b + length (bytes_of c) = omega (arith, length-append b e, length_may_be c e may) in
     (y, size ∙ ap (λ n. upto n cs) longer, (e, may, first), more)
 
 -- Other chunks may follow the first ones.
-pub begins-others : (b x : List ℕ) (cs ds es : List Chunk) → ((y : List ℕ) → Begins y ds x → Begins y es x) → Begins b (cs ++ ds) x → Begins b (cs ++ es) x
-begins-others b x [] ds es others h = others b h
-begins-others b x (c ∷ cs) ds es others (e, may, h) = (e, may, begins-others (b ++ e) x cs ds es others h)
+pub begins_others : (b x : List ℕ) (cs ds es : List Chunk) → ((y : List ℕ) → Begins y ds x → Begins y es x) → Begins b (cs ++ ds) x → Begins b (cs ++ es) x
+begins_others b x [] ds es others h = others b h
+begins_others b x (c ∷ cs) ds es others (e, may, h) = (e, may, begins_others (b ++ e) x cs ds es others h)
 
 -- So they begin with the first chunks.
-pub begins-first : (b x : List ℕ) (cs ds : List Chunk) → Begins b (cs ++ ds) x → Begins b cs x
-begins-first b x cs ds h = rw append-nil at (begins-others b x cs ds [] (λ y more. begins-front y x ds more) h)
+pub begins_first : (b x : List ℕ) (cs ds : List Chunk) → Begins b (cs ++ ds) x → Begins b cs x
+begins_first b x cs ds h = rw append-nil at (begins_others b x cs ds [] (λ y more. begins_front y x ds more) h)
 
 -- ---- pieces
 
 -- bytes after others are there
-pub bytes-stand : (x y d more : List ℕ) (p : ℕ) → x ≡ y ++ (d ++ more) → length y ≡ p → BytesStand x d p (p + length d)
-bytes-stand x y d more p is size = (
-  ap (λ z. slice_range z p (p + length d)) is ∙ slice_range-middle y d more p (p + length d) (sym size) refl,
+pub bytes_stand : (x y d more : List ℕ) (p : ℕ) → x ≡ y ++ (d ++ more) → length y ≡ p → BytesStand x d p (p + length d)
+bytes_stand x y d more p is size = (
+  ap (λ z. slice_range z p (p + length d)) is ∙ slice_range_middle y d more p (p + length d) (sym size) refl,
   refl,
   omega (arith, size, ap length is, length-append y (d ++ more), length-append d more),
 )
 
-piece-stands : (x b more : List ℕ) (p : ℕ) (c : Chunk) → x ≡ b ++ (bytes_of c ++ more) → length b ≡ p → Stands x p c → PieceAt x (piece_of c) p (p + length (bytes_of c))
-piece-stands x b more p (wrote content d) is size h = h
-piece-stands x b more p (place value) is size h = bytes-stand x b (to_be_bytes w16 value) more p is size
+piece_stands : (x b more : List ℕ) (p : ℕ) (c : Chunk) → x ≡ b ++ (bytes_of c ++ more) → length b ≡ p → Stands x p c → PieceAt x (piece_of c) p (p + length (bytes_of c))
+piece_stands x b more p (wrote content d) is size h = h
+piece_stands x b more p (place value) is size h = bytes_stand x b (to_be_bytes w16 value) more p is size
 
 -- In the bytes of the chunks the first k pieces are there.
 pub spells : (x b : List ℕ) (p k : ℕ) (cs : List Chunk) → length b ≡ p → x ≡ b ++ laid cs → Standing x p cs
-    → Spells x (take k (map piece_of cs)) p (upto p (take k cs))
+    → PiecesLie x (take k (map piece_of cs)) p (upto p (take k cs))
 spells x b p zero cs size is h = refl
 spells x b p (suc k) [] size is h = refl
 spells x b p (suc k) (c ∷ cs) size is h =
     let d = bytes_of c in (
       p + length d,
-      piece-stands x b (laid cs) p c is size h.0,
+      piece_stands x b (laid cs) p c is size h.0,
       spells x (b ++ d) (p + length d) k cs (omega (arith, size, length-append b d)) (is ∙ sym (append_assoc b d (laid cs))) h.1,
     )
 
 -- ---- a placeholder is filled
 
 -- another value ends where the first one did
-pub upto-filled : (p k value other : ℕ) (front back : List Chunk)
+pub upto_filled : (p k value other : ℕ) (front back : List Chunk)
     → upto p (take k (front ++ place value ∷ back)) ≡ upto p (take k (front ++ place other ∷ back))
-upto-filled p zero value other front back = refl
-upto-filled p (suc k) value other [] back = refl
-upto-filled p (suc k) value other (c ∷ front) back = upto-filled (p + length (bytes_of c)) k value other front back
+upto_filled p zero value other front back = refl
+upto_filled p (suc k) value other [] back = refl
+upto_filled p (suc k) value other (c ∷ front) back = upto_filled (p + length (bytes_of c)) k value other front back
 
 -- neither a part nor a record is a placeholder
-filled-after : (number value : ℕ) (content : Content) (ps : List Piece) → filled_in (piece_in content ∷ ps) number value ≡ piece_in content ∷ filled_in ps number value
-filled-after number value (of_part (name_part mode name)) ps = refl
-filled-after number value (of_part (bytes_part d)) ps = refl
-filled-after number value (of_part (text_part d)) ps = refl
-filled-after number value (of_record mode canonical r) ps = refl
+filled_after : (number value : ℕ) (content : Content) (ps : List Piece) → filled_in (piece_in content ∷ ps) number value ≡ piece_in content ∷ filled_in ps number value
+filled_after number value (of_part (name_part mode name)) ps = refl
+filled_after number value (of_part (bytes_part d)) ps = refl
+filled_after number value (of_part (text_part d)) ps = refl
+filled_after number value (of_record mode canonical r) ps = refl
 
 -- The placeholder of a number, which ends there, among the chunks, and their pieces once it has another value.
 abbrev pub Splits : ℕ → ℕ → ℕ → List Chunk → ℕ → Type 0
@@ -177,11 +177,11 @@ pub split_at : (number value p : ℕ) (cs : List Chunk) (end : ℕ) → slice_ge
 split_at number value p [] end here = absurd cc
 split_at number value p (wrote content d ∷ cs) end here =
     let (front, held, back, whole, ends, within, pieces) = split_at number value (p + length d) cs end here in
-    let all = filled-after number value content (map piece_of cs) ∙ ap (λ (ps : List Piece). piece_in content ∷ ps) pieces in
+    let all = filled_after number value content (map piece_of cs) ∙ ap (λ (ps : List Piece). piece_in content ∷ ps) pieces in
     (wrote content d ∷ front, held, back, ap (λ (xs : List Chunk). wrote content d ∷ xs) whole, ends, within, all)
 split_at zero value p (place held ∷ cs) end here =
     let ends : p + 2 ≡ end = cc in
-    ([], held, cs, refl, ends, omega (arith, ends, upto-laid (p + 2) cs), refl)
+    ([], held, cs, refl, ends, omega (arith, ends, upto_laid (p + 2) cs), refl)
 split_at (suc number) value p (place held ∷ cs) end here =
     let (front, other, back, whole, ends, within, pieces) = split_at number value (p + 2) cs end here in
     let all = ap (λ (ps : List Piece). place_piece held ∷ ps) pieces in

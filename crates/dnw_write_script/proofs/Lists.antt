@@ -53,21 +53,21 @@ in_turn : (v w : Encoder) (xs : List (Bor Item)) → InTurn EmitsLent v xs w →
 in_turn v w [] all = all
 in_turn v w (x ∷ xs) (m, one, all) = (m, one, in_turn m w xs all)
 
-length-owned : (xs : List (Bor Item)) → length (owned xs) ≡ length xs
-length-owned xs = length-map xs (λ (x : Bor Item). x.now)
+length_owned : (xs : List (Bor Item)) → length (owned xs) ≡ length xs
+length_owned xs = length-map xs (λ (x : Bor Item). x.now)
 
 -- all were written
 pub all_written : (v w : Encoder) (items : List Item) (s t : Iter Item) (count : ℕ) → iter_rest s ≡ items
     → EmitsItems EmitsLent iter_steps s v (Ok count) w t → RunsItems v items (Items count None (length w.bytes)) w
 all_written v w items s t count all (xs, (m, ys, (none, _)), turn, counted) =
     let same : items ≡ owned xs = sym all ∙ (yielded s m xs ys ∙ (ap (λ (rest : List Item). owned xs ++ rest) (nil_from_length (iter_rest m) none) ∙ append-nil (owned xs))) in
-    (subst (λ is. InTurn EmitsScriptItem v is w) (sym same) (in_turn v w xs turn), counted ∙ (sym (length-owned xs) ∙ ap length (sym same)), refl)
+    (subst (λ is. InTurn EmitsScriptItem v is w) (sym same) (in_turn v w xs turn), counted ∙ (sym (length_owned xs) ∙ ap length (sym same)), refl)
 
 -- how many were written before the refused one
 pub written_before : (v w : Encoder) (items : List Item) (s t : Iter Item) (error : ProtoError) → iter_rest s ≡ items
     → (h : EmitsItems EmitsLent iter_steps s v (Err error) w t) → length items ≡ length h.0 + 1 + length (iter_rest t)
 written_before v w items s t error all (xs, x, m, (n, ys, step), turn, one) =
-    omega (arith, ap length (sym all ∙ yielded s n xs ys), length-append (owned xs) (iter_rest n), length-owned xs, ap length step)
+    omega (arith, ap length (sym all ∙ yielded s n xs ys), length-append (owned xs) (iter_rest n), length_owned xs, ap length step)
 
 -- all up to a refused one were written
 pub some_written : (v w : Encoder) (items : List Item) (s t : Iter Item) (error : ProtoError) (count : ℕ) → iter_rest s ≡ items
@@ -76,4 +76,4 @@ pub some_written : (v w : Encoder) (items : List Item) (s t : Iter Item) (error 
 some_written v w items s t error count all (xs, x, m, (n, ys, step), turn, one) counted =
     let split : items ≡ owned xs ++ x.now ∷ iter_rest t = sym all ∙ (yielded s n xs ys ∙ ap (λ (rest : List Item). owned xs ++ rest) step) in
     let last = subst (λ k. EmitsItem EmitsScriptItem x.now k m (Err error) w) (sym counted) one in
-    (owned xs, x.now, iter_rest t, m, split, counted ∙ sym (length-owned xs), in_turn v m xs turn, last, refl)
+    (owned xs, x.now, iter_rest t, m, split, counted ∙ sym (length_owned xs), in_turn v m xs turn, last, refl)

@@ -7,7 +7,7 @@ use Rattle.dnw_write.proofs.Bounds.{places_stay_bounded}
 use Rattle.dnw_write_script.specs.declared.script.Reply.{Reply}
 use Rattle.dnw_write_script.specs.declared.script.Reply.TheVariants.{Done, Refused}
 use Rattle.dnw_write_script.specs.Script.{fill, reserve}
-use Rattle.dnw_write_script.specs.Pieces.{Account, Slot, after, spent}
+use Rattle.dnw_write_script.specs.Pieces.{Account, Slot, after_action, spent}
 use Rattle.dnw_write_script.specs.Replies.{open_place}
 use Rattle.dnw_write_script.specs.Runs.{RunsFill, GivesReply}
 use Rattle.dnw_write_script.specs.Inside.Running.{FillsKept, HoldsPlace, KeepsPlace, Tracks}
@@ -29,7 +29,7 @@ tracks_spent n places slots t = absurd t
 
 tracks_by : (place : Option ℕ) (n value : ℕ) (places : List (Option ℕ)) (a : Account) (v : Encoder) (reply : Reply) (w : Encoder)
     → get_or places n None ≡ place → Tracks places a.places → FillsKept v place value reply w
-    → Tracks (set places n None) (after a (fill n value) reply).places
+    → Tracks (set places n None) (after_action a (fill n value) reply).places
 tracks_by None n value places a v reply w e t h =
     let same : set places n None ≡ places = ap (set places n) (sym e) ∙ set-get_or places n None in rw (h.0, same) t
 tracks_by (Some p) n value places a v (Done len) w e t h = tracks_spent n places a.places t
@@ -37,7 +37,7 @@ tracks_by (Some p) n value places a v (Refused error len) w e t h = tracks_spent
 tracks_by (Some p) n value places a v reply w e t h = absurd h
 
 pub tracks_fill : (n value : ℕ) (places : List (Option ℕ)) (a : Account) (v : Encoder) (reply : Reply) (w : Encoder)
-    → Tracks places a.places → FillsKept v (get_or places n None) value reply w → Tracks (set places n None) (after a (fill n value) reply).places
+    → Tracks places a.places → FillsKept v (get_or places n None) value reply w → Tracks (set places n None) (after_action a (fill n value) reply).places
 tracks_fill n value places a v reply w t h = tracks_by (get_or places n None) n value places a v reply w refl t h
 
 -- one that is reserved is kept in both
@@ -48,10 +48,10 @@ tracks_push (place ∷ places) (slot ∷ slots) p e is t = (t.0, tracks_push pla
 tracks_push places slots p e is t = absurd t
 
 pub tracks_reserve : (places new : List (Option ℕ)) (a : Account) (v w : Encoder) (reply : Reply) → v.offset ≡ length v.bytes → Tracks places a.places
-    → KeepsPlace places v.offset reply new → GivesReply (TakesRoom v 2 (reserved v 2)) reply w → Tracks new (after a reserve reply).places
+    → KeepsPlace places v.offset reply new → GivesReply (TakesRoom v 2 (reserved v 2)) reply w → Tracks new (after_action a reserve reply).places
 tracks_reserve places new a v w (Done len) at_end t is h =
     let end = h.1 ∙ (ap (λ (x : Encoder). length x.bytes) h.0.1 ∙ sym (places_stay_bounded v 2 (omega (arith, at_end)) h.0.0).1) in
-    subst (λ ps. Tracks ps (after a reserve (Done len)).places) (sym is) (tracks_push places a.places v.offset len end t)
+    subst (λ ps. Tracks ps (after_action a reserve (Done len)).places) (sym is) (tracks_push places a.places v.offset len end t)
 tracks_reserve places new a v w reply at_end t is h = subst (λ ps. Tracks ps a.places) (sym is) t
 
 pub holds_at : (v : Encoder) (n : ℕ) (places : List (Option ℕ)) → AllByRecursion (HoldsPlace v) places → HoldsPlace v (get_or places n None)

@@ -9,7 +9,7 @@ use Rattle.std.specs.declared.vec.Vec.{Vec}
 use Rattle.dnw_base.specs.declared.error.ProtoError.{ProtoError}
 use Rattle.dnw_write.specs.Encoder.{Encoder}
 use Rattle.dnw_write.specs.EmittedName.{so_far}
-use Rattle.dnw_write.specs.EmittingLaws.{take-all}
+use Rattle.dnw_write.specs.EmittingLaws.{take_all_lem}
 use Rattle.dnw_record.specs.declared.record.WireRecord.{WireRecord}
 use Rattle.dnw_record.specs.WrittenRecords.{EmitsRecord}
 use Rattle.dnw_record.specs.Parts.{WirePart, bytes_part, name_part, text_part}
@@ -17,13 +17,13 @@ use Rattle.dnw_record.proofs.Bounded.{part_stays_bounded, parts_stay_bounded}
 use Rattle.dnw_base.specs.Limits.{max_message}
 use Rattle.dnw_write_script.specs.declared.script.Reply.{Reply}
 use Rattle.dnw_write_script.specs.Script.{Action, action, item_parts, reserve, set_max, wire_part, write, write_items, write_record}
-use Rattle.dnw_write_script.specs.Pieces.{Account, Spells, after, opening, account_from, Slot}
+use Rattle.dnw_write_script.specs.Pieces.{Account, PiecesLie, after_action, opening, account_from, Slot}
 use Rattle.dnw_write_script.specs.Replies.{RepliesTo, ReplyTo, ReplyToPart}
 use Rattle.dnw_write_script.specs.Runs.{IsUseful, Runs, beginning, RunsStep}
 use Rattle.dnw_write_script.specs.ScriptLaws.{RunsFinish, ItemsOfScriptsStayBounded, PartsOfScriptsStayBounded, RunsStayBounded}
-use Rattle.dnw_write_script.proofs.Chunks.{laid, piece_of, spells, upto, ends-most}
-use Rattle.dnw_write_script.proofs.Standing.{AreUsable, holds-now, sound-upto}
-use Rattle.dnw_write_script.proofs.Stepping.{Goes, Good, record-undone, step, goes, good-beginning}
+use Rattle.dnw_write_script.proofs.Chunks.{laid, piece_of, spells, upto, ends_most}
+use Rattle.dnw_write_script.proofs.Standing.{AreUsable, holds_now, sound_upto}
+use Rattle.dnw_write_script.proofs.Stepping.{Goes, Good, record_undone, step, goes, good_beginning}
 use Rattle.dnw_write_script.specs.declared.script.Step.{Step}
 use Rattle.dnw_write_script.specs.Inside.Running.{HoldsPlace, Tracks, RunsTo}
 use Rattle.dnw_write_script.specs.declared.script.Reply.TheVariants.{Done, Refused, NoPlace, Items}
@@ -43,7 +43,7 @@ splits a v w [] rest [] others same h = (v, refl, h, refl)
 splits a v w [] rest (reply ∷ given) others same h = absurd (omega (arith, same))
 splits a v w (action ∷ first) rest [] others same h = absurd (omega (arith, same))
 splits a v w (action ∷ first) rest (reply ∷ given) others same h =
-    let (m, before, behind, account) = splits (after a action reply) h.0 w first rest given others (omega (arith, same)) h.2 in
+    let (m, before, behind, account) = splits (after_action a action reply) h.0 w first rest given others (omega (arith, same)) h.2 in
     (m, (h.0, h.1, before), behind, account)
 
 -- ---- the laws
@@ -51,27 +51,27 @@ splits a v w (action ∷ first) rest (reply ∷ given) others same h =
 module _ (old : List ℕ) (candidates names : ℕ) (actions : List Action) (replies : List Reply) (w : Encoder)
     (h : Runs (opening (length old)) (beginning old candidates names) actions replies w) where
   all : RepliesTo (opening (length old)) actions replies × Goes old [] (account_from (opening (length old)) actions replies) w
-  all = goes old [] (opening (length old)) (beginning old candidates names) w actions replies (good-beginning old candidates names) h
+  all = goes old [] (opening (length old)) (beginning old candidates names) w actions replies (good_beginning old candidates names) h
 
   pub runs_reply : RepliesTo (opening (length old)) actions replies
   runs_reply = all.0
 
   usable : AreUsable w.bytes w.candidates
-  usable = (holds-now old all.1.chunks w all.1.good.sound).1
+  usable = (holds_now old all.1.chunks w all.1.good.sound).1
 
   -- a record that is refused then leaves the encoder
   pub undoes : (v : Encoder) (r : WireRecord) (error : ProtoError) → EmitsRecord r w (Err error) v → v ≡ w
-  undoes v r error refused = record-undone old all.1.chunks w v r error all.1.good.sound refused
+  undoes v r error refused = record_undone old all.1.chunks w v r error all.1.good.sound refused
 
   pub runs_useful : AllByRecursion (IsUseful w) w.candidates
   runs_useful =
-      let now : so_far w ≡ w.bytes = take-all w.offset w.bytes all.1.good.sound.end in
+      let now : so_far w ≡ w.bytes = take_all_lem w.offset w.bytes all.1.good.sound.end in
       recursion_from_All (IsUseful w) w.candidates (subst (λ x. AreUsable x w.candidates) (sym now) usable)
 
 -- The pieces of the first steps are there in the finished bytes.
 spells_first : (old : List ℕ) (candidates names : ℕ) (first rest : List Action) (given others : List Reply) (w : Encoder) → length first ≡ length given
     → Runs (opening (length old)) (beginning old candidates names) (first ++ rest) (given ++ others) w
-    → Spells w.bytes (take (length (account_from (opening (length old)) first given).pieces) (account_from (opening (length old)) (first ++ rest) (given ++ others)).pieces)
+    → PiecesLie w.bytes (take (length (account_from (opening (length old)) first given).pieces) (account_from (opening (length old)) (first ++ rest) (given ++ others)).pieces)
     (length old) (account_from (opening (length old)) first given).len
 spells_first old candidates names first rest given others w same h =
     let a = opening (length old) in
@@ -82,10 +82,10 @@ spells_first old candidates names first rest given others w same h =
     let s = two.good.sound in
     let n = length one.chunks in
     let count : length b.pieces ≡ n = ap length one.good.pieces_are ∙ length-map one.chunks piece_of in
-    let stand = (holds-now old two.chunks w s).0 in
+    let stand = (holds_now old two.chunks w s).0 in
     let end : upto (length old) (take n two.chunks) ≡ b.len =
-    two.same n (omega arith) ∙ (ap (upto (length old)) (take_all n one.chunks (omega arith)) ∙ (sym (sound-upto old one.chunks m one.good.sound) ∙ sym one.good.len_is)) in
-    rw (count, account, two.good.pieces_are) (subst (Spells w.bytes (take n (map piece_of two.chunks)) (length old)) end
+    two.same n (omega arith) ∙ (ap (upto (length old)) (take_all n one.chunks (omega arith)) ∙ (sym (sound_upto old one.chunks m one.good.sound) ∙ sym one.good.len_is)) in
+    rw (count, account, two.good.pieces_are) (subst (PiecesLie w.bytes (take n (map piece_of two.chunks)) (length old)) end
     (spells w.bytes old (length old) n two.chunks refl s.bytes stand))
 
 pub runs_finish : RunsFinish
@@ -101,43 +101,43 @@ runs_finish old candidates names actions replies w h =
 
 -- ---- the length
 
-part-len : (a : Account) (part : WirePart) (len : ℕ) → ReplyToPart a part (Done len) → len ≤ a.max
-part-len a (name_part mode name) len h = h.2
-part-len a (bytes_part bytes) len h = omega (arith, h.0, h.1)
-part-len a (text_part text) len h = omega (arith, h.1.0, h.1.1)
+part_len : (a : Account) (part : WirePart) (len : ℕ) → ReplyToPart a part (Done len) → len ≤ a.max
+part_len a (name_part mode name) len h = h.2
+part_len a (bytes_part bytes) len h = omega (arith, h.0, h.1)
+part_len a (text_part text) len h = omega (arith, h.1.0, h.1.1)
 
 -- a step leaves the length, or ends within the maximum, which it may set
-step-len : (a : Account) (action : Action) (reply : Reply) → ReplyTo a action reply
-    → ((after a action reply).len ≤ max a.len (max_after a.max action)) × ((after a action reply).max ≡ max_after a.max action)
-step-len a (write part) (Done len) h = (omega (arith, part-len a (wire_part a.mode part) len h, le-max_right a.len a.max), refl)
-step-len a reserve (Done len) h = (omega (arith, h.0, h.1, le-max_right a.len a.max), refl)
-step-len a (write_record r) (Done len) h = (omega (arith, h.0, le-max_right a.len a.max), refl)
-step-len a (write_items items) (Items count None len) h = (h.2, refl)
-step-len a (write_items items) (Items count (Some error) len) h = (h.2, refl)
-step-len a (set_max size) (Done len) h = (le-max_left a.len size, refl)
-step-len a (set_max size) reply h = absurd h
-step-len a action (Done len) h = (le-max_left a.len a.max, refl)
-step-len a action (Refused error len) h = (le-max_left a.len a.max, refl)
-step-len a action NoPlace h = (le-max_left a.len a.max, refl)
-step-len a action (Items count error len) h = (le-max_left a.len a.max, refl)
+step_len : (a : Account) (action : Action) (reply : Reply) → ReplyTo a action reply
+    → ((after_action a action reply).len ≤ max a.len (max_after a.max action)) × ((after_action a action reply).max ≡ max_after a.max action)
+step_len a (write part) (Done len) h = (omega (arith, part_len a (wire_part a.mode part) len h, le-max_right a.len a.max), refl)
+step_len a reserve (Done len) h = (omega (arith, h.0, h.1, le-max_right a.len a.max), refl)
+step_len a (write_record r) (Done len) h = (omega (arith, h.0, le-max_right a.len a.max), refl)
+step_len a (write_items items) (Items count None len) h = (h.2, refl)
+step_len a (write_items items) (Items count (Some error) len) h = (h.2, refl)
+step_len a (set_max size) (Done len) h = (le-max_left a.len size, refl)
+step_len a (set_max size) reply h = absurd h
+step_len a action (Done len) h = (le-max_left a.len a.max, refl)
+step_len a action (Refused error len) h = (le-max_left a.len a.max, refl)
+step_len a action NoPlace h = (le-max_left a.len a.max, refl)
+step_len a action (Items count error len) h = (le-max_left a.len a.max, refl)
 
-steps-len : (a : Account) (actions : List Action) (replies : List Reply) → RepliesTo a actions replies
+steps_len : (a : Account) (actions : List Action) (replies : List Reply) → RepliesTo a actions replies
     → (account_from a actions replies).len ≤ max a.len (largest_max a.max actions)
-steps-len a [] [] h = le-max_left a.len 0
-steps-len a [] (reply ∷ replies) h = absurd h
-steps-len a (action ∷ actions) [] h = absurd h
-steps-len a (action ∷ actions) (reply ∷ replies) h =
-    let b = after a action reply in
+steps_len a [] [] h = le-max_left a.len 0
+steps_len a [] (reply ∷ replies) h = absurd h
+steps_len a (action ∷ actions) [] h = absurd h
+steps_len a (action ∷ actions) (reply ∷ replies) h =
+    let b = after_action a action reply in
     let most = max_after a.max action in
-    let (most_len, most_is) = step-len a action reply h.0 in
-    let rest = rw most_is at (steps-len b actions replies h.1) in
+    let (most_len, most_is) = step_len a action reply h.0 in
+    let rest = rw most_is at (steps_len b actions replies h.1) in
     let last = largest_max most actions in
     let le : max b.len last ≤ max a.len (max most last) = max-le (omega (arith, most_len)) (omega arith) in
     omega (arith, rest, le)
 
 pub runs_stay_bounded : RunsStayBounded
 runs_stay_bounded old candidates names actions replies w h =
-    let most = steps-len (opening (length old)) actions replies (runs_reply old candidates names actions replies w h) in
+    let most = steps_len (opening (length old)) actions replies (runs_reply old candidates names actions replies w h) in
     omega (arith, most, (runs_finish old candidates names actions replies w h).ends)
 
 pub parts_of_scripts_stay_bounded : PartsOfScriptsStayBounded
@@ -171,10 +171,10 @@ ran old candidates names steps (Err e) new run err same =
 runs_push : (a : Account) (v : Encoder) (actions : List Action) (replies : List Reply) (m : Encoder) (action : Action) (reply : Reply) (w : Encoder)
     → Runs a v actions replies m → RunsStep (account_from a actions replies) m action reply w
     → Runs a v (actions ++ action ∷ []) (replies ++ reply ∷ []) w
-    × (account_from a (actions ++ action ∷ []) (replies ++ reply ∷ []) ≡ after (account_from a actions replies) action reply)
+    × (account_from a (actions ++ action ∷ []) (replies ++ reply ∷ []) ≡ after_action (account_from a actions replies) action reply)
 runs_push a v [] [] m action reply w same step = ((w, subst (λ x. RunsStep a x action reply w) same step, refl), refl)
 runs_push a v (x ∷ actions) (r ∷ replies) m action reply w all step =
-    let (more, account) = runs_push (after a x r) all.0 actions replies m action reply w all.2 step in ((all.0, all.1, more), account)
+    let (more, account) = runs_push (after_action a x r) all.0 actions replies m action reply w all.2 step in ((all.0, all.1, more), account)
 runs_push a v actions replies m action reply w all step = absurd all
 
 -- ---- a run so far
@@ -196,15 +196,15 @@ pub has_run_holds : (v w : Encoder) (actions : List Action) (replies : List Repl
     → (w.offset ≡ length w.bytes) × AllByRecursion (HoldsPlace w) places
 has_run_holds v w actions replies places is h =
     let a = account_from (opening (length v.bytes)) actions replies in
-    let go = (goes v.bytes [] (opening (length v.bytes)) v w actions replies (subst (Good v.bytes [] (opening (length v.bytes))) (sym is) (good-beginning v.bytes v.candidate_limit v.name_limit)) h.runs).1 in
-    let inside = ends-most (length v.bytes) w.offset go.chunks (omega (arith, sound-upto v.bytes go.chunks w go.good.sound)) in
+    let go = (goes v.bytes [] (opening (length v.bytes)) v w actions replies (subst (Good v.bytes [] (opening (length v.bytes))) (sym is) (good_beginning v.bytes v.candidate_limit v.name_limit)) h.runs).1 in
+    let inside = ends_most (length v.bytes) w.offset go.chunks (omega (arith, sound_upto v.bytes go.chunks w go.good.sound)) in
     (go.good.sound.end, holds_kept w places a.places h.tracks (subst (AllByRecursion (λ e. e ≤ w.offset)) (sym go.good.places) inside))
 
 -- one of all steps more
 pub has_run_more : {v m w : Encoder} (steps : List Step) {i : ℕ} {step : Step} {replies : List Reply} {places new : List (Option ℕ)} (reply : Reply)
     → i < length steps → step ≡ get_or steps i step → HasRun v (map action (take i steps)) replies m places
     → ((a : Account) → Tracks places a.places → RunsStep a m (action step) reply w)
-    → ((a : Account) → Tracks places a.places → Tracks new (after a (action step) reply).places)
+    → ((a : Account) → Tracks places a.places → Tracks new (after_action a (action step) reply).places)
     → HasRun v (map action (take (i + 1) steps)) (replies ++ reply ∷ []) w new
 has_run_more {v} {m} {w} steps {i} {step} {replies} {places} {new} reply below is h runs tracks =
     let start = opening (length v.bytes) in

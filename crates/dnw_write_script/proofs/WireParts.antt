@@ -6,36 +6,36 @@ use Rattle.dnw_write.specs.declared.encoder.modes.NameEncoding.{NameEncoding}
 use Rattle.dnw_write.specs.Encoder.{Encoder, Writes, WritesText}
 use Rattle.dnw_write.specs.Emitting.{Outcome, InTurn}
 use Rattle.dnw_record.specs.Parts.{EmitsWirePart, EmitsWireParts, in_encoding}
-use Rattle.dnw_record.proofs.Parts.{parts-follow}
+use Rattle.dnw_record.proofs.Parts.{parts_follow}
 use Rattle.dnw_write_script.specs.declared.script.Part.{Part}
 use Rattle.dnw_write_script.specs.declared.script.Part.TheVariants.{Name, U8, U16, I32, U32, Bytes, Text}
 use Rattle.dnw_write_script.specs.declared.script.Item.{Item}
 use Rattle.dnw_write_script.specs.Script.{EmitsPart, EmitsParts, EmitsScriptItem, item_parts, items_parts, wire_part}
-use Rattle.dnw_write_script.specs.ItemFrames.{frame-item, frame-part}
+use Rattle.dnw_write_script.specs.ItemFrames.{frame_item, frame_part}
 
 -- the mode makes no difference to bytes
-bytes-in : (mode : NameEncoding) (d : List ℕ) (v m : Encoder) (outcome : Outcome) → Writes (in_encoding v mode) d outcome m
+bytes_in : (mode : NameEncoding) (d : List ℕ) (v m : Encoder) (outcome : Outcome) → Writes (in_encoding v mode) d outcome m
     → Writes v d outcome (in_encoding m v.encoding)
-bytes-in mode d v m (Ok tt) h = (h.0, ap (λ (x : Encoder). in_encoding x v.encoding) h.1)
-bytes-in mode d v m (Err Memory) h = (h.0, h.1, ap (λ (x : Encoder). in_encoding x v.encoding) h.2)
-bytes-in mode d v m (Err (MaxBufferSizeExceeded size)) h = (h.0, h.1, ap (λ (x : Encoder). in_encoding x v.encoding) h.2)
-bytes-in mode d v m (Err error) h = absurd h
+bytes_in mode d v m (Ok tt) h = (h.0, ap (λ (x : Encoder). in_encoding x v.encoding) h.1)
+bytes_in mode d v m (Err Memory) h = (h.0, h.1, ap (λ (x : Encoder). in_encoding x v.encoding) h.2)
+bytes_in mode d v m (Err (MaxBufferSizeExceeded size)) h = (h.0, h.1, ap (λ (x : Encoder). in_encoding x v.encoding) h.2)
+bytes_in mode d v m (Err error) h = absurd h
 
-text-in : (mode : NameEncoding) (d : List ℕ) (v m : Encoder) (outcome : Outcome) → WritesText (in_encoding v mode) d outcome m
+text_in : (mode : NameEncoding) (d : List ℕ) (v m : Encoder) (outcome : Outcome) → WritesText (in_encoding v mode) d outcome m
     → WritesText v d outcome (in_encoding m v.encoding)
-text-in mode d v m (Ok tt) h = (h.0, bytes-in mode (length d ∷ d) v m (Ok tt) h.1)
-text-in mode d v m (Err (CharacterDataTooLong max size)) h = (h.0, h.1, h.2, ap (λ (x : Encoder). in_encoding x v.encoding) h.3)
-text-in mode d v m (Err error) h = (h.0, bytes-in mode (length d ∷ d) v m (Err error) h.1)
+text_in mode d v m (Ok tt) h = (h.0, bytes_in mode (length d ∷ d) v m (Ok tt) h.1)
+text_in mode d v m (Err (CharacterDataTooLong max size)) h = (h.0, h.1, h.2, ap (λ (x : Encoder). in_encoding x v.encoding) h.3)
+text_in mode d v m (Err error) h = (h.0, bytes_in mode (length d ∷ d) v m (Err error) h.1)
 
 as_part : (mode : NameEncoding) (part : Part) (v m : Encoder) (outcome : Outcome) → EmitsPart part (in_encoding v mode) outcome m
     → EmitsWirePart (wire_part mode part) v outcome (in_encoding m v.encoding)
 as_part mode (Name name) v m outcome h = (m, h, refl)
-as_part mode (U8 number) v m outcome h = bytes-in mode (number ∷ []) v m outcome h
-as_part mode (U16 number) v m outcome h = bytes-in mode (to_be_bytes w16 number) v m outcome h
-as_part mode (I32 number) v m outcome h = bytes-in mode (to_be_bytes w32 (cast_unsigned w32 number)) v m outcome h
-as_part mode (U32 number) v m outcome h = bytes-in mode (to_be_bytes w32 number) v m outcome h
-as_part mode (Bytes bytes) v m outcome h = bytes-in mode bytes.items v m outcome h
-as_part mode (Text text) v m outcome h = text-in mode text.items v m outcome h
+as_part mode (U8 number) v m outcome h = bytes_in mode (number ∷ []) v m outcome h
+as_part mode (U16 number) v m outcome h = bytes_in mode (to_be_bytes w16 number) v m outcome h
+as_part mode (I32 number) v m outcome h = bytes_in mode (to_be_bytes w32 (cast_unsigned w32 number)) v m outcome h
+as_part mode (U32 number) v m outcome h = bytes_in mode (to_be_bytes w32 number) v m outcome h
+as_part mode (Bytes bytes) v m outcome h = bytes_in mode bytes.items v m outcome h
+as_part mode (Text text) v m outcome h = text_in mode text.items v m outcome h
 
 -- an encoder in its own mode
 own : (mode : NameEncoding) (w : Encoder) → w.encoding ≡ mode → in_encoding w mode ≡ w
@@ -45,20 +45,20 @@ own mode w same = ap (λ (m : NameEncoding). in_encoding w m) (sym same)
 pub as_wire_part : (part : Part) (v w : Encoder) (outcome : Outcome) → v.offset ≡ length v.bytes → EmitsPart part v outcome w
     → EmitsWirePart (wire_part v.encoding part) v outcome w
 as_wire_part part v w outcome e h =
-    subst (EmitsWirePart (wire_part v.encoding part) v outcome) (own v.encoding w (frame-part part v outcome w e h).encoding) (as_part v.encoding part v w outcome h)
+    subst (EmitsWirePart (wire_part v.encoding part) v outcome) (own v.encoding w (frame_part part v outcome w e h).encoding) (as_part v.encoding part v w outcome h)
 
 as_parts : (mode : NameEncoding) (parts : List Part) (v u : Encoder) (outcome : Outcome) → v.offset ≡ length v.bytes
     → EmitsParts parts (in_encoding v mode) outcome u → EmitsWireParts (map (wire_part mode) parts) v outcome (in_encoding u v.encoding)
 as_parts mode [] v u (Ok tt) e h = ap (λ (x : Encoder). in_encoding x v.encoding) h
 as_parts mode [] v u (Err error) e h = absurd h
 as_parts mode (part ∷ parts) v u (Ok tt) e (m, one, more) =
-    let f = frame-part part (in_encoding v mode) (Ok tt) m e one in
+    let f = frame_part part (in_encoding v mode) (Ok tt) m e one in
     let n = in_encoding m v.encoding in
     let rest = subst (λ (x : Encoder). EmitsParts parts x (Ok tt) u) (sym (own mode m f.encoding)) more in
     (n, as_part mode part v m (Ok tt) one, as_parts mode parts n u (Ok tt) f.ends rest)
 as_parts mode (part ∷ parts) v u (Err error) e (inl one) = inl (as_part mode part v u (Err error) one)
 as_parts mode (part ∷ parts) v u (Err error) e (inr (m, one, more)) =
-    let f = frame-part part (in_encoding v mode) (Ok tt) m e one in
+    let f = frame_part part (in_encoding v mode) (Ok tt) m e one in
     let n = in_encoding m v.encoding in
     let rest = subst (λ (x : Encoder). EmitsParts parts x (Err error) u) (sym (own mode m f.encoding)) more in
     inr (n, as_part mode part v m (Ok tt) one, as_parts mode parts n u (Err error) f.ends rest)
@@ -72,6 +72,6 @@ pub as_items_parts : (mode : NameEncoding) (items : List Item) (v w : Encoder) �
     → InTurn EmitsScriptItem v items w → EmitsWireParts (items_parts mode items) v (Ok tt) w
 as_items_parts mode [] v w e same h = h
 as_items_parts mode (item ∷ items) v w e same (m, one, more) =
-    let f = frame-item item v (Ok tt) m e one in
+    let f = frame_item item v (Ok tt) m e one in
     let first = subst (λ x. EmitsWireParts (item_parts x item) v (Ok tt) m) same (as_item_parts item v m (Ok tt) e one) in
-    parts-follow (item_parts mode item) (items_parts mode items) v m w (Ok tt) first (as_items_parts mode items m w f.ends (f.encoding ∙ same) more)
+    parts_follow (item_parts mode item) (items_parts mode items) v m w (Ok tt) first (as_items_parts mode items m w f.ends (f.encoding ∙ same) more)

@@ -8,7 +8,7 @@ use Rattle.dnw_write_script.specs.declared.script.Part.TheVariants.{Name}
 use Rattle.dnw_write_script.specs.declared.script.Reply.{Reply}
 use Rattle.dnw_write_script.specs.declared.script.Reply.TheVariants.{Done}
 use Rattle.dnw_write_script.specs.Script.{Action, write, set_encoding, set_max}
-use Rattle.dnw_write_script.specs.Pieces.{Piece, name_piece, Spells, opening, account_from}
+use Rattle.dnw_write_script.specs.Pieces.{Piece, name_piece, PiecesLie, opening, account_from}
 
 -- The finished bytes begin with the old ones, and the pieces follow, up to the end. Those of the first steps end at the
 -- length that the replies to these steps report.
@@ -16,7 +16,7 @@ pub record Finished (old : List ℕ) (actions : List Action) (replies : List Rep
   pub begins : take (length old) bytes ≡ old
   pub spells : (first rest : List Action) (given others : List Reply) → actions ≡ first ++ rest → replies ≡ given ++ others
       → length first ≡ length given
-      → Spells bytes (take (length (account_from (opening (length old)) first given).pieces) (account_from (opening (length old)) actions replies).pieces)
+      → PiecesLie bytes (take (length (account_from (opening (length old)) first given).pieces) (account_from (opening (length old)) actions replies).pieces)
       (length old) (account_from (opening (length old)) first given).len
   pub ends : (account_from (opening (length old)) actions replies).len ≡ length bytes
 

@@ -15,7 +15,7 @@ use Rattle.dnw_record.specs.declared.record.WireData.{WireData}
 use Rattle.dnw_record.specs.declared.record.WireData.TheVariants as rdata
 use Rattle.dnw_record.specs.Parts.{WirePart, bytes_part, name_part, text_part}
 use Rattle.dnw_record.specs.Records.{fixed_size}
-use Rattle.dnw_record.specs.RecordLaws.{fields_of}
+use Rattle.dnw_record.specs.RecordLaws.{fixed_and_length}
 use Rattle.dnw_record.specs.WrittenRecords.{NumbersFit}
 use Rattle.dnw_write_script.specs.declared.script.Reply.{Reply}
 use Rattle.dnw_write_script.specs.declared.script.Reply.TheVariants.{Done, Refused, Items}
@@ -53,7 +53,7 @@ DataStand b mode canonical (rdata.Name name encoding) p e = NameStands b (mode_o
 pub record RecordStands (b : List ℕ) (mode : NameEncoding) (canonical : Bool) (r : WireRecord) (p e : ℕ) : Type 0 where
   pub owner_end : ℕ
   pub owner : NameStands b mode r.owner.labels p owner_end
-  pub fields : BytesStand b (fields_of (type_code r.record_type) (class_code r.class) r.ttl (e - (owner_end + fixed_size))) owner_end (owner_end + fixed_size)
+  pub fields : BytesStand b (fixed_and_length (type_code r.record_type) (class_code r.class) r.ttl (e - (owner_end + fixed_size))) owner_end (owner_end + fixed_size)
   pub rdata : DataStand b mode canonical r.rdata (owner_end + fixed_size) e
   pub few : e ≤ max_message
   pub fit : NumbersFit r
@@ -66,9 +66,9 @@ PieceAt b (place_piece value) p e = BytesStand b (to_be_bytes w16 value) p e
 PieceAt b (record_piece mode canonical r) p e = RecordStands b mode canonical r p e
 
 -- the pieces are there from p to q, one after the other
-abbrev pub Spells : List ℕ → List Piece → ℕ → ℕ → Type 0
-Spells b [] p q = p ≡ q
-Spells b (piece ∷ pieces) p q = (e : ℕ) × PieceAt b piece p e × Spells b pieces e q
+abbrev pub PiecesLie : List ℕ → List Piece → ℕ → ℕ → Type 0
+PiecesLie b [] p q = p ≡ q
+PiecesLie b (piece ∷ pieces) p q = (e : ℕ) × PieceAt b piece p e × PiecesLie b pieces e q
 
 -- ---- the account of a script
 
@@ -112,24 +112,24 @@ spent zero (slot ∷ slots) = record { end = slot.end; is_open = false } ∷ slo
 spent (suc number) (slot ∷ slots) = slot ∷ spent number slots
 
 -- one more step and its reply
-abbrev pub after : Account → Action → Reply → Account
-after a (write p) (Done len) = with_pieces a (wire_piece (wire_part a.mode p) ∷ []) len
-after a (set_max size) (Done len) = record a { max = size }
-after a (set_encoding mode) (Done len) = record a { mode = mode }
-after a (set_canonical canonical) (Done len) = record a { canonical = canonical }
-after a reserve (Done len) = record a {
+abbrev pub after_action : Account → Action → Reply → Account
+after_action a (write p) (Done len) = with_pieces a (wire_piece (wire_part a.mode p) ∷ []) len
+after_action a (set_max size) (Done len) = record a { max = size }
+after_action a (set_encoding mode) (Done len) = record a { mode = mode }
+after_action a (set_canonical canonical) (Done len) = record a { canonical = canonical }
+after_action a reserve (Done len) = record a {
   len = len;
   pieces = a.pieces ++ place_piece 0 ∷ [];
   places = a.places ++ (record { end = len; is_open = true }) ∷ [];
 }
-after a (fill place value) (Done len) = record a { pieces = filled_in a.pieces place value; places = spent place a.places }
-after a (fill place value) (Refused error len) = record a { places = spent place a.places }
-after a (write_record r) (Done len) = with_pieces a (record_piece a.mode a.canonical r ∷ []) len
-after a (write_items items) (Items count error len) = with_pieces a (map wire_piece (items_parts a.mode (take count items))) len
-after a action reply = a
+after_action a (fill place value) (Done len) = record a { pieces = filled_in a.pieces place value; places = spent place a.places }
+after_action a (fill place value) (Refused error len) = record a { places = spent place a.places }
+after_action a (write_record r) (Done len) = with_pieces a (record_piece a.mode a.canonical r ∷ []) len
+after_action a (write_items items) (Items count error len) = with_pieces a (map wire_piece (items_parts a.mode (take count items))) len
+after_action a action reply = a
 
 -- what the steps and replies say, from an account on
 abbrev pub account_from : Account → List Action → List Reply → Account
 account_from a [] replies = a
 account_from a (action ∷ actions) [] = a
-account_from a (action ∷ actions) (reply ∷ replies) = account_from (after a action reply) actions replies
+account_from a (action ∷ actions) (reply ∷ replies) = account_from (after_action a action reply) actions replies

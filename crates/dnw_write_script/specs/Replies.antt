@@ -10,7 +10,7 @@ use Rattle.dnw_write_script.specs.declared.script.Item.{Item}
 use Rattle.dnw_write_script.specs.declared.script.Reply.{Reply}
 use Rattle.dnw_write_script.specs.declared.script.Reply.TheVariants.{Done, Refused, NoPlace, Items}
 use Rattle.dnw_write_script.specs.Script.{Action, write, set_max, set_encoding, set_canonical, reserve, fill, write_record, write_items, item_parts, items_parts, wire_part}
-use Rattle.dnw_write_script.specs.Pieces.{Account, Slot, after}
+use Rattle.dnw_write_script.specs.Pieces.{Account, Slot, after_action}
 
 -- n bytes are written if they fit, unless memory runs out
 abbrev pub ReplyToBytes : Account → ℕ → Reply → Type 0
@@ -97,4 +97,4 @@ abbrev pub RepliesTo : Account → List Action → List Reply → Type 0
 RepliesTo a [] [] = Unit {0}
 RepliesTo a [] (reply ∷ replies) = ⊥
 RepliesTo a (action ∷ actions) [] = ⊥
-RepliesTo a (action ∷ actions) (reply ∷ replies) = ReplyTo a action reply × RepliesTo (after a action reply) actions replies
+RepliesTo a (action ∷ actions) (reply ∷ replies) = ReplyTo a action reply × RepliesTo (after_action a action reply) actions replies

@@ -14,7 +14,7 @@ use Rattle.dnw_write_script.specs.declared.script.Item.{Item}
 use Rattle.dnw_write_script.specs.declared.script.Reply.{Reply}
 use Rattle.dnw_write_script.specs.declared.script.Reply.TheVariants.{Done, Refused, NoPlace, Items}
 use Rattle.dnw_write_script.specs.Script.{Action, write, set_max, set_encoding, set_canonical, reserve, fill, write_record, write_items, EmitsPart, EmitsScriptItem}
-use Rattle.dnw_write_script.specs.Pieces.{Account, after, opening}
+use Rattle.dnw_write_script.specs.Pieces.{Account, after_action, opening}
 use Rattle.dnw_write_script.specs.Replies.{open_place}
 
 -- the reply to a write, with the length of the buffer after it
@@ -55,7 +55,7 @@ abbrev pub Runs : Account → Encoder → List Action → List Reply → Encoder
 Runs a v [] [] w = w ≡ v
 Runs a v [] (reply ∷ replies) w = ⊥
 Runs a v (action ∷ actions) [] w = ⊥
-Runs a v (action ∷ actions) (reply ∷ replies) w = (m : Encoder) × RunsStep a v action reply m × Runs (after a action reply) m actions replies w
+Runs a v (action ∷ actions) (reply ∷ replies) w = (m : Encoder) × RunsStep a v action reply m × Runs (after_action a action reply) m actions replies w
 
 -- the encoder that a run begins with, at the end of the buffer
 abbrev pub beginning : List ℕ → ℕ → ℕ → Encoder

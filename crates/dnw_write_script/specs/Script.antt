@@ -59,13 +59,13 @@ EmitsParts (part ∷ parts) v (Err error) w =
     EmitsPart part v (Err error) w ⊎ ((m : Encoder) × EmitsPart part v (Ok tt) m × EmitsParts parts m (Err error) w)
 
 -- in an item's own mode if it has one, or the mode in force
-abbrev pub in_encoding : Option NameEncoding → Encoder → Encoder
-in_encoding own v = record v { encoding = unwrap_or own v.encoding }
+abbrev pub in_own_encoding : Option NameEncoding → Encoder → Encoder
+in_own_encoding own v = record v { encoding = unwrap_or own v.encoding }
 
 -- An item's parts are written in its mode, and the former mode put back.
 abbrev pub EmitsScriptItem : Emits Item
 EmitsScriptItem item v outcome w =
-    (u : Encoder) × EmitsParts item.parts.items (in_encoding item.encoding v) outcome u × (w ≡ record u { encoding = v.encoding })
+    (u : Encoder) × EmitsParts item.parts.items (in_own_encoding item.encoding v) outcome u × (w ≡ record u { encoding = v.encoding })
 
 -- ---- as parts of a message
 

@@ -8,7 +8,7 @@ use Rattle.std.proofs.lemmas.Bool.Decides.{leb_tells}
 use Rattle.std.proofs.Math.Seq.{get_or-append_seam, split_at}
 use Rattle.dnw_base.specs.Names.{labels_wire}
 use Rattle.dnw_write_suffixes.specs.Candidates.{Candidate, IsUsable, NoneUsable}
-use Rattle.dnw_write_suffixes.specs.Inside.Marks.{CannotBe, NoneBefore}
+use Rattle.dnw_write_suffixes.specs.Inside.TagTable.{CannotBe, NoneBefore}
 
 pub le_unless : (a b : ℕ) → (b < a → ⊥) → a ≤ b
 le_unless a b not = ⊎_elim (λ h. h.1) (λ h. absurd (not h.1)) (leb_tells a b)
@@ -41,9 +41,9 @@ none_usable {message} {labels} {cs} n all none = λ offset before after u.
 
 -- ---- the bytes of labels
 
-pub length-labels_wire : (l : List ℕ) (rest : List (List ℕ))
+pub length_labels_wire : (l : List ℕ) (rest : List (List ℕ))
     → length (labels_wire (l ∷ rest)) ≡ 1 + length l + length (labels_wire rest)
-length-labels_wire l rest = omega (arith, length-append l (labels_wire rest))
+length_labels_wire l rest = omega (arith, length-append l (labels_wire rest))
 
 pub not_nil : {X : Type 0} (xs ys : List X) (y : X) → xs ++ y ∷ ys ≢ []
 not_nil [] ys y e = absurd cc

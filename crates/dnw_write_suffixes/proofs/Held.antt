@@ -60,15 +60,15 @@ some_suffix start zero ls some bytes e = some refl
 some_suffix start (suc most) [] some bytes e = bytes refl
 some_suffix start (suc most) (l ∷ ls) some bytes e = absurd cc
 
-pub suffixes-next : (n start : ℕ) (l : List ℕ) (ls : List (List ℕ)) → 0 < n
+pub suffixes_next : (n start : ℕ) (l : List ℕ) (ls : List (List ℕ)) → 0 < n
     → take n (suffixes start (l ∷ ls)) ≡ (start, labels_wire (l ∷ ls)) ∷ take (n - 1) (suffixes (start + (1 + length l)) ls)
-suffixes-next zero start l ls some = absurd (omega arith)
-suffixes-next (suc n) start l ls some = grind arith
+suffixes_next zero start l ls some = absurd (omega arith)
+suffixes_next (suc n) start l ls some = grind arith
 
 -- the bytes of labels without the first one's
-pub rest-bytes : (bytes : List ℕ) (from : ℕ) (l : List ℕ) (ls : List (List ℕ)) → drop from bytes ≡ labels_wire (l ∷ ls)
+pub rest_bytes : (bytes : List ℕ) (from : ℕ) (l : List ℕ) (ls : List (List ℕ)) → drop from bytes ≡ labels_wire (l ∷ ls)
     → drop (from + (1 + length l)) bytes ≡ labels_wire ls
-rest-bytes bytes from l ls is =
+rest_bytes bytes from l ls is =
     sym (drop-drop (1 + length l) from bytes)
     ∙ (ap (drop (1 + length l)) is ∙ drop_at (length l ∷ l) (labels_wire ls) (1 + length l) (omega arith))
 

@@ -4,12 +4,12 @@ use Rattle.std.proofs.lemmas.List.{append-nil}
 use Rattle.dnw_base.specs.declared.error.DecodeError.{DecodeError}
 use Rattle.dnw_base.specs.Limits.{max_name}
 use Rattle.dnw_base.specs.Names.{encoded_size}
-use Rattle.dnw_base.proofs.Wires.{encoded_size-cons}
+use Rattle.dnw_base.proofs.Wires.{encoded_size_cons}
 use Rattle.dnw_name_read.specs.Reading.{NameAt, Reads, Stops, target, zero_octet, label, pointer}
 use Rattle.dnw_name_read.specs.Inside.Walking.{IsLabelAt, IsPointerAt}
-use Rattle.dnw_name_read.proofs.Stand.{Reads-limited, Reads-wider}
-use Rattle.dnw_name_read.proofs.Steps.{Reads-by, step-zero, step-label, step-pointer}
-use Rattle.dnw_name_read.proofs.Unique.{Reads-not-Stops}
+use Rattle.dnw_name_read.proofs.Stand.{Reads_limited, Reads_wider}
+use Rattle.dnw_name_read.proofs.Steps.{Reads_by, step_zero, step_label, step_pointer}
+use Rattle.dnw_name_read.proofs.Unique.{Reads_not_Stops}
 
 -- a name with these labels is at p
 abbrev pub HasLabels : List ℕ → ℕ → List (List ℕ) → Type 0
@@ -27,15 +27,15 @@ pub record GoesAlong (b : List ℕ) (start p s limit : ℕ) (all ls : List (List
   pub agrees : HasLabels b start all ↔ ReadsOn b p s limit ls
 
 -- at the start the limit is the end of the message
-pub along-start : (b : List ℕ) (start : ℕ) (all : List (List ℕ)) → encoded_size all ≤ max_name
+pub along_start : (b : List ℕ) (start : ℕ) (all : List (List ℕ)) → encoded_size all ≤ max_name
     → GoesAlong b start start start (length b) all all
-along-start b start all fits = record {
+along_start b start all fits = record {
   inside = omega arith;
   order = omega arith;
   fits = fits;
   agrees = (
-    λ (e, k, n). (e, k, rw append-nil at (Reads-limited [] n.reads)),
-    λ (e, k, r). (e, k, record { reads = Reads-wider start None (omega arith) tt r; fits = fits }),
+    λ (e, k, n). (e, k, rw append-nil at (Reads_limited [] n.reads)),
+    λ (e, k, r). (e, k, record { reads = Reads_wider start None (omega arith) tt r; fits = fits }),
   );
 }
 
@@ -45,12 +45,12 @@ module _ {b : List ℕ} {start p s limit : ℕ} {all ls : List (List ℕ)} (h : 
       → HasLabels b start all → ⊥
   along-stops stops has =
       let (e, k, r) = h.agrees.0 has in
-      Reads-not-Stops r (let fits = h.fits in omega arith) stops
+      Reads_not_Stops r (let fits = h.fits in omega arith) stops
 
   -- the name ends here
   pub along-end : p < limit → slice_get b p ≡ Some 0 → HasLabels b start all ↔ (ls ≡ [])
   along-end before g = (
-    λ has. let (e, k, r) = h.agrees.0 has in (Reads-by (step-zero b p s (Some limit) before g) r).0,
+    λ has. let (e, k, r) = h.agrees.0 has in (Reads_by (step_zero b p s (Some limit) before g) r).0,
     λ none. h.agrees.1 (p + 1, 0, rw none (zero_octet before g)),
   )
 
@@ -60,11 +60,11 @@ module _ {b : List ℕ} {start p s limit : ℕ} {all ls : List (List ℕ)} (h : 
   along-label before c l rest is = record {
     inside = h.inside;
     order = (let order = h.order in omega arith);
-    fits = (let fits = h.fits in omega (arith, encoded_size-cons (slice_range b (p + 1) (p + 1 + c)) rest, ap encoded_size is));
+    fits = (let fits = h.fits in omega (arith, encoded_size_cons (slice_range b (p + 1) (p + 1 + c)) rest, ap encoded_size is));
     agrees = (
       λ has.
           let (e, k, r) = h.agrees.0 has in
-          let (others, whole, more) = Reads-by (step-label b p s (Some limit) c before l.octet l.some l.few l.there) r in
+          let (others, whole, more) = Reads_by (step_label b p s (Some limit) c before l.octet l.some l.few l.there) r in
           let same : others ≡ rest = cc in
           (e, k, rw same at more),
       λ (e, k, r). h.agrees.1 (e, k, rw is (label c before l.octet l.some l.few l.there r)),
@@ -82,8 +82,8 @@ module _ {b : List ℕ} {start p s limit : ℕ} {all ls : List (List ℕ)} (h : 
         agrees = (
           λ has.
               let (e, k, r) = h.agrees.0 has in
-              let jumps = step-pointer b p s (Some limit) at.high at.low before at.first at.marked at.second prior in
-              let (end, followed, e_is, k_is, more) = Reads-by jumps r in
+              let jumps = step_pointer b p s (Some limit) at.high at.low before at.first at.marked at.second prior in
+              let (end, followed, e_is, k_is, more) = Reads_by jumps r in
               (end, followed, rw at.leads more),
           λ (e, k, r). h.agrees.1
               (p + 2, suc k, pointer at.high at.low before at.first at.marked at.second prior (rw at.leads at r)),

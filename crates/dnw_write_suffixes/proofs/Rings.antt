@@ -4,7 +4,7 @@ use Rattle.std.proofs.lemmas.List.{get_or-take, get_or_default, get_or-set_same,
 use Rattle.std.proofs.lemmas.Bool.Decides.{leb_tells, eqb_tells}
 use Rattle.dnw_base.specs.Names.{labels_wire}
 use Rattle.dnw_write_suffixes.specs.Candidates.{Candidate}
-use Rattle.dnw_write_suffixes.specs.Inside.Marks.{AreRinged, AreTagged, FindsNext, IsRing, NoneBefore, place, tag_at}
+use Rattle.dnw_write_suffixes.specs.Inside.TagTable.{AreRinged, AreTagged, FindsNext, IsRing, NoneBefore, place, tag_at}
 
 -- ---- no candidate
 

@@ -1,4 +1,4 @@
 -- What no public clause cites: how candidates are kept and found.
 pub mod Links
-pub mod Marks
+pub mod TagTable
 pub mod Store

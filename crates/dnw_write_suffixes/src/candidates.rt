@@ -3,20 +3,20 @@ ghost use Rattle.std.specs.Prelude.{◌≡◌, ◌≢◌, ℕ, ◌+◌, ◌<◌,
 ghost use Rattle.dnw_base.specs.Limits.{max_message, pointer_reach};
 ghost use Rattle.dnw_write_suffixes.specs.Candidates.{Finds, FindsUsable, IsFirstUsable, candidates_before, suffixes};
 ghost use Rattle.dnw_write_suffixes.specs.Inside.Links.{AreChained};
-ghost use Rattle.dnw_write_suffixes.specs.Inside.Marks.{NoneBefore};
+ghost use Rattle.dnw_write_suffixes.specs.Inside.TagTable.{NoneBefore};
 ghost use Rattle.dnw_base.specs.Names.{labels_wire};
 ghost use Rattle.dnw_name_read.specs.Reading.{NameAt};
 
 use crate::links::{Links, wide_tag};
-use crate::marks::{Marks, tag};
 use crate::octets::are_same;
 use crate::store::{Store, labels_bytes};
+use crate::tag_table::{TagTable, tag};
 use crate::usable::stands_at;
 use dnw_name_form::wire_labels::WireLabels;
 use std::alloc::{AllocError, Global};
 use std::marker::Model;
 
-/// How many candidates are few: these have marks. If there are more, all have links, too.
+/// How many candidates are few: these have tags. If there are more, all have links, too.
 const FEW: usize = 255;
 
 /// Returns `true` if the bytes are equal.
@@ -100,7 +100,7 @@ fn find_linked(held: &Store, links: &Links, message: &[u8], labels: WireLabels<'
 #[derive(Drop)]
 pub struct Candidates {
     held: Store,
-    marks: Marks,
+    tag_table: TagTable,
     links: Links,
 }
 
@@ -112,7 +112,7 @@ impl Model for Candidates {
 
     ghost view = { λ c. c.held };
 
-    ghost invariant = { λ c. AreIndexed c.marks.last c.marks.next c.marks.count c.links.last.items c.links.next.items c.links.count c.held };
+    ghost invariant = { λ c. AreIndexed c.tag_table.last c.tag_table.next c.tag_table.count c.links.last.items c.links.next.items c.links.count c.held };
 }
 
 impl Candidates {
@@ -122,7 +122,7 @@ impl Candidates {
     {
         Candidates {
             held: Store::new(alloc),
-            marks: Marks::new(),
+            tag_table: TagTable::new(),
             links: Links::new(alloc),
         }
     }
@@ -167,14 +167,14 @@ impl Candidates {
     {
         let bytes = labels_bytes(&labels);
         let tag = tag(bytes);
-        let mut next = self.marks.first(tag);
+        let mut next = self.tag_table.first(tag);
         'search: while let Some(index) = next {
             if let Some(start) = usable_at(&self.held, index, message, bytes, labels.clone()) {
                 return Some(start);
             }
-            next = self.marks.after(tag, index);
+            next = self.tag_table.after(tag, index);
         }
-        if self.marks.len() < self.held.len() {
+        if self.tag_table.len() < self.held.len() {
             return self.find_among_many(message, labels);
         }
         None
@@ -254,13 +254,13 @@ impl Candidates {
         Ok(())
     }
 
-    /// Links the candidates that have no marks yet, so that the next search passes over most of them. They are not linked
+    /// Links the candidates that have no tags yet, so that the next search passes over most of them. They are not linked
     /// as they are added, since no search may follow. A search finds the same candidate without it, only later.
     #[inline(always)]
     pub fn link(&mut self)
         ensures { self.new ≡ self.old }
     {
-        self.marks.add_all(&self.held);
+        self.tag_table.add_all(&self.held);
     }
 
     /// Keeps the first `len` candidates.
@@ -268,7 +268,7 @@ impl Candidates {
         ensures { self.new ≡ take len self.old }
     {
         self.held.truncate(len);
-        self.marks = Marks::new();
+        self.tag_table = TagTable::new();
         self.links.add_anew(&self.held);
     }
 
@@ -292,7 +292,7 @@ impl Candidates {
         let held = self.held.len();
         self.held.retain_before(offset);
         if self.held.len() < held {
-            self.marks = Marks::new();
+            self.tag_table = TagTable::new();
             self.links.add_anew(&self.held);
         }
     }

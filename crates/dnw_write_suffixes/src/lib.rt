@@ -7,7 +7,7 @@
 
 pub mod candidates;
 mod links;
-mod marks;
 mod octets;
 mod store;
+mod tag_table;
 pub mod usable;

@@ -1,11 +1,11 @@
 //! Links, by which a search passes over almost all of many candidates.
 ghost use Rattle.std.specs.Prelude.{◌≡◌, ℕ, ◌+◌, ◌*◌, ◌^◌, ◌<◌, ◌≤◌, min, List, length, IfOk};
 ghost use Rattle.std.specs.List.{All};
-ghost use Rattle.dnw_write_suffixes.specs.Inside.Marks.{AreRinged, FindsNext};
+ghost use Rattle.dnw_write_suffixes.specs.Inside.TagTable.{AreRinged, FindsNext};
 ghost use Rattle.dnw_write_suffixes.specs.Inside.Links.{AreChained, few, mix, stir, wide_tag};
 
-use crate::marks::octet_at;
 use crate::store::Store;
+use crate::tag_table::octet_at;
 use dnw_name_form::fours::four;
 use std::alloc::{AllocError, Global};
 

@@ -10,32 +10,32 @@ abbrev pub Within : ℕ → List ℕ → Type 0
 Within least [] = Unit {0}
 Within least (code ∷ codes) = (least ≤ code) × (code < 65536) × Within (code + 1) codes
 
-pub within-less : (low high : ℕ) (codes : List ℕ) → low ≤ high → Within high codes → Within low codes
-within-less low high [] le h = tt
-within-less low high (code ∷ codes) le h = (omega (arith, le, h.0), h.1, h.2)
+pub within_less : (low high : ℕ) (codes : List ℕ) → low ≤ high → Within high codes → Within low codes
+within_less low high [] le h = tt
+within_less low high (code ∷ codes) le h = (omega (arith, le, h.0), h.1, h.2)
 
-pub bit-within : (first octet bit : ℕ) (rest : List ℕ) → bit < 8 → first + 8 ≤ 65536 → Within (first + suc bit) rest
+pub bit_within : (first octet bit : ℕ) (rest : List ℕ) → bit < 8 → first + 8 ≤ 65536 → Within (first + suc bit) rest
     → Within (first + bit) (bit_codes first octet bit ++ rest)
-bit-within first octet bit rest below few h = elim (cases_Bool (bit_at octet (7 - bit) == 1)) [
-  | inl set ↦ rw set (omega arith, omega (arith, below, few), within-less (first + bit + 1) (first + suc bit) rest (omega arith) h)
-  | inr unset ↦ rw unset (within-less (first + bit) (first + suc bit) rest (omega arith) h)
+bit_within first octet bit rest below few h = elim (cases_Bool (bit_at octet (7 - bit) == 1)) [
+  | inl set ↦ rw set (omega arith, omega (arith, below, few), within_less (first + bit + 1) (first + suc bit) rest (omega arith) h)
+  | inr unset ↦ rw unset (within_less (first + bit) (first + suc bit) rest (omega arith) h)
 ]
 
 eight : (a b c d e f g h rest : List ℕ) → (a ++ (b ++ (c ++ (d ++ (e ++ (f ++ (g ++ (h ++ [])))))))) ++ rest ≡ a ++ (b ++ (c ++ (d ++ (e ++ (f ++ (g ++ (h ++ rest)))))))
 eight a b c d e f g h rest = simp (append_assoc, append-nil)
 
-octet-within : (first octet : ℕ) (rest : List ℕ) → first + 8 ≤ 65536 → Within (first + 8) rest → Within first (octet_codes first octet ++ rest)
-octet-within first octet rest few h =
+octet_within : (first octet : ℕ) (rest : List ℕ) → first + 8 ≤ 65536 → Within (first + 8) rest → Within first (octet_codes first octet ++ rest)
+octet_within first octet rest few h =
     let f : ℕ → List ℕ = bit_codes first octet in
     let one : (bit : ℕ) (xs : List ℕ) → bit < 8 → Within (first + suc bit) xs → Within (first + bit) (f bit ++ xs) =
-    λ bit xs below w. bit-within first octet bit xs below few w in
+    λ bit xs below w. bit_within first octet bit xs below few w in
     let all = one 0 _ (omega arith) (one 1 _ (omega arith) (one 2 _ (omega arith) (one 3 _ (omega arith) (one 4 _ (omega arith) (one 5 _ (omega arith) (one 6 _ (omega arith) (one 7 rest (omega arith) h))))))) in
-    subst (Within first) (sym (eight (f 0) (f 1) (f 2) (f 3) (f 4) (f 5) (f 6) (f 7) rest)) (within-less first (first + 0) _ (omega arith) all)
+    subst (Within first) (sym (eight (f 0) (f 1) (f 2) (f 3) (f 4) (f 5) (f 6) (f 7) rest)) (within_less first (first + 0) _ (omega arith) all)
 
-pub octets-within : (first : ℕ) (octets rest : List ℕ) → first + 8 * length octets ≤ 65536 → Within (first + 8 * length octets) rest
+pub octets_within : (first : ℕ) (octets rest : List ℕ) → first + 8 * length octets ≤ 65536 → Within (first + 8 * length octets) rest
     → Within first (octets_codes first octets ++ rest)
-octets-within first [] rest few h = within-less first (first + 8 * 0) rest (omega arith) h
-octets-within first (o ∷ octets) rest few h =
-    let on = octets-within (first + 8) octets rest (omega (arith, few)) (within-less (first + 8 + 8 * length octets) (first + 8 * suc (length octets)) rest (omega arith) h) in
+octets_within first [] rest few h = within_less first (first + 8 * 0) rest (omega arith) h
+octets_within first (o ∷ octets) rest few h =
+    let on = octets_within (first + 8) octets rest (omega (arith, few)) (within_less (first + 8 + 8 * length octets) (first + 8 * suc (length octets)) rest (omega arith) h) in
     subst (Within first) (sym (append_assoc (octet_codes first o) (octets_codes (first + 8) octets) rest))
-    (octet-within first o (octets_codes (first + 8) octets ++ rest) (omega (arith, few)) on)
+    (octet_within first o (octets_codes (first + 8) octets ++ rest) (omega (arith, few)) on)

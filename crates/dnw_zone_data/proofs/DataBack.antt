@@ -10,22 +10,22 @@ use Rattle.dnw_name_read.specs.ReadingLaws.{AreBytes}
 use Rattle.dnw_data.specs.declared.kind.Kind.{Kind}
 use Rattle.dnw_data.specs.Table.{Row, fields_of, table}
 use Rattle.dnw_data.specs.Values.{FieldValue}
-use Rattle.dnw_data.proofs.Taking.{moves-on}
+use Rattle.dnw_data.proofs.Taking.{moves_on}
 use Rattle.dnw_record.specs.Records.{RecordValue}
 use Rattle.dnw_record.specs.RecordFields.{record_fields}
 use Rattle.dnw_zone_values.specs.Octets.{IsOctets}
-use Rattle.dnw_zone_svcb.proofs.ParamTextsBack.{drop-fit, take-fit}
+use Rattle.dnw_zone_svcb.proofs.ParamTextsBack.{drop_fit, take_fit}
 use Rattle.dnw_data.specs.FieldWires.{field_wire}
 use Rattle.dnw_zone_data.specs.Words.{is_end, word, after_spaces}
-use Rattle.dnw_zone_data.specs.Generic.{mark, IsGeneric}
+use Rattle.dnw_zone_data.specs.Generic.{generic_mark, IsGeneric}
 use Rattle.dnw_base.specs.Limits.{max_data}
 use Rattle.dnw_zone_data.specs.Parsing.{takes_all, AreFieldTexts}
 use Rattle.dnw_zone_data.specs.Printing.{Prints, PrintsFields}
 use Rattle.dnw_zone_data.specs.DataTexts.{without_space, AreWire, IsOwnText, IsPlainData, IsTextOf}
-use Rattle.dnw_zone_data.specs.DataTextLaws.{DataComeBack, FieldComesBack, Follows}
-use Rattle.dnw_zone_data.proofs.FieldValues.{both-fit, field-back, wire-fit}
+use Rattle.dnw_zone_data.specs.DataTextLaws.{DataComeBack, FieldComesBack, FollowsField}
+use Rattle.dnw_zone_data.proofs.FieldValues.{both_fit, field_back, wire_fit}
 use Rattle.dnw_zone_data.proofs.GenericText.{generic}
-use Rattle.dnw_zone_data.proofs.Items.{end-append}
+use Rattle.dnw_zone_data.proofs.Items.{end_append}
 
 -- ---- the table
 
@@ -42,108 +42,108 @@ found test passes (row ∷ rows) other all is =
     let parts = and_parts (passes row) (list_all passes rows) all in
     elim (cases_Bool (test row)) [ inl here ↦ rw here parts.0 | inr there ↦ rw there (found test passes rows other parts.1 is) ]
 
-in-turn : (code : ℕ) → are_in_turn (fields_of code) ≡ true
+in_turn : (code : ℕ) → are_in_turn (fields_of code) ≡ true
 unfolding fields_of
-in-turn code = found (λ row. row.code == code) (λ row. are_in_turn row.fields) table _ refl refl
+in_turn code = found (λ row. row.code == code) (λ row. are_in_turn row.fields) table _ refl refl
 
 -- nothing is printed after a field that takes all words
-turn-ends : (kind : Kind) (kinds : List Kind) (d : Decoder) (text : List ℕ) → are_in_turn (kind ∷ kinds) ≡ true → takes_all kind ≡ true
+turn_ends : (kind : Kind) (kinds : List Kind) (d : Decoder) (text : List ℕ) → are_in_turn (kind ∷ kinds) ≡ true → takes_all kind ≡ true
     → PrintsFields kinds d text → text ≡ []
-turn-ends kind [] d text turn all print = print.1
-turn-ends kind (next ∷ kinds) d text turn all print = let no = rw all at turn in absurd cc
+turn_ends kind [] d text turn all print = print.1
+turn_ends kind (next ∷ kinds) d text turn all print = let no = rw all at turn in absurd cc
 
-turn-rest : (kind : Kind) (kinds : List Kind) → are_in_turn (kind ∷ kinds) ≡ true → are_in_turn kinds ≡ true
-turn-rest kind [] turn = refl
-turn-rest kind (next ∷ kinds) turn = (and_parts (not (takes_all kind)) (are_in_turn (next ∷ kinds)) turn).1
+turn_rest : (kind : Kind) (kinds : List Kind) → are_in_turn (kind ∷ kinds) ≡ true → are_in_turn kinds ≡ true
+turn_rest kind [] turn = refl
+turn_rest kind (next ∷ kinds) turn = (and_parts (not (takes_all kind)) (are_in_turn (next ∷ kinds)) turn).1
 
 -- ---- fields
 
 -- a text is these fields, whatever the origin
 record AreBack (kinds : List Kind) (text : List ℕ) (values : List FieldValue) : Type 0 where
   reads : (origin : Option NameValue) → AreFieldTexts origin kinds text values
-  other : word (after_spaces text) ≢ mark
+  other : word (after_spaces text) ≢ generic_mark
   begins : is_end text ≡ true
 
-one-back : (kind : Kind) (kinds : List Kind) (after : Decoder) (value : FieldValue) (own others : List ℕ) (values : List FieldValue)
+one_back : (kind : Kind) (kinds : List Kind) (after : Decoder) (value : FieldValue) (own others : List ℕ) (values : List FieldValue)
     → are_in_turn (kind ∷ kinds) ≡ true → FieldComesBack kind value → Prints kind value own → PrintsFields kinds after others → AreBack kinds others values
     → AreBack (kind ∷ kinds) (own ++ others) (value ∷ values)
-one-back kind kinds after value own others values turn back print prints rest =
-    let follows : Follows kind others = (λ all. turn-ends kind kinds after others turn all prints, rest.begins) in
+one_back kind kinds after value own others values turn back print prints rest =
+    let follows : FollowsField kind others = (λ all. turn_ends kind kinds after others turn all prints, rest.begins) in
     let first = back None own others print follows in
     record {
       reads = λ origin. (others, (back origin own others print follows).0, rest.reads origin);
       other = first.1;
-      begins = end-append own others first.2 rest.begins;
+      begins = end_append own others first.2 rest.begins;
     }
 
-fields-back : (kinds : List Kind) (d : Decoder) (text : List ℕ) → are_in_turn kinds ≡ true → AreBytes d.bytes → PrintsFields kinds d text
+fields_back : (kinds : List Kind) (d : Decoder) (text : List ℕ) → are_in_turn kinds ≡ true → AreBytes d.bytes → PrintsFields kinds d text
     → (values : List FieldValue) × AreWire kinds d (flat_map field_wire values) × (length (flat_map field_wire values) ≤ max_data → AreBack kinds text values)
-fields-back [] d text turn h (end, none) = ([], (end, refl), λ few. rw none (record { reads = λ origin. refl; other = λ e. cc; begins = refl }))
-fields-back (kind ∷ kinds) d text turn h (value, after, own, others, takes, print, prints, e) =
-    let same = (moves-on kind d after value takes).1 in
+fields_back [] d text turn h (end, none) = ([], (end, refl), λ few. rw none (record { reads = λ origin. refl; other = λ e. cc; begins = refl }))
+fields_back (kind ∷ kinds) d text turn h (value, after, own, others, takes, print, prints, e) =
+    let same = (moves_on kind d after value takes).1 in
     let bytes : AreBytes after.bytes = subst AreBytes (sym same) h in
-    let (values, wire, rest) = fields-back kinds after others (turn-rest kind kinds turn) bytes prints in
+    let (values, wire, rest) = fields_back kinds after others (turn_rest kind kinds turn) bytes prints in
     let size = length-append (field_wire value) (flat_map field_wire values) in (
       value ∷ values,
       (value, after, flat_map field_wire values, takes, wire, refl),
       λ few. subst (λ (t : List ℕ). AreBack (kind ∷ kinds) t (value ∷ values)) (sym e)
-          (one-back kind kinds after value own others values turn (field-back kind d value after h takes (omega (arith, few, size))) print prints (rest (omega (arith, few, size)))),
+          (one_back kind kinds after value own others values turn (field_back kind d value after h takes (omega (arith, few, size))) print prints (rest (omega (arith, few, size)))),
     )
 
 -- the space before the first field is no part of it
-no-space : (text : List ℕ) → after_spaces (without_space text) ≡ after_spaces text
-no-space [] = refl
-no-space (c ∷ text) = elim (cases_Bool (c == 32)) [
+no_space : (text : List ℕ) → after_spaces (without_space text) ≡ after_spaces text
+no_space [] = refl
+no_space (c ∷ text) = elim (cases_Bool (c == 32)) [
   | inl space ↦ rw space refl
   | inr other ↦ let kept : without_space (c ∷ text) ≡ c ∷ text = rw other refl in ap after_spaces kept
 ]
 
-pub same-start : (origin : Option NameValue) (kinds : List Kind) (text start : List ℕ) (values : List FieldValue) → after_spaces start ≡ after_spaces text
+pub same_start : (origin : Option NameValue) (kinds : List Kind) (text start : List ℕ) (values : List FieldValue) → after_spaces start ≡ after_spaces text
     → AreFieldTexts origin kinds text values → AreFieldTexts origin kinds start values
-same-start origin [] text start [] e are = e ∙ are
-same-start origin [] text start (v ∷ values) e are = are
-same-start origin (kind ∷ kinds) text start [] e are = are
-same-start origin (kind ∷ kinds) text start (v ∷ values) e are = rw e are
+same_start origin [] text start [] e are = e ∙ are
+same_start origin [] text start (v ∷ values) e are = are
+same_start origin (kind ∷ kinds) text start [] e are = are
+same_start origin (kind ∷ kinds) text start (v ∷ values) e are = rw e are
 
 -- ---- data
 
-own-back : (origin : Option NameValue) (r : RecordValue) (text : List ℕ) → AreBytes r.message → IsOwnText (record_fields r) text
+own_back : (origin : Option NameValue) (r : RecordValue) (text : List ℕ) → AreBytes r.message → IsOwnText (record_fields r) text
     → (own : List ℕ) × IsPlainData r own
     × ((max_data < length own) ⊎ IsGeneric text own ⊎ IsTextOf origin (fields_of (type_code r.record_type)) text own)
-own-back origin r text h (form, printed, prints, e) =
+own_back origin r text h (form, printed, prints, e) =
     let kinds = fields_of (type_code r.record_type) in
     let d = (record_fields r).reader in
-    let bytes : AreBytes d.bytes = take-fit (r.start + r.len - 0) r.message h in
-    let (values, wire, back) = fields-back kinds d printed (in-turn (type_code r.record_type)) bytes prints in
+    let bytes : AreBytes d.bytes = take_fit (r.start + r.len - 0) r.message h in
+    let (values, wire, back) = fields_back kinds d printed (in_turn (type_code r.record_type)) bytes prints in
     let own = flat_map field_wire values in
-    let start : after_spaces text ≡ after_spaces printed = ap after_spaces e ∙ no-space printed in (
+    let start : after_spaces text ≡ after_spaces printed = ap after_spaces e ∙ no_space printed in (
       own,
       inl wire,
       elim (cases_lt max_data (length own)) [
         | inl many ↦ inl many
         | inr few ↦
             let are = back few in
-            inr (inr (inr (λ same. are.other (ap word (sym start) ∙ same), form, values, same-start origin kinds printed text values start (are.reads origin), refl)))
+            inr (inr (inr (λ same. are.other (ap word (sym start) ∙ same), form, values, same_start origin kinds printed text values start (are.reads origin), refl)))
       ],
     )
 
-plain-fit : (kinds : List Kind) (d : Decoder) (own : List ℕ) → AreBytes d.bytes → AreWire kinds d own → IsOctets own
-plain-fit [] d own h (end, none) = rw none (λ i. omega arith)
-plain-fit (kind ∷ kinds) d own h (value, after, others, takes, wire, e) =
-    let bytes : AreBytes after.bytes = subst AreBytes (sym (moves-on kind d after value takes).1) h in
-    rw e (both-fit (field_wire value) others (wire-fit kind d value after h takes) (plain-fit kinds after others bytes wire))
+plain_fit : (kinds : List Kind) (d : Decoder) (own : List ℕ) → AreBytes d.bytes → AreWire kinds d own → IsOctets own
+plain_fit [] d own h (end, none) = rw none (λ i. omega arith)
+plain_fit (kind ∷ kinds) d own h (value, after, others, takes, wire, e) =
+    let bytes : AreBytes after.bytes = subst AreBytes (sym (moves_on kind d after value takes).1) h in
+    rw e (both_fit (field_wire value) others (wire_fit kind d value after h takes) (plain_fit kinds after others bytes wire))
 
-pub data-fit : (r : RecordValue) (own : List ℕ) → AreBytes r.message → IsPlainData r own → IsOctets own
-data-fit r own h (inl wire) = plain-fit (record_fields r).kinds (record_fields r).reader own (take-fit (r.start + r.len - 0) r.message h) wire
-data-fit r own h (inr (none, e)) = rw e (take-fit (r.start + r.len - r.start) (drop r.start r.message) (drop-fit r.start r.message h))
+pub data_fit : (r : RecordValue) (own : List ℕ) → AreBytes r.message → IsPlainData r own → IsOctets own
+data_fit r own h (inl wire) = plain_fit (record_fields r).kinds (record_fields r).reader own (take_fit (r.start + r.len - 0) r.message h) wire
+data_fit r own h (inr (none, e)) = rw e (take_fit (r.start + r.len - r.start) (drop r.start r.message) (drop_fit r.start r.message h))
 
 pub back : DataComeBack
-back origin r text h (inl is) = own-back origin r text h is
+back origin r text h (inl is) = own_back origin r text h is
 back origin r text h (inr (lacks, own, plain, e)) = (
   own,
   plain,
   elim (cases_lt max_data (length own)) [
     | inl many ↦ inl many
-    | inr few ↦ inr (inl (rw e (generic own (data-fit r own h plain, few)).0))
+    | inr few ↦ inr (inl (rw e (generic own (data_fit r own h plain, few)).0))
   ],
 )

@@ -4,46 +4,46 @@ use Rattle.hex.proofs.HexLemmas.{length-encode_with}
 use Rattle.hex.specs.Hex.{upper_digits, decode_of}
 use Rattle.dnw_zone_values.specs.Octets.{IsOctets, hex_text}
 use Rattle.dnw_zone_values.proofs.ComeBack.{numbers, hexadecimal}
-use Rattle.dnw_zone_values.proofs.HexText.{hex_text-nil}
-use Rattle.dnw_zone_data.specs.Words.{is_end, after_spaces, after_word, joined}
-use Rattle.dnw_zone_data.specs.Generic.{hex_part, generic_text, AreOctets, IsSized, IsGeneric}
-use Rattle.dnw_zone_data.specs.DataTextLaws.{GenericComesBack, IsData}
-use Rattle.dnw_zone_data.proofs.Plain.{plain-starts, plain-word, plain-after, plain-joined, plain-utf8, decimal-plain, hex-plain}
+use Rattle.dnw_zone_values.proofs.HexText.{hex_text_nil}
+use Rattle.dnw_zone_data.specs.Words.{is_end, after_spaces, after_word, without_spaces}
+use Rattle.dnw_zone_data.specs.Generic.{hex_part, generic_text, AreHexWords, IsSized, IsGeneric}
+use Rattle.dnw_zone_data.specs.DataTextLaws.{GenericComesBack, IsDataOctets}
+use Rattle.dnw_zone_data.proofs.Plain.{plain_starts, plain_word, plain_after, plain_joined, plain_utf8, decimal_plain, hex_plain}
 
 -- octets in one way at most
-pub one-sized : (left a b : List ℕ) → IsSized left a → IsSized left b → a ≡ b
-one-sized left a b h k = let e : Ok a ≡ Ok b = sym h.2.1 ∙ k.2.1 in cc
+pub one_sized : (left a b : List ℕ) → IsSized left a → IsSized left b → a ≡ b
+one_sized left a b h k = let e : Ok a ≡ Ok b = sym h.2.1 ∙ k.2.1 in cc
 
-pub one-generic : (text a b : List ℕ) → IsGeneric text a → IsGeneric text b → a ≡ b
-one-generic text a b h k = one-sized (after_word (after_spaces text)) a b h.1 k.1
+pub one_generic : (text a b : List ℕ) → IsGeneric text a → IsGeneric text b → a ≡ b
+one_generic text a b h k = one_sized (after_word (after_spaces text)) a b h.1 k.1
 
 -- a number, and what is after it
-pub hex-words : (octets : List ℕ) → IsOctets octets → AreOctets (length octets) (after_spaces (hex_part octets)) octets
-hex-words [] h = (plain-utf8 [] refl, sym (ap decode_of hex_text-nil) ∙ (hexadecimal [] h).0, refl)
-hex-words (o ∷ octets) h =
+pub hex_words : (octets : List ℕ) → IsOctets octets → AreHexWords (length octets) (after_spaces (hex_part octets)) octets
+hex_words [] h = (plain_utf8 [] refl, sym (ap decode_of hex_text_nil) ∙ (hexadecimal [] h).0, refl)
+hex_words (o ∷ octets) h =
     let text = hex_text (o ∷ octets) in
-    let plain = hex-plain (o ∷ octets) h in
+    let plain = hex_plain (o ∷ octets) h in
     let some : 0 < length text = omega (arith, length-encode_with upper_digits (o ∷ octets)) in
-    let starts : after_spaces text ≡ text = ap after_spaces (sym (append-nil text)) ∙ plain-starts text [] plain some ∙ append-nil text in
-    let whole : joined (after_spaces text) ≡ text = ap joined starts ∙ plain-joined text plain in
-    rw whole (plain-utf8 text plain, (hexadecimal (o ∷ octets) h).0, refl)
+    let starts : after_spaces text ≡ text = ap after_spaces (sym (append-nil text)) ∙ plain_starts text [] plain some ∙ append-nil text in
+    let whole : without_spaces (after_spaces text) ≡ text = ap without_spaces starts ∙ plain_joined text plain in
+    rw whole (plain_utf8 text plain, (hexadecimal (o ∷ octets) h).0, refl)
 
-pub hex-end : (octets : List ℕ) → is_end (hex_part octets) ≡ true
-hex-end [] = refl
-hex-end (o ∷ octets) = refl
+pub hex_end : (octets : List ℕ) → is_end (hex_part octets) ≡ true
+hex_end [] = refl
+hex_end (o ∷ octets) = refl
 
-sized : (octets : List ℕ) → IsData octets → IsSized (32 ∷ decimal (length octets) ++ hex_part octets) octets
+sized : (octets : List ℕ) → IsDataOctets octets → IsSized (32 ∷ decimal (length octets) ++ hex_part octets) octets
 sized octets own =
     let n = length octets in
     let number = decimal n in
     let few : n < 2 ^ 64 = omega (arith, own.1) in
-    let plain = decimal-plain n few in
+    let plain = decimal_plain n few in
     let is = (numbers 65535 (omega arith) n own.1).0 in
-    let starts : after_spaces (number ++ hex_part octets) ≡ number ++ hex_part octets = plain-starts number (hex_part octets) plain is.0.0 in
-    rw (starts, plain-word number (hex_part octets) plain (hex-end octets), plain-after number (hex_part octets) plain (hex-end octets))
-    (n, (plain-utf8 number plain, is), hex-words octets own.0)
+    let starts : after_spaces (number ++ hex_part octets) ≡ number ++ hex_part octets = plain_starts number (hex_part octets) plain is.0.0 in
+    rw (starts, plain_word number (hex_part octets) plain (hex_end octets), plain_after number (hex_part octets) plain (hex_end octets))
+    (n, (plain_utf8 number plain, is), hex_words octets own.0)
 
 pub generic : GenericComesBack
 generic octets own =
     let spells : IsGeneric (generic_text octets) octets = (refl, sized octets own) in
-    (spells, λ other also. one-generic (generic_text octets) other octets also spells)
+    (spells, λ other also. one_generic (generic_text octets) other octets also spells)

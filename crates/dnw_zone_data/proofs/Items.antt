@@ -13,37 +13,37 @@ IsItemFirst n kind least left =
     (item_size kind left ≤ length left) × (may_come kind least (tag_of kind left) (count_of kind left) ≡ true)
     × (fault_within n kind (tag_of kind left + 1) (drop (item_size kind left) left) ≡ None)
 
-by-tests : (n least : ℕ) (kind : ListKind) (left : List ℕ) (short may : Bool) → nat_lt (length left) (item_size kind left) ≡ short
+by_tests : (n least : ℕ) (kind : ListKind) (left : List ℕ) (short may : Bool) → nat_lt (length left) (item_size kind left) ≡ short
     → may_come kind least (tag_of kind left) (count_of kind left) ≡ may
     → (if short then Some InsufficientBytes
     else if may then fault_within n kind (tag_of kind left + 1) (drop (item_size kind left) left) else Some (out_of_order kind)) ≡ None
     → IsItemFirst n kind least left
-by-tests n least kind left true may is come fine = absurd cc
-by-tests n least kind left false false is come fine = absurd cc
-by-tests n least kind left false true is come fine = (search (rules, tests), come, fine)
+by_tests n least kind left true may is come fine = absurd cc
+by_tests n least kind left false false is come fine = absurd cc
+by_tests n least kind left false true is come fine = (search (rules, tests), come, fine)
 
-pub item-first : (n least : ℕ) (kind : ListKind) (first : ℕ) (others : List ℕ) → fault_within (suc n) kind least (first ∷ others) ≡ None
+pub item_first : (n least : ℕ) (kind : ListKind) (first : ℕ) (others : List ℕ) → fault_within (suc n) kind least (first ∷ others) ≡ None
     → IsItemFirst n kind least (first ∷ others)
-item-first n least kind first others fine =
+item_first n least kind first others fine =
     let left = first ∷ others in
-    by-tests n least kind left (nat_lt (length left) (item_size kind left)) (may_come kind least (tag_of kind left) (count_of kind left)) refl refl fine
+    by_tests n least kind left (nat_lt (length left) (item_size kind left)) (may_come kind least (tag_of kind left) (count_of kind left)) refl refl fine
 
 -- what is found by its code has the code, and so has what is taken if nothing is found
-pub find-code : {A : Type 0} (code : A → ℕ) (n : ℕ) (xs : List A) (other : A) → code other ≡ n → code (unwrap_or (find (λ x. code x == n) xs) other) ≡ n
-find-code code n [] other is = is
-find-code code n (x ∷ xs) other is = elim (cases_Bool (code x == n)) [
+pub find_code : {A : Type 0} (code : A → ℕ) (n : ℕ) (xs : List A) (other : A) → code other ≡ n → code (unwrap_or (find (λ x. code x == n) xs) other) ≡ n
+find_code code n [] other is = is
+find_code code n (x ∷ xs) other is = elim (cases_Bool (code x == n)) [
   | inl here ↦ rw here (eqb-true (code x) n here)
-  | inr there ↦ rw there (find-code code n xs other is)
+  | inr there ↦ rw there (find_code code n xs other is)
 ]
 
 -- white space that is left out once is left out
-pub starts-twice : (text : List ℕ) → after_spaces (after_spaces text) ≡ after_spaces text
-starts-twice [] = refl
-starts-twice (c ∷ text) = elim (cases_Bool (is_space c)) [
-  | inl space ↦ rw space (starts-twice text)
+pub starts_twice : (text : List ℕ) → after_spaces (after_spaces text) ≡ after_spaces text
+starts_twice [] = refl
+starts_twice (c ∷ text) = elim (cases_Bool (is_space c)) [
+  | inl space ↦ rw space (starts_twice text)
   | inr other ↦ rw (other, other) refl
 ]
 
-pub end-append : (a b : List ℕ) → is_end a ≡ true → is_end b ≡ true → is_end (a ++ b) ≡ true
-end-append [] b h k = k
-end-append (c ∷ a) b h k = h
+pub end_append : (a b : List ℕ) → is_end a ≡ true → is_end b ≡ true → is_end (a ++ b) ≡ true
+end_append [] b h k = k
+end_append (c ∷ a) b h k = h

@@ -8,51 +8,51 @@ use Rattle.dnw_zone_data.specs.Words.{after_spaces, after_word}
 use Rattle.dnw_zone_data.specs.declared.error.DataTextError.{DataTextError}
 use Rattle.dnw_zone_data.specs.declared.error.DataTextError.TheVariants.{Memory}
 use Rattle.dnw_zone_data.specs.DataTexts.{ArePlain, FailsGeneric}
-use Rattle.dnw_zone_data.specs.Generic.{AreOctets, IsSized, FailsSized}
+use Rattle.dnw_zone_data.specs.Generic.{AreHexWords, IsSized, FailsSized}
 use Rattle.dnw_zone_data.specs.Parsing.{ReadsBy, AreFieldTexts, FailsFields, takes_all}
 use Rattle.dnw_zone_data.specs.DataTextLaws.{GenericIsParsed, TextsAreParsed}
-use Rattle.dnw_zone_data.proofs.GenericText.{one-sized}
+use Rattle.dnw_zone_data.proofs.GenericText.{one_sized}
 
-one-rest : (all : Bool) (origin : Option NameValue) (kind : Kind) (left r s : List ℕ) (v w : FieldValue) → ReadsBy all origin kind left v r → ReadsBy all origin kind left w s
+one_rest : (all : Bool) (origin : Option NameValue) (kind : Kind) (left r s : List ℕ) (v w : FieldValue) → ReadsBy all origin kind left v r → ReadsBy all origin kind left w s
     → r ≡ s
-one-rest true origin kind left r s v w h k = h.1 ∙ sym k.1
-one-rest false origin kind left r s v w h k = h.1 ∙ sym k.1
+one_rest true origin kind left r s v w h k = h.1 ∙ sym k.1
+one_rest false origin kind left r s v w h k = h.1 ∙ sym k.1
 
-no-fault : (origin : Option NameValue) (count len : ℕ) (kinds : List Kind) (left : List ℕ) (values : List FieldValue) (e : DataTextError)
+no_fault : (origin : Option NameValue) (count len : ℕ) (kinds : List Kind) (left : List ℕ) (values : List FieldValue) (e : DataTextError)
     → AreFieldTexts origin kinds left values → FailsFields origin count len kinds left e → ⊥
-no-fault origin count len [] left [] e are fails = fails.0 are
-no-fault origin count len [] left (v ∷ values) e are fails = are
-no-fault origin count len (kind ∷ kinds) left [] e are fails = are
-no-fault origin count len (kind ∷ kinds) left (v ∷ values) e (rest, reads, are) (inl none) = none.0 v rest reads
-no-fault origin count len (kind ∷ kinds) left (v ∷ values) e (rest, reads, are) (inr (w, other, also, fails)) =
-    let same = one-rest (takes_all kind) origin kind (after_spaces left) other rest w v also reads in
-    no-fault origin count len kinds rest values e are (subst (λ (xs : List ℕ). FailsFields origin count len kinds xs e) same fails)
+no_fault origin count len [] left [] e are fails = fails.0 are
+no_fault origin count len [] left (v ∷ values) e are fails = are
+no_fault origin count len (kind ∷ kinds) left [] e are fails = are
+no_fault origin count len (kind ∷ kinds) left (v ∷ values) e (rest, reads, are) (inl none) = none.0 v rest reads
+no_fault origin count len (kind ∷ kinds) left (v ∷ values) e (rest, reads, are) (inr (w, other, also, fails)) =
+    let same = one_rest (takes_all kind) origin kind (after_spaces left) other rest w v also reads in
+    no_fault origin count len kinds rest values e are (subst (λ (xs : List ℕ). FailsFields origin count len kinds xs e) same fails)
 
-sized-fails : (len : ℕ) (left own : List ℕ) (e : DataTextError) → IsSized left own → FailsSized len left e → e ≡ Memory
-sized-fails len left own e (n, size, are) (inl none) = absurd (none.0 n size)
-sized-fails len left own e (n, size, are) (inr (inl (m, also, none, is))) =
+sized_fails : (len : ℕ) (left own : List ℕ) (e : DataTextError) → IsSized left own → FailsSized len left e → e ≡ Memory
+sized_fails len left own e (n, size, are) (inl none) = absurd (none.0 n size)
+sized_fails len left own e (n, size, are) (inr (inl (m, also, none, is))) =
     let same : n ≡ m = sym size.1.1 ∙ also.1.1 in
-    absurd (none own (subst (λ (k : ℕ). AreOctets k (after_spaces (after_word (after_spaces left))) own) same are))
-sized-fails len left own e (n, size, are) (inr (inr memory)) = memory.3
+    absurd (none own (subst (λ (k : ℕ). AreHexWords k (after_spaces (after_word (after_spaces left))) own) same are))
+sized_fails len left own e (n, size, are) (inr (inr memory)) = memory.3
 
-generic-fails : (kinds : List Kind) (len : ℕ) (left own : List ℕ) (e : DataTextError) → IsSized left own → FailsGeneric kinds len left e
+generic_fails : (kinds : List Kind) (len : ℕ) (left own : List ℕ) (e : DataTextError) → IsSized left own → FailsGeneric kinds len left e
     → (e ≡ Memory) ⊎ (¬ (ArePlain kinds own))
-generic-fails kinds len left own e sized (inl fails) = inl (sized-fails len left own e sized fails)
-generic-fails kinds len left own e sized (inr (inl memory)) = inl memory
-generic-fails kinds len left own e sized (inr (inr (other, also, none, is))) =
-    inr (λ plain. none (subst (λ (xs : List ℕ). ArePlain kinds xs) (one-sized left own other sized also) plain))
+generic_fails kinds len left own e sized (inl fails) = inl (sized_fails len left own e sized fails)
+generic_fails kinds len left own e sized (inr (inl memory)) = inl memory
+generic_fails kinds len left own e sized (inr (inr (other, also, none, is))) =
+    inr (λ plain. none (subst (λ (xs : List ℕ). ArePlain kinds xs) (one_sized left own other sized also) plain))
 
-pub generic-parsed : GenericIsParsed
-generic-parsed origin kinds text own e (marked, sized) (inl fails) = generic-fails kinds (length text) (after_word (after_spaces text)) own e sized fails.1
-generic-parsed origin kinds text own e (marked, sized) (inr (inl fails)) = absurd (fails.0 marked)
-generic-parsed origin kinds text own e (marked, sized) (inr (inr fails)) = absurd (fails.0 marked)
+pub generic_parsed : GenericIsParsed
+generic_parsed origin kinds text own e (marked, sized) (inl fails) = generic_fails kinds (length text) (after_word (after_spaces text)) own e sized fails.1
+generic_parsed origin kinds text own e (marked, sized) (inr (inl fails)) = absurd (fails.0 marked)
+generic_parsed origin kinds text own e (marked, sized) (inr (inr fails)) = absurd (fails.0 marked)
 
 pub parsed : TextsAreParsed
-parsed origin kinds text own e (inl (generic, plain)) fails = elim (generic-parsed origin kinds text own e generic fails) [
+parsed origin kinds text own e (inl (generic, plain)) fails = elim (generic_parsed origin kinds text own e generic fails) [
   | inl memory ↦ memory
   | inr none ↦ absurd (none plain)
 ]
 parsed origin kinds text own e (inr (other, form, values, are, is)) (inl fails) = absurd (other fails.0)
 parsed origin kinds text own e (inr (other, form, values, are, is)) (inr (inl fails)) = let no : true ≡ false = sym form ∙ fails.1 in absurd cc
 parsed origin kinds text own e (inr (other, form, values, are, is)) (inr (inr (marked, has, inl memory))) = memory
-parsed origin kinds text own e (inr (other, form, values, are, is)) (inr (inr (marked, has, inr fails))) = absurd (no-fault origin _ _ kinds text values e are fails)
+parsed origin kinds text own e (inr (other, form, values, are, is)) (inr (inr (marked, has, inr fails))) = absurd (no_fault origin _ _ kinds text values e are fails)

@@ -5,31 +5,31 @@ use Rattle.std.specs.declared.alloc.AllocError.{AllocError}
 use Rattle.dnw_zone_svcb.specs.Params.{ParamValue, with_param, in_key_order}
 use Rattle.dnw_zone_svcb.specs.ParamTexts.{params_text}
 use Rattle.dnw_zone_svcb.specs.ParamWords.{IsParam}
-use Rattle.dnw_zone_svcb.specs.Inside.Steps.{Writes}
-use Rattle.dnw_zone_svcb.proofs.Steps.{one-word, one-sorted, not-sorted}
+use Rattle.dnw_zone_svcb.specs.Inside.Steps.{WritesValue}
+use Rattle.dnw_zone_svcb.proofs.Steps.{one_word, one_sorted, not_sorted}
 use Rattle.dnw_zone_data.specs.Words.{after_spaces, word, after_word}
 use Rattle.dnw_zone_data.specs.Appending.{Appended}
 use Rattle.dnw_zone_data.specs.ParamLists.{PrintsParams, AreParamWords}
 use Rattle.dnw_zone_data.specs.Inside.ParamSteps.{LeadToParams}
 
 -- what is printed, if anything
-pub writes-params : (own old new : List ℕ) (r : Result Bool AllocError) → IfOk r (Writes (params_text own) old new) → IfOk r (Appended (PrintsParams own) old new)
-writes-params own old new (Err e) h = h
-writes-params own old new (Ok true) h = h
-writes-params own old new (Ok false) h = (λ text is. let no : None ≡ Some text = sym h.0 ∙ is in cc, h.1)
+pub writes_params : (own old new : List ℕ) (r : Result Bool AllocError) → IfOk r (WritesValue (params_text own) old new) → IfOk r (Appended (PrintsParams own) old new)
+writes_params own old new (Err e) h = h
+writes_params own old new (Ok true) h = h
+writes_params own old new (Ok false) h = (λ text is. let no : None ≡ Some text = sym h.0 ∙ is in cc, h.1)
 
-pub params-more : (text : List ℕ) (done : List ParamValue) (left : List ℕ) (p : ParamValue) → LeadToParams text done left → left ≢ [] → IsParam (word left) p
+pub params_more : (text : List ℕ) (done : List ParamValue) (left : List ℕ) (p : ParamValue) → LeadToParams text done left → left ≢ [] → IsParam (word left) p
     → LeadToParams text (done ++ p ∷ []) (after_spaces (after_word left))
-params-more text [] left p h some is = (
+params_more text [] left p h some is = (
   subst (λ (xs : List ℕ). xs ≢ []) h some,
   subst (λ (xs : List ℕ). IsParam (word xs) p) h is,
   ap (λ (xs : List ℕ). after_spaces (after_word xs)) h,
 )
-params-more text (d ∷ done) left p h some is = (h.0, h.1, params-more (after_word (after_spaces text)) done left p h.2 some is)
+params_more text (d ∷ done) left p h some is = (h.0, h.1, params_more (after_word (after_spaces text)) done left p h.2 some is)
 
-pub params-end : (text : List ℕ) (done : List ParamValue) (left : List ℕ) → LeadToParams text done left → left ≡ [] → AreParamWords text done
-params-end text [] left h none = sym h ∙ none
-params-end text (d ∷ done) left h none = (h.0, h.1, params-end (after_word (after_spaces text)) done left h.2 none)
+pub params_end : (text : List ℕ) (done : List ParamValue) (left : List ℕ) → LeadToParams text done left → left ≡ [] → AreParamWords text done
+params_end text [] left h none = sym h ∙ none
+params_end text (d ∷ done) left h none = (h.0, h.1, params_end (after_word (after_spaces text)) done left h.2 none)
 
 -- the words of a text begin with those so far, and with the next
 begins : (text : List ℕ) (done listed : List ParamValue) (left : List ℕ) → LeadToParams text done left → left ≢ [] → AreParamWords text listed
@@ -39,19 +39,19 @@ begins text [] (p ∷ listed) left h some are = (p, listed, refl, subst (λ (xs 
 begins text (d ∷ done) [] left h some are = absurd (h.0 are)
 begins text (d ∷ done) (q ∷ listed) left h some are =
     let (p, rest, e, is) = begins (after_word (after_spaces text)) done listed left h.2 some are.2 in
-    let same : q ≡ d = one-word (word (after_spaces text)) q d are.1 h.1 in
+    let same : q ≡ d = one_word (word (after_spaces text)) q d are.1 h.1 in
     (p, rest, ap (λ (xs : List ParamValue). q ∷ xs) e ∙ ap (λ (x : ParamValue). x ∷ done ++ p ∷ rest) same, is)
 
-pub params-stop : (text : List ℕ) (done listed : List ParamValue) (left : List ℕ) → LeadToParams text done left → left ≢ []
+pub params_stop : (text : List ℕ) (done listed : List ParamValue) (left : List ℕ) → LeadToParams text done left → left ≢ []
     → ((p : ParamValue) → ¬ (IsParam (word left) p)) → AreParamWords text listed → ⊥
-params-stop text done listed left h some none are = let (p, rest, e, is) = begins text done listed left h some are in none p is
+params_stop text done listed left h some none are = let (p, rest, e, is) = begins text done listed left h some are in none p is
 
-pub params-twice : (text : List ℕ) (done listed own all : List ParamValue) (left : List ℕ) (p : ParamValue) → LeadToParams text done left → left ≢ [] → IsParam (word left) p
+pub params_twice : (text : List ℕ) (done listed own all : List ParamValue) (left : List ℕ) (p : ParamValue) → LeadToParams text done left → left ≢ [] → IsParam (word left) p
     → in_key_order [] done ≡ Some own → with_param p own ≡ None → AreParamWords text listed → ¬ (in_key_order [] listed ≡ Some all)
-params-twice text done listed own all left p h some is so_far none are all_sorted =
+params_twice text done listed own all left p h some is so_far none are all_sorted =
     let (q, rest, e, also) = begins text done listed left h some are in
-    let same : q ≡ p = one-word (word left) q p also is in
-    let first : in_key_order [] (done ++ q ∷ []) ≡ None = one-sorted done own q so_far ∙ ap (λ (x : ParamValue). with_param x own) same ∙ none in
-    let whole : in_key_order [] ((done ++ q ∷ []) ++ rest) ≡ None = not-sorted [] (done ++ q ∷ []) rest first in
+    let same : q ≡ p = one_word (word left) q p also is in
+    let first : in_key_order [] (done ++ q ∷ []) ≡ None = one_sorted done own q so_far ∙ ap (λ (x : ParamValue). with_param x own) same ∙ none in
+    let whole : in_key_order [] ((done ++ q ∷ []) ++ rest) ≡ None = not_sorted [] (done ++ q ∷ []) rest first in
     let no : None ≡ Some all = sym whole ∙ ap (in_key_order []) (append_assoc done (q ∷ []) rest ∙ sym e) ∙ all_sorted in
     cc

@@ -16,14 +16,14 @@ tail : (x y : ℕ) (xs ys : List ℕ) → x ∷ xs ≡ y ∷ ys → xs ≡ ys
 tail x y xs ys e = cc
 
 -- what is left after some of the strings are strings
-left-are : (done strings : List (List ℕ)) (left : List ℕ) → flat_map label_wire done ++ left ≡ flat_map label_wire strings
+left_are : (done strings : List (List ℕ)) (left : List ℕ) → flat_map label_wire done ++ left ≡ flat_map label_wire strings
     → (others : List (List ℕ)) × (left ≡ flat_map label_wire others)
-left-are [] strings left e = (strings, e)
-left-are (d ∷ done) [] left e = absurd cc
-left-are (d ∷ done) (s ∷ strings) left e =
+left_are [] strings left e = (strings, e)
+left_are (d ∷ done) [] left e = absurd cc
+left_are (d ∷ done) (s ∷ strings) left e =
     let whole : length d ∷ (d ++ (flat_map label_wire done ++ left)) ≡ length s ∷ (s ++ flat_map label_wire strings) =
     ap (λ (xs : List ℕ). length d ∷ xs) (sym (append_assoc d (flat_map label_wire done) left)) ∙ e in
-    left-are done strings left (cancel d s (flat_map label_wire done ++ left) (flat_map label_wire strings) (head _ _ _ _ whole) (tail _ _ _ _ whole))
+    left_are done strings left (cancel d s (flat_map label_wire done ++ left) (flat_map label_wire strings) (head _ _ _ _ whole) (tail _ _ _ _ whole))
 
 -- octets that end within a string are none
 short : (strings : List (List ℕ)) (len : ℕ) (rest : List ℕ) → length rest < len → len ∷ rest ≡ flat_map label_wire strings → ⊥
@@ -33,14 +33,14 @@ short (s ∷ strings) len rest few e =
     let own = ap length (tail _ _ _ _ e) in
     omega (arith, few, size, own, length-append s (flat_map label_wire strings))
 
-pub cut-short : (done strings : List (List ℕ)) (own rest : List ℕ) (len : ℕ) → own ≡ flat_map label_wire done ++ len ∷ rest → length rest < len
+pub cut_short : (done strings : List (List ℕ)) (own rest : List ℕ) (len : ℕ) → own ≡ flat_map label_wire done ++ len ∷ rest → length rest < len
     → own ≡ flat_map label_wire strings → ⊥
-cut-short done strings own rest len so_far few e =
-    let (others, left) = left-are done strings (len ∷ rest) (sym so_far ∙ e) in short others len rest few left
+cut_short done strings own rest len so_far few e =
+    let (others, left) = left_are done strings (len ∷ rest) (sym so_far ∙ e) in short others len rest few left
 
 -- one string more
-pub one-more : {X : Type 0} (f : X → List ℕ) (xs : List X) (x : X) (rest : List ℕ) → flat_map f (xs ++ x ∷ []) ++ rest ≡ flat_map f xs ++ (f x ++ rest)
-one-more f xs x rest =
+pub one_more : {X : Type 0} (f : X → List ℕ) (xs : List X) (x : X) (rest : List ℕ) → flat_map f (xs ++ x ∷ []) ++ rest ≡ flat_map f xs ++ (f x ++ rest)
+one_more f xs x rest =
     ap (λ (ys : List ℕ). ys ++ rest) (flat_map-append f xs (x ∷ []) ∙ ap (λ (ys : List ℕ). flat_map f xs ++ ys) (append-nil (f x)))
     ∙ append_assoc (flat_map f xs) (f x) rest
 
@@ -48,7 +48,7 @@ one-more f xs x rest =
 pub taken : (done : List (List ℕ)) (own left rest string after : List ℕ) (len : ℕ) → own ≡ flat_map label_wire done ++ left → left ≡ len ∷ rest
     → rest ≡ string ++ after → length string ≡ len → own ≡ flat_map label_wire (done ++ string ∷ []) ++ after
 taken done own left rest string after len so_far first whole size =
-    so_far ∙ ap (λ (xs : List ℕ). flat_map label_wire done ++ xs) (first ∙ rw (whole, size) refl) ∙ sym (one-more label_wire done string after)
+    so_far ∙ ap (λ (xs : List ℕ). flat_map label_wire done ++ xs) (first ∙ rw (whole, size) refl) ∙ sym (one_more label_wire done string after)
 
 pub last : {X : Type 0} (f : X → List ℕ) (xs : List X) (x : X) → flat_map f (xs ++ x ∷ []) ≡ flat_map f xs ++ f x
 last f xs x = flat_map-append f xs (x ∷ []) ∙ ap (λ (ys : List ℕ). flat_map f xs ++ ys) (append-nil (f x))

@@ -11,7 +11,7 @@ use Rattle.std.proofs.lemmas.Bool.{le-leb, lt-leb}
 use Rattle.std.proofs.lemmas.List.Concat.{flat_map-append}
 use Rattle.dnw_base.specs.declared.record_type.RecordType.{RecordType}
 use Rattle.dnw_data.specs.TypeSets.{bits, bit_codes, octets_codes, window_size}
-use Rattle.dnw_data.proofs.Windows.{bits-next}
+use Rattle.dnw_data.proofs.Windows.{bits_next}
 use Rattle.dnw_base.specs.RecordTypes.{type_of_text}
 use Rattle.dnw_zone_svcb.specs.Inside.Steps.{IsSpaced}
 use Rattle.dnw_zone_data.specs.Words.{after_spaces, word, after_word}
@@ -37,49 +37,49 @@ pub after_all : (found own : List ℕ) (codes : Option (List ℕ)) → after fou
 after_all found own None = refl
 after_all found own (Some others) = ap Some (sym (append_assoc found own others))
 
-pub codes-append : (a b : List ℕ) → codes_text (a ++ b) ≡ codes_text a ++ codes_text b
-codes-append a b = flat_map-append code_text a b
+pub codes_append : (a b : List ℕ) → codes_text (a ++ b) ≡ codes_text a ++ codes_text b
+codes_append a b = flat_map-append code_text a b
 
 -- ---- words
 
-pub types-more : (text : List ℕ) (done : List RecordType) (left : List ℕ) (record_type : RecordType) → LeadToTypes text done left → left ≢ [] → IsTypeWord (word left) record_type
+pub types_more : (text : List ℕ) (done : List RecordType) (left : List ℕ) (record_type : RecordType) → LeadToTypes text done left → left ≢ [] → IsTypeWord (word left) record_type
     → LeadToTypes text (done ++ record_type ∷ []) (after_spaces (after_word left))
-types-more text [] left record_type h some is = (
+types_more text [] left record_type h some is = (
   subst (λ (xs : List ℕ). xs ≢ []) h some,
   subst (λ (xs : List ℕ). IsTypeWord (word xs) record_type) h is,
   ap (λ (xs : List ℕ). after_spaces (after_word xs)) h,
 )
-types-more text (d ∷ done) left record_type h some is = (h.0, h.1, types-more (after_word (after_spaces text)) done left record_type h.2 some is)
+types_more text (d ∷ done) left record_type h some is = (h.0, h.1, types_more (after_word (after_spaces text)) done left record_type h.2 some is)
 
-pub types-end : (text : List ℕ) (done : List RecordType) (left : List ℕ) → LeadToTypes text done left → left ≡ [] → AreTypeWords text done
-types-end text [] left h none = sym h ∙ none
-types-end text (d ∷ done) left h none = (h.0, h.1, types-end (after_word (after_spaces text)) done left h.2 none)
+pub types_end : (text : List ℕ) (done : List RecordType) (left : List ℕ) → LeadToTypes text done left → left ≡ [] → AreTypeWords text done
+types_end text [] left h none = sym h ∙ none
+types_end text (d ∷ done) left h none = (h.0, h.1, types_end (after_word (after_spaces text)) done left h.2 none)
 
-pub types-stop : (text : List ℕ) (done kinds : List RecordType) (left : List ℕ) → LeadToTypes text done left → left ≢ []
+pub types_stop : (text : List ℕ) (done kinds : List RecordType) (left : List ℕ) → LeadToTypes text done left → left ≢ []
     → ((record_type : RecordType) → ¬ (IsTypeWord (word left) record_type)) → AreTypeWords text kinds → ⊥
-types-stop text [] [] left h some none are = some (h ∙ are)
-types-stop text [] (s ∷ kinds) left h some none are = none s (subst (λ (xs : List ℕ). IsTypeWord (word xs) s) (sym h) are.1)
-types-stop text (d ∷ done) [] left h some none are = h.0 are
-types-stop text (d ∷ done) (s ∷ kinds) left h some none are = types-stop (after_word (after_spaces text)) done kinds left h.2 some none are.2
+types_stop text [] [] left h some none are = some (h ∙ are)
+types_stop text [] (s ∷ kinds) left h some none are = none s (subst (λ (xs : List ℕ). IsTypeWord (word xs) s) (sym h) are.1)
+types_stop text (d ∷ done) [] left h some none are = h.0 are
+types_stop text (d ∷ done) (s ∷ kinds) left h some none are = types_stop (after_word (after_spaces text)) done kinds left h.2 some none are.2
 
 -- no type has an empty name
-pub word-some : (w : List ℕ) (record_type : RecordType) → IsTypeWord w record_type → 0 < length w
+pub word_some : (w : List ℕ) (record_type : RecordType) → IsTypeWord w record_type → 0 < length w
 unfolding type_of_text
-word-some [] record_type is = let no : None ≡ Some record_type = is.1 in cc
-word-some (c ∷ w) record_type is = omega arith
+word_some [] record_type is = let no : None ≡ Some record_type = is.1 in cc
+word_some (c ∷ w) record_type is = omega arith
 
 -- ---- windows
 
 -- one bit more
-pub bit-more : (old mid whole : List ℕ) (first octet bit : ℕ) → bit < 8 → mid ≡ old ++ codes_text (bit_codes first octet bit)
+pub bit_more : (old mid whole : List ℕ) (first octet bit : ℕ) → bit < 8 → mid ≡ old ++ codes_text (bit_codes first octet bit)
     → old ++ codes_text (flat_map (bit_codes first octet) (drop bit bits)) ≡ whole
     → mid ++ codes_text (flat_map (bit_codes first octet) (drop (bit + 1) bits)) ≡ whole
-bit-more old mid whole first octet bit within e so_far =
+bit_more old mid whole first octet bit within e so_far =
     let own = bit_codes first octet bit in
     let others = flat_map (bit_codes first octet) (drop (bit + 1) bits) in
     ap (λ (xs : List ℕ). xs ++ codes_text others) e ∙ append_assoc old (codes_text own) (codes_text others)
-    ∙ ap (λ (xs : List ℕ). old ++ xs) (sym (codes-append own others))
-    ∙ ap (λ (xs : List ℕ). old ++ codes_text (flat_map (bit_codes first octet) xs)) (sym (bits-next bit within)) ∙ so_far
+    ∙ ap (λ (xs : List ℕ). old ++ xs) (sym (codes_append own others))
+    ∙ ap (λ (xs : List ℕ). old ++ codes_text (flat_map (bit_codes first octet) xs)) (sym (bits_next bit within)) ∙ so_far
 
 -- a window, if there is one
 window : (n number len : ℕ) (left rest more own others : List ℕ) → left ≡ number ∷ rest → rest ≡ len ∷ more → more ≡ own ++ others → length own ≡ len → is_window own ≡ true
@@ -91,31 +91,31 @@ window n number len left rest more own others first second whole size is =
     rw (first, second, fits, front, back, is) refl
 
 -- one window more
-pub window-more : (all left rest more own others : List ℕ) (found : List ℕ) (n number len : ℕ) → codes_within (length all) all ≡ after found (codes_within n left)
+pub window_more : (all left rest more own others : List ℕ) (found : List ℕ) (n number len : ℕ) → codes_within (length all) all ≡ after found (codes_within n left)
     → length left ≤ n → left ≡ number ∷ rest → rest ≡ len ∷ more → more ≡ own ++ others → length own ≡ len → is_window own ≡ true
     → (m : ℕ) × (length others ≤ m) × (codes_within (length all) all ≡ after (found ++ octets_codes (window_size * number) own) (codes_within m others))
-window-more all left rest more own others found zero number len so_far few first second whole size is = absurd (omega (arith, few, ap length first))
-window-more all left rest more own others found (suc n) number len so_far few first second whole size is = (
+window_more all left rest more own others found zero number len so_far few first second whole size is = absurd (omega (arith, few, ap length first))
+window_more all left rest more own others found (suc n) number len so_far few first second whole size is = (
   n,
   omega (arith, few, ap length first, ap length second, ap length whole, length-append own others),
   so_far ∙ ap (after found) (window n number len left rest more own others first second whole size is) ∙ after_all found (octets_codes (window_size * number) own) (codes_within n others),
 )
 
 -- no window
-pub no-number : (n number : ℕ) (left rest : List ℕ) → length left ≤ n → left ≡ number ∷ rest → rest ≡ [] → codes_within n left ≡ None
-no-number zero number left rest few first none = absurd (omega (arith, few, ap length first))
-no-number (suc n) number left rest few first none = rw (first, none) refl
+pub no_number : (n number : ℕ) (left rest : List ℕ) → length left ≤ n → left ≡ number ∷ rest → rest ≡ [] → codes_within n left ≡ None
+no_number zero number left rest few first none = absurd (omega (arith, few, ap length first))
+no_number (suc n) number left rest few first none = rw (first, none) refl
 
-pub no-octets : (n number len : ℕ) (left rest more : List ℕ) → length left ≤ n → left ≡ number ∷ rest → rest ≡ len ∷ more → length more < len → codes_within n left ≡ None
-no-octets zero number len left rest more few first second short = absurd (omega (arith, few, ap length first))
-no-octets (suc n) number len left rest more few first second short =
+pub no_octets : (n number len : ℕ) (left rest more : List ℕ) → length left ≤ n → left ≡ number ∷ rest → rest ≡ len ∷ more → length more < len → codes_within n left ≡ None
+no_octets zero number len left rest more few first second short = absurd (omega (arith, few, ap length first))
+no_octets (suc n) number len left rest more few first second short =
     let fits : nat_le len (length more) ≡ false = lt-leb len (length more) short in
     rw (first, second, fits) refl
 
-pub no-window : (n number len : ℕ) (left rest more own others : List ℕ) → length left ≤ n → left ≡ number ∷ rest → rest ≡ len ∷ more → more ≡ own ++ others
+pub no_window : (n number len : ℕ) (left rest more own others : List ℕ) → length left ≤ n → left ≡ number ∷ rest → rest ≡ len ∷ more → more ≡ own ++ others
     → length own ≡ len → is_window own ≡ false → codes_within n left ≡ None
-no-window zero number len left rest more own others few first second whole size is = absurd (omega (arith, few, ap length first))
-no-window (suc n) number len left rest more own others few first second whole size is =
+no_window zero number len left rest more own others few first second whole size is = absurd (omega (arith, few, ap length first))
+no_window (suc n) number len left rest more own others few first second whole size is =
     let front : take len more ≡ own = ap (take len) whole ∙ take_at own others len size in
     let fits : nat_le len (length more) ≡ true = le-leb len (length more) (omega (arith, size, ap length whole, length-append own others)) in
     rw (first, second, fits, front, is) refl
@@ -124,14 +124,14 @@ spaced : (codes : List ℕ) → IsSpaced (codes_text codes)
 spaced [] = tt
 spaced (code ∷ codes) = refl
 
-pub no-types : (all left : List ℕ) (found : List ℕ) (n : ℕ) → codes_within (length all) all ≡ after found (codes_within n left)
+pub no_types : (all left : List ℕ) (found : List ℕ) (n : ℕ) → codes_within (length all) all ≡ after found (codes_within n left)
     → codes_within n left ≡ None → (old new : List ℕ) → new ≡ old ++ codes_text found → AppendedInPart (PrintsTypes all) old new false
-no-types all left found n so_far none old new e =
+no_types all left found n so_far none old new e =
     (λ text own. let no : None ≡ Some own.0 = ap (after found) (sym none) ∙ sym so_far ∙ own.1 in cc, (codes_text found, spaced found, e))
 
-pub all-types : (all left old new : List ℕ) (found : List ℕ) (n : ℕ) → codes_within (length all) all ≡ after found (codes_within n left)
+pub all_types : (all left old new : List ℕ) (found : List ℕ) (n : ℕ) → codes_within (length all) all ≡ after found (codes_within n left)
     → left ≡ [] → new ≡ old ++ codes_text found → AppendedInPart (PrintsTypes all) old new true
-all-types all left old new found n so_far none e =
+all_types all left old new found n so_far none e =
     let end : codes_within n left ≡ Some [] = ap (codes_within n) none in
     let whole : codes_within (length all) all ≡ Some found = so_far ∙ ap (after found) end ∙ ap Some (append-nil found) in
     (codes_text found, (found, whole, refl), e)

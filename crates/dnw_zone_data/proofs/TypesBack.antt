@@ -14,17 +14,17 @@ use Rattle.dnw_data.specs.declared.kind.ListKind.TheVariants as lists
 use Rattle.dnw_data.specs.Lists.{fault_within, list_fault}
 use Rattle.dnw_data.specs.Values.{types, items}
 use Rattle.dnw_data.specs.TypeSets.{Window, window, window_bytes, windows_codes, octets_codes, set_codes, EndsInBit, NumbersFrom, IsWritten}
-use Rattle.dnw_data.proofs.Sets.{empty-ascends, settled-already, sorted-end, sorted-more}
+use Rattle.dnw_data.proofs.Sets.{empty_ascends, settled_already, sorted_end, sorted_more}
 use Rattle.dnw_zone_values.specs.Octets.{IsOctets}
-use Rattle.dnw_zone_svcb.proofs.ParamTextsBack.{drop-fit, map-some}
+use Rattle.dnw_zone_svcb.proofs.ParamTextsBack.{drop_fit, map_some}
 use Rattle.dnw_zone_data.specs.Words.{is_end, word, after_spaces}
 use Rattle.dnw_zone_data.specs.TypeLists.{is_window, codes_within, codes_text, IsTypeWord, AreTypeWords, AreBitmap, AreTypes}
-use Rattle.dnw_zone_data.proofs.CodesWithin.{Within, octets-within, within-less}
-use Rattle.dnw_zone_data.specs.Generic.{mark}
+use Rattle.dnw_zone_data.proofs.CodesWithin.{Within, octets_within, within_less}
+use Rattle.dnw_zone_data.specs.Generic.{generic_mark}
 use Rattle.dnw_zone_data.specs.DataTextLaws.{FieldComesBack}
-use Rattle.dnw_zone_data.proofs.Items.{find-code, item-first, starts-twice}
-use Rattle.dnw_zone_data.proofs.Plain.{plain-starts, plain-word, plain-after, plain-utf8}
-use Rattle.dnw_zone_data.proofs.FieldsBack.{type-plain, type-some}
+use Rattle.dnw_zone_data.proofs.Items.{find_code, item_first, starts_twice}
+use Rattle.dnw_zone_data.proofs.Plain.{plain_starts, plain_word, plain_after, plain_utf8}
+use Rattle.dnw_zone_data.proofs.FieldsBack.{type_plain, type_some}
 
 -- ---- the windows of a bitmap
 
@@ -35,34 +35,34 @@ ends (o ∷ []) n size h =
 ends (o ∷ next ∷ octets) zero size h = absurd (omega (arith, size))
 ends (o ∷ next ∷ octets) (suc n) size h = ends (next ∷ octets) n (omega (arith, size)) h
 
-no-true : (b : Bool) → not b ≡ true → b ≡ false
-no-true true h = cc
-no-true false h = refl
+no_true : (b : Bool) → not b ≡ true → b ≡ false
+no_true true h = cc
+no_true false h = refl
 
 -- a window that is printed is one that is written
-is-written : (number : ℕ) (octets : List ℕ) → 1 ≤ length octets → is_window octets ≡ true → IsWritten (window number octets)
-is-written number octets some is =
+is_written : (number : ℕ) (octets : List ℕ) → 1 ≤ length octets → is_window octets ≡ true → IsWritten (window number octets)
+is_written number octets some is =
     let parts = and_parts (nat_le (length octets) 32) (not (slice_index octets (length octets - 1) == 0)) is in
-    record { some = some; few = leb-true (length octets) 32 parts.0; no_longer = ends octets (length octets - 1) (omega (arith, some)) (no-true _ parts.1) }
+    record { some = some; few = leb-true (length octets) 32 parts.0; no_longer = ends octets (length octets - 1) (omega (arith, some)) (no_true _ parts.1) }
 
 -- the octets are the windows of these codes
 abbrev AreWindowsOf : ℕ → List ℕ → List ℕ → Type 0
 AreWindowsOf least own codes =
     (ws : List Window) × (own ≡ flat_map window_bytes ws) × NumbersFrom least ws × AllByRecursion IsWritten ws × (windows_codes ws ≡ codes) × Within (256 * least) codes
 
-one-window : (least number : ℕ) (own rest codes others : List ℕ) → least ≤ number → number < 256 → IsWritten (window number own)
+one_window : (least number : ℕ) (own rest codes others : List ℕ) → least ≤ number → number < 256 → IsWritten (window number own)
     → codes ≡ octets_codes (256 * number) own ++ others → AreWindowsOf (number + 1) rest others
     → AreWindowsOf least (number ∷ length own ∷ (own ++ rest)) codes
-one-window least number own rest codes others low high is e (ws, spelled, up, all, same, within) =
+one_window least number own rest codes others low high is e (ws, spelled, up, all, same, within) =
     let first = 256 * number in
-    let far = within-less (first + 8 * length own) (256 * (number + 1)) others (omega (arith, is.few)) within in
-    let near = octets-within first own others (omega (arith, high, is.few)) far in (
+    let far = within_less (first + 8 * length own) (256 * (number + 1)) others (omega (arith, is.few)) within in
+    let near = octets_within first own others (omega (arith, high, is.few)) far in (
       window number own ∷ ws,
       ap (λ (xs : List ℕ). number ∷ length own ∷ (own ++ xs)) spelled,
       (low, up),
       (is, all),
       ap (λ (xs : List ℕ). octets_codes first xs ++ windows_codes ws) (take_all 32 own is.few) ∙ ap (λ (xs : List ℕ). octets_codes first own ++ xs) same ∙ sym e,
-      within-less (256 * least) first codes (omega (arith, low)) (subst (Within first) (sym e) near),
+      within_less (256 * least) first codes (omega (arith, low)) (subst (Within first) (sym e) near),
     )
 
 windows : (n m least : ℕ) (own codes : List ℕ) → IsOctets own → length own ≤ n → fault_within n lists.Types least own ≡ None → codes_within m own ≡ Some codes
@@ -75,29 +75,29 @@ windows (suc n) (suc m) least (number ∷ len ∷ bytes) codes h few fine print 
   | inr other ↦ let wrong = rw other at print in absurd cc
   | inl is ↦
       let own = take len bytes in
-      let (whole, may, others_fine) = item-first n least lists.Types number (len ∷ bytes) fine in
+      let (whole, may, others_fine) = item_first n least lists.Types number (len ∷ bytes) fine in
       let tests = and_parts (nat_le least number && nat_le 1 len) (nat_le len 32) may in
       let lows = and_parts (nat_le least number) (nat_le 1 len) tests.0 in
       let size : length own ≡ len = length-take-le len bytes (omega (arith, whole)) in
       let some : 1 ≤ length own = omega (arith, size, leb-true 1 len lows.1) in
-      let (others, rest, e) = map-some (λ xs. octets_codes (256 * number) own ++ xs) (codes_within m (drop len bytes)) codes (rw is at print) in
+      let (others, rest, e) = map_some (λ xs. octets_codes (256 * number) own ++ xs) (codes_within m (drop len bytes)) codes (rw is at print) in
       let skip : drop (2 + len) (number ∷ len ∷ bytes) ≡ drop len bytes = ap (λ (k : ℕ). drop k (number ∷ len ∷ bytes)) (let two : 2 + len ≡ suc (suc len) = omega arith in two) in
       let on = subst (λ (xs : List ℕ). fault_within n lists.Types (number + 1) xs ≡ None) skip others_fine in
-      let more = windows n m (number + 1) (drop len bytes) others (drop-fit len bytes (λ i. h (suc (suc i)))) (omega (arith, few, length-drop len bytes)) on rest in
-      let good = is-written number own some (and_parts (nat_le len (length bytes)) (is_window own) is).1 in
-      let one = one-window least number own (drop len bytes) codes others (leb-true least number lows.0) (h 0) good e more in
+      let more = windows n m (number + 1) (drop len bytes) others (drop_fit len bytes (λ i. h (suc (suc i)))) (omega (arith, few, length-drop len bytes)) on rest in
+      let good = is_written number own some (and_parts (nat_le len (length bytes)) (is_window own) is).1 in
+      let one = one_window least number own (drop len bytes) codes others (leb-true least number lows.0) (h 0) good e more in
       subst (λ (xs : List ℕ). AreWindowsOf least xs codes) (ap (λ (k : ℕ). number ∷ k ∷ (own ++ drop len bytes)) size ∙ ap (λ (xs : List ℕ). number ∷ len ∷ xs) (take-append-drop len bytes)) one
 ]
 
 -- ---- the types of codes
 
-pub code-back : (code : ℕ) → type_code (type_of_code code) ≡ code
+pub code_back : (code : ℕ) → type_code (type_of_code code) ≡ code
 unfolding type_of_code
-code-back code = find-code (λ (record_type : RecordType). type_code record_type) code named_types (rr.Unknown code) refl
+code_back code = find_code (λ (record_type : RecordType). type_code record_type) code named_types (rr.Unknown code) refl
 
-codes-back : (codes : List ℕ) → map type_code (map type_of_code codes) ≡ codes
-codes-back [] = refl
-codes-back (code ∷ codes) = rw (code-back code) (ap (λ (xs : List ℕ). code ∷ xs) (codes-back codes))
+codes_back : (codes : List ℕ) → map type_code (map type_of_code codes) ≡ codes
+codes_back [] = refl
+codes_back (code ∷ codes) = rw (code_back code) (ap (λ (xs : List ℕ). code ∷ xs) (codes_back codes))
 
 once : (code : ℕ) (codes : List ℕ) → Within (code + 1) codes → dedup_from nat_eq code codes ≡ code ∷ codes
 once code [] h = refl
@@ -105,63 +105,63 @@ once code (next ∷ codes) h =
     let other : nat_eq next code ≡ false = ne_eqb next code (omega (arith, h.0)) in
     rw other (ap (λ (xs : List ℕ). code ∷ xs) (once next codes h.2))
 
-set-is : (least : ℕ) (codes : List ℕ) → Within least codes → set_codes (map type_of_code codes) ≡ codes
-set-is least [] h = refl
-set-is least (code ∷ codes) h =
-    ap (λ (xs : List ℕ). dedup_from nat_eq (type_code (type_of_code code)) xs) (codes-back codes)
-    ∙ ap (λ (c : ℕ). dedup_from nat_eq c codes) (code-back code) ∙ once code codes h.2
+set_is : (least : ℕ) (codes : List ℕ) → Within least codes → set_codes (map type_of_code codes) ≡ codes
+set_is least [] h = refl
+set_is least (code ∷ codes) h =
+    ap (λ (xs : List ℕ). dedup_from nat_eq (type_code (type_of_code code)) xs) (codes_back codes)
+    ∙ ap (λ (c : ℕ). dedup_from nat_eq c codes) (code_back code) ∙ once code codes h.2
 
 ascend : (least : ℕ) (codes : List ℕ) → Within least codes → IsStrictlySortedBy type_cmp (map type_of_code codes)
-ascend least [] h = empty-ascends [] refl
-ascend least (code ∷ []) h = sorted-end (type_of_code code) [] 0 (omega arith)
+ascend least [] h = empty_ascends [] refl
+ascend least (code ∷ []) h = sorted_end (type_of_code code) [] 0 (omega arith)
 ascend least (code ∷ next ∷ codes) h =
-    sorted-more (type_of_code code) (type_of_code next) (map type_of_code codes) (omega (arith, code-back code, code-back next, h.2.0)) (ascend (code + 1) (next ∷ codes) h.2)
+    sorted_more (type_of_code code) (type_of_code next) (map type_of_code codes) (omega (arith, code_back code, code_back next, h.2.0)) (ascend (code + 1) (next ∷ codes) h.2)
 
 bitmap : (least : ℕ) (own codes : List ℕ) → AreWindowsOf 0 own codes → AreBitmap (map type_of_code codes) own
 bitmap least own codes (ws, spelled, up, all, same, within) =
     let set = map type_of_code codes in (
       set,
-      settled-already set (ascend 0 codes within),
-      record { windows = ws; spelled = spelled; ascending = up; written = all; same = same ∙ sym (set-is 0 codes within) },
+      settled_already set (ascend 0 codes within),
+      record { windows = ws; spelled = spelled; ascending = up; written = all; same = same ∙ sym (set_is 0 codes within) },
     )
 
 -- ---- the words of types
 
-pub types-end : (codes : List ℕ) → is_end (codes_text codes) ≡ true
-types-end [] = refl
-types-end (code ∷ codes) = refl
+pub types_end : (codes : List ℕ) → is_end (codes_text codes) ≡ true
+types_end [] = refl
+types_end (code ∷ codes) = refl
 
-types-words : (least : ℕ) (codes : List ℕ) → Within least codes → AreTypeWords (codes_text codes) (map type_of_code codes)
-types-words least [] h = refl
-types-words least (code ∷ codes) h =
+types_words : (least : ℕ) (codes : List ℕ) → Within least codes → AreTypeWords (codes_text codes) (map type_of_code codes)
+types_words least [] h = refl
+types_words least (code ∷ codes) h =
     let kind = type_of_code code in
     let w = type_text kind in
     let rest = codes_text codes in
-    let few : type_code kind < 65536 = omega (arith, code-back code, h.1) in
-    let plain = type-plain kind few in
-    let is : IsTypeWord w kind = (plain-utf8 w plain, types_come_back kind few ∙ ap (λ (c : ℕ). Some (type_of_code c)) (code-back code)) in
-    let end = types-end codes in
-    rw (plain-starts w rest plain (type-some kind), plain-word w rest plain end, plain-after w rest plain end)
-    ((λ none. omega (arith, type-some kind, ap length none, length-append w rest)), is, types-words (code + 1) codes h.2)
+    let few : type_code kind < 65536 = omega (arith, code_back code, h.1) in
+    let plain = type_plain kind few in
+    let is : IsTypeWord w kind = (plain_utf8 w plain, types_come_back kind few ∙ ap (λ (c : ℕ). Some (type_of_code c)) (code_back code)) in
+    let end = types_end codes in
+    rw (plain_starts w rest plain (type_some kind), plain_word w rest plain end, plain_after w rest plain end)
+    ((λ none. omega (arith, type_some kind, ap length none, length-append w rest)), is, types_words (code + 1) codes h.2)
 
-from-start : (text : List ℕ) (kinds : List RecordType) → AreTypeWords text kinds → AreTypeWords (after_spaces text) kinds
-from-start text [] h = starts-twice text ∙ h
-from-start text (kind ∷ kinds) h = rw (starts-twice text) h
+from_start : (text : List ℕ) (kinds : List RecordType) → AreTypeWords text kinds → AreTypeWords (after_spaces text) kinds
+from_start text [] h = starts_twice text ∙ h
+from_start text (kind ∷ kinds) h = rw (starts_twice text) h
 
-no-type : (record_type : RecordType) → IsTypeWord mark record_type → ⊥
+no_type : (record_type : RecordType) → IsTypeWord generic_mark record_type → ⊥
 unfolding type_of_text
-no-type record_type is = let no : None ≡ Some record_type = is.1 in cc
+no_type record_type is = let no : None ≡ Some record_type = is.1 in cc
 
-types-no_mark : (text : List ℕ) (kinds : List RecordType) → AreTypeWords text kinds → word (after_spaces text) ≢ mark
-types-no_mark text [] h e = let no : word [] ≡ mark = ap word (sym h) ∙ e in cc
-types-no_mark text (kind ∷ kinds) h e = no-type kind (subst (λ (w : List ℕ). IsTypeWord w kind) e h.1)
+types_no_mark : (text : List ℕ) (kinds : List RecordType) → AreTypeWords text kinds → word (after_spaces text) ≢ generic_mark
+types_no_mark text [] h e = let no : word [] ≡ generic_mark = ap word (sym h) ∙ e in cc
+types_no_mark text (kind ∷ kinds) h e = no_type kind (subst (λ (w : List ℕ). IsTypeWord w kind) e h.1)
 
-pub types-back : (own : List ℕ) → IsOctets own → list_fault lists.Types own ≡ None → FieldComesBack (ListOf lists.Types) (types (items lists.Types own))
+pub types_back : (own : List ℕ) → IsOctets own → list_fault lists.Types own ≡ None → FieldComesBack (ListOf lists.Types) (types (items lists.Types own))
 unfolding list_fault
-types-back own h fine origin printed rest (codes, print, e) end =
+types_back own h fine origin printed rest (codes, print, e) end =
     let none : rest ≡ [] = end.0 refl in
     let there = windows (length own) (length own) 0 own codes h (omega arith) fine print in
-    let words = types-words 0 codes there.5 in
+    let words = types_words 0 codes there.5 in
     let is : AreTypes (after_spaces (codes_text codes)) (types (items lists.Types own)) =
-    (map type_of_code codes, own, from-start (codes_text codes) (map type_of_code codes) words, bitmap 0 own codes there, refl) in
-    rw (none, e, append-nil) ((is, refl), types-no_mark (codes_text codes) (map type_of_code codes) words, types-end codes)
+    (map type_of_code codes, own, from_start (codes_text codes) (map type_of_code codes) words, bitmap 0 own codes there, refl) in
+    rw (none, e, append-nil) ((is, refl), types_no_mark (codes_text codes) (map type_of_code codes) words, types_end codes)

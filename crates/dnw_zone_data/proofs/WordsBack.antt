@@ -16,100 +16,100 @@ use Rattle.dnw_zone_values.specs.Pairs.{lower_digit, pairs_text}
 use Rattle.dnw_zone_values.proofs.Identifiers.{pairs}
 use Rattle.dnw_zone_values.specs.Numbers.{max_u48}
 use Rattle.dnw_zone_values.specs.Octets.{IsOctets, base64_text}
-use Rattle.dnw_zone_svcb.proofs.ParamTextsBack.{bare-open, ipv6-bare, base64-open, base64-some}
-use Rattle.dnw_zone_svcb.proofs.Steps.{no-colon-hex}
-use Rattle.dnw_zone_data.specs.Words.{is_end, word, after_spaces, joined}
+use Rattle.dnw_zone_svcb.proofs.ParamTextsBack.{bare_open, ipv6_bare, base64_open, base64_some}
+use Rattle.dnw_zone_svcb.proofs.Steps.{no_colon_hex}
+use Rattle.dnw_zone_data.specs.Words.{is_end, word, after_spaces, without_spaces}
 use Rattle.dnw_zone_data.specs.Parsing.{AllSpell, ReadsField}
-use Rattle.dnw_zone_data.specs.Generic.{mark}
+use Rattle.dnw_zone_data.specs.Generic.{generic_mark}
 use Rattle.dnw_zone_data.specs.Printing.{base64_part}
 use Rattle.dnw_zone_data.specs.DataTextLaws.{FieldComesBack}
-use Rattle.dnw_zone_data.proofs.Plain.{is_plain, all_plain, plain-starts, plain-joined, plain-utf8}
-use Rattle.dnw_zone_data.proofs.FieldsBack.{plain-by, plain-no_mark}
+use Rattle.dnw_zone_data.proofs.Plain.{is_plain, all_plain, plain_starts, plain_joined, plain_utf8}
+use Rattle.dnw_zone_data.proofs.FieldsBack.{plain_by, plain_no_mark}
 
 -- ---- IPv6 addresses
 
-some-of : (w : List ℕ) → (w ≡ [] → ⊥) → 0 < length w
-some-of [] h = absurd (h refl)
-some-of (c ∷ w) h = omega arith
+some_of : (w : List ℕ) → (w ≡ [] → ⊥) → 0 < length w
+some_of [] h = absurd (h refl)
+some_of (c ∷ w) h = omega arith
 
-ipv6-some : (a : Ipv6Addr) → IsColonHex (ipv6_text (ipv6_segments a)) (ipv6_segments a) → 0 < length (ipv6_text (ipv6_segments a))
-ipv6-some a is =
-    some-of (ipv6_text (ipv6_segments a))
-    (λ none. no-colon-hex (ipv6_segments a) (subst (λ (w : List ℕ). IsColonHex w (ipv6_segments a)) none is))
+ipv6_some : (a : Ipv6Addr) → IsColonHex (ipv6_text (ipv6_segments a)) (ipv6_segments a) → 0 < length (ipv6_text (ipv6_segments a))
+ipv6_some a is =
+    some_of (ipv6_text (ipv6_segments a))
+    (λ none. no_colon_hex (ipv6_segments a) (subst (λ (w : List ℕ). IsColonHex w (ipv6_segments a)) none is))
 
-pub ipv6-back : (a : Ipv6Addr) → IsIpv6Addr a → FieldComesBack Ipv6 (ipv6 (ipv6_segments a))
-ipv6-back a is origin printed rest print end =
+pub ipv6_back : (a : Ipv6Addr) → IsIpv6Addr a → FieldComesBack Ipv6 (ipv6 (ipv6_segments a))
+ipv6_back a is origin printed rest print end =
     let w = ipv6_text (ipv6_segments a) in
-    let plain : all_plain w ≡ true = bare-open w (ipv6-bare (ipv6_segments a) is.1) in
-    plain-by origin Ipv6 printed w rest (ipv6 (ipv6_segments a)) refl print plain (ipv6-some a (IsColonHex-ipv6_text _ is.0 is.1)) end.1 (a, plain-utf8 w plain, IsColonHex-ipv6_text _ is.0 is.1, refl)
+    let plain : all_plain w ≡ true = bare_open w (ipv6_bare (ipv6_segments a) is.1) in
+    plain_by origin Ipv6 printed w rest (ipv6 (ipv6_segments a)) refl print plain (ipv6_some a (IsColonHex-ipv6_text _ is.0 is.1)) end.1 (a, plain_utf8 w plain, IsColonHex-ipv6_text _ is.0 is.1, refl)
 
 -- ---- identifiers
 
-lower-plain : (n : ℕ) → n < 16 → is_plain (lower_digit n) ≡ true
-lower-plain n h = grind arith
+lower_plain : (n : ℕ) → n < 16 → is_plain (lower_digit n) ≡ true
+lower_plain n h = grind arith
 
-pairs-plain : (own : List ℕ) → IsOctets own → all_plain (pairs_text own) ≡ true
-pairs-plain [] h = refl
-pairs-plain (o ∷ []) h = rw (lower-plain (o / 16) (omega (arith, h 0)), lower-plain (o % 16) (omega arith)) refl
-pairs-plain (o ∷ p ∷ own) h = rw (lower-plain (o / 16) (omega (arith, h 0)), lower-plain (o % 16) (omega arith)) (pairs-plain (p ∷ own) (λ i. h (suc i)))
+pairs_plain : (own : List ℕ) → IsOctets own → all_plain (pairs_text own) ≡ true
+pairs_plain [] h = refl
+pairs_plain (o ∷ []) h = rw (lower_plain (o / 16) (omega (arith, h 0)), lower_plain (o % 16) (omega arith)) refl
+pairs_plain (o ∷ p ∷ own) h = rw (lower_plain (o / 16) (omega (arith, h 0)), lower_plain (o % 16) (omega arith)) (pairs_plain (p ∷ own) (λ i. h (suc i)))
 
-pub six-fit : (n : ℕ) → IsOctets (drop 2 (to_be_bytes w64 n))
-six-fit n zero = omega arith
-six-fit n (suc zero) = omega arith
-six-fit n (suc (suc zero)) = omega arith
-six-fit n (suc (suc (suc zero))) = omega arith
-six-fit n (suc (suc (suc (suc zero)))) = omega arith
-six-fit n (suc (suc (suc (suc (suc zero))))) = omega arith
-six-fit n (suc (suc (suc (suc (suc (suc i)))))) = omega arith
+pub six_fit : (n : ℕ) → IsOctets (drop 2 (to_be_bytes w64 n))
+six_fit n zero = omega arith
+six_fit n (suc zero) = omega arith
+six_fit n (suc (suc zero)) = omega arith
+six_fit n (suc (suc (suc zero))) = omega arith
+six_fit n (suc (suc (suc (suc zero)))) = omega arith
+six_fit n (suc (suc (suc (suc (suc zero))))) = omega arith
+six_fit n (suc (suc (suc (suc (suc (suc i)))))) = omega arith
 
-pub eight-fit : (n : ℕ) → IsOctets (to_be_bytes w64 n)
-eight-fit n zero = omega arith
-eight-fit n (suc zero) = omega arith
-eight-fit n (suc (suc i)) = six-fit n i
+pub eight_fit : (n : ℕ) → IsOctets (to_be_bytes w64 n)
+eight_fit n zero = omega arith
+eight_fit n (suc zero) = omega arith
+eight_fit n (suc (suc i)) = six_fit n i
 
 lead : (a b : ℕ) (own : List ℕ) → a ≡ 0 → b ≡ 0 → 0 ∷ 0 ∷ own ≡ a ∷ b ∷ own
 lead a b own p q = rw (p, q) refl
 
-pub eui48-back : (n : ℕ) → n ≤ max_u48 → FieldComesBack U48 (u48 n)
-eui48-back n few origin printed rest print end =
+pub eui48_back : (n : ℕ) → n ≤ max_u48 → FieldComesBack U48 (u48 n)
+eui48_back n few origin printed rest print end =
     let own = drop 2 (to_be_bytes w64 n) in
     let w = pairs_text own in
-    let plain = pairs-plain own (six-fit n) in
+    let plain = pairs_plain own (six_fit n) in
     let a : n / 72057594037927936 % 256 ≡ 0 = omega (arith, few) in
     let b : n / 281474976710656 % 256 ≡ 0 = omega (arith, few) in
     let back : from_be_bytes w64 (0 ∷ 0 ∷ own) ≡ n = ap (from_be_bytes w64) (lead _ _ own a b) ∙ from_be_bytes-to_be_bytes_8 n (omega (arith, few)) in
-    plain-by origin U48 printed w rest (u48 n) refl print plain (omega arith) end.1 (own, plain-utf8 w plain, (pairs own (six-fit n, omega arith)).0, refl, ap u48 (sym back))
+    plain_by origin U48 printed w rest (u48 n) refl print plain (omega arith) end.1 (own, plain_utf8 w plain, (pairs own (six_fit n, omega arith)).0, refl, ap u48 (sym back))
 
-pub eui64-back : (n : ℕ) → n < 2 ^ 64 → FieldComesBack U64 (u64 n)
-eui64-back n few origin printed rest print end =
+pub eui64_back : (n : ℕ) → n < 2 ^ 64 → FieldComesBack U64 (u64 n)
+eui64_back n few origin printed rest print end =
     let own = to_be_bytes w64 n in
     let w = pairs_text own in
-    let fit = eight-fit n in
-    let plain = pairs-plain own fit in
-    plain-by origin U64 printed w rest (u64 n) refl print plain (omega arith) end.1
-    (own, plain-utf8 w plain, (pairs own (fit, omega arith)).0, refl, ap u64 (sym (from_be_bytes-to_be_bytes_8 n few)))
+    let fit = eight_fit n in
+    let plain = pairs_plain own fit in
+    plain_by origin U64 printed w rest (u64 n) refl print plain (omega arith) end.1
+    (own, plain_utf8 w plain, (pairs own (fit, omega arith)).0, refl, ap u64 (sym (from_be_bytes-to_be_bytes_8 n few)))
 
 -- ---- octets in base 64
 
-base64-words : (own : List ℕ) → IsOctets own → AllSpell Base64 (after_spaces (base64_part own)) own
-base64-words [] h = (plain-utf8 [] refl, (h, sym (encode_of-nil standard)))
-base64-words (o ∷ own) h =
+base64_words : (own : List ℕ) → IsOctets own → AllSpell Base64 (after_spaces (base64_part own)) own
+base64_words [] h = (plain_utf8 [] refl, (h, sym (encode_of-nil standard)))
+base64_words (o ∷ own) h =
     let text = base64_text (o ∷ own) in
-    let plain : all_plain text ≡ true = base64-open (o ∷ own) h in
-    let starts : after_spaces text ≡ text = ap after_spaces (sym (append-nil text)) ∙ plain-starts text [] plain (base64-some o own) ∙ append-nil text in
-    let whole : joined (after_spaces text) ≡ text = ap joined starts ∙ plain-joined text plain in
-    rw whole (plain-utf8 text plain, (h, refl))
+    let plain : all_plain text ≡ true = base64_open (o ∷ own) h in
+    let starts : after_spaces text ≡ text = ap after_spaces (sym (append-nil text)) ∙ plain_starts text [] plain (base64_some o own) ∙ append-nil text in
+    let whole : without_spaces (after_spaces text) ≡ text = ap without_spaces starts ∙ plain_joined text plain in
+    rw whole (plain_utf8 text plain, (h, refl))
 
-base64-no_mark : (own : List ℕ) → IsOctets own → word (after_spaces (base64_part own)) ≢ mark
-base64-no_mark [] h e = cc
-base64-no_mark (o ∷ own) h e = plain-no_mark (base64_text (o ∷ own)) (base64-open (o ∷ own) h) e
+base64_no_mark : (own : List ℕ) → IsOctets own → word (after_spaces (base64_part own)) ≢ generic_mark
+base64_no_mark [] h e = cc
+base64_no_mark (o ∷ own) h e = plain_no_mark (base64_text (o ∷ own)) (base64_open (o ∷ own) h) e
 
-base64-end : (own : List ℕ) → is_end (base64_part own) ≡ true
-base64-end [] = refl
-base64-end (o ∷ own) = refl
+base64_end : (own : List ℕ) → is_end (base64_part own) ≡ true
+base64_end [] = refl
+base64_end (o ∷ own) = refl
 
-pub base64-back : (own : List ℕ) → IsOctets own → FieldComesBack (Octets Base64) (octets own)
-base64-back own is origin printed rest print end =
+pub base64_back : (own : List ℕ) → IsOctets own → FieldComesBack (Octets Base64) (octets own)
+base64_back own is origin printed rest print end =
     let none : rest ≡ [] = end.0 refl in
-    let reads : ReadsField origin (Octets Base64) (after_spaces (base64_part own)) (octets own) [] = ((own, base64-words own is, refl), refl) in
-    rw (none, print, append-nil) (reads, base64-no_mark own is, base64-end own)
+    let reads : ReadsField origin (Octets Base64) (after_spaces (base64_part own)) (octets own) [] = ((own, base64_words own is, refl), refl) in
+    rw (none, print, append-nil) (reads, base64_no_mark own is, base64_end own)

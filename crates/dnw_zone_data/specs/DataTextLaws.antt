@@ -25,7 +25,7 @@ use Rattle.dnw_zone_values.specs.Spelling.{ComesBack}
 use Rattle.dnw_zone_values.specs.Strings.{IsString, IsText}
 use Rattle.dnw_zone_data.specs.declared.error.DataTextError.{DataTextError}
 use Rattle.dnw_zone_data.specs.declared.error.DataTextError.TheVariants.{Memory}
-use Rattle.dnw_zone_data.specs.Generic.{mark, generic_text, IsGeneric}
+use Rattle.dnw_zone_data.specs.Generic.{generic_mark, generic_text, IsGeneric}
 use Rattle.dnw_base.specs.Limits.{max_data}
 use Rattle.dnw_zone_data.specs.Words.{is_end, word, after_spaces}
 use Rattle.dnw_zone_data.specs.Printing.{Prints}
@@ -33,31 +33,31 @@ use Rattle.dnw_zone_data.specs.DataTexts.{ArePlain, FailsText, IsDataText, IsPla
 use Rattle.dnw_zone_data.specs.Parsing.{takes_all, ReadsField}
 
 -- octets of data: their number is written in two octets (RFC 1035, section 3.2.1)
-abbrev pub IsData : List ℕ → Type 0
-IsData own = IsOctets own × (length own ≤ max_data)
+abbrev pub IsDataOctets : List ℕ → Type 0
+IsDataOctets own = IsOctets own × (length own ≤ max_data)
 
 -- What is printed of any octets in the form that any data have is those octets, and no others.
 abbrev pub GenericComesBack : Type 0
-GenericComesBack = ComesBack IsData generic_text IsGeneric
+GenericComesBack = ComesBack IsDataOctets generic_text IsGeneric
 
 -- what is after a field: white space or nothing, and nothing after a field that takes all words
-abbrev pub Follows : Kind → List ℕ → Type 0
-Follows kind rest = (takes_all kind ≡ true → rest ≡ []) × (is_end rest ≡ true)
+abbrev pub FollowsField : Kind → List ℕ → Type 0
+FollowsField kind rest = (takes_all kind ≡ true → rest ≡ []) × (is_end rest ≡ true)
 
 -- A text is read as the field, and what follows is left. It begins with white space or is empty, and its first word is not the
 -- one that the form of any data begins with; so it can be the first field of data, or follow another.
-abbrev pub IsReadBack : Option NameValue → Kind → List ℕ → FieldValue → List ℕ → Type 0
-IsReadBack origin kind text value rest =
-    ReadsField origin kind (after_spaces (text ++ rest)) value rest × (word (after_spaces (text ++ rest)) ≢ mark) × (is_end text ≡ true)
+abbrev pub IsFieldReadBack : Option NameValue → Kind → List ℕ → FieldValue → List ℕ → Type 0
+IsFieldReadBack origin kind text value rest =
+    ReadsField origin kind (after_spaces (text ++ rest)) value rest × (word (after_spaces (text ++ rest)) ≢ generic_mark) × (is_end text ≡ true)
 
 -- What is printed of a field of this kind with this value is read as it.
 abbrev pub FieldComesBack : Kind → FieldValue → Type 0
 FieldComesBack kind value =
-    (origin : Option NameValue) (text rest : List ℕ) → Prints kind value text → Follows kind rest → IsReadBack origin kind text value rest
+    (origin : Option NameValue) (text rest : List ℕ) → Prints kind value text → FollowsField kind rest → IsFieldReadBack origin kind text value rest
 
 -- a type as it is read from its code
-abbrev pub IsRead : RecordType → Type 0
-IsRead kind = (code_of kind < 65536) × (type_of_code (code_of kind) ≡ kind)
+abbrev pub IsReadType : RecordType → Type 0
+IsReadType kind = (code_of kind < 65536) × (type_of_code (code_of kind) ≡ kind)
 
 -- Numbers, times, types and IPv4 addresses come back.
 abbrev pub NumbersComeBack : Type 0
@@ -66,21 +66,21 @@ NumbersComeBack =
     × ((n : ℕ) → n ≤ max_u32 → FieldComesBack U32 (u32 n)) × ((n : ℕ) → n ≤ max_u32 → FieldComesBack Time (time n))
 
 abbrev pub TypesComeBack : Type 0
-TypesComeBack = (record_type : RecordType) → IsRead record_type → FieldComesBack TypeCode (type_code record_type)
+TypesComeBack = (record_type : RecordType) → IsReadType record_type → FieldComesBack TypeCode (type_code record_type)
 
-abbrev pub AddressesComeBack : Type 0
-AddressesComeBack = (a : Ipv4Addr) → IsIpv4Addr a → FieldComesBack Ipv4 (ipv4 (ipv4_octets a))
+abbrev pub FieldAddressesComeBack : Type 0
+FieldAddressesComeBack = (a : Ipv4Addr) → IsIpv4Addr a → FieldComesBack Ipv4 (ipv4 (ipv4_octets a))
 
 -- Names come back, whose labels have octets.
-abbrev pub NamesComeBack : Type 0
-NamesComeBack = (form : NameForm) (labels : List (List ℕ)) → AreLabels labels → AllByRecursion IsOctets labels → FieldComesBack (kinds.Name form) (name labels)
+abbrev pub FieldNamesComeBack : Type 0
+FieldNamesComeBack = (form : NameForm) (labels : List (List ℕ)) → AreLabels labels → AllByRecursion IsOctets labels → FieldComesBack (kinds.Name form) (name labels)
 
 -- IPv6 addresses come back, and identifiers of six and eight octets.
 abbrev pub SegmentsComeBack : Type 0
 SegmentsComeBack = (a : Ipv6Addr) → IsIpv6Addr a → FieldComesBack Ipv6 (ipv6 (ipv6_segments a))
 
-abbrev pub IdentifiersComeBack : Type 0
-IdentifiersComeBack = ((n : ℕ) → n ≤ max_u48 → FieldComesBack U48 (u48 n)) × ((n : ℕ) → n < 2 ^ 64 → FieldComesBack U64 (u64 n))
+abbrev pub FieldIdentifiersComeBack : Type 0
+FieldIdentifiersComeBack = ((n : ℕ) → n ≤ max_u48 → FieldComesBack U48 (u48 n)) × ((n : ℕ) → n < 2 ^ 64 → FieldComesBack U64 (u64 n))
 
 -- Octets come back that have a length octet before them: strings, tags, salts and hashed names.
 abbrev pub CountedComeBack : Type 0

@@ -17,7 +17,7 @@ use Rattle.dnw_zone_data.specs.declared.error.DataTextError.TheVariants.{Memory}
 use Rattle.dnw_zone_data.specs.declared.error.Wanted.TheVariants.{Data, Generic}
 use Rattle.dnw_zone_data.specs.Faults.{fault}
 use Rattle.dnw_zone_data.specs.Words.{after_spaces, word, after_word}
-use Rattle.dnw_zone_data.specs.Generic.{mark, generic_text, hex_words, IsGeneric, IsSized, FailsSized}
+use Rattle.dnw_zone_data.specs.Generic.{generic_mark, generic_text, hex_words, IsGeneric, IsSized, FailsSized}
 use Rattle.dnw_zone_data.specs.Printing.{PrintsFields, HasNoText}
 use Rattle.dnw_zone_data.specs.Parsing.{AreFieldTexts, FailsFields}
 use Rattle.dnw_data.specs.FieldWires.{IsLong, field_wire}
@@ -82,7 +82,7 @@ IsDataText r text =
 -- the text is these octets, in the type's own form
 abbrev pub IsFieldsText : Option NameValue → List Kind → List ℕ → List ℕ → Type 0
 IsFieldsText origin kinds text own =
-    (word (after_spaces text) ≢ mark) × (has_own_form kinds ≡ true) × (values : List FieldValue) × AreFieldTexts origin kinds text values
+    (word (after_spaces text) ≢ generic_mark) × (has_own_form kinds ≡ true) × (values : List FieldValue) × AreFieldTexts origin kinds text values
     × (own ≡ flat_map field_wire values)
 
 -- the text is these octets in the form that any data have, and they are data of the type, without pointers: nothing is said in
@@ -102,6 +102,6 @@ FailsGeneric kinds len left e =
 -- why a text is no data of a type
 abbrev pub FailsText : Option NameValue → List Kind → List ℕ → DataTextError → Type 0
 FailsText origin kinds text e =
-    ((word (after_spaces text) ≡ mark) × FailsGeneric kinds (length text) (after_word (after_spaces text)) e)
-    ⊎ ((word (after_spaces text) ≢ mark) × (has_own_form kinds ≡ false) × (e ≡ fault 0 (length text - length (after_spaces text)) Generic))
-    ⊎ ((word (after_spaces text) ≢ mark) × (has_own_form kinds ≡ true) × ((e ≡ Memory) ⊎ FailsFields origin (length kinds) (length text) kinds text e))
+    ((word (after_spaces text) ≡ generic_mark) × FailsGeneric kinds (length text) (after_word (after_spaces text)) e)
+    ⊎ ((word (after_spaces text) ≢ generic_mark) × (has_own_form kinds ≡ false) × (e ≡ fault 0 (length text - length (after_spaces text)) Generic))
+    ⊎ ((word (after_spaces text) ≢ generic_mark) × (has_own_form kinds ≡ true) × ((e ≡ Memory) ⊎ FailsFields origin (length kinds) (length text) kinds text e))

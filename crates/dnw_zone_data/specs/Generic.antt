@@ -6,13 +6,13 @@ use Rattle.dnw_zone_values.specs.Numbers.{IsNumberText}
 use Rattle.dnw_zone_data.specs.declared.error.DataTextError.{DataTextError}
 use Rattle.dnw_zone_data.specs.declared.error.DataTextError.TheVariants.{Memory}
 use Rattle.dnw_zone_data.specs.declared.error.Wanted.TheVariants.{Size, Octets}
-use Rattle.dnw_zone_data.specs.Words.{after_spaces, word, after_word, joined}
+use Rattle.dnw_zone_data.specs.Words.{after_spaces, word, after_word, without_spaces}
 use Rattle.dnw_zone_data.specs.Faults.{fault}
 use Rattle.dnw_base.specs.Limits.{max_data}
 
 -- the word that the form begins with
-abbrev pub mark : List ℕ
-mark = codes "\\#"
+abbrev pub generic_mark : List ℕ
+generic_mark = codes "\\#"
 
 -- no word for no octets
 abbrev pub hex_part : List ℕ → List ℕ
@@ -20,15 +20,15 @@ hex_part [] = []
 hex_part (o ∷ octets) = 32 ∷ hex_text (o ∷ octets)
 
 abbrev pub generic_text : List ℕ → List ℕ
-generic_text octets = mark ++ 32 ∷ decimal (length octets) ++ hex_part octets
+generic_text octets = generic_mark ++ 32 ∷ decimal (length octets) ++ hex_part octets
 
 -- a word is this number of octets
 abbrev pub IsSize : List ℕ → ℕ → Type 0
 IsSize size n = IsUtf8 size × IsNumberText max_data size n
 
 -- words are so many octets in hexadecimal
-abbrev pub AreOctets : ℕ → List ℕ → List ℕ → Type 0
-AreOctets n words octets = IsUtf8 (joined words) × IsHexText (joined words) octets × (length octets ≡ n)
+abbrev pub AreHexWords : ℕ → List ℕ → List ℕ → Type 0
+AreHexWords n words octets = IsUtf8 (without_spaces words) × IsHexText (without_spaces words) octets × (length octets ≡ n)
 
 -- what is after the number
 abbrev pub hex_words : List ℕ → List ℕ
@@ -36,11 +36,11 @@ hex_words left = after_spaces (after_word (after_spaces left))
 
 -- after `\#` is the number of these octets, and then they are
 abbrev pub IsSized : List ℕ → List ℕ → Type 0
-IsSized left octets = (n : ℕ) × IsSize (word (after_spaces left)) n × AreOctets n (hex_words left) octets
+IsSized left octets = (n : ℕ) × IsSize (word (after_spaces left)) n × AreHexWords n (hex_words left) octets
 
 -- the text is these octets
 abbrev pub IsGeneric : List ℕ → List ℕ → Type 0
-IsGeneric text octets = (word (after_spaces text) ≡ mark) × IsSized (after_word (after_spaces text)) octets
+IsGeneric text octets = (word (after_spaces text) ≡ generic_mark) × IsSized (after_word (after_spaces text)) octets
 
 -- why no octets are there, in a text of this length: no number, not so many octets, or no memory for the words of some
 abbrev pub FailsSized : ℕ → List ℕ → DataTextError → Type 0
@@ -48,5 +48,5 @@ FailsSized len left e =
     let size = after_spaces left in
     let words = hex_words left in
     (((n : ℕ) → ¬ (IsSize (word size) n)) × (e ≡ fault 0 (len - length size) Size))
-    ⊎ ((n : ℕ) × IsSize (word size) n × ((octets : List ℕ) → ¬ (AreOctets n words octets)) × (e ≡ fault 1 (len - length words) (Octets n)))
+    ⊎ ((n : ℕ) × IsSize (word size) n × ((octets : List ℕ) → ¬ (AreHexWords n words octets)) × (e ≡ fault 1 (len - length words) (Octets n)))
     ⊎ ((n : ℕ) × IsSize (word size) n × (1 ≤ length words) × (e ≡ Memory))

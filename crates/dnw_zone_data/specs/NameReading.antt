@@ -49,19 +49,19 @@ labels_from labels label escape (c ∷ cs) =
     (λ within. labels_from labels label within cs)
 
 -- the labels with those of an origin, if there is one
-abbrev pub completed : Option NameValue → List (List ℕ) → Option (List (List ℕ))
-completed None labels = None
-completed (Some origin) labels = result_ok (with_labels labels origin.labels)
+abbrev pub completed_labels : Option NameValue → List (List ℕ) → Option (List (List ℕ))
+completed_labels None labels = None
+completed_labels (Some origin) labels = result_ok (with_labels labels origin.labels)
 
 abbrev pub complete : Option NameValue → List (List ℕ) × Bool → Option (List (List ℕ))
 complete origin (labels, true) = Some labels
-complete origin (labels, false) = completed origin labels
+complete origin (labels, false) = completed_labels origin labels
 
 -- the labels of the name that a text gives, if any
-abbrev pub name_at : Option NameValue → List ℕ → Option (List (List ℕ))
-name_at origin [] = None
-name_at origin (c ∷ []) =
+abbrev pub named_at : Option NameValue → List ℕ → Option (List (List ℕ))
+named_at origin [] = None
+named_at origin (c ∷ []) =
     if c == 46 then Some []
-    else if c == 64 then completed origin []
+    else if c == 64 then completed_labels origin []
     else and_then (labels_from [] [] Outside (c ∷ [])) (complete origin)
-name_at origin (c ∷ d ∷ cs) = and_then (labels_from [] [] Outside (c ∷ d ∷ cs)) (complete origin)
+named_at origin (c ∷ d ∷ cs) = and_then (labels_from [] [] Outside (c ∷ d ∷ cs)) (complete origin)

@@ -25,9 +25,9 @@ use Rattle.dnw_zone_values.specs.Pairs.{IsPairsText}
 use Rattle.dnw_zone_values.specs.Times.{IsTimeText}
 use Rattle.dnw_zone_data.specs.declared.error.DataTextError.{DataTextError}
 use Rattle.dnw_zone_data.specs.declared.error.Wanted.TheVariants.{Field, End}
-use Rattle.dnw_zone_data.specs.Words.{after_spaces, word, after_word, joined}
+use Rattle.dnw_zone_data.specs.Words.{after_spaces, word, after_word, without_spaces}
 use Rattle.dnw_zone_data.specs.Faults.{fault}
-use Rattle.dnw_zone_data.specs.NameReading.{name_at}
+use Rattle.dnw_zone_data.specs.NameReading.{named_at}
 use Rattle.dnw_zone_data.specs.TypeLists.{AreTypes}
 use Rattle.dnw_zone_data.specs.ParamLists.{AreParams}
 
@@ -39,11 +39,11 @@ IsNumber max field text value = (n : ℕ) × IsUtf8 text × IsNumberText max tex
 
 -- octets in a spelling
 abbrev pub AreOctetsOf : (List ℕ → List ℕ → Type 0) → (List ℕ → FieldValue) → List ℕ → FieldValue → Type 0
-AreOctetsOf Spells field text value = (own : List ℕ) × IsUtf8 text × Spells text own × (value ≡ field own)
+AreOctetsOf SpellsShown field text value = (own : List ℕ) × IsUtf8 text × SpellsShown text own × (value ≡ field own)
 
 -- a word is a name, completed by the origin
-abbrev pub IsName : Option NameValue → List ℕ → FieldValue → Type 0
-IsName origin text value = (labels : List (List ℕ)) × (name_at origin text ≡ Some labels) × (value ≡ name labels)
+abbrev pub IsNameField : Option NameValue → List ℕ → FieldValue → Type 0
+IsNameField origin text value = (labels : List (List ℕ)) × (named_at origin text ≡ Some labels) × (value ≡ name labels)
 
 -- a word is a number or a time of this kind
 abbrev pub IsNumberOf : Kind → List ℕ → FieldValue → Type 0
@@ -54,8 +54,8 @@ IsNumberOf kinds.Time text value = (n : ℕ) × IsUtf8 text × IsTimeText text n
 IsNumberOf kind text value = ⊥
 
 -- pairs of digits are so many octets, as the field that they make
-abbrev pub IsIdentifier : ℕ → (List ℕ → FieldValue) → List ℕ → FieldValue → Type 0
-IsIdentifier size field text value = (own : List ℕ) × IsUtf8 text × IsPairsText text own × (length own ≡ size) × (value ≡ field own)
+abbrev pub IsIdentifierField : ℕ → (List ℕ → FieldValue) → List ℕ → FieldValue → Type 0
+IsIdentifierField size field text value = (own : List ℕ) × IsUtf8 text × IsPairsText text own × (length own ≡ size) × (value ≡ field own)
 
 -- the numbers of identifiers, by their octets
 abbrev pub eui48 : List ℕ → FieldValue
@@ -65,12 +65,12 @@ abbrev pub eui64 : List ℕ → FieldValue
 eui64 own = u64 (from_be_bytes w64 own)
 
 -- a word writes octets that have a length octet before them
-abbrev pub Spells : Shown → List ℕ → List ℕ → Type 0
-Spells Text text own = IsStringText text own
-Spells Tag text own = IsTagText text own
-Spells Hex text own = IsSaltText text own
-Spells Base32Hex text own = IsHashText text own
-Spells shown text own = ⊥
+abbrev pub SpellsShown : Shown → List ℕ → List ℕ → Type 0
+SpellsShown Text text own = IsStringText text own
+SpellsShown Tag text own = IsTagText text own
+SpellsShown Hex text own = IsSaltText text own
+SpellsShown Base32Hex text own = IsHashText text own
+SpellsShown shown text own = ⊥
 
 -- a word is octets up to the end, written as a string is
 abbrev pub IsOctetsOf : Shown → List ℕ → FieldValue → Type 0
@@ -79,13 +79,13 @@ IsOctetsOf shown text value = ⊥
 
 -- a word is a field of this kind
 abbrev pub IsWord : Option NameValue → Kind → List ℕ → FieldValue → Type 0
-IsWord origin (kinds.Name form) text value = IsName origin text value
+IsWord origin (kinds.Name form) text value = IsNameField origin text value
 IsWord origin kinds.Ipv4 text value = (a : Ipv4Addr) × IsUtf8 text × IsIpv4Text text a × (value ≡ ipv4 (ipv4_octets a))
 IsWord origin kinds.Ipv6 text value = (a : Ipv6Addr) × IsUtf8 text × IsIpv6Text text a × (value ≡ ipv6 (ipv6_segments a))
 IsWord origin kinds.TypeCode text value = (code : RecordType) × IsUtf8 text × (type_of_text text ≡ Some code) × (value ≡ type_code code)
-IsWord origin kinds.U48 text value = IsIdentifier 6 eui48 text value
-IsWord origin kinds.U64 text value = IsIdentifier 8 eui64 text value
-IsWord origin (kinds.Counted shown) text value = AreOctetsOf (Spells shown) counted text value
+IsWord origin kinds.U48 text value = IsIdentifierField 6 eui48 text value
+IsWord origin kinds.U64 text value = IsIdentifierField 8 eui64 text value
+IsWord origin (kinds.Counted shown) text value = AreOctetsOf (SpellsShown shown) counted text value
 IsWord origin (kinds.Octets shown) text value = IsOctetsOf shown text value
 IsWord origin kind text value = IsNumberOf kind text value
 
@@ -115,8 +115,8 @@ takes_all kind = false
 
 -- all words write octets as one
 abbrev pub AllSpell : Shown → List ℕ → List ℕ → Type 0
-AllSpell Hex left own = IsUtf8 (joined left) × IsHexText (joined left) own
-AllSpell Base64 left own = IsUtf8 (joined left) × IsBase64Text (joined left) own
+AllSpell Hex left own = IsUtf8 (without_spaces left) × IsHexText (without_spaces left) own
+AllSpell Base64 left own = IsUtf8 (without_spaces left) × IsBase64Text (without_spaces left) own
 AllSpell shown left own = ⊥
 
 -- all words are the items of a list

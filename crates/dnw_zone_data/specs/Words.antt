@@ -16,12 +16,12 @@ after_spaces [] = []
 after_spaces (c ∷ cs) = if is_space c then after_spaces cs else c ∷ cs
 
 -- the character ends a word, in quotes or not, after a backslash or not
-abbrev pub ends_word : Bool → Bool → ℕ → Bool
-ends_word quoted escaped c = not quoted && not escaped && is_space c
+abbrev pub ends_word_at : Bool → Bool → ℕ → Bool
+ends_word_at quoted escaped c = not quoted && not escaped && is_space c
 
 -- the next character is in quotes, or after a backslash
-abbrev pub quoted_after : Bool → Bool → ℕ → Bool
-quoted_after quoted escaped c = if not escaped && (c == quote) then not quoted else quoted
+abbrev pub quoted_next : Bool → Bool → ℕ → Bool
+quoted_next quoted escaped c = if not escaped && (c == quote) then not quoted else quoted
 
 abbrev pub escaped_after : Bool → ℕ → Bool
 escaped_after escaped c = not escaped && (c == backslash)
@@ -30,7 +30,7 @@ escaped_after escaped c = not escaped && (c == backslash)
 abbrev pub word_len : Bool → Bool → List ℕ → ℕ
 word_len quoted escaped [] = 0
 word_len quoted escaped (c ∷ cs) =
-    if ends_word quoted escaped c then 0 else 1 + word_len (quoted_after quoted escaped c) (escaped_after escaped c) cs
+    if ends_word_at quoted escaped c then 0 else 1 + word_len (quoted_next quoted escaped c) (escaped_after escaped c) cs
 
 -- the first word of a text, and what is after it
 abbrev pub word : List ℕ → List ℕ
@@ -45,5 +45,5 @@ is_end [] = true
 is_end (c ∷ cs) = is_space c
 
 -- all words of a text as one
-abbrev pub joined : List ℕ → List ℕ
-joined text = filter is_no_space text
+abbrev pub without_spaces : List ℕ → List ℕ
+without_spaces text = filter is_no_space text

@@ -2,8 +2,8 @@
 ghost use Rattle.std.specs.Prelude.{◌≡◌, ◌≤◌, ℕ, List, [], length, Some, IfOk, OnErr, IfErr, MatchResult, MatchOption};
 ghost use Rattle.std.specs.Str.{IsUtf8};
 ghost use Rattle.dnw_zone_data.specs.Faults.{fault};
-ghost use Rattle.dnw_zone_data.specs.Words.{joined};
-ghost use Rattle.dnw_zone_data.specs.Generic.{generic_text, hex_words, IsSize, AreOctets, IsSized, FailsSized};
+ghost use Rattle.dnw_zone_data.specs.Words.{without_spaces};
+ghost use Rattle.dnw_zone_data.specs.Generic.{generic_text, hex_words, IsSize, AreHexWords, IsSized, FailsSized};
 
 use crate::error::{DataTextError, Wanted};
 use crate::words::{after_spaces, split_word, without_spaces};
@@ -76,7 +76,7 @@ fn size_of(word: &[u8]) -> Option<u16>
 
 /// Returns what no words write: no octets, if there are to be none.
 fn no_octets(alloc: Global, size: u16) -> Option<Vec<u8>>
-    ensures { MatchOption result ((octets : List ℕ) → ¬ (AreOctets size [] octets)) (λ octets. AreOctets size [] octets.items) }
+    ensures { MatchOption result ((octets : List ℕ) → ¬ (AreHexWords size [] octets)) (λ octets. AreHexWords size [] octets.items) }
 {
     if size == 0 {
         Some(Vec::new(alloc))
@@ -87,7 +87,7 @@ fn no_octets(alloc: Global, size: u16) -> Option<Vec<u8>>
 
 /// Returns the octets that words write in hexadecimal, if there are so many. Without words it takes no memory.
 fn octets_of(alloc: Global, size: u16, words: &[u8]) -> Result<Option<Vec<u8>>, AllocError>
-    ensures ok { IfOk result (λ x. MatchOption x ((octets : List ℕ) → ¬ (AreOctets size words.now octets)) (λ octets. AreOctets size words.now octets.items)) }
+    ensures ok { IfOk result (λ x. MatchOption x ((octets : List ℕ) → ¬ (AreHexWords size words.now octets)) (λ octets. AreHexWords size words.now octets.items)) }
     ensures err { OnErr result (1 ≤ length words.now) }
 {
     if words.is_empty() {

@@ -1,16 +1,16 @@
 //! What is printed of data and of their fields is parsed as the same.
 //!
 //! The functions do nothing. Each is there for its clauses.
-ghost use Rattle.dnw_zone_data.specs.DataTextLaws.{GenericComesBack, GenericIsParsed, DataComeBack, TextsAreParsed, NumbersComeBack, TypesComeBack, AddressesComeBack, NamesComeBack, SegmentsComeBack, IdentifiersComeBack, CountedComeBack, OctetsComeBack, StringsComeBack, ListsComeBack};
+ghost use Rattle.dnw_zone_data.specs.DataTextLaws.{GenericComesBack, GenericIsParsed, DataComeBack, TextsAreParsed, NumbersComeBack, TypesComeBack, FieldAddressesComeBack, FieldNamesComeBack, SegmentsComeBack, FieldIdentifiersComeBack, CountedComeBack, OctetsComeBack, StringsComeBack, ListsComeBack};
 
 /// Fields of these kinds come back, whatever follows them.
 pub fn fields_come_back()
     ensures numbers { NumbersComeBack }
     ensures types { TypesComeBack }
-    ensures addresses { AddressesComeBack }
-    ensures names { NamesComeBack }
+    ensures addresses { FieldAddressesComeBack }
+    ensures names { FieldNamesComeBack }
     ensures segments { SegmentsComeBack }
-    ensures identifiers { IdentifiersComeBack }
+    ensures identifiers { FieldIdentifiersComeBack }
     ensures counted { CountedComeBack }
     ensures octets { OctetsComeBack }
     ensures strings { StringsComeBack }

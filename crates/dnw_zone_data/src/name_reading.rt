@@ -3,8 +3,8 @@ ghost use Rattle.std.specs.Prelude.{◌≡◌, ◌≤◌, Some, None, Bool, true
 ghost use Rattle.std.specs.Option.{option_copied};
 ghost use Rattle.dnw_base.specs.Limits.{max_label};
 ghost use Rattle.dnw_zone_data.specs.declared.name_reading.Escape.TheVariants.{Outside};
-ghost use Rattle.dnw_zone_data.specs.Inside.Labels.{IsEscape, IsElement, PushesLabel};
-ghost use Rattle.dnw_zone_data.specs.NameReading.{element, labels_from, completed, name_at};
+ghost use Rattle.dnw_zone_data.specs.Inside.Labels.{IsEscape, IsTextElement, PushesLabel};
+ghost use Rattle.dnw_zone_data.specs.NameReading.{element, labels_from, completed_labels, named_at};
 
 use arrayvec::ArrayVec;
 use dnw_base::limits::MAX_LABEL;
@@ -40,7 +40,7 @@ pub(crate) enum Element {
 
 /// Returns the wire form of the name that a text gives, if any. An origin completes it if no dot is at its end.
 pub fn read_name(alloc: Global, text: &[u8], origin: Option<&Name>) -> Option<WireForm>
-    ensures { result ≡ name_at (option_copied origin.entry) text.now }
+    ensures { result ≡ named_at (option_copied origin.entry) text.now }
 {
     match text {
         [] => None,
@@ -59,7 +59,7 @@ pub fn read_name(alloc: Global, text: &[u8], origin: Option<&Name>) -> Option<Wi
 
 /// Returns the labels with those of an origin, if there is one and the name is not too long.
 fn complete(mut form: WireForm, origin: Option<&Name>) -> Option<WireForm>
-    ensures { result ≡ completed (option_copied origin.entry) form }
+    ensures { result ≡ completed_labels (option_copied origin.entry) form }
 {
     form.append(origin?.wire_labels()).ok()?;
     Some(form)
@@ -112,7 +112,7 @@ fn push_label(form: &mut WireForm, label: &[u8]) -> Option<()>
 fn element_of(escape: Escape, c: u8) -> Element
     requires { IsEscape escape }
     ensures is { result ≡ element escape c }
-    ensures within { IsElement result }
+    ensures within { IsTextElement result }
 {
     match escape {
         Escape::Outside => match c {

@@ -4,7 +4,7 @@ ghost use Rattle.std.specs.Option.{option_copied, option_map};
 ghost use Rattle.dnw_data.specs.Values.{FieldValue, counted, octets};
 ghost use Rattle.dnw_zone_values.specs.Strings.{IsLongText};
 ghost use Rattle.dnw_zone_data.specs.declared.error.DataTextError.TheVariants.{Memory};
-ghost use Rattle.dnw_zone_data.specs.Parsing.{IsName, IsNumberOf, AreOctetsOf, IsOctetsOf, IsIdentifier, eui48, eui64, Spells, IsWord, AreTexts, AreList, takes_all, AllSpell, AreAll, ReadsField, AreFieldTexts, FailsFields};
+ghost use Rattle.dnw_zone_data.specs.Parsing.{IsNameField, IsNumberOf, AreOctetsOf, IsOctetsOf, IsIdentifierField, eui48, eui64, SpellsShown, IsWord, AreTexts, AreList, takes_all, AllSpell, AreAll, ReadsField, AreFieldTexts, FailsFields};
 ghost use Rattle.dnw_data.specs.FieldWires.{field_wire};
 ghost use Rattle.dnw_zone_data.specs.Inside.Reads.{AppendsRest, IsEndedBy};
 ghost use Rattle.dnw_zone_data.specs.Appending.{AppendsOne};
@@ -248,7 +248,7 @@ fn parse_name(
     origin: Option<&Name>,
     out: &mut Vec<u8>,
 ) -> Result<bool, AllocError>
-    ensures { IfOk result (AppendsOne (IsName (option_copied origin.entry) word.now) out.old.items out.new.items) }
+    ensures { IfOk result (AppendsOne (IsNameField (option_copied origin.entry) word.now) out.old.items out.new.items) }
 {
     let Some(form) = read_name(alloc, word, origin) else {
         return Ok(false);
@@ -293,7 +293,7 @@ fn parse_number(kind: Kind, text: &str, out: &mut Vec<u8>) -> Result<bool, Alloc
 
 /// Appends the octets of an identifier of six. Returns `false` if the text is none.
 fn parse_eui48(alloc: Global, text: &str, out: &mut Vec<u8>) -> Result<bool, AllocError>
-    ensures { IfOk result (AppendsOne (IsIdentifier 6 eui48 text.now) out.old.items out.new.items) }
+    ensures { IfOk result (AppendsOne (IsIdentifierField 6 eui48 text.now) out.old.items out.new.items) }
 {
     let Some(own) = pairs_of(alloc, 6, text)? else {
         return Ok(false);
@@ -304,7 +304,7 @@ fn parse_eui48(alloc: Global, text: &str, out: &mut Vec<u8>) -> Result<bool, All
 
 /// Appends the octets of an identifier of eight. Returns `false` if the text is none.
 fn parse_eui64(alloc: Global, text: &str, out: &mut Vec<u8>) -> Result<bool, AllocError>
-    ensures { IfOk result (AppendsOne (IsIdentifier 8 eui64 text.now) out.old.items out.new.items) }
+    ensures { IfOk result (AppendsOne (IsIdentifierField 8 eui64 text.now) out.old.items out.new.items) }
 {
     let Some(own) = pairs_of(alloc, 8, text)? else {
         return Ok(false);
@@ -320,7 +320,7 @@ fn parse_counted(
     text: &str,
     out: &mut Vec<u8>,
 ) -> Result<bool, AllocError>
-    ensures { IfOk result (AppendsOne (AreOctetsOf (Spells shown) counted text.now) out.old.items out.new.items) }
+    ensures { IfOk result (AppendsOne (AreOctetsOf (SpellsShown shown) counted text.now) out.old.items out.new.items) }
 {
     let Some(own) = spelled(alloc, shown, text)? else {
         return Ok(false);

@@ -5,7 +5,7 @@ ghost use Rattle.dnw_zone_values.specs.Strings.{IsStringText, IsLongText};
 ghost use Rattle.dnw_zone_values.specs.Tags.{IsTagText};
 ghost use Rattle.dnw_zone_values.specs.Base32.{IsHashText};
 ghost use Rattle.dnw_zone_values.specs.Pairs.{IsPairsText};
-ghost use Rattle.dnw_zone_data.specs.Parsing.{IsStringWord, Spells};
+ghost use Rattle.dnw_zone_data.specs.Parsing.{IsStringWord, SpellsShown};
 
 use dnw_data::kind::Shown;
 use dnw_zone_values::base32::parse_hash;
@@ -23,7 +23,7 @@ pub(crate) fn spelled(
     shown: Shown,
     text: &str,
 ) -> Result<Option<Vec<u8>>, AllocError>
-    ensures is { IfOk result (λ x. MatchOption x ((own : List ℕ) → ¬ (Spells shown text.now own)) (λ own. Spells shown text.now own.items)) }
+    ensures is { IfOk result (λ x. MatchOption x ((own : List ℕ) → ¬ (SpellsShown shown text.now own)) (λ own. SpellsShown shown text.now own.items)) }
     ensures few { IfOk result (λ x. IfSome x (λ own. length own.items ≤ 255)) }
 {
     match shown {

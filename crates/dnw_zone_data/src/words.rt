@@ -1,7 +1,7 @@
 //! How a text is split into words.
 ghost use Rattle.std.specs.Prelude.{◌≡◌, ◌≤◌, ◌+◌, ◌++◌, Bool, not, length, false, take, drop, IfOk};
 ghost use Rattle.std.specs.List.{filter};
-ghost use Rattle.dnw_zone_data.specs.Words.{is_space, is_no_space, ends_word, quoted_after, escaped_after, word_len, after_spaces};
+ghost use Rattle.dnw_zone_data.specs.Words.{is_space, is_no_space, ends_word_at, quoted_next, escaped_after, word_len, after_spaces};
 
 use std::alloc::{AllocError, Global};
 
@@ -50,14 +50,14 @@ pub fn split_word(text: &[u8]) -> (&[u8], &[u8])
 
 /// Returns `true` if a character ends a word: it is white space, and neither in quotes nor after a backslash.
 fn ends_word(quoted: bool, escaped: bool, c: u8) -> bool
-    ensures { result ≡ ends_word quoted escaped c }
+    ensures { result ≡ ends_word_at quoted escaped c }
 {
     !quoted && !escaped && is_space(c)
 }
 
 /// Returns `true` if the next character is in quotes.
 fn quoted_after(quoted: bool, escaped: bool, c: u8) -> bool
-    ensures { result ≡ quoted_after quoted escaped c }
+    ensures { result ≡ quoted_next quoted escaped c }
 {
     if !escaped && c == b'"' {
         !quoted

@@ -7,7 +7,7 @@ use Rattle.std.specs.List.{AllByRecursion}
 use Rattle.dnw_zone_lexer.specs.Lexing.{line_state, Lexes, Calls, IsToken}
 use Rattle.dnw_zone_lexer.specs.declared.zone_lex.Token.{Token}
 use Rattle.dnw_zone_lexer.specs.declared.errors.LexerError.{LexerError}
-use Rattle.dnw_zone_lexer.specs.Tokens.{TokenValue, Step, Gives, Ends, Stops, IsSettled, LexFault, LexerValue, LexState, StartLine, RestOfLine, Failed, before, from, is_line_end, line_end, after_comment, word_before, ends_word, semicolon, close_paren, list_after, ListState, Between, Comment, Word, quoted_after, QuoteState, Plain, Escaped, AfterOne, AfterTwo, control_entry, is_no_capital, entry, rest_of_line, next_from}
+use Rattle.dnw_zone_lexer.specs.Tokens.{TokenValue, Step, Gives, Ends, Stops, IsSettledStep, LexFault, LexerValue, LexState, StartLine, RestOfLine, Failed, front_until, from, is_line_end, line_end, after_comment, word_before, ends_word, semicolon, close_paren, list_after, ListState, Between, Comment, Word, quoted_after, QuoteState, Plain, Escaped, AfterOne, AfterTwo, control_entry, is_no_capital, line_entry, rest_of_line, next_from}
 
 -- a lexer has not failed
 abbrev pub IsOnLine : LexState → Type 0
@@ -28,7 +28,7 @@ and_more more step = step
 
 -- and_more is what t is, once s is settled
 Goes : List ℕ → List ℕ → Step → Step → Type 0
-Goes more cs s t = HasEnd cs s × (IsSettled s → t ≡ and_more more s)
+Goes more cs s t = HasEnd cs s × (IsSettledStep s → t ≡ and_more more s)
 
 if_goes : (more cs : List ℕ) (b : Bool) (x y s t : Step) → (b ≡ true → Goes more cs x s) → (b ≡ false → Goes more cs y t) → Goes more cs (if b then x else y) (if b then s else t)
 if_goes more cs true x y s t hx hy = hx refl
@@ -50,7 +50,7 @@ unfolding HasEnd Goes
 halts more cs fault = (tt, λ _. refl)
 
 -- what is not settled
-runs_on : (more cs : List ℕ) (fault : LexFault) (t : Step) → (IsSettled (Stops fault) → ⊥) → Goes more cs (Stops fault) t
+runs_on : (more cs : List ℕ) (fault : LexFault) (t : Step) → (IsSettledStep (Stops fault) → ⊥) → Goes more cs (Stops fault) t
 unfolding HasEnd Goes
 runs_on more cs fault t unsettled = (tt, λ settled. absurd (unsettled settled))
 
@@ -69,25 +69,25 @@ if_ends more cs false x y t hx hy = hy
 
 ruleset reading = (if_goes, next, gives, halts, runs_on, ends, tt)
 
-line_end-goes : (more cs : List ℕ) → Goes more cs (line_end cs) (line_end (cs ++ more))
-line_end-goes more [] = search reading
-line_end-goes more (c ∷ cs) = search (reading, line_end-goes more cs)
+line_end_goes : (more cs : List ℕ) → Goes more cs (line_end cs) (line_end (cs ++ more))
+line_end_goes more [] = search reading
+line_end_goes more (c ∷ cs) = search (reading, line_end_goes more cs)
 
-list_after-goes : (more cs : List ℕ) (words : List (List ℕ)) (state : ListState) → Goes more cs (list_after words state cs) (list_after words state (cs ++ more))
-list_after-goes more [] words state = search reading
-list_after-goes more (c ∷ cs) words Comment = search (reading, list_after-goes more cs)
-list_after-goes more (c ∷ cs) words Between = search (reading, list_after-goes more cs) depth 8
-list_after-goes more (c ∷ cs) words (Word word) = search (reading, list_after-goes more cs) depth 8
+list_after_goes : (more cs : List ℕ) (words : List (List ℕ)) (state : ListState) → Goes more cs (list_after words state cs) (list_after words state (cs ++ more))
+list_after_goes more [] words state = search reading
+list_after_goes more (c ∷ cs) words Comment = search (reading, list_after_goes more cs)
+list_after_goes more (c ∷ cs) words Between = search (reading, list_after_goes more cs) depth 8
+list_after_goes more (c ∷ cs) words (Word word) = search (reading, list_after_goes more cs) depth 8
 
-quoted_after-goes : (more cs text : List ℕ) (state : QuoteState) → Goes more cs (quoted_after text state cs) (quoted_after text state (cs ++ more))
-quoted_after-goes more [] text Plain = search reading
-quoted_after-goes more [] text Escaped = search reading
-quoted_after-goes more [] text (AfterOne a) = search reading
-quoted_after-goes more [] text (AfterTwo a b) = search reading
-quoted_after-goes more (c ∷ cs) text Plain = search (reading, quoted_after-goes more cs)
-quoted_after-goes more (c ∷ cs) text Escaped = search (reading, quoted_after-goes more cs) depth 8
-quoted_after-goes more (c ∷ cs) text (AfterOne a) = search (reading, quoted_after-goes more cs)
-quoted_after-goes more (c ∷ cs) text (AfterTwo a b) = search (reading, quoted_after-goes more cs)
+quoted_after_goes : (more cs text : List ℕ) (state : QuoteState) → Goes more cs (quoted_after text state cs) (quoted_after text state (cs ++ more))
+quoted_after_goes more [] text Plain = search reading
+quoted_after_goes more [] text Escaped = search reading
+quoted_after_goes more [] text (AfterOne a) = search reading
+quoted_after_goes more [] text (AfterTwo a b) = search reading
+quoted_after_goes more (c ∷ cs) text Plain = search (reading, quoted_after_goes more cs)
+quoted_after_goes more (c ∷ cs) text Escaped = search (reading, quoted_after_goes more cs) depth 8
+quoted_after_goes more (c ∷ cs) text (AfterOne a) = search (reading, quoted_after_goes more cs)
+quoted_after_goes more (c ∷ cs) text (AfterTwo a b) = search (reading, quoted_after_goes more cs)
 
 -- What is read up to a character that passes, and then from it on, after a character.
 abbrev IsCut : List ℕ → (List ℕ → List ℕ → Step) → Type 0
@@ -95,61 +95,61 @@ IsCut more F = ((word : List ℕ) (c : ℕ) (t : Step) → Goes more (c ∷ []) 
     × ((word : List ℕ) (c d : ℕ) (cs : List ℕ) → Goes more (c ∷ d ∷ cs) (F word (d ∷ cs)) (F word (d ∷ cs ++ more)))
 
 cut_step : (more : List ℕ) (p : ℕ → Bool) (F : List ℕ → List ℕ → Step) (c d : ℕ) (cs : List ℕ) (b : Bool) → p d ≡ b → IsCut more F
-    → Goes more (d ∷ cs) (F (d ∷ before p cs) (from p cs)) (F (d ∷ before p (cs ++ more)) (from p (cs ++ more)))
-    → Goes more (c ∷ d ∷ cs) (F (before p (d ∷ cs)) (from p (d ∷ cs))) (F (before p (d ∷ cs ++ more)) (from p (d ∷ cs ++ more)))
+    → Goes more (d ∷ cs) (F (d ∷ front_until p cs) (from p cs)) (F (d ∷ front_until p (cs ++ more)) (from p (cs ++ more)))
+    → Goes more (c ∷ d ∷ cs) (F (front_until p (d ∷ cs)) (from p (d ∷ cs))) (F (front_until p (d ∷ cs ++ more)) (from p (d ∷ cs ++ more)))
 cut_step more p F c d cs true h is ih = rw h (is.1 [] c d cs)
 cut_step more p F c d cs false h is ih = rw h (next more c (d ∷ cs) _ _ ih)
 
-cut-goes : (more : List ℕ) (p : ℕ → Bool) (F : List ℕ → List ℕ → Step) (c : ℕ) (cs : List ℕ) → IsCut more F
-    → Goes more (c ∷ cs) (F (before p cs) (from p cs)) (F (before p (cs ++ more)) (from p (cs ++ more)))
-cut-goes more p F c [] is = is.0 [] c _
-cut-goes more p F c (d ∷ cs) is =
-    cut_step more p F c d cs (p d) refl is (cut-goes more p (λ word rest. F (d ∷ word) rest) d cs (λ word. is.0 (d ∷ word), λ word. is.1 (d ∷ word)))
+cut_goes : (more : List ℕ) (p : ℕ → Bool) (F : List ℕ → List ℕ → Step) (c : ℕ) (cs : List ℕ) → IsCut more F
+    → Goes more (c ∷ cs) (F (front_until p cs) (from p cs)) (F (front_until p (cs ++ more)) (from p (cs ++ more)))
+cut_goes more p F c [] is = is.0 [] c _
+cut_goes more p F c (d ∷ cs) is =
+    cut_step more p F c d cs (p d) refl is (cut_goes more p (λ word rest. F (d ∷ word) rest) d cs (λ word. is.0 (d ∷ word), λ word. is.1 (d ∷ word)))
 
-comment-cut : (more : List ℕ) → IsCut more (λ _ rest. after_comment rest)
-comment-cut more = (λ word c t. ends more (c ∷ []) t, λ word c d cs. next more c (d ∷ cs) _ _ (line_end-goes more (d ∷ cs)))
+comment_cut : (more : List ℕ) → IsCut more (λ _ rest. after_comment rest)
+comment_cut more = (λ word c t. ends more (c ∷ []) t, λ word c d cs. next more c (d ∷ cs) _ _ (line_end_goes more (d ∷ cs)))
 
-word-cut : (more : List ℕ) → IsCut more word_before
-word-cut more = (λ word c t. search (reading, word_ends), λ word c d cs. search (reading, gives))
+word_cut : (more : List ℕ) → IsCut more word_before
+word_cut more = (λ word c t. search (reading, word_ends), λ word c d cs. search (reading, gives))
 
-control-cut : (more : List ℕ) → IsCut more control_entry
-control-cut more = (λ word c t. search (reading, word_ends, if_ends), λ word c d cs. search (reading, gives))
+control_cut : (more : List ℕ) → IsCut more control_entry
+control_cut more = (λ word c t. search (reading, word_ends, if_ends), λ word c d cs. search (reading, gives))
 
-word-goes : (more : List ℕ) (c : ℕ) (cs : List ℕ) → is_whitespace c ≡ false → is_control c ≡ false → (c == semicolon) ≡ false → (c == close_paren) ≡ false
-    → Goes more (c ∷ cs) (word_before (before ends_word (c ∷ cs)) (from ends_word (c ∷ cs))) (word_before (before ends_word (c ∷ cs ++ more)) (from ends_word (c ∷ cs ++ more)))
-word-goes more c cs w k s p =
-    rw (w, k, s, p) (cut-goes more ends_word (λ word rest. word_before (c ∷ word) rest) c cs (λ word. (word-cut more).0 (c ∷ word), λ word. (word-cut more).1 (c ∷ word)))
+word_goes : (more : List ℕ) (c : ℕ) (cs : List ℕ) → is_whitespace c ≡ false → is_control c ≡ false → (c == semicolon) ≡ false → (c == close_paren) ≡ false
+    → Goes more (c ∷ cs) (word_before (front_until ends_word (c ∷ cs)) (from ends_word (c ∷ cs))) (word_before (front_until ends_word (c ∷ cs ++ more)) (from ends_word (c ∷ cs ++ more)))
+word_goes more c cs w k s p =
+    rw (w, k, s, p) (cut_goes more ends_word (λ word rest. word_before (c ∷ word) rest) c cs (λ word. (word_cut more).0 (c ∷ word), λ word. (word_cut more).1 (c ∷ word)))
 
-entry-goes : (more : List ℕ) (c : ℕ) (cs : List ℕ) → is_whitespace c ≡ false → Goes more (c ∷ cs) (entry c cs) (entry c (cs ++ more))
-entry-goes more c cs space =
-    let comment = cut-goes more is_line_end (λ _ rest. after_comment rest) c cs (comment-cut more) in
-    let control = cut-goes more is_no_capital control_entry c cs (control-cut more) in
-    search (reading, list_after-goes more cs, quoted_after-goes more cs, comment, control, word-goes more c cs) depth 12
+entry_goes : (more : List ℕ) (c : ℕ) (cs : List ℕ) → is_whitespace c ≡ false → Goes more (c ∷ cs) (line_entry c cs) (line_entry c (cs ++ more))
+entry_goes more c cs space =
+    let comment = cut_goes more is_line_end (λ _ rest. after_comment rest) c cs (comment_cut more) in
+    let control = cut_goes more is_no_capital control_entry c cs (control_cut more) in
+    search (reading, list_after_goes more cs, quoted_after_goes more cs, comment, control, word_goes more c cs) depth 12
 
-rest_of_line-goes : (more cs : List ℕ) → Goes more cs (rest_of_line cs) (rest_of_line (cs ++ more))
-rest_of_line-goes more [] = search reading
-rest_of_line-goes more (c ∷ cs) = search (reading, line_end-goes more (c ∷ cs), rest_of_line-goes more cs, entry-goes more c cs)
+rest_of_line_goes : (more cs : List ℕ) → Goes more cs (rest_of_line cs) (rest_of_line (cs ++ more))
+rest_of_line_goes more [] = search reading
+rest_of_line_goes more (c ∷ cs) = search (reading, line_end_goes more (c ∷ cs), rest_of_line_goes more cs, entry_goes more c cs)
 
-next_from-goes : (state : LexState) (more cs : List ℕ) → Goes more cs (next_from state cs) (next_from state (cs ++ more))
-next_from-goes StartLine more [] = search reading
-next_from-goes StartLine more (c ∷ cs) = search (reading, line_end-goes more (c ∷ cs), entry-goes more c cs)
-next_from-goes RestOfLine more cs = rest_of_line-goes more cs
-next_from-goes Failed more cs = search reading
+next_from_goes : (state : LexState) (more cs : List ℕ) → Goes more cs (next_from state cs) (next_from state (cs ++ more))
+next_from_goes StartLine more [] = search reading
+next_from_goes StartLine more (c ∷ cs) = search (reading, line_end_goes more (c ∷ cs), entry_goes more c cs)
+next_from_goes RestOfLine more cs = rest_of_line_goes more cs
+next_from_goes Failed more cs = search reading
 
-pub settled-more : (state : LexState) (more cs : List ℕ) → IsSettled (next_from state cs) → next_from state (cs ++ more) ≡ and_more more (next_from state cs)
+pub settled_more : (state : LexState) (more cs : List ℕ) → IsSettledStep (next_from state cs) → next_from state (cs ++ more) ≡ and_more more (next_from state cs)
 unfolding Goes
-settled-more state more cs settled = (next_from-goes state more cs).1 settled
+settled_more state more cs settled = (next_from_goes state more cs).1 settled
 
 -- and so it stays settled
-pub settled-stays : (more : List ℕ) (s : Step) → IsSettled s → IsSettled (and_more more s)
-settled-stays more (Gives token [] state) h = absurd h
-settled-stays more (Gives token (c ∷ rest) state) h = tt
-settled-stays more Ends h = absurd h
-settled-stays more (Stops fault) h = h
+pub settled_stays : (more : List ℕ) (s : Step) → IsSettledStep s → IsSettledStep (and_more more s)
+settled_stays more (Gives token [] state) h = absurd h
+settled_stays more (Gives token (c ∷ rest) state) h = tt
+settled_stays more Ends h = absurd h
+settled_stays more (Stops fault) h = h
 
 pub token_ends : (state after : LexState) (cs rest : List ℕ) (token : TokenValue) → next_from state cs ≡ Gives token rest after → ((front : List ℕ) × (cs ≡ front ++ rest)) × IsOnLine after
 unfolding HasEnd Goes
-token_ends state after cs rest token gives = let ((c, front, e), on) = subst (HasEnd cs) gives (next_from-goes state [] cs).0 in ((c ∷ front, e), on)
+token_ends state after cs rest token gives = let ((c, front, e), on) = subst (HasEnd cs) gives (next_from_goes state [] cs).0 in ((c ∷ front, e), on)
 
 -- a lexer on a line is at its start or not
 pub on_a_line : (state : LexState) (at : Bool) → IsOnLine state → IsTrue at ↔ (state ≡ StartLine) → line_state at ≡ state
@@ -163,7 +163,7 @@ on_a_line Failed at on h = absurd on
 pub takes_one : (old new : LexerValue) (answer : Result (Option Token) LexerError) → Lexes old answer new → IsToken answer → length new.rest < length old.rest
 unfolding HasEnd Goes
 takes_one old new (Ok (Some token)) h t =
-    let ((c, front, e), on) = subst (HasEnd old.rest) h (next_from-goes old.state [] old.rest).0 in
+    let ((c, front, e), on) = subst (HasEnd old.rest) h (next_from_goes old.state [] old.rest).0 in
     omega (arith, ap length e, length-append front new.rest)
 takes_one old new (Ok None) h t = absurd t
 takes_one old new (Err e) h t = absurd t

@@ -6,11 +6,11 @@ use Rattle.std.specs.Char.{is_ascii_digit}
 use Rattle.dnw_zone_lexer.specs.Times.{max_ttl, unit_seconds, with_group, groups_after, total_seconds, time_seconds, IsNoTtl}
 use Rattle.dnw_zone_lexer.specs.Inside.Finds.{seconds_after}
 
-total-cons : (n w : ℕ) (groups : List (ℕ × ℕ)) → total_seconds ((n, w) ∷ groups) ≡ n * w + total_seconds groups
-total-cons n w groups = sum_by-cons (λ g. g.0 * g.1) (n, w) groups
+total_cons : (n w : ℕ) (groups : List (ℕ × ℕ)) → total_seconds ((n, w) ∷ groups) ≡ n * w + total_seconds groups
+total_cons n w groups = sum_by-cons (λ g. g.0 * g.1) (n, w) groups
 
 joined : (total n w : ℕ) (groups : Option (List (ℕ × ℕ))) → option_map (λ gs. total + total_seconds gs) (with_group n (Some w) groups) ≡ option_map (λ gs. (total + n * w) + total_seconds gs) groups
-joined total n w groups = grind (arith, total-cons)
+joined total n w groups = grind (arith, total_cons)
 
 -- a unit ends its group
 pub after_unit : (total n c w : ℕ) (cs : List ℕ) → is_ascii_digit c ≡ false → unit_seconds c ≡ Some w → seconds_after total (Some n) (c ∷ cs) ≡ seconds_after (total + n * w) None cs
@@ -31,7 +31,7 @@ at_next total n c cs false (Some w) h e lt ih =
     subst IsNoTtl (sym (after_unit total n c w cs h e)) (too_many (total + n * w) cs (omega (arith, mul-le-mul_left n (unit_some c w e))))
 
 pub too_great : (total n : ℕ) (cs : List ℕ) → max_ttl < n → IsNoTtl (seconds_after total (Some n) cs)
-too_great total n [] lt = omega (arith, total-cons n 1 [])
+too_great total n [] lt = omega (arith, total_cons n 1 [])
 too_great total n (c ∷ cs) lt = at_next total n c cs _ _ refl refl lt (too_great total (10 * n + (c - 48)) cs (omega arith))
 
 from_zero : (groups : Option (List (ℕ × ℕ))) → option_map (λ gs. 0 + total_seconds gs) groups ≡ option_map total_seconds groups

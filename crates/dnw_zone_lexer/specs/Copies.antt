@@ -1,7 +1,7 @@
 -- What a copy is: the same; each allocated text in it has the same bytes.
 use Rattle.std.specs.Prelude.{◌≡◌, ⊤}
 use Rattle.dnw_base.specs.declared.error.ProtoError.{ProtoError}
-use Rattle.dnw_base.specs.Copies.{CopiesText, IsCopyOf, OwnsText}
+use Rattle.dnw_base.specs.Copies.{CopiesText, IsErrorCopyOf, OwnsText}
 use Rattle.dnw_zone_lexer.specs.Lexing.{token_value}
 use Rattle.dnw_zone_lexer.specs.declared.zone_lex.Token.{Token}
 use Rattle.dnw_zone_lexer.specs.declared.zone_lex.Token.TheVariants.{CharData, List as Words}
@@ -34,7 +34,7 @@ IsParseCopyOf (Msg text) copy = CopiesText Msg text copy
 IsParseCopyOf (ParseTime text) copy = CopiesText ParseTime text copy
 IsParseCopyOf (UnexpectedToken token) copy = (other : Token) × (copy ≡ UnexpectedToken other) × IsTokenCopyOf token other
 IsParseCopyOf (Lexer cause) copy = (other : LexerError) × (copy ≡ Lexer other) × IsLexerCopyOf cause other
-IsParseCopyOf (Proto cause) copy = (other : ProtoError) × (copy ≡ Proto other) × IsCopyOf cause other
+IsParseCopyOf (Proto cause) copy = (other : ProtoError) × (copy ≡ Proto other) × IsErrorCopyOf cause other
 IsParseCopyOf error copy = copy ≡ error
 
 -- the error has an allocated text, and so a copy allocates

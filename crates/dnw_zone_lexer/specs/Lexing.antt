@@ -40,14 +40,14 @@ IsDollarError word (DollarError own) = characters own ≡ word
 IsDollarError word error = ⊥
 
 -- the error reports the fault
-abbrev pub Reports : LexFault → LexerError → Type 0
-Reports EndOfText e = e ≡ EOF
-Reports (IllegalCharacter char) e = e ≡ IllegalError char
-Reports (UnrecognizedChar char) e = e ≡ UnrecognizedError char
-Reports UnclosedList e = e ≡ ListError
-Reports UnclosedQuote e = e ≡ UnclosedQuotedString
-Reports (UnrecognizedDollar word) e = IsDollarError word e
-Reports HasFailed e = IsIllegalState (codes "the lexer has failed") e
+abbrev pub ReportsCause : LexFault → LexerError → Type 0
+ReportsCause EndOfText e = e ≡ EOF
+ReportsCause (IllegalCharacter char) e = e ≡ IllegalError char
+ReportsCause (UnrecognizedChar char) e = e ≡ UnrecognizedError char
+ReportsCause UnclosedList e = e ≡ ListError
+ReportsCause UnclosedQuote e = e ≡ UnclosedQuotedString
+ReportsCause (UnrecognizedDollar word) e = IsDollarError word e
+ReportsCause HasFailed e = IsIllegalState (codes "the lexer has failed") e
 
 -- a list or a quoted text begins with this character
 abbrev pub opens : ℕ → Bool
@@ -73,24 +73,24 @@ MayRunOut opened step = ⊥
 
 -- the error reports the fault that stands next
 abbrev pub FailsWith : Step → LexerError → Type 0
-FailsWith (Stops fault) e = Reports fault e
+FailsWith (Stops fault) e = ReportsCause fault e
 FailsWith step e = ⊥
 
 -- the same, or memory ran out
-abbrev pub Fails : Bool → Step → LexerError → Type 0
-Fails opened step Memory = MayRunOut opened step
-Fails opened step e = FailsWith step e
+abbrev pub FailsStep : Bool → Step → LexerError → Type 0
+FailsStep opened step Memory = MayRunOut opened step
+FailsStep opened step e = FailsWith step e
 
 -- a lexer finds no token
-abbrev pub FailsNext : LexerValue → LexerError → Type 0
-FailsNext lexer e = Fails (opens_from lexer.state lexer.rest) (next lexer) e
+abbrev pub FailsToken : LexerValue → LexerError → Type 0
+FailsToken lexer e = FailsStep (opens_from lexer.state lexer.rest) (next lexer) e
 
 -- What a call returns, and the lexer after it. A lexer at the end of its text stays there, and one that has failed
 -- stays so.
 abbrev pub Lexes : LexerValue → Result (Option Token) LexerError → LexerValue → Type 0
 Lexes old (Ok (Some token)) new = next old ≡ Gives (token_value token) new.rest new.state
 Lexes old (Ok None) new = (next old ≡ Ends) × (new ≡ record { rest = []; state = RestOfLine })
-Lexes old (Err e) new = FailsNext old e × (new ≡ record old { state = Failed })
+Lexes old (Err e) new = FailsToken old e × (new ≡ record old { state = Failed })
 
 -- any number of calls, one after the other, and what they return
 abbrev pub Calls : LexerValue → List (Result (Option Token) LexerError) → LexerValue → Type 0

@@ -69,16 +69,16 @@ pub data Step : Type 0 where
 
 -- What stands next is settled, whatever follows after the text: a token that ends before the text does, or a character that
 -- may not stand where it is.
-abbrev pub IsSettled : Step → Type 0
-IsSettled (Gives token (c ∷ rest) state) = ⊤
-IsSettled (Stops (IllegalCharacter char)) = ⊤
-IsSettled (Stops (UnrecognizedChar char)) = ⊤
-IsSettled step = ⊥
+abbrev pub IsSettledStep : Step → Type 0
+IsSettledStep (Gives token (c ∷ rest) state) = ⊤
+IsSettledStep (Stops (IllegalCharacter char)) = ⊤
+IsSettledStep (Stops (UnrecognizedChar char)) = ⊤
+IsSettledStep step = ⊥
 
 -- the characters before the first that passes the test, and those from it on
-abbrev pub before : (ℕ → Bool) → List ℕ → List ℕ
-before p [] = []
-before p (c ∷ cs) = if p c then [] else c ∷ before p cs
+abbrev pub front_until : (ℕ → Bool) → List ℕ → List ℕ
+front_until p [] = []
+front_until p (c ∷ cs) = if p c then [] else c ∷ front_until p cs
 
 abbrev pub from : (ℕ → Bool) → List ℕ → List ℕ
 from p [] = []
@@ -186,16 +186,16 @@ abbrev pub is_no_capital : ℕ → Bool
 is_no_capital c = not (is_ascii_uppercase c)
 
 -- what stands at a character that is no white space
-abbrev pub entry : ℕ → List ℕ → Step
-entry c cs =
+abbrev pub line_entry : ℕ → List ℕ → Step
+line_entry c cs =
     if c == at_sign then Gives AtSign cs RestOfLine
     else if c == open_paren then list_after [] Between cs
     else if c == close_paren then Stops (IllegalCharacter c)
-    else if c == dollar then control_entry (before is_no_capital cs) (from is_no_capital cs)
+    else if c == dollar then control_entry (front_until is_no_capital cs) (from is_no_capital cs)
     else if c == quote then quoted_after [] Plain cs
     else if c == semicolon then after_comment (from is_line_end cs)
     else if is_control c then Stops (UnrecognizedChar c)
-    else word_before (before ends_word (c ∷ cs)) (from ends_word (c ∷ cs))
+    else word_before (front_until ends_word (c ∷ cs)) (from ends_word (c ∷ cs))
 
 -- In the rest of a line, white space is skipped.
 abbrev pub rest_of_line : List ℕ → Step
@@ -203,7 +203,7 @@ rest_of_line [] = Ends
 rest_of_line (c ∷ cs) =
     if is_line_end c then line_end (c ∷ cs)
     else if is_whitespace c then rest_of_line cs
-    else entry c cs
+    else line_entry c cs
 
 -- A line that begins with white space is for the last owner that was stated.
 abbrev pub start_line : List ℕ → Step
@@ -211,7 +211,7 @@ start_line [] = Ends
 start_line (c ∷ cs) =
     if is_line_end c then line_end (c ∷ cs)
     else if is_whitespace c then Gives Blank cs RestOfLine
-    else entry c cs
+    else line_entry c cs
 
 -- a lexer: what is left of its text, and where it is
 pub record LexerValue : Type 0 where

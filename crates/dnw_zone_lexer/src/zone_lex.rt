@@ -3,9 +3,9 @@ ghost use Rattle.std.specs.Prelude.{◌≡◌, not, true, false, slice_index, �
 ghost use Rattle.std.specs.Char.{IsScalar, is_whitespace};
 ghost use Rattle.std.specs.Str.{chars, IsUtf8};
 ghost use Rattle.std.specs.List.{list_all};
-ghost use Rattle.dnw_zone_lexer.specs.Tokens.{Step, Gives, CharData, StartLine, RestOfLine, Between, Plain, Escaped, AfterOne, is_numeric, is_line_end, ends_word, line_end, start_line, rest_of_line, entry, word_before, list_after, quoted_after, control_entry, after_comment, before, from, is_no_capital, next, next_from};
-ghost use Rattle.dnw_zone_lexer.specs.Lexing.{characters, token_value, Lexes, EndsInTime, MayRunOut, Reports, IsToken, opens, opens_from};
-ghost use Rattle.dnw_zone_lexer.specs.Inside.Finds.{state_of, Finds, CutsBefore, BeginsWith, StopsRun, IsShorter, Escapes, EscapesFrom, ReadsDigit, is_plain, is_either, ends_run};
+ghost use Rattle.dnw_zone_lexer.specs.Tokens.{Step, Gives, CharData, StartLine, RestOfLine, Between, Plain, Escaped, AfterOne, is_numeric, is_line_end, ends_word, line_end, start_line, rest_of_line, line_entry, word_before, list_after, quoted_after, control_entry, after_comment, front_until, from, is_no_capital, next, next_from};
+ghost use Rattle.dnw_zone_lexer.specs.Lexing.{characters, token_value, Lexes, EndsInTime, MayRunOut, ReportsCause, IsToken, opens, opens_from};
+ghost use Rattle.dnw_zone_lexer.specs.Inside.Finds.{lex_state_of, FindsToken, CutsBefore, TakesChar, StopsRun, IsShorter, Escapes, EscapesFrom, ReadsDigit, is_plain_char, is_either, ends_run};
 ghost use Rattle.dnw_zone_lexer.specs.declared.errors.LexerError.TheVariants.{Memory};
 
 use crate::errors::{LexerError, copied};
@@ -85,11 +85,11 @@ pub struct Lexer<'a> {
 impl<'a> Model for Lexer<'a> {
     ghost use Rattle.std.specs.Str.{chars};
     ghost use Rattle.dnw_zone_lexer.specs.Tokens.{LexerValue};
-    ghost use Rattle.dnw_zone_lexer.specs.Inside.Finds.{state_of};
+    ghost use Rattle.dnw_zone_lexer.specs.Inside.Finds.{lex_state_of};
 
     ghost Value = { LexerValue };
 
-    ghost view = { λ l. record { rest = chars l.rest.now; state = state_of l.state } };
+    ghost view = { λ l. record { rest = chars l.rest.now; state = lex_state_of l.state } };
 }
 
 impl<'a> Lexer<'a> {
@@ -147,7 +147,7 @@ struct Found<'t> {
 
 /// Returns a token after which the rest of a line follows.
 fn on_line(token: Token, rest: &str) -> LexerResult<Option<Found<'_>>>
-    ensures { Finds false (Gives (token_value token) (chars rest.now) RestOfLine) result }
+    ensures { FindsToken false (Gives (token_value token) (chars rest.now) RestOfLine) result }
 {
     Ok(Some(Found {
         token,
@@ -158,7 +158,7 @@ fn on_line(token: Token, rest: &str) -> LexerResult<Option<Found<'_>>>
 
 /// Finds what stands next in a text.
 fn find<'t>(alloc: Global, state: State, text: &'t str) -> LexerResult<Option<Found<'t>>>
-    ensures { Finds (opens_from (state_of state) (chars text.now)) (next_from (state_of state) (chars text.now)) result }
+    ensures { FindsToken (opens_from (lex_state_of state) (chars text.now)) (next_from (lex_state_of state) (chars text.now)) result }
 {
     match state {
         State::StartLine => start_line(alloc, text),
@@ -169,7 +169,7 @@ fn find<'t>(alloc: Global, state: State, text: &'t str) -> LexerResult<Option<Fo
 
 /// Finds the token at the start of a line.
 fn start_line<'t>(alloc: Global, text: &'t str) -> LexerResult<Option<Found<'t>>>
-    ensures { Finds (opens_from StartLine (chars text.now)) (start_line (chars text.now)) result }
+    ensures { FindsToken (opens_from StartLine (chars text.now)) (start_line (chars text.now)) result }
 {
     let Some((c, rest)) = split_first_char(text) else {
         return Ok(None);
@@ -185,7 +185,7 @@ fn start_line<'t>(alloc: Global, text: &'t str) -> LexerResult<Option<Found<'t>>
 
 /// Finds the token in the rest of a line.
 fn rest_of_line<'t>(alloc: Global, text: &'t str) -> LexerResult<Option<Found<'t>>>
-    ensures { Finds (opens_from RestOfLine (chars text.now)) (rest_of_line (chars text.now)) result }
+    ensures { FindsToken (opens_from RestOfLine (chars text.now)) (rest_of_line (chars text.now)) result }
 {
     let mut text = text;
     while let Some((c, rest)) = split_first_char(text) {
@@ -209,7 +209,7 @@ fn entry<'t>(
     rest: &'t str,
 ) -> LexerResult<Option<Found<'t>>>
     requires { chars text.now ≡ first ∷ chars rest.now }
-    ensures { Finds (opens first) (entry first (chars rest.now)) result }
+    ensures { FindsToken (opens first) (line_entry first (chars rest.now)) result }
 {
     match first {
         '@' => on_line(Token::At, rest),
@@ -225,7 +225,7 @@ fn entry<'t>(
 
 /// Finds the end of a line.
 fn line_end<'t>(text: &'t str) -> LexerResult<Option<Found<'t>>>
-    ensures { Finds false (line_end (chars text.now)) result }
+    ensures { FindsToken false (line_end (chars text.now)) result }
 {
     let mut text = text;
     while let Some((c, rest)) = split_first_char(text) {
@@ -246,7 +246,7 @@ fn line_end<'t>(text: &'t str) -> LexerResult<Option<Found<'t>>>
 
 /// Finds what is after a comment: the end of its line, or of the text.
 fn comment<'t>(text: &'t str) -> LexerResult<Option<Found<'t>>>
-    ensures { Finds false (after_comment (from is_line_end (chars text.now))) result }
+    ensures { FindsToken false (after_comment (from is_line_end (chars text.now))) result }
 {
     let rest = &text[comment_len(text)..];
     let Some(_) = split_first_char(rest) else {
@@ -257,7 +257,7 @@ fn comment<'t>(text: &'t str) -> LexerResult<Option<Found<'t>>>
 
 /// Finds a word.
 fn word<'t>(alloc: Global, text: &'t str) -> LexerResult<Option<Found<'t>>>
-    ensures { Finds false (word_before (before ends_word (chars text.now)) (from ends_word (chars text.now))) result }
+    ensures { FindsToken false (word_before (front_until ends_word (chars text.now)) (from ends_word (chars text.now))) result }
 {
     let len = word_len(text);
     let word = &text[..len];
@@ -272,7 +272,7 @@ fn word<'t>(alloc: Global, text: &'t str) -> LexerResult<Option<Found<'t>>>
 
 /// Returns a word as a token.
 fn char_data<'t>(alloc: Global, word: &str, rest: &'t str) -> LexerResult<Option<Found<'t>>>
-    ensures { Finds false (Gives (CharData (chars word.now)) (chars rest.now) RestOfLine) result }
+    ensures { FindsToken false (Gives (CharData (chars word.now)) (chars rest.now) RestOfLine) result }
 {
     on_line(Token::CharData(copied(alloc, word)?), rest)
 }
@@ -280,7 +280,7 @@ fn char_data<'t>(alloc: Global, word: &str, rest: &'t str) -> LexerResult<Option
 /// Finds what a `$` and the capital letters after it stand for.
 #[tactic(auto, using(crate::proofs::Cuts::capitals_are_bytes))]
 fn control_entry<'t>(alloc: Global, text: &'t str) -> LexerResult<Option<Found<'t>>>
-    ensures { Finds false (control_entry (before is_no_capital (chars text.now)) (from is_no_capital (chars text.now))) result }
+    ensures { FindsToken false (control_entry (front_until is_no_capital (chars text.now)) (from is_no_capital (chars text.now))) result }
 {
     let len = capitals_len(text);
     control_word(alloc, &text[..len], &text[len..])
@@ -290,7 +290,7 @@ fn control_entry<'t>(alloc: Global, text: &'t str) -> LexerResult<Option<Found<'
 #[inline(always)]
 fn control_word<'t>(alloc: Global, word: &str, rest: &'t str) -> LexerResult<Option<Found<'t>>>
     requires { chars word.now ≡ word.now }
-    ensures { Finds false (control_entry word.now (chars rest.now)) result }
+    ensures { FindsToken false (control_entry word.now (chars rest.now)) result }
 {
     if word == "INCLUDE" {
         return on_line(Token::Include, rest);
@@ -307,7 +307,7 @@ fn control_word<'t>(alloc: Global, word: &str, rest: &'t str) -> LexerResult<Opt
 /// Finds a list, after its `(`.
 #[tactic(auto, using(crate::proofs::Steps::list_after_remark))]
 fn list<'t>(alloc: Global, text: &'t str) -> LexerResult<Option<Found<'t>>>
-    ensures { Finds true (list_after [] Between (chars text.now)) result }
+    ensures { FindsToken true (list_after [] Between (chars text.now)) result }
 {
     let mut words = Vec::new(alloc);
     let mut left = text;
@@ -331,7 +331,7 @@ fn list<'t>(alloc: Global, text: &'t str) -> LexerResult<Option<Found<'t>>>
 
 /// Finds a quoted text, after its opening quote.
 fn quoted<'t>(alloc: Global, text: &'t str) -> LexerResult<Option<Found<'t>>>
-    ensures { Finds true (quoted_after [] Plain (chars text.now)) result }
+    ensures { FindsToken true (quoted_after [] Plain (chars text.now)) result }
 {
     let mut collected = String::new(alloc);
     let mut left = text;
@@ -425,7 +425,7 @@ fn is_numeric(c: char) -> bool
 #[inline(always)]
 #[tactic(auto, using(crate::proofs::Cuts::begins))]
 fn split_first_char(text: &str) -> Option<(char, &str)>
-    ensures { BeginsWith text.now result }
+    ensures { TakesChar text.now result }
 {
     let mut chars = text.chars();
     let first = chars.next()?;
@@ -468,7 +468,7 @@ fn ends_word(c: char) -> bool
 /// Returns `true` if a byte is a plain one of a word: printable, and neither `;` nor `)`.
 #[inline(always)]
 fn is_plain(byte: u8) -> bool
-    ensures { result ≡ is_plain byte }
+    ensures { result ≡ is_plain_char byte }
 {
     b' ' < byte && byte < 127 && byte != b';' && byte != b')'
 }

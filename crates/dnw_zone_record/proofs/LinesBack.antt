@@ -15,27 +15,27 @@ use Rattle.dnw_base.proofs.PrintedClasses.{classes_come_back}
 use Rattle.dnw_base.proofs.PrintedTypes.{types_come_back}
 use Rattle.dnw_name_read.specs.Reading.{NameAt}
 use Rattle.dnw_name_read.specs.ReadingLaws.{AreBytes}
-use Rattle.dnw_name_read.proofs.Counts.{NameAt-labels}
+use Rattle.dnw_name_read.proofs.Counts.{NameAt_labels}
 use Rattle.dnw_data.specs.declared.kind.Kind.{Kind}
 use Rattle.dnw_data.specs.Table.{fields_of}
-use Rattle.dnw_record.specs.Records.{RecordValue, record_of, fields_at, number_at}
+use Rattle.dnw_record.specs.Records.{RecordValue, record_of, fixed_at, number_at}
 use Rattle.dnw_zone_values.specs.Octets.{IsOctets}
-use Rattle.dnw_zone_svcb.proofs.ParamTextsBack.{drop-fit, take-fit}
+use Rattle.dnw_zone_svcb.proofs.ParamTextsBack.{drop_fit, take_fit}
 use Rattle.dnw_zone_lexer.specs.Times.{groups_after, time_seconds, total_seconds}
 use Rattle.dnw_zone_data.specs.NameTexts.{full_name_text}
 use Rattle.dnw_zone_data.specs.Words.{is_end, word, after_word}
 use Rattle.dnw_base.specs.Limits.{max_data}
 use Rattle.dnw_zone_data.specs.DataTexts.{IsTextOf}
-use Rattle.dnw_zone_data.specs.NameReading.{name_at}
+use Rattle.dnw_zone_data.specs.NameReading.{named_at}
 use Rattle.dnw_zone_record.specs.RecordLines.{record_line, next_word, after_next_word, line_octets, IsRecordLine, IsTtlWord, IsClassWord, IsTypeWord, IsHead, IsDataOf, IsAfterOwner, HasClassNext}
 use Rattle.dnw_zone_record.specs.RecordTextLaws.{line_head, LinesComeBack}
-use Rattle.dnw_zone_data.proofs.DataBack.{back, same-start}
-use Rattle.dnw_zone_data.proofs.FieldValues.{labels-fit}
-use Rattle.dnw_zone_data.proofs.FieldsBack.{type-plain, type-some}
-use Rattle.dnw_zone_data.proofs.Items.{find-code}
-use Rattle.dnw_zone_data.proofs.NamesBack.{name-is, name-len}
-use Rattle.dnw_zone_data.proofs.Plain.{all_plain, decimal-plain, plain-after, plain-append, plain-starts, plain-utf8, plain-word}
-use Rattle.dnw_zone_data.proofs.TypesBack.{code-back}
+use Rattle.dnw_zone_data.proofs.DataBack.{back, same_start}
+use Rattle.dnw_zone_data.proofs.FieldValues.{labels_fit}
+use Rattle.dnw_zone_data.proofs.FieldsBack.{type_plain, type_some}
+use Rattle.dnw_zone_data.proofs.Items.{find_code}
+use Rattle.dnw_zone_data.proofs.NamesBack.{name_is, name_len}
+use Rattle.dnw_zone_data.proofs.Plain.{all_plain, decimal_plain, plain_after, plain_append, plain_starts, plain_utf8, plain_word}
+use Rattle.dnw_zone_data.proofs.TypesBack.{code_back}
 
 -- ---- words
 
@@ -43,58 +43,58 @@ use Rattle.dnw_zone_data.proofs.TypesBack.{code-back}
 abbrev IsNext : List ℕ → List ℕ → Type 0
 IsNext w rest = (next_word (32 ∷ w ++ rest) ≡ w) × (after_next_word (32 ∷ w ++ rest) ≡ rest)
 
-plain-next : (w rest : List ℕ) → all_plain w ≡ true → 0 < length w → is_end rest ≡ true → IsNext w rest
-plain-next w rest plain some end =
-    let start = plain-starts w rest plain some in
-    (ap word start ∙ plain-word w rest plain end, ap after_word start ∙ plain-after w rest plain end)
+plain_next : (w rest : List ℕ) → all_plain w ≡ true → 0 < length w → is_end rest ≡ true → IsNext w rest
+plain_next w rest plain some end =
+    let start = plain_starts w rest plain some in
+    (ap word start ∙ plain_word w rest plain end, ap after_word start ∙ plain_after w rest plain end)
 
 digit : (d : ℕ) → d < 10 → is_ascii_digit (48 + d) ≡ true
 digit d few = grind arith
 
 -- the digits of a number are one group
-digits-group : (n : ℕ) → n < 2 ^ 64 → (rest : List ℕ) → groups_after None (decimal n ++ rest) ≡ groups_after (Some n) rest
-digits-group n h =
+digits_group : (n : ℕ) → n < 2 ^ 64 → (rest : List ℕ) → groups_after None (decimal n ++ rest) ≡ groups_after (Some n) rest
+digits_group n h =
     decimal_by_steps (λ m ds. (rest : List ℕ) → groups_after None (ds ++ rest) ≡ groups_after (Some m) rest)
     (λ m below rest. let same : 48 + m - 48 ≡ m = omega arith in rw (digit m below, same) refl)
     (λ m ds ten so_far rest.
     let same : 10 * (m / 10) + (48 + m % 10 - 48) ≡ m = omega arith in
     ap (groups_after None) (append_assoc ds ((48 + m % 10) ∷ []) rest) ∙ so_far ((48 + m % 10) ∷ rest) ∙ rw (digit (m % 10) (omega arith), same) refl) n h
 
-time-of : (w : List ℕ) (n : ℕ) → 0 < length w → groups_after None w ≡ Some ((n, 1) ∷ []) → time_seconds w ≡ Some n
-time-of [] n some e = absurd (omega (arith, some))
-time-of (c ∷ w) n some e =
+time_of : (w : List ℕ) (n : ℕ) → 0 < length w → groups_after None w ≡ Some ((n, 1) ∷ []) → time_seconds w ≡ Some n
+time_of [] n some e = absurd (omega (arith, some))
+time_of (c ∷ w) n some e =
     let one : total_seconds ((n, 1) ∷ []) ≡ n = omega arith in ap (option_map total_seconds) e ∙ ap Some one
 
-ttl-word : (n : ℕ) → n ≤ 4294967295 → IsTtlWord (decimal n) n
-ttl-word n few =
-    let group = ap (groups_after None) (sym (append-nil (decimal n))) ∙ digits-group n (omega (arith, few)) [] in
-    (plain-utf8 (decimal n) (decimal-plain n (omega (arith, few))), time-of (decimal n) n (decimal_nonempty n (omega (arith, few))) group, few)
+ttl_word : (n : ℕ) → n ≤ 4294967295 → IsTtlWord (decimal n) n
+ttl_word n few =
+    let group = ap (groups_after None) (sym (append-nil (decimal n))) ∙ digits_group n (omega (arith, few)) [] in
+    (plain_utf8 (decimal n) (decimal_plain n (omega (arith, few))), time_of (decimal n) n (decimal_nonempty n (omega (arith, few))) group, few)
 
-pub class-back : (code : ℕ) → class_code (class_of_code code) ≡ code
+pub class_back : (code : ℕ) → class_code (class_of_code code) ≡ code
 unfolding class_of_code
-class-back code = find-code (λ (class : DNSClass). class_code class) code named_classes (Unknown code) refl
+class_back code = find_code (λ (class : DNSClass). class_code class) code named_classes (Unknown code) refl
 
-class-plain : (class : DNSClass) → class_code class < 65536 → (all_plain (class_text class) ≡ true) × (0 < length (class_text class))
-class-plain (OPT size) h =
+class_plain : (class : DNSClass) → class_code class < 65536 → (all_plain (class_text class) ≡ true) × (0 < length (class_text class))
+class_plain (OPT size) h =
     let code = class_code (OPT size) in
-    (plain-append (codes "CLASS") (decimal code) refl (decimal-plain code (omega (arith, h))), omega (arith, length-append (codes "CLASS") (decimal code)))
-class-plain (Unknown code) h =
-    (plain-append (codes "CLASS") (decimal code) refl (decimal-plain code (omega (arith, h))), omega (arith, length-append (codes "CLASS") (decimal code)))
-class-plain class h = (refl, omega arith)
+    (plain_append (codes "CLASS") (decimal code) refl (decimal_plain code (omega (arith, h))), omega (arith, length-append (codes "CLASS") (decimal code)))
+class_plain (Unknown code) h =
+    (plain_append (codes "CLASS") (decimal code) refl (decimal_plain code (omega (arith, h))), omega (arith, length-append (codes "CLASS") (decimal code)))
+class_plain class h = (refl, omega arith)
 
 -- ---- lines
 
 -- a space before data is left out
-after-space : (origin : Option NameValue) (kinds : List Kind) (text own : List ℕ) → IsTextOf origin kinds text own → IsTextOf origin kinds (32 ∷ text) own
-after-space origin kinds text own (inl generic) = inl generic
-after-space origin kinds text own (inr (other, form, values, are, e)) = inr (other, form, values, same-start origin kinds text (32 ∷ text) values refl are, e)
+after_space : (origin : Option NameValue) (kinds : List Kind) (text own : List ℕ) → IsTextOf origin kinds text own → IsTextOf origin kinds (32 ∷ text) own
+after_space origin kinds text own (inl generic) = inl generic
+after_space origin kinds text own (inr (other, form, values, are, e)) = inr (other, form, values, same_start origin kinds text (32 ∷ text) values refl are, e)
 
-pub without-space : (origin : Option NameValue) (kinds : List Kind) (text own : List ℕ) → IsTextOf origin kinds (32 ∷ text) own → IsTextOf origin kinds text own
-without-space origin kinds text own (inl generic) = inl generic
-without-space origin kinds text own (inr (other, form, values, are, e)) = inr (other, form, values, same-start origin kinds (32 ∷ text) text values refl are, e)
+pub without_space : (origin : Option NameValue) (kinds : List Kind) (text own : List ℕ) → IsTextOf origin kinds (32 ∷ text) own → IsTextOf origin kinds text own
+without_space origin kinds text own (inl generic) = inl generic
+without_space origin kinds text own (inr (other, form, values, are, e)) = inr (other, form, values, same_start origin kinds (32 ∷ text) text values refl are, e)
 
-slice-fit : (xs : List ℕ) (i j : ℕ) → IsOctets xs → IsOctets (slice_range xs i j)
-slice-fit xs i j h = take-fit (j - i) (drop i xs) (drop-fit i xs h)
+slice_fit : (xs : List ℕ) (i j : ℕ) → IsOctets xs → IsOctets (slice_range xs i j)
+slice_fit xs i j h = take_fit (j - i) (drop i xs) (drop_fit i xs h)
 
 -- a record as it is read: its type and its class by their codes
 pub record IsReadRecord (r : RecordValue) : Type 0 where
@@ -112,69 +112,69 @@ pub record IsReadRecord (r : RecordValue) : Type 0 where
 abbrev pub line_rest : RecordValue → List ℕ → List ℕ
 line_rest r text = 32 ∷ (decimal r.ttl ++ (32 ∷ (class_text r.class ++ (32 ∷ (type_text r.record_type ++ (32 ∷ text))))))
 
-pub head-back : (r : RecordValue) (text : List ℕ) → IsReadRecord r → IsHead (line_rest r text) (line_head r) (32 ∷ text)
-head-back r text is =
-    let code : type_code r.record_type ≡ is.type_number = ap (λ k. type_code k) is.type_is ∙ code-back is.type_number in
-    let number : class_code r.class ≡ is.class_number = ap (λ k. class_code k) is.class_is ∙ class-back is.class_number in
+pub head_back : (r : RecordValue) (text : List ℕ) → IsReadRecord r → IsHead (line_rest r text) (line_head r) (32 ∷ text)
+head_back r text is =
+    let code : type_code r.record_type ≡ is.type_number = ap (λ k. type_code k) is.type_is ∙ code_back is.type_number in
+    let number : class_code r.class ≡ is.class_number = ap (λ k. class_code k) is.class_is ∙ class_back is.class_number in
     let small : type_code r.record_type < 65536 = omega (arith, is.type_few, code) in
     let low : class_code r.class < 65536 = omega (arith, is.class_few, number) in
     let rest4 = 32 ∷ text in
     let rest3 : List ℕ = 32 ∷ (type_text r.record_type ++ rest4) in
     let rest2 : List ℕ = 32 ∷ (class_text r.class ++ rest3) in
     let few : r.ttl < 2 ^ 64 = omega (arith, is.ttl_few) in
-    let ttl = plain-next (decimal r.ttl) rest2 (decimal-plain r.ttl few) (decimal_nonempty r.ttl few) refl in
-    let shape = class-plain r.class low in
-    let name = plain-next (class_text r.class) rest3 shape.0 shape.1 refl in
-    let plain = type-plain r.record_type small in
-    let last = plain-next (type_text r.record_type) rest4 plain (type-some r.record_type) refl in
-    let is_ttl : IsTtlWord (next_word (32 ∷ decimal r.ttl ++ rest2)) r.ttl = subst (λ (w : List ℕ). IsTtlWord w r.ttl) (sym ttl.0) (ttl-word r.ttl is.ttl_few) in
+    let ttl = plain_next (decimal r.ttl) rest2 (decimal_plain r.ttl few) (decimal_nonempty r.ttl few) refl in
+    let shape = class_plain r.class low in
+    let name = plain_next (class_text r.class) rest3 shape.0 shape.1 refl in
+    let plain = type_plain r.record_type small in
+    let last = plain_next (type_text r.record_type) rest4 plain (type_some r.record_type) refl in
+    let is_ttl : IsTtlWord (next_word (32 ∷ decimal r.ttl ++ rest2)) r.ttl = subst (λ (w : List ℕ). IsTtlWord w r.ttl) (sym ttl.0) (ttl_word r.ttl is.ttl_few) in
     let is_class : IsClassWord (next_word rest2) r.class =
     subst (λ (w : List ℕ). IsClassWord w r.class) (sym name.0)
-    (plain-utf8 (class_text r.class) shape.0, classes_come_back r.class low ∙ ap (λ (n : ℕ). Some (class_of_code n)) number ∙ ap Some (sym is.class_is)) in
+    (plain_utf8 (class_text r.class) shape.0, classes_come_back r.class low ∙ ap (λ (n : ℕ). Some (class_of_code n)) number ∙ ap Some (sym is.class_is)) in
     let is_type : IsTypeWord (next_word rest3) r.record_type =
     subst (λ (w : List ℕ). IsTypeWord w r.record_type) (sym last.0)
-    (plain-utf8 (type_text r.record_type) plain, types_come_back r.record_type small ∙ ap (λ (n : ℕ). Some (type_of_code n)) code ∙ ap Some (sym is.type_is)) in
+    (plain_utf8 (type_text r.record_type) plain, types_come_back r.record_type small ∙ ap (λ (n : ℕ). Some (type_of_code n)) code ∙ ap Some (sym is.type_is)) in
     let has_class : HasClassNext (after_next_word (32 ∷ decimal r.ttl ++ rest2)) r.class rest3 =
     subst (λ (left : List ℕ). HasClassNext left r.class rest3) (sym ttl.1) (inl (is_class, sym name.1)) in
     (rest3, inl (is_ttl, has_class), is_type, sym last.1)
 
 -- the owner, and what is after it
 pub record Split (origin : Option NameValue) (r : RecordValue) (text : List ℕ) : Type 0 where
-  pub named : name_at origin (word (record_line r text)) ≡ Some r.owner
+  pub named : named_at origin (word (record_line r text)) ≡ Some r.owner
   pub left : after_word (record_line r text) ≡ line_rest r text
 
 pub split : (origin : Option NameValue) (r : RecordValue) (text : List ℕ) → IsReadRecord r → Split origin r text
 split origin r text is =
     let w = full_name_text r.owner in
     let rest = line_rest r text in
-    let len = name-len r.owner rest is.octets refl in
+    let len = name_len r.owner rest is.octets refl in
     let first : word (w ++ rest) ≡ w = take_at w rest _ (sym len) in
     let left : after_word (w ++ rest) ≡ rest = drop_at w rest _ (sym len) in
     let whole : record_line r text ≡ w ++ rest = simp append_assoc in
     record {
-      named = ap (λ (xs : List ℕ). name_at origin (word xs)) whole ∙ ap (name_at origin) first ∙ name-is origin r.owner is.labels is.octets;
+      named = ap (λ (xs : List ℕ). named_at origin (word xs)) whole ∙ ap (named_at origin) first ∙ name_is origin r.owner is.labels is.octets;
       left = ap after_word whole ∙ left;
     }
 
-line-back : (origin : Option NameValue) (r : RecordValue) (text own : List ℕ) → IsReadRecord r → IsDataOf origin r.record_type (32 ∷ text) own
+line_back : (origin : Option NameValue) (r : RecordValue) (text own : List ℕ) → IsReadRecord r → IsDataOf origin r.record_type (32 ∷ text) own
     → IsRecordLine origin (record_line r text) (line_octets r.owner (line_head r) own)
 unfolding IsRecordLine
-line-back origin r text own is data_is =
+line_back origin r text own is data_is =
     let parts = split origin r text is in
     let octets = line_octets r.owner (line_head r) own in
-    let after : IsAfterOwner origin r.owner (line_rest r text) octets = (line_head r, 32 ∷ text, own, head-back r text is, data_is, refl) in
+    let after : IsAfterOwner origin r.owner (line_rest r text) octets = (line_head r, 32 ∷ text, own, head_back r text is, data_is, refl) in
     (r.owner, parts.named, subst (λ (xs : List ℕ). IsAfterOwner origin r.owner xs octets) (sym parts.left) after)
 
-pub record-read : (b : List ℕ) (labels : List (List ℕ)) (p end k : ℕ) → AreBytes b → NameAt b p labels end k → IsReadRecord (record_of b labels end)
-record-read b labels p end k h name =
-    let f = fields_at b end in
-    let fit = slice-fit b end (end + 10) h in
-    let t = slice-fit f 0 2 fit in
-    let c = slice-fit f 2 4 fit in
-    let n = slice-fit f 4 8 fit in
+pub record_read : (b : List ℕ) (labels : List (List ℕ)) (p end k : ℕ) → AreBytes b → NameAt b p labels end k → IsReadRecord (record_of b labels end)
+record_read b labels p end k h name =
+    let f = fixed_at b end in
+    let fit = slice_fit b end (end + 10) h in
+    let t = slice_fit f 0 2 fit in
+    let c = slice_fit f 2 4 fit in
+    let n = slice_fit f 4 8 fit in
     record {
-      labels = NameAt-labels name;
-      octets = labels-fit h name.reads;
+      labels = NameAt_labels name;
+      octets = labels_fit h name.reads;
       type_number = number_at f 0;
       class_number = number_at f 2;
       type_few = omega (arith, t 0, t 1);
@@ -187,7 +187,7 @@ record-read b labels p end k h name =
 pub lines : LinesComeBack
 lines origin b p e r text h at print =
     let bytes : AreBytes r.message = subst (λ (x : RecordValue). AreBytes x.message) (sym at.is) h in
-    let read : IsReadRecord r = subst (λ (x : RecordValue). IsReadRecord x) (sym at.is) (record-read b at.labels p at.owner_end at.pointers h at.owner_read) in
+    let read : IsReadRecord r = subst (λ (x : RecordValue). IsReadRecord x) (sym at.is) (record_read b at.labels p at.owner_end at.pointers h at.owner_read) in
     let (own, plain, done) = back origin r text bytes print in (
       own,
       plain,
@@ -196,7 +196,7 @@ lines origin b p e r text h at print =
         | inr few ↦ elim done [
           | inl many ↦ inl many
           | inr (inl shown) ↦ inr (inl shown)
-          | inr (inr is) ↦ inr (inr (line-back origin r text own read (after-space origin (fields_of (type_code r.record_type)) text own is, few)))
+          | inr (inr is) ↦ inr (inr (line_back origin r text own read (after_space origin (fields_of (type_code r.record_type)) text own is, few)))
         ]
       ],
     )

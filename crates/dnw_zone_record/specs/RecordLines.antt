@@ -18,7 +18,7 @@ use Rattle.dnw_zone_record.specs.declared.record_line.RecordLineError.{RecordLin
 use Rattle.dnw_zone_record.specs.declared.record_line.RecordLineError.TheVariants.{NoOwner, NoTimeToLive, NoType, Data, TooLong, Memory}
 use Rattle.dnw_zone_data.specs.DataTexts.{FailsText, IsTextOf}
 use Rattle.dnw_base.specs.Limits.{max_data}
-use Rattle.dnw_zone_data.specs.NameReading.{name_at}
+use Rattle.dnw_zone_data.specs.NameReading.{named_at}
 use Rattle.dnw_zone_data.specs.NameTexts.{full_name_text}
 use Rattle.dnw_zone_data.specs.Words.{after_spaces, after_word, word}
 
@@ -117,7 +117,7 @@ IsAfterOwner origin owner left octets =
 -- A word is the owner, and what is after it makes a record of these octets.
 abbrev pub IsRecordOf : Option NameValue → List ℕ → List ℕ → List ℕ → Type 0
 IsRecordOf origin first rest octets =
-    (owner : List (List ℕ)) × (name_at origin first ≡ Some owner) × IsAfterOwner origin owner rest octets
+    (owner : List (List ℕ)) × (named_at origin first ≡ Some owner) × IsAfterOwner origin owner rest octets
 
 -- The line is a record of these octets. It begins with the owner.
 unfoldable pub IsRecordLine : Option NameValue → List ℕ → List ℕ → Type 0
@@ -145,8 +145,8 @@ FailsAfterOwner origin left error =
 -- why there is no record: the first word is no name, or what is after it makes none
 abbrev pub FailsRecordOf : Option NameValue → List ℕ → List ℕ → RecordLineError → Type 0
 FailsRecordOf origin first rest error =
-    ((name_at origin first ≡ None) × (error ≡ NoOwner))
-    ⊎ ((owner : List (List ℕ)) × (name_at origin first ≡ Some owner) × FailsAfterOwner origin rest error)
+    ((named_at origin first ≡ None) × (error ≡ NoOwner))
+    ⊎ ((owner : List (List ℕ)) × (named_at origin first ≡ Some owner) × FailsAfterOwner origin rest error)
 
 unfoldable pub FailsRecordLine : Option NameValue → List ℕ → RecordLineError → Type 0
 FailsRecordLine origin line error = FailsRecordOf origin (word line) (after_word line) error

@@ -35,7 +35,7 @@ use Rattle.dnw_zone_svcb.specs.ParamTexts.{any_part, own_part, own_text, param_t
 use Rattle.dnw_zone_svcb.specs.Params.{ParamValue, with_param, in_key_order}
 use Rattle.dnw_zone_svcb.specs.ParamWords.{is_equals, key_part, value_part, keys_of, keys_wire, IsValueText, IsOwnValue, IsParam, IsParamOf}
 use Rattle.dnw_zone_svcb.specs.ParamLaws.{IsParamValue, ParamsComeBack}
-use Rattle.dnw_zone_svcb.proofs.Steps.{not-before, value-some, one-word}
+use Rattle.dnw_zone_svcb.proofs.Steps.{not_before, value_some, one_word}
 
 -- ---- keys
 
@@ -46,49 +46,49 @@ is_key c = nat_le 45 c && nat_le c 122 && not (c == 61) && not (c == 92)
 abbrev all_key : List ℕ → Bool
 all_key k = list_all is_key k
 
-key-append : (a b : List ℕ) → all_key a ≡ true → all_key b ≡ true → all_key (a ++ b) ≡ true
-key-append [] b h k = k
-key-append (c ∷ a) b h k = let parts = and_parts (is_key c) (all_key a) h in rw (parts.0) (key-append a b parts.1 k)
+key_append : (a b : List ℕ) → all_key a ≡ true → all_key b ≡ true → all_key (a ++ b) ≡ true
+key_append [] b h k = k
+key_append (c ∷ a) b h k = let parts = and_parts (is_key c) (all_key a) h in rw (parts.0) (key_append a b parts.1 k)
 
-digit-key : (n : ℕ) → n < 10 → is_key (48 + n) ≡ true
-digit-key n h = grind arith
+digit_key : (n : ℕ) → n < 10 → is_key (48 + n) ≡ true
+digit_key n h = grind arith
 
-decimal-key : (n : ℕ) → n < 2 ^ 64 → all_key (decimal n) ≡ true
-decimal-key n h =
-    decimal_by_steps (λ _ text. all_key text ≡ true) (λ n below. rw (digit-key n below) refl)
-    (λ n ds ten so_far. key-append ds ((48 + n % 10) ∷ []) so_far (rw (digit-key (n % 10) (omega arith)) refl)) n h
+decimal_key : (n : ℕ) → n < 2 ^ 64 → all_key (decimal n) ≡ true
+decimal_key n h =
+    decimal_by_steps (λ _ text. all_key text ≡ true) (λ n below. rw (digit_key n below) refl)
+    (λ n ds ten so_far. key_append ds ((48 + n % 10) ∷ []) so_far (rw (digit_key (n % 10) (omega arith)) refl)) n h
 
-name-key : (form : Form) (key : ℕ) → key < 2 ^ 64 → all_key (key_name form key) ≡ true
-name-key forms.Any key few = decimal-key key few
-name-key form key few = refl
+name_key : (form : Form) (key : ℕ) → key < 2 ^ 64 → all_key (key_name form key) ≡ true
+name_key forms.Any key few = decimal_key key few
+name_key form key few = refl
 
-no-equals : (c : ℕ) → is_key c ≡ true → (c == 61) ≡ false
-no-equals c h = grind arith
+no_equals : (c : ℕ) → is_key c ≡ true → (c == 61) ≡ false
+no_equals c h = grind arith
 
 found : (k v : List ℕ) → all_key k ≡ true → position_or_len is_equals (k ++ 61 ∷ v) ≡ length k
 found [] v h = refl
-found (c ∷ k) v h = let parts = and_parts (is_key c) (all_key k) h in rw (no-equals c parts.0) (omega (arith, found k v parts.1))
+found (c ∷ k) v h = let parts = and_parts (is_key c) (all_key k) h in rw (no_equals c parts.0) (omega (arith, found k v parts.1))
 
-not-found : (k : List ℕ) → all_key k ≡ true → position_or_len is_equals k ≡ length k
-not-found [] h = refl
-not-found (c ∷ k) h = let parts = and_parts (is_key c) (all_key k) h in rw (no-equals c parts.0) (omega (arith, not-found k parts.1))
+not_found : (k : List ℕ) → all_key k ≡ true → position_or_len is_equals k ≡ length k
+not_found [] h = refl
+not_found (c ∷ k) h = let parts = and_parts (is_key c) (all_key k) h in rw (no_equals c parts.0) (omega (arith, not_found k parts.1))
 
 -- the key and the value after the first `=`
 abbrev HasParts : List ℕ → List ℕ → Option (List ℕ) → Type 0
 HasParts text k v = (key_part text ≡ k) × (value_part text ≡ v)
 
-with-value : (k v : List ℕ) → all_key k ≡ true → HasParts (k ++ 61 ∷ v) k (Some v)
-with-value k v h =
+with_value : (k v : List ℕ) → all_key k ≡ true → HasParts (k ++ 61 ∷ v) k (Some v)
+with_value k v h =
     let size : length k < length (k ++ 61 ∷ v) = omega (arith, length-append k (61 ∷ v)) in
     let back : drop (length k + 1) (k ++ 61 ∷ v) ≡ v =
     ap (drop (length k + 1)) (sym (append_assoc k (61 ∷ []) v)) ∙ drop_at (k ++ 61 ∷ []) v (length k + 1) (omega (arith, length-append k (61 ∷ []))) in
     rw (found k v h, lt-ltb (length k) (length (k ++ 61 ∷ v)) size) (take_at k (61 ∷ v) (length k) refl, ap Some back)
 
-not-less : (a : ℕ) → nat_lt a a ≡ false
-not-less a = grind arith
+not_less : (a : ℕ) → nat_lt a a ≡ false
+not_less a = grind arith
 
-without-value : (k : List ℕ) → all_key k ≡ true → HasParts k k None
-without-value k h = rw (not-found k h, not-less (length k)) (take-length k, refl)
+without_value : (k : List ℕ) → all_key k ≡ true → HasParts k k None
+without_value k h = rw (not_found k h, not_less (length k)) (take-length k, refl)
 
 -- ---- values
 
@@ -99,34 +99,34 @@ is_open c = nat_le 33 c && nat_le c 126 && not (c == 34) && not (c == 92)
 abbrev pub all_open : List ℕ → Bool
 all_open t = list_all is_open t
 
-no-quote : (c : ℕ) → is_open c ≡ true → (c == 34) ≡ false
-no-quote c h = grind arith
+no_quote_lem : (c : ℕ) → is_open c ≡ true → (c == 34) ≡ false
+no_quote_lem c h = grind arith
 
-no-backslash : (c : ℕ) → is_open c ≡ true → (c == 92) ≡ false
-no-backslash c h = grind arith
+no_backslash : (c : ℕ) → is_open c ≡ true → (c == 92) ≡ false
+no_backslash c h = grind arith
 
-open-from : (t : List ℕ) → all_open t ≡ true → octets_from false Plain t ≡ Some t
-open-from [] h = refl
-open-from (c ∷ t) h =
+open_from : (t : List ℕ) → all_open t ≡ true → octets_from false Plain t ≡ Some t
+open_from [] h = refl
+open_from (c ∷ t) h =
     let parts = and_parts (is_open c) (all_open t) h in
-    rw (no-backslash c parts.0) (ap (with_octet c) (open-from t parts.1))
+    rw (no_backslash c parts.0) (ap (with_octet c) (open_from t parts.1))
 
-open-octets : (t : List ℕ) → all_open t ≡ true → 1 ≤ length t → string_octets t ≡ Some t
-open-octets [] h some = absurd (omega (arith, some))
-open-octets (c ∷ t) h some = let parts = and_parts (is_open c) (all_open t) h in rw (no-quote c parts.0) (open-from (c ∷ t) h)
+open_octets : (t : List ℕ) → all_open t ≡ true → 1 ≤ length t → string_octets t ≡ Some t
+open_octets [] h some = absurd (omega (arith, some))
+open_octets (c ∷ t) h some = let parts = and_parts (is_open c) (all_open t) h in rw (no_quote_lem c parts.0) (open_from (c ∷ t) h)
 
-open-value : (k t : List ℕ) → all_key k ≡ true → all_open t ≡ true → 1 ≤ length t → length t ≤ 65535 → (key_part (k ++ 61 ∷ t) ≡ k) × IsValueText (value_part (k ++ 61 ∷ t)) t
-open-value k t key shape some few =
-    let parts = with-value k t key in
-    (parts.0, subst (λ v. IsValueText v t) (sym parts.1) (open-octets t shape some, few))
+open_value : (k t : List ℕ) → all_key k ≡ true → all_open t ≡ true → 1 ≤ length t → length t ≤ 65535 → (key_part (k ++ 61 ∷ t) ≡ k) × IsValueText (value_part (k ++ 61 ∷ t)) t
+open_value k t key shape some few =
+    let parts = with_value k t key in
+    (parts.0, subst (λ v. IsValueText v t) (sym parts.1) (open_octets t shape some, few))
 
-any-value : (k own : List ℕ) → all_key k ≡ true → IsText own → (key_part (k ++ any_part own) ≡ k) × IsValueText (value_part (k ++ any_part own)) own
-any-value k [] key is =
-    let parts = without-value k key in
+any_value : (k own : List ℕ) → all_key k ≡ true → IsText own → (key_part (k ++ any_part own) ≡ k) × IsValueText (value_part (k ++ any_part own)) own
+any_value k [] key is =
+    let parts = without_value k key in
     let whole = append-nil k in
     (ap key_part whole ∙ parts.0, subst (λ v. IsValueText v []) (sym (ap value_part whole ∙ parts.1)) refl)
-any-value k (o ∷ own) key is =
-    let parts = with-value k (string_text (o ∷ own)) key in
+any_value k (o ∷ own) key is =
+    let parts = with_value k (string_text (o ∷ own)) key in
     (parts.0, subst (λ v. IsValueText v (o ∷ own)) (sym parts.1) (text (o ∷ own) is).0)
 
 -- ---- lists
@@ -138,15 +138,15 @@ is_bare c = nat_le 33 c && nat_le c 126 && not (c == 34) && not (c == 92) && not
 abbrev pub all_bare : List ℕ → Bool
 all_bare t = list_all is_bare t
 
-not-escaped : (c : ℕ) → is_bare c ≡ true → is_escaped c ≡ false
-not-escaped c h = grind arith
+not_escaped : (c : ℕ) → is_bare c ≡ true → is_escaped c ≡ false
+not_escaped c h = grind arith
 
-bare-item : (t : List ℕ) → all_bare t ≡ true → item_text t ≡ t
-bare-item [] h = refl
-bare-item (c ∷ t) h = let parts = and_parts (is_bare c) (all_bare t) h in rw (not-escaped c parts.0) (ap (λ (xs : List ℕ). c ∷ xs) (bare-item t parts.1))
+bare_item : (t : List ℕ) → all_bare t ≡ true → item_text t ≡ t
+bare_item [] h = refl
+bare_item (c ∷ t) h = let parts = and_parts (is_bare c) (all_bare t) h in rw (not_escaped c parts.0) (ap (λ (xs : List ℕ). c ∷ xs) (bare_item t parts.1))
 
-item-octet-read : (c : ℕ) (done xs : List ℕ) → items_from false done (item_octet c ++ xs) ≡ items_from false (done ++ c ∷ []) xs
-item-octet-read c done xs = elim (cases_eq c 44) [
+item_octet_read : (c : ℕ) (done xs : List ℕ) → items_from false done (item_octet c ++ xs) ≡ items_from false (done ++ c ∷ []) xs
+item_octet_read c done xs = elim (cases_eq c 44) [
   | inl e ↦ rw e refl
   | inr no_comma ↦ elim (cases_eq c 92) [
     | inl e ↦ rw e refl
@@ -154,11 +154,11 @@ item-octet-read c done xs = elim (cases_eq c 44) [
   ]
 ]
 
-item-read : (item done xs : List ℕ) → items_from false done (item_text item ++ xs) ≡ items_from false (done ++ item) xs
-item-read [] done xs = ap (λ (d : List ℕ). items_from false d xs) (sym (append-nil done))
-item-read (c ∷ item) done xs =
-    ap (items_from false done) (append_assoc (item_octet c) (item_text item) xs) ∙ item-octet-read c done (item_text item ++ xs)
-    ∙ item-read item (done ++ c ∷ []) xs ∙ ap (λ (d : List ℕ). items_from false d xs) (append_assoc done (c ∷ []) item)
+item_read : (item done xs : List ℕ) → items_from false done (item_text item ++ xs) ≡ items_from false (done ++ item) xs
+item_read [] done xs = ap (λ (d : List ℕ). items_from false d xs) (sym (append-nil done))
+item_read (c ∷ item) done xs =
+    ap (items_from false done) (append_assoc (item_octet c) (item_text item) xs) ∙ item_octet_read c done (item_text item ++ xs)
+    ∙ item_read item (done ++ c ∷ []) xs ∙ ap (λ (d : List ℕ). items_from false d xs) (append_assoc done (c ∷ []) item)
 
 -- characters of the text of a list: octets in quotes, or characters that need none
 abbrev is_fine : ListValue → ℕ → Bool
@@ -170,46 +170,46 @@ abbrev ItemBack : ListValue → List ℕ → Type 0
 ItemBack list own =
     (item : List ℕ) × (text_of_item list own ≡ item_text item) × IsItem list item own × (list_all (is_fine list) (text_of_item list own) ≡ true)
 
-open-of : (c : ℕ) → is_bare c ≡ true → is_open c ≡ true
-open-of c h = grind arith
+open_of : (c : ℕ) → is_bare c ≡ true → is_open c ≡ true
+open_of c h = grind arith
 
-bare-below : (c : ℕ) → is_bare c ≡ true → c < 128
-bare-below c h = grind arith
+bare_below : (c : ℕ) → is_bare c ≡ true → c < 128
+bare_below c h = grind arith
 
-bare-ascii : (t : List ℕ) → all_bare t ≡ true → IsAscii t
-bare-ascii [] h = IsAscii-nil
-bare-ascii (c ∷ t) h = let parts = and_parts (is_bare c) (all_bare t) h in IsAscii-cons c t (bare-below c parts.0) (bare-ascii t parts.1)
+bare_ascii : (t : List ℕ) → all_bare t ≡ true → IsAscii t
+bare_ascii [] h = IsAscii-nil
+bare_ascii (c ∷ t) h = let parts = and_parts (is_bare c) (all_bare t) h in IsAscii-cons c t (bare_below c parts.0) (bare_ascii t parts.1)
 
-pub bare-open : (t : List ℕ) → all_bare t ≡ true → all_open t ≡ true
-bare-open [] h = refl
-bare-open (c ∷ t) h =
+pub bare_open : (t : List ℕ) → all_bare t ≡ true → all_open t ≡ true
+bare_open [] h = refl
+bare_open (c ∷ t) h =
     let parts = and_parts (is_bare c) (all_bare t) h in
-    rw (open-of c parts.0) (bare-open t parts.1)
+    rw (open_of c parts.0) (bare_open t parts.1)
 
-bare-utf8 : (t : List ℕ) → all_bare t ≡ true → IsUtf8 t
-bare-utf8 t h = IsUtf8-from_ascii t (bare-ascii t h)
+bare_utf8 : (t : List ℕ) → all_bare t ≡ true → IsUtf8 t
+bare_utf8 t h = IsUtf8-from_ascii t (bare_ascii t h)
 
-identifier-fine : (item : List ℕ) → IsOctets item → list_all (is_fine Protocols) (item_text item) ≡ true
-identifier-fine [] h = refl
-identifier-fine (c ∷ item) h =
+identifier_fine : (item : List ℕ) → IsOctets item → list_all (is_fine Protocols) (item_text item) ≡ true
+identifier_fine [] h = refl
+identifier_fine (c ∷ item) h =
     let own = lt-ltb c 256 (h 0) in
     elim (cases_Bool (is_escaped c)) [
-      | inl is ↦ rw (is, own) (identifier-fine item (λ i. h (suc i)))
-      | inr other ↦ rw (other, own) (identifier-fine item (λ i. h (suc i)))
+      | inl is ↦ rw (is, own) (identifier_fine item (λ i. h (suc i)))
+      | inr other ↦ rw (other, own) (identifier_fine item (λ i. h (suc i)))
     ]
 
-protocol-back : (own : List ℕ) → IsOctets own → length own ≡ octets_of_item Protocols own → 2 ≤ length own → ItemBack Protocols own
-protocol-back [] h size some = absurd (omega (arith, some))
-protocol-back (x ∷ item) h size some =
+protocol_back : (own : List ℕ) → IsOctets own → length own ≡ octets_of_item Protocols own → 2 ≤ length own → ItemBack Protocols own
+protocol_back [] h size some = absurd (omega (arith, some))
+protocol_back (x ∷ item) h size some =
     let same : x ≡ length item = omega (arith, size) in
-    (item, refl, (omega (arith, some), omega (arith, same, h 0), ap (λ (n : ℕ). n ∷ item) same), identifier-fine item (λ i. h (suc i)))
+    (item, refl, (omega (arith, some), omega (arith, same, h 0), ap (λ (n : ℕ). n ∷ item) same), identifier_fine item (λ i. h (suc i)))
 
-bare-of : (c : ℕ) → is_key c ≡ true → is_bare c ≡ true
-bare-of c h = grind arith
+bare_of : (c : ℕ) → is_key c ≡ true → is_bare c ≡ true
+bare_of c h = grind arith
 
-key-bare : (k : List ℕ) → all_key k ≡ true → all_bare k ≡ true
-key-bare [] h = refl
-key-bare (c ∷ k) h = let parts = and_parts (is_key c) (all_key k) h in rw (bare-of c parts.0) (key-bare k parts.1)
+key_bare : (k : List ℕ) → all_key k ≡ true → all_bare k ≡ true
+key_bare [] h = refl
+key_bare (c ∷ k) h = let parts = and_parts (is_key c) (all_key k) h in rw (bare_of c parts.0) (key_bare k parts.1)
 
 high : (key : ℕ) → 7 ≤ key → form_of key ≡ forms.Any
 high key h =
@@ -226,65 +226,65 @@ named (suc (suc (suc (suc (suc zero))))) = inl refl
 named (suc (suc (suc (suc (suc (suc zero)))))) = inl refl
 named (suc (suc (suc (suc (suc (suc (suc key))))))) = inr (high (suc (suc (suc (suc (suc (suc (suc key))))))) (omega arith))
 
-key-is : (key : ℕ) → key ≤ 65535 → IsKey (key_text key) key
-key-is key few = elim (named key) [
+key_is : (key : ℕ) → key ≤ 65535 → IsKey (key_text key) key
+key_is key few = elim (named key) [
   | inl is ↦ inl is
   | inr any ↦ inr (few, rw any refl)
 ]
 
-key-back : (own : List ℕ) → IsOctets own → length own ≡ 2 → 1 ≤ from_be_bytes w16 own → ItemBack Keys own
-key-back [] h two least = absurd (omega (arith, two))
-key-back (a ∷ []) h two least = absurd (omega (arith, two))
-key-back (a ∷ b ∷ c ∷ own) h two least = absurd (omega (arith, two))
-key-back (a ∷ b ∷ []) h two least =
+key_back : (own : List ℕ) → IsOctets own → length own ≡ 2 → 1 ≤ from_be_bytes w16 own → ItemBack Keys own
+key_back [] h two least = absurd (omega (arith, two))
+key_back (a ∷ []) h two least = absurd (omega (arith, two))
+key_back (a ∷ b ∷ c ∷ own) h two least = absurd (omega (arith, two))
+key_back (a ∷ b ∷ []) h two least =
     let own = a ∷ b ∷ [] in
     let key = from_be_bytes w16 own in
     let few : key ≤ 65535 = omega (arith, h 0, h 1) in
     let k = key_text key in
-    let bare = key-bare k (name-key (form_of key) key (omega (arith, few))) in
-    (k, sym (bare-item k bare), (key, bare-utf8 k bare, key-is key few, least, sym (be_bytes_2 own key refl h refl)), bare-open k bare)
+    let bare = key_bare k (name_key (form_of key) key (omega (arith, few))) in
+    (k, sym (bare_item k bare), (key, bare_utf8 k bare, key_is key few, least, sym (be_bytes_2 own key refl h refl)), bare_open k bare)
 
-digit-bare : (c : ℕ) → IsDigitOrDot c → is_bare c ≡ true
-digit-bare c (inl h) = grind arith
-digit-bare c (inr h) = grind arith
+digit_bare : (c : ℕ) → IsDigitOrDot c → is_bare c ≡ true
+digit_bare c (inl h) = grind arith
+digit_bare c (inr h) = grind arith
 
-hex-bare : (c : ℕ) → IsHexOrColon c → is_bare c ≡ true
-hex-bare c (inl h) = grind arith
-hex-bare c (inr h) = grind arith
+hex_bare : (c : ℕ) → IsHexOrColon c → is_bare c ≡ true
+hex_bare c (inl h) = grind arith
+hex_bare c (inr h) = grind arith
 
-dotted-bare : (t : List ℕ) → All IsDigitOrDot t → all_bare t ≡ true
-dotted-bare [] h = refl
-dotted-bare (c ∷ t) h = rw (digit-bare c (h 0 0 (omega arith))) (dotted-bare t (λ i d within. h (suc i) d (omega (arith, within))))
+dotted_bare : (t : List ℕ) → All IsDigitOrDot t → all_bare t ≡ true
+dotted_bare [] h = refl
+dotted_bare (c ∷ t) h = rw (digit_bare c (h 0 0 (omega arith))) (dotted_bare t (λ i d within. h (suc i) d (omega (arith, within))))
 
-groups-bare : (t : List ℕ) → All IsHexOrColon t → all_bare t ≡ true
-groups-bare [] h = refl
-groups-bare (c ∷ t) h = rw (hex-bare c (h 0 0 (omega arith))) (groups-bare t (λ i d within. h (suc i) d (omega (arith, within))))
+groups_bare : (t : List ℕ) → All IsHexOrColon t → all_bare t ≡ true
+groups_bare [] h = refl
+groups_bare (c ∷ t) h = rw (hex_bare c (h 0 0 (omega arith))) (groups_bare t (λ i d within. h (suc i) d (omega (arith, within))))
 
-ipv4-back : (own : List ℕ) → IsOctets own → length own ≡ 4 → ItemBack Ipv4 own
-ipv4-back own h four =
+ipv4_back : (own : List ℕ) → IsOctets own → length own ≡ 4 → ItemBack Ipv4 own
+ipv4_back own h four =
     let a : Ipv4Addr = record { octets = own } in
     let t = ipv4_text own in
-    let bare = dotted-bare t (All-ipv4_text own h) in
-    (t, sym (bare-item t bare), (a, bare-utf8 t bare, IsDotted-ipv4_text own four h, refl), bare-open t bare)
+    let bare = dotted_bare t (All-ipv4_text own h) in
+    (t, sym (bare_item t bare), (a, bare_utf8 t bare, IsDotted-ipv4_text own four h, refl), bare_open t bare)
 
-pub octets-fit : (xs : List ℕ) → AllSegments xs → IsOctets (octets_of xs)
-octets-fit [] h i = omega arith
-octets-fit (x ∷ xs) h zero = omega (arith, h 0)
-octets-fit (x ∷ xs) h (suc zero) = omega arith
-octets-fit (x ∷ xs) h (suc (suc i)) = octets-fit xs (λ j. h (suc j)) i
+pub octets_fit : (xs : List ℕ) → AllSegments xs → IsOctets (octets_of xs)
+octets_fit [] h i = omega arith
+octets_fit (x ∷ xs) h zero = omega (arith, h 0)
+octets_fit (x ∷ xs) h (suc zero) = omega arith
+octets_fit (x ∷ xs) h (suc (suc i)) = octets_fit xs (λ j. h (suc j)) i
 
-pub ipv6-bare : (xs : List ℕ) → AllSegments xs → all_bare (ipv6_text xs) ≡ true
+pub ipv6_bare : (xs : List ℕ) → AllSegments xs → all_bare (ipv6_text xs) ≡ true
 unfolding ipv6_text
-ipv6-bare xs fits =
+ipv6_bare xs fits =
     let o = octets_of (drop 6 xs) in
     cond_both (bytes_eq (take 6 xs) (0 ∷ 0 ∷ 0 ∷ 0 ∷ 0 ∷ 0xffff ∷ [])) (codes "::ffff:" ++ ipv4_text o) (hex_groups_text xs) (λ t. all_bare t ≡ true)
-    (λ _. dotted-bare (ipv4_text o) (All-ipv4_text o (octets-fit (drop 6 xs) (AllSegments-drop 6 xs fits)))) (λ _. groups-bare (hex_groups_text xs) (All-hex_groups_text xs fits))
+    (λ _. dotted_bare (ipv4_text o) (All-ipv4_text o (octets_fit (drop 6 xs) (AllSegments-drop 6 xs fits)))) (λ _. groups_bare (hex_groups_text xs) (All-hex_groups_text xs fits))
 
-pub segments-fit : (own : List ℕ) → IsOctets own → AllSegments (segments_of own)
-segments-fit [] h i = omega arith
-segments-fit (a ∷ []) h i = omega arith
-segments-fit (a ∷ b ∷ own) h zero = omega (arith, h 0, h 1)
-segments-fit (a ∷ b ∷ own) h (suc i) = segments-fit own (λ j. h (suc (suc j))) i
+pub segments_fit : (own : List ℕ) → IsOctets own → AllSegments (segments_of own)
+segments_fit [] h i = omega arith
+segments_fit (a ∷ []) h i = omega arith
+segments_fit (a ∷ b ∷ own) h zero = omega (arith, h 0, h 1)
+segments_fit (a ∷ b ∷ own) h (suc i) = segments_fit own (λ j. h (suc (suc j))) i
 
 pub halves : (own : List ℕ) (n : ℕ) → IsOctets own → length own ≡ n + n → (length (segments_of own) ≡ n) × (own ≡ octets_of (segments_of own))
 halves [] n h e = (omega (arith, e), refl)
@@ -296,15 +296,15 @@ halves (a ∷ b ∷ own) (suc n) h e =
     let low : (a * 256 + b) % 256 ≡ b = omega (arith, h 1) in
     (omega (arith, size), rw (high, low) (ap (λ (xs : List ℕ). a ∷ b ∷ xs) same))
 
-ipv6-back : (own : List ℕ) → IsOctets own → length own ≡ 16 → ItemBack Ipv6 own
-ipv6-back own h sixteen =
+ipv6_back : (own : List ℕ) → IsOctets own → length own ≡ 16 → ItemBack Ipv6 own
+ipv6_back own h sixteen =
     let segments = segments_of own in
     let a : Ipv6Addr = record { segments = segments } in
     let (eight, same) = halves own 8 h sixteen in
-    let fits = segments-fit own h in
+    let fits = segments_fit own h in
     let t = ipv6_text segments in
-    let bare = ipv6-bare segments fits in
-    (t, sym (bare-item t bare), (a, bare-utf8 t bare, IsColonHex-ipv6_text segments eight fits, same), bare-open t bare)
+    let bare = ipv6_bare segments fits in
+    (t, sym (bare_item t bare), (a, bare_utf8 t bare, IsColonHex-ipv6_text segments eight fits, same), bare_open t bare)
 
 -- ---- the items of octets
 
@@ -313,54 +313,54 @@ abbrev Ascends : ListValue → List ℕ → Type 0
 Ascends Keys octets = (least : ℕ) × (1 ≤ least) × (is_ascending least octets ≡ true)
 Ascends list octets = Unit {0}
 
-at-most : (a b : ℕ) → nat_le a b ≡ true → a ≤ b
-at-most a b h = grind arith
+at_most : (a b : ℕ) → nat_le a b ≡ true → a ≤ b
+at_most a b h = grind arith
 
-pub take-fit : (n : ℕ) (xs : List ℕ) → IsOctets xs → IsOctets (take n xs)
-take-fit zero xs h i = omega arith
-take-fit (suc n) [] h i = omega arith
-take-fit (suc n) (x ∷ xs) h zero = h 0
-take-fit (suc n) (x ∷ xs) h (suc i) = take-fit n xs (λ j. h (suc j)) i
+pub take_fit : (n : ℕ) (xs : List ℕ) → IsOctets xs → IsOctets (take n xs)
+take_fit zero xs h i = omega arith
+take_fit (suc n) [] h i = omega arith
+take_fit (suc n) (x ∷ xs) h zero = h 0
+take_fit (suc n) (x ∷ xs) h (suc i) = take_fit n xs (λ j. h (suc j)) i
 
-pub drop-fit : (n : ℕ) (xs : List ℕ) → IsOctets xs → IsOctets (drop n xs)
-drop-fit zero xs h = h
-drop-fit (suc n) [] h = h
-drop-fit (suc n) (x ∷ xs) h = drop-fit n xs (λ j. h (suc j))
+pub drop_fit : (n : ℕ) (xs : List ℕ) → IsOctets xs → IsOctets (drop n xs)
+drop_fit zero xs h = h
+drop_fit (suc n) [] h = h
+drop_fit (suc n) (x ∷ xs) h = drop_fit n xs (λ j. h (suc j))
 
-head-taken : (n x : ℕ) (xs : List ℕ) → 1 ≤ n → slice_index (take n (x ∷ xs)) 0 ≡ x
-head-taken zero x xs some = absurd (omega (arith, some))
-head-taken (suc n) x xs some = refl
+head_taken : (n x : ℕ) (xs : List ℕ) → 1 ≤ n → slice_index (take n (x ∷ xs)) 0 ≡ x
+head_taken zero x xs some = absurd (omega (arith, some))
+head_taken (suc n) x xs some = refl
 
-first-item : (list : ListValue) (all : List ℕ) → IsOctets all → octets_of_item list all ≤ length all → 2 ≤ octets_of_item list all → Ascends list all
+first_item : (list : ListValue) (all : List ℕ) → IsOctets all → octets_of_item list all ≤ length all → 2 ≤ octets_of_item list all → Ascends list all
     → ItemBack list (take (octets_of_item list all) all) × Ascends list (drop (octets_of_item list all) all)
-first-item Keys [] h fits some keys = absurd (omega (arith, fits))
-first-item Keys (a ∷ []) h fits some keys = absurd (omega (arith, fits))
-first-item Keys (a ∷ b ∷ all) h fits some (least, low, ascend) =
+first_item Keys [] h fits some keys = absurd (omega (arith, fits))
+first_item Keys (a ∷ []) h fits some keys = absurd (omega (arith, fits))
+first_item Keys (a ∷ b ∷ all) h fits some (least, low, ascend) =
     let key = from_be_bytes w16 (a ∷ b ∷ []) in
     let parts = and_parts (nat_le least key) (is_ascending (key + 1) all) ascend in
-    let up : least ≤ key = at-most least key parts.0 in
-    (key-back (a ∷ b ∷ []) (take-fit 2 (a ∷ b ∷ all) h) refl (omega (arith, low, up)), (key + 1, omega arith, parts.1))
-first-item Protocols [] h fits some keys = absurd (omega (arith, fits, some))
-first-item Protocols (x ∷ all) h fits some keys =
+    let up : least ≤ key = at_most least key parts.0 in
+    (key_back (a ∷ b ∷ []) (take_fit 2 (a ∷ b ∷ all) h) refl (omega (arith, low, up)), (key + 1, omega arith, parts.1))
+first_item Protocols [] h fits some keys = absurd (omega (arith, fits, some))
+first_item Protocols (x ∷ all) h fits some keys =
     let own = take (1 + x) (x ∷ all) in
     let size : length own ≡ 1 + x = length-take-le (1 + x) (x ∷ all) fits in
-    (protocol-back own (take-fit (1 + x) (x ∷ all) h) (omega (arith, size, head-taken (1 + x) x all (omega arith))) (omega (arith, size, some)), tt)
-first-item Ipv4 all h fits some keys = (ipv4-back (take 4 all) (take-fit 4 all h) (length-take-le 4 all fits), tt)
-first-item Ipv6 all h fits some keys = (ipv6-back (take 16 all) (take-fit 16 all h) (length-take-le 16 all fits), tt)
+    (protocol_back own (take_fit (1 + x) (x ∷ all) h) (omega (arith, size, head_taken (1 + x) x all (omega arith))) (omega (arith, size, some)), tt)
+first_item Ipv4 all h fits some keys = (ipv4_back (take 4 all) (take_fit 4 all h) (length-take-le 4 all fits), tt)
+first_item Ipv6 all h fits some keys = (ipv6_back (take 16 all) (take_fit 16 all h) (length-take-le 16 all fits), tt)
 
-pub map-some : (f : List ℕ → List ℕ) (x : Option (List ℕ)) (t : List ℕ) → option_map f x ≡ Some t → (y : List ℕ) × (x ≡ Some y) × (t ≡ f y)
-map-some f None t e = absurd cc
-map-some f (Some y) t e = (y, refl, cc)
+pub map_some : (f : List ℕ → List ℕ) (x : Option (List ℕ)) (t : List ℕ) → option_map f x ≡ Some t → (y : List ℕ) × (x ≡ Some y) × (t ≡ f y)
+map_some f None t e = absurd cc
+map_some f (Some y) t e = (y, refl, cc)
 
-fine-append : (list : ListValue) (a b : List ℕ) → list_all (is_fine list) a ≡ true → list_all (is_fine list) b ≡ true → list_all (is_fine list) (a ++ b) ≡ true
-fine-append list [] b h k = k
-fine-append list (c ∷ a) b h k = let parts = and_parts (is_fine list c) (list_all (is_fine list) a) h in rw (parts.0) (fine-append list a b parts.1 k)
+fine_append : (list : ListValue) (a b : List ℕ) → list_all (is_fine list) a ≡ true → list_all (is_fine list) b ≡ true → list_all (is_fine list) (a ++ b) ≡ true
+fine_append list [] b h k = k
+fine_append list (c ∷ a) b h k = let parts = and_parts (is_fine list c) (list_all (is_fine list) a) h in rw (parts.0) (fine_append list a b parts.1 k)
 
-comma-fine : (list : ListValue) → is_fine list 44 ≡ true
-comma-fine Keys = refl
-comma-fine Protocols = refl
-comma-fine Ipv4 = refl
-comma-fine Ipv6 = refl
+comma_fine : (list : ListValue) → is_fine list 44 ≡ true
+comma_fine Keys = refl
+comma_fine Protocols = refl
+comma_fine Ipv4 = refl
+comma_fine Ipv6 = refl
 
 -- the text is the items of the octets
 abbrev IsTextOf : ListValue → List ℕ → List ℕ → Type 0
@@ -370,45 +370,45 @@ IsTextOf list octets t = IsListText list t octets × (list_all (is_fine list) t 
 abbrev Listed : ListValue → List ℕ → List ℕ → Type 0
 Listed list octets t = ((octets ≡ []) × (t ≡ [])) ⊎ ((rest : List ℕ) × (t ≡ 44 ∷ rest) × IsTextOf list octets rest)
 
-one-item-more : (list : ListValue) (all own rest others t : List ℕ) → all ≡ own ++ rest → ItemBack list own → t ≡ 44 ∷ text_of_item list own ++ others → Listed list rest others → Listed list all t
-one-item-more list all own rest others t whole (item, print, is, fine) e (inl (none, end)) =
-    let all_of : items_of (text_of_item list own ++ others) ≡ Some (item ∷ []) = rw (print, end) (item-read item [] []) in
-    inr (text_of_item list own ++ others, e, ((item ∷ [], all_of, (own, rest, is, none, whole)), fine-append list (text_of_item list own) others fine (rw end refl)))
-one-item-more list all own rest others t whole (item, print, is, fine) e (inr (r, more, ((items, so_far, are), fine_r))) =
-    let all_of : items_of (text_of_item list own ++ others) ≡ Some (item ∷ items) = rw (print, more) (item-read item [] (44 ∷ r) ∙ ap (option_map (λ (xs : List (List ℕ)). item ∷ xs)) so_far) in
-    inr (text_of_item list own ++ others, e, ((item ∷ items, all_of, (own, rest, is, are, whole)), fine-append list (text_of_item list own) others fine (rw (more, comma-fine list) fine_r)))
+one_item_more : (list : ListValue) (all own rest others t : List ℕ) → all ≡ own ++ rest → ItemBack list own → t ≡ 44 ∷ text_of_item list own ++ others → Listed list rest others → Listed list all t
+one_item_more list all own rest others t whole (item, print, is, fine) e (inl (none, end)) =
+    let all_of : items_of (text_of_item list own ++ others) ≡ Some (item ∷ []) = rw (print, end) (item_read item [] []) in
+    inr (text_of_item list own ++ others, e, ((item ∷ [], all_of, (own, rest, is, none, whole)), fine_append list (text_of_item list own) others fine (rw end refl)))
+one_item_more list all own rest others t whole (item, print, is, fine) e (inr (r, more, ((items, so_far, are), fine_r))) =
+    let all_of : items_of (text_of_item list own ++ others) ≡ Some (item ∷ items) = rw (print, more) (item_read item [] (44 ∷ r) ∙ ap (option_map (λ (xs : List (List ℕ)). item ∷ xs)) so_far) in
+    inr (text_of_item list own ++ others, e, ((item ∷ items, all_of, (own, rest, is, are, whole)), fine_append list (text_of_item list own) others fine (rw (more, comma_fine list) fine_r)))
 
-items-back : (n : ℕ) (list : ListValue) (octets t : List ℕ) → IsOctets octets → Ascends list octets → items_within n list octets ≡ Some t → Listed list octets t
-items-back n list [] t h keys e = inl (refl, cc)
-items-back zero list (o ∷ octets) t h keys e = absurd cc
-items-back (suc n) list (o ∷ octets) t h keys e = elim (cases_Bool (is_item list (o ∷ octets))) [
+items_back : (n : ℕ) (list : ListValue) (octets t : List ℕ) → IsOctets octets → Ascends list octets → items_within n list octets ≡ Some t → Listed list octets t
+items_back n list [] t h keys e = inl (refl, cc)
+items_back zero list (o ∷ octets) t h keys e = absurd cc
+items_back (suc n) list (o ∷ octets) t h keys e = elim (cases_Bool (is_item list (o ∷ octets))) [
   | inl is ↦
       let all = o ∷ octets in
       let size = octets_of_item list all in
       let parts = and_parts (nat_le size (length all)) (nat_le 2 size) is in
-      let fits = at-most size (length all) parts.0 in
-      let some = at-most 2 size parts.1 in
-      let (first, others_ascend) = first-item list all h fits some keys in
-      let (others, e2, e3) = map-some (λ others. 44 ∷ text_of_item list (take size all) ++ others) (items_within n list (drop size all)) t (rw is at e) in
-      one-item-more list all (take size all) (drop size all) others t (sym (take-append-drop size all)) first e3
-      (items-back n list (drop size all) others (drop-fit size all h) others_ascend e2)
+      let fits = at_most size (length all) parts.0 in
+      let some = at_most 2 size parts.1 in
+      let (first, others_ascend) = first_item list all h fits some keys in
+      let (others, e2, e3) = map_some (λ others. 44 ∷ text_of_item list (take size all) ++ others) (items_within n list (drop size all)) t (rw is at e) in
+      one_item_more list all (take size all) (drop size all) others t (sym (take-append-drop size all)) first e3
+      (items_back n list (drop size all) others (drop_fit size all h) others_ascend e2)
   | inr other ↦ let no = rw other at e in absurd cc
 ]
 
-tail-of : (c d : ℕ) (t u : List ℕ) → c ∷ t ≡ d ∷ u → u ≡ t
-tail-of c d t u e = cc
+tail_of : (c d : ℕ) (t u : List ℕ) → c ∷ t ≡ d ∷ u → u ≡ t
+tail_of c d t u e = cc
 
-without-comma : (x : Option (List ℕ)) (t : List ℕ) → after_comma x ≡ Some t → (c : ℕ) × (x ≡ Some (c ∷ t))
-without-comma None t e = absurd cc
-without-comma (Some []) t e = absurd cc
-without-comma (Some (c ∷ u)) t e = (c, cc)
+without_comma : (x : Option (List ℕ)) (t : List ℕ) → after_comma x ≡ Some t → (c : ℕ) × (x ≡ Some (c ∷ t))
+without_comma None t e = absurd cc
+without_comma (Some []) t e = absurd cc
+without_comma (Some (c ∷ u)) t e = (c, cc)
 
-list-back : (list : ListValue) (octets t : List ℕ) → IsOctets octets → Ascends list octets → list_text list octets ≡ Some t → IsTextOf list octets t
-list-back list octets t h keys e =
-    let (c, whole) = without-comma (items_within (length octets) list octets) t e in
-    elim (items-back (length octets) list octets (c ∷ t) h keys whole) [
+list_back : (list : ListValue) (octets t : List ℕ) → IsOctets octets → Ascends list octets → list_text list octets ≡ Some t → IsTextOf list octets t
+list_back list octets t h keys e =
+    let (c, whole) = without_comma (items_within (length octets) list octets) t e in
+    elim (items_back (length octets) list octets (c ∷ t) h keys whole) [
       | inl none ↦ let no : c ∷ t ≡ [] = none.1 in absurd cc
-      | inr some ↦ let same : some.0 ≡ t = tail-of c 44 t some.0 some.1 in subst (λ (r : List ℕ). IsTextOf list octets r) same some.2
+      | inr some ↦ let same : some.0 ≡ t = tail_of c 44 t some.0 some.1 in subst (λ (r : List ℕ). IsTextOf list octets r) same some.2
     ]
 
 -- ---- keys in order
@@ -418,40 +418,40 @@ abbrev pub AreBelow : ℕ → List ParamValue → Type 0
 AreBelow n [] = Unit {0}
 AreBelow n (q ∷ qs) = (q.key < n) × AreBelow n qs
 
-pub with-last : (p : ParamValue) (done : List ParamValue) → AreBelow p.key done → with_param p done ≡ Some (done ++ p ∷ [])
-with-last p [] h = refl
-with-last p (q ∷ done) h = rw (ne_eqb p.key q.key (omega (arith, h.0)), not-before p.key q.key (omega (arith, h.0)), with-last p done h.1) refl
+pub with_last : (p : ParamValue) (done : List ParamValue) → AreBelow p.key done → with_param p done ≡ Some (done ++ p ∷ [])
+with_last p [] h = refl
+with_last p (q ∷ done) h = rw (ne_eqb p.key q.key (omega (arith, h.0)), not_before p.key q.key (omega (arith, h.0)), with_last p done h.1) refl
 
-pub below-more : (m n : ℕ) (p : ParamValue) (done : List ParamValue) → AreBelow m done → m ≤ n → p.key < n → AreBelow n (done ++ p ∷ [])
-below-more m n p [] h le lt = (lt, tt)
-below-more m n p (q ∷ done) h le lt = (omega (arith, h.0, le), below-more m n p done h.1 le lt)
+pub below_more : (m n : ℕ) (p : ParamValue) (done : List ParamValue) → AreBelow m done → m ≤ n → p.key < n → AreBelow n (done ++ p ∷ [])
+below_more m n p [] h le lt = (lt, tt)
+below_more m n p (q ∷ done) h le lt = (omega (arith, h.0, le), below_more m n p done h.1 le lt)
 
-pub below-weaker : (m n : ℕ) (done : List ParamValue) → AreBelow m done → m ≤ n → AreBelow n done
-below-weaker m n [] h le = tt
-below-weaker m n (q ∷ done) h le = (omega (arith, h.0, le), below-weaker m n done h.1 le)
+pub below_weaker : (m n : ℕ) (done : List ParamValue) → AreBelow m done → m ≤ n → AreBelow n done
+below_weaker m n [] h le = tt
+below_weaker m n (q ∷ done) h le = (omega (arith, h.0, le), below_weaker m n done h.1 le)
 
-keys-sorted : (octets : List ℕ) (least : ℕ) (done : List ParamValue) → is_ascending least octets ≡ true → AreBelow least done
+keys_sorted : (octets : List ℕ) (least : ℕ) (done : List ParamValue) → is_ascending least octets ≡ true → AreBelow least done
     → in_key_order done (keys_of octets) ≡ Some (done ++ keys_of octets)
-keys-sorted [] least done h below = ap Some (sym (append-nil done))
-keys-sorted (a ∷ []) least done h below = absurd cc
-keys-sorted (a ∷ b ∷ octets) least done h below =
+keys_sorted [] least done h below = ap Some (sym (append-nil done))
+keys_sorted (a ∷ []) least done h below = absurd cc
+keys_sorted (a ∷ b ∷ octets) least done h below =
     let key = from_be_bytes w16 (a ∷ b ∷ []) in
     let p : ParamValue = record { key = key; octets = [] } in
     let parts = and_parts (nat_le least key) (is_ascending (key + 1) octets) h in
-    let up = at-most least key parts.0 in
-    rw (with-last p done (below-weaker least key done below up))
-    (keys-sorted octets (key + 1) (done ++ p ∷ []) parts.1 (below-more least (key + 1) p done below (omega (arith, up)) (omega arith))
+    let up = at_most least key parts.0 in
+    rw (with_last p done (below_weaker least key done below up))
+    (keys_sorted octets (key + 1) (done ++ p ∷ []) parts.1 (below_more least (key + 1) p done below (omega (arith, up)) (omega arith))
     ∙ ap Some (append_assoc done (p ∷ []) (keys_of octets)))
 
-keys-wire : (octets : List ℕ) (least : ℕ) → IsOctets octets → is_ascending least octets ≡ true → octets ≡ keys_wire (keys_of octets)
-keys-wire [] least h ascend = refl
-keys-wire (a ∷ []) least h ascend = absurd cc
-keys-wire (a ∷ b ∷ octets) least h ascend =
+keys_wire_lem : (octets : List ℕ) (least : ℕ) → IsOctets octets → is_ascending least octets ≡ true → octets ≡ keys_wire (keys_of octets)
+keys_wire_lem [] least h ascend = refl
+keys_wire_lem (a ∷ []) least h ascend = absurd cc
+keys_wire_lem (a ∷ b ∷ octets) least h ascend =
     let own = a ∷ b ∷ [] in
     let key = from_be_bytes w16 own in
     let parts = and_parts (nat_le least key) (is_ascending (key + 1) octets) ascend in
-    let two : to_be_bytes w16 key ≡ own = be_bytes_2 own key refl (take-fit 2 (a ∷ b ∷ octets) h) refl in
-    ap (λ (xs : List ℕ). a ∷ b ∷ xs) (keys-wire octets (key + 1) (λ i. h (suc (suc i))) parts.1) ∙ ap (λ (xs : List ℕ). xs ++ keys_wire (keys_of octets)) (sym two)
+    let two : to_be_bytes w16 key ≡ own = be_bytes_2 own key refl (take_fit 2 (a ∷ b ∷ octets) h) refl in
+    ap (λ (xs : List ℕ). a ∷ b ∷ xs) (keys_wire_lem octets (key + 1) (λ i. h (suc (suc i))) parts.1) ∙ ap (λ (xs : List ℕ). xs ++ keys_wire (keys_of octets)) (sym two)
 
 -- ---- values in the form of their keys
 
@@ -459,38 +459,38 @@ abbrev all_symbols : ℕ → Bool
 all_symbols zero = true
 all_symbols (suc n) = is_open (get_or standard.encode_table n 0) && all_symbols n
 
-symbol-at : (n k : ℕ) → all_symbols n ≡ true → k < n → is_open (get_or standard.encode_table k 0) ≡ true
-symbol-at zero k h lt = absurd (omega (arith, lt))
-symbol-at (suc n) k h lt =
+symbol_at : (n k : ℕ) → all_symbols n ≡ true → k < n → is_open (get_or standard.encode_table k 0) ≡ true
+symbol_at zero k h lt = absurd (omega (arith, lt))
+symbol_at (suc n) k h lt =
     let parts = and_parts (is_open (get_or standard.encode_table n 0)) (all_symbols n) h in
     elim (cases_lt k n) [
-      | inl below ↦ symbol-at n k parts.1 below
+      | inl below ↦ symbol_at n k parts.1 below
       | inr top ↦ let e : k ≡ n = omega (arith, top, lt) in rw e parts.0
     ]
 
 symbol : (k : ℕ) → k < 64 → is_open (get_or standard.encode_table k 0) ≡ true
-symbol k h = symbol-at 64 k refl h
+symbol k h = symbol_at 64 k refl h
 
-symbols-open : (own : List ℕ) → IsOctets own → all_open (encode_symbols standard.encode_table own) ≡ true
+symbols_open : (own : List ℕ) → IsOctets own → all_open (encode_symbols standard.encode_table own) ≡ true
 unfolding encode_symbols
-symbols-open [] h = refl
-symbols-open (a ∷ []) h = rw (symbol (a / 4) (omega (arith, h 0)), symbol (a % 4 * 16) (omega arith)) refl
-symbols-open (a ∷ b ∷ []) h =
+symbols_open [] h = refl
+symbols_open (a ∷ []) h = rw (symbol (a / 4) (omega (arith, h 0)), symbol (a % 4 * 16) (omega arith)) refl
+symbols_open (a ∷ b ∷ []) h =
     rw (symbol (a / 4) (omega (arith, h 0)), symbol (a % 4 * 16 + b / 16) (omega (arith, h 1)), symbol (b % 16 * 4) (omega arith)) refl
-symbols-open (a ∷ b ∷ c ∷ own) h =
+symbols_open (a ∷ b ∷ c ∷ own) h =
     rw (symbol (a / 4) (omega (arith, h 0)), symbol (a % 4 * 16 + b / 16) (omega (arith, h 1)), symbol (b % 16 * 4 + c / 64) (omega (arith, h 2)), symbol (c % 64) (omega arith))
-    (symbols-open own (λ i. h (suc (suc (suc i)))))
+    (symbols_open own (λ i. h (suc (suc (suc i)))))
 
-padding-open : (k : ℕ) → all_open (replicate k 61) ≡ true
-padding-open zero = refl
-padding-open (suc k) = padding-open k
+padding_open : (k : ℕ) → all_open (replicate k 61) ≡ true
+padding_open zero = refl
+padding_open (suc k) = padding_open k
 
-open-append : (a b : List ℕ) → all_open a ≡ true → all_open b ≡ true → all_open (a ++ b) ≡ true
-open-append [] b h k = k
-open-append (c ∷ a) b h k = let parts = and_parts (is_open c) (all_open a) h in rw (parts.0) (open-append a b parts.1 k)
+open_append : (a b : List ℕ) → all_open a ≡ true → all_open b ≡ true → all_open (a ++ b) ≡ true
+open_append [] b h k = k
+open_append (c ∷ a) b h k = let parts = and_parts (is_open c) (all_open a) h in rw (parts.0) (open_append a b parts.1 k)
 
-pub base64-open : (own : List ℕ) → IsOctets own → all_open (base64_text own) ≡ true
-base64-open own h = open-append (encode_symbols standard.encode_table own) _ (symbols-open own h) (padding-open (padding_len (length own)))
+pub base64_open : (own : List ℕ) → IsOctets own → all_open (base64_text own) ≡ true
+base64_open own h = open_append (encode_symbols standard.encode_table own) _ (symbols_open own h) (padding_open (padding_len (length own)))
 
 -- characters of the text of a value of a form
 abbrev fine_of : Form → ℕ → Bool
@@ -501,61 +501,61 @@ fine_of form c = is_open c
 abbrev IsValueBack : Form → List ℕ → List ℕ → Type 0
 IsValueBack form octets t = IsOwnValue form t octets × (list_all (fine_of form) t ≡ true)
 
-open-below : (c : ℕ) → is_open c ≡ true → c < 128
-open-below c h = grind arith
+open_below : (c : ℕ) → is_open c ≡ true → c < 128
+open_below c h = grind arith
 
-open-ascii : (t : List ℕ) → all_open t ≡ true → IsAscii t
-open-ascii [] h = IsAscii-nil
-open-ascii (c ∷ t) h = let parts = and_parts (is_open c) (all_open t) h in IsAscii-cons c t (open-below c parts.0) (open-ascii t parts.1)
+open_ascii : (t : List ℕ) → all_open t ≡ true → IsAscii t
+open_ascii [] h = IsAscii-nil
+open_ascii (c ∷ t) h = let parts = and_parts (is_open c) (all_open t) h in IsAscii-cons c t (open_below c parts.0) (open_ascii t parts.1)
 
-open-utf8 : (t : List ℕ) → all_open t ≡ true → IsUtf8 t
-open-utf8 t h = IsUtf8-from_ascii t (open-ascii t h)
+open_utf8 : (t : List ℕ) → all_open t ≡ true → IsUtf8 t
+open_utf8 t h = IsUtf8-from_ascii t (open_ascii t h)
 
-pub base64-some : (o : ℕ) (own : List ℕ) → 1 ≤ length (base64_text (o ∷ own))
+pub base64_some : (o : ℕ) (own : List ℕ) → 1 ≤ length (base64_text (o ∷ own))
 unfolding encode_symbols
-base64-some o [] = omega arith
-base64-some o (a ∷ []) = omega arith
-base64-some o (a ∷ b ∷ own) = omega arith
+base64_some o [] = omega arith
+base64_some o (a ∷ []) = omega arith
+base64_some o (a ∷ b ∷ own) = omega arith
 
-own-back : (form : Form) (octets t : List ℕ) → IsOctets octets → own_text form octets ≡ Some t → IsValueBack form octets t
-own-back forms.Mandatory octets t h e = elim (cases_Bool (is_ascending 1 octets)) [
+own_back : (form : Form) (octets t : List ℕ) → IsOctets octets → own_text form octets ≡ Some t → IsValueBack form octets t
+own_back forms.Mandatory octets t h e = elim (cases_Bool (is_ascending 1 octets)) [
   | inl ascend ↦
-      let list = list-back Keys octets t h (1, omega arith, ascend) (rw ascend at e) in
-      ((octets, keys_of octets, list.0, keys-sorted octets 1 [] ascend tt, keys-wire octets 1 h ascend), list.1)
+      let list = list_back Keys octets t h (1, omega arith, ascend) (rw ascend at e) in
+      ((octets, keys_of octets, list.0, keys_sorted octets 1 [] ascend tt, keys_wire_lem octets 1 h ascend), list.1)
   | inr other ↦ let no = rw other at e in absurd cc
 ]
-own-back forms.Protocols octets t h e = list-back Protocols octets t h tt e
-own-back forms.Nothing [] t h e = let none : [] ≡ t = cc in ((sym none, refl), rw (← none) refl)
-own-back forms.Nothing (o ∷ octets) t h e = let no = rw (ne_eqb (length (o ∷ octets)) 0 (omega arith)) at e in absurd cc
-own-back forms.Port [] t h e = absurd cc
-own-back forms.Port (a ∷ []) t h e = absurd cc
-own-back forms.Port (a ∷ b ∷ c ∷ octets) t h e = let no = rw (ne_eqb (length (a ∷ b ∷ c ∷ octets)) 2 (omega arith)) at e in absurd cc
-own-back forms.Port (a ∷ b ∷ []) t h e =
+own_back forms.Protocols octets t h e = list_back Protocols octets t h tt e
+own_back forms.Nothing [] t h e = let none : [] ≡ t = cc in ((sym none, refl), rw (← none) refl)
+own_back forms.Nothing (o ∷ octets) t h e = let no = rw (ne_eqb (length (o ∷ octets)) 0 (omega arith)) at e in absurd cc
+own_back forms.Port [] t h e = absurd cc
+own_back forms.Port (a ∷ []) t h e = absurd cc
+own_back forms.Port (a ∷ b ∷ c ∷ octets) t h e = let no = rw (ne_eqb (length (a ∷ b ∷ c ∷ octets)) 2 (omega arith)) at e in absurd cc
+own_back forms.Port (a ∷ b ∷ []) t h e =
     let own = a ∷ b ∷ [] in
     let n = from_be_bytes w16 own in
     let few : n ≤ 65535 = omega (arith, h 0, h 1) in
     let same : decimal n ≡ t = cc in
-    let shape = bare-open (decimal n) (key-bare (decimal n) (decimal-key n (omega (arith, few)))) in
-    let is : IsValueBack forms.Port own (decimal n) = ((n, open-utf8 (decimal n) shape, (numbers max_u16 (omega arith) n few).0, sym (be_bytes_2 own n refl h refl)), shape) in
+    let shape = bare_open (decimal n) (key_bare (decimal n) (decimal_key n (omega (arith, few)))) in
+    let is : IsValueBack forms.Port own (decimal n) = ((n, open_utf8 (decimal n) shape, (numbers max_u16 (omega arith) n few).0, sym (be_bytes_2 own n refl h refl)), shape) in
     subst (λ (x : List ℕ). IsValueBack forms.Port own x) same is
-own-back forms.Ipv4 octets t h e = list-back Ipv4 octets t h tt e
-own-back forms.Ech [] t h e = absurd cc
-own-back forms.Ech (o ∷ octets) t h e =
+own_back forms.Ipv4 octets t h e = list_back Ipv4 octets t h tt e
+own_back forms.Ech [] t h e = absurd cc
+own_back forms.Ech (o ∷ octets) t h e =
     let some = rw (ne_eqb (length (o ∷ octets)) 0 (omega arith)) at e in
     let same : base64_text (o ∷ octets) ≡ t = cc in
-    let shape = base64-open (o ∷ octets) h in
-    let is : IsValueBack forms.Ech (o ∷ octets) (base64_text (o ∷ octets)) = ((open-utf8 (base64_text (o ∷ octets)) shape, base64-some o octets, (h, refl)), shape) in
+    let shape = base64_open (o ∷ octets) h in
+    let is : IsValueBack forms.Ech (o ∷ octets) (base64_text (o ∷ octets)) = ((open_utf8 (base64_text (o ∷ octets)) shape, base64_some o octets, (h, refl)), shape) in
     subst (λ (x : List ℕ). IsValueBack forms.Ech (o ∷ octets) x) same is
-own-back forms.Ipv6 octets t h e = list-back Ipv6 octets t h tt e
-own-back forms.Any octets t h e = absurd cc
+own_back forms.Ipv6 octets t h e = list_back Ipv6 octets t h tt e
+own_back forms.Any octets t h e = absurd cc
 
 -- ---- texts in quotes
 
 small : (o : ℕ) → (nat_le 32 o && nat_le o 126) ≡ true → o < 128
 small o h = grind arith
 
-octet-ascii : (o : ℕ) (xs : List ℕ) → o < 256 → IsAscii xs → IsAscii (octet_text o ++ xs)
-octet-ascii o xs fits rest = elim (cases_eq o quote) [
+octet_ascii : (o : ℕ) (xs : List ℕ) → o < 256 → IsAscii xs → IsAscii (octet_text o ++ xs)
+octet_ascii o xs fits rest = elim (cases_eq o quote) [
   | inl e ↦ rw e (IsAscii-cons 92 (34 ∷ xs) (omega arith) (IsAscii-cons 34 xs (omega arith) rest))
   | inr no_quote ↦ elim (cases_eq o backslash) [
     | inl e ↦ rw e (IsAscii-cons 92 (92 ∷ xs) (omega arith) (IsAscii-cons 92 xs (omega arith) rest))
@@ -574,40 +574,40 @@ octet-ascii o xs fits rest = elim (cases_eq o quote) [
   ]
 ]
 
-octets-ascii : (own xs : List ℕ) → IsOctets own → IsAscii xs → IsAscii (flat_map octet_text own ++ xs)
-octets-ascii [] xs h rest = rest
-octets-ascii (o ∷ own) xs h rest =
-    rw (append_assoc (octet_text o) (flat_map octet_text own) xs) (octet-ascii o (flat_map octet_text own ++ xs) (h 0) (octets-ascii own xs (λ i. h (suc i)) rest))
+octets_ascii : (own xs : List ℕ) → IsOctets own → IsAscii xs → IsAscii (flat_map octet_text own ++ xs)
+octets_ascii [] xs h rest = rest
+octets_ascii (o ∷ own) xs h rest =
+    rw (append_assoc (octet_text o) (flat_map octet_text own) xs) (octet_ascii o (flat_map octet_text own ++ xs) (h 0) (octets_ascii own xs (λ i. h (suc i)) rest))
 
-string-ascii : (own : List ℕ) → IsOctets own → IsAscii (string_text own)
-string-ascii own h = IsAscii-cons 34 _ (omega arith) (octets-ascii own (quote ∷ []) h (IsAscii-cons 34 [] (omega arith) IsAscii-nil))
+string_ascii : (own : List ℕ) → IsOctets own → IsAscii (string_text own)
+string_ascii own h = IsAscii-cons 34 _ (omega arith) (octets_ascii own (quote ∷ []) h (IsAscii-cons 34 [] (omega arith) IsAscii-nil))
 
-pub string-utf8 : (own : List ℕ) → IsOctets own → IsUtf8 (string_text own)
-string-utf8 own h = IsUtf8-from_ascii (string_text own) (string-ascii own h)
+pub string_utf8 : (own : List ℕ) → IsOctets own → IsUtf8 (string_text own)
+string_utf8 own h = IsUtf8-from_ascii (string_text own) (string_ascii own h)
 
 -- ---- parameters
 
-below-octet : (c : ℕ) → nat_lt c 256 ≡ true → c < 256
-below-octet c h = grind arith
+below_octet : (c : ℕ) → nat_lt c 256 ≡ true → c < 256
+below_octet c h = grind arith
 
-fine-octets : (t : List ℕ) → list_all (is_fine Protocols) t ≡ true → IsOctets t
-fine-octets [] h i = omega arith
-fine-octets (c ∷ t) h zero = below-octet c (and_parts (nat_lt c 256) (list_all (is_fine Protocols) t) h).0
-fine-octets (c ∷ t) h (suc i) = fine-octets t (and_parts (nat_lt c 256) (list_all (is_fine Protocols) t) h).1 i
+fine_octets : (t : List ℕ) → list_all (is_fine Protocols) t ≡ true → IsOctets t
+fine_octets [] h i = omega arith
+fine_octets (c ∷ t) h zero = below_octet c (and_parts (nat_lt c 256) (list_all (is_fine Protocols) t) h).0
+fine_octets (c ∷ t) h (suc i) = fine_octets t (and_parts (nat_lt c 256) (list_all (is_fine Protocols) t) h).1 i
 
-ascii-after : (k xs : List ℕ) → all_key k ≡ true → IsAscii xs → IsAscii (k ++ xs)
-ascii-after [] xs h rest = rest
-ascii-after (c ∷ k) xs h rest =
+ascii_after : (k xs : List ℕ) → all_key k ≡ true → IsAscii xs → IsAscii (k ++ xs)
+ascii_after [] xs h rest = rest
+ascii_after (c ∷ k) xs h rest =
     let parts = and_parts (is_key c) (all_key k) h in
-    IsAscii-cons c (k ++ xs) (bare-below c (bare-of c parts.0)) (ascii-after k xs parts.1 rest)
+    IsAscii-cons c (k ++ xs) (bare_below c (bare_of c parts.0)) (ascii_after k xs parts.1 rest)
 
-any-ascii : (own : List ℕ) → IsOctets own → IsAscii (any_part own)
-any-ascii [] h = IsAscii-nil
-any-ascii (o ∷ own) h = IsAscii-cons 61 (string_text (o ∷ own)) (omega arith) (string-ascii (o ∷ own) h)
+any_ascii : (own : List ℕ) → IsOctets own → IsAscii (any_part own)
+any_ascii [] h = IsAscii-nil
+any_ascii (o ∷ own) h = IsAscii-cons 61 (string_text (o ∷ own)) (omega arith) (string_ascii (o ∷ own) h)
 
-text-some : (form : Form) (t own : List ℕ) → (form ≡ forms.Nothing → ⊥) → IsOwnValue form t own → 1 ≤ length t
-text-some form [] own other is = absurd (value-some form own other is)
-text-some form (c ∷ t) own other is = omega arith
+text_some : (form : Form) (t own : List ℕ) → (form ≡ forms.Nothing → ⊥) → IsOwnValue form t own → 1 ≤ length t
+text_some form [] own other is = absurd (value_some form own other is)
+text_some form (c ∷ t) own other is = omega arith
 
 -- characters that are no white space, no quotes and no backslashes, and after them octets in quotes, or nothing
 abbrev pub IsShaped : List ℕ → Type 0
@@ -615,76 +615,76 @@ IsShaped w =
     (front : List ℕ) × (back : List ℕ) × (w ≡ front ++ back) × (all_open front ≡ true)
     × ((back ≡ []) ⊎ ((own : List ℕ) × IsOctets own × (back ≡ string_text own)))
 
-any-shaped : (own : List ℕ) → IsOctets own → IsShaped (any_part own)
-any-shaped [] h = ([], [], refl, refl, inl refl)
-any-shaped (o ∷ own) h = (61 ∷ [], string_text (o ∷ own), refl, refl, inr (o ∷ own, h, refl))
+any_shaped : (own : List ℕ) → IsOctets own → IsShaped (any_part own)
+any_shaped [] h = ([], [], refl, refl, inl refl)
+any_shaped (o ∷ own) h = (61 ∷ [], string_text (o ∷ own), refl, refl, inr (o ∷ own, h, refl))
 
-shaped-after : (k part : List ℕ) → all_key k ≡ true → IsShaped part → IsShaped (k ++ part)
-shaped-after k part key (front, back, e, shape, end) =
-    (k ++ front, back, ap (λ (xs : List ℕ). k ++ xs) e ∙ sym (append_assoc k front back), open-append k front (bare-open k (key-bare k key)) shape, end)
+shaped_after : (k part : List ℕ) → all_key k ≡ true → IsShaped part → IsShaped (k ++ part)
+shaped_after k part key (front, back, e, shape, end) =
+    (k ++ front, back, ap (λ (xs : List ℕ). k ++ xs) e ∙ sym (append_assoc k front back), open_append k front (bare_open k (key_bare k key)) shape, end)
 
 -- the text is this key, and the value writes these
 abbrev IsWritten : List ℕ → List ℕ → List ℕ → Type 0
 IsWritten k part t = ((key_part (k ++ part) ≡ k) × IsValueText (value_part (k ++ part)) t) × IsAscii part × IsShaped part
 
-open-written : (k t : List ℕ) → all_key k ≡ true → all_open t ≡ true → 1 ≤ length t → length t ≤ 65535 → IsWritten k (61 ∷ t) t
-open-written k t key shape some few =
-    (open-value k t key shape some few, IsAscii-cons 61 t (omega arith) (open-ascii t shape), (61 ∷ t, [], sym (append-nil (61 ∷ t)), shape, inl refl))
+open_written : (k t : List ℕ) → all_key k ≡ true → all_open t ≡ true → 1 ≤ length t → length t ≤ 65535 → IsWritten k (61 ∷ t) t
+open_written k t key shape some few =
+    (open_value k t key shape some few, IsAscii-cons 61 t (omega arith) (open_ascii t shape), (61 ∷ t, [], sym (append-nil (61 ∷ t)), shape, inl refl))
 
-any-written : (k own : List ℕ) → all_key k ≡ true → IsText own → IsWritten k (any_part own) own
-any-written k own key is = (any-value k own key is, any-ascii own is.0, any-shaped own is.0)
+any_written : (k own : List ℕ) → all_key k ≡ true → IsText own → IsWritten k (any_part own) own
+any_written k own key is = (any_value k own key is, any_ascii own is.0, any_shaped own is.0)
 
-form-written : (form : Form) (k t own : List ℕ) → all_key k ≡ true → IsOwnValue form t own → list_all (fine_of form) t ≡ true → length t ≤ 65535 → IsWritten k (own_part form t) t
-form-written forms.Mandatory k t own key is fine few = open-written k t key fine (text-some forms.Mandatory t own (λ e. cc) is) few
-form-written forms.Protocols k t own key is fine few = any-written k t key (fine-octets t fine, few)
-form-written forms.Nothing k t own key is fine few = let none = is.0 in rw none (any-written k [] key ((λ i. omega arith), omega arith))
-form-written forms.Port k t own key is fine few = open-written k t key fine (text-some forms.Port t own (λ e. cc) is) few
-form-written forms.Ipv4 k t own key is fine few = open-written k t key fine (text-some forms.Ipv4 t own (λ e. cc) is) few
-form-written forms.Ech k t own key is fine few = open-written k t key fine (text-some forms.Ech t own (λ e. cc) is) few
-form-written forms.Ipv6 k t own key is fine few = open-written k t key fine (text-some forms.Ipv6 t own (λ e. cc) is) few
-form-written forms.Any k t own key is fine few = absurd is
+form_written : (form : Form) (k t own : List ℕ) → all_key k ≡ true → IsOwnValue form t own → list_all (fine_of form) t ≡ true → length t ≤ 65535 → IsWritten k (own_part form t) t
+form_written forms.Mandatory k t own key is fine few = open_written k t key fine (text_some forms.Mandatory t own (λ e. cc) is) few
+form_written forms.Protocols k t own key is fine few = any_written k t key (fine_octets t fine, few)
+form_written forms.Nothing k t own key is fine few = let none = is.0 in rw none (any_written k [] key ((λ i. omega arith), omega arith))
+form_written forms.Port k t own key is fine few = open_written k t key fine (text_some forms.Port t own (λ e. cc) is) few
+form_written forms.Ipv4 k t own key is fine few = open_written k t key fine (text_some forms.Ipv4 t own (λ e. cc) is) few
+form_written forms.Ech k t own key is fine few = open_written k t key fine (text_some forms.Ech t own (λ e. cc) is) few
+form_written forms.Ipv6 k t own key is fine few = open_written k t key fine (text_some forms.Ipv6 t own (λ e. cc) is) few
+form_written forms.Any k t own key is fine few = absurd is
 
 -- a text is a parameter, and has this shape
 abbrev IsShapedParam : List ℕ → ParamValue → Type 0
 IsShapedParam w p = IsParam w p × IsShaped w
 
 -- a word of a key and a value is a parameter
-word-is : (k part value : List ℕ) (p : ParamValue) → all_key k ≡ true → IsWritten k part value → IsParamOf k value p → IsShapedParam (k ++ part) p
-word-is k part value p key written is = (
-  (value, IsUtf8-from_ascii (k ++ part) (ascii-after k part key written.1), written.0.1, subst (λ (w : List ℕ). IsParamOf w value p) (sym written.0.0) is),
-  shaped-after k part key written.2,
+word_is : (k part value : List ℕ) (p : ParamValue) → all_key k ≡ true → IsWritten k part value → IsParamOf k value p → IsShapedParam (k ++ part) p
+word_is k part value p key written is = (
+  (value, IsUtf8-from_ascii (k ++ part) (ascii_after k part key written.1), written.0.1, subst (λ (w : List ℕ). IsParamOf w value p) (sym written.0.0) is),
+  shaped_after k part key written.2,
 )
 
-generic-back : (p : ParamValue) → IsParamValue p → IsShapedParam (generic_key p.key ++ any_part p.octets) p
-generic-back p is =
-    let key = name-key forms.Any p.key (omega (arith, is.0)) in
-    word-is (generic_key p.key) (any_part p.octets) p.octets p key (any-written (generic_key p.key) p.octets key (is.1, is.2)) (inr ((is.0, refl), refl))
+generic_back : (p : ParamValue) → IsParamValue p → IsShapedParam (generic_key p.key ++ any_part p.octets) p
+generic_back p is =
+    let key = name_key forms.Any p.key (omega (arith, is.0)) in
+    word_is (generic_key p.key) (any_part p.octets) p.octets p key (any_written (generic_key p.key) p.octets key (is.1, is.2)) (inr ((is.0, refl), refl))
 
-named-back : (p : ParamValue) (t : List ℕ) → IsParamValue p → own_text (form_of p.key) p.octets ≡ Some t → length t ≤ 65535 → IsShapedParam (key_text p.key ++ own_part (form_of p.key) t) p
-named-back p t is e few = elim (named p.key) [
+named_back : (p : ParamValue) (t : List ℕ) → IsParamValue p → own_text (form_of p.key) p.octets ≡ Some t → length t ≤ 65535 → IsShapedParam (key_text p.key ++ own_part (form_of p.key) t) p
+named_back p t is e few = elim (named p.key) [
   | inl name ↦
       let form = form_of p.key in
-      let key = name-key form p.key (omega (arith, is.0)) in
-      let back = own-back form p.octets t is.1 e in
-      word-is (key_text p.key) (own_part form t) t p key (form-written form (key_text p.key) t p.octets key back.0 back.1 few) (inl (name, back.0, is.2))
+      let key = name_key form p.key (omega (arith, is.0)) in
+      let back = own_back form p.octets t is.1 e in
+      word_is (key_text p.key) (own_part form t) t p key (form_written form (key_text p.key) t p.octets key back.0 back.1 few) (inl (name, back.0, is.2))
   | inr any ↦ let no = rw any at e in absurd cc
 ]
 
-part-back : (p : ParamValue) (x : Option (List ℕ)) → IsParamValue p → own_text (form_of p.key) p.octets ≡ x → IsShapedParam (part_of p.key p.octets x) p
-part-back p None is e = generic-back p is
-part-back p (Some t) is e = elim (cases_Bool (nat_le (length t) 65535)) [
+part_back : (p : ParamValue) (x : Option (List ℕ)) → IsParamValue p → own_text (form_of p.key) p.octets ≡ x → IsShapedParam (part_of p.key p.octets x) p
+part_back p None is e = generic_back p is
+part_back p (Some t) is e = elim (cases_Bool (nat_le (length t) 65535)) [
   | inl few ↦
       let whole : part_of p.key p.octets (Some t) ≡ key_text p.key ++ own_part (form_of p.key) t = rw few refl in
-      subst (λ (w : List ℕ). IsShapedParam w p) (sym whole) (named-back p t is e (at-most (length t) 65535 few))
+      subst (λ (w : List ℕ). IsShapedParam w p) (sym whole) (named_back p t is e (at_most (length t) 65535 few))
   | inr many ↦
       let whole : part_of p.key p.octets (Some t) ≡ generic_key p.key ++ any_part p.octets = rw many refl in
-      subst (λ (w : List ℕ). IsShapedParam w p) (sym whole) (generic-back p is)
+      subst (λ (w : List ℕ). IsShapedParam w p) (sym whole) (generic_back p is)
 ]
 
 pub params : ParamsComeBack
 params p is =
-    let back = (part-back p (own_text (form_of p.key) p.octets) is refl).0 in
-    (back, λ other also. one-word (param_text p.key p.octets) other p also back)
+    let back = (part_back p (own_text (form_of p.key) p.octets) is refl).0 in
+    (back, λ other also. one_word (param_text p.key p.octets) other p also back)
 
-pub param-shaped : (p : ParamValue) → IsParamValue p → IsShaped (param_text p.key p.octets)
-param-shaped p is = (part-back p (own_text (form_of p.key) p.octets) is refl).1
+pub param_shaped : (p : ParamValue) → IsParamValue p → IsShaped (param_text p.key p.octets)
+param_shaped p is = (part_back p (own_text (form_of p.key) p.octets) is refl).1

@@ -1,7 +1,7 @@
 //! Lists with commas between their items (RFC 9460, appendix A.1).
 ghost use Rattle.std.specs.Prelude.{◌≡◌, ◌++◌, [], IfOk};
 ghost use Rattle.dnw_zone_svcb.specs.CommaLists.{is_escaped, item_text};
-ghost use Rattle.dnw_zone_svcb.specs.Inside.Steps.{TakesItem};
+ghost use Rattle.dnw_zone_svcb.specs.Inside.Steps.{TakesListItem};
 
 use std::alloc::AllocError;
 
@@ -26,7 +26,7 @@ fn is_escaped(c: u8) -> bool
 /// Takes the first item of a list, and appends its octets. Returns what is after it.
 pub(crate) fn next_item<'t>(text: &'t [u8], item: &mut Vec<u8>) -> Result<After<'t>, AllocError>
     requires { item.old.items ≡ [] }
-    ensures { IfOk result (TakesItem text.now item.new.items) }
+    ensures { IfOk result (TakesListItem text.now item.new.items) }
 {
     let mut escaped = false;
     let mut left = text;

@@ -1,7 +1,7 @@
 //! The text of parameters (RFC 9460, section 2.1).
 ghost use Rattle.std.specs.Prelude.{◌≡◌, ◌≤◌, ◌++◌, IfOk, OnErr, length, string_bytes, Some};
 ghost use Rattle.dnw_zone_svcb.specs.ParamTexts.{param_text, params_text, own_part, any_part};
-ghost use Rattle.dnw_zone_svcb.specs.Inside.Steps.{Pushes, Writes};
+ghost use Rattle.dnw_zone_svcb.specs.Inside.Steps.{PushesValue, WritesValue};
 
 use crate::keys::{Form, Key, form_of};
 use crate::lists::split_u16;
@@ -16,7 +16,7 @@ use std::{fmt, str};
 ///
 /// A value that does not have the form of its key is printed as that of any key is, as `key3="\000"`.
 pub fn write_params(alloc: Global, octets: &[u8], out: &mut String) -> Result<bool, AllocError>
-    ensures ok { IfOk result (Writes (params_text octets.now) (string_bytes out.old) (string_bytes out.new)) }
+    ensures ok { IfOk result (WritesValue (params_text octets.now) (string_bytes out.old) (string_bytes out.new)) }
     ensures err { OnErr result (1 ≤ length octets.now) }
 {
     let start = out.len();
@@ -29,7 +29,7 @@ pub fn write_params(alloc: Global, octets: &[u8], out: &mut String) -> Result<bo
 
 /// Appends the text of parameters. Returns `false` if the octets end within one; some text may be appended then.
 fn push_each(alloc: Global, octets: &[u8], out: &mut String) -> Result<bool, AllocError>
-    ensures ok { IfOk result (Pushes (params_text octets.now) (string_bytes out.old) (string_bytes out.new)) }
+    ensures ok { IfOk result (PushesValue (params_text octets.now) (string_bytes out.old) (string_bytes out.new)) }
     ensures err { OnErr result (1 ≤ length octets.now) }
 {
     let mut left = octets;

@@ -2,7 +2,7 @@
 use Rattle.std.proofs.Common.{◌≡◌, ℕ, ◌<◌, ◌≤◌, ◌-◌, ◌==◌, false, List, [], ◌∷◌, ◌++◌, length, take, drop, get_or, map, refl, sym, ap, ◌∙◌, arith, append_assoc, length-drop}
 use Rattle.std.specs.Prelude.{Option, Some, None}
 use Rattle.std.proofs.lemmas.List.{take_all}
-use Rattle.dnw_zone_values.specs.Pairs.{hyphen, pair_octet, before, pairs_octets}
+use Rattle.dnw_zone_values.specs.Pairs.{hyphen, pair_octet, with_front, pairs_octets}
 use Rattle.dnw_zone_values.specs.Base32.{base32_text, base32_five, base32_value, base32_octets, base32_first, base32_second, base32_third, base32_fourth, base32_fifth}
 use Rattle.dnw_zone_values.specs.Inside.Takes.{after}
 
@@ -20,7 +20,7 @@ rest k n xs e = take_all n (drop k xs) (omega (arith, e, length-drop k xs))
 
 -- one pair more
 pub pair : (xs : List ℕ) → 3 ≤ length xs
-    → (get_or xs 2 0 ≡ hyphen → pairs_octets xs ≡ before (pair_octet (get_or xs 0 0) (get_or xs 1 0)) (pairs_octets (drop 3 xs)))
+    → (get_or xs 2 0 ≡ hyphen → pairs_octets xs ≡ with_front (pair_octet (get_or xs 0 0) (get_or xs 1 0)) (pairs_octets (drop 3 xs)))
     × ((get_or xs 2 0 == hyphen) ≡ false → pairs_octets xs ≡ None)
     × (pair_octet (get_or xs 0 0) (get_or xs 1 0) ≡ None → pairs_octets xs ≡ None)
 pair [] few = absurd (omega arith)
@@ -61,7 +61,7 @@ pub pair_more : (text xs found : List ℕ) (o n : ℕ) → 3 ≤ length xs → n
     → pair_octet (get_or xs 0 0) (get_or xs 1 0) ≡ Some o → get_or xs 2 0 ≡ hyphen
     → pairs_octets text ≡ after (found ++ o ∷ []) (pairs_octets (take n (drop 3 xs)))
 pair_more text xs found o n few size so_far octet is =
-    let here : pairs_octets xs ≡ before (Some o) (pairs_octets (drop 3 xs)) = (pair xs few).0 is ∙ ap (λ (x : Option ℕ). before x (pairs_octets (drop 3 xs))) octet in
+    let here : pairs_octets xs ≡ with_front (Some o) (pairs_octets (drop 3 xs)) = (pair xs few).0 is ∙ ap (λ (x : Option ℕ). with_front x (pairs_octets (drop 3 xs))) octet in
     so_far ∙ ap (after found) here ∙ after_all found (o ∷ []) (pairs_octets (drop 3 xs)) ∙ ap (λ (ys : List ℕ). after (found ++ o ∷ []) (pairs_octets ys)) (sym (rest 3 n xs size))
 
 pub eight_more : (text xs found own : List ℕ) (n : ℕ) → 8 ≤ length xs → n ≡ length xs - 8

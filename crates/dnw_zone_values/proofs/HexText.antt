@@ -15,19 +15,19 @@ use Rattle.dnw_zone_values.specs.Spelling.{Appends}
 use Rattle.dnw_zone_values.specs.declared.error.FieldTextError.{FieldTextError}
 use Rattle.dnw_zone_values.specs.declared.error.FieldTextError.TheVariants.{Salt}
 
-encode_with-append : (t xs : List ℕ) (b : ℕ) → encode_with t (xs ++ b ∷ []) ≡ encode_with t xs ++ slice_index t (b / 16) ∷ slice_index t (b % 16) ∷ []
+encode_with_append : (t xs : List ℕ) (b : ℕ) → encode_with t (xs ++ b ∷ []) ≡ encode_with t xs ++ slice_index t (b / 16) ∷ slice_index t (b % 16) ∷ []
 unfolding encode_with
-encode_with-append t [] b = refl
-encode_with-append t (x ∷ xs) b = ap (λ (rest : List ℕ). slice_index t (x / 16) ∷ slice_index t (x % 16) ∷ rest) (encode_with-append t xs b)
+encode_with_append t [] b = refl
+encode_with_append t (x ∷ xs) b = ap (λ (rest : List ℕ). slice_index t (x / 16) ∷ slice_index t (x % 16) ∷ rest) (encode_with_append t xs b)
 
 -- with one more octet, two more digits
-pub hex_text-more : (octets : List ℕ) (i : ℕ) → i < length octets
+pub hex_text_more : (octets : List ℕ) (i : ℕ) → i < length octets
     → hex_text (take (i + 1) octets) ≡ hex_text (take i octets) ++ slice_index upper_digits (slice_index octets i / 16) ∷ slice_index upper_digits (slice_index octets i % 16) ∷ []
-hex_text-more octets i within = ap hex_text (take_more octets i 0 within) ∙ encode_with-append upper_digits (take i octets) (slice_index octets i)
+hex_text_more octets i within = ap hex_text (take_more octets i 0 within) ∙ encode_with_append upper_digits (take i octets) (slice_index octets i)
 
-pub hex_text-nil : hex_text [] ≡ []
+pub hex_text_nil : hex_text [] ≡ []
 unfolding encode_with
-hex_text-nil = refl
+hex_text_nil = refl
 
 -- what is in a vector whose end, from a place on, was written through a slice
 pub tail_written : (a new r : List ℕ) (l k : ℕ) → l ≤ length a → length new + l ≡ length a → k ≡ length a

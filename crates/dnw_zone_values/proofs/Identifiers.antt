@@ -7,7 +7,7 @@ use Rattle.std.proofs.lemmas.List.Sums.{AllPass-from_list_all}
 use Rattle.dnw_zone_values.specs.Spelling.{ComesBack}
 use Rattle.dnw_zone_values.specs.Octets.{IsOctets}
 use Rattle.dnw_zone_values.specs.Tags.{IsTag, IsTagText}
-use Rattle.dnw_zone_values.specs.Pairs.{IsIdentifier, lower_digit, digit_of, pair_octet, before, pairs_text, pairs_octets, IsPairsText}
+use Rattle.dnw_zone_values.specs.Pairs.{IsIdentifier, lower_digit, digit_of, pair_octet, with_front, pairs_text, pairs_octets, IsPairsText}
 use Rattle.dnw_zone_values.specs.Base32.{IsHash, base32_digit, base32_text, base32_value, is_base32, base32_octets, base32_first, base32_second, base32_third, base32_fourth, base32_fifth, IsHashText}
 
 pub tag : ComesBack IsTag (λ (t : List ℕ). t) IsTagText
@@ -28,9 +28,9 @@ one_octet o h =
 
 read_pairs : (octets : List ℕ) → IsOctets octets → 1 ≤ length octets → pairs_octets (pairs_text octets) ≡ Some octets
 read_pairs [] h some = absurd (omega arith)
-read_pairs (o ∷ []) h some = ap (λ (x : Option ℕ). before x (Some [])) (one_octet o (h 0))
+read_pairs (o ∷ []) h some = ap (λ (x : Option ℕ). with_front x (Some [])) (one_octet o (h 0))
 read_pairs (o ∷ p ∷ octets) h some =
-    ap (λ (x : Option ℕ). before x (pairs_octets (pairs_text (p ∷ octets)))) (one_octet o (h 0)) ∙ ap (before (Some o)) (read_pairs (p ∷ octets) (λ i. h (suc i)) (omega arith))
+    ap (λ (x : Option ℕ). with_front x (pairs_octets (pairs_text (p ∷ octets)))) (one_octet o (h 0)) ∙ ap (with_front (Some o)) (read_pairs (p ∷ octets) (λ i. h (suc i)) (omega arith))
 
 pub pairs : ComesBack IsIdentifier pairs_text IsPairsText
 pairs own is =

@@ -33,16 +33,16 @@ abbrev pub pair_octet : ℕ → ℕ → Option ℕ
 pair_octet a b = if is_ascii_hexdigit a && is_ascii_hexdigit b then Some (16 * digit_of a + digit_of b) else None
 
 -- the octet before others, if there is one
-abbrev pub before : Option ℕ → Option (List ℕ) → Option (List ℕ)
-before None octets = None
-before (Some o) octets = with_octet o octets
+abbrev pub with_front : Option ℕ → Option (List ℕ) → Option (List ℕ)
+with_front None octets = None
+with_front (Some o) octets = with_octet o octets
 
 -- the octets of pairs
 abbrev pub pairs_octets : List ℕ → Option (List ℕ)
 pairs_octets [] = None
 pairs_octets (a ∷ []) = None
-pairs_octets (a ∷ b ∷ []) = before (pair_octet a b) (Some [])
-pairs_octets (a ∷ b ∷ c ∷ rest) = if c == hyphen then before (pair_octet a b) (pairs_octets rest) else None
+pairs_octets (a ∷ b ∷ []) = with_front (pair_octet a b) (Some [])
+pairs_octets (a ∷ b ∷ c ∷ rest) = if c == hyphen then with_front (pair_octet a b) (pairs_octets rest) else None
 
 -- the text is these octets, one or more
 abbrev pub IsPairsText : List ℕ → List ℕ → Type 0

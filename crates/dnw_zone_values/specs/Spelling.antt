@@ -4,8 +4,8 @@ use Rattle.dnw_zone_values.specs.declared.error.FieldTextError.{FieldTextError}
 use Rattle.dnw_zone_values.specs.declared.error.FieldTextError.TheVariants.{Memory}
 
 -- a value that the text spells, or this error if it spells none
-abbrev pub Reads : {A : Type 0} → FieldTextError → (A → Type 0) → Result A FieldTextError → Type 0
-Reads {A} wanted Spells r = MatchResult r Spells (λ e. (e ≡ wanted) × ((value : A) → ¬ (Spells value)))
+abbrev pub ReadsText : {A : Type 0} → FieldTextError → (A → Type 0) → Result A FieldTextError → Type 0
+ReadsText {A} wanted Spells r = MatchResult r Spells (λ e. (e ≡ wanted) × ((value : A) → ¬ (Spells value)))
 
 -- why no octets were appended: the text spells none, or memory ran out
 abbrev pub FailsToAppend : FieldTextError → (List ℕ → List ℕ → Type 0) → List ℕ → FieldTextError → Type 0

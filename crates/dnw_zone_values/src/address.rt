@@ -2,7 +2,7 @@
 //!
 //! An address is printed as std prints it, by `Display`; IPv6 as RFC 5952 has it.
 ghost use Rattle.std.specs.Net.Grammar.{IsIpv4Text, IsIpv6Text};
-ghost use Rattle.dnw_zone_values.specs.Spelling.{Reads};
+ghost use Rattle.dnw_zone_values.specs.Spelling.{ReadsText};
 ghost use Rattle.dnw_zone_values.specs.declared.error.FieldTextError.TheVariants.{Ipv4, Ipv6};
 
 use crate::error::FieldTextError;
@@ -12,7 +12,7 @@ use std::net::{Ipv4Addr, Ipv6Addr};
 ///
 /// Fails with `Ipv4` if the text is something else.
 pub fn parse_ipv4(text: &str) -> Result<Ipv4Addr, FieldTextError>
-    ensures { Reads Ipv4 (IsIpv4Text text.now) result }
+    ensures { ReadsText Ipv4 (IsIpv4Text text.now) result }
 {
     text.parse().map_err(|_| FieldTextError::Ipv4)
 }
@@ -22,7 +22,7 @@ pub fn parse_ipv4(text: &str) -> Result<Ipv4Addr, FieldTextError>
 ///
 /// Fails with `Ipv6` if the text is something else.
 pub fn parse_ipv6(text: &str) -> Result<Ipv6Addr, FieldTextError>
-    ensures { Reads Ipv6 (IsIpv6Text text.now) result }
+    ensures { ReadsText Ipv6 (IsIpv6Text text.now) result }
 {
     text.parse().map_err(|_| FieldTextError::Ipv6)
 }

@@ -5,7 +5,7 @@ ghost use Rattle.std.specs.List.{AllPass};
 ghost use Rattle.std.specs.Fmt.{WritesOnOk};
 ghost use Rattle.dnw_zone_values.specs.Spelling.{Appends};
 ghost use Rattle.dnw_zone_values.specs.Base32.{base32_digit, base32_five, base32_text, base32_value, is_base32, base32_octets, if_zero, IsHashText};
-ghost use Rattle.dnw_zone_values.specs.Inside.Takes.{BeginsWith, PushesAll};
+ghost use Rattle.dnw_zone_values.specs.Inside.Takes.{KeepsFront, PushesAll};
 ghost use Rattle.dnw_zone_values.specs.declared.error.FieldTextError.TheVariants.{Hash as HashWanted};
 
 use crate::error::FieldTextError;
@@ -173,7 +173,7 @@ fn is_digit(c: u8) -> bool
 /// Appends the octets of digits. Returns `false` if there are none; some may be appended then.
 fn push_base32(digits: &[u8], octets: &mut Vec<u8>) -> Result<bool, AllocError>
     ensures ok { IfOk result (PushesAll (base32_octets (map base32_value digits.now)) octets.old.items octets.new.items) }
-    ensures err { IfErr result (λ _. (1 ≤ length digits.now) × BeginsWith octets.old.items octets.new.items) }
+    ensures err { IfErr result (λ _. (1 ≤ length digits.now) × KeepsFront octets.old.items octets.new.items) }
 {
     let mut left = digits;
     while let [a, b, c, d, e, f, g, h, rest @ ..] = left {
@@ -195,7 +195,7 @@ fn push_base32(digits: &[u8], octets: &mut Vec<u8>) -> Result<bool, AllocError>
 fn push_last(digits: &[u8], octets: &mut Vec<u8>) -> Result<bool, AllocError>
     requires few { length digits.now < 8 }
     ensures ok { IfOk result (PushesAll (base32_octets (map base32_value digits.now)) octets.old.items octets.new.items) }
-    ensures err { IfErr result (λ _. (1 ≤ length digits.now) × BeginsWith octets.old.items octets.new.items) }
+    ensures err { IfErr result (λ _. (1 ≤ length digits.now) × KeepsFront octets.old.items octets.new.items) }
 {
     match digits {
         [] => Ok(true),
@@ -235,7 +235,7 @@ fn push_last(digits: &[u8], octets: &mut Vec<u8>) -> Result<bool, AllocError>
 /// Appends octets if the bits that are left are zeros. Returns `false` if they are not.
 fn push_if(left: u8, own: &[u8], octets: &mut Vec<u8>) -> Result<bool, AllocError>
     ensures ok { IfOk result (PushesAll (if_zero left own.now) octets.old.items octets.new.items) }
-    ensures err { IfErr result (λ _. BeginsWith octets.old.items octets.new.items) }
+    ensures err { IfErr result (λ _. KeepsFront octets.old.items octets.new.items) }
 {
     if left != 0 {
         return Ok(false);

@@ -2,7 +2,7 @@
 ghost use Rattle.std.specs.Prelude.{◌≡◌, ◌<◌, ◌≤◌, Some, MatchOption, IfOk, IfErr, length};
 ghost use Rattle.dnw_zone_values.specs.Spelling.{Appends};
 ghost use Rattle.dnw_zone_values.specs.Pairs.{lower_digit, digit_of, pair_octet, pairs_text, pairs_octets, IsPairsText};
-ghost use Rattle.dnw_zone_values.specs.Inside.Takes.{BeginsWith, PushesAll};
+ghost use Rattle.dnw_zone_values.specs.Inside.Takes.{KeepsFront, PushesAll};
 ghost use Rattle.dnw_zone_values.specs.declared.error.FieldTextError.TheVariants.{Pairs as PairsWanted};
 ghost use Rattle.std.specs.Prelude.{true};
 ghost use Rattle.std.specs.Char.{is_ascii_hexdigit};
@@ -74,7 +74,7 @@ pub fn parse_pairs(text: &str, octets: &mut Vec<u8>) -> Result<(), FieldTextErro
 /// Appends the octets of pairs. Returns `false` if the text is something else; some may be appended then.
 fn push_pairs(text: &[u8], octets: &mut Vec<u8>) -> Result<bool, AllocError>
     ensures ok { IfOk result (PushesAll (pairs_octets text.now) octets.old.items octets.new.items) }
-    ensures err { IfErr result (λ _. (1 ≤ length text.now) × BeginsWith octets.old.items octets.new.items) }
+    ensures err { IfErr result (λ _. (1 ≤ length text.now) × KeepsFront octets.old.items octets.new.items) }
 {
     let mut left = text;
     while let [a, b, c, rest @ ..] = left {

@@ -4,7 +4,7 @@ ghost use Rattle.std.specs.Char.{is_ascii_digit};
 ghost use Rattle.std.specs.Fmt.{WritesOnOk};
 ghost use Rattle.dnw_zone_values.specs.Spelling.{Appends};
 ghost use Rattle.dnw_zone_values.specs.Strings.{quote, Plain, escape_text, octet_text, string_text, octets_from, with_octet, string_octets, IsTextWithin, IsStringText, IsLongText};
-ghost use Rattle.dnw_zone_values.specs.Inside.Takes.{octets_at, decimal_octet, BeginsWith, Pushes};
+ghost use Rattle.dnw_zone_values.specs.Inside.Takes.{octets_at, decimal_octet, KeepsFront, Pushes};
 ghost use Rattle.dnw_zone_values.specs.declared.error.FieldTextError.TheVariants.{CharacterString as StringWanted, Text as TextWanted};
 
 use crate::error::FieldTextError;
@@ -117,7 +117,7 @@ fn append_text(
 /// Appends the octets of a text. Returns `false` if they are none, or more than so many; some may be appended then.
 fn push_text(text: &[u8], max: usize, octets: &mut Vec<u8>) -> Result<bool, AllocError>
     ensures ok { IfOk result (Pushes max (string_octets text.now) octets.old.items octets.new.items) }
-    ensures err { IfErr result (λ _. (1 ≤ length text.now) × BeginsWith octets.old.items octets.new.items) }
+    ensures err { IfErr result (λ _. (1 ≤ length text.now) × KeepsFront octets.old.items octets.new.items) }
 {
     let Some((first, rest)) = text.split_first() else {
         return Ok(false);
@@ -137,7 +137,7 @@ fn push_octets(
     octets: &mut Vec<u8>,
 ) -> Result<bool, AllocError>
     ensures ok { IfOk result (Pushes max (octets_from quoted Plain text.now) octets.old.items octets.new.items) }
-    ensures err { IfErr result (λ _. BeginsWith octets.old.items octets.new.items) }
+    ensures err { IfErr result (λ _. KeepsFront octets.old.items octets.new.items) }
 {
     let mut count = 0;
     let mut left = text;

@@ -3,7 +3,7 @@ ghost use Rattle.std.specs.Prelude.{◌≡◌, ◌≤◌, ◌<◌, ◌+◌, ◌*
 ghost use Rattle.std.specs.List.{AllPass};
 ghost use Rattle.std.specs.Char.{is_ascii_digit};
 ghost use Rattle.arrayvec.specs.ArrayString.{array_string_len};
-ghost use Rattle.dnw_zone_values.specs.Spelling.{Reads};
+ghost use Rattle.dnw_zone_values.specs.Spelling.{ReadsText};
 ghost use Rattle.dnw_zone_values.specs.Times.{IsDay, IsMoment, two_at, IsDateText, IsTimeText};
 ghost use Rattle.dnw_zone_values.specs.Numbers.{max_u32};
 ghost use Rattle.dnw_zone_values.specs.declared.error.FieldTextError.TheVariants.{Time as TimeWanted};
@@ -49,7 +49,7 @@ pub fn time_text(seconds: u32) -> ArrayString<DATE_LEN>
 /// parse_time("1048354263")?; // 1048354263
 /// ```
 pub fn parse_time(text: &str) -> Result<u32, FieldTextError>
-    ensures { Reads TimeWanted (IsTimeText text.now) result }
+    ensures { ReadsText TimeWanted (IsTimeText text.now) result }
 {
     if text.len() == DATE_LEN {
         return match date_seconds(text.as_bytes()) {

@@ -403,7 +403,10 @@ fn emit_each_record(alloc: Global, records: &[WireRecord]) -> ProtoResult<u64> {
 
 /// Returns `true` if the data of such a record are a name.
 fn has_name(record_type: RecordType) -> bool {
-    matches!(record_type, RecordType::NS | RecordType::CNAME | RecordType::PTR)
+    matches!(
+        record_type,
+        RecordType::NS | RecordType::CNAME | RecordType::PTR
+    )
 }
 
 fn lex_all(alloc: Global, text: &str) -> u64 {

@@ -172,7 +172,10 @@ fn names_and_labels_compared(rt: HostRuntime) -> Result<(), Fail> {
 #[test]
 fn keys_and_zones(rt: HostRuntime) -> Result<(), Fail> {
     let alloc = rt.alloc();
-    let key = |text: &str, record_type: RecordType| names::key_of(&Name::from_ascii(alloc, text)?, record_type);
+    let key = |text: &str, record_type: RecordType| names::key_of(
+        &Name::from_ascii(alloc, text)?,
+        record_type,
+    );
     let keys = [
         key("A.", RecordType::NS)?,
         key("a.", RecordType::NS)?,

@@ -13,7 +13,11 @@ fn standard(text: &str) -> Data<'_> {
 }
 
 fn row<'d>(owner: &'d str, record_type: RecordType, data: Data<'d>) -> Row<'d> {
-    Row { owner, record_type, data }
+    Row {
+        owner,
+        record_type,
+        data,
+    }
 }
 
 #[test]

@@ -14,7 +14,11 @@ use std::alloc::Global;
 use std::test::Fail;
 
 /// A record of the owner `a.` with data of a type.
-fn record_of(alloc: Global, record_type: RecordType, octets: &[u8]) -> Result<Record, &'static str> {
+fn record_of(
+    alloc: Global,
+    record_type: RecordType,
+    octets: &[u8],
+) -> Result<Record, &'static str> {
     let Ok(data) = RData::new(alloc, record_type, octets) else {
         return Err("data of the type");
     };

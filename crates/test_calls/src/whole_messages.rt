@@ -75,7 +75,10 @@ fn mail_exchangers(rt: HostRuntime) -> Result<(), Fail> {
         let record = answers.next().ok_or("an answer")?;
         assert_eq!(rt; record.record_type(), record_type);
         assert_eq!(rt; record.ttl(), 3600);
-        assert_eq!(rt; record.owner().eq_name(&owner), record_type != RecordType::SRV);
+        assert_eq!(rt;
+            record.owner().eq_name(&owner),
+            record_type != RecordType::SRV
+        );
     }
     assert!(rt; answers.next().is_none());
     assert!(rt; message.authorities().next().is_none());
@@ -253,9 +256,24 @@ fn with(changes: [(usize, u8); 2]) -> [u8; 38] {
 #[test]
 fn rules_of_edns(rt: HostRuntime) -> Result<(), Fail> {
     let message = MessageRef::read(TWO)?;
-    assert!(rt; matches!(message.edns(), Err(EdnsError::Decode(DecodeError::DuplicateEdns))));
-    assert!(rt; matches!(message.opt(), Err(EdnsError::Decode(DecodeError::DuplicateEdns))));
-    assert!(rt; matches!(message.response_code(), Err(EdnsError::Decode(DecodeError::DuplicateEdns))));
+    assert!(rt;
+        matches!(
+            message.edns(),
+            Err(EdnsError::Decode(DecodeError::DuplicateEdns))
+        )
+    );
+    assert!(rt;
+        matches!(
+            message.opt(),
+            Err(EdnsError::Decode(DecodeError::DuplicateEdns))
+        )
+    );
+    assert!(rt;
+        matches!(
+            message.response_code(),
+            Err(EdnsError::Decode(DecodeError::DuplicateEdns))
+        )
+    );
     let one = with([(11, 1), (0, 0)]);
     let edns = MessageRef::read(&one)?.edns()?.ok_or("EDNS")?;
     let mut options = edns.options();
@@ -286,9 +304,30 @@ fn opt_is_an_additional_record(rt: HostRuntime) -> Result<(), Fail> {
             assert_eq!(rt; message.answers().next().is_some(), is_answer);
             assert_eq!(rt; message.authorities().next().is_some(), !is_answer);
             assert_eq!(rt; message.additionals().next().is_some(), additionals == 1);
-            assert!(rt; matches!(message.edns(), Err(EdnsError::Decode(DecodeError::RecordNotInAdditionalSection(RecordType::OPT)))));
-            assert!(rt; matches!(message.opt(), Err(EdnsError::Decode(DecodeError::RecordNotInAdditionalSection(RecordType::OPT)))));
-            assert!(rt; matches!(message.response_code(), Err(EdnsError::Decode(DecodeError::RecordNotInAdditionalSection(RecordType::OPT)))));
+            assert!(rt;
+                matches!(
+                    message.edns(),
+                    Err(EdnsError::Decode(DecodeError::RecordNotInAdditionalSection(
+                        RecordType::OPT
+                    )))
+                )
+            );
+            assert!(rt;
+                matches!(
+                    message.opt(),
+                    Err(EdnsError::Decode(DecodeError::RecordNotInAdditionalSection(
+                        RecordType::OPT
+                    )))
+                )
+            );
+            assert!(rt;
+                matches!(
+                    message.response_code(),
+                    Err(EdnsError::Decode(DecodeError::RecordNotInAdditionalSection(
+                        RecordType::OPT
+                    )))
+                )
+            );
         }
         // A record of another type in the section, and the `OPT` record among the additional ones.
         let mut other = with([(section, 1), (11, 1)]);

@@ -435,7 +435,9 @@ fn messages_that_are_not_copied(rt: HostRuntime) -> Result<(), Fail> {
     assert!(rt;
         matches!(
             copied(alloc, outside, 512),
-            Err(CopyError::Edns(EdnsError::Decode(DecodeError::RecordNotInAdditionalSection(RecordType::OPT))))
+            Err(CopyError::Edns(EdnsError::Decode(DecodeError::RecordNotInAdditionalSection(
+                RecordType::OPT
+            ))))
         )
     );
     Ok(())

@@ -126,7 +126,8 @@ fn shown_type(alloc: Global, record_type: RecordType) -> ProtoResult<String> {
     let printed = format!(in alloc; "{record_type}")?;
     let octets = record_type.to_bytes(alloc)?;
     if printed.as_str() != name
-        || RecordType::from_bytes(alloc, octets.as_slice())? != RecordType::from(record_type.code())
+        || RecordType::from_bytes(alloc, octets.as_slice())?
+            != RecordType::from(record_type.code())
     {
         push_word(&mut shown, "differs from its text or octets")?;
     }

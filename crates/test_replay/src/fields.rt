@@ -47,7 +47,12 @@ fn read_in_turn(
 }
 
 /// Returns the words of the fields that `Fields` returns.
-fn walked(alloc: Global, message: &[u8], start: usize, record_type: RecordType) -> ProtoResult<String> {
+fn walked(
+    alloc: Global,
+    message: &[u8],
+    start: usize,
+    record_type: RecordType,
+) -> ProtoResult<String> {
     if start > message.len() {
         return Err(BAD_LINE);
     }

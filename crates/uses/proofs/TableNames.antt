@@ -4,25 +4,25 @@ use Rattle.std.specs.List.{AllByRecursion, flat_map}
 use Rattle.std.specs.Result.{IsOk}
 use Rattle.std.proofs.lemmas.List.{take_at, drop_at, drop-drop, length-append, length-drop, take_rest}
 use Rattle.dns_names_wire.specs.Words.{AreLabels, Decoder, IsLabel, NameAt, ReadsBack, TakesName, encoded_size, labels_wire, wire}
-use Rattle.uses.specs.Inside.TableOctets.{IsTable, labels_within, name_at, names_at, offsets}
+use Rattle.uses.specs.Inside.TableOctets.{IsTable, table_labels, table_name, names_at, offsets}
 
-labels_within-cons : (n : ℕ) (l rest : List ℕ) → 1 ≤ length l → labels_within (suc n) (length l ∷ (l ++ rest)) ≡ l ∷ labels_within n rest
-labels_within-cons n [] rest h = absurd (omega (arith, h))
-labels_within-cons n (b ∷ bs) rest h = rw (take_at bs rest (length bs) refl, drop_at bs rest (length bs) refl) refl
+labels_within_cons : (n : ℕ) (l rest : List ℕ) → 1 ≤ length l → table_labels (suc n) (length l ∷ (l ++ rest)) ≡ l ∷ table_labels n rest
+labels_within_cons n [] rest h = absurd (omega (arith, h))
+labels_within_cons n (b ∷ bs) rest h = rw (take_at bs rest (length bs) refl, drop_at bs rest (length bs) refl) refl
 
-wire-cons : (l : List ℕ) (ls : List (List ℕ)) (rest : List ℕ) → wire (l ∷ ls) ++ rest ≡ length l ∷ (l ++ (wire ls ++ rest))
-wire-cons l ls rest =
+wire_cons : (l : List ℕ) (ls : List (List ℕ)) (rest : List ℕ) → wire (l ∷ ls) ++ rest ≡ length l ∷ (l ++ (wire ls ++ rest))
+wire_cons l ls rest =
     ap (λ (octets : List ℕ). length l ∷ octets)
     (ap (λ (octets : List ℕ). octets ++ rest) (append_assoc l (labels_wire ls) (0 ∷ [])) ∙ append_assoc l (wire ls) rest)
 
 -- a wire form gives its labels, whatever octets follow
-reads_wire : (ls : List (List ℕ)) (n : ℕ) (rest : List ℕ) → AllByRecursion IsLabel ls → length (wire ls ++ rest) ≤ n → labels_within n (wire ls ++ rest) ≡ ls
+reads_wire : (ls : List (List ℕ)) (n : ℕ) (rest : List ℕ) → AllByRecursion IsLabel ls → length (wire ls ++ rest) ≤ n → table_labels n (wire ls ++ rest) ≡ ls
 reads_wire [] zero rest each le = refl
 reads_wire [] (suc n) rest each le = refl
-reads_wire (l ∷ ls) zero rest each le = absurd (omega (arith, le, ap length (wire-cons l ls rest)))
+reads_wire (l ∷ ls) zero rest each le = absurd (omega (arith, le, ap length (wire_cons l ls rest)))
 reads_wire (l ∷ ls) (suc n) rest each le =
-    let few : length (wire ls ++ rest) ≤ n = omega (arith, le, ap length (wire-cons l ls rest), length-append l (wire ls ++ rest)) in
-    ap (labels_within (suc n)) (wire-cons l ls rest) ∙ labels_within-cons n l (wire ls ++ rest) each.0.not_empty
+    let few : length (wire ls ++ rest) ≤ n = omega (arith, le, ap length (wire_cons l ls rest), length-append l (wire ls ++ rest)) in
+    ap (table_labels (suc n)) (wire_cons l ls rest) ∙ labels_within_cons n l (wire ls ++ rest) each.0.not_empty
     ∙ ap (λ (more : List (List ℕ)). l ∷ more) (reads_wire ls n rest each.1 few)
 
 module _ (octets : List ℕ) where
@@ -34,11 +34,11 @@ module _ (octets : List ℕ) where
   -- they begin where the octets have them
   names_are : (names : List (List (List ℕ))) (p : ℕ) → AllByRecursion AreLabels names → drop p octets ≡ flat_map wire names
       → names_at octets (offsets p names) ≡ names
-  unfolding name_at
+  unfolding table_name
   names_are [] p each e = refl
   names_are (n ∷ ns) p each e =
-      let first : labels_within (length octets) (drop p octets) ≡ n =
-      ap (labels_within (length octets)) e
+      let first : table_labels (length octets) (drop p octets) ≡ n =
+      ap (table_labels (length octets)) e
       ∙ reads_wire n (length octets) (flat_map wire ns) each.0.each (omega (arith, ap length e, length-drop p octets)) in
       let others = names_are ns (p + length (wire n)) each.1 (past_first n ns p e) in
       rw (first, others) refl

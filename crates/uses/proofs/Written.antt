@@ -1,11 +1,11 @@
 -- Records are written, or leave nothing.
 use Rattle.std.proofs.Common.{◌≡◌, List, [], ◌∷◌, ◌++◌, Ok, Err, refl, sym, subst}
 use Rattle.std.specs.Prelude.{OnOk, OnErr}
-use Rattle.dns_names_wire.specs.Words.{EmitsRecord, Encoder, InTurn, Outcome, RecordsPrecede, RefusedRecordsUndo, WireRecord, frame-record}
+use Rattle.dns_names_wire.specs.Words.{EmitsRecord, Encoder, InTurn, Outcome, RecordsPrecede, RefusedRecordsUndo, WireRecord, frame_record}
 use Rattle.uses.specs.Records.{IsReady}
 
 pub ready_on : RecordsPrecede → (r : WireRecord) (v w : Encoder) → IsReady v → EmitsRecord r v (Ok tt) w → IsReady w
-ready_on law r v w ready h = ((frame-record r v (Ok tt) w ready.0 h).ends, law r v w (Ok tt) ready.1 h)
+ready_on law r v w ready h = ((frame_record r v (Ok tt) w ready.0 h).ends, law r v w (Ok tt) ready.1 h)
 
 -- a record is written, or nothing is changed
 pub whole : RefusedRecordsUndo → RecordsPrecede → (r : WireRecord) (v w : Encoder) (outcome : Outcome) → IsReady v → EmitsRecord r v outcome w

@@ -3,12 +3,12 @@ use Rattle.std.specs.Prelude.{◌≡◌, ℕ, List, true}
 use Rattle.dns_names_wire.specs.Words.{DNSClass, HasDataName, RecordAt, RecordType, RecordValue, data_octets}
 
 -- the data are this name, fully qualified
-abbrev pub IsName : List (List ℕ) → RecordValue → Type 0
-IsName labels found = HasDataName found (record { is_fqdn = true; labels = labels })
+abbrev pub HasName : List (List ℕ) → RecordValue → Type 0
+HasName labels found = HasDataName found (record { is_fqdn = true; labels = labels })
 
 -- the data are these octets
-abbrev pub AreOctets : List ℕ → RecordValue → Type 0
-AreOctets octets found = data_octets found ≡ octets
+abbrev pub HasOctets : List ℕ → RecordValue → Type 0
+HasOctets octets found = data_octets found ≡ octets
 
 -- From p to e the message has a record of this owner, type, class and time to live, with such data.
 pub record HasRecord (message : List ℕ) (labels : List (List ℕ)) (of_type : RecordType) (of_class : DNSClass) (seconds : ℕ) (AreData : RecordValue → Type 0) (p e : ℕ) : Type 0 where

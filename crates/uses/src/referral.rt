@@ -1,7 +1,7 @@
 //! Writes a referral: which server has a zone, and where that server is.
 ghost use Rattle.std.specs.Prelude.{◌≡◌, ℕ, ◌<◌, ◌^◌, [], ◌∷◌, length, take, IfOk};
 ghost use Rattle.dns_names_wire.specs.Words.{Done, Refused, RepliesTo, WireRecord, opening, write_record};
-ghost use Rattle.uses.specs.Referrals.{AreOctets, HasRecord, IsName};
+ghost use Rattle.uses.specs.Referrals.{HasOctets, HasRecord, HasName};
 ghost use Rattle.uses.specs.Scripts.{IsReadAt};
 
 use dns_names_wire::name::laws as name_laws;
@@ -26,8 +26,8 @@ pub fn write_referral(
     ttl: u32,
 ) -> ProtoResult<(Vec<u8>, usize)>
     ensures begins { IfOk result (λ made. take (length header.now) made.0.items ≡ header.now) }
-    ensures served { IfOk result (λ made. HasRecord made.0.items zone.labels RecordType.NS DNSClass.IN ttl (IsName server.labels) (length header.now) made.1) }
-    ensures address { IfOk result (λ made. HasRecord made.0.items server.labels RecordType.A DNSClass.IN ttl (AreOctets address.now) made.1 (length made.0.items)) }
+    ensures served { IfOk result (λ made. HasRecord made.0.items zone.labels RecordType.NS DNSClass.IN ttl (HasName server.labels) (length header.now) made.1) }
+    ensures address { IfOk result (λ made. HasRecord made.0.items server.labels RecordType.A DNSClass.IN ttl (HasOctets address.now) made.1 (length made.0.items)) }
 {
     code_laws::types_come_back();
     code_laws::classes_come_back();

@@ -2,7 +2,7 @@
 ghost use Rattle.std.specs.Prelude.{◌≡◌, ◌↔◌, ◌<◌, [], ◌∷◌, ◌++◌, length, slice_get, Some, IsTrue, IfOk, IfErr, OnOk, OnErr};
 ghost use Rattle.std.specs.List.Sorted.{IsStrictlySortedBy};
 ghost use Rattle.dns_names_wire.specs.Words.{labels_cmp};
-ghost use Rattle.uses.specs.Tables.{BelongsAt, ComesLast, HasRoom, IsAt};
+ghost use Rattle.uses.specs.Tables.{BelongsAt, ComesLast, TableHasRoom, IsAt};
 ghost use Rattle.uses.specs.TableErrors.{IsRefused};
 
 use dns_names_wire::name::laws;
@@ -83,7 +83,7 @@ impl NameTable {
     /// If it fails, the table is unchanged.
     pub fn push(&mut self, name: &Name) -> Result<(), PushError>
         ensures added { OnOk result (self.new ≡ self.old ++ name.now.labels ∷ []) }
-        ensures fits { OnOk result (ComesLast self.old name.now.labels × HasRoom self.old name.now.labels) }
+        ensures fits { OnOk result (ComesLast self.old name.now.labels × TableHasRoom self.old name.now.labels) }
         ensures refused { IfErr result (IsRefused self.old name.now.labels) }
         ensures unchanged { OnErr result (self.new ≡ self.old) }
     {

@@ -4,7 +4,7 @@ use Rattle.std.specs.Ordering.{nat_cmp, eq_by_cmp, ordering_then}
 use Rattle.dnw_base.specs.declared.dns_class.DNSClass.{DNSClass}
 use Rattle.dnw_base.specs.declared.dns_class.DNSClass.TheVariants.{OPT, Unknown}
 use Rattle.dnw_base.specs.DnsClasses.{class_code, class_of_code, class_rank, class_number, class_cmp, class_hash}
-use Rattle.dnw_base.specs.Inside.Ties.{numbers-tied, both-tied}
+use Rattle.dnw_base.specs.Inside.Ties.{numbers_tied, both_tied}
 
 -- a class from its code, its rank and its number
 class_from : ℕ → ℕ → ℕ → DNSClass
@@ -18,18 +18,18 @@ from_itself (OPT size) = refl
 from_itself (Unknown code) = refl
 from_itself class = refl
 
-pub classes-tied : (x y : DNSClass) → IsTrue (eq_by_cmp class_cmp x y) → x ≡ y
-classes-tied x y h =
+pub classes_tied : (x y : DNSClass) → IsTrue (eq_by_cmp class_cmp x y) → x ≡ y
+classes_tied x y h =
     let ranks = nat_cmp (class_rank x) (class_rank y) in
     let numbers = nat_cmp (class_number x) (class_number y) in
-    let first = both-tied (nat_cmp (class_code x) (class_code y)) (ordering_then ranks numbers) h in
-    let code : class_code x ≡ class_code y = numbers-tied (class_code x) (class_code y) first.0 in
-    let second = both-tied ranks numbers (simp first.1 refl) in
-    let rank : class_rank x ≡ class_rank y = numbers-tied (class_rank x) (class_rank y) second.0 in
-    let number : class_number x ≡ class_number y = numbers-tied (class_number x) (class_number y) second.1 in
+    let first = both_tied (nat_cmp (class_code x) (class_code y)) (ordering_then ranks numbers) h in
+    let code : class_code x ≡ class_code y = numbers_tied (class_code x) (class_code y) first.0 in
+    let second = both_tied ranks numbers (simp first.1 refl) in
+    let rank : class_rank x ≡ class_rank y = numbers_tied (class_rank x) (class_rank y) second.0 in
+    let number : class_number x ≡ class_number y = numbers_tied (class_number x) (class_number y) second.1 in
     sym (from_itself x)
     ∙ (ap (λ n. class_from n (class_rank x) (class_number x)) code
     ∙ (ap (λ n. class_from (class_code y) n (class_number x)) rank ∙ (ap (class_from (class_code y) (class_rank y)) number ∙ from_itself y)))
 
-pub classes-hash_alike : (x y : DNSClass) → IsTrue (eq_by_cmp class_cmp x y) → class_hash x ≡ class_hash y
-classes-hash_alike x y h = ap class_hash (classes-tied x y h)
+pub classes_hash_alike : (x y : DNSClass) → IsTrue (eq_by_cmp class_cmp x y) → class_hash x ≡ class_hash y
+classes_hash_alike x y h = ap class_hash (classes_tied x y h)

@@ -4,6 +4,6 @@ use Rattle.dnw_data.specs.declared.kind.ListKind.{ListKind}
 use Rattle.dnw_data.specs.declared.lists.Head.{Head}
 use Rattle.dnw_data.specs.Lists.{tag_of, count_of, item_size}
 
-abbrev pub IsHead : ListKind → List ℕ → Head → Type 0
-IsHead kind octets head =
+abbrev pub IsItemHead : ListKind → List ℕ → Head → Type 0
+IsItemHead kind octets head =
     (head.tag ≡ tag_of kind octets) × (head.count ≡ count_of kind octets) × (head.size ≡ item_size kind octets)

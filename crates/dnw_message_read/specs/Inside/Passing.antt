@@ -7,12 +7,12 @@ use Rattle.dnw_message_read.specs.declared.error.Section.{Section}
 use Rattle.dnw_message_read.specs.declared.error.Section.TheVariants as section
 use Rattle.dnw_message_read.specs.Edns.{is_opt}
 use Rattle.dnw_message_read.specs.Messages.{FailsHere, Item, ItemAt, ItemsAt, rest_of}
-use Rattle.dnw_record.specs.Records.{fields_at, type_field}
+use Rattle.dnw_record.specs.Records.{fixed_at, type_field}
 
 -- whether the item of a section whose name ends at e is an OPT record
 abbrev pub opt_at : Section → List ℕ → ℕ → Bool
 opt_at section.Queries b e = false
-opt_at kind b e = is_opt (type_field (fields_at b e))
+opt_at kind b e = is_opt (type_field (fixed_at b e))
 
 -- whether one of these items is
 abbrev pub any_opt : Section → List ℕ → List Item → Bool

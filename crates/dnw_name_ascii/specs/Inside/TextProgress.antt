@@ -19,7 +19,7 @@ abbrev pub from_start : List ℕ → Result NameValue Fault
 from_start cs = name_from_elements [] [] (elements Outside cs)
 
 -- The labels, and the bytes for the next one, give a name: these are their octets.
-pub record Holds (p : Progress) (ls : List (List ℕ)) (label : List ℕ) : Type 0 where
+pub record HoldsLabels (p : Progress) (ls : List (List ℕ)) (label : List ℕ) : Type 0 where
   pub size : p.size ≡ encoded_size ls
   pub most : encoded_size ls ≤ 255
   pub len : p.label ≡ length label
@@ -32,9 +32,9 @@ abbrev pub IsSmall : Progress → Type 0
 IsSmall p = (p.size ≤ 255) × (p.label ≤ 63)
 
 -- Reading goes on after an element: what follows gives what all gives.
-abbrev pub GoesOn : TextElement → Progress → Progress → Type 0
-GoesOn e p q = (ls : List (List ℕ)) → (label : List ℕ) → Holds p ls label
-    → (longer : List (List ℕ)) × (next : List ℕ) × Holds q longer next
+abbrev pub GoesOnWith : TextElement → Progress → Progress → Type 0
+GoesOnWith e p q = (ls : List (List ℕ)) → (label : List ℕ) → HoldsLabels p ls label
+    → (longer : List (List ℕ)) × (next : List ℕ) × HoldsLabels q longer next
     × ((es : List TextElement) → name_from_elements ls label (e ∷ es) ≡ name_from_elements longer next es)
 
 -- No name is given with an element, whatever follows.
@@ -46,7 +46,7 @@ pub record Breaks (ls : List (List ℕ)) (label : List ℕ) (e : TextElement) (r
   pub hopeless : (es : List TextElement) (name : NameValue) → name_from_elements ls label (e ∷ es) ≡ Ok name → ⊥
 
 abbrev pub BreaksAt : TextElement → Progress → TextRule → Type 0
-BreaksAt e p rule = (ls : List (List ℕ)) → (label : List ℕ) → Holds p ls label → Breaks ls label e rule
+BreaksAt e p rule = (ls : List (List ℕ)) → (label : List ℕ) → HoldsLabels p ls label → Breaks ls label e rule
 
 -- each beginning of an escape but the whole is unfinished
 abbrev pub IsUnfinished : List ℕ → ℕ → Type 0
@@ -62,7 +62,7 @@ pub record BeginsWithElement (text : List ℕ) (e : TextElement) (rest : List �
   pub utf8 : IsUtf8 rest
 
 -- The text begins with what stops reading.
-pub record Stops (text : List ℕ) (rule : TextRule) : Type 0 where
+pub record StopsText (text : List ℕ) (rule : TextRule) : Type 0 where
   pub own : List ℕ
   pub rest : List ℕ
   pub fault : Fault
@@ -76,7 +76,7 @@ pub record Stops (text : List ℕ) (rule : TextRule) : Type 0 where
 abbrev pub BeginsWithUnit : List ℕ → Held → Type 0
 BeginsWithUnit text (HeldDot rest) = BeginsWithElement text Dot rest.now
 BeginsWithUnit text (HeldChar c rest) = BeginsWithElement text (Char c) rest.now
-BeginsWithUnit text (HeldStop rule) = Stops text rule
+BeginsWithUnit text (HeldStop rule) = StopsText text rule
 
 -- the first character, and what is after it
 abbrev pub BeginsWithChar : List ℕ → Option (ℕ × Bor (List ℕ)) → Type 0
@@ -84,7 +84,7 @@ BeginsWithChar text None = chars text ≡ []
 BeginsWithChar text (Some (c, rest)) = (chars text ≡ c ∷ chars rest.now) × (length rest.now < length text) × IsUtf8 rest.now
 
 -- Within an escape, or before the first character: what was read of the text, and what is left.
-pub record IsWithin (text : List ℕ) (state : State) (rest : List ℕ) : Type 0 where
+pub record IsWithinText (text : List ℕ) (state : State) (rest : List ℕ) : Type 0 where
   pub own : List ℕ
   pub parts : chars text ≡ own ++ chars rest
   pub reads : (more : List ℕ) → elements Outside (own ++ more) ≡ elements (state_of state) more
@@ -98,16 +98,16 @@ pub record HasRead (text : List ℕ) (p : Progress) (rest : List ℕ) : Type 0 w
   pub ls : List (List ℕ)
   pub label : List ℕ
   pub parts : chars text ≡ front ++ chars rest
-  pub holds : Holds p ls label
+  pub holds : HoldsLabels p ls label
   pub reads : (more : List ℕ) → from_start (front ++ more) ≡ name_from_elements ls label (elements Outside more)
   pub utf8 : IsUtf8 rest
 
 -- A character or an escape was read, and this is left.
-pub record ReadsOn (p q : Progress) (text rest : List ℕ) : Type 0 where
+pub record ReadsTextOn (p q : Progress) (text rest : List ℕ) : Type 0 where
   pub own : List ℕ
   pub parts : chars text ≡ own ++ chars rest
-  pub goes_on : (ls : List (List ℕ)) → (label : List ℕ) → Holds p ls label
-      → (longer : List (List ℕ)) × (next : List ℕ) × Holds q longer next
+  pub goes_on : (ls : List (List ℕ)) → (label : List ℕ) → HoldsLabels p ls label
+      → (longer : List (List ℕ)) × (next : List ℕ) × HoldsLabels q longer next
       × ((more : List ℕ) → name_from_elements ls label (elements Outside (own ++ more)) ≡ name_from_elements longer next (elements Outside more))
   pub shorter : length rest < length text
   pub utf8 : IsUtf8 rest

@@ -101,7 +101,7 @@ pub record PutsLengths (text octets : List ℕ) (is_fqdn : Bool) : Type 0 where
   pub form : octets ≡ wire labels ++ (if is_fqdn then 0 ∷ [] else [])
 
 -- The text begins with n bytes that add these bytes to the label that is next, and may be cut after them.
-pub record Begins (text : List ℕ) (n : ℕ) (bytes : List ℕ) : Type 0 where
+pub record CutsText (text : List ℕ) (n : ℕ) (bytes : List ℕ) : Type 0 where
   pub inside : n ≤ length text
   pub cut : IsCharBoundary text n
   pub few : length bytes ≤ n

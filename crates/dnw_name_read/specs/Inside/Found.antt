@@ -1,7 +1,7 @@
 -- How a name in a message is kept: the message, and where the name is.
 use Rattle.std.specs.Prelude.{◌≡◌, ℕ, Bool, IsTrue, zero, suc, ◌+◌, ◌<◌, ◌≤◌, ◌==◌, nat_le, if◌then◌else◌, Option, List, [], ◌∷◌, ◌++◌, length, slice_index, slice_range}
 use Rattle.dnw_name_read.specs.declared.walk.Walked.{Walked}
-use Rattle.dnw_base.specs.Limits.{max_label, max_labels, pointer_mark}
+use Rattle.dnw_base.specs.Limits.{max_label, max_labels, pointer_bits}
 use Rattle.dnw_base.specs.Names.{encoded_size, wire}
 use Rattle.dnw_name_read.specs.Buffers.{put}
 use Rattle.dnw_name_read.specs.Reading.{target, Reads, NameAt}
@@ -25,7 +25,7 @@ pub record StandsAt (b : List ℕ) (p e size count pointers : ℕ) : Type 0 wher
   pub count_is : count ≡ length (labels_at b p)
 
 -- Such a name, which follows no pointer from there on if it is in one piece: then its own octets are its wire form.
-pub record LiesAt (b : List ℕ) (p size count : ℕ) (in_one_piece : Bool) : Type 0 where
+pub record NameLiesAt (b : List ℕ) (p size count : ℕ) (in_one_piece : Bool) : Type 0 where
   pub end : ℕ
   pub pointers : ℕ
   pub stands : StandsAt b p end size count pointers
@@ -34,7 +34,7 @@ pub record LiesAt (b : List ℕ) (p size count : ℕ) (in_one_piece : Bool) : Ty
 -- What a walk from p has found: the name, and where its first label is.
 pub record IsFound (b : List ℕ) (p : ℕ) (walked : Walked) (count pointers : ℕ) : Type 0 where
   pub stands : StandsAt b p walked.end walked.size count pointers
-  pub lies : LiesAt b walked.first walked.size count walked.in_one_piece
+  pub lies : NameLiesAt b walked.first walked.size count walked.in_one_piece
   pub same : labels_at b walked.first ≡ labels_at b p
 
 -- The labels at p are read there, in a segment that began at s.
@@ -49,7 +49,7 @@ pub record ReadsOn (b : List ℕ) (s p : ℕ) : Type 0 where
 
 -- A copy has come to position and put what is written at the front of a buffer, with the octets from run on still to be
 -- written: what is written, these octets and the wire form of the labels that follow make the wire form of the whole name.
-pub record Copies (b : List ℕ) (start run position : ℕ) (buffer out : List ℕ) (filled : ℕ) : Type 0 where
+pub record CopiesRuns (b : List ℕ) (start run position : ℕ) (buffer out : List ℕ) (filled : ℕ) : Type 0 where
   pub segment : ℕ
   pub on : ReadsOn b segment position
   pub order : run ≤ position
@@ -68,7 +68,7 @@ pub record MoreAt (b : List ℕ) (p : ℕ) : Type 0 where
 pub record LeadsTo (b : List ℕ) (p t : ℕ) : Type 0 where
   pub more : MoreAt b t
   pub same : labels_at b t ≡ labels_at b p
-  pub last : slice_index b t < pointer_mark
+  pub last : slice_index b t < pointer_bits
 
 -- So many labels are left to be read at p.
 pub record IsLeftAt (b : List ℕ) (p left : ℕ) : Type 0 where

@@ -3,7 +3,7 @@ use Rattle.std.specs.Prelude.{◌≡◌, ℕ, zero, suc, ◌+◌, ◌<◌, ◌�
 use Rattle.dnw_base.specs.declared.error.DecodeError.{DecodeError}
 use Rattle.dnw_name_read.specs.declared.walk.Element.{Element}
 use Rattle.dnw_name_read.specs.declared.walk.Element.TheVariants.{End, Label, Pointer}
-use Rattle.dnw_base.specs.Limits.{max_label, max_name, pointer_mark}
+use Rattle.dnw_base.specs.Limits.{max_label, max_name, pointer_bits}
 use Rattle.dnw_base.specs.Names.{encoded_size}
 use Rattle.dnw_name_read.specs.Reading.{IsWithin, target, Reads, Stops}
 
@@ -19,7 +19,7 @@ pub record IsPointerAt (b : List ℕ) (p s t : ℕ) : Type 0 where
   pub high : ℕ
   pub low : ℕ
   pub first : slice_get b p ≡ Some high
-  pub marked : pointer_mark ≤ high
+  pub marked : pointer_bits ≤ high
   pub second : slice_get b (p + 1) ≡ Some low
   pub leads : t ≡ target high low
   pub prior : t < s

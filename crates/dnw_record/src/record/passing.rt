@@ -1,8 +1,8 @@
 //! Records of a message are passed on into another one.
 ghost use Rattle.std.specs.Prelude.{◌≡◌, OnOk};
 ghost use Rattle.dnw_write.specs.EncoderValue.{value, lender};
-ghost use Rattle.dnw_record.specs.PassedRecords.{FieldsFit, IsSound, PassesFields, PassesRecord, fixed_octets};
-ghost use Rattle.dnw_record.specs.RecordFrames.{frame-passed};
+ghost use Rattle.dnw_record.specs.PassedRecords.{FieldsFit, IsSound, PassesFields, PassesRecord, passed_octets};
+ghost use Rattle.dnw_record.specs.RecordFrames.{frame_passed};
 
 use super::RecordRef;
 use dnw_base::error::ProtoResult;
@@ -18,15 +18,15 @@ use dnw_write::encoder::BinEncoder;
 impl BinEncodable for RecordRef<'_> {
     ghost emits = { PassesRecord };
 
-    ghost keeps_frame = { frame-passed };
+    ghost keeps_frame = { frame_passed };
 
     /// Writes the owner, the type, the class, the time to live, the length and the data. If one of them fails, the encoder
     /// is put back to where it was.
     fn emit(&self, encoder: &mut BinEncoder<'_>) -> ProtoResult<()> {
-        let mark = encoder.mark();
+        let checkpoint = encoder.checkpoint();
         let outcome = emit_fields(self, encoder);
         if outcome.is_err() {
-            encoder.rewind(mark);
+            encoder.rewind(checkpoint);
         }
         outcome
     }
@@ -46,14 +46,14 @@ fn emit_fields(item: &RecordRef<'_>, encoder: &mut BinEncoder<'_>) -> ProtoResul
 /// Returns the type, the class, the time to live and the length of the data, as they are written.
 #[inline(always)]
 fn fixed_octets(item: &RecordRef<'_>) -> [u8; 10]
-    ensures octets { result ≡ fixed_octets item.now }
+    ensures octets { result ≡ passed_octets item.now }
     ensures fit { FieldsFit item.now }
 {
-    let record_type = u16::to_be_bytes(u16::from(item.record_type()));
+    let code = u16::to_be_bytes(u16::from(item.record_type()));
     let class = u16::to_be_bytes(u16::from(item.class()));
     let ttl = u32::to_be_bytes(item.ttl());
     let len = u16::to_be_bytes(item.rdata_len());
     [
-        record_type[0], record_type[1], class[0], class[1], ttl[0], ttl[1], ttl[2], ttl[3], len[0], len[1],
+        code[0], code[1], class[0], class[1], ttl[0], ttl[1], ttl[2], ttl[3], len[0], len[1],
     ]
 }

@@ -2,9 +2,9 @@
 ghost use Rattle.std.specs.Prelude.{◌≡◌, OnOk};
 ghost use Rattle.dnw_write.specs.Encoder.{mode_of_rdata};
 ghost use Rattle.dnw_write.specs.EncoderValue.{value, lender};
-ghost use Rattle.dnw_record.specs.WrittenRecords.{EmitsData, EmitsDataName, EmitsFields, EmitsRecord, NumbersFit, type_class_ttl};
+ghost use Rattle.dnw_record.specs.WrittenRecords.{EmitsData, EmitsDataName, EmitsFields, EmitsRecord, NumbersFit, wire_fixed};
 ghost use Rattle.dnw_record.specs.Parts.{EmitsSized};
-ghost use Rattle.dnw_record.specs.RecordFrames.{frame-data, frame-record};
+ghost use Rattle.dnw_record.specs.RecordFrames.{frame_data, frame_record};
 
 use super::{WireData, WireRecord};
 use dnw_base::error::ProtoResult;
@@ -15,7 +15,7 @@ use dnw_write::encoder::{BinEncoder, RDataEncoding};
 impl BinEncodable for WireData {
     ghost emits = { EmitsData };
 
-    ghost keeps_frame = { frame-data };
+    ghost keeps_frame = { frame_data };
 
     /// Writes the data alone, without their length: a name in the mode for such data.
     fn emit(&self, encoder: &mut BinEncoder<'_>) -> ProtoResult<()> {
@@ -29,15 +29,15 @@ impl BinEncodable for WireData {
 impl BinEncodable for WireRecord {
     ghost emits = { EmitsRecord };
 
-    ghost keeps_frame = { frame-record };
+    ghost keeps_frame = { frame_record };
 
     /// Writes the owner, the type, the class, the time to live, the length and the data. If one of them fails, the encoder
     /// is put back to where it was.
     fn emit(&self, encoder: &mut BinEncoder<'_>) -> ProtoResult<()> {
-        let mark = encoder.mark();
+        let checkpoint = encoder.checkpoint();
         let outcome = emit_fields(self, encoder);
         if outcome.is_err() {
-            encoder.rewind(mark);
+            encoder.rewind(checkpoint);
         }
         outcome
     }
@@ -57,14 +57,14 @@ fn emit_fields(item: &WireRecord, encoder: &mut BinEncoder<'_>) -> ProtoResult<(
 /// Returns the type, the class and the time to live, as they are written.
 #[inline(always)]
 fn type_class_ttl(item: &WireRecord) -> [u8; 8]
-    ensures octets { result ≡ type_class_ttl item.now }
+    ensures octets { result ≡ wire_fixed item.now }
     ensures fit { NumbersFit item.now }
 {
-    let record_type = u16::to_be_bytes(u16::from(item.record_type));
+    let code = u16::to_be_bytes(u16::from(item.record_type));
     let class = u16::to_be_bytes(u16::from(item.class));
     let ttl = u32::to_be_bytes(item.ttl);
     [
-        record_type[0], record_type[1], class[0], class[1], ttl[0], ttl[1], ttl[2], ttl[3],
+        code[0], code[1], class[0], class[1], ttl[0], ttl[1], ttl[2], ttl[3],
     ]
 }
 

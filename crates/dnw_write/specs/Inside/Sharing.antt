@@ -6,8 +6,8 @@ use Rattle.dnw_write.specs.Encoder.{Encoder}
 use Rattle.dnw_write.specs.EmittedName.{Points, Share, so_far}
 
 -- No candidate is usable for more than all but the first n labels.
-abbrev pub NoneBefore : Encoder → List (List ℕ) → ℕ → Type 0
-NoneBefore v labels n = (i : ℕ) → i < n → NoneUsable (so_far v) v.candidates (drop i labels)
+abbrev pub NoneSharedBefore : Encoder → List (List ℕ) → ℕ → Type 0
+NoneSharedBefore v labels n = (i : ℕ) → i < n → NoneUsable (so_far v) v.candidates (drop i labels)
 
 -- A pointer can stand for what follows the first n labels, which have so many bytes.
 pub record IsSuffix (v : Encoder) (labels : List (List ℕ)) (n size target : ℕ) : Type 0 where

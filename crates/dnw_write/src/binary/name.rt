@@ -2,7 +2,7 @@
 ghost use Rattle.std.specs.Prelude.{◌≡◌, true};
 ghost use Rattle.dnw_write.specs.EmittedName.{EmitsLabels, EmitsName};
 ghost use Rattle.dnw_write.specs.EncoderValue.{value, lender};
-ghost use Rattle.dnw_write.specs.NameFrames.{frame-name};
+ghost use Rattle.dnw_write.specs.NameFrames.{frame_name};
 ghost use Rattle.dnw_base.specs.Names.{lower};
 
 use super::BinEncodable;
@@ -15,7 +15,7 @@ use dnw_name::name_ref::NameRef;
 impl BinEncodable for Name {
     ghost emits = { EmitsName };
 
-    ghost keeps_frame = { frame-name };
+    ghost keeps_frame = { frame_name };
 
     /// Writes the name: in lower case or compressed if the encoder's mode says so.
     fn emit(&self, encoder: &mut BinEncoder<'_>) -> ProtoResult<()> {
@@ -29,7 +29,7 @@ impl BinEncodable for Name {
 impl BinEncodable for NameRef<'_> {
     ghost emits = { λ labels. EmitsName (record { is_fqdn = true; labels = labels }) };
 
-    ghost keeps_frame = { λ labels. frame-name (record { is_fqdn = true; labels = labels }) };
+    ghost keeps_frame = { λ labels. frame_name (record { is_fqdn = true; labels = labels }) };
 
     /// Writes the name as `Name` does: without a copy, unless pointers are between its labels or the mode is lower case.
     fn emit(&self, encoder: &mut BinEncoder<'_>) -> ProtoResult<()> {

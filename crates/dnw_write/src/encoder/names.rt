@@ -10,7 +10,7 @@ ghost use Rattle.dnw_write_suffixes.specs.Candidates.{FindsUsable};
 
 use super::{BinEncoder, NameEncoding};
 use dnw_base::error::{ProtoError, ProtoResult};
-use dnw_base::limits::{POINTER_MARK, POINTER_REACH};
+use dnw_base::limits::{POINTER_BITS, POINTER_REACH};
 use dnw_name::name::Name;
 use dnw_name_form::wire_labels::WireLabels;
 use std::alloc::{AllocError, Global};
@@ -42,7 +42,7 @@ fn pointer_octets(target: u16) -> [u8; 2]
     requires { target < pointer_offsets }
     ensures { result ≡ pointer_to target }
 {
-    [POINTER_MARK + (target / 256) as u8, (target % 256) as u8]
+    [POINTER_BITS + (target / 256) as u8, (target % 256) as u8]
 }
 
 impl<'a> BinEncoder<'a> {

@@ -1,6 +1,6 @@
 //! Placeholders, for fields whose value is known later.
 ghost use Rattle.std.specs.Prelude.{◌≡◌, ℕ, ◌+◌, ◌≤◌, ◌↔◌, List, length, IsTrue, IfOk, OnOk, OnErr};
-ghost use Rattle.dnw_write.specs.Encoder.{Holds, TakesRoom, reserved};
+ghost use Rattle.dnw_write.specs.Encoder.{HoldsOctets, TakesRoom, reserved};
 ghost use Rattle.dnw_write.specs.Emitting.{EmitsAt, FillsPlace};
 
 use super::BinEncoder;
@@ -30,7 +30,7 @@ impl<T: EncodedSize> Place<T> {
 
     /// Writes the value into the placeholder, which is used up also if this fails.
     pub fn replace(self, encoder: &mut BinEncoder<'_>, number: T) -> ProtoResult<()>
-        requires { Holds (value encoder.old) self T.LEN }
+        requires { HoldsOctets (value encoder.old) self T.LEN }
         ensures emits { EmitsAt T.emits self number (value encoder.old) result (value encoder.new) }
         ensures ok { OnOk result (FillsPlace self T.LEN (value encoder.old) (value encoder.new)) }
         ensures err { OnErr result (value encoder.new ≡ value encoder.old) }
@@ -68,14 +68,14 @@ impl<'a> BinEncoder<'a> {
 
     /// Returns `true` if the placeholder ends no later than the offset.
     pub fn holds<T: EncodedSize>(&self, place: &Place<T>) -> bool
-        ensures { IsTrue result ↔ Holds (value self.now) place.now T.LEN }
+        ensures { IsTrue result ↔ HoldsOctets (value self.now) place.now T.LEN }
     {
         T::LEN <= self.offset && place.start_index <= self.offset - T::LEN
     }
 
     /// Returns the number of bytes from the placeholder's end to the offset.
     pub fn len_since_place<T: EncodedSize>(&self, place: &Place<T>) -> usize
-        requires { Holds (value self.now) place.now T.LEN }
+        requires { HoldsOctets (value self.now) place.now T.LEN }
         ensures { place.now + T.LEN + result ≡ (value self.now).offset }
     {
         self.offset - place.start_index - T::LEN
@@ -83,7 +83,7 @@ impl<'a> BinEncoder<'a> {
 
     /// Writes the value into the placeholder, which is used up also if this fails.
     pub fn emit_at<T: EncodedSize>(&mut self, place: Place<T>, number: T) -> ProtoResult<()>
-        requires { Holds (value self.old) place T.LEN }
+        requires { HoldsOctets (value self.old) place T.LEN }
         ensures emits { EmitsAt T.emits place number (value self.old) result (value self.new) }
         ensures ok { OnOk result (FillsPlace place T.LEN (value self.old) (value self.new)) }
         ensures err { OnErr result (value self.new ≡ value self.old) }

@@ -2,7 +2,7 @@
 ghost use Rattle.std.specs.Prelude.{◌≡◌};
 ghost use Rattle.dnw_write.specs.EncoderValue.{value, lender};
 ghost use Rattle.dnw_write_script.specs.Script.{EmitsPart, EmitsParts, EmitsScriptItem};
-ghost use Rattle.dnw_write_script.specs.ItemFrames.{frame-part, frame-item};
+ghost use Rattle.dnw_write_script.specs.ItemFrames.{frame_part, frame_item};
 
 use super::{Item, Part};
 use dnw_base::error::ProtoResult;
@@ -12,7 +12,7 @@ use dnw_write::encoder::BinEncoder;
 impl BinEncodable for Part {
     ghost emits = { EmitsPart };
 
-    ghost keeps_frame = { frame-part };
+    ghost keeps_frame = { frame_part };
 
     /// Writes the part; a name in the encoder's mode.
     fn emit(&self, encoder: &mut BinEncoder<'_>) -> ProtoResult<()> {
@@ -31,7 +31,7 @@ impl BinEncodable for Part {
 impl BinEncodable for Item {
     ghost emits = { EmitsScriptItem };
 
-    ghost keeps_frame = { frame-item };
+    ghost keeps_frame = { frame_item };
 
     /// Writes the parts in turn, in the item's mode, and puts the former mode back in any case. If a part fails, those
     /// before it stay written; a list of items rolls them back.

@@ -8,7 +8,7 @@ ghost use Rattle.dnw_write.specs.Encoder.{TakesRoom, Writes, WritesText, reserve
 ghost use Rattle.dnw_write.specs.EncoderValue.{value, lender};
 ghost use Rattle.dnw_record.specs.WrittenRecords.{EmitsRecord};
 ghost use Rattle.dnw_write_script.specs.Script.{action};
-ghost use Rattle.dnw_write_script.specs.Pieces.{Account, after, opening};
+ghost use Rattle.dnw_write_script.specs.Pieces.{Account, after_action, opening};
 ghost use Rattle.dnw_write_script.specs.Ran.{Ran};
 ghost use Rattle.dnw_write_script.specs.Runs.{Runs, RunsStep, RunsItems, GivesReply, beginning};
 ghost use Rattle.dnw_write_script.specs.Inside.Running.{FillsKept, HoldsPlace, KeepsPlace, RunsTo, Tracks, reply_to};
@@ -99,7 +99,7 @@ fn run_step(encoder: &mut BinEncoder<'_>, step: &Step, places: &mut Places) -> R
     requires holds { AllByRecursion (HoldsPlace (value encoder.old)) places.old.items }
     requires room { vec_len places.old < vec_capacity places.old }
     ensures runs { (a : Account) → Tracks places.old.items a.places → RunsStep a (value encoder.old) (action step.now) result (value encoder.new) }
-    ensures tracks { (a : Account) → Tracks places.old.items a.places → Tracks places.new.items (after a (action step.now) result).places }
+    ensures tracks { (a : Account) → Tracks places.old.items a.places → Tracks places.new.items (after_action a (action step.now) result).places }
     ensures few { vec_len places.new ≤ vec_len places.old + 1 }
     ensures room { vec_capacity places.new ≡ vec_capacity places.old }
     ensures lender { lender encoder.new ≡ lender encoder.old }

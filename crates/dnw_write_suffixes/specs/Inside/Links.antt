@@ -1,8 +1,8 @@
--- Links: the candidates that share one of 4,096 tags are linked in a ring, as by marks, once there are many.
+-- Links: the candidates that share one of 4,096 tags are linked in a ring, as by tags, once there are many.
 use Rattle.std.specs.Prelude.{ℕ, ◌+◌, ◌-◌, ◌*◌, ◌/◌, ◌%◌, List, [], ◌∷◌, get_or, length, take}
 use Rattle.dnw_name_form.specs.Inside.Fours.{four}
 use Rattle.dnw_write_suffixes.specs.Candidates.{Candidate}
-use Rattle.dnw_write_suffixes.specs.Inside.Marks.{AreMarked, AreTagged}
+use Rattle.dnw_write_suffixes.specs.Inside.TagTable.{AreTaggedByFront, AreTagged}
 
 -- up to three octets as one number
 abbrev pub few : List ℕ → ℕ
@@ -31,5 +31,5 @@ AreChained = AreTagged 4096 wide_tag
 
 -- The candidates are marked and linked.
 pub record AreIndexed (last next : List ℕ) (count : ℕ) (lasts links : List ℕ) (linked : ℕ) (candidates : List Candidate) : Type 0 where
-  pub marked : AreMarked last next count candidates
+  pub marked : AreTaggedByFront last next count candidates
   pub chained : AreChained lasts links linked candidates

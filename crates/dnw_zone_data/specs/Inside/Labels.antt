@@ -12,9 +12,9 @@ IsEscape (AfterOne a) = a < 10
 IsEscape (AfterTwo a b) = (a < 10) × (b < 10)
 IsEscape other = ⊤
 
-abbrev pub IsElement : Element → Type 0
-IsElement (Within escape) = IsEscape escape
-IsElement other = ⊤
+abbrev pub IsTextElement : Element → Type 0
+IsTextElement (Within escape) = IsEscape escape
+IsTextElement other = ⊤
 
 -- The label is added, or it cannot be.
 abbrev pub PushesLabel : List (List ℕ) → List ℕ → Option Unit → List (List ℕ) → Type 0

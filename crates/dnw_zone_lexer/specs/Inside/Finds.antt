@@ -3,50 +3,50 @@ use Rattle.std.specs.Prelude.{◌≡◌, ℕ, ◌+◌, ◌-◌, ◌<◌, ◌≤�
 use Rattle.std.specs.Char.{is_ascii_digit}
 use denote.Ref.{Bor}
 use Rattle.std.specs.Str.{chars, IsUtf8, IsCharBoundary}
-use Rattle.dnw_zone_lexer.specs.Tokens.{LexState, StartLine, RestOfLine, Failed, Step, Gives, Ends, before, from, quote, backslash, semicolon, close_paren, QuoteState, Plain, Escaped, quoted_after}
+use Rattle.dnw_zone_lexer.specs.Tokens.{LexState, StartLine, RestOfLine, Failed, Step, Gives, Ends, front_until, from, quote, backslash, semicolon, close_paren, QuoteState, Plain, Escaped, quoted_after}
 use Rattle.dnw_zone_lexer.specs.Times.{groups_after, total_seconds}
-use Rattle.dnw_zone_lexer.specs.Lexing.{token_value, Fails}
+use Rattle.dnw_zone_lexer.specs.Lexing.{token_value, FailsStep}
 use Rattle.dnw_zone_lexer.specs.declared.zone_lex.State.{State}
 use Rattle.dnw_zone_lexer.specs.declared.zone_lex.State.TheVariants.{StartLine as AtStart, RestOfLine as InLine, Failed as HasStopped}
 use Rattle.dnw_zone_lexer.specs.declared.zone_lex.Found.{Found}
 use Rattle.dnw_zone_lexer.specs.declared.errors.LexerError.{LexerError}
 use Rattle.dnw_zone_lexer.specs.declared.errors.LexerError.TheVariants.{EOF, IllegalCharacter}
 
-abbrev pub state_of : State → LexState
-state_of AtStart = StartLine
-state_of InLine = RestOfLine
-state_of HasStopped = Failed
+abbrev pub lex_state_of : State → LexState
+lex_state_of AtStart = StartLine
+lex_state_of InLine = RestOfLine
+lex_state_of HasStopped = Failed
 
 -- A part finds what stands next, which is opened as a list or a quoted text or not.
-abbrev pub Finds : Bool → Step → Result (Option Found) LexerError → Type 0
-Finds opened step (Ok (Some found)) = step ≡ Gives (token_value found.token) (chars found.rest.now) (state_of found.state)
-Finds opened step (Ok None) = step ≡ Ends
-Finds opened step (Err e) = Fails opened step e
+abbrev pub FindsToken : Bool → Step → Result (Option Found) LexerError → Type 0
+FindsToken opened step (Ok (Some found)) = step ≡ Gives (token_value found.token) (chars found.rest.now) (lex_state_of found.state)
+FindsToken opened step (Ok None) = step ≡ Ends
+FindsToken opened step (Err e) = FailsStep opened step e
 
 -- A text of these bytes is cut after n of them, before the first character that passes the test.
 pub record CutsBefore (p : ℕ → Bool) (text : List ℕ) (n : ℕ) : Type 0 where
   pub within : n ≤ length text
   pub boundary : IsCharBoundary text n
-  pub front : chars (take n text) ≡ before p (chars text)
+  pub front : chars (take n text) ≡ front_until p (chars text)
   pub back : chars (drop n text) ≡ from p (chars text)
 
 -- a character of a word that is a byte
-abbrev pub is_plain : ℕ → Bool
-is_plain c = nat_lt 32 c && nat_lt c 127 && not (c == semicolon) && not (c == close_paren)
+abbrev pub is_plain_char : ℕ → Bool
+is_plain_char c = nat_lt 32 c && nat_lt c 127 && not (c == semicolon) && not (c == close_paren)
 
 -- a text of fewer bytes
 abbrev pub IsShorter : List ℕ → List ℕ → Type 0
 IsShorter rest text = (length rest < length text) × IsUtf8 rest
 
 -- the first character of a text of these bytes, and the text after it
-abbrev pub BeginsWith : List ℕ → Option (ℕ × Bor (List ℕ)) → Type 0
-BeginsWith text None = chars text ≡ []
-BeginsWith text (Some (c, rest)) = (chars text ≡ c ∷ chars rest.now) × IsShorter rest.now text
+abbrev pub TakesChar : List ℕ → Option (ℕ × Bor (List ℕ)) → Type 0
+TakesChar text None = chars text ≡ []
+TakesChar text (Some (c, rest)) = (chars text ≡ c ∷ chars rest.now) × IsShorter rest.now text
 
 -- The rest of an escape is read: its character joins the text, and what is after it is read on.
 abbrev pub EscapesFrom : QuoteState → List ℕ → Result (ℕ × Bor (List ℕ)) LexerError → Type 0
 EscapesFrom state cs (Ok (c, rest)) = (text : List ℕ) → quoted_after text state cs ≡ quoted_after (text ++ c ∷ []) Plain (chars rest.now)
-EscapesFrom state cs (Err e) = (text : List ℕ) → Fails true (quoted_after text state cs) e
+EscapesFrom state cs (Err e) = (text : List ℕ) → FailsStep true (quoted_after text state cs) e
 
 -- An escape is read after its backslash.
 abbrev pub Escapes : List ℕ → Result (ℕ × Bor (List ℕ)) LexerError → Type 0

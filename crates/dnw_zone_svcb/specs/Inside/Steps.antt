@@ -6,11 +6,11 @@ use Rattle.dnw_zone_svcb.specs.CommaLists.{items_of}
 use Rattle.dnw_zone_svcb.specs.Params.{ParamValue, with_param}
 
 -- The first item of a text, and what is after it.
-abbrev pub TakesItem : List ℕ → List ℕ → After → Type 0
-TakesItem text item End = items_of text ≡ Some (item ∷ [])
-TakesItem text item (Items rest) =
+abbrev pub TakesListItem : List ℕ → List ℕ → After → Type 0
+TakesListItem text item End = items_of text ≡ Some (item ∷ [])
+TakesListItem text item (Items rest) =
     (items_of text ≡ option_map (λ items. item ∷ items) (items_of rest.now)) × (length rest.now < length text)
-TakesItem text item Fault = items_of text ≡ None
+TakesListItem text item Fault = items_of text ≡ None
 
 -- The octets of an item are appended, or there are none.
 abbrev pub PushesOne : (List ℕ → Type 0) → List ℕ → List ℕ → Bool → Type 0
@@ -23,9 +23,9 @@ Inserts p old new true = with_param p old ≡ Some new
 Inserts p old new false = (with_param p old ≡ None) × (new ≡ old)
 
 -- The text is appended, or there is none and nothing is appended.
-abbrev pub Writes : Option (List ℕ) → List ℕ → List ℕ → Bool → Type 0
-Writes text old new true = (own : List ℕ) × (text ≡ Some own) × (new ≡ old ++ own)
-Writes text old new false = (text ≡ None) × (new ≡ old)
+abbrev pub WritesValue : Option (List ℕ) → List ℕ → List ℕ → Bool → Type 0
+WritesValue text old new true = (own : List ℕ) × (text ≡ Some own) × (new ≡ old ++ own)
+WritesValue text old new false = (text ≡ None) × (new ≡ old)
 
 -- nothing, or a text that begins with a space
 abbrev pub IsSpaced : List ℕ → Type 0
@@ -33,13 +33,13 @@ IsSpaced [] = ⊤
 IsSpaced (c ∷ cs) = c ≡ 32
 
 -- These are appended: nothing, or a text that begins with a space.
-abbrev pub GoesOn : List ℕ → List ℕ → Type 0
-GoesOn old new = (own : List ℕ) × IsSpaced own × (new ≡ old ++ own)
+abbrev pub AppendsSpaced : List ℕ → List ℕ → Type 0
+AppendsSpaced old new = (own : List ℕ) × IsSpaced own × (new ≡ old ++ own)
 
 -- The text is appended, or there is none and some may be appended.
-abbrev pub Pushes : Option (List ℕ) → List ℕ → List ℕ → Bool → Type 0
-Pushes text old new true = (own : List ℕ) × (text ≡ Some own) × (new ≡ old ++ own)
-Pushes text old new false = (text ≡ None) × GoesOn old new
+abbrev pub PushesValue : Option (List ℕ) → List ℕ → List ℕ → Bool → Type 0
+PushesValue text old new true = (own : List ℕ) × (text ≡ Some own) × (new ≡ old ++ own)
+PushesValue text old new false = (text ≡ None) × AppendsSpaced old new
 
 -- these, and after them others, if there are
 abbrev pub after : {A : Type 0} → List A → Option (List A) → Option (List A)

@@ -24,15 +24,15 @@ abbrev pub IsNoText : ℕ → Option (List ℕ) → Type 0
 IsNoText max (Some string) = max < length string
 IsNoText max None = ⊤
 
-abbrev pub BeginsWith : List ℕ → List ℕ → Type 0
-BeginsWith old new = (own : List ℕ) × (new ≡ old ++ own)
+abbrev pub KeepsFront : List ℕ → List ℕ → Type 0
+KeepsFront old new = (own : List ℕ) × (new ≡ old ++ own)
 
 -- At most so many octets of a text are appended; or it has none, and some may be appended.
 abbrev pub Pushes : ℕ → Option (List ℕ) → List ℕ → List ℕ → Bool → Type 0
 Pushes max text old new true = (own : List ℕ) × (text ≡ Some own) × (length own ≤ max) × (new ≡ old ++ own)
-Pushes max text old new false = IsNoText max text × BeginsWith old new
+Pushes max text old new false = IsNoText max text × KeepsFront old new
 
 -- The octets of a text are appended; or it has none, and some may be appended.
 abbrev pub PushesAll : Option (List ℕ) → List ℕ → List ℕ → Bool → Type 0
 PushesAll text old new true = (own : List ℕ) × (text ≡ Some own) × (new ≡ old ++ own)
-PushesAll text old new false = (text ≡ None) × BeginsWith old new
+PushesAll text old new false = (text ≡ None) × KeepsFront old new

@@ -3,22 +3,22 @@ use Rattle.std.specs.Prelude.{◌≡◌, ℕ, zero, suc, ◌+◌, ◌≤◌, Lis
 use Rattle.std.specs.List.{flat_map, AllByRecursion}
 use Rattle.std.specs.List.Sorted.{IsStrictlySortedBy}
 use Rattle.dns_names_wire.specs.Words.{AreLabels, labels_cmp, wire}
-use Rattle.uses.specs.Tables.{max_octets}
+use Rattle.uses.specs.Tables.{max_table_octets}
 
 -- the labels of the wire form in front of the octets, at most n of them
-abbrev pub labels_within : ℕ → List ℕ → List (List ℕ)
-labels_within zero octets = []
-labels_within (suc n) [] = []
-labels_within (suc n) (zero ∷ octets) = []
-labels_within (suc n) (suc c ∷ octets) = take (suc c) octets ∷ labels_within n (drop (suc c) octets)
+abbrev pub table_labels : ℕ → List ℕ → List (List ℕ)
+table_labels zero octets = []
+table_labels (suc n) [] = []
+table_labels (suc n) (zero ∷ octets) = []
+table_labels (suc n) (suc c ∷ octets) = take (suc c) octets ∷ table_labels n (drop (suc c) octets)
 
 -- the labels of the name that begins at an offset
-unfoldable pub name_at : List ℕ → ℕ → List (List ℕ)
-name_at octets start = labels_within (length octets) (drop start octets)
+unfoldable pub table_name : List ℕ → ℕ → List (List ℕ)
+table_name octets start = table_labels (length octets) (drop start octets)
 
 -- the names that begin at these offsets
 abbrev pub names_at : List ℕ → List ℕ → List (List (List ℕ))
-names_at octets starts = map (name_at octets) starts
+names_at octets starts = map (table_name octets) starts
 
 -- where names begin whose wire forms follow one another from an offset on
 abbrev pub offsets : ℕ → List (List (List ℕ)) → List ℕ
@@ -31,4 +31,4 @@ pub record IsTable (octets starts : List ℕ) (names : List (List (List ℕ))) :
   pub starts_are : starts ≡ offsets 0 names
   pub labels : AllByRecursion AreLabels names
   pub ascend : IsStrictlySortedBy labels_cmp names
-  pub fits : length octets ≤ max_octets
+  pub fits : length octets ≤ max_table_octets

@@ -50,7 +50,11 @@ pub fn names_of(class: DNSClass, record_type: RecordType) -> (&'static str, &'st
 }
 
 /// Returns a class and a type as a line of a dump has them.
-pub fn printed(alloc: Global, class: DNSClass, record_type: RecordType) -> Result<String, AllocError> {
+pub fn printed(
+    alloc: Global,
+    class: DNSClass,
+    record_type: RecordType,
+) -> Result<String, AllocError> {
     Ok(format!(in alloc; "{class} {record_type} ({class:?} {record_type:?})")?)
 }
 
@@ -73,7 +77,10 @@ pub fn written(class: &str, record_type: &str) -> Option<(DNSClass, RecordType)>
     ensures class { (x : _) → result ≡ Some x → class_of_text class.now ≡ Some x.0 }
     ensures record_type { (x : _) → result ≡ Some x → type_of_text record_type.now ≡ Some x.1 }
 {
-    Some((DNSClass::from_text(class)?, RecordType::from_text(record_type)?))
+    Some((
+        DNSClass::from_text(class)?,
+        RecordType::from_text(record_type)?,
+    ))
 }
 
 /// Returns the words of a master file for a class and a type.
@@ -83,7 +90,11 @@ pub fn words(class: DNSClass, record_type: RecordType) -> (CodeText, CodeText) {
 
 /// Returns the lesser of two types. By codes, and the type with a name before `Unknown` of its code.
 pub fn lesser(record_type: RecordType, other: RecordType) -> RecordType {
-    if other < record_type { other } else { record_type }
+    if other < record_type {
+        other
+    } else {
+        record_type
+    }
 }
 
 /// Returns the greater of two classes, or `None` if they are equal.

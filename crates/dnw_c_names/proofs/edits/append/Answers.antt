@@ -1,7 +1,7 @@
 use Rattle.std.proofs.Common.{inl, inr, length}
 use Rattle.std.proofs.lemmas.Result.{IfOk-weaker, IfErr-weaker, err_from_is_err_and}
 use Rattle.dnw_name_form.specs.Edits.{append_name}
-use Rattle.dnw_c_names.specs.NameEdits.{FailsToAppend, FailsToEdit, PutsAppended, PutsEdited}
+use Rattle.dnw_c_names.specs.NameEdits.{FailsToAppendName, FailsToEdit, PutsAppended, PutsEdited}
 use Rattle.dnw_c_names.proofs.edits.append.Goals as goal
 
 pub returns-in_err-name-clause-err : goal.returns-in_err-name-clause-err
@@ -24,5 +24,5 @@ returns-clause-err c =
     let m = c.in_ok-name.suffix in
     let (here, there, name, suffix) = c.in_ok-name.ensures.ok in
     IfErr-weaker c.put_edited.result (FailsToEdit (append_name n m) (length c.args.form.now))
-    (FailsToAppend c.args.name.now c.args.suffix.now (length c.args.form.now))
+    (FailsToAppendName c.args.name.now c.args.suffix.now (length c.args.form.now))
     (λ failure h. inr (n, m, (here, name), (there, suffix), h)) (c.put_edited.ensures.err (append_name n m) c.append_name.ensures.follows)

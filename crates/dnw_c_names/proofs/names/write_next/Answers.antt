@@ -1,17 +1,17 @@
 use Rattle.std.proofs.Common.{true, refl}
 use Rattle.dnw_c_names.specs.NameLists.{unread, unwritten}
-use Rattle.dnw_c_base.proofs.Starts.{takes-onward, takes-within}
+use Rattle.dnw_c_base.proofs.Starts.{takes_onward, takes_within}
 use Rattle.dnw_c_names.proofs.names.write_next.Goals as goal
 
 pub returns-in-Ok-emit-clause-onward : goal.returns-in-Ok-emit-clause-onward
 returns-in-Ok-emit-clause-onward c =
     let (k, takes) = c.in-Ok.ensures.ok in
-    takes-onward takes
+    takes_onward takes
 
 pub returns-in-Ok-emit-clause-within : goal.returns-in-Ok-emit-clause-within
 returns-in-Ok-emit-clause-within c =
     let (k, takes) = c.in-Ok.ensures.ok in
-    takes-within takes
+    takes_within takes
 
 pub returns-in-Err-emit-clause-err : goal.returns-in-Err-emit-clause-err
 returns-in-Err-emit-clause-err c =

@@ -1,18 +1,18 @@
 use Rattle.std.proofs.Common.{◌≡◌, length, ap, arith}
 use Rattle.std.proofs.lemmas.Result.{err_from_is_err_and}
-use Rattle.dnw_c_signed.proofs.Collected.{all-there, no-more, one-more, takes-on}
+use Rattle.dnw_c_signed.proofs.Collected.{all_there, no_more, one_more, takes_on}
 use Rattle.dnw_c_signed.proofs.covering.covered.Goals as goal
 
 pub records-smaller : goal.records-smaller
 records-smaller c =
     let (r, more, takes, selects, grown) = c.in_ok-collect_next.ensures.ok in
-    let (onward, within) = takes-on takes in
+    let (onward, within) = takes_on takes in
     omega (arith, onward, within, ap length c.records.invariant.same)
 
 pub records-preserved : goal.records-preserved
 records-preserved c =
     let (r, more, takes, selects, grown) = c.in_ok-collect_next.ensures.ok in
-    one-more r more c.collect_next.new.copies.items c.records.invariant takes selects grown
+    one_more r more c.collect_next.new.copies.items c.records.invariant takes selects grown
 
 pub returns-in_err-collect_next-clause-err : goal.returns-in_err-collect_next-clause-err
 returns-in_err-collect_next-clause-err c =
@@ -21,7 +21,7 @@ returns-in_err-collect_next-clause-err c =
     let empty = c.is_empty.ensures.1 same in
     let full = c.records-test.true in
     cc (empty, full) in
-    rw (p.1, p.2) (no-more c.in_err-collect_next.field-0.0 c.records.invariant left c.in_err-collect_next.ensures.err)
+    rw (p.1, p.2) (no_more c.in_err-collect_next.field-0.0 c.records.invariant left c.in_err-collect_next.ensures.err)
 
 pub returns-clause-ok : goal.returns-clause-ok
-returns-clause-ok c = all-there c.records.invariant (c.is_empty.ensures.0 c.records-test.false)
+returns-clause-ok c = all_there c.records.invariant (c.is_empty.ensures.0 c.records-test.false)

@@ -1,6 +1,6 @@
 use Rattle.std.proofs.Common.{length, inl, inr}
 use Rattle.dnw_base.specs.RecordTypes.{type_of_code}
-use Rattle.dnw_c_zone.specs.ParseCalls.{HasData, LacksData}
+use Rattle.dnw_c_zone.specs.ParseCalls.{HasParsedData, LacksData}
 use Rattle.dnw_c_zone.proofs.Parsed.{lacks_room, puts}
 use Rattle.dnw_c_zone.proofs.parsing.put_data.Goals as goal
 
@@ -12,10 +12,10 @@ returns-in-Err-data_of-clause-err c = inr (inl (c.in-Ok.origin, c.in-Ok.ensures.
 
 pub returns-in-Ok-put-clause-ok : goal.returns-in-Ok-put-clause-ok
 returns-in-Ok-put-clause-ok c =
-    puts (λ origin own. HasData origin (type_of_code c.args.record_type) c.args.text.now own) c.args.form.now c.args.octets.now c.put.new.buffer c.as_slice.result.now c.in-Ok-data_of.own.items c.in-Ok-put.len c.in-Ok.origin
+    puts (λ origin own. HasParsedData origin (type_of_code c.args.record_type) c.args.text.now own) c.args.form.now c.args.octets.now c.put.new.buffer c.as_slice.result.now c.in-Ok-data_of.own.items c.in-Ok-put.len c.in-Ok.origin
     c.in-Ok.ensures.ok c.in-Ok-data_of.ensures.ok c.as_slice.ensures.value c.in-Ok-put.ensures.ok
 
 pub returns-clause-err : goal.returns-clause-err
 returns-clause-err c =
-    lacks_room (λ origin own. HasData origin (type_of_code c.args.record_type) c.args.text.now own) (λ origin. LacksData origin (type_of_code c.args.record_type) c.args.text.now) c.args.form.now c.as_slice.result.now c.in-Ok-data_of.own.items (length c.args.octets.now) c.in-Err-put.failure c.in-Ok.origin
+    lacks_room (λ origin own. HasParsedData origin (type_of_code c.args.record_type) c.args.text.now own) (λ origin. LacksData origin (type_of_code c.args.record_type) c.args.text.now) c.args.form.now c.as_slice.result.now c.in-Ok-data_of.own.items (length c.args.octets.now) c.in-Err-put.failure c.in-Ok.origin
     c.in-Ok.ensures.ok c.in-Ok-data_of.ensures.ok c.as_slice.ensures.value c.in-Err-put.ensures.err

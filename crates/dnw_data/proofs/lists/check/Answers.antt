@@ -1,5 +1,5 @@
 use Rattle.std.proofs.Common.{sym, ◌∙◌, arith}
-use Rattle.dnw_data.proofs.Checking.{begins, goes-on, some-left}
+use Rattle.dnw_data.proofs.Checking.{begins, goes_on, some_left}
 use Rattle.dnw_data.proofs.lists.check.Goals as goal
 
 pub items-init : goal.items-init
@@ -8,5 +8,5 @@ items-init c = begins c.args.kind c.args.octets.now
 pub items-preserved : goal.items-preserved
 items-preserved c =
     let (is, whole) = c.in_ok-head.ensures.ok in
-    goes-on _ _ c.items.left.now c.items.least c.items.invariant (some-left _ (sym c.is_empty.ensures ∙ c.items-test.true)) _ _ _ is.0 is.1 is.2 (omega (arith, is.2, whole))
+    goes_on _ _ c.items.left.now c.items.least c.items.invariant (some_left _ (sym c.is_empty.ensures ∙ c.items-test.true)) _ _ _ is.0 is.1 is.2 (omega (arith, is.2, whole))
     (sym c.may_come.ensures ∙ c.if-not-may_come.false)

@@ -4,7 +4,7 @@ use Rattle.std.proofs.lemmas.List.{nil_from_length}
 use Rattle.std.proofs.lemmas.Str.{chars-nil}
 use Rattle.std.proofs.lemmas.Slice.Eq.{bytes_eq-Decides}
 use Rattle.dnw_name_form.specs.LabelText.{dot}
-use Rattle.dnw_name_ascii.proofs.TextReading.{chars-dot, name_from_text-plain}
+use Rattle.dnw_name_ascii.proofs.TextReading.{chars_dot, name_from_text_plain}
 use Rattle.dnw_name_ascii.proofs.text.read.Goals as goal
 
 pub returns-then-is_empty : goal.returns-then-is_empty
@@ -14,10 +14,10 @@ returns-then-is_empty c =
 pub returns-then-eq : goal.returns-then-eq
 returns-then-eq c =
     let same = (bytes_eq-Decides c.args.text.now (dot ∷ [])).0 (sym c.eq.ensures ∙ c.if-eq.true) in
-    rw (same, chars-dot, c.new-then-eq.ensures) (record { follows = refl })
+    rw (same, chars_dot, c.new-then-eq.ensures) (record { follows = refl })
 
 pub returns-in-Some : goal.returns-in-Some
-returns-in-Some c = rw (name_from_text-plain _ _ _ c.utf8.text c.is_empty.ensures c.if-is_empty.false c.eq.ensures c.if-eq.false) (record { follows = rw c.as_bytes.ensures.value at c.in-Some.ensures })
+returns-in-Some c = rw (name_from_text_plain _ _ _ c.utf8.text c.is_empty.ensures c.if-is_empty.false c.eq.ensures c.if-eq.false) (record { follows = rw c.as_bytes.ensures.value at c.in-Some.ensures })
 
 pub returns-in-None : goal.returns-in-None
-returns-in-None c = rw (name_from_text-plain _ _ _ c.utf8.text c.is_empty.ensures c.if-is_empty.false c.eq.ensures c.if-eq.false) (record { follows = c.read_by_parts.ensures.follows })
+returns-in-None c = rw (name_from_text_plain _ _ _ c.utf8.text c.is_empty.ensures c.if-is_empty.false c.eq.ensures c.if-eq.false) (record { follows = c.read_by_parts.ensures.follows })

@@ -8,17 +8,17 @@ pub returns-then-octet-eq0 : goal.returns-then-octet-eq0
 returns-then-octet-eq0 c = Copies-end c.elements.invariant _ c.if-octet-eq0.true c.put_run.ensures
 
 -- a label leaves fewer octets to be written
-pub elements-smaller-then-octet-lt-POINTER_MARK : goal.elements-smaller-then-octet-lt-POINTER_MARK
-elements-smaller-then-octet-lt-POINTER_MARK c =
+pub elements-smaller-then-octet-lt-POINTER_BITS : goal.elements-smaller-then-octet-lt-POINTER_BITS
+elements-smaller-then-octet-lt-POINTER_BITS c =
     let now = c.elements.invariant in
-    omega (arith, Copies-size now, Copies-size (Copies-label now c.if-octet-eq0.false c.if-octet-lt-POINTER_MARK.true), now.order)
+    omega (arith, Copies-size now, Copies-size (Copies-label now c.if-octet-eq0.false c.if-octet-lt-POINTER_BITS.true), now.order)
 
-pub bounds-message-position-else-octet-lt-POINTER_MARK : goal.bounds-message-position-else-octet-lt-POINTER_MARK
-bounds-message-position-else-octet-lt-POINTER_MARK c = ((here c.elements.invariant.on).pointer c.if-octet-lt-POINTER_MARK.false).there
+pub bounds-message-position-else-octet-lt-POINTER_BITS : goal.bounds-message-position-else-octet-lt-POINTER_BITS
+bounds-message-position-else-octet-lt-POINTER_BITS c = ((here c.elements.invariant.on).pointer c.if-octet-lt-POINTER_BITS.false).there
 
 -- and a pointer as many
 pub elements-smaller : goal.elements-smaller
 elements-smaller c =
     let now = c.elements.invariant in
-    let pointer = rw (← c.pointer_target-run.ensures) at ((here now.on).pointer c.if-octet-lt-POINTER_MARK.false) in
+    let pointer = rw (← c.pointer_target-run.ensures) at ((here now.on).pointer c.if-octet-lt-POINTER_BITS.false) in
     omega (arith, now.back, pointer.prior, ap (λ ls. length (wire ls)) pointer.labels)

@@ -2,7 +2,7 @@
 use Rattle.std.proofs.Common.{[], sym, ◌∙◌, refl}
 use Rattle.std.proofs.lemmas.Bool.{false≢true}
 use Rattle.dnw_record_owned.specs.declared.rdata.RDataError.TheVariants.{Field}
-use Rattle.dnw_record_owned.proofs.Copying.{begins, ends, goes-on, left-over, piece-of, stops}
+use Rattle.dnw_record_owned.proofs.Copying.{begins, ends, goes-on, left-over, piece_of, stops}
 use Rattle.dnw_record_owned.proofs.checked.check_fields.Goals as goal
 
 pub fields-init : goal.fields-init
@@ -15,7 +15,7 @@ returns-in-Err-clause-err c =
 
 pub fields-preserved : goal.fields-preserved
 fields-preserved c =
-    let (piece, takes) = piece-of c.in-Some.kind.now c.fields.reader c.read.new.reader _ c.in-Ok.ensures.ok in
+    let (piece, takes) = piece_of c.in-Some.kind.now c.fields.reader c.read.new.reader _ c.in-Ok.ensures.ok in
     (_, goes-on (rw c.in-Some.ensures.cases.0 at c.fields.invariant.1) piece takes refl)
 
 pub returns-then-not-is_empty-clause-err : goal.returns-then-not-is_empty-clause-err

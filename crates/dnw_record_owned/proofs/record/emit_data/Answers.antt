@@ -3,21 +3,21 @@ use Rattle.std.proofs.Common.{◌≡◌, List, ℕ, Result, Ok, Err, slice_range
 use Rattle.std.specs.Result.{IsOk, IsOkAnd}
 use Rattle.std.proofs.lemmas.Result.{err_from_is_err_and}
 use Rattle.dnw_base.specs.declared.error.DecodeError.{DecodeError}
-use Rattle.dnw_record_owned.proofs.Walking.{begins, ends, name-fails, name-written, no-name, own-written, some-name}
+use Rattle.dnw_record_owned.proofs.Walking.{begins, ends, name-fails, name-written, no_name, own-written, some-name}
 use Rattle.dnw_record_owned.proofs.record.emit_data.Goals as goal
 
 pub fields-init : goal.fields-init
 fields-init c =
     (refl, rw c.index-run.ensures.index (begins (rw c.index-run.ensures.index at c.index-run.ensures.within) c.requires))
 
-is-ok : (r : Result (List (List ℕ)) DecodeError) (P : List (List ℕ) → Type 0) → IsOkAnd r P → IsOk r
-is-ok (Ok x) P h = search rules
-is-ok (Err e) P h = absurd h
+is_ok : (r : Result (List (List ℕ)) DecodeError) (P : List (List ℕ) → Type 0) → IsOkAnd r P → IsOk r
+is_ok (Ok x) P h = search rules
+is_ok (Err e) P h = absurd h
 
 pub unwrap-name-requires : goal.unwrap-name-requires
 unwrap-name-requires c =
     let (after, labels, k, takes) = some-name (rw (c.in-Some.ensures.some, c.in-Name.is) at c.fields.invariant.1) in
-    is-ok c.read.result (λ name. name ≡ labels) (c.read.ensures.accepts after labels k takes).0
+    is_ok c.read.result (λ name. name ≡ labels) (c.read.ensures.accepts after labels k takes).0
 
 pub returns-in_err-emit_data_name-in-Name-clause-writes :
     goal.returns-in_err-emit_data_name-in-Name-clause-writes
@@ -42,7 +42,7 @@ pub fields-preserved : goal.fields-preserved
 fields-preserved c =
     let (piece, takes) = c.skip_own.ensures in
     let at = rw c.in-Some.ensures.some at c.fields.invariant.1 in
-    (c.fields.invariant.0, own-written piece (no-name c.in-Some.kind.now c.in_default-kind.not-Name) at takes)
+    (c.fields.invariant.0, own-written piece (no_name c.in-Some.kind.now c.in_default-kind.not-Name) at takes)
 
 pub returns-clause-writes : goal.returns-clause-writes
 returns-clause-writes c =

@@ -1,7 +1,7 @@
 -- The owner, the fixed fields and the data are written in turn, up to the first that fails.
 use Rattle.dnw_write.specs.EncoderValue.{value}
 use Rattle.dnw_record_owned.specs.DataCopies.{alone}
-use Rattle.dnw_record_owned.proofs.WrittenCopies.{fields-on, own-copy, readable}
+use Rattle.dnw_record_owned.proofs.WrittenCopies.{fields_on, own_copy, readable}
 use Rattle.dnw_record_owned.proofs.record.emit_fields.Goals as goal
 
 pub emit_sized-requires : goal.emit_sized-requires
@@ -11,7 +11,7 @@ emit_sized-requires c =
 pub returns-clause-writes : goal.returns-clause-writes
 returns-clause-writes c =
     let x = c.args.item.now.data in
-    fields-on c.args.item.now (alone x.octets) (value c.args.encoder.now) (value c.emit.new.encoder) (value c.emit_vec.new.self)
-    c.emit_sized.result (value c.emit_sized.new.encoder) (own-copy x c.octets.ensures.of_type) c.in_ok-emit.ensures.emits
+    fields_on c.args.item.now (alone x.octets) (value c.args.encoder.now) (value c.emit.new.encoder) (value c.emit_vec.new.self)
+    c.emit_sized.result (value c.emit_sized.new.encoder) (own_copy x c.octets.ensures.of_type) c.in_ok-emit.ensures.emits
     (rw (c.fixed_octets.ensures.octets, c.record_type-record_type.ensures) at c.in_ok-emit_vec.ensures.writes)
     (rw (c.fields_of.ensures, c.record_type-record_type.ensures, c.new-start.ensures, c.octets.ensures.octets) at c.emit_sized.ensures.writes)

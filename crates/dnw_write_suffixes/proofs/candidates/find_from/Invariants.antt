@@ -1,4 +1,4 @@
-use Rattle.dnw_write_suffixes.specs.Inside.Marks.{NoneBefore}
+use Rattle.dnw_write_suffixes.specs.Inside.TagTable.{NoneBefore}
 use Rattle.dnw_write_suffixes.proofs.candidates.find_from.Given as goal
 
 -- none of those before is usable

@@ -1,7 +1,7 @@
 -- The search goes along the ring of the tag.
 use Rattle.std.proofs.Common.{◌∙◌, ap, refl, arith}
 use Rattle.std.proofs.lemmas.List.Elements.{AllWithin-none}
-use Rattle.dnw_write_suffixes.specs.Inside.Marks.{CannotBe, tag_at}
+use Rattle.dnw_write_suffixes.specs.Inside.TagTable.{CannotBe, tag_at}
 use Rattle.dnw_write_suffixes.specs.Inside.Links.{wide_tag}
 use Rattle.dnw_write_suffixes.proofs.Rings.{goes_on}
 use Rattle.dnw_write_suffixes.proofs.candidates.find_linked.Goals as goal

@@ -1,5 +1,5 @@
 use Rattle.std.proofs.Common.{◌-◌}
-use Rattle.dnw_write_suffixes.specs.Inside.Marks.{place}
+use Rattle.dnw_write_suffixes.specs.Inside.TagTable.{place}
 use Rattle.dnw_write_suffixes.specs.Inside.Links.{wide_tag}
 use Rattle.dnw_write_suffixes.proofs.Rings.{IsAt}
 use Rattle.dnw_write_suffixes.proofs.candidates.find_linked.Given as goal

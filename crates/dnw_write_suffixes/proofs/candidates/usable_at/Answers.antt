@@ -3,7 +3,7 @@ use Rattle.std.proofs.Common.{suc, take, drop, sym, ◌∙◌, arith}
 use Rattle.std.proofs.lemmas.List.{length-take-le}
 use Rattle.std.proofs.lemmas.List.Elements.{AllWithin-more, at_read}
 use Rattle.dnw_write_suffixes.specs.Candidates.{Candidate}
-use Rattle.dnw_write_suffixes.specs.Inside.Marks.{CannotBe}
+use Rattle.dnw_write_suffixes.specs.Inside.TagTable.{CannotBe}
 use Rattle.dnw_write_suffixes.proofs.CandidateLists.{between, not_before}
 use Rattle.dnw_write_suffixes.proofs.candidates.usable_at.Goals as goal
 

@@ -1,11 +1,11 @@
 -- Each element tells whether the labels that are left can be read on.
 use Rattle.std.proofs.Common.{◌≡◌, Some, length, refl, rules, sym, ◌∙◌, eqb-true}
 use Rattle.std.proofs.lemmas.List.{nil_from_length}
-use Rattle.dnw_write_suffixes.proofs.Matching.{along-start, along-stops, along-end, along-label, along-pointer}
+use Rattle.dnw_write_suffixes.proofs.Matching.{along_start, along-stops, along-end, along-label, along-pointer}
 use Rattle.dnw_write_suffixes.proofs.usable.has_labels.Goals as goal
 
 pub elements-init : goal.elements-init
-elements-init c = along-start c.args.message.now c.args.start c.args.labels c.requires
+elements-init c = along_start c.args.message.now c.args.start c.args.labels c.requires
 
 pub returns-in_default : goal.returns-in_default
 returns-in_default c = (

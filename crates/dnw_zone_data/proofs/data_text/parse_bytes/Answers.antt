@@ -6,7 +6,7 @@ use Rattle.dnw_base.specs.RecordTypes.{type_code}
 use Rattle.dnw_data.specs.Table.{fields_of}
 use Rattle.dnw_zone_data.specs.Words.{after_spaces, after_word, word}
 use Rattle.dnw_zone_data.specs.DataTexts.{FailsGeneric}
-use Rattle.dnw_zone_data.specs.Generic.{mark, IsSized}
+use Rattle.dnw_zone_data.specs.Generic.{generic_mark, IsSized}
 use Rattle.dnw_zone_data.proofs.data_text.parse_bytes.Goals as goal
 
 pub returns-then-eq : goal.returns-then-eq
@@ -14,7 +14,7 @@ returns-then-eq c =
     let text = c.args.text.now in
     let start = c.after_spaces-start.ensures.rest in
     let first : word (after_spaces text) ≡ c.split_word.result.0.now = sym (c.split_word.ensures.word ∙ ap word start) in
-    let marked : word (after_spaces text) ≡ mark = first ∙ (bytes_eq-Decides c.split_word.result.0.now mark).0 (sym c.eq.ensures ∙ c.if-eq.true) in
+    let marked : word (after_spaces text) ≡ generic_mark = first ∙ (bytes_eq-Decides c.split_word.result.0.now generic_mark).0 (sym c.eq.ensures ∙ c.if-eq.true) in
     let left : c.split_word.result.1.now ≡ after_word (after_spaces text) = c.split_word.ensures.rest ∙ ap after_word start in
     MatchResult-weaker c.parse_generic.result c.parse_generic.ensures
     (λ own has. inl ((marked, subst (λ (xs : List ℕ). IsSized xs own.items) left has.0), has.1))

@@ -1,5 +1,5 @@
 use Rattle.dnw_zone_data.proofs.DataBack.{back}
-use Rattle.dnw_zone_data.proofs.NoFault.{generic-parsed, parsed}
+use Rattle.dnw_zone_data.proofs.NoFault.{generic_parsed, parsed}
 use Rattle.dnw_zone_data.proofs.laws.data_come_back.Goals as goal
 
 pub returns-clause-back : goal.returns-clause-back
@@ -9,4 +9,4 @@ pub returns-clause-parsed : goal.returns-clause-parsed
 returns-clause-parsed c = parsed
 
 pub returns-clause-generic : goal.returns-clause-generic
-returns-clause-generic c = generic-parsed
+returns-clause-generic c = generic_parsed

@@ -1,36 +1,36 @@
-use Rattle.dnw_zone_data.proofs.FieldsBack.{u8-back, u16-back, u32-back, time-back, type-back, ipv4-back, string-back, tag-back, salt-back, hash-back, octets-back, text-back, strings-back}
-use Rattle.dnw_zone_data.proofs.NamesBack.{name-back}
-use Rattle.dnw_zone_data.proofs.ParamsBack.{params-back}
-use Rattle.dnw_zone_data.proofs.TypesBack.{types-back}
-use Rattle.dnw_zone_data.proofs.WordsBack.{ipv6-back, eui48-back, eui64-back, base64-back}
+use Rattle.dnw_zone_data.proofs.FieldsBack.{u8_back, u16_back, u32_back, time_back, type_back, ipv4_back, string_back, tag_back, salt_back, hash_back, octets_back, text_back, strings_back}
+use Rattle.dnw_zone_data.proofs.NamesBack.{name_back}
+use Rattle.dnw_zone_data.proofs.ParamsBack.{params_back}
+use Rattle.dnw_zone_data.proofs.TypesBack.{types_back}
+use Rattle.dnw_zone_data.proofs.WordsBack.{ipv6_back, eui48_back, eui64_back, base64_back}
 use Rattle.dnw_zone_data.proofs.laws.fields_come_back.Goals as goal
 
 pub returns-clause-numbers : goal.returns-clause-numbers
-returns-clause-numbers c = (u8-back, u16-back, u32-back, time-back)
+returns-clause-numbers c = (u8_back, u16_back, u32_back, time_back)
 
 pub returns-clause-types : goal.returns-clause-types
-returns-clause-types c = type-back
+returns-clause-types c = type_back
 
 pub returns-clause-addresses : goal.returns-clause-addresses
-returns-clause-addresses c = ipv4-back
+returns-clause-addresses c = ipv4_back
 
 pub returns-clause-names : goal.returns-clause-names
-returns-clause-names c = name-back
+returns-clause-names c = name_back
 
 pub returns-clause-segments : goal.returns-clause-segments
-returns-clause-segments c = ipv6-back
+returns-clause-segments c = ipv6_back
 
 pub returns-clause-identifiers : goal.returns-clause-identifiers
-returns-clause-identifiers c = (eui48-back, eui64-back)
+returns-clause-identifiers c = (eui48_back, eui64_back)
 
 pub returns-clause-counted : goal.returns-clause-counted
-returns-clause-counted c = (string-back, tag-back, salt-back, hash-back)
+returns-clause-counted c = (string_back, tag_back, salt_back, hash_back)
 
 pub returns-clause-octets : goal.returns-clause-octets
-returns-clause-octets c = (octets-back, base64-back, text-back)
+returns-clause-octets c = (octets_back, base64_back, text_back)
 
 pub returns-clause-strings : goal.returns-clause-strings
-returns-clause-strings c = strings-back
+returns-clause-strings c = strings_back
 
 pub returns-clause-lists : goal.returns-clause-lists
-returns-clause-lists c = (types-back, params-back)
+returns-clause-lists c = (types_back, params_back)

@@ -1,12 +1,12 @@
 use Rattle.std.proofs.Common.{List, ℕ, [], ◌∷◌, ◌++◌, sym, ap, ◌∙◌, subst, arith}
 use Rattle.dnw_zone_svcb.specs.Params.{ParamValue}
 use Rattle.dnw_zone_svcb.specs.ParamWords.{IsParam}
-use Rattle.dnw_zone_svcb.proofs.Steps.{word-some, one-sorted}
+use Rattle.dnw_zone_svcb.proofs.Steps.{word_some, one_sorted}
 use Rattle.dnw_zone_data.specs.Words.{after_spaces, word}
 use Rattle.dnw_zone_data.specs.Inside.ParamSteps.{LeadToParams}
-use Rattle.dnw_zone_data.proofs.Empty.{is-empty}
-use Rattle.dnw_zone_data.proofs.Empty.{not-empty}
-use Rattle.dnw_zone_data.proofs.ParamWalks.{params-more, params-end, params-stop, params-twice}
+use Rattle.dnw_zone_data.proofs.Empty.{is_empty}
+use Rattle.dnw_zone_data.proofs.Empty.{not_empty}
+use Rattle.dnw_zone_data.proofs.ParamWalks.{params_more, params_end, params_stop, params_twice}
 use Rattle.dnw_zone_data.proofs.params.params_of_words.Goals as goal
 
 pub returns-in_default : goal.returns-in_default
@@ -14,7 +14,7 @@ returns-in_default c = λ listed own are _.
     let left : List ℕ = c.params.left.now in
     let no-param = rw c.in_default.is at c.in_ok-param.ensures.ok in
     let none : (p : ParamValue) → ¬ (IsParam (word left) p) = λ p is. no-param p (subst (λ (w : List ℕ). IsParam w p) (sym c.split_word.ensures.word) is) in
-    params-stop c.args.text.now c.params.invariant.0 listed left c.params.invariant.1 (not-empty left _ c.is_empty.ensures c.params-test.true) none are
+    params_stop c.args.text.now c.params.invariant.0 listed left c.params.invariant.1 (not_empty left _ c.is_empty.ensures c.params-test.true) none are
 
 pub returns-then-not-branch : goal.returns-then-not-branch
 returns-then-not-branch c = λ listed own are all.
@@ -23,7 +23,7 @@ returns-then-not-branch c = λ listed own are all.
     let p : ParamValue = c.in-Some.param in
     let is : IsParam (word left) p = subst (λ (w : List ℕ). IsParam w p) c.split_word.ensures.word found in
     let twice = rw c.if-not-branch.true at c.in_ok-insert_param.ensures.ok in
-    params-twice c.args.text.now c.params.invariant.0 listed c.params.params.items own left p c.params.invariant.1 (not-empty left _ c.is_empty.ensures c.params-test.true) is c.params.invariant.2 twice.0 are all
+    params_twice c.args.text.now c.params.invariant.0 listed c.params.params.items own left p c.params.invariant.1 (not_empty left _ c.is_empty.ensures c.params-test.true) is c.params.invariant.2 twice.0 are all
 
 pub params-preserved : goal.params-preserved
 params-preserved c =
@@ -32,18 +32,18 @@ params-preserved c =
     let found = rw c.in-Some.is at c.in_ok-param.ensures.ok in
     let p : ParamValue = c.in-Some.param in
     let is : IsParam (word left) p = subst (λ (w : List ℕ). IsParam w p) c.split_word.ensures.word found in
-    let more = params-more c.args.text.now done left p lead (not-empty left _ c.is_empty.ensures c.params-test.true) is in
+    let more = params_more c.args.text.now done left p lead (not_empty left _ c.is_empty.ensures c.params-test.true) is in
     let rest = c.after_spaces-left-in-params.ensures.rest ∙ ap after_spaces c.split_word.ensures.rest in
     let put = rw c.if-not-branch.false at c.in_ok-insert_param.ensures.ok in
-    (done ++ p ∷ [], subst (LeadToParams c.args.text.now (done ++ p ∷ [])) (sym rest) more, one-sorted done c.params.params.items p so_far ∙ put)
+    (done ++ p ∷ [], subst (LeadToParams c.args.text.now (done ++ p ∷ [])) (sym rest) more, one_sorted done c.params.params.items p so_far ∙ put)
 
 pub params-smaller : goal.params-smaller
 params-smaller c =
     let found = rw c.in-Some.is at c.in_ok-param.ensures.ok in
-    let some = word-some c.split_word.result.0.now c.in-Some.param found in
+    let some = word_some c.split_word.result.0.now c.in-Some.param found in
     omega (arith, some, c.split_word.ensures.whole, c.after_spaces-left-in-params.ensures.within)
 
 pub returns : goal.returns
 returns c =
     let (done, lead, so_far) = c.params.invariant in
-    (done, params-end c.args.text.now done c.params.left.now lead (is-empty c.params.left.now _ c.is_empty.ensures c.params-test.false), so_far)
+    (done, params_end c.args.text.now done c.params.left.now lead (is_empty c.params.left.now _ c.is_empty.ensures c.params-test.false), so_far)

@@ -1,16 +1,16 @@
 use Rattle.std.proofs.Common.{inr}
 use Rattle.std.specs.Option.{option_copied}
-use Rattle.dnw_zone_data.proofs.FieldLists.{field-missing, field-more}
+use Rattle.dnw_zone_data.proofs.FieldLists.{field_missing, field_more}
 use Rattle.dnw_zone_data.proofs.parsing.+parse_fields.Goals as goal
 
 pub returns-in_default-2-clause-err : goal.returns-in_default-2-clause-err
 returns-in_default-2-clause-err t c =
     let none = rw c.in_default-2.is at c.in_ok-rest.ensures.reads in
-    inr (field-missing (option_copied c.args.origin) c.args.place.count c.args.place.len c.args.kinds.now c.in-Some.others.now c.in-Some.kind.now c.args.left.now
+    inr (field_missing (option_copied c.args.origin) c.args.place.count c.args.place.len c.args.kinds.now c.in-Some.others.now c.in-Some.kind.now c.args.left.now
     c.after_spaces-left.result.now c.in-Some.ensures.cases.0 c.after_spaces-left.ensures.rest none)
 
 pub returns-clause-ok : goal.returns-clause-ok
 returns-clause-ok t c =
     let some = rw c.in-Some-2.is at c.in_ok-rest.ensures.reads in
-    field-more (option_copied c.args.origin) c.args.kinds.now c.in-Some.others.now c.in-Some.kind.now c.args.left.now c.after_spaces-left.result.now c.in-Some-2.rest.now
+    field_more (option_copied c.args.origin) c.args.kinds.now c.in-Some.others.now c.in-Some.kind.now c.args.left.now c.after_spaces-left.result.now c.in-Some-2.rest.now
     c.args.out.now.items c.parse_field.new.out.items c.parse_fields.new.out.items c.parse_fields.result c.in-Some.ensures.cases.0 c.after_spaces-left.ensures.rest some c.parse_fields.ensures.ok

@@ -5,9 +5,9 @@ use Rattle.dnw_zone_data.specs.Words.{after_spaces, word}
 use Rattle.dnw_zone_data.specs.Parsing.{IsStringWord}
 use Rattle.dnw_zone_data.specs.Inside.StringWords.{LeadTo}
 use Rattle.dnw_zone_data.proofs.Strings.{last}
-use Rattle.dnw_zone_data.proofs.Rests.{lead-more, no-texts, all-texts}
-use Rattle.dnw_zone_data.proofs.Empty.{is-empty}
-use Rattle.dnw_zone_data.proofs.Empty.{not-empty}
+use Rattle.dnw_zone_data.proofs.Rests.{lead_more, no_texts, all_texts}
+use Rattle.dnw_zone_data.proofs.Empty.{is_empty}
+use Rattle.dnw_zone_data.proofs.Empty.{not_empty}
 use Rattle.dnw_zone_data.proofs.parsing.parse_texts.Goals as goal
 
 pub returns-in_default : goal.returns-in_default
@@ -16,7 +16,7 @@ returns-in_default c =
     let no-string = rw c.in_default.is at c.in_ok-own.ensures.is in
     let no-word : (own : List ℕ) → ¬ (IsStringWord (word left) own) =
     λ own is. no-string own (subst (λ (w : List ℕ). IsStringWord w own) (sym c.split_word.ensures.word) is) in
-    no-texts c.args.text.now c.strings.invariant.0 left c.strings.invariant.1 (not-empty left _ c.is_empty-in-strings.ensures c.strings-test.true) no-word
+    no_texts c.args.text.now c.strings.invariant.0 left c.strings.invariant.1 (not_empty left _ c.is_empty-in-strings.ensures c.strings-test.true) no-word
 
 pub strings-preserved : goal.strings-preserved
 strings-preserved c =
@@ -27,7 +27,7 @@ strings-preserved c =
     let so_far : List ℕ = c.strings.out.items in
     let string = rw c.in-Some.is at c.in_ok-own.ensures.is in
     let is = subst (λ (xs : List ℕ). IsStringWord (word left) xs) (sym c.as_slice-octets.ensures.value) (subst (λ (w : List ℕ). IsStringWord w c.in-Some.own.items) c.split_word.ensures.word string) in
-    let lead = lead-more c.args.text.now done left own c.strings.invariant.1 (not-empty left _ c.is_empty-in-strings.ensures c.strings-test.true) is in
+    let lead = lead_more c.args.text.now done left own c.strings.invariant.1 (not_empty left _ c.is_empty-in-strings.ensures c.strings-test.true) is in
     let rest = c.after_spaces-left-in-strings.ensures.rest ∙ ap after_spaces c.split_word.ensures.rest in
     let wire : so_far ++ label_wire own ≡ old ++ flat_map label_wire (done ++ own ∷ []) =
     ap (λ (xs : List ℕ). xs ++ label_wire own) c.strings.invariant.2 ∙ append_assoc old (flat_map label_wire done) (label_wire own)
@@ -40,6 +40,6 @@ strings-preserved c =
 pub returns : goal.returns
 returns c =
     let left : List ℕ = c.strings.left.now in
-    let some = not-empty c.after_spaces-left.result.now _ c.is_empty.ensures c.if-is_empty.false in
-    all-texts c.args.text.now c.args.out.now.items c.strings.out.items left c.strings.invariant.0 c.strings.invariant.1
-    (is-empty left _ c.is_empty-in-strings.ensures c.strings-test.false) (subst (λ (xs : List ℕ). xs ≡ [] → ⊥) c.after_spaces-left.ensures.rest some) c.strings.invariant.2
+    let some = not_empty c.after_spaces-left.result.now _ c.is_empty.ensures c.if-is_empty.false in
+    all_texts c.args.text.now c.args.out.now.items c.strings.out.items left c.strings.invariant.0 c.strings.invariant.1
+    (is_empty left _ c.is_empty-in-strings.ensures c.strings-test.false) (subst (λ (xs : List ℕ). xs ≡ [] → ⊥) c.after_spaces-left.ensures.rest some) c.strings.invariant.2

@@ -3,10 +3,10 @@ use Rattle.std.specs.Net.Addr.{ipv4_octets, ipv6_segments}
 use Rattle.std.specs.Net.Grammar.{IsIpv4Text, IsIpv6Text}
 use Rattle.dnw_base.specs.RecordTypes.{type_of_text}
 use Rattle.dnw_data.specs.Values.{ipv4, ipv6, type_code, counted}
-use Rattle.dnw_zone_data.specs.Parsing.{AreOctetsOf, Spells, IsOctetsOf, IsNumberOf, IsIdentifier, eui48, eui64}
+use Rattle.dnw_zone_data.specs.Parsing.{AreOctetsOf, SpellsShown, IsOctetsOf, IsNumberOf, IsIdentifierField, eui48, eui64}
 use Rattle.std.specs.Int.{w16, to_be_bytes}
 use Rattle.std.specs.Option.{option_copied}
-use Rattle.dnw_zone_data.proofs.NumberKinds.{as-number}
+use Rattle.dnw_zone_data.proofs.NumberKinds.{as_number}
 use Rattle.dnw_zone_data.specs.Appending.{AppendsOne}
 use Rattle.dnw_zone_data.proofs.parsing.parse_word.Goals as goal
 
@@ -23,17 +23,17 @@ returns-in_default-parse_ipv6 c =
 
 pub returns-in-U48 : goal.returns-in-U48
 returns-in-U48 c =
-    let Is : List ℕ → Type 0 = λ t. IfOk c.parse_eui48.result (AppendsOne (IsIdentifier 6 eui48 t) c.args.out.now.items c.parse_eui48.new.out.items) in
+    let Is : List ℕ → Type 0 = λ t. IfOk c.parse_eui48.result (AppendsOne (IsIdentifierField 6 eui48 t) c.args.out.now.items c.parse_eui48.new.out.items) in
     rw c.in-U48.is (subst Is c.in-Ok.ensures.cases.0 c.parse_eui48.ensures)
 
 pub returns-in-U64 : goal.returns-in-U64
 returns-in-U64 c =
-    let Is : List ℕ → Type 0 = λ t. IfOk c.parse_eui64.result (AppendsOne (IsIdentifier 8 eui64 t) c.args.out.now.items c.parse_eui64.new.out.items) in
+    let Is : List ℕ → Type 0 = λ t. IfOk c.parse_eui64.result (AppendsOne (IsIdentifierField 8 eui64 t) c.args.out.now.items c.parse_eui64.new.out.items) in
     rw c.in-U64.is (subst Is c.in-Ok.ensures.cases.0 c.parse_eui64.ensures)
 
 pub returns-in-Counted : goal.returns-in-Counted
 returns-in-Counted c =
-    let Is : List ℕ → Type 0 = λ t. IfOk c.parse_counted.result (AppendsOne (AreOctetsOf (Spells c.in-Counted.shown) counted t) c.args.out.now.items c.parse_counted.new.out.items) in
+    let Is : List ℕ → Type 0 = λ t. IfOk c.parse_counted.result (AppendsOne (AreOctetsOf (SpellsShown c.in-Counted.shown) counted t) c.args.out.now.items c.parse_counted.new.out.items) in
     rw c.in-Counted.is (subst Is c.in-Ok.ensures.cases.0 c.parse_counted.ensures)
 
 pub returns-in-Octets : goal.returns-in-Octets
@@ -45,7 +45,7 @@ pub returns-in_default-kind : goal.returns-in_default-kind
 returns-in_default-kind c =
     let Is : List ℕ → Type 0 = λ t. IfOk c.parse_number.result (AppendsOne (IsNumberOf c.args.kind t) c.args.out.now.items c.parse_number.new.out.items) in
     let no = c.in_default-kind in
-    as-number (option_copied c.args.origin) c.args.kind c.args.word.now c.args.out.now.items c.parse_number.new.out.items c.parse_number.result c.in_default.not-Name no.not-Ipv4 no.not-Ipv6 no.not-TypeCode no.not-U48 no.not-U64 no.not-Counted no.not-Octets (subst Is c.in-Ok.ensures.cases.0 c.parse_number.ensures)
+    as_number (option_copied c.args.origin) c.args.kind c.args.word.now c.args.out.now.items c.parse_number.new.out.items c.parse_number.result c.in_default.not-Name no.not-Ipv4 no.not-Ipv6 no.not-TypeCode no.not-U48 no.not-U64 no.not-Counted no.not-Octets (subst Is c.in-Ok.ensures.cases.0 c.parse_number.ensures)
 
 pub returns-in_ok-extend_from_slice-in-Ipv4 : goal.returns-in_ok-extend_from_slice-in-Ipv4
 returns-in_ok-extend_from_slice-in-Ipv4 c =

@@ -5,7 +5,7 @@ use Rattle.dnw_base.specs.Names.{label_wire}
 use Rattle.dnw_zone_values.specs.Strings.{string_text}
 use Rattle.dnw_zone_svcb.specs.Inside.Steps.{IsSpaced}
 use Rattle.dnw_zone_data.specs.Printing.{strings_text}
-use Rattle.dnw_zone_data.proofs.Strings.{cut-short, last, taken}
+use Rattle.dnw_zone_data.proofs.Strings.{cut_short, last, taken}
 use Rattle.dnw_zone_data.proofs.printing.push_strings.Goals as goal
 
 spaced : (strings : List (List ℕ)) → IsSpaced (strings_text strings)
@@ -17,7 +17,7 @@ returns-in_default-split_at_checked c =
     let few = c.in_default-split_at_checked.ensures.cases in
     let whole = c.loop-len.invariant.1 ∙ ap (λ (left : List ℕ). flat_map label_wire c.loop-len.invariant.0 ++ left) c.in-Some.ensures.cases.0 in
     let strings = c.loop-len.invariant.0 in (
-      λ text own. cut-short strings own.0 c.args.octets.now c.in-Some.rest.now c.in-Some.len.now whole (omega (arith, few, c.from.ensures)) own.1,
+      λ text own. cut_short strings own.0 c.args.octets.now c.in-Some.rest.now c.in-Some.len.now whole (omega (arith, few, c.from.ensures)) own.1,
       (strings_text strings, spaced strings, c.loop-len.invariant.2),
     )
 

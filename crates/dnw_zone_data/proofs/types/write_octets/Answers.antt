@@ -2,7 +2,7 @@ use Rattle.std.proofs.Common.{◌≡◌, ◌∷◌, ◌++◌, ◌+◌, [], List,
 use Rattle.std.specs.Prelude.{string_bytes}
 use Rattle.dnw_data.specs.TypeSets.{octet_codes, octets_codes}
 use Rattle.dnw_zone_data.specs.TypeLists.{codes_text}
-use Rattle.dnw_zone_data.proofs.TypeSteps.{codes-append}
+use Rattle.dnw_zone_data.proofs.TypeSteps.{codes_append}
 use Rattle.dnw_zone_data.proofs.types.write_octets.Goals as goal
 
 more : (old mid new left rest whole : List ℕ) (code octet : ℕ) → left ≡ octet ∷ rest → mid ≡ old ++ codes_text (octet_codes code octet)
@@ -10,7 +10,7 @@ more : (old mid new left rest whole : List ℕ) (code octet : ℕ) → left ≡ 
 more old mid new left rest whole code octet first e so_far =
     ap (λ (xs : List ℕ). xs ++ codes_text (octets_codes (code + 8) rest)) e
     ∙ append_assoc old (codes_text (octet_codes code octet)) (codes_text (octets_codes (code + 8) rest))
-    ∙ ap (λ (xs : List ℕ). old ++ xs) (sym (codes-append (octet_codes code octet) (octets_codes (code + 8) rest)))
+    ∙ ap (λ (xs : List ℕ). old ++ xs) (sym (codes_append (octet_codes code octet) (octets_codes (code + 8) rest)))
     ∙ ap (λ (xs : List ℕ). old ++ codes_text (octets_codes code xs)) (sym first) ∙ so_far
 
 pub loop-octet-preserved : goal.loop-octet-preserved

@@ -4,7 +4,7 @@ use Rattle.std.proofs.Math.Nat.{sub-zero}
 use Rattle.std.proofs.lemmas.List.{map-append}
 use Rattle.std.proofs.lemmas.Result.{err_from_is_err_and}
 use Rattle.std.specs.Str.{chars}
-use Rattle.dnw_zone_lexer.specs.Tokens.{before, from, ends_word}
+use Rattle.dnw_zone_lexer.specs.Tokens.{front_until, from, ends_word}
 use Rattle.dnw_zone_lexer.specs.Lexing.{characters}
 use Rattle.dnw_zone_lexer.proofs.Cuts.{cut_some}
 use Rattle.dnw_zone_lexer.proofs.Steps.{list_after_begin, no_end, word_may}
@@ -20,9 +20,9 @@ loop-c-preserved c =
     let inside = no_end c.in-Some.c (sym c.is_whitespace.ensures ∙ c.if-is_whitespace.false) c.if-c-eq41.false c.if-c-eq59.false (sym c.is_control.ensures ∙ c.if-is_control.false) in
     let left = chars c.loop-c.left.now in
     let taken = rw sub-zero at c.range.ensures.value in
-    let word : characters c.in_ok-copied.field-0 ≡ before ends_word left = ap chars (c.in_ok-copied.ensures.ok ∙ taken) ∙ c.word_len-len.ensures.front in
+    let word : characters c.in_ok-copied.field-0 ≡ front_until ends_word left = ap chars (c.in_ok-copied.ensures.ok ∙ taken) ∙ c.word_len-len.ensures.front in
     let items = map characters c.loop-c.words.items in
-    let words : map characters c.push.new.self.items ≡ items ++ before ends_word left ∷ [] =
+    let words : map characters c.push.new.self.items ≡ items ++ front_until ends_word left ∷ [] =
     ap (map characters) c.in_ok-push.ensures.items ∙ map-append characters c.loop-c.words.items (c.in_ok-copied.field-0 ∷ []) ∙ ap (λ (w : List ℕ). items ++ w ∷ []) word
     in
     let back : chars c.range_from-left-else-is_control.result.now ≡ from ends_word left = ap chars c.range_from-left-else-is_control.ensures.value ∙ c.word_len-len.ensures.back in

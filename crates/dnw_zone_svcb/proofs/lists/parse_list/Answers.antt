@@ -1,8 +1,8 @@
 use Rattle.std.proofs.Common.{List, ℕ, ◌++◌, ◌∷◌, [], sym, subst}
 use Rattle.dnw_zone_svcb.specs.CommaLists.{items_of}
 use Rattle.dnw_zone_svcb.specs.ParamValues.{IsItem}
-use Rattle.dnw_zone_svcb.specs.Inside.Steps.{TakesItem}
-use Rattle.dnw_zone_svcb.proofs.Steps.{after_nil, item-more, no-list, last-item, next-item}
+use Rattle.dnw_zone_svcb.specs.Inside.Steps.{TakesListItem}
+use Rattle.dnw_zone_svcb.proofs.Steps.{after_nil, item_more, no_list, last_item, next_item}
 use Rattle.dnw_zone_svcb.proofs.lists.parse_list.Goals as goal
 
 pub items-init : goal.items-init
@@ -14,7 +14,7 @@ returns-then-not-branch c = λ own is.
     let no-own = rw c.if-not-branch.true at c.in_ok-push_item.ensures in
     let none : (first : List ℕ) → ¬ (IsItem c.args.list item first) =
     λ first here. no-own first (subst (λ (xs : List ℕ). IsItem c.args.list xs first) (sym c.as_slice.ensures.value) here) in
-    no-list c.args.list c.args.text.now c.items.left.now c.items.invariant.0 item own c.in_ok-after.after c.in_default.not-Fault c.in_ok-after.ensures c.items.invariant.1 none is
+    no_list c.args.list c.args.text.now c.items.left.now c.items.invariant.0 item own c.in_ok-after.after c.in_default.not-Fault c.in_ok-after.ensures c.items.invariant.1 none is
 
 pub returns-in_default-after : goal.returns-in_default-after
 returns-in_default-after c =
@@ -23,8 +23,8 @@ returns-in_default-after c =
     let (own, is, e) = rw c.if-not-branch.false at c.in_ok-push_item.ensures in
     let here : IsItem c.args.list item own = subst (λ (xs : List ℕ). IsItem c.args.list xs own) c.as_slice.ensures.value is in (
       done ++ item ∷ [],
-      last-item c.args.text.now c.items.left.now done item c.in_ok-after.after c.in_default.not-Fault c.in_default-after.not-Items c.in_ok-after.ensures so_far,
-      item-more c.args.list done c.items.own.items own c.push_item.new.out.items item are here e,
+      last_item c.args.text.now c.items.left.now done item c.in_ok-after.after c.in_default.not-Fault c.in_default-after.not-Items c.in_ok-after.ensures so_far,
+      item_more c.args.list done c.items.own.items own c.push_item.new.out.items item are here e,
     )
 
 pub items-preserved : goal.items-preserved
@@ -33,8 +33,8 @@ items-preserved c =
     let (done, so_far, are) = c.items.invariant in
     let (own, is, e) = rw c.if-not-branch.false at c.in_ok-push_item.ensures in
     let here : IsItem c.args.list item own = subst (λ (xs : List ℕ). IsItem c.args.list xs own) c.as_slice.ensures.value is in
-    let takes = subst (λ a. TakesItem c.items.left.now item a) c.in-Items.is c.in_ok-after.ensures in (
+    let takes = subst (λ a. TakesListItem c.items.left.now item a) c.in-Items.is c.in_ok-after.ensures in (
       done ++ item ∷ [],
-      next-item c.args.text.now c.items.left.now c.in-Items.rest.now done item takes.0 so_far,
-      item-more c.args.list done c.items.own.items own c.push_item.new.out.items item are here e,
+      next_item c.args.text.now c.items.left.now c.in-Items.rest.now done item takes.0 so_far,
+      item_more c.args.list done c.items.own.items own c.push_item.new.out.items item are here e,
     )

@@ -1,6 +1,6 @@
 use Rattle.std.proofs.Common.{◌≡◌, List, ◌++◌, ◌∷◌, [], sym, ap, ◌∙◌, arith, append_assoc, length-append}
 use Rattle.dnw_zone_svcb.specs.Params.{ParamValue}
-use Rattle.dnw_zone_svcb.proofs.Steps.{place-more}
+use Rattle.dnw_zone_svcb.proofs.Steps.{place_more}
 use Rattle.dnw_zone_svcb.proofs.param.place_of.Goals as goal
 
 pub loop-first-preserved : goal.loop-first-preserved
@@ -14,5 +14,5 @@ loop-first-preserved c =
       done ++ q ∷ [],
       parts ∙ ap (λ (xs : List ParamValue). done ++ xs) e ∙ sym (append_assoc done (q ∷ []) rest),
       omega (arith, at, length-append done (q ∷ [])),
-      λ octets. place-more c.args.key octets done left rest q _ e (λ same. c.if-key-first.false (same ∙ sym key)) (omega (arith, key, c.if-key-first-2.false)) (so_far octets),
+      λ octets. place_more c.args.key octets done left rest q _ e (λ same. c.if-key-first.false (same ∙ sym key)) (omega (arith, key, c.if-key-first-2.false)) (so_far octets),
     )

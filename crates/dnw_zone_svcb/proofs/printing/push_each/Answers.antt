@@ -1,7 +1,7 @@
 use Rattle.std.proofs.Common.{◌≡◌, ◌++◌, ◌∷◌, [], List, ℕ, take, drop, sym, ap, ◌∙◌, append_assoc, append-nil, length, length-drop, arith}
 use Rattle.std.specs.Prelude.{string_bytes}
 use Rattle.dnw_zone_svcb.specs.ParamTexts.{param_text, params_text}
-use Rattle.dnw_zone_svcb.proofs.Steps.{after_nil, params-more, spaced-more}
+use Rattle.dnw_zone_svcb.proofs.Steps.{after_nil, params_more, spaced_more}
 use Rattle.dnw_zone_svcb.proofs.printing.push_each.Goals as goal
 
 pub loop-key-init : goal.loop-key-init
@@ -18,7 +18,7 @@ loop-key-preserved c =
     let r2 : List ℕ = c.in-Some-split_u16.rest.now in
     let size : c.from.result ≡ c.in-Some-split_u16.len = c.from.ensures in
     let (m, shorter, more) =
-    params-more c.args.octets.now c.loop-key.left.now c.in-Some.rest.now r2 own c.in-Some-split_at_checked.after.now found n c.in-Some.key c.in-Some-split_u16.len a b x y so_far few first second key len
+    params_more c.args.octets.now c.loop-key.left.now c.in-Some.rest.now r2 own c.in-Some-split_at_checked.after.now found n c.in-Some.key c.in-Some-split_u16.len a b x y so_far few first second key len
     (parts.1 ∙ ap (λ (k : ℕ). take k r2) size) (parts.2 ∙ ap (λ (k : ℕ). drop k r2) size) (omega (arith, parts.0, size)) in
     let param = param_text c.in-Some.key own in
     let space = c.in_ok-push.ensures.ascii (omega arith) in
@@ -26,4 +26,4 @@ loop-key-preserved c =
     let old : List ℕ = string_bytes c.args.out.now in
     let whole : (before ++ 32 ∷ []) ++ param ≡ old ++ (found ++ 32 ∷ param) =
     append_assoc before (32 ∷ []) param ∙ ap (λ (xs : List ℕ). xs ++ 32 ∷ param) text ∙ append_assoc old found (32 ∷ param) in
-    (m, found ++ 32 ∷ param, shorter, more, c.in_ok-write_param.ensures ∙ rw (c.in_ok-push.ensures.bytes, space) whole, spaced-more found param spaced, omega (arith, within, ap length first, ap length second, ap length parts.2, length-drop c.from.result r2))
+    (m, found ++ 32 ∷ param, shorter, more, c.in_ok-write_param.ensures ∙ rw (c.in_ok-push.ensures.bytes, space) whole, spaced_more found param spaced, omega (arith, within, ap length first, ap length second, ap length parts.2, length-drop c.from.result r2))

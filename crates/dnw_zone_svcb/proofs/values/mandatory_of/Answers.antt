@@ -2,7 +2,7 @@ use Rattle.std.proofs.Common.{◌≡◌, List, ℕ, [], None, Some, sym, ap, ◌
 use Rattle.dnw_zone_svcb.specs.declared.lists.ListValue.TheVariants.{Keys}
 use Rattle.dnw_zone_svcb.specs.Params.{in_key_order}
 use Rattle.dnw_zone_svcb.specs.ParamWords.{keys_of}
-use Rattle.dnw_zone_svcb.proofs.Steps.{one-list}
+use Rattle.dnw_zone_svcb.proofs.Steps.{one_list}
 use Rattle.dnw_zone_svcb.proofs.values.mandatory_of.Goals as goal
 
 pub returns-in_default : goal.returns-in_default
@@ -12,6 +12,6 @@ pub returns-in_default-2 : goal.returns-in_default-2
 returns-in_default-2 c = λ own is.
     let none = rw c.in_default-2.is at c.in_ok-keys.ensures in
     let listed = rw c.in-Some.is at c.in_ok-listed.ensures in
-    let same : is.0 ≡ c.in-Some.listed.items = one-list Keys c.args.value.now is.0 c.in-Some.listed.items is.2 listed in
+    let same : is.0 ≡ c.in-Some.listed.items = one_list Keys c.args.value.now is.0 c.in-Some.listed.items is.2 listed in
     let no : None ≡ Some is.1 = sym none ∙ ap (λ (xs : List ℕ). in_key_order [] (keys_of xs)) (c.as_slice.ensures.value ∙ sym same) ∙ is.3 in
     cc

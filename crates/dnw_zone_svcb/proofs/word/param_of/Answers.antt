@@ -1,7 +1,7 @@
 use Rattle.std.proofs.Common.{◌≡◌, List, ℕ, length, Some, inl, inr, sym, ap, ◌∙◌, subst, arith}
 use Rattle.dnw_zone_svcb.specs.ParamKeys.{form_of}
 use Rattle.dnw_zone_svcb.specs.ParamWords.{IsOwnValue}
-use Rattle.dnw_zone_svcb.proofs.Steps.{one-value}
+use Rattle.dnw_zone_svcb.proofs.Steps.{one_value}
 use Rattle.dnw_zone_svcb.proofs.word.param_of.Goals as goal
 
 pub returns-then-len-gt-MAX_VALUE-clause-ok : goal.returns-then-len-gt-MAX_VALUE-clause-ok
@@ -14,7 +14,7 @@ returns-then-len-gt-MAX_VALUE-clause-ok c = λ p is. elim is [
       let found = rw c.in-Some-2.is at c.in_ok-octets.ensures.ok in
       let mine = subst (λ (xs : List ℕ). IsOwnValue c.form_of.result xs c.in-Some-2.octets.items) c.as_slice.ensures.value found in
       let same : p.octets ≡ c.in-Some-2.octets.items =
-      one-value c.form_of.result own p.octets c.in-Some-2.octets.items (subst (λ f. IsOwnValue f own p.octets) form named.1) mine in
+      one_value c.form_of.result own p.octets c.in-Some-2.octets.items (subst (λ f. IsOwnValue f own p.octets) form named.1) mine in
       omega (arith, named.2, ap length same, c.len.ensures, c.if-len-gt-MAX_VALUE.true)
   | inr generic ↦ c.in_default.ensures p.key generic.0
 ]

@@ -1,5 +1,5 @@
 use Rattle.dnw_data.specs.declared.kind.Kind.TheVariants.{Name}
-use Rattle.dnw_data.proofs.Taking.{accepts, rejects, as-field}
+use Rattle.dnw_data.proofs.Taking.{accepts, rejects, as_field}
 use Rattle.dnw_data.proofs.field.Field.read.Goals as goal
 
 pub returns-in-Name-clause-accepts : goal.returns-in-Name-clause-accepts
@@ -12,7 +12,7 @@ returns-in-Name-clause-fails c error h =
 
 pub returns-in_default : goal.returns-in_default
 returns-in_default c =
-    let (ok, err) = as-field c.args.kind c.in_default.not-Name c.args.reader.now _ c.read_own.result c.read_own.ensures.ok c.read_own.ensures.err in
+    let (ok, err) = as_field c.args.kind c.in_default.not-Name c.args.reader.now _ c.read_own.result c.read_own.ensures.ok c.read_own.ensures.err in
     record {
       ok = ok;
       err = err;

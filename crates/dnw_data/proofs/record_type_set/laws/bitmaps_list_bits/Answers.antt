@@ -1,13 +1,13 @@
 use Rattle.dnw_data.proofs.Few.{bitmaps_list_few}
-use Rattle.dnw_data.proofs.Listed.{windows-list}
-use Rattle.dnw_data.proofs.Windows.{bitmaps-are}
+use Rattle.dnw_data.proofs.Listed.{windows_list}
+use Rattle.dnw_data.proofs.Windows.{bitmaps_are}
 use Rattle.dnw_data.proofs.record_type_set.laws.bitmaps_list_bits.Goals as goal
 
 pub returns-clause-windows : goal.returns-clause-windows
-returns-clause-windows c = bitmaps-are
+returns-clause-windows c = bitmaps_are
 
 pub returns-clause-bits : goal.returns-clause-bits
-returns-clause-bits c = windows-list
+returns-clause-bits c = windows_list
 
 pub returns-clause-few : goal.returns-clause-few
 returns-clause-few c = bitmaps_list_few

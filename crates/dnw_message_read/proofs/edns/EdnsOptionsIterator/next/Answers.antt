@@ -1,12 +1,12 @@
 use Rattle.std.proofs.Common.{length, sym, ap, ◌∙◌, arith}
-use Rattle.dnw_message_read.proofs.Extension.{options-after, options-first}
+use Rattle.dnw_message_read.proofs.Extension.{options_after, options_first}
 use Rattle.dnw_message_read.proofs.edns.EdnsOptionsIterator.next.Goals as goal
 
 pub returns-clause-steps : goal.returns-clause-steps
-returns-clause-steps c = sym c.self.view_is ∙ options-first _ _ _ c.in_ok-option.ensures c.self.invariant
+returns-clause-steps c = sym c.self.view_is ∙ options_first _ _ _ c.in_ok-option.ensures c.self.invariant
 
 pub invariant_of-self : goal.invariant_of-self
-invariant_of-self c = options-after _ _ _ c.in_ok-option.ensures c.self.invariant
+invariant_of-self c = options_after _ _ _ c.in_ok-option.ensures c.self.invariant
 
 pub returns-clause-goes : goal.returns-clause-goes
 returns-clause-goes c =

@@ -2,7 +2,7 @@ use Rattle.std.proofs.Common.{◌/◌, ◌%◌, ◌^◌, ◌==◌, max, sym, ap,
 use Rattle.std.specs.Int.{bit_at}
 use Rattle.dnw_base.specs.DnsClasses.{class_code}
 use Rattle.dnw_base.specs.Limits.{min_payload}
-use Rattle.dnw_message_read.proofs.Extension.{options-there}
+use Rattle.dnw_message_read.proofs.Extension.{options_there}
 use Rattle.dnw_message_read.proofs.edns.EdnsRef.read.Goals as goal
 
 pub returns-clause-ok : goal.returns-clause-ok
@@ -15,5 +15,5 @@ returns-clause-ok c =
       ap (λ n. bit_at n 15 == 1) ttl,
       c.rdata_offset.ensures,
       c.rdata-options.ensures.len,
-      options-there c.rdata-options.result.now _ c.rdata-options.ensures.octets (c.are_options.ensures.0 c.if-not-are_options.false),
+      options_there c.rdata-options.result.now _ c.rdata-options.ensures.octets (c.are_options.ensures.0 c.if-not-are_options.false),
     )

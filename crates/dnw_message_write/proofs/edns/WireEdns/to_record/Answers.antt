@@ -1,7 +1,7 @@
 -- The options are data of the type as they are.
 use Rattle.std.proofs.Common.{refl, ap, ◌∙◌}
 use Rattle.dnw_base.specs.Names.{NameValue}
-use Rattle.dnw_message_write.proofs.EdnsBack.{opt-data}
+use Rattle.dnw_message_write.proofs.EdnsBack.{opt_data}
 use Rattle.dnw_message_write.proofs.edns.WireEdns.to_record.Goals as goal
 
 pub returns-clause-ok : goal.returns-clause-ok
@@ -10,7 +10,7 @@ returns-clause-ok c = record {
   record_type = c.in-Ok.ensures.ok.0;
   class = refl;
   ttl = c.ttl_of.ensures.value;
-  octets = c.in-Ok.ensures.kept (opt-data c.as_slice.result.now) ∙ (c.as_slice.ensures.value ∙ c.in_ok-options.ensures.ok.0);
+  octets = c.in-Ok.ensures.kept (opt_data c.as_slice.result.now) ∙ (c.as_slice.ensures.value ∙ c.in_ok-options.ensures.ok.0);
   fit = c.ttl_of.ensures.fit;
   options = c.in_ok-options.ensures.ok.1;
 }

@@ -4,7 +4,7 @@ use Rattle.dnw_record.specs.Records.{RecordValue}
 use Rattle.dnw_message_write.specs.declared.section.Section.TheVariants.{Additionals}
 use Rattle.dnw_message_write.specs.Copies.{plain_in}
 use Rattle.dnw_message_write.specs.Drafts.{Draft}
-use Rattle.dnw_message_write.proofs.Copying.{IsCopying, copied-one, left-out, plain-kept, plain-out}
+use Rattle.dnw_message_write.proofs.Copying.{IsCopying, copied-one, left-out, plain_kept, plain_out}
 use Rattle.dnw_message_write.proofs.writer.copying.copy_additionals.Goals as goal
 
 pub records-preserved-in-Continue-1 : goal.records-preserved-in-Continue-1
@@ -15,7 +15,7 @@ records-preserved-in-Continue-1 c =
     let m : Draft = record { header = c.copy_record.new.header; encoder = value c.copy_record.new.encoder } in
     let here = subst (λ (xs : List RecordValue). IsCopying Additionals plain_in c.args.records xs start now) is c.records.invariant.0 in (
       copied-one Additionals plain_in c.args.records c.in-Some.record c.next.new.self start now here m
-          (plain-kept c.in-Some.record c.next.new.self (sym c.is_opt.ensures ∙ c.if-not-is_opt.true)) c.in_ok-copy_record.ensures.ok,
+          (plain_kept c.in-Some.record c.next.new.self (sym c.is_opt.ensures ∙ c.if-not-is_opt.true)) c.in_ok-copy_record.ensures.ok,
       c.in_ok-copy_record.ensures.lender ∙ c.records.invariant.1,
     )
 
@@ -26,6 +26,6 @@ records-preserved c =
     let now : Draft = record { header = c.records.header; encoder = value c.records.encoder } in
     let here = subst (λ (xs : List RecordValue). IsCopying Additionals plain_in c.args.records xs start now) is c.records.invariant.0 in (
       left-out Additionals plain_in c.args.records c.in-Some.record c.next.new.self start now here
-          (plain-out c.in-Some.record c.next.new.self (sym c.is_opt.ensures ∙ c.if-not-is_opt.false)),
+          (plain_out c.in-Some.record c.next.new.self (sym c.is_opt.ensures ∙ c.if-not-is_opt.false)),
       c.records.invariant.1,
     )

@@ -8,33 +8,33 @@ use Rattle.dnw_message_header.specs.declared.header.Header.{Header}
 use Rattle.dnw_message_write.specs.declared.section.Section.TheVariants.{Additionals, Answers, Authorities}
 use Rattle.dnw_message_write.specs.Copies.{AddsCopies, AddsItems, BeginsBefore, FailsCopies, IsCopied, plain_in, query_entry}
 use Rattle.dnw_message_write.specs.Drafts.{Draft}
-use Rattle.dnw_message_write.proofs.Copying.{in-additionals, in-answers, in-authorities, last-fails, passes-last, passes-memory, passes-on, whole-copied}
+use Rattle.dnw_message_write.proofs.Copying.{in_additionals, in_answers, in_authorities, last_fails, passes_last, passes_memory, passes_on, whole_copied}
 use Rattle.dnw_message_write.proofs.writer.copying.copy_into.Goals as goal
 
 pub returns-in_err-last-clause-err : goal.returns-in_err-last-clause-err
 returns-in_err-last-clause-err c =
-    passes-last c.from_residual.result c.in_err-last.field-0.0 c.args.message.now c.args.max_size c.from_residual.ensures.1 c.in_err-last.ensures.err
+    passes_last c.from_residual.result c.in_err-last.field-0.0 c.args.message.now c.args.max_size c.from_residual.ensures.1 c.in_err-last.ensures.err
 
 pub returns-in_err-copy_records-clause-err : goal.returns-in_err-copy_records-clause-err
 returns-in_err-copy_records-clause-err c =
     let r = c.from_residual-in_err-copy_records in
     let error = c.in_err-copy_records.field-0.0 in
-    passes-on r.result error c.args.message.now c.args.max_size r.ensures.1
-    (in-answers c.args.message.now error (subst (λ (xs : List RecordValue). FailsCopies xs error) c.answers.ensures c.in_err-copy_records.ensures.err))
+    passes_on r.result error c.args.message.now c.args.max_size r.ensures.1
+    (in_answers c.args.message.now error (subst (λ (xs : List RecordValue). FailsCopies xs error) c.answers.ensures c.in_err-copy_records.ensures.err))
 
 pub returns-in_err-copy_records-2-clause-err : goal.returns-in_err-copy_records-2-clause-err
 returns-in_err-copy_records-2-clause-err c =
     let r = c.from_residual-in_err-copy_records-2 in
     let error = c.in_err-copy_records-2.field-0.0 in
-    passes-on r.result error c.args.message.now c.args.max_size r.ensures.1
-    (in-authorities c.args.message.now error (subst (λ (xs : List RecordValue). FailsCopies xs error) c.authorities.ensures c.in_err-copy_records-2.ensures.err))
+    passes_on r.result error c.args.message.now c.args.max_size r.ensures.1
+    (in_authorities c.args.message.now error (subst (λ (xs : List RecordValue). FailsCopies xs error) c.authorities.ensures c.in_err-copy_records-2.ensures.err))
 
 pub returns-in_err-copy_additionals-clause-err : goal.returns-in_err-copy_additionals-clause-err
 returns-in_err-copy_additionals-clause-err c =
     let r = c.from_residual-in_err-copy_additionals in
     let error = c.in_err-copy_additionals.field-0.0 in
-    passes-on r.result error c.args.message.now c.args.max_size r.ensures.1
-    (in-additionals c.args.message.now error (subst (λ (xs : List RecordValue). FailsCopies xs error) c.additionals.ensures c.in_err-copy_additionals.ensures.err))
+    passes_on r.result error c.args.message.now c.args.max_size r.ensures.1
+    (in_additionals c.args.message.now error (subst (λ (xs : List RecordValue). FailsCopies xs error) c.additionals.ensures c.in_err-copy_additionals.ensures.err))
 
 pub returns-in_err-add_last-clause-err : goal.returns-in_err-add_last-clause-err
 returns-in_err-add_last-clause-err c =
@@ -57,8 +57,8 @@ returns-in_err-add_last-clause-err c =
     let additionals = subst (λ (xs : List RecordValue). AddsCopies Additionals (plain_in xs) u d) c.additionals.ensures c.in_ok-copy_additionals.ensures.ok in
     let r = c.from_residual-in_err-add_last in
     let error = c.in_err-add_last.field-0.0 in
-    passes-memory r.result error m c.args.max_size r.ensures.1
-    (last-fails m c.args.max_size last header start q a u d f error (omega (arith, c.ranges.max_size.fits)) begins queries answers authorities additionals c.in_err-add_last.ensures.adds)
+    passes_memory r.result error m c.args.max_size r.ensures.1
+    (last_fails m c.args.max_size last header start q a u d f error (omega (arith, c.ranges.max_size.fits)) begins queries answers authorities additionals c.in_err-add_last.ensures.adds)
 
 pub returns-clause-ok : goal.returns-clause-ok
 returns-clause-ok c =
@@ -81,5 +81,5 @@ returns-clause-ok c =
     let additionals = subst (λ (xs : List RecordValue). AddsCopies Additionals (plain_in xs) u d) c.additionals.ensures c.in_ok-copy_additionals.ensures.ok in
     let w = value c.close.new.encoder in
     subst (IsCopied m c.args.max_size) (search rules)
-    (whole-copied m c.args.max_size last header start q a u d f w.bytes (omega (arith, c.ranges.max_size.fits)) c.in_ok-last.ensures.ok.0 c.in_ok-last.ensures.ok.1 begins queries answers authorities additionals
+    (whole_copied m c.args.max_size last header start q a u d f w.bytes (omega (arith, c.ranges.max_size.fits)) c.in_ok-last.ensures.ok.0 c.in_ok-last.ensures.ok.1 begins queries answers authorities additionals
     c.in_ok-add_last.ensures.adds (w, c.close.ensures.closes, refl))

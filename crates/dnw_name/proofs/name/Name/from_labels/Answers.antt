@@ -1,9 +1,9 @@
 use Rattle.std.proofs.Common.{[], ◌∷◌, inl, Ok, sym, ap, subst, arith, length-append}
 use Rattle.std.proofs.lemmas.List.{map-append}
 use Rattle.std.proofs.lemmas.Result.{err_from_is_err_and}
-use Rattle.dnw_name_form.proofs.EditLemmas.{FailsOr-bind}
+use Rattle.dnw_name_form.proofs.EditLemmas.{FailsOr_bind}
 use Rattle.dnw_name.specs.Inside.Joined.{HasJoined}
-use Rattle.dnw_name.proofs.Joins.{made-few}
+use Rattle.dnw_name.proofs.Joins.{made_few}
 use Rattle.dnw_name.proofs.name.Name.from_labels.Goals as goal
 
 pub loop-label-init : goal.loop-label-init
@@ -17,7 +17,7 @@ pub add-requires : goal.add-requires
 add-requires g c =
     let seen = c.loop-label.invariant in
     let (can, finite, less) = c.in-Some.ensures.goes.on seen.finite in
-    omega (arith, seen.few, seen.joined.count, made-few g.L.IntoLabel.label_of c.loop-label.yielded, less)
+    omega (arith, seen.few, seen.joined.count, made_few g.L.IntoLabel.label_of c.loop-label.yielded, less)
 
 pub loop-label-preserved : goal.loop-label-preserved
 loop-label-preserved g c =
@@ -37,7 +37,7 @@ returns-in_err-finish g c =
       joins = (
         c.into_iter-label-iterator.result,
         c.into_iter-label-iterator.ensures.into_iter_gives,
-        inl (c.loop-label.yielded, (c.next.new.self, (c.loop-label.label-iterator, c.loop-label.yielded_by, c.in-None.ensures.steps)), rw (p.1, p.2) (FailsOr-bind _ _ _ (c.in_err-finish.ensures.follows _ c.loop-label.invariant.joined))),
+        inl (c.loop-label.yielded, (c.next.new.self, (c.loop-label.label-iterator, c.loop-label.yielded_by, c.in-None.ensures.steps)), rw (p.1, p.2) (FailsOr_bind _ _ _ (c.in_err-finish.ensures.follows _ c.loop-label.invariant.joined))),
       );
     }
 

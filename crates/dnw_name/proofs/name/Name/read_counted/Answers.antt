@@ -1,10 +1,10 @@
 use Rattle.std.proofs.Common.{refl}
 use Rattle.std.proofs.lemmas.Result.{err_from_is_err_and}
-use Rattle.dnw_name_read.proofs.Takes.{TakesName-not-StopsAt, no_memory}
+use Rattle.dnw_name_read.proofs.Takes.{TakesName_not_StopsAt, no_memory}
 use Rattle.dnw_name.proofs.name.Name.read_counted.Goals as goal
 
 pub returns-in_err-name-clause-accepts : goal.returns-in_err-name-clause-accepts
-returns-in_err-name-clause-accepts c after ls k takes = absurd (TakesName-not-StopsAt takes c.in_err-name.ensures.err)
+returns-in_err-name-clause-accepts c after ls k takes = absurd (TakesName_not_StopsAt takes c.in_err-name.ensures.err)
 
 pub returns-in_err-name-clause-no_memory : goal.returns-in_err-name-clause-no_memory
 returns-in_err-name-clause-no_memory c =

@@ -1,12 +1,12 @@
 use Rattle.std.proofs.Common.{refl}
 use Rattle.std.proofs.lemmas.Result.{err_from_is_err_and}
-use Rattle.dnw_name_read.proofs.Takes.{TakesName-not-StopsAt, no_memory}
+use Rattle.dnw_name_read.proofs.Takes.{TakesName_not_StopsAt, no_memory}
 use Rattle.dnw_name.proofs.name.Name.read_into.Goals as goal
 
 pub returns-in_err-name-clause-accepts : goal.returns-in_err-name-clause-accepts
 returns-in_err-name-clause-accepts c after ls k takes =
     let (pointers, labels, stops) = c.in_err-name.ensures.err in
-    absurd (TakesName-not-StopsAt takes stops)
+    absurd (TakesName_not_StopsAt takes stops)
 
 pub returns-in_err-name-clause-no_memory : goal.returns-in_err-name-clause-no_memory
 returns-in_err-name-clause-no_memory c =

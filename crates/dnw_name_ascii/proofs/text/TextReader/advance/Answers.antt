@@ -5,7 +5,7 @@ use Rattle.std.proofs.lemmas.Result.{err_from_is_err_and}
 use Rattle.dnw_base.specs.Fault.{◌>>=◌}
 use Rattle.dnw_name_ascii.specs.NameText.{Outside}
 use Rattle.dnw_name_ascii.specs.Inside.TextReader.{name_from, name_from_rest}
-use Rattle.dnw_name_form.proofs.EditLemmas.{FailsOr-any, FailsOr-bind}
+use Rattle.dnw_name_form.proofs.EditLemmas.{FailsOr_any, FailsOr_bind}
 use Rattle.dnw_name_ascii.proofs.text.TextReader.advance.Goals as goal
 
 pub returns-in_err-push-clause-err : goal.returns-in_err-push-clause-err
@@ -15,7 +15,7 @@ returns-in_err-push-clause-err c =
     let read = (c.whole_label_len-len.ensures.label (omega (arith, c.if-len-eq0.false))).read c.args.self.now.form in
     let fails = rw c.as_bytes.ensures.value at c.in_err-push.ensures.updates in
     let p = err_from_is_err_and c.from_residual.result c.from_residual.ensures.1 in
-    rw (p.1, p.2, label, state, read) (FailsOr-bind _ _ _ (FailsOr-any _ _ fails.0))
+    rw (p.1, p.2, label, state, read) (FailsOr_bind _ _ _ (FailsOr_any _ _ fails.0))
 
 pub returns-clause-ok : goal.returns-clause-ok
 unfolding name_from

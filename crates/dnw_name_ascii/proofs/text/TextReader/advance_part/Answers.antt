@@ -3,18 +3,18 @@ use Rattle.std.proofs.Common.{◌∙◌}
 use Rattle.std.proofs.lemmas.Result.{err_from_is_err_and}
 use Rattle.std.proofs.Math.Nat.{sub-zero}
 use Rattle.std.proofs.lemmas.Str.{chars_past_char}
-use Rattle.dnw_name_ascii.proofs.TextReading.{name_from-begins}
+use Rattle.dnw_name_ascii.proofs.TextReading.{name_from_begins}
 use Rattle.dnw_name_ascii.proofs.text.TextReader.advance_part.Goals as goal
 
 pub returns-in-Some-clause-ok : goal.returns-in-Some-clause-ok
 returns-in-Some-clause-ok c =
     c.take_escapes.ensures.name
-    ∙ rw c.range_from.ensures.value (name_from-begins c.args.self.now _ _ _ 4 c.in-Outside.is c.in-Some.ensures c.push.ensures.alike)
+    ∙ rw c.range_from.ensures.value (name_from_begins c.args.self.now _ _ _ 4 c.in-Outside.is c.in-Some.ensures c.push.ensures.alike)
 
 pub returns-then-run-gt0-clause-ok : goal.returns-then-run-gt0-clause-ok
 returns-then-run-gt0-clause-ok c =
     let alike = simp (c.range.ensures.value, sub-zero) at c.push_run.ensures.alike in
-    rw c.range_from-then-run-gt0.ensures.value (name_from-begins c.args.self.now _ _ _ _ c.in-Outside.is c.run_of-run.ensures alike)
+    rw c.range_from-then-run-gt0.ensures.value (name_from_begins c.args.self.now _ _ _ _ c.in-Outside.is c.run_of-run.ensures alike)
 
 pub returns-in_err-take-clause-err : goal.returns-in_err-take-clause-err
 returns-in_err-take-clause-err c =

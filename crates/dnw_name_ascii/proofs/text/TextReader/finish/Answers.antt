@@ -3,7 +3,7 @@ use Rattle.std.proofs.Common.{refl, sym, ◌∙◌}
 use Rattle.std.proofs.lemmas.Bool.{eqb-true}
 use Rattle.std.proofs.lemmas.Result.{err_from_is_err_and}
 use Rattle.dnw_name_ascii.specs.Inside.TextReader.{name_from}
-use Rattle.dnw_name_form.proofs.EditLemmas.{FailsOr-bind}
+use Rattle.dnw_name_form.proofs.EditLemmas.{FailsOr_bind}
 use Rattle.dnw_name_ascii.proofs.TextReading.{at_end, at_last}
 use Rattle.dnw_name_ascii.proofs.text.TextReader.finish.Goals as goal
 
@@ -16,7 +16,7 @@ pub returns-in_err-add_label : goal.returns-in_err-add_label
 unfolding name_from
 returns-in_err-add_label c =
     let p = err_from_is_err_and c.from_residual.result c.from_residual.ensures.1 in
-    rw (p.1, p.2, c.in-Outside.is, at_last c.args.self.form c.args.self.label (sym c.is_empty.ensures ∙ c.if-is_empty.false)) (record { follows = FailsOr-bind _ _ _ c.in_err-add_label.ensures.updates.0 })
+    rw (p.1, p.2, c.in-Outside.is, at_last c.args.self.form c.args.self.label (sym c.is_empty.ensures ∙ c.if-is_empty.false)) (record { follows = FailsOr_bind _ _ _ c.in_err-add_label.ensures.updates.0 })
 
 pub returns : goal.returns
 unfolding name_from

@@ -1,6 +1,6 @@
 use Rattle.std.proofs.Common.{◌≡◌, sym, ◌∙◌}
 use Rattle.dnw_name_lower.specs.LowerNames.{lowered}
-use Rattle.dnw_name_lower.proofs.Lowered.{lowered-is, lowered-same}
+use Rattle.dnw_name_lower.proofs.Lowered.{lowered_is, lowered_same}
 use Rattle.dnw_name_lower.proofs.lower_name.LowerName.read.Goals as goal
 
 pub returns-in_err-name-clause-accepts : goal.returns-in_err-name-clause-accepts
@@ -10,11 +10,11 @@ pub invariant_of-result : goal.invariant_of-result
 invariant_of-result c =
     let both = sym c.unwrap.ensures ∙ c.to_lowercase.ensures in
     let result : c.unwrap.result ≡ lowered c.in_ok-name.name = cc in
-    lowered-is c.unwrap.result c.in_ok-name.name result
+    lowered_is c.unwrap.result c.in_ok-name.name result
 
 pub returns-clause-accepts : goal.returns-clause-accepts
 returns-clause-accepts c name after (read, (fqdn, k, takes), is) =
     let (same, there) = c.in_ok-name.ensures.accepts after read.labels k takes in
     let both = sym c.unwrap.ensures ∙ c.to_lowercase.ensures in
     let result : c.unwrap.result ≡ lowered c.in_ok-name.name = cc in
-    (result ∙ lowered-same c.in_ok-name.name read name fqdn same is, there)
+    (result ∙ lowered_same c.in_ok-name.name read name fqdn same is, there)

@@ -1,14 +1,14 @@
 use Rattle.std.proofs.Common.{length, sym, ap, ◌∙◌, arith}
-use Rattle.dnw_name_read.proofs.Behind.{LeadsTo-label}
+use Rattle.dnw_name_read.proofs.Behind.{LeadsTo_label}
 use Rattle.dnw_name_read.proofs.ref_labels.RefLabelsIterator.next.Goals as goal
 
 pub returns-clause-steps : goal.returns-clause-steps
 returns-clause-steps c =
-    sym c.self.view_is ∙ (sym c.follow_pointers-start.ensures.same ∙ (LeadsTo-label c.follow_pointers-start.ensures (omega (arith, c.self.invariant.counted))).labels)
+    sym c.self.view_is ∙ (sym c.follow_pointers-start.ensures.same ∙ (LeadsTo_label c.follow_pointers-start.ensures (omega (arith, c.self.invariant.counted))).labels)
 
 pub invariant_of-self : goal.invariant_of-self
 invariant_of-self c =
-    let label = LeadsTo-label c.follow_pointers-start.ensures (omega (arith, c.self.invariant.counted)) in
+    let label = LeadsTo_label c.follow_pointers-start.ensures (omega (arith, c.self.invariant.counted)) in
     record {
       more = record { segment = _; on = label.on };
       counted = omega (arith, ap length label.labels, ap length c.follow_pointers-start.ensures.same, c.self.invariant.counted);

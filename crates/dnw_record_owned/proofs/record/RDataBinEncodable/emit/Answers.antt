@@ -1,6 +1,6 @@
 use Rattle.dnw_write.specs.EncoderValue.{value}
 use Rattle.dnw_record_owned.specs.DataCopies.{alone}
-use Rattle.dnw_record_owned.proofs.WrittenCopies.{as-data, own-copy, readable}
+use Rattle.dnw_record_owned.proofs.WrittenCopies.{as_data, own_copy, readable}
 use Rattle.dnw_record_owned.proofs.record.RDataBinEncodable.emit.Goals as goal
 
 pub emit_data-requires : goal.emit_data-requires
@@ -8,5 +8,5 @@ emit_data-requires c = rw (c.fields_of-kinds.ensures, c.record_type.ensures, c.n
 
 pub returns-clause-emits : goal.returns-clause-emits
 returns-clause-emits c =
-    as-data c.args.self.now (alone c.args.self.now.octets) (own-copy c.args.self.now c.octets.ensures.of_type) (value c.args.encoder.now) c.emit_data.result (value c.emit_data.new.encoder)
+    as_data c.args.self.now (alone c.args.self.now.octets) (own_copy c.args.self.now c.octets.ensures.of_type) (value c.args.encoder.now) c.emit_data.result (value c.emit_data.new.encoder)
     (rw (c.fields_of-kinds.ensures, c.record_type.ensures, c.new.ensures, c.octets.ensures.octets) at c.emit_data.ensures.writes)

@@ -1,7 +1,7 @@
 -- The search goes along the ring of the tag.
 use Rattle.std.proofs.Common.{◌∙◌, ap, refl, arith}
 use Rattle.std.proofs.lemmas.List.Elements.{AllWithin-none}
-use Rattle.dnw_write_suffixes.specs.Inside.Marks.{CannotBe, tag, tag_at}
+use Rattle.dnw_write_suffixes.specs.Inside.TagTable.{CannotBe, tag, tag_at}
 use Rattle.dnw_write_suffixes.proofs.CandidateLists.{none_usable}
 use Rattle.dnw_write_suffixes.proofs.Rings.{goes_on}
 use Rattle.dnw_write_suffixes.proofs.candidates.Candidates.find_usable.Goals as goal
@@ -31,5 +31,5 @@ search-smaller c =
 pub returns-clause-finds : goal.returns-clause-finds
 returns-clause-finds c =
     let at = rw c.in_default.is at c.search.invariant in
-    rw (← c.self.view_is) (none_usable c.self.inside.marks.count
+    rw (← c.self.view_is) (none_usable c.self.inside.tag_table.count
     (omega (arith, c.if-len.false, c.len.ensures, c.len-2.ensures)) at.passed)

@@ -1,31 +1,31 @@
 -- The labels before the suffix are written and a pointer for it, or nothing is changed.
 use Rattle.std.proofs.Common.{◌≡◌, ◌+◌, ◌-◌, length, take, refl, ap, ◌∙◌, inr, arith}
 use Rattle.dnw_base.specs.Names.{labels_wire}
-use Rattle.dnw_base.proofs.Wires.{length-wire}
+use Rattle.dnw_base.proofs.Wires.{length_wire}
 use Rattle.dnw_write.specs.Encoder.{Encoder, HasRoom}
 use Rattle.dnw_write_suffixes.specs.Candidates.{candidates_before}
 use Rattle.dnw_write.specs.EncoderValue.{value}
 use Rattle.dnw_write.specs.EmittedName.{kept}
 use Rattle.dnw_write.specs.Inside.Sharing.{share_of}
-use Rattle.dnw_write.proofs.Emission.{front_bytes, kept-front, shared_done, shared_undone}
-use Rattle.dnw_write.proofs.Suffixes.{length-all, labels_wire_take}
+use Rattle.dnw_write.proofs.Emission.{front_bytes, kept_front, shared_done, shared_undone}
+use Rattle.dnw_write.proofs.Suffixes.{length_all, labels_wire_take}
 use Rattle.dnw_write.proofs.encoder.names.BinEncoder.emit_shared.Goals as goal
 use Rattle.dnw_write.proofs.encoder.names.BinEncoder.emit_shared.Goals.{Else-not-has_room}
 
 pub returns-then-not-has_room-clause-writes : goal.returns-then-not-has_room-clause-writes
 returns-then-not-has_room-clause-writes c =
     let ls = c.args.name.now in
-    let all : length c.as_wire-wire.result.now - 1 ≡ length (labels_wire ls) = omega (arith, ap length c.as_wire-wire.ensures.form, length-wire ls, length-all ls) in
+    let all : length c.as_wire-wire.result.now - 1 ≡ length (labels_wire ls) = omega (arith, ap length c.as_wire-wire.ensures.form, length_wire ls, length_all ls) in
     (omega (arith, c.has_room.ensures.no c.if-not-has_room.true, all), refl, refl)
 
 room : (c : Else-not-has_room) → HasRoom (value c.args.self.now) (length (labels_wire c.args.name.now))
 room c =
     let ls = c.args.name.now in
-    omega (arith, c.has_room.ensures.yes c.if-not-has_room.false, ap length c.as_wire-wire.ensures.form, length-wire ls, length-all ls)
+    omega (arith, c.has_room.ensures.yes c.if-not-has_room.false, ap length c.as_wire-wire.ensures.form, length_wire ls, length_all ls)
 
 pub returns-in_default-clause-writes : goal.returns-in_default-clause-writes
 returns-in_default-clause-writes c =
-    let all = kept-front (value c.args.self.now) c.args.name.now c.args.suffix.labels c.args.suffix.target c.requires.suffix.within in
+    let all = kept_front (value c.args.self.now) c.args.name.now c.args.suffix.labels c.args.suffix.target c.requires.suffix.within in
     (room (goal.at.returns-in_default-clause-writes c).Else-not-has_room, inr (λ none. c.in_default.ensures.needed (all ∙ none)), c.in_default.ensures.same)
 
 pub write_front-requires-clause-fits : goal.write_front-requires-clause-fits
@@ -51,7 +51,7 @@ returns-clause-writes c =
     let ls = c.args.name.now in
     let n = c.args.suffix.labels in
     let front = front_bytes ls n c.args.suffix.size c.as_wire-wire.result.now c.as_wire-wire.ensures.form c.requires.suffix.size_is in
-    let all = kept-front v ls n c.args.suffix.target c.requires.suffix.within in
+    let all = kept_front v ls n c.args.suffix.target c.requires.suffix.within in
     let keep = c.in-Ok.ensures.ok in
     let offset : c.keep_suffixes.new.self.offset ≡ v.offset = ap (λ (x : Encoder). x.offset) keep in
     let cut = c.trim.ensures ∙ ap (λ o. candidates_before (o + c.args.suffix.size) c.write_front.new.self.candidates) offset in

@@ -1,10 +1,10 @@
 -- Each suffix in turn, from the longest on, is the first that is usable, or is ruled out.
 use Rattle.std.proofs.Common.{◌+◌, ◌≤◌, length, sym, ◌∙◌, subst, arith}
-use Rattle.dnw_base.proofs.Wires.{AreLabels-few}
+use Rattle.dnw_base.proofs.Wires.{AreLabels_few}
 use Rattle.dnw_write.specs.EncoderValue.{value}
 use Rattle.dnw_write.specs.EmittedName.{so_far}
 use Rattle.dnw_write_suffixes.specs.Candidates.{IsFirstUsable, NoneUsable}
-use Rattle.dnw_write.proofs.Suffixes.{drop_next, labels_wire_take, length-all, none_more, nowhere, suffix_found}
+use Rattle.dnw_write.proofs.Suffixes.{drop_next, labels_wire_take, length_all, none_more, nowhere, suffix_found}
 use Rattle.dnw_write.proofs.encoder.names.BinEncoder.find_suffix.Goals as goal
 use Rattle.dnw_write.proofs.encoder.names.BinEncoder.find_suffix.Goals.{In_default}
 
@@ -28,7 +28,7 @@ within c =
     let (more, others, bytes) = drop_next c.args.name.now c.suffixes.labels c.in_ok-label.label.now c.next.new.self (sym rest ∙ c.in_ok-label.ensures.steps) in
     let ls = c.args.name.now in
     let names = c.clone-rest.ensures.labels in
-    (omega (arith, more, AreLabels-few ls names), omega (arith, size, bytes, labels_wire_take (c.suffixes.labels + 1) ls, length-all ls, names.fit))
+    (omega (arith, more, AreLabels_few ls names), omega (arith, size, bytes, labels_wire_take (c.suffixes.labels + 1) ls, length_all ls, names.fit))
 
 pub overflow_add-labels : goal.overflow_add-labels
 overflow_add-labels c = let few = (within c).0 in omega (arith, few)

@@ -1,10 +1,10 @@
-//! Marks, by which a search passes over most candidates.
+//! Tags, by which a search passes over most candidates.
 ghost use Rattle.std.specs.Prelude.{◌≡◌, ℕ, ◌+◌, ◌*◌, ◌^◌, ◌<◌, ◌≤◌, min, true, false, List, get_or, length};
-ghost use Rattle.dnw_write_suffixes.specs.Inside.Marks.{AreLinked, AreMarked, FindsNext, label_end, pair, tag};
+ghost use Rattle.dnw_write_suffixes.specs.Inside.TagTable.{AreLinked, AreTaggedByFront, FindsNext, label_end, pair, tag};
 
 use crate::store::Store;
 
-/// How many candidates have marks: the first ones. The number of each, counted from 1, fits a byte.
+/// How many candidates have tags: the first ones. The number of each, counted from 1, fits a byte.
 const ROOM: usize = 255;
 
 /// Returns a number below 256 that few labels share: it comes of their length, the first two octets of the first label,
@@ -63,7 +63,7 @@ pub(crate) fn octet_at(labels: &[u8], index: usize) -> usize
 
 /// The candidates that share a tag are linked, each to the next one and the last to the first.
 #[derive(Drop)]
-pub(crate) struct Marks {
+pub(crate) struct TagTable {
     // For each tag the last candidate that has it, counted from 1, or 0 if there is none.
     last: [u8; 256],
     // For each candidate the next one of its tag, or the first.
@@ -73,13 +73,13 @@ pub(crate) struct Marks {
     ghost few: { count ≤ 255 },
 }
 
-impl Marks {
-    /// Creates marks of no candidates.
+impl TagTable {
+    /// Creates tags of no candidates.
     #[inline(always)]
     pub(crate) fn new() -> Self
-        ensures { (candidates : List (ℕ × List ℕ)) → AreMarked result.last result.next result.count candidates }
+        ensures { (candidates : List (ℕ × List ℕ)) → AreTaggedByFront result.last result.next result.count candidates }
     {
-        Marks {
+        TagTable {
             last: [0; 256],
             next: [0; 256],
             count: 0,
@@ -94,14 +94,14 @@ impl Marks {
         self.count
     }
 
-    /// Adds the candidates that have no marks yet, as far as there is room.
+    /// Adds the candidates that have no tags yet, as far as there is room.
     #[inline(always)]
     pub(crate) fn add_all(&mut self, candidates: &Store)
-        requires { AreMarked self.old.last self.old.next self.old.count candidates.now }
-        ensures marked { AreMarked self.new.last self.new.next self.new.count candidates.now }
+        requires { AreTaggedByFront self.old.last self.old.next self.old.count candidates.now }
+        ensures marked { AreTaggedByFront self.new.last self.new.next self.new.count candidates.now }
         ensures count { self.new.count ≡ min (length candidates.now) 255 }
     {
-        'marks: while self.count < candidates.len() && self.count < ROOM {
+        'tag_table: while self.count < candidates.len() && self.count < ROOM {
             let (_, labels) = candidates.get(self.count);
             self.add(tag(labels));
         }

@@ -1,4 +1,4 @@
--- Marks: candidates that share a tag are linked in a ring, so that a search passes over all others.
+-- Tags: candidates that share a tag are linked in a ring, so that a search passes over all others.
 use Rattle.std.specs.Prelude.{◌≡◌, ℕ, ◌+◌, ◌-◌, ◌*◌, ◌/◌, ◌%◌, ◌<◌, ◌≤◌, ◌&&◌, nat_lt, if◌then◌else◌, Option, Some, None, IfSome, List, [], ◌∷◌, get_or, length, take}
 use Rattle.std.specs.List.{AllWithin}
 use Rattle.dnw_base.specs.Names.{labels_wire}
@@ -67,13 +67,13 @@ pub record AreTagged (tags : ℕ) (tag_of : List ℕ → ℕ) (last next : List 
   pub few : count ≤ length candidates
   pub linked : IsRingedFront tags tag_of last next count (take count candidates)
 
--- ---- marks: of 256 tags
+-- ---- tags: of 256 tags
 
 abbrev pub AreLinked : List ℕ → List ℕ → ℕ → (ℕ → ℕ) → Type 0
 AreLinked = AreRinged 256
 
-abbrev pub AreMarked : List ℕ → List ℕ → ℕ → List Candidate → Type 0
-AreMarked = AreTagged 256 tag
+abbrev pub AreTaggedByFront : List ℕ → List ℕ → ℕ → List Candidate → Type 0
+AreTaggedByFront = AreTagged 256 tag
 
 -- ---- the search
 
