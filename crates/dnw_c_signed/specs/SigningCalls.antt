@@ -28,7 +28,7 @@ use Rattle.dnw_c_signed.specs.declared.covering.Rrsig.{Rrsig}
 
 -- a decoder at an offset of a message
 abbrev pub at_offset : List ℕ → ℕ → Decoder
-at_offset message p = record { bytes = message; index = p }
+at_offset message start = record { bytes = message; index = start }
 
 -- There is a record at an offset.
 abbrev pub HasRecordAt : List ℕ → ℕ → RecordValue → Type 0

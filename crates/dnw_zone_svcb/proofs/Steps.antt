@@ -25,7 +25,7 @@ use Rattle.dnw_zone_svcb.specs.ParamValues.{is_ascending, octets_of_item, is_ite
 use Rattle.dnw_zone_svcb.specs.Params.{ParamValue, with_param, and_then, in_key_order}
 use Rattle.dnw_zone_svcb.specs.ParamTexts.{param_text, params_within, params_text}
 use Rattle.dnw_zone_svcb.specs.ParamWords.{key_part, value_part, keys_of, keys_wire, HasValue, IsOwnValue, IsValueText, IsParam, IsParamOf}
-use Rattle.dnw_zone_svcb.specs.Inside.Steps.{after, TakesListItem, IsSpaced, AppendsSpaced}
+use Rattle.dnw_zone_svcb.specs.Inside.Steps.{after_these, TakesListItem, IsSpaced, AppendsSpaced}
 
 -- ---- keys
 
@@ -79,11 +79,11 @@ keys_end keys (a ∷ b ∷ left) few = absurd (omega (arith, few))
 
 -- ---- lists
 
-pub after_nil : {A : Type 0} (xs : Option (List A)) → xs ≡ after [] xs
+pub after_nil : {A : Type 0} (xs : Option (List A)) → xs ≡ after_these [] xs
 after_nil None = refl
 after_nil (Some own) = refl
 
-pub after_all : {A : Type 0} (found own : List A) (xs : Option (List A)) → after found (after own xs) ≡ after (found ++ own) xs
+pub after_all : {A : Type 0} (found own : List A) (xs : Option (List A)) → after_these found (after_these own xs) ≡ after_these (found ++ own) xs
 after_all found own None = refl
 after_all found own (Some others) = ap Some (sym (append_assoc found own others))
 
@@ -106,49 +106,49 @@ no_item list (d ∷ done) rest item own none are = no_item list done rest item a
 
 -- after the items so far, one that is none, and perhaps others
 no_such : (list : ListValue) (done : List (List ℕ)) (item own : List ℕ) (rest : Option (List (List ℕ))) (items : List (List ℕ))
-    → ((first : List ℕ) → ¬ (IsItem list item first)) → after done (option_map (λ others. item ∷ others) rest) ≡ Some items → ¬ (AreItems list items own)
+    → ((first : List ℕ) → ¬ (IsItem list item first)) → after_these done (option_map (λ others. item ∷ others) rest) ≡ Some items → ¬ (AreItems list items own)
 no_such list done item own None items none e are = absurd cc
 no_such list done item own (Some others) items none e are =
     let same : done ++ item ∷ others ≡ items = cc in
     no_item list done others item own none (subst (λ (xs : List (List ℕ)). AreItems list xs own) (sym same) are)
 
 pub no_list : (list : ListValue) (text left : List ℕ) (done : List (List ℕ)) (item own : List ℕ) (next : After) → (next ≡ Fault → ⊥) → TakesListItem left item next
-    → items_of text ≡ after done (items_of left) → ((first : List ℕ) → ¬ (IsItem list item first)) → ¬ (IsListText list text own)
+    → items_of text ≡ after_these done (items_of left) → ((first : List ℕ) → ¬ (IsItem list item first)) → ¬ (IsListText list text own)
 no_list list text left done item own End fault takes so_far none is =
-    no_such list done item own (Some []) is.0 none (ap (after done) (sym takes) ∙ sym so_far ∙ is.1) is.2
+    no_such list done item own (Some []) is.0 none (ap (after_these done) (sym takes) ∙ sym so_far ∙ is.1) is.2
 no_list list text left done item own (Items rest) fault takes so_far none is =
-    no_such list done item own (items_of rest.now) is.0 none (ap (after done) (sym takes.0) ∙ sym so_far ∙ is.1) is.2
+    no_such list done item own (items_of rest.now) is.0 none (ap (after_these done) (sym takes.0) ∙ sym so_far ∙ is.1) is.2
 no_list list text left done item own Fault fault takes so_far none is = absurd (fault refl)
 
 pub bad_list : (list : ListValue) (text left : List ℕ) (done : List (List ℕ)) (item own : List ℕ) (next : After) → next ≡ Fault → TakesListItem left item next
-    → items_of text ≡ after done (items_of left) → ¬ (IsListText list text own)
+    → items_of text ≡ after_these done (items_of left) → ¬ (IsListText list text own)
 bad_list list text left done item own next fault takes so_far is =
     let none : items_of left ≡ None = rw fault at takes in
-    let no : None ≡ Some is.0 = ap (after done) (sym none) ∙ sym so_far ∙ is.1 in cc
+    let no : None ≡ Some is.0 = ap (after_these done) (sym none) ∙ sym so_far ∙ is.1 in cc
 
 pub last_item : (text left : List ℕ) (done : List (List ℕ)) (item : List ℕ) (next : After) → (next ≡ Fault → ⊥) → ((rest : _) → next ≡ Items rest → ⊥)
-    → TakesListItem left item next → items_of text ≡ after done (items_of left) → items_of text ≡ Some (done ++ item ∷ [])
-last_item text left done item End fault items takes so_far = so_far ∙ ap (after done) takes
+    → TakesListItem left item next → items_of text ≡ after_these done (items_of left) → items_of text ≡ Some (done ++ item ∷ [])
+last_item text left done item End fault items takes so_far = so_far ∙ ap (after_these done) takes
 last_item text left done item (Items rest) fault items takes so_far = absurd (items rest refl)
 last_item text left done item Fault fault items takes so_far = absurd (fault refl)
 
 pub next_item : (text left rest : List ℕ) (done : List (List ℕ)) (item : List ℕ) → items_of left ≡ option_map (λ items. item ∷ items) (items_of rest)
-    → items_of text ≡ after done (items_of left) → items_of text ≡ after (done ++ item ∷ []) (items_of rest)
-next_item text left rest done item takes so_far = so_far ∙ ap (after done) takes ∙ after_all done (item ∷ []) (items_of rest)
+    → items_of text ≡ after_these done (items_of left) → items_of text ≡ after_these (done ++ item ∷ []) (items_of rest)
+next_item text left rest done item takes so_far = so_far ∙ ap (after_these done) takes ∙ after_all done (item ∷ []) (items_of rest)
 
 -- ---- the items of octets
 
-pub items_more : (list : ListValue) (all left own rest found new : List ℕ) (n : ℕ) → items_within (length all) list all ≡ after found (items_within n list left)
+pub items_more : (list : ListValue) (all left own rest found new : List ℕ) (n : ℕ) → items_within (length all) list all ≡ after_these found (items_within n list left)
     → length left ≤ n → left ≡ own ++ rest → own ≡ take (octets_of_item list left) left → rest ≡ drop (octets_of_item list left) left
     → 2 ≤ octets_of_item list left → octets_of_item list left ≤ length left → new ≡ found ++ comma ∷ text_of_item list own
-    → (m : ℕ) × (length rest ≤ m) × (items_within (length all) list all ≡ after new (items_within m list rest))
+    → (m : ℕ) × (length rest ≤ m) × (items_within (length all) list all ≡ after_these new (items_within m list rest))
 items_more list all [] own rest found new n so_far few whole front back some fits e = absurd (omega (arith, some, fits))
 items_more list all (o ∷ left) own rest found new zero so_far few whole front back some fits e = absurd (omega (arith, few))
 items_more list all (o ∷ left) own rest found new (suc n) so_far few whole front back some fits e =
     let is : is_item list (o ∷ left) ≡ true = rw (le-leb (octets_of_item list (o ∷ left)) (length (o ∷ left)) fits, le-leb 2 (octets_of_item list (o ∷ left)) some) refl in
-    let step : items_within (suc n) list (o ∷ left) ≡ after (comma ∷ text_of_item list own) (items_within n list rest) = rw (is, front, back) refl in
+    let step : items_within (suc n) list (o ∷ left) ≡ after_these (comma ∷ text_of_item list own) (items_within n list rest) = rw (is, front, back) refl in
     let size : length (o ∷ left) ≡ length own + length rest = ap length whole ∙ length-append own rest in
-    (n, omega (arith, few, size, front, length-take-le (octets_of_item list (o ∷ left)) (o ∷ left) fits, ap length front, some), so_far ∙ ap (after found) step ∙ after_all found (comma ∷ text_of_item list own) (items_within n list rest) ∙ ap (λ (xs : List ℕ). after xs (items_within n list rest)) (sym e))
+    (n, omega (arith, few, size, front, length-take-le (octets_of_item list (o ∷ left)) (o ∷ left) fits, ap length front, some), so_far ∙ ap (after_these found) step ∙ after_all found (comma ∷ text_of_item list own) (items_within n list rest) ∙ ap (λ (xs : List ℕ). after_these xs (items_within n list rest)) (sym e))
 
 -- ---- where a parameter belongs
 
@@ -156,38 +156,38 @@ pub not_before : (a b : ℕ) → b ≤ a → nat_lt a b ≡ false
 not_before a b h = grind arith
 
 pub place_more : (key : ℕ) (octets : List ℕ) (done left rest : List ParamValue) (q : ParamValue) (whole : Option (List ParamValue)) → left ≡ q ∷ rest
-    → (key ≡ q.key → ⊥) → q.key ≤ key → whole ≡ after done (with_param (record { key = key; octets = octets }) left)
-    → whole ≡ after (done ++ q ∷ []) (with_param (record { key = key; octets = octets }) rest)
+    → (key ≡ q.key → ⊥) → q.key ≤ key → whole ≡ after_these done (with_param (record { key = key; octets = octets }) left)
+    → whole ≡ after_these (done ++ q ∷ []) (with_param (record { key = key; octets = octets }) rest)
 place_more key octets done left rest q whole e not_it below so_far =
     let other : (key == q.key) ≡ false = ne_eqb key q.key not_it in
     let later : nat_lt key q.key ≡ false = not_before key q.key below in
-    let step : with_param (record { key = key; octets = octets }) left ≡ after (q ∷ []) (with_param (record { key = key; octets = octets }) rest) = rw (e, other, later) refl in
-    so_far ∙ ap (after done) step ∙ after_all done (q ∷ []) (with_param (record { key = key; octets = octets }) rest)
+    let step : with_param (record { key = key; octets = octets }) left ≡ after_these (q ∷ []) (with_param (record { key = key; octets = octets }) rest) = rw (e, other, later) refl in
+    so_far ∙ ap (after_these done) step ∙ after_all done (q ∷ []) (with_param (record { key = key; octets = octets }) rest)
 
 pub place_taken : (key : ℕ) (octets : List ℕ) (done left rest : List ParamValue) (q : ParamValue) (whole : Option (List ParamValue)) → left ≡ q ∷ rest
-    → (key == q.key) ≡ true → whole ≡ after done (with_param (record { key = key; octets = octets }) left) → whole ≡ None
+    → (key == q.key) ≡ true → whole ≡ after_these done (with_param (record { key = key; octets = octets }) left) → whole ≡ None
 place_taken key octets done left rest q whole e same so_far =
-    let step : with_param (record { key = key; octets = octets }) left ≡ None = rw (e, same) refl in so_far ∙ ap (after done) step
+    let step : with_param (record { key = key; octets = octets }) left ≡ None = rw (e, same) refl in so_far ∙ ap (after_these done) step
 
 insert_at : (done left : List ParamValue) (p : ParamValue) → insert (done ++ left) (length done) p ≡ done ++ p ∷ left
 insert_at [] left p = refl
 insert_at (d ∷ done) left p = ap (λ (xs : List ParamValue). d ∷ xs) (insert_at done left p)
 
 pub place_before : (key : ℕ) (octets : List ℕ) (all done left rest : List ParamValue) (q : ParamValue) (i : ℕ) → all ≡ done ++ left → i ≡ length done → left ≡ q ∷ rest
-    → (key == q.key) ≡ false → nat_lt key q.key ≡ true → with_param (record { key = key; octets = octets }) all ≡ after done (with_param (record { key = key; octets = octets }) left)
+    → (key == q.key) ≡ false → nat_lt key q.key ≡ true → with_param (record { key = key; octets = octets }) all ≡ after_these done (with_param (record { key = key; octets = octets }) left)
     → with_param (record { key = key; octets = octets }) all ≡ Some (insert all i (record { key = key; octets = octets }))
 place_before key octets all done left rest q i parts at e other before so_far =
     let p : ParamValue = record { key = key; octets = octets } in
     let step : with_param p left ≡ Some (p ∷ left) = rw (e, other, before) refl in
-    so_far ∙ ap (after done) step ∙ ap Some (sym (insert_at done left p)) ∙ rw (parts, at) refl
+    so_far ∙ ap (after_these done) step ∙ ap Some (sym (insert_at done left p)) ∙ rw (parts, at) refl
 
 pub place_end : (key : ℕ) (octets : List ℕ) (all done left : List ParamValue) (i : ℕ) → all ≡ done ++ left → i ≡ length done → left ≡ []
-    → with_param (record { key = key; octets = octets }) all ≡ after done (with_param (record { key = key; octets = octets }) left)
+    → with_param (record { key = key; octets = octets }) all ≡ after_these done (with_param (record { key = key; octets = octets }) left)
     → with_param (record { key = key; octets = octets }) all ≡ Some (insert all i (record { key = key; octets = octets }))
 place_end key octets all done left i parts at e so_far =
     let p : ParamValue = record { key = key; octets = octets } in
     let step : with_param p left ≡ Some (p ∷ left) = rw e refl in
-    so_far ∙ ap (after done) step ∙ ap Some (sym (insert_at done left p)) ∙ rw (parts, at) refl
+    so_far ∙ ap (after_these done) step ∙ ap Some (sym (insert_at done left p)) ∙ rw (parts, at) refl
 
 -- ---- a text is one value at most
 
@@ -293,12 +293,12 @@ cut_off old new kept n (own, spaced, e) at cut = cut ∙ rw (e, at) (take_at old
 -- ---- the parameters of octets
 
 one_param : (n a b c d : ℕ) (octets : List ℕ) → nat_le (from_be_bytes w16 (c ∷ d ∷ [])) (length octets) ≡ true
-    → params_within (suc n) (a ∷ b ∷ c ∷ d ∷ octets) ≡ after (32 ∷ param_text (from_be_bytes w16 (a ∷ b ∷ [])) (take (from_be_bytes w16 (c ∷ d ∷ [])) octets)) (params_within n (drop (from_be_bytes w16 (c ∷ d ∷ [])) octets))
+    → params_within (suc n) (a ∷ b ∷ c ∷ d ∷ octets) ≡ after_these (32 ∷ param_text (from_be_bytes w16 (a ∷ b ∷ [])) (take (from_be_bytes w16 (c ∷ d ∷ [])) octets)) (params_within n (drop (from_be_bytes w16 (c ∷ d ∷ [])) octets))
 one_param n a b c d octets le = rw le refl
 
-pub params_more : (all left r1 r2 own rest found : List ℕ) (n key len a b c d : ℕ) → params_text all ≡ after found (params_within n left) → length left ≤ n
+pub params_more : (all left r1 r2 own rest found : List ℕ) (n key len a b c d : ℕ) → params_text all ≡ after_these found (params_within n left) → length left ≤ n
     → left ≡ a ∷ b ∷ r1 → r1 ≡ c ∷ d ∷ r2 → key ≡ from_be_bytes w16 (a ∷ b ∷ []) → len ≡ from_be_bytes w16 (c ∷ d ∷ []) → own ≡ take len r2 → rest ≡ drop len r2 → len ≤ length r2
-    → (m : ℕ) × (length rest ≤ m) × (params_text all ≡ after (found ++ 32 ∷ param_text key own) (params_within m rest))
+    → (m : ℕ) × (length rest ≤ m) × (params_text all ≡ after_these (found ++ 32 ∷ param_text key own) (params_within m rest))
 params_more all left r1 r2 own rest found zero key len a b c d so_far few first second k l front back fits = absurd (omega (arith, few, ap length first))
 params_more all left r1 r2 own rest found (suc n) key len a b c d so_far few first second k l front back fits =
     let k2 = from_be_bytes w16 (a ∷ b ∷ []) in
@@ -306,13 +306,13 @@ params_more all left r1 r2 own rest found (suc n) key len a b c d so_far few fir
     let le : nat_le l2 (length r2) ≡ true = le-leb l2 (length r2) (omega (arith, fits, l)) in
     let own2 : take l2 r2 ≡ own = sym (front ∙ ap (λ (i : ℕ). take i r2) l) in
     let rest2 : drop l2 r2 ≡ rest = sym (back ∙ ap (λ (i : ℕ). drop i r2) l) in
-    let step : params_within (suc n) left ≡ after (32 ∷ param_text key own) (params_within n rest) =
+    let step : params_within (suc n) left ≡ after_these (32 ∷ param_text key own) (params_within n rest) =
     ap (params_within (suc n)) (first ∙ ap (λ (xs : List ℕ). a ∷ b ∷ xs) second) ∙ one_param n a b c d r2 le
-    ∙ ap (λ (i : ℕ). after (32 ∷ param_text i (take l2 r2)) (params_within n (drop l2 r2))) (sym k)
-    ∙ ap (λ (o : List ℕ). after (32 ∷ param_text key o) (params_within n (drop l2 r2))) own2
-    ∙ ap (λ (o : List ℕ). after (32 ∷ param_text key own) (params_within n o)) rest2 in
+    ∙ ap (λ (i : ℕ). after_these (32 ∷ param_text i (take l2 r2)) (params_within n (drop l2 r2))) (sym k)
+    ∙ ap (λ (o : List ℕ). after_these (32 ∷ param_text key o) (params_within n (drop l2 r2))) own2
+    ∙ ap (λ (o : List ℕ). after_these (32 ∷ param_text key own) (params_within n o)) rest2 in
     let size : length rest ≤ length r2 = omega (arith, ap length back, length-drop len r2) in
-    (n, omega (arith, few, ap length first, ap length second, size), so_far ∙ ap (after found) step ∙ after_all found (32 ∷ param_text key own) (params_within n rest))
+    (n, omega (arith, few, ap length first, ap length second, size), so_far ∙ ap (after_these found) step ∙ after_all found (32 ∷ param_text key own) (params_within n rest))
 
 -- ---- a word is one parameter at most
 

@@ -42,5 +42,5 @@ PushesValue text old new true = (own : List ℕ) × (text ≡ Some own) × (new 
 PushesValue text old new false = (text ≡ None) × AppendsSpaced old new
 
 -- these, and after them others, if there are
-abbrev pub after : {A : Type 0} → List A → Option (List A) → Option (List A)
-after found others = option_map (λ own. found ++ own) others
+abbrev pub after_these : {A : Type 0} → List A → Option (List A) → Option (List A)
+after_these found others = option_map (λ own. found ++ own) others
