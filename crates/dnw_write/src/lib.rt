@@ -11,7 +11,7 @@
 //! BinEncoder::emit_labels -- write_labels
 //!     |-- no candidate, or `compresses` is false ------------------> emit_whole -- keep_suffixes -- emit_vec
 //!     |-- find_suffix: for each suffix, from the longest on,
-//!     |       find_usable -- Candidates::find_usable                dnw_write_suffixes: marks.rt leads from one candidate
+//!     |       find_usable -- Candidates::find_usable                dnw_write_suffixes: tag_table.rt leads from one candidate
 //!     |                         |-- stands_at                       that may have the suffix to the next, and what it
 //!     |                         |                                   points to is read in the message first
 //!     |                         `-- find_among_many                 past 255 candidates links.rt leads on
