@@ -9,7 +9,8 @@ use Rattle.std.proofs.lemmas.Map.Made.{is_member-Decides, length-le_from_is_memb
 use Rattle.dnw_base.specs.declared.record_type.RecordType.{RecordType}
 use Rattle.dnw_base.specs.RecordTypes.{type_cmp, type_of_code}
 use Rattle.dnw_base.specs.Inside.RecordTypeLaws.{types_tied, types_equal}
-use Rattle.dnw_data.specs.TypeSets.{IsSetOf, Window, bit_codes, bits, bitmap_types, max_octets, octet_codes, octets_codes, window, window_codes, windows_codes, windows_of, windows_within}
+use Rattle.dnw_data.specs.TypeSets.{IsSetOf, Window, bit_codes, bits, bitmap_types, octet_codes, octets_codes, window, window_codes, windows_codes, windows_of, windows_within}
+use Rattle.dnw_base.specs.Limits.{max_window}
 use Rattle.dnw_data.specs.SetLaws.{BitmapsListFew}
 
 few_bit : (first octet bit : ℕ) → length (bit_codes first octet bit) ≤ 1
@@ -26,7 +27,7 @@ few_octets first (octet ∷ octets) =
     omega (arith, few_bits first octet bits, few_octets (first + 8) octets, length-append (octet_codes first octet) (octets_codes (first + 8) octets))
 
 few_window : (w : Window) → length (window_codes w) ≤ 8 * length w.octets
-few_window w = omega (arith, few_octets (256 * w.number) (take max_octets w.octets), length-take max_octets w.octets)
+few_window w = omega (arith, few_octets (256 * w.number) (take max_window w.octets), length-take max_window w.octets)
 
 few_windows : (n : ℕ) (bytes : List ℕ) → length (windows_codes (windows_within n bytes)) ≤ 8 * length bytes
 few_windows zero bytes = omega arith

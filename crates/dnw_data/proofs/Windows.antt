@@ -7,7 +7,8 @@ use Rattle.std.proofs.Math.Dec.{eqb-suc-zero}
 use Rattle.dnw_base.specs.declared.record_type.RecordType.{RecordType}
 use Rattle.dnw_base.specs.RecordTypes.{type_of_code}
 use Rattle.dnw_data.specs.SetLaws.{BitmapsAreWindows}
-use Rattle.dnw_data.specs.TypeSets.{AreWindows, Window, window_bytes, bits, octets_codes, window_codes, windows_codes, max_octets, window_size, window, windows_within, windows_of, is_empty, ends_in_zeros, in_bounds}
+use Rattle.dnw_data.specs.TypeSets.{AreWindows, Window, window_bytes, bits, octets_codes, window_codes, windows_codes, window_size, window, windows_within, windows_of, is_empty, ends_in_zeros, in_bounds}
+use Rattle.dnw_base.specs.Limits.{max_window}
 use Rattle.dnw_data.specs.Inside.Bitmaps.{SplitsWindow, window_fits}
 
 -- the next bit
@@ -126,7 +127,7 @@ bounds_end all bytes same none = rw none at same
 
 -- one window more was pushed
 pub pushed_window : (old new whole : List RecordType) (bytes others octets first : List ℕ) (number : ℕ) → SplitsWindow bytes number octets others
-    → first ≡ take max_octets octets → new ≡ old ++ map type_of_code (octets_codes (window_size * number) first)
+    → first ≡ take max_window octets → new ≡ old ++ map type_of_code (octets_codes (window_size * number) first)
     → old ++ map type_of_code (windows_codes (windows_of bytes)) ≡ whole → new ++ map type_of_code (windows_codes (windows_of others)) ≡ whole
 pushed_window old new whole bytes others octets first number split front e h =
     let codes = windows_codes (windows_of others) in

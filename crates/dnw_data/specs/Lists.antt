@@ -7,12 +7,9 @@ use Rattle.std.specs.Prelude.{ℕ, zero, suc, ◌+◌, Bool, true, ◌&&◌, nat
 use Rattle.std.specs.Int.{w16, from_be_bytes}
 use Rattle.dnw_base.specs.declared.error.DecodeError.{DecodeError}
 use Rattle.dnw_base.specs.declared.error.DecodeError.TheVariants.{InsufficientBytes, NsecBitmapOutOfBounds, SvcParamsOutOfOrder}
+use Rattle.dnw_base.specs.Limits.{max_window}
 use Rattle.dnw_data.specs.declared.kind.ListKind.{ListKind}
 use Rattle.dnw_data.specs.declared.kind.ListKind.TheVariants.{Texts, Types, Params}
-
--- the most octets of a window
-abbrev pub max_window : ℕ
-max_window = 32
 
 -- the number that an item begins with: of a window, or the key of a parameter; a string has none
 abbrev pub tag_of : ListKind → List ℕ → ℕ

@@ -4,6 +4,7 @@ use Rattle.std.specs.List.{flat_map, list_all, dedup, AllByRecursion}
 use Rattle.std.specs.List.Sorted.{IsStrictlySortedBy}
 use Rattle.std.specs.Int.{bit_at}
 use Rattle.dnw_base.specs.declared.record_type.RecordType.{RecordType}
+use Rattle.dnw_base.specs.Limits.{max_window}
 use Rattle.dnw_base.specs.RecordTypes.{type_cmp, type_code, type_of_code}
 
 -- A set of record types: its types in ascending order, and the bytes that it is written as.
@@ -30,10 +31,6 @@ abbrev pub set_codes : List RecordType → List ℕ
 set_codes types = dedup nat_eq (map type_code types)
 
 -- ---- windows
-
--- the most octets of a window: one bit for each of its codes
-abbrev pub max_octets : ℕ
-max_octets = 32
 
 -- the codes of a window
 abbrev pub window_size : ℕ
@@ -65,7 +62,7 @@ octets_codes first (octet ∷ octets) = octet_codes first octet ++ octets_codes 
 
 -- the codes of a window
 abbrev pub window_codes : Window → List ℕ
-window_codes w = octets_codes (window_size * w.number) (take max_octets w.octets)
+window_codes w = octets_codes (window_size * w.number) (take max_window w.octets)
 
 abbrev pub windows_codes : List Window → List ℕ
 windows_codes ws = flat_map window_codes ws
@@ -109,7 +106,7 @@ is_empty (w ∷ ws) = false
 
 -- no bit is set after the codes of a window
 abbrev pub ends_in_zeros : List ℕ → Bool
-ends_in_zeros octets = list_all (λ octet. octet == 0) (drop max_octets octets)
+ends_in_zeros octets = list_all (λ octet. octet == 0) (drop max_window octets)
 
 -- No window but the last is without octets, and none has a bit after its codes.
 abbrev pub in_bounds : List Window → Bool
@@ -136,7 +133,7 @@ NumbersFrom least (w ∷ ws) = (least ≤ w.number) × NumbersFrom (w.number + 1
 -- a window that is written: it has octets, no more than its codes need, and the last of them has a bit, so it lists a code
 pub record IsWritten (w : Window) : Type 0 where
   pub some : 1 ≤ length w.octets
-  pub few : length w.octets ≤ max_octets
+  pub few : length w.octets ≤ max_window
   pub no_longer : EndsInBit w.octets
 
 -- These bytes stand for the codes: the windows of the codes one after the other.

@@ -5,10 +5,8 @@ ghost use Rattle.dnw_data.specs.Inside.Heads.{IsItemHead};
 
 use crate::kind::ListKind;
 use dnw_base::error::DecodeError;
+use dnw_base::limits::MAX_WINDOW;
 use std::marker::Model;
-
-/// The most octets of a window of a bitmap (RFC 4034, section 4.1.2).
-const MAX_WINDOW: usize = 32;
 
 /// A list whose items are whole and in order.
 ///

@@ -13,7 +13,7 @@ use Rattle.dnw_name_read.specs.Reading.{NameAt}
 use Rattle.dnw_name_read.proofs.Back.{slice_range_middle}
 use Rattle.dnw_name_read.proofs.Stand.{Reads_append}
 use Rattle.dnw_write.specs.declared.encoder.modes.NameEncoding.TheVariants.{Compressed}
-use Rattle.dnw_write.specs.Encoder.{CandidatesPrecede, Encoder, Writes, written}
+use Rattle.dnw_write.specs.Encoder.{CandidatesPrecede, Encoder, Writes, written, usual_names}
 use Rattle.dnw_write.specs.EmittedName.{EmitsName, in_mode}
 use Rattle.dnw_write.specs.CandidateLaws.{KeepsPreceding}
 use Rattle.dnw_write.specs.EmittingLaws.{frame}
@@ -47,8 +47,8 @@ pub record Twin (v : Encoder) (b : List ℕ) : Type 0 where
   pub long : length v.bytes ≡ length b
   pub mode : v.encoding ≡ Compressed
   pub plain : v.canonical ≡ false
-  pub limit : v.name_limit ≡ 120
-  pub counted : v.names ≤ 120
+  pub limit : v.name_limit ≡ usual_names
+  pub counted : v.names ≤ usual_names
   pub precede : CandidatesPrecede v
   pub candidates : All (InBoth v.bytes b) v.candidates
 

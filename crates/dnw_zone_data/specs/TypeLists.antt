@@ -6,14 +6,15 @@ use Rattle.dnw_base.specs.declared.record_type.RecordType.{RecordType}
 use Rattle.dnw_base.specs.RecordTypes.{type_text, type_of_code, type_of_text}
 use Rattle.dnw_data.specs.declared.kind.ListKind.TheVariants as lists
 use Rattle.dnw_data.specs.Values.{FieldValue, types, items}
-use Rattle.dnw_data.specs.TypeSets.{IsSetOf, Encodes, set_codes, octets_codes, window_size, max_octets}
+use Rattle.dnw_data.specs.TypeSets.{IsSetOf, Encodes, set_codes, octets_codes, window_size}
+use Rattle.dnw_base.specs.Limits.{max_window}
 use Rattle.dnw_zone_data.specs.Words.{after_spaces, word, after_word}
 
 -- ---- printing
 
 -- the octets of a window that is as short as it can be: at most 32, and the last has a bit
 abbrev pub is_window : List ℕ → Bool
-is_window octets = nat_le (length octets) max_octets && not (slice_index octets (length octets - 1) == 0)
+is_window octets = nat_le (length octets) max_window && not (slice_index octets (length octets - 1) == 0)
 
 -- the codes of a bitmap of at most so many windows, if each is as short as it can be (RFC 4034, section 4.1.2)
 abbrev pub codes_within : ℕ → List ℕ → Option (List ℕ)

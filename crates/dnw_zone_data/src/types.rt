@@ -6,13 +6,11 @@ ghost use Rattle.dnw_zone_data.specs.TypeLists.{codes_text, is_window, PrintsTyp
 ghost use Rattle.dnw_zone_data.specs.Appending.{Appended, AppendedInPart, AppendsOne};
 
 use crate::words::{after_spaces, split_word};
+use dnw_base::limits::MAX_WINDOW;
 use dnw_base::record_type::RecordType;
 use dnw_data::record_type_set::RecordTypeSet;
 use std::alloc::{AllocError, Global};
 use std::str;
-
-/// The most octets of a window: one bit for each of its 256 codes (RFC 4034, section 4.1.2).
-const MAX_OCTETS: usize = 32;
 
 /// Appends the types of a bitmap, each after a space. Returns `false` if a window could be shorter, or is cut; nothing is changed
 /// then.
@@ -53,7 +51,7 @@ fn is_window(octets: &[u8]) -> bool
     ensures { result ≡ is_window octets.now }
 {
     match octets.last() {
-        Some(last) => octets.len() <= MAX_OCTETS && *last != 0,
+        Some(last) => octets.len() <= MAX_WINDOW && *last != 0,
         None => false,
     }
 }

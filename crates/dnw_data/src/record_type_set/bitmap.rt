@@ -4,11 +4,9 @@ ghost use Rattle.dnw_base.specs.RecordTypes.{type_of_code};
 ghost use Rattle.dnw_data.specs.TypeSets.{windows_of, in_bounds, ends_in_zeros, bit_codes, octet_codes, octets_codes, windows_codes};
 ghost use Rattle.dnw_data.specs.Inside.Bitmaps.{SplitsWindow, window_fits};
 
+use dnw_base::limits::MAX_WINDOW;
 use dnw_base::record_type::RecordType;
 use std::alloc::AllocError;
-
-/// The most octets of a window: one bit for each of its 256 codes.
-const MAX_OCTETS: usize = 32;
 
 /// Appends the type of a bit of an octet, if it is set. There is room for it.
 #[inline(always)]
@@ -81,7 +79,7 @@ pub fn push_windows(types: &mut Vec<RecordType>, bitmap: &[u8]) -> Result<(), Al
 {
     let mut rest = bitmap;
     while let Some((number, octets, others)) = split_window(rest) {
-        let (octets, _) = split_at_most(octets, MAX_OCTETS);
+        let (octets, _) = split_at_most(octets, MAX_WINDOW);
         push_octets(types, 256 * number as u16, octets)?;
         rest = others;
     }
@@ -112,6 +110,6 @@ fn window_fits(octets: &[u8], others: &[u8]) -> bool
 fn ends_in_zeros(octets: &[u8]) -> bool
     ensures { result ≡ ends_in_zeros octets.now }
 {
-    let (_, others) = split_at_most(octets, MAX_OCTETS);
+    let (_, others) = split_at_most(octets, MAX_WINDOW);
     others.iter().all(|octet| *octet == 0)
 }

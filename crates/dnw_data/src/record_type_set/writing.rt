@@ -1,18 +1,17 @@
 //! Writing type bitmaps (RFC 4034, section 4.1.2).
 ghost use Rattle.std.specs.Prelude.{◌≡◌, ℕ, ◌+◌, ◌*◌, ◌≤◌, ◌<◌, ◌++◌, [], take, length, OnOk, OnErr, IfOk};
 ghost use Rattle.smallvec.specs.SmallVec.{small_vec_len};
-ghost use Rattle.dnw_data.specs.TypeSets.{octet_codes, octets_codes, EndsInBit, max_octets, Encodes};
+ghost use Rattle.dnw_data.specs.TypeSets.{octet_codes, octets_codes, EndsInBit, Encodes};
+ghost use Rattle.dnw_base.specs.Limits.{max_window};
 ghost use Rattle.dnw_data.specs.Inside.Bitmaps.{Above, code_if, with_bit, PushesWindow};
 
 use super::Encoding;
+use dnw_base::limits::MAX_WINDOW;
 use smallvec::SmallVec;
 use std::alloc::{AllocError, Global};
 
-/// The most octets of a window.
-const MAX_OCTETS: usize = 32;
-
 /// The octets of a window.
-type Octets = SmallVec<u8, MAX_OCTETS>;
+type Octets = SmallVec<u8, MAX_WINDOW>;
 
 /// Takes the codes of an octet, of which the highest bit stands for the code `first`. Returns the octet and the codes
 /// that are left.
@@ -107,7 +106,7 @@ pub fn write_windows(alloc: Global, codes: &[u16]) -> Result<Encoding, AllocErro
 
 /// Appends a window without the octets after its last bit.
 fn push_window(bytes: &mut Encoding, number: u8, octets: &[u8]) -> Result<(), AllocError>
-    requires { length octets.now ≤ max_octets }
+    requires { length octets.now ≤ max_window }
     ensures { OnOk result (PushesWindow number octets.now bytes.old.items bytes.new.items) }
 {
     let len = used_len(octets);
