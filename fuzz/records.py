@@ -148,6 +148,15 @@ def field(kind):
         "types": types,
         "parameters": params,
         "octets": rest,
+        "long time": lambda: number(6),
+        "locator": lambda: number(8),
+        "long octets": lambda: counted_by_two(octets(0, 1, 16, 32, 300)),
+        "location": loc,
+        "gateway": gateway,
+        "relay": relay,
+        "host identity": host_identity,
+        "prefixes": prefixes,
+        "names": lambda: b"".join(name() for _ in range(one_of(0, 0, 1, 3))),
     }
     return makers[kind]()
 
@@ -175,21 +184,36 @@ def loc():
     return b"\0" + sizes + struct.pack("!III", *places, one_of(10000000, random.getrandbits(32), random.getrandbits(24)))
 
 
-def ipseckey():
+def counted_by_two(octets):
+    return struct.pack("!H", len(octets)) + octets
+
+
+def gateway_of(kind):
+    return (b"", random.randbytes(4), random.randbytes(16), name())[kind]
+
+
+def gateway():
     kind = one_of(0, 1, 2, 3, 3)
-    gateway = (b"", random.randbytes(4), random.randbytes(16), name())[kind]
-    return number(1) + bytes([kind]) + number(1) + gateway + octets(1, 2, 3, 70)
+    return bytes([kind]) + number(1) + gateway_of(kind)
 
 
-def hip():
+def relay():
+    kind = one_of(0, 1, 2, 3, 3)
+    return bytes([one_of(0, 128) + kind]) + gateway_of(kind)
+
+
+def host_identity():
     hit, key = octets(1, 16, 16, 255), octets(1, 2, 3, 70, 300)
-    servers = b"".join(name() for _ in range(one_of(0, 0, 1, 3)))
-    return bytes([len(hit)]) + number(1) + struct.pack("!H", len(key)) + hit + key + servers
+    return bytes([len(hit)]) + number(1) + struct.pack("!H", len(key)) + hit + key
 
 
-def mostly(maker):
-    """Puts data of the form that a type has in place of nine of ten octets by chance."""
-    return lambda values: [maker()] if random.random() < 0.9 else values
+def prefixes():
+    made = b""
+    for _ in range(one_of(0, 1, 1, 2, 5)):
+        family = one_of(1, 1, 2)
+        address = octets(0, 1, 4 if family == 1 else 16).rstrip(b"\0")
+        made += struct.pack("!HBB", family, random.randint(0, 32 if family == 1 else 128), one_of(0, 128) + len(address)) + address
+    return made
 
 
 # What changes the data of types of which the others know more than docs/DATA.md says.
@@ -197,9 +221,6 @@ SHAPES = {
     "DS": with_digest({1: 20, 2: 32, 4: 48}),
     "CDS": with_digest({1: 20, 2: 32, 4: 48}),
     "ZONEMD": with_digest({1: 48, 2: 64}),
-    "LOC": mostly(loc),
-    "IPSECKEY": mostly(ipseckey),
-    "HIP": mostly(hip),
 }
 
 

@@ -281,11 +281,20 @@ enum dnw_field_kind {
     DNW_FIELD_TIME = 6,   /* a time of 4 octets, in seconds since 1970, as a serial number (RFC 4034, section 3.1.5) */
     DNW_FIELD_TEXT = 7,   /* a text: a character string (RFC 1035, section 3.3) without its length octet, or the rest of
                              the data if that is text */
-    DNW_FIELD_OCTETS = 8, /* other octets: the rest of the data, or as many as the length octet before them says */
+    DNW_FIELD_OCTETS = 8, /* other octets: the rest of the data, or as many as the length before them says, which has one
+                             octet or two */
     DNW_FIELD_TEXTS = 9,  /* one or more character strings up to the end, each with a length octet before it */
     DNW_FIELD_TYPES = 10, /* a type bitmap, which dnw_types_read reads (RFC 4034, section 4.1.2) */
-    DNW_FIELD_PARAMS = 11 /* service parameters with ascending keys, each two octets of key, two of length, and as many
-                             octets as that (RFC 9460, section 2.2) */
+    DNW_FIELD_PARAMS = 11, /* service parameters with ascending keys, each two octets of key, two of length, and as many
+                              octets as that (RFC 9460, section 2.2) */
+    DNW_FIELD_LOCATION = 12, /* a location: 16 octets if the first, the version, is 0 (RFC 1876, section 2) */
+    DNW_FIELD_GATEWAY = 13,  /* the type of a gateway, an algorithm, and the gateway (RFC 4025, sections 2.3 to 2.5) */
+    DNW_FIELD_RELAY = 14,    /* a bit and 7 bits of the type of a relay, and the relay (RFC 8777, section 4.2) */
+    DNW_FIELD_HOST_IDENTITY = 15, /* the length of a tag, an algorithm, two octets of the length of a key, the tag and the
+                                     key (RFC 8005, section 5) */
+    DNW_FIELD_PREFIXES = 16, /* address prefixes, each two octets of family, one of prefix length, a bit that negates it
+                                and 7 bits of length, and as many octets as that (RFC 3123, section 4) */
+    DNW_FIELD_NAMES = 17     /* names in their wire form, one after another */
 };
 
 /* A field: the `len` octets at offset `offset` of the message. `kind` is of enum dnw_field_kind. */

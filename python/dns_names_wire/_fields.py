@@ -12,8 +12,21 @@ from ._library import FORM_SIZE, Fields, Form, ReadName, library, taken
 from ._names import Name
 from ._types import TypeSet
 
+# An address prefix: its family, its length in bits, whether it is negated, and its octets (RFC 3123, section 4).
+Prefix = Tuple[int, int, bool, bytes]
+
 FieldValue = Union[
-    Name, int, IPv4Address, IPv6Address, RecordType, bytes, Tuple[bytes, ...], TypeSet, Tuple[Tuple[int, bytes], ...]
+    Name,
+    int,
+    IPv4Address,
+    IPv6Address,
+    RecordType,
+    bytes,
+    Tuple[bytes, ...],
+    TypeSet,
+    Tuple[Tuple[int, bytes], ...],
+    Tuple[Prefix, ...],
+    Tuple[Name, ...],
 ]
 
 _END, _NAME = 0, 1
@@ -43,6 +56,26 @@ def pairs(octets: bytes) -> Tuple[Tuple[int, bytes], ...]:
     return tuple(found)
 
 
+def _prefixes(octets: bytes) -> Tuple[Prefix, ...]:
+    """Returns address prefixes. Each is two octets of family, one of length in bits, a bit that negates it and 7 of
+    length in octets, and as many octets as that."""
+    found, at = [], 0
+    while at < len(octets):
+        end = at + 4 + (octets[at + 3] & 127)
+        found.append((_number(octets[at : at + 2]), octets[at + 2], octets[at + 3] > 127, octets[at + 4 : end]))
+        at = end
+    return tuple(found)
+
+
+def _whole_names(octets: bytes) -> Tuple[Name, ...]:
+    """Returns names, each in its wire form."""
+    found, at = [], 0
+    while at < len(octets):
+        name, at = _read(octets, len(octets), at)
+        found.append(name)
+    return tuple(found)
+
+
 # The value of each kind of field except names, by its number in dns_names_wire.h.
 _VALUES: Dict[int, Callable[[bytes], FieldValue]] = {
     2: _number,
@@ -55,6 +88,12 @@ _VALUES: Dict[int, Callable[[bytes], FieldValue]] = {
     9: _texts,
     10: TypeSet.from_bitmap,
     11: pairs,
+    12: bytes,
+    13: bytes,
+    14: bytes,
+    15: bytes,
+    16: _prefixes,
+    17: _whole_names,
 }
 
 

@@ -35,6 +35,18 @@ pub enum Field<'a> {
     Types(TypeSet),
     /// Service parameters, each a key and its value (RFC 9460, section 2.2).
     Params(Pairs<'a>),
+    /// A location: 16 octets if the first, the version, is 0 (RFC 1876, section 2).
+    Location(&'a [u8]),
+    /// The type of a gateway, an algorithm, and the gateway (RFC 4025, sections 2.3 to 2.5).
+    Gateway(&'a [u8]),
+    /// A bit and 7 bits of the type of a relay, and the relay (RFC 8777, section 4.2).
+    Relay(&'a [u8]),
+    /// The length of a tag, an algorithm, two octets of the length of a key, the tag and the key (RFC 8005, section 5).
+    HostIdentity(&'a [u8]),
+    /// Address prefixes (RFC 3123, section 4).
+    Prefixes(Prefixes<'a>),
+    /// Names in their wire form, one after another (RFC 8005, section 5).
+    Names(Names<'a>),
 }
 
 /// An iterator over the fields of the data of a record. See [`Record::fields`](crate::Record::fields).
@@ -81,6 +93,12 @@ impl<'a> Fields<'a> {
             9 => Field::Texts(Texts(octets)),
             10 => Field::Types(TypeSet::from_bitmap(octets)?),
             11 => Field::Params(Pairs(octets)),
+            12 => Field::Location(octets),
+            13 => Field::Gateway(octets),
+            14 => Field::Relay(octets),
+            15 => Field::HostIdentity(octets),
+            16 => Field::Prefixes(Prefixes(octets)),
+            17 => Field::Names(Names { octets, offset: 0 }),
             _ => Field::Octets(octets),
         }))
     }
@@ -449,3 +467,87 @@ impl<'a> Iterator for Pairs<'a> {
 }
 
 impl FusedIterator for Pairs<'_> {}
+
+/// An address prefix of a list (RFC 3123, section 4).
+#[derive(Clone, Copy, Debug, PartialEq, Eq)]
+pub struct Prefix<'a> {
+    /// The family of the address: 1 for IPv4, 2 for IPv6.
+    pub family: u16,
+    /// The length of the prefix, in bits.
+    pub length: u8,
+    /// Whether the prefix is negated.
+    pub is_negated: bool,
+    /// The octets of the address, without zeros at the end.
+    pub octets: &'a [u8],
+}
+
+/// Address prefixes up to the end of the data.
+///
+/// ```
+/// use dns_names_wire::{Field, Record};
+///
+/// // the root, APL !1:192.168.38.0/28
+/// let record = Record::read(b"\0\0\x2A\0\x01\0\0\0\0\0\x07\0\x01\x1C\x83\xC0\xA8\x26", 0)?;
+/// match record.fields().next() {
+///     Some(Ok(Field::Prefixes(mut prefixes))) => {
+///         let prefix = prefixes.next().unwrap();
+///         assert_eq!((prefix.family, prefix.length, prefix.is_negated), (1, 28, true));
+///         assert_eq!(prefix.octets, [192, 168, 38]);
+///     }
+///     other => panic!("{other:?}"),
+/// }
+/// # Ok::<(), dns_names_wire::Error>(())
+/// ```
+#[derive(Clone, Debug, PartialEq, Eq)]
+pub struct Prefixes<'a>(&'a [u8]);
+
+impl<'a> Iterator for Prefixes<'a> {
+    type Item = Prefix<'a>;
+
+    fn next(&mut self) -> Option<Prefix<'a>> {
+        let (head, rest) = (self.0.get(..4)?, &self.0[4..]);
+        let (octets, rest) = rest.split_at(usize::from(head[3] & 127).min(rest.len()));
+        self.0 = rest;
+        let family = u16::from_be_bytes([head[0], head[1]]);
+        Some(Prefix { family, length: head[2], is_negated: head[3] > 127, octets })
+    }
+}
+
+impl FusedIterator for Prefixes<'_> {}
+
+/// Names in their wire form up to the end of the data.
+///
+/// ```
+/// use dns_names_wire::{Field, Record};
+///
+/// // the root, HIP 1 00 00 a.
+/// let record = Record::read(b"\0\0\x37\0\x01\0\0\0\0\0\x09\x01\x01\0\x01\0\0\x01a\0", 0)?;
+/// match record.fields().last() {
+///     Some(Ok(Field::Names(mut names))) => assert_eq!(names.next().unwrap().to_string(), "a."),
+///     other => panic!("{other:?}"),
+/// }
+/// # Ok::<(), dns_names_wire::Error>(())
+/// ```
+#[derive(Clone, Debug, PartialEq, Eq)]
+pub struct Names<'a> {
+    octets: &'a [u8],
+    offset: usize,
+}
+
+impl<'a> Iterator for Names<'a> {
+    type Item = NameRef<'a>;
+
+    fn next(&mut self) -> Option<NameRef<'a>> {
+        if self.offset == self.octets.len() {
+            return None;
+        }
+        let start = self.offset;
+        while let Some(len) = self.octets.get(self.offset).filter(|len| **len > 0) {
+            self.offset += 1 + usize::from(*len);
+        }
+        self.offset += 1;
+        Some(NameRef::checked(self.octets, start, self.offset))
+    }
+}
+
+impl FusedIterator for Names<'_> {}

@@ -74,7 +74,7 @@ mod writer;
 pub use builder::MessageBuilder;
 pub use codes::{Class, RecordType, SerialNumber};
 pub use error::{Error, ErrorKind, Section, TextFault, TextRule};
-pub use field::{Field, Fields, Pairs, Texts};
+pub use field::{Field, Fields, Names, Pairs, Prefix, Prefixes, Texts};
 pub use header::{Header, OpCode, ResponseCode};
 pub use message::{Edns, Message, Question, Questions, SectionRecords};
 pub use name::{sort_names, Labels, Name};

@@ -68,6 +68,9 @@ pub use Rattle.dnw_data.specs.DataLaws
 pub use Rattle.dnw_data.specs.Fields
 pub use Rattle.dnw_data.specs.Items
 pub use Rattle.dnw_data.specs.Lists
+pub use Rattle.dnw_data.specs.Prefixes
+pub use Rattle.dnw_data.specs.Shapes
+pub use Rattle.dnw_data.specs.WholeNames
 pub use Rattle.dnw_data.specs.Table
 pub use Rattle.dnw_data.specs.Values
 pub use Rattle.dnw_data.specs.Walks

@@ -120,6 +120,7 @@ pub use Rattle.dnw_data.specs.FieldWires.{AppendsWire, IsFieldValue, IsLong, fie
 pub use Rattle.dnw_data.specs.Fields.{FailsField, FailsName, FailsOwn, TakesField, TakesNameField, TakesOwn}
 pub use Rattle.dnw_data.specs.Items.{NextItem}
 pub use Rattle.dnw_data.specs.Lists.{ItemsValue, count_of, item_size, list_fault, may_come, out_of_order, tag_of}
+pub use Rattle.dnw_data.specs.Shapes.{FailsShape, IsShaped, ShapedValue, shape_fault, shape_size}
 unfoldable pub use Rattle.dnw_data.specs.Table.{fields_of}
 pub use Rattle.dnw_data.specs.Values.{FieldValue, counted_size, own_fault, own_size, own_value, seen}
 pub use Rattle.dnw_data.specs.Walks.{FieldsAre, FieldsLeft, IsEnded, NextField, fields_at, steps_left}

@@ -109,9 +109,10 @@ pub mod field_text {
 pub mod fields {
     pub use dnw_data::field::Field;
     pub use dnw_data::fields::{FieldError, Fields};
-    pub use dnw_data::kind::{Kind, ListKind, NameForm, Shown};
+    pub use dnw_data::kind::{Kind, ListKind, NameForm, Shape, Shown};
     pub use dnw_data::laws::{fields_are_walked, one_reading};
     pub use dnw_data::lists::{Item, Items};
+    pub use dnw_data::shapes::Shaped;
     pub use dnw_data::table::fields_of;
 }
 

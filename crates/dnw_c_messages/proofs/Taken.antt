@@ -1,12 +1,13 @@
 -- A field that is read at an offset of a message.
-use Rattle.std.proofs.Common.{◌≡◌, ℕ, ◌+◌, ◌≤◌, List, length, Result, Ok, Err, ap, ◌∙◌, subst, arith}
+use Rattle.std.proofs.Common.{◌≡◌, ℕ, ◌+◌, ◌≤◌, List, [], ◌∷◌, length, drop, Result, Ok, Err, ap, ◌∙◌, subst, arith}
 use Rattle.std.specs.Prelude.{⊤}
 use Rattle.dnw_base.specs.declared.error.DecodeError.{DecodeError}
 use Rattle.dnw_base.specs.declared.error.DecodeError.TheVariants.{InsufficientBytes}
 use Rattle.dnw_base.specs.Decoder.{Decoder, Takes}
 use Rattle.dnw_data.proofs.Taking.{moves_on}
 use Rattle.dnw_data.specs.Fields.{TakesField}
-use Rattle.dnw_data.specs.Values.{FieldValue}
+use Rattle.dnw_data.specs.Values.{FieldValue, long_counted_size}
+use Rattle.dnw_data.proofs.Shaping.{long_is}
 use Rattle.dnw_data.specs.declared.kind.Kind.{Kind}
 use Rattle.dnw_data.specs.declared.kind.Kind.TheVariants as kinds
 use Rattle.dnw_c_base.specs.Offsets.{at_offset}
@@ -21,10 +22,20 @@ skipped_to first after message p (Ok done) is within takes =
 skipped_to first after message p (Err InsufficientBytes) is within takes = absurd (takes.0 (rw is (omega (arith, within))))
 skipped_to first after message p (Err error) is within takes = absurd takes
 
+-- a length of two octets is part of what it counts
+long_more : (left : List ℕ) → 2 ≤ long_counted_size left
+long_more [] = omega arith
+long_more (a ∷ []) = omega arith
+long_more (a ∷ b ∷ left) = omega (arith, long_is a b left)
+
 -- a field has what is before its value
 past_head : (kind : Kind) (d after : Decoder) (v : FieldValue) → TakesField kind d v after → d.index + head_of kind ≤ after.index
 past_head (kinds.Counted shown) d after v h =
     let there = ap (λ (x : Decoder). x.index) h.3 in omega (arith, there)
+past_head (kinds.LongCounted shown) d after v h =
+    let there = ap (λ (x : Decoder). x.index) h.3 in
+    let more = long_more (drop d.index d.bytes) in
+    omega (arith, there, more)
 past_head kind d after v h =
     let (later, same) = moves_on kind d after v h in omega (arith, later)
 

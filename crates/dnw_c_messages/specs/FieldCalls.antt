@@ -6,6 +6,7 @@ use Rattle.dnw_data.specs.Values.{FieldValue}
 use Rattle.dnw_data.specs.declared.kind.Kind.{Kind}
 use Rattle.dnw_data.specs.declared.kind.Kind.TheVariants as kinds
 use Rattle.dnw_data.specs.declared.kind.ListKind.TheVariants as lists
+use Rattle.dnw_data.specs.declared.kind.Shape.TheVariants as shapes
 use Rattle.dnw_data.specs.declared.kind.Shown.TheVariants.{Text, Tag}
 use Rattle.dnw_base.specs.declared.error.DecodeError.{DecodeError}
 use Rattle.dnw_c_base.specs.Failures.{of_decode}
@@ -23,6 +24,8 @@ field_kind kinds.U16 = 2
 field_kind kinds.U32 = 2
 field_kind kinds.U48 = 2
 field_kind kinds.U64 = 2
+field_kind kinds.LongTime = 2
+field_kind kinds.Locator = 2
 field_kind kinds.Ipv4 = 3
 field_kind kinds.Ipv6 = 4
 field_kind kinds.TypeCode = 5
@@ -31,14 +34,22 @@ field_kind (kinds.Counted Text) = 7
 field_kind (kinds.Counted Tag) = 7
 field_kind (kinds.Octets Text) = 7
 field_kind (kinds.Counted shown) = 8
+field_kind (kinds.LongCounted shown) = 8
 field_kind (kinds.Octets shown) = 8
 field_kind (kinds.List lists.Texts) = 9
 field_kind (kinds.List lists.Types) = 10
 field_kind (kinds.List lists.Params) = 11
+field_kind (kinds.Shaped shapes.Location) = 12
+field_kind (kinds.Shaped shapes.Gateway) = 13
+field_kind (kinds.Shaped shapes.Relay) = 14
+field_kind (kinds.Shaped shapes.HostIdentity) = 15
+field_kind (kinds.List lists.Prefixes) = 16
+field_kind (kinds.List lists.Names) = 17
 
--- how many octets of a field are before its value: the length octet of octets that are counted
+-- how many octets of a field are before its value: the length of octets that are counted
 abbrev pub head_of : Kind → ℕ
 head_of (kinds.Counted shown) = 1
+head_of (kinds.LongCounted shown) = 2
 head_of kind = 0
 
 -- what C learns of a field that goes from p to e

@@ -10,7 +10,7 @@ use dnw_base::error::DecodeError;
 use dnw_base::record_type::RecordType;
 use dnw_c_base::failure::{Failure, of_decode};
 use dnw_data::field::Field;
-use dnw_data::kind::{Kind, ListKind, Shown};
+use dnw_data::kind::{Kind, ListKind, Shape, Shown};
 use dnw_data::table::fields_of;
 
 /// Where the next field of the data of a record is: its offset in the message, and the number of the fields before it.
@@ -123,6 +123,7 @@ fn head_of(kind: Kind) -> usize
 {
     match kind {
         Kind::Counted(_) => 1,
+        Kind::LongCounted(_) => 2,
         _ => 0,
     }
 }
@@ -134,14 +135,21 @@ fn field_kind(kind: Kind) -> u32
     match kind {
         Kind::Name(_) => 1,
         Kind::U8 | Kind::U16 | Kind::U32 | Kind::U48 | Kind::U64 => 2,
+        Kind::LongTime | Kind::Locator => 2,
         Kind::Ipv4 => 3,
         Kind::Ipv6 => 4,
         Kind::TypeCode => 5,
         Kind::Time => 6,
         Kind::Counted(Shown::Text | Shown::Tag) | Kind::Octets(Shown::Text) => 7,
-        Kind::Counted(_) | Kind::Octets(_) => 8,
+        Kind::Counted(_) | Kind::LongCounted(_) | Kind::Octets(_) => 8,
         Kind::List(ListKind::Texts) => 9,
         Kind::List(ListKind::Types) => 10,
         Kind::List(ListKind::Params) => 11,
+        Kind::Shaped(Shape::Location) => 12,
+        Kind::Shaped(Shape::Gateway) => 13,
+        Kind::Shaped(Shape::Relay) => 14,
+        Kind::Shaped(Shape::HostIdentity) => 15,
+        Kind::List(ListKind::Prefixes) => 16,
+        Kind::List(ListKind::Names) => 17,
     }
 }

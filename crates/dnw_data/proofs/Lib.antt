@@ -1,4 +1,5 @@
 pub mod Addresses
+pub mod Shaping
 pub mod Checking
 pub mod Taking
 pub mod Walking

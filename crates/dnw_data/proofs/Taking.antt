@@ -1,8 +1,9 @@
 -- At each offset there is one field of a kind at most, or one reason why there is none.
-use Rattle.std.proofs.Common.{◌≡◌, ◌+◌, ◌⊎◌, Option, Some, None, length, Result, Ok, Err, IfOk, IfErr, inl, inr, refl, sym, ap, ◌∙◌, ◌≤◌, arith, rules}
+use Rattle.std.proofs.Common.{◌≡◌, ℕ, ◌+◌, ◌-◌, ◌⊎◌, take, drop, subst, length-drop, Option, Some, None, length, Result, Ok, Err, IfOk, IfErr, inl, inr, refl, sym, ap, ◌∙◌, ◌≤◌, arith, rules}
 use Rattle.std.specs.Result.{IsErrOf, IsOkAnd}
 use Rattle.dnw_base.specs.declared.error.DecodeError.{DecodeError}
 use Rattle.std.proofs.lemmas.Bool.{cases_lt}
+use Rattle.std.proofs.lemmas.List.{length-take-le}
 use Rattle.dnw_base.specs.declared.error.DecodeError.TheVariants.{InsufficientBytes}
 use Rattle.dnw_base.specs.Decoder.{Decoder, HasLeft, advanced}
 use Rattle.dnw_name_read.proofs.Counts.{Reads_own}
@@ -12,8 +13,30 @@ use Rattle.dnw_data.specs.declared.kind.Kind.{Kind}
 use Rattle.dnw_data.specs.declared.kind.Kind.TheVariants.{Name}
 use Rattle.dnw_data.specs.declared.kind.NameForm.{NameForm}
 use Rattle.dnw_data.specs.declared.field.Field.{Field}
-use Rattle.dnw_data.specs.Values.{FieldValue, name, own_fault, own_value, seen}
+use Rattle.dnw_data.specs.Values.{FieldValue, name, own_fault, own_size, own_value, seen}
+use Rattle.dnw_data.proofs.Checking.{rest_is}
+use Rattle.dnw_data.proofs.Shaping.{own_sized}
 use Rattle.dnw_data.specs.Fields.{TakesField, FailsField, TakesOwn, FailsOwn, own_at, size_at}
+
+-- the octets of a field, of those that a reader has left
+pub own_read : (kind : Kind) (d : Decoder) (size : ℕ) → d.index ≤ length d.bytes
+    → size ≡ own_size kind (take (length d.bytes - d.index) (drop d.index d.bytes))
+    → size ≤ length (take (length d.bytes - d.index) (drop d.index d.bytes))
+    → (HasLeft d (size_at kind d) × (take size (take (length d.bytes - d.index) (drop d.index d.bytes)) ≡ own_at kind d))
+    × (length (take size (take (length d.bytes - d.index) (drop d.index d.bytes))) ≡ size_at kind d)
+    × (length (take size (take (length d.bytes - d.index) (drop d.index d.bytes)))
+    ≡ own_size kind (take size (take (length d.bytes - d.index) (drop d.index d.bytes))))
+own_read kind d size within is few =
+    let all = drop d.index d.bytes in
+    let left = take (length d.bytes - d.index) all in
+    let whole : left ≡ all = rest_is d.index d.bytes in
+    let same : size ≡ size_at kind d = is ∙ ap (own_size kind) whole in
+    let many : d.index + size_at kind d - d.index ≡ size = omega (arith, same) in
+    let alone = own_sized kind left (omega (arith, is, few)) in (
+      (omega (arith, same, few, ap length whole, length-drop d.index d.bytes, within), ap (take size) whole ∙ ap (λ n. take n all) (sym many)),
+      length-take-le size left few ∙ same,
+      subst (λ n. length (take n left) ≡ own_size kind (take n left)) (sym is) alone,
+    )
 
 pub own_unique : (kind : Kind) (d : Decoder) (v v' : FieldValue) (after after' : Decoder) → TakesOwn kind d v after → TakesOwn kind d v' after'
     → (v ≡ v') × (after ≡ after')

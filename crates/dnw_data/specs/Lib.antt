@@ -1,5 +1,8 @@
 pub mod Table
+pub mod WholeNames
+pub mod Prefixes
 pub mod Lists
+pub mod Shapes
 pub mod Values
 pub mod Fields
 pub mod FieldWires

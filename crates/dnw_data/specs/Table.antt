@@ -1,11 +1,12 @@
 -- The fields of the data of each record type, by the type's code. Each row names the RFC and its section.
-use Rattle.std.specs.Prelude.{ℕ, ◌==◌, List, [], ◌∷◌, find, unwrap_or}
+use Rattle.std.specs.Prelude.{ℕ, ◌==◌, List, [], ◌∷◌, ◌++◌, find, unwrap_or}
 use Rattle.dnw_data.specs.declared.kind.Kind.{Kind}
-use Rattle.dnw_data.specs.declared.kind.Kind.TheVariants.{Name, U8, U16, U32, U48, U64, Ipv4, Ipv6, TypeCode, Time, Counted, Octets}
+use Rattle.dnw_data.specs.declared.kind.Kind.TheVariants.{Name, U8, U16, U32, U48, U64, Ipv4, Ipv6, TypeCode, Time, LongTime, Locator, Counted, LongCounted, Shaped, Octets}
 use Rattle.dnw_data.specs.declared.kind.Kind.TheVariants as kinds
 use Rattle.dnw_data.specs.declared.kind.ListKind.TheVariants as lists
 use Rattle.dnw_data.specs.declared.kind.NameForm.TheVariants.{Compressible, Lowered, Plain}
-use Rattle.dnw_data.specs.declared.kind.Shown.TheVariants.{Text, Tag, Hex, Base32Hex, Base64}
+use Rattle.dnw_data.specs.declared.kind.Shown.TheVariants.{Text, Tag, Hex, Base32Hex, Base64, Other}
+use Rattle.dnw_data.specs.declared.kind.Shape.TheVariants as shapes
 
 -- A row of the table: a type's code, and the kinds of its fields.
 pub record Row : Type 0 where
@@ -35,6 +36,13 @@ hex = Octets Hex
 abbrev pub base64 : Kind
 base64 = Octets Base64
 
+-- in a form of the type's own
+abbrev pub other : Kind
+other = Octets Other
+
+abbrev pub long : Kind
+long = LongCounted Base64
+
 abbrev pub texts : Kind
 texts = kinds.List lists.Texts
 
@@ -44,9 +52,15 @@ types = kinds.List lists.Types
 abbrev pub params : Kind
 params = kinds.List lists.Params
 
--- the table of the types
-abbrev pub table : List Row
-table =
+abbrev pub prefixes : Kind
+prefixes = kinds.List lists.Prefixes
+
+abbrev pub names : Kind
+names = kinds.List lists.Names
+
+-- the types of a code below 45
+abbrev pub early_rows : List Row
+early_rows =
     row 1 (Ipv4 ∷ [])  -- A (RFC 1035, section 3.4.1)
     ∷ row 2 (name ∷ [])  -- NS (RFC 1035, section 3.3.11)
     ∷ row 3 (name ∷ [])  -- MD (RFC 1035, section 3.3.4)
@@ -57,6 +71,7 @@ table =
     ∷ row 8 (name ∷ [])  -- MG (RFC 1035, section 3.3.6)
     ∷ row 9 (name ∷ [])  -- MR (RFC 1035, section 3.3.8)
     ∷ row 10 (hex ∷ [])  -- NULL (RFC 1035, section 3.3.10)
+    ∷ row 11 (Ipv4 ∷ U8 ∷ other ∷ [])  -- WKS (RFC 1035, section 3.4.2)
     ∷ row 12 (name ∷ [])  -- PTR (RFC 1035, section 3.3.12)
     ∷ row 13 (text ∷ text ∷ [])  -- HINFO (RFC 1035, section 3.3.2)
     ∷ row 14 (name ∷ name ∷ [])  -- MINFO (RFC 1035, section 3.3.7)
@@ -64,29 +79,44 @@ table =
     ∷ row 16 (texts ∷ [])  -- TXT (RFC 1035, section 3.3.14)
     ∷ row 17 (lowered_name ∷ lowered_name ∷ [])  -- RP (RFC 1183, section 2.2)
     ∷ row 18 (U16 ∷ lowered_name ∷ [])  -- AFSDB (RFC 1183, section 1)
+    ∷ row 19 (text ∷ [])  -- X25 (RFC 1183, section 3.1)
+    ∷ row 20 (texts ∷ [])  -- ISDN (RFC 1183, section 3.2)
     ∷ row 21 (U16 ∷ lowered_name ∷ [])  -- RT (RFC 1183, section 3.3)
+    ∷ row 22 (hex ∷ [])  -- NSAP (RFC 1706, section 5)
+    ∷ row 23 (plain ∷ [])  -- NSAP-PTR (RFC 1706, section 6)
     ∷ row 24 (TypeCode ∷ U8 ∷ U8 ∷ U32 ∷ Time ∷ Time ∷ U16 ∷ lowered_name ∷ base64 ∷ [])  -- SIG (RFC 2535, section 4.1)
     ∷ row 25 (U16 ∷ U8 ∷ U8 ∷ base64 ∷ [])  -- KEY (RFC 2535, section 3.1)
     ∷ row 26 (U16 ∷ lowered_name ∷ lowered_name ∷ [])  -- PX (RFC 2163, section 4)
+    ∷ row 27 (text ∷ text ∷ text ∷ [])  -- GPOS (RFC 1712, section 3)
     ∷ row 28 (Ipv6 ∷ [])  -- AAAA (RFC 3596, section 2.2)
-    ∷ row 29 (hex ∷ [])  -- LOC (RFC 1876, section 2)
-    ∷ row 30 (lowered_name ∷ hex ∷ [])  -- NXT (RFC 2535, section 5.2)
+    ∷ row 29 (Shaped shapes.Location ∷ [])  -- LOC (RFC 1876, section 2)
+    ∷ row 30 (lowered_name ∷ other ∷ [])  -- NXT (RFC 2535, section 5.2)
     ∷ row 33 (U16 ∷ U16 ∷ U16 ∷ lowered_name ∷ [])  -- SRV (RFC 2782)
     ∷ row 35 (U16 ∷ U16 ∷ text ∷ text ∷ text ∷ lowered_name ∷ [])  -- NAPTR (RFC 3403, section 4.1)
     ∷ row 36 (U16 ∷ lowered_name ∷ [])  -- KX (RFC 2230, section 3)
     ∷ row 37 (U16 ∷ U16 ∷ U8 ∷ base64 ∷ [])  -- CERT (RFC 4398, section 2)
     ∷ row 39 (lowered_name ∷ [])  -- DNAME (RFC 6672, section 2.1)
+    ∷ row 42 (prefixes ∷ [])  -- APL (RFC 3123, section 4)
     ∷ row 43 (U16 ∷ U8 ∷ U8 ∷ hex ∷ [])  -- DS (RFC 4034, section 5.1)
     ∷ row 44 (U8 ∷ U8 ∷ hex ∷ [])  -- SSHFP (RFC 4255, section 3.1)
-    ∷ row 45 (hex ∷ [])  -- IPSECKEY (RFC 4025, section 2.1)
+    ∷ []
+
+-- the others
+abbrev pub late_rows : List Row
+late_rows =
+    row 45 (U8 ∷ Shaped shapes.Gateway ∷ base64 ∷ [])  -- IPSECKEY (RFC 4025, section 2.1)
     ∷ row 46 (TypeCode ∷ U8 ∷ U8 ∷ U32 ∷ Time ∷ Time ∷ U16 ∷ lowered_name ∷ base64 ∷ [])  -- RRSIG (RFC 4034, section 3.1)
     ∷ row 47 (plain ∷ types ∷ [])  -- NSEC (RFC 4034, section 4.1)
     ∷ row 48 (U16 ∷ U8 ∷ U8 ∷ base64 ∷ [])  -- DNSKEY (RFC 4034, section 2.1)
+    ∷ row 49 (base64 ∷ [])  -- DHCID (RFC 4701, section 3.1)
     ∷ row 50 (U8 ∷ U8 ∷ U16 ∷ Counted Hex ∷ Counted Base32Hex ∷ types ∷ [])  -- NSEC3 (RFC 5155, section 3.2)
     ∷ row 51 (U8 ∷ U8 ∷ U16 ∷ Counted Hex ∷ [])  -- NSEC3PARAM (RFC 5155, section 4.2)
     ∷ row 52 (U8 ∷ U8 ∷ U8 ∷ hex ∷ [])  -- TLSA (RFC 6698, section 2.1)
     ∷ row 53 (U8 ∷ U8 ∷ U8 ∷ hex ∷ [])  -- SMIMEA (RFC 8162, section 2)
-    ∷ row 55 (hex ∷ [])  -- HIP (RFC 8005, section 5)
+    ∷ row 55 (Shaped shapes.HostIdentity ∷ names ∷ [])  -- HIP (RFC 8005, section 5)
+    ∷ row 56 (texts ∷ [])  -- NINFO (the template NINFO of the registry)
+    ∷ row 57 (U16 ∷ U8 ∷ U8 ∷ base64 ∷ [])  -- RKEY (the template RKEY of the registry)
+    ∷ row 58 (plain ∷ plain ∷ [])  -- TALINK (the template TALINK of the registry)
     ∷ row 59 (U16 ∷ U8 ∷ U8 ∷ hex ∷ [])  -- CDS (RFC 7344, section 3.1)
     ∷ row 60 (U16 ∷ U8 ∷ U8 ∷ base64 ∷ [])  -- CDNSKEY (RFC 7344, section 3.2)
     ∷ row 61 (base64 ∷ [])  -- OPENPGPKEY (RFC 7929, section 2.1)
@@ -94,13 +124,34 @@ table =
     ∷ row 63 (U32 ∷ U8 ∷ U8 ∷ hex ∷ [])  -- ZONEMD (RFC 8976, section 2.2)
     ∷ row 64 (U16 ∷ plain ∷ params ∷ [])  -- SVCB (RFC 9460, section 2.2)
     ∷ row 65 (U16 ∷ plain ∷ params ∷ [])  -- HTTPS (RFC 9460, section 9)
+    ∷ row 66 (TypeCode ∷ U8 ∷ U16 ∷ plain ∷ [])  -- DSYNC (RFC 9859, section 2.1)
     ∷ row 99 (texts ∷ [])  -- SPF (RFC 4408, section 3.1.1)
+    ∷ row 104 (U16 ∷ Locator ∷ [])  -- NID (RFC 6742, section 2.1.1)
+    ∷ row 105 (U16 ∷ Ipv4 ∷ [])  -- L32 (RFC 6742, section 2.2.1)
+    ∷ row 106 (U16 ∷ Locator ∷ [])  -- L64 (RFC 6742, section 2.3.1)
+    ∷ row 107 (U16 ∷ plain ∷ [])  -- LP (RFC 6742, section 2.4.1)
     ∷ row 108 (U48 ∷ [])  -- EUI48 (RFC 7043, section 3.1)
     ∷ row 109 (U64 ∷ [])  -- EUI64 (RFC 7043, section 4.1)
+    ∷ row 249 (plain ∷ Time ∷ Time ∷ U16 ∷ U16 ∷ long ∷ long ∷ [])  -- TKEY (RFC 2930, section 2)
+    ∷ row 250 (plain ∷ LongTime ∷ U16 ∷ long ∷ U16 ∷ U16 ∷ long ∷ [])  -- TSIG (RFC 8945, section 4.2)
     ∷ row 256 (U16 ∷ U16 ∷ Octets Text ∷ [])  -- URI (RFC 7553, section 4.2)
     ∷ row 257 (U8 ∷ Counted Tag ∷ Octets Text ∷ [])  -- CAA (RFC 8659, section 4.1)
+    ∷ row 258 (texts ∷ [])  -- AVC (the template AVC of the registry)
+    ∷ row 259 (U32 ∷ U32 ∷ U8 ∷ text ∷ other ∷ [])  -- DOA (the template DOA of the registry)
+    ∷ row 260 (U8 ∷ Shaped shapes.Relay ∷ [])  -- AMTRELAY (RFC 8777, section 4.2)
+    ∷ row 261 (texts ∷ [])  -- RESINFO (RFC 9606, section 4)
+    ∷ row 262 (texts ∷ [])  -- WALLET (the template WALLET of the registry)
+    ∷ row 263 (texts ∷ [])  -- CLA (the template CLA of the registry)
+    ∷ row 32769 (U16 ∷ U8 ∷ U8 ∷ hex ∷ [])  -- DLV (RFC 4431, section 2)
     ∷ []
 
--- the fields of the type with this code: octets, if it is not in the table (RFC 3597)
+-- the table of the types
+abbrev pub table : List Row
+table = early_rows ++ late_rows
+
+-- the fields of the type with this code, by the rows: octets, if it is in none of them (RFC 3597)
+abbrev pub fields_in : List Row → ℕ → List Kind
+fields_in rows code = (unwrap_or (find (λ row. row.code == code) rows) (row code (hex ∷ []))).fields
+
 unfoldable pub fields_of : ℕ → List Kind
-fields_of code = (unwrap_or (find (λ row. row.code == code) table) (row code (hex ∷ []))).fields
+fields_of code = fields_in table code

@@ -2,15 +2,16 @@
 ghost use Rattle.std.specs.Prelude.{◌≡◌, ◌++◌, length, None, Some, IfOk, IfErr, OnErr, OnOk, IsErrOf, IsOkAnd};
 ghost use Rattle.std.specs.Int.{w16, w32, from_be_bytes};
 ghost use Rattle.dnw_base.specs.declared.error.DecodeError.{DecodeError};
-ghost use Rattle.dnw_base.specs.Decoder.{Decoder};
+ghost use Rattle.dnw_base.specs.Decoder.{Decoder, HasLeft};
 ghost use Rattle.dnw_base.specs.Names.{AreLabels, wire};
 ghost use Rattle.dnw_data.specs.Lists.{list_fault};
 ghost use Rattle.dnw_data.specs.FieldWires.{AppendsWire};
-ghost use Rattle.dnw_data.specs.Values.{own_size, counted, counted_size, own_fault, own_value, seen};
-ghost use Rattle.dnw_data.specs.Fields.{TakesNameField, FailsName, TakesOwn, FailsOwn};
+ghost use Rattle.dnw_data.specs.Values.{own_size, counted, counted_size, long_counted, long_counted_size, own_fault, own_value, seen};
+ghost use Rattle.dnw_data.specs.Fields.{TakesNameField, FailsName, TakesOwn, FailsOwn, own_at, size_at};
 
 use crate::kind::{Kind, ListKind};
 use crate::lists::Items;
+use crate::shapes::{Shaped, shape_size};
 use dnw_base::decoder::BinDecoder;
 use dnw_base::error::DecodeError;
 use dnw_base::limits::MAX_NAME;
@@ -53,6 +54,14 @@ pub enum Field<'r> {
     Types(Items<'r>),
     /// Service parameters.
     Params(Items<'r>),
+    /// Address prefixes.
+    Prefixes(Items<'r>),
+    /// Names in their wire form.
+    Names(Items<'r>),
+    /// Octets, without the length of two octets that is before them.
+    LongCounted(&'r [u8]),
+    /// Octets whose first ones say what follows them.
+    Shaped(Shaped<'r>),
 }
 
 impl<'r> Field<'r> {
@@ -83,7 +92,8 @@ impl<'r> Field<'r> {
     }
 
     /// Appends the octets of the field, a name in its wire form (RFC 1035, section 3.1). Returns `false` if it is `Counted`
-    /// and has more than 255 octets, which no length octet counts; then nothing is appended.
+    /// and has more than 255 octets, or `LongCounted` and has more than 65535, which its length does not count; then nothing
+    /// is appended.
     ///
     /// It fails if an allocation fails, and then nothing is appended either.
     pub fn append_to(&self, out: &mut Vec<u8>) -> Result<bool, AllocError>
@@ -104,9 +114,13 @@ impl<'r> Field<'r> {
             Field::Time(seconds) => out.extend_from_slice(&seconds.get().to_be_bytes())?,
             Field::Counted(octets) => return append_counted(octets, out),
             Field::Octets(octets) => out.extend_from_slice(octets)?,
-            Field::Texts(items) | Field::Types(items) | Field::Params(items) => {
-                append_items(items, out)?;
-            }
+            Field::Texts(items)
+            | Field::Types(items)
+            | Field::Params(items)
+            | Field::Prefixes(items)
+            | Field::Names(items) => append_items(items, out)?,
+            Field::LongCounted(octets) => return append_long_counted(octets, out),
+            Field::Shaped(shaped) => out.extend_from_slice(shaped.as_bytes())?,
         }
         Ok(true)
     }
@@ -141,6 +155,23 @@ fn append_counted(octets: &[u8], out: &mut Vec<u8>) -> Result<bool, AllocError>
     Ok(true)
 }
 
+/// Appends octets after their number, in two octets. Returns `false` if they are too many.
+fn append_long_counted(octets: &[u8], out: &mut Vec<u8>) -> Result<bool, AllocError>
+    ensures appends { IfOk result (AppendsWire (long_counted octets.now) out.old.items out.new.items) }
+    ensures same { OnErr result (out.new.items ≡ out.old.items) }
+{
+    if octets.len() > 65535 {
+        return Ok(false);
+    }
+    let before = out.len();
+    out.extend_from_slice(&(octets.len() as u16).to_be_bytes())?;
+    if let Err(error) = out.extend_from_slice(octets) {
+        out.truncate(before);
+        return Err(error);
+    }
+    Ok(true)
+}
+
 /// Appends the octets of items.
 fn append_items(items: &Items<'_>, out: &mut Vec<u8>) -> Result<(), AllocError>
     ensures appends { OnOk result (out.new.items ≡ out.old.items ++ items.now.octets) }
@@ -168,14 +199,25 @@ fn read_own<'r>(kind: Kind, reader: &mut BinDecoder<'r>) -> Result<Field<'r>, De
     ensures err { IfErr result (FailsOwn kind reader.old) }
     ensures same { OnErr result (reader.new ≡ reader.old) }
 {
+    let own = own_at(kind, reader)?;
+    let field = of_octets(kind, own)?;
+    reader.skip(own.len()).unwrap();
+    Ok(field)
+}
+
+/// Returns the octets of the field at the cursor that is no name. It fails if they are not all left.
+#[inline(always)]
+fn own_at<'r>(kind: Kind, reader: &BinDecoder<'r>) -> Result<&'r [u8], DecodeError>
+    ensures ok { IfOk result (λ own. HasLeft reader.now (size_at kind reader.now) × (own.now ≡ own_at kind reader.now)) }
+    ensures size { IfOk result (λ own. (length own.now ≡ size_at kind reader.now) × (length own.now ≡ own_size kind own.now)) }
+    ensures err { IfErr result (λ e. (¬ (HasLeft reader.now (size_at kind reader.now))) × (e ≡ DecodeError.InsufficientBytes)) }
+{
     let left = &reader.message()[reader.index()..];
     let size = own_size(kind, left);
     if left.len() < size {
         return Err(DecodeError::InsufficientBytes);
     }
-    let field = of_octets(kind, &left[..size])?;
-    reader.skip(size).unwrap();
-    Ok(field)
+    Ok(&left[..size])
 }
 
 /// Returns how many octets a field takes of those that are left. It is more than there are if the data end within it.
@@ -186,10 +228,12 @@ fn own_size(kind: Kind, left: &[u8]) -> usize
         Kind::U8 => 1,
         Kind::U16 | Kind::TypeCode => 2,
         Kind::U32 | Kind::Ipv4 | Kind::Time => 4,
-        Kind::U48 => 6,
-        Kind::U64 => 8,
+        Kind::U48 | Kind::LongTime => 6,
+        Kind::U64 | Kind::Locator => 8,
         Kind::Ipv6 => 16,
         Kind::Counted(_) => counted_size(left),
+        Kind::LongCounted(_) => long_counted_size(left),
+        Kind::Shaped(shape) => shape_size(shape, left),
         Kind::List(ListKind::Texts) => left.len().max(1),
         Kind::Name(_) | Kind::Octets(_) | Kind::List(_) => left.len(),
     }
@@ -205,7 +249,17 @@ fn counted_size(left: &[u8]) -> usize
     }
 }
 
-/// Returns the field that these octets are. Only a list may fail.
+/// Returns the size of a length of two octets and what it counts.
+fn long_counted_size(left: &[u8]) -> usize
+    ensures { result ≡ long_counted_size left.now }
+{
+    match left {
+        [a, b, ..] => 2 + usize::from(u16::from_be_bytes([*a, *b])),
+        _ => 2,
+    }
+}
+
+/// Returns the field that these octets are. Only a list and a shape may fail.
 #[inline(always)]
 fn of_octets<'r>(kind: Kind, own: &'r [u8]) -> Result<Field<'r>, DecodeError>
     requires size { length own.now ≡ own_size kind own.now }
@@ -216,18 +270,22 @@ fn of_octets<'r>(kind: Kind, own: &'r [u8]) -> Result<Field<'r>, DecodeError>
         Kind::U8 => Ok(Field::U8(own[0])),
         Kind::U16 => Ok(Field::U16(u16_of(own))),
         Kind::U32 => Ok(Field::U32(u32_of(own))),
-        Kind::U48 => Ok(Field::U48(u64::from_be_bytes([
+        Kind::U48 | Kind::LongTime => Ok(Field::U48(u64::from_be_bytes([
             0, 0, own[0], own[1], own[2], own[3], own[4], own[5],
         ]))),
-        Kind::U64 => Ok(Field::U64(u64::from_be_bytes(*own.first_chunk::<8>().unwrap()))),
+        Kind::U64 | Kind::Locator => Ok(Field::U64(u64::from_be_bytes(*own.first_chunk::<8>().unwrap()))),
         Kind::Ipv4 => Ok(Field::Ipv4(Ipv4Addr::from(*own.first_chunk::<4>().unwrap()))),
         Kind::Ipv6 => Ok(Field::Ipv6(Ipv6Addr::from(*own.first_chunk::<16>().unwrap()))),
         Kind::TypeCode => Ok(Field::TypeCode(RecordType::from(u16_of(own)))),
         Kind::Time => Ok(Field::Time(SerialNumber::new(u32_of(own)))),
         Kind::Counted(_) => Ok(Field::Counted(&own[1..])),
+        Kind::LongCounted(_) => Ok(Field::LongCounted(&own[2..])),
+        Kind::Shaped(shape) => Ok(Field::Shaped(Shaped::of_octets(shape, own)?)),
         Kind::List(ListKind::Texts) => Ok(Field::Texts(Items::new(ListKind::Texts, own)?)),
         Kind::List(ListKind::Types) => Ok(Field::Types(Items::new(ListKind::Types, own)?)),
         Kind::List(ListKind::Params) => Ok(Field::Params(Items::new(ListKind::Params, own)?)),
+        Kind::List(ListKind::Prefixes) => Ok(Field::Prefixes(Items::new(ListKind::Prefixes, own)?)),
+        Kind::List(ListKind::Names) => Ok(Field::Names(Items::new(ListKind::Names, own)?)),
         Kind::Name(_) | Kind::Octets(_) => Ok(Field::Octets(own)),
     }
 }

@@ -23,8 +23,16 @@ pub enum Kind {
     TypeCode,
     /// A time of four octets, in seconds since 1970, as a serial number (RFC 4034, section 3.1.5).
     Time,
+    /// A time of six octets, in seconds since 1970 (RFC 8945, section 4.2).
+    LongTime,
+    /// An identifier of a node, or a locator, of eight octets (RFC 6742, sections 2.1.1 and 2.3.1).
+    Locator,
     /// A length octet and that many octets: a character string (RFC 1035, section 3.3), or octets that are shown otherwise.
     Counted(Shown),
+    /// A length of two octets and that many octets (RFC 2930, sections 2.7 and 2.8; RFC 8945, section 4.2).
+    LongCounted(Shown),
+    /// Octets whose first ones say what follows them.
+    Shaped(Shape),
     /// Octets up to the end.
     Octets(Shown),
     /// Items up to the end.
@@ -55,6 +63,8 @@ pub enum Shown {
     Base32Hex,
     /// In base 64 (RFC 4648, section 4).
     Base64,
+    /// In a form of their type's own, which is not written here.
+    Other,
 }
 
 /// What the items of a list are.
@@ -66,4 +76,21 @@ pub enum ListKind {
     Types,
     /// Service parameters (RFC 9460, section 2.2).
     Params,
+    /// Address prefixes (RFC 3123, section 4).
+    Prefixes,
+    /// Names in their wire form (RFC 8005, section 5).
+    Names,
+}
+
+/// What the first octets of a field say of those that follow them.
+#[derive(Clone, Copy, Debug, PartialEq, Eq)]
+pub enum Shape {
+    /// The version of a location, and the location (RFC 1876, section 2). Octets of a version other than 0 go to the end.
+    Location,
+    /// The type of a gateway, an algorithm, and the gateway (RFC 4025, sections 2.3 to 2.5).
+    Gateway,
+    /// A flag and the type of a relay, and the relay (RFC 8777, section 4.2). A relay of an unknown type goes to the end.
+    Relay,
+    /// The length of a host identity tag, an algorithm, the length of a key, the tag and the key (RFC 8005, section 5).
+    HostIdentity,
 }

@@ -12,4 +12,6 @@ pub mod laws;
 pub mod lists;
 pub mod record_data;
 pub mod record_type_set;
+pub mod shapes;
 pub mod table;
+mod whole_name;

@@ -1,9 +1,9 @@
 //! The table of the fields of each record type.
 ghost use Rattle.std.specs.Prelude.{◌≡◌};
 ghost use Rattle.dnw_base.specs.RecordTypes.{type_code};
-ghost use Rattle.dnw_data.specs.Table.{fields_of};
+ghost use Rattle.dnw_data.specs.Table.{fields_in, fields_of, late_rows};
 
-use crate::kind::{Kind, ListKind, NameForm, Shown};
+use crate::kind::{Kind, ListKind, NameForm, Shape, Shown};
 use dnw_base::record_type::RecordType;
 
 /// A name of a type of RFC 1035.
@@ -36,6 +36,12 @@ const BASE64: Kind = Kind::Octets(Shown::Base64);
 /// Octets up to the end, shown as text.
 const VALUE: Kind = Kind::Octets(Shown::Text);
 
+/// Octets up to the end, in a form of the type's own.
+const OTHER: Kind = Kind::Octets(Shown::Other);
+
+/// A length of two octets, and octets.
+const LONG: Kind = Kind::LongCounted(Shown::Base64);
+
 /// Character strings up to the end.
 const TEXTS: Kind = Kind::List(ListKind::Texts);
 
@@ -44,6 +50,12 @@ const TYPES: Kind = Kind::List(ListKind::Types);
 
 /// Service parameters up to the end.
 const PARAMS: Kind = Kind::List(ListKind::Params);
+
+/// Address prefixes up to the end.
+const PREFIXES: Kind = Kind::List(ListKind::Prefixes);
+
+/// Names in their wire form up to the end.
+const NAMES: Kind = Kind::List(ListKind::Names);
 
 /// Returns the kinds of the fields that the data of a type have, by its code. Data of a type that is not in the table are
 /// octets (RFC 3597).
@@ -71,6 +83,7 @@ pub fn fields_of(record_type: RecordType) -> &'static [Kind]
         8 => &[NAME], // MG
         9 => &[NAME], // MR
         10 => &[HEX], // NULL
+        11 => &[Kind::Ipv4, Kind::U8, OTHER], // WKS
         12 => &[NAME], // PTR
         13 => &[TEXT, TEXT], // HINFO
         14 => &[NAME, NAME], // MINFO
@@ -78,7 +91,11 @@ pub fn fields_of(record_type: RecordType) -> &'static [Kind]
         16 => &[TEXTS], // TXT
         17 => &[LOWERED, LOWERED], // RP
         18 => &[Kind::U16, LOWERED], // AFSDB
+        19 => &[TEXT], // X25
+        20 => &[TEXTS], // ISDN
         21 => &[Kind::U16, LOWERED], // RT
+        22 => &[HEX], // NSAP
+        23 => &[PLAIN], // NSAP-PTR
         // SIG
         24 => &[
             Kind::TypeCode,
@@ -93,17 +110,28 @@ pub fn fields_of(record_type: RecordType) -> &'static [Kind]
         ],
         25 => &[Kind::U16, Kind::U8, Kind::U8, BASE64], // KEY
         26 => &[Kind::U16, LOWERED, LOWERED], // PX
+        27 => &[TEXT, TEXT, TEXT], // GPOS
         28 => &[Kind::Ipv6], // AAAA
-        29 => &[HEX], // LOC
-        30 => &[LOWERED, HEX], // NXT
+        29 => &[Kind::Shaped(Shape::Location)], // LOC
+        30 => &[LOWERED, OTHER], // NXT
         33 => &[Kind::U16, Kind::U16, Kind::U16, LOWERED], // SRV
         35 => &[Kind::U16, Kind::U16, TEXT, TEXT, TEXT, LOWERED], // NAPTR
         36 => &[Kind::U16, LOWERED], // KX
         37 => &[Kind::U16, Kind::U16, Kind::U8, BASE64], // CERT
         39 => &[LOWERED], // DNAME
+        42 => &[PREFIXES], // APL
         43 => &[Kind::U16, Kind::U8, Kind::U8, HEX], // DS
         44 => &[Kind::U8, Kind::U8, HEX], // SSHFP
-        45 => &[HEX], // IPSECKEY
+        late_code => late_fields_of(late_code),
+    }
+}
+
+/// Returns the kinds of the fields of the types with a code of 45 or more.
+fn late_fields_of(code: u16) -> &'static [Kind]
+    ensures { result.now ≡ fields_in late_rows code }
+{
+    match code {
+        45 => &[Kind::U8, Kind::Shaped(Shape::Gateway), BASE64], // IPSECKEY
         // RRSIG
         46 => &[
             Kind::TypeCode,
@@ -118,11 +146,15 @@ pub fn fields_of(record_type: RecordType) -> &'static [Kind]
         ],
         47 => &[PLAIN, TYPES], // NSEC
         48 => &[Kind::U16, Kind::U8, Kind::U8, BASE64], // DNSKEY
+        49 => &[BASE64], // DHCID
         50 => &[Kind::U8, Kind::U8, Kind::U16, SALT, HASH, TYPES], // NSEC3
         51 => &[Kind::U8, Kind::U8, Kind::U16, SALT], // NSEC3PARAM
         52 => &[Kind::U8, Kind::U8, Kind::U8, HEX], // TLSA
         53 => &[Kind::U8, Kind::U8, Kind::U8, HEX], // SMIMEA
-        55 => &[HEX], // HIP
+        55 => &[Kind::Shaped(Shape::HostIdentity), NAMES], // HIP
+        56 => &[TEXTS], // NINFO
+        57 => &[Kind::U16, Kind::U8, Kind::U8, BASE64], // RKEY
+        58 => &[PLAIN, PLAIN], // TALINK
         59 => &[Kind::U16, Kind::U8, Kind::U8, HEX], // CDS
         60 => &[Kind::U16, Kind::U8, Kind::U8, BASE64], // CDNSKEY
         61 => &[BASE64], // OPENPGPKEY
@@ -130,11 +162,43 @@ pub fn fields_of(record_type: RecordType) -> &'static [Kind]
         63 => &[Kind::U32, Kind::U8, Kind::U8, HEX], // ZONEMD
         64 => &[Kind::U16, PLAIN, PARAMS], // SVCB
         65 => &[Kind::U16, PLAIN, PARAMS], // HTTPS
+        66 => &[Kind::TypeCode, Kind::U8, Kind::U16, PLAIN], // DSYNC
         99 => &[TEXTS], // SPF
+        104 => &[Kind::U16, Kind::Locator], // NID
+        105 => &[Kind::U16, Kind::Ipv4], // L32
+        106 => &[Kind::U16, Kind::Locator], // L64
+        107 => &[Kind::U16, PLAIN], // LP
         108 => &[Kind::U48], // EUI48
         109 => &[Kind::U64], // EUI64
+        // TKEY
+        249 => &[
+            PLAIN,
+            Kind::Time,
+            Kind::Time,
+            Kind::U16,
+            Kind::U16,
+            LONG,
+            LONG,
+        ],
+        // TSIG
+        250 => &[
+            PLAIN,
+            Kind::LongTime,
+            Kind::U16,
+            LONG,
+            Kind::U16,
+            Kind::U16,
+            LONG,
+        ],
         256 => &[Kind::U16, Kind::U16, VALUE], // URI
         257 => &[Kind::U8, TAG, VALUE], // CAA
+        258 => &[TEXTS], // AVC
+        259 => &[Kind::U32, Kind::U32, Kind::U8, TEXT, OTHER], // DOA
+        260 => &[Kind::U8, Kind::Shaped(Shape::Relay)], // AMTRELAY
+        261 => &[TEXTS], // RESINFO
+        262 => &[TEXTS], // WALLET
+        263 => &[TEXTS], // CLA
+        32769 => &[Kind::U16, Kind::U8, Kind::U8, HEX], // DLV
         _ => &[HEX],
     }
 }

@@ -14,9 +14,13 @@ use Rattle.dnw_data.specs.declared.kind.ListKind.TheVariants as lists
 use Rattle.dnw_data.specs.Lists.{ItemsValue, list_fault}
 use Rattle.dnw_data.specs.Table.{Row, fields_of, hex, row, table}
 use Rattle.dnw_data.specs.Values.{FieldValue, name, u8, u16, u32, u48, u64, ipv4, ipv6, type_code, time, counted, octets, texts, types, params, items}
+use Rattle.dnw_data.specs.Values.{prefixes, names, long_counted, shaped, long_counted_size}
+use Rattle.dnw_data.specs.Shapes.{IsShaped, ShapedValue}
+use Rattle.dnw_data.specs.declared.kind.Shape.{Shape}
 use Rattle.dnw_data.specs.Walks.{FieldsAre}
 use Rattle.dnw_data.specs.FieldWires.{IsFieldValue, field_wire}
 use Rattle.dnw_data.proofs.Addresses.{octets_length, segments_back}
+use Rattle.dnw_data.proofs.Shaping.{goes_to_end, long_is, shape_given}
 use Rattle.dnw_record_owned.specs.declared.from_fields.FromFieldsError.{FromFieldsError}
 use Rattle.dnw_record_owned.specs.DataPieces.{ArePiecesOf, DataPiece, HasPieces, IsData, IsPieceOf, name_piece, octets_of, octets_piece, piece_octets}
 use Rattle.dnw_record_owned.specs.DataCopies.{alone}
@@ -29,6 +33,7 @@ use Rattle.dnw_record_owned.proofs.AnyRecords.{data_have_fields}
 abbrev takes_all : Kind → Bool
 takes_all (kinds.Octets shown) = true
 takes_all (kinds.List kind) = true
+takes_all (kinds.Shaped shape) = goes_to_end shape
 takes_all kind = false
 
 abbrev takes_all_last : List Kind → Bool
@@ -79,6 +84,20 @@ same_items kind own is = ap (λ k. items k own.octets) (sym is)
 right_list : (kind : ListKind) (own : ItemsValue) → own.kind ≡ kind → list_fault own.kind own.octets ≡ None → list_fault kind own.octets ≡ None
 right_list kind own is right = subst (λ k. list_fault k own.octets ≡ None) is right
 
+-- octets after their number, in two octets
+long_size : (own rest : List ℕ) → length own ≤ 65535 → length (to_be_bytes w16 (length own) ++ own) ≡ long_counted_size ((to_be_bytes w16 (length own) ++ own) ++ rest)
+long_size own rest few =
+    let n = length own in
+    let back : from_be_bytes w16 (to_be_bytes w16 n) ≡ n = from_be_bytes-to_be_bytes_2 n (omega (arith, few)) in
+    let size : length (to_be_bytes w16 n ++ own) ≡ 2 + n = omega arith in
+    size ∙ ap (λ k. 2 + k) (sym back) ∙ sym (long_is (n / 256 % 256) (n % 256) (own ++ rest))
+
+same_shape : (shape : Shape) (own : ShapedValue) → own.shape ≡ shape → record { shape = shape; octets = own.octets } ≡ own
+same_shape shape own is = ap (λ s. record { shape = s; octets = own.octets }) (sym is)
+
+right_shape : (shape : Shape) (own : ShapedValue) → own.shape ≡ shape → IsShaped own.shape own.octets → IsShaped shape own.octets
+right_shape shape own is right = subst (λ s. IsShaped s own.octets) is right
+
 given : (kind : Kind) (value : FieldValue) (rest : List ℕ) → IsFieldOf kind value → IsFieldValue value → (takes_all kind ≡ true → rest ≡ [])
     → IsGiven kind value rest
 given (kinds.Name form) (name labels) rest is fits last = ((refl, fits), refl, refl)
@@ -92,6 +111,12 @@ given kinds.Ipv6 (ipv6 segments) rest is fits last = ((omega (arith, octets_leng
 given kinds.TypeCode (type_code code) rest is fits last = ((refl, refl), ap type_code (ap type_of_code (from_be_bytes-to_be_bytes_2 _ fits) ∙ is), refl)
 given kinds.Time (time n) rest is fits last = ((refl, refl), ap time (from_be_bytes-to_be_bytes_4 n fits), refl)
 given (kinds.Counted shown) (counted own) rest is fits last = ((omega arith, refl), refl, refl)
+given kinds.LongTime (u48 n) rest is fits last = ((refl, refl), ap u48 (six_octets n is), refl)
+given kinds.Locator (u64 n) rest is fits last = ((refl, refl), ap u64 (from_be_bytes-to_be_bytes_8 n fits), refl)
+given (kinds.LongCounted shown) (long_counted own) rest is fits last = ((long_size own rest is, refl), refl, refl)
+given (kinds.Shaped shape) (shaped own) rest is fits last =
+    let right = right_shape shape own is fits in
+    ((shape_given shape own.octets rest right last, right.right), ap shaped (same_shape shape own is), refl)
 given (kinds.Octets shown) (octets own) rest is fits last = ((whole own rest (last refl), refl), refl, refl)
 given (kinds.List lists.Texts) (texts own) rest (is, some) fits last =
     let size = whole own.octets rest (last refl) in
@@ -100,6 +125,10 @@ given (kinds.List lists.Types) (types own) rest is fits last =
     ((whole own.octets rest (last refl), right_list lists.Types own is fits), ap types (same_items lists.Types own is), refl)
 given (kinds.List lists.Params) (params own) rest is fits last =
     ((whole own.octets rest (last refl), right_list lists.Params own is fits), ap params (same_items lists.Params own is), refl)
+given (kinds.List lists.Prefixes) (prefixes own) rest is fits last =
+    ((whole own.octets rest (last refl), right_list lists.Prefixes own is fits), ap prefixes (same_items lists.Prefixes own is), refl)
+given (kinds.List lists.Names) (names own) rest is fits last =
+    ((whole own.octets rest (last refl), right_list lists.Names own is fits), ap names (same_items lists.Names own is), refl)
 given kind value rest is fits last = absurd is
 
 -- ---- all fields

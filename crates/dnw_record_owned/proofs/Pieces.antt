@@ -10,7 +10,7 @@ use Rattle.dnw_name_read.proofs.Back.{Reads_wire, slice_range_middle}
 use Rattle.dnw_name_read.proofs.Counts.{NameAt_labels, Reads_own}
 use Rattle.dnw_name_read.proofs.Takes.{TakesName_unique}
 use Rattle.dnw_data.specs.declared.kind.Kind.{Kind}
-use Rattle.dnw_data.specs.declared.kind.Kind.TheVariants.{Counted, Name, Octets}
+use Rattle.dnw_data.specs.declared.kind.Kind.TheVariants.{Counted, LongCounted, Name, Octets, Shaped}
 use Rattle.dnw_data.specs.declared.kind.Kind.TheVariants as kinds
 use Rattle.dnw_data.specs.declared.kind.ListKind.TheVariants as lists
 use Rattle.dnw_data.specs.declared.kind.NameForm.{NameForm}
@@ -20,6 +20,7 @@ use Rattle.dnw_data.specs.Walks.{IsAtEnd}
 use Rattle.dnw_record_owned.specs.DataPieces.{ArePiecesOf, IsPieceOf, DataPiece, name_piece, octets_of, octets_piece, piece_octets}
 use Rattle.dnw_record_owned.specs.DataCopies.{TakesOwnPiece, TakesPiece, TakesPieces}
 use Rattle.dnw_record_owned.specs.Inside.Copying.{IsNoName}
+use Rattle.dnw_data.proofs.Shaping.{long_same, shape_same}
 use Rattle.dnw_data.proofs.Taking.{moves_on}
 use Rattle.dnw_record_owned.proofs.Copying.{takes_value}
 
@@ -38,6 +39,8 @@ same_size (Counted shown) other (x ∷ xs) own rest is le end =
     let more : 1 + x ≡ suc x = omega arith in
     let own_is : own ≡ x ∷ take x xs = is ∙ ap (λ n. take n (x ∷ xs)) more in
     ap (λ (o : List ℕ). 1 + slice_index (o ++ rest) 0) own_is
+same_size (LongCounted shown) other left own rest is le end = long_same left own rest is le
+same_size (Shaped shape) other left own rest is le end = shape_same shape left own rest is le (λ _ all. end all)
 same_size (Octets shown) other left own rest is le end = all_left left own rest is (end refl)
 same_size (kinds.List lists.Texts) other left own rest is le end =
     let all : own_size (kinds.List lists.Texts) left ≡ length left = omega (arith, le) in

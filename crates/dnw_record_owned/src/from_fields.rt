@@ -72,8 +72,9 @@ impl RData {
     /// ```
     ///
     /// It fails with `Mismatch` for the first field that is of another kind, or that no octets of its kind are: a `Counted`
-    /// of more than 255 octets, a `U48` of 2^48 or more, `Texts` without a string, a list of another kind, or a `TypeCode`
-    /// that is `Unknown` with the code of a named type. It fails with `Missing` or `TooMany` if there are too few fields or
+    /// of more than 255 octets, a `LongCounted` of more than 65535, a `U48` of 2^48 or more, `Texts` without a string, a list
+    /// of another kind or octets of another shape, or a `TypeCode` that is `Unknown` with the code of a named type. It fails
+    /// with `Missing` or `TooMany` if there are too few fields or
     /// too many, and with `Memory` if an allocation fails.
     pub fn from_fields(
         alloc: Global,
@@ -136,13 +137,15 @@ fn is_field_of(kind: Kind, field: &Field<'_>) -> bool
         (Kind::U8, Field::U8(_)) => true,
         (Kind::U16, Field::U16(_)) => true,
         (Kind::U32, Field::U32(_)) => true,
-        (Kind::U48, Field::U48(number)) => *number < 1 << 48,
-        (Kind::U64, Field::U64(_)) => true,
+        (Kind::U48 | Kind::LongTime, Field::U48(number)) => *number < 1 << 48,
+        (Kind::U64 | Kind::Locator, Field::U64(_)) => true,
         (Kind::Ipv4, Field::Ipv4(_)) => true,
         (Kind::Ipv6, Field::Ipv6(_)) => true,
         (Kind::TypeCode, Field::TypeCode(code)) => RecordType::from(u16::from(*code)) == *code,
         (Kind::Time, Field::Time(_)) => true,
         (Kind::Counted(_), Field::Counted(octets)) => octets.len() <= 255,
+        (Kind::LongCounted(_), Field::LongCounted(octets)) => octets.len() <= 65535,
+        (Kind::Shaped(shape), Field::Shaped(shaped)) => shaped.shape() == shape,
         (Kind::Octets(_), Field::Octets(_)) => true,
         (Kind::List(ListKind::Texts), Field::Texts(items)) => {
             matches!(items.kind(), ListKind::Texts) && !items.as_bytes().is_empty()
@@ -154,6 +157,14 @@ fn is_field_of(kind: Kind, field: &Field<'_>) -> bool
         (Kind::List(ListKind::Params), Field::Params(items)) => matches!(
             items.kind(),
             ListKind::Params
+        ),
+        (Kind::List(ListKind::Prefixes), Field::Prefixes(items)) => matches!(
+            items.kind(),
+            ListKind::Prefixes
+        ),
+        (Kind::List(ListKind::Names), Field::Names(items)) => matches!(
+            items.kind(),
+            ListKind::Names
         ),
         _ => false,
     }

@@ -1,7 +1,7 @@
 -- Each field that is read from octets comes back.
 use Rattle.std.proofs.Common.{◌≡◌, ℕ, zero, suc, ◌+◌, ◌-◌, ◌≤◌, List, [], ◌∷◌, ◌++◌, length, drop, sym, ap, ◌∙◌, subst, arith, length-drop}
 use Rattle.std.specs.Prelude.{max, Option}
-use Rattle.std.specs.Int.{w16, w32, from_be_bytes, to_be_bytes}
+use Rattle.std.specs.Int.{w16, w32, w64, from_be_bytes, to_be_bytes}
 use Rattle.std.specs.List.{AllByRecursion}
 use Rattle.std.specs.Net.Addr.{segments_of}
 use Rattle.std.specs.declared.net.Ipv4Addr.{Ipv4Addr}
@@ -18,9 +18,10 @@ use Rattle.dnw_data.specs.declared.kind.Kind.{Kind}
 use Rattle.dnw_data.specs.declared.kind.Kind.TheVariants as kinds
 use Rattle.dnw_data.specs.declared.kind.ListKind.TheVariants as lists
 use Rattle.dnw_data.specs.declared.kind.Shown.{Shown}
-use Rattle.dnw_data.specs.declared.kind.Shown.TheVariants.{Text, Tag, Hex, Base32Hex, Base64}
+use Rattle.dnw_data.specs.declared.kind.Shown.TheVariants.{Text, Tag, Hex, Base32Hex, Base64, Other}
 use Rattle.dnw_data.specs.Fields.{own_at, size_at, TakesField}
-use Rattle.dnw_data.specs.Values.{FieldValue, name, counted, octets}
+use Rattle.dnw_data.specs.Values.{FieldValue, name, u48, u64, counted, long_counted, shaped, octets, prefixes, names, items, long_counted_size}
+use Rattle.dnw_data.proofs.Shaping.{long_is}
 use Rattle.dnw_zone_values.specs.Octets.{IsOctets}
 use Rattle.dnw_zone_values.specs.Strings.{IsString}
 use Rattle.dnw_zone_svcb.proofs.ParamTextsBack.{drop_fit, halves, octets_fit, segments_fit, take_fit}
@@ -58,6 +59,18 @@ counted_fit shown d h left =
     let own = own_at (kinds.Counted shown) d in
     let len = own_len (kinds.Counted shown) d left in
     (drop_fit 1 own (own_fit (kinds.Counted shown) d h), omega (arith, len, length-drop 1 own, drop_fit d.index d.bytes h 0))
+
+long_few : (left : List ℕ) → IsOctets left → long_counted_size left ≤ 65537
+long_few [] h = omega arith
+long_few (a ∷ []) h = omega arith
+long_few (a ∷ b ∷ ls) h = omega (arith, long_is a b ls, h 0, h 1)
+
+-- what is after a length of two octets
+pub long_fit : (shown : Shown) (d : Decoder) → AreBytes d.bytes → HasLeft d (size_at (kinds.LongCounted shown) d)
+    → length (drop 2 (own_at (kinds.LongCounted shown) d)) ≤ 65535
+long_fit shown d h left =
+    let own = own_at (kinds.LongCounted shown) d in
+    omega (arith, own_len (kinds.LongCounted shown) d left, length-drop 2 own, long_few (drop d.index d.bytes) (drop_fit d.index d.bytes h))
 
 by_value : (kind : Kind) (value own : FieldValue) → value ≡ own → FieldComesBack kind own → FieldComesBack kind value
 by_value kind value own e back = subst (FieldComesBack kind) (sym e) back
@@ -100,6 +113,16 @@ field_back (kinds.Counted Base32Hex) d value after h takes few =
     by_value (kinds.Counted Base32Hex) value (counted own) takes.2 (λ origin text rest print end. hash_back own (is.0, print.0, is.1) origin text rest print end)
 field_back (kinds.Counted Base64) d value after h takes few =
     by_value (kinds.Counted Base64) value (counted (drop 1 (own_at (kinds.Counted Base64) d))) takes.2 (λ origin text rest print end. absurd print)
+field_back (kinds.Counted Other) d value after h takes few =
+    by_value (kinds.Counted Other) value (counted (drop 1 (own_at (kinds.Counted Other) d))) takes.2 (λ origin text rest print end. absurd print)
+field_back kinds.LongTime d value after h takes few =
+    by_value kinds.LongTime value (u48 (from_be_bytes w64 (0 ∷ 0 ∷ own_at kinds.LongTime d))) takes.2 (λ origin text rest print end. absurd print)
+field_back kinds.Locator d value after h takes few =
+    by_value kinds.Locator value (u64 (from_be_bytes w64 (own_at kinds.Locator d))) takes.2 (λ origin text rest print end. absurd print)
+field_back (kinds.LongCounted shown) d value after h takes few =
+    by_value (kinds.LongCounted shown) value (long_counted (drop 2 (own_at (kinds.LongCounted shown) d))) takes.2 (λ origin text rest print end. absurd print)
+field_back (kinds.Shaped shape) d value after h takes few =
+    by_value (kinds.Shaped shape) value (shaped (record { shape = shape; octets = own_at (kinds.Shaped shape) d })) takes.2 (λ origin text rest print end. absurd print)
 field_back (kinds.Octets Text) d value after h takes few =
     let short = subst (λ (v : FieldValue). length (field_wire v) ≤ 65535) takes.2 few in
     by_value (kinds.Octets Text) value _ takes.2 (text_back _ (own_fit (kinds.Octets Text) d h, short))
@@ -109,6 +132,14 @@ field_back (kinds.Octets Tag) d value after h takes few =
     by_value (kinds.Octets Tag) value (octets (own_at (kinds.Octets Tag) d)) takes.2 (λ origin text rest print end. absurd print)
 field_back (kinds.Octets Base32Hex) d value after h takes few =
     by_value (kinds.Octets Base32Hex) value (octets (own_at (kinds.Octets Base32Hex) d)) takes.2 (λ origin text rest print end. absurd print)
+field_back (kinds.Octets Other) d value after h takes few =
+    by_value (kinds.Octets Other) value (octets (own_at (kinds.Octets Other) d)) takes.2 (λ origin text rest print end. absurd print)
+field_back (kinds.List lists.Prefixes) d value after h takes few =
+    let kind = kinds.List lists.Prefixes in
+    by_value kind value (prefixes (items lists.Prefixes (own_at kind d))) takes.2 (λ origin text rest print end. absurd print)
+field_back (kinds.List lists.Names) d value after h takes few =
+    let kind = kinds.List lists.Names in
+    by_value kind value (names (items lists.Names (own_at kind d))) takes.2 (λ origin text rest print end. absurd print)
 field_back (kinds.List lists.Texts) d value after h takes few =
     let kind = kinds.List lists.Texts in
     by_value kind value _ takes.2 (strings_back (own_at kind d) (own_fit kind d h) (omega (arith, own_len kind d takes.0, some (length (drop d.index d.bytes)))))
@@ -158,6 +189,14 @@ wire_fit kinds.TypeCode d value after h takes = by_octets value _ takes.2 (two_f
 wire_fit kinds.Time d value after h takes = by_octets value _ takes.2 (four_fit _)
 wire_fit (kinds.Counted shown) d value after h takes =
     let is = counted_fit shown d h takes.0 in by_octets value _ takes.2 (first _ _ (omega (arith, is.1)) is.0)
+wire_fit kinds.LongTime d value after h takes = by_octets value _ takes.2 (six_fit _)
+wire_fit kinds.Locator d value after h takes = by_octets value _ takes.2 (eight_fit _)
+wire_fit (kinds.LongCounted shown) d value after h takes =
+    let own = own_at (kinds.LongCounted shown) d in
+    by_octets value _ takes.2 (both_fit (to_be_bytes w16 (length (drop 2 own))) (drop 2 own) (two_fit _) (drop_fit 2 own (own_fit (kinds.LongCounted shown) d h)))
+wire_fit (kinds.Shaped shape) d value after h takes = by_octets value _ takes.2 (own_fit (kinds.Shaped shape) d h)
+wire_fit (kinds.List lists.Prefixes) d value after h takes = by_octets value _ takes.2 (own_fit (kinds.List lists.Prefixes) d h)
+wire_fit (kinds.List lists.Names) d value after h takes = by_octets value _ takes.2 (own_fit (kinds.List lists.Names) d h)
 wire_fit (kinds.Octets shown) d value after h takes = by_octets value _ takes.2 (own_fit (kinds.Octets shown) d h)
 wire_fit (kinds.List lists.Texts) d value after h takes = by_octets value _ takes.2 (own_fit (kinds.List lists.Texts) d h)
 wire_fit (kinds.List lists.Types) d value after h takes = by_octets value _ takes.2 (own_fit (kinds.List lists.Types) d h)

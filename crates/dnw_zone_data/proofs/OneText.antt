@@ -91,6 +91,10 @@ one_word_lem origin kinds.U8 text v w x y = one_number 255 u8 text v w x y
 one_word_lem origin kinds.U16 text v w x y = one_number 65535 u16 text v w x y
 one_word_lem origin kinds.U32 text v w x y = one_number 4294967295 u32 text v w x y
 one_word_lem origin kinds.Time text v w x y = x.3 ∙ ap time (one_time text x.0 y.0 x.2 y.2) ∙ sym y.3
+one_word_lem origin kinds.LongTime text v w x y = absurd x
+one_word_lem origin kinds.Locator text v w x y = absurd x
+one_word_lem origin (kinds.LongCounted shown) text v w x y = absurd x
+one_word_lem origin (kinds.Shaped shape) text v w x y = absurd x
 one_word_lem origin (kinds.List list) text v w x y = absurd x
 
 -- ---- all words

@@ -14,7 +14,7 @@ use Rattle.dnw_data.specs.Values.{FieldValue}
 use Rattle.dnw_data.proofs.Taking.{field_not_both, field_unique, moves_on}
 use Rattle.dnw_zone_data.specs.DataTexts.{AreNoFields, ArePlain, AreWire}
 use Rattle.dnw_zone_data.specs.Inside.Wires.{AppendsWires}
-use Rattle.dnw_zone_data.proofs.FieldValues.{counted_fit}
+use Rattle.dnw_zone_data.proofs.FieldValues.{counted_fit, long_fit}
 
 pub one_wire : (kinds : List Kind) (d : Decoder) (a b : List ℕ) → AreWire kinds d a → AreWire kinds d b → a ≡ b
 one_wire [] d a b x y = x.1 ∙ sym y.1
@@ -28,6 +28,13 @@ not_long : (kind : Kind) (d after : Decoder) (v : FieldValue) → AreBytes d.byt
 not_long (kinds.Name form) d after v h (ls, k, takes, e) long = subst IsLong e long
 not_long (kinds.Counted shown) d after v h takes long =
     let many = subst IsLong takes.2 long in let few = (counted_fit shown d h takes.0).1 in omega (arith, many, few)
+not_long (kinds.LongCounted shown) d after v h takes long =
+    let many = subst IsLong takes.2 long in omega (arith, many, long_fit shown d h takes.0)
+not_long kinds.LongTime d after v h takes long = subst IsLong takes.2 long
+not_long kinds.Locator d after v h takes long = subst IsLong takes.2 long
+not_long (kinds.Shaped shape) d after v h takes long = subst IsLong takes.2 long
+not_long (kinds.List lists.Prefixes) d after v h takes long = subst IsLong takes.2 long
+not_long (kinds.List lists.Names) d after v h takes long = subst IsLong takes.2 long
 not_long kinds.U8 d after v h takes long = subst IsLong takes.2 long
 not_long kinds.U16 d after v h takes long = subst IsLong takes.2 long
 not_long kinds.U32 d after v h takes long = subst IsLong takes.2 long

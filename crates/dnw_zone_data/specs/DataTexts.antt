@@ -5,8 +5,11 @@ use Rattle.dnw_base.specs.declared.error.DecodeError.{DecodeError}
 use Rattle.dnw_base.specs.Decoder.{Decoder}
 use Rattle.dnw_base.specs.Names.{NameValue}
 use Rattle.dnw_data.specs.declared.kind.Kind.{Kind}
-use Rattle.dnw_data.specs.declared.kind.Kind.TheVariants.{Name, Octets}
-use Rattle.dnw_data.specs.declared.kind.Shown.TheVariants.{Hex}
+use Rattle.dnw_data.specs.declared.kind.Kind.TheVariants.{LongTime, Locator, LongCounted, Shaped, Octets}
+use Rattle.dnw_data.specs.declared.kind.Kind.TheVariants as kinds
+use Rattle.dnw_data.specs.declared.kind.ListKind.TheVariants.{Prefixes, Names}
+use Rattle.dnw_data.specs.declared.kind.Shown.TheVariants.{Hex, Other}
+use Rattle.std.specs.List.{list_all}
 use Rattle.dnw_data.specs.Values.{FieldValue}
 use Rattle.dnw_data.specs.Fields.{TakesField, FailsField}
 use Rattle.dnw_data.specs.Walks.{IsAtEnd, FieldsLeft}
@@ -22,12 +25,21 @@ use Rattle.dnw_zone_data.specs.Printing.{PrintsFields, HasNoText}
 use Rattle.dnw_zone_data.specs.Parsing.{AreFieldTexts, FailsFields}
 use Rattle.dnw_data.specs.FieldWires.{IsLong, field_wire}
 
--- Data that are octets alone have no form of their own; nor has NXT, which is a name and octets, and whose octets are a bitmap of
--- types in an old form (RFC 2535, section 5.2).
+-- kinds whose text is written here
+abbrev pub has_field_text : Kind → Bool
+has_field_text LongTime = false
+has_field_text Locator = false
+has_field_text (LongCounted shown) = false
+has_field_text (Shaped shape) = false
+has_field_text (Octets Other) = false
+has_field_text (kinds.List Prefixes) = false
+has_field_text (kinds.List Names) = false
+has_field_text kind = true
+
+-- Data that are octets alone have no form of their own, nor have those with a field of another kind that is not written.
 abbrev pub has_own_form : List Kind → Bool
 has_own_form (Octets Hex ∷ []) = false
-has_own_form (Name form ∷ Octets Hex ∷ []) = false
-has_own_form kinds = true
+has_own_form kinds = list_all has_field_text kinds
 
 -- ---- the octets of data, with names that are not compressed
 

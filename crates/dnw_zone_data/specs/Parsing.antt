@@ -14,7 +14,7 @@ use Rattle.dnw_data.specs.declared.kind.Kind.TheVariants as kinds
 use Rattle.dnw_data.specs.declared.kind.ListKind.{ListKind}
 use Rattle.dnw_data.specs.declared.kind.ListKind.TheVariants as lists
 use Rattle.dnw_data.specs.declared.kind.Shown.{Shown}
-use Rattle.dnw_data.specs.declared.kind.Shown.TheVariants.{Text, Tag, Hex, Base32Hex, Base64}
+use Rattle.dnw_data.specs.declared.kind.Shown.TheVariants.{Text, Tag, Hex, Base32Hex, Base64, Other}
 use Rattle.dnw_data.specs.Values.{FieldValue, name, u8, u16, u32, u48, u64, ipv4, ipv6, type_code, time, counted, octets, texts, items}
 use Rattle.dnw_zone_values.specs.Numbers.{max_u8, max_u16, max_u32, IsNumberText}
 use Rattle.dnw_zone_values.specs.Octets.{IsHexText, IsBase64Text, IsSaltText}
@@ -110,6 +110,7 @@ AreTexts left value =
 abbrev pub takes_all : Kind → Bool
 takes_all (kinds.Octets Hex) = true
 takes_all (kinds.Octets Base64) = true
+takes_all (kinds.Octets Other) = true
 takes_all (kinds.List list) = true
 takes_all kind = false
 
@@ -124,6 +125,7 @@ abbrev pub AreList : ListKind → List ℕ → FieldValue → Type 0
 AreList lists.Texts left value = AreTexts left value
 AreList lists.Types left value = AreTypes left value
 AreList lists.Params left value = AreParams left value
+AreList kind left value = ⊥
 
 -- all words are a field of this kind
 abbrev pub AreAll : Kind → List ℕ → FieldValue → Type 0

@@ -7,9 +7,10 @@ use Rattle.dnw_base.specs.Decoder.{Decoder}
 use Rattle.dnw_base.specs.Names.{label_wire}
 use Rattle.dnw_base.specs.RecordTypes.{type_text}
 use Rattle.dnw_data.specs.declared.kind.Kind.{Kind}
-use Rattle.dnw_data.specs.declared.kind.Kind.TheVariants.{Counted, Octets}
+use Rattle.dnw_data.specs.declared.kind.Kind.TheVariants.{Counted, Octets, U48, U64}
 use Rattle.dnw_data.specs.declared.kind.Shown.TheVariants.{Text, Tag, Hex, Base32Hex, Base64}
 use Rattle.dnw_data.specs.Values.{FieldValue, name, u8, u16, u32, u48, u64, ipv4, ipv6, type_code, time, counted, octets, texts, types, params}
+use Rattle.dnw_data.specs.Values.{prefixes, names, long_counted, shaped}
 use Rattle.dnw_data.specs.Fields.{TakesField, FailsField}
 use Rattle.dnw_data.specs.Walks.{IsAtEnd}
 use Rattle.dnw_zone_values.specs.Octets.{base64_text, salt_text}
@@ -30,6 +31,15 @@ base64_part (o ∷ own) = 32 ∷ base64_text (o ∷ own)
 
 abbrev pub PrintsTime : ℕ → List ℕ → Type 0
 PrintsTime seconds text = (date : List ℕ) × IsDateText date seconds × (text ≡ 32 ∷ date)
+
+-- an identifier of six octets, or of eight; other numbers of so many octets have no text here
+abbrev pub PrintsU48 : Kind → ℕ → List ℕ → Type 0
+PrintsU48 U48 n text = text ≡ 32 ∷ pairs_text (drop 2 (to_be_bytes w64 n))
+PrintsU48 kind n text = ⊥
+
+abbrev pub PrintsU64 : Kind → ℕ → List ℕ → Type 0
+PrintsU64 U64 n text = text ≡ 32 ∷ pairs_text (to_be_bytes w64 n)
+PrintsU64 kind n text = ⊥
 
 -- octets with a length octet before them
 abbrev pub PrintsCounted : Kind → List ℕ → List ℕ → Type 0
@@ -63,8 +73,8 @@ Prints kind (name labels) text = text ≡ 32 ∷ full_name_text labels
 Prints kind (u8 n) text = text ≡ 32 ∷ decimal n
 Prints kind (u16 n) text = text ≡ 32 ∷ decimal n
 Prints kind (u32 n) text = text ≡ 32 ∷ decimal n
-Prints kind (u48 n) text = text ≡ 32 ∷ pairs_text (drop 2 (to_be_bytes w64 n))
-Prints kind (u64 n) text = text ≡ 32 ∷ pairs_text (to_be_bytes w64 n)
+Prints kind (u48 n) text = PrintsU48 kind n text
+Prints kind (u64 n) text = PrintsU64 kind n text
 Prints kind (ipv4 own) text = text ≡ 32 ∷ ipv4_text own
 Prints kind (ipv6 segments) text = text ≡ 32 ∷ ipv6_text segments
 Prints kind (type_code code) text = text ≡ 32 ∷ type_text code
@@ -74,6 +84,10 @@ Prints kind (octets own) text = PrintsOctets kind own text
 Prints kind (texts items) text = PrintsStrings items.octets text
 Prints kind (types items) text = PrintsTypes items.octets text
 Prints kind (params items) text = PrintsParams items.octets text
+Prints kind (prefixes items) text = ⊥
+Prints kind (names items) text = ⊥
+Prints kind (long_counted own) text = ⊥
+Prints kind (shaped own) text = ⊥
 
 -- The text is that of the fields of these kinds, which are read up to the end.
 abbrev pub PrintsFields : List Kind → Decoder → List ℕ → Type 0

@@ -146,7 +146,7 @@ fn joined_octets(alloc: Global, shown: Shown, left: &[u8]) -> Result<Option<Vec<
     match shown {
         Shown::Hex => hex_of(alloc, text),
         Shown::Base64 => base64_of(alloc, text),
-        Shown::Text | Shown::Tag | Shown::Base32Hex => Ok(None),
+        Shown::Text | Shown::Tag | Shown::Base32Hex | Shown::Other => Ok(None),
     }
 }
 
@@ -163,6 +163,7 @@ fn parse_list(
         ListKind::Texts => parse_texts(alloc, left, out),
         ListKind::Types => parse_types(alloc, left, out),
         ListKind::Params => parse_params(alloc, left, out),
+        ListKind::Prefixes | ListKind::Names => Ok(false),
     }
 }
 
@@ -193,7 +194,7 @@ fn takes_all(kind: Kind) -> bool
 {
     matches!(
         kind,
-        Kind::Octets(Shown::Hex | Shown::Base64) | Kind::List(_)
+        Kind::Octets(Shown::Hex | Shown::Base64 | Shown::Other) | Kind::List(_)
     )
 }
 
@@ -342,7 +343,7 @@ fn parse_octets(
 {
     match shown {
         Shown::Text => parse_text(alloc, text, out),
-        Shown::Tag | Shown::Hex | Shown::Base32Hex | Shown::Base64 => Ok(false),
+        Shown::Tag | Shown::Hex | Shown::Base32Hex | Shown::Base64 | Shown::Other => Ok(false),
     }
 }
 

@@ -4,7 +4,7 @@ ghost use Rattle.dnw_data.specs.Values.{seen};
 ghost use Rattle.std.specs.Option.{option_map};
 ghost use Rattle.dnw_data.specs.Walks.{IsAtEnd};
 ghost use Rattle.dnw_zone_data.specs.Inside.Steps.{ReadsNext};
-ghost use Rattle.dnw_zone_data.specs.Printing.{Prints, PrintsTime, PrintsCounted, PrintsOctets, PrintsStrings, AppendsFields};
+ghost use Rattle.dnw_zone_data.specs.Printing.{Prints, PrintsU48, PrintsU64, PrintsTime, PrintsCounted, PrintsOctets, PrintsStrings, AppendsFields};
 ghost use Rattle.dnw_zone_data.specs.Appending.{Appended, AppendedInPart};
 
 use crate::name::write_name;
@@ -76,8 +76,8 @@ fn write_field(
         Field::U8(number) => write!(out, " {number}")?,
         Field::U16(number) => write!(out, " {number}")?,
         Field::U32(number) => write!(out, " {number}")?,
-        Field::U48(number) => write!(out, " {}", Pairs(&number.to_be_bytes()[2..]))?,
-        Field::U64(number) => write!(out, " {}", Pairs(&number.to_be_bytes()))?,
+        Field::U48(number) => return write_u48(kind, *number, out),
+        Field::U64(number) => return write_u64(kind, *number, out),
         Field::Ipv4(address) => write!(out, " {address}")?,
         Field::Ipv6(address) => write!(out, " {address}")?,
         Field::TypeCode(code) => {
@@ -90,6 +90,31 @@ fn write_field(
         Field::Texts(items) => return write_strings(items.as_bytes(), out),
         Field::Types(items) => return write_types(items.as_bytes(), out),
         Field::Params(items) => return write_params(alloc, items.as_bytes(), out),
+        Field::Prefixes(_) | Field::Names(_) | Field::LongCounted(_) | Field::Shaped(_) => {
+            return Ok(false);
+        }
+    }
+    Ok(true)
+}
+
+/// Appends the text of an identifier of six octets. Returns `false` if the number is no identifier.
+fn write_u48(kind: Kind, number: u64, out: &mut String) -> Result<bool, AllocError>
+    ensures { IfOk result (Appended (PrintsU48 kind number) (string_bytes out.old) (string_bytes out.new)) }
+{
+    match kind {
+        Kind::U48 => write!(out, " {}", Pairs(&number.to_be_bytes()[2..]))?,
+        _ => return Ok(false),
+    }
+    Ok(true)
+}
+
+/// Appends the text of an identifier of eight octets. Returns `false` if the number is no identifier.
+fn write_u64(kind: Kind, number: u64, out: &mut String) -> Result<bool, AllocError>
+    ensures { IfOk result (Appended (PrintsU64 kind number) (string_bytes out.old) (string_bytes out.new)) }
+{
+    match kind {
+        Kind::U64 => write!(out, " {}", Pairs(&number.to_be_bytes()))?,
+        _ => return Ok(false),
     }
     Ok(true)
 }

@@ -31,7 +31,7 @@ pub(crate) fn spelled(
         Shown::Tag => tag_of(alloc, text),
         Shown::Hex => salt_of(alloc, text),
         Shown::Base32Hex => hash_of(alloc, text),
-        Shown::Base64 => Ok(None),
+        Shown::Base64 | Shown::Other => Ok(None),
     }
 }
 

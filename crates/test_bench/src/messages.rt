@@ -127,8 +127,15 @@ fn field_size(field: &Field<'_>) -> u64 {
         }
         Field::TypeCode(record_type) => u64::from(record_type.code()),
         Field::Time(time) => u64::from(time.get()),
-        Field::Counted(octets) | Field::Octets(octets) => octets_size(octets),
-        Field::Texts(items) | Field::Types(items) | Field::Params(items) => items_size(items),
+        Field::Counted(octets) | Field::LongCounted(octets) | Field::Octets(octets) => {
+            octets_size(octets)
+        }
+        Field::Texts(items)
+        | Field::Types(items)
+        | Field::Params(items)
+        | Field::Prefixes(items)
+        | Field::Names(items) => items_size(items),
+        Field::Shaped(shaped) => octets_size(shaped.as_bytes()),
     }
 }
 

@@ -5,7 +5,9 @@ use crate::notation::{
 };
 use dns_names_wire::decoder::BinDecoder;
 use dns_names_wire::error::ProtoResult;
-use dns_names_wire::fields::{Field, FieldError, Fields, Items, ListKind, fields_of};
+use dns_names_wire::fields::{
+    Field, FieldError, Fields, Items, ListKind, Shape, Shaped, fields_of,
+};
 use dns_names_wire::name_ref::NameRef;
 use dns_names_wire::record_type::RecordType;
 use std::alloc::{AllocError, Global};
@@ -85,6 +87,24 @@ fn field_word(alloc: Global, field: &Field<'_>) -> Result<String, AllocError> {
         Field::Texts(items) => items_word(alloc, "texts", ListKind::Texts, items),
         Field::Types(items) => items_word(alloc, "types", ListKind::Types, items),
         Field::Params(items) => items_word(alloc, "params", ListKind::Params, items),
+        Field::Prefixes(items) => items_word(alloc, "prefixes", ListKind::Prefixes, items),
+        Field::Names(items) => items_word(alloc, "names", ListKind::Names, items),
+        Field::LongCounted(octets) => octets_word(alloc, "long", octets),
+        Field::Shaped(shaped) => shaped_word(alloc, shaped),
+    }
+}
+
+/// Returns the word for octets of a shape. They must have it alone.
+fn shaped_word(alloc: Global, shaped: &Shaped<'_>) -> Result<String, AllocError> {
+    let name = match shaped.shape() {
+        Shape::Location => "location",
+        Shape::Gateway => "gateway",
+        Shape::Relay => "relay",
+        Shape::HostIdentity => "identity",
+    };
+    match Shaped::new(shaped.shape(), shaped.as_bytes()) {
+        Ok(_) => octets_word(alloc, name, shaped.as_bytes()),
+        Err(_) => octets_word(alloc, "differs", shaped.as_bytes()),
     }
 }
 

@@ -11,6 +11,7 @@ use crate::query::WireQuery;
 use crate::section::{Section, add, count};
 use dnw_base::error::{ProtoError, ProtoResult};
 use dnw_message_header::header::{Header, Metadata};
+use dnw_record::record::FIXED_SIZE;
 use dnw_record_owned::record::Record;
 use dnw_write::binary::BinEncodable;
 use dnw_write::encoder::BinEncoder;
