@@ -6,6 +6,7 @@ use Rattle.dnw_base.specs.declared.error.DecodeError.TheVariants.{UnrecognizedLa
 use Rattle.dnw_base.specs.declared.error.DecodeError.TheVariants.{LabelOverlapsWithOther}
 use Rattle.dnw_base.specs.declared.error.DecodeError.TheVariants.{DomainNameTooLong, LabelBytesTooLong}
 use Rattle.dnw_base.specs.declared.error.DecodeError.TheVariants.{IncorrectRDataLengthRead, NsecBitmapOutOfBounds, SvcParamsOutOfOrder}
+use Rattle.dnw_base.specs.declared.error.DecodeError.TheVariants.{DuplicateEdns, RecordNotInAdditionalSection}
 use Rattle.dnw_base.specs.declared.error.ProtoError.{ProtoError}
 use Rattle.dnw_base.specs.declared.error.ProtoError.TheVariants.{Decode, Message}
 use Rattle.dnw_base.specs.declared.error.ProtoError.TheVariants.{Msg, MaxBufferSizeExceeded, Memory as ProtoMemory}
@@ -84,6 +85,8 @@ of_decode (DomainNameTooLong size) = why.NameTooLong
 of_decode (LabelBytesTooLong size) = why.LabelTooLong
 of_decode Memory = why.NoMemory
 of_decode (IncorrectRDataLengthRead read len) = why.WrongDataLength
+of_decode DuplicateEdns = why.DuplicateEdns
+of_decode (RecordNotInAdditionalSection record_type) = why.OutsideAdditionals
 of_decode NsecBitmapOutOfBounds = why.BadBitmap
 of_decode SvcParamsOutOfOrder = why.BadParams
 of_decode error = why.Other

@@ -1,4 +1,5 @@
 pub mod Failures
 pub mod Offsets
+pub mod Results
 pub mod Signs
 pub mod WireForms

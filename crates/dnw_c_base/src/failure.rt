@@ -1,9 +1,11 @@
 //! Why a call fails.
 ghost use Rattle.std.specs.Prelude.{◌≡◌, ◌≢◌, ◌≤◌, length, IfSome, IfNone};
 ghost use Rattle.dnw_c_base.specs.declared.failure.Failure.{Failure};
+ghost use Rattle.dnw_c_base.specs.declared.failure.Failure.TheVariants.{NoMemory};
 ghost use Rattle.dnw_c_base.specs.Failures.{HasText, number, failure_text, of_decode, of_proto};
 
 use dnw_base::error::{DecodeError, ProtoError};
+use std::alloc::{AllocError, AllocFailed};
 
 /// Why a call fails. In the header each has its number, from 1 on in this order.
 #[derive(Clone, Copy)]
@@ -194,6 +196,8 @@ pub fn of_decode(error: &DecodeError) -> Failure
         DecodeError::LabelBytesTooLong(_) => Failure::LabelTooLong,
         DecodeError::Memory => Failure::NoMemory,
         DecodeError::IncorrectRDataLengthRead { read: _, len: _ } => Failure::WrongDataLength,
+        DecodeError::DuplicateEdns => Failure::DuplicateEdns,
+        DecodeError::RecordNotInAdditionalSection(_) => Failure::OutsideAdditionals,
         DecodeError::NsecBitmapOutOfBounds => Failure::BadBitmap,
         DecodeError::SvcParamsOutOfOrder => Failure::BadParams,
         _ => Failure::Other,
@@ -210,6 +214,38 @@ pub fn of_proto(error: &ProtoError) -> Failure
         ProtoError::MaxBufferSizeExceeded(_) => Failure::MessageTooLong,
         ProtoError::Memory => Failure::NoMemory,
         _ => Failure::Other,
+    }
+}
+
+impl From<DecodeError> for Failure {
+    ghost from_gives = { λ error failure. failure ≡ of_decode error };
+
+    fn from(error: DecodeError) -> Failure {
+        of_decode(&error)
+    }
+}
+
+impl From<ProtoError> for Failure {
+    ghost from_gives = { λ error failure. failure ≡ of_proto error };
+
+    fn from(error: ProtoError) -> Failure {
+        of_proto(&error)
+    }
+}
+
+impl<T: Drop> From<AllocFailed<T>> for Failure {
+    ghost from_gives = { λ _ failure. failure ≡ NoMemory };
+
+    fn from(_error: AllocFailed<T>) -> Failure {
+        Failure::NoMemory
+    }
+}
+
+impl From<AllocError> for Failure {
+    ghost from_gives = { λ _ failure. failure ≡ NoMemory };
+
+    fn from(_error: AllocError) -> Failure {
+        Failure::NoMemory
     }
 }
 

@@ -8,4 +8,5 @@
 pub mod buffer;
 pub mod failure;
 pub mod names;
+pub mod results;
 pub mod sign;

@@ -1,13 +1,14 @@
 -- What the functions for C put of the EDNS of a message, and why there is none (RFC 6891).
 use Rattle.std.specs.Prelude.{◌≡◌, ◌⊎◌, ℕ, ◌≤◌, true, false, Option, Some, None, List}
-use Rattle.dnw_base.specs.DnsClasses.{min_payload}
+use Rattle.dnw_base.specs.Limits.{min_payload}
+use Rattle.dnw_c_base.specs.Failures.{of_decode}
 use Rattle.dnw_c_base.specs.declared.failure.Failure.{Failure}
 use Rattle.dnw_c_base.specs.declared.failure.Failure.TheVariants as why
 use Rattle.dnw_message_read.specs.Edns.{EdnsValue, FailsEdns, HasEdns, IsResponseCode}
 use Rattle.dnw_message_read.specs.Messages.{FailsMessage, MessageAt, MessageValue}
 use Rattle.dnw_message_header.specs.ResponseCodes.{response_code}
 use Rattle.dnw_message_read.specs.declared.edns.EdnsError.{EdnsError}
-use Rattle.dnw_message_read.specs.declared.edns.EdnsError.TheVariants.{CutOption, DuplicateEdns, OutsideAdditionals, OwnerNotRoot}
+use Rattle.dnw_message_read.specs.declared.edns.EdnsError.TheVariants.{CutOption, Decode, OwnerNotRoot}
 use Rattle.dnw_message_read.specs.declared.error.MessageError.{MessageError}
 use Rattle.dnw_message_header.specs.declared.response_code.ResponseCode.{ResponseCode}
 use Rattle.dnw_c_messages.specs.MessageCalls.{of_message}
@@ -39,8 +40,7 @@ abbrev pub IsReadEdns : MessageValue → ReadEdns → Type 0
 IsReadEdns m found = (e : Option EdnsValue) × (code : ResponseCode) × HasEdns m e × IsResponseCode m code × (found ≡ read_edns e code)
 
 abbrev pub of_edns : EdnsError → Failure
-of_edns OutsideAdditionals = why.OutsideAdditionals
-of_edns DuplicateEdns = why.DuplicateEdns
+of_edns (Decode cause) = of_decode cause
 of_edns OwnerNotRoot = why.OwnerNotRoot
 of_edns CutOption = why.CutOption
 

@@ -4,12 +4,10 @@ ghost use Rattle.dnw_c_base.specs.Failures.{NumberOf};
 ghost use Rattle.dnw_c_messages.specs.EdnsCalls.{FailsToReadEdns, IsReadEdns, FailsToSay, PutsEdns, of_edns};
 
 use crate::message::of_message;
-use dnw_c_base::failure::Failure;
+use dnw_base::limits::MIN_PAYLOAD;
+use dnw_c_base::failure::{Failure, of_decode};
 use dnw_message_read::edns::EdnsError;
 use dnw_message_read::message::MessageRef;
-
-/// The size that any receiver accepts, in octets (RFC 1035, section 4.2.1).
-const MIN_PAYLOAD: u16 = 512;
 
 /// What a message says by EDNS, and its response code. The octets of its options are so many from an offset on.
 #[repr(C)]
@@ -88,8 +86,7 @@ pub(crate) fn of_edns(error: EdnsError) -> Failure
     ensures { result ≡ of_edns error }
 {
     match error {
-        EdnsError::OutsideAdditionals => Failure::OutsideAdditionals,
-        EdnsError::DuplicateEdns => Failure::DuplicateEdns,
+        EdnsError::Decode(cause) => of_decode(&cause),
         EdnsError::OwnerNotRoot => Failure::OwnerNotRoot,
         EdnsError::CutOption => Failure::CutOption,
     }

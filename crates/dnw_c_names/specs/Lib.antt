@@ -5,5 +5,4 @@ pub mod NameEdits
 pub mod NameLists
 pub mod ReverseCalls
 pub mod TextFaultCalls
-pub mod SortKeyCalls
 pub mod SortCalls

@@ -1,5 +1,5 @@
 -- Lists of names that are written as a message.
-use Rattle.std.specs.Prelude.{◌≡◌, ◌<◌, ◌⊎◌, ℕ, ◌+◌, List, [], length, Ok, Err}
+use Rattle.std.specs.Prelude.{◌≡◌, ◌<◌, ◌⊎◌, ℕ, ◌+◌, List, [], length, Result, Ok, Err}
 use Rattle.dnw_base.specs.Decoder.{Decoder}
 use Rattle.dnw_base.specs.Names.{NameValue}
 use Rattle.dnw_base.specs.declared.error.DecodeError.{DecodeError}
@@ -10,7 +10,8 @@ use Rattle.dnw_write.specs.Encoder.{Encoder, fresh}
 use Rattle.dnw_write.specs.EmittedName.{EmitsName}
 use Rattle.dnw_c_base.specs.Failures.{of_decode, of_proto}
 use Rattle.dnw_c_base.specs.declared.failure.Failure.{Failure}
-use Rattle.dnw_c_base.specs.declared.failure.Failure.TheVariants.{NoRoom}
+use Rattle.dnw_c_base.specs.Results.{Puts, Refuses}
+use Rattle.dnw_c_names.specs.declared.names.WrittenNames.{WrittenNames}
 
 -- a decoder at the first byte of a list
 abbrev pub at_first : List ℕ → Decoder
@@ -41,8 +42,9 @@ pub data StopsWriting : Decoder → Encoder → Failure → Type 0 where
       → TakesNameValue d name next → EmitsName name v (Ok tt) m → StopsWriting next m failure
       → StopsWriting d v failure
 
--- A list is not written into a buffer of this size: a name fails, or the message is longer than the buffer.
-abbrev pub FailsToWrite : List ℕ → ℕ → ℕ → Failure → Type 0
-FailsToWrite list max_size size failure =
-    StopsWriting (at_first list) (limited_to max_size) failure
-    ⊎ ((count : ℕ) × (w : Encoder) × WritesNames (at_first list) (limited_to max_size) count w × (size < length w.bytes) × (failure ≡ NoRoom))
+-- A message of the names of a list is put.
+abbrev pub WritesList : List ℕ → ℕ → List ℕ → List ℕ → Result WrittenNames Failure → Type 0
+WritesList list max_size old new result =
+    ((count : ℕ) × (w : Encoder) × WritesNames (at_first list) (limited_to max_size) count w
+    × Puts w.bytes (record { len = length w.bytes; count = count }) old new result)
+    ⊎ Refuses (StopsWriting (at_first list) (limited_to max_size)) old new result

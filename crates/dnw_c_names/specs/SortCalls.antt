@@ -1,14 +1,16 @@
 -- Names of a list in canonical order (RFC 4034, section 6.1).
-use Rattle.std.specs.Prelude.{◌≡◌, ◌<◌, ◌≤◌, ◌⊎◌, ℕ, List, [], ◌∷◌, length, slice_index_or}
+use Rattle.std.specs.Prelude.{◌≡◌, ◌<◌, ◌≤◌, ◌⊎◌, ℕ, List, [], ◌∷◌, length, slice_index_or, Result, MatchResult}
 use Rattle.std.specs.List.{range_with_len}
 use Rattle.std.specs.List.Sorted.{IsPermutation, IsStrictlySortedBy}
 use Rattle.std.specs.Ordering.{on, then_cmp, nat_cmp}
 use Rattle.std.specs.declared.cmp.Ordering.{Ordering}
 use Rattle.dnw_base.specs.declared.error.DecodeError.{DecodeError}
 use Rattle.dnw_base.specs.Decoder.{Decoder}
+use Rattle.dnw_name_read.specs.Buffers.{put}
 use Rattle.dnw_name_read.specs.Reading.{StopsAt, TakesName}
 use Rattle.dnw_name_order.specs.Order.{labels_cmp}
 use Rattle.dnw_c_base.specs.Failures.{of_decode}
+use Rattle.dnw_c_base.specs.Results.{Refuses}
 use Rattle.dnw_c_base.specs.declared.failure.Failure.{Failure}
 use Rattle.dnw_c_base.specs.declared.failure.Failure.TheVariants.{NoMemory, NoRoom}
 use Rattle.dnw_c_names.specs.NameLists.{at_first}
@@ -42,8 +44,10 @@ pub record AreInOrder (names : List (List (List ℕ))) (numbers : List ℕ) : Ty
 abbrev pub FailsToName : List ℕ → Failure → Type 0
 FailsToName list failure = StopsNaming (at_first list) failure ⊎ ((1 ≤ length list) × (failure ≡ NoMemory))
 
--- Their numbers are not put into a buffer of this size: they are not read, or are more.
-abbrev pub FailsToSort : List ℕ → ℕ → Failure → Type 0
-FailsToSort list size failure =
-    FailsToName list failure
-    ⊎ ((names : List (List (List ℕ))) × HasNames (at_first list) names × (size < length names) × (failure ≡ NoRoom))
+-- The numbers of the names of a list are put, in canonical order, if there is room for them.
+abbrev pub PutsOrder : List ℕ → List ℕ → List ℕ → Result (Unit {0}) Failure → Type 0
+PutsOrder list old new result =
+    ((names : List (List (List ℕ))) × HasNames (at_first list) names × MatchResult result
+    (λ _. (numbers : List ℕ) × AreInOrder names numbers × (new ≡ put old numbers))
+    (λ failure. (length old < length names) × (failure ≡ NoRoom) × (new ≡ old)))
+    ⊎ Refuses (FailsToName list) old new result

@@ -1,31 +1,27 @@
 //! Names read, written, parsed and printed.
-ghost use Rattle.std.specs.Prelude.{◌≡◌, ◌≢◌, ◌⊎◌, ℕ, ◌<◌, ◌≤◌, List, length, Ok, Err, IsUtf8};
-ghost use Rattle.std.specs.Prelude.{IfOk, IfErr, OnOk, OnErr};
-ghost use Rattle.std.specs.Str.{chars};
+ghost use Rattle.std.specs.Prelude.{◌≡◌, ℕ, ◌<◌, ◌≤◌, List, length, Ok, IfOk, IfErr, OnOk};
 ghost use Rattle.dnw_base.specs.Limits.{max_name};
 ghost use Rattle.dnw_base.specs.Names.{NameValue, wire};
-ghost use Rattle.dnw_name_ascii.specs.NameText.{max_text, name_text, name_from_text};
-ghost use Rattle.dnw_name_read.specs.Reading.{NameAt};
+ghost use Rattle.dnw_name_ascii.specs.NameText.{max_text, name_text};
 ghost use Rattle.dnw_name.specs.Decodable.{TakesNameValue};
 ghost use Rattle.dnw_write.specs.Encoder.{Encoder};
 ghost use Rattle.dnw_write.specs.EncoderValue.{value, lender};
 ghost use Rattle.dnw_write.specs.EmittedName.{EmitsName};
-ghost use Rattle.dnw_name_read.specs.Buffers.{put};
+ghost use Rattle.dnw_c_base.specs.Failures.{HasText};
+ghost use Rattle.dnw_c_base.specs.Results.{PutsWithin, Returns};
 ghost use Rattle.dnw_c_names.specs.Buffers.{PutsIfFits};
-ghost use Rattle.dnw_c_base.specs.Failures.{HasText, NumberOf, number};
-ghost use Rattle.dnw_c_base.specs.WireForms.{IsFormOf};
-ghost use Rattle.dnw_c_names.specs.NameCalls.{FailsToParse, FailsToPrint, FailsToPutText, FailsToRead, FailsToReadText, absolute_text};
-ghost use Rattle.dnw_c_names.specs.NameLists.{FailsToCopyName, FailsToWrite, StopsWriting, WritesNames, at_first, limited_to};
-ghost use Rattle.dnw_c_base.specs.declared.failure.Failure.{Failure};
-ghost use Rattle.dnw_c_base.specs.declared.failure.Failure.TheVariants.{NoRoom};
+ghost use Rattle.dnw_c_names.specs.NameCalls.{ParsesName, PutsOfForm, ReadsName, absolute_text};
+ghost use Rattle.dnw_c_names.specs.NameEdits.{PutsName};
+ghost use Rattle.dnw_c_names.specs.NameLists.{FailsToCopyName, StopsWriting, WritesList, WritesNames, at_first, limited_to};
 
 use crate::wire_form::labels_of;
 use arrayvec::ArrayString;
 use dnw_base::decoder::BinDecoder;
 use dnw_base::limits::MAX_NAME;
 use dnw_c_base::buffer::put;
-use dnw_c_base::failure::{Failure, of_decode, of_proto, text_of};
+use dnw_c_base::failure::{Failure, text_of};
 use dnw_c_base::names::{name_ref_at, put_name};
+use dnw_c_base::results::report;
 use dnw_name::name::Name;
 use dnw_name::name_ref::NameRef;
 use dnw_name_ascii::text;
@@ -66,19 +62,9 @@ pub extern "C" fn dnw_name_read(
     form: &mut [u8],
     read: &mut ReadName,
 ) -> u32
-    ensures ok { result ≡ 0 → (labels : List (List ℕ)) × (k : ℕ) × NameAt message.now start labels read.new.end k
-        × (form.new ≡ put form.old (wire labels)) × (read.new.len ≡ length (wire labels)) }
-    ensures err { result ≢ 0 → NumberOf (FailsToRead message.now start (length form.old)) result }
-    ensures room { result ≡ number NoRoom → length form.old < max_name }
-    ensures same { result ≢ 0 → (form.new ≡ form.old) × (read.new ≡ read.old) }
+    ensures { Returns (ReadsName max_name wire message.now start form.old form.new) read.old read.new result }
 {
-    match read_form(message, start, form) {
-        Ok(name) => {
-            *read = name;
-            0
-        }
-        Err(failure) => failure.number(),
-    }
+    report(read_form(message, start, form), read)
 }
 
 /// Reads the name at an offset of a message, and puts its text. It does not allocate.
@@ -89,19 +75,9 @@ pub extern "C" fn dnw_name_read_text(
     text: &mut [u8],
     read: &mut ReadName,
 ) -> u32
-    ensures ok { result ≡ 0 → (labels : List (List ℕ)) × (k : ℕ) × NameAt message.now start labels read.new.end k
-        × (text.new ≡ put text.old (absolute_text labels)) × (read.new.len ≡ length (absolute_text labels)) }
-    ensures err { result ≢ 0 → NumberOf (FailsToReadText message.now start (length text.old)) result }
-    ensures room { result ≡ number NoRoom → length text.old < max_text }
-    ensures same { result ≢ 0 → (text.new ≡ text.old) × (read.new ≡ read.old) }
+    ensures { Returns (ReadsName max_text absolute_text message.now start text.old text.new) read.old read.new result }
 {
-    match read_text(message, start, text) {
-        Ok(name) => {
-            *read = name;
-            0
-        }
-        Err(failure) => failure.number(),
-    }
+    report(read_text(message, start, text), read)
 }
 
 /// Puts the wire form of the name that a text gives.
@@ -112,20 +88,9 @@ pub extern "C" fn dnw_name_parse(
     form: &mut [u8],
     parsed: &mut ParsedName,
 ) -> u32
-    ensures ok { result ≡ 0 → (name : NameValue) × IsUtf8 text.now × (name_from_text (chars text.now) ≡ Ok name)
-        × (form.new ≡ put form.old (wire name.labels))
-        × (parsed.new ≡ record { len = length (wire name.labels); is_fqdn = name.is_fqdn }) }
-    ensures err { result ≢ 0 → NumberOf (FailsToParse text.now (length form.old)) result }
-    ensures room { result ≡ number NoRoom → length form.old < max_name }
-    ensures same { result ≢ 0 → (form.new ≡ form.old) × (parsed.new ≡ parsed.old) }
+    ensures { Returns (ParsesName text.now form.old form.new) parsed.old parsed.new result }
 {
-    match parse(alloc, text, form) {
-        Ok(name) => {
-            *parsed = name;
-            0
-        }
-        Err(failure) => failure.number(),
-    }
+    report(parse(alloc, text, form), parsed)
 }
 
 /// Puts the text of the name with a wire form. It does not allocate.
@@ -136,20 +101,10 @@ pub extern "C" fn dnw_name_print(
     text: &mut [u8],
     len: &mut usize,
 ) -> u32
-    ensures ok { result ≡ 0 → (labels : List (List ℕ)) × IsFormOf form.now labels
-        × (text.new ≡ put text.old (name_text (record { is_fqdn = is_fqdn; labels = labels })))
-        × (len.new ≡ length (name_text (record { is_fqdn = is_fqdn; labels = labels }))) }
-    ensures err { result ≢ 0 → NumberOf (FailsToPrint form.now is_fqdn (length text.old)) result }
-    ensures room { result ≡ number NoRoom → length text.old < max_text }
-    ensures same { result ≢ 0 → (text.new ≡ text.old) × (len.new ≡ len.old) }
+    ensures { Returns (PutsOfForm max_text (λ labels. name_text (record { is_fqdn = is_fqdn; labels = labels })) form.now text.old text.new)
+        len.old len.new result }
 {
-    match print(form, is_fqdn, text) {
-        Ok(put) => {
-            *len = put;
-            0
-        }
-        Err(failure) => failure.number(),
-    }
+    report(print(form, is_fqdn, text), len)
 }
 
 /// Puts a message of the names of a list, each compressed by those before it.
@@ -161,18 +116,9 @@ pub extern "C" fn dnw_names_write(
     out: &mut [u8],
     written: &mut WrittenNames,
 ) -> u32
-    ensures ok { result ≡ 0 → (w : Encoder) × WritesNames (at_first names.now) (limited_to max_size) written.new.count w
-        × (out.new ≡ put out.old w.bytes) × (written.new.len ≡ length w.bytes) }
-    ensures err { result ≢ 0 → NumberOf (FailsToWrite names.now max_size (length out.old)) result }
-    ensures same { result ≢ 0 → (out.new ≡ out.old) × (written.new ≡ written.old) }
+    ensures { Returns (WritesList names.now max_size out.old out.new) written.old written.new result }
 {
-    match write(alloc, names, max_size, out) {
-        Ok(list) => {
-            *written = list;
-            0
-        }
-        Err(failure) => failure.number(),
-    }
+    report(write(alloc, names, max_size, out), written)
 }
 
 /// Puts the text for a number if it fits, and returns its length. A number that stands for nothing has an empty text.
@@ -188,70 +134,38 @@ pub extern "C" fn dnw_error_text(code: u32, text: &mut [u8]) -> usize
 
 /// Reads the name at an offset, and puts its wire form.
 fn read_form(message: &[u8], start: usize, form: &mut [u8]) -> Result<ReadName, Failure>
-    ensures ok { IfOk result (λ r. (labels : List (List ℕ)) × (k : ℕ) × NameAt message.now start labels r.end k
-        × (form.new ≡ put form.old (wire labels)) × (r.len ≡ length (wire labels))) }
-    ensures err { IfErr result (FailsToRead message.now start (length form.old)) }
-    ensures room { IfErr result (λ failure. failure ≡ NoRoom → length form.old < max_name) }
-    ensures same { OnErr result (form.new ≡ form.old) }
+    ensures { ReadsName max_name wire message.now start form.old form.new result }
 {
-    match name_ref_at(message, start) {
-        Ok((name, end)) => {
-            let len = put_name(form, &name)?;
-            Ok(ReadName { len, end })
-        }
-        Err(error) => Err(of_decode(&error)),
-    }
+    let (name, end) = name_ref_at(message, start)?;
+    let len = put_name(form, &name)?;
+    Ok(ReadName { len, end })
 }
 
 /// Reads the name at an offset, and puts its text.
 fn read_text(message: &[u8], start: usize, text: &mut [u8]) -> Result<ReadName, Failure>
-    ensures ok { IfOk result (λ r. (labels : List (List ℕ)) × (k : ℕ) × NameAt message.now start labels r.end k
-        × (text.new ≡ put text.old (absolute_text labels)) × (r.len ≡ length (absolute_text labels))) }
-    ensures err { IfErr result (FailsToReadText message.now start (length text.old)) }
-    ensures room { IfErr result (λ failure. failure ≡ NoRoom → length text.old < max_text) }
-    ensures same { OnErr result (text.new ≡ text.old) }
+    ensures { ReadsName max_text absolute_text message.now start text.old text.new result }
 {
-    match name_ref_at(message, start) {
-        Ok((name, end)) => {
-            let len = put_text(text, name.wire_labels(&mut [0; MAX_NAME]), true)?;
-            Ok(ReadName { len, end })
-        }
-        Err(error) => Err(of_decode(&error)),
-    }
+    let (name, end) = name_ref_at(message, start)?;
+    let len = put_text(text, name.wire_labels(&mut [0; MAX_NAME]), true)?;
+    Ok(ReadName { len, end })
 }
 
 /// Puts the wire form of the name that a text gives.
 fn parse(alloc: Global, text: &[u8], form: &mut [u8]) -> Result<ParsedName, Failure>
-    ensures ok { IfOk result (λ r. (name : NameValue) × IsUtf8 text.now × (name_from_text (chars text.now) ≡ Ok name)
-        × (form.new ≡ put form.old (wire name.labels))
-        × (r ≡ record { len = length (wire name.labels); is_fqdn = name.is_fqdn })) }
-    ensures err { IfErr result (FailsToParse text.now (length form.old)) }
-    ensures room { IfErr result (λ failure. failure ≡ NoRoom → length form.old < max_name) }
-    ensures same { OnErr result (form.new ≡ form.old) }
+    ensures { ParsesName text.now form.old form.new result }
 {
     let Ok(chars) = str::from_utf8(text) else {
         return Err(Failure::NotUtf8);
     };
-    match Name::from_ascii(alloc, chars) {
-        Ok(name) => {
-            let len = put_form(form, &name)?;
-            Ok(ParsedName {
-                len,
-                is_fqdn: name.is_fqdn(),
-            })
-        }
-        Err(fault) => Err(of_proto(&fault)),
-    }
+    let name = Name::from_ascii(alloc, chars)?;
+    let len = put_form(form, &name)?;
+    let is_fqdn = name.is_fqdn();
+    Ok(ParsedName { len, is_fqdn })
 }
 
 /// Puts the text of the name with a wire form, and returns its length.
 fn print(form: &[u8], is_fqdn: bool, text: &mut [u8]) -> Result<usize, Failure>
-    ensures ok { IfOk result (λ len. (labels : List (List ℕ)) × IsFormOf form.now labels
-        × (text.new ≡ put text.old (name_text (record { is_fqdn = is_fqdn; labels = labels })))
-        × (len ≡ length (name_text (record { is_fqdn = is_fqdn; labels = labels })))) }
-    ensures err { IfErr result (FailsToPrint form.now is_fqdn (length text.old)) }
-    ensures room { IfErr result (λ failure. failure ≡ NoRoom → length text.old < max_text) }
-    ensures same { OnErr result (text.new ≡ text.old) }
+    ensures { PutsOfForm max_text (λ labels. name_text (record { is_fqdn = is_fqdn; labels = labels })) form.now text.old text.new result }
 {
     let labels = labels_of(form)?;
     put_text(text, labels, is_fqdn)
@@ -264,10 +178,7 @@ fn write(
     max_size: u16,
     out: &mut [u8],
 ) -> Result<WrittenNames, Failure>
-    ensures ok { IfOk result (λ r. (w : Encoder) × WritesNames (at_first names.now) (limited_to max_size) r.count w
-        × (out.new ≡ put out.old w.bytes) × (r.len ≡ length w.bytes)) }
-    ensures err { IfErr result (FailsToWrite names.now max_size (length out.old)) }
-    ensures same { OnErr result (out.new ≡ out.old) }
+    ensures { WritesList names.now max_size out.old out.new result }
 {
     let (bytes, count) = write_all(alloc, names, max_size)?;
     let len = put(out, bytes.as_slice())?;
@@ -314,22 +225,15 @@ fn write_next(decoder: &mut BinDecoder<'_>, encoder: &mut BinEncoder<'_>) -> Res
     ensures bytes { decoder.new.bytes ≡ decoder.old.bytes }
     ensures lender { lender encoder.new ≡ lender encoder.old }
 {
-    match NameRef::read(decoder) {
-        Ok(name) => match name.emit(encoder) {
-            Ok(()) => Ok(()),
-            Err(error) => Err(of_proto(&error)),
-        },
-        Err(error) => Err(of_decode(&error)),
-    }
+    let name = NameRef::read(decoder)?;
+    name.emit(encoder)?;
+    Ok(())
 }
 
 /// Puts the wire form of a name, and returns its length.
 #[tactic(auto, using(dnw_c_base::proofs::Starts::form_size, crate::proofs::Forms::form_fits))]
 pub(crate) fn put_form(form: &mut [u8], name: &Name) -> Result<usize, Failure>
-    ensures ok { IfOk result (λ len. (len ≡ length (wire name.now.labels)) × (form.new ≡ put form.old (wire name.now.labels))) }
-    ensures err { IfErr result (λ failure. (failure ≡ NoRoom) × (length form.old < length (wire name.now.labels))) }
-    ensures room { IfErr result (λ failure. failure ≡ NoRoom → length form.old < max_name) }
-    ensures same { OnErr result (form.new ≡ form.old) }
+    ensures { PutsName name.now form.old form.new result }
 {
     if name.encoded_len() > form.len() {
         return Err(Failure::NoRoom);
@@ -340,11 +244,8 @@ pub(crate) fn put_form(form: &mut [u8], name: &Name) -> Result<usize, Failure>
 /// Puts the text of a name with these labels, and returns its length.
 #[tactic(auto, using(dnw_name_ascii::proofs::TextSizes::texts_are_short))]
 fn put_text(buffer: &mut [u8], labels: WireLabels<'_>, is_fqdn: bool) -> Result<usize, Failure>
-    ensures ok { IfOk result (λ len. (len ≡ length (name_text (record { is_fqdn = is_fqdn; labels = labels.entry })))
-        × (buffer.new ≡ put buffer.old (name_text (record { is_fqdn = is_fqdn; labels = labels.entry })))) }
-    ensures err { IfErr result (FailsToPutText (name_text (record { is_fqdn = is_fqdn; labels = labels.entry })) (length buffer.old)) }
-    ensures room { IfErr result (λ failure. failure ≡ NoRoom → length buffer.old < max_text) }
-    ensures same { OnErr result (buffer.new ≡ buffer.old) }
+    ensures { PutsWithin max_text (name_text (record { is_fqdn = is_fqdn; labels = labels.entry }))
+        (length (name_text (record { is_fqdn = is_fqdn; labels = labels.entry }))) buffer.old buffer.new result }
 {
     // The proof reads here that the labels fit together.
     let _form = labels.as_wire();

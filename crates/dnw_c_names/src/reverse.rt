@@ -1,16 +1,13 @@
 //! Reverse names, of addresses that are bytes.
-ghost use Rattle.std.specs.Prelude.{◌≡◌, ◌≢◌, ◌<◌, length, IfOk, IfErr, OnErr};
-ghost use Rattle.dnw_base.specs.Limits.{max_name};
-ghost use Rattle.dnw_name_arpa.specs.NetTexts.{net_addr};
-ghost use Rattle.dnw_name_read.specs.Buffers.{put};
-ghost use Rattle.dnw_c_base.specs.Failures.{NumberOf, number};
-ghost use Rattle.dnw_c_names.specs.ReverseCalls.{FailsToReadNet, FailsToReverse, IsAddress, IsNoAddress, IsNoReverse, IsReverseOf, PutsNet, PutsReverse, address_octets};
-ghost use Rattle.dnw_c_base.specs.declared.failure.Failure.TheVariants.{NoRoom};
+ghost use Rattle.std.specs.Prelude.{length, IfOk, IfErr};
+ghost use Rattle.dnw_c_base.specs.Results.{Puts, Returns};
+ghost use Rattle.dnw_c_names.specs.ReverseCalls.{IsAddress, IsNoAddress, IsNoReverse, IsReverseOf, PutsNet, PutsReverse, address_octets};
 
 use crate::names::put_form;
 use crate::order::name_of;
 use dnw_c_base::buffer::put;
 use dnw_c_base::failure::Failure;
+use dnw_c_base::results::report;
 use dnw_name::name::Name;
 use dnw_name_arpa::net::IpNet;
 use std::alloc::Global;
@@ -32,18 +29,9 @@ pub extern "C" fn dnw_reverse_name(
     form: &mut [u8],
     len: &mut usize,
 ) -> u32
-    ensures ok { result ≡ 0 → PutsReverse address.now form.old form.new len.new }
-    ensures err { result ≢ 0 → NumberOf (FailsToReverse address.now (length form.old)) result }
-    ensures room { result ≡ number NoRoom → length form.old < max_name }
-    ensures same { result ≢ 0 → (form.new ≡ form.old) × (len.new ≡ len.old) }
+    ensures { Returns (PutsReverse address.now form.old form.new) len.old len.new result }
 {
-    match reverse(alloc, address, form) {
-        Ok(put) => {
-            *len = put;
-            0
-        }
-        Err(failure) => failure.number(),
-    }
+    report(reverse(alloc, address, form), len)
 }
 
 /// Puts the address of the net that a reverse name stands for. It does not allocate.
@@ -54,31 +42,17 @@ pub extern "C" fn dnw_reverse_parse(
     address: &mut [u8],
     net: &mut ReadNet,
 ) -> u32
-    ensures ok { result ≡ 0 → PutsNet form.now address.old address.new net.new }
-    ensures err { result ≢ 0 → NumberOf (FailsToReadNet form.now (length address.old)) result }
-    ensures same { result ≢ 0 → (address.new ≡ address.old) × (net.new ≡ net.old) }
+    ensures { Returns (PutsNet form.now address.old address.new) net.old net.new result }
 {
-    match parse(alloc, form, address) {
-        Ok(read) => {
-            *net = read;
-            0
-        }
-        Err(failure) => failure.number(),
-    }
+    report(parse(alloc, form, address), net)
 }
 
 /// Puts the wire form of the reverse name of an address.
 fn reverse(alloc: Global, address: &[u8], form: &mut [u8]) -> Result<usize, Failure>
-    ensures ok { IfOk result (PutsReverse address.now form.old form.new) }
-    ensures err { IfErr result (FailsToReverse address.now (length form.old)) }
-    ensures room { IfErr result (λ failure. failure ≡ NoRoom → length form.old < max_name) }
-    ensures same { OnErr result (form.new ≡ form.old) }
+    ensures { PutsReverse address.now form.old form.new result }
 {
     let ip = address_of(address)?;
-    match Name::from_ip(alloc, ip) {
-        Ok(name) => put_form(form, &name),
-        Err(_) => Err(Failure::Other),
-    }
+    put_form(form, &Name::from_ip(alloc, ip)?)
 }
 
 /// Returns the address that 4 or 16 bytes are.
@@ -101,16 +75,12 @@ fn address_of(bytes: &[u8]) -> Result<IpAddr, Failure>
 
 /// Puts the address of the net of a reverse name.
 fn parse(alloc: Global, form: &[u8], address: &mut [u8]) -> Result<ReadNet, Failure>
-    ensures ok { IfOk result (PutsNet form.now address.old address.new) }
-    ensures err { IfErr result (FailsToReadNet form.now (length address.old)) }
-    ensures same { OnErr result (address.new ≡ address.old) }
+    ensures { PutsNet form.now address.old address.new result }
 {
     let net = net_of(alloc, form)?;
     let len = put_address(address, net.addr())?;
-    Ok(ReadNet {
-        len,
-        prefix_len: net.prefix_len(),
-    })
+    let prefix_len = net.prefix_len();
+    Ok(ReadNet { len, prefix_len })
 }
 
 /// Returns the net that the reverse name with a wire form stands for.
@@ -127,9 +97,7 @@ fn net_of(alloc: Global, form: &[u8]) -> Result<IpNet, Failure>
 
 /// Puts the bytes of an address, and returns their number.
 fn put_address(buffer: &mut [u8], ip: IpAddr) -> Result<usize, Failure>
-    ensures ok { IfOk result (λ len. (len ≡ length (address_octets ip)) × (buffer.new ≡ put buffer.old (address_octets ip))) }
-    ensures err { IfErr result (λ failure. (failure ≡ NoRoom) × (length buffer.old < length (address_octets ip))) }
-    ensures same { OnErr result (buffer.new ≡ buffer.old) }
+    ensures { Puts (address_octets ip) (length (address_octets ip)) buffer.old buffer.new result }
 {
     match ip {
         IpAddr::V4(ip) => put(buffer, &ip.octets()),

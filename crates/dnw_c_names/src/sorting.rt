@@ -1,16 +1,17 @@
 //! Lists of names, sorted.
-ghost use Rattle.std.specs.Prelude.{◌≡◌, ◌≢◌, ◌≤◌, ◌<◌, ◌⊎◌, ◌++◌, ◌∷◌, [], ℕ, List, length, map, IfOk, IfErr, OnOk, OnErr};
+ghost use Rattle.std.specs.Prelude.{◌≡◌, ◌≤◌, ◌<◌, ◌⊎◌, ◌++◌, ◌∷◌, [], ℕ, List, length, map, IfOk, IfErr, OnOk};
 ghost use Rattle.dnw_name_read.specs.Reading.{TakesName};
 ghost use Rattle.dnw_name_read.specs.Buffers.{put};
 ghost use Rattle.dnw_c_names.specs.NameLists.{at_first};
-ghost use Rattle.dnw_c_names.specs.SortCalls.{AreInOrder, FailsToName, FailsToSort, HasNames, IsNoNextName};
+ghost use Rattle.dnw_c_names.specs.SortCalls.{AreInOrder, FailsToName, HasNames, IsNoNextName, PutsOrder};
 ghost use Rattle.dnw_c_names.specs.Inside.Keyed.{AreKeyed, number_of};
-ghost use Rattle.dnw_c_base.specs.Failures.{NumberOf};
+ghost use Rattle.dnw_c_base.specs.Results.{ReturnsNumber};
 ghost use Rattle.dnw_c_base.specs.declared.failure.Failure.TheVariants.{NoMemory};
 
 use dnw_base::decoder::BinDecoder;
 use dnw_base::limits::MAX_NAME;
-use dnw_c_base::failure::{Failure, of_decode};
+use dnw_c_base::failure::Failure;
+use dnw_c_base::results::report;
 use dnw_name::name_ref::NameRef;
 use dnw_name_form::wire_labels::WireLabels;
 use dnw_name_order::sort_key::{self, MAX_SORT_KEY_LENGTH};
@@ -19,23 +20,14 @@ use std::alloc::{AllocError, Global};
 /// Puts the numbers of the names of a list, from 0, in canonical order of the names.
 #[unsafe(no_mangle)]
 pub extern "C" fn dnw_names_sort(alloc: Global, names: &[u8], order: &mut [usize]) -> u32
-    ensures ok { result ≡ 0 → (all : List (List (List ℕ))) × (numbers : List ℕ) × HasNames (at_first names.now) all
-        × AreInOrder all numbers × (order.new ≡ put order.old numbers) }
-    ensures err { result ≢ 0 → NumberOf (FailsToSort names.now (length order.old)) result }
-    ensures same { result ≢ 0 → order.new ≡ order.old }
+    ensures { ReturnsNumber (PutsOrder names.now order.old order.new) result }
 {
-    match sort(alloc, names, order) {
-        Ok(()) => 0,
-        Err(failure) => failure.number(),
-    }
+    report(sort(alloc, names, order), &mut ())
 }
 
 /// Puts the numbers of the names of a list in canonical order of the names.
 fn sort(alloc: Global, names: &[u8], order: &mut [usize]) -> Result<(), Failure>
-    ensures ok { OnOk result ((all : List (List (List ℕ))) × (numbers : List ℕ) × HasNames (at_first names.now) all
-        × AreInOrder all numbers × (order.new ≡ put order.old numbers)) }
-    ensures err { IfErr result (FailsToSort names.now (length order.old)) }
-    ensures same { OnErr result (order.new ≡ order.old) }
+    ensures { PutsOrder names.now order.old order.new result }
 {
     let entries = keyed(alloc, names)?;
     if entries.len() > order.len() {
@@ -71,16 +63,10 @@ fn push_next(
     ensures within { OnOk result (decoder.new.index ≤ length decoder.new.bytes) }
     ensures bytes { decoder.new.bytes ≡ decoder.old.bytes }
 {
-    match NameRef::read(decoder) {
-        Ok(name) => {
-            let mut room = [0; MAX_NAME];
-            match push_key(alloc, name.wire_labels(&mut room), entries) {
-                Ok(()) => Ok(()),
-                Err(_) => Err(Failure::NoMemory),
-            }
-        }
-        Err(error) => Err(of_decode(&error)),
-    }
+    let name = NameRef::read(decoder)?;
+    let mut room = [0; MAX_NAME];
+    push_key(alloc, name.wire_labels(&mut room), entries)?;
+    Ok(())
 }
 
 /// Pushes the sort key of a name.

@@ -1,5 +1,5 @@
 -- What the function for C puts of what a signature covers, and why it puts nothing (RFC 4034, section 3.1.8.1).
-use Rattle.std.specs.Prelude.{◌≡◌, ◌<◌, ◌⊎◌, ℕ, List, [], ◌∷◌, ◌++◌, length, get_or, slice_range}
+use Rattle.std.specs.Prelude.{◌≡◌, ◌<◌, ◌⊎◌, ℕ, List, [], ◌∷◌, ◌++◌, length, get_or, slice_range, Result}
 use Rattle.std.specs.Int.{w16, w32, from_be_bytes}
 use Rattle.dnw_base.specs.Decoder.{Decoder}
 use Rattle.dnw_base.specs.Names.{lower}
@@ -20,7 +20,7 @@ use Rattle.dnw_record_owned.specs.DataPieces.{kinds_of}
 use Rattle.dnw_record_owned.specs.declared.rdata.RDataError.{RDataError}
 use Rattle.dnw_record_owned.specs.declared.rdata.RDataError.TheVariants.{Field, Memory}
 use Rattle.dnw_record_owned.specs.declared.record.Record.{Record}
-use Rattle.dnw_name_read.specs.Buffers.{put}
+use Rattle.dnw_c_base.specs.Results.{Puts, Refuses}
 use Rattle.dnw_record.specs.Records.{FailsRecord, RecordAt, RecordValue}
 use Rattle.dnw_c_signed.specs.declared.covering.Rrsig.{Rrsig}
 
@@ -146,11 +146,7 @@ FailsToSign message start at failure =
 
 -- ---- what is put
 
-abbrev pub PutsSigned : List ℕ → ℕ → ℕ → List ℕ → List ℕ → ℕ → Type 0
-PutsSigned message start at old new len = (own : List ℕ) × IsSigned message start at own × (new ≡ put old own) × (len ≡ length own)
-
--- They are not put into a buffer of this size.
-abbrev pub FailsToPutSigned : List ℕ → ℕ → ℕ → ℕ → Failure → Type 0
-FailsToPutSigned message start at size failure =
-    FailsToSign message start at failure
-    ⊎ ((own : List ℕ) × IsSigned message start at own × (size < length own) × (failure ≡ why.NoRoom))
+abbrev pub PutsSigned : List ℕ → ℕ → ℕ → List ℕ → List ℕ → Result ℕ Failure → Type 0
+PutsSigned message start at old new result =
+    ((own : List ℕ) × IsSigned message start at own × Puts own (length own) old new result)
+    ⊎ Refuses (FailsToSign message start at) old new result

@@ -56,20 +56,11 @@ fn collect_next(
         × Selects rrsig.now r more × (copies.new.items ≡ copies.old.items ++ more)) }
     ensures err { IfErr result (FailsToCollectNext rrsig.now reader.old) }
 {
-    let item = match RecordRef::read_next(reader) {
-        Ok(item) => item,
-        Err(error) => return Err(of_decode(&error)),
-    };
+    let item = RecordRef::read_next(reader)?;
     if !is_covered(rrsig, &item) {
         return Ok(());
     }
-    let copy = match copy_of(alloc, &item) {
-        Ok(copy) => copy,
-        Err(failure) => return Err(failure),
-    };
-    if copies.push(copy).is_err() {
-        return Err(Failure::NoMemory);
-    }
+    copies.push(copy_of(alloc, &item)?)?;
     Ok(())
 }
 
@@ -99,10 +90,7 @@ pub(crate) fn record_at(message: &[u8], start: usize) -> Result<RecordRef<'_>, F
     if message.len() < start {
         return Err(Failure::MessageCut);
     }
-    match read_at(message, start) {
-        Ok(record) => Ok(record),
-        Err(error) => Err(of_decode(&error)),
-    }
+    Ok(read_at(message, start)?)
 }
 
 /// Reads the record at an offset that is not past the octets.

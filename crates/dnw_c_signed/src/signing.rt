@@ -1,13 +1,14 @@
 //! The octets that a signature covers.
-ghost use Rattle.std.specs.Prelude.{◌≡◌, ◌≢◌, ◌≤◌, length, IfOk, IfErr, OnErr};
-ghost use Rattle.dnw_c_base.specs.Failures.{NumberOf};
+ghost use Rattle.std.specs.Prelude.{◌≡◌, ◌≤◌, length, IfOk, IfErr};
+ghost use Rattle.dnw_c_base.specs.Results.{Returns};
 ghost use Rattle.dnw_signed.specs.SignedFields.{before_signer};
-ghost use Rattle.dnw_c_signed.specs.SigningCalls.{FailsRrsig, FailsToPutSigned, FailsToSign, IsRrsigAt, IsSigned, PutsSigned, label_count, of_canonical, original_ttl};
+ghost use Rattle.dnw_c_signed.specs.SigningCalls.{FailsRrsig, FailsToSign, IsRrsigAt, IsSigned, PutsSigned, label_count, of_canonical, original_ttl};
 
 use crate::covering::{Rrsig, copy_of, covered, record_at};
 use dnw_base::record_type::RecordType;
 use dnw_c_base::buffer::put;
 use dnw_c_base::failure::Failure;
+use dnw_c_base::results::report;
 use dnw_signed::canonical::{record_set, signed_fields};
 use dnw_signed::error::CanonicalError;
 use std::alloc::Global;
@@ -23,17 +24,9 @@ pub extern "C" fn dnw_signed_octets(
     octets: &mut [u8],
     len: &mut usize,
 ) -> u32
-    ensures ok { result ≡ 0 → PutsSigned message.now start rrsig octets.old octets.new len.new }
-    ensures err { result ≢ 0 → NumberOf (FailsToPutSigned message.now start rrsig (length octets.old)) result }
-    ensures same { result ≢ 0 → (octets.new ≡ octets.old) × (len.new ≡ len.old) }
+    ensures { Returns (PutsSigned message.now start rrsig octets.old octets.new) len.old len.new result }
 {
-    match put_signed(alloc, message, start, rrsig, octets) {
-        Ok(put) => {
-            *len = put;
-            0
-        }
-        Err(failure) => failure.number(),
-    }
+    report(put_signed(alloc, message, start, rrsig, octets), len)
 }
 
 /// Puts what an RRSIG covers, and returns the number of octets.
@@ -44,18 +37,10 @@ fn put_signed(
     rrsig: usize,
     octets: &mut [u8],
 ) -> Result<usize, Failure>
-    ensures ok { IfOk result (PutsSigned message.now start rrsig octets.old octets.new) }
-    ensures err { IfErr result (FailsToPutSigned message.now start rrsig (length octets.old)) }
-    ensures same { OnErr result (octets.new ≡ octets.old) }
+    ensures { PutsSigned message.now start rrsig octets.old octets.new result }
 {
-    let own = match signed(alloc, message, start, rrsig) {
-        Ok(own) => own,
-        Err(failure) => return Err(failure),
-    };
-    match put(octets, own.as_slice()) {
-        Ok(len) => Ok(len),
-        Err(failure) => Err(failure),
-    }
+    let own = signed(alloc, message, start, rrsig)?;
+    put(octets, own.as_slice())
 }
 
 /// Returns the octets that an RRSIG covers.
@@ -63,14 +48,8 @@ fn signed(alloc: Global, message: &[u8], start: usize, at: usize) -> Result<Vec<
     ensures ok { IfOk result (λ own. IsSigned message.now start at own.items) }
     ensures err { IfErr result (FailsToSign message.now start at) }
 {
-    let rrsig = match rrsig_at(alloc, message, at) {
-        Ok(rrsig) => rrsig,
-        Err(failure) => return Err(failure),
-    };
-    let records = match covered(alloc, &rrsig, message, start) {
-        Ok(records) => records,
-        Err(failure) => return Err(failure),
-    };
+    let rrsig = rrsig_at(alloc, message, at)?;
+    let records = covered(alloc, &rrsig, message, start)?;
     let fields = rrsig.fields.as_slice();
     let set = match record_set(
         alloc,
@@ -82,10 +61,8 @@ fn signed(alloc: Global, message: &[u8], start: usize, at: usize) -> Result<Vec<
         Err(error) => return Err(of_canonical(&error)),
     };
     let mut own = rrsig.fields;
-    match own.extend_from_slice(set.as_slice()) {
-        Ok(()) => Ok(own),
-        Err(_) => Err(Failure::NoMemory),
-    }
+    own.extend_from_slice(set.as_slice())?;
+    Ok(own)
 }
 
 /// Returns the RRSIG at an offset.
@@ -93,17 +70,11 @@ fn rrsig_at(alloc: Global, message: &[u8], at: usize) -> Result<Rrsig, Failure>
     ensures ok { IfOk result (IsRrsigAt message.now at) }
     ensures err { IfErr result (FailsRrsig message.now at) }
 {
-    let item = match record_at(message, at) {
-        Ok(item) => item,
-        Err(failure) => return Err(failure),
-    };
+    let item = record_at(message, at)?;
     if u16::from(item.record_type()) != u16::from(RecordType::RRSIG) {
         return Err(Failure::NotRrsig);
     }
-    let record = match copy_of(alloc, &item) {
-        Ok(record) => record,
-        Err(failure) => return Err(failure),
-    };
+    let record = copy_of(alloc, &item)?;
     match signed_fields(alloc, &record.data) {
         Ok(fields) => Ok(Rrsig { record, fields }),
         Err(_) => Err(Failure::NoMemory),

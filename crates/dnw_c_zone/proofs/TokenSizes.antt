@@ -1,5 +1,5 @@
 -- The texts of a token are no longer than the octets that it takes.
-use Rattle.std.proofs.Common.{◌≡◌, ℕ, ◌+◌, ◌-◌, ◌*◌, ◌<◌, ◌≤◌, Bool, true, false, not, ◌||◌, ◌==◌, if◌then◌else◌, List, [], ◌∷◌, ◌++◌, length, inl, inr, sym, ap, subst, ◌∙◌, length-append, arith}
+use Rattle.std.proofs.Common.{◌≡◌, ℕ, ◌+◌, ◌-◌, ◌*◌, ◌<◌, ◌≤◌, Bool, true, false, not, ◌||◌, ◌==◌, if◌then◌else◌, List, [], ◌∷◌, ◌++◌, length, sym, ap, subst, ◌∙◌, length-append, arith}
 use Rattle.std.specs.Prelude.{⊤, codes}
 use Rattle.std.specs.Char.{is_whitespace, is_control, is_ascii_digit, len_utf8}
 use Rattle.std.specs.Str.{bytes_eq, chars}
@@ -8,9 +8,7 @@ use Rattle.std.proofs.lemmas.Str.{chars-append, encodes-append, encodes-chars, l
 use lib.Utf8.{encode, encodes}
 use Rattle.dnw_zone_lexer.specs.Tokens.{TokenValue, Step, Gives, Ends, Stops, LexState, StartLine, RestOfLine, Failed, front_until, from, is_line_end, line_end, line_feed, carriage_return, after_comment, word_before, ends_word, semicolon, close_paren, list_after, ListState, Between, Comment, Word, quoted_after, QuoteState, Plain, Escaped, AfterOne, AfterTwo, quote, backslash, is_numeric, control_entry, is_no_capital, at_sign, open_paren, dollar, line_entry, rest_of_line, next_from}
 use Rattle.dnw_zone_lexer.proofs.Cuts.{before_from}
-use Rattle.dnw_c_base.specs.declared.failure.Failure.{Failure}
-use Rattle.dnw_c_base.specs.declared.failure.Failure.TheVariants.{NoRoom}
-use Rattle.dnw_c_zone.specs.TokenCalls.{FailsToPutToken, LexesToken, list_bytes, token_bytes, word_bytes}
+use Rattle.dnw_c_zone.specs.TokenCalls.{LexesToken, list_bytes, token_bytes, word_bytes}
 
 abbrev size : List ℕ → ℕ
 size cs = length (encodes cs)
@@ -160,7 +158,3 @@ fits_left left state value len line (own, rest, is, utf8, _, gives) =
     ∙ length-append (encodes (chars own)) (encodes (chars rest)) ∙ ap (λ (bs : List ℕ). length bs + length (encodes (chars rest))) (encodes-chars own utf8)
     in
     omega (arith, small, parts, ap length is, length-append own rest)
-
-pub no_room : (value : TokenValue) (room n : ℕ) (failure : Failure) → FailsToPutToken value room failure → length (token_bytes value) ≤ n → failure ≡ NoRoom → room < n
-no_room value room n failure (inl (longer, is)) le e = omega (arith, longer, le)
-no_room value room n failure (inr (list, is)) le e = absurd cc

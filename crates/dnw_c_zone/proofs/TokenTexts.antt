@@ -1,11 +1,14 @@
--- The bytes of a list's words, word by word.
-use Rattle.std.proofs.Common.{◌≡◌, ℕ, suc, ◌+◌, ◌<◌, List, [], ◌∷◌, ◌++◌, length, map, drop, get_or, sym, ◌∙◌, ap, append_assoc, add-one, drop-cons, String, string_bytes}
+-- The bytes of a list's words, word by word, and tokens that are put.
+use Rattle.std.proofs.Common.{◌≡◌, ℕ, suc, ◌+◌, ◌<◌, List, [], ◌∷◌, ◌++◌, length, map, drop, get_or, Ok, inl, inr, refl, sym, ◌∙◌, ap, append_assoc, add-one, drop-cons, String, string_bytes}
 use Rattle.std.specs.declared.alloc.Global.{Global}
 use Rattle.std.specs.Str.{IsUtf8}
 use Rattle.std.proofs.lemmas.Str.{IsUtf8-string_bytes, encodes-chars}
 use Rattle.std.specs.Str.{encode_utf8_all}
 use Rattle.dnw_zone_lexer.specs.Lexing.{characters}
-use Rattle.dnw_c_zone.specs.TokenCalls.{list_bytes}
+use Rattle.dnw_zone_lexer.specs.Tokens.{TokenValue}
+use Rattle.dnw_c_zone.specs.TokenCalls.{PutsToken, list_bytes, read_token}
+use Rattle.dnw_c_zone.specs.declared.tokens.LexerState.{LexerState}
+use Rattle.dnw_c_zone.specs.declared.tokens.ReadToken.{ReadToken}
 
 -- one more word
 pub words_more : (bytes all : List ℕ) (word : String Global) (rest : List (String Global))
@@ -33,3 +36,9 @@ words_step items words i word bytes longer own after same within is utf8 text mo
 -- the characters of a text are encoded as its bytes
 pub text_bytes : (text : String Global) → encode_utf8_all (characters text) ≡ string_bytes text
 text_bytes text = encodes-chars (string_bytes text) (IsUtf8-string_bytes text)
+
+-- the texts of a token are put, whatever is returned beside it
+pub put_before : (value : TokenValue) (read : ReadToken) (after : LexerState) (old new : List ℕ)
+    → PutsToken value (read_token value) old new (Ok read) → PutsToken {T = ReadToken × LexerState} value (read_token value, after) old new (Ok (read, after))
+put_before value read after old new (inl (is, fits, now)) = inl (rw is refl, fits, now)
+put_before value read after old new (inr h) = absurd h

@@ -1,5 +1,5 @@
 -- Tokens of a text, of which a caller keeps an offset, and why there is none (RFC 1035, section 5.1).
-use Rattle.std.specs.Prelude.{◌≡◌, ◌<◌, ◌≤◌, ◌⊎◌, ℕ, ◌+◌, Bool, true, false, IsTrue, List, [], ◌∷◌, ◌++◌, length, drop, encode_utf8_all, IsUtf8}
+use Rattle.std.specs.Prelude.{◌≡◌, ◌≤◌, ◌⊎◌, ℕ, ◌+◌, Bool, true, false, IsTrue, List, [], ◌∷◌, ◌++◌, length, drop, encode_utf8_all, Result, Ok, IsUtf8}
 use Rattle.std.specs.List.{flat_map}
 use Rattle.std.specs.Str.{chars}
 use Rattle.dnw_zone_lexer.specs.Tokens.{TokenValue, Blank, Grouped, CharData, AtSign, Include, Origin, Ttl, LineEnd, Gives, Ends, IsSettledStep, LexState, LexerValue, next, next_from}
@@ -7,8 +7,8 @@ use Rattle.dnw_zone_lexer.specs.Lexing.{FailsToken, line_state}
 use Rattle.dnw_zone_lexer.specs.declared.errors.LexerError.{LexerError}
 use Rattle.dnw_zone_lexer.specs.declared.errors.LexerError.TheVariants.{EOF, IllegalCharacter as IllegalChar, UnclosedList as ListError, UnclosedQuotedString, UnrecognizedChar, UnrecognizedDollar, Memory}
 use Rattle.dnw_c_base.specs.declared.failure.Failure.{Failure}
-use Rattle.dnw_c_base.specs.declared.failure.Failure.TheVariants.{NoMemory, NoRoom, NotUtf8, Other, TextCut, IllegalCharacter, ControlCharacter, UnclosedList, UnclosedQuote, UnknownEntry}
-use Rattle.dnw_name_read.specs.Buffers.{put}
+use Rattle.dnw_c_base.specs.declared.failure.Failure.TheVariants.{NoMemory, NotUtf8, Other, TextCut, IllegalCharacter, ControlCharacter, UnclosedList, UnclosedQuote, UnknownEntry}
+use Rattle.dnw_c_base.specs.Results.{Puts, Refuses}
 use Rattle.dnw_c_zone.specs.declared.tokens.LexerState.{LexerState}
 use Rattle.dnw_c_zone.specs.declared.tokens.ReadToken.{ReadToken}
 
@@ -72,11 +72,10 @@ IsAtTextEnd text at after =
     IsUtf8 (drop at.offset text) × (next (lexer_at text at) ≡ Ends)
     × (after ≡ record { offset = length text; at_line_start = false })
 
--- The token that stands next is put, or the end is reported.
-abbrev pub TakesToken : List ℕ → LexerState → LexerState → List ℕ → List ℕ → ReadToken → Type 0
-TakesToken text at after old new token =
-    ((value : TokenValue) × Advances text at value after × (new ≡ put old (token_bytes value)) × (token ≡ read_token value))
-    ⊎ (IsAtTextEnd text at after × (new ≡ old) × (token ≡ record { kind = 0; len = 0; count = 0 }))
+-- The texts of a token are put, and this is the value, unless memory runs out, which only a list needs.
+abbrev pub PutsToken : {T : Type 0} → TokenValue → T → List ℕ → List ℕ → Result T Failure → Type 0
+PutsToken value found old new result =
+    Puts (token_bytes value) found old new result ⊎ Refuses (λ failure. IsList value × (failure ≡ NoMemory)) old new result
 
 -- why there is no token
 abbrev pub of_lexer : LexerError → Failure
@@ -118,13 +117,14 @@ HasNoToken left state failure = (((front : List ℕ) → ¬ (Decides left state 
 abbrev pub FailsToLex : List ℕ → LexerState → Failure → Type 0
 FailsToLex text at failure = HasNoToken (drop at.offset text) (line_state at.at_line_start) failure
 
--- The token's texts are not put into a buffer of this size: they are longer, or memory ran out.
-abbrev pub FailsToPutToken : TokenValue → ℕ → Failure → Type 0
-FailsToPutToken value size failure =
-    ((size < length (token_bytes value)) × (failure ≡ NoRoom)) ⊎ (IsList value × (failure ≡ NoMemory))
+-- what C learns of the end of a text
+abbrev pub end_token : ReadToken
+end_token = record { kind = 0; len = 0; count = 0 }
 
--- None is found, or its texts are not put.
-abbrev pub FailsToTakeToken : List ℕ → LexerState → ℕ → Failure → Type 0
-FailsToTakeToken text at size failure =
-    FailsToLex text at failure
-    ⊎ ((value : TokenValue) × (after : LexerState) × Advances text at value after × FailsToPutToken value size failure)
+-- The token that stands next is put, whose texts are no longer than what is left; or the end is reported; or none is found.
+abbrev pub TakesToken : List ℕ → LexerState → List ℕ → List ℕ → Result (ReadToken × LexerState) Failure → Type 0
+TakesToken text at old new result =
+    ((value : TokenValue) × (after : LexerState) × Advances text at value after × (length (token_bytes value) ≤ length (drop at.offset text))
+    × PutsToken value (read_token value, after) old new result)
+    ⊎ ((after : LexerState) × IsAtTextEnd text at after × (result ≡ Ok (end_token, after)) × (new ≡ old))
+    ⊎ Refuses (FailsToLex text at) old new result

@@ -1,18 +1,19 @@
 //! Records and data that are texts.
-ghost use Rattle.std.specs.Prelude.{◌≡◌, ◌≢◌, ◌≤◌, length, IfOk, IfErr, OnErr};
+ghost use Rattle.std.specs.Prelude.{◌≡◌, IfOk, IfErr};
 ghost use Rattle.dnw_base.specs.RecordTypes.{type_of_code};
-ghost use Rattle.dnw_c_base.specs.Failures.{NumberOf};
-ghost use Rattle.dnw_c_zone.specs.ParseCalls.{FailsToParseData, FailsToParseRecord, HasParsedData, HasParsedRecord, IsNoOrigin, IsOrigin, LacksData, LacksParsedRecord, PutsData, PutsParsedRecord, of_data, of_line};
+ghost use Rattle.dnw_c_base.specs.Results.{Returns};
+ghost use Rattle.dnw_c_zone.specs.ParseCalls.{HasParsedData, HasParsedRecord, IsNoOrigin, IsOrigin, LacksData, LacksParsedRecord, PutsData, PutsParsedRecord, of_data, of_line};
 
-use dnw_base::decoder::BinDecoder;
+use dnw_base::limits::MAX_DATA;
 use dnw_base::record_type::RecordType;
 use dnw_c_base::buffer::put;
-use dnw_c_base::failure::{Failure, of_decode};
+use dnw_c_base::failure::Failure;
+use dnw_c_base::names::name_ref_at;
+use dnw_c_base::results::report;
 use dnw_name::name::Name;
-use dnw_name::name_ref::NameRef;
 use dnw_zone_data::data_text::parse;
 use dnw_zone_data::error::DataTextError;
-use dnw_zone_record::record_line::{MAX_DATA, RecordLineError, parse_record};
+use dnw_zone_record::record_line::{RecordLineError, parse_record};
 use std::alloc::Global;
 use std::str;
 
@@ -26,17 +27,9 @@ pub extern "C" fn dnw_data_parse(
     octets: &mut [u8],
     len: &mut usize,
 ) -> u32
-    ensures ok { result ≡ 0 → PutsData record_type text.now origin.now octets.old octets.new len.new }
-    ensures err { result ≢ 0 → NumberOf (FailsToParseData record_type text.now origin.now (length octets.old)) result }
-    ensures same { result ≢ 0 → (octets.new ≡ octets.old) × (len.new ≡ len.old) }
+    ensures { Returns (PutsData record_type text.now origin.now octets.old octets.new) len.old len.new result }
 {
-    match put_data(alloc, record_type, text, origin, octets) {
-        Ok(put) => {
-            *len = put;
-            0
-        }
-        Err(failure) => failure.number(),
-    }
+    report(put_data(alloc, record_type, text, origin, octets), len)
 }
 
 /// Puts the octets of the record that a line of a master file is. The origin is a wire form, or no octets for none.
@@ -48,17 +41,9 @@ pub extern "C" fn dnw_record_parse(
     octets: &mut [u8],
     len: &mut usize,
 ) -> u32
-    ensures ok { result ≡ 0 → PutsParsedRecord text.now origin.now octets.old octets.new len.new }
-    ensures err { result ≢ 0 → NumberOf (FailsToParseRecord text.now origin.now (length octets.old)) result }
-    ensures same { result ≢ 0 → (octets.new ≡ octets.old) × (len.new ≡ len.old) }
+    ensures { Returns (PutsParsedRecord text.now origin.now octets.old octets.new) len.old len.new result }
 {
-    match put_record(alloc, text, origin, octets) {
-        Ok(put) => {
-            *len = put;
-            0
-        }
-        Err(failure) => failure.number(),
-    }
+    report(put_record(alloc, text, origin, octets), len)
 }
 
 /// Puts data, and returns the number of their octets.
@@ -69,42 +54,20 @@ fn put_data(
     form: &[u8],
     octets: &mut [u8],
 ) -> Result<usize, Failure>
-    ensures ok { IfOk result (PutsData record_type text.now form.now octets.old octets.new) }
-    ensures err { IfErr result (FailsToParseData record_type text.now form.now (length octets.old)) }
-    ensures same { OnErr result (octets.new ≡ octets.old) }
+    ensures { PutsData record_type text.now form.now octets.old octets.new result }
 {
-    let origin = match origin_of(alloc, form) {
-        Ok(origin) => origin,
-        Err(failure) => return Err(failure),
-    };
-    let own = match data_of(alloc, record_type, text, &origin) {
-        Ok(own) => own,
-        Err(failure) => return Err(failure),
-    };
-    match put(octets, own.as_slice()) {
-        Ok(len) => Ok(len),
-        Err(failure) => Err(failure),
-    }
+    let origin = origin_of(alloc, form)?;
+    let own = data_of(alloc, record_type, text, &origin)?;
+    put(octets, own.as_slice())
 }
 
 /// Puts a record, and returns the number of its octets.
 fn put_record(alloc: Global, text: &[u8], form: &[u8], octets: &mut [u8]) -> Result<usize, Failure>
-    ensures ok { IfOk result (PutsParsedRecord text.now form.now octets.old octets.new) }
-    ensures err { IfErr result (FailsToParseRecord text.now form.now (length octets.old)) }
-    ensures same { OnErr result (octets.new ≡ octets.old) }
+    ensures { PutsParsedRecord text.now form.now octets.old octets.new result }
 {
-    let origin = match origin_of(alloc, form) {
-        Ok(origin) => origin,
-        Err(failure) => return Err(failure),
-    };
-    let own = match record_of(alloc, text, &origin) {
-        Ok(own) => own,
-        Err(failure) => return Err(failure),
-    };
-    match put(octets, own.as_slice()) {
-        Ok(len) => Ok(len),
-        Err(failure) => Err(failure),
-    }
+    let origin = origin_of(alloc, form)?;
+    let own = record_of(alloc, text, &origin)?;
+    put(octets, own.as_slice())
 }
 
 /// Returns the name that a wire form is, or none for no octets.
@@ -115,12 +78,8 @@ fn origin_of(alloc: Global, form: &[u8]) -> Result<Option<Name>, Failure>
     if form.is_empty() {
         return Ok(None);
     }
-    let mut decoder = BinDecoder::new(form);
-    let name = match NameRef::read(&mut decoder) {
-        Ok(name) => name,
-        Err(error) => return Err(of_decode(&error)),
-    };
-    if decoder.index() < form.len() {
+    let (name, end) = name_ref_at(form, 0)?;
+    if end != form.len() {
         return Err(Failure::BytesLeft);
     }
     Ok(Some(name.to_name(alloc).unwrap()))

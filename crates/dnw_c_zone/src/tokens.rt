@@ -1,14 +1,13 @@
 //! The tokens of master files, one after another, of which the caller keeps an offset.
-ghost use Rattle.std.specs.Prelude.{◌≡◌, ◌≢◌, ◌<◌, ◌≤◌, ◌⊎◌, ◌||◌, ℕ, List, ◌++◌, length, map, drop, IsUtf8, IfOk, IfErr, IfSome, IfNone, OnErr, MatchOption};
+ghost use Rattle.std.specs.Prelude.{◌≡◌, ◌≤◌, ◌||◌, ℕ, List, ◌++◌, length, map, drop, IsUtf8, IfOk, IfErr, IfSome, IfNone, OnErr, MatchOption};
 ghost use Rattle.dnw_zone_lexer.specs.Lexing.{characters, line_state, token_value};
-ghost use Rattle.dnw_name_read.specs.Buffers.{put};
-ghost use Rattle.dnw_c_base.specs.Failures.{NumberOf, number};
-ghost use Rattle.dnw_c_zone.specs.TokenCalls.{is_decided, Advances, Decides, FailsToLex, FailsToPutToken, FailsToTakeToken, HasError, HasNoToken, IsAtTextEnd, TakesToken, kind_number, list_bytes, of_lexer, read_token, token_bytes};
+ghost use Rattle.dnw_c_base.specs.Results.{Returns};
+ghost use Rattle.dnw_c_zone.specs.TokenCalls.{is_decided, Advances, Decides, FailsToLex, HasError, HasNoToken, IsAtTextEnd, PutsToken, TakesToken, kind_number, list_bytes, of_lexer, read_token};
 ghost use Rattle.dnw_c_zone.specs.Inside.TokenParts.{FindsIn, settles};
-ghost use Rattle.dnw_c_base.specs.declared.failure.Failure.TheVariants.{NoMemory, NoRoom, NotUtf8};
 
 use dnw_c_base::buffer::put;
 use dnw_c_base::failure::Failure;
+use dnw_c_base::results::report_both;
 use dnw_zone_lexer::errors::LexerError;
 use dnw_zone_lexer::zone_lex::{Lexer, Token};
 use std::alloc::{AllocError, Global};
@@ -39,19 +38,9 @@ pub extern "C" fn dnw_token_next(
     words: &mut [u8],
     token: &mut ReadToken,
 ) -> u32
-    ensures ok { result ≡ 0 → TakesToken text.now lexer.old lexer.new words.old words.new token.new }
-    ensures err { result ≢ 0 → NumberOf (FailsToTakeToken text.now lexer.old (length words.old)) result }
-    ensures room { result ≡ number NoRoom → length words.old < length (drop lexer.old.offset text.now) }
-    ensures same { result ≢ 0 → (words.new ≡ words.old) × (lexer.new ≡ lexer.old) × (token.new ≡ token.old) }
+    ensures { Returns (TakesToken text.now lexer.old words.old words.new) (token.old, lexer.old) (token.new, lexer.new) result }
 {
-    match take(alloc, text, *lexer, words) {
-        Ok((found, after)) => {
-            *token = found;
-            *lexer = after;
-            0
-        }
-        Err(failure) => failure.number(),
-    }
+    report_both(take(alloc, text, *lexer, words), token, lexer)
 }
 
 /// Puts the next token of a text. Returns what C learns of it, and where the lexer is after it.
@@ -61,10 +50,7 @@ fn take(
     at: LexerState,
     words: &mut [u8],
 ) -> Result<(ReadToken, LexerState), Failure>
-    ensures ok { IfOk result (λ r. TakesToken text.now at r.1 words.old words.new r.0) }
-    ensures err { IfErr result (FailsToTakeToken text.now at (length words.old)) }
-    ensures room { IfErr result (λ failure. failure ≡ NoRoom → length words.old < length (drop at.offset text.now)) }
-    ensures same { OnErr result (words.new ≡ words.old) }
+    ensures { TakesToken text.now at words.old words.new result }
 {
     let (found, after) = advance(alloc, text, at)?;
     match found {
@@ -215,30 +201,20 @@ fn is_same(error: &LexerError) -> bool
 
 /// Puts the texts of a token. Returns what C learns of it.
 fn put_token(alloc: Global, words: &mut [u8], token: &Token) -> Result<ReadToken, Failure>
-    ensures ok { IfOk result (λ read. (words.new ≡ put words.old (token_bytes (token_value token.now))) × (read ≡ read_token (token_value token.now))) }
-    ensures err { IfErr result (FailsToPutToken (token_value token.now) (length words.old)) }
-    ensures same { OnErr result (words.new ≡ words.old) }
+    ensures { PutsToken (token_value token.now) (read_token (token_value token.now)) words.old words.new result }
 {
     let kind = kind_of(token);
     match token {
         Token::CharData(text) => {
             let len = put(words, text.as_bytes())?;
-            Ok(ReadToken {
-                kind,
-                len,
-                count: 1,
-            })
+            let count = 1;
+            Ok(ReadToken { kind, len, count })
         }
         Token::List(list) => {
-            let Ok(bytes) = bytes_of(alloc, list) else {
-                return Err(Failure::NoMemory);
-            };
+            let bytes = bytes_of(alloc, list)?;
             let len = put(words, bytes.as_slice())?;
-            Ok(ReadToken {
-                kind,
-                len,
-                count: list.len(),
-            })
+            let count = list.len();
+            Ok(ReadToken { kind, len, count })
         }
         _ => Ok(ReadToken {
             kind,

@@ -1,22 +1,15 @@
-use Rattle.std.proofs.Common.{inr, length}
-use Rattle.std.proofs.lemmas.Result.{IfOk-weaker, IfErr-weaker}
+use Rattle.std.proofs.Common.{inl, inr}
 use Rattle.dnw_name_form.specs.Edits.{prepend_label}
 use Rattle.dnw_name_form.specs.LabelText.{label_from_bytes}
-use Rattle.dnw_c_names.specs.NameEdits.{FailsToEdit, FailsToPrepend, PutsEdited, PutsPrepended}
+use Rattle.dnw_c_base.proofs.Exits.{refused}
+use Rattle.dnw_c_names.specs.NameEdits.{FailsEdit}
+use Rattle.dnw_c_names.proofs.TextFaults.{edit_failed}
 use Rattle.dnw_c_names.proofs.edits.prepend.Goals as goal
 
-pub returns-clause-ok : goal.returns-clause-ok
-returns-clause-ok c =
+pub returns-in_err-prepend_label : goal.returns-in_err-prepend_label
+returns-in_err-prepend_label c =
     let n = c.in_ok-name.name in
     let edit = prepend_label n (label_from_bytes c.args.label.now) in
-    IfOk-weaker c.put_edited.result (PutsEdited edit c.args.form.now c.put_edited.new.form)
-    (PutsPrepended c.args.name.now c.args.label.now c.args.form.now c.put_edited.new.form)
-    (λ len h. (n, c.in_ok-name.ensures.ok, h)) (c.put_edited.ensures.ok edit c.prepend_label.ensures.follows)
-
-pub returns-clause-err : goal.returns-clause-err
-returns-clause-err c =
-    let n = c.in_ok-name.name in
-    let edit = prepend_label n (label_from_bytes c.args.label.now) in
-    IfErr-weaker c.put_edited.result (FailsToEdit edit (length c.args.form.now))
-    (FailsToPrepend c.args.name.now c.args.label.now (length c.args.form.now))
-    (λ failure h. inr (n, c.in_ok-name.ensures.ok, h)) (c.put_edited.ensures.err edit c.prepend_label.ensures.follows)
+    let exit = c.from_residual-in_err-prepend_label in
+    let fails = edit_failed edit _ c.in_err-prepend_label.ensures.follows in
+    inl (n, c.in_ok-name.ensures.ok, inr (refused (FailsEdit edit) c.args.form.now exit.result _ exit.ensures.1 fails))

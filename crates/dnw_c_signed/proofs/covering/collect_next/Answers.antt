@@ -3,9 +3,9 @@ use Rattle.dnw_c_signed.proofs.covering.collect_next.Goals as goal
 
 pub returns-then-not-is_covered-clause-ok : goal.returns-then-not-is_covered-clause-ok
 returns-then-not-is_covered-clause-ok c = (
-  c.in-Ok.item,
+  c.in_ok-item.item,
   [],
-  c.in-Ok.ensures.ok,
+  c.in_ok-item.ensures.ok,
   λ covered. let no : false ≡ true = sym c.if-not-is_covered.true ∙ c.is_covered.ensures.1 covered in cc,
   sym (append-nil c.args.copies.now.items),
 )

@@ -1,17 +1,14 @@
-use Rattle.std.proofs.Common.{◌<◌, length, inl, inr, ap, ◌∙◌, subst}
-use Rattle.dnw_name_read.specs.Buffers.{put}
+use Rattle.std.proofs.Common.{length, inl, inr, subst}
+use Rattle.dnw_c_base.proofs.Exits.{refused}
+use Rattle.dnw_c_base.specs.Results.{Puts}
+use Rattle.dnw_c_signed.specs.SigningCalls.{FailsToSign}
 use Rattle.dnw_c_signed.proofs.signing.put_signed.Goals as goal
 
-pub returns-in-Err-clause-err : goal.returns-in-Err-clause-err
-returns-in-Err-clause-err c = inl c.in-Err.ensures.err
+pub returns-in_err-own : goal.returns-in_err-own
+returns-in_err-own c =
+    inr (refused (FailsToSign c.args.message.now c.args.start c.args.rrsig) c.args.octets.now c.from_residual.result _ c.from_residual.ensures.1 c.in_err-own.ensures.err)
 
-pub returns-in-Ok-put-clause-ok : goal.returns-in-Ok-put-clause-ok
-returns-in-Ok-put-clause-ok c =
-    let (size, room, now) = c.in-Ok-put.ensures.ok in
-    let is = c.as_slice.ensures.value in
-    (c.in-Ok.own.items, c.in-Ok.ensures.ok, now ∙ ap (put c.args.octets.now) is, size ∙ ap length is)
-
-pub returns-clause-err : goal.returns-clause-err
-returns-clause-err c =
-    let (full, short) = c.in-Err-put.ensures.err in
-    inr (c.in-Ok.own.items, c.in-Ok.ensures.ok, subst (λ own. length c.args.octets.now < length own) c.as_slice.ensures.value short, full)
+pub returns : goal.returns
+returns c =
+    let puts = subst (λ own. Puts own (length own) c.args.octets.now c.put.new.buffer c.put.result) c.as_slice.ensures.value c.put.ensures in
+    inl (c.in_ok-own.own.items, c.in_ok-own.ensures.ok, puts)

@@ -1,20 +1,21 @@
-use Rattle.std.proofs.Common.{length, inl, inr}
-use Rattle.dnw_c_zone.specs.ParseCalls.{HasParsedRecord, LacksParsedRecord}
-use Rattle.dnw_c_zone.proofs.Parsed.{lacks_room, puts}
+use Rattle.std.proofs.Common.{Option, length, inl, inr, subst}
+use Rattle.dnw_c_base.proofs.Exits.{refused}
+use Rattle.dnw_c_base.specs.Results.{Puts}
+use Rattle.dnw_c_zone.specs.ParseCalls.{IsNoOrigin, IsOrigin, LacksParsedRecord}
+use Rattle.dnw_base.specs.Names.{NameValue}
 use Rattle.dnw_c_zone.proofs.parsing.put_record.Goals as goal
 
-pub returns-in-Err-clause-err : goal.returns-in-Err-clause-err
-returns-in-Err-clause-err c = inl c.in-Err.ensures.err
+pub returns-in_err-origin : goal.returns-in_err-origin
+returns-in_err-origin c =
+    inr (inr (refused (IsNoOrigin c.args.form.now) c.args.octets.now c.from_residual.result _ c.from_residual.ensures.1 c.in_err-origin.ensures.err))
 
-pub returns-in-Err-record_of-clause-err : goal.returns-in-Err-record_of-clause-err
-returns-in-Err-record_of-clause-err c = inr (inl (c.in-Ok.origin, c.in-Ok.ensures.ok, c.in-Err-record_of.ensures.err))
+pub returns-in_err-own : goal.returns-in_err-own
+returns-in_err-own c =
+    let exit = c.from_residual-in_err-own in
+    inr (inl (refused (λ failure. (origin : Option NameValue) × IsOrigin c.args.form.now origin × LacksParsedRecord origin c.args.text.now failure) c.args.octets.now exit.result _ exit.ensures.1
+    (c.in_ok-origin.origin, c.in_ok-origin.ensures.ok, c.in_err-own.ensures.err)))
 
-pub returns-in-Ok-put-clause-ok : goal.returns-in-Ok-put-clause-ok
-returns-in-Ok-put-clause-ok c =
-    puts (λ origin own. HasParsedRecord origin c.args.text.now own) c.args.form.now c.args.octets.now c.put.new.buffer c.as_slice.result.now c.in-Ok-record_of.own.items c.in-Ok-put.len c.in-Ok.origin
-    c.in-Ok.ensures.ok c.in-Ok-record_of.ensures.ok c.as_slice.ensures.value c.in-Ok-put.ensures.ok
-
-pub returns-clause-err : goal.returns-clause-err
-returns-clause-err c =
-    lacks_room (λ origin own. HasParsedRecord origin c.args.text.now own) (λ origin. LacksParsedRecord origin c.args.text.now) c.args.form.now c.as_slice.result.now c.in-Ok-record_of.own.items (length c.args.octets.now) c.in-Err-put.failure c.in-Ok.origin
-    c.in-Ok.ensures.ok c.in-Ok-record_of.ensures.ok c.as_slice.ensures.value c.in-Err-put.ensures.err
+pub returns : goal.returns
+returns c =
+    let puts = subst (λ own. Puts own (length own) c.args.octets.now c.put.new.buffer c.put.result) c.as_slice.ensures.value c.put.ensures in
+    inl (c.in_ok-origin.origin, c.in_ok-own.own.items, c.in_ok-origin.ensures.ok, c.in_ok-own.ensures.ok, puts)
