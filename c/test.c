@@ -702,11 +702,11 @@ static void tells_failures(void)
     EXPECT(dnw_error_text(DNW_NO_MEMORY, buffer, 13) == 13 && holds("out of memory", 13));
     clear();
     EXPECT(dnw_error_text(DNW_DONE, buffer, sizeof buffer) == 7 && holds("success", 7));
-    for (uint32_t i = 0; i <= DNW_OUTSIDE_ADDITIONALS; i++) {
+    for (uint32_t i = 0; i <= DNW_BAD_FAMILY; i++) {
         size_t len = dnw_error_text(i, buffer, sizeof buffer);
         EXPECT(0 < len && len <= 64);
     }
-    EXPECT(dnw_error_text(DNW_OUTSIDE_ADDITIONALS + 1, buffer, sizeof buffer) == 0);
+    EXPECT(dnw_error_text(DNW_BAD_FAMILY + 1, buffer, sizeof buffer) == 0);
     EXPECT(dnw_error_text(UINT32_MAX, buffer, sizeof buffer) == 0);
 }
 

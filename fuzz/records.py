@@ -150,11 +150,11 @@ def field(kind):
         "octets": rest,
         "long time": lambda: number(6),
         "locator": lambda: number(8),
-        "long octets": lambda: counted_by_two(octets(0, 1, 16, 32, 300)),
+        "long octets": lambda: long_counted(octets(0, 1, 4, 16, 32, 64, 300)),
         "location": loc,
-        "gateway": gateway,
-        "relay": relay,
-        "host identity": host_identity,
+        "gateway": lambda: gateway(lambda kind: bytes([kind]) + number(1)),
+        "relay": lambda: gateway(lambda kind: bytes([kind | one_of(0, 128)])),
+        "host identity": identity,
         "prefixes": prefixes,
         "names": lambda: b"".join(name() for _ in range(one_of(0, 0, 1, 3))),
     }
@@ -184,36 +184,29 @@ def loc():
     return b"\0" + sizes + struct.pack("!III", *places, one_of(10000000, random.getrandbits(32), random.getrandbits(24)))
 
 
-def counted_by_two(octets):
-    return struct.pack("!H", len(octets)) + octets
-
-
-def gateway_of(kind):
-    return (b"", random.randbytes(4), random.randbytes(16), name())[kind]
-
-
-def gateway():
+def gateway(head):
+    """A gateway or a relay, after what is before one of its type."""
     kind = one_of(0, 1, 2, 3, 3)
-    return bytes([kind]) + number(1) + gateway_of(kind)
+    return head(kind) + (b"", random.randbytes(4), random.randbytes(16), name())[kind]
 
 
-def relay():
-    kind = one_of(0, 1, 2, 3, 3)
-    return bytes([one_of(0, 128) + kind]) + gateway_of(kind)
-
-
-def host_identity():
+def identity():
     hit, key = octets(1, 16, 16, 255), octets(1, 2, 3, 70, 300)
     return bytes([len(hit)]) + number(1) + struct.pack("!H", len(key)) + hit + key
 
 
 def prefixes():
+    """Address prefixes, without zeros at their ends."""
     made = b""
     for _ in range(one_of(0, 1, 1, 2, 5)):
-        family = one_of(1, 1, 2)
-        address = octets(0, 1, 4 if family == 1 else 16).rstrip(b"\0")
-        made += struct.pack("!HBB", family, random.randint(0, 32 if family == 1 else 128), one_of(0, 128) + len(address)) + address
+        family, most = one_of((1, 4), (2, 16))
+        part = octets(*range(most + 1)).rstrip(b"\0")
+        made += struct.pack("!HBB", family, random.randint(0, 8 * most), len(part) | one_of(0, 128)) + part
     return made
+
+
+def long_counted(part):
+    return struct.pack("!H", len(part)) + part
 
 
 # What changes the data of types of which the others know more than docs/DATA.md says.
@@ -590,7 +583,7 @@ DIFFERENCES = [
     (Dnspython, [THEIRS], "CERT", has_mnemonic, "prints mnemonics, and ours takes numbers"),
     (Dnspython, [THEIRS], "NSEC3", is_padded, "prints padding, or nothing for no hash"),
     (Dnspython, [THEIRS], "NSEC NSEC3 CSYNC", is_longer, "has no text for a bitmap with zeros at the end of a window"),
-    (Dnspython, [THEIRS], "LOC IPSECKEY HIP", always, "has a text, and ours has that of any data"),
+    (Dnspython, [THEIRS], "LOC IPSECKEY HIP APL NID L64 AMTRELAY WKS NSAP TKEY TSIG", always, "has a text, and ours has that of any data"),
     (Dnspython, [OURS_THERE], "MD MF MB MG MR MINFO", always, "has no text but that of any data"),
     (Dnspython, [OURS_THERE], "HINFO NAPTR CAA URI", has_high_octets, "takes an octet above 127 for a character, and writes that in UTF-8"),
     (Dnspython, [OURS_THERE], "NSEC NSEC3 CSYNC", has_zero, "refuses type 0 in a bitmap"),
@@ -606,7 +599,7 @@ DIFFERENCES = [
     (Ldns, [THEIRS], "NSEC NSEC3 CSYNC", is_longer, "has no text for a bitmap with zeros at the end of a window"),
     (Ldns, [THEIRS], "SIG RRSIG", is_late, "prints a year before 1970 for a time that is nearer to now then"),
     (Ldns, [THEIRS], "CAA URI", is_empty, "prints nothing for an empty string"),
-    (Ldns, [THEIRS], "LOC IPSECKEY HIP", always, "has a text, and ours has that of any data"),
+    (Ldns, [THEIRS], "LOC IPSECKEY HIP APL NID L64 AMTRELAY WKS NSAP TKEY TSIG", always, "has a text, and ours has that of any data"),
     (Ldns, [OURS_THERE], None, lambda sample: len(sample.line.split(" ")[0]) > 254, "refuses an owner's text of more than 254 characters"),
     (Ldns, [OURS_THERE], None, begins_with_at, "takes a name that begins with @ for the origin, with a backslash before it too"),
     (Ldns, [OURS_THERE], "SVCB HTTPS", has_other_value, "refuses a value that has not the form of its key"),

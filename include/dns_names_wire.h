@@ -31,6 +31,11 @@ extern "C" {
 #define DNW_TEXT_SIZE 1004
 #define DNW_CODE_SIZE 10
 
+/* The number of octets of an NSEC3 hash and of its label, and a size that is always enough for a digest. */
+#define DNW_NSEC3_HASH_SIZE 20
+#define DNW_NSEC3_LABEL_SIZE 32
+#define DNW_DIGEST_SIZE 64
+
 /* The errors. A segment of a name is a run of labels, and the pointer or zero octet after it. */
 enum dnw_failure {
     DNW_DONE = 0,
@@ -74,7 +79,11 @@ enum dnw_failure {
     DNW_NOT_COVERED = 37,      /* an RRSIG that covers none of the records */
     DNW_TOO_FEW_LABELS = 38,   /* an RRSIG whose owner has fewer labels than it counts */
     DNW_DATA_TOO_LONG = 39,    /* data of a record that have more than 65535 octets once names are uncompressed */
-    DNW_OUTSIDE_ADDITIONALS = 40 /* an OPT record in the Answer or Authority section of a message */
+    DNW_OUTSIDE_ADDITIONALS = 40, /* an OPT record in the Answer or Authority section of a message */
+    DNW_NOT_DNSKEY = 41,       /* octets that are not the data of a DNSKEY record */
+    DNW_UNKNOWN_ALGORITHM = 42, /* an unknown digest type or hash algorithm */
+    DNW_TOO_MANY_ITERATIONS = 43, /* more iterations of a hash than the caller allows */
+    DNW_BAD_FAMILY = 44        /* an address prefix or a gateway that its family or type does not allow */
 };
 
 /* `len` bytes were stored in the buffer, and the name's own octets end at offset `end` of the message. */
@@ -311,8 +320,10 @@ struct dnw_field {
    After the last field, at the end of the data, it stores DNW_FIELD_END, and `fields` is unchanged. If octets are left
    there, it fails with DNW_WRONG_DATA_LENGTH. It fails with DNW_MESSAGE_CUT if the data end within the field, or begin
    after `data_end`; as dnw_name_read if the field should be a name and is not valid; with DNW_BAD_BITMAP if a window of
-   a type bitmap is not after the one before it, or does not have 1 to 32 octets; and with DNW_BAD_PARAMS if the key of
-   a service parameter is not greater than the one before it. If it fails, `fields` is unchanged. */
+   a type bitmap is not after the one before it, or does not have 1 to 32 octets; with DNW_BAD_PARAMS if the key of a
+   service parameter is not greater than the one before it; and with DNW_BAD_FAMILY if an address prefix has more bits
+   or octets than its family allows or ends in a zero octet, or if the type of a gateway is unknown. If it fails,
+   `fields` is unchanged. */
 uint32_t dnw_field_next(const uint8_t *message, size_t data_end, uint16_t record_type, struct dnw_fields *fields,
                         struct dnw_field *field);
 
@@ -386,6 +397,67 @@ uint32_t dnw_record_parse(const uint8_t *text, size_t text_len, const uint8_t *o
    there are more than `octets_size` octets; and with DNW_NO_MEMORY. */
 uint32_t dnw_signed_octets(const uint8_t *message, size_t section_end, size_t start, size_t rrsig, uint8_t *octets,
                            size_t octets_size, size_t *len);
+
+/* Stores the key tag of a DNSKEY, by its data (RFC 4034, appendix B). It does not allocate.
+
+   It fails with DNW_NOT_DNSKEY if the data have fewer than 4 octets or more than 65535, or if the algorithm is 1 and
+   they have fewer than 7. */
+uint32_t dnw_key_tag(const uint8_t *dnskey, size_t dnskey_len, uint16_t *tag);
+
+/* Stores the digest of a DNSKEY that a DS record has (RFC 4034, section 5.1.4), and its length in `len`. `owner` is the
+   wire form of the owner, and `dnskey` the data. Digest type 1 is SHA-1, 2 is SHA-256 (RFC 4509) and 4 is SHA-384 (RFC
+   6605). It does not allocate.
+
+   If the owner is not a wire form, it fails as dnw_name_compare. Otherwise it fails with DNW_NOT_DNSKEY if the data have
+   fewer than 4 octets or more than 65535; with DNW_UNKNOWN_ALGORITHM for another digest type; and with DNW_NO_ROOM if
+   the buffer is too short, but never if it has DNW_DIGEST_SIZE bytes. */
+uint32_t dnw_ds_digest(const uint8_t *owner, size_t owner_len, const uint8_t *dnskey, size_t dnskey_len, uint8_t digest_type,
+                       uint8_t *digest, size_t digest_size, size_t *len);
+
+/* Stores a name as NSEC3 hashes it (RFC 5155, section 5), DNW_NSEC3_HASH_SIZE octets, and their number in `len`. `name`
+   is a wire form. `algorithm`, `iterations` and the salt are fields of an NSEC3 or NSEC3PARAM record, and `most` is how
+   many iterations the caller allows, since each takes time (RFC 9276, section 3.2). It does not allocate.
+
+   If the name is not a wire form, it fails as dnw_name_compare. Otherwise it fails with DNW_UNKNOWN_ALGORITHM if the
+   algorithm is not 1 (SHA-1); with DNW_TOO_MANY_ITERATIONS if there are more than `most` iterations; and with
+   DNW_NO_ROOM if the buffer is too short. */
+uint32_t dnw_nsec3_hash(const uint8_t *name, size_t name_len, uint8_t algorithm, uint16_t iterations, const uint8_t *salt,
+                        size_t salt_len, uint16_t most, uint8_t *hash, size_t hash_size, size_t *len);
+
+/* As dnw_nsec3_hash, but it stores the first label of the owner of the NSEC3 record: the hash in base 32 with the
+   extended hex alphabet, in lower case and without padding (RFC 5155, section 3), DNW_NSEC3_LABEL_SIZE octets. */
+uint32_t dnw_nsec3_label(const uint8_t *name, size_t name_len, uint8_t algorithm, uint16_t iterations, const uint8_t *salt,
+                         size_t salt_len, uint16_t most, uint8_t *label, size_t label_size, size_t *len);
+
+/* Stores whether an NSEC record covers a name: the name comes after the owner and before the next name in canonical
+   order, so the zone has no such name (RFC 4034, section 4.1.1). All three are wire forms. The next name of the last
+   record of a zone is the zone's apex; that record covers each name of the zone after its owner. A name that is not in
+   the zone is never covered. The caller has to check that the owner is not a delegation above the name (RFC 6840,
+   section 4.1). It does not allocate.
+
+   It fails as dnw_name_compare, for the first of them that is not a wire form. */
+uint32_t dnw_nsec_covers(const uint8_t *owner, size_t owner_len, const uint8_t *next, size_t next_len, const uint8_t *name,
+                         size_t name_len, bool *covers);
+
+/* Stores whether an NSEC3 record with the hash `own` and the next hash `next` covers `hash`: it comes between them, or,
+   for the last record of a zone, after its own or before the next one (RFC 5155, section 8.3). It cannot fail, and does
+   not allocate. */
+uint32_t dnw_nsec3_covers(const uint8_t *own, size_t own_len, const uint8_t *next, size_t next_len, const uint8_t *hash,
+                          size_t hash_len, bool *covers);
+
+/* Stores the digest of a zone that a ZONEMD record has, by the scheme SIMPLE (RFC 8976, section 3.3.1), and its length
+   in `len`. `apex` is the wire form of the zone's apex. `records` are the records of the zone, one after another in any
+   order, all of one class, glue records too. Records that are the same but for the TTL count once, with the least TTL.
+   The ZONEMD records at the apex, and the RRSIG records there that cover ZONEMD, are left out, so they may be given.
+   Hash algorithm 1 is SHA-384, and 2 is SHA-512.
+
+   If the apex is not a wire form, it fails as dnw_name_compare. Otherwise it fails as dnw_record_read for the first
+   record that is not valid, but never for the room of the owner, and as dnw_field_next if its data are not valid; with
+   DNW_UNKNOWN_ALGORITHM for another hash algorithm; with DNW_DATA_TOO_LONG if a record has more than 65535 octets of
+   data once names are uncompressed; with DNW_NO_ROOM if the buffer is too short, but never if it has DNW_DIGEST_SIZE
+   bytes; and with DNW_NO_MEMORY. */
+uint32_t dnw_zone_digest(const uint8_t *apex, size_t apex_len, const uint8_t *records, size_t records_len, uint8_t algorithm,
+                         uint8_t *digest, size_t digest_size, size_t *len);
 
 /* The kinds of items of a message, and what follows the octet for the kind in a list. A record is as in a message: the
    owner's wire form, two octets of type, two of class, four of TTL, two of the length of the data, and the data. */

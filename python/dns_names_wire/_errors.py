@@ -282,6 +282,30 @@ class OutsideAdditionals(DnsError):
     number = 40
 
 
+class NotDnskey(DnsError):
+    """Octets that are not the data of a DNSKEY."""
+
+    number = 41
+
+
+class UnknownAlgorithm(DnsError):
+    """An unknown digest type or hash algorithm."""
+
+    number = 42
+
+
+class TooManyIterations(DnsError):
+    """More iterations of a hash than the caller allows."""
+
+    number = 43
+
+
+class BadFamily(DnsError):
+    """An address prefix or a gateway that its family or type does not allow."""
+
+    number = 44
+
+
 # The word for an item of each section, by the section's number in `dns_names_wire.h`.
 SECTIONS = ("header", "question", "answer", "authority", "additional")
 

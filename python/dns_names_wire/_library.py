@@ -12,6 +12,9 @@ FORM_SIZE = 255
 SORT_KEY_SIZE = 504
 TEXT_SIZE = 1004
 CODE_SIZE = 10
+DIGEST_SIZE = 64
+NSEC3_HASH_SIZE = 20
+NSEC3_LABEL_SIZE = 32
 
 # DNW_NO_ROOM
 NO_ROOM = 2
@@ -141,6 +144,13 @@ _FUNCTIONS = {
     "dnw_record_parse": (*_READ, *_READ, *_WRITTEN, POINTER(c_size_t)),
     "dnw_record_print": (*_READ, c_size_t, *_WRITTEN, POINTER(PrintedRecord)),
     "dnw_signed_octets": (*_READ, c_size_t, c_size_t, *_WRITTEN, POINTER(c_size_t)),
+    "dnw_key_tag": (*_READ, POINTER(c_uint16)),
+    "dnw_ds_digest": (*_READ, *_READ, c_uint8, *_WRITTEN, POINTER(c_size_t)),
+    "dnw_nsec3_hash": (*_READ, c_uint8, c_uint16, *_READ, c_uint16, *_WRITTEN, POINTER(c_size_t)),
+    "dnw_nsec3_label": (*_READ, c_uint8, c_uint16, *_READ, c_uint16, *_WRITTEN, POINTER(c_size_t)),
+    "dnw_nsec_covers": (*_READ, *_READ, *_READ, POINTER(c_bool)),
+    "dnw_nsec3_covers": (*_READ, *_READ, *_READ, POINTER(c_bool)),
+    "dnw_zone_digest": (*_READ, *_READ, c_uint8, *_WRITTEN, POINTER(c_size_t)),
     "dnw_reverse_name": (*_READ, *_WRITTEN, POINTER(c_size_t)),
     "dnw_reverse_parse": (*_READ, *_WRITTEN, POINTER(Net)),
     "dnw_name_compare": (*_READ, *_READ, POINTER(c_int32)),

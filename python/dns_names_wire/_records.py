@@ -184,7 +184,7 @@ class Record:
         sets of types and pairs of keys and values. Data of an unknown type are one field of octets.
 
         Raises as `read_name` for a name, `MessageCut` if the data end within a field, `WrongDataLength` if octets are
-        left after the last field, and `BadBitmap` or `BadParams`.
+        left after the last field, and `BadBitmap`, `BadParams` or `BadFamily`.
 
         >>> read_record(bytes.fromhex("00 000f 0001 00000000 0005 000a 016100")).fields()
         (10, Name('a.'))

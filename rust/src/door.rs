@@ -14,6 +14,12 @@ pub(crate) const SORT_KEY_SIZE: usize = 504;
 pub(crate) const TEXT_SIZE: usize = 1004;
 /// The bytes of the longest name of a type or a class.
 pub(crate) const CODE_SIZE: usize = 10;
+/// The octets of the longest digest.
+pub(crate) const DIGEST_SIZE: usize = 64;
+/// The octets of a hashed name of NSEC3.
+pub(crate) const HASH_SIZE: usize = 20;
+/// The octets of its label.
+pub(crate) const LABEL_SIZE: usize = 32;
 /// The initial capacity for a record or its text, in bytes.
 const USUAL_SIZE: usize = 512;
 /// The octets of the longest data of a record.
@@ -272,6 +278,69 @@ extern "C" {
         rrsig: usize,
         octets: *mut u8,
         octets_size: usize,
+        len: *mut usize,
+    ) -> u32;
+    fn dnw_key_tag(dnskey: *const u8, dnskey_len: usize, tag: *mut u16) -> u32;
+    fn dnw_ds_digest(
+        owner: *const u8,
+        owner_len: usize,
+        dnskey: *const u8,
+        dnskey_len: usize,
+        digest_type: u8,
+        digest: *mut u8,
+        digest_size: usize,
+        len: *mut usize,
+    ) -> u32;
+    fn dnw_nsec3_hash(
+        name: *const u8,
+        name_len: usize,
+        algorithm: u8,
+        iterations: u16,
+        salt: *const u8,
+        salt_len: usize,
+        most: u16,
+        hash: *mut u8,
+        hash_size: usize,
+        len: *mut usize,
+    ) -> u32;
+    fn dnw_nsec3_label(
+        name: *const u8,
+        name_len: usize,
+        algorithm: u8,
+        iterations: u16,
+        salt: *const u8,
+        salt_len: usize,
+        most: u16,
+        label: *mut u8,
+        label_size: usize,
+        len: *mut usize,
+    ) -> u32;
+    fn dnw_nsec_covers(
+        owner: *const u8,
+        owner_len: usize,
+        next: *const u8,
+        next_len: usize,
+        name: *const u8,
+        name_len: usize,
+        covers: *mut bool,
+    ) -> u32;
+    fn dnw_nsec3_covers(
+        own: *const u8,
+        own_len: usize,
+        next: *const u8,
+        next_len: usize,
+        hash: *const u8,
+        hash_len: usize,
+        covers: *mut bool,
+    ) -> u32;
+    fn dnw_zone_digest(
+        apex: *const u8,
+        apex_len: usize,
+        records: *const u8,
+        records_len: usize,
+        algorithm: u8,
+        digest: *mut u8,
+        digest_size: usize,
         len: *mut usize,
     ) -> u32;
     fn dnw_reverse_name(
@@ -560,6 +629,84 @@ pub(crate) fn signed_octets(list: &[u8], start: usize) -> Result<Vec<u8>, Error>
         dnw_signed_octets(first, end, start, 0, room, size, len)
     })?;
     Ok(octets)
+}
+
+/// Returns the key tag of the data of a DNSKEY.
+pub(crate) fn key_tag(dnskey: &[u8]) -> Result<u16, Error> {
+    let mut tag = 0;
+    // SAFETY: pointers with their lengths, see the module.
+    let number = unsafe { dnw_key_tag(dnskey.as_ptr(), dnskey.len(), &mut tag) };
+    outcome(number, tag)
+}
+
+/// Stores the digest of a key, and returns its length.
+pub(crate) fn ds_digest(owner: &[u8], dnskey: &[u8], kind: u8, digest: &mut [u8; DIGEST_SIZE]) -> Result<usize, Error> {
+    let (mut len, name, size) = (0, owner.as_ptr(), owner.len());
+    let room = digest.as_mut_ptr();
+    // SAFETY: pointers with their lengths, see the module.
+    let number =
+        unsafe { dnw_ds_digest(name, size, dnskey.as_ptr(), dnskey.len(), kind, room, DIGEST_SIZE, &mut len) };
+    outcome(number, len)
+}
+
+/// How NSEC3 hashes names: the algorithm, the iterations, the salt, and how many iterations are allowed.
+pub(crate) type Hashing<'a> = (u8, u16, &'a [u8], u16);
+
+/// Stores a hashed name.
+pub(crate) fn nsec3_hash(name: &[u8], how: Hashing, hash: &mut [u8; HASH_SIZE]) -> Result<(), Error> {
+    let (algorithm, iterations, salt, most) = how;
+    let (mut len, first, size) = (0, name.as_ptr(), name.len());
+    let (start, salt_len, room) = (salt.as_ptr(), salt.len(), hash.as_mut_ptr());
+    // SAFETY: pointers with their lengths, see the module.
+    let number = unsafe {
+        dnw_nsec3_hash(first, size, algorithm, iterations, start, salt_len, most, room, HASH_SIZE, &mut len)
+    };
+    outcome(number, ())
+}
+
+/// Stores the label of a hashed name.
+pub(crate) fn nsec3_label(name: &[u8], how: Hashing, label: &mut [u8; LABEL_SIZE]) -> Result<(), Error> {
+    let (algorithm, iterations, salt, most) = how;
+    let (mut len, first, size) = (0, name.as_ptr(), name.len());
+    let (start, salt_len, room) = (salt.as_ptr(), salt.len(), label.as_mut_ptr());
+    // SAFETY: pointers with their lengths, see the module.
+    let number = unsafe {
+        dnw_nsec3_label(first, size, algorithm, iterations, start, salt_len, most, room, LABEL_SIZE, &mut len)
+    };
+    outcome(number, ())
+}
+
+/// Returns whether an NSEC record covers a name.
+pub(crate) fn nsec_covers(owner: &[u8], next: &[u8], name: &[u8]) -> Result<bool, Error> {
+    let (mut covers, first, size) = (false, owner.as_ptr(), owner.len());
+    let (second, len) = (next.as_ptr(), next.len());
+    // SAFETY: pointers with their lengths, see the module.
+    let number = unsafe { dnw_nsec_covers(first, size, second, len, name.as_ptr(), name.len(), &mut covers) };
+    outcome(number, covers)
+}
+
+/// Returns whether an NSEC3 record covers a hashed name.
+pub(crate) fn nsec3_covers(own: &[u8], next: &[u8], hash: &[u8]) -> bool {
+    let (mut covers, first, size) = (false, own.as_ptr(), own.len());
+    let (second, len) = (next.as_ptr(), next.len());
+    // SAFETY: pointers with their lengths, see the module. It never fails.
+    unsafe { dnw_nsec3_covers(first, size, second, len, hash.as_ptr(), hash.len(), &mut covers) };
+    covers
+}
+
+/// Stores the digest of a zone, and returns its length.
+pub(crate) fn zone_digest(
+    apex: &[u8],
+    records: &[u8],
+    algorithm: u8,
+    digest: &mut [u8; DIGEST_SIZE],
+) -> Result<usize, Error> {
+    let (mut len, name, size) = (0, apex.as_ptr(), apex.len());
+    let room = digest.as_mut_ptr();
+    // SAFETY: pointers with their lengths, see the module.
+    let number =
+        unsafe { dnw_zone_digest(name, size, records.as_ptr(), records.len(), algorithm, room, DIGEST_SIZE, &mut len) };
+    outcome(number, len)
 }
 
 /// Stores the wire form of the reverse name of an address of 4 or 16 bytes, and returns its length.

@@ -231,12 +231,20 @@ pub enum ErrorKind {
     DataTooLong,
     /// An OPT record in the Answer or Authority section of a message.
     OutsideAdditionals,
+    /// Octets that are not the data of a DNSKEY.
+    NotDnskey,
+    /// An unknown digest type or hash algorithm.
+    UnknownAlgorithm,
+    /// More iterations of a hash than the caller allows.
+    TooManyIterations,
+    /// An address prefix or a gateway that its family or type does not allow.
+    BadFamily,
     /// Another error, by its number in `dns_names_wire.h`.
     Other(u32),
 }
 
 /// The errors of the C library that have a name in this crate, each with its number in `dns_names_wire.h`.
-const NUMBERS: [(u32, ErrorKind); 32] = [
+const NUMBERS: [(u32, ErrorKind); 36] = [
     (1, ErrorKind::NoMemory),
     (3, ErrorKind::MessageCut),
     (4, ErrorKind::PointerNotBack),
@@ -269,6 +277,10 @@ const NUMBERS: [(u32, ErrorKind); 32] = [
     (38, ErrorKind::TooFewLabels),
     (39, ErrorKind::DataTooLong),
     (40, ErrorKind::OutsideAdditionals),
+    (41, ErrorKind::NotDnskey),
+    (42, ErrorKind::UnknownAlgorithm),
+    (43, ErrorKind::TooManyIterations),
+    (44, ErrorKind::BadFamily),
 ];
 
 impl ErrorKind {

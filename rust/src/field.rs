@@ -46,14 +46,14 @@ pub enum Field<'a> {
     /// Address prefixes (RFC 3123, section 4).
     Prefixes(Prefixes<'a>),
     /// Names in their wire form, one after another (RFC 8005, section 5).
-    Names(Names<'a>),
+    Names(WholeNames<'a>),
 }
 
 /// An iterator over the fields of the data of a record. See [`Record::fields`](crate::Record::fields).
 ///
 /// It ends after an error: one of [`NameRef::read`] if the field should be a name; `MessageCut` if the data end within
-/// the field; `WrongDataLength` if octets are left after the last field; `BadBitmap` or `BadParams` if a type bitmap or
-/// service parameters are not valid; or `NoMemory` for a type bitmap.
+/// the field; `WrongDataLength` if octets are left after the last field; `BadBitmap`, `BadParams` or `BadFamily` if a type
+/// bitmap, service parameters, or an address prefix or gateway are not valid; or `NoMemory` for a type bitmap.
 ///
 /// ```
 /// use dns_names_wire::{ErrorKind, Record};
@@ -98,7 +98,7 @@ impl<'a> Fields<'a> {
             14 => Field::Relay(octets),
             15 => Field::HostIdentity(octets),
             16 => Field::Prefixes(Prefixes(octets)),
-            17 => Field::Names(Names { octets, offset: 0 }),
+            17 => Field::Names(WholeNames { octets, offset: 0 }),
             _ => Field::Octets(octets),
         }))
     }
@@ -529,12 +529,12 @@ impl FusedIterator for Prefixes<'_> {}
 /// # Ok::<(), dns_names_wire::Error>(())
 /// ```
 #[derive(Clone, Debug, PartialEq, Eq)]
-pub struct Names<'a> {
+pub struct WholeNames<'a> {
     octets: &'a [u8],
     offset: usize,
 }
 
-impl<'a> Iterator for Names<'a> {
+impl<'a> Iterator for WholeNames<'a> {
     type Item = NameRef<'a>;
 
     fn next(&mut self) -> Option<NameRef<'a>> {
@@ -550,4 +550,4 @@ impl<'a> Iterator for Names<'a> {
     }
 }
 
-impl FusedIterator for Names<'_> {}
+impl FusedIterator for WholeNames<'_> {}

@@ -28,6 +28,7 @@
 //! | build queries and replies, section by section, and write them within a size | [`MessageBuilder`] |
 //! | make records from data by type, or parse them from lines of master files | [`RecordBuf`] |
 //! | verify signatures, or make them | [`Record::signed_octets`] |
+| make key tags and digests of keys and zones, hash names, and check denials | [`dnssec`] |
 //! | write any list of names, questions, records and bytes, with compression | [`MessageWriter`] |
 //! | convert addresses to reverse names, and back | [`Name::from_ip`], [`Name::parse_arpa_name`] |
 //! | name types and classes, read and write type bitmaps, compare serial numbers | [`RecordType`], [`Class`], [`TypeSet`], [`SerialNumber`] |
@@ -58,6 +59,7 @@ use std::net::{IpAddr, Ipv4Addr, Ipv6Addr};
 
 mod builder;
 mod codes;
+pub mod dnssec;
 mod error;
 mod field;
 mod header;
@@ -74,7 +76,7 @@ mod writer;
 pub use builder::MessageBuilder;
 pub use codes::{Class, RecordType, SerialNumber};
 pub use error::{Error, ErrorKind, Section, TextFault, TextRule};
-pub use field::{Field, Fields, Names, Pairs, Prefix, Prefixes, Texts};
+pub use field::{Field, Fields, Pairs, Prefix, Prefixes, Texts, WholeNames};
 pub use header::{Header, OpCode, ResponseCode};
 pub use message::{Edns, Message, Question, Questions, SectionRecords};
 pub use name::{sort_names, Labels, Name};

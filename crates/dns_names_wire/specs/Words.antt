@@ -121,7 +121,7 @@ pub use Rattle.dnw_data.specs.Fields.{FailsField, FailsName, FailsOwn, TakesFiel
 pub use Rattle.dnw_data.specs.Items.{NextItem}
 pub use Rattle.dnw_data.specs.Lists.{ItemsValue, count_of, item_size, list_fault, may_come, out_of_order, tag_of}
 pub use Rattle.dnw_data.specs.Shapes.{FailsShape, IsShaped, ShapedValue, shape_fault, shape_size}
-unfoldable pub use Rattle.dnw_data.specs.Table.{fields_of}
+unfoldable pub use Rattle.dnw_data.specs.Table.{are_names_decompressed, fields_of}
 pub use Rattle.dnw_data.specs.Values.{FieldValue, counted_size, own_fault, own_size, own_value, seen}
 pub use Rattle.dnw_data.specs.Walks.{FieldsAre, FieldsLeft, IsEnded, NextField, fields_at, steps_left}
 -- Texts of single values.
@@ -199,3 +199,11 @@ pub use Rattle.dnw_signed.specs.RecordSets.{AreCanonical, FailsSetFrom, FailsSet
 pub use Rattle.dnw_signed.specs.RecordSets.{set_head, set_record, signed_owner}
 pub use Rattle.dnw_signed.specs.SignedFields.{FailsSignedFields, IsRrsig, IsSignedFields, before_signer}
 pub use Rattle.dnw_signed.specs.CanonicalLaws.{AreAmong, DependsOnSet, IsLike, IsLikeData, KeepsInAnyOrder}
+-- sums of DNSSEC
+pub use Rattle.dnw_dnssec.specs.declared.error.DnssecError.{DnssecError}
+pub use Rattle.dnw_dnssec.specs.KeyTags.{FailsKeyTag, HasKeyTag, IsDnskey, algorithm_of, key_tag, modulus_tag, sum_tag, word_sum}
+pub use Rattle.dnw_dnssec.specs.Digests.{FailsDsDigest, IsDsDigest, ds_hash, ds_input}
+pub use Rattle.dnw_dnssec.specs.HashedNames.{FailsToHash, MayHash, iterated_hash, nsec3_hash, nsec3_label}
+pub use Rattle.dnw_dnssec.specs.Covers.{Nsec3Covers, NsecCovers}
+pub use Rattle.dnw_dnssec.specs.ZoneDigests.{AreZoneOctets, FailsZoneDigest, FirstTooLong, HasShortData, IsZoneDigest, IsZoneHash, IsZoneOrder, IsCanonicalRecord, CanonicalRecord}
+pub use Rattle.dnw_dnssec.specs.ZoneDigests.{is_digested, is_duplicate, is_of_zonemd, place_cmp, zone_cmp, zone_hash, zone_record}

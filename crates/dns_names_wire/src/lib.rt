@@ -74,6 +74,16 @@ pub mod dns_class {
     pub use dnw_base::dns_class::DNSClass;
 }
 
+/// The sums that DNSSEC makes: key tags, digests of keys and of zones, hashed names, and which names a record covers.
+pub mod dnssec {
+    pub use dnw_dnssec::covers::{nsec_covers, nsec3_covers};
+    pub use dnw_dnssec::ds::{Digest, MAX_DIGEST_LENGTH, ds_digest};
+    pub use dnw_dnssec::error::DnssecError;
+    pub use dnw_dnssec::key_tag::key_tag;
+    pub use dnw_dnssec::nsec3::{NSEC3_HASH_LENGTH, NSEC3_LABEL_LENGTH, nsec3_hash, nsec3_label};
+    pub use dnw_dnssec::zone_digest::zone_digest;
+}
+
 /// Writing messages of a bounded size, and what follows from the definitions of writing.
 pub mod encoder {
     pub use dnw_write::encoder::{
@@ -113,7 +123,7 @@ pub mod fields {
     pub use dnw_data::laws::{fields_are_walked, one_reading};
     pub use dnw_data::lists::{Item, Items};
     pub use dnw_data::shapes::Shaped;
-    pub use dnw_data::table::fields_of;
+    pub use dnw_data::table::{are_names_decompressed, fields_of};
 }
 
 /// Types that give a name: names, texts and addresses.

@@ -6,7 +6,7 @@ use Rattle.dnw_base.specs.declared.error.DecodeError.TheVariants.{UnrecognizedLa
 use Rattle.dnw_base.specs.declared.error.DecodeError.TheVariants.{LabelOverlapsWithOther}
 use Rattle.dnw_base.specs.declared.error.DecodeError.TheVariants.{DomainNameTooLong, LabelBytesTooLong}
 use Rattle.dnw_base.specs.declared.error.DecodeError.TheVariants.{IncorrectRDataLengthRead, NsecBitmapOutOfBounds, SvcParamsOutOfOrder}
-use Rattle.dnw_base.specs.declared.error.DecodeError.TheVariants.{DuplicateEdns, RecordNotInAdditionalSection}
+use Rattle.dnw_base.specs.declared.error.DecodeError.TheVariants.{DuplicateEdns, RecordNotInAdditionalSection, UnknownAddressFamily}
 use Rattle.dnw_base.specs.declared.error.ProtoError.{ProtoError}
 use Rattle.dnw_base.specs.declared.error.ProtoError.TheVariants.{Decode, Message}
 use Rattle.dnw_base.specs.declared.error.ProtoError.TheVariants.{Msg, MaxBufferSizeExceeded, Memory as ProtoMemory}
@@ -57,6 +57,10 @@ failure_entry why.NotCovered = entry 37 (codes "the RRSIG covers none of the rec
 failure_entry why.TooFewLabels = entry 38 (codes "the owner has fewer labels than the RRSIG counts")
 failure_entry why.DataTooLong = entry 39 (codes "the data of a record, or a text in them, are too long")
 failure_entry why.OutsideAdditionals = entry 40 (codes "an OPT record is outside the additional section")
+failure_entry why.NotDnskey = entry 41 (codes "the octets are no data of a DNSKEY")
+failure_entry why.UnknownAlgorithm = entry 42 (codes "the digest type or hash algorithm is not known")
+failure_entry why.TooManyIterations = entry 43 (codes "more iterations than the caller allows")
+failure_entry why.BadFamily = entry 44 (codes "an address prefix or a gateway is none of its family or type")
 
 abbrev pub number : Failure → ℕ
 number failure = (failure_entry failure).code
@@ -89,6 +93,7 @@ of_decode DuplicateEdns = why.DuplicateEdns
 of_decode (RecordNotInAdditionalSection record_type) = why.OutsideAdditionals
 of_decode NsecBitmapOutOfBounds = why.BadBitmap
 of_decode SvcParamsOutOfOrder = why.BadParams
+of_decode (UnknownAddressFamily family) = why.BadFamily
 of_decode error = why.Other
 
 -- why a text is rejected or a write fails

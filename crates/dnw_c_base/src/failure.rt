@@ -90,6 +90,14 @@ pub enum Failure {
     DataTooLong,
     /// An `OPT` record is among the answers or the authorities.
     OutsideAdditionals,
+    /// The octets are not the data of a DNSKEY.
+    NotDnskey,
+    /// The digest type or the hash algorithm is none that is known.
+    UnknownAlgorithm,
+    /// A name would be hashed more often than the caller allows.
+    TooManyIterations,
+    /// An address prefix or a gateway is none of its family or type.
+    BadFamily,
 }
 
 /// The table of the failures: each with its number in C and a text about it. The rule that is named gets the rows, after
@@ -137,6 +145,10 @@ macro_rules! failures {
             TooFewLabels = 38, "the owner has fewer labels than the RRSIG counts";
             DataTooLong = 39, "the data of a record, or a text in them, are too long";
             OutsideAdditionals = 40, "an OPT record is outside the additional section";
+            NotDnskey = 41, "the octets are no data of a DNSKEY";
+            UnknownAlgorithm = 42, "the digest type or hash algorithm is not known";
+            TooManyIterations = 43, "more iterations than the caller allows";
+            BadFamily = 44, "an address prefix or a gateway is none of its family or type";
         }
     };
 }
@@ -200,6 +212,7 @@ pub fn of_decode(error: &DecodeError) -> Failure
         DecodeError::RecordNotInAdditionalSection(_) => Failure::OutsideAdditionals,
         DecodeError::NsecBitmapOutOfBounds => Failure::BadBitmap,
         DecodeError::SvcParamsOutOfOrder => Failure::BadParams,
+        DecodeError::UnknownAddressFamily(_) => Failure::BadFamily,
         _ => Failure::Other,
     }
 }

@@ -1,1 +1,3 @@
 pub mod SigningCalls
+pub mod SumCalls
+pub mod ZoneCalls

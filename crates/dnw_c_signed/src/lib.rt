@@ -10,3 +10,7 @@
 pub mod covering;
 /// The octets that a signature covers.
 pub mod signing;
+/// The sums of DNSSEC.
+pub mod sums;
+/// The digest of a zone.
+pub mod zones;

@@ -1,5 +1,6 @@
 -- The fields of the data of each record type, by the type's code. Each row names the RFC and its section.
-use Rattle.std.specs.Prelude.{ℕ, ◌==◌, List, [], ◌∷◌, ◌++◌, find, unwrap_or}
+use Rattle.std.specs.Prelude.{ℕ, Bool, ◌==◌, List, [], ◌∷◌, ◌++◌, find, unwrap_or}
+use Rattle.std.specs.List.{list_any}
 use Rattle.dnw_data.specs.declared.kind.Kind.{Kind}
 use Rattle.dnw_data.specs.declared.kind.Kind.TheVariants.{Name, U8, U16, U32, U48, U64, Ipv4, Ipv6, TypeCode, Time, LongTime, Locator, Counted, LongCounted, Shaped, Octets}
 use Rattle.dnw_data.specs.declared.kind.Kind.TheVariants as kinds
@@ -155,3 +156,12 @@ fields_in rows code = (unwrap_or (find (λ row. row.code == code) rows) (row cod
 
 unfoldable pub fields_of : ℕ → List Kind
 fields_of code = fields_in table code
+
+-- The types whose names receivers decompress (RFC 3597, section 4): the well-known ones, of RFC 1035, and RP, AFSDB, RT, SIG, PX,
+-- NXT, NAPTR and SRV. Fewer have names that may be compressed, and others have names that canonical form lowers.
+abbrev pub decompressed : List ℕ
+decompressed =
+    2 ∷ 3 ∷ 4 ∷ 5 ∷ 6 ∷ 7 ∷ 8 ∷ 9 ∷ 12 ∷ 14 ∷ 15 ∷ 17 ∷ 18 ∷ 21 ∷ 24 ∷ 26 ∷ 30 ∷ 33 ∷ 35 ∷ []
+
+unfoldable pub are_names_decompressed : ℕ → Bool
+are_names_decompressed code = list_any (λ known. known == code) decompressed

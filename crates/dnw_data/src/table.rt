@@ -1,7 +1,7 @@
 //! The table of the fields of each record type.
 ghost use Rattle.std.specs.Prelude.{◌≡◌};
 ghost use Rattle.dnw_base.specs.RecordTypes.{type_code};
-ghost use Rattle.dnw_data.specs.Table.{fields_in, fields_of, late_rows};
+ghost use Rattle.dnw_data.specs.Table.{are_names_decompressed, fields_in, fields_of, late_rows};
 
 use crate::kind::{Kind, ListKind, NameForm, Shape, Shown};
 use dnw_base::record_type::RecordType;
@@ -201,4 +201,16 @@ fn late_fields_of(code: u16) -> &'static [Kind]
         32769 => &[Kind::U16, Kind::U8, Kind::U8, HEX], // DLV
         _ => &[HEX],
     }
+}
+
+/// Returns `true` if receivers decompress names in data of a type: its names may be compressed, or were once (RFC 3597, section
+/// 4). Names of other types are never compressed; they are read with pointers here all the same.
+#[tactic(auto, unfolding(crate::specs::Table::are_names_decompressed))]
+pub fn are_names_decompressed(record_type: RecordType) -> bool
+    ensures { result ≡ are_names_decompressed (type_code record_type) }
+{
+    matches!(
+        u16::from(record_type),
+        2..=9 | 12 | 14 | 15 | 17 | 18 | 21 | 24 | 26 | 30 | 33 | 35
+    )
 }

@@ -2,7 +2,9 @@
 
 use dns_names_wire::dns_class::DNSClass;
 use dns_names_wire::encoder::RDataEncoding;
-use dns_names_wire::fields::{Field, Items, Kind, ListKind, NameForm};
+use dns_names_wire::fields::{
+    Field, Items, Kind, ListKind, NameForm, Shape, Shaped, are_names_decompressed,
+};
 use dns_names_wire::name::Name;
 use dns_names_wire::rdata::{FromFieldsError, RData, RDataError, Record};
 use dns_names_wire::record::{WireData, WireRecord};
@@ -11,7 +13,7 @@ use std::alloc::Global;
 use std::test::Fail;
 
 /// Data of a type, and among them fields of every kind.
-const DATA: [(u16, &[u8]); 12] = [
+const DATA: [(u16, &[u8]); 19] = [
     (1, b"\x7f\x00\x00\x01"), // A
     (15, b"\x00\x0a\x01b\x01a\x00"), // MX
     (16, b"\x02ab\x00"), // TXT
@@ -19,6 +21,12 @@ const DATA: [(u16, &[u8]); 12] = [
         28,
         b"\x20\x01\x0d\xb8\x00\x00\x00\x00\x00\x00\x00\x00\x00\x00\xff\x01",
     ), // AAAA
+    (
+        29,
+        b"\x00\x33\x16\x13\x89\x17\x2d\xd0\x70\xbe\x15\xf0\x00\x98\x8d\x20",
+    ), // LOC
+    (42, b"\x00\x01\x1c\x83\xc0\xa8\x26\x00\x02\x08\x01\xff"), // APL
+    (45, b"\x0a\x03\x02\x02gw\x00key"), // IPSECKEY
     (
         46,
         b"\x00\x0f\x05\x02\x00\x00\x0e\x10\xff\xff\xff\xff\x00\x00\x00\x01\x12\x34\x01a\x00sig",
@@ -28,10 +36,17 @@ const DATA: [(u16, &[u8]); 12] = [
         50,
         b"\x01\x00\x00\x0a\x02\xaa\xbb\x01\xcc\x00\x01\x40\x01\x01\x40",
     ), // NSEC3
+    (55, b"\x02\x02\x00\x01\xaa\xbb\x7f\x01a\x00\x01b\x00"), // HIP
     (64, b"\x00\x01\x00\x00\x03\x00\x02\x00\x35"), // SVCB
+    (104, b"\x00\x0a\x00\x14\x4f\xff\xff\x20\xee\x64"), // NID
     (108, b"\x00\x00\x5e\x00\x53\x2a"), // EUI48
     (109, b"\x80\x00\x5e\xef\x10\x00\x00\x2a"), // EUI64
+    (
+        250,
+        b"\x01a\x00\x00\x00\x5f\x0f\x90\x43\x01\x2c\x00\x02\xaa\xbb\xdc\xc6\x00\x00\x00\x00",
+    ), // TSIG
     (257, b"\x80\x05issue;"), // CAA
+    (260, b"\x0a\x81\xcb\x00\x71\x0f"), // AMTRELAY
     (65280, b""),
 ];
 
@@ -82,7 +97,36 @@ fn fields_append_the_octets_that_they_are(rt: HostRuntime) -> Result<(), Fail> {
     }
     let mut out = Vec::new(alloc);
     assert!(rt; !Field::Counted(&[0; 256]).append_to(&mut out)?);
+    assert!(rt; !Field::LongCounted(&[0; 65536]).append_to(&mut out)?);
     assert!(rt; out.is_empty());
+    Ok(())
+}
+
+#[test]
+fn octets_of_another_shape_are_reported(rt: HostRuntime) -> Result<(), Fail> {
+    let alloc = rt.alloc();
+    let data = RecordType::from(260);
+    let relay = [Field::U8(10), Field::Shaped(Shaped::new(Shape::Relay, b"\x01\xcb\x00\x71\x0f")?)];
+    assert!(rt; RData::from_fields(alloc, data, &relay).is_ok());
+    let gateway = [Field::U8(10), Field::Shaped(Shaped::new(Shape::Gateway, b"\x00\x02")?)];
+    assert!(rt; RData::from_fields(alloc, data, &gateway).is_err());
+    assert!(rt; Shaped::new(Shape::Relay, b"\x01\xcb\x00\x71").is_err());
+    assert!(rt; Shaped::new(Shape::Relay, b"\x01\xcb\x00\x71\x0f\x00").is_err());
+    assert!(rt; Shaped::new(Shape::Relay, b"\x03\xc0\x00").is_err());
+    assert!(rt; Shaped::new(Shape::Gateway, b"\x04\x02").is_err());
+    assert!(rt; Items::new(ListKind::Prefixes, b"\x00\x01\x15\x04\xc0\xa8\x20\x00").is_err());
+    assert!(rt; Items::new(ListKind::Names, b"\x01a\xc0\x00").is_err());
+    Ok(())
+}
+
+#[test]
+fn receivers_decompress_names_of_some_types(rt: HostRuntime) -> Result<(), Fail> {
+    for code in [2, 6, 15, 17, 18, 21, 24, 26, 30, 33, 35] {
+        assert!(rt; are_names_decompressed(RecordType::from(code)));
+    }
+    for code in [1, 13, 16, 23, 36, 38, 39, 46, 47, 64, 107, 250] {
+        assert!(rt; !are_names_decompressed(RecordType::from(code)));
+    }
     Ok(())
 }
 

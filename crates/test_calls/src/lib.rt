@@ -16,6 +16,8 @@ mod conversions;
 #[cfg(test)]
 mod data_texts;
 #[cfg(test)]
+mod dnssec;
+#[cfg(test)]
 mod field_texts;
 #[cfg(test)]
 mod given_fields;

@@ -10,6 +10,7 @@ mod buffer;
 mod codes;
 mod data_texts;
 mod decoding;
+mod dnssec;
 mod encoding;
 mod errors;
 mod fields;

@@ -59,7 +59,7 @@ fn data_of(alloc: Global, record_type: RecordType, octets: &[u8]) -> ProtoResult
 }
 
 /// Returns the record that is written as its owner, its class, its type, its time to live and its data, between commas.
-fn record(alloc: Global, word: &str) -> ProtoResult<Record> {
+pub(crate) fn record(alloc: Global, word: &str) -> ProtoResult<Record> {
     let (owner, rest) = word.split_once(',').ok_or(BAD_LINE)?;
     let (class, rest) = rest.split_once(',').ok_or(BAD_LINE)?;
     let (kind, rest) = rest.split_once(',').ok_or(BAD_LINE)?;

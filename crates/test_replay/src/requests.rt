@@ -3,7 +3,7 @@
 use crate::notation::BAD_LINE;
 use crate::tally::Tally;
 use crate::{
-    bounds, codes, data_texts, decoding, encoding, errors, fields, labels, names, nets, ordering,
+    bounds, codes, data_texts, decoding, dnssec, encoding, errors, fields, labels, names, nets, ordering,
     readings, record_sets, records, restrict, scripts, texts, tokens, walking,
 };
 use dns_names_wire::error::ProtoResult;
@@ -82,6 +82,9 @@ pub(crate) fn answer(
         "record" => records::answer(alloc, words),
         "data-text" | "data-parse" => data_texts::answer(alloc, kind, words),
         "record-set" => record_sets::answer(alloc, words),
+        "key-tag" | "ds" | "nsec3" | "nsec-covers" | "nsec3-covers" | "zone-digest" => {
+            dnssec::answer(alloc, kind, words)
+        }
         "lex" | "lex-cuts" | "lex-texts" | "lex-zone" | "time" | "times" => {
             tokens::answer(alloc, kind, words, tally)
         }

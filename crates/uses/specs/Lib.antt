@@ -1,5 +1,6 @@
 pub mod Standing
 pub mod Bounded
+pub mod Delegation
 pub mod Denial
 pub mod Records
 pub mod Referrals

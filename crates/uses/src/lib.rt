@@ -5,6 +5,7 @@
 pub mod bitmap;
 pub mod conversions;
 pub mod copying;
+pub mod delegation;
 pub mod denial;
 pub mod example;
 pub mod mail;

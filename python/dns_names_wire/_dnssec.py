@@ -1,0 +1,134 @@
+"""The sums that DNSSEC makes: key tags, digests of keys and of zones, hashed names, and which names a record covers."""
+
+from ctypes import byref, c_bool, c_char, c_size_t, c_uint16
+from typing import Iterable, Tuple
+
+from ._checks import Bytes, number, octets
+from ._errors import check
+from ._library import DIGEST_SIZE, NSEC3_HASH_SIZE, NSEC3_LABEL_SIZE, library, taken
+from ._names import Name, wire_of
+from ._records import Record
+
+
+def key_tag(dnskey: Bytes) -> int:
+    """Returns the key tag of a DNSKEY, by its data (RFC 4034, appendix B).
+
+    Raises `NotDnskey` if the data have fewer than 4 octets or more than 65535, or if the algorithm is 1 and they have
+    fewer than 7.
+
+    >>> key_tag(bytes.fromhex("01000308"))
+    1032
+    """
+    own, tag = octets("dnskey", dnskey), c_uint16()
+    check(library.dnw_key_tag(own, len(own), byref(tag)))
+    return tag.value
+
+
+def ds_digest(owner: Name, dnskey: Bytes, digest_type: int) -> bytes:
+    """Returns the digest of a DNSKEY that a DS record has, by its owner and its data (RFC 4034, section 5.1.4). Digest
+    type 1 is SHA-1, 2 is SHA-256 and 4 is SHA-384.
+
+    Raises `NotDnskey` if the data have fewer than 4 octets or more than 65535, and `UnknownAlgorithm` for another
+    digest type.
+
+    >>> ds_digest(Name("example.net."), bytes.fromhex("01000308"), 1).hex()
+    'add4045bcce79ed471d7f53fb71c12e48fb8b56e'
+    """
+    wire, size = wire_of("owner", owner)
+    own, code = octets("dnskey", dnskey), number("digest_type", digest_type, 255)
+    digest, length = (c_char * DIGEST_SIZE)(), c_size_t()
+    check(library.dnw_ds_digest(wire, size, own, len(own), code, digest, DIGEST_SIZE, byref(length)))
+    return taken(digest, length.value)
+
+
+def nsec3_hash(name: Name, iterations: int, salt: Bytes, max_iterations: int, algorithm: int = 1) -> bytes:
+    """Returns a name as NSEC3 hashes it (RFC 5155, section 5). `iterations`, `salt` and `algorithm` are fields of an
+    NSEC3 or NSEC3PARAM record. `max_iterations` is how many are allowed, since each takes time (RFC 9276, section 3.2).
+
+    Raises `UnknownAlgorithm` if the algorithm is not 1 (SHA-1), and `TooManyIterations` if there are more iterations
+    than are allowed.
+
+    >>> nsec3_hash(Name("example."), 12, bytes.fromhex("aabbccdd"), 100).hex()
+    '06532454afbfaf538f6b95f25c68d2c77bb8e6d9'
+    """
+    wire, size = wire_of("name", name)
+    own, rounds, most = _hashing(iterations, salt, max_iterations)
+    code = number("algorithm", algorithm, 255)
+    room, length = (c_char * NSEC3_HASH_SIZE)(), c_size_t()
+    check(library.dnw_nsec3_hash(wire, size, code, rounds, own, len(own), most, room, len(room), byref(length)))
+    return taken(room, length.value)
+
+
+def nsec3_label(name: Name, iterations: int, salt: Bytes, max_iterations: int, algorithm: int = 1) -> str:
+    """Returns the first label of the owner of the NSEC3 record that a name is hashed to: the hash in base 32 with the
+    extended hex alphabet, in lower case and without padding (RFC 5155, section 3).
+
+    Raises as `nsec3_hash`.
+
+    >>> nsec3_label(Name("example."), 12, bytes.fromhex("aabbccdd"), 100)
+    '0p9mhaveqvm6t7vbl5lop2u3t2rp3tom'
+    """
+    wire, size = wire_of("name", name)
+    own, rounds, most = _hashing(iterations, salt, max_iterations)
+    code = number("algorithm", algorithm, 255)
+    room, length = (c_char * NSEC3_LABEL_SIZE)(), c_size_t()
+    check(library.dnw_nsec3_label(wire, size, code, rounds, own, len(own), most, room, len(room), byref(length)))
+    return taken(room, length.value).decode("ascii")
+
+
+def _hashing(iterations: int, salt: Bytes, max_iterations: int) -> Tuple[bytes, int, int]:
+    most = number("max_iterations", max_iterations, 65535)
+    return octets("salt", salt), number("iterations", iterations, 65535), most
+
+
+def nsec_covers(owner: Name, next_name: Name, name: Name) -> bool:
+    """Returns whether the NSEC record of `owner` with the next name `next_name` covers a name: the name comes after the
+    owner and before the next name in canonical order, so the zone has no such name (RFC 4034, section 4.1.1).
+
+    The next name of the last record of a zone is the zone's apex; that record covers each name of the zone after its
+    owner. A name that is not in the zone is never covered. The caller has to check that the owner is not a delegation
+    above the name (RFC 6840, section 4.1).
+
+    >>> nsec_covers(Name("b.example."), Name("ns1.example."), Name("ml.example."))
+    True
+    """
+    covers = c_bool()
+    names = (*wire_of("owner", owner), *wire_of("next_name", next_name), *wire_of("name", name))
+    check(library.dnw_nsec_covers(*names, byref(covers)))
+    return covers.value
+
+
+def nsec3_covers(own_hash: Bytes, next_hash: Bytes, name_hash: Bytes) -> bool:
+    """Returns whether the NSEC3 record with the hash `own_hash` and the next hash `next_hash` covers a hash: it comes
+    between them, or, for the last record of a zone, after its own or before the next one (RFC 5155, section 8.3).
+
+    >>> nsec3_covers(b"2" * 20, b"5" * 20, b"3" * 20)
+    True
+    """
+    covers = c_bool()
+    own, following = octets("own_hash", own_hash), octets("next_hash", next_hash)
+    given = octets("name_hash", name_hash)
+    check(library.dnw_nsec3_covers(own, len(own), following, len(following), given, len(given), byref(covers)))
+    return covers.value
+
+
+def zone_digest(apex: Name, records: Iterable[Record], algorithm: int) -> bytes:
+    """Returns the digest of a zone that a ZONEMD record has, by the scheme SIMPLE (RFC 8976, section 3.3.1), from all
+    its records in any order, glue records too. Hash algorithm 1 is SHA-384, and 2 is SHA-512.
+
+    Records that are the same but for the TTL count once, with the least TTL. The ZONEMD records at the apex, and the
+    RRSIG records there that cover ZONEMD, are left out, so they may be given.
+
+    Raises `UnknownAlgorithm` for another hash algorithm, `DataTooLong` if a record has more than 65535 octets of data
+    once names are uncompressed, and as `Record.fields` for data that are not valid.
+
+    >>> zone = [Record.from_text("a. 60 IN NS ns.a."), Record.from_text("ns.a. 60 IN A 192.0.2.1")]
+    >>> zone_digest(Name("a."), zone, 1) == zone_digest(Name("a."), reversed(zone), 1)
+    True
+    """
+    wire, size = wire_of("apex", apex)
+    code = number("algorithm", algorithm, 255)
+    whole = b"".join(record.to_wire() for record in records)
+    digest, length = (c_char * DIGEST_SIZE)(), c_size_t()
+    check(library.dnw_zone_digest(wire, size, whole, len(whole), code, digest, DIGEST_SIZE, byref(length)))
+    return taken(digest, length.value)
