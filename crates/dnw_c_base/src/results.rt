@@ -30,6 +30,6 @@ pub fn report_both<T: Copy, U: Copy>(
             *second = other;
             0
         }
-        Err(failure) => failure.number(),
+        Err(why) => why.number(),
     }
 }

@@ -7,12 +7,12 @@ use Rattle.dnw_base.specs.Limits.{max_message}
 use Rattle.dnw_message_header.specs.Headers.{header_field, header_of, header_size}
 use Rattle.dnw_message_header.specs.declared.header.Header.{Header}
 use Rattle.dnw_message_read.specs.Edns.{is_opt, opts_in}
-use Rattle.dnw_message_read.specs.Messages.{Item, ItemsAt, MessageValue, PartsAt, Rest, done, next, part, query_of, question_rest, record_in, record_rest}
+use Rattle.dnw_message_read.specs.Messages.{Item, ItemsAt, MessageValue, PartsAt, done, next, part, query_of, record_in}
 use Rattle.dnw_message_read.specs.declared.error.Section.TheVariants as kind
 use Rattle.dnw_c_messages.specs.Messages.{IsWholeMessage}
 use Rattle.dnw_c_messages.specs.WriterCalls.{section_count}
 use Rattle.dnw_c_messages.specs.declared.writer.Writer.{Writer}
-use Rattle.dnw_c_messages.proofs.Kept.{HasItems, HasRecords, items_on, opts_of}
+use Rattle.dnw_c_messages.proofs.Kept.{HasItems, Sort, items_on, opts_of, questions, records}
 use Rattle.dnw_record.specs.Records.{RecordValue}
 
 -- the items of each section, with those of the header's counts
@@ -20,10 +20,10 @@ pub record Chain (b : List ℕ) (w : Writer) : Type 0 where
   pub answers : ℕ
   pub authorities : ℕ
   pub additionals : ℕ
-  pub has_questions : HasItems question_rest b header_size (section_count b 1) answers
-  pub has_answers : HasRecords b answers (section_count b 2) 0 authorities
-  pub has_authorities : HasRecords b authorities (section_count b 3) 0 additionals
-  pub has_additionals : HasRecords b additionals (section_count b 4) w.opt_count w.len
+  pub has_questions : HasItems questions b header_size (section_count b 1) 0 answers
+  pub has_answers : HasItems records b answers (section_count b 2) 0 authorities
+  pub has_authorities : HasItems records b authorities (section_count b 3) 0 additionals
+  pub has_additionals : HasItems records b additionals (section_count b 4) w.opt_count w.len
   pub one_opt : w.opt_count ≤ 1
   pub fits : w.len ≤ length b
   pub short : w.len ≤ max_message
@@ -43,9 +43,9 @@ opts_in_both xs ys = ap length (filter-append (λ (r : RecordValue). is_opt r.re
 pub message_of : (b : List ℕ) (w : Writer) → Chain b w → IsWholeMessage b w
 message_of b w c =
     let q = c.has_questions in
-    let a = c.has_answers.are in
-    let n = c.has_authorities.are in
-    let r = c.has_additionals.are in
+    let a = c.has_answers in
+    let n = c.has_authorities in
+    let r = c.has_additionals in
     let outside = opts_in_both (map (record_in b) a.items) (map (record_in b) n.items) in
     let m : MessageValue = record {
       octets = b;
@@ -84,13 +84,12 @@ message_of b w c =
       one_opt = c.one_opt;
     }
 
-has : {rest : Rest} {b : List ℕ} {p e k count : ℕ} (c : ℕ) {xs : List Item} → ItemsAt rest b p xs e k → length xs ≡ count → k ≡ 0 → count ≡ c → HasItems rest b p c e
-has {rest} {b} {p} {e} c {xs} items counted zero same = record { items = xs; at = subst (λ i. ItemsAt rest b p xs e i) zero items; counted = counted ∙ same }
-
-has_records : {b : List ℕ} {p e k count : ℕ} (c o : ℕ) {xs : List Item} → ItemsAt record_rest b p xs e k → length xs ≡ count → k ≡ 0 → count ≡ c → opts_of b xs ≡ o
-    → HasRecords b p c o e
-has_records {b} {p} {e} c o {xs} items counted zero same opts = record {
-  are = record { items = xs; at = subst (λ i. ItemsAt record_rest b p xs e i) zero items; counted = counted ∙ same };
+has : (s : Sort) {b : List ℕ} {p e k count : ℕ} (c o : ℕ) {xs : List Item} → ItemsAt s.rest b p xs e k → length xs ≡ count → k ≡ 0 → count ≡ c → s.opts b xs ≡ o
+    → HasItems s b p c o e
+has s {b} {p} {e} c o {xs} items counted zero same opts = record {
+  items = xs;
+  at = subst (λ i. ItemsAt s.rest b p xs e i) zero items;
+  counted = counted ∙ same;
   opts_are = opts;
 }
 
@@ -115,10 +114,10 @@ chain_from b w h q a n r k qs rs ns xs start (next {q = p1} first l1 (next {q = 
   answers = p1;
   authorities = p2;
   additionals = p3;
-  has_questions = subst (λ p. HasItems question_rest b p (section_count b 1) p1) start (has (section_count b 1) first l1 (omega (arith, zero)) c1);
-  has_answers = has_records (section_count b 2) 0 second l2 (omega (arith, zero)) c2 opts.answers;
-  has_authorities = has_records (section_count b 3) 0 third l3 (omega (arith, zero)) c3 opts.authorities;
-  has_additionals = has_records (section_count b 4) w.opt_count fourth l4 (omega (arith, zero)) c4 opts.additionals;
+  has_questions = subst (λ p. HasItems questions b p (section_count b 1) 0 p1) start (has questions (section_count b 1) 0 first l1 (omega (arith, zero)) c1 refl);
+  has_answers = has records (section_count b 2) 0 second l2 (omega (arith, zero)) c2 opts.answers;
+  has_authorities = has records (section_count b 3) 0 third l3 (omega (arith, zero)) c3 opts.authorities;
+  has_additionals = has records (section_count b 4) w.opt_count fourth l4 (omega (arith, zero)) c4 opts.additionals;
   one_opt = one_opt;
   fits = fits;
   short = short;

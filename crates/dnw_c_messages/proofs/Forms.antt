@@ -20,8 +20,9 @@ no_pointers (pointer high low w g least g' prior r) = absurd (omega (arith, prio
 form_is : (form : List ℕ) (ls : List (List ℕ)) (k : ℕ) → NameAt form 0 ls (length form) k → form ≡ wire ls
 form_is form ls k name = sym (take_all (length form - 0) form (omega arith)) ∙ Reads_plain name.reads (no_pointers name.reads)
 
-pub form_fits : (form : List ℕ) (ls : List (List ℕ)) (k : ℕ) → NameAt form 0 ls (length form) k → length form ≤ max_name
-form_fits form ls k name = omega (arith, ap length (form_is form ls k name), length_wire ls, name.fits)
+pub form_fits : (form : List ℕ) {ls : List (List ℕ)} {e k : ℕ} → NameAt form 0 ls e k → e ≡ length form → length form ≤ max_name
+form_fits form {ls} {e} {k} name end =
+    omega (arith, ap length (form_is form ls k (subst (λ q. NameAt form 0 ls q k) end name)), length_wire ls, name.fits)
 
 -- the root
 pub root_form : IsForm (0 ∷ [])

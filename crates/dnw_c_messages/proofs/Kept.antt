@@ -12,12 +12,6 @@ use Rattle.dnw_message_read.specs.Edns.{is_opt, opts_in}
 use Rattle.dnw_message_read.specs.Messages.{Item, ItemAt, ItemsAt, Rest, none, one_more, question_rest, record_in, record_rest}
 use Rattle.dnw_message_read.proofs.InTurn.{items_more}
 
--- So many items follow one another from p to e, and no name has a pointer.
-pub record HasItems (rest : Rest) (b : List ℕ) (p count e : ℕ) : Type 0 where
-  pub items : List Item
-  pub at : ItemsAt rest b p items e 0
-  pub counted : length items ≡ count
-
 -- the octets from the header's end up to n are in both
 pub record Kept (b b' : List ℕ) (n : ℕ) : Type 0 where
   pub same : (i j : ℕ) → 12 ≤ i → i ≤ j → j ≤ n → slice_range b i j ≡ slice_range b' i j
@@ -26,9 +20,6 @@ pub record Kept (b b' : List ℕ) (n : ℕ) : Type 0 where
 -- what follows a name that ends before n is as long in both
 abbrev pub Stable : Rest → List ℕ → List ℕ → ℕ → Type 0
 Stable rest b b' n = (e : ℕ) → 12 ≤ e → e + rest b e ≤ n → rest b' e ≡ rest b e
-
-pub question_stable : (b b' : List ℕ) (n : ℕ) → Stable question_rest b b' n
-question_stable b b' n e from to = refl
 
 pub record_stable : (b b' : List ℕ) (n : ℕ) → Kept b b' n → Stable record_rest b b' n
 record_stable b b' n kept e from to =
@@ -69,26 +60,10 @@ kept_items {rest} {b} {b'} {n} {p} kept stable (one_more {q = q} {j = j} {k = k}
     one_more (kept_item kept stable plain from (omega (arith, items_on more, to)))
     (kept_items kept stable more (omega (arith, zero)) (omega (arith, from, further, first.ends)) to)
 
-pub kept_has : {rest : Rest} {b b' : List ℕ} {n p c c' e : ℕ} → Kept b b' n → Stable rest b b' n → HasItems rest b p c e → 12 ≤ p → e ≤ n → c' ≡ c
-    → HasItems rest b' p c' e
-kept_has kept stable h from to same = record { items = h.items; at = kept_items kept stable h.at refl from to; counted = h.counted ∙ sym same }
-
--- one more item follows
-pub has_more : {rest : Rest} {b b' : List ℕ} {n p c c' e e' : ℕ} {x : Item} → Kept b b' n → Stable rest b b' n → HasItems rest b p c e → 12 ≤ p → e ≤ n
-    → ItemAt rest b' e x e' 0 → c' ≡ suc c → HasItems rest b' p c' e'
-has_more {x = x} kept stable h from to item more = record {
-  items = h.items ++ (x ∷ []);
-  at = items_more (kept_items kept stable h.at refl from to) item;
-  counted = omega (arith, length-append h.items (x ∷ []), h.counted, more);
-}
-
 -- a section without items ends where it begins
 no_items : {rest : Rest} {b : List ℕ} {p e k : ℕ} {xs : List Item} → ItemsAt rest b p xs e k → length xs ≡ 0 → p ≡ e
 no_items none zero = refl
 no_items (one_more first more) zero = absurd (omega (arith, zero))
-
-pub empty : (rest : Rest) (b : List ℕ) (p c : ℕ) → c ≡ 0 → HasItems rest b p c p
-empty rest b p c zero = record { items = []; at = none; counted = sym zero }
 
 -- ---- records, and the OPT records among them
 
@@ -99,11 +74,6 @@ opt_at b p = is_opt (type_field (fixed_at b p))
 -- how many of these records are
 abbrev pub opts_of : List ℕ → List Item → ℕ
 opts_of b xs = length (opts_in (map (record_in b) xs))
-
--- So many records follow one another from p to e, no owner has a pointer, and so many are OPT records.
-pub record HasRecords (b : List ℕ) (p count opts e : ℕ) : Type 0 where
-  pub are : HasItems record_rest b p count e
-  pub opts_are : opts_of b are.items ≡ opts
 
 count_same : (is is' : Bool) (r r' : RecordValue) (rs rs' : List RecordValue) → is ≡ is' → length rs ≡ length rs'
     → length (cond is (r ∷ rs) rs) ≡ length (cond is' (r' ∷ rs') rs')
@@ -117,7 +87,7 @@ count_more : (is : Bool) (r : RecordValue) (rs all : List RecordValue) (n : ℕ)
 count_more true r rs all n h = omega (arith, h)
 count_more false r rs all n h = h
 
-kept_opts : {b b' : List ℕ} {n p e k : ℕ} {xs : List Item} → Kept b b' n → ItemsAt record_rest b p xs e k → 12 ≤ p → e ≤ n → opts_of b' xs ≡ opts_of b xs
+pub kept_opts : {b b' : List ℕ} {n p e k : ℕ} {xs : List Item} → Kept b b' n → ItemsAt record_rest b p xs e k → 12 ≤ p → e ≤ n → opts_of b' xs ≡ opts_of b xs
 kept_opts kept none from to = refl
 kept_opts {b} {b'} {n} {p} kept (one_more {q = q} {x = x} {xs = xs} first more) from to =
     let (further, inside) = Reads_own first.name.reads in
@@ -126,7 +96,7 @@ kept_opts {b} {b'} {n} {p} kept (one_more {q = q} {x = x} {xs = xs} first more) 
     count_same (opt_at b' x.name_end) (opt_at b x.name_end) (record_in b' x) (record_in b x) _ _ (ap (λ fields. is_opt (type_field fields)) (sym same))
     (kept_opts kept more (omega (arith, from, further, first.ends)) to)
 
-opts_more : (b : List ℕ) (xs : List Item) (x : Item) → opts_of b (xs ++ x ∷ []) ≡ opts_of b xs + opts_of b (x ∷ [])
+pub opts_more : (b : List ℕ) (xs : List Item) (x : Item) → opts_of b (xs ++ x ∷ []) ≡ opts_of b xs + opts_of b (x ∷ [])
 opts_more b [] x = sym (zero-add (opts_of b (x ∷ [])))
 opts_more b (y ∷ ys) x = count_more (opt_at b y.name_end) (record_in b y) _ _ (opts_of b (x ∷ [])) (opts_more b ys x)
 
@@ -135,38 +105,68 @@ pub one_opt_lem : (b : List ℕ) (x : Item) (is : Bool) → opt_at b x.name_end 
 one_opt_lem b x true is = rw is refl
 one_opt_lem b x false is = rw is refl
 
-pub kept_records : {b b' : List ℕ} {n p c c' o e : ℕ} → Kept b b' n → HasRecords b p c o e → 12 ≤ p → e ≤ n → c' ≡ c → HasRecords b' p c' o e
-kept_records {b} {b'} {n} kept h from to same =
-    let at = h.are.at in
-    record {
-      are = record {
-        items = h.are.items;
-        at = kept_items kept (record_stable b b' n kept) at refl from to;
-        counted = h.are.counted ∙ sym same;
-      };
-      opts_are = kept_opts kept at from to ∙ h.opts_are;
-    }
+-- ---- sections
 
-pub more_records : {b b' : List ℕ} {n p c c' o o' e e' : ℕ} {x : Item} → Kept b b' n → HasRecords b p c o e → 12 ≤ p → e ≤ n
-    → ItemAt record_rest b' e x e' 0 → c' ≡ suc c → o' ≡ o + opts_of b' (x ∷ []) → HasRecords b' p c' o' e'
-more_records {b} {b'} {n} {x = x} kept h from to item more opts =
-    let xs = h.are.items in
-    record {
-      are = record {
-        items = xs ++ (x ∷ []);
-        at = items_more (kept_items kept (record_stable b b' n kept) h.are.at refl from to) item;
-        counted = omega (arith, length-append xs (x ∷ []), h.are.counted, more);
-      };
-      opts_are = omega (arith, opts_more b' xs x, kept_opts kept h.are.at from to, h.opts_are, opts);
-    }
+-- How the items of a section are: what follows their names, and how many are OPT records, which stays and adds up.
+pub record Sort : Type 0 where
+  pub rest : Rest
+  pub opts : List ℕ → List Item → ℕ
+  pub none_have : (b : List ℕ) → opts b [] ≡ 0
+  pub one_adds : (b : List ℕ) (xs : List Item) (x : Item) → opts b (xs ++ x ∷ []) ≡ opts b xs + opts b (x ∷ [])
+  pub rest_stays : (b b' : List ℕ) (n : ℕ) → Kept b b' n → Stable rest b b' n
+  pub opts_stay : (b b' : List ℕ) (n p e k : ℕ) (xs : List Item) → Kept b b' n → ItemsAt rest b p xs e k → 12 ≤ p → e ≤ n → opts b' xs ≡ opts b xs
 
-no_opts : (b : List ℕ) (xs : List Item) → length xs ≡ 0 → opts_of b xs ≡ 0
-no_opts b [] zero = refl
-no_opts b (x ∷ xs) zero = absurd (omega (arith, zero))
+abbrev pub questions : Sort
+questions = record {
+  rest = question_rest;
+  opts = λ b xs. 0;
+  none_have = λ b. refl;
+  one_adds = λ b xs x. refl;
+  rest_stays = λ b b' n kept e from to. refl;
+  opts_stay = λ b b' n p e k xs kept items from to. refl;
+}
 
-pub records_none : {b : List ℕ} {p c o e : ℕ} → HasRecords b p c o e → c ≡ 0 → (p ≡ e) × (o ≡ 0)
-records_none {b} h zero =
-    let none_there = h.are.counted ∙ zero in (no_items h.are.at none_there, sym h.opts_are ∙ no_opts b h.are.items none_there)
+abbrev pub records : Sort
+records = record {
+  rest = record_rest;
+  opts = opts_of;
+  none_have = λ b. refl;
+  one_adds = opts_more;
+  rest_stays = record_stable;
+  opts_stay = λ b b' n p e k xs kept items from to. kept_opts kept items from to;
+}
 
-pub no_records : (b : List ℕ) (p c : ℕ) → c ≡ 0 → HasRecords b p c 0 p
-no_records b p c zero = record { are = record { items = []; at = none; counted = sym zero }; opts_are = refl }
+-- So many items follow one another from p to e, no name has a pointer, and so many are OPT records.
+pub record HasItems (s : Sort) (b : List ℕ) (p count opts e : ℕ) : Type 0 where
+  pub items : List Item
+  pub at : ItemsAt s.rest b p items e 0
+  pub counted : length items ≡ count
+  pub opts_are : s.opts b items ≡ opts
+
+pub empty : (s : Sort) (b : List ℕ) (p c : ℕ) → c ≡ 0 → HasItems s b p c 0 p
+empty s b p c zero = record { items = []; at = none; counted = sym zero; opts_are = s.none_have b }
+
+no_opts : (s : Sort) (b : List ℕ) (xs : List Item) → length xs ≡ 0 → s.opts b xs ≡ 0
+no_opts s b [] zero = s.none_have b
+no_opts s b (x ∷ xs) zero = absurd (omega (arith, zero))
+
+pub none_there : {s : Sort} {b : List ℕ} {p c o e : ℕ} → HasItems s b p c o e → c ≡ 0 → (p ≡ e) × (o ≡ 0)
+none_there {s} {b} h zero = let none = h.counted ∙ zero in (no_items h.at none, sym h.opts_are ∙ no_opts s b h.items none)
+
+pub kept_has : {s : Sort} {b b' : List ℕ} {n p c c' o e : ℕ} → Kept b b' n → HasItems s b p c o e → 12 ≤ p → e ≤ n → c' ≡ c → HasItems s b' p c' o e
+kept_has {s} {b} {b'} {n} {p} {e = e} kept h from to same = record {
+  items = h.items;
+  at = kept_items kept (s.rest_stays b b' n kept) h.at refl from to;
+  counted = h.counted ∙ sym same;
+  opts_are = s.opts_stay b b' n p e 0 h.items kept h.at from to ∙ h.opts_are;
+}
+
+-- one more item follows
+pub has_more : {s : Sort} {b b' : List ℕ} {n p c c' o o' e e' : ℕ} {x : Item} → Kept b b' n → HasItems s b p c o e → 12 ≤ p → e ≤ n
+    → ItemAt s.rest b' e x e' 0 → c' ≡ suc c → o' ≡ o + s.opts b' (x ∷ []) → HasItems s b' p c' o' e'
+has_more {s} {b} {b'} {n} {p} {e = e} {x = x} kept h from to item more opts = record {
+  items = h.items ++ (x ∷ []);
+  at = items_more (kept_items kept (s.rest_stays b b' n kept) h.at refl from to) item;
+  counted = omega (arith, length-append h.items (x ∷ []), h.counted, more);
+  opts_are = omega (arith, s.one_adds b' h.items x, s.opts_stay b b' n p e 0 h.items kept h.at from to, h.opts_are, opts);
+}

@@ -20,7 +20,7 @@ use Rattle.dnw_c_messages.specs.WriterCalls.{AppendsItem, AppendsRecord, BeginsW
 use Rattle.dnw_c_messages.specs.declared.writer.Writer.{Writer}
 use Rattle.dnw_c_messages.proofs.Forms.{form_read, root_form}
 use Rattle.dnw_c_messages.proofs.Chains.{Chain, chain_of, message_of}
-use Rattle.dnw_c_messages.proofs.Kept.{HasItems, HasRecords, Kept, empty, has_more, items_on, kept_has, kept_records, more_records, no_records, one_opt_lem, opts_of, question_stable, records_none}
+use Rattle.dnw_c_messages.proofs.Kept.{HasItems, Kept, empty, has_more, items_on, kept_has, none_there, one_opt_lem, opts_of, questions, records}
 use Rattle.dnw_c_messages.proofs.Pieces.{length_put_at, put_at_put_at, range_after, range_before, range_first, range_here}
 
 -- ---- what an item that is appended leaves, and counts
@@ -70,19 +70,19 @@ Ends b len section opt_count = Chain b (record { len = len; section = section; o
 grow_questions : (b b' : List ℕ) (w : Writer) (e : ℕ) (x : Item) → Grown 1 b b' w.len → Chain b w → w.section ≤ 1
     → ItemAt question_rest b' w.len x e 0 → e ≤ max_message → Ends b' e 1 w.opt_count
 grow_questions b b' w e x g m order item short =
-    let (end2, _) = records_none m.has_answers (m.no_more 2 (omega (arith, order)) (omega arith)) in
-    let (end3, _) = records_none m.has_authorities (m.no_more 3 (omega (arith, order)) (omega arith)) in
-    let (end4, no_opts) = records_none m.has_additionals (m.no_more 4 (omega (arith, order)) (omega arith)) in
-    let old = subst (λ p. HasItems question_rest b header_size (section_count b 1) p) (end2 ∙ end3 ∙ end4) m.has_questions in
+    let (end2, _) = none_there m.has_answers (m.no_more 2 (omega (arith, order)) (omega arith)) in
+    let (end3, _) = none_there m.has_authorities (m.no_more 3 (omega (arith, order)) (omega arith)) in
+    let (end4, no_opts) = none_there m.has_additionals (m.no_more 4 (omega (arith, order)) (omega arith)) in
+    let old = subst (λ p. HasItems questions b header_size (section_count b 1) 0 p) (end2 ∙ end3 ∙ end4) m.has_questions in
     let stays = λ (s : ℕ) (more : 1 < s) (few : s ≤ 4). g.others s (omega (arith, more)) few ∙ m.no_more s (omega (arith, order, more)) few in
     record {
       answers = e;
       authorities = e;
       additionals = e;
-      has_questions = has_more g.kept (question_stable b b' w.len) old (omega arith) (omega arith) item g.counted;
-      has_answers = no_records b' e (section_count b' 2) (stays 2 (omega arith) (omega arith));
-      has_authorities = no_records b' e (section_count b' 3) (stays 3 (omega arith) (omega arith));
-      has_additionals = subst (λ o. HasRecords b' e (section_count b' 4) o e) (sym no_opts) (no_records b' e (section_count b' 4) (stays 4 (omega arith) (omega arith)));
+      has_questions = has_more g.kept old (omega arith) (omega arith) item g.counted refl;
+      has_answers = empty records b' e (section_count b' 2) (stays 2 (omega arith) (omega arith));
+      has_authorities = empty records b' e (section_count b' 3) (stays 3 (omega arith) (omega arith));
+      has_additionals = subst (λ o. HasItems records b' e (section_count b' 4) o e) (sym no_opts) (empty records b' e (section_count b' 4) (stays 4 (omega arith) (omega arith)));
       one_opt = m.one_opt;
       fits = item.inside;
       short = short;
@@ -98,11 +98,11 @@ record Opts (section count opts now : ℕ) : Type 0 where
 grow_answers : (b b' : List ℕ) (w : Writer) (e now : ℕ) (x : Item) → Grown 2 b b' w.len → Chain b w → w.section ≤ 2
     → ItemAt record_rest b' w.len x e 0 → e ≤ max_message → Opts 2 w.opt_count (opts_of b' (x ∷ [])) now → Ends b' e 2 now
 grow_answers b b' w e now x g m order item short opts =
-    let (end3, _) = records_none m.has_authorities (m.no_more 3 (omega (arith, order)) (omega arith)) in
-    let (end4, no_opts) = records_none m.has_additionals (m.no_more 4 (omega (arith, order)) (omega arith)) in
-    let old = subst (λ p. HasRecords b m.answers (section_count b 2) 0 p) (end3 ∙ end4) m.has_answers in
+    let (end3, _) = none_there m.has_authorities (m.no_more 3 (omega (arith, order)) (omega arith)) in
+    let (end4, no_opts) = none_there m.has_additionals (m.no_more 4 (omega (arith, order)) (omega arith)) in
+    let old = subst (λ p. HasItems records b m.answers (section_count b 2) 0 p) (end3 ∙ end4) m.has_answers in
     let first = items_on m.has_questions.at in
-    let second = items_on old.are.at in
+    let second = items_on old.at in
     let plain = opts.inside (omega arith) in
     let none_now : now ≡ 0 = omega (arith, opts.sum, no_opts, plain) in
     let stays = λ (s : ℕ) (more : 2 < s) (few : s ≤ 4). g.others s (omega (arith, more)) few ∙ m.no_more s (omega (arith, order, more)) few in
@@ -110,10 +110,10 @@ grow_answers b b' w e now x g m order item short opts =
       answers = m.answers;
       authorities = e;
       additionals = e;
-      has_questions = kept_has g.kept (question_stable b b' w.len) m.has_questions (omega arith) second (g.others 1 (omega arith) (omega arith));
-      has_answers = more_records g.kept old first (omega arith) item g.counted (omega (arith, plain));
-      has_authorities = no_records b' e (section_count b' 3) (stays 3 (omega arith) (omega arith));
-      has_additionals = subst (λ o. HasRecords b' e (section_count b' 4) o e) (sym none_now) (no_records b' e (section_count b' 4) (stays 4 (omega arith) (omega arith)));
+      has_questions = kept_has g.kept m.has_questions (omega arith) second (g.others 1 (omega arith) (omega arith));
+      has_answers = has_more g.kept old first (omega arith) item g.counted (omega (arith, plain));
+      has_authorities = empty records b' e (section_count b' 3) (stays 3 (omega arith) (omega arith));
+      has_additionals = subst (λ o. HasItems records b' e (section_count b' 4) o e) (sym none_now) (empty records b' e (section_count b' 4) (stays 4 (omega arith) (omega arith)));
       one_opt = opts.one;
       fits = item.inside;
       short = short;
@@ -123,11 +123,11 @@ grow_answers b b' w e now x g m order item short opts =
 grow_authorities : (b b' : List ℕ) (w : Writer) (e now : ℕ) (x : Item) → Grown 3 b b' w.len → Chain b w → w.section ≤ 3
     → ItemAt record_rest b' w.len x e 0 → e ≤ max_message → Opts 3 w.opt_count (opts_of b' (x ∷ [])) now → Ends b' e 3 now
 grow_authorities b b' w e now x g m order item short opts =
-    let (end4, no_opts) = records_none m.has_additionals (m.no_more 4 (omega (arith, order)) (omega arith)) in
-    let old = subst (λ p. HasRecords b m.authorities (section_count b 3) 0 p) end4 m.has_authorities in
+    let (end4, no_opts) = none_there m.has_additionals (m.no_more 4 (omega (arith, order)) (omega arith)) in
+    let old = subst (λ p. HasItems records b m.authorities (section_count b 3) 0 p) end4 m.has_authorities in
     let first = items_on m.has_questions.at in
-    let second = items_on m.has_answers.are.at in
-    let third = items_on old.are.at in
+    let second = items_on m.has_answers.at in
+    let third = items_on old.at in
     let plain = opts.inside (omega arith) in
     let none_now : now ≡ 0 = omega (arith, opts.sum, no_opts, plain) in
     let stays = λ (s : ℕ) (more : 3 < s) (few : s ≤ 4). g.others s (omega (arith, more)) few ∙ m.no_more s (omega (arith, order, more)) few in
@@ -135,10 +135,10 @@ grow_authorities b b' w e now x g m order item short opts =
       answers = m.answers;
       authorities = m.authorities;
       additionals = e;
-      has_questions = kept_has g.kept (question_stable b b' w.len) m.has_questions (omega arith) (omega (arith, second, third)) (g.others 1 (omega arith) (omega arith));
-      has_answers = kept_records g.kept m.has_answers first third (g.others 2 (omega arith) (omega arith));
-      has_authorities = more_records g.kept old (omega (arith, first, second)) (omega arith) item g.counted (omega (arith, plain));
-      has_additionals = subst (λ o. HasRecords b' e (section_count b' 4) o e) (sym none_now) (no_records b' e (section_count b' 4) (stays 4 (omega arith) (omega arith)));
+      has_questions = kept_has g.kept m.has_questions (omega arith) (omega (arith, second, third)) (g.others 1 (omega arith) (omega arith));
+      has_answers = kept_has g.kept m.has_answers first third (g.others 2 (omega arith) (omega arith));
+      has_authorities = has_more g.kept old (omega (arith, first, second)) (omega arith) item g.counted (omega (arith, plain));
+      has_additionals = subst (λ o. HasItems records b' e (section_count b' 4) o e) (sym none_now) (empty records b' e (section_count b' 4) (stays 4 (omega arith) (omega arith)));
       one_opt = opts.one;
       fits = item.inside;
       short = short;
@@ -149,17 +149,17 @@ grow_additionals : (b b' : List ℕ) (w : Writer) (e now : ℕ) (x : Item) → G
     → ItemAt record_rest b' w.len x e 0 → e ≤ max_message → Opts 4 w.opt_count (opts_of b' (x ∷ [])) now → Ends b' e 4 now
 grow_additionals b b' w e now x g m item short opts =
     let first = items_on m.has_questions.at in
-    let second = items_on m.has_answers.are.at in
-    let third = items_on m.has_authorities.are.at in
-    let fourth = items_on m.has_additionals.are.at in
+    let second = items_on m.has_answers.at in
+    let third = items_on m.has_authorities.at in
+    let fourth = items_on m.has_additionals.at in
     record {
       answers = m.answers;
       authorities = m.authorities;
       additionals = m.additionals;
-      has_questions = kept_has g.kept (question_stable b b' w.len) m.has_questions (omega arith) (omega (arith, second, third, fourth)) (g.others 1 (omega arith) (omega arith));
-      has_answers = kept_records g.kept m.has_answers first (omega (arith, third, fourth)) (g.others 2 (omega arith) (omega arith));
-      has_authorities = kept_records g.kept m.has_authorities (omega (arith, first, second)) fourth (g.others 3 (omega arith) (omega arith));
-      has_additionals = more_records g.kept m.has_additionals (omega (arith, first, second, third)) (omega arith) item g.counted opts.sum;
+      has_questions = kept_has g.kept m.has_questions (omega arith) (omega (arith, second, third, fourth)) (g.others 1 (omega arith) (omega arith));
+      has_answers = kept_has g.kept m.has_answers first (omega (arith, third, fourth)) (g.others 2 (omega arith) (omega arith));
+      has_authorities = kept_has g.kept m.has_authorities (omega (arith, first, second)) fourth (g.others 3 (omega arith) (omega arith));
+      has_additionals = has_more g.kept m.has_additionals (omega (arith, first, second, third)) (omega arith) item g.counted opts.sum;
       one_opt = opts.one;
       fits = item.inside;
       short = short;
@@ -192,10 +192,10 @@ begin_whole id flags old new after (fits, is, state) =
       answers = header_size;
       authorities = header_size;
       additionals = header_size;
-      has_questions = empty question_rest b header_size (section_count b 1) refl;
-      has_answers = no_records b header_size (section_count b 2) refl;
-      has_authorities = no_records b header_size (section_count b 3) refl;
-      has_additionals = no_records b header_size (section_count b 4) refl;
+      has_questions = empty questions b header_size (section_count b 1) refl;
+      has_answers = empty records b header_size (section_count b 2) refl;
+      has_authorities = empty records b header_size (section_count b 3) refl;
+      has_additionals = empty records b header_size (section_count b 4) refl;
       one_opt = omega arith;
       fits = omega (arith, length-append (empty_header id flags) (drop header_size old));
       short = omega arith;

@@ -1,7 +1,8 @@
 -- What the functions for C put of the EDNS of a message, and why there is none (RFC 6891).
-use Rattle.std.specs.Prelude.{◌≡◌, ◌⊎◌, ℕ, ◌≤◌, true, false, Option, Some, None, List}
+use Rattle.std.specs.Prelude.{◌≡◌, ◌⊎◌, ℕ, ◌≤◌, true, false, Option, Some, None, List, Result}
 use Rattle.dnw_base.specs.Limits.{min_payload}
 use Rattle.dnw_c_base.specs.Failures.{of_decode}
+use Rattle.dnw_c_base.specs.Results.{GivesOr}
 use Rattle.dnw_c_base.specs.declared.failure.Failure.{Failure}
 use Rattle.dnw_c_base.specs.declared.failure.Failure.TheVariants as why
 use Rattle.dnw_message_read.specs.Edns.{EdnsValue, FailsEdns, HasEdns, IsResponseCode}
@@ -48,12 +49,10 @@ of_edns CutOption = why.CutOption
 abbrev pub FailsToSay : MessageValue → Failure → Type 0
 FailsToSay m failure = (error : EdnsError) × FailsEdns m error × (failure ≡ of_edns error)
 
--- The octets begin with a message whose names follow so many pointers at most, and what it says by EDNS is put.
-abbrev pub PutsEdns : List ℕ → ℕ → ReadEdns → Type 0
-PutsEdns octets most found = (m : MessageValue) × (k : ℕ) × MessageAt octets m k × (k ≤ most) × IsReadEdns m found
-
--- There is no such message, or it breaks a rule of EDNS.
-abbrev pub FailsToReadEdns : List ℕ → ℕ → Failure → Type 0
-FailsToReadEdns octets most failure =
-    ((error : MessageError) × FailsMessage octets most error × (failure ≡ of_message error.kind))
-    ⊎ ((m : MessageValue) × (k : ℕ) × MessageAt octets m k × (k ≤ most) × FailsToSay m failure)
+-- The octets begin with a message whose names follow so many pointers at most, and what it says by EDNS is the value. Else there is
+-- no such message, or it breaks a rule of EDNS.
+abbrev pub ReadsEdns : List ℕ → ℕ → Result ReadEdns Failure → Type 0
+ReadsEdns octets most = GivesOr
+    (λ found. (m : MessageValue) × (k : ℕ) × MessageAt octets m k × (k ≤ most) × IsReadEdns m found)
+    (λ failure. ((error : MessageError) × FailsMessage octets most error × (failure ≡ of_message error.kind))
+    ⊎ ((m : MessageValue) × (k : ℕ) × MessageAt octets m k × (k ≤ most) × FailsToSay m failure))

@@ -1,5 +1,5 @@
 -- What the functions for C put of the fields of the data of a record, and why there is no next one.
-use Rattle.std.specs.Prelude.{◌≡◌, ◌<◌, ◌≤◌, ◌⊎◌, ℕ, ◌+◌, ◌-◌, Option, Some, None, List, length, slice_get}
+use Rattle.std.specs.Prelude.{◌≡◌, ◌<◌, ◌≤◌, ◌⊎◌, ℕ, ◌+◌, ◌-◌, Option, Some, None, List, length, slice_get, Result}
 use Rattle.dnw_data.specs.Fields.{FailsField, TakesField}
 use Rattle.dnw_data.specs.Table.{fields_of}
 use Rattle.dnw_data.specs.Values.{FieldValue}
@@ -11,6 +11,7 @@ use Rattle.dnw_data.specs.declared.kind.Shown.TheVariants.{Text, Tag}
 use Rattle.dnw_base.specs.declared.error.DecodeError.{DecodeError}
 use Rattle.dnw_c_base.specs.Failures.{of_decode}
 use Rattle.dnw_c_base.specs.Offsets.{at_offset}
+use Rattle.dnw_c_base.specs.Results.{GivesOr}
 use Rattle.dnw_c_base.specs.declared.failure.Failure.{Failure}
 use Rattle.dnw_c_base.specs.declared.failure.Failure.TheVariants.{MessageCut, WrongDataLength}
 use Rattle.dnw_c_messages.specs.declared.fields.FieldCursor.{FieldCursor}
@@ -84,13 +85,10 @@ FailsNextField (Some kind) octets p failure = FailsToTakeField kind octets p fai
 abbrev pub kind_at : ℕ → ℕ → Option Kind
 kind_at code number = slice_get (fields_of code) number
 
--- The next field of data of the type with this code, which end where the octets do, is put, or there are no more.
-abbrev pub PutsField : List ℕ → ℕ → FieldCursor → FieldCursor → ReadField → Type 0
-PutsField octets code before after field =
-    (before.offset ≤ length octets) × TakesNextField (kind_at code before.number) octets before after field
-
--- The cursor is past the octets, or no such field is there.
-abbrev pub FailsToReadField : List ℕ → ℕ → FieldCursor → Failure → Type 0
-FailsToReadField octets code at failure =
-    ((length octets < at.offset) × (failure ≡ MessageCut))
-    ⊎ ((at.offset ≤ length octets) × FailsNextField (kind_at code at.number) octets at.offset failure)
+-- The next field of data of the type with this code, which end where the octets do, is the value, or there are no more, and where the
+-- cursor is after it. Else the cursor is past the octets, or no such field is there.
+abbrev pub ReadsNextField : List ℕ → ℕ → FieldCursor → Result (ReadField × FieldCursor) Failure → Type 0
+ReadsNextField octets code at = GivesOr
+    (λ found. (at.offset ≤ length octets) × TakesNextField (kind_at code at.number) octets at found.1 found.0)
+    (λ failure. ((length octets < at.offset) × (failure ≡ MessageCut))
+    ⊎ ((at.offset ≤ length octets) × FailsNextField (kind_at code at.number) octets at.offset failure))

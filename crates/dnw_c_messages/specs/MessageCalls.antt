@@ -1,6 +1,7 @@
 -- What the functions for C put of a whole message, and where one goes wrong (RFC 1035, section 4).
-use Rattle.std.specs.Prelude.{◌≡◌, ℕ, ◌≤◌, List}
+use Rattle.std.specs.Prelude.{◌≡◌, ℕ, ◌≤◌, List, Result}
 use Rattle.dnw_c_base.specs.Failures.{of_decode}
+use Rattle.dnw_c_base.specs.Results.{GivesOr}
 use Rattle.dnw_c_base.specs.declared.failure.Failure.{Failure}
 use Rattle.dnw_c_base.specs.declared.failure.Failure.TheVariants as why
 use Rattle.dnw_message_header.specs.Headers.{is_response}
@@ -39,12 +40,6 @@ read_message m offsets = record {
   end = m.end;
 }
 
--- The octets begin with a message whose names follow so many pointers at most, and it is put.
-abbrev pub PutsMessage : List ℕ → ℕ → ReadMessage → Type 0
-PutsMessage octets most found =
-    (m : MessageValue) × (offsets : SectionOffsets) × (k : ℕ) × MessageAt octets m k × (k ≤ most) × SectionsBegin m offsets
-    × (found ≡ read_message m offsets)
-
 abbrev pub section_number : Section → ℕ
 section_number section.Header = 0
 section_number section.Queries = 1
@@ -61,7 +56,10 @@ abbrev pub of_message : MessageErrorKind → Failure
 of_message (Decode error) = of_decode error
 of_message TooManyPointers = why.TooManyPointers
 
--- The octets begin with no such message, for this reason and from this item on.
-abbrev pub FailsToReadMessage : List ℕ → ℕ → MessageFault → Failure → Type 0
-FailsToReadMessage octets most fault failure =
-    (error : MessageError) × FailsMessage octets most error × (fault ≡ fault_of error) × (failure ≡ of_message error.kind)
+-- The octets begin with a message whose names follow so many pointers at most, and it is the value. Else there is none, for this reason,
+-- and from this item on, which is put.
+abbrev pub ReadsMessage : List ℕ → ℕ → MessageFault → MessageFault → Result ReadMessage Failure → Type 0
+ReadsMessage octets most old new = GivesOr
+    (λ found. (m : MessageValue) × (offsets : SectionOffsets) × (k : ℕ) × MessageAt octets m k × (k ≤ most) × SectionsBegin m offsets
+    × (found ≡ read_message m offsets) × (new ≡ old))
+    (λ failure. (error : MessageError) × FailsMessage octets most error × (new ≡ fault_of error) × (failure ≡ of_message error.kind))

@@ -1,26 +1,22 @@
 -- What the function for C puts that writes a message again, and why it puts nothing.
-use Rattle.std.specs.Prelude.{◌≡◌, ◌<◌, ◌⊎◌, ℕ, ◌≤◌, Bool, List, length, take}
+use Rattle.std.specs.Prelude.{◌≡◌, ◌⊎◌, ℕ, ◌≤◌, Bool, List, length, take, Result}
 use Rattle.dnw_c_base.specs.Failures.{of_decode, of_proto}
+use Rattle.dnw_c_base.specs.Results.{Puts, Refuses}
 use Rattle.dnw_c_base.specs.declared.failure.Failure.{Failure}
-use Rattle.dnw_c_base.specs.declared.failure.Failure.TheVariants as why
+use Rattle.dnw_base.specs.Limits.{max_pointers}
 use Rattle.dnw_message_header.specs.Headers.{header_of, header_size}
 use Rattle.dnw_message_read.specs.Messages.{FailsMessage, MessageAt, MessageValue}
 use Rattle.dnw_message_read.specs.declared.error.MessageError.{MessageError}
 use Rattle.dnw_message_write.specs.Copies.{FailsCopy, IsCopied}
 use Rattle.dnw_message_write.specs.declared.writer.copying.CopyError.{CopyError}
 use Rattle.dnw_message_write.specs.declared.writer.copying.CopyError.TheVariants.{Data, Edns, Proto}
-use Rattle.dnw_name_read.specs.Buffers.{put}
 use Rattle.dnw_c_messages.specs.EdnsCalls.{of_edns}
 use Rattle.dnw_c_messages.specs.MessageCalls.{of_message}
 use Rattle.dnw_c_messages.specs.declared.packing.PackedMessage.{PackedMessage}
 
--- how many pointers the names of the questions and the owners of the records may follow in all
-abbrev pub pack_pointers : ℕ
-pack_pointers = 65536
-
 -- the octets begin with this message
 abbrev pub IsReadMessage : List ℕ → MessageValue → Type 0
-IsReadMessage octets m = (k : ℕ) × MessageAt octets m k × (k ≤ pack_pointers)
+IsReadMessage octets m = (k : ℕ) × MessageAt octets m k × (k ≤ max_pointers)
 
 -- They begin with a message of which this is a copy, in at most so many octets.
 abbrev pub HasCopy : List ℕ → ℕ → List ℕ → Type 0
@@ -29,11 +25,6 @@ HasCopy octets most copy = (m : MessageValue) × IsReadMessage octets m × IsCop
 -- bit TC of the header
 abbrev pub is_cut : List ℕ → Bool
 is_cut message = (header_of (take header_size message)).metadata.truncation
-
--- The copy is put, and what C learns of it.
-abbrev pub PutsCopy : List ℕ → ℕ → List ℕ → List ℕ → PackedMessage → Type 0
-PutsCopy octets most old new packed =
-    (copy : List ℕ) × HasCopy octets most copy × (new ≡ put old copy) × (packed ≡ record { len = length copy; truncated = is_cut copy })
 
 -- why a message is not copied: a field of the data of a record, EDNS, no room for the header and the OPT record, or memory
 abbrev pub of_copy : CopyError → Failure
@@ -44,11 +35,11 @@ of_copy (Proto error) = of_proto error
 -- The octets begin with no message, or there is no copy of it.
 abbrev pub FailsToMakeCopy : List ℕ → ℕ → Failure → Type 0
 FailsToMakeCopy octets most failure =
-    ((error : MessageError) × FailsMessage octets pack_pointers error × (failure ≡ of_message error.kind))
+    ((error : MessageError) × FailsMessage octets max_pointers error × (failure ≡ of_message error.kind))
     ⊎ ((m : MessageValue) × (error : CopyError) × IsReadMessage octets m × FailsCopy m most error × (failure ≡ of_copy error))
 
--- So it is, or the copy is longer than the buffer.
-abbrev pub FailsToPack : List ℕ → ℕ → ℕ → Failure → Type 0
-FailsToPack octets most size failure =
-    FailsToMakeCopy octets most failure
-    ⊎ ((copy : List ℕ) × HasCopy octets most copy × (size < length copy) × (failure ≡ why.NoRoom))
+-- The copy is put, and what C learns of it is the value.
+abbrev pub PacksMessage : List ℕ → ℕ → List ℕ → List ℕ → Result PackedMessage Failure → Type 0
+PacksMessage octets most old new result =
+    ((copy : List ℕ) × HasCopy octets most copy × Puts copy (record { len = length copy; truncated = is_cut copy }) old new result)
+    ⊎ Refuses (FailsToMakeCopy octets most) old new result

@@ -1,16 +1,17 @@
 -- The records of messages, and why none is read (RFC 1035, sections 3.2.1 and 4.1.3).
-use Rattle.std.specs.Prelude.{◌≡◌, ◌≢◌, ◌<◌, ◌⊎◌, ℕ, ◌+◌, List, length}
+use Rattle.std.specs.Prelude.{◌≡◌, ◌≢◌, ◌⊎◌, ℕ, ◌+◌, List, length, Result}
 use Rattle.dnw_base.specs.declared.error.DecodeError.{DecodeError}
 use Rattle.dnw_base.specs.RecordTypes.{type_code}
 use Rattle.dnw_base.specs.DnsClasses.{class_code}
+use Rattle.dnw_base.specs.Limits.{max_name}
 use Rattle.dnw_base.specs.Names.{wire}
 use Rattle.dnw_name_read.specs.Reading.{NameAt}
 use Rattle.dnw_record.specs.Records.{RecordAt, RecordValue, FailsRecord}
-use Rattle.dnw_name_read.specs.Buffers.{put}
 use Rattle.dnw_c_base.specs.Failures.{of_decode}
 use Rattle.dnw_c_base.specs.Offsets.{HasNoName, at_offset}
+use Rattle.dnw_c_base.specs.Results.{PutsWithin, Refuses}
 use Rattle.dnw_c_base.specs.declared.failure.Failure.{Failure}
-use Rattle.dnw_c_base.specs.declared.failure.Failure.TheVariants.{NoRoom, WrongDataLength}
+use Rattle.dnw_c_base.specs.declared.failure.Failure.TheVariants.{WrongDataLength}
 use Rattle.dnw_c_messages.specs.declared.records.ReadRecord.{ReadRecord}
 
 -- what C learns of a record that ends at an offset, beside its owner's wire form
@@ -25,34 +26,22 @@ read_record r end = record {
   end = end;
 }
 
--- The record at an offset of a message is read, and its owner's wire form put.
-abbrev pub PutsRecord : List ℕ → ℕ → List ℕ → List ℕ → ReadRecord → Type 0
-PutsRecord message start old new read =
-    (r : RecordValue) × (end : ℕ) × RecordAt message start r end × (new ≡ put old (wire r.owner)) × (read ≡ read_record r end)
-
 -- no record is at this offset, and that is why
 abbrev pub HasNoRecord : List ℕ → ℕ → Failure → Type 0
 HasNoRecord message start failure =
     (error : DecodeError) × FailsRecord (at_offset message start) error × (failure ≡ of_decode error)
 
--- The record at an offset of a message is not read: there is none, or its owner's wire form is longer than a buffer of
--- this size.
-abbrev pub FailsToReadRecord : List ℕ → ℕ → ℕ → Failure → Type 0
-FailsToReadRecord message start size failure =
-    HasNoRecord message start failure
-    ⊎ ((r : RecordValue) × (end : ℕ) × RecordAt message start r end × (size < length (wire r.owner)) × (failure ≡ NoRoom))
+-- The record at an offset of a message is read, and its owner's wire form is put.
+abbrev pub ReadsRecord : List ℕ → ℕ → List ℕ → List ℕ → Result ReadRecord Failure → Type 0
+ReadsRecord message start old new result =
+    ((r : RecordValue) × (end : ℕ) × RecordAt message start r end × PutsWithin max_name (wire r.owner) (read_record r end) old new result)
+    ⊎ Refuses (HasNoRecord message start) old new result
 
--- So many octets of a message, from an offset on, are a name, which is put.
-abbrev pub PutsDataName : List ℕ → ℕ → ℕ → List ℕ → List ℕ → ℕ → Type 0
-PutsDataName message start data_len old new len =
-    (labels : List (List ℕ)) × (k : ℕ) × NameAt message start labels (start + data_len) k × (new ≡ put old (wire labels))
-    × (len ≡ length (wire labels))
-
--- They are not put as a name into a buffer of this size: no name is there, or its own octets are not so many, or its wire
--- form is longer.
-abbrev pub FailsToReadData : List ℕ → ℕ → ℕ → ℕ → Failure → Type 0
-FailsToReadData message start data_len size failure =
-    HasNoName message start failure
-    ⊎ ((labels : List (List ℕ)) × (end : ℕ) × (k : ℕ) × NameAt message start labels end k
-    × (((end ≢ start + data_len) × (failure ≡ WrongDataLength))
-    ⊎ ((end ≡ start + data_len) × (size < length (wire labels)) × (failure ≡ NoRoom))))
+-- So many octets of a message, from an offset on, are a name, which is put. Else no name is there, or its own octets are not so many.
+abbrev pub PutsDataName : List ℕ → ℕ → ℕ → List ℕ → List ℕ → Result ℕ Failure → Type 0
+PutsDataName message start data_len old new result =
+    ((labels : List (List ℕ)) × (k : ℕ) × NameAt message start labels (start + data_len) k
+    × PutsWithin max_name (wire labels) (length (wire labels)) old new result)
+    ⊎ Refuses (λ failure. HasNoName message start failure
+    ⊎ ((labels : List (List ℕ)) × (end : ℕ) × (k : ℕ) × NameAt message start labels end k × (end ≢ start + data_len)
+    × (failure ≡ WrongDataLength))) old new result

@@ -1,6 +1,6 @@
 -- How the functions for C write a message item by item, and why one puts nothing. The sections have numbers: 1 for the questions, 2
 -- for the answers, 3 for the authorities and 4 for the additional records (RFC 1035, section 4.1).
-use Rattle.std.specs.Prelude.{◌≡◌, ◌≢◌, ◌<◌, ◌≤◌, ◌⊎◌, ◌==◌, ℕ, suc, ◌+◌, ◌*◌, ◌^◌, if◌then◌else◌, Bool, true, List, [], ◌∷◌, ◌++◌, length, take, drop, replicate}
+use Rattle.std.specs.Prelude.{◌≡◌, ◌≢◌, ◌<◌, ◌≤◌, ◌⊎◌, ◌==◌, ℕ, suc, ◌+◌, ◌*◌, ◌^◌, if◌then◌else◌, Bool, true, List, [], ◌∷◌, ◌++◌, length, take, drop, replicate, Result, MatchResult}
 use Rattle.std.specs.Int.{w16, w32, to_be_bytes}
 use Rattle.dnw_base.specs.Limits.{max_message}
 use Rattle.dnw_base.specs.DnsClasses.{class_code}
@@ -91,8 +91,16 @@ abbrev pub BeginsWriter : ℕ → ℕ → List ℕ → List ℕ → Writer → T
 BeginsWriter id flags old new after =
     (header_size ≤ length old) × (new ≡ put old (empty_header id flags)) × (after ≡ record { len = header_size; section = 0; opt_count = 0 })
 
-abbrev pub FailsToBeginWriter : List ℕ → Failure → Type 0
-FailsToBeginWriter message failure = (length message < header_size) × (failure ≡ why.NoRoom)
+-- Or the buffer is too short for it.
+abbrev pub BeginsOr : ℕ → ℕ → List ℕ → List ℕ → Result Writer Failure → Type 0
+BeginsOr id flags old new result =
+    MatchResult result (BeginsWriter id flags old new) (λ failure. (length old < header_size) × (failure ≡ why.NoRoom) × (new ≡ old))
+
+-- An item is put, or it is not for such a reason, and the message and what is known of it are unchanged.
+abbrev pub PutsOr : (Writer → Writer → List ℕ → List ℕ → Type 0) → (Writer → List ℕ → Failure → Type 0)
+    → Writer → Writer → List ℕ → List ℕ → Result (Unit {0}) Failure → Type 0
+PutsOr Does Fails before after old new result =
+    MatchResult result (λ _. Does before after old new) (λ failure. Fails before old failure × (new ≡ old) × (after ≡ before))
 
 -- A question is appended: the wire form of its name, its type and its class.
 abbrev pub PutsQuestion : List ℕ → ℕ → ℕ → Writer → Writer → List ℕ → List ℕ → Type 0

@@ -1,11 +1,12 @@
 //! What messages say by EDNS.
-ghost use Rattle.std.specs.Prelude.{◌≡◌, ◌≢◌, IfOk, IfErr};
-ghost use Rattle.dnw_c_base.specs.Failures.{NumberOf};
-ghost use Rattle.dnw_c_messages.specs.EdnsCalls.{FailsToReadEdns, IsReadEdns, FailsToSay, PutsEdns, of_edns};
+ghost use Rattle.std.specs.Prelude.{◌≡◌, IfOk, IfErr};
+ghost use Rattle.dnw_c_base.specs.Results.{Returns};
+ghost use Rattle.dnw_c_messages.specs.EdnsCalls.{FailsToSay, IsReadEdns, ReadsEdns, of_edns};
 
 use crate::message::of_message;
 use dnw_base::limits::MIN_PAYLOAD;
 use dnw_c_base::failure::{Failure, of_decode};
+use dnw_c_base::results::report;
 use dnw_message_read::edns::EdnsError;
 use dnw_message_read::message::MessageRef;
 
@@ -25,23 +26,14 @@ pub struct ReadEdns {
 /// Puts what a message says by EDNS, and the response code with the bits that EDNS adds. It does not allocate.
 #[unsafe(no_mangle)]
 pub extern "C" fn dnw_edns_read(message: &[u8], max_pointers: usize, found: &mut ReadEdns) -> u32
-    ensures ok { result ≡ 0 → PutsEdns message.now max_pointers found.new }
-    ensures err { result ≢ 0 → NumberOf (FailsToReadEdns message.now max_pointers) result }
-    ensures same { result ≢ 0 → found.new ≡ found.old }
+    ensures { Returns (ReadsEdns message.now max_pointers) found.old found.new result }
 {
-    match read(message, max_pointers) {
-        Ok(edns) => {
-            *found = edns;
-            0
-        }
-        Err(failure) => failure.number(),
-    }
+    report(read(message, max_pointers), found)
 }
 
 /// Reads a message, and returns what it says by EDNS.
 fn read(octets: &[u8], max_pointers: usize) -> Result<ReadEdns, Failure>
-    ensures ok { IfOk result (PutsEdns octets.now max_pointers) }
-    ensures err { IfErr result (FailsToReadEdns octets.now max_pointers) }
+    ensures { ReadsEdns octets.now max_pointers result }
 {
     match MessageRef::read_limited(octets, max_pointers) {
         Ok(message) => said_by(&message),

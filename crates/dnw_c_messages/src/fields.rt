@@ -1,14 +1,15 @@
 //! The fields of the data of records, of which the caller keeps an offset and a number.
-ghost use Rattle.std.specs.Prelude.{◌≡◌, ◌≢◌, ◌≤◌, ◌+◌, ◌-◌, ◌^◌, length, IfOk, IfErr};
+ghost use Rattle.std.specs.Prelude.{◌≡◌, ◌≤◌, ◌+◌, ◌-◌, ◌^◌, length, IfOk, IfErr};
 ghost use Rattle.dnw_data.specs.Fields.{FailsField};
-ghost use Rattle.dnw_c_base.specs.Failures.{NumberOf};
 ghost use Rattle.dnw_c_base.specs.Offsets.{at_offset};
-ghost use Rattle.dnw_c_messages.specs.FieldCalls.{EndsAt, FailsToReadField, FailsToTakeField, PutsField, TakesAs, field_kind, head_of};
+ghost use Rattle.dnw_c_base.specs.Results.{Returns};
+ghost use Rattle.dnw_c_messages.specs.FieldCalls.{EndsAt, FailsToTakeField, ReadsNextField, TakesAs, field_kind, head_of};
 
 use dnw_base::decoder::BinDecoder;
 use dnw_base::error::DecodeError;
 use dnw_base::record_type::RecordType;
-use dnw_c_base::failure::{Failure, of_decode};
+use dnw_c_base::failure::Failure;
+use dnw_c_base::results::report_both;
 use dnw_data::field::Field;
 use dnw_data::kind::{Kind, ListKind, Shape, Shown};
 use dnw_data::table::fields_of;
@@ -39,18 +40,9 @@ pub extern "C" fn dnw_field_next(
     cursor: &mut FieldCursor,
     field: &mut ReadField,
 ) -> u32
-    ensures ok { result ≡ 0 → PutsField message.now record_type cursor.old cursor.new field.new }
-    ensures err { result ≢ 0 → NumberOf (FailsToReadField message.now record_type cursor.old) result }
-    ensures same { result ≢ 0 → (cursor.new ≡ cursor.old) × (field.new ≡ field.old) }
+    ensures { Returns (ReadsNextField message.now record_type cursor.old) (field.old, cursor.old) (field.new, cursor.new) result }
 {
-    match next(message, record_type, *cursor) {
-        Ok((read, after)) => {
-            *field = read;
-            *cursor = after;
-            0
-        }
-        Err(failure) => failure.number(),
-    }
+    report_both(next(message, record_type, *cursor), field, cursor)
 }
 
 /// Returns the next field, and where the one after it is.
@@ -59,8 +51,7 @@ fn next(
     record_type: u16,
     at: FieldCursor,
 ) -> Result<(ReadField, FieldCursor), Failure>
-    ensures ok { IfOk result (λ r. PutsField message.now record_type at r.1 r.0) }
-    ensures err { IfErr result (FailsToReadField message.now record_type at) }
+    ensures { ReadsNextField message.now record_type at result }
 {
     if message.len() < at.offset {
         return Err(Failure::MessageCut);
@@ -87,10 +78,7 @@ fn take(kind: Kind, message: &[u8], at: FieldCursor) -> Result<(ReadField, Field
     ensures ok { IfOk result (λ r. TakesAs kind message.now at r.1 r.0) }
     ensures err { IfErr result (FailsToTakeField kind message.now at.offset) }
 {
-    let end = match end_of(kind, message, at.offset) {
-        Ok(end) => end,
-        Err(error) => return Err(of_decode(&error)),
-    };
+    let end = end_of(kind, message, at.offset)?;
     let offset = at.offset + head_of(kind);
     let field = ReadField {
         kind: field_kind(kind),

@@ -1,7 +1,7 @@
 //! Items of messages, as they are appended and counted.
-ghost use Rattle.std.specs.Prelude.{◌≡◌, ◌≤◌, suc, ◌+◌, ◌++◌, length, IfOk, IfErr, OnOk, OnErr};
+ghost use Rattle.std.specs.Prelude.{◌≡◌, ◌≤◌, suc, ◌+◌, ◌++◌, length, IfOk, IfErr};
 ghost use Rattle.dnw_base.specs.Limits.{max_message, max_name};
-ghost use Rattle.dnw_c_messages.specs.WriterCalls.{AppendsItem, FailsToAppendItem, WriterHasRoom, after_item, section_count, put_at, record_head};
+ghost use Rattle.dnw_c_messages.specs.WriterCalls.{AppendsItem, FailsToAppendItem, WriterHasRoom, PutsOr, after_item, section_count, put_at, record_head};
 
 use crate::writer::Writer;
 use dnw_base::limits::MAX_MESSAGE;
@@ -19,10 +19,9 @@ pub(crate) fn append(
 ) -> Result<(), Failure>
     requires section { (1 ≤ section) × (section ≤ 4) }
     requires few { (length name.now ≤ max_name) × (length fields.now ≤ 10) × (length rest.now ≤ max_message) }
-    ensures ok { OnOk result (AppendsItem section (name.now ++ (fields.now ++ rest.now)) writer.old message.old message.new
-        × (writer.new ≡ after_item section (length name.now + (length fields.now + length rest.now)) writer.old)) }
-    ensures err { IfErr result (FailsToAppendItem section (length name.now + (length fields.now + length rest.now)) writer.old message.old) }
-    ensures same { OnErr result ((message.new ≡ message.old) × (writer.new ≡ writer.old)) }
+    ensures { PutsOr (λ before after old new. AppendsItem section (name.now ++ (fields.now ++ rest.now)) before old new
+        × (after ≡ after_item section (length name.now + (length fields.now + length rest.now)) before))
+        (FailsToAppendItem section (length name.now + (length fields.now + length rest.now))) writer.old writer.new message.old message.new result }
 {
     let len = name.len() + (fields.len() + rest.len());
     let count = next_count(message, section, len, writer)?;

@@ -1,14 +1,13 @@
 //! Whole messages: their headers, where their sections are, and where they go wrong.
-ghost use Rattle.std.specs.Prelude.{◌≡◌, ◌≢◌, IfOk, IfErr};
-ghost use Rattle.dnw_message_read.specs.Messages.{MessageValue};
-ghost use Rattle.dnw_message_read.specs.declared.error.MessageError.{MessageError};
+ghost use Rattle.std.specs.Prelude.{◌≡◌};
 ghost use Rattle.dnw_message_read.specs.declared.message.SectionOffsets.{SectionOffsets};
-ghost use Rattle.dnw_message_read.specs.Messages.{FailsMessage, SectionsBegin};
-ghost use Rattle.dnw_c_base.specs.Failures.{NumberOf};
-ghost use Rattle.dnw_c_messages.specs.MessageCalls.{FailsToReadMessage, PutsMessage, fault_of, of_message, read_message, section_number};
+ghost use Rattle.dnw_message_read.specs.Messages.{SectionsBegin};
+ghost use Rattle.dnw_c_base.specs.Results.{Returns};
+ghost use Rattle.dnw_c_messages.specs.MessageCalls.{ReadsMessage, fault_of, of_message, read_message, section_number};
 
 use dnw_base::error::DecodeError;
 use dnw_c_base::failure::{Failure, of_decode};
+use dnw_c_base::results::report;
 use dnw_message_header::header::MessageType;
 use dnw_message_read::error::{MessageError, MessageErrorKind, Section};
 use dnw_message_read::message::MessageRef;
@@ -56,17 +55,24 @@ pub extern "C" fn dnw_message_read(
     found: &mut ReadMessage,
     fault: &mut MessageFault,
 ) -> u32
-    ensures ok { result ≡ 0 → PutsMessage message.now max_pointers found.new × (fault.new ≡ fault.old) }
-    ensures err { result ≢ 0 → NumberOf (FailsToReadMessage message.now max_pointers fault.new) result × (found.new ≡ found.old) }
+    ensures { Returns (ReadsMessage message.now max_pointers fault.old fault.new) found.old found.new result }
 {
-    match MessageRef::read_limited(message, max_pointers) {
-        Ok(read) => {
-            *found = found_in(&read);
-            0
-        }
+    report(read(message, max_pointers, fault), found)
+}
+
+/// Reads a message, and returns what C learns of it. If that fails, it puts where the message goes wrong.
+fn read(
+    octets: &[u8],
+    max_pointers: usize,
+    fault: &mut MessageFault,
+) -> Result<ReadMessage, Failure>
+    ensures { ReadsMessage octets.now max_pointers fault.old fault.new result }
+{
+    match MessageRef::read_limited(octets, max_pointers) {
+        Ok(message) => Ok(found_in(&message)),
         Err(error) => {
             *fault = fault_of(&error);
-            of_message(&error.kind).number()
+            Err(of_message(&error.kind))
         }
     }
 }

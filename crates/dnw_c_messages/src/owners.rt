@@ -4,7 +4,7 @@ ghost use Rattle.dnw_base.specs.Limits.{max_name};
 ghost use Rattle.dnw_c_base.specs.WireForms.{IsNoForm};
 ghost use Rattle.dnw_c_messages.specs.WriterCalls.{IsForm};
 
-use dnw_c_base::failure::{Failure, of_decode};
+use dnw_c_base::failure::Failure;
 use dnw_c_base::names::name_ref_at;
 
 /// Fails unless the octets are the wire form of a name, and nothing but it.
@@ -13,9 +13,9 @@ pub(crate) fn check_form(form: &[u8]) -> Result<(), Failure>
     ensures few { OnOk result (length form.now ≤ max_name) }
     ensures err { IfErr result (IsNoForm form.now) }
 {
-    match name_ref_at(form, 0) {
-        Ok((_, end)) if end == form.len() => Ok(()),
-        Ok(_) => Err(Failure::BytesLeft),
-        Err(error) => Err(of_decode(&error)),
+    let (_, end) = name_ref_at(form, 0)?;
+    if end != form.len() {
+        return Err(Failure::BytesLeft);
     }
+    Ok(())
 }

@@ -1,13 +1,14 @@
 //! Messages, written again in fewer octets.
-ghost use Rattle.std.specs.Prelude.{◌≡◌, ◌≢◌, ◌≤◌, length, IfOk, IfErr, OnErr};
-ghost use Rattle.dnw_c_base.specs.Failures.{NumberOf};
+ghost use Rattle.std.specs.Prelude.{◌≡◌, ◌≤◌, length, IfOk, IfErr};
+ghost use Rattle.dnw_c_base.specs.Results.{Returns};
 ghost use Rattle.dnw_message_header.specs.Headers.{header_size};
-ghost use Rattle.dnw_c_messages.specs.PackCalls.{FailsToMakeCopy, FailsToPack, HasCopy, PutsCopy, is_cut, of_copy};
+ghost use Rattle.dnw_c_messages.specs.PackCalls.{FailsToMakeCopy, HasCopy, PacksMessage, is_cut, of_copy};
 
 use crate::edns::of_edns;
 use crate::message::of_message;
 use dnw_c_base::buffer::put;
 use dnw_c_base::failure::{Failure, of_decode, of_proto};
+use dnw_c_base::results::report;
 use dnw_message_header::header::Header;
 use dnw_message_read::message::MessageRef;
 use dnw_message_write::writer::{CopyError, copy};
@@ -31,17 +32,9 @@ pub extern "C" fn dnw_message_pack(
     packed: &mut [u8],
     found: &mut PackedMessage,
 ) -> u32
-    ensures ok { result ≡ 0 → PutsCopy message.now max_size packed.old packed.new found.new }
-    ensures err { result ≢ 0 → NumberOf (FailsToPack message.now max_size (length packed.old)) result }
-    ensures same { result ≢ 0 → (packed.new ≡ packed.old) × (found.new ≡ found.old) }
+    ensures { Returns (PacksMessage message.now max_size packed.old packed.new) found.old found.new result }
 {
-    match pack(alloc, message, max_size, packed) {
-        Ok(put) => {
-            *found = put;
-            0
-        }
-        Err(failure) => failure.number(),
-    }
+    report(pack(alloc, message, max_size, packed), found)
 }
 
 /// Puts a copy of a message.
@@ -51,14 +44,9 @@ fn pack(
     max_size: u16,
     packed: &mut [u8],
 ) -> Result<PackedMessage, Failure>
-    ensures ok { IfOk result (PutsCopy octets.now max_size packed.old packed.new) }
-    ensures err { IfErr result (FailsToPack octets.now max_size (length packed.old)) }
-    ensures same { OnErr result (packed.new ≡ packed.old) }
+    ensures { PacksMessage octets.now max_size packed.old packed.new result }
 {
-    let copied = match copy_of(alloc, octets, max_size) {
-        Ok(copied) => copied,
-        Err(failure) => return Err(failure),
-    };
+    let copied = copy_of(alloc, octets, max_size)?;
     let len = put(packed, copied.as_slice())?;
     let truncated = is_cut(copied.as_slice());
     Ok(PackedMessage { len, truncated })

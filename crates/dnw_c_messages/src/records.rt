@@ -1,16 +1,15 @@
 //! The records of messages.
-ghost use Rattle.std.specs.Prelude.{◌≡◌, ◌≢◌, ◌<◌, length, IfOk, IfErr, OnErr};
-ghost use Rattle.dnw_base.specs.Limits.{max_name};
+ghost use Rattle.std.specs.Prelude.{IfOk, IfErr};
 ghost use Rattle.dnw_record.specs.Records.{FailsRecord, RecordAt};
-ghost use Rattle.dnw_c_base.specs.Failures.{NumberOf, number};
 ghost use Rattle.dnw_c_base.specs.Offsets.{at_offset};
-ghost use Rattle.dnw_c_messages.specs.RecordCalls.{FailsToReadData, FailsToReadRecord, PutsDataName, PutsRecord};
-ghost use Rattle.dnw_c_base.specs.declared.failure.Failure.TheVariants.{NoRoom};
+ghost use Rattle.dnw_c_base.specs.Results.{Returns};
+ghost use Rattle.dnw_c_messages.specs.RecordCalls.{PutsDataName, ReadsRecord};
 
 use dnw_base::decoder::BinDecoder;
 use dnw_base::error::DecodeError;
-use dnw_c_base::failure::{Failure, of_decode};
+use dnw_c_base::failure::Failure;
 use dnw_c_base::names::{name_ref_at, put_name};
+use dnw_c_base::results::report;
 use dnw_name::binary::BinDecodable;
 use dnw_record::record::RecordRef;
 use std::alloc::Global;
@@ -38,18 +37,9 @@ pub extern "C" fn dnw_record_read(
     owner: &mut [u8],
     found: &mut ReadRecord,
 ) -> u32
-    ensures ok { result ≡ 0 → PutsRecord message.now start owner.old owner.new found.new }
-    ensures err { result ≢ 0 → NumberOf (FailsToReadRecord message.now start (length owner.old)) result }
-    ensures room { result ≡ number NoRoom → length owner.old < max_name }
-    ensures same { result ≢ 0 → (owner.new ≡ owner.old) × (found.new ≡ found.old) }
+    ensures { Returns (ReadsRecord message.now start owner.old owner.new) found.old found.new result }
 {
-    match read(alloc, message, start, owner) {
-        Ok(read) => {
-            *found = read;
-            0
-        }
-        Err(failure) => failure.number(),
-    }
+    report(read(alloc, message, start, owner), found)
 }
 
 /// Reads the octets of a record's data, or the last ones of them, as a name, and puts its wire form and its length. It does
@@ -62,31 +52,16 @@ pub extern "C" fn dnw_record_data_name(
     form: &mut [u8],
     len: &mut usize,
 ) -> u32
-    ensures ok { result ≡ 0 → PutsDataName message.now data_offset data_len form.old form.new len.new }
-    ensures err { result ≢ 0 → NumberOf (FailsToReadData message.now data_offset data_len (length form.old)) result }
-    ensures room { result ≡ number NoRoom → length form.old < max_name }
-    ensures same { result ≢ 0 → (form.new ≡ form.old) × (len.new ≡ len.old) }
+    ensures { Returns (PutsDataName message.now data_offset data_len form.old form.new) len.old len.new result }
 {
-    match data_name(message, data_offset, data_len, form) {
-        Ok(put) => {
-            *len = put;
-            0
-        }
-        Err(failure) => failure.number(),
-    }
+    report(data_name(message, data_offset, data_len, form), len)
 }
 
 /// Reads the record at an offset, and puts its owner's wire form.
 fn read(alloc: Global, message: &[u8], start: usize, form: &mut [u8]) -> Result<ReadRecord, Failure>
-    ensures ok { IfOk result (PutsRecord message.now start form.old form.new) }
-    ensures err { IfErr result (FailsToReadRecord message.now start (length form.old)) }
-    ensures room { IfErr result (λ failure. failure ≡ NoRoom → length form.old < max_name) }
-    ensures same { OnErr result (form.new ≡ form.old) }
+    ensures { ReadsRecord message.now start form.old form.new result }
 {
-    let (record, end) = match record_at(alloc, message, start) {
-        Ok(found) => found,
-        Err(error) => return Err(of_decode(&error)),
-    };
+    let (record, end) = record_at(alloc, message, start)?;
     let owner_len = put_name(form, record.owner())?;
     let data_len = record.rdata().len();
     Ok(ReadRecord {
@@ -122,18 +97,11 @@ fn data_name(
     data_len: usize,
     form: &mut [u8],
 ) -> Result<usize, Failure>
-    ensures ok { IfOk result (PutsDataName message.now start data_len form.old form.new) }
-    ensures err { IfErr result (FailsToReadData message.now start data_len (length form.old)) }
-    ensures room { IfErr result (λ failure. failure ≡ NoRoom → length form.old < max_name) }
-    ensures same { OnErr result (form.new ≡ form.old) }
+    ensures { PutsDataName message.now start data_len form.old form.new result }
 {
-    match name_ref_at(message, start) {
-        Ok((name, end)) => {
-            if end - start != data_len {
-                return Err(Failure::WrongDataLength);
-            }
-            put_name(form, &name)
-        }
-        Err(error) => Err(of_decode(&error)),
+    let (name, end) = name_ref_at(message, start)?;
+    if end - start != data_len {
+        return Err(Failure::WrongDataLength);
     }
+    put_name(form, &name)
 }

@@ -1,12 +1,10 @@
 //! Bitmaps of types, as NSEC, NSEC3 and CSYNC records have them, and lists of their codes.
-ghost use Rattle.std.specs.Prelude.{◌≡◌, ◌≢◌, ◌≤◌, ◌<◌, ◌⊎◌, ℕ, List, length, map, IfOk, IfErr, OnErr};
+ghost use Rattle.std.specs.Prelude.{◌≡◌, ◌≤◌, length, map, IfOk, IfErr, OnErr};
 ghost use Rattle.dnw_base.specs.RecordTypes.{type_code, type_of_code};
 ghost use Rattle.dnw_data.specs.TypeSets.{Encodes, IsSetOf, bitmap_types, set_codes};
-ghost use Rattle.dnw_data.specs.SetLaws.{most_types};
-ghost use Rattle.dnw_name_read.specs.Buffers.{put};
-ghost use Rattle.dnw_c_base.specs.Failures.{NumberOf, number};
-ghost use Rattle.dnw_c_messages.specs.TypeLists.{AreListed, FailsToBitmap, FailsToList, IsBitmap, IsBitmapOf, IsNoBitmap};
-ghost use Rattle.dnw_c_base.specs.declared.failure.Failure.TheVariants.{BadBitmap, NoMemory, NoRoom};
+ghost use Rattle.dnw_c_base.specs.Results.{Puts, Returns};
+ghost use Rattle.dnw_c_messages.specs.TypeLists.{AreListed, FailsToList, IsBitmap, PutsBitmap, PutsTypes};
+ghost use Rattle.dnw_c_base.specs.declared.failure.Failure.TheVariants.{NoMemory};
 
 use dnw_base::decoder::BinDecoder;
 use dnw_base::error::DecodeError;
@@ -14,6 +12,7 @@ use dnw_base::record_type::RecordType;
 use dnw_base::restrict::Restrict;
 use dnw_c_base::buffer::put;
 use dnw_c_base::failure::Failure;
+use dnw_c_base::results::report;
 use dnw_data::record_data::RecordDataDecodable;
 use dnw_data::record_type_set::RecordTypeSet;
 use std::alloc::{AllocError, Global};
@@ -26,19 +25,9 @@ pub extern "C" fn dnw_types_read(
     codes: &mut [u16],
     count: &mut usize,
 ) -> u32
-    ensures ok { result ≡ 0 → (listed : List ℕ) × IsBitmap bitmap.now × AreListed bitmap.now listed
-        × (codes.new ≡ put codes.old listed) × (count.new ≡ length listed) }
-    ensures err { result ≢ 0 → NumberOf (FailsToList bitmap.now (length codes.old)) result }
-    ensures room { result ≡ number NoRoom → length codes.old < most_types bitmap.now }
-    ensures same { result ≢ 0 → (codes.new ≡ codes.old) × (count.new ≡ count.old) }
+    ensures { Returns (PutsTypes bitmap.now codes.old codes.new) count.old count.new result }
 {
-    match read(alloc, bitmap, codes) {
-        Ok(put) => {
-            *count = put;
-            0
-        }
-        Err(failure) => failure.number(),
-    }
+    report(read(alloc, bitmap, codes), count)
 }
 
 /// Puts the bitmap of the types with these codes, and its length.
@@ -49,27 +38,14 @@ pub extern "C" fn dnw_types_write(
     bitmap: &mut [u8],
     len: &mut usize,
 ) -> u32
-    ensures ok { result ≡ 0 → (octets : List ℕ) × IsBitmapOf codes.now octets
-        × (bitmap.new ≡ put bitmap.old octets) × (len.new ≡ length octets) }
-    ensures err { result ≢ 0 → NumberOf (FailsToBitmap codes.now (length bitmap.old)) result }
-    ensures same { result ≢ 0 → (bitmap.new ≡ bitmap.old) × (len.new ≡ len.old) }
+    ensures { Returns (PutsBitmap codes.now bitmap.old bitmap.new) len.old len.new result }
 {
-    match write(alloc, codes, bitmap) {
-        Ok(put) => {
-            *len = put;
-            0
-        }
-        Err(failure) => failure.number(),
-    }
+    report(write(alloc, codes, bitmap), len)
 }
 
 /// Puts the codes that a bitmap lists.
 fn read(alloc: Global, bitmap: &[u8], codes: &mut [u16]) -> Result<usize, Failure>
-    ensures ok { IfOk result (λ count. (listed : List ℕ) × IsBitmap bitmap.now × AreListed bitmap.now listed
-        × (codes.new ≡ put codes.old listed) × (count ≡ length listed)) }
-    ensures err { IfErr result (FailsToList bitmap.now (length codes.old)) }
-    ensures room { IfErr result (λ failure. failure ≡ NoRoom → length codes.old < most_types bitmap.now) }
-    ensures same { OnErr result (codes.new ≡ codes.old) }
+    ensures { PutsTypes bitmap.now codes.old codes.new result }
 {
     let listed = listed(alloc, bitmap)?;
     put_codes(codes, listed.as_slice())
@@ -77,10 +53,7 @@ fn read(alloc: Global, bitmap: &[u8], codes: &mut [u16]) -> Result<usize, Failur
 
 /// Puts the bitmap of the types with these codes.
 fn write(alloc: Global, codes: &[u16], bitmap: &mut [u8]) -> Result<usize, Failure>
-    ensures ok { IfOk result (λ len. (octets : List ℕ) × IsBitmapOf codes.now octets
-        × (bitmap.new ≡ put bitmap.old octets) × (len ≡ length octets)) }
-    ensures err { IfErr result (FailsToBitmap codes.now (length bitmap.old)) }
-    ensures same { OnErr result (bitmap.new ≡ bitmap.old) }
+    ensures { PutsBitmap codes.now bitmap.old bitmap.new result }
 {
     let set = set_of(alloc, codes)?;
     put(bitmap, set.as_wire())
@@ -90,21 +63,16 @@ fn write(alloc: Global, codes: &[u16], bitmap: &mut [u8]) -> Result<usize, Failu
 #[tactic(auto, using(crate::proofs::TypeCodes::listed_some))]
 fn listed(alloc: Global, bitmap: &[u8]) -> Result<Vec<u16>, Failure>
     ensures ok { IfOk result (λ codes. IsBitmap bitmap.now × AreListed bitmap.now codes.items) }
-    ensures err { IfErr result (λ failure. (IsNoBitmap bitmap.now × (failure ≡ BadBitmap))
-        ⊎ (IsBitmap bitmap.now × (1 ≤ length bitmap.now) × (failure ≡ NoMemory))) }
+    ensures err { IfErr result (FailsToList bitmap.now) }
 {
     let set = read_set(alloc, bitmap)?;
-    match codes_of(alloc, &set) {
-        Ok(codes) => Ok(codes),
-        Err(_) => Err(Failure::NoMemory),
-    }
+    Ok(codes_of(alloc, &set)?)
 }
 
 /// Returns the set of the types that a bitmap lists.
 fn read_set(alloc: Global, bitmap: &[u8]) -> Result<RecordTypeSet, Failure>
     ensures ok { IfOk result (λ set. IsBitmap bitmap.now × IsSetOf (bitmap_types bitmap.now) set.types) }
-    ensures err { IfErr result (λ failure. (IsNoBitmap bitmap.now × (failure ≡ BadBitmap))
-        ⊎ (IsBitmap bitmap.now × (1 ≤ length bitmap.now) × (failure ≡ NoMemory))) }
+    ensures err { IfErr result (FailsToList bitmap.now) }
 {
     let Ok(len) = u16::try_from(bitmap.len()) else {
         return Err(Failure::BadBitmap);
@@ -135,9 +103,7 @@ fn set_of(alloc: Global, codes: &[u16]) -> Result<RecordTypeSet, Failure>
     ensures ok { IfOk result (λ set. IsSetOf (map type_of_code codes.now) set.types × Encodes (set_codes set.types) set.encoding) }
     ensures err { IfErr result (λ failure. (1 ≤ length codes.now) × (failure ≡ NoMemory)) }
 {
-    let Ok(types) = types_of(alloc, codes) else {
-        return Err(Failure::NoMemory);
-    };
+    let types = types_of(alloc, codes)?;
     match RecordTypeSet::new(alloc, types) {
         Ok(set) => Ok(set),
         Err(_) => Err(Failure::NoMemory),
@@ -158,10 +124,7 @@ fn types_of(alloc: Global, codes: &[u16]) -> Result<Vec<RecordType>, AllocError>
 
 /// Puts codes at the front of a list if they fit.
 fn put_codes(list: &mut [u16], codes: &[u16]) -> Result<usize, Failure>
-    ensures ok { IfOk result (λ count. (count ≡ length codes.now) × (length codes.now ≤ length list.old)
-        × (list.new ≡ put list.old codes.now)) }
-    ensures err { IfErr result (λ failure. (failure ≡ NoRoom) × (length list.old < length codes.now)) }
-    ensures same { OnErr result (list.new ≡ list.old) }
+    ensures { Puts codes.now (length codes.now) list.old list.new result }
 {
     if codes.len() > list.len() {
         return Err(Failure::NoRoom);

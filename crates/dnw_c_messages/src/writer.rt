@@ -1,9 +1,9 @@
 //! Messages, written item by item.
-ghost use Rattle.std.specs.Prelude.{◌≡◌, ◌≢◌, ◌<◌, ◌≤◌, ◌^◌, length, IfOk, OnOk, IfErr, OnErr};
+ghost use Rattle.std.specs.Prelude.{◌≡◌, ◌≤◌, length};
 ghost use Rattle.dnw_base.specs.Limits.{max_name};
-ghost use Rattle.dnw_c_base.specs.Failures.{NumberOf};
+ghost use Rattle.dnw_c_base.specs.Results.{Returns, ReturnsNumber};
 ghost use Rattle.dnw_c_messages.specs.Messages.{IsWholeMessage};
-ghost use Rattle.dnw_c_messages.specs.WriterCalls.{AppendsRecord, BeginsWriter, FailsToAppendRecord, FailsToBeginWriter, FailsToPutEdns, FailsToPutQuestion, FailsToPutRecord, PutsEdns, PutsQuestion, AddsRecord, opt_ttl, question_fields};
+ghost use Rattle.dnw_c_messages.specs.WriterCalls.{AppendsRecord, BeginsOr, FailsToAppendRecord, FailsToPutEdns, FailsToPutQuestion, FailsToPutRecord, PutsEdns, PutsOr, PutsQuestion, AddsRecord, opt_ttl, question_fields};
 
 use crate::items::{append, record_fields};
 use crate::opts::{check_opt, opts_after};
@@ -12,6 +12,7 @@ use dnw_base::dns_class::DNSClass;
 use dnw_base::record_type::RecordType;
 use dnw_c_base::buffer::put;
 use dnw_c_base::failure::Failure;
+use dnw_c_base::results::report;
 use dnw_message_header::header::Header;
 
 /// The number of the section of questions.
@@ -39,18 +40,10 @@ pub extern "C" fn dnw_writer_begin(
     flags: u16,
     writer: &mut Writer,
 ) -> u32
-    ensures ok { result ≡ 0 → BeginsWriter id flags message.old message.new writer.new }
+    ensures put { Returns (BeginsOr id flags message.old message.new) writer.old writer.new result }
     ensures whole { result ≡ 0 → IsWholeMessage message.new writer.new }
-    ensures err { result ≢ 0 → NumberOf (FailsToBeginWriter message.old) result }
-    ensures same { result ≢ 0 → (message.new ≡ message.old) × (writer.new ≡ writer.old) }
 {
-    match begin(message, id, flags) {
-        Ok(begun) => {
-            *writer = begun;
-            0
-        }
-        Err(failure) => failure.number(),
-    }
+    report(begin(message, id, flags), writer)
 }
 
 /// Appends a question.
@@ -62,15 +55,12 @@ pub extern "C" fn dnw_writer_question(
     class: u16,
     writer: &mut Writer,
 ) -> u32
-    ensures ok { result ≡ 0 → PutsQuestion name.now query_type class writer.old writer.new message.old message.new }
+    ensures put { ReturnsNumber (PutsOr (PutsQuestion name.now query_type class) (FailsToPutQuestion name.now)
+        writer.old writer.new message.old message.new) result }
     ensures whole { result ≡ 0 → IsWholeMessage message.old writer.old → IsWholeMessage message.new writer.new }
-    ensures err { result ≢ 0 → NumberOf (FailsToPutQuestion name.now writer.old message.old) result }
-    ensures same { result ≢ 0 → (message.new ≡ message.old) × (writer.new ≡ writer.old) }
 {
-    match put_question(message, name, query_type, class, writer) {
-        Ok(()) => 0,
-        Err(failure) => failure.number(),
-    }
+    let put = put_question(message, name, query_type, class, writer);
+    report(put, &mut ())
 }
 
 /// Appends a record to a section, whose number is that of the answers or a later one.
@@ -85,13 +75,11 @@ pub extern "C" fn dnw_writer_record(
     octets: &[u8],
     writer: &mut Writer,
 ) -> u32
-    ensures ok { result ≡ 0
-        → AddsRecord section owner.now record_type class ttl octets.now writer.old writer.new message.old message.new }
+    ensures put { ReturnsNumber (PutsOr (AddsRecord section owner.now record_type class ttl octets.now)
+        (FailsToPutRecord section owner.now record_type octets.now) writer.old writer.new message.old message.new) result }
     ensures whole { result ≡ 0 → IsWholeMessage message.old writer.old → IsWholeMessage message.new writer.new }
-    ensures err { result ≢ 0 → NumberOf (FailsToPutRecord section owner.now record_type octets.now writer.old message.old) result }
-    ensures same { result ≢ 0 → (message.new ≡ message.old) × (writer.new ≡ writer.old) }
 {
-    match put_record(
+    let put = put_record(
         message,
         section,
         owner,
@@ -100,10 +88,8 @@ pub extern "C" fn dnw_writer_record(
         ttl,
         octets,
         writer,
-    ) {
-        Ok(()) => 0,
-        Err(failure) => failure.number(),
-    }
+    );
+    report(put, &mut ())
 }
 
 /// Appends an `OPT` record to the additional section, if there is none.
@@ -117,29 +103,18 @@ pub extern "C" fn dnw_writer_edns(
     options: &[u8],
     writer: &mut Writer,
 ) -> u32
-    ensures ok { result ≡ 0
-        → PutsEdns max_payload (opt_ttl rcode_high version dnssec_ok) options.now writer.old writer.new message.old message.new }
+    ensures put { ReturnsNumber (PutsOr (PutsEdns max_payload (opt_ttl rcode_high version dnssec_ok) options.now) (FailsToPutEdns options.now)
+        writer.old writer.new message.old message.new) result }
     ensures whole { result ≡ 0 → IsWholeMessage message.old writer.old → IsWholeMessage message.new writer.new }
-    ensures err { result ≢ 0 → NumberOf (FailsToPutEdns options.now writer.old message.old) result }
-    ensures same { result ≢ 0 → (message.new ≡ message.old) × (writer.new ≡ writer.old) }
 {
-    match put_edns(
-        message,
-        max_payload,
-        edns_ttl(rcode_high, version, dnssec_ok),
-        options,
-        writer,
-    ) {
-        Ok(()) => 0,
-        Err(failure) => failure.number(),
-    }
+    let ttl = edns_ttl(rcode_high, version, dnssec_ok);
+    let put = put_edns(message, max_payload, ttl, options, writer);
+    report(put, &mut ())
 }
 
 /// Puts a header without items.
 fn begin(message: &mut [u8], id: u16, flags: u16) -> Result<Writer, Failure>
-    ensures ok { IfOk result (BeginsWriter id flags message.old message.new) }
-    ensures err { IfErr result (FailsToBeginWriter message.old) }
-    ensures same { OnErr result (message.new ≡ message.old) }
+    ensures { BeginsOr id flags message.old message.new result }
 {
     let id = id.to_be_bytes();
     let flags = flags.to_be_bytes();
@@ -160,9 +135,7 @@ fn put_question(
     class: u16,
     writer: &mut Writer,
 ) -> Result<(), Failure>
-    ensures ok { OnOk result (PutsQuestion name.now query_type class writer.old writer.new message.old message.new) }
-    ensures err { IfErr result (FailsToPutQuestion name.now writer.old message.old) }
-    ensures same { OnErr result ((message.new ≡ message.old) × (writer.new ≡ writer.old)) }
+    ensures { PutsOr (PutsQuestion name.now query_type class) (FailsToPutQuestion name.now) writer.old writer.new message.old message.new result }
 {
     check_form(name)?;
     append(
@@ -172,7 +145,8 @@ fn put_question(
         &question_fields(query_type, class),
         &[],
         writer,
-    )
+    )?;
+    Ok(())
 }
 
 /// Appends a record to a section of records.
@@ -186,10 +160,8 @@ fn put_record(
     octets: &[u8],
     writer: &mut Writer,
 ) -> Result<(), Failure>
-    ensures ok { OnOk result (AddsRecord section owner.now record_type class ttl octets.now writer.old writer.new message.old message.new) }
-    ensures err { IfErr result (FailsToPutRecord section owner.now record_type octets.now writer.old message.old) }
-    ensures same { OnErr result ((message.new ≡ message.old) × (writer.new ≡ writer.old)) }
-    ensures fits { record_type < 2 ^ 16 }
+    ensures { PutsOr (AddsRecord section owner.now record_type class ttl octets.now) (FailsToPutRecord section owner.now record_type octets.now)
+        writer.old writer.new message.old message.new result }
 {
     if section < ANSWERS || section > ADDITIONALS {
         return Err(Failure::BadItem);
@@ -205,7 +177,8 @@ fn put_record(
         ttl,
         octets,
         writer,
-    )
+    )?;
+    Ok(())
 }
 
 /// Appends an `OPT` record, with this number for its time to live.
@@ -216,9 +189,7 @@ fn put_edns(
     options: &[u8],
     writer: &mut Writer,
 ) -> Result<(), Failure>
-    ensures ok { OnOk result (PutsEdns max_payload ttl options.now writer.old writer.new message.old message.new) }
-    ensures err { IfErr result (FailsToPutEdns options.now writer.old message.old) }
-    ensures same { OnErr result ((message.new ≡ message.old) × (writer.new ≡ writer.old)) }
+    ensures { PutsOr (PutsEdns max_payload ttl options.now) (FailsToPutEdns options.now) writer.old writer.new message.old message.new result }
 {
     if writer.opt_count != 0 {
         return Err(Failure::DuplicateEdns);
@@ -234,7 +205,8 @@ fn put_edns(
         ttl,
         options,
         writer,
-    )
+    )?;
+    Ok(())
 }
 
 /// Appends a record whose owner is a wire form.
@@ -250,9 +222,8 @@ fn append_record(
 ) -> Result<(), Failure>
     requires section { (1 ≤ section) × (section ≤ 4) }
     requires few { length owner.now ≤ max_name }
-    ensures ok { OnOk result (AppendsRecord section owner.now record_type class ttl octets.now writer.old writer.new message.old message.new) }
-    ensures err { IfErr result (FailsToAppendRecord section owner.now octets.now writer.old message.old) }
-    ensures same { OnErr result ((message.new ≡ message.old) × (writer.new ≡ writer.old)) }
+    ensures { PutsOr (AppendsRecord section owner.now record_type class ttl octets.now) (FailsToAppendRecord section owner.now octets.now)
+        writer.old writer.new message.old message.new result }
 {
     let Ok(len) = u16::try_from(octets.len()) else {
         return Err(Failure::DataTooLong);

@@ -273,7 +273,9 @@ fn of_octets<'r>(kind: Kind, own: &'r [u8]) -> Result<Field<'r>, DecodeError>
         Kind::U48 | Kind::LongTime => Ok(Field::U48(u64::from_be_bytes([
             0, 0, own[0], own[1], own[2], own[3], own[4], own[5],
         ]))),
-        Kind::U64 | Kind::Locator => Ok(Field::U64(u64::from_be_bytes(*own.first_chunk::<8>().unwrap()))),
+        Kind::U64 | Kind::Locator => Ok(Field::U64(u64::from_be_bytes(
+            *own.first_chunk::<8>().unwrap(),
+        ))),
         Kind::Ipv4 => Ok(Field::Ipv4(Ipv4Addr::from(*own.first_chunk::<4>().unwrap()))),
         Kind::Ipv6 => Ok(Field::Ipv6(Ipv6Addr::from(*own.first_chunk::<16>().unwrap()))),
         Kind::TypeCode => Ok(Field::TypeCode(RecordType::from(u16_of(own)))),

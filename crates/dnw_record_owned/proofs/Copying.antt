@@ -7,7 +7,7 @@ use Rattle.dnw_base.specs.Decoder.{Decoder}
 use Rattle.dnw_data.specs.declared.kind.Kind.{Kind}
 use Rattle.dnw_data.specs.declared.kind.Kind.TheVariants.{Name}
 use Rattle.dnw_data.specs.declared.fields.FieldError.{FieldError}
-use Rattle.dnw_data.specs.Fields.{TakesField, own_at}
+use Rattle.dnw_data.specs.Fields.{TakesField, TakesOwn, own_at}
 use Rattle.dnw_data.specs.Values.{FieldValue}
 use Rattle.dnw_data.specs.Walks.{FieldsAre, IsAtEnd}
 use Rattle.dnw_data.proofs.Taking.{moves_on}
@@ -18,7 +18,12 @@ use Rattle.dnw_record_owned.specs.declared.rdata.RDataError.{RDataError}
 use Rattle.dnw_record_owned.specs.declared.rdata.RDataError.TheVariants.{Field, Memory}
 use Rattle.dnw_record_owned.specs.DataPieces.{DataPiece, name_piece, octets_of, octets_piece, piece_octets}
 use Rattle.dnw_record_owned.specs.DataCopies.{Copies, FailsPiece, FailsToCopy, TakesPiece, TakesPieces}
-use Rattle.dnw_record_owned.specs.Inside.Copying.{IsCopying}
+use Rattle.dnw_record_owned.specs.Inside.Copying.{IsCopying, IsNoName}
+
+-- a field other than a name is its own octets
+pub takes_own : (kind : Kind) (d after : Decoder) (v : FieldValue) → IsNoName kind → TakesField kind d v after → TakesOwn kind d v after
+takes_own (Name form) d after v other h = absurd other
+takes_own kind d after v other h = h
 
 -- pieces are those of fields
 pub takes_value : (kind : Kind) (d after : Decoder) (piece : DataPiece) → TakesPiece kind d piece after → TakesField kind d (piece_value kind piece) after

@@ -14,7 +14,7 @@ use Rattle.dnw_data.specs.declared.kind.Kind.{Kind}
 use Rattle.dnw_data.specs.declared.kind.Kind.TheVariants as kinds
 use Rattle.dnw_data.specs.declared.kind.ListKind.TheVariants as lists
 use Rattle.dnw_data.specs.declared.kind.Shown.{Shown}
-use Rattle.dnw_data.specs.declared.kind.Shown.TheVariants.{Text, Tag, Hex, Base32Hex, Base64}
+use Rattle.dnw_data.specs.declared.kind.Shown.TheVariants.{Text, Tag, Hex, Base32Hex, Base64, Other}
 use Rattle.dnw_data.specs.Table.{fields_of}
 use Rattle.dnw_data.specs.Values.{FieldValue, name, u8, u16, u32, ipv4, ipv6, type_code, time, counted, octets, texts, types, params, items}
 use Rattle.dnw_zone_values.specs.Octets.{IsOctets, IsHexText, IsBase64Text, IsSaltText}
@@ -58,6 +58,7 @@ one_spelled Tag text a b x y = sym x.0 ∙ y.0
 one_spelled Hex text a b x y = one_salt text a b x y
 one_spelled Base32Hex text a b x y = same_Some a b (sym x.1 ∙ y.1)
 one_spelled Base64 text a b x y = absurd x
+one_spelled Other text a b x y = absurd x
 
 one_date : (text : List ℕ) (m n : ℕ) → IsDateText text m → IsDateText text n → m ≡ n
 one_date text m n x y =

@@ -1,6 +1,6 @@
 -- The text of the data of a record: its fields' text, or the form that any data have (RFC 3597, section 5) if they are no
 -- fields of their type, or if a field or the type has no text.
-use Rattle.std.specs.Prelude.{◌≡◌, ◌≢◌, ℕ, ◌-◌, ◌==◌, ◌⊎◌, Bool, true, false, List, [], ◌∷◌, ◌++◌, length, flat_map, if◌then◌else◌, Option}
+use Rattle.std.specs.Prelude.{◌≡◌, ◌≢◌, ℕ, ◌-◌, ◌==◌, ◌⊎◌, ◌&&◌, not, Bool, true, false, List, [], ◌∷◌, ◌++◌, length, flat_map, if◌then◌else◌, Option}
 use Rattle.dnw_base.specs.declared.error.DecodeError.{DecodeError}
 use Rattle.dnw_base.specs.Decoder.{Decoder}
 use Rattle.dnw_base.specs.Names.{NameValue}
@@ -36,10 +36,14 @@ has_field_text (kinds.List Prefixes) = false
 has_field_text (kinds.List Names) = false
 has_field_text kind = true
 
+-- data of these kinds are octets alone
+abbrev pub is_octets : List Kind → Bool
+is_octets (Octets Hex ∷ []) = true
+is_octets kinds = false
+
 -- Data that are octets alone have no form of their own, nor have those with a field of another kind that is not written.
 abbrev pub has_own_form : List Kind → Bool
-has_own_form (Octets Hex ∷ []) = false
-has_own_form kinds = list_all has_field_text kinds
+has_own_form kinds = not (is_octets kinds) && list_all has_field_text kinds
 
 -- ---- the octets of data, with names that are not compressed
 

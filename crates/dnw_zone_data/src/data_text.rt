@@ -9,7 +9,7 @@ ghost use Rattle.dnw_zone_data.specs.declared.error.DataTextError.TheVariants.{M
 ghost use Rattle.dnw_zone_data.specs.Parsing.{AreFieldTexts, FailsFields};
 ghost use Rattle.dnw_data.specs.FieldWires.{field_wire};
 ghost use Rattle.dnw_zone_data.specs.Generic.{IsSized};
-ghost use Rattle.dnw_zone_data.specs.DataTexts.{has_own_form, has_field_text, without_space, ArePlain, IsPlainData, IsDataText, IsTextOf, FailsGeneric, FailsText};
+ghost use Rattle.dnw_zone_data.specs.DataTexts.{has_own_form, has_field_text, is_octets, without_space, ArePlain, IsPlainData, IsDataText, IsTextOf, FailsGeneric, FailsText};
 ghost use Rattle.dnw_zone_data.specs.Inside.Wires.{AppendsWires};
 
 use crate::error::{DataTextError, Wanted};
@@ -117,11 +117,11 @@ fn is_plain(alloc: Global, record_type: RecordType, octets: &[u8]) -> Result<boo
     let mut fields = Fields::new(octets, 0, record_type);
     let mut written = Vec::new(alloc);
     let are_fields = append_fields(fields_of(record_type), &mut fields, &mut written)?;
-    Ok(has_field_text_as(record_type, octets, are_fields, written.as_slice()))
+    Ok(is_written_as(record_type, octets, are_fields, written.as_slice()))
 }
 
 /// Returns `true` if octets are fields, and what these are written as are the same octets.
-fn has_field_text_as(record_type: RecordType, octets: &[u8], are_fields: bool, written: &[u8]) -> bool
+fn is_written_as(record_type: RecordType, octets: &[u8], are_fields: bool, written: &[u8]) -> bool
     requires bytes { AreBytes octets.now }
     requires appends { AppendsWires (fields_of (type_code record_type)) (record { bytes = octets.now; index = 0 }) [] written.now are_fields }
     ensures { MatchBool result (ArePlain (fields_of (type_code record_type)) octets.now) (¬ (ArePlain (fields_of (type_code record_type)) octets.now)) }
@@ -155,10 +155,14 @@ fn parse_own(
 fn has_own_form(kinds: &[Kind]) -> bool
     ensures { result ≡ has_own_form kinds.now }
 {
-    match kinds {
-        [Kind::Octets(Shown::Hex)] => false,
-        _ => kinds.iter().all(|kind| has_field_text(*kind)),
-    }
+    !is_octets(kinds) && kinds.iter().all(|kind| has_field_text(*kind))
+}
+
+/// Returns `true` if data of these kinds are octets alone.
+fn is_octets(kinds: &[Kind]) -> bool
+    ensures { result ≡ is_octets kinds.now }
+{
+    matches!(kinds, [Kind::Octets(Shown::Hex)])
 }
 
 /// Returns `true` for kinds whose text is written here.

@@ -106,9 +106,15 @@ fn fields_append_the_octets_that_they_are(rt: HostRuntime) -> Result<(), Fail> {
 fn octets_of_another_shape_are_reported(rt: HostRuntime) -> Result<(), Fail> {
     let alloc = rt.alloc();
     let data = RecordType::from(260);
-    let relay = [Field::U8(10), Field::Shaped(Shaped::new(Shape::Relay, b"\x01\xcb\x00\x71\x0f")?)];
+    let relay = [
+        Field::U8(10),
+        Field::Shaped(Shaped::new(Shape::Relay, b"\x01\xcb\x00\x71\x0f")?),
+    ];
     assert!(rt; RData::from_fields(alloc, data, &relay).is_ok());
-    let gateway = [Field::U8(10), Field::Shaped(Shaped::new(Shape::Gateway, b"\x00\x02")?)];
+    let gateway = [
+        Field::U8(10),
+        Field::Shaped(Shaped::new(Shape::Gateway, b"\x00\x02")?),
+    ];
     assert!(rt; RData::from_fields(alloc, data, &gateway).is_err());
     assert!(rt; Shaped::new(Shape::Relay, b"\x01\xcb\x00\x71").is_err());
     assert!(rt; Shaped::new(Shape::Relay, b"\x01\xcb\x00\x71\x0f\x00").is_err());

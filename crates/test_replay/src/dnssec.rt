@@ -3,7 +3,8 @@
 use crate::notation::{BAD_LINE, first_word, hexadecimal, name, number, octets};
 use crate::record_sets::record;
 use dns_names_wire::dnssec::{
-    DnssecError, ds_digest, key_tag, nsec_covers, nsec3_covers, nsec3_hash, nsec3_label, zone_digest,
+    DnssecError, ds_digest, key_tag, nsec_covers, nsec3_covers, nsec3_hash, nsec3_label,
+    zone_digest,
 };
 use dns_names_wire::error::{ProtoError, ProtoResult};
 use std::alloc::Global;
@@ -59,7 +60,13 @@ fn hash(alloc: Global, words: &str) -> ProtoResult<String> {
     let salt = octets(alloc, salt)?;
     let algorithm = number::<u8>(algorithm)?;
     let iterations = number::<u16>(iterations)?;
-    match nsec3_hash(&owner, algorithm, iterations, salt.as_slice(), number::<u16>(most)?) {
+    match nsec3_hash(
+        &owner,
+        algorithm,
+        iterations,
+        salt.as_slice(),
+        number::<u16>(most)?,
+    ) {
         Ok(hash) => label_text(alloc, &nsec3_label(&hash)),
         Err(error) => failed(alloc, &error),
     }
@@ -91,7 +98,10 @@ fn covers_hash(alloc: Global, words: &str) -> ProtoResult<String> {
     let own = octets(alloc, own)?;
     let next = octets(alloc, next)?;
     let given = octets(alloc, given)?;
-    Ok(format!(in alloc; "{}", nsec3_covers(own.as_slice(), next.as_slice(), given.as_slice()))?)
+    Ok(format!(in alloc;
+        "{}",
+        nsec3_covers(own.as_slice(), next.as_slice(), given.as_slice())
+    )?)
 }
 
 /// Returns the digest of a zone: its apex, the hash algorithm, and its records as `record-set` has them.

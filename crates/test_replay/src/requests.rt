@@ -3,8 +3,8 @@
 use crate::notation::BAD_LINE;
 use crate::tally::Tally;
 use crate::{
-    bounds, codes, data_texts, decoding, dnssec, encoding, errors, fields, labels, names, nets, ordering,
-    readings, record_sets, records, restrict, scripts, texts, tokens, walking,
+    bounds, codes, data_texts, decoding, dnssec, encoding, errors, fields, labels, names, nets,
+    ordering, readings, record_sets, records, restrict, scripts, texts, tokens, walking,
 };
 use dns_names_wire::error::ProtoResult;
 use std::alloc::Global;

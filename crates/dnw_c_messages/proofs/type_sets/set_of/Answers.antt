@@ -5,9 +5,9 @@ use Rattle.dnw_data.specs.TypeSets.{IsSetOf}
 use Rattle.dnw_c_messages.proofs.TypeCodes.{vec_gave}
 use Rattle.dnw_c_messages.proofs.type_sets.set_of.Goals as goal
 
-pub returns-in-Ok-new-clause-ok : goal.returns-in-Ok-new-clause-ok
-returns-in-Ok-new-clause-ok c =
-    let (it, listed, gives, drains, set, encodes) = c.in-Ok-new.ensures.ok in
-    let len : into_iter_len it ≡ length c.in-Ok.types.items = omega (arith, gives.1) in
-    let same = vec_gave it c.in-Ok.types.items listed gives.0 len drains ∙ c.in-Ok.ensures.ok in
-    (subst (λ (l : List RecordType). IsSetOf l c.in-Ok-new.set.types) same set, encodes)
+pub returns-in-Ok-clause-ok : goal.returns-in-Ok-clause-ok
+returns-in-Ok-clause-ok c =
+    let (it, listed, gives, drains, set, encodes) = c.in-Ok.ensures.ok in
+    let len : into_iter_len it ≡ length c.in_ok-types.types.items = omega (arith, gives.1) in
+    let same = vec_gave it c.in_ok-types.types.items listed gives.0 len drains ∙ c.in_ok-types.ensures.ok in
+    (subst (λ (l : List RecordType). IsSetOf l c.in-Ok.set.types) same set, encodes)
