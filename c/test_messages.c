@@ -138,6 +138,25 @@ static void reads_fields(void)
     for (int i = 0; i < 4; i++)
         EXPECT(next_field(BYTES("\001\000\000\014\002\252\273"), DNW_TYPE_NSEC3PARAM, &fields, &field) == DNW_DONE);
     EXPECT(is_field(&field, DNW_FIELD_OCTETS, 5, 2) && fields.offset == 7);
+    /* APL !1:192.168.38.0/28, and one whose prefix ends in a zero (RFC 3123, section 4) */
+    fields = (struct dnw_fields){0, 0};
+    EXPECT(next_field(BYTES("\000\001\034\203\300\250\046"), 42, &fields, &field) == DNW_DONE);
+    EXPECT(is_field(&field, DNW_FIELD_PREFIXES, 0, 7) && fields.offset == 7);
+    fields = (struct dnw_fields){0, 0};
+    EXPECT(next_field(BYTES("\000\001\034\202\300\000"), 42, &fields, &field) == DNW_BAD_FAMILY && fields.offset == 0);
+    /* HIP 1 AA BB a. (RFC 8005, section 5) */
+    fields = (struct dnw_fields){0, 0};
+    static const char hip[] = "\001\001\000\001\252\273\001a\000";
+    EXPECT(next_field(BYTES(hip), 55, &fields, &field) == DNW_DONE && is_field(&field, DNW_FIELD_HOST_IDENTITY, 0, 6));
+    EXPECT(next_field(BYTES(hip), 55, &fields, &field) == DNW_DONE && is_field(&field, DNW_FIELD_NAMES, 6, 3));
+    /* the MAC of a TSIG, after its length of two octets (RFC 8945, section 4.2) */
+    fields = (struct dnw_fields){0, 0};
+    for (int i = 0; i < 4; i++)
+        EXPECT(next_field(BYTES("\000\000\000\000\000\000\001\000\002\000\002\252\273"), 250, &fields, &field) == DNW_DONE);
+    EXPECT(is_field(&field, DNW_FIELD_OCTETS, 11, 2) && fields.offset == 13);
+    /* a gateway that is a pointer (RFC 4025, section 2.5) */
+    fields = (struct dnw_fields){1, 1};
+    EXPECT(next_field(BYTES("\012\003\002\300\000"), 45, &fields, &field) == DNW_RESERVED_OCTET && fields.offset == 1);
     /* a type without fields */
     fields = (struct dnw_fields){1, 0};
     EXPECT(next_field(BYTES("abc"), 65280, &fields, &field) == DNW_DONE && is_field(&field, DNW_FIELD_OCTETS, 1, 2));

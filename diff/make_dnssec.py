@@ -33,7 +33,7 @@ def hexadecimal(given):
 
 def name():
     """A name of the zone, of few labels and characters, so that names are often equal or neighbours."""
-    labels = ["".join(chance.choices("aAbBzZ0-_", k=chance.randint(1, 3))) for _ in range(chance.randint(0, 3))]
+    labels = ["".join(chance.choices("aAbBzZ0_", k=chance.randint(1, 3))) for _ in range(chance.randint(0, 3))]
     return dns.name.from_text(".".join([*labels, "Example."]))
 
 

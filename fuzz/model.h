@@ -56,8 +56,13 @@ uint32_t model_form(const uint8_t *form, size_t len, struct model_name *name);
 uint32_t model_parse(const uint8_t *text, size_t len, struct model_text *parsed);
 
 /* The fields of a type: `n` a name, a digit a number of so many octets, `i` and `I` addresses, `t` a type, `T` a time, `s` a
-   character string, `c` octets after their number, `x` a text and `o` octets up to the end, and `S`, `B` and `P` lists. */
+   character string, `c` octets after their number, `w` octets after one of two octets, `V` a time of six octets, `Y` eight octets
+   of a locator, `L`, `G`, `R` and `H` octets whose first ones say what follows, `x` a text, `o` and `b` octets up to the end, and
+   `S`, `B`, `P`, `A` and `N` lists. */
 const char *model_fields_of(uint16_t type);
+
+/* How many octets are before the value of a field. */
+size_t model_head(char letter);
 
 /* The next field of data that end at `end`, or their end. */
 uint32_t model_next(const uint8_t *message, size_t end, uint16_t type, struct dnw_fields *fields, struct dnw_field *field);

@@ -14,7 +14,7 @@ static bool write_field(struct model_writer *w, const uint8_t *message, const st
                         const struct dnw_field *field)
 {
     struct model_name name;
-    size_t head = letter == 's' || letter == 'c';
+    size_t head = model_head(letter);
     if (letter != 'n')
         return model_write_bytes(w, message + field->offset - head, field->len + head);
     CHECK(model_read(message, record->end, field->offset, &name) == DNW_DONE);

@@ -141,13 +141,14 @@ static void add_code(struct made *made, uint32_t (*print)(uint16_t, uint8_t *, s
 
 static bool is_base64(uint16_t type)
 {
-    return type == 24 || type == 25 || type == 37 || type == 46 || type == 48 || type == 60 || type == 61;
+    return type == 24 || type == 25 || type == 37 || type == 46 || type == 48 || type == 49 || type == 57 || type == 60 ||
+           type == 61;
 }
 
-/* The model leaves open how these are printed: lists of types and parameters, EUI48 and EUI64, LOC, IPSECKEY and HIP, and CAA. */
+/* The model leaves open how these are printed: lists of types and parameters, EUI48 and EUI64, and CAA. */
 static bool is_open(uint16_t type)
 {
-    return strpbrk(model_fields_of(type), "BP68") != NULL || type == 29 || type == 45 || type == 55 || type == 257;
+    return strpbrk(model_fields_of(type), "BP68") != NULL || type == 257;
 }
 
 /* Adds the text of a field after a space, and its octets. */
@@ -160,7 +161,7 @@ static void add_field(struct made *line, struct made *octets, const uint8_t *mes
         CHECK(model_read(message, end, field->offset, &name) == DNW_DONE);
         add(octets, name.form, name.len);
     } else {
-        add(octets, own - (letter == 's' || letter == 'c'), field->len + (letter == 's' || letter == 'c'));
+        add(octets, own - model_head(letter), field->len + model_head(letter));
     }
     if (letter == 'S') {
         for (size_t at = 0; at < field->len; at += 1 + (size_t)own[at]) {
@@ -216,8 +217,8 @@ static void add_data(const uint8_t *message, const struct dnw_record *record)
         add(&octets, message + record->data_offset, record->data_len);
     }
     are_fields = failure == DNW_DONE;
-    /* NXT, a name and octets, has an old bitmap, and no text of its own */
-    bool has_text = strcmp(row, "no") != 0 && (strcmp(row, "o") != 0 || is_base64(record->record_type));
+    /* some fields have no text here, and then the data have none of their own */
+    bool has_text = strpbrk(row, "bVYwLGRHAN") == NULL && (strcmp(row, "o") != 0 || is_base64(record->record_type));
     if (!are_fields || !has_text) {
         line.len = line_len;
         add_text(&line, " \\#");

@@ -190,6 +190,10 @@ def gateway(head):
     return head(kind) + (b"", random.randbytes(4), random.randbytes(16), name())[kind]
 
 
+def isdn():
+    return b"".join(counted(string()) for _ in range(one_of(1, 2)))
+
+
 def identity():
     hit, key = octets(1, 16, 16, 255), octets(1, 2, 3, 70, 300)
     return bytes([len(hit)]) + number(1) + struct.pack("!H", len(key)) + hit + key
@@ -212,6 +216,9 @@ def long_counted(part):
 # What changes the data of types of which the others know more than docs/DATA.md says.
 SHAPES = {
     "DS": with_digest({1: 20, 2: 32, 4: 48}),
+    "DLV": with_digest({1: 20, 2: 32, 4: 48}),
+    "ISDN": lambda values: [isdn()] if random.random() < 0.9 else values,
+    "GPOS": lambda values: values if random.random() < 0.1 else [counted(one_of(b"-32.6882", b"0", b"10.0", b"89.999")) for _ in values],
     "CDS": with_digest({1: 20, 2: 32, 4: 48}),
     "ZONEMD": with_digest({1: 48, 2: 64}),
 }
@@ -540,7 +547,20 @@ def is_late(sample):
 
 def has_high_octets(sample):
     """A string with an octet above 127."""
-    return any(max(value, default=0) > 127 for kind, value in sample.fields if kind in ("string", "octets"))
+    return any(max(value, default=0) > 127 for kind, value in sample.fields if kind in ("string", "strings", "octets"))
+
+
+def has_many_strings(sample):
+    """More than two strings, or a second one without octets."""
+    strings, left = [], sample.data
+    while left:
+        strings, left = [*strings, left[1 : 1 + left[0]]], left[1 + left[0] :]
+    return len(strings) > 2 or strings[1:] == [b""]
+
+
+def is_no_gpos(sample):
+    """A string that is no latitude, longitude or altitude."""
+    return not all(re.fullmatch(rb"-?\d{1,3}(\.\d+)?", value[1:]) for _, value in sample.fields)
 
 
 def is_empty(sample):
@@ -564,11 +584,15 @@ def always(_):
 
 
 ALL = OCTETS, THEIRS, OURS_THERE = "octets", "their text", "our text"
-BASE = "SIG KEY CERT DS SSHFP RRSIG DNSKEY TLSA SMIMEA CDS CDNSKEY OPENPGPKEY ZONEMD"
+BASE = "SIG KEY CERT DS SSHFP RRSIG DNSKEY TLSA SMIMEA CDS CDNSKEY OPENPGPKEY ZONEMD DHCID DLV"
 SHA = {1: 20, 2: 32, 3: 32, 4: 48}
 # Whose, in which ways, of which types, when, and what it is.
 DIFFERENCES = [
     (Dnspython, ALL, "DS", has_other_digest(SHA, [2]), "refuses a digest of another length than its type's, and type 0"),
+    (Dnspython, ALL, "DLV", has_other_digest(SHA, [2]), "refuses a digest of another length than its type's, and type 0"),
+    (Dnspython, ALL, "ISDN", has_many_strings, "refuses more than two strings, or an empty second one"),
+    (Dnspython, ALL, "GPOS", is_no_gpos, "refuses strings that are no numbers"),
+    (Dnspython, ALL, "TSIG", always, "takes a TSIG for that of a message, and signs anew"),
     (Dnspython, ALL, "CDS", has_other_digest({**SHA, 0: 1}, []), "refuses a digest of another length than its type's"),
     (Dnspython, ALL, "ZONEMD", has_other_digest({1: 48, 2: 64}, [1, 2]), "refuses a digest of another length than its type's, scheme 0 and type 0"),
     (Dnspython, ALL, "LOC", is_no_loc, "refuses other octets than those of RFC 1876, or has one form of a size"),
@@ -585,10 +609,15 @@ DIFFERENCES = [
     (Dnspython, [THEIRS], "NSEC NSEC3 CSYNC", is_longer, "has no text for a bitmap with zeros at the end of a window"),
     (Dnspython, [THEIRS], "LOC IPSECKEY HIP APL NID L64 AMTRELAY WKS NSAP TKEY TSIG", always, "has a text, and ours has that of any data"),
     (Dnspython, [OURS_THERE], "MD MF MB MG MR MINFO", always, "has no text but that of any data"),
-    (Dnspython, [OURS_THERE], "HINFO NAPTR CAA URI", has_high_octets, "takes an octet above 127 for a character, and writes that in UTF-8"),
+    (Dnspython, [OURS_THERE], "AVC DSYNC NINFO RKEY RESINFO TALINK WALLET CLA", always, "has no text but that of any data"),
+    (Dnspython, [OURS_THERE], "HINFO NAPTR CAA URI X25 ISDN", has_high_octets, "takes an octet above 127 for a character, and writes that in UTF-8"),
     (Dnspython, [OURS_THERE], "NSEC NSEC3 CSYNC", has_zero, "refuses type 0 in a bitmap"),
     (Dnspython, [OURS_THERE], BASE, is_empty, "wants a word for no octets"),
     (Dnspython, [OURS_THERE], "NSEC3", is_padded, "wants padding"),
+    (Ldns, ALL, "ISDN", has_many_strings, "refuses more than two strings, or an empty second one"),
+    (Ldns, ALL, "NSAP-PTR", always, "takes the name for a string"),
+    (Ldns, [THEIRS], "NXT", always, "has a text, and ours has that of any data"),
+    (Ldns, [OURS_THERE], "AVC DSYNC NINFO RKEY RESINFO TALINK WALLET CLA", always, "has no text, or another, but that of any data"),
     (Ldns, ALL, "HIP", is_no_hip, "refuses other octets than those of RFC 8005"),
     (Ldns, [THEIRS], "SVCB HTTPS", has_other_value, "has another text, or none, for a value that has not the form of its key"),
     (Ldns, [THEIRS, OURS_THERE], "SVCB HTTPS", has_odd_protocol, "has no escapes in a list of protocols"),

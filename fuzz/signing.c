@@ -19,7 +19,7 @@ static struct data found[RECORDS];
 /* The types whose names canonical form puts in lower case (RFC 4034, section 6.2, and RFC 6840, section 5.1). */
 static bool is_lowered(uint16_t type)
 {
-    static const uint8_t types[] = {2, 3, 4, 5, 6, 7, 8, 9, 12, 14, 15, 17, 18, 21, 24, 26, 33, 35, 36, 38, 39, 46};
+    static const uint8_t types[] = {2, 3, 4, 5, 6, 7, 8, 9, 12, 14, 15, 17, 18, 21, 24, 26, 30, 33, 35, 36, 38, 39, 46};
     for (size_t i = 0; i < sizeof types; i++)
         if (types[i] == type)
             return true;
@@ -37,7 +37,7 @@ static uint32_t put_data(const uint8_t *message, const struct dnw_record *record
         if (failure != DNW_DONE || field.kind == DNW_FIELD_END)
             return failure;
         char letter = row[fields.number - 1];
-        size_t head = letter == 's' || letter == 'c', len = field.len + head;
+        size_t head = model_head(letter), len = field.len + head;
         if (letter == 'n') {
             struct model_name name;
             CHECK(model_read(message, record->end, field.offset, &name) == DNW_DONE);

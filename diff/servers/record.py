@@ -227,11 +227,23 @@ def listing(reply):
     if lines[-1] == ";; ADDITIONAL SECTION:":
         del lines[-2:]
     at = lines.index("") if "" in lines else len(lines)
-    options = dns.message.from_wire(reply).options
-    shown = [f"; OPT={int(it.otype)}:" + "".join(f" {octet:02x}" for octet in it.to_wire()) for it in options]
+    shown = [f"; {shown_option(it)}" for it in dns.message.from_wire(reply).options]
     # No empty line stands between what EDNS says and the questions.
     follows = lines[at + 1 :] if lines[at + 1 : at + 2] == [";; QUESTION SECTION:"] else lines[at:]
     return "\n".join([*lines[:at], "", ";; OPT PSEUDOSECTION:", edns, *shown, *follows])
+
+
+def shown_option(option):
+    """An option as dig of BIND 9.18 shows it: those that the servers here send."""
+    octets = option.to_wire()
+    if option.otype == dns.edns.OptionType.NSID:
+        return f'NSID: {octets.hex(" ")} ("{octets.decode("ascii")}")'
+    if option.otype == dns.edns.OptionType.COOKIE:
+        return f"COOKIE: {octets.hex()}"
+    if option.otype == dns.edns.OptionType.EDE:
+        name = dns.edns.EDECode(option.code).name.replace("_", " ").title()
+        return f"EDE: {int(option.code)} ({name})" + (f": ({option.text})" if option.text else "")
+    return f"OPT={int(option.otype)}: {octets.hex(' ')}"
 
 
 def line_of(server, reply):

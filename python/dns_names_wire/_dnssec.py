@@ -49,7 +49,7 @@ def nsec3_hash(name: Name, iterations: int, salt: Bytes, max_iterations: int, al
     than are allowed.
 
     >>> nsec3_hash(Name("example."), 12, bytes.fromhex("aabbccdd"), 100).hex()
-    '06532454afbfaf538f6b95f25c68d2c77bb8e6d9'
+    '065368abeed7ec6e9feba96b8c8bc3e8b791f716'
     """
     wire, size = wire_of("name", name)
     own, rounds, most = _hashing(iterations, salt, max_iterations)

@@ -211,7 +211,7 @@ def _steps(kinds: str) -> Optional[List[_Step]]:
     at = 0
     while at < len(kinds):
         kind = kinds[at]
-        if kind in "BP":
+        if kind in "BPlgpN":
             return None
         if kind not in _FORMATS:
             steps.append((None, [], kind))

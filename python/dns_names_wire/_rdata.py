@@ -9,7 +9,7 @@ from . import _checks
 from ._checks import Bytes
 from ._codes import RecordType
 from ._errors import DataTooLong, check
-from ._fields import Names, fields, plain_values
+from ._fields import Names, Prefix, fields, plain_values
 from ._library import FORM_SIZE, NO_ROOM, PrintedRecord, library, taken
 from ._names import Name, wire_of
 from ._types import TypeSet
@@ -87,7 +87,8 @@ def data_from_text(record_type: int, text: str, origin: Optional[Name] = None) -
 
 
 # The fields of data, each with its letter: numbers of as many octets, a time, octets after a length octet, octets up to
-# the end, texts, and service parameters.
+# the end, texts, service parameters, octets after a length of two octets, octets whose first ones say what follows
+# them, address prefixes, and names in their wire form.
 U8 = Annotated[int, "1"]
 U16 = Annotated[int, "2"]
 U32 = Annotated[int, "4"]
@@ -98,6 +99,10 @@ String = Annotated[bytes, "s"]
 Rest = Annotated[bytes, "o"]
 Strings = Annotated[Tuple[bytes, ...], "S"]
 Params = Annotated[Tuple[Tuple[int, bytes], ...], "P"]
+Long = Annotated[bytes, "l"]
+Shaped = Annotated[bytes, "g"]
+Prefixes = Annotated[Tuple[Prefix, ...], "p"]
+WholeNames = Annotated[Tuple[Name, ...], "N"]
 
 # The letters of fields that are known by their Python type: a name, addresses, a record type and a type bitmap.
 _LETTERS: Dict[Any, str] = {Name: "n", IPv4Address: "i", IPv6Address: "I", RecordType: "t", TypeSet: "B"}
@@ -197,6 +202,21 @@ def _string(name: str, value: Any) -> bytes:
     return bytes([len(octets)]) + octets
 
 
+def _long(name: str, value: Any) -> bytes:
+    octets = _checks.octets(name, value)
+    if len(octets) > 65535:
+        raise DataTooLong()
+    return len(octets).to_bytes(2, "big") + octets
+
+
+def _prefix(name: str, prefix: Prefix) -> bytes:
+    family, length, is_negated, value = prefix
+    octets = _checks.octets(name, value)
+    head = (_checks.number(name, number, most) for number, most in ((family, 65535), (length, 255), (len(octets), 127)))
+    family, length, size = head
+    return family.to_bytes(2, "big") + bytes([length, size | (128 if is_negated else 0)]) + octets
+
+
 def _pair(name: str, pair: Tuple[int, bytes]) -> bytes:
     key, value = pair
     octets = _checks.octets(name, value)
@@ -222,6 +242,10 @@ _PUT: Dict[str, Callable[[str, Any], bytes]] = {
     "S": lambda name, value: b"".join(_string(name, text) for text in value),
     "B": lambda name, value: TypeSet(value).to_bitmap(),
     "P": put_pairs,
+    "l": _long,
+    "g": _octets,
+    "p": lambda name, value: b"".join(_prefix(name, prefix) for prefix in value),
+    "N": lambda name, value: b"".join(wire_of(name, one)[0] for one in value),
 }
 
 
@@ -555,6 +579,230 @@ class CAA(Data, code=257):
     flags: U8
     tag: String
     value: Rest
+
+
+@dataclass(frozen=True)
+class WKS(Data, code=11):
+    """The services of a host by their ports, which is obsolete (RFC 1035, section 3.4.2)."""
+
+    address: IPv4Address
+    protocol: U8
+    bitmap: Rest
+
+
+@dataclass(frozen=True)
+class X25(Data, code=19):
+    """An address of X.25 (RFC 1183, section 3.1)."""
+
+    address: String
+
+
+class ISDN(TXT, code=20):
+    """An address of ISDN, and a subaddress if there is one (RFC 1183, section 3.2)."""
+
+
+class RT(MX, code=21):
+    """A host that routes to another one (RFC 1183, section 3.3)."""
+
+
+@dataclass(frozen=True)
+class NSAP(Data, code=22):
+    """An address of OSI (RFC 1706, section 5)."""
+
+    address: Rest
+
+
+class NSAP_PTR(_Target, code=23):
+    """The name of an address of OSI (RFC 1706, section 6)."""
+
+
+@dataclass(frozen=True)
+class PX(Data, code=26):
+    """A mapping between mail addresses and those of X.400 (RFC 2163, section 4)."""
+
+    preference: U16
+    map822: Name
+    mapx400: Name
+
+
+@dataclass(frozen=True)
+class GPOS(Data, code=27):
+    """Where a host is, in degrees and metres (RFC 1712, section 3)."""
+
+    longitude: String
+    latitude: String
+    altitude: String
+
+
+@dataclass(frozen=True)
+class NXT(Data, code=30):
+    """The next name in a zone and the types at this name, in an old form (RFC 2535, section 5.2)."""
+
+    next: Name
+    bitmap: Rest
+
+
+@dataclass(frozen=True)
+class LOC(Data, code=29):
+    """A location: 16 octets if the first, the version, is 0 (RFC 1876, section 2)."""
+
+    location: Shaped
+
+
+@dataclass(frozen=True)
+class APL(Data, code=42):
+    """Address prefixes: of each the family, the length in bits, whether it is negated, and the octets (RFC 3123)."""
+
+    prefixes: Prefixes
+
+
+@dataclass(frozen=True)
+class IPSECKEY(Data, code=45):
+    """A gateway and its key for IPsec (RFC 4025). `gateway` is its type, the algorithm, and the gateway itself."""
+
+    precedence: U8
+    gateway: Shaped
+    public_key: Rest
+
+
+@dataclass(frozen=True)
+class HIP(Data, code=55):
+    """The identity of a host, and its rendezvous servers (RFC 8005, section 5).
+
+    `identity` is the length of the tag, the algorithm of the key, its length, the tag and the key."""
+
+    identity: Shaped
+    servers: WholeNames
+
+
+@dataclass(frozen=True)
+class DHCID(Data, code=49):
+    """Which client of DHCP owns a name (RFC 4701, section 3.1)."""
+
+    identifier: Rest
+
+
+class NINFO(TXT, code=56):
+    """The state of a zone, by the registry's template."""
+
+
+class RKEY(DNSKEY, code=57):
+    """A key for the encryption of NAPTR records, by the registry's template."""
+
+
+@dataclass(frozen=True)
+class TALINK(Data, code=58):
+    """The links of a chain of trust anchors, by the registry's template."""
+
+    previous: Name
+    next: Name
+
+
+@dataclass(frozen=True)
+class DSYNC(Data, code=66):
+    """Where to send notifications about a delegation (RFC 9859, section 2.1)."""
+
+    notified_type: RecordType
+    scheme: U8
+    port: U16
+    target: Name
+
+
+@dataclass(frozen=True)
+class NID(Data, code=104):
+    """The identifier of a node (RFC 6742, section 2.1)."""
+
+    preference: U16
+    node_id: U64
+
+
+@dataclass(frozen=True)
+class L32(Data, code=105):
+    """A locator of 32 bits (RFC 6742, section 2.2)."""
+
+    preference: U16
+    locator: IPv4Address
+
+
+@dataclass(frozen=True)
+class L64(Data, code=106):
+    """A locator of 64 bits (RFC 6742, section 2.3)."""
+
+    preference: U16
+    locator: U64
+
+
+@dataclass(frozen=True)
+class LP(Data, code=107):
+    """The name of locators (RFC 6742, section 2.4)."""
+
+    preference: U16
+    fqdn: Name
+
+
+@dataclass(frozen=True)
+class TKEY(Data, code=249):
+    """The making of a key for TSIG (RFC 2930, section 2)."""
+
+    algorithm: Name
+    inception: Time
+    expiration: Time
+    mode: U16
+    error: U16
+    key: Long
+    other: Long
+
+
+@dataclass(frozen=True)
+class TSIG(Data, code=250):
+    """The signature of a message (RFC 8945, section 4.2)."""
+
+    algorithm: Name
+    time_signed: U48
+    fudge: U16
+    mac: Long
+    original_id: U16
+    error: U16
+    other: Long
+
+
+@dataclass(frozen=True)
+class AMTRELAY(Data, code=260):
+    """A relay for multicast (RFC 8777, section 4.2). `relay` is a bit and 7 bits of its type, and the relay."""
+
+    precedence: U8
+    relay: Shaped
+
+
+class AVC(TXT, code=258):
+    """What is known of an application, by the registry's template."""
+
+
+@dataclass(frozen=True)
+class DOA(Data, code=259):
+    """A digital object, by the registry's template."""
+
+    enterprise: U32
+    object_type: U32
+    location: U8
+    media_type: String
+    data: Rest
+
+
+class RESINFO(TXT, code=261):
+    """What a resolver says of itself (RFC 9606, section 4)."""
+
+
+class WALLET(TXT, code=262):
+    """A public address of a wallet, by the registry's template."""
+
+
+class CLA(TXT, code=263):
+    """What an authority claims, by the registry's template."""
+
+
+class DLV(DS, code=32769):
+    """The digest of a key of a zone that is looked up aside (RFC 4431, section 2)."""
 
 
 @dataclass(frozen=True)

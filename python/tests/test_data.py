@@ -102,6 +102,8 @@ class ByChance(unittest.TestCase):
             return b"".join(bytes([len(text)]) + text for text in [self.octets(6)] * self.rng.randrange(3 if kind == "S" else 2))
         if kind in "BP":
             return self.rng.choice([b"", b"\0\1\x40", b"\0\0", b"\1\1\2\0\1\1", b"\0\1\0\2ab", b"\0\2\0\0\0\1\0\0"])
+        if kind in "lgpN":
+            return self.rng.choice([b"", b"\0\1a", b"\0", b"\1\2\xc0\0\2\1", b"\1a\0", b"\0\1\x08\1\x0a", b"\1\2\0\1ab"])
         return self.octets(5) if kind == "o" else bytes({"i": 4, "I": 16, "t": 2, "T": 4}.get(kind) or int(kind))
 
     def message(self):
@@ -142,7 +144,7 @@ class ByChance(unittest.TestCase):
 class Classes(unittest.TestCase):
     def test_each_class_has_its_type_and_its_fields(self):
         kinds = {kind._code: kind for kind in vars(dnw).values() if isinstance(kind, type) and getattr(kind, "_code", None)}
-        self.assertEqual(len(kinds), 44)
+        self.assertEqual(len(kinds), 75)
         for code, kind in kinds.items():
             self.assertEqual(len(kind._kinds), len(dataclasses.fields(kind)))
             self.assertIn(dnw.type_text(code), [kind.__name__, f"TYPE{code}"])

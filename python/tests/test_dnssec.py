@@ -2,6 +2,7 @@
 
 import hashlib
 import random
+import struct
 import unittest
 
 import dns_names_wire as dnw
@@ -46,14 +47,14 @@ HASHES = {
     "xx.example.": "t644ebqk9bibcna874givr6joj62mlhv",
 }
 # RFC 8976, appendix A.1.
-ZONE = """\
+ZONE_DIGEST = "c68090d90a7aed716bc459f9340e3d7c1370d4d24b7e2fc3a1ddc0b9a87153b9a9713b3c9ae5cc27777f98b8e730044c"
+ZONE = f"""\
 example. 86400 IN SOA ns1.example. admin.example. 2018031900 1800 900 604800 86400
 example. 86400 IN NS ns1.example.
 example. 86400 IN NS ns2.example.
-example. 86400 IN ZONEMD 2018031900 1 1 c68090d90a7aed716bc459f9340e3d7c1370d4d24b7e2fc3a1ddc0b9a87153b9a9713b3c9ae5cc27777f98b8e730044c
+example. 86400 IN TYPE63 2018031900 1 1 {ZONE_DIGEST}
 ns1.example. 3600 IN A 203.0.113.63
 ns2.example. 3600 IN AAAA 2001:db8::63"""
-ZONE_DIGEST = "c68090d90a7aed716bc459f9340e3d7c1370d4d24b7e2fc3a1ddc0b9a87153b9a9713b3c9ae5cc27777f98b8e730044c"
 
 
 def random_octets(chance, least, most):
@@ -89,8 +90,8 @@ class Sums(unittest.TestCase):
         self.assertEqual(dnw.zone_digest(Name("a."), [*others, least], 2), hashlib.sha512(least.to_wire()).digest())
 
     def test_only_the_digest_at_the_apex_is_left_out(self):
-        zonemd = "ZONEMD 7 1 1 " + "00" * 48
-        rrsig = "RRSIG ZONEMD 13 1 60 20010909014640 20010909014640 7 a. AA=="
+        zonemd = "TYPE63 7 1 1 " + "00" * 48
+        rrsig = "RRSIG TYPE63 13 1 60 20010909014640 20010909014640 7 a. AA=="
         apex = [Record.from_text(f"a. 60 IN {data}") for data in (zonemd, rrsig)]
         below = [Record.from_text(f"b.a. 60 IN {data}") for data in (rrsig, zonemd)]
         whole = b"".join(record.to_wire() for record in below)
@@ -177,12 +178,15 @@ class Beside(unittest.TestCase):
             apex = dns.name.from_text("Example.")
             zone, records = dns.zone.Zone(apex, relativize=False), []
             for _ in range(self.chance.randint(1, 20)):
-                ours, theirs = random_name(self.chance, b"\7Example\0")
-                text = self.chance.choice(["A 192.0.2.%d", "MX %d Mail.Example.", "NS N%d.Example.", 'TXT "%d"', "SRV 1 2 %d B.a."])
+                theirs = random_name(self.chance, b"\7Example\0")[1]
+                texts = ["A 192.0.2.%d", "MX %d Mail.Example.", "NS N%d.Example.", 'TXT "%d"', "SRV 1 2 %d B.a."]
+                text = self.chance.choice(texts)
                 kind, data = (text % self.chance.randint(0, 9)).split(" ", 1)
                 rdata = dns.rdata.from_text("IN", kind, data)
                 zone.find_rdataset(theirs, rdata.rdtype, create=True).add(rdata, 60)
-                records.append(Record.from_text(f"{ours} 60 IN {kind} {data}"))
+                octets = rdata.to_wire()
+                fixed = struct.pack("!HHIH", rdata.rdtype, 1, 60, len(octets))
+                records.append(dnw.read_record(theirs.to_wire() + fixed + octets))
             for algorithm in (1, 2):
                 wanted = zone._compute_digest(algorithm)
                 self.assertEqual(dnw.zone_digest(Name("example."), records, algorithm), wanted)

@@ -152,6 +152,15 @@ impl<'a> Fields<'a> {
         self.array().map(u32::from_be_bytes)
     }
 
+    /// Reads a number of six octets.
+    pub(crate) fn u48(&mut self) -> Result<u64, Error> {
+        self.array::<6>().map(|octets| number(&octets))
+    }
+
+    pub(crate) fn u64(&mut self) -> Result<u64, Error> {
+        self.array().map(u64::from_be_bytes)
+    }
+
     pub(crate) fn eui48(&mut self) -> Result<[u8; 6], Error> {
         self.array()
     }
@@ -198,6 +207,24 @@ impl<'a> Fields<'a> {
         self.octets().map(Pairs)
     }
 
+    /// Reads octets after their number in two octets.
+    pub(crate) fn long(&mut self) -> Result<&'a [u8], Error> {
+        self.octets()
+    }
+
+    /// Reads octets whose first ones say what follows them.
+    pub(crate) fn shaped(&mut self) -> Result<&'a [u8], Error> {
+        self.octets()
+    }
+
+    pub(crate) fn prefixes(&mut self) -> Result<Prefixes<'a>, Error> {
+        self.octets().map(Prefixes)
+    }
+
+    pub(crate) fn whole_names(&mut self) -> Result<WholeNames<'a>, Error> {
+        self.octets().map(|octets| WholeNames { octets, offset: 0 })
+    }
+
     /// Returns the octets that are left.
     #[inline]
     pub(crate) fn left(&self) -> &'a [u8] {
@@ -216,7 +243,9 @@ impl<'a> Fields<'a> {
 
 /// Appends a field, in the form that [`Fields`] reads.
 pub(crate) mod put {
-    use super::{Error, ErrorKind, Ipv4Addr, Ipv6Addr, NameRef, Pairs, RecordType, Texts, TypeSet, Vec};
+    use super::{
+        Error, ErrorKind, Ipv4Addr, Ipv6Addr, NameRef, Pairs, Prefixes, RecordType, Texts, TypeSet, Vec, WholeNames,
+    };
 
     type Put = Result<(), Error>;
 
@@ -251,6 +280,37 @@ pub(crate) mod put {
 
     pub(crate) fn u32(octets: &mut Vec<u8>, value: &u32) -> Put {
         rest(octets, &value.to_be_bytes())
+    }
+
+    /// Appends a number of six octets.
+    pub(crate) fn u48(octets: &mut Vec<u8>, value: &u64) -> Put {
+        match value >> 48 {
+            0 => rest(octets, &value.to_be_bytes()[2..]),
+            _ => Err(ErrorKind::DataTooLong.into()),
+        }
+    }
+
+    pub(crate) fn u64(octets: &mut Vec<u8>, value: &u64) -> Put {
+        rest(octets, &value.to_be_bytes())
+    }
+
+    /// Appends the number of octets in two octets, and the octets.
+    pub(crate) fn long(octets: &mut Vec<u8>, value: &[u8]) -> Put {
+        let len = u16::try_from(value.len()).map_err(|_| Error::from(ErrorKind::DataTooLong))?;
+        u16(octets, &len)?;
+        rest(octets, value)
+    }
+
+    pub(crate) fn shaped(octets: &mut Vec<u8>, value: &[u8]) -> Put {
+        rest(octets, value)
+    }
+
+    pub(crate) fn prefixes(octets: &mut Vec<u8>, value: &Prefixes<'_>) -> Put {
+        rest(octets, value.0)
+    }
+
+    pub(crate) fn whole_names(octets: &mut Vec<u8>, value: &WholeNames<'_>) -> Put {
+        rest(octets, &value.octets[value.offset..])
     }
 
     pub(crate) fn eui48(octets: &mut Vec<u8>, value: &[u8; 6]) -> Put {

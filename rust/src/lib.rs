@@ -28,7 +28,7 @@
 //! | build queries and replies, section by section, and write them within a size | [`MessageBuilder`] |
 //! | make records from data by type, or parse them from lines of master files | [`RecordBuf`] |
 //! | verify signatures, or make them | [`Record::signed_octets`] |
-| make key tags and digests of keys and zones, hash names, and check denials | [`dnssec`] |
+//! | make key tags and digests of keys and zones, hash names, and check denials | [`dnssec`] |
 //! | write any list of names, questions, records and bytes, with compression | [`MessageWriter`] |
 //! | convert addresses to reverse names, and back | [`Name::from_ip`], [`Name::parse_arpa_name`] |
 //! | name types and classes, read and write type bitmaps, compare serial numbers | [`RecordType`], [`Class`], [`TypeSet`], [`SerialNumber`] |

@@ -1,7 +1,7 @@
 //! The data of records, by type.
 use crate::codes::RecordType;
 use crate::error::Error;
-use crate::field::{put, Fields, Pairs, Texts};
+use crate::field::{put, Fields, Pairs, Prefixes, Texts, WholeNames};
 use crate::name_ref::NameRef;
 use crate::type_set::TypeSet;
 use crate::{IpAddr, Ipv4Addr, Ipv6Addr};
@@ -269,6 +269,156 @@ structs! {
         /// The value of the property.
         value: &'a [u8] = rest,
     }
+
+    /// The services of a host by their ports, which is obsolete (RFC 1035, section 3.4.2).
+    WKS<'a> {
+        /// The address of the host.
+        address: Ipv4Addr = ipv4,
+        /// The protocol.
+        protocol: u8 = u8,
+        /// A bit for each port.
+        bitmap: &'a [u8] = rest,
+    }
+
+    /// A mapping between mail addresses and those of X.400 (RFC 2163, section 4).
+    PX<'a> {
+        /// Lower values are preferred.
+        preference: u16 = u16,
+        /// The part that is a domain name.
+        map822: NameRef<'a> = name,
+        /// The part that is from an address of X.400.
+        mapx400: NameRef<'a> = name,
+    }
+
+    /// Where a host is, in degrees and metres (RFC 1712, section 3).
+    GPOS<'a> {
+        /// The longitude.
+        longitude: &'a [u8] = string,
+        /// The latitude.
+        latitude: &'a [u8] = string,
+        /// The altitude.
+        altitude: &'a [u8] = string,
+    }
+
+    /// The next name in a zone and the types at this name, in an old form (RFC 2535, section 5.2).
+    NXT<'a> {
+        /// The next name.
+        next: NameRef<'a> = name,
+        /// A bit for each type below 128.
+        bitmap: &'a [u8] = rest,
+    }
+
+    /// A gateway and its key for IPsec (RFC 4025, section 2.1).
+    IPSECKEY<'a> {
+        /// Lower values are preferred.
+        precedence: u8 = u8,
+        /// The type of the gateway, the algorithm of the key, and the gateway.
+        gateway: &'a [u8] = shaped,
+        /// The key.
+        public_key: &'a [u8] = rest,
+    }
+
+    /// The identity of a host, and its rendezvous servers (RFC 8005, section 5).
+    HIP<'a> {
+        /// The length of the tag, the algorithm of the key, its length, the tag and the key.
+        identity: &'a [u8] = shaped,
+        /// The servers.
+        servers: WholeNames<'a> = whole_names,
+    }
+
+    /// The links of a chain of trust anchors, by the registry's template.
+    TALINK<'a> {
+        /// The name before.
+        previous: NameRef<'a> = name,
+        /// The name after.
+        next: NameRef<'a> = name,
+    }
+
+    /// Where to send notifications about a delegation (RFC 9859, section 2.1).
+    DSYNC<'a> {
+        /// The type that a notification is about.
+        notified_type: RecordType = record_type,
+        /// How to notify.
+        scheme: u8 = u8,
+        /// The port.
+        port: u16 = u16,
+        /// The host.
+        target: NameRef<'a> = name,
+    }
+
+    /// A locator of 32 bits (RFC 6742, section 2.2).
+    L32 {
+        /// Lower values are preferred.
+        preference: u16 = u16,
+        /// The locator.
+        locator: Ipv4Addr = ipv4,
+    }
+
+    /// The identifier of a node, or a locator, of 64 bits (RFC 6742, sections 2.1 and 2.3).
+    L64 {
+        /// Lower values are preferred.
+        preference: u16 = u16,
+        /// The identifier or the locator.
+        locator: u64 = u64,
+    }
+
+    /// The making of a key for TSIG (RFC 2930, section 2).
+    TKEY<'a> {
+        /// The algorithm.
+        algorithm: NameRef<'a> = name,
+        /// When the key begins to be valid, in seconds since 1970, a [`SerialNumber`](crate::SerialNumber).
+        inception: u32 = u32,
+        /// When it ends.
+        expiration: u32 = u32,
+        /// How the key is made.
+        mode: u16 = u16,
+        /// An error, or 0.
+        error: u16 = u16,
+        /// The key, or what it is made from.
+        key: &'a [u8] = long,
+        /// Other data.
+        other: &'a [u8] = long,
+    }
+
+    /// The signature of a message (RFC 8945, section 4.2).
+    TSIG<'a> {
+        /// The algorithm.
+        algorithm: NameRef<'a> = name,
+        /// The time, in seconds since 1970.
+        time_signed: u64 = u48,
+        /// The seconds that clocks may differ.
+        fudge: u16 = u16,
+        /// The signature.
+        mac: &'a [u8] = long,
+        /// The identifier of the message that was signed.
+        original_id: u16 = u16,
+        /// An error, or 0.
+        error: u16 = u16,
+        /// Other data.
+        other: &'a [u8] = long,
+    }
+
+    /// A digital object, by the registry's template.
+    DOA<'a> {
+        /// The number of the enterprise.
+        enterprise: u32 = u32,
+        /// The type of the object.
+        object_type: u32 = u32,
+        /// Where the object is.
+        location: u8 = u8,
+        /// Its media type.
+        media_type: &'a [u8] = string,
+        /// The object, or where it is.
+        data: &'a [u8] = rest,
+    }
+
+    /// A relay for multicast (RFC 8777, section 4.2).
+    AMTRELAY<'a> {
+        /// Lower values are preferred.
+        precedence: u8 = u8,
+        /// A bit and 7 bits of the type of the relay, and the relay.
+        relay: &'a [u8] = shaped,
+    }
 }
 
 /// Defines `RData`: a variant for each type, with its code, which has one value of a kind or a struct.
@@ -384,8 +534,70 @@ variants! {
         EUI48 = 108: [u8; 6] = eui48,
         /// An EUI-64 address (RFC 7043, section 4).
         EUI64 = 109: [u8; 8] = eui64,
+        /// An address of X.25 (RFC 1183, section 3.1).
+        X25 = 19: &'a [u8] = string,
+        /// An address of ISDN, and a subaddress if there is one (RFC 1183, section 3.2).
+        ISDN = 20: Texts<'a> = texts,
+        /// An address of OSI (RFC 1706, section 5).
+        NSAP = 22: &'a [u8] = rest,
+        /// The name of an address of OSI (RFC 1706, section 6).
+        NSAPPTR = 23: NameRef<'a> = name,
+        /// A location: 16 octets if the first, the version, is 0 (RFC 1876, section 2).
+        LOC = 29: &'a [u8] = shaped,
+        /// Address prefixes (RFC 3123, section 4).
+        APL = 42: Prefixes<'a> = prefixes,
+        /// Which client of DHCP owns a name (RFC 4701, section 3.1).
+        DHCID = 49: &'a [u8] = rest,
+        /// The state of a zone, by the registry's template.
+        NINFO = 56: Texts<'a> = texts,
+        /// What is known of an application, by the registry's template.
+        AVC = 258: Texts<'a> = texts,
+        /// What a resolver says of itself (RFC 9606, section 4).
+        RESINFO = 261: Texts<'a> = texts,
+        /// A public address of a wallet, by the registry's template.
+        WALLET = 262: Texts<'a> = texts,
+        /// What an authority claims, by the registry's template.
+        CLA = 263: Texts<'a> = texts,
     }
     several {
+        /// The services of a host by their ports.
+        WKS = 11: WKS<'a>,
+        /// A host that routes to another one (RFC 1183, section 3.3).
+        RT = 21: MX<'a>,
+        /// A mapping between mail addresses and those of X.400.
+        PX = 26: PX<'a>,
+        /// Where a host is.
+        GPOS = 27: GPOS<'a>,
+        /// The next name in a zone and the types at this name, in an old form.
+        NXT = 30: NXT<'a>,
+        /// A gateway and its key for IPsec.
+        IPSECKEY = 45: IPSECKEY<'a>,
+        /// The identity of a host.
+        HIP = 55: HIP<'a>,
+        /// A key for the encryption of NAPTR records, by the registry's template.
+        RKEY = 57: DNSKEY<'a>,
+        /// The links of a chain of trust anchors.
+        TALINK = 58: TALINK<'a>,
+        /// Where to send notifications about a delegation.
+        DSYNC = 66: DSYNC<'a>,
+        /// The identifier of a node (RFC 6742, section 2.1).
+        NID = 104: L64,
+        /// A locator of 32 bits.
+        L32 = 105: L32,
+        /// A locator of 64 bits (RFC 6742, section 2.3).
+        L64 = 106: L64,
+        /// The name of locators (RFC 6742, section 2.4).
+        LP = 107: MX<'a>,
+        /// The making of a key for TSIG.
+        TKEY = 249: TKEY<'a>,
+        /// The signature of a message.
+        TSIG = 250: TSIG<'a>,
+        /// A digital object.
+        DOA = 259: DOA<'a>,
+        /// A relay for multicast.
+        AMTRELAY = 260: AMTRELAY<'a>,
+        /// The digest of a key of a zone that is looked up aside (RFC 4431, section 2).
+        DLV = 32769: DS<'a>,
         /// The start of a zone of authority.
         SOA = 6: SOA<'a>,
         /// A mailbox for requests and one for errors (RFC 1035, section 3.3.7).

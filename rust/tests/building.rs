@@ -1,6 +1,6 @@
 //! Messages and records that are built. Expected octets are what dnspython 2.3.0 writes for the same, or are worked out
 //! by hand from RFC 1035, sections 4.1 and 5.1, RFC 6891, section 6.1, and RFC 2181, section 9.
-use dns_names_wire::rdata::{CSYNC, MX, SOA, SRV};
+use dns_names_wire::rdata::{AMTRELAY, CSYNC, L32, L64, MX, SOA, SRV, TSIG};
 use dns_names_wire::{
     Class, Edns, Error, ErrorKind, Header, Message, MessageBuilder, Name, OpCode, Pairs, RData, Record, RecordBuf,
     RecordType, ResponseCode, Texts, TypeSet,
@@ -343,4 +343,34 @@ fn addresses_are_converted() {
     }
     let other = record(". 1 TXT a");
     assert_eq!(IpAddr::try_from(other.data().unwrap()), Err(other.data().unwrap()));
+}
+
+/// The octets are those of `diff/lists/fields.txt`, by dnspython.
+#[test]
+fn data_of_more_types_have_their_octets() {
+    let (algorithm, locators) = (name("hmac-sha256."), name("l64-subnet1.example.com."));
+    let signature = TSIG {
+        algorithm: (&algorithm).into(),
+        time_signed: 1594855491,
+        fudge: 300,
+        mac: &[0x49, 0x1b],
+        original_id: 56518,
+        error: 0,
+        other: b"",
+    };
+    for (data, wire) in [
+        (RData::X25(b"311061700956"), "0c333131303631373030393536"),
+        (RData::L32(L32 { preference: 10, locator: Ipv4Addr::new(10, 1, 2, 0) }), "000a0a010200"),
+        (RData::NID(L64 { preference: 10, locator: 0x0014_4fff_ff20_ee64 }), "000a00144fffff20ee64"),
+        (
+            RData::LP(MX { preference: 10, exchange: (&locators).into() }),
+            "000a0b6c36342d7375626e657431076578616d706c6503636f6d00",
+        ),
+        (RData::AMTRELAY(AMTRELAY { precedence: 10, relay: &[1, 203, 0, 113, 15] }), "0a01cb00710f"),
+        (RData::TSIG(signature.clone()), "0b686d61632d7368613235360000005f0f9043012c0002491bdcc600000000"),
+    ] {
+        assert_eq!(data.to_wire().unwrap(), octets(wire));
+    }
+    let late = TSIG { time_signed: 1 << 48, ..signature };
+    assert_eq!(RData::TSIG(late).to_wire().unwrap_err().kind(), ErrorKind::DataTooLong);
 }

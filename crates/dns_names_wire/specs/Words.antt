@@ -161,6 +161,12 @@ pub use Rattle.dnw_message_read.specs.MessageLaws.{MessagesDontFail, OneMessage,
 pub use Rattle.dnw_message_read.specs.Messages.{FailsHere, FailsItem, FailsMessage, FailsWithin, Item, ItemAt, ItemsAt, MessageAt, MessageValue}
 pub use Rattle.dnw_message_read.specs.Messages.{QueryValue, SectionAt, SectionsBegin, no_header, part, question_rest, record_rest, rest_of}
 pub use Rattle.dnw_message_read.specs.Queries.{FailsQuery, TakesQuery}
+-- EDNS options, typed.
+pub use Rattle.dnw_message_options.specs.Codes.{named_options, option_code, option_of_code}
+pub use Rattle.dnw_message_options.specs.OptionLaws.{OneOption, OptionsComeBack}
+pub use Rattle.dnw_message_options.specs.Reading.{IsName, NoName, OptionOutcome, ReadsChainOption, ReadsNameOption, ReadsOption, checked, cookie_of, error_of, expire_of, keepalive_of, subnet_of, version_of}
+pub use Rattle.dnw_message_options.specs.Rules.{IsOptionFields, bits_after, code_of, has_no_name, may_be_server, may_be_version, most_bits, network_fault, octets_for, option_octets, value_fault}
+pub use Rattle.dnw_message_options.specs.Values.{OptionFields, VersionValue, seen_option, seen_version}
 -- Whole messages that are written.
 pub use Rattle.dnw_message_write.specs.Drafts.{Added, Adds, AddsAll, AddsEntry, AddsLast, AddsMany, AddsSet, Begins, Closes, Draft, Ends, counted_one, counted_by, cuts, is_open}
 pub use Rattle.dnw_message_write.specs.QueryFrames.{frame_query}

@@ -64,6 +64,14 @@ pub mod data_text {
     pub use dnw_zone_record::record_line::{RecordLineError, parse_record, record_text};
 }
 
+/// EDNS options, typed: read from their octets, written and shown, and what follows from their definitions.
+pub mod edns_options {
+    pub use dnw_message_options::code::OptionCode;
+    pub use dnw_message_options::error::OptionError;
+    pub use dnw_message_options::laws;
+    pub use dnw_message_options::option::{OptionData, ZoneVersion};
+}
+
 /// A cursor over the bytes of a message.
 pub mod decoder {
     pub use dnw_base::decoder::BinDecoder;

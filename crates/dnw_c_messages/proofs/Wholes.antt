@@ -9,7 +9,7 @@ use Rattle.dnw_base.specs.RecordTypes.{type_code, type_of_code}
 use Rattle.dnw_base.specs.declared.dns_class.DNSClass.TheVariants as class
 use Rattle.dnw_base.specs.declared.record_type.RecordType.TheVariants.{OPT}
 use Rattle.dnw_message_header.specs.Headers.{header_size}
-use Rattle.dnw_message_read.specs.Edns.{is_opt_code as is_opt_type}
+use Rattle.dnw_message_read.specs.Edns.{is_opt as is_opt_type}
 use Rattle.dnw_message_read.specs.Messages.{Item, ItemAt, question_rest, record_rest}
 use Rattle.dnw_message_read.proofs.OptCodes.{opt_code}
 use Rattle.dnw_name_read.specs.Buffers.{put}

@@ -48,7 +48,7 @@ fn said_by(message: &MessageRef<'_>) -> Result<ReadEdns, Failure>
 {
     let response_code = match message.response_code() {
         Ok(code) => u16::from(code),
-        Err(error) => return Err(of_edns(error)),
+        Err(error) => return Err(of_edns(&error)),
     };
     match message.edns() {
         Ok(Some(edns)) => Ok(ReadEdns {
@@ -69,16 +69,16 @@ fn said_by(message: &MessageRef<'_>) -> Result<ReadEdns, Failure>
             options_offset: 0,
             options_len: 0,
         }),
-        Err(error) => Err(of_edns(error)),
+        Err(error) => Err(of_edns(&error)),
     }
 }
 
 /// Returns the failure that stands for a rule of EDNS that is broken.
-pub(crate) fn of_edns(error: EdnsError) -> Failure
-    ensures { result ≡ of_edns error }
+pub(crate) fn of_edns(error: &EdnsError) -> Failure
+    ensures { result ≡ of_edns error.now }
 {
     match error {
-        EdnsError::Decode(cause) => of_decode(&cause),
+        EdnsError::Decode(cause) => of_decode(cause),
         EdnsError::OwnerNotRoot => Failure::OwnerNotRoot,
         EdnsError::CutOption => Failure::CutOption,
     }

@@ -84,7 +84,7 @@ fn of_copy(error: &CopyError) -> Failure
 {
     match error {
         CopyError::Data { offset: _, error } => of_decode(&error.cause),
-        CopyError::Edns(error) => of_edns(*error),
+        CopyError::Edns(error) => of_edns(error),
         CopyError::Proto(error) => of_proto(error),
     }
 }

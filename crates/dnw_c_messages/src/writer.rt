@@ -33,6 +33,7 @@ pub struct Writer {
 }
 
 /// Puts a header without items at the start of a buffer.
+#[tactic(auto, using(crate::proofs::Wholes::begin_whole))]
 #[unsafe(no_mangle)]
 pub extern "C" fn dnw_writer_begin(
     message: &mut [u8],
@@ -47,6 +48,7 @@ pub extern "C" fn dnw_writer_begin(
 }
 
 /// Appends a question.
+#[tactic(auto, using(crate::proofs::Wholes::question_whole))]
 #[unsafe(no_mangle)]
 pub extern "C" fn dnw_writer_question(
     message: &mut [u8],
@@ -64,6 +66,7 @@ pub extern "C" fn dnw_writer_question(
 }
 
 /// Appends a record to a section, whose number is that of the answers or a later one.
+#[tactic(auto, using(crate::proofs::Wholes::put_whole))]
 #[unsafe(no_mangle)]
 pub extern "C" fn dnw_writer_record(
     message: &mut [u8],

@@ -41,11 +41,16 @@ abbrev pub PutsZoneDigest : List ℕ → List ℕ → ℕ → List ℕ → List 
 PutsZoneDigest apex records algorithm old new len =
     (own : List ℕ) × HasZoneDigest apex records algorithm own × (new ≡ put old own) × (len ≡ length own)
 
--- The apex is no wire form; or the records are not copied; or there is no digest of them; or it does not fit.
-abbrev pub FailsToPutZone : List ℕ → List ℕ → ℕ → ℕ → Failure → Type 0
-FailsToPutZone apex records algorithm size failure =
+-- The apex is no wire form; or the records are not copied; or there is no digest of them.
+abbrev pub FailsToDigestZone : List ℕ → List ℕ → ℕ → Failure → Type 0
+FailsToDigestZone apex records algorithm failure =
     IsNoForm apex failure
     ⊎ ((labels : List (List ℕ)) × IsFormOf apex labels × FailsToCopyAll records failure)
     ⊎ ((labels : List (List ℕ)) × (copies : List Record) × IsFormOf apex labels × AreRecordCopies records 0 copies (length records)
     × FailsAs (FailsZoneDigest copies algorithm) failure)
+
+-- There is no digest, or it does not fit.
+abbrev pub FailsToPutZone : List ℕ → List ℕ → ℕ → ℕ → Failure → Type 0
+FailsToPutZone apex records algorithm size failure =
+    FailsToDigestZone apex records algorithm failure
     ⊎ ((own : List ℕ) × HasZoneDigest apex records algorithm own × (size < length own) × (failure ≡ why.NoRoom))

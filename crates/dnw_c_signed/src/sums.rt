@@ -9,7 +9,7 @@ ghost use Rattle.dnw_c_signed.specs.SumCalls.{CoversName, FailsToCover, FailsToD
 ghost use Rattle.dnw_c_signed.specs.SumCalls.{HasHash, PutsDigest, PutsHash, PutsHashLabel, of_dnssec};
 
 use dnw_c_base::buffer::put;
-use dnw_c_base::failure::{Failure, of_decode};
+use dnw_c_base::failure::Failure;
 use dnw_c_base::names::name_ref_at;
 use dnw_dnssec::covers::{nsec_covers, nsec3_covers};
 use dnw_dnssec::ds::ds_digest;
@@ -152,9 +152,15 @@ fn put_digest(
     ensures err { IfErr result (FailsToDigest owner.now dnskey.now digest_type (length digest.old)) }
     ensures same { OnErr result (digest.new ≡ digest.old) }
 {
-    let owner = name_of(alloc, owner)?;
+    let owner = match name_of(alloc, owner) {
+        Ok(owner) => owner,
+        Err(failure) => return Err(failure),
+    };
     match ds_digest(&owner, dnskey, digest_type) {
-        Ok(own) => put(digest, own.as_slice()),
+        Ok(own) => match put(digest, own.as_slice()) {
+            Ok(len) => Ok(len),
+            Err(failure) => Err(failure),
+        },
         Err(error) => Err(of_dnssec(&error)),
     }
 }
@@ -173,8 +179,14 @@ fn put_hash(
     ensures err { IfErr result (FailsToPutHash name.now algorithm iterations salt.now most (length hash.old)) }
     ensures same { OnErr result (hash.new ≡ hash.old) }
 {
-    let own = hash_of(alloc, name, algorithm, iterations, salt, most)?;
-    put(hash, &own)
+    let own = match hash_of(alloc, name, algorithm, iterations, salt, most) {
+        Ok(own) => own,
+        Err(failure) => return Err(failure),
+    };
+    match put(hash, &own) {
+        Ok(len) => Ok(len),
+        Err(failure) => Err(failure),
+    }
 }
 
 /// Puts the label of a hashed name, and returns its length.
@@ -191,8 +203,14 @@ fn put_label(
     ensures err { IfErr result (FailsToPutLabel name.now algorithm iterations salt.now most (length label.old)) }
     ensures same { OnErr result (label.new ≡ label.old) }
 {
-    let own = hash_of(alloc, name, algorithm, iterations, salt, most)?;
-    put(label, &nsec3_label(&own))
+    let own = match hash_of(alloc, name, algorithm, iterations, salt, most) {
+        Ok(own) => own,
+        Err(failure) => return Err(failure),
+    };
+    match put(label, &nsec3_label(&own)) {
+        Ok(len) => Ok(len),
+        Err(failure) => Err(failure),
+    }
 }
 
 /// Returns the hash of the name with a wire form.
@@ -219,7 +237,10 @@ fn covers_name(alloc: Global, owner: &[u8], next: &[u8], name: &[u8]) -> Result<
     ensures ok { IfOk result (CoversName owner.now next.now name.now) }
     ensures err { IfErr result (FailsToCover owner.now next.now name.now) }
 {
-    let owner = name_of(alloc, owner)?;
+    let owner = match name_of(alloc, owner) {
+        Ok(owner) => owner,
+        Err(failure) => return Err(failure),
+    };
     let next = name_of(alloc, next)?;
     let name = name_of(alloc, name)?;
     Ok(nsec_covers(&owner, &next, &name))
@@ -230,10 +251,7 @@ pub(crate) fn name_of(alloc: Global, form: &[u8]) -> Result<Name, Failure>
     ensures ok { IfOk result (λ (name : NameValue). IsFormOf form.now name.labels) }
     ensures err { IfErr result (IsNoForm form.now) }
 {
-    let (name, end) = match name_ref_at(form, 0) {
-        Ok(read) => read,
-        Err(error) => return Err(of_decode(&error)),
-    };
+    let (name, end) = name_ref_at(form, 0)?;
     if end != form.len() {
         return Err(Failure::BytesLeft);
     }

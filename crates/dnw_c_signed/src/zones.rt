@@ -4,13 +4,15 @@ ghost use Rattle.dnw_record.specs.Records.{RecordValue, TakesRecord};
 ghost use Rattle.dnw_record_owned.specs.AnyRecords.{IsCopyOf};
 ghost use Rattle.dnw_record_owned.specs.declared.record.Record.{Record};
 ghost use Rattle.dnw_c_base.specs.Failures.{NumberOf};
-ghost use Rattle.dnw_c_signed.specs.ZoneCalls.{AreRecordCopies, FailsToCopyAll, FailsToCopyNext, FailsToPutZone, PutsZoneDigest};
+ghost use Rattle.dnw_c_signed.specs.ZoneCalls.{AreRecordCopies, FailsToCopyAll, FailsToCopyNext, FailsToDigestZone, FailsToPutZone};
+ghost use Rattle.dnw_c_signed.specs.ZoneCalls.{HasZoneDigest, PutsZoneDigest};
 
 use crate::covering::copy_of;
 use crate::sums::{name_of, of_dnssec};
 use dnw_base::decoder::BinDecoder;
 use dnw_c_base::buffer::put;
 use dnw_c_base::failure::{Failure, of_decode};
+use dnw_dnssec::ds::Digest;
 use dnw_dnssec::zone_digest::zone_digest;
 use dnw_record::record::RecordRef;
 use dnw_record_owned::record::Record;
@@ -51,10 +53,28 @@ fn put_zone(
     ensures err { IfErr result (FailsToPutZone apex.now records.now algorithm (length digest.old)) }
     ensures same { OnErr result (digest.new ≡ digest.old) }
 {
-    let apex = name_of(alloc, apex)?;
+    let own = match digest_of(alloc, apex, records, algorithm) {
+        Ok(own) => own,
+        Err(failure) => return Err(failure),
+    };
+    match put(digest, own.as_slice()) {
+        Ok(len) => Ok(len),
+        Err(failure) => Err(failure),
+    }
+}
+
+/// Returns the digest of a zone.
+fn digest_of(alloc: Global, apex: &[u8], records: &[u8], algorithm: u8) -> Result<Digest, Failure>
+    ensures ok { IfOk result (λ own. HasZoneDigest apex.now records.now algorithm own.items) }
+    ensures err { IfErr result (FailsToDigestZone apex.now records.now algorithm) }
+{
+    let apex = match name_of(alloc, apex) {
+        Ok(apex) => apex,
+        Err(failure) => return Err(failure),
+    };
     let copies = copies_of(alloc, records)?;
     match zone_digest(alloc, &apex, copies.as_slice(), algorithm) {
-        Ok(own) => put(digest, own.as_slice()),
+        Ok(own) => Ok(own),
         Err(error) => Err(of_dnssec(&error)),
     }
 }

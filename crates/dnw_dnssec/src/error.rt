@@ -1,6 +1,6 @@
 //! Why there is no sum.
 use dnw_base::error::DecodeError;
-use std::alloc::{AllocError, AllocFailed};
+use std::alloc::AllocError;
 use thiserror::Error;
 
 /// Why there is no sum.
@@ -37,17 +37,6 @@ impl From<AllocError> for DnssecError {
     ghost from_gives = { λ _ e. e ≡ Memory };
 
     fn from(_: AllocError) -> Self {
-        DnssecError::Memory
-    }
-}
-
-impl<T: Drop> From<AllocFailed<T>> for DnssecError {
-    ghost use Rattle.std.specs.Prelude.{◌≡◌};
-    ghost use Rattle.dnw_dnssec.specs.declared.error.DnssecError.TheVariants.{Memory};
-
-    ghost from_gives = { λ _ e. e ≡ Memory };
-
-    fn from(_: AllocFailed<T>) -> Self {
         DnssecError::Memory
     }
 }

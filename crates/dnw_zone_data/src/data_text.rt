@@ -1,5 +1,6 @@
 //! The text of the data of records.
 ghost use Rattle.std.specs.Prelude.{◌≡◌, ◌≤◌, ◌⊎◌, ◌++◌, ℕ, List, [], length, flat_map, IfOk, MatchBool, MatchResult, string_bytes};
+ghost use Rattle.std.specs.List.{list_all};
 ghost use Rattle.std.specs.Option.{option_copied};
 ghost use Rattle.dnw_base.specs.RecordTypes.{type_code};
 ghost use Rattle.dnw_name_read.specs.ReadingLaws.{AreBytes};
@@ -155,7 +156,14 @@ fn parse_own(
 fn has_own_form(kinds: &[Kind]) -> bool
     ensures { result ≡ has_own_form kinds.now }
 {
-    !is_octets(kinds) && kinds.iter().all(|kind| has_field_text(*kind))
+    !is_octets(kinds) && have_field_texts(kinds)
+}
+
+/// Returns `true` if the text of each of these kinds is written here.
+fn have_field_texts(kinds: &[Kind]) -> bool
+    ensures { result ≡ list_all has_field_text kinds.now }
+{
+    kinds.iter().all(|kind| has_field_text(*kind))
 }
 
 /// Returns `true` if data of these kinds are octets alone.

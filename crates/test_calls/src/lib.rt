@@ -18,6 +18,8 @@ mod data_texts;
 #[cfg(test)]
 mod dnssec;
 #[cfg(test)]
+mod edns_options;
+#[cfg(test)]
 mod field_texts;
 #[cfg(test)]
 mod given_fields;

@@ -1,6 +1,5 @@
 pub mod Standing
 pub mod Bounded
-pub mod Delegation
 pub mod Denial
 pub mod Records
 pub mod Referrals

@@ -5,9 +5,9 @@
 pub mod bitmap;
 pub mod conversions;
 pub mod copying;
-pub mod delegation;
 pub mod denial;
 pub mod example;
+pub mod hashed_denial;
 pub mod mail;
 pub mod messages;
 pub mod question;

@@ -3,6 +3,7 @@
 use super::Refusal;
 use dns_names_wire::data_text::data_text;
 use dns_names_wire::dns_class::DNSClass;
+use dns_names_wire::edns_options::OptionData;
 use dns_names_wire::error::DecodeError;
 use dns_names_wire::message::{
     AddError, EdnsError, EdnsRef, Entry, MessageRef, MessageType, Metadata, OpCode, Records,
@@ -56,7 +57,9 @@ pub(super) fn listing(alloc: Global, octets: &[u8]) -> Result<String, Refusal> {
             "\n;; WARNING: Message has {rest} extra {bytes} at end\n"
         )?.as_str())?;
     }
-    text.pop();
+    if text.as_str().ends_with('\n') {
+        text.pop();
+    }
     Ok(text)
 }
 
@@ -77,7 +80,7 @@ fn in_additionals<T: Drop>(
     }
 }
 
-/// Adds what a message says by EDNS: a line, and one for each option, with its octets in hexadecimal.
+/// Adds what a message says by EDNS: a line, and one for each option. One that breaks a rule is shown by its octets.
 fn push_edns(alloc: Global, text: &mut String, edns: &EdnsRef<'_>) -> Result<(), Refusal> {
     let flags = if edns.dnssec_ok() { " do" } else { "" };
     let (version, payload) = (edns.version(), edns.max_payload());
@@ -85,11 +88,12 @@ fn push_edns(alloc: Global, text: &mut String, edns: &EdnsRef<'_>) -> Result<(),
         "\n;; OPT PSEUDOSECTION:\n; EDNS: version: {version}, flags:{flags}; udp: {payload}"
     )?.as_str())?;
     for option in edns.options() {
-        text.push_str(format!(in alloc; "\n; OPT={}:", option.code())?.as_str())?;
-        for octet in option.octets() {
-            text.push_str(" ")?;
-            text.push_str(hex::encode(alloc, &[*octet])?.as_str())?;
-        }
+        let (code, octets) = (option.code(), option.octets());
+        let shown = match OptionData::read(code, octets) {
+            Ok(option) => option,
+            Err(_) => OptionData::Unknown { code, octets },
+        };
+        text.push_str(format!(in alloc; "\n; {shown}")?.as_str())?;
     }
     Ok(())
 }

@@ -7,4 +7,4 @@ use Rattle.uses.proofs.bitmap.lists_type.Goals as goal
 pub returns : goal.returns
 returns c =
     finds_bits c.bitmaps_list_bits.ensures.windows c.bitmaps_list_bits.ensures.bits (next_bytes c.args.decoder.now c.args.length)
-    c.in_ok-set.set.types c.args.kind c.in_ok-set.ensures.ok.1 c.contains.result (search rules)
+    c.in_ok-set.set.types c.args.record_type c.in_ok-set.ensures.ok.1 c.contains.result (search rules)

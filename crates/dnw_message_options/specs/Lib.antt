@@ -1,0 +1,5 @@
+pub mod Codes
+pub mod Values
+pub mod Rules
+pub mod Reading
+pub mod OptionLaws
