@@ -584,7 +584,7 @@ def always(_):
 
 
 ALL = OCTETS, THEIRS, OURS_THERE = "octets", "their text", "our text"
-BASE = "SIG KEY CERT DS SSHFP RRSIG DNSKEY TLSA SMIMEA CDS CDNSKEY OPENPGPKEY ZONEMD DHCID DLV"
+BASE = "SIG KEY CERT DS SSHFP RRSIG DNSKEY TLSA SMIMEA CDS CDNSKEY OPENPGPKEY ZONEMD"
 SHA = {1: 20, 2: 32, 3: 32, 4: 48}
 # Whose, in which ways, of which types, when, and what it is.
 DIFFERENCES = [
@@ -609,15 +609,13 @@ DIFFERENCES = [
     (Dnspython, [THEIRS], "NSEC NSEC3 CSYNC", is_longer, "has no text for a bitmap with zeros at the end of a window"),
     (Dnspython, [THEIRS], "LOC IPSECKEY HIP APL NID L64 AMTRELAY WKS NSAP TKEY TSIG", always, "has a text, and ours has that of any data"),
     (Dnspython, [OURS_THERE], "MD MF MB MG MR MINFO", always, "has no text but that of any data"),
-    (Dnspython, [OURS_THERE], "AVC DSYNC NINFO RKEY RESINFO TALINK WALLET CLA", always, "has no text but that of any data"),
-    (Dnspython, [OURS_THERE], "HINFO NAPTR CAA URI X25 ISDN", has_high_octets, "takes an octet above 127 for a character, and writes that in UTF-8"),
+    (Dnspython, [OURS_THERE], "HINFO NAPTR CAA URI", has_high_octets, "takes an octet above 127 for a character, and writes that in UTF-8"),
     (Dnspython, [OURS_THERE], "NSEC NSEC3 CSYNC", has_zero, "refuses type 0 in a bitmap"),
     (Dnspython, [OURS_THERE], BASE, is_empty, "wants a word for no octets"),
     (Dnspython, [OURS_THERE], "NSEC3", is_padded, "wants padding"),
     (Ldns, ALL, "ISDN", has_many_strings, "refuses more than two strings, or an empty second one"),
     (Ldns, ALL, "NSAP-PTR", always, "takes the name for a string"),
     (Ldns, [THEIRS], "NXT", always, "has a text, and ours has that of any data"),
-    (Ldns, [OURS_THERE], "AVC DSYNC NINFO RKEY RESINFO TALINK WALLET CLA", always, "has no text, or another, but that of any data"),
     (Ldns, ALL, "HIP", is_no_hip, "refuses other octets than those of RFC 8005"),
     (Ldns, [THEIRS], "SVCB HTTPS", has_other_value, "has another text, or none, for a value that has not the form of its key"),
     (Ldns, [THEIRS, OURS_THERE], "SVCB HTTPS", has_odd_protocol, "has no escapes in a list of protocols"),

@@ -60,11 +60,10 @@ REFUSED = {"bind": {"MD", "MF"}, "knot": set(), "powerdns": set()}
 
 # The types whose data have a text of their own here. Those of the others are shown as RFC 3597 does.
 TEXTS = set("""A NS MD MF CNAME SOA MB MG MR PTR HINFO MINFO MX TXT RP AFSDB RT PX SIG KEY AAAA SRV NAPTR KX CERT DNAME DS SSHFP
-    RRSIG DNSKEY NSEC3PARAM TLSA SMIMEA CDS CDNSKEY OPENPGPKEY ZONEMD SPF URI CAA NSEC NSEC3 CSYNC EUI48 EUI64 SVCB HTTPS
-    X25 ISDN NSAP-PTR DHCID DLV NINFO L32 LP AVC""".split())
+    RRSIG DNSKEY NSEC3PARAM TLSA SMIMEA CDS CDNSKEY OPENPGPKEY ZONEMD SPF URI CAA NSEC NSEC3 CSYNC EUI48 EUI64 SVCB HTTPS""".split())
 
 # Those whose letters are hexadecimal digits, which dnspython has in lower case.
-HEXADECIMAL = {"DS", "CDS", "DLV", "SSHFP", "TLSA", "SMIMEA", "ZONEMD", "NSEC3PARAM"}
+HEXADECIMAL = {"DS", "CDS", "SSHFP", "TLSA", "SMIMEA", "ZONEMD", "NSEC3PARAM"}
 
 # How many words are before the types of a bitmap. The salt and the hashed name of NSEC3 are the fourth and the fifth.
 BEFORE_TYPES = {"NSEC": 1, "NSEC3": 5, "CSYNC": 2}
@@ -93,8 +92,6 @@ def data_text(record):
         return " ".join([*(str(int(number)) for number in numbers), record.to_text(chunksize=0).split()[-1]])
     if kind in ("OPENPGPKEY", "EUI48", "EUI64"):
         return record.to_text()
-    if kind == "GPOS":
-        return " ".join(f'"{text.decode()}"' for text in (record.latitude, record.longitude, record.altitude))
     if kind in ("SVCB", "HTTPS"):
         # dnspython has quotes around each value; BIND, as here, around those of any octets alone
         return re.sub(r'\b(mandatory|port|ipv[46]hint|ech)="([^"]*)"', r"\1=\2", record.to_text())

@@ -138,7 +138,7 @@ data_fit r own h (inl wire) = plain_fit (record_fields r).kinds (record_fields r
 data_fit r own h (inr (none, e)) = rw e (take_fit (r.start + r.len - r.start) (drop r.start r.message) (drop_fit r.start r.message h))
 
 pub back : DataComeBack
-back origin r text h (inl is) = own_back origin r text h is
+back origin r text h (inl (known, is)) = own_back origin r text h is
 back origin r text h (inr (lacks, own, plain, e)) = (
   own,
   plain,

@@ -3,13 +3,14 @@
 use Rattle.std.specs.Prelude.{◌≡◌, ◌≢◌, ℕ, ◌-◌, ◌==◌, ◌⊎◌, ◌&&◌, not, Bool, true, false, List, [], ◌∷◌, ◌++◌, length, flat_map, if◌then◌else◌, Option}
 use Rattle.dnw_base.specs.declared.error.DecodeError.{DecodeError}
 use Rattle.dnw_base.specs.Decoder.{Decoder}
+use Rattle.dnw_base.specs.RecordTypes.{type_code}
 use Rattle.dnw_base.specs.Names.{NameValue}
 use Rattle.dnw_data.specs.declared.kind.Kind.{Kind}
 use Rattle.dnw_data.specs.declared.kind.Kind.TheVariants.{LongTime, Locator, LongCounted, Shaped, Octets}
 use Rattle.dnw_data.specs.declared.kind.Kind.TheVariants as kinds
 use Rattle.dnw_data.specs.declared.kind.ListKind.TheVariants.{Prefixes, Names}
 use Rattle.dnw_data.specs.declared.kind.Shown.TheVariants.{Hex, Other}
-use Rattle.std.specs.List.{list_all}
+use Rattle.std.specs.List.{list_all, list_any}
 use Rattle.dnw_data.specs.Values.{FieldValue}
 use Rattle.dnw_data.specs.Fields.{TakesField, FailsField}
 use Rattle.dnw_data.specs.Walks.{IsAtEnd, FieldsLeft}
@@ -87,11 +88,22 @@ IsOwnText left text =
 abbrev pub LacksText : FieldsLeft → Type 0
 LacksText left = (has_own_form left.kinds ≡ false) ⊎ HasNoText left.kinds left.reader
 
--- the text of the data of a record
+-- Types that have no name here, and of which many servers know no text: X25, ISDN, NSAP-PTR, GPOS, DHCID, NINFO, RKEY, TALINK,
+-- DSYNC, L32, LP, AVC, RESINFO, WALLET, CLA and DLV.
+abbrev pub little_known : List ℕ
+little_known =
+    19 ∷ 20 ∷ 23 ∷ 27 ∷ 49 ∷ 56 ∷ 57 ∷ 58 ∷ 66 ∷ 105 ∷ 107 ∷ 258 ∷ 261 ∷ 262 ∷ 263 ∷ 32769 ∷ []
+
+unfoldable pub is_little_known : ℕ → Bool
+is_little_known code = list_any (λ known. known == code) little_known
+
+-- the text of the data of a record: of a type that is little known it is in the form of any data, which each server reads
+-- (RFC 3597, section 5)
 abbrev pub IsDataText : RecordValue → List ℕ → Type 0
 IsDataText r text =
-    IsOwnText (record_fields r) text
-    ⊎ (LacksText (record_fields r) × (own : List ℕ) × IsPlainData r own × (text ≡ generic_text own))
+    ((is_little_known (type_code r.record_type) ≡ false) × IsOwnText (record_fields r) text)
+    ⊎ (((is_little_known (type_code r.record_type) ≡ true) ⊎ LacksText (record_fields r)) × (own : List ℕ) × IsPlainData r own
+    × (text ≡ generic_text own))
 
 -- ---- parsing
 

@@ -10,7 +10,7 @@ ghost use Rattle.dnw_zone_data.specs.declared.error.DataTextError.TheVariants.{M
 ghost use Rattle.dnw_zone_data.specs.Parsing.{AreFieldTexts, FailsFields};
 ghost use Rattle.dnw_data.specs.FieldWires.{field_wire};
 ghost use Rattle.dnw_zone_data.specs.Generic.{IsSized};
-ghost use Rattle.dnw_zone_data.specs.DataTexts.{has_own_form, has_field_text, is_octets, without_space, ArePlain, IsPlainData, IsDataText, IsTextOf, FailsGeneric, FailsText};
+ghost use Rattle.dnw_zone_data.specs.DataTexts.{has_own_form, has_field_text, is_little_known, is_octets, without_space, ArePlain, IsPlainData, IsDataText, IsTextOf, FailsGeneric, FailsText};
 ghost use Rattle.dnw_zone_data.specs.Inside.Wires.{AppendsWires};
 
 use crate::error::{DataTextError, Wanted};
@@ -27,14 +27,15 @@ use dnw_record::record::RecordRef;
 use std::alloc::{AllocError, Global};
 
 /// Returns the text of the data of a record in a master file: its fields with a space between them, or the form that any data
-/// have, as `\# 4 0A000001`, if its type or a field has no text, or if the data are no fields of their type.
+/// have, as `\# 4 0A000001`, if its type or a field has no text, if many servers know no text of the type (RFC 3597, section
+/// 5), or if the data are no fields of their type.
 ///
 /// It fails only if it runs out of memory.
 pub fn data_text(alloc: Global, record: &RecordRef<'_>) -> Result<String, AllocError>
     ensures { IfOk result (λ text. IsDataText «record».now (string_bytes text)) }
 {
     let kinds = fields_of(record.record_type());
-    if has_own_form(kinds) {
+    if !is_little_known(record.record_type()) && has_own_form(kinds) {
         let mut text = String::new(alloc);
         if write_fields(alloc, kinds, &mut record.fields(), &mut text)? {
             return without_space(alloc, text.as_str());
@@ -150,6 +151,17 @@ fn parse_own(
     let mut octets = Vec::new(alloc);
     parse_fields(alloc, place, kinds, text, origin, &mut octets)?;
     Ok(octets)
+}
+
+/// Returns `true` for types of which many servers know no text.
+#[tactic(auto, unfolding(crate::specs::DataTexts::is_little_known))]
+fn is_little_known(record_type: RecordType) -> bool
+    ensures { result ≡ is_little_known (type_code record_type) }
+{
+    matches!(
+        u16::from(record_type),
+        19 | 20 | 23 | 27 | 49 | 56..=58 | 66 | 105 | 107 | 258 | 261..=263 | 32769
+    )
 }
 
 /// Returns `true` if data of these kinds have a form of their own.
