@@ -1,7 +1,7 @@
 """The sums that DNSSEC makes: key tags, digests of keys and of zones, hashed names, and which names a record covers."""
 
 from ctypes import byref, c_bool, c_char, c_size_t, c_uint16
-from typing import Iterable, Tuple
+from typing import Callable, Iterable
 
 from ._checks import Bytes, number, octets
 from ._errors import check
@@ -51,12 +51,7 @@ def nsec3_hash(name: Name, iterations: int, salt: Bytes, max_iterations: int, al
     >>> nsec3_hash(Name("example."), 12, bytes.fromhex("aabbccdd"), 100).hex()
     '065368abeed7ec6e9feba96b8c8bc3e8b791f716'
     """
-    wire, size = wire_of("name", name)
-    own, rounds, most = _hashing(iterations, salt, max_iterations)
-    code = number("algorithm", algorithm, 255)
-    room, length = (c_char * NSEC3_HASH_SIZE)(), c_size_t()
-    check(library.dnw_nsec3_hash(wire, size, code, rounds, own, len(own), most, room, len(room), byref(length)))
-    return taken(room, length.value)
+    return _hashed(library.dnw_nsec3_hash, NSEC3_HASH_SIZE, name, iterations, salt, max_iterations, algorithm)
 
 
 def nsec3_label(name: Name, iterations: int, salt: Bytes, max_iterations: int, algorithm: int = 1) -> str:
@@ -68,17 +63,20 @@ def nsec3_label(name: Name, iterations: int, salt: Bytes, max_iterations: int, a
     >>> nsec3_label(Name("example."), 12, bytes.fromhex("aabbccdd"), 100)
     '0p9mhaveqvm6t7vbl5lop2u3t2rp3tom'
     """
+    label = _hashed(library.dnw_nsec3_label, NSEC3_LABEL_SIZE, name, iterations, salt, max_iterations, algorithm)
+    return label.decode("ascii")
+
+
+def _hashed(
+    call: Callable[..., int], room_size: int, name: Name, iterations: int, salt: Bytes, max_iterations: int, algorithm: int
+) -> bytes:
+    """What a function of the library stores of a name that is hashed so."""
     wire, size = wire_of("name", name)
-    own, rounds, most = _hashing(iterations, salt, max_iterations)
-    code = number("algorithm", algorithm, 255)
-    room, length = (c_char * NSEC3_LABEL_SIZE)(), c_size_t()
-    check(library.dnw_nsec3_label(wire, size, code, rounds, own, len(own), most, room, len(room), byref(length)))
-    return taken(room, length.value).decode("ascii")
-
-
-def _hashing(iterations: int, salt: Bytes, max_iterations: int) -> Tuple[bytes, int, int]:
     most = number("max_iterations", max_iterations, 65535)
-    return octets("salt", salt), number("iterations", iterations, 65535), most
+    own, rounds = octets("salt", salt), number("iterations", iterations, 65535)
+    code, room, length = number("algorithm", algorithm, 255), (c_char * room_size)(), c_size_t()
+    check(call(wire, size, code, rounds, own, len(own), most, room, room_size, byref(length)))
+    return taken(room, length.value)
 
 
 def nsec_covers(owner: Name, next_name: Name, name: Name) -> bool:
