@@ -3,3 +3,4 @@ pub mod PrintedTypes
 pub mod PrintedClasses
 pub mod Wires
 pub mod DecoderReads
+pub mod TypeKeys

@@ -1,3 +1,4 @@
 pub mod Ties
 pub mod RecordTypeLaws
 pub mod DnsClassLaws
+pub mod TypeKeys

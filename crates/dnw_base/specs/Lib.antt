@@ -1,5 +1,6 @@
 pub mod Entries
 pub mod CodeTexts
+pub mod TypeNames
 pub mod RecordTypes
 pub mod DnsClasses
 pub mod Serials

@@ -10,6 +10,7 @@ use Rattle.dnw_base.specs.declared.record_type.RecordType.{RecordType}
 use Rattle.dnw_base.specs.declared.record_type.RecordType.TheVariants as rr
 use Rattle.dnw_base.specs.Entries.{Entry, entry}
 use Rattle.dnw_base.specs.CodeTexts.{numbered, code_after}
+use Rattle.dnw_base.specs.TypeNames.{further_name, further_code}
 
 -- the table of the types
 abbrev pub type_entry : RecordType → Entry
@@ -92,19 +93,34 @@ find_named types name = find (λ kind. is_written kind && bytes_eq (type_name ki
 unfoldable pub type_of_name : List ℕ → Option RecordType
 type_of_name name = if bytes_eq name (codes "*") then Some rr.ANY else find_named named_types name
 
--- the text of a type in a zone file: its name, or `TYPE` and its code if it has none (RFC 3597, section 5)
+-- the variants that IANA's registry has: code 0 is reserved there, and that of ANAME was never assigned
+abbrev pub is_registered : RecordType → Bool
+is_registered rr.ZERO = false
+is_registered rr.ANAME = false
+is_registered (rr.Unknown code) = false
+is_registered kind = true
+
+-- the name of a type in the registry, if it has one
+abbrev pub registered_name : RecordType → Option (List ℕ)
+registered_name kind = if is_registered kind then Some (type_name kind) else further_name (type_code kind)
+
+-- the text of a type in a zone file: its name in the registry, or `TYPE` and its code if it has none (RFC 3597, section 5)
 abbrev pub type_text : RecordType → List ℕ
-type_text kind = if is_unknown kind then numbered (codes "TYPE") (type_code kind) else type_name kind
+type_text kind = unwrap_or (registered_name kind) (numbered (codes "TYPE") (type_code kind))
 
--- the type with this name, in upper or lower case, if any; `*` is any type
-abbrev pub type_of_any_case : List ℕ → Option RecordType
-type_of_any_case text =
-    if bytes_eq text (codes "*") then Some rr.ANY
-    else find (λ kind. str_eq_ignore_ascii_case (type_name kind) text) named_types
+-- the type with this name in the registry, in upper or lower case, if any
+unfoldable pub registered_type : List ℕ → Option RecordType
+registered_type name =
+    option_or
+    (find (λ kind. is_registered kind && str_eq_ignore_ascii_case (type_name kind) name) named_types)
+    (option_map rr.Unknown (further_code name))
 
--- the type that a text gives, by its code or its name, if any
+-- the type that a text gives, if any: by its code; any type for `*` (RFC 1035, section 3.2.3); or by its name
 unfoldable pub type_of_text : List ℕ → Option RecordType
-type_of_text text = option_or (option_map type_of_code (code_after (codes "TYPE") text)) (type_of_any_case text)
+type_of_text text =
+    option_or
+    (option_map type_of_code (code_after (codes "TYPE") text))
+    (if bytes_eq text (codes "*") then Some rr.ANY else registered_type text)
 
 -- by code; of two types with one code, the named one first
 abbrev pub type_cmp : RecordType → RecordType → Ordering

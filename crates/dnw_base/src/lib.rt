@@ -14,3 +14,4 @@ pub mod record_type;
 pub mod restrict;
 pub mod serial_number;
 mod table;
+mod type_names;

@@ -1,13 +1,13 @@
 //! Record types.
-ghost use Rattle.std.specs.Prelude.{◌≡◌, ◌⊎◌, ◌↔◌, Some, IsTrue, find};
+ghost use Rattle.std.specs.Prelude.{◌≡◌, ◌⊎◌, ◌↔◌, Some, IsTrue, find, option_map};
 ghost use Rattle.std.specs.Ordering.{eq_by_cmp};
-ghost use Rattle.std.specs.Str.{str_eq_ignore_ascii_case};
-ghost use Rattle.dnw_base.specs.RecordTypes.{type_code, type_name, type_of_code, type_text, type_of_text, find_named, type_of_name, type_cmp, is_unknown, is_written, is_dnssec};
+ghost use Rattle.dnw_base.specs.RecordTypes.{type_code, type_name, type_of_code, type_text, type_of_text, registered_name, registered_type, find_named, type_of_name, type_cmp, is_unknown, is_written, is_dnssec};
 ghost use Rattle.dnw_base.specs.Naming.{Looks, ReportsType};
 
-use crate::code_text::{CodeText, code_after, is_alike, named, numbered};
+use crate::code_text::{CodeText, code_after, named, numbered};
 use crate::error::DecodeError;
 use crate::of_table;
+use crate::type_names::{further_name, registered_type};
 use std::alloc::Global;
 use std::cmp::Ordering;
 use std::fmt;
@@ -95,7 +95,7 @@ pub enum RecordType {
     TSIG,
     /// Text (RFC 1035, section 3.3.14).
     TXT,
-    /// A type without a name here, by its code.
+    /// A type that is none of these, by its code.
     Unknown(u16),
     /// Code 0, which is the type of no record (RFC 6895, section 3.1).
     ZERO,
@@ -317,13 +317,15 @@ impl RecordType {
         Err(DecodeError::UnknownRecordTypeStr(text))
     }
 
-    /// Returns the type that a text gives in a zone file, in upper or lower case: a name, `*` for `ANY`, or `TYPE` and a
-    /// code in decimal digits, also for a type with a name (RFC 3597, section 5).
+    /// Returns the type that a text gives in a zone file, in upper or lower case: a name of IANA's registry, `*` for `ANY`,
+    /// or `TYPE` and a code in decimal digits, also for a type with a name (RFC 3597, section 5).
     ///
-    /// Unlike [`from_name`](RecordType::from_name) it takes all names, those of `IXFR`, `OPT` and `ZERO` too.
+    /// Unlike [`from_name`](RecordType::from_name) it takes all names of the registry, also those of types that are
+    /// `Unknown` here, and neither `ANAME` nor `ZERO`, which are not in it.
     ///
     /// ```
     /// RecordType::from_text("aaaa"); // Some(RecordType::AAAA)
+    /// RecordType::from_text("RP"); // Some(RecordType::Unknown(17))
     /// RecordType::from_text("TYPE28"); // Some(RecordType::AAAA)
     /// RecordType::from_text("TYPE65536"); // None
     /// ```
@@ -337,36 +339,39 @@ impl RecordType {
         if text == "*" {
             return Some(RecordType::ANY);
         }
-        find_any_case(NAMED, text)
+        registered_type(text.as_bytes())
     }
 
-    /// Returns the text of the type in a zone file: its name in capitals, or `TYPE` and its code for `Unknown` (RFC 3597,
-    /// section 5). [`from_text`](RecordType::from_text) gives the type of the same code for it.
+    /// Returns the text of the type in a zone file: its name in IANA's registry, in capitals, or `TYPE` and its code if it
+    /// has none there, as `ANAME`, `ZERO` and most codes of `Unknown` (RFC 3597, section 5).
+    /// [`from_text`](RecordType::from_text) gives the type of the same code for it.
     ///
     /// ```
     /// RecordType::AAAA.to_text(); // "AAAA"
+    /// RecordType::Unknown(17).to_text(); // "RP"
     /// RecordType::Unknown(65280).to_text(); // "TYPE65280"
     /// ```
-    #[tactic(auto, using(crate::proofs::PrintedTypes::names_fit, crate::proofs::PrintedTypes::types_come_back))]
+    #[tactic(auto, using(crate::proofs::PrintedTypes::types_come_back))]
     pub fn to_text(self) -> CodeText
         ensures text { result.bytes ≡ type_text self }
         ensures back { type_of_text (type_text self) ≡ Some (type_of_code (type_code self)) }
     {
-        if self.is_unknown() {
-            numbered("TYPE", u16::from(self))
-        } else {
-            named(Into::<&str>::into(self))
+        match self.registered_name() {
+            Some(name) => named(name),
+            None => numbered("TYPE", u16::from(self)),
         }
     }
-}
 
-fn find_any_case(types: &[RecordType], text: &str) -> Option<RecordType>
-    ensures { result ≡ find (λ record_type. str_eq_ignore_ascii_case (type_name record_type) text.now) types.now }
-{
-    types.iter().copied().find(|record_type| is_alike(
-        Into::<&str>::into(*record_type).as_bytes(),
-        text.as_bytes(),
-    ))
+    /// Returns the name of the type in IANA's registry, if it has one there.
+    fn registered_name(self) -> Option<&'static str>
+        ensures { option_map (λ name. name.now) result ≡ registered_name self }
+    {
+        let code = self.code();
+        match self {
+            RecordType::ANAME | RecordType::Unknown(_) | RecordType::ZERO => further_name(code),
+            _ => Some(self.name()),
+        }
+    }
 }
 
 fn find_named(types: &[RecordType], name: &str) -> Option<RecordType>
