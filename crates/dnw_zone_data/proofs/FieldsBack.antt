@@ -1,21 +1,22 @@
 -- What is printed of a field is read as that field, whatever is after it.
 use Rattle.std.proofs.Common.{◌≡◌, ◌≢◌, ℕ, suc, ◌+◌, ◌/◌, ◌%◌, ◌<◌, ◌≤◌, true, false, ◌&&◌, List, [], ◌∷◌, ◌++◌, zero, length, codes, slice_index, refl, sym, ap, ◌∙◌, subst, arith, decimal, append_assoc, append-nil, length-append, inl, inr}
-use Rattle.std.specs.Prelude.{nat_le, flat_map, Option, Some}
+use Rattle.std.specs.Prelude.{nat_le, nat_lt, flat_map, Option, Some}
 use Rattle.std.specs.Net.Addr.{ipv4_octets, IsIpv4Addr}
 use Rattle.std.specs.Net.Text.{dotted_text, ipv4_text}
 use Rattle.std.specs.declared.net.Ipv4Addr.{Ipv4Addr}
 use Rattle.std.proofs.NetLemmas.Texts.{IsDotted-ipv4_text}
 use Rattle.std.specs.List.{AllPass}
 use Rattle.std.specs.Char.{is_ascii_digit, is_ascii_alphanumeric}
-use Rattle.std.proofs.lemmas.Bool.{cases_eq, cases_Bool, ne_eqb}
+use Rattle.std.proofs.lemmas.Bool.{cases_eq, cases_Bool, lt-ltb, ltb-true, ne_eqb}
 use Rattle.std.proofs.lemmas.List.{take_at, drop_at}
 use Rattle.hex.proofs.HexLemmas.{length-encode_with}
 use Rattle.hex.specs.Hex.{upper_digits}
 use Rattle.dnw_base.specs.Names.{NameValue}
 use Rattle.dnw_base.specs.declared.record_type.RecordType.{RecordType}
 use Rattle.dnw_base.specs.declared.record_type.RecordType.TheVariants as rr
-use Rattle.dnw_base.specs.RecordTypes.{type_code, type_text}
-use Rattle.dnw_base.proofs.PrintedTypes.{types_come_back}
+use Rattle.dnw_base.specs.CodeTexts.{numbered}
+use Rattle.dnw_base.specs.RecordTypes.{type_code, type_name, type_text}
+use Rattle.dnw_base.proofs.PrintedTypes.{text_by, types_come_back}
 use Rattle.dnw_data.specs.declared.kind.Kind.{Kind}
 use Rattle.dnw_data.specs.declared.kind.Kind.TheVariants.{U8, U16, U32, Ipv4, TypeCode, Time, Counted, Octets, List as ListOf}
 use Rattle.dnw_data.specs.declared.kind.Shown.TheVariants.{Text, Tag, Hex, Base32Hex}
@@ -120,13 +121,24 @@ salt_back own is origin printed rest print end =
     let plain = salt_plain own is.0 in
     plain_by origin (Counted Hex) printed w rest (counted own) refl print plain (salt_some own) end.1 (own, plain_utf8 w plain, (salt own is).0, refl)
 
+name_plain : (record_type : RecordType) → all_plain (type_name record_type) ≡ true
+name_plain (rr.Unknown code) = refl
+name_plain record_type = refl
+
 pub type_plain : (record_type : RecordType) → type_code record_type < 65536 → all_plain (type_text record_type) ≡ true
-type_plain (rr.Unknown code) h = plain_append (codes "TYPE") (decimal code) refl (decimal_plain code (omega (arith, h)))
-type_plain record_type h = refl
+type_plain record_type h =
+    let number = plain_append (codes "TYPE") (decimal (type_code record_type)) refl (decimal_plain (type_code record_type) (omega (arith, h))) in
+    text_by all_plain name_plain refl record_type number
+
+name_some : (record_type : RecordType) → nat_lt 0 (length (type_name record_type)) ≡ true
+name_some (rr.Unknown code) = refl
+name_some record_type = refl
 
 pub type_some : (record_type : RecordType) → 0 < length (type_text record_type)
-type_some (rr.Unknown code) = omega (arith, length-append (codes "TYPE") (decimal code))
-type_some record_type = omega arith
+type_some record_type =
+    let printed = numbered (codes "TYPE") (type_code record_type) in
+    let number = lt-ltb 0 (length printed) (omega (arith, length-append (codes "TYPE") (decimal (type_code record_type)))) in
+    ltb-true 0 (length (type_text record_type)) (text_by (λ w. nat_lt 0 (length w)) name_some refl record_type number)
 
 pub type_back : (record_type : RecordType) → IsReadType record_type → FieldComesBack TypeCode (type_code_of record_type)
 type_back record_type is origin printed rest print end =

@@ -12,7 +12,7 @@ use Rattle.std.proofs.lemmas.List.Concat.{flat_map-append}
 use Rattle.dnw_base.specs.declared.record_type.RecordType.{RecordType}
 use Rattle.dnw_data.specs.TypeSets.{bits, bit_codes, octets_codes, window_size}
 use Rattle.dnw_data.proofs.Windows.{bits_next}
-use Rattle.dnw_base.specs.RecordTypes.{type_of_text}
+use Rattle.dnw_base.specs.RecordTypes.{registered_type, type_of_text}
 use Rattle.dnw_zone_svcb.specs.Inside.Steps.{IsSpaced}
 use Rattle.dnw_zone_data.specs.Words.{after_spaces, word, after_word}
 use Rattle.dnw_zone_data.specs.TypeLists.{is_window, codes_within, code_text, codes_text, PrintsTypes, IsTypeWord, AreTypeWords}
@@ -64,7 +64,7 @@ types_stop text (d ∷ done) (s ∷ kinds) left h some none are = types_stop (af
 
 -- no type has an empty name
 pub word_some : (w : List ℕ) (record_type : RecordType) → IsTypeWord w record_type → 0 < length w
-unfolding type_of_text
+unfolding type_of_text registered_type
 word_some [] record_type is = let no : None ≡ Some record_type = is.1 in cc
 word_some (c ∷ w) record_type is = omega arith
 

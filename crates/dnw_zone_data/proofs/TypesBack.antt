@@ -7,7 +7,7 @@ use Rattle.std.proofs.lemmas.Bool.{and_parts, cases_Bool, eqb-false, leb-true, n
 use Rattle.std.proofs.lemmas.List.{take_all, take-append-drop, length-take-le}
 use Rattle.dnw_base.specs.declared.record_type.RecordType.{RecordType}
 use Rattle.dnw_base.specs.declared.record_type.RecordType.TheVariants as rr
-use Rattle.dnw_base.specs.RecordTypes.{named_types, type_cmp, type_code, type_of_code, type_of_text, type_text}
+use Rattle.dnw_base.specs.RecordTypes.{named_types, registered_type, type_cmp, type_code, type_of_code, type_of_text, type_text}
 use Rattle.dnw_base.proofs.PrintedTypes.{types_come_back}
 use Rattle.dnw_data.specs.declared.kind.Kind.TheVariants.{List as ListOf}
 use Rattle.dnw_data.specs.declared.kind.ListKind.TheVariants as lists
@@ -149,7 +149,7 @@ from_start text [] h = starts_twice text ∙ h
 from_start text (kind ∷ kinds) h = rw (starts_twice text) h
 
 no_type : (record_type : RecordType) → IsTypeWord generic_mark record_type → ⊥
-unfolding type_of_text
+unfolding type_of_text registered_type
 no_type record_type is = let no : None ≡ Some record_type = is.1 in cc
 
 types_no_mark : (text : List ℕ) (kinds : List RecordType) → AreTypeWords text kinds → word (after_spaces text) ≢ generic_mark
