@@ -632,46 +632,107 @@ uint32_t dnw_name_trim(const uint8_t *name, size_t name_len, size_t labels, uint
    `len`. The root is unchanged. It does not allocate. It fails as dnw_name_to_lowercase. */
 uint32_t dnw_name_to_wildcard(const uint8_t *name, size_t name_len, uint8_t *form, size_t form_size, size_t *len);
 
-/* The record types and the classes that have a name. Any other number up to 65535 is a code too. */
+/* The record types of IANA's registry that have a name, with code 0 and ANAME, and the classes that have one. Any other
+   number up to 65535 is a code too. */
 enum dnw_type {
     DNW_TYPE_ZERO = 0,        /* Code 0, which no record has as its type (RFC 6895, section 3.1) */
     DNW_TYPE_A = 1,           /* An IPv4 address (RFC 1035, section 3.4.1) */
     DNW_TYPE_NS = 2,          /* A name server of a zone (RFC 1035, section 3.3.11) */
+    DNW_TYPE_MD = 3,          /* A host for mail to a domain, obsolete (RFC 1035, section 3.3.4) */
+    DNW_TYPE_MF = 4,          /* A host that forwards mail, obsolete (RFC 1035, section 3.3.5) */
     DNW_TYPE_CNAME = 5,       /* The canonical name of an alias (RFC 1035, section 3.3.1) */
     DNW_TYPE_SOA = 6,         /* The start of a zone of authority (RFC 1035, section 3.3.13) */
+    DNW_TYPE_MB = 7,          /* The host of a mailbox, obsolete (RFC 1035, section 3.3.3) */
+    DNW_TYPE_MG = 8,          /* A member of a mail group, obsolete (RFC 1035, section 3.3.6) */
+    DNW_TYPE_MR = 9,          /* A new name of a mailbox, obsolete (RFC 1035, section 3.3.8) */
     DNW_TYPE_NULL = 10,       /* Any data (RFC 1035, section 3.3.10) */
+    DNW_TYPE_WKS = 11,        /* The well-known services of a host (RFC 1035, section 3.4.2) */
     DNW_TYPE_PTR = 12,        /* A pointer to another name (RFC 1035, section 3.3.12) */
     DNW_TYPE_HINFO = 13,      /* The CPU and the operating system of a host (RFC 1035, section 3.3.2) */
+    DNW_TYPE_MINFO = 14,      /* Who is responsible for a mailbox or mail list (RFC 1035, section 3.3.7) */
     DNW_TYPE_MX = 15,         /* A mail server for a domain (RFC 1035, section 3.3.9) */
     DNW_TYPE_TXT = 16,        /* Text (RFC 1035, section 3.3.14) */
+    DNW_TYPE_RP = 17,         /* A responsible person (RFC 1183, section 2.2) */
+    DNW_TYPE_AFSDB = 18,      /* A server of AFS or of DCE (RFC 1183, section 1) */
+    DNW_TYPE_X25 = 19,        /* An address in X.25 (RFC 1183, section 3.1) */
+    DNW_TYPE_ISDN = 20,       /* A number in ISDN (RFC 1183, section 3.2) */
+    DNW_TYPE_RT = 21,         /* A host that routes to another (RFC 1183, section 3.3) */
+    DNW_TYPE_NSAP = 22,       /* An address in NSAP (RFC 1706, section 5) */
+    DNW_TYPE_NSAP_PTR = 23,   /* The name of an NSAP address (RFC 1706, section 6) */
     DNW_TYPE_SIG = 24,        /* A signature of a message (RFC 2931) */
     DNW_TYPE_KEY = 25,        /* A key of a host (RFC 2535 and RFC 2930) */
+    DNW_TYPE_PX = 26,         /* Names of X.400 and of mail (RFC 2163, section 4) */
+    DNW_TYPE_GPOS = 27,       /* Where a host is, in degrees (RFC 1712) */
     DNW_TYPE_AAAA = 28,       /* An IPv6 address (RFC 3596, section 2.1) */
+    DNW_TYPE_LOC = 29,        /* Where a host is (RFC 1876) */
+    DNW_TYPE_NXT = 30,        /* The next name of a zone, obsolete (RFC 2535, section 5) */
+    DNW_TYPE_EID = 31,        /* An identifier of Nimrod (IANA's registry) */
+    DNW_TYPE_NIMLOC = 32,     /* A locator of Nimrod (IANA's registry) */
     DNW_TYPE_SRV = 33,        /* The host and the port of a service (RFC 2782) */
+    DNW_TYPE_ATMA = 34,       /* An address in ATM (IANA's registry) */
     DNW_TYPE_NAPTR = 35,      /* A rule that rewrites a name (RFC 3403) */
+    DNW_TYPE_KX = 36,         /* A key exchanger (RFC 2230) */
     DNW_TYPE_CERT = 37,       /* A certificate (RFC 4398) */
+    DNW_TYPE_A6 = 38,         /* An IPv6 address in parts, historic (RFC 2874) */
     DNW_TYPE_DNAME = 39,      /* The name that a subtree is an alias of (RFC 6672) */
+    DNW_TYPE_SINK = 40,       /* A kitchen sink (IANA's registry) */
     DNW_TYPE_OPT = 41,        /* The EDNS fields of a message (RFC 6891) */
+    DNW_TYPE_APL = 42,        /* Prefixes of addresses (RFC 3123) */
     DNW_TYPE_DS = 43,         /* The digest of a key of a child zone (RFC 4034, section 5) */
     DNW_TYPE_SSHFP = 44,      /* The fingerprint of an SSH key (RFC 4255) */
+    DNW_TYPE_IPSECKEY = 45,   /* A key for IPsec (RFC 4025) */
     DNW_TYPE_RRSIG = 46,      /* A signature of records (RFC 4034, section 3) */
     DNW_TYPE_NSEC = 47,       /* The next name in a zone, and the types at this name (RFC 4034, section 4) */
     DNW_TYPE_DNSKEY = 48,     /* A key of a zone (RFC 4034, section 2) */
+    DNW_TYPE_DHCID = 49,      /* Which DHCP client has a name (RFC 4701) */
     DNW_TYPE_NSEC3 = 50,      /* As NSEC, with hashed names (RFC 5155, section 3) */
     DNW_TYPE_NSEC3PARAM = 51, /* How the names of a zone are hashed (RFC 5155, section 4) */
     DNW_TYPE_TLSA = 52,       /* A certificate of a TLS server (RFC 6698) */
     DNW_TYPE_SMIMEA = 53,     /* A certificate for mail (RFC 8162) */
+    DNW_TYPE_HIP = 55,        /* The keys of a host (RFC 8005) */
+    DNW_TYPE_NINFO = 56,      /* The status of a zone (IANA's registry) */
+    DNW_TYPE_RKEY = 57,       /* A key to encrypt with (IANA's registry) */
+    DNW_TYPE_TALINK = 58,     /* A link of trust anchors (IANA's registry) */
     DNW_TYPE_CDS = 59,        /* The child's copy of a DS (RFC 7344) */
     DNW_TYPE_CDNSKEY = 60,    /* The child's copy of a DNSKEY (RFC 7344) */
     DNW_TYPE_OPENPGPKEY = 61, /* An OpenPGP key (RFC 7929) */
     DNW_TYPE_CSYNC = 62,      /* The types that a parent zone may copy from its child (RFC 7477) */
+    DNW_TYPE_ZONEMD = 63,     /* The digest of a zone (RFC 8976) */
     DNW_TYPE_SVCB = 64,       /* How to reach a service (RFC 9460) */
     DNW_TYPE_HTTPS = 65,      /* How to reach a service over HTTPS (RFC 9460) */
+    DNW_TYPE_DSYNC = 66,      /* Where a child sends notifications (RFC 9859) */
+    DNW_TYPE_HHIT = 67,       /* The identity of a host, in a hierarchy (RFC 9886) */
+    DNW_TYPE_BRID = 68,       /* The identity of an unmanned aircraft (RFC 9886) */
+    DNW_TYPE_SPF = 99,        /* Hosts that may send mail, obsolete (RFC 7208, section 3.1) */
+    DNW_TYPE_UINFO = 100,     /* Reserved by IANA */
+    DNW_TYPE_UID = 101,       /* Reserved by IANA */
+    DNW_TYPE_GID = 102,       /* Reserved by IANA */
+    DNW_TYPE_UNSPEC = 103,    /* Reserved by IANA */
+    DNW_TYPE_NID = 104,       /* The identifier of a node (RFC 6742, section 2.1) */
+    DNW_TYPE_L32 = 105,       /* A locator of 32 bits (RFC 6742, section 2.2) */
+    DNW_TYPE_L64 = 106,       /* A locator of 64 bits (RFC 6742, section 2.3) */
+    DNW_TYPE_LP = 107,        /* The name of a subnetwork (RFC 6742, section 2.4) */
+    DNW_TYPE_EUI48 = 108,     /* An EUI-48 address (RFC 7043, section 3) */
+    DNW_TYPE_EUI64 = 109,     /* An EUI-64 address (RFC 7043, section 4) */
+    DNW_TYPE_NXNAME = 128,    /* A name that does not exist, in bitmaps (RFC 9824) */
+    DNW_TYPE_TKEY = 249,      /* A shared key, in messages (RFC 2930) */
     DNW_TYPE_TSIG = 250,      /* A signature of a message with a shared key (RFC 8945) */
     DNW_TYPE_IXFR = 251,      /* A transfer of the changes of a zone, in a question (RFC 1995) */
     DNW_TYPE_AXFR = 252,      /* A transfer of a whole zone, in a question (RFC 5936) */
+    DNW_TYPE_MAILB = 253,     /* Records of mailboxes, in a question, obsolete (RFC 1035, section 3.2.3) */
+    DNW_TYPE_MAILA = 254,     /* Records of mail, in a question, obsolete (RFC 1035, section 3.2.3) */
     DNW_TYPE_ANY = 255,       /* Any type, in a question (RFC 1035, section 3.2.3) */
+    DNW_TYPE_URI = 256,       /* A URI (RFC 7553) */
     DNW_TYPE_CAA = 257,       /* The authorities that may issue certificates for a domain (RFC 8659) */
+    DNW_TYPE_AVC = 258,       /* What an application shows and controls (IANA's registry) */
+    DNW_TYPE_DOA = 259,       /* A digital object (IANA's registry) */
+    DNW_TYPE_AMTRELAY = 260,  /* A relay for multicast (RFC 8777) */
+    DNW_TYPE_RESINFO = 261,   /* What a resolver can do (RFC 9606) */
+    DNW_TYPE_WALLET = 262,    /* The address of a wallet (IANA's registry) */
+    DNW_TYPE_CLA = 263,       /* An adapter of the Bundle Protocol (IANA's registry) */
+    DNW_TYPE_IPN = 264,       /* A node of the Bundle Protocol (IANA's registry) */
+    DNW_TYPE_TA = 32768,      /* An authority of trust (IANA's registry) */
+    DNW_TYPE_DLV = 32769,     /* The digest of a key, for validators, obsolete (RFC 4431) */
     DNW_TYPE_ANAME = 65305,   /* An alias at the top of a zone (draft-ietf-dnsop-aname). Its code was never assigned */
 };
 
@@ -683,9 +744,9 @@ enum dnw_class {
     DNW_CLASS_ANY = 255,  /* Any class, in a question (RFC 1035, section 3.2.5) */
 };
 
-/* Stores the text of a record type, and its length in `len`: the name of the code in capitals (`ZERO` for 0), or, if it
-   has none, `TYPE` and the code, as `TYPE65280` (RFC 3597, section 5). DNW_CODE_SIZE bytes are always enough. It fails
-   with DNW_NO_ROOM if the text is longer than `text_size`. */
+/* Stores the text of a record type, and its length in `len`: its name in IANA's registry, in capitals, or, if it has none
+   there, as 0 and DNW_TYPE_ANAME, `TYPE` and the code, as `TYPE65280` (RFC 3597, section 5). DNW_CODE_SIZE bytes are
+   always enough. It fails with DNW_NO_ROOM if the text is longer than `text_size`. */
 uint32_t dnw_type_print(uint16_t code, uint8_t *text, size_t text_size, size_t *len);
 
 /* Parses the text of a record type, in upper or lower case, and stores its code: a name, `*` for ANY, or `TYPE` and any

@@ -24,10 +24,10 @@ def _code(function: Callable[..., int], text: str) -> int:
 
 
 def type_text(code: int) -> str:
-    """Returns the name of a record type, or `TYPE` and the code if it has none (RFC 3597, section 5).
+    """Returns the name of a record type in IANA's registry, or `TYPE` and the code if it has none (RFC 3597, section 5).
 
-    >>> type_text(28), type_text(65280)
-    ('AAAA', 'TYPE65280')
+    >>> type_text(28), type_text(256), type_text(65280)
+    ('AAAA', 'URI', 'TYPE65280')
     """
     return _text(library.dnw_type_print, code)
 
@@ -112,41 +112,101 @@ class RecordType(_Code):
     ZERO: ClassVar["RecordType"]
     A: ClassVar["RecordType"]
     NS: ClassVar["RecordType"]
+    MD: ClassVar["RecordType"]
+    MF: ClassVar["RecordType"]
     CNAME: ClassVar["RecordType"]
     SOA: ClassVar["RecordType"]
+    MB: ClassVar["RecordType"]
+    MG: ClassVar["RecordType"]
+    MR: ClassVar["RecordType"]
     NULL: ClassVar["RecordType"]
+    WKS: ClassVar["RecordType"]
     PTR: ClassVar["RecordType"]
     HINFO: ClassVar["RecordType"]
+    MINFO: ClassVar["RecordType"]
     MX: ClassVar["RecordType"]
     TXT: ClassVar["RecordType"]
+    RP: ClassVar["RecordType"]
+    AFSDB: ClassVar["RecordType"]
+    X25: ClassVar["RecordType"]
+    ISDN: ClassVar["RecordType"]
+    RT: ClassVar["RecordType"]
+    NSAP: ClassVar["RecordType"]
+    NSAP_PTR: ClassVar["RecordType"]
     SIG: ClassVar["RecordType"]
     KEY: ClassVar["RecordType"]
+    PX: ClassVar["RecordType"]
+    GPOS: ClassVar["RecordType"]
     AAAA: ClassVar["RecordType"]
+    LOC: ClassVar["RecordType"]
+    NXT: ClassVar["RecordType"]
+    EID: ClassVar["RecordType"]
+    NIMLOC: ClassVar["RecordType"]
     SRV: ClassVar["RecordType"]
+    ATMA: ClassVar["RecordType"]
     NAPTR: ClassVar["RecordType"]
+    KX: ClassVar["RecordType"]
     CERT: ClassVar["RecordType"]
+    A6: ClassVar["RecordType"]
     DNAME: ClassVar["RecordType"]
+    SINK: ClassVar["RecordType"]
     OPT: ClassVar["RecordType"]
+    APL: ClassVar["RecordType"]
     DS: ClassVar["RecordType"]
     SSHFP: ClassVar["RecordType"]
+    IPSECKEY: ClassVar["RecordType"]
     RRSIG: ClassVar["RecordType"]
     NSEC: ClassVar["RecordType"]
     DNSKEY: ClassVar["RecordType"]
+    DHCID: ClassVar["RecordType"]
     NSEC3: ClassVar["RecordType"]
     NSEC3PARAM: ClassVar["RecordType"]
     TLSA: ClassVar["RecordType"]
     SMIMEA: ClassVar["RecordType"]
+    HIP: ClassVar["RecordType"]
+    NINFO: ClassVar["RecordType"]
+    RKEY: ClassVar["RecordType"]
+    TALINK: ClassVar["RecordType"]
     CDS: ClassVar["RecordType"]
     CDNSKEY: ClassVar["RecordType"]
     OPENPGPKEY: ClassVar["RecordType"]
     CSYNC: ClassVar["RecordType"]
+    ZONEMD: ClassVar["RecordType"]
     SVCB: ClassVar["RecordType"]
     HTTPS: ClassVar["RecordType"]
+    DSYNC: ClassVar["RecordType"]
+    HHIT: ClassVar["RecordType"]
+    BRID: ClassVar["RecordType"]
+    SPF: ClassVar["RecordType"]
+    UINFO: ClassVar["RecordType"]
+    UID: ClassVar["RecordType"]
+    GID: ClassVar["RecordType"]
+    UNSPEC: ClassVar["RecordType"]
+    NID: ClassVar["RecordType"]
+    L32: ClassVar["RecordType"]
+    L64: ClassVar["RecordType"]
+    LP: ClassVar["RecordType"]
+    EUI48: ClassVar["RecordType"]
+    EUI64: ClassVar["RecordType"]
+    NXNAME: ClassVar["RecordType"]
+    TKEY: ClassVar["RecordType"]
     TSIG: ClassVar["RecordType"]
     IXFR: ClassVar["RecordType"]
     AXFR: ClassVar["RecordType"]
+    MAILB: ClassVar["RecordType"]
+    MAILA: ClassVar["RecordType"]
     ANY: ClassVar["RecordType"]
+    URI: ClassVar["RecordType"]
     CAA: ClassVar["RecordType"]
+    AVC: ClassVar["RecordType"]
+    DOA: ClassVar["RecordType"]
+    AMTRELAY: ClassVar["RecordType"]
+    RESINFO: ClassVar["RecordType"]
+    WALLET: ClassVar["RecordType"]
+    CLA: ClassVar["RecordType"]
+    IPN: ClassVar["RecordType"]
+    TA: ClassVar["RecordType"]
+    DLV: ClassVar["RecordType"]
     ANAME: ClassVar["RecordType"]
 
 
@@ -266,10 +326,11 @@ class ResponseCode(_Code):
 def _set_constants(kind: Type[_Code]) -> None:
     """Sets each declared constant to the code of its name."""
     for name in kind.__annotations__:
-        if name.isupper():
-            setattr(kind, name, kind.from_text(name))
+        if name.isupper() and not hasattr(kind, name):
+            setattr(kind, name, kind.from_text(name.replace("_", "-")))
 
 
+RecordType.ZERO, RecordType.ANAME = RecordType(0), RecordType(65305)
 _set_constants(RecordType)
 _set_constants(RecordClass)
 _set_constants(OpCode)

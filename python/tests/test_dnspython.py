@@ -3,7 +3,20 @@
 import random
 import unittest
 
-from dns_names_wire import DnsError, Edns, Header, Message, MessageWriter, Name, Question, Record, names, read_name
+from dns_names_wire import (
+    DnsError,
+    Edns,
+    Header,
+    Message,
+    MessageWriter,
+    Name,
+    Question,
+    Record,
+    names,
+    read_name,
+    type_code,
+    type_text,
+)
 
 try:
     import dns.exception
@@ -67,12 +80,6 @@ def some_name(rng):
     return b"".join(bytes([len(label)]) + label for label in labels) + b"\x00"
 
 
-def numbered(text):
-    """Returns a type and data, with the type's code, since dnspython has names for more types."""
-    kind, own = text.split(" ", 1)
-    return f"TYPE{int(dns.rdatatype.from_text(kind))} {own}"
-
-
 @unittest.skipIf(dns is None, "dnspython is not installed")
 class BesideDnspython(unittest.TestCase):
     def setUp(self):
@@ -128,10 +135,15 @@ class BesideDnspython(unittest.TestCase):
             self.assertEqual(ours.labels, tuple(label for label in theirs.labels if label))
             self.assertEqual((str(ours), ours.is_fqdn), (theirs.to_text(), theirs.is_absolute()))
 
+    def test_types_have_the_same_names(self):
+        for kind in dns.rdatatype.RdataType:
+            text = dns.rdatatype.to_text(kind)
+            self.assertEqual((type_text(kind), type_code(text), type_code(text.lower())), (text, kind, kind))
+
     def test_data_are_read_as_they_were_written(self):
         for text in TEXTS:
             kind, own = text.split(" ", 1)
-            record = Record.from_text(f"Host.Example. 60 IN {numbered(text)}")
+            record = Record.from_text(f"Host.Example. 60 IN {text}")
             theirs = dns.rdata.from_text("IN", kind, own)
             self.assertEqual(record.raw_data, theirs.to_wire(), text)
             # made from values, and written in a message, where names may be compressed
@@ -142,12 +154,12 @@ class BesideDnspython(unittest.TestCase):
             self.assertEqual((read.name.to_text(), read.ttl, read.rdtype), ("Host.Example.", 60, record.record_type))
             self.assertEqual(read[0], theirs, text)
             # as a text, which dnspython reads as the same data
-            shown = dns.rdata.from_text("IN", kind, str(record).split(" ", 4)[4])
-            self.assertEqual(shown, theirs, text)
+            shown_kind, shown = str(record).split(" ", 4)[3:]
+            self.assertEqual((shown_kind, dns.rdata.from_text("IN", kind, shown)), (kind, theirs), text)
 
     def test_messages_are_read_as_they_were_written(self):
         owners = "www.example.", "example.", "x.www.example."
-        records = [Record.from_text(f"{owner} 60 IN {numbered(text)}") for text in TEXTS for owner in owners]
+        records = [Record.from_text(f"{owner} 60 IN {text}") for text in TEXTS for owner in owners]
         for _ in range(200):
             sections = [self.rng.sample(records, self.rng.randrange(9)) for _ in range(3)]
             question = Question(Name.from_wire(some_name(self.rng)), self.rng.randrange(65536), 1)

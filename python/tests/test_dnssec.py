@@ -52,7 +52,7 @@ ZONE = f"""\
 example. 86400 IN SOA ns1.example. admin.example. 2018031900 1800 900 604800 86400
 example. 86400 IN NS ns1.example.
 example. 86400 IN NS ns2.example.
-example. 86400 IN TYPE63 2018031900 1 1 {ZONE_DIGEST}
+example. 86400 IN ZONEMD 2018031900 1 1 {ZONE_DIGEST}
 ns1.example. 3600 IN A 203.0.113.63
 ns2.example. 3600 IN AAAA 2001:db8::63"""
 
@@ -90,8 +90,8 @@ class Sums(unittest.TestCase):
         self.assertEqual(dnw.zone_digest(Name("a."), [*others, least], 2), hashlib.sha512(least.to_wire()).digest())
 
     def test_only_the_digest_at_the_apex_is_left_out(self):
-        zonemd = "TYPE63 7 1 1 " + "00" * 48
-        rrsig = "RRSIG TYPE63 13 1 60 20010909014640 20010909014640 7 a. AA=="
+        zonemd = "ZONEMD 7 1 1 " + "00" * 48
+        rrsig = "RRSIG ZONEMD 13 1 60 20010909014640 20010909014640 7 a. AA=="
         apex = [Record.from_text(f"a. 60 IN {data}") for data in (zonemd, rrsig)]
         below = [Record.from_text(f"b.a. 60 IN {data}") for data in (rrsig, zonemd)]
         whole = b"".join(record.to_wire() for record in below)

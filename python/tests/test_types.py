@@ -36,12 +36,13 @@ class Edits(unittest.TestCase):
 
 class Types(unittest.TestCase):
     def test_codes_have_texts(self):
-        for code, text in [(1, "A"), (28, "AAAA"), (46, "RRSIG"), (65, "HTTPS"), (255, "ANY"), (1234, "TYPE1234")]:
+        for code, text in [(1, "A"), (28, "AAAA"), (46, "RRSIG"), (65, "HTTPS"), (255, "ANY"), (1234, "TYPE1234"), (0, "TYPE0"),
+                           (17, "RP"), (23, "NSAP-PTR"), (29, "LOC"), (256, "URI"), (32769, "DLV"), (65305, "TYPE65305")]:
             self.assertEqual((dnw.type_text(code), dnw.type_code(text)), (text, code))
         for code, text in [(1, "IN"), (3, "CH"), (4, "HS"), (254, "NONE"), (255, "ANY"), (7, "CLASS7")]:
             self.assertEqual((dnw.class_text(code), dnw.class_code(text)), (text, code))
         self.assertEqual((dnw.type_code("*"), dnw.class_code("*"), dnw.type_code("type00001")), (255, 255, 1))
-        for text in ["", "TYPE", "TYPE65536", "TYPE+1", "TYPE\u0661", "CLASS1", "NOTHING", "\u00e4", "\u0131xfr"]:
+        for text in ["", "TYPE", "TYPE65536", "TYPE+1", "TYPE\u0661", "CLASS1", "NOTHING", "ZERO", "ANAME", "NSAP_PTR", "\u00e4", "\u0131xfr"]:
             with self.subTest(text=text), self.assertRaises(dnw.UnknownText):
                 dnw.type_code(text)
         for text in ["", "CLASS65536", "TYPE1", "CLA\u017fS1"]:
@@ -59,7 +60,9 @@ class Types(unittest.TestCase):
     def test_every_name_has_a_constant(self):
         for kind, text, prefix in [(RecordType, dnw.type_text, "TYPE"), (RecordClass, dnw.class_text, "CLASS")]:
             named = {text(code): code for code in range(65536) if not text(code).startswith(prefix)}
-            self.assertEqual({name: int(getattr(kind, name)) for name in kind.__annotations__}, named)
+            constants = {name.replace("-", "_"): code for name, code in named.items()}
+            constants.update({"ZERO": 0, "ANAME": 65305} if kind is RecordType else {})
+            self.assertEqual({name: int(getattr(kind, name)) for name in kind.__annotations__}, constants)
             for name, code in named.items():
                 self.assertEqual((str(kind(code)), kind.from_text(name.lower())), (name, code))
 

@@ -10,7 +10,7 @@ const ZONE: [&str; 6] = [
     "example. 86400 IN SOA ns1.example. admin.example. 2018031900 1800 900 604800 86400",
     "example. 86400 IN NS ns1.example.",
     "example. 86400 IN NS ns2.example.",
-    "example. 86400 IN TYPE63 2018031900 1 1 \
+    "example. 86400 IN ZONEMD 2018031900 1 1 \
         c68090d90a7aed716bc459f9340e3d7c1370d4d24b7e2fc3a1ddc0b9a87153b9a9713b3c9ae5cc27777f98b8e730044c",
     "ns1.example. 3600 IN A 203.0.113.63",
     "ns2.example. 3600 IN AAAA 2001:db8::63",

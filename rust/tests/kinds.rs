@@ -76,8 +76,13 @@ fn every_name_has_a_constant() {
     assert!(kinds.eq(RecordType::NAMED.iter().copied()));
     let classes = (0..=u16::MAX).map(Class::from).filter(|class| is_named(class.to_string(), "CLASS"));
     assert!(classes.eq(Class::NAMED.iter().copied()));
-    for (kind, text) in [(RecordType::ZERO, "ZERO"), (RecordType::IXFR, "IXFR"), (RecordType::NSEC3PARAM, "NSEC3PARAM")]
-    {
+    for (kind, text) in [
+        (RecordType::IXFR, "IXFR"),
+        (RecordType::NSEC3PARAM, "NSEC3PARAM"),
+        (RecordType::NSAP_PTR, "NSAP-PTR"),
+        (RecordType::ZERO, "TYPE0"),
+        (RecordType::ANAME, "TYPE65305"),
+    ] {
         assert_eq!(kind.to_string(), text);
     }
     assert_eq!((Class::IN.code(), Class::CH.code(), Class::HS.code(), Class::NONE.code()), (1, 3, 4, 254));
