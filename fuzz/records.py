@@ -342,8 +342,8 @@ class Dnspython:
             raise Refused(f"not parsed: {error!r}") from error
         return dns.name.from_text(owner).to_wire() + struct.pack("!HHIH", sample.code, IN, int(ttl), len(data)) + data
 
-    def type_code(self, word):
-        return int(dns.rdatatype.from_text(word))
+    def has_type(self, word):
+        return word in dns.rdatatype.RdataType.__members__ or word == "NSAP-PTR"
 
 
 def head_of(sample, length):
@@ -406,8 +406,8 @@ class Ldns:
         self.must(LDNS.ldns_rr_new_frm_str(ctypes.byref(self.rr), line.encode(), 0, None, None), "not parsed")
         return self.written()
 
-    def type_code(self, word):
-        return LDNS.ldns_get_rr_type_by_name(word.encode())
+    def has_type(self, word):
+        return LDNS.ldns_get_rr_type_by_name(word.encode()) != 0
 
 
 # ---- what another library has otherwise
@@ -649,17 +649,17 @@ def difference(peer, way, sample):
 
 
 def ours_of(peer, sample):
-    """The record that ours parses the line of another library as. Types without a name here have their number there."""
-    owner, ttl, record_class, _, text = peer.line(sample).split(" ", 4)
-    text = with_types(sample.kind, text, lambda word: type_text(peer.type_code(word)))
-    return parsed_line(" ".join([owner, ttl, record_class, type_text(sample.code), text]))
+    """The record that ours parses the line of another library as."""
+    return parsed_line(peer.line(sample))
 
 
 def theirs_of(peer, sample):
-    """The record that another library parses our line as. The types that have a name here alone have their number there."""
+    """The record that another library parses our line as. Types whose name it does not know have their number there."""
+    def known(word):
+        return word if peer.has_type(word) else f"TYPE{type_code(word)}"
+
     owner, ttl, record_class, kind, text = sample.line.split(" ", 4)
-    text = with_types(sample.kind, text, lambda word: {"ZERO": "TYPE0", "ANAME": "TYPE65305"}.get(word, word))
-    return peer.parse(sample, " ".join([owner, ttl, record_class, kind, text]))
+    return peer.parse(sample, " ".join([owner, ttl, record_class, known(kind), with_types(sample.kind, text, known)]))
 
 
 def tried(function, *words):
