@@ -123,6 +123,7 @@ static void parses_records(void)
     EXPECT(gives(BELOW("a 1h1s HS a 192.0.2.1", COM), OCTETS(A_OF("\001a" COM, "\004", "\000\000\016\021"))));
     EXPECT(gives(BELOW("a 0 CLASS5 TYPE1 \\# 4 C0 000201", "\000"), OCTETS(A_OF("\001a\000", "\005", "\000\000\000\000"))));
     EXPECT(gives(LINE("\\0650. 4294967295 TYPE65280 \\# 0"), OCTETS("\002A0\000\377\000\000\001\377\377\377\377\000\000")));
+    EXPECT(gives(LINE(". 0 IN uri 10 1 \"x\""), OCTETS("\000\001\000\000\001\000\000\000\000\000\005\000\012\000\001\170")));
     /* what a server is asked to add for any class */
     EXPECT(gives(LINE(". 0 ANY ANY \\# 0"), OCTETS("\000\000\377\000\377\000\000\000\000\000\000")));
 }
@@ -162,6 +163,7 @@ static void parses_data(void)
     EXPECT(gives(DATA(DNW_TYPE_TXT, "a \"b c\" \\100"), OCTETS("\001a\003b c\001d")));
     EXPECT(gives(DATA(DNW_TYPE_MX, "\\# 3 000500"), OCTETS("\000\005\000")));
     EXPECT(gives(DATA(65280, "\\# 0"), OCTETS("")));
+    EXPECT(gives(DATA(DNW_TYPE_NSEC, "b. A RP LOC"), OCTETS("\001\142\000\000\004\100\000\100\004")));
 }
 
 static void refuses_data(void)
