@@ -94,7 +94,7 @@ static void reads_texts(void)
 static uint32_t parse(const uint8_t *text, size_t len, size_t size, struct dnw_parsed_name *parsed)
 {
     clear();
-    uint32_t answer = dnw_name_parse(text, len, buffer, size, parsed);
+    uint32_t answer = dnw_name_parse(text, len, BYTES(""), buffer, size, parsed);
     if (answer != DNW_DONE)
         EXPECT(untouched());
     return answer;
@@ -108,12 +108,14 @@ static void parses(void)
     EXPECT(parse(BYTES("a.bc"), 6, &parsed) == DNW_DONE);
     EXPECT(parsed.len == 6 && !parsed.is_fqdn && holds("\001a\002bc\000", 6));
     EXPECT(parse(BYTES("."), 1, &parsed) == DNW_DONE && parsed.len == 1 && parsed.is_fqdn);
-    EXPECT(parse(BYTES(""), 1, &parsed) == DNW_DONE && parsed.len == 1 && !parsed.is_fqdn);
+    EXPECT(parse(BYTES("@"), 1, &parsed) == DNW_DONE && parsed.len == 1 && !parsed.is_fqdn);
     EXPECT(parse(BYTES("a.bc"), 5, &parsed) == DNW_NO_ROOM);
-    EXPECT(parse(BYTES("a..b"), sizeof buffer, &parsed) == DNW_BAD_TEXT);
-    EXPECT(parse(BYTES("a b"), sizeof buffer, &parsed) == DNW_BAD_TEXT);
-    EXPECT(parse(BYTES("\\"), sizeof buffer, &parsed) == DNW_BAD_TEXT);
-    EXPECT(parse(BYTES("\377"), sizeof buffer, &parsed) == DNW_NOT_UTF8);
+    EXPECT(parse(BYTES("a..b"), sizeof buffer, &parsed) == DNW_EMPTY_LABEL);
+    EXPECT(parse(BYTES(""), sizeof buffer, &parsed) == DNW_EMPTY_LABEL);
+    EXPECT(parse(BYTES("\\"), sizeof buffer, &parsed) == DNW_TEXT_CUT);
+    EXPECT(parse(BYTES("\\256"), sizeof buffer, &parsed) == DNW_BAD_ESCAPE);
+    EXPECT(parse(BYTES("0/25.-a!b._c"), 14, &parsed) == DNW_DONE && holds("\0040/25\004-a!b\002_c\000", 14));
+    EXPECT(parse(BYTES("a\\.b\\032\\c\377."), 8, &parsed) == DNW_DONE && holds("\006a.b c\377\000", 8));
     uint8_t text[256];
     memset(text, 'a', sizeof text);
     EXPECT(parse(text, 63, sizeof buffer, &parsed) == DNW_DONE && parsed.len == 65);
@@ -124,44 +126,59 @@ static void parses(void)
     EXPECT(parsed.len == 255);
 }
 
-static bool goes_wrong(const uint8_t *text, size_t len, size_t at, uint32_t rule)
+/* An origin completes a text without a dot at its end, and `@` is the origin. */
+static void completes(void)
 {
-    struct dnw_parsed_name parsed;
-    size_t offset = len + 1;
-    return dnw_name_text_fault(text, len, &offset) == rule && offset == at && parse(text, at, sizeof buffer, &parsed) == DNW_DONE;
+    struct dnw_parsed_name parsed = {7, false};
+    size_t offset = 7;
+    clear();
+    EXPECT(dnw_name_parse(BYTES("a"), BYTES("\001b\000"), buffer, sizeof buffer, &parsed) == DNW_DONE);
+    EXPECT(parsed.len == 5 && parsed.is_fqdn && holds("\001a\001b\000", 5));
+    EXPECT(dnw_name_parse(BYTES("@"), BYTES("\001b\000"), buffer, sizeof buffer, &parsed) == DNW_DONE);
+    EXPECT(parsed.len == 3 && parsed.is_fqdn);
+    EXPECT(dnw_name_parse(BYTES("a."), BYTES("\001b\000"), buffer, sizeof buffer, &parsed) == DNW_DONE && parsed.len == 3);
+    EXPECT(dnw_name_parse(BYTES("a"), BYTES("\001b"), buffer, sizeof buffer, &parsed) == DNW_MESSAGE_CUT);
+    EXPECT(dnw_name_text_fault(BYTES("a"), BYTES("\001b"), &offset) == DNW_MESSAGE_CUT && offset == 7);
+    uint8_t text[253];
+    memset(text, 'a', sizeof text);
+    text[63] = text[127] = text[191] = '.';
+    EXPECT(dnw_name_parse(text, sizeof text, BYTES("\000"), buffer, sizeof buffer, &parsed) == DNW_DONE && parsed.len == 255);
+    EXPECT(dnw_name_parse(text, 252, BYTES("\001b\000"), buffer, sizeof buffer, &parsed) == DNW_NAME_TOO_LONG);
+    EXPECT(dnw_name_text_fault(text, 252, BYTES("\001b\000"), &offset) == DNW_NAME_TOO_LONG && offset == 252);
 }
 
-/* What is before the offset is a name, and what goes on with the character or escape there is none. */
+static bool goes_wrong(const uint8_t *text, size_t len, size_t at, uint32_t rule)
+{
+    size_t offset = len + 1;
+    return dnw_name_text_fault(text, len, BYTES(""), &offset) == rule && offset == at;
+}
+
+/* The offset is that of the first octet that is against a rule. */
 static void texts_go_wrong(void)
 {
     size_t offset = 7;
-    EXPECT(dnw_name_text_fault(BYTES("a.bc."), &offset) == DNW_DONE && offset == 7);
-    EXPECT(dnw_name_text_fault(BYTES("."), &offset) == DNW_DONE && offset == 7);
-    EXPECT(dnw_name_text_fault(BYTES(""), &offset) == DNW_DONE && offset == 7);
-    EXPECT(dnw_name_text_fault(BYTES("\\101\\.-."), &offset) == DNW_DONE && offset == 7);
+    EXPECT(dnw_name_text_fault(BYTES("a.bc."), BYTES(""), &offset) == DNW_DONE && offset == 7);
+    EXPECT(dnw_name_text_fault(BYTES("."), BYTES(""), &offset) == DNW_DONE && offset == 7);
+    EXPECT(dnw_name_text_fault(BYTES("@"), BYTES(""), &offset) == DNW_DONE && offset == 7);
+    EXPECT(dnw_name_text_fault(BYTES("\\101\\.-.a b\\;c\377"), BYTES(""), &offset) == DNW_DONE && offset == 7);
+    EXPECT(goes_wrong(BYTES(""), 0, DNW_EMPTY_LABEL));
     EXPECT(goes_wrong(BYTES("a..b"), 2, DNW_EMPTY_LABEL));
-    EXPECT(goes_wrong(BYTES(".a"), 1, DNW_EMPTY_LABEL));
-    EXPECT(goes_wrong(BYTES(".."), 1, DNW_EMPTY_LABEL));
-    EXPECT(goes_wrong(BYTES("exa mple"), 3, DNW_ILLEGAL_CHARACTER));
-    EXPECT(goes_wrong(BYTES("a.-b"), 2, DNW_ILLEGAL_CHARACTER));
-    EXPECT(goes_wrong(BYTES("ab*c d"), 2, DNW_ILLEGAL_CHARACTER));
-    EXPECT(goes_wrong(BYTES("b\303\274cher"), 1, DNW_ILLEGAL_CHARACTER));
-    EXPECT(goes_wrong(BYTES("a\\;b"), 1, DNW_ILLEGAL_CHARACTER));
-    EXPECT(goes_wrong(BYTES("\\200"), 0, DNW_ILLEGAL_CHARACTER));
-    EXPECT(goes_wrong(BYTES("a\\18"), 1, DNW_BAD_ESCAPE));
-    EXPECT(goes_wrong(BYTES("a\\1x"), 1, DNW_ILLEGAL_CHARACTER));
-    EXPECT(goes_wrong(BYTES("a\\10"), 1, DNW_TEXT_CUT));
-    EXPECT(goes_wrong(BYTES("\\"), 0, DNW_TEXT_CUT));
-    EXPECT(goes_wrong(BYTES("a.b\377"), 3, DNW_NOT_UTF8));
+    EXPECT(goes_wrong(BYTES(".a"), 0, DNW_EMPTY_LABEL));
+    EXPECT(goes_wrong(BYTES(".."), 0, DNW_EMPTY_LABEL));
+    EXPECT(goes_wrong(BYTES("a\\256"), 4, DNW_BAD_ESCAPE));
+    EXPECT(goes_wrong(BYTES("a\\1x"), 3, DNW_BAD_ESCAPE));
+    EXPECT(goes_wrong(BYTES("a\\12."), 4, DNW_BAD_ESCAPE));
+    EXPECT(goes_wrong(BYTES("a\\10"), 4, DNW_TEXT_CUT));
+    EXPECT(goes_wrong(BYTES("\\"), 1, DNW_TEXT_CUT));
     uint8_t text[256];
     memset(text, 'a', sizeof text);
-    EXPECT(dnw_name_text_fault(text, 63, &offset) == DNW_DONE);
+    EXPECT(dnw_name_text_fault(text, 63, BYTES(""), &offset) == DNW_DONE);
     EXPECT(goes_wrong(text, 64, 63, DNW_LABEL_TOO_LONG));
     EXPECT(goes_wrong(text, 256, 63, DNW_LABEL_TOO_LONG));
     text[63] = text[127] = text[191] = '.';
-    EXPECT(dnw_name_text_fault(text, 253, &offset) == DNW_DONE);
-    EXPECT(goes_wrong(text, 254, 253, DNW_NAME_TOO_LONG));
-    EXPECT(goes_wrong(text, 256, 253, DNW_NAME_TOO_LONG));
+    EXPECT(dnw_name_text_fault(text, 253, BYTES(""), &offset) == DNW_DONE);
+    EXPECT(goes_wrong(text, 254, 254, DNW_NAME_TOO_LONG));
+    EXPECT(goes_wrong(text, 255, 255, DNW_NAME_TOO_LONG));
 }
 
 static void prints(void)
@@ -173,6 +190,11 @@ static void prints(void)
     clear();
     EXPECT(dnw_name_print(BYTES("\001a\002bc\000"), false, buffer, 4, &len) == DNW_DONE);
     EXPECT(len == 4 && holds("a.bc", 4));
+    clear();
+    EXPECT(dnw_name_print(BYTES("\000"), false, buffer, 1, &len) == DNW_DONE && len == 1 && holds("@", 1));
+    clear();
+    EXPECT(dnw_name_print(BYTES("\015a b\"$().;@\\\001\377\000"), true, buffer, sizeof buffer, &len) == DNW_DONE);
+    EXPECT(holds("a\\032b\\\"\\$\\(\\)\\.\\;\\@\\\\\\001\\255.", len));
     clear();
     len = 7;
     EXPECT(dnw_name_print(BYTES("\001a\002bc\000"), true, buffer, 4, &len) == DNW_NO_ROOM);
@@ -188,7 +210,7 @@ static void prints(void)
     form[254] = 0;
     EXPECT(dnw_name_print(form, sizeof form, true, buffer, DNW_TEXT_SIZE - 1, &len) == DNW_NO_ROOM);
     EXPECT(dnw_name_print(form, sizeof form, true, buffer, DNW_TEXT_SIZE, &len) == DNW_DONE);
-    EXPECT(len == DNW_TEXT_SIZE && memcmp(buffer, "\\200", 4) == 0 && buffer[len - 1] == '.');
+    EXPECT(len == DNW_TEXT_SIZE && memcmp(buffer, "\\128", 4) == 0 && buffer[len - 1] == '.');
 }
 
 /* Whatever is written is read back, name by name, and takes no more room than the list. */
@@ -738,9 +760,9 @@ static void lacks_memory(void)
     EXPECT(read_form(40, DNW_FORM_SIZE, &read) == DNW_DONE && read.len == 16);
     EXPECT(read_bytes(BYTES("\100"), 0) == DNW_RESERVED_OCTET);
     EXPECT(parse(BYTES("a.bc."), sizeof buffer, &parsed) == DNW_DONE && parsed.len == 6);
-    EXPECT(parse(BYTES("\\"), sizeof buffer, &parsed) == DNW_BAD_TEXT);
-    EXPECT(parse(BYTES("a..b"), sizeof buffer, &parsed) == DNW_NO_MEMORY);
-    EXPECT(dnw_name_text_fault(BYTES("a..b"), &len) == DNW_EMPTY_LABEL && len == 2);
+    EXPECT(parse(BYTES("\\"), sizeof buffer, &parsed) == DNW_TEXT_CUT);
+    EXPECT(parse(BYTES("a..b"), sizeof buffer, &parsed) == DNW_EMPTY_LABEL);
+    EXPECT(dnw_name_text_fault(BYTES("a..b"), BYTES(""), &len) == DNW_EMPTY_LABEL && len == 2);
     EXPECT(dnw_name_print(BYTES("\001a\000"), true, buffer, sizeof buffer, &len) == DNW_DONE && len == 2);
     EXPECT(dnw_name_read_text(message, sizeof message, 40, buffer, sizeof buffer, &read) == DNW_DONE);
     EXPECT(read_form(40, DNW_FORM_SIZE, &read) == DNW_DONE && read.len == 16);
@@ -768,7 +790,7 @@ static void lacks_memory(void)
     EXPECT(dnw_token_next(BYTES("$FOO"), &lexer, buffer, sizeof buffer, &token) == DNW_NO_MEMORY && token.kind == 99);
     EXPECT(untouched());
     EXPECT(dnw_name_append(BYTES("\001a\000"), BYTES("\000"), buffer, sizeof buffer, &len) == DNW_DONE && len == 3);
-    EXPECT(dnw_name_print(BYTES("\000"), false, buffer, 0, &len) == DNW_DONE && len == 0);
+    EXPECT(dnw_name_print(BYTES("\000"), false, buffer, 1, &len) == DNW_DONE && len == 1);
     struct dnw_record record;
     struct dnw_net net;
     EXPECT(read_record(sizeof referral - 1, 33, 255, &record) == DNW_DONE && data_name(45, 5, 255, &len) == DNW_DONE);
@@ -786,6 +808,7 @@ int main(void)
     refuses_forms();
     reads_texts();
     parses();
+    completes();
     texts_go_wrong();
     prints();
     writes();

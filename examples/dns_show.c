@@ -370,7 +370,7 @@ static void show_sorted(const struct bytes *text)
         size_t len = (end == NULL ? text->len : (size_t)(end - text->at)) - at;
         names = room(names, (count + 1) * sizeof *names);
         struct dnw_parsed_name parsed;
-        uint32_t failure = dnw_name_parse(text->at + at, len, names[count].form, DNW_FORM_SIZE, &parsed);
+        uint32_t failure = dnw_name_parse(text->at + at, len, text->at, 0, names[count].form, DNW_FORM_SIZE, &parsed);
         if (failure != DNW_DONE)
             reject_failure(at, failure);
         names[count].len = parsed.len;

@@ -26,7 +26,8 @@ static uint32_t read_line(const char *line, size_t len, struct entry *entry)
 {
     uint8_t form[DNW_FORM_SIZE];
     struct dnw_parsed_name name;
-    uint32_t failure = dnw_name_parse((const uint8_t *)line, len, form, sizeof form, &name);
+    const uint8_t *text = (const uint8_t *)line, *no_origin = text;
+    uint32_t failure = dnw_name_parse(text, len, no_origin, 0, form, sizeof form, &name);
     if (failure == DNW_DONE)
         failure = dnw_name_sort_key(form, name.len, entry->key, sizeof entry->key, &entry->key_len);
     if (failure == DNW_DONE)

@@ -18,7 +18,9 @@ static void put_query(const char *text, const char *type)
 {
     struct dnw_parsed_name name;
     uint16_t kind;
-    if (dnw_name_parse((const uint8_t *)text, strlen(text), query + DNW_HEADER_SIZE, DNW_FORM_SIZE, &name) != DNW_DONE)
+    static const uint8_t root[1];
+    uint8_t *form = query + DNW_HEADER_SIZE;
+    if (dnw_name_parse((const uint8_t *)text, strlen(text), root, 1, form, DNW_FORM_SIZE, &name) != DNW_DONE)
         fail("resolve: that is no name");
     if (dnw_type_parse((const uint8_t *)type, strlen(type), &kind) != DNW_DONE)
         fail("resolve: that is no type");

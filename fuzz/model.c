@@ -89,11 +89,6 @@ static bool is_letter(uint8_t c)
     return (c >= 'a' && c <= 'z') || (c >= 'A' && c <= 'Z');
 }
 
-static bool is_safe(uint8_t c)
-{
-    return is_letter(c) || (c >= '0' && c <= '9') || c == '_';
-}
-
 uint32_t model_character(const uint8_t *text, size_t len, size_t *bytes)
 {
     static const uint32_t least[] = {0, 0, 0x80, 0x800, 0x10000};
@@ -135,91 +130,79 @@ bool model_is_space(uint32_t c)
            c == 0x2028 || c == 0x2029 || c == 0x202F || c == 0x205F || c == 0x3000;
 }
 
-/* A label that is being read: how many bytes it has, and the first of them. */
-struct label {
-    uint8_t bytes[LABEL_MAX];
-    size_t len;
-    bool is_past_ascii;
-};
-
-static void add(struct label *label, uint32_t c)
+/* The number of an escape of three digits, or more than 255 if it is none. */
+static unsigned number_of(const uint8_t *digits)
 {
-    size_t bytes = c < 0x80 ? 1 : c < 0x800 ? 2 : c < 0x10000 ? 3 : 4;
-    if (label->len < LABEL_MAX)
-        label->bytes[label->len] = (uint8_t)c;
-    if (bytes > 1)
-        label->is_past_ascii = true;
-    label->len += bytes;
+    for (size_t i = 0; i < 3; i++)
+        if (digits[i] < '0' || digits[i] > '9')
+            return 256;
+    return (unsigned)(digits[0] - '0') * 100 + (unsigned)(digits[1] - '0') * 10 + (unsigned)(digits[2] - '0');
 }
 
-/* Adds a label to the name if it is one: RFC 952, and underscores, dots, and an asterisk at its front. */
-static uint32_t end_label(struct label *label, struct model_text *name)
+/* The octet that is next in a text, and how many octets of the text are it; 0 if an escape is wrong or cut. */
+static size_t next_octet(const uint8_t *text, size_t len, uint8_t *octet, uint32_t *failure)
 {
-    if (label->len > LABEL_MAX)
-        return DNW_LABEL_TOO_LONG;
-    if (label->len == 0 || label->is_past_ascii)
-        return DNW_BAD_TEXT;
-    for (size_t i = 0; i < label->len; i++)
-        if (!is_safe(label->bytes[i]) && label->bytes[i] != '.' && label->bytes[i] != (i == 0 ? '*' : '-'))
-            return DNW_BAD_TEXT;
-    if (name->len + 1 + label->len + 1 > DNW_FORM_SIZE)
+    *octet = text[0];
+    if (text[0] != '\\')
+        return 1;
+    *failure = DNW_TEXT_CUT;
+    if (len < 2)
+        return 0;
+    *octet = text[1];
+    if (text[1] < '0' || text[1] > '9')
+        return 2;
+    for (size_t i = 2; i < 4; i++) {
+        if (len <= i)
+            return 0;
+        if (text[i] < '0' || text[i] > '9') {
+            *failure = DNW_BAD_ESCAPE;
+            return 0;
+        }
+    }
+    *failure = DNW_BAD_ESCAPE;
+    *octet = (uint8_t)number_of(text + 1);
+    return number_of(text + 1) > 255 ? 0 : 4;
+}
+
+/* Ends the label of so many octets that is at the end of the name. */
+static uint32_t end_label(size_t *label, struct model_text *name)
+{
+    if (*label == 0)
+        return DNW_EMPTY_LABEL;
+    if (name->len + 1 + *label + 1 > DNW_FORM_SIZE)
         return DNW_NAME_TOO_LONG;
-    name->form[name->len] = (uint8_t)label->len;
-    memcpy(name->form + name->len + 1, label->bytes, label->len);
-    name->len += 1 + label->len;
-    label->len = 0;
+    name->form[name->len] = (uint8_t)*label;
+    name->len += 1 + *label;
+    *label = 0;
     return DNW_DONE;
 }
 
-static bool is_octal(uint8_t c)
-{
-    return c >= '0' && c <= '7';
-}
-
-/* Adds the character that an escape stands for, and puts the length of the escape; 0 if it is none. */
-static size_t end_escape(const uint8_t *text, size_t len, struct label *label, struct model_text *name)
-{
-    size_t bytes;
-    if (len < 2)
-        return 0;
-    if (is_octal(text[1])) {
-        if (len < 4 || !is_octal(text[2]) || !is_octal(text[3]))
-            return 0;
-        add(label, (text[1] - '0') * 64u + (text[2] - '0') * 8u + (text[3] - '0'));
-        return 4;
-    }
-    uint32_t c = model_character(text + 1, len - 1, &bytes);
-    if (c == '8' || c == '9')
-        return 0;
-    if (c >= 0x80)
-        name->is_open = true;
-    add(label, c);
-    return 1 + bytes;
-}
-
-/* RFC 1035, section 5.1, but with octal escapes, read from the left up to the first fault. */
+/* RFC 1035, section 5.1, without an origin, read from the left up to the first fault. */
 uint32_t model_parse(const uint8_t *text, size_t len, struct model_text *name)
 {
-    struct label label = {.len = 0};
+    size_t label = 0;
     memset(name, 0, sizeof *name);
-    if (!model_is_utf8(text, len))
-        return DNW_NOT_UTF8;
+    if (len == 0)
+        return DNW_EMPTY_LABEL;
     name->is_fqdn = len == 1 && text[0] == '.';
-    for (size_t at = 0, taken; at < len && !(len == 1 && name->is_fqdn); at += taken) {
-        uint32_t c = model_character(text + at, len - at, &taken), failure = DNW_DONE;
-        name->is_fqdn = c == '.';
-        if (c == '.')
-            failure = end_label(&label, name);
-        else if (c == '\\')
-            taken = end_escape(text + at, len - at, &label, name);
-        else if (model_is_control(c) || model_is_space(c))
-            taken = 0;
-        else
-            add(&label, c);
-        if (failure != DNW_DONE || taken == 0)
-            return failure != DNW_DONE ? failure : DNW_BAD_TEXT;
+    bool is_whole = len == 1 && (text[0] == '.' || text[0] == '@');
+    for (size_t at = 0, taken; at < len && !is_whole; at += taken) {
+        uint32_t failure = DNW_DONE;
+        uint8_t octet;
+        taken = next_octet(text + at, len - at, &octet, &failure);
+        if (taken == 0)
+            return failure;
+        name->is_fqdn = text[at] == '.';
+        if (!name->is_fqdn && label == LABEL_MAX)
+            return DNW_LABEL_TOO_LONG;
+        if (!name->is_fqdn && name->len + 1 + label < sizeof name->form)
+            name->form[name->len + 1 + label] = octet;
+        label += !name->is_fqdn;
+        failure = name->is_fqdn ? end_label(&label, name) : DNW_DONE;
+        if (failure != DNW_DONE)
+            return failure;
     }
-    uint32_t failure = label.len > 0 ? end_label(&label, name) : DNW_DONE;
+    uint32_t failure = label > 0 ? end_label(&label, name) : DNW_DONE;
     name->form[name->len++] = 0;
     return failure;
 }
@@ -227,19 +210,20 @@ uint32_t model_parse(const uint8_t *text, size_t len, struct model_text *name)
 size_t model_print(const struct model_name *name, bool is_fqdn, uint8_t *text)
 {
     size_t len = 0;
+    if (name->form[0] == 0 && !is_fqdn)
+        text[len++] = '@';
     for (size_t at = 0; name->form[at] != 0; at += 1u + name->form[at]) {
         if (at > 0)
             text[len++] = '.';
         for (size_t i = 1; i <= name->form[at]; i++) {
             uint8_t c = name->form[at + i];
-            bool is_plain = is_safe(c) || c == (i == 1 ? '*' : '-');
             bool is_seen = c > ' ' && c < 0x7F;
-            if (!is_plain)
+            if (!is_seen || strchr("\"$().;@\\", c) != NULL)
                 text[len++] = '\\';
-            if (!is_plain && !is_seen) {
-                text[len++] = (uint8_t)('0' + c / 64);
-                text[len++] = (uint8_t)('0' + c / 8 % 8);
-                c = (uint8_t)('0' + c % 8);
+            if (!is_seen) {
+                text[len++] = (uint8_t)('0' + c / 100);
+                text[len++] = (uint8_t)('0' + c / 10 % 10);
+                c = (uint8_t)('0' + c % 10);
             }
             text[len++] = c;
         }

@@ -17,13 +17,11 @@ struct model_name {
     size_t end;
 };
 
-/* What the text of a name gives. If `is_open`, the failure is DNW_BAD_TEXT or DNW_LABEL_TOO_LONG, and which of them
-   depends on whether a character past ASCII is a digit in Unicode. */
+/* What the text of a name gives. */
 struct model_text {
     uint8_t form[DNW_FORM_SIZE];
     size_t len;
     bool is_fqdn;
-    bool is_open;
 };
 
 /* A candidate for compression: where labels were written, and their octets, without the zero octet at the end. */

@@ -129,7 +129,7 @@ static void check_text(const struct model_name *name)
     if (!CALL(dnw_name_print(name->form, name->len, true, text, sizeof text, &len), DNW_DONE))
         return;
     CHECK(len == own_len && memcmp(text, own, len) == 0);
-    if (!CALL(dnw_name_parse(text, len, form, sizeof form, &parsed), model_parse(text, len, &wanted)))
+    if (!CALL(dnw_name_parse(text, len, (const uint8_t *)"", 0, form, sizeof form, &parsed), model_parse(text, len, &wanted)))
         return;
     CHECK(parsed.len == name->len && parsed.is_fqdn && memcmp(form, name->form, name->len) == 0);
 }

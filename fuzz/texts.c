@@ -11,7 +11,7 @@ static void comes_back(const uint8_t *form, size_t len, bool is_fqdn)
     size_t text_len = 0;
     struct dnw_parsed_name parsed;
     CHECK(dnw_name_print(form, len, is_fqdn, text, DNW_TEXT_SIZE, &text_len) == DNW_DONE);
-    CHECK(dnw_name_parse(text, text_len, again, sizeof again, &parsed) == DNW_DONE);
+    CHECK(dnw_name_parse(text, text_len, text, 0, again, sizeof again, &parsed) == DNW_DONE);
     CHECK(parsed.len == len && parsed.is_fqdn == is_fqdn && memcmp(again, form, len) == 0);
 }
 
@@ -19,11 +19,8 @@ static void parses_into(const uint8_t *text, size_t len, size_t size, uint32_t a
 {
     struct dnw_parsed_name parsed = {7, false};
     uint8_t *form = clear(&forms, size);
-    uint32_t given = dnw_name_parse(text, len, form, size, &parsed);
-    if (answer != DNW_DONE && name->is_open)
-        CHECK(given == DNW_BAD_TEXT || given == DNW_LABEL_TOO_LONG);
-    else
-        CHECK(given == answer);
+    uint32_t given = dnw_name_parse(text, len, text, 0, form, size, &parsed);
+    CHECK(given == answer);
     if (answer != DNW_DONE)
         CHECK(untouched(form, size) && parsed.len == 7);
     else
@@ -35,29 +32,20 @@ static void parses_without_memory(const uint8_t *text, size_t len, uint32_t answ
     struct dnw_parsed_name parsed;
     uint8_t *form = clear(&forms, DNW_FORM_SIZE);
     refuse(1);
-    uint32_t given = dnw_name_parse(text, len, form, DNW_FORM_SIZE, &parsed);
-    if (was_refused())
-        CHECK(answer != DNW_DONE && given == DNW_NO_MEMORY && untouched(form, DNW_FORM_SIZE));
-    else if (answer == DNW_DONE)
-        CHECK(given == DNW_DONE);
+    CHECK(dnw_name_parse(text, len, text, 0, form, DNW_FORM_SIZE, &parsed) == answer && !was_refused());
 }
 
-/* A text that gives no name goes wrong after its longest beginning that gives one. */
+/* A text that gives no name goes wrong by the same rule, and so does what is up to the octet at the offset and two more. */
 static void goes_wrong(const uint8_t *text, size_t len, uint32_t answer)
 {
     size_t offset = len + 1;
     struct model_text name;
     refuse(1);
-    uint32_t rule = dnw_name_text_fault(text, len, &offset);
-    CHECK(!was_refused() && (rule == DNW_DONE) == (answer == DNW_DONE));
-    if (rule == DNW_DONE) {
+    CHECK(dnw_name_text_fault(text, len, text, 0, &offset) == answer && !was_refused());
+    if (answer == DNW_DONE)
         CHECK(offset == len + 1);
-        return;
-    }
-    CHECK(offset < len && (rule == DNW_NOT_UTF8 || model_parse(text, offset, &name) == DNW_DONE));
-    size_t most = len < offset + 16 ? len : offset + 16;
-    for (size_t longer = offset + 1; rule != DNW_NOT_UTF8 && longer <= most; longer++)
-        CHECK(model_parse(text, longer, &name) != DNW_DONE);
+    else
+        CHECK(offset <= len && (offset == len || model_parse(text, offset + 1, &name) == answer));
 }
 
 static void parses(const uint8_t *text, size_t len)

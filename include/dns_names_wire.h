@@ -12,8 +12,9 @@
    Every input is checked: no byte outside the arguments is read or written.
 
    The wire form of a name (RFC 1035, section 3.1) is its labels, each with a length octet before it, and a zero octet
-   at the end. It has at most 255 octets. The text of a name is ASCII (RFC 1035, section 5.1), with octal escapes, and
-   ends in a dot if the name is fully qualified. It has at most 1004 octets. Texts are not null-terminated. */
+   at the end. It has at most 255 octets. The text of a name is that of master files (RFC 1035, section 5.1): `\.` is a
+   dot in a label, `\DDD` in decimal any octet, and a dot at the end means that the name is fully qualified. It has at
+   most 1004 octets. Texts are not null-terminated. */
 #ifndef DNS_NAMES_WIRE_H
 #define DNS_NAMES_WIRE_H
 
@@ -68,7 +69,7 @@ enum dnw_failure {
     DNW_BAD_ITEM = 27,         /* a list with an item of an unknown kind, one that is cut, or one whose name or record
                                   is not valid; or an item of a message after one of a later section */
     DNW_EMPTY_LABEL = 28,      /* a text with an empty label */
-    DNW_BAD_ESCAPE = 29,       /* an escape with a digit that is not octal */
+    DNW_BAD_ESCAPE = 29,       /* an escape that is not three decimal digits up to 255 */
     DNW_TOO_MANY_POINTERS = 30, /* the names of a message follow more compression pointers than the caller allows */
     DNW_DUPLICATE_EDNS = 31,   /* a message with more than one OPT record */
     DNW_OWNER_NOT_ROOT = 32,   /* an OPT record whose owner is not the root */
@@ -111,28 +112,38 @@ struct dnw_written_names {
 uint32_t dnw_name_read(const uint8_t *message, size_t message_len, size_t start, uint8_t *form, size_t form_size,
                        struct dnw_read_name *read);
 
-/* Reads a name as dnw_name_read does, and stores its text, with a dot at the end. It does not allocate. It fails as
+/* Reads a name as dnw_name_read does, and stores its text as dnw_name_print does, fully qualified. It does not allocate. It fails as
    dnw_name_read if no valid name is there, and with DNW_NO_ROOM if the text has more than `text_size` octets. */
 uint32_t dnw_name_read_text(const uint8_t *message, size_t message_len, size_t start, uint8_t *text, size_t text_size,
                             struct dnw_read_name *read);
 
-/* Parses the text of a name, and stores its wire form. It fails with DNW_NOT_UTF8, DNW_BAD_TEXT, DNW_LABEL_TOO_LONG or
-   DNW_NAME_TOO_LONG if the text is not that of a name, or with DNW_NO_MEMORY in place of DNW_BAD_TEXT; and with
-   DNW_NO_ROOM if it is and the wire form has more than `form_size` octets. dnw_name_text_fault reports where a text is
-   wrong. */
-uint32_t dnw_name_parse(const uint8_t *text, size_t text_len, uint8_t *form, size_t form_size,
-                        struct dnw_parsed_name *parsed);
+/* Parses the text of a name (RFC 1035, section 5.1), and stores its wire form. Any octet stands for itself, but for a dot
+   and a backslash: `\DDD` in decimal is that octet, and `\` before any other octet that octet. `.` is the root. A text
+   with a dot at its end is fully qualified. Another one is completed by the origin, which is a wire form, and is fully
+   qualified then; with no octets (`origin_len` 0) there is no origin, and the name is relative. `@` alone is the origin,
+   or the relative name without labels. It does not allocate.
 
-/* Reports where and why dnw_name_parse rejects a text. It returns 0 if the text is that of a name. Otherwise it returns
-   the number of the rule that the text breaks, and stores the offset of the first wrong character or escape in
-   `offset`: the text before it is that of a name, and no longer prefix of the text is. The rules are DNW_EMPTY_LABEL,
-   DNW_LABEL_TOO_LONG, DNW_NAME_TOO_LONG, DNW_ILLEGAL_CHARACTER, DNW_BAD_ESCAPE, and DNW_TEXT_CUT if the text ends
-   within the escape. If the text is not UTF-8, it returns DNW_NOT_UTF8, and `offset` is where the UTF-8 ends. It does
-   not allocate. */
-uint32_t dnw_name_text_fault(const uint8_t *text, size_t text_len, size_t *offset);
+   It fails with DNW_EMPTY_LABEL (also for an empty text), DNW_LABEL_TOO_LONG, DNW_NAME_TOO_LONG, DNW_BAD_ESCAPE or
+   DNW_TEXT_CUT if the text is not that of a name; dnw_name_text_fault reports where it is wrong. It fails with
+   DNW_NO_ROOM if it is one and the wire form has more than `form_size` octets, and as dnw_name_print if the origin is
+   not a wire form. */
+uint32_t dnw_name_parse(const uint8_t *text, size_t text_len, const uint8_t *origin, size_t origin_len, uint8_t *form,
+                        size_t form_size, struct dnw_parsed_name *parsed);
 
-/* Stores the text of the name with a wire form, fully qualified or not, and the length of the text in `len`. It does
-   not allocate. It fails as dnw_name_read if the bytes do not begin with a valid name, with DNW_BYTES_LEFT if bytes
+/* Reports where and why dnw_name_parse rejects a text, with the same origin. It returns 0 if the text is that of a name.
+   Otherwise it returns the number of the rule that the text breaks, as dnw_name_parse does, and stores in `offset` the
+   offset of the first octet that is against it: of the dot, or the end of the text, after a label that is empty or with
+   which the name is too long; of the octet that makes a label too long; of what is no digit of an escape, or makes it
+   more than 255; the end of a text that ends within an escape, or that the origin makes too long. If the origin is not a
+   wire form, it returns the number for that, and stores nothing. It does not allocate. */
+uint32_t dnw_name_text_fault(const uint8_t *text, size_t text_len, const uint8_t *origin, size_t origin_len,
+                             size_t *offset);
+
+/* Stores the text of the name with a wire form, fully qualified or not, and the length of the text in `len`: the labels
+   with dots between them, and one at the end if the name is fully qualified. The root is `.`, and the relative name
+   without labels `@`. `"`, `$`, `(`, `)`, `.`, `;`, `@` and `\` are printed after a `\`, and octets that are not
+   printable ASCII as `\DDD` in decimal. dnw_name_parse, without an origin, reads the text as the same name. It does not
+   allocate. It fails as dnw_name_read if the bytes do not begin with a valid name, with DNW_BYTES_LEFT if bytes
    follow it, and with DNW_NO_ROOM if the text has more than `text_size` octets. */
 uint32_t dnw_name_print(const uint8_t *form, size_t form_len, bool is_fqdn, uint8_t *text, size_t text_size,
                         size_t *len);

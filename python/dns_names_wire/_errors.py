@@ -17,9 +17,8 @@ class TextRule(enum.IntEnum):
     NAME_TOO_LONG = 7
     LABEL_TOO_LONG = 8
     UNFINISHED_ESCAPE = 18
-    CHARACTER = 19
     EMPTY_LABEL = 28
-    DIGIT = 29
+    BAD_ESCAPE = 29
 
     def __str__(self) -> str:
         return error_text(int(self))
@@ -118,7 +117,7 @@ class LabelTooLong(DnsError):
 
 
 class BadText(DnsError):
-    """A text has a label, a character or an escape that is not allowed."""
+    """A label that is empty, or a line of a master file that does not begin with a name."""
 
     number = 9
 
@@ -169,6 +168,18 @@ class TextCut(DnsError):
     """A text that ends within an escape, or after a carriage return."""
 
     number = 18
+
+
+class EmptyLabel(DnsError):
+    """A label of a text is empty."""
+
+    number = 28
+
+
+class BadEscape(DnsError):
+    """An escape of a text is not three decimal digits up to 255."""
+
+    number = 29
 
 
 class IllegalCharacter(DnsError):
@@ -336,11 +347,18 @@ def check_item(number: int, section: str, item: int, offset: int) -> None:
     check(number)
 
 
-def check_text(number: int, text: bytes) -> None:
+def check_text(number: int, text: bytes, origin: bytes) -> None:
     """As `check`, for the text of a name: the exception has the offset and the rule."""
     offset = c_size_t()
-    broken = library.dnw_name_text_fault(text, len(text), byref(offset)) if number else 0
-    if broken == 0 or number == _NO_MEMORY:
+    broken = library.dnw_name_text_fault(text, len(text), origin, len(origin), byref(offset)) if number else 0
+    if broken == 0:
         return check(number)
-    rule = None if broken == NotUtf8.number else TextRule(broken)
-    raise _CLASSES.get(number, DnsError)(error_text(broken), len(text[: offset.value].decode()), rule)
+    raise _CLASSES[number](error_text(number), len(text[: offset.value].decode(errors="ignore")), TextRule(broken))
+
+
+def check_utf8(text: bytes) -> None:
+    """Raises `NotUtf8` if a text has half a surrogate pair."""
+    try:
+        text.decode()
+    except UnicodeDecodeError as error:
+        check(NotUtf8.number, len(text[: error.start].decode()))

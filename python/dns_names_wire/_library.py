@@ -130,8 +130,8 @@ _WRITTEN = (c_char_p, c_size_t)
 
 _FUNCTIONS = {
     "dnw_name_read": (*_READ, c_size_t, *_WRITTEN, POINTER(ReadName)),
-    "dnw_name_parse": (*_READ, *_WRITTEN, POINTER(ParsedName)),
-    "dnw_name_text_fault": (*_READ, POINTER(c_size_t)),
+    "dnw_name_parse": (*_READ, *_READ, *_WRITTEN, POINTER(ParsedName)),
+    "dnw_name_text_fault": (*_READ, *_READ, POINTER(c_size_t)),
     "dnw_name_print": (*_READ, c_bool, *_WRITTEN, POINTER(c_size_t)),
     "dnw_record_read": (*_READ, c_size_t, *_WRITTEN, POINTER(Record)),
     "dnw_record_data_name": (*_READ, c_size_t, c_size_t, *_WRITTEN, POINTER(c_size_t)),

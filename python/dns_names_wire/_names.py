@@ -6,7 +6,7 @@ from typing import Any, Callable, Iterable, Iterator, List, NamedTuple, Optional
 
 from . import _checks
 from ._checks import Bytes
-from ._errors import BytesLeft, DnsError, check, check_text
+from ._errors import BytesLeft, check, check_text, check_utf8
 from ._library import FORM_SIZE, SORT_KEY_SIZE, TEXT_SIZE, Form, ParsedName, ReadName, SortKey, Text, library, taken
 
 _sort_key = library.dnw_name_sort_key
@@ -39,17 +39,9 @@ class Name:
     _is_fqdn: bool
     _hash: int
 
-    def __new__(cls, text: str = "") -> "Name":
-        """Parses a name (RFC 1035, section 5.1). It is fully qualified if it ends in a dot.
-
-        A label has ASCII letters, digits, `_`, `-` except as its first character, `*` only as its first character, and
-        dots that are escaped. Raises `BadText`, `LabelTooLong` or `NameTooLong` if the text is not a name, with the
-        offset and the rule.
-        """
-        encoded = _checks.text("text", text)
-        form, parsed = Form(), ParsedName()
-        check_text(library.dnw_name_parse(encoded, len(encoded), form, FORM_SIZE, byref(parsed)), encoded)
-        return cls._of(taken(form, parsed.len), parsed.is_fqdn)
+    def __new__(cls, text: str = "@") -> "Name":
+        """Parses a name (RFC 1035, section 5.1), as `from_text` without an origin."""
+        return cls.from_text(text)
 
     @classmethod
     def _of(cls, wire: bytes, is_fqdn: bool) -> "Name":
@@ -74,18 +66,37 @@ class Name:
 
     @classmethod
     def from_text(cls, text: str, origin: Optional["Name"] = None) -> "Name":
-        """Parses a name, as `Name(text)`. An origin is appended to a name without a last dot, and `@` is the origin.
+        """Parses a name (RFC 1035, section 5.1): labels with dots between them. Any octet of the text, in UTF-8, stands
+        for itself, but for a dot and a backslash: `\\DDD` in decimal is that octet, and a backslash before any other
+        octet is that octet.
+
+        A name with a dot at its end is fully qualified, and `.` is the root. Any other name is completed by the origin,
+        if there is one, and is fully qualified then; else it is relative. `@` is the origin, or the relative name
+        without labels. Raises `EmptyLabel` (also for an empty text), `LabelTooLong`, `NameTooLong`, `BadEscape`,
+        `TextCut` or `NotUtf8` if the text is not a name, with the offset and the rule.
 
         >>> Name.from_text("www", Name("example."))
         Name('www.example.')
+        >>> Name.from_text("a\\\\032b\\\\.c.").labels
+        (b'a b.c',)
         """
-        if origin is None:
-            return cls(text)
-        name = origin if text == "@" else cls(text)
-        return name if name._is_fqdn else name.append(origin)
+        encoded, own = _checks.text("text", text), b"" if origin is None else wire_of("origin", origin)[0]
+        check_utf8(encoded)
+        form, parsed = Form(), ParsedName()
+        failure = library.dnw_name_parse(encoded, len(encoded), own, len(own), form, FORM_SIZE, byref(parsed))
+        check_text(failure, encoded, own)
+        return cls._of(taken(form, parsed.len), parsed.is_fqdn)
 
     def to_text(self) -> str:
-        """Returns the text, as `str` does."""
+        """Returns the text, as `str` does: in ASCII, with a dot at the end if the name is fully qualified. The root is
+        `.`, and the relative name without labels `@`. `from_text` reads it as the same name.
+
+        `"`, `$`, `(`, `)`, `.`, `;`, `@` and `\\` are printed after a backslash, and octets that are not printable ASCII
+        as a backslash and three decimal digits.
+
+        >>> Name.from_wire(b"\\x05a b.c\\x00").to_text()
+        'a\\\\032b\\\\.c.'
+        """
         return str(self)
 
     @classmethod
@@ -128,7 +139,7 @@ class Name:
     def is_root(self) -> bool:
         """Whether the name has no labels and is fully qualified.
 
-        >>> Name(".").is_root, Name("").is_root
+        >>> Name(".").is_root, Name("@").is_root
         (True, False)
         """
         return self._is_fqdn and len(self._wire) == 1
@@ -279,15 +290,8 @@ class Name:
         return format(str(self), spec)
 
     def __repr__(self) -> str:
-        """Returns an expression with this value: by its text if that round-trips, or by its wire form."""
-        text = str(self)
-        try:
-            back = Name(text)
-        except DnsError:
-            back = None
-        if back is not None and (back._wire, back._is_fqdn) == (self._wire, self._is_fqdn):
-            return f"Name({text!r})"
-        return f"Name.from_wire({self._wire!r}{'' if self._is_fqdn else ', is_fqdn=False'})"
+        """Returns an expression with this value."""
+        return f"Name({str(self)!r})"
 
     def __eq__(self, other: object) -> bool:
         if not isinstance(other, Name):

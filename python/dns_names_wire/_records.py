@@ -34,7 +34,7 @@ class Record:
 
     It keeps its message, and reads its owner and its data when they are first used. `Record(owner, ttl, data)` makes
     one of class IN. `str` returns a line of a master file (RFC 1035, section 5.1). Data without a text of their own are
-    printed as `\\# 4 0A000001` (RFC 3597, section 5). Escapes are decimal; those of a `Name` are octal.
+    printed as `\\# 4 0A000001` (RFC 3597, section 5). Escapes are decimal.
 
     >>> from dns_names_wire import MX, Name, Record
     >>> record = Record(Name("a."), 60, MX(preference=10, exchange=Name("b.a.")))

@@ -167,7 +167,7 @@ class Messages(unittest.TestCase):
         self.assertFalse(Message.query(Name("a."), 2, recursion_desired=False).header.recursion_desired)
         self.assertGreater(len({make_query("a.", "A").id for _ in range(20)}), 1)
         for arguments, error in [
-            (("a..", "A"), dnw.BadText), (("a.", "NOTYPE"), dnw.UnknownText), (("a.", 65536), ValueError), ((1, 1), TypeError)
+            (("a..", "A"), dnw.EmptyLabel), (("a.", "NOTYPE"), dnw.UnknownText), (("a.", 65536), ValueError), ((1, 1), TypeError)
         ]:
             self.assertRaises(error, make_query, *arguments)
         self.assertRaises(ValueError, Message.query, Name("a."), 1, id=65536)
@@ -255,7 +255,7 @@ class Records(unittest.TestCase):
         self.assertEqual(Name.from_text("www", origin), Name("www.example."))
         self.assertEqual((Name.from_text("www.", origin), Name.from_text("@", origin)), (Name("www."), origin))
         self.assertEqual((Name.from_text("www").to_text(), Name.from_text("www")), ("www", Name("www")))
-        self.assertRaises(dnw.BadText, Name.from_text, "@")
+        self.assertEqual((Name.from_text("@"), Name.from_text("@", Name("."))), (Name(), Name(".")))
 
 
 if __name__ == "__main__":

@@ -182,11 +182,19 @@ extern "C" {
     fn dnw_name_parse(
         text: *const u8,
         text_len: usize,
+        origin: *const u8,
+        origin_len: usize,
         form: *mut u8,
         form_size: usize,
         parsed: *mut ParsedName,
     ) -> u32;
-    fn dnw_name_text_fault(text: *const u8, text_len: usize, offset: *mut usize) -> u32;
+    fn dnw_name_text_fault(
+        text: *const u8,
+        text_len: usize,
+        origin: *const u8,
+        origin_len: usize,
+        offset: *mut usize,
+    ) -> u32;
     fn dnw_name_print(
         form: *const u8,
         form_len: usize,
@@ -441,23 +449,23 @@ pub(crate) fn read(message: &[u8], start: usize, form: &mut [u8; FORM_SIZE]) -> 
     outcome(number, read).map_err(|error| error.at_offset(start))
 }
 
-/// Parses the text of a name, and stores its wire form.
+/// Parses the text of a name with an origin, which has no octets if there is none, and stores its wire form.
 #[inline]
-pub(crate) fn parse(text: &str, form: &mut [u8; FORM_SIZE]) -> Result<ParsedName, Error> {
-    let mut parsed = ParsedName::default();
+pub(crate) fn parse(text: &str, origin: &[u8], form: &mut [u8; FORM_SIZE]) -> Result<ParsedName, Error> {
+    let (mut parsed, out) = (ParsedName::default(), form.as_mut_ptr());
     // SAFETY: pointers with their lengths, see the module.
-    let number = unsafe { dnw_name_parse(text.as_ptr(), text.len(), form.as_mut_ptr(), FORM_SIZE, &mut parsed) };
-    outcome(number, parsed).map_err(|error| match error.kind() {
-        ErrorKind::NoMemory => error,
-        _ => text_fault(text).map_or(error, |fault| error.at_fault(fault)),
-    })
+    let number = unsafe {
+        dnw_name_parse(text.as_ptr(), text.len(), origin.as_ptr(), origin.len(), out, FORM_SIZE, &mut parsed)
+    };
+    outcome(number, parsed).map_err(|error| text_fault(text, origin).map_or(error, |fault| error.at_fault(fault)))
 }
 
 /// Returns where a text is not that of a name.
-pub(crate) fn text_fault(text: &str) -> Option<TextFault> {
+pub(crate) fn text_fault(text: &str, origin: &[u8]) -> Option<TextFault> {
     let mut offset = 0;
-    // SAFETY: a pointer with its length, and one to a number of this type.
-    let number = unsafe { dnw_name_text_fault(text.as_ptr(), text.len(), &mut offset) };
+    // SAFETY: pointers with their lengths, and one to a number of this type.
+    let number =
+        unsafe { dnw_name_text_fault(text.as_ptr(), text.len(), origin.as_ptr(), origin.len(), &mut offset) };
     TextRule::from_number(number).map(|rule| TextFault { offset, rule })
 }
 

@@ -69,15 +69,15 @@ impl Error {
     /// - in a message, the start of the name, question, record or field that cannot be read; or the end of a record
     ///   whose data have fewer octets than were to be skipped;
     /// - in a wire form, the end of its name, for `BytesLeft`;
-    /// - in the text of a name, the end of the longest prefix that is a name. An escape counts as one character;
+    /// - in the text of a name, the first octet that is against the rule, or the end of the text;
     /// - in a master file, the offset after which no valid token is next.
     ///
     /// ```
     /// use dns_names_wire::{Name, TextRule};
     ///
-    /// let error = Name::from_ascii("www.exa mple.").unwrap_err();
-    /// assert_eq!((error.offset(), error.rule()), (Some(7), Some(TextRule::Character)));
-    /// assert_eq!(error.to_string(), "at offset 7: a character stands where it may not");
+    /// let error = Name::from_text("www.exa\\256mple.", None).unwrap_err();
+    /// assert_eq!((error.offset(), error.rule()), (Some(10), Some(TextRule::BadEscape)));
+    /// assert_eq!(error.to_string(), "at offset 10: an escape of the text is not three digits up to 255");
     /// ```
     pub fn offset(self) -> Option<usize> {
         match self.place? {
@@ -91,7 +91,7 @@ impl Error {
     /// Returns the rule that the text of a name breaks, if such a text is wrong.
     ///
     /// ```
-    /// let error = dns_names_wire::Name::from_ascii("a..bc").unwrap_err();
+    /// let error = dns_names_wire::Name::from_text("a..bc", None).unwrap_err();
     /// assert_eq!(error.rule(), Some(dns_names_wire::TextRule::EmptyLabel));
     /// ```
     pub fn rule(self) -> Option<TextRule> {
@@ -181,7 +181,7 @@ pub enum ErrorKind {
     NameTooLong,
     /// A label takes more than 63 octets.
     LabelTooLong,
-    /// A text has a label, a character or an escape that is not allowed. [`Error::rule`] is the rule that it breaks.
+    /// A label that is empty, or a line of a master file that does not begin with a name.
     BadText,
     /// Bytes follow a name that should end the input.
     BytesLeft,
@@ -195,6 +195,10 @@ pub enum ErrorKind {
     BadTime,
     /// A text that ends within an escape, or after a carriage return.
     TextCut,
+    /// A label of a text is empty.
+    EmptyLabel,
+    /// An escape of a text is not three decimal digits up to 255.
+    BadEscape,
     /// A character that is not allowed there.
     IllegalCharacter,
     /// A control character that is not white space.
@@ -244,7 +248,7 @@ pub enum ErrorKind {
 }
 
 /// The errors of the C library that have a name in this crate, each with its number in `dns_names_wire.h`.
-const NUMBERS: [(u32, ErrorKind); 36] = [
+const NUMBERS: [(u32, ErrorKind); 38] = [
     (1, ErrorKind::NoMemory),
     (3, ErrorKind::MessageCut),
     (4, ErrorKind::PointerNotBack),
@@ -266,6 +270,8 @@ const NUMBERS: [(u32, ErrorKind); 36] = [
     (23, ErrorKind::UnknownEntry),
     (24, ErrorKind::WrongDataLength),
     (26, ErrorKind::NotReverse),
+    (28, ErrorKind::EmptyLabel),
+    (29, ErrorKind::BadEscape),
     (30, ErrorKind::TooManyPointers),
     (31, ErrorKind::DuplicateEdns),
     (32, ErrorKind::OwnerNotRoot),
@@ -314,7 +320,7 @@ impl From<ErrorKind> for Error {
 /// ```
 #[derive(Clone, Copy, Debug, PartialEq, Eq, Hash)]
 pub struct TextFault {
-    /// The offset in octets of the first wrong character or escape: the end of the longest prefix that is a name.
+    /// The offset of the first octet that is against the rule, or the length of the text if it ends too early.
     pub offset: usize,
     /// The rule that is broken there.
     pub rule: TextRule,
@@ -328,28 +334,24 @@ pub struct TextFault {
 #[derive(Clone, Copy, Debug, PartialEq, Eq, Hash)]
 #[non_exhaustive]
 pub enum TextRule {
-    /// A label has at least one character.
+    /// A label has at least one octet.
     EmptyLabel = 28,
     /// A label has at most 63 octets.
     LabelTooLong = 8,
     /// A name has at most 255 octets.
     NameTooLong = 7,
-    /// A label begins with a letter, a digit, `_` or `*`, and goes on with letters, digits, `_` and `-`. A dot in it is
-    /// escaped.
-    Character = 19,
-    /// An escape of digits has three digits from 0 to 7.
-    Digit = 29,
+    /// An escape that begins with a digit has three, and its number is at most 255.
+    BadEscape = 29,
     /// The text does not end within an escape.
     UnfinishedEscape = 18,
 }
 
 impl TextRule {
-    const ALL: [TextRule; 6] = [
+    const ALL: [TextRule; 5] = [
         TextRule::EmptyLabel,
         TextRule::LabelTooLong,
         TextRule::NameTooLong,
-        TextRule::Character,
-        TextRule::Digit,
+        TextRule::BadEscape,
         TextRule::UnfinishedEscape,
     ];
 

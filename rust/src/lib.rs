@@ -18,7 +18,7 @@
 //!
 //! | to | use |
 //! |---|---|
-//! | read a name from a message, a text or a wire form | [`Name::read`], [`Name::from_ascii`] or `str::parse`, [`Name::from_wire`] |
+//! | read a name from a message, a text or a wire form | [`Name::read`], [`Name::from_text`] or `str::parse`, [`Name::from_wire`] |
 //! | skip names, or iterate over their labels, without a copy | [`NameRef`], [`names()`] |
 //! | make names from names and labels | [`Name::from_labels`], [`Name::append`], [`Name::prepend_label`], [`Name::base_name`], [`Name::trim_to`], [`Name::to_wildcard`] |
 //! | print, compare, sort, hash | `Display`, `Ord`, `Hash`, [`sort_names`], [`Name::sort_key`], [`Name::zone_of`], [`Name::to_lowercase`] |

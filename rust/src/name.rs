@@ -38,10 +38,10 @@ pub struct Name {
 const VALID: &str = "the wire form of a name";
 
 impl Name {
-    /// Returns the empty name that is not fully qualified.
+    /// Returns the relative name without labels.
     ///
     /// ```
-    /// assert_eq!(dns_names_wire::Name::new().to_string(), "");
+    /// assert_eq!(dns_names_wire::Name::new().to_string(), "@");
     /// ```
     pub fn new() -> Self {
         Name { form: [0; FORM_SIZE], len: 1, is_fqdn: false }
@@ -152,28 +152,32 @@ impl Name {
         }
     }
 
-    /// Parses a name (RFC 1035, section 5.1): labels with dots between them. It is fully qualified if it ends in a dot.
+    /// Parses a name (RFC 1035, section 5.1): labels with dots between them. Any octet stands for itself, but for a dot
+    /// and a backslash: `\\DDD` in decimal is that octet, and a backslash before any other octet is that octet.
     ///
-    /// A label has ASCII letters, digits, `_`, `-` except as its first character, `*` only as its first character, and
-    /// dots that are escaped, as `\\.` or in octal digits.
+    /// A name with a dot at its end is fully qualified, and `.` is the root. Any other name is completed by the origin,
+    /// if there is one, and is fully qualified then; else it is relative. `@` is the origin, or [`Name::new`].
     ///
     /// # Errors
     ///
-    /// `BadText`, `LabelTooLong` or `NameTooLong` if the text is not a name, with the offset and the rule; or
-    /// `NoMemory` in place of `BadText`.
+    /// `EmptyLabel` (also for an empty text), `LabelTooLong`, `NameTooLong`, `BadEscape` or `TextCut` if the text is not
+    /// a name, with the offset and the rule.
     ///
     /// ```
     /// use dns_names_wire::{Error, Name};
     ///
-    /// assert!(!Name::from_ascii("a.bc")?.is_fqdn());
-    /// let error = Name::from_ascii("a..bc").unwrap_err();
+    /// let origin = Name::from_text("example.com.", None)?;
+    /// assert_eq!(Name::from_text("www", Some(&origin))?.to_string(), "www.example.com.");
+    /// assert_eq!(Name::from_text("0/25.2.0.192.in-addr.arpa.", None)?.as_wire()[..5], *b"\x040/25");
+    /// assert!(!Name::from_text("a.bc", None)?.is_fqdn());
+    /// let error = Name::from_text("a..bc", None).unwrap_err();
     /// assert_eq!(error.to_string(), "at offset 2: a label of the text is empty");
     /// # Ok::<(), Error>(())
     /// ```
     #[inline]
-    pub fn from_ascii(text: &str) -> Result<Self, Error> {
+    pub fn from_text(text: &str, origin: Option<&Name>) -> Result<Self, Error> {
         let mut name = Name::new();
-        let parsed = door::parse(text, &mut name.form)?;
+        let parsed = door::parse(text, origin.map_or(&[], |name| name.as_wire()), &mut name.form)?;
         name.len = parsed.len as u8;
         name.is_fqdn = parsed.is_fqdn;
         Ok(name)
@@ -181,17 +185,14 @@ impl Name {
 
     /// Returns where a text is wrong and the rule that it breaks there, or `None` if it is the text of a name.
     ///
-    /// The text before the offset is a name, and no longer prefix of the text is one. An escape counts as one
-    /// character.
-    ///
     /// ```
     /// use dns_names_wire::{Name, TextFault, TextRule};
     ///
     /// assert_eq!(Name::text_fault("a.bc."), None);
-    /// assert_eq!(Name::text_fault("a.-bc"), Some(TextFault { offset: 2, rule: TextRule::Character }));
+    /// assert_eq!(Name::text_fault("a..bc"), Some(TextFault { offset: 2, rule: TextRule::EmptyLabel }));
     /// ```
     pub fn text_fault(text: &str) -> Option<TextFault> {
-        door::text_fault(text)
+        door::text_fault(text, &[])
     }
 
     /// Returns the fully qualified name with these labels, each of any 1 to 63 octets.
@@ -234,7 +235,7 @@ impl Name {
     /// ```
     /// use dns_names_wire::Name;
     ///
-    /// assert!(Name::from_ascii("a.")?.is_fqdn() && !Name::from_ascii("a")?.is_fqdn());
+    /// assert!(Name::from_text("a.", None)?.is_fqdn() && !Name::from_text("a", None)?.is_fqdn());
     /// # Ok::<(), dns_names_wire::Error>(())
     /// ```
     #[inline]
@@ -272,7 +273,7 @@ impl Name {
     /// ```
     /// use dns_names_wire::Name;
     ///
-    /// assert!(Name::from_ascii("*.example.")?.is_wildcard() && !Name::from_ascii("a.*.example.")?.is_wildcard());
+    /// assert!(Name::from_text("*.example.", None)?.is_wildcard() && !Name::from_text("a.*.example.", None)?.is_wildcard());
     /// # Ok::<(), dns_names_wire::Error>(())
     /// ```
     pub fn is_wildcard(&self) -> bool {
@@ -285,8 +286,8 @@ impl Name {
     /// ```
     /// use dns_names_wire::Name;
     ///
-    /// assert_eq!(Name::from_ascii("www.example.com.")?.num_labels(), 3);
-    /// assert_eq!(Name::from_ascii("*.example.com.")?.num_labels(), 2);
+    /// assert_eq!(Name::from_text("www.example.com.", None)?.num_labels(), 3);
+    /// assert_eq!(Name::from_text("*.example.com.", None)?.num_labels(), 2);
     /// # Ok::<(), dns_names_wire::Error>(())
     /// ```
     pub fn num_labels(&self) -> u8 {
@@ -313,7 +314,7 @@ impl Name {
     /// ```
     /// use dns_names_wire::Name;
     ///
-    /// let zone = Name::from_ascii("example.com.")?;
+    /// let zone = Name::from_text("example.com.", None)?;
     /// assert!(zone.zone_of(&"www.Example.com.".parse()?) && zone.zone_of(&zone));
     /// assert!(!zone.zone_of(&"example.org.".parse()?));
     /// # Ok::<(), dns_names_wire::Error>(())
@@ -327,7 +328,7 @@ impl Name {
     /// ```
     /// use dns_names_wire::Name;
     ///
-    /// let (absolute, relative) = (Name::from_ascii("a.b.")?, Name::from_ascii("A.b")?);
+    /// let (absolute, relative) = (Name::from_text("a.b.", None)?, Name::from_text("A.b", None)?);
     /// assert!(absolute.eq_ignore_root(&relative) && absolute != relative);
     /// # Ok::<(), dns_names_wire::Error>(())
     /// ```
@@ -361,7 +362,7 @@ impl Name {
     /// ```
     /// use dns_names_wire::Name;
     ///
-    /// assert_eq!(Name::from_ascii("WWW.Example.com.")?.to_lowercase().to_string(), "www.example.com.");
+    /// assert_eq!(Name::from_text("WWW.Example.com.", None)?.to_lowercase().to_string(), "www.example.com.");
     /// # Ok::<(), dns_names_wire::Error>(())
     /// ```
     pub fn to_lowercase(&self) -> Name {
@@ -398,7 +399,7 @@ impl Name {
     /// ```
     /// use dns_names_wire::Name;
     ///
-    /// assert_eq!(Name::from_ascii("example.com.")?.prepend_label(b"www")?.to_string(), "www.example.com.");
+    /// assert_eq!(Name::from_text("example.com.", None)?.prepend_label(b"www")?.to_string(), "www.example.com.");
     /// # Ok::<(), dns_names_wire::Error>(())
     /// ```
     pub fn prepend_label(&self, label: &[u8]) -> Result<Name, Error> {
@@ -425,7 +426,7 @@ impl Name {
     /// ```
     /// use dns_names_wire::Name;
     ///
-    /// assert_eq!(Name::from_ascii("www.example.com.")?.base_name().to_string(), "example.com.");
+    /// assert_eq!(Name::from_text("www.example.com.", None)?.base_name().to_string(), "example.com.");
     /// assert!(Name::root().base_name().is_root());
     /// # Ok::<(), dns_names_wire::Error>(())
     /// ```
@@ -438,7 +439,7 @@ impl Name {
     /// ```
     /// use dns_names_wire::Name;
     ///
-    /// assert_eq!(Name::from_ascii("www.example.com.")?.to_wildcard().to_string(), "*.example.com.");
+    /// assert_eq!(Name::from_text("www.example.com.", None)?.to_wildcard().to_string(), "*.example.com.");
     /// # Ok::<(), dns_names_wire::Error>(())
     /// ```
     pub fn to_wildcard(&self) -> Name {
@@ -526,18 +527,18 @@ impl From<IpAddr> for Name {
 impl FromStr for Name {
     type Err = Error;
 
-    /// The same as [`Name::from_ascii`].
+    /// The same as [`Name::from_text`] without an origin.
     fn from_str(text: &str) -> Result<Self, Error> {
-        Name::from_ascii(text)
+        Name::from_text(text, None)
     }
 }
 
-/// The same as [`Name::from_ascii`].
+/// The same as [`Name::from_text`] without an origin.
 impl TryFrom<&str> for Name {
     type Error = Error;
 
     fn try_from(text: &str) -> Result<Self, Error> {
-        Name::from_ascii(text)
+        Name::from_text(text, None)
     }
 }
 
@@ -559,10 +560,11 @@ impl<'a> IntoIterator for &'a Name {
     }
 }
 
-/// Prints the name in ASCII (RFC 1035, section 5.1), with a last dot if it is fully qualified.
+/// Prints the name in ASCII (RFC 1035, section 5.1), with a last dot if it is fully qualified. The root is `.`, and
+/// [`Name::new`] is `@`. [`Name::from_text`], without an origin, reads the text as the same name.
 ///
-/// Letters, digits, `_`, `-` and `*` are printed as [`Name::from_ascii`] takes them, other graphic characters after a
-/// backslash, and any other octet as a backslash and three octal digits.
+/// `"`, `$`, `(`, `)`, `.`, `;`, `@` and `\` are printed after a backslash, and octets that are not printable ASCII as
+/// a backslash and three decimal digits.
 impl fmt::Display for Name {
     fn fmt(&self, f: &mut fmt::Formatter<'_>) -> fmt::Result {
         self.with_text(|text| f.pad(text)).map_err(|_| fmt::Error)?

@@ -314,7 +314,7 @@ impl<'a> Record<'a> {
 
 /// Prints a line of a master file, without its end (RFC 1035, section 5.1): the owner, the TTL, the class, the type and
 /// the data, with tabs between them. Data without a text of their own are printed as `\# 4 0A000001` (RFC 3597, section
-/// 5). Escapes are decimal, as `\032`; those of a [`Name`] are octal.
+/// 5). Escapes are decimal, as `\032`.
 impl fmt::Display for Record<'_> {
     fn fmt(&self, f: &mut fmt::Formatter<'_>) -> fmt::Result {
         let mut line = Vec::new();

@@ -21,8 +21,8 @@ fn names_of_names() {
     assert_eq!(name("a.b.c").trim_to(2).to_string(), "b.c");
     assert_eq!((name("a.b.").trim_to(0), name("a.b.").trim_to(usize::MAX)), (Name::root(), name("a.b.")));
     assert_eq!(
-        (name("a.b").base_name(), name("a.").base_name(), name("").base_name()),
-        (name("b"), name("."), name(""))
+        (name("a.b").base_name(), name("a.").base_name(), name("@").base_name()),
+        (name("b"), name("."), name("@"))
     );
     assert_eq!(Name::from_labels([&b"b."[..], b"\xFF"]).unwrap().as_wire(), b"\x02b.\x01\xFF\0");
     assert_eq!(Name::from_labels(long.labels()), Ok(long.clone()));

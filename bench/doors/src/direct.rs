@@ -13,7 +13,15 @@ struct Pair {
 
 extern "C" {
     fn dnw_name_read(message: *const u8, len: usize, start: usize, form: *mut u8, size: usize, read: *mut Pair) -> u32;
-    fn dnw_name_parse(text: *const u8, len: usize, form: *mut u8, size: usize, parsed: *mut Pair) -> u32;
+    fn dnw_name_parse(
+        text: *const u8,
+        len: usize,
+        origin: *const u8,
+        origin_len: usize,
+        form: *mut u8,
+        size: usize,
+        parsed: *mut Pair,
+    ) -> u32;
     fn dnw_name_print(form: *const u8, form_len: usize, fqdn: bool, text: *mut u8, size: usize, len: *mut usize)
         -> u32;
     fn dnw_names_write(names: *const u8, len: usize, max: u16, out: *mut u8, size: usize, written: *mut Pair) -> u32;
@@ -83,7 +91,7 @@ fn write(list: &[u8], out: &mut [u8]) -> u64 {
 fn parse(text: &[u8]) -> u64 {
     let (mut form, mut pair) = ([0; 255], Pair::default());
     // SAFETY: pointers with their lengths.
-    match unsafe { dnw_name_parse(text.as_ptr(), text.len(), form.as_mut_ptr(), 255, &mut pair) } {
+    match unsafe { dnw_name_parse(text.as_ptr(), text.len(), text.as_ptr(), 0, form.as_mut_ptr(), 255, &mut pair) } {
         0 => black_box(&form[..pair.len]).len() as u64,
         _ => FAILED,
     }

@@ -16,7 +16,7 @@ pub fn run(task: &Task, count: u64) -> Option<u64> {
         }
         Kind::Parse => {
             let texts: Vec<&str> = std::str::from_utf8(&task.bytes).expect("UTF-8").lines().collect();
-            repeat(count, || sum(black_box(&texts), |text| Name::from_ascii(text).map_or(FAILED, |name| size(&name))))
+            repeat(count, || sum(black_box(&texts), |text| Name::from_text(text, None).map_or(FAILED, |name| size(&name))))
         }
         Kind::Print => {
             let names = owned();

@@ -35,10 +35,15 @@ pub use Rattle.dnw_base.specs.DnsClasses.{class_code, class_name, class_text, cl
 pub use Rattle.dns_names_wire.specs.CodeLaws.{TypeCodesComeBack, NamedTypesComeBack, UnknownTypesComeBack}
 pub use Rattle.dns_names_wire.specs.CodeLaws.{ClassCodesComeBack, NamedClassesComeBack, UnknownClassesComeBack, SizesStayUnknown}
 pub use Rattle.dnw_base.specs.Naming.{Looks, ReportsType, ReportsClass}
--- Texts of labels and names.
+-- Texts of labels and names, as hickory-proto has them.
 pub use Rattle.dnw_name_form.specs.LabelText.{dot, label_from_bytes, label_from_text, label_text}
 pub use Rattle.dnw_name_ascii.specs.NameText.{IsLabelText, max_text, name_from_text, name_from_text_at, name_text}
 pub use Rattle.dnw_name_ascii.specs.TextFaults.{Gives, GoesWrong, GoesWrongBy, IsNameText, rule_of}
+-- Texts of names in master files.
+pub use Rattle.dnw_name_text.specs.declared.error.NameTextError.{NameTextError}
+pub use Rattle.dnw_name_text.specs.NameTexts.{full_name_text, relative_name_text, text_of_name}
+pub use Rattle.dnw_name_text.specs.NameReading.{name_of_text, origin_labels}
+pub use Rattle.dnw_name_text.specs.NameTextLaws.{FullNamesComeBack, NamesComeBack}
 -- Nets and reverse names.
 pub use Rattle.dnw_name_arpa.specs.declared.net.IpNet.{IpNet}
 pub use Rattle.dnw_name_arpa.specs.Nets.{NetValue, ipv4_size, ipv6_size}

@@ -179,6 +179,13 @@ pub mod name {
     pub use dnw_name_read::walk::ReadSteps;
 }
 
+/// The texts of names in master files, which `Name::from_text` reads and `Name::to_text` prints: why a text gives no name, and that what is
+/// printed is read as the same name.
+pub mod name_text {
+    pub use dnw_name_text::error::{NameTextError, NameTextRule};
+    pub use dnw_name_text::laws::names_come_back;
+}
+
 /// Names within a message, which are walked without a copy.
 pub mod name_ref {
     pub use dnw_name::name_ref::NameRef;
@@ -242,7 +249,7 @@ pub mod sort_key {
     pub use dnw_name_order::sort_key::{MAX_SORT_KEY_LENGTH, laws};
 }
 
-/// Where a text that gives no name goes wrong.
+/// Where a text that gives no name by `Name::from_ascii` goes wrong. `Name::from_text` returns its own error, of [`name_text`].
 pub mod text_fault {
     pub use dnw_name_ascii::fault::{TextFault, TextRule, fault_of};
 }
@@ -250,7 +257,8 @@ pub mod text_fault {
 /// What follows from the definitions of texts, for callers' proofs.
 pub mod text_laws;
 
-/// Master files: their tokens, and times to live (RFC 1035, section 5.1).
+/// Times to live, and hickory-proto's lexer of master files (RFC 1035, section 5.1): a part of the port, which `data_text` does not use.
+/// It does not say whether a token was quoted, and the escapes in its tokens are characters of Unicode.
 pub mod txt {
     pub use dnw_zone_lexer::errors::{LexerError, ParseError, ParseResult};
     pub use dnw_zone_lexer::ttl::parse_ttl;

@@ -3,6 +3,7 @@
 mod messages;
 
 use dns_names_wire::message::{EdnsError, MessageError};
+use dns_names_wire::name_text::NameTextError;
 use dns_names_wire::{DecodeError, ProtoError};
 use hex::FromHexError;
 use std::alloc::{AllocError, AllocFailed, Global};
@@ -22,6 +23,9 @@ enum Refusal {
     /// A name was refused, or memory ran out.
     #[error("refused: {0}")]
     Proto(ProtoError),
+    /// A text gives no name.
+    #[error("refused: {0}")]
+    Name(NameTextError),
     /// A message was refused.
     #[error("refused: {0}")]
     Message(MessageError),
@@ -36,6 +40,12 @@ enum Refusal {
         /// What is wrong.
         error: EdnsError,
     },
+}
+
+impl From<NameTextError> for Refusal {
+    fn from(e: NameTextError) -> Self {
+        Refusal::Name(e)
+    }
 }
 
 impl From<io::Error> for Refusal {

@@ -66,7 +66,7 @@ pub enum Failure {
     BadItem,
     /// A label of a text has no character.
     EmptyLabel,
-    /// An escape of a text has a number that is no octal digit.
+    /// An escape of a text is not three decimal digits up to 255.
     BadEscape,
     /// The names of a message follow more pointers than the caller allows.
     TooManyPointers,
@@ -133,7 +133,7 @@ macro_rules! failures {
             NotReverse = 26, "the name is no reverse name of an address or a net";
             BadItem = 27, "an item of the list is malformed";
             EmptyLabel = 28, "a label of the text is empty";
-            BadEscape = 29, "an escape of the text has a number that is no octal digit";
+            BadEscape = 29, "an escape of the text is not three digits up to 255";
             TooManyPointers = 30, "the names follow more pointers than the caller allows";
             DuplicateEdns = 31, "the message has more than one OPT record";
             OwnerNotRoot = 32, "the OPT record is not owned by the root";

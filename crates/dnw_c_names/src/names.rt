@@ -2,7 +2,8 @@
 ghost use Rattle.std.specs.Prelude.{◌≡◌, ℕ, ◌<◌, ◌≤◌, List, length, Ok, IfOk, IfErr, OnOk};
 ghost use Rattle.dnw_base.specs.Limits.{max_name};
 ghost use Rattle.dnw_base.specs.Names.{NameValue, wire};
-ghost use Rattle.dnw_name_ascii.specs.NameText.{max_text, name_text};
+ghost use Rattle.dnw_name_ascii.specs.NameText.{max_text};
+ghost use Rattle.dnw_name_text.specs.NameTexts.{text_of_name};
 ghost use Rattle.dnw_name.specs.Decodable.{TakesNameValue};
 ghost use Rattle.dnw_write.specs.Encoder.{Encoder};
 ghost use Rattle.dnw_write.specs.EncoderValue.{value, lender};
@@ -14,6 +15,7 @@ ghost use Rattle.dnw_c_names.specs.NameCalls.{ParsesName, PutsOfForm, ReadsName,
 ghost use Rattle.dnw_c_names.specs.NameEdits.{PutsName};
 ghost use Rattle.dnw_c_names.specs.NameLists.{FailsToCopyName, StopsWriting, WritesList, WritesNames, at_first, limited_to};
 
+use crate::text_faults::{of_rule, origin_labels};
 use crate::wire_form::labels_of;
 use arrayvec::ArrayString;
 use dnw_base::decoder::BinDecoder;
@@ -24,8 +26,9 @@ use dnw_c_base::names::{name_ref_at, put_name};
 use dnw_c_base::results::report;
 use dnw_name::name::Name;
 use dnw_name::name_ref::NameRef;
-use dnw_name_ascii::text;
 use dnw_name_form::wire_labels::WireLabels;
+use dnw_name_text::printing::{MAX_TEXT, push_name};
+use dnw_name_text::reading::read;
 use dnw_write::binary::BinEncodable;
 use dnw_write::encoder::BinEncoder;
 use std::alloc::Global;
@@ -80,17 +83,18 @@ pub extern "C" fn dnw_name_read_text(
     report(read_text(message, start, text), read)
 }
 
-/// Puts the wire form of the name that a text gives.
+/// Puts the wire form of the name that a text gives. The origin is a wire form, or no octets for none. It does not allocate.
 #[unsafe(no_mangle)]
 pub extern "C" fn dnw_name_parse(
     alloc: Global,
     text: &[u8],
+    origin: &[u8],
     form: &mut [u8],
     parsed: &mut ParsedName,
 ) -> u32
-    ensures { Returns (ParsesName text.now form.old form.new) parsed.old parsed.new result }
+    ensures { Returns (ParsesName text.now origin.now form.old form.new) parsed.old parsed.new result }
 {
-    report(parse(alloc, text, form), parsed)
+    report(parse(alloc, text, origin, form), parsed)
 }
 
 /// Puts the text of the name with a wire form. It does not allocate.
@@ -101,7 +105,7 @@ pub extern "C" fn dnw_name_print(
     text: &mut [u8],
     len: &mut usize,
 ) -> u32
-    ensures { Returns (PutsOfForm max_text (λ labels. name_text (record { is_fqdn = is_fqdn; labels = labels })) form.now text.old text.new)
+    ensures { Returns (PutsOfForm max_text (λ labels. text_of_name (record { is_fqdn = is_fqdn; labels = labels })) form.now text.old text.new)
         len.old len.new result }
 {
     report(print(form, is_fqdn, text), len)
@@ -151,21 +155,25 @@ fn read_text(message: &[u8], start: usize, text: &mut [u8]) -> Result<ReadName, 
 }
 
 /// Puts the wire form of the name that a text gives.
-fn parse(alloc: Global, text: &[u8], form: &mut [u8]) -> Result<ParsedName, Failure>
-    ensures { ParsesName text.now form.old form.new result }
+fn parse(alloc: Global, text: &[u8], origin: &[u8], form: &mut [u8]) -> Result<ParsedName, Failure>
+    ensures { ParsesName text.now origin.now form.old form.new result }
 {
-    let Ok(chars) = str::from_utf8(text) else {
-        return Err(Failure::NotUtf8);
-    };
-    let name = Name::from_ascii(alloc, chars)?;
-    let len = put_form(form, &name)?;
-    let is_fqdn = name.is_fqdn();
-    Ok(ParsedName { len, is_fqdn })
+    let labels = origin_labels(origin)?;
+    match read(alloc, text, labels) {
+        Ok(name) => {
+            let len = put_wire(form, name.form.labels())?;
+            Ok(ParsedName {
+                len,
+                is_fqdn: name.is_fqdn,
+            })
+        }
+        Err(error) => Err(of_rule(error.rule)),
+    }
 }
 
 /// Puts the text of the name with a wire form, and returns its length.
 fn print(form: &[u8], is_fqdn: bool, text: &mut [u8]) -> Result<usize, Failure>
-    ensures { PutsOfForm max_text (λ labels. name_text (record { is_fqdn = is_fqdn; labels = labels })) form.now text.old text.new result }
+    ensures { PutsOfForm max_text (λ labels. text_of_name (record { is_fqdn = is_fqdn; labels = labels })) form.now text.old text.new result }
 {
     let labels = labels_of(form)?;
     put_text(text, labels, is_fqdn)
@@ -241,18 +249,21 @@ pub(crate) fn put_form(form: &mut [u8], name: &Name) -> Result<usize, Failure>
     put(form, name.as_wire())
 }
 
-/// Puts the text of a name with these labels, and returns its length.
-#[tactic(auto, using(dnw_name_ascii::proofs::TextSizes::texts_are_short))]
-fn put_text(buffer: &mut [u8], labels: WireLabels<'_>, is_fqdn: bool) -> Result<usize, Failure>
-    ensures { PutsWithin max_text (name_text (record { is_fqdn = is_fqdn; labels = labels.entry }))
-        (length (name_text (record { is_fqdn = is_fqdn; labels = labels.entry }))) buffer.old buffer.new result }
+/// Puts the wire form of labels, and returns its length.
+#[tactic(auto, using(crate::proofs::Forms::form_fits))]
+fn put_wire(form: &mut [u8], labels: WireLabels<'_>) -> Result<usize, Failure>
+    ensures { PutsWithin max_name (wire labels.entry) (length (wire labels.entry)) form.old form.new result }
 {
-    // The proof reads here that the labels fit together.
-    let _form = labels.as_wire();
-    let mut text = ArrayString::<{ text::MAX_TEXT }>::new();
-    text::push_labels_text(&mut text, labels);
-    if is_fqdn {
-        text.push('.');
-    }
+    put(form, labels.as_wire())
+}
+
+/// Puts the text of a name with these labels, and returns its length.
+#[tactic(auto, using(dnw_name_text::proofs::TextSizes::few_octets))]
+fn put_text(buffer: &mut [u8], labels: WireLabels<'_>, is_fqdn: bool) -> Result<usize, Failure>
+    ensures { PutsWithin max_text (text_of_name (record { is_fqdn = is_fqdn; labels = labels.entry }))
+        (length (text_of_name (record { is_fqdn = is_fqdn; labels = labels.entry }))) buffer.old buffer.new result }
+{
+    let mut text = ArrayString::<MAX_TEXT>::new();
+    push_name(&mut text, labels, is_fqdn);
     put(buffer, text.as_bytes())
 }

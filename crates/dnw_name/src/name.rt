@@ -13,6 +13,8 @@ ghost use Rattle.dnw_name_read.specs.Reading.{TakesName, StopsAt};
 ghost use Rattle.dnw_name_form.specs.Inside.WireBytes.{labels_of, IsWire};
 ghost use Rattle.dnw_name_form.specs.Edits.{append_label, prepend_label, append_name, append_domain, base_name, trim_to, into_wildcard};
 ghost use Rattle.dnw_name_ascii.specs.NameText.{max_text, name_text, name_from_text, name_from_text_at, IsLabelText};
+ghost use Rattle.dnw_name_text.specs.NameReading.{name_of_text, origin_labels};
+ghost use Rattle.dnw_name_text.specs.NameTexts.{text_of_name};
 ghost use Rattle.dnw_name_order.specs.Order.{IsLocalhost, IsZoneOfCase, IsZoneOf};
 ghost use Rattle.dnw_name.specs.FromLabels.{JoinsItems};
 
@@ -29,7 +31,10 @@ pub use dnw_name_form::label_iter::LabelIter;
 use dnw_name_form::wire_labels::WireLabels;
 use dnw_name_order::order;
 use dnw_name_read::walk::ReadSteps;
-use std::alloc::Global;
+use dnw_name_text::error::NameTextError;
+use dnw_name_text::printing::push_name;
+use dnw_name_text::reading;
+use std::alloc::{AllocError, Global};
 use std::fmt;
 use std::marker::Model;
 
@@ -423,8 +428,55 @@ impl Name {
         self.form.copy_octets(octets);
     }
 
-    /// Creates a name from text. It is fully qualified if the text ends in a dot. The text `.` is the root, and the
-    /// empty text the relative name without labels.
+    /// Creates a name from its text in master files (RFC 1035, section 5.1). Any octet stands for itself, but for a dot and a
+    /// backslash: `\DDD` in decimal is that octet, and a backslash before any other octet is that octet. It does not allocate.
+    ///
+    /// A name with a dot at its end is fully qualified, and `.` is the root. Any other one is completed by the labels of the
+    /// origin, if there is one, and is fully qualified then; else it is relative. `@` is the origin, or the relative name
+    /// without labels.
+    ///
+    /// ```
+    /// Name::from_text(alloc, "0/25.2.0.192.in-addr.arpa.", None)?; // 0/25.2.0.192.in-addr.arpa.
+    /// Name::from_text(alloc, "a\\032b", Some(&origin))?; // `a b`, in the zone `origin`
+    /// Name::from_text(alloc, "a\\256", None)?; // Err(NameTextError { offset: 4, rule: NameTextRule::BadEscape })
+    /// ```
+    pub fn from_text(
+        alloc: Global,
+        text: &str,
+        origin: Option<&Name>,
+    ) -> Result<Self, NameTextError>
+        ensures { result ≡ name_of_text (origin_labels (option_copied origin.entry)) text.now }
+    {
+        let labels = match origin {
+            Some(name) => Some(name.wire_labels()),
+            None => None,
+        };
+        let name = reading::read(alloc, text.as_bytes(), labels)?;
+        Ok(Name {
+            is_fqdn: name.is_fqdn,
+            form: name.form,
+        })
+    }
+
+    /// Returns the name as its text in master files (RFC 1035, section 5.1), in ASCII: its labels with a dot between them, and one
+    /// at the end if it is fully qualified. The root is `.`, and the relative name without labels `@`. A quote, `$`, `(`, `)`,
+    /// `.`, `;`, `@` and a backslash are printed after a backslash, and octets that are not printable ASCII as `\DDD` in decimal.
+    ///
+    /// `from_text`, without an origin, gives the name back: `dnw_name_text::laws` says so of every name. It has at most 1004
+    /// bytes.
+    pub fn to_text(&self, alloc: Global) -> Result<String, AllocError>
+        ensures { IfOk result (λ text. string_bytes text ≡ text_of_name self.now) }
+    {
+        let mut text = ArrayString::<{ text::MAX_TEXT }>::new();
+        push_name(&mut text, self.wire_labels(), self.is_fqdn);
+        let mut out = String::new(alloc);
+        out.push_str(text.as_str())?;
+        Ok(out)
+    }
+
+    /// Creates a name from text as hickory-proto reads it, with octal escapes; `from_text` reads what other programs print. It is
+    /// fully qualified if the text ends in a dot. The text `.` is the root, and the empty text the relative name without
+    /// labels.
     ///
     /// A backslash makes the next character an ordinary one, and a backslash with three octal digits stands for the
     /// character of that number. The first fault from the left is the error. Only an error with an allocated text can
@@ -453,7 +505,7 @@ impl Name {
         Name::from_str(alloc, name)
     }
 
-    /// Creates a name from text, as `from_ascii`. If there is an origin, it completes a relative name.
+    /// Creates a name from text as hickory-proto reads it, as `from_ascii`. If there is an origin, it completes a relative name.
     pub fn parse(alloc: Global, local: &str, origin: Option<&Name>) -> ProtoResult<Self>
         ensures follows { Follows (name_from_text_at (chars local.now) (option_copied origin.entry)) (NeedsErrorText (name_from_text (chars local.now))) result }
     {
@@ -464,8 +516,9 @@ impl Name {
         }
     }
 
-    /// Returns the name as text: its labels with a dot between them, and one at the end if it is fully qualified. If each
-    /// label stands for itself as text, `from_ascii` gives the name back. It has at most 1004 bytes.
+    /// Returns the name as text as hickory-proto prints it, with octal escapes; `to_text` prints what other programs read. It has the
+    /// labels with a dot between them, and one at the end if the name is fully qualified. If each label stands for itself as
+    /// text, `from_ascii` gives the name back. It has at most 1004 bytes.
     ///
     /// It fails with `Memory`, but not for the relative name without labels, whose text is empty.
     #[tactic(auto, using(dnw_name_ascii::proofs::ReadBack::read_back, dnw_name_ascii::proofs::TextSizes::texts_are_short))]
@@ -543,6 +596,7 @@ impl<'a> IntoIterator for &'a Name {
     }
 }
 
+/// It is printed as hickory-proto prints it, as by `to_ascii`.
 impl fmt::Display for Name {
     ghost output = { λ n. Some (name_text n) };
 

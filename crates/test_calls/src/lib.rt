@@ -32,6 +32,8 @@ mod messages;
 #[cfg(test)]
 mod name_tables;
 #[cfg(test)]
+mod name_texts;
+#[cfg(test)]
 mod nets;
 #[cfg(test)]
 mod rdata;

@@ -105,13 +105,15 @@ fn push_queries(alloc: Global, text: &mut String, message: &MessageRef<'_>) -> R
     }
     text.push_str("\n;; QUESTION SECTION:")?;
     for query in message.queries() {
-        let name = query.name().to_name(alloc)?;
+        let name = query.name().to_name(alloc)?.to_text(alloc)?;
         let (class, record_type) = (query.query_class().to_text(), query.query_type().to_text());
         text.push_str(format!(in alloc;
-            "\n;{name}\t{}\t{}",
+            "\n;{}\t{}\t{}",
+            name.as_str(),
             class.as_str(),
             record_type.as_str()
-        )?.as_str())?;
+        )?
+        .as_str())?;
     }
     text.push_str("\n")?;
     Ok(())
@@ -243,7 +245,7 @@ pub(super) fn query(
     let Some(query_type) = RecordType::from_text(record_type) else {
         return Err(Refusal::Usage);
     };
-    let name = Name::from_ascii(alloc, name)?;
+    let name = Name::from_text(alloc, name, None)?;
     let mut entries = Vec::new(alloc);
     entries.push(Entry::Query(WireQuery {
         name,

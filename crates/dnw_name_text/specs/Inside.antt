@@ -1,0 +1,2 @@
+-- What no public clause cites: what the parts of a call return.
+pub mod Labels

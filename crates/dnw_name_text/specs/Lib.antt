@@ -1,0 +1,4 @@
+pub mod NameTexts
+pub mod NameReading
+pub mod NameTextLaws
+pub mod Inside

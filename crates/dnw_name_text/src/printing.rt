@@ -1,0 +1,96 @@
+//! Names printed (RFC 1035, section 5.1).
+ghost use Rattle.std.specs.Prelude.{◌≡◌, ◌+◌, ◌*◌, ◌≤◌, ◌<◌, [], ◌++◌, length, map};
+ghost use Rattle.std.specs.List.{AllByRecursion, join_with_byte};
+ghost use Rattle.arrayvec.specs.ArrayString.{array_string_len};
+ghost use Rattle.dnw_base.specs.Limits.{max_name};
+ghost use Rattle.dnw_base.specs.Labels.{IsLabel};
+ghost use Rattle.dnw_base.specs.Names.{encoded_size};
+ghost use Rattle.dnw_name_form.specs.LabelText.{dot};
+ghost use Rattle.dnw_name_ascii.specs.NameText.{max_text};
+ghost use Rattle.dnw_name_text.specs.NameTexts.{is_special, name_octet, label_octets, text_of_name};
+
+use arrayvec::ArrayString;
+pub use dnw_name_ascii::text::MAX_TEXT;
+use dnw_name_form::wire_labels::WireLabels;
+
+/// Writes the text of the name with these labels: a dot after each if it is fully qualified, or else between them. The root is `.`, and
+/// the relative name without labels `@`.
+///
+/// A quote, `$`, `(`, `)`, `.`, `;`, `@` and a backslash are written after a backslash, and octets that are not printable ASCII as
+/// `\DDD` in decimal. So a space is `\032`.
+#[tactic(auto, using(crate::proofs::Joining::full_text))]
+pub fn push_name(out: &mut ArrayString<MAX_TEXT>, labels: WireLabels<'_>, is_fqdn: bool)
+    requires { out.old.bytes ≡ [] }
+    ensures { out.new.bytes ≡ text_of_name (record { is_fqdn = is_fqdn; labels = labels.entry }) }
+{
+    // The proof reads here that the labels fit together.
+    let form = labels.as_wire();
+    if form.len() == 1 {
+        out.push(if is_fqdn { '.' } else { '@' });
+        return;
+    }
+    push_labels(out, labels);
+    if is_fqdn {
+        out.push('.');
+    }
+}
+
+/// Writes labels with dots between them.
+fn push_labels(out: &mut ArrayString<MAX_TEXT>, mut labels: WireLabels<'_>)
+    requires empty { out.old.bytes ≡ [] }
+    requires labels { AllByRecursion IsLabel labels }
+    requires fit { encoded_size labels ≤ max_name }
+    ensures text { out.new.bytes ≡ join_with_byte dot (map label_octets labels.entry) }
+    ensures room { array_string_len out.new < max_text }
+{
+    let Some(first) = labels.next() else {
+        return;
+    };
+    push_label(out, first);
+    while let Some(label) = labels.next() {
+        out.push('.');
+        push_label(out, label);
+    }
+}
+
+/// Appends a label.
+fn push_label<const N: usize>(out: &mut ArrayString<N>, label: &[u8])
+    requires { array_string_len out.old + 4 * length label.now ≤ N }
+    ensures text { out.new.bytes ≡ out.old.bytes ++ label_octets label.now }
+    ensures room { array_string_len out.new ≤ array_string_len out.old + 4 * length label.now }
+{
+    for octet in label {
+        push_octet(out, *octet);
+    }
+}
+
+/// Appends an octet of a label. Small letters come first, since most octets are.
+fn push_octet<const N: usize>(out: &mut ArrayString<N>, octet: u8)
+    requires { array_string_len out.old + 4 ≤ N }
+    ensures text { out.new.bytes ≡ out.old.bytes ++ name_octet octet }
+    ensures room { array_string_len out.new ≤ array_string_len out.old + 4 }
+{
+    if octet.is_ascii_lowercase() {
+        out.push(char::from(octet));
+    } else if !octet.is_ascii_graphic() {
+        out.push('\\');
+        out.push(char::from(b'0' + octet / 100));
+        out.push(char::from(b'0' + octet / 10 % 10));
+        out.push(char::from(b'0' + octet % 10));
+    } else if is_special(octet) {
+        out.push('\\');
+        out.push(char::from(octet));
+    } else {
+        out.push(char::from(octet));
+    }
+}
+
+/// Returns `true` if a character means something else in a master file.
+fn is_special(octet: u8) -> bool
+    ensures { result ≡ is_special octet }
+{
+    matches!(
+        octet,
+        b'"' | b'$' | b'(' | b')' | b'.' | b';' | b'@' | b'\\'
+    )
+}
