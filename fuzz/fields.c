@@ -1,10 +1,28 @@
 /* The fields of data, by the RFC of each type: docs/DATA.md has the sections. */
+#include <stdbool.h>
 #include <string.h>
 
 #include "model.h"
 
-const char *model_fields_of(uint16_t type)
+/* Whether only IN has a type: others have octets. */
+static bool is_of_internet(uint16_t type)
 {
+    static const uint8_t types[] = {1, 11, 22, 23, 26, 28, 33, 36, 38, 42, 49, 64, 65};
+    for (size_t i = 0; i < sizeof types; i++)
+        if (types[i] == type)
+            return true;
+    return false;
+}
+
+const char *model_fields_of(uint16_t class, uint16_t type, const uint8_t *data, size_t len)
+{
+    bool is_update = class == DNW_CLASS_NONE || class == DNW_CLASS_ANY;
+    if (is_update && len == 0 && type != DNW_TYPE_OPT)
+        return "";
+    if (class != DNW_CLASS_IN && !is_update && is_of_internet(type))
+        return class == DNW_CLASS_CH && type == DNW_TYPE_A ? "nC" : "o";
+    if (type == 38)
+        return len > 0 && data[0] > 0 ? "Xn" : "X";
     static const struct {
         uint16_t type;
         const char *fields;
@@ -67,6 +85,10 @@ static uint32_t model_shaped(char letter, const uint8_t *octets, size_t len, siz
         *size = len > 0 && octets[0] > 0 ? len : 16;
         return DNW_DONE;
     }
+    if (letter == 'X') {
+        *size = len == 0 || octets[0] > 128 ? 1 : 1 + (135 - (size_t)octets[0]) / 8;
+        return len < *size ? DNW_MESSAGE_CUT : octets[0] > 128 ? DNW_BAD_FAMILY : DNW_DONE;
+    }
     if (letter == 'H') {
         *size = len < 4 ? 4 : 4 + octets[0] + model_number(octets + 2, 2);
         return DNW_DONE;
@@ -127,7 +149,7 @@ static uint32_t model_list(char letter, const uint8_t *octets, size_t len)
 
 static uint32_t model_field(const uint8_t *message, size_t end, char letter, size_t at, struct dnw_field *field, size_t *after)
 {
-    static const char letters[] = "?n?iItT?oSBPLGRHAN";
+    static const char letters[] = "?n?iItT?oSBPLGRHANX";
     const char *own = strchr(letters, letter);
     size_t left = end - at, head = model_head(letter), size = left;
     struct model_name name;
@@ -139,7 +161,7 @@ static uint32_t model_field(const uint8_t *message, size_t end, char letter, siz
         size = (size_t)(letter - '0');
     } else if (letter == 'V' || letter == 'Y') {
         size = letter == 'V' ? 6 : 8;
-    } else if (strchr("LGRH", letter) != NULL) {
+    } else if (strchr("LGRHX", letter) != NULL) {
         failure = model_shaped(letter, message + at, left, &size);
     } else if (head == 2) {
         size = left < 2 ? 2 : 2 + (size_t)model_number(message + at, 2);
@@ -147,7 +169,7 @@ static uint32_t model_field(const uint8_t *message, size_t end, char letter, siz
         size = 4;
     } else if (letter == 'I') {
         size = 16;
-    } else if (letter == 't') {
+    } else if (letter == 't' || letter == 'C') {
         size = 2;
     } else if (head == 1) {
         size = left == 0 ? 1 : 1 + (size_t)message[at];
@@ -173,11 +195,12 @@ static uint32_t model_field(const uint8_t *message, size_t end, char letter, siz
     return DNW_DONE;
 }
 
-uint32_t model_next(const uint8_t *message, size_t end, uint16_t type, struct dnw_fields *fields, struct dnw_field *field)
+uint32_t model_next(const uint8_t *message, size_t end, size_t start, uint16_t class, uint16_t type, struct dnw_fields *fields,
+                    struct dnw_field *field)
 {
-    const char *row = model_fields_of(type);
-    if (fields->offset > end)
+    if (fields->offset > end || start > end)
         return DNW_MESSAGE_CUT;
+    const char *row = model_fields_of(class, type, message + start, end - start);
     if (fields->number >= strlen(row)) {
         *field = (struct dnw_field){DNW_FIELD_END, fields->offset, 0};
         return fields->offset == end ? DNW_DONE : DNW_WRONG_DATA_LENGTH;

@@ -57,13 +57,14 @@ uint32_t model_parse(const uint8_t *text, size_t len, struct model_text *parsed)
    character string, `c` octets after their number, `w` octets after one of two octets, `V` a time of six octets, `Y` eight octets
    of a locator, `L`, `G`, `R` and `H` octets whose first ones say what follows, `x` a text, `o` and `b` octets up to the end, and
    `S`, `B`, `P`, `A` and `N` lists. */
-const char *model_fields_of(uint16_t type);
+const char *model_fields_of(uint16_t class, uint16_t type, const uint8_t *data, size_t len);
 
 /* How many octets are before the value of a field. */
 size_t model_head(char letter);
 
 /* The next field of data that end at `end`, or their end. */
-uint32_t model_next(const uint8_t *message, size_t end, uint16_t type, struct dnw_fields *fields, struct dnw_field *field);
+uint32_t model_next(const uint8_t *message, size_t end, size_t start, uint16_t class, uint16_t type, struct dnw_fields *fields,
+                    struct dnw_field *field);
 
 /* Puts the text of a wire form into `text`, which has DNW_TEXT_SIZE bytes, and returns its length. */
 size_t model_print(const struct model_name *name, bool is_fqdn, uint8_t *text);

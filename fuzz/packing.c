@@ -5,8 +5,11 @@
 static struct room input, output;
 
 /* The types of RFC 1035, whose names in data are compressed (RFC 3597, section 4). */
-static bool compresses(uint16_t type)
+static bool compresses(const struct dnw_record *record)
 {
+    uint16_t type = record->record_type;
+    if (type == DNW_TYPE_A)
+        return record->record_class == DNW_CLASS_CH;
     return (type >= 2 && type <= 9) || type == 12 || type == 14 || type == 15;
 }
 
@@ -18,17 +21,17 @@ static bool write_field(struct model_writer *w, const uint8_t *message, const st
     if (letter != 'n')
         return model_write_bytes(w, message + field->offset - head, field->len + head);
     CHECK(model_read(message, record->end, field->offset, &name) == DNW_DONE);
-    return model_write_name(w, &name, compresses(record->record_type));
+    return model_write_name(w, &name, compresses(record));
 }
 
 /* The data are fields of their type. */
 static bool write_fields(struct model_writer *w, const uint8_t *message, const struct dnw_record *record)
 {
-    const char *row = model_fields_of(record->record_type);
+    const char *row = model_fields_of(record->record_class, record->record_type, message + record->data_offset, record->data_len);
     struct dnw_fields fields = {record->data_offset, 0};
     struct dnw_field field;
     for (;;) {
-        CHECK(model_next(message, record->end, record->record_type, &fields, &field) == DNW_DONE);
+        CHECK(model_next(message, record->end, record->data_offset, record->record_class, record->record_type, &fields, &field) == DNW_DONE);
         if (field.kind == DNW_FIELD_END)
             return true;
         if (!write_field(w, message, record, row[fields.number - 1], &field))
@@ -57,7 +60,7 @@ static uint32_t data_failure(const uint8_t *message, const struct dnw_record *re
     struct dnw_fields fields = {record->data_offset, 0};
     struct dnw_field field;
     for (;;) {
-        uint32_t failure = model_next(message, record->end, record->record_type, &fields, &field);
+        uint32_t failure = model_next(message, record->end, record->data_offset, record->record_class, record->record_type, &fields, &field);
         if (failure != DNW_DONE || field.kind == DNW_FIELD_END)
             return failure;
     }

@@ -86,14 +86,14 @@ static uint32_t model_line(struct part text, struct part origin, size_t *len)
     if (!model_is_utf8(text.bytes, text.len))
         return DNW_NOT_UTF8;
     struct part word = cut_word(&text);
-    failure = dnw_data_parse(DNW_TYPE_CNAME, word.bytes, word.len, origin.bytes, origin.len, wanted, DNW_FORM_SIZE, len);
+    failure = dnw_data_parse(DNW_CLASS_IN, DNW_TYPE_CNAME, word.bytes, word.len, origin.bytes, origin.len, wanted, DNW_FORM_SIZE, len);
     if (failure != DNW_DONE || word.len == 0)
         return DNW_BAD_TEXT;
     failure = model_head(&text, wanted + *len, &type);
     if (failure != DNW_DONE)
         return failure;
     size_t data_len;
-    failure = dnw_data_parse(type, text.bytes, text.len, origin.bytes, origin.len, wanted + *len + 10, DATA, &data_len);
+    failure = dnw_data_parse(DNW_CLASS_IN, type, text.bytes, text.len, origin.bytes, origin.len, wanted + *len + 10, DATA, &data_len);
     if (failure != DNW_DONE)
         return failure;
     put_number(wanted + *len + 8, (uint32_t)data_len, 2);
@@ -143,13 +143,13 @@ static void parses_line(struct part text, struct part origin)
 /* Data that are parsed are fields of their type, and no name in them is a pointer: so they can be put into any message. */
 static void are_plain(uint16_t type, const uint8_t *data, size_t len)
 {
-    const char *row = model_fields_of(type);
+    const char *row = model_fields_of(DNW_CLASS_IN, type, data, len);
     struct dnw_fields fields = {0, 0};
     struct dnw_field field;
     struct model_name name;
     do {
         size_t at = fields.offset, number = fields.number;
-        CHECK(model_next(data, len, type, &fields, &field) == DNW_DONE);
+        CHECK(model_next(data, len, 0, DNW_CLASS_IN, type, &fields, &field) == DNW_DONE);
         if (number < strlen(row) && row[number] == 'n')
             CHECK(model_read(data, len, at, &name) == DNW_DONE && name.len == name.end - at);
     } while (field.kind != DNW_FIELD_END);
@@ -159,7 +159,7 @@ static void parses_data(uint16_t type, struct part text, struct part origin)
 {
     size_t len = 7;
     uint8_t *data = clear(&output, MOST);
-    uint32_t answer = dnw_data_parse(type, text.bytes, text.len, origin.bytes, origin.len, data, MOST, &len);
+    uint32_t answer = dnw_data_parse(DNW_CLASS_IN, type, text.bytes, text.len, origin.bytes, origin.len, data, MOST, &len);
     struct model_name name;
     uint32_t failure = origin.len == 0 ? DNW_DONE : model_form(origin.bytes, origin.len, &name);
     if (failure == DNW_DONE && !model_is_utf8(text.bytes, text.len))
@@ -181,7 +181,7 @@ static void parses_data(uint16_t type, struct part text, struct part origin)
     if (len > 0) {
         size_t size = len;
         data = clear(&output, size - 1);
-        CHECK(dnw_data_parse(type, text.bytes, text.len, origin.bytes, origin.len, data, size - 1, &len) == DNW_NO_ROOM);
+        CHECK(dnw_data_parse(DNW_CLASS_IN, type, text.bytes, text.len, origin.bytes, origin.len, data, size - 1, &len) == DNW_NO_ROOM);
         CHECK(untouched(data, size - 1) && len == size);
     }
 }

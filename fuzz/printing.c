@@ -148,7 +148,7 @@ static bool is_base64(uint16_t type)
 /* The model leaves open how these are printed: lists of types and parameters, EUI48 and EUI64, and CAA. */
 static bool is_open(uint16_t type)
 {
-    return strpbrk(model_fields_of(type), "BP68") != NULL || type == 257;
+    return strpbrk(model_fields_of(DNW_CLASS_IN, type, NULL, 0), "BP68") != NULL || type == 257;
 }
 
 /* Adds the text of a field after a space, and its octets. */
@@ -204,12 +204,12 @@ static bool are_fields;
 /* Adds the text of a record's data, and the data with names that are not compressed. */
 static void add_data(const uint8_t *message, const struct dnw_record *record)
 {
-    const char *row = model_fields_of(record->record_type);
+    const char *row = model_fields_of(record->record_class, record->record_type, message + record->data_offset, record->data_len);
     size_t line_len = line.len, octets_len = octets.len;
     struct dnw_fields fields = {record->data_offset, 0};
     struct dnw_field field;
     uint32_t failure;
-    while ((failure = model_next(message, record->end, record->record_type, &fields, &field)) == DNW_DONE &&
+    while ((failure = model_next(message, record->end, record->data_offset, record->record_class, record->record_type, &fields, &field)) == DNW_DONE &&
            field.kind != DNW_FIELD_END)
         add_field(&line, &octets, message, record->end, row[fields.number - 1], record->record_type, &field);
     if (failure != DNW_DONE) {
@@ -218,16 +218,14 @@ static void add_data(const uint8_t *message, const struct dnw_record *record)
     }
     are_fields = failure == DNW_DONE;
     /* some fields have no text here, and then the data have none of their own */
-    bool has_text = strpbrk(row, "bVYwLGRHAN") == NULL && (strcmp(row, "o") != 0 || is_base64(record->record_type));
-    if (!are_fields || !has_text) {
+    bool has_text = strpbrk(row, "bVYwLGRHANCX") == NULL && (strcmp(row, "o") != 0 || is_base64(record->record_type));
+    /* a text without a word is that of data that are left out, and not that of no octets in base 64 */
+    if (!are_fields || !has_text || (row[0] != 0 && line.len == line_len)) {
         line.len = line_len;
         add_text(&line, " \\#");
         add_number(&line, octets.len == octets_len ? " %u" : " %u ", (uint32_t)(octets.len - octets_len));
         add_hex(&line, octets.bytes + octets_len, octets.len - octets_len);
     }
-    /* no octets in base 64, as the data of OPENPGPKEY may be, are an empty text */
-    if (line.len == line_len)
-        add_text(&line, " ");
 }
 
 /* Makes the line of a record, and the record without compression. Returns how many octets of the line are certain. */

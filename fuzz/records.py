@@ -155,6 +155,7 @@ def field(kind):
         "gateway": lambda: gateway(lambda kind: bytes([kind]) + number(1)),
         "relay": lambda: gateway(lambda kind: bytes([kind | one_of(0, 128)])),
         "host identity": identity,
+        "address suffix and name unless the prefix is empty": suffix,
         "prefixes": prefixes,
         "names": lambda: b"".join(name() for _ in range(one_of(0, 0, 1, 3))),
     }
@@ -199,6 +200,12 @@ def identity():
     return bytes([len(hit)]) + number(1) + struct.pack("!H", len(key)) + hit + key
 
 
+def suffix():
+    """The length of a prefix, the octets of an address with the other bits, and the name of the prefix if it has bits."""
+    length = one_of(0, 1, 7, 8, 64, 127, 128, random.randint(0, 128))
+    return bytes([length]) + random.randbytes((135 - length) // 8) + (name() if length else b"")
+
+
 def prefixes():
     """Address prefixes, without zeros at their ends."""
     made = b""
@@ -229,7 +236,7 @@ class Sample:
 
     def __init__(self, code, kind, fields):
         self.code, self.kind = code, kind
-        words = [re.sub(r" \([CL]\)$", "", word) for word in fields]
+        words = [re.sub(r" \([CL]\)", "", word) for word in fields]
         values = SHAPES.get(kind, list)([field(word) for word in words])
         self.fields, self.data = list(zip(words, values)), b"".join(values)
         self.owner = name() if random.random() < 0.3 else b"\1a\7Example\0"
@@ -274,7 +281,7 @@ def parsed_line(line):
 
 
 def parsed_data(code, text):
-    return made(OURS.dnw_data_parse, ctypes.c_uint16(code), *sized(text.encode()))
+    return made(OURS.dnw_data_parse, ctypes.c_uint16(IN), ctypes.c_uint16(code), *sized(text.encode()))
 
 
 def type_text(code):

@@ -157,7 +157,7 @@ static void reads_edns(const uint8_t *message, size_t len, size_t most, const st
     CHECK(edns.options_offset == wanted.options_offset && edns.options_len == wanted.options_len);
 }
 
-static void reads_fields(const uint8_t *message, size_t end, uint16_t type, size_t offset)
+static void reads_fields(const uint8_t *message, size_t end, uint16_t class, uint16_t type, size_t offset)
 {
     struct dnw_fields fields = {offset, 0}, wanted_fields = fields;
     uint32_t answer;
@@ -165,8 +165,8 @@ static void reads_fields(const uint8_t *message, size_t end, uint16_t type, size
     do {
         const struct dnw_fields before = fields;
         field = wanted = (struct dnw_field){77, 7, 7};
-        answer = model_next(message, end, type, &wanted_fields, &wanted);
-        CHECK(dnw_field_next(message, end, type, &fields, &field) == answer);
+        answer = model_next(message, end, offset, class, type, &wanted_fields, &wanted);
+        CHECK(dnw_field_next(message, end, offset, class, type, &fields, &field) == answer);
         if (answer != DNW_DONE) {
             CHECK(fields.offset == before.offset && fields.number == before.number);
             CHECK(field.kind == 77 && field.offset == 7 && field.len == 7);
@@ -197,7 +197,7 @@ static void reads(const uint8_t *message, size_t len, size_t most)
         struct model_name owner;
         struct dnw_record record;
         CHECK(model_record(message, len, at, &owner, &record) == DNW_DONE);
-        reads_fields(message, record.end, record.record_type, record.data_offset);
+        reads_fields(message, record.end, record.record_class, record.record_type, record.data_offset);
         at = record.end;
     }
 }
@@ -213,8 +213,11 @@ int LLVMFuzzerTestOneInput(const uint8_t *data, size_t size)
     /* The input as the data of a type, from its first octets on. */
     if (len >= 2) {
         uint16_t type = (uint16_t)(model_number(message, 2) % 300);
-        reads_fields(message, len, type, 2);
-        reads_fields(message, len, type, len + 1);
+        static const uint16_t classes[] = {DNW_CLASS_IN, DNW_CLASS_CH, DNW_CLASS_HS, DNW_CLASS_NONE, DNW_CLASS_ANY};
+        for (size_t i = 0; i < sizeof classes / sizeof classes[0]; i++) {
+            reads_fields(message, len, classes[i], type, 2);
+            reads_fields(message, len, classes[i], type, len + 1);
+        }
     }
     message = put_at_start(&input, data + 1, len);
     reads(message, len, most);

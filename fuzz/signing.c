@@ -29,11 +29,11 @@ static bool is_lowered(uint16_t type)
 /* Puts the data of a record, names whole and lowered or not. Returns why they are none of their type. */
 static uint32_t put_data(const uint8_t *message, const struct dnw_record *record, bool lowers, size_t *at)
 {
-    const char *row = model_fields_of(record->record_type);
+    const char *row = model_fields_of(record->record_class, record->record_type, message + record->data_offset, record->data_len);
     struct dnw_fields fields = {record->data_offset, 0};
     struct dnw_field field;
     for (;;) {
-        uint32_t failure = model_next(message, record->end, record->record_type, &fields, &field);
+        uint32_t failure = model_next(message, record->end, record->data_offset, record->record_class, record->record_type, &fields, &field);
         if (failure != DNW_DONE || field.kind == DNW_FIELD_END)
             return failure;
         char letter = row[fields.number - 1];

@@ -314,7 +314,9 @@ enum dnw_field_kind {
                                      key (RFC 8005, section 5) */
     DNW_FIELD_PREFIXES = 16, /* address prefixes, each two octets of family, one of prefix length, a bit that negates it
                                 and 7 bits of length, and as many octets as that (RFC 3123, section 4) */
-    DNW_FIELD_NAMES = 17     /* names in their wire form, one after another */
+    DNW_FIELD_NAMES = 17,    /* names in their wire form, one after another */
+    DNW_FIELD_ADDRESS_SUFFIX = 18 /* the length of a prefix, and the octets of an IPv6 address with the other bits (RFC 2874,
+                                     section 3.1.1) */
 };
 
 /* A field: the `len` octets at offset `offset` of the message. `kind` is of enum dnw_field_kind. */
@@ -324,19 +326,21 @@ struct dnw_field {
     size_t len;
 };
 
-/* Stores the next field of the data of a record of type `record_type`, and moves `fields` past it. Pass the message up
-   to the end of the record, as `message` and `record.end`. Data of a type without fields here are one field of octets
-   (RFC 3597). Names may be compressed, whatever the type. It does not allocate.
+/* Stores the next field of the data of a record of class `record_class` and type `record_type`, and moves `fields` past
+   it. Pass the message up to the end of the record, as `message` and `record.end`, and where the data begin, as
+   `record.data_offset`. Data of a type without fields here are one field of octets (RFC 3597), and so are those of a
+   type that only IN has in another class; of classes NONE and ANY they have the fields of IN, or none if there are no
+   data. Names may be compressed, whatever the type. It does not allocate.
 
    After the last field, at the end of the data, it stores DNW_FIELD_END, and `fields` is unchanged. If octets are left
-   there, it fails with DNW_WRONG_DATA_LENGTH. It fails with DNW_MESSAGE_CUT if the data end within the field, or begin
-   after `data_end`; as dnw_name_read if the field should be a name and is not valid; with DNW_BAD_BITMAP if a window of
+   there, it fails with DNW_WRONG_DATA_LENGTH. It fails with DNW_MESSAGE_CUT if the data end within the field, or
+   `data_offset` or the offset in `fields` is after `data_end`; as dnw_name_read if the field should be a name and is not valid; with DNW_BAD_BITMAP if a window of
    a type bitmap is not after the one before it, or does not have 1 to 32 octets; with DNW_BAD_PARAMS if the key of a
    service parameter is not greater than the one before it; and with DNW_BAD_FAMILY if an address prefix has more bits
    or octets than its family allows or ends in a zero octet, or if the type of a gateway is unknown. If it fails,
    `fields` is unchanged. */
-uint32_t dnw_field_next(const uint8_t *message, size_t data_end, uint16_t record_type, struct dnw_fields *fields,
-                        struct dnw_field *field);
+uint32_t dnw_field_next(const uint8_t *message, size_t data_end, size_t data_offset, uint16_t record_class,
+                        uint16_t record_type, struct dnw_fields *fields, struct dnw_field *field);
 
 /* `len` bytes of text were stored in the buffer, and the record ends at offset `end` of the message. */
 struct dnw_printed_record {
@@ -356,18 +360,19 @@ struct dnw_printed_record {
 uint32_t dnw_record_print(const uint8_t *message, size_t message_len, size_t start, uint8_t *text, size_t text_size,
                           struct dnw_printed_record *printed);
 
-/* Parses the text of data of the record type `record_type`, and stores the data, and their length in `len`. The text is
-   the fields of the type with white space between them, as dnw_record_print prints them, or the form of any data,
-   `\# 4 0A000001` (RFC 3597, section 5), whose octets have to be data of the type, without compression pointers. A type
-   without fields of its own takes only that form. Names are stored uncompressed. The name with the wire form `origin`
+/* Parses the text of data of class `record_class` and type `record_type`, and stores the data, and their length in
+   `len`. The text is the fields of the type with white space between them, as dnw_record_print prints them, or the form
+   of any data, `\# 4 0A000001` (RFC 3597, section 5), whose octets have to be data of the class and type, without
+   compression pointers. A type without fields of its own takes only that form. An empty text is no data, which classes
+   NONE and ANY allow. Names are stored uncompressed. The name with the wire form `origin`
    is appended to names without a last dot, and `@` is that name; if `origin_len` is 0 there is no origin, and such
    names are rejected. Parentheses and comments are not supported.
 
    If the origin is not a wire form, it fails as dnw_name_compare. Otherwise it fails with DNW_NOT_UTF8; with
    DNW_BAD_DATA if the text is not data of the type, or has more than 65535 octets of data; with DNW_NO_ROOM if it has
    more than `data_size`; and with DNW_NO_MEMORY. */
-uint32_t dnw_data_parse(uint16_t record_type, const uint8_t *text, size_t text_len, const uint8_t *origin, size_t origin_len,
-                        uint8_t *data, size_t data_size, size_t *len);
+uint32_t dnw_data_parse(uint16_t record_class, uint16_t record_type, const uint8_t *text, size_t text_len, const uint8_t *origin,
+                        size_t origin_len, uint8_t *data, size_t data_size, size_t *len);
 
 /* Parses a line of a master file (RFC 1035, section 5.1), and stores the record, and its length in `len`: the owner's
    wire form, two octets of type, two of class, four of TTL, two of the length of the data, and the data. So it is a

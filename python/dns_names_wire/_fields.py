@@ -94,14 +94,16 @@ _VALUES: Dict[int, Callable[[bytes], FieldValue]] = {
     15: bytes,
     16: _prefixes,
     17: _whole_names,
+    18: bytes,
 }
 
 
-def fields(message: bytes, start: int, end: int, record_type: int) -> Iterator[FieldValue]:
-    """Returns an iterator over the fields of data of a type between two offsets of a message."""
+def fields(message: bytes, start: int, end: int, record_class: int, record_type: int) -> Iterator[FieldValue]:
+    """Returns an iterator over the fields of data of a class and a type between two offsets of a message."""
     next_field, read = Fields(start, 0), Read()
     while True:
-        check(library.dnw_field_next(message, end, record_type, byref(next_field), byref(read)), next_field.offset)
+        number = library.dnw_field_next(message, end, start, record_class, record_type, byref(next_field), byref(read))
+        check(number, next_field.offset)
         if read.kind == _END:
             return
         if read.kind == _NAME:

@@ -47,25 +47,42 @@ def printed(message: bytes, start: int) -> str:
         size *= 4
 
 
+# The class whose data have a form for each type.
+_IN = 1
+
+
 def data_from_wire(record_type: int, octets: Bytes) -> "Data":
-    """Reads data of a type from octets, in which no name is compressed. Returns the class of the type, or `Unknown`.
+    """Reads data of a type in class IN from octets, in which no name is compressed. Returns the class of the type, or `Unknown`.
     Raises as `Record.fields`.
 
     >>> data_from_wire(15, bytes.fromhex("000a016100"))
     MX(preference=10, exchange=Name('a.'))
     """
     code, whole = _checks.number("record_type", record_type, 65535), _checks.octets("octets", octets)
-    return data_in(whole, 0, len(whole), code, {})
+    return data_in(whole, 0, len(whole), _IN, code, {})
 
 
-def data_in(message: bytes, start: int, end: int, record_type: int, names: Names) -> "Data":
-    """Returns the data of a type between two offsets of a message. `names` are those that were read there before."""
-    kind = CLASSES.get(record_type)
+# The codes of the types that only IN has, as the table of fields has them (crates/dnw_data/specs/Table.antt).
+_INTERNET_TYPES = {1, 11, 22, 23, 26, 28, 33, 36, 38, 42, 49, 64, 65}
+
+
+def _has_type(record_class: int, record_type: int, size: int) -> bool:
+    """Whether data of a class have the form of their type: they are not left out, and the type is not only IN's, or the
+    class is IN, or NONE or ANY, which updates use (RFC 2136, sections 2.4 and 2.5)."""
+    if record_class == 1:
+        return True
+    return size > 0 if record_class in (254, 255) else record_type not in _INTERNET_TYPES
+
+
+def data_in(message: bytes, start: int, end: int, record_class: int, record_type: int, names: Names) -> "Data":
+    """Returns the data of a class and a type between two offsets of a message. `names` are those that were read there
+    before."""
+    kind = CLASSES.get(record_type) if _has_type(record_class, record_type, end - start) else None
     if kind is None:
         return Unknown(RecordType.of(record_type), message[start:end])
     values = plain_values(message, start, end, kind._kinds, names)
     if values is None:
-        found: Any = fields(message, start, end, record_type)
+        found: Any = fields(message, start, end, record_class, record_type)
         return kind(*found)
     # There is a value for each field of the class, of its type, so __init__ need not be called.
     made = object.__new__(kind)
@@ -74,7 +91,7 @@ def data_in(message: bytes, start: int, end: int, record_type: int, names: Names
 
 
 def data_from_text(record_type: int, text: str, origin: Optional[Name] = None) -> "Data":
-    """Parses data of a type from their text in master files. The origin is appended to names without a last dot.
+    """Parses data of a type in class IN from their text in master files. The origin is appended to names without a last dot.
 
     Raises `BadData` if the text is not data of the type.
 
@@ -82,7 +99,7 @@ def data_from_text(record_type: int, text: str, origin: Optional[Name] = None) -
     MX(preference=10, exchange=Name('mail.example.'))
     """
     code = _checks.number("record_type", record_type, 65535)
-    octets = parsed(lambda *arguments: int(library.dnw_data_parse(code, *arguments)), text, origin)
+    octets = parsed(lambda *arguments: int(library.dnw_data_parse(_IN, code, *arguments)), text, origin)
     return data_from_wire(code, octets)
 
 

@@ -140,7 +140,9 @@ class Record:
         """
         data = self._data
         if data is None:
-            data = self._data = data_in(self._message, self._data_offset, self._end, self._type, self._names)
+            data = self._data = data_in(
+                self._message, self._data_offset, self._end, self._class, self._type, self._names
+            )
         return data
 
     @property
@@ -180,7 +182,7 @@ class Record:
         return Name._of(taken(form, length.value), True)
 
     def fields(self) -> Tuple[FieldValue, ...]:
-        """Returns the fields of the data, by the record's type: names, numbers, addresses, octets, tuples of texts,
+        """Returns the fields of the data, by the record's class and type: names, numbers, addresses, octets, tuples of texts,
         sets of types and pairs of keys and values. Data of an unknown type are one field of octets.
 
         Raises as `read_name` for a name, `MessageCut` if the data end within a field, `WrongDataLength` if octets are
@@ -189,7 +191,7 @@ class Record:
         >>> read_record(bytes.fromhex("00 000f 0001 00000000 0005 000a 016100")).fields()
         (10, Name('a.'))
         """
-        return tuple(fields(self._message, self._data_offset, self._end, self._type))
+        return tuple(fields(self._message, self._data_offset, self._end, self._class, self._type))
 
     def signed_octets(self, records: Iterable["Record"]) -> bytes:
         """Returns the octets that the signature of this RRSIG covers (RFC 4034, section 3.1.8.1): the bytes to verify

@@ -239,6 +239,8 @@ extern "C" {
     fn dnw_field_next(
         message: *const u8,
         data_end: usize,
+        data_offset: usize,
+        record_class: u16,
         record_type: u16,
         fields: *mut Fields,
         field: *mut Field,
@@ -261,6 +263,7 @@ extern "C" {
         printed: *mut PrintedRecord,
     ) -> u32;
     fn dnw_data_parse(
+        record_class: u16,
         record_type: u16,
         text: *const u8,
         text_len: usize,
@@ -513,12 +516,13 @@ pub(crate) fn read_edns(message: &[u8], max_pointers: usize) -> Result<Edns, Err
     outcome(number, edns)
 }
 
-/// Returns the next field of the data of a record. The data end where `message` does.
+/// Returns the next field of the data of a record, of a class and a type, that begin at `start` and end where `message` does.
 #[inline]
-pub(crate) fn next_field(message: &[u8], record_type: u16, fields: &mut Fields) -> Result<Field, Error> {
+pub(crate) fn next_field(message: &[u8], start: usize, form: (u16, u16), fields: &mut Fields) -> Result<Field, Error> {
+    let (message, data_end, (class, record_type)) = (message.as_ptr(), message.len(), form);
     let mut field = Field::default();
     // SAFETY: a pointer with its length, see the module, and pointers to structs of these types.
-    let number = unsafe { dnw_field_next(message.as_ptr(), message.len(), record_type, fields, &mut field) };
+    let number = unsafe { dnw_field_next(message, data_end, start, class, record_type, fields, &mut field) };
     outcome(number, field).map_err(|error| error.at_offset(fields.offset))
 }
 
@@ -609,12 +613,13 @@ fn append_put(octets: &mut Vec<u8>, most: usize, put: impl Fn(*mut u8, usize, &m
     }
 }
 
-/// Parses the text of data of a type, and appends the octets. An empty origin means no origin.
-pub(crate) fn parse_data(record_type: u16, text: &str, origin: &[u8], octets: &mut Vec<u8>) -> Result<(), Error> {
+/// Parses the text of data of a class and a type, and appends the octets. An empty origin means no origin.
+pub(crate) fn parse_data(form: (u16, u16), text: &str, origin: &[u8], octets: &mut Vec<u8>) -> Result<(), Error> {
+    let (class, record_type) = form;
     let (text, text_len, name, name_len) = (text.as_ptr(), text.len(), origin.as_ptr(), origin.len());
     // SAFETY: pointers with their lengths, see the module; and the room is not read.
     append_put(octets, DATA_SIZE, |room, size, len| unsafe {
-        dnw_data_parse(record_type, text, text_len, name, name_len, room, size, len)
+        dnw_data_parse(class, record_type, text, text_len, name, name_len, room, size, len)
     })
 }
 

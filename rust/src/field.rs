@@ -1,5 +1,5 @@
 //! The fields of the data of records.
-use crate::codes::RecordType;
+use crate::codes::{Class, RecordType};
 use crate::door;
 use crate::error::{Error, ErrorKind};
 use crate::name_ref::NameRef;
@@ -47,6 +47,8 @@ pub enum Field<'a> {
     Prefixes(Prefixes<'a>),
     /// Names in their wire form, one after another (RFC 8005, section 5).
     Names(WholeNames<'a>),
+    /// The length of a prefix, and the octets of an IPv6 address with the other bits (RFC 2874, section 3.1.1).
+    AddressSuffix(&'a [u8]),
 }
 
 /// An iterator over the fields of the data of a record. See [`Record::fields`](crate::Record::fields).
@@ -67,19 +69,23 @@ pub enum Field<'a> {
 pub struct Fields<'a> {
     /// the message up to the end of the data
     message: &'a [u8],
-    record_type: RecordType,
+    /// where the data begin
+    start: usize,
+    /// the codes of class and type
+    form: (u16, u16),
     next: door::Fields,
     has_ended: bool,
 }
 
 impl<'a> Fields<'a> {
-    pub(crate) fn new(message: &'a [u8], offset: usize, record_type: RecordType) -> Self {
-        Fields { message, record_type, next: door::Fields { offset, number: 0 }, has_ended: false }
+    pub(crate) fn new(message: &'a [u8], start: usize, class: Class, record_type: RecordType) -> Self {
+        let form = (class.code(), record_type.code());
+        Fields { message, start, form, next: door::Fields { offset: start, number: 0 }, has_ended: false }
     }
 
     /// Reads the next field, if there is one.
     fn read(&mut self) -> Result<Option<Field<'a>>, Error> {
-        let field = door::next_field(self.message, self.record_type.code(), &mut self.next)?;
+        let field = door::next_field(self.message, self.start, self.form, &mut self.next)?;
         let octets = &self.message[field.offset..field.offset + field.len];
         Ok(Some(match field.kind {
             0 => return Ok(None),
@@ -99,6 +105,7 @@ impl<'a> Fields<'a> {
             15 => Field::HostIdentity(octets),
             16 => Field::Prefixes(Prefixes(octets)),
             17 => Field::Names(WholeNames { octets, offset: 0 }),
+            18 => Field::AddressSuffix(octets),
             _ => Field::Octets(octets),
         }))
     }
@@ -109,7 +116,7 @@ impl<'a> Fields<'a> {
     /// Reads the next field, and returns where it is.
     #[inline]
     fn place(&mut self) -> Result<door::Field, Error> {
-        match door::next_field(self.message, self.record_type.code(), &mut self.next)? {
+        match door::next_field(self.message, self.start, self.form, &mut self.next)? {
             field if field.kind != 0 => Ok(field),
             _ => Err(Error::from(ErrorKind::MessageCut).at_offset(self.next.offset)),
         }

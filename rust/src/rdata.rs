@@ -1,11 +1,25 @@
 //! The data of records, by type.
-use crate::codes::RecordType;
+use crate::codes::{Class, RecordType};
 use crate::error::Error;
 use crate::field::{put, Fields, Pairs, Prefixes, Texts, WholeNames};
 use crate::name_ref::NameRef;
 use crate::type_set::TypeSet;
 use crate::{IpAddr, Ipv4Addr, Ipv6Addr};
 use alloc::vec::Vec;
+
+/// The codes of the types that only IN has, as the table of fields has them (`crates/dnw_data/specs/Table.antt`).
+const INTERNET_TYPES: [u16; 13] = [1, 11, 22, 23, 26, 28, 33, 36, 38, 42, 49, 64, 65];
+
+/// Returns `true` if data of a class have the form of their type: they are not left out, and the type is not only IN's, or the
+/// class is IN, or NONE or ANY, which updates use (RFC 2136, sections 2.4 and 2.5).
+#[inline]
+fn has_type(class: Class, record_type: RecordType, are_empty: bool) -> bool {
+    match class.code() {
+        1 => true,
+        254 | 255 => !are_empty,
+        _ => !INTERNET_TYPES.contains(&record_type.code()),
+    }
+}
 
 /// Defines structs for data with several fields. Each field is read and written by its kind.
 macro_rules! structs {
@@ -471,9 +485,12 @@ macro_rules! variants {
                 }
             }
 
-            /// Reads the data of a type from their first field on.
+            /// Reads the data of a class and a type from their first field on.
             #[inline]
-            pub(crate) fn take(record_type: RecordType, mut fields: Fields<'a>) -> Result<Self, Error> {
+            pub(crate) fn take(class: Class, record_type: RecordType, mut fields: Fields<'a>) -> Result<Self, Error> {
+                if !has_type(class, record_type, fields.left().is_empty()) {
+                    return Ok(RData::Unknown { record_type, octets: fields.left() });
+                }
                 match record_type.code() {
                     $($code => {
                         let value = fields.$kind()?;

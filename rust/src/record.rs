@@ -159,7 +159,7 @@ impl<'a> Record<'a> {
     /// ```
     #[inline]
     pub fn data(&self) -> Result<RData<'a>, Error> {
-        RData::take(self.record_type(), self.fields())
+        RData::take(self.class(), self.record_type(), self.fields())
     }
 
     /// Returns the octets of the data, in which names may be compressed.
@@ -222,8 +222,8 @@ impl<'a> Record<'a> {
         Ok(Name::of_form(form, len))
     }
 
-    /// Returns an iterator over the fields of the data, by the record's type. Data of an unknown type are one field of
-    /// octets. It ends after an error.
+    /// Returns an iterator over the fields of the data, by the record's class and type. Data of an unknown type are one
+    /// field of octets, and so are those of a type that only IN has in another class. It ends after an error.
     ///
     /// ```
     /// use dns_names_wire::{Field, Record};
@@ -237,7 +237,7 @@ impl<'a> Record<'a> {
     /// # Ok::<(), dns_names_wire::Error>(())
     /// ```
     pub fn fields(&self) -> Fields<'a> {
-        Fields::new(&self.message()[..self.end], self.data_offset(), self.record_type())
+        Fields::new(&self.message()[..self.end], self.data_offset(), self.class(), self.record_type())
     }
 
     /// Returns the octets that the signature of this RRSIG covers (RFC 4034, section 3.1.8.1): the bytes to verify or

@@ -136,7 +136,7 @@ impl RecordBuf {
         origin: Option<&Name>,
     ) -> Result<Self, Error> {
         let (mut octets, origin) = (Vec::new(), origin.map_or(&[][..], Name::as_wire));
-        let put = |octets: &mut Vec<u8>| door::parse_data(record_type.code(), text, origin, octets);
+        let put = |octets: &mut Vec<u8>| door::parse_data((Class::IN.code(), record_type.code()), text, origin, octets);
         let fixed = put_record(&mut octets, owner.into(), (record_type, Class::IN, ttl), put)?;
         Ok(RecordBuf { octets, fixed })
     }

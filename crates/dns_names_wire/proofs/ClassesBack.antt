@@ -6,7 +6,7 @@ use Rattle.dnw_base.specs.declared.dns_class.DNSClass.TheVariants.{OPT, Unknown}
 use Rattle.dnw_base.specs.DnsClasses.{class_code, class_of_code, class_rank, named_classes}
 use Rattle.dnw_base.specs.Limits.{min_payload}
 use Rattle.dns_names_wire.specs.CodeLaws.{ClassCodesComeBack, NamedClassesComeBack, SizesStayUnknown, UnknownClassesComeBack}
-use Rattle.dnw_zone_record.proofs.LinesBack.{class_back}
+use Rattle.dnw_data.proofs.Codes.{class_back}
 use Rattle.dns_names_wire.proofs.Found.{found}
 
 pub codes : ClassCodesComeBack

@@ -4,7 +4,7 @@ use Rattle.dnw_base.specs.declared.record_type.RecordType.{RecordType}
 use Rattle.dnw_base.specs.declared.record_type.RecordType.TheVariants.{Unknown}
 use Rattle.dnw_base.specs.RecordTypes.{is_unknown, type_code, type_of_code}
 use Rattle.dns_names_wire.specs.CodeLaws.{NamedTypesComeBack, TypeCodesComeBack, UnknownTypesComeBack}
-use Rattle.dnw_zone_data.proofs.TypesBack.{code_back}
+use Rattle.dnw_data.proofs.Codes.{code_back}
 
 pub codes : TypeCodesComeBack
 codes = code_back

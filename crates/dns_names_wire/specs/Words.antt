@@ -126,7 +126,7 @@ pub use Rattle.dnw_data.specs.Fields.{FailsField, FailsName, FailsOwn, TakesFiel
 pub use Rattle.dnw_data.specs.Items.{NextItem}
 pub use Rattle.dnw_data.specs.Lists.{ItemsValue, count_of, item_size, list_fault, may_come, out_of_order, tag_of}
 pub use Rattle.dnw_data.specs.Shapes.{FailsShape, IsShaped, ShapedValue, shape_fault, shape_size}
-unfoldable pub use Rattle.dnw_data.specs.Table.{are_names_decompressed, fields_of}
+unfoldable pub use Rattle.dnw_data.specs.Table.{are_names_decompressed, fields_of, is_internet_type}
 pub use Rattle.dnw_data.specs.Values.{FieldValue, counted_size, own_fault, own_size, own_value, seen}
 pub use Rattle.dnw_data.specs.Walks.{FieldsAre, FieldsLeft, IsEnded, NextField, fields_at, steps_left}
 -- Texts of single values.
@@ -141,7 +141,7 @@ pub use Rattle.dnw_zone_values.specs.Tags.{IsTag, IsTagText}
 pub use Rattle.dnw_zone_values.specs.Strings.{with_octet}
 pub use Rattle.dnw_zone_values.specs.Times.{IsDateText, IsDay, IsMoment, IsTimeText, two_at}
 -- Texts of the data of records.
-pub use Rattle.dnw_zone_data.specs.DataTexts.{ArePlain, FailsText, IsDataText, IsPlainData, IsTextOf}
+pub use Rattle.dnw_zone_data.specs.DataTexts.{ArePlain, FailsText, IsDataText, IsPlainData, IsTextOf, stand_in, text_kinds}
 pub use Rattle.dnw_zone_data.specs.Generic.{generic_text, IsGeneric}
 pub use Rattle.dnw_zone_record.specs.RecordLines.{FailsRecordLine, IsRecordLine, line_octets, record_line}
 pub use Rattle.dnw_zone_data.specs.declared.error.DataTextError.{DataTextError}
@@ -193,9 +193,9 @@ pub use Rattle.dnw_message_header.specs.declared.header.Metadata.{Metadata}
 pub use Rattle.dnw_record_owned.specs.declared.record.Record.{Record}
 pub use Rattle.dnw_record_owned.specs.declared.rdata.RDataError.{RDataError}
 pub use Rattle.dnw_record_owned.specs.declared.from_fields.FromFieldsError.{FromFieldsError}
-pub use Rattle.dnw_record_owned.specs.DataPieces.{ArePiecesOf, DataPiece, DataValue, HasPieces, IsData, IsDataOfType, kinds_of, octets_of, piece_octets}
-pub use Rattle.dnw_record_owned.specs.DataCopies.{Copies, FailsToCopy, TakesPiece, TakesPieces, alone, data_start}
-pub use Rattle.dnw_record_owned.specs.GivenFields.{AreFieldsOf, FailsGivenFields, IsFieldOf}
+pub use Rattle.dnw_record_owned.specs.DataPieces.{ArePiecesOf, DataPiece, DataValue, HasPieces, IsData, IsDataOfType, data_kinds, kinds_of, octets_of, piece_octets}
+pub use Rattle.dnw_record_owned.specs.DataCopies.{Copies, FailsToCopy, TakesPiece, TakesPieces, alone, data_start, kinds_at, record_kinds}
+pub use Rattle.dnw_record_owned.specs.GivenFields.{AreFieldsOf, FailsGivenFields, IsFieldOf, front, front_of, given_kinds}
 pub use Rattle.dnw_record_owned.specs.WireRecords.{HaveNameAndOthers, HaveNoName, IsOfWireRecord, SaysData, SaysRecord, wire_data_octets}
 pub use Rattle.dnw_record_owned.specs.AnyRecords.{AnyNumbersFit, EmitsAnyRecord, EmitsCopyOf, EmitsRData, HasFields, IsCopyOf, encoding_of, mode_of, parts_of}
 pub use Rattle.dnw_record_owned.specs.AnyRecordFrames.{frame_any_record, frame_copy}

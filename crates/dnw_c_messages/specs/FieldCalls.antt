@@ -1,5 +1,5 @@
 -- What the functions for C put of the fields of the data of a record, and why there is no next one.
-use Rattle.std.specs.Prelude.{◌≡◌, ◌<◌, ◌≤◌, ◌⊎◌, ℕ, ◌+◌, ◌-◌, Option, Some, None, List, length, slice_get, Result}
+use Rattle.std.specs.Prelude.{◌≡◌, ◌<◌, ◌≤◌, ◌⊎◌, ℕ, ◌+◌, ◌-◌, Option, Some, None, List, drop, length, slice_get, Result}
 use Rattle.dnw_data.specs.Fields.{FailsField, TakesField}
 use Rattle.dnw_data.specs.Table.{fields_of}
 use Rattle.dnw_data.specs.Values.{FieldValue}
@@ -27,6 +27,7 @@ field_kind kinds.U48 = 2
 field_kind kinds.U64 = 2
 field_kind kinds.LongTime = 2
 field_kind kinds.Locator = 2
+field_kind kinds.ChaosAddress = 2
 field_kind kinds.Ipv4 = 3
 field_kind kinds.Ipv6 = 4
 field_kind kinds.TypeCode = 5
@@ -46,6 +47,7 @@ field_kind (kinds.Shaped shapes.Relay) = 14
 field_kind (kinds.Shaped shapes.HostIdentity) = 15
 field_kind (kinds.List lists.Prefixes) = 16
 field_kind (kinds.List lists.Names) = 17
+field_kind (kinds.Shaped shapes.AddressSuffix) = 18
 
 -- how many octets of a field are before its value: the length of octets that are counted
 abbrev pub head_of : Kind → ℕ
@@ -81,14 +83,16 @@ abbrev pub FailsNextField : Option Kind → List ℕ → ℕ → Failure → Typ
 FailsNextField None octets p failure = (p < length octets) × (failure ≡ WrongDataLength)
 FailsNextField (Some kind) octets p failure = FailsToTakeField kind octets p failure
 
--- the kind of the field with this number of the type with this code
-abbrev pub kind_at : ℕ → ℕ → Option Kind
-kind_at code number = slice_get (fields_of code) number
+-- the kind of the field with this number of these data, by the codes of class and type
+abbrev pub kind_at : ℕ → ℕ → List ℕ → ℕ → Option Kind
+kind_at class code own number = slice_get (fields_of class code own) number
 
--- The next field of data of the type with this code, which end where the octets do, is the value, or there are no more, and where the
--- cursor is after it. Else the cursor is past the octets, or no such field is there.
-abbrev pub ReadsNextField : List ℕ → ℕ → FieldCursor → Result (ReadField × FieldCursor) Failure → Type 0
-ReadsNextField octets code at = GivesOr
-    (λ found. (at.offset ≤ length octets) × TakesNextField (kind_at code at.number) octets at found.1 found.0)
-    (λ failure. ((length octets < at.offset) × (failure ≡ MessageCut))
-    ⊎ ((at.offset ≤ length octets) × FailsNextField (kind_at code at.number) octets at.offset failure))
+-- The next field of data of this class and type, by their codes, which begin there and end where the octets do, is the value, or
+-- there are no more, and where the cursor is after it. Else the start or the cursor is past the octets, or no such field is there.
+abbrev pub ReadsNextField : List ℕ → ℕ → ℕ → ℕ → FieldCursor → Result (ReadField × FieldCursor) Failure → Type 0
+ReadsNextField octets start class code at =
+    let kind = kind_at class code (drop start octets) at.number in
+    GivesOr
+    (λ found. (at.offset ≤ length octets) × (start ≤ length octets) × TakesNextField kind octets at found.1 found.0)
+    (λ failure. (((length octets < at.offset) ⊎ (length octets < start)) × (failure ≡ MessageCut))
+    ⊎ ((at.offset ≤ length octets) × (start ≤ length octets) × FailsNextField kind octets at.offset failure))

@@ -6,6 +6,7 @@ ghost use Rattle.dnw_c_base.specs.Results.{Returns};
 ghost use Rattle.dnw_c_messages.specs.FieldCalls.{EndsAt, FailsToTakeField, ReadsNextField, TakesAs, field_kind, head_of};
 
 use dnw_base::decoder::BinDecoder;
+use dnw_base::dns_class::DNSClass;
 use dnw_base::error::DecodeError;
 use dnw_base::record_type::RecordType;
 use dnw_c_base::failure::Failure;
@@ -31,32 +32,40 @@ pub struct ReadField {
     pub len: usize,
 }
 
-/// Puts the next field of the data of a record of this type, which end where the message does, and moves the cursor past it.
-/// Its kind is 0 if there are no more. It does not allocate.
+/// Puts the next field of the data of a record of this class and type, which begin at `start` and end where the message does,
+/// and moves the cursor past it. Its kind is 0 if there are no more. It does not allocate.
 #[unsafe(no_mangle)]
 pub extern "C" fn dnw_field_next(
     message: &[u8],
+    start: usize,
+    class: u16,
     record_type: u16,
     cursor: &mut FieldCursor,
     field: &mut ReadField,
 ) -> u32
-    ensures { Returns (ReadsNextField message.now record_type cursor.old) (field.old, cursor.old) (field.new, cursor.new) result }
+    ensures { Returns (ReadsNextField message.now start class record_type cursor.old) (field.old, cursor.old)
+        (field.new, cursor.new) result }
 {
-    report_both(next(message, record_type, *cursor), field, cursor)
+    let next = next(message, start, class, record_type, *cursor);
+    report_both(next, field, cursor)
 }
 
 /// Returns the next field, and where the one after it is.
 fn next(
     message: &[u8],
+    start: usize,
+    class: u16,
     record_type: u16,
     at: FieldCursor,
 ) -> Result<(ReadField, FieldCursor), Failure>
-    ensures { ReadsNextField message.now record_type at result }
+    ensures { ReadsNextField message.now start class record_type at result }
 {
-    if message.len() < at.offset {
+    if message.len() < at.offset || message.len() < start {
         return Err(Failure::MessageCut);
     }
-    let kinds = fields_of(RecordType::from(record_type));
+    let class = DNSClass::from(class);
+    let record_type = RecordType::from(record_type);
+    let kinds = fields_of(class, record_type, &message[start..]);
     match kinds.get(at.number) {
         Some(kind) => take(*kind, message, at),
         None if at.offset < message.len() => Err(Failure::WrongDataLength),
@@ -123,7 +132,7 @@ fn field_kind(kind: Kind) -> u32
     match kind {
         Kind::Name(_) => 1,
         Kind::U8 | Kind::U16 | Kind::U32 | Kind::U48 | Kind::U64 => 2,
-        Kind::LongTime | Kind::Locator => 2,
+        Kind::LongTime | Kind::Locator | Kind::ChaosAddress => 2,
         Kind::Ipv4 => 3,
         Kind::Ipv6 => 4,
         Kind::TypeCode => 5,
@@ -139,5 +148,6 @@ fn field_kind(kind: Kind) -> u32
         Kind::Shaped(Shape::HostIdentity) => 15,
         Kind::List(ListKind::Prefixes) => 16,
         Kind::List(ListKind::Names) => 17,
+        Kind::Shaped(Shape::AddressSuffix) => 18,
     }
 }

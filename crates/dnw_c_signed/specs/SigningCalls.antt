@@ -7,7 +7,7 @@ use Rattle.dnw_base.specs.DnsClasses.{class_code}
 use Rattle.dnw_base.specs.RecordTypes.{type_code}
 use Rattle.dnw_base.specs.declared.record_type.RecordType.TheVariants.{RRSIG}
 use Rattle.dnw_signed.specs.RecordSets.{FailsSet, IsRecordSet}
-use Rattle.dnw_signed.specs.SignedFields.{IsSignedFields}
+use Rattle.dnw_signed.specs.SignedFields.{IsRrsig, IsSignedFields}
 use Rattle.dnw_signed.specs.declared.error.CanonicalError.{CanonicalError}
 use Rattle.dnw_signed.specs.declared.error.CanonicalError.TheVariants as canonical
 use Rattle.dnw_base.specs.declared.error.DecodeError.{DecodeError}
@@ -15,8 +15,7 @@ use Rattle.dnw_c_base.specs.Failures.{of_decode}
 use Rattle.dnw_c_base.specs.declared.failure.Failure.{Failure}
 use Rattle.dnw_c_base.specs.declared.failure.Failure.TheVariants as why
 use Rattle.dnw_record_owned.specs.AnyRecords.{IsCopyOf}
-use Rattle.dnw_record_owned.specs.DataCopies.{FailsToCopy, data_start}
-use Rattle.dnw_record_owned.specs.DataPieces.{kinds_of}
+use Rattle.dnw_record_owned.specs.DataCopies.{FailsToCopy, data_start, record_kinds}
 use Rattle.dnw_record_owned.specs.declared.rdata.RDataError.{RDataError}
 use Rattle.dnw_record_owned.specs.declared.rdata.RDataError.TheVariants.{Field, Memory}
 use Rattle.dnw_record_owned.specs.declared.record.Record.{Record}
@@ -45,10 +44,10 @@ abbrev pub of_rdata : RDataError → Failure
 of_rdata (Field error) = of_decode error.cause
 of_rdata Memory = why.NoMemory
 
--- The data of a record are no fields of its type, or memory ran out.
+-- The data of a record are no fields of its class and type, or memory ran out.
 abbrev pub FailsToCopyRecord : RecordValue → Failure → Type 0
 FailsToCopyRecord r failure =
-    (error : RDataError) × FailsToCopy (kinds_of r.record_type) (data_start r) error × (failure ≡ of_rdata error)
+    (error : RDataError) × FailsToCopy (record_kinds r) (data_start r) error × (failure ≡ of_rdata error)
 
 -- ---- the RRSIG
 
@@ -71,19 +70,21 @@ IsRrsigAt message p rrsig =
 abbrev pub HasRrsigType : RecordValue → Type 0
 HasRrsigType r = type_code r.record_type ≡ type_code RRSIG
 
--- There is none: no record, a record of another type, or data that are not those of an RRSIG.
+-- There is none: no record, a record of another type, or data that are not those of an RRSIG, or are left out.
 abbrev pub FailsRrsig : List ℕ → ℕ → Failure → Type 0
 FailsRrsig message p failure =
     FailsRecordAt message p failure
     ⊎ ((r : RecordValue) × HasRecordAt message p r × (¬ (HasRrsigType r)) × (failure ≡ why.NotRrsig))
     ⊎ ((r : RecordValue) × HasRecordAt message p r × HasRrsigType r × FailsToCopyRecord r failure)
+    ⊎ ((r : RecordValue) × (copy : Record) × HasRecordAt message p r × HasRrsigType r × IsCopyOf r copy × (¬ (IsRrsig copy.data))
+    × (failure ≡ why.NotRrsig))
 
 -- ---- what it covers
 
 -- An RRSIG covers the records of its owner, its class and the type that it names (RFC 4035, section 5.3.1).
 pub record IsCovered (rrsig : Rrsig) (r : RecordValue) : Type 0 where
   pub kind : type_code r.record_type ≡ type_covered rrsig.fields.items
-  pub class : class_code r.class ≡ class_code rrsig.record.dns_class
+  pub class : class_code r.class ≡ class_code rrsig.record.data.class
   pub owner : lower r.owner ≡ lower rrsig.record.name.labels
 
 -- Of a record that it covers there is a copy, and of others there is none.

@@ -70,7 +70,7 @@ fn is_covered(rrsig: &Rrsig, item: &RecordRef<'_>) -> bool
     ensures { IsTrue result ↔ IsCovered rrsig.now item.now }
 {
     u16::from(item.record_type()) == type_covered(rrsig.fields.as_slice())
-        && u16::from(item.class()) == u16::from(rrsig.record.dns_class)
+        && u16::from(item.class()) == u16::from(rrsig.record.dns_class())
         && item.owner().eq_name(&rrsig.record.name)
 }
 

@@ -77,7 +77,7 @@ fn rrsig_at(alloc: Global, message: &[u8], at: usize) -> Result<Rrsig, Failure>
     let record = copy_of(alloc, &item)?;
     match signed_fields(alloc, &record.data) {
         Ok(fields) => Ok(Rrsig { record, fields }),
-        Err(_) => Err(Failure::NoMemory),
+        Err(error) => Err(of_canonical(&error)),
     }
 }
 

@@ -1,8 +1,10 @@
 -- What a text is, from what its parts return.
-use Rattle.std.proofs.Common.{◌≡◌, ℕ, List, Option, inl, inr, subst}
+use Rattle.std.proofs.Common.{◌≡◌, ℕ, List, Option, inl, inr, sym, subst}
 use Rattle.std.specs.Str.{IsUtf8}
 use Rattle.dnw_base.specs.Names.{NameValue}
+use Rattle.dnw_base.specs.DnsClasses.{class_code}
 use Rattle.dnw_base.specs.RecordTypes.{type_code}
+use Rattle.dnw_base.specs.declared.dns_class.DNSClass.{DNSClass}
 use Rattle.dnw_base.specs.declared.record_type.RecordType.{RecordType}
 use Rattle.dnw_data.specs.Table.{fields_of}
 use Rattle.dnw_zone_data.specs.DataTexts.{FailsText}
@@ -22,15 +24,8 @@ pub record_bad : (origin copied : Option NameValue) (text given : List ℕ) (err
 record_bad origin copied text given error failure same (is, utf8) fails why =
     inr (error, utf8, subst (λ x. FailsRecordLine origin x error) is (subst (λ x. FailsRecordLine x given error) same fails), why)
 
-pub data_bad : (origin copied : Option NameValue) (kind from : RecordType) (text given : List ℕ) (error : DataTextError) (failure : Failure)
-    → copied ≡ origin → from ≡ kind → (given ≡ text) × IsUtf8 text → FailsText copied (fields_of (type_code from)) given error
-    → failure ≡ of_data error → LacksData origin kind text failure
-data_bad origin copied kind from text given error failure same kinds (is, utf8) fails why =
-    inr (inl (
-      error,
-      utf8,
-      subst (λ x. FailsText origin (fields_of (type_code x)) text error) kinds
-          (subst (λ x. FailsText origin (fields_of (type_code from)) x error) is
-          (subst (λ x. FailsText x (fields_of (type_code from)) given error) same fails)),
-      why,
-    ))
+pub data_bad : (origin copied : Option NameValue) (class of_class : DNSClass) (kind from : RecordType) (text given : List ℕ) (error : DataTextError) (failure : Failure)
+    → copied ≡ origin → of_class ≡ class → from ≡ kind → (given ≡ text) × IsUtf8 text
+    → FailsText copied (fields_of (class_code of_class) (type_code from)) given error → failure ≡ of_data error → LacksData origin class kind text failure
+data_bad origin copied class of_class kind from text given error failure same classes kinds (is, utf8) fails why =
+    inr (inl (error, utf8, rw (sym same, sym classes, sym kinds, sym is) fails, why))

@@ -2,7 +2,9 @@
 use Rattle.std.specs.Prelude.{◌≡◌, ◌≢◌, ◌<◌, ◌⊎◌, ℕ, IsTrue, List, [], length, Option, Some, None, Result}
 use Rattle.std.specs.Str.{IsUtf8}
 use Rattle.dnw_base.specs.Names.{NameValue}
+use Rattle.dnw_base.specs.DnsClasses.{class_code, class_of_code}
 use Rattle.dnw_base.specs.RecordTypes.{type_code, type_of_code}
+use Rattle.dnw_base.specs.declared.dns_class.DNSClass.{DNSClass}
 use Rattle.dnw_base.specs.declared.record_type.RecordType.{RecordType}
 use Rattle.dnw_data.specs.Table.{fields_of}
 use Rattle.dnw_zone_data.specs.DataTexts.{FailsText, IsTextOf}
@@ -34,16 +36,17 @@ abbrev pub of_data : DataTextError → Failure
 of_data DataMemory = why.NoMemory
 of_data error = why.BadData
 
--- The text is these data of a type.
-abbrev pub HasParsedData : Option NameValue → RecordType → List ℕ → List ℕ → Type 0
-HasParsedData origin kind text own = IsUtf8 text × IsDataOf origin kind text own
+-- The text is these data of a class and a type.
+abbrev pub HasParsedData : Option NameValue → DNSClass → RecordType → List ℕ → List ℕ → Type 0
+HasParsedData origin class kind text own = IsUtf8 text × IsDataOf origin class kind text own
 
--- It is none: not UTF-8, no data of the type, or too many octets, or memory ran out.
-abbrev pub LacksData : Option NameValue → RecordType → List ℕ → Failure → Type 0
-LacksData origin kind text failure =
+-- It is none: not UTF-8, no data of the class and type, or too many octets, or memory ran out.
+abbrev pub LacksData : Option NameValue → DNSClass → RecordType → List ℕ → Failure → Type 0
+LacksData origin class kind text failure =
+    let fields = fields_of (class_code class) (type_code kind) in
     ((¬ (IsUtf8 text)) × (failure ≡ why.NotUtf8))
-    ⊎ ((error : DataTextError) × IsUtf8 text × FailsText origin (fields_of (type_code kind)) text error × (failure ≡ of_data error))
-    ⊎ ((own : List ℕ) × IsUtf8 text × IsTextOf origin (fields_of (type_code kind)) text own × (max_data < length own) × (failure ≡ why.BadData))
+    ⊎ ((error : DataTextError) × IsUtf8 text × FailsText origin fields text error × (failure ≡ of_data error))
+    ⊎ ((own : List ℕ) × IsUtf8 text × IsTextOf origin fields text own × (max_data < length own) × (failure ≡ why.BadData))
 
 -- ---- records
 
@@ -74,10 +77,11 @@ PutsParsed Has Lacks form old new result =
     ⊎ Refuses (λ failure. (origin : Option NameValue) × IsOrigin form origin × Lacks origin failure) old new result
     ⊎ Refuses (IsNoOrigin form) old new result
 
--- The data of the type with this code are put.
-abbrev pub PutsData : ℕ → List ℕ → List ℕ → List ℕ → List ℕ → Result ℕ Failure → Type 0
-PutsData code text form old new result =
-    PutsParsed (λ origin. HasParsedData origin (type_of_code code) text) (λ origin. LacksData origin (type_of_code code) text) form old new result
+-- The data of the class and type with these codes are put.
+abbrev pub PutsData : ℕ → ℕ → List ℕ → List ℕ → List ℕ → List ℕ → Result ℕ Failure → Type 0
+PutsData class code text form old new result =
+    PutsParsed (λ origin. HasParsedData origin (class_of_code class) (type_of_code code) text)
+    (λ origin. LacksData origin (class_of_code class) (type_of_code code) text) form old new result
 
 -- The record is put.
 abbrev pub PutsParsedRecord : List ℕ → List ℕ → List ℕ → List ℕ → Result ℕ Failure → Type 0

@@ -1,9 +1,11 @@
 //! Records and data that are texts.
 ghost use Rattle.std.specs.Prelude.{◌≡◌, IfOk, IfErr};
+ghost use Rattle.dnw_base.specs.DnsClasses.{class_of_code};
 ghost use Rattle.dnw_base.specs.RecordTypes.{type_of_code};
 ghost use Rattle.dnw_c_base.specs.Results.{Returns};
 ghost use Rattle.dnw_c_zone.specs.ParseCalls.{HasParsedData, HasParsedRecord, IsNoOrigin, IsOrigin, LacksData, LacksParsedRecord, PutsData, PutsParsedRecord, of_data, of_line};
 
+use dnw_base::dns_class::DNSClass;
 use dnw_base::limits::MAX_DATA;
 use dnw_base::record_type::RecordType;
 use dnw_c_base::buffer::put;
@@ -17,19 +19,21 @@ use dnw_zone_record::record_line::{RecordLineError, parse_record};
 use std::alloc::Global;
 use std::str;
 
-/// Puts the octets of the data that a text is, for the type with a code. The origin is a wire form, or no octets for none.
+/// Puts the octets of the data that a text is, for the class and the type with these codes. The origin is a wire form, or no octets for none.
 #[unsafe(no_mangle)]
 pub extern "C" fn dnw_data_parse(
     alloc: Global,
+    class: u16,
     record_type: u16,
     text: &[u8],
     origin: &[u8],
     octets: &mut [u8],
     len: &mut usize,
 ) -> u32
-    ensures { Returns (PutsData record_type text.now origin.now octets.old octets.new) len.old len.new result }
+    ensures { Returns (PutsData class record_type text.now origin.now octets.old octets.new) len.old len.new result }
 {
-    report(put_data(alloc, record_type, text, origin, octets), len)
+    let put = put_data(alloc, class, record_type, text, origin, octets);
+    report(put, len)
 }
 
 /// Puts the octets of the record that a line of a master file is. The origin is a wire form, or no octets for none.
@@ -49,15 +53,16 @@ pub extern "C" fn dnw_record_parse(
 /// Puts data, and returns the number of their octets.
 fn put_data(
     alloc: Global,
+    class: u16,
     record_type: u16,
     text: &[u8],
     form: &[u8],
     octets: &mut [u8],
 ) -> Result<usize, Failure>
-    ensures { PutsData record_type text.now form.now octets.old octets.new result }
+    ensures { PutsData class record_type text.now form.now octets.old octets.new result }
 {
     let origin = origin_of(alloc, form)?;
-    let own = data_of(alloc, record_type, text, &origin)?;
+    let own = data_of(alloc, class, record_type, text, &origin)?;
     put(octets, own.as_slice())
 }
 
@@ -85,20 +90,23 @@ fn origin_of(alloc: Global, form: &[u8]) -> Result<Option<Name>, Failure>
     Ok(Some(name.to_name(alloc).unwrap()))
 }
 
-/// Returns the octets of data of the type with a code.
+/// Returns the octets of data of the class and the type with these codes.
 fn data_of(
     alloc: Global,
+    class: u16,
     record_type: u16,
     text: &[u8],
     origin: &Option<Name>,
 ) -> Result<Vec<u8>, Failure>
-    ensures ok { IfOk result (λ own. HasParsedData origin.now (type_of_code record_type) text.now own.items) }
-    ensures err { IfErr result (LacksData origin.now (type_of_code record_type) text.now) }
+    ensures ok { IfOk result (λ own. HasParsedData origin.now (class_of_code class) (type_of_code record_type) text.now own.items) }
+    ensures err { IfErr result (LacksData origin.now (class_of_code class) (type_of_code record_type) text.now) }
 {
     let Ok(text) = str::from_utf8(text) else {
         return Err(Failure::NotUtf8);
     };
-    match parse(alloc, RecordType::from(record_type), text, origin.as_ref()) {
+    let class = DNSClass::from(class);
+    let record_type = RecordType::from(record_type);
+    match parse(alloc, class, record_type, text, origin.as_ref()) {
         Ok(own) if own.len() <= MAX_DATA => Ok(own),
         Ok(_) => Err(Failure::BadData),
         Err(error) => Err(of_data(&error)),

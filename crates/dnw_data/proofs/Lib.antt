@@ -1,5 +1,7 @@
 pub mod Addresses
 pub mod Shaping
+pub mod Rows
+pub mod Codes
 pub mod Checking
 pub mod Taking
 pub mod Walking

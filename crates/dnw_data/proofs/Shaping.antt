@@ -6,8 +6,8 @@ use Rattle.std.proofs.lemmas.Bool.{cases_Bool}
 use Rattle.std.proofs.lemmas.List.{length-take-le}
 use Rattle.std.proofs.Math.Seq.{take-length}
 use Rattle.dnw_data.specs.declared.kind.Shape.{Shape}
-use Rattle.dnw_data.specs.declared.kind.Shape.TheVariants.{Location, Gateway, Relay, HostIdentity}
-use Rattle.dnw_data.specs.Shapes.{IsShaped, gateway_size, relay_size, shape_size}
+use Rattle.dnw_data.specs.declared.kind.Shape.TheVariants.{Location, Gateway, Relay, HostIdentity, AddressSuffix}
+use Rattle.dnw_data.specs.Shapes.{IsShaped, gateway_size, relay_size, shape_size, suffix_size}
 use Rattle.dnw_data.specs.declared.kind.Kind.{Kind}
 use Rattle.dnw_data.specs.declared.kind.Kind.TheVariants.{Counted, LongCounted, Octets, Shaped}
 use Rattle.dnw_data.specs.declared.kind.Kind.TheVariants as kinds
@@ -130,6 +130,11 @@ shape_same HostIdentity (a ∷ b ∷ c ∷ d ∷ ls) own rest is h end =
     let size : 4 + a + from_be_bytes w16 (c ∷ d ∷ []) ≡ suc (suc (suc (suc n))) = omega arith in
     let own_is : own ≡ a ∷ b ∷ c ∷ d ∷ take n ls = is ∙ ap (λ k. take k (a ∷ b ∷ c ∷ d ∷ ls)) (identity_is a b c d ls ∙ size) in
     ap (λ o. shape_size HostIdentity (o ++ rest)) own_is ∙ identity_is a b c d (take n ls ++ rest) ∙ sym (identity_is a b c d ls)
+shape_same AddressSuffix [] own rest is h end = absurd (omega (arith, h))
+shape_same AddressSuffix (a ∷ ls) own rest is h end =
+    let size : 1 + suffix_size a ≡ suc (suffix_size a) = omega arith in
+    let own_is : own ≡ a ∷ take (suffix_size a) ls = is ∙ ap (λ k. take k (a ∷ ls)) size in
+    ap (λ o. shape_size AddressSuffix (o ++ rest)) own_is
 
 -- octets of a shape have their size whatever follows them, or nothing does
 pub shape_given : (shape : Shape) (own rest : List ℕ) → IsShaped shape own → (goes_to_end shape ≡ true → rest ≡ [])

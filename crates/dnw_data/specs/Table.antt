@@ -1,8 +1,8 @@
--- The fields of the data of each record type, by the type's code. Each row names the RFC and its section.
-use Rattle.std.specs.Prelude.{ℕ, Bool, ◌==◌, List, [], ◌∷◌, ◌++◌, find, unwrap_or}
+-- The fields of the data of each record type, by the codes of its class and itself. Each row names the RFC and its section.
+use Rattle.std.specs.Prelude.{ℕ, Bool, ◌==◌, ◌&&◌, ◌||◌, not, if◌then◌else◌, List, [], ◌∷◌, ◌++◌, find, unwrap_or, slice_index}
 use Rattle.std.specs.List.{list_any}
 use Rattle.dnw_data.specs.declared.kind.Kind.{Kind}
-use Rattle.dnw_data.specs.declared.kind.Kind.TheVariants.{Name, U8, U16, U32, U48, U64, Ipv4, Ipv6, TypeCode, Time, LongTime, Locator, Counted, LongCounted, Shaped, Octets}
+use Rattle.dnw_data.specs.declared.kind.Kind.TheVariants.{Name, U8, U16, U32, U48, U64, Ipv4, Ipv6, TypeCode, Time, LongTime, Locator, ChaosAddress, Counted, LongCounted, Shaped, Octets}
 use Rattle.dnw_data.specs.declared.kind.Kind.TheVariants as kinds
 use Rattle.dnw_data.specs.declared.kind.ListKind.TheVariants as lists
 use Rattle.dnw_data.specs.declared.kind.NameForm.TheVariants.{Compressible, Lowered, Plain}
@@ -154,8 +154,52 @@ table = early_rows ++ late_rows
 abbrev pub fields_in : List Row → ℕ → List Kind
 fields_in rows code = (unwrap_or (find (λ row. row.code == code) rows) (row code (hex ∷ []))).fields
 
-unfoldable pub fields_of : ℕ → List Kind
-fields_of code = fields_in table code
+-- A6 (RFC 2874, section 3.1.1): the length of a prefix and the rest of an address, and the prefix's name if the length is not 0
+abbrev pub a6_fields : ℕ → List Kind
+a6_fields prefix = if prefix == 0 then Shaped shapes.AddressSuffix ∷ [] else Shaped shapes.AddressSuffix ∷ lowered_name ∷ []
+
+-- the code of A6, the one type whose data say by their first octet which fields they have
+abbrev pub a6 : ℕ
+a6 = 38
+
+-- the fields of a type's data in IN
+abbrev pub fields_in_internet : ℕ → List ℕ → List Kind
+fields_in_internet code octets = if code == a6 then a6_fields (slice_index octets 0) else fields_in table code
+
+-- Types that are defined for IN alone: A, WKS, NSAP, NSAP-PTR, PX, AAAA, SRV, KX, A6, APL, DHCID, SVCB and HTTPS. EID, NIMLOC
+-- and ATMA are too, but have no row.
+abbrev pub internet_types : List ℕ
+internet_types = 1 ∷ 11 ∷ 22 ∷ 23 ∷ 26 ∷ 28 ∷ 33 ∷ 36 ∷ a6 ∷ 42 ∷ 49 ∷ 64 ∷ 65 ∷ []
+
+unfoldable pub is_internet_type : ℕ → Bool
+is_internet_type code = list_any (λ known. known == code) internet_types
+
+-- Classes with data as in IN: IN itself, and NONE and ANY, which updates use for data of their zone (RFC 2136, section 2.4 and
+-- 2.5).
+abbrev pub is_like_internet : ℕ → Bool
+is_like_internet class = class == 1 || class == 254 || class == 255
+
+-- A of CH (RFC 1035, section 3.6): the name of a domain, and an address there
+abbrev pub chaos_fields : List Kind
+chaos_fields = name ∷ ChaosAddress ∷ []
+
+-- the fields of a type that IN alone has, in another class
+abbrev pub fields_elsewhere : ℕ → ℕ → List Kind
+fields_elsewhere class code = if class == 3 && code == 1 then chaos_fields else hex ∷ []
+
+-- the fields of data, by the codes of class and type, if these data are not allowed to be left out
+abbrev pub fields_of_some : ℕ → ℕ → List ℕ → List Kind
+fields_of_some class code octets =
+    if is_like_internet class || not (is_internet_type code) then fields_in_internet code octets else fields_elsewhere class code
+
+-- Data may be left out under NONE and ANY, whatever the type (RFC 2136, sections 2.4 and 2.5). The class of OPT (41) is a size.
+abbrev pub may_lack_data : ℕ → ℕ → Bool
+may_lack_data class code = (class == 254 || class == 255) && not (code == 41)
+
+-- the fields of these data, by the codes of class and type: none of data that are left out
+unfoldable pub fields_of : ℕ → ℕ → List ℕ → List Kind
+fields_of class code [] = if may_lack_data class code then [] else fields_of_some class code []
+fields_of class code (octet ∷ octets) = fields_of_some class code (octet ∷ octets)
 
 -- The types whose names receivers decompress (RFC 3597, section 4): the well-known ones, of RFC 1035, and RP, AFSDB, RT, SIG, PX,
 -- NXT, NAPTR and SRV. Fewer have names that may be compressed, and others have names that canonical form lowers.

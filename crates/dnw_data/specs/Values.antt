@@ -80,6 +80,7 @@ own_size kinds.TypeCode left = 2
 own_size kinds.Time left = 4
 own_size kinds.LongTime left = 6
 own_size kinds.Locator left = 8
+own_size kinds.ChaosAddress left = 2
 own_size (kinds.Counted shown) left = counted_size left
 own_size (kinds.LongCounted shown) left = long_counted_size left
 own_size (kinds.Shaped shape) left = shape_size shape left
@@ -109,6 +110,7 @@ own_value kinds.TypeCode own = type_code (type_of_code (from_be_bytes w16 own))
 own_value kinds.Time own = time (from_be_bytes w32 own)
 own_value kinds.LongTime own = u48 (from_be_bytes w64 (0 ∷ 0 ∷ own))
 own_value kinds.Locator own = u64 (from_be_bytes w64 own)
+own_value kinds.ChaosAddress own = u16 (from_be_bytes w16 own)
 own_value (kinds.Counted shown) own = counted (drop 1 own)
 own_value (kinds.LongCounted shown) own = long_counted (drop 2 own)
 own_value (kinds.Shaped shape) own = shaped (record { shape = shape; octets = own })

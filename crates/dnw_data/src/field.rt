@@ -226,7 +226,7 @@ fn own_size(kind: Kind, left: &[u8]) -> usize
 {
     match kind {
         Kind::U8 => 1,
-        Kind::U16 | Kind::TypeCode => 2,
+        Kind::U16 | Kind::TypeCode | Kind::ChaosAddress => 2,
         Kind::U32 | Kind::Ipv4 | Kind::Time => 4,
         Kind::U48 | Kind::LongTime => 6,
         Kind::U64 | Kind::Locator => 8,
@@ -268,7 +268,7 @@ fn of_octets<'r>(kind: Kind, own: &'r [u8]) -> Result<Field<'r>, DecodeError>
 {
     match kind {
         Kind::U8 => Ok(Field::U8(own[0])),
-        Kind::U16 => Ok(Field::U16(u16_of(own))),
+        Kind::U16 | Kind::ChaosAddress => Ok(Field::U16(u16_of(own))),
         Kind::U32 => Ok(Field::U32(u32_of(own))),
         Kind::U48 | Kind::LongTime => Ok(Field::U48(u64::from_be_bytes([
             0, 0, own[0], own[1], own[2], own[3], own[4], own[5],

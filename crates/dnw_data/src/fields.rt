@@ -1,6 +1,7 @@
 //! The fields of the data of a record, one after another.
-ghost use Rattle.std.specs.Prelude.{◌≡◌, ◌≤◌, length};
+ghost use Rattle.std.specs.Prelude.{◌≡◌, ◌≤◌, drop, length};
 ghost use Rattle.std.specs.Iterator.{at_most};
+ghost use Rattle.dnw_base.specs.DnsClasses.{class_code};
 ghost use Rattle.dnw_base.specs.RecordTypes.{type_code};
 ghost use Rattle.dnw_data.specs.Table.{fields_of};
 ghost use Rattle.dnw_data.specs.Walks.{NextField, IsEnded, fields_at, steps_left};
@@ -9,6 +10,7 @@ use crate::field::Field;
 use crate::kind::Kind;
 use crate::table;
 use dnw_base::decoder::BinDecoder;
+use dnw_base::dns_class::DNSClass;
 use dnw_base::error::DecodeError;
 use dnw_base::record_type::RecordType;
 use std::marker::Model;
@@ -53,15 +55,16 @@ impl<'r> Model for Fields<'r> {
 }
 
 impl<'r> Fields<'r> {
-    /// Creates an iterator over the fields of data of this type, which start at `start` and end where `message` does. Names
-    /// in the data may point to what is before.
-    pub fn new(message: &'r [u8], start: usize, record_type: RecordType) -> Self
+    /// Creates an iterator over the fields of data of this class and type, which start at `start` and end where `message`
+    /// does. Names in the data may point to what is before.
+    pub fn new(message: &'r [u8], start: usize, class: DNSClass, record_type: RecordType) -> Self
         requires { start ≤ length message.now }
-        ensures { result ≡ fields_at message.now start (fields_of (type_code record_type)) }
+        ensures { result ≡ fields_at message.now start
+            (fields_of (class_code class) (type_code record_type) (drop start message.now)) }
     {
         let mut reader = BinDecoder::new(message);
         reader.skip(start).unwrap();
-        let kinds = table::fields_of(record_type);
+        let kinds = table::fields_of(class, record_type, &message[start..]);
         Fields {
             reader,
             start,

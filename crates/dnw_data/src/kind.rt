@@ -27,6 +27,8 @@ pub enum Kind {
     LongTime,
     /// An identifier of a node, or a locator, of eight octets (RFC 6742, sections 2.1.1 and 2.3.1).
     Locator,
+    /// An address of Chaosnet, of two octets (RFC 1035, section 3.6).
+    ChaosAddress,
     /// A length octet and that many octets: a character string (RFC 1035, section 3.3), or octets that are shown otherwise.
     Counted(Shown),
     /// A length of two octets and that many octets (RFC 2930, sections 2.7 and 2.8; RFC 8945, section 4.2).
@@ -93,4 +95,6 @@ pub enum Shape {
     Relay,
     /// The length of a host identity tag, an algorithm, the length of a key, the tag and the key (RFC 8005, section 5).
     HostIdentity,
+    /// The length of a prefix of an IPv6 address, and the octets with the other bits (RFC 2874, section 3.1.1).
+    AddressSuffix,
 }

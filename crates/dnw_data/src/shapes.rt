@@ -1,6 +1,6 @@
-//! Fields whose first octets say what follows them: locations, gateways, relays, and host identities.
+//! Fields whose first octets say what follows them: locations, gateways, relays, host identities, and parts of addresses.
 ghost use Rattle.std.specs.Prelude.{◌≡◌, ◌≤◌, ◌+◌, ◌<◌, length, None, Some, IfOk, IfErr};
-ghost use Rattle.dnw_data.specs.Shapes.{gateway_fault, gateway_size, identity_size, relay_fault, relay_size, shape_fault, shape_size};
+ghost use Rattle.dnw_data.specs.Shapes.{gateway_fault, gateway_size, identity_size, relay_fault, relay_size, shape_fault, shape_size, suffix_fault, suffix_size};
 
 use crate::kind::Shape;
 use crate::whole_name::{after, check_name, name_size, octet_at};
@@ -12,6 +12,9 @@ const LOCATION_SIZE: usize = 16;
 
 /// The octets before a tag and a key (RFC 8005, section 5).
 const IDENTITY_HEAD: usize = 4;
+
+/// The family of IPv6 addresses (RFC 3123, section 4).
+const IPV6: u16 = 2;
 
 /// Octets that have a shape.
 ///
@@ -37,7 +40,7 @@ impl<'r> Shaped<'r> {
     ghost use Rattle.dnw_data.specs.Shapes.{FailsShape, IsShaped, shape_fault, shape_size};
 
     /// Creates what these octets are. It fails with `InsufficientBytes` if they are fewer or more than their first octets
-    /// say, with `UnknownAddressFamily` if a gateway is of an unknown type, with `UnrecognizedLabelCode` if the name of a
+    /// say, with `UnknownAddressFamily` if a gateway is of an unknown type or a prefix longer than an address, with `UnrecognizedLabelCode` if the name of a
     /// gateway or a relay has a pointer, and with `DomainNameTooLong` if it has more than 255 octets.
     pub fn new(shape: Shape, octets: &'r [u8]) -> Result<Self, DecodeError>
         ensures ok { IfOk result (λ s. IsShaped shape octets.now × (s ≡ record { shape = shape; octets = octets.now })) }
@@ -88,7 +91,15 @@ pub(crate) fn shape_size(shape: Shape, left: &[u8]) -> usize
         Shape::Gateway => 2 + gateway_size(octet_at(left, 0), after(left, 2)),
         Shape::Relay => 1 + relay_size(octet_at(left, 0) % 128, after(left, 1)),
         Shape::HostIdentity => identity_size(left),
+        Shape::AddressSuffix => 1 + suffix_size(octet_at(left, 0)),
     }
+}
+
+/// Returns the octets of an address that are not all in a prefix of this length.
+fn suffix_size(prefix: u8) -> usize
+    ensures { result ≡ suffix_size prefix }
+{
+    135usize.saturating_sub(usize::from(prefix)) / 8
 }
 
 /// Returns the octets of a gateway of a type.
@@ -142,8 +153,20 @@ pub(crate) fn check_shape(shape: Shape, own: &[u8]) -> Result<(), DecodeError>
             check_relay(gateway_type, &own[2..])
         }
         Shape::Relay => check_relay(octet_at(own, 0) % 128, &own[1..]),
+        Shape::AddressSuffix => check_suffix(octet_at(own, 0)),
         Shape::Location | Shape::HostIdentity => Ok(()),
     }
+}
+
+/// Checks the length of the prefix of an IPv6 address.
+fn check_suffix(prefix: u8) -> Result<(), DecodeError>
+    ensures ok { IfOk result (λ _. suffix_fault prefix ≡ None) }
+    ensures err { IfErr result (λ e. suffix_fault prefix ≡ Some e) }
+{
+    if 128 < prefix {
+        return Err(DecodeError::UnknownAddressFamily(IPV6));
+    }
+    Ok(())
 }
 
 /// Checks a relay of a type.

@@ -1,9 +1,13 @@
 //! The table of the fields of each record type.
-ghost use Rattle.std.specs.Prelude.{◌≡◌};
+ghost use Rattle.std.specs.Prelude.{◌≡◌, slice_index};
+ghost use Rattle.dnw_base.specs.DnsClasses.{class_code};
 ghost use Rattle.dnw_base.specs.RecordTypes.{type_code};
-ghost use Rattle.dnw_data.specs.Table.{are_names_decompressed, fields_in, fields_of, late_rows};
+ghost use Rattle.dnw_data.specs.Table.{a6_fields, are_names_decompressed, fields_elsewhere, fields_in, fields_in_internet, fields_of};
+ghost use Rattle.dnw_data.specs.Table.{fields_of_some, is_internet_type, is_like_internet, late_rows, may_lack_data, table};
 
 use crate::kind::{Kind, ListKind, NameForm, Shape, Shown};
+use crate::whole_name::octet_at;
+use dnw_base::dns_class::DNSClass;
 use dnw_base::record_type::RecordType;
 
 /// A name of a type of RFC 1035.
@@ -57,13 +61,97 @@ const PREFIXES: Kind = Kind::List(ListKind::Prefixes);
 /// Names in their wire form up to the end.
 const NAMES: Kind = Kind::List(ListKind::Names);
 
-/// Returns the kinds of the fields that the data of a type have, by its code. Data of a type that is not in the table are
-/// octets (RFC 3597).
+/// The code of A6.
+const A6: u16 = 38;
+
+/// Returns the kinds of the fields that data of a class and a type have. Data of a type that is not in the table are octets
+/// (RFC 3597), and so are those of a type that only IN has in another class. Under NONE and ANY data are as in IN, or are left
+/// out: then they have no fields (RFC 2136, sections 2.4 and 2.5).
+///
+/// Of the data it matters only if there are any and, for A6, if their first octet is 0: then they end with no name (RFC 2874,
+/// section 3.1.1).
 #[tactic(auto, unfolding(crate::specs::Table::fields_of))]
-pub fn fields_of(record_type: RecordType) -> &'static [Kind]
-    ensures { result.now ≡ fields_of (type_code record_type) }
+pub fn fields_of(class: DNSClass, record_type: RecordType, octets: &[u8]) -> &'static [Kind]
+    ensures { result.now ≡ fields_of (class_code class) (type_code record_type) octets.now }
 {
-    match u16::from(record_type) {
+    let class = u16::from(class);
+    let code = u16::from(record_type);
+    if octets.is_empty() && may_lack_data(class, code) {
+        return &[];
+    }
+    fields_of_some(class, code, octets)
+}
+
+/// Returns `true` if data of this class and type may be left out.
+fn may_lack_data(class: u16, code: u16) -> bool
+    ensures { result ≡ may_lack_data class code }
+{
+    (class == 254 || class == 255) && code != 41
+}
+
+/// Returns the kinds of the fields of data that are not left out.
+fn fields_of_some(class: u16, code: u16, octets: &[u8]) -> &'static [Kind]
+    ensures { result.now ≡ fields_of_some class code octets.now }
+{
+    if is_like_internet(class) || !is_internet_type(code) {
+        return fields_in_internet(code, octets);
+    }
+    fields_elsewhere(class, code)
+}
+
+/// Returns `true` for the classes whose data are as in IN.
+fn is_like_internet(class: u16) -> bool
+    ensures { result ≡ is_like_internet class }
+{
+    class == 1 || class == 254 || class == 255
+}
+
+/// Returns `true` for the types that only IN has.
+#[tactic(auto, unfolding(crate::specs::Table::is_internet_type))]
+fn is_internet_type(code: u16) -> bool
+    ensures { result ≡ is_internet_type code }
+{
+    matches!(
+        code,
+        1 | 11 | 22 | 23 | 26 | 28 | 33 | 36 | 38 | 42 | 49 | 64 | 65
+    )
+}
+
+/// Returns the kinds of the fields of a type that only IN has, in another class.
+fn fields_elsewhere(class: u16, code: u16) -> &'static [Kind]
+    ensures { result.now ≡ fields_elsewhere class code }
+{
+    if class == 3 && code == 1 {
+        return &[NAME, Kind::ChaosAddress];
+    }
+    &[HEX]
+}
+
+/// Returns the kinds of the fields of data in IN.
+fn fields_in_internet(code: u16, octets: &[u8]) -> &'static [Kind]
+    ensures { result.now ≡ fields_in_internet code octets.now }
+{
+    if code == A6 {
+        return a6_fields(octet_at(octets, 0));
+    }
+    early_fields_of(code)
+}
+
+/// Returns the kinds of the fields of A6 with a prefix of this length.
+fn a6_fields(prefix: u8) -> &'static [Kind]
+    ensures { result.now ≡ a6_fields prefix }
+{
+    if prefix == 0 {
+        return &[Kind::Shaped(Shape::AddressSuffix)];
+    }
+    &[Kind::Shaped(Shape::AddressSuffix), LOWERED]
+}
+
+/// Returns the kinds of the fields of a type by its code, but of A6.
+fn early_fields_of(code: u16) -> &'static [Kind]
+    ensures { result.now ≡ fields_in table code }
+{
+    match code {
         1 => &[Kind::Ipv4], // A
         2 => &[NAME], // NS
         3 => &[NAME], // MD

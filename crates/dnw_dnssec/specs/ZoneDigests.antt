@@ -30,7 +30,7 @@ pub record CanonicalRecord : Type 0 where
 pub record IsCanonicalRecord (r : Record) (z : CanonicalRecord) : Type 0 where
   pub owner : z.owner ≡ r.name.labels
   pub record_type : z.record_type ≡ type_code r.data.record_type
-  pub class : z.class ≡ class_code r.dns_class
+  pub class : z.class ≡ class_code r.data.class
   pub ttl : z.ttl ≡ r.ttl
   pub canonical : IsCanonical r.data z.octets
 

@@ -47,7 +47,7 @@ impl<'a> Model for ZoneRecord<'a> {
     ghost view = { λ z. record {
       owner = z.record.now.name.labels;
       record_type = type_code z.record.now.data.record_type;
-      class = class_code z.record.now.dns_class;
+      class = class_code z.record.now.data.class;
       ttl = z.record.now.ttl;
       octets = z.octets.items;
     } };
@@ -213,7 +213,7 @@ fn hash_record<H: HashFunction>(hasher: &mut H, item: &ZoneRecord<'_>)
     let owner = item.record.name.to_lowercase().unwrap();
     hasher.update(owner.as_wire());
     hasher.update(&u16::to_be_bytes(u16::from(item.record.data.record_type())));
-    hasher.update(&u16::to_be_bytes(u16::from(item.record.dns_class)));
+    hasher.update(&u16::to_be_bytes(u16::from(item.record.dns_class())));
     hasher.update(&u32::to_be_bytes(item.record.ttl));
     hasher.update(&u16::to_be_bytes(item.octets.len() as u16));
     hasher.update(item.octets.as_slice());

@@ -1,8 +1,9 @@
 -- EDNS that was written is read.
-use Rattle.std.proofs.Common.{◌≡◌, ℕ, ◌+◌, ◌-◌, ◌*◌, ◌/◌, ◌%◌, ◌^◌, ◌<◌, ◌≤◌, ◌==◌, max, nat_le, cond, unwrap_or, Bool, true, false, Option, Some, None, List, [], ◌∷◌, ◌++◌, length, map, find, slice_range, take, drop, Any, Result, Ok, Err, IfErr, get_or, ◌⊎◌, inl, inr, refl, sym, ap, ◌∙◌, eqb-true, subst, arith}
+use Rattle.std.proofs.Common.{◌≡◌, ℕ, ◌+◌, ◌-◌, ◌*◌, ◌/◌, ◌%◌, ◌^◌, ◌<◌, ◌≤◌, ◌==◌, ◌||◌, max, nat_le, cond, unwrap_or, Bool, true, false, Option, Some, None, List, [], ◌∷◌, ◌++◌, length, map, find, slice_range, take, drop, Any, Result, Ok, Err, IfErr, get_or, ◌⊎◌, inl, inr, refl, sym, ap, ◌∙◌, eqb-true, subst, arith}
 use Rattle.std.specs.Int.{w16, from_bool, to_be_bytes}
 use Rattle.std.specs.List.{AllByRecursion}
 use Rattle.std.specs.Result.{IsErrAnd}
+use Rattle.std.proofs.lemmas.Bool.{cases_Bool}
 use Rattle.std.proofs.lemmas.Grind.{common_steps}
 use Rattle.std.proofs.lemmas.List.{append-nil, drop_at, drop-take, get_or_default, length-append}
 use Rattle.std.proofs.Math.Seq.{take-length}
@@ -21,11 +22,12 @@ use Rattle.dnw_data.specs.declared.kind.Kind.TheVariants.{Octets}
 use Rattle.dnw_data.specs.declared.kind.Shown.{Shown}
 use Rattle.dnw_data.specs.declared.kind.Shown.TheVariants.{Hex}
 use Rattle.dnw_data.specs.Fields.{own_at}
-use Rattle.dnw_data.specs.Table.{fields_of}
+use Rattle.dnw_data.specs.Table.{fields_of, is_internet_type, may_lack_data}
 use Rattle.dnw_record.specs.Records.{RecordValue, data_octets}
 use Rattle.dnw_record_owned.specs.declared.record.Record.{Record}
 use Rattle.dnw_record_owned.specs.DataPieces.{IsData, kinds_of, octets_piece, piece_octets}
-use Rattle.dnw_record_owned.specs.DataCopies.{Copies, data_start}
+use Rattle.dnw_record_owned.specs.DataCopies.{Copies, data_start, record_kinds}
+use Rattle.dnw_record_owned.proofs.Alike.{known_anywhere}
 use Rattle.dnw_message_header.specs.Headers.{flag}
 use Rattle.dnw_message_read.specs.Edns.{OptionValue, OptionsAre, first_option, none, one_more, option_of, option_size}
 use Rattle.dnw_message_write.specs.declared.edns.WireOption.{WireOption}
@@ -83,15 +85,21 @@ options_are (o ∷ os) (one, fit) = one_more (first_is o (options_wire os) one) 
 -- ---- the record
 
 -- the type is in no row of the table, so its data are octets
-opt_kinds : kinds_of OPT ≡ Octets Hex ∷ []
-unfolding fields_of
-opt_kinds = refl
+no_internet_type : is_internet_type 41 ≡ false
+unfolding is_internet_type
+no_internet_type = refl
+
+never_lacks : (class : ℕ) → may_lack_data class 41 ≡ false
+never_lacks class = elim (cases_Bool (class == 254 || class == 255)) [ inl may ↦ rw may refl | inr must ↦ rw must refl ]
+
+opt_kinds : (class : ℕ) (octets : List ℕ) → fields_of class 41 octets ≡ Octets Hex ∷ []
+opt_kinds class octets = known_anywhere class 41 octets (λ _. never_lacks class) no_internet_type
 
 -- which any octets are
-pub opt_data : (octets : List ℕ) → IsData (kinds_of OPT) octets
-opt_data octets =
+pub opt_data : (class : DNSClass) (octets : List ℕ) → IsData (kinds_of class OPT octets) octets
+opt_data class octets =
     let all = append-nil octets in
-    subst (λ kinds. IsData kinds octets) (sym opt_kinds) (octets_piece octets ∷ [], record { are = ((ap length (sym all), refl), tt); whole = sym all })
+    subst (λ kinds. IsData kinds octets) (sym (opt_kinds (class_code class) octets)) (octets_piece octets ∷ [], record { are = ((ap length (sym all), refl), tt); whole = sym all })
 
 octets_copied : (shown : Shown) (d : Decoder) (octets : List ℕ) → Copies (Octets shown ∷ []) d octets → octets ≡ own_at (Octets shown) d
 octets_copied shown d octets ([], takes, is) = absurd takes
@@ -108,10 +116,11 @@ all_from shown m s n =
     let some : n ≡ s + n - s = omega arith in
     ap (λ k. take k (drop s b)) many ∙ (take-length (drop s b) ∙ (ap (λ k. drop s (take k m)) none ∙ (drop-take s n m ∙ ap (λ k. take k (drop s m)) some)))
 
-data_are : (r : Record) (x : RecordValue) → r.data.record_type ≡ OPT → Copies (kinds_of r.data.record_type) (data_start x) r.data.octets
-    → data_octets x ≡ r.data.octets
+data_are : (r : Record) (x : RecordValue) → x.record_type ≡ OPT → Copies (record_kinds x) (data_start x) r.data.octets → data_octets x ≡ r.data.octets
 data_are r x opt copies =
-    let own = subst (λ kinds. Copies kinds (data_start x) r.data.octets) opt_kinds (subst (λ kind. Copies (kinds_of kind) (data_start x) r.data.octets) opt copies) in
+    let left = drop (data_start x).index (data_start x).bytes in
+    let same : record_kinds x ≡ Octets Hex ∷ [] = ap (λ kind. kinds_of x.class kind left) opt ∙ opt_kinds (class_code x.class) left in
+    let own = subst (λ kinds. Copies kinds (data_start x) r.data.octets) same copies in
     sym (octets_copied Hex (data_start x) r.data.octets own ∙ all_from Hex x.message x.start x.len)
 
 bit_of : (b : Bool) (n : ℕ) → n % 2 ≡ from_bool b → b ≡ (n % 2 == 1)
@@ -130,9 +139,10 @@ pub edns_comes_back : EdnsComesBack
 edns_comes_back e r x opt (owner, kind, class, ttl, copies) =
     let (version, high, payload) = opt.fit in
     let t : x.ttl ≡ edns_ttl e = ttl ∙ opt.ttl in
-    let code : class_code x.class ≡ max e.max_payload min_payload = ap class_code class ∙ (class_back (class_code r.dns_class) ∙ ap class_code opt.class) in
+    let code : class_code x.class ≡ max e.max_payload min_payload = ap class_code class ∙ (class_back (class_code r.data.class) ∙ ap class_code opt.class) in
+    let is_opt_type : x.record_type ≡ OPT = kind ∙ (ap (λ k. type_of_code (type_code k)) opt.record_type ∙ opt_back) in
     let bit : flag e.dnssec_ok 15 ≤ 2 ^ 15 = flag_most e.dnssec_ok in (
-      kind ∙ (ap (λ k. type_of_code (type_code k)) opt.record_type ∙ opt_back),
+      is_opt_type,
       (
         owner ∙ opt.owner,
         omega (arith, code),
@@ -141,7 +151,7 @@ edns_comes_back e r x opt (owner, kind, class, ttl, copies) =
         rw t (bit_of e.dnssec_ok (edns_ttl e / 2 ^ 15) (low_bit e.dnssec_ok e.rcode_high e.version)),
         refl,
         refl,
-        subst (λ d. OptionsAre d (map option_value e.options.now)) (sym (data_are r x opt.record_type copies ∙ opt.octets)) (options_are e.options.now opt.options),
+        subst (λ d. OptionsAre d (map option_value e.options.now)) (sym (data_are r x is_opt_type copies ∙ opt.octets)) (options_are e.options.now opt.options),
       ),
     )
 

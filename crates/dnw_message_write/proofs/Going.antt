@@ -24,11 +24,12 @@ use Rattle.dnw_record.proofs.Laying.{added}
 use Rattle.dnw_record.proofs.Parts.{done_bytes, done_name, fails_later, refused_name, refused_room}
 use Rattle.dnw_record.proofs.Preceding.{precede_then}
 use Rattle.dnw_record_owned.specs.declared.record.Record.{Record}
-use Rattle.dnw_record_owned.specs.DataPieces.{DataPiece, kinds_of, name_piece, octets_piece}
+use Rattle.dnw_record_owned.specs.DataPieces.{DataPiece, data_kinds, name_piece, octets_piece}
 use Rattle.dnw_record_owned.specs.DataCopies.{TakesPieces, data_start}
 use Rattle.dnw_record_owned.specs.AnyRecords.{EmitsAnyRecord}
 use Rattle.dnw_record_owned.specs.AnyRecordFrames.{frame_any_record}
 use Rattle.dnw_record_owned.specs.AnyRecordLaws.{any_record_size, written_pieces}
+use Rattle.dnw_record_owned.proofs.Alike.{read_kinds}
 use Rattle.dnw_record_owned.proofs.AnyRecords.{any_records_fit, any_records_precede, any_records_stay_bounded, refused_any_undo}
 use Rattle.dnw_record_owned.proofs.Counting.{counts_name, counts_record}
 use Rattle.dnw_record_owned.proofs.Reading.{InBoth, append_both, name_both}
@@ -93,7 +94,8 @@ goes_record v w b r t within small h =
     let (bounded, inside) = any_records_stay_bounded r v w (omega (arith, t.at_end)) h in
     let long : length w.bytes ≡ length (b ++ m.own) = omega (arith, ap length m.bytes, length-append v.bytes m.own, length-append b m.own, t.long) in
     let x = m.value in
-    let kinds = kinds_of r.data.record_type in
+    let kinds = data_kinds r.data in
+    let same = read_kinds r x pieces v.encoding v.canonical m.class m.record_type has m.takes in
     let takes : TakesPieces kinds (data_start x) pieces =
     subst (TakesPieces kinds (data_start x)) (plain_pieces pieces)
     (subst (λ k. TakesPieces kinds (data_start x) (written_pieces Compressed k pieces)) t.plain
@@ -101,7 +103,7 @@ goes_record v w b r t within small h =
     let owner_is : x.owner ≡ r.name.labels = m.owner ∙ ap (λ k. in_mode k r.name.labels) t.mode in
     let names = counts_record r v w h in
     let stands : RecordIsThere (b ++ m.own) r (length b) (length (b ++ m.own)) m.at.pointers =
-    (x, m.at, refl, (owner_is, m.record_type, m.class, m.ttl, (pieces, takes, has.whole))) in
+    (x, m.at, refl, (owner_is, m.record_type, m.class, m.ttl, (pieces, subst (λ ks. TakesPieces ks (data_start x) pieces) (sym same) takes, has.whole))) in
     let most : max (length v.bytes) v.max_size ≤ v.max_size = max-le (omega (arith, within, t.at_end)) (omega arith) in
     record {
       own = m.own;

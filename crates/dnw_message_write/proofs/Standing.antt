@@ -1,13 +1,17 @@
 -- What stands in a message stands in what follows it, and items stand one after the other.
-use Rattle.std.proofs.Common.{◌≡◌, ℕ, ◌+◌, ◌≤◌, List, [], ◌∷◌, ◌++◌, slice_range, refl, sym, ap, ◌∙◌, subst, arith}
+use Rattle.std.proofs.Common.{◌≡◌, ℕ, ◌+◌, ◌≤◌, List, [], ◌∷◌, ◌++◌, drop, slice_range, refl, sym, ap, ◌∙◌, subst, arith}
 use Rattle.std.proofs.lemmas.List.{length-append}
 use Rattle.dnw_name_read.specs.Reading.{NameAt}
 use Rattle.dnw_name_read.proofs.Counts.{Reads_own}
 use Rattle.dnw_name_read.proofs.Stand.{Reads_append, slice_range_append}
+use Rattle.dnw_base.specs.DnsClasses.{class_code}
+use Rattle.dnw_base.specs.RecordTypes.{type_code}
+use Rattle.dnw_data.specs.Table.{fields_of}
+use Rattle.dnw_data.specs.Walks.{FieldsLeft, fields_at}
+use Rattle.dnw_record.specs.RecordFields.{record_fields}
 use Rattle.dnw_record.specs.Records.{RecordValue, class_field, fixed_at, length_field, ttl_field, type_field}
 use Rattle.dnw_record_owned.specs.declared.record.Record.{Record}
-use Rattle.dnw_record_owned.specs.DataPieces.{kinds_of}
-use Rattle.dnw_record_owned.specs.DataCopies.{Copies, data_start}
+use Rattle.dnw_record_owned.specs.DataCopies.{Copies}
 use Rattle.dnw_message_write.specs.declared.query.WireQuery.{WireQuery}
 use Rattle.dnw_message_write.specs.ReadRecords.{RecordIsRead, RecordIsThere}
 use Rattle.dnw_message_write.specs.Written.{QueryStands, Stand}
@@ -52,7 +56,9 @@ record_later b more r p e k (x, at, followed, says) =
     let (owner, kind, class, ttl, copies) = subst (RecordIsRead r) at.is says in
     let prefix : slice_range (b ++ more) 0 (o + 10 + length_field fields) ≡ slice_range b 0 (o + 10 + length_field fields) =
     slice_range_append b more 0 (o + 10 + length_field fields) (omega arith) rest in
-    let start : data_start here ≡ data_start there = ap (λ y. record { bytes = y; index = o + 10 }) (sym prefix) in (
+    let code = class_code here.class in
+    let number = type_code here.record_type in
+    let start : record_fields here ≡ record_fields there = ap (λ y. fields_at y (o + 10) (fields_of code number (drop (o + 10) y))) (sym prefix) in (
       there,
       record {
         labels = at.labels;
@@ -64,7 +70,7 @@ record_later b more r p e k (x, at, followed, says) =
         ends = at.ends ∙ ap (λ (y : RecordValue). y.start + y.len) at.is;
       },
       followed,
-      (owner, kind, class, ttl, subst (λ y. Copies (kinds_of r.data.record_type) y r.data.octets) start copies),
+      (owner, kind, class, ttl, subst (λ (y : FieldsLeft). Copies y.kinds y.reader r.data.octets) start copies),
     )
 
 -- ---- items

@@ -7,8 +7,7 @@ use Rattle.dnw_write.specs.Encoder.{Encoder}
 use Rattle.dnw_record.specs.Records.{RecordValue}
 use Rattle.dnw_record_owned.specs.declared.record.Record.{Record}
 use Rattle.dnw_record_owned.specs.declared.rdata.RDataError.TheVariants.{Field}
-use Rattle.dnw_record_owned.specs.DataPieces.{kinds_of}
-use Rattle.dnw_record_owned.specs.DataCopies.{FailsToCopy, data_start}
+use Rattle.dnw_record_owned.specs.DataCopies.{FailsToCopy, data_start, record_kinds}
 use Rattle.dnw_record_owned.specs.AnyRecords.{IsCopyOf, name_of}
 use Rattle.dnw_record_owned.specs.AnyRecordLaws.{any_record_size}
 use Rattle.dnw_message_read.specs.Edns.{FailsEdns, is_opt, opts_in, opts_outside}
@@ -114,9 +113,9 @@ pub record IsCopied (m : MessageValue) (most : ℕ) (bytes : List ℕ) : Type 0 
 abbrev pub IsAmong : List RecordValue → RecordValue → Type 0
 IsAmong xs x = (before : List RecordValue) × (after : List RecordValue) × (xs ≡ before ++ x ∷ after)
 
--- The data of a record are none of its type, or memory ran out.
+-- The data of a record are none of its class and type, or memory ran out.
 abbrev pub FailsCopyOf : RecordValue → CopyError → Type 0
-FailsCopyOf x (Data offset error) = (offset ≡ x.start) × FailsToCopy (kinds_of x.record_type) (data_start x) (Field error)
+FailsCopyOf x (Data offset error) = (offset ≡ x.start) × FailsToCopy (record_kinds x) (data_start x) (Field error)
 FailsCopyOf x (Edns error) = ⊥
 FailsCopyOf x (Proto error) = error ≡ Memory
 

@@ -32,7 +32,7 @@ edns_ttl e = e.rcode_high * 2 ^ 24 + e.version * 2 ^ 16 + flag e.dnssec_ok 15
 pub record IsOptOf (e : WireEdns) (r : Record) : Type 0 where
   pub owner : r.name.labels ≡ []
   pub record_type : r.data.record_type ≡ kind.OPT
-  pub class : r.dns_class ≡ class.OPT e.max_payload
+  pub class : r.data.class ≡ class.OPT e.max_payload
   pub ttl : r.ttl ≡ edns_ttl e
   pub octets : r.data.octets ≡ options_wire e.options.now
   pub fit : (e.version < 2 ^ 8) × (e.rcode_high < 2 ^ 8) × (e.max_payload < 2 ^ 16)

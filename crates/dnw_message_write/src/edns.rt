@@ -47,14 +47,14 @@ impl<'a> WireEdns<'a> {
         ensures err { IfErr result (λ e. (e ≡ ProtoError.Memory) ⊎ ((e ≡ ProtoError.MaxBufferSizeExceeded max_message) × Any (λ o. max_message < length o.octets.now) self.now.options.now)) }
     {
         let options = wire_of(alloc, self.options)?;
-        let data = match RData::new(alloc, RecordType::OPT, options.as_slice()) {
+        let class = DNSClass::OPT(self.max_payload);
+        let data = match RData::new(alloc, class, RecordType::OPT, options.as_slice()) {
             Ok(data) => data,
             // Any octets are data of this type, so no other error comes.
             Err(_) => return Err(ProtoError::Memory),
         };
         Ok(Record {
             name: Name::root(alloc),
-            dns_class: DNSClass::OPT(self.max_payload),
             ttl: ttl_of(self),
             data,
         })

@@ -16,7 +16,7 @@ use Rattle.dnw_name_form.specs.LabelOrder.{lower_label, octets_cmp}
 use Rattle.dnw_name_order.specs.Order.{canonical, IsZoneOf}
 use Rattle.dnw_name_order.specs.OrderLaws.{lowered_last}
 use Rattle.dnw_name_order.specs.SortKeys.{escape_octet, label_key, sort_key}
-use Rattle.dnw_name_order.specs.SortKeyLaws.{KeysCompare, KeysCompareNames, KeysAreEqual, ZonesBegin, KeysAreShort}
+use Rattle.dnw_name_order.specs.SortKeyLaws.{EndedKeysCompare, KeysCompare, KeysCompareNames, KeysAreEqual, ZonesBegin, KeysAreShort}
 use Rattle.dnw_name_order.proofs.Comparing.{IsZoneOf_last, none_before, some_after, then_assoc}
 
 -- first octets that differ decide
@@ -83,6 +83,49 @@ keys_cmp (l ∷ ls) (m ∷ ms) = label_then l m (flat_map label_key ls) (flat_ma
 pub keys_compare : KeysCompare
 keys_compare xs ys = keys_cmp (canonical xs) (canonical ys)
 
+-- ---- keys that are ended, and what is after them
+
+abbrev HasOctets : List ℕ → Type 0
+HasOctets l = 0 < length l
+
+-- labels in canonical form decide, and then what is after the octet that ends them
+ended_cmp : (ls ms : List (List ℕ)) (us vs : List ℕ) → AllByRecursion HasOctets ls → AllByRecursion HasOctets ms
+    → octets_cmp (flat_map label_key ls ++ (0 ∷ us)) (flat_map label_key ms ++ (0 ∷ vs)) ≡ ordering_then (slice_cmp octets_cmp ls ms) (octets_cmp us vs)
+ended_cmp [] [] us vs some others = refl
+ended_cmp [] (m ∷ ms) us vs some others =
+    let rest = flat_map label_key ms ++ (0 ∷ vs) in
+    ap (octets_cmp (0 ∷ us)) (append_assoc (label_key m) (flat_map label_key ms) (0 ∷ vs)) ∙ label_then [] m us rest
+    ∙ ap (λ (r : Ordering). ordering_then r (octets_cmp us rest)) (none_before nat_cmp m others.0)
+ended_cmp (l ∷ ls) [] us vs some others =
+    let rest = flat_map label_key ls ++ (0 ∷ us) in
+    ap (λ (bytes : List ℕ). octets_cmp bytes (0 ∷ vs)) (append_assoc (label_key l) (flat_map label_key ls) (0 ∷ us)) ∙ label_then l [] rest vs
+    ∙ ap (λ (r : Ordering). ordering_then r (octets_cmp rest vs)) (some_after nat_cmp l some.0)
+ended_cmp (l ∷ ls) (m ∷ ms) us vs some others =
+    let own = flat_map label_key ls ++ (0 ∷ us) in
+    let rest = flat_map label_key ms ++ (0 ∷ vs) in
+    ap (λ (bytes : List ℕ). octets_cmp bytes (flat_map label_key (m ∷ ms) ++ (0 ∷ vs))) (append_assoc (label_key l) (flat_map label_key ls) (0 ∷ us))
+    ∙ ap (octets_cmp (label_key l ++ own)) (append_assoc (label_key m) (flat_map label_key ms) (0 ∷ vs))
+    ∙ label_then l m own rest
+    ∙ ap (ordering_then (octets_cmp l m)) (ended_cmp ls ms us vs some.1 others.1)
+    ∙ sym (then_assoc (octets_cmp l m) (slice_cmp octets_cmp ls ms) (octets_cmp us vs))
+
+one_more : (ls : List (List ℕ)) (l : List ℕ) → AllByRecursion HasOctets ls → 0 < length l → AllByRecursion HasOctets (ls ++ (l ∷ []))
+one_more [] l each some = (some, tt)
+one_more (m ∷ ms) l each some = (each.0, one_more ms l each.1 some)
+
+canonical_front : (front rest : List (List ℕ)) → canonical (front ++ rest) ≡ canonical rest ++ canonical front
+canonical_front front rest = ap lower (reverse-append front rest) ∙ map-append lower_label (reverse rest) (reverse front)
+
+have_octets : (ls : List (List ℕ)) → AllByRecursion IsLabel ls → AllByRecursion HasOctets (canonical ls)
+have_octets [] each = tt
+have_octets (l ∷ ls) each =
+    rw (canonical_front (l ∷ []) ls)
+    (one_more (canonical ls) (lower_label l) (have_octets ls each.1) (omega (arith, each.0.not_empty, length-map l to_ascii_lowercase)))
+
+pub ended_keys_compare : EndedKeysCompare
+ended_keys_compare xs ys us vs are others =
+    ended_cmp (canonical xs) (canonical ys) us vs (have_octets xs are.each) (have_octets ys others.each)
+
 same_flags : (a b : Bool) → a ≡ b → bool_cmp a b ≡ Equal
 same_flags false false e = refl
 same_flags false true e = absurd (true≢false (sym e))
@@ -100,7 +143,7 @@ equal_is xs ys = (
   λ e. (Equal-is (octets_cmp xs ys)).0 (sym (texts_ties xs ys) ∙ (bytes_decides xs ys).1 e),
 )
 
-both_equal : (a b : Ordering) → ordering_then a b ≡ Equal → (a ≡ Equal) × (b ≡ Equal)
+pub both_equal : (a b : Ordering) → ordering_then a b ≡ Equal → (a ≡ Equal) × (b ≡ Equal)
 both_equal Less b e = absurd cc
 both_equal Equal b e = (refl, e)
 both_equal Greater b e = absurd cc
@@ -124,9 +167,6 @@ labels_begin (l ∷ ls) (m ∷ ms) rest e =
     (more, let same : l ∷ ls ≡ m ∷ (ms ++ more) = cc in same)
 
 -- ---- keys of names
-
-canonical_front : (front rest : List (List ℕ)) → canonical (front ++ rest) ≡ canonical rest ++ canonical front
-canonical_front front rest = ap lower (reverse-append front rest) ∙ map-append lower_label (reverse rest) (reverse front)
 
 same_canonical : (xs ys : List (List ℕ)) → lower xs ≡ lower ys → canonical xs ≡ canonical ys
 same_canonical xs ys e = lowered_last xs ∙ ap reverse e ∙ sym (lowered_last ys)

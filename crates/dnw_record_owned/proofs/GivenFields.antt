@@ -1,31 +1,36 @@
 -- Values of fields are data: the octets of each are read as that value.
-use Rattle.std.proofs.Common.{◌≡◌, ℕ, ◌+◌, ◌<◌, ◌≤◌, ◌^◌, ◌/◌, ◌%◌, max, Bool, true, false, ◌&&◌, ◌==◌, not, None, List, [], ◌∷◌, ◌++◌, length, drop, find, refl, sym, ap, ◌∙◌, subst, inl, inr, arith}
+use Rattle.std.proofs.Common.{◌≡◌, ℕ, ◌+◌, ◌<◌, ◌≤◌, ◌^◌, ◌/◌, ◌%◌, max, Bool, true, false, ◌&&◌, ◌==◌, ◌||◌, not, None, List, [], ◌∷◌, ◌++◌, length, drop, slice_index, find, refl, sym, ap, ◌∙◌, subst, inl, inr, arith}
 use Rattle.std.specs.Prelude.{unwrap_or}
 use Rattle.std.specs.Int.{w16, w64, from_be_bytes, to_be_bytes}
 use Rattle.std.specs.List.{AllByRecursion, flat_map, list_all}
 use Rattle.std.proofs.lemmas.Bool.{and_parts, cases_Bool}
 use Rattle.std.proofs.lemmas.List.{append-nil}
 use Rattle.std.proofs.lemmas.Nat.{from_be_bytes-to_be_bytes_2, from_be_bytes-to_be_bytes_4, from_be_bytes-to_be_bytes_8}
+use Rattle.std.specs.Net.Addr.{octets_of as octets_of_segments}
+use Rattle.dnw_base.specs.Names.{wire}
 use Rattle.dnw_base.specs.RecordTypes.{type_of_code}
+use Rattle.dnw_base.proofs.Wires.{length_wire}
 use Rattle.dnw_data.specs.declared.kind.Kind.{Kind}
 use Rattle.dnw_data.specs.declared.kind.Kind.TheVariants as kinds
 use Rattle.dnw_data.specs.declared.kind.ListKind.{ListKind}
 use Rattle.dnw_data.specs.declared.kind.ListKind.TheVariants as lists
 use Rattle.dnw_data.specs.Lists.{ItemsValue, list_fault}
-use Rattle.dnw_data.specs.Table.{Row, fields_of, hex, row, table}
+use Rattle.dnw_data.specs.Table.{Row, a6, a6_fields, fields_elsewhere, fields_in, fields_in_internet, fields_of, fields_of_some, hex, is_internet_type, is_like_internet, may_lack_data, row, table}
 use Rattle.dnw_data.specs.Values.{FieldValue, name, u8, u16, u32, u48, u64, ipv4, ipv6, type_code, time, counted, octets, texts, types, params, items}
 use Rattle.dnw_data.specs.Values.{prefixes, names, long_counted, shaped, long_counted_size}
 use Rattle.dnw_data.specs.Shapes.{IsShaped, ShapedValue}
 use Rattle.dnw_data.specs.declared.kind.Shape.{Shape}
+use Rattle.dnw_data.specs.declared.kind.Shape.TheVariants.{Location, Gateway, Relay, HostIdentity, AddressSuffix}
 use Rattle.dnw_data.specs.Walks.{FieldsAre}
 use Rattle.dnw_data.specs.FieldWires.{IsFieldValue, field_wire}
 use Rattle.dnw_data.proofs.Addresses.{octets_length, segments_back}
+use Rattle.dnw_data.proofs.Rows.{Alike, alike_fields}
 use Rattle.dnw_data.proofs.Shaping.{goes_to_end, long_is, shape_given}
 use Rattle.dnw_record_owned.specs.declared.from_fields.FromFieldsError.{FromFieldsError}
 use Rattle.dnw_record_owned.specs.DataPieces.{ArePiecesOf, DataPiece, HasPieces, IsData, IsPieceOf, name_piece, octets_of, octets_piece, piece_octets}
 use Rattle.dnw_record_owned.specs.DataCopies.{alone}
 use Rattle.dnw_record_owned.specs.AnyRecordLaws.{piece_value, piece_values}
-use Rattle.dnw_record_owned.specs.GivenFields.{AreFieldsOf, FailsGivenFields, IsFieldOf}
+use Rattle.dnw_record_owned.specs.GivenFields.{AreFieldsOf, FailsGivenFields, IsFieldOf, front_of}
 use Rattle.dnw_record_owned.proofs.AnyRecords.{data_have_fields}
 
 -- ---- which kinds take all that is left: only the last of a type
@@ -51,9 +56,40 @@ found_last f (r ∷ rows) none all one =
       | inr other ↦ rw other (found_last f rows none others one)
     ]
 
-table_last : (code : ℕ) → takes_all_last (fields_of code) ≡ true
+rows_last : (code : ℕ) → takes_all_last (fields_in table code) ≡ true
+rows_last code = found_last (λ r. r.code == code) table (row code (hex ∷ [])) refl refl
+
+a6_last : (prefix : ℕ) → takes_all_last (a6_fields prefix) ≡ true
+a6_last prefix = elim (cases_Bool (prefix == 0)) [
+  | inl none ↦ rw none refl
+  | inr some ↦ rw some refl
+]
+
+internet_last : (code : ℕ) (octets : List ℕ) → takes_all_last (fields_in_internet code octets) ≡ true
+internet_last code own = elim (cases_Bool (code == a6)) [
+  | inl is ↦ rw is (a6_last (slice_index own 0))
+  | inr other ↦ rw other (rows_last code)
+]
+
+elsewhere_last : (class code : ℕ) → takes_all_last (fields_elsewhere class code) ≡ true
+elsewhere_last class code = elim (cases_Bool (class == 3 && code == 1)) [
+  | inl is ↦ rw is refl
+  | inr other ↦ rw other refl
+]
+
+some_last : (class code : ℕ) (octets : List ℕ) → takes_all_last (fields_of_some class code octets) ≡ true
+some_last class code own = elim (cases_Bool (is_like_internet class || not (is_internet_type code))) [
+  | inl like ↦ rw like (internet_last code own)
+  | inr other ↦ rw other (elsewhere_last class code)
+]
+
+table_last : (class code : ℕ) (octets : List ℕ) → takes_all_last (fields_of class code octets) ≡ true
 unfolding fields_of
-table_last code = found_last (λ r. r.code == code) table (row code (hex ∷ [])) refl refl
+table_last class code [] = elim (cases_Bool (may_lack_data class code)) [
+  | inl may ↦ rw may refl
+  | inr must ↦ rw must (some_last class code [])
+]
+table_last class code (x ∷ xs) = some_last class code (x ∷ xs)
 
 -- ---- one field
 
@@ -112,6 +148,7 @@ given kinds.TypeCode (type_code code) rest is fits last = ((refl, refl), ap type
 given kinds.Time (time n) rest is fits last = ((refl, refl), ap time (from_be_bytes-to_be_bytes_4 n fits), refl)
 given (kinds.Counted shown) (counted own) rest is fits last = ((omega arith, refl), refl, refl)
 given kinds.LongTime (u48 n) rest is fits last = ((refl, refl), ap u48 (six_octets n is), refl)
+given kinds.ChaosAddress (u16 n) rest is fits last = ((refl, refl), ap u16 (from_be_bytes-to_be_bytes_2 n fits), refl)
 given kinds.Locator (u64 n) rest is fits last = ((refl, refl), ap u64 (from_be_bytes-to_be_bytes_8 n fits), refl)
 given (kinds.LongCounted shown) (long_counted own) rest is fits last = ((long_size own rest is, refl), refl, refl)
 given (kinds.Shaped shape) (shaped own) rest is fits last =
@@ -130,6 +167,60 @@ given (kinds.List lists.Prefixes) (prefixes own) rest is fits last =
 given (kinds.List lists.Names) (names own) rest is fits last =
     ((whole own.octets rest (last refl), right_list lists.Names own is fits), ap names (same_items lists.Names own is), refl)
 given kind value rest is fits last = absurd is
+
+-- ---- what the table looks at of fields
+
+some_octets : (first rest : List ℕ) → 1 ≤ length first → first ++ rest ≡ [] → ⊥
+some_octets [] rest some none = omega (arith, some)
+some_octets (x ∷ xs) rest some none = absurd cc
+
+no_octets : (first rest : List ℕ) → first ++ rest ≡ [] → first ≡ []
+no_octets [] rest none = refl
+no_octets (x ∷ xs) rest none = absurd cc
+
+same_first : (first rest : List ℕ) → 1 ≤ length first → slice_index first 0 ≡ slice_index (first ++ rest) 0
+same_first [] rest some = absurd (omega (arith, some))
+same_first (x ∷ xs) rest some = refl
+
+shape_octets : (shape : Shape) (own : List ℕ) → IsShaped shape own → 1 ≤ length own
+shape_octets Location [] is = absurd (omega (arith, is.size))
+shape_octets Gateway [] is = absurd (omega (arith, is.size))
+shape_octets Relay [] is = absurd (omega (arith, is.size))
+shape_octets HostIdentity [] is = absurd (omega (arith, is.size))
+shape_octets AddressSuffix [] is = absurd (omega (arith, is.size))
+shape_octets shape (x ∷ xs) is = omega arith
+
+given_alike : (kinds : List Kind) (values : List FieldValue) → AreFieldsOf kinds values → AllByRecursion IsFieldValue values
+    → Alike kinds (front_of values) (flat_map field_wire values)
+given_alike [] [] are fit = (refl, refl)
+given_alike [] (value ∷ values) are fit = absurd are
+given_alike (kind ∷ kinds) [] are fit = absurd are
+given_alike (kinds.Name form ∷ others) (name labels ∷ values) are fit = λ none. absurd (some_octets (wire labels) _ (omega (arith, length_wire labels)) none)
+given_alike (kinds.U8 ∷ others) (u8 n ∷ values) are fit = λ none. absurd cc
+given_alike (kinds.U16 ∷ others) (u16 n ∷ values) are fit = λ none. absurd cc
+given_alike (kinds.U32 ∷ others) (u32 n ∷ values) are fit = λ none. absurd cc
+given_alike (kinds.U48 ∷ others) (u48 n ∷ values) are fit = λ none. absurd cc
+given_alike (kinds.U64 ∷ others) (u64 n ∷ values) are fit = λ none. absurd cc
+given_alike (kinds.Ipv4 ∷ others) (ipv4 own ∷ values) are (fits, fit) = λ none. absurd (some_octets own _ (omega (arith, fits)) none)
+given_alike (kinds.Ipv6 ∷ others) (ipv6 segments ∷ values) are (fits, fit) =
+    λ none. absurd (some_octets (octets_of_segments segments) _ (omega (arith, octets_length segments, fits)) none)
+given_alike (kinds.TypeCode ∷ others) (type_code code ∷ values) are fit = λ none. absurd cc
+given_alike (kinds.Time ∷ others) (time n ∷ values) are fit = λ none. absurd cc
+given_alike (kinds.LongTime ∷ others) (u48 n ∷ values) are fit = λ none. absurd cc
+given_alike (kinds.Locator ∷ others) (u64 n ∷ values) are fit = λ none. absurd cc
+given_alike (kinds.ChaosAddress ∷ others) (u16 n ∷ values) are fit = λ none. absurd cc
+given_alike (kinds.Counted shown ∷ others) (counted own ∷ values) are fit = λ none. absurd cc
+given_alike (kinds.LongCounted shown ∷ others) (long_counted own ∷ values) are fit = λ none. absurd cc
+given_alike (kinds.Shaped shape ∷ others) (shaped own ∷ values) are (fits, fit) =
+    let some = shape_octets own.shape own.octets fits in
+    (λ none. no_octets own.octets _ none, same_first own.octets _ some)
+given_alike (kinds.Octets shown ∷ others) (octets own ∷ values) are fit = no_octets own _
+given_alike (kinds.List lists.Texts ∷ others) (texts own ∷ values) are fit = no_octets own.octets _
+given_alike (kinds.List lists.Types ∷ others) (types own ∷ values) are fit = no_octets own.octets _
+given_alike (kinds.List lists.Params ∷ others) (params own ∷ values) are fit = no_octets own.octets _
+given_alike (kinds.List lists.Prefixes ∷ others) (prefixes own ∷ values) are fit = no_octets own.octets _
+given_alike (kinds.List lists.Names ∷ others) (names own ∷ values) are fit = no_octets own.octets _
+given_alike (kind ∷ others) (value ∷ values) are fit = absurd are.0
 
 -- ---- all fields
 
@@ -158,12 +249,20 @@ all_given (kind ∷ kinds) (value ∷ values) (is, are) (fits, fit) last =
       ap (λ (x : List ℕ). x ++ octets_of (pieces_given kinds values)) one.2 ∙ ap (λ (x : List ℕ). field_wire value ++ x) own,
     )
 
-pub are_data : (code : ℕ) (own : List ℕ) (values : List FieldValue) → own ≡ flat_map field_wire values → AreFieldsOf (fields_of code) values
-    → AllByRecursion IsFieldValue values → IsData (fields_of code) own × FieldsAre 0 (fields_of code) (alone own) values None
-are_data code own values is are fit =
-    let (pieces, read, same) = all_given (fields_of code) values are fit (table_last code) in
-    let has : HasPieces (fields_of code) own (pieces_given (fields_of code) values) = record { are = pieces; whole = is ∙ sym same } in
-    ((_, has), subst (λ vs. FieldsAre 0 (fields_of code) (alone own) vs None) read (data_have_fields (fields_of code) own _ has).0)
+in_kinds : (kinds : List Kind) (own : List ℕ) (values : List FieldValue) → own ≡ flat_map field_wire values → AreFieldsOf kinds values
+    → AllByRecursion IsFieldValue values → takes_all_last kinds ≡ true → IsData kinds own × FieldsAre 0 kinds (alone own) values None
+in_kinds kinds own values is are fit last =
+    let (pieces, read, same) = all_given kinds values are fit last in
+    let has : HasPieces kinds own (pieces_given kinds values) = record { are = pieces; whole = is ∙ sym same } in
+    ((_, has), subst (λ vs. FieldsAre 0 kinds (alone own) vs None) read (data_have_fields kinds own _ has).0)
+
+pub are_data : (class code : ℕ) (own : List ℕ) (values : List FieldValue) → own ≡ flat_map field_wire values
+    → AreFieldsOf (fields_of class code (front_of values)) values → AllByRecursion IsFieldValue values
+    → IsData (fields_of class code own) own × FieldsAre 0 (fields_of class code own) (alone own) values None
+are_data class code own values is are fit =
+    let kinds = fields_of class code (front_of values) in
+    let same : fields_of class code own ≡ kinds = alike_fields class code (front_of values) own (rw is (given_alike kinds values are fit)) in
+    rw same (in_kinds kinds own values is are fit (table_last class code (front_of values)))
 
 -- ---- fields that are refused
 

@@ -12,7 +12,7 @@ use Rattle.dnw_write.specs.EmittedName.{EmitsAs, Share, in_mode}
 use Rattle.dnw_record.specs.Parts.{EmitsSized, EmitsWirePart, EmitsWireParts, WirePart, Write, bytes_part, name_part, text_part}
 use Rattle.dnw_record.proofs.Parts.{EndsWithin, Fits, fits_as, fits_bytes, fits_name, fits_name_part, fits-sized, fits-then}
 use Rattle.dnw_record_owned.specs.declared.record.Record.{Record}
-use Rattle.dnw_record_owned.specs.DataPieces.{DataPiece, DataValue, HasPieces, kinds_of, name_piece, octets_of, octets_piece}
+use Rattle.dnw_record_owned.specs.DataPieces.{DataPiece, DataValue, HasPieces, data_kinds, name_piece, octets_of, octets_piece}
 use Rattle.dnw_record_owned.specs.AnyRecordLaws.{any_record_size}
 use Rattle.dnw_record_owned.specs.AnyRecords.{EmitsRData, EmitsAnyFields, mode_of, name_of, parts_after, parts_of, type_class_ttl}
 
@@ -36,7 +36,7 @@ fits_parts run (name_piece form labels ∷ pieces) mode canonical =
     let all = fits-then (fits_bytes run) (fits-then name (fits_parts [] pieces mode canonical)) in
     fits_as (omega (arith, length-append (wire labels) (octets_of pieces), length_wire labels)) (record { done = all.done; refused = all.refused })
 
-fits_pieces : (x : DataValue) (pieces : List DataPiece) (mode : NameEncoding) (canonical : Bool) → HasPieces (kinds_of x.record_type) x.octets pieces
+fits_pieces : (x : DataValue) (pieces : List DataPiece) (mode : NameEncoding) (canonical : Bool) → HasPieces (data_kinds x) x.octets pieces
     → Fits (length x.octets) (EmitsWireParts (parts_of pieces mode canonical))
 fits_pieces x pieces mode canonical has = fits_as (omega (arith, ap length has.whole)) (fits_parts [] pieces mode canonical)
 

@@ -1,5 +1,6 @@
 pub mod Copying
 pub mod Pieces
+pub mod Alike
 pub mod GivenFields
 pub mod Going
 pub mod Counting

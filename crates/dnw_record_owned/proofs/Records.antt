@@ -22,11 +22,12 @@ use Rattle.dnw_record.specs.RecordLaws.{fixed_and_length}
 use Rattle.dnw_record.specs.RecordFrames.{frame_reserved}
 use Rattle.dnw_record.proofs.Laying.{added, read_after}
 use Rattle.dnw_record_owned.specs.declared.record.Record.{Record}
-use Rattle.dnw_record_owned.specs.DataPieces.{DataPiece, HasPieces, kinds_of}
+use Rattle.dnw_record_owned.specs.DataPieces.{DataPiece, HasPieces, data_kinds}
 use Rattle.dnw_record_owned.specs.DataCopies.{TakesPieces, data_start}
 use Rattle.dnw_record_owned.specs.AnyRecords.{AnyNumbersFit, EmitsAnyRecord, EmitsRData, parts_of, type_class_ttl}
 use Rattle.dnw_record_owned.specs.AnyRecordFrames.{frame_any_record, frame_parts}
 use Rattle.dnw_record_owned.specs.AnyRecordLaws.{AnyRecordsAreRead, CandidatesAreRead, NamesKeepRead, NewAreRead, ReadsAs, WritesKeepRead, written_pieces}
+use Rattle.dnw_record_owned.proofs.Alike.{read_kinds}
 use Rattle.dnw_record_owned.proofs.AnyRecords.{data_have_fields}
 use Rattle.dnw_record_owned.proofs.Copying.{take_values}
 use Rattle.dnw_record_owned.proofs.Going.{fits_parts}
@@ -76,9 +77,9 @@ pub record ReadIn (r : Record) (pieces : List DataPiece) (v w : Encoder) (c : Li
   pub few : at.pointers + 127 * v.names ≤ 127 * w.names
   pub owner : value.owner ≡ in_mode v.encoding r.name.labels
   pub record_type : value.record_type ≡ type_of_code (type_code r.data.record_type)
-  pub class : value.class ≡ class_of_code (class_code r.dns_class)
+  pub class : value.class ≡ class_of_code (class_code r.data.class)
   pub ttl : value.ttl ≡ r.ttl
-  pub takes : TakesPieces (kinds_of r.data.record_type) (data_start value) (written_pieces v.encoding v.canonical pieces)
+  pub takes : TakesPieces (data_kinds r.data) (data_start value) (written_pieces v.encoding v.canonical pieces)
 
 -- And the candidates are the same names there and in this message.
 abbrev pub ReadInBoth : Record → List DataPiece → Encoder → Encoder → List ℕ → List ℕ → Type 0
@@ -90,13 +91,13 @@ behind_is twin more b i is size =
 
 -- the octets of a record after its owner, in the other message
 read_rest : (r : Record) (pieces : List DataPiece) (v u w : Encoder) (c name more : List ℕ) (len k : ℕ)
-    → w.bytes ≡ (v.bytes ++ name) ++ (fixed_and_length (type_code r.data.record_type) (class_code r.dns_class) r.ttl len ++ more)
+    → w.bytes ≡ (v.bytes ++ name) ++ (fixed_and_length (type_code r.data.record_type) (class_code r.data.class) r.ttl len ++ more)
     → NameAt (c ++ name) (length c) (in_mode v.encoding r.name.labels) (length (c ++ name)) k → len ≡ length more → AnyNumbersFit r
     → length c + length name + 10 + length more ≤ 65535 → k + 127 * v.names ≤ 127 * w.names
-    → TakesPieces (kinds_of r.data.record_type) (behind ((((c ++ name) ++ type_class_ttl r) ++ to_be_bytes w16 len) ++ []) more) (written_pieces v.encoding v.canonical pieces)
+    → TakesPieces (data_kinds r.data) (behind ((((c ++ name) ++ type_class_ttl r) ++ to_be_bytes w16 len) ++ []) more) (written_pieces v.encoding v.canonical pieces)
     → All (InBoth u.bytes ((((c ++ name) ++ type_class_ttl r) ++ to_be_bytes w16 len) ++ more)) w.candidates → ReadInBoth r pieces v w u.bytes c
 read_rest r pieces v u w c name more len k bytes read size fits small few takes candidates =
-    let fields_with = fixed_and_length (type_code r.data.record_type) (class_code r.dns_class) r.ttl in
+    let fields_with = fixed_and_length (type_code r.data.record_type) (class_code r.data.class) r.ttl in
     let fields = fields_with len in
     let eight = type_class_ttl r in
     let two = to_be_bytes w16 len in
@@ -126,7 +127,7 @@ read_rest r pieces v u w c name more len k bytes read size fits small few takes 
         record_type = kind_is;
         class = class_is;
         ttl = ttl_is;
-        takes = subst (λ d. TakesPieces (kinds_of r.data.record_type) d (written_pieces v.encoding v.canonical pieces)) (from ∙ sym start) takes;
+        takes = subst (λ d. TakesPieces (data_kinds r.data) d (written_pieces v.encoding v.canonical pieces)) (from ∙ sym start) takes;
       },
       rw twin_is at candidates,
     )
@@ -156,14 +157,14 @@ reserved_both a d ca eight two e end fixed all =
     (subst (λ b. All (InBoth b ((ca ++ eight) ++ two)) a.candidates) (sym whole) longer)
 
 read_in : (r : Record) (pieces : List DataPiece) (v a d u w : Encoder) (c : List ℕ) → v.offset ≡ length v.bytes → length v.bytes ≡ length c
-    → v.max_size ≤ max_message → All (InBoth v.bytes c) v.candidates → HasPieces (kinds_of r.data.record_type) r.data.octets pieces → AnyNumbersFit r
+    → v.max_size ≤ max_message → All (InBoth v.bytes c) v.candidates → HasPieces (data_kinds r.data) r.data.octets pieces → AnyNumbersFit r
     → EmitsName r.name v (Ok tt) a → Writes a (type_class_ttl r) (Ok tt) d → HasRoom d 2 → EmitsRData r.data (reserved d 2) (Ok tt) u
     → w ≡ with_length u d.offset → ReadInBoth r pieces v w u.bytes c
 read_in r pieces v a d u w c e long small stand has fit owner fixed room (others, has', one) is =
     let after : a.names ≤ w.names =
     omega (arith, (counts_parts (parts_of others d.encoding d.canonical) _ u one).on, ap (λ (x : Encoder). x.names) fixed.1, ap (λ (x : Encoder). x.names) is) in
     let eight = type_class_ttl r in
-    let kinds = kinds_of r.data.record_type in
+    let kinds = data_kinds r.data in
     let n = name_both r.name v a c e long stand owner in
     let fa = frame_name r.name v (Ok tt) a e owner in
     let fd = frame a eight (Ok tt) d fa.ends fixed in
@@ -200,7 +201,7 @@ merged u b c cs one two =
     (λ k y lt. (one k y lt, two k y lt))
 
 pub record_both : (r : Record) (pieces : List DataPiece) (v w : Encoder) (c : List ℕ) → v.offset ≡ length v.bytes → length v.bytes ≡ length c
-    → v.max_size ≤ max_message → All (InBoth v.bytes c) v.candidates → HasPieces (kinds_of r.data.record_type) r.data.octets pieces
+    → v.max_size ≤ max_message → All (InBoth v.bytes c) v.candidates → HasPieces (data_kinds r.data) r.data.octets pieces
     → EmitsAnyRecord r v (Ok tt) w → ReadInBoth r pieces v w w.bytes c
 record_both r pieces v w c e long small stand has (fit, (a, owner, (d, fixed, (room, u, one, is)))) =
     let itself : All (InBoth v.bytes v.bytes) v.candidates = All-weaker (InBoth v.bytes c) (InBoth v.bytes v.bytes) (λ x (ls, here, there). (ls, here, here)) v.candidates stand in
@@ -219,4 +220,14 @@ any_records_are_read r pieces v w e small stand has h =
     let left = subst (λ y. All (InBoth w.bytes y) w.candidates) (whole ∙ sym (take_all_lem w.offset w.bytes ends)) both in
     let keeps : CandidatesAreRead w =
     All-weaker (InBoth w.bytes (so_far w)) (λ c. (ls : List (List ℕ)) × ReadsAs (so_far w) c.0 ls) (λ c (ls, _, found). (ls, found)) w.candidates left in
-    (b.value, at, b.owner, b.record_type, b.class, b.ttl, take_values b.value.start (kinds_of r.data.record_type) (data_start b.value) (written_pieces v.encoding v.canonical pieces) b.takes, keeps)
+    let kinds = read_kinds r b.value pieces v.encoding v.canonical b.class b.record_type has b.takes in (
+      b.value,
+      at,
+      b.owner,
+      b.record_type,
+      b.class,
+      b.ttl,
+      kinds,
+      take_values b.value.start (data_kinds r.data) (data_start b.value) (written_pieces v.encoding v.canonical pieces) b.takes,
+      keeps,
+    )

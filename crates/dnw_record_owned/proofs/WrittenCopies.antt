@@ -5,6 +5,7 @@ use Rattle.std.specs.Result.{is_err}
 use Rattle.std.proofs.lemmas.Bool.{false≢true}
 use Rattle.dnw_base.specs.Decoder.{Decoder}
 use Rattle.dnw_record_owned.specs.declared.rdata.RDataError.{RDataError}
+use Rattle.dnw_base.specs.declared.dns_class.DNSClass.{DNSClass}
 use Rattle.dnw_base.specs.declared.record_type.RecordType.{RecordType}
 use Rattle.dnw_write.specs.Encoder.{Encoder, Writes, reserved}
 use Rattle.dnw_write.specs.Emitting.{Outcome}
@@ -13,10 +14,11 @@ use Rattle.dnw_record.specs.Parts.{EmitsSized, EmitsWireParts, Write}
 use Rattle.dnw_record.specs.Records.{RecordValue}
 use Rattle.dnw_record_owned.specs.declared.record.Record.{Record}
 use Rattle.dnw_record_owned.specs.declared.rdata.RDataError.TheVariants.{Field, Memory}
-use Rattle.dnw_record_owned.specs.DataPieces.{DataPiece, DataValue, IsData, IsDataOfType, kinds_of, octets_of}
-use Rattle.dnw_record_owned.specs.DataCopies.{Copies, FailsToCopy, alone}
+use Rattle.dnw_record_owned.specs.DataPieces.{DataPiece, DataValue, IsData, IsDataOfType, data_kinds, kinds_of, octets_of}
+use Rattle.dnw_record_owned.specs.DataCopies.{Copies, FailsToCopy, alone, data_start, record_kinds}
 use Rattle.dnw_record_owned.specs.AnyRecords.{AnyNumbersFit, EmitsAnyFields, EmitsCopyOf, EmitsRData, HasFields, IsCopyOf, parts_of, type_class_ttl}
 use Rattle.dnw_record_owned.specs.Inside.Walking.{EmitsFieldsOf, EmitsPieces, IsReadable, copy_with}
+use Rattle.dnw_record_owned.proofs.Alike.{copied_kinds}
 use Rattle.dnw_record_owned.proofs.AnyRecords.{whole_pieces}
 use Rattle.dnw_write.specs.Checkpoints.{checkpoint_of, rewound}
 use Rattle.dnw_record_owned.proofs.Copying.{not_both}
@@ -24,10 +26,10 @@ use Rattle.dnw_record_owned.proofs.Going.{GoesOn, on_fields}
 use Rattle.dnw_record_owned.proofs.Pieces.{are_pieces, pieces_unique}
 
 -- what is read of a decoder is written as the data that are a copy of it
-pub as_data : (x : DataValue) (start : Decoder) → Copies (kinds_of x.record_type) start x.octets → (v : Encoder) (outcome : Outcome) (w : Encoder)
-    → EmitsPieces (kinds_of x.record_type) start v outcome w → EmitsRData x v outcome w
+pub as_data : (x : DataValue) (start : Decoder) → Copies (data_kinds x) start x.octets → (v : Encoder) (outcome : Outcome) (w : Encoder)
+    → EmitsPieces (data_kinds x) start v outcome w → EmitsRData x v outcome w
 as_data x start (copied, read, is) v outcome w (pieces, takes, h) =
-    let kinds = kinds_of x.record_type in
+    let kinds = data_kinds x in
     let same = pieces_unique kinds start pieces copied takes read in (
       copied,
       record { are = are_pieces kinds start copied read; whole = is },
@@ -35,21 +37,24 @@ as_data x start (copied, read, is) v outcome w (pieces, takes, h) =
     )
 
 -- data are a copy of themselves
-pub own_copy : (x : DataValue) → IsDataOfType x → Copies (kinds_of x.record_type) (alone x.octets) x.octets
-own_copy x (pieces, has) = (pieces, whole_pieces (kinds_of x.record_type) x.octets pieces has, has.whole)
+pub own_copy : (x : DataValue) → IsDataOfType x → Copies (data_kinds x) (alone x.octets) x.octets
+own_copy x (pieces, has) = (pieces, whole_pieces (data_kinds x) x.octets pieces has, has.whole)
 
-pub readable : (x : DataValue) → IsDataOfType x → IsReadable (kinds_of x.record_type) (alone x.octets)
+pub readable : (x : DataValue) → IsDataOfType x → IsReadable (data_kinds x) (alone x.octets)
 readable x has = let (pieces, takes, is) = own_copy x has in (pieces, takes)
 
 -- octets that are data are copied as they are
-pub kept : (record_type : RecordType) (octets : List ℕ) (result : Result DataValue RDataError)
-    → IfOk result (λ r. (r.record_type ≡ record_type) × Copies (kinds_of record_type) (alone octets) r.octets)
-    → IfErr result (FailsToCopy (kinds_of record_type) (alone octets))
-    → IsData (kinds_of record_type) octets → MatchResult result (λ r. r.octets ≡ octets) (λ e. e ≡ Memory)
-kept t octets (Ok r) (_, (pieces', takes', is)) err (pieces, has) =
-    is ∙ ap octets_of (pieces_unique (kinds_of t) (alone octets) pieces' pieces takes' (whole_pieces (kinds_of t) octets pieces has)) ∙ sym has.whole
-kept t octets (Err Memory) ok err (pieces, has) = refl
-kept t octets (Err (Field error)) ok err (pieces, has) = absurd (not_both (kinds_of t) (alone octets) pieces error (whole_pieces (kinds_of t) octets pieces has) err)
+pub kept : (class : DNSClass) (record_type : RecordType) (octets : List ℕ) (result : Result DataValue RDataError)
+    → IfOk result (λ r. (r.class ≡ class) × (r.record_type ≡ record_type) × Copies (kinds_of class record_type octets) (alone octets) r.octets)
+    → IfErr result (FailsToCopy (kinds_of class record_type octets) (alone octets))
+    → IsData (kinds_of class record_type octets) octets → MatchResult result (λ r. r.octets ≡ octets) (λ e. e ≡ Memory)
+kept c t octets (Ok r) (_, _, (pieces', takes', is)) err (pieces, has) =
+    let kinds = kinds_of c t octets in
+    is ∙ ap octets_of (pieces_unique kinds (alone octets) pieces' pieces takes' (whole_pieces kinds octets pieces has)) ∙ sym has.whole
+kept c t octets (Err Memory) ok err (pieces, has) = refl
+kept c t octets (Err (Field error)) ok err (pieces, has) =
+    let kinds = kinds_of c t octets in
+    absurd (not_both kinds (alone octets) pieces error (whole_pieces kinds octets pieces has) err)
 
 -- what is written after its length is the same in other words
 sized_as : (one two : Write) → ((v : Encoder) (outcome : Outcome) (w : Encoder) → one v outcome w → two v outcome w)
@@ -64,12 +69,20 @@ then_last : (r : Record) (v a d : Encoder) (outcome : Outcome) (w : Encoder) →
 then_last r v a d (Ok tt) w owner fixed rdata = (a, owner, (d, fixed, rdata))
 then_last r v a d (Err error) w owner fixed rdata = inr (a, owner, inr (d, fixed, rdata))
 
-pub fields_on : (r : Record) (start : Decoder) (v a d : Encoder) (outcome : Outcome) (w : Encoder) → Copies (kinds_of r.data.record_type) start r.data.octets
-    → EmitsName r.name v (Ok tt) a → Writes a (type_class_ttl r) (Ok tt) d → EmitsSized (EmitsPieces (kinds_of r.data.record_type) start) d outcome w
+pub fields_on : (r : Record) (start : Decoder) (v a d : Encoder) (outcome : Outcome) (w : Encoder) → Copies (data_kinds r.data) start r.data.octets
+    → EmitsName r.name v (Ok tt) a → Writes a (type_class_ttl r) (Ok tt) d → EmitsSized (EmitsPieces (data_kinds r.data) start) d outcome w
     → EmitsAnyFields r v outcome w
 fields_on r start v a d outcome w copied owner fixed rdata =
     then_last r v a d outcome w owner fixed
-    (sized_as (EmitsPieces (kinds_of r.data.record_type) start) (EmitsRData r.data) (as_data r.data start copied) d outcome w rdata)
+    (sized_as (EmitsPieces (data_kinds r.data) start) (EmitsRData r.data) (as_data r.data start copied) d outcome w rdata)
+
+pub copied_on : (x : RecordValue) (octets : List ℕ) (v a d : Encoder) (outcome : Outcome) (w : Encoder) → Copies (record_kinds x) (data_start x) octets
+    → EmitsName (copy_with x octets).name v (Ok tt) a → Writes a (type_class_ttl (copy_with x octets)) (Ok tt) d
+    → EmitsSized (EmitsPieces (record_kinds x) (data_start x)) d outcome w → EmitsAnyFields (copy_with x octets) v outcome w
+copied_on x octets v a d outcome w copied owner fixed rdata =
+    let same : data_kinds (copy_with x octets).data ≡ record_kinds x = copied_kinds x.class x.record_type (data_start x) octets copied in
+    fields_on (copy_with x octets) (data_start x) v a d outcome w (subst (λ kinds. Copies kinds (data_start x) octets) (sym same) copied) owner fixed
+    (subst (λ kinds. EmitsSized (EmitsPieces kinds (data_start x)) d outcome w) (sym same) rdata)
 
 -- the copy of a record whose data are fields of its type
 pub some_copy : (x : RecordValue) → HasFields x → (r : Record) × IsCopyOf x r

@@ -20,7 +20,7 @@ use Rattle.dnw_record.specs.RecordFields.{record_fields}
 use Rattle.dnw_record.specs.Records.{RecordAt, RecordValue, fixed_size}
 use Rattle.dnw_record.specs.RecordLaws.{FailsForSize, KeepsBounded}
 use Rattle.dnw_record_owned.specs.declared.record.Record.{Record}
-use Rattle.dnw_record_owned.specs.DataPieces.{DataPiece, DataValue, HasPieces, kinds_of, name_piece, octets_of, octets_piece}
+use Rattle.dnw_record_owned.specs.DataPieces.{DataPiece, DataValue, HasPieces, data_kinds, name_piece, octets_of, octets_piece}
 use Rattle.dnw_record_owned.specs.DataCopies.{alone}
 use Rattle.dnw_record_owned.specs.AnyRecords.{EmitsAnyRecord, EmitsRData, mode_of}
 
@@ -96,15 +96,15 @@ abbrev pub NamesKeepRead : Type 0
 NamesKeepRead = (x : NameValue) (v w : Encoder) → v.offset ≡ length v.bytes → CandidatesAreRead v → EmitsName x v (Ok tt) w → CandidatesAreRead w
 
 -- An accepted record that began at the buffer's end is read there at once: its owner in the encoder's mode, its type and class
--- by their codes, and its time to live. The fields of its data are the values of its pieces as they are written, also through
--- pointers. At the offset of every candidate a name is read again.
+-- by their codes, and its time to live. Its data have the same kinds of field, and the fields are the values of its pieces as they
+-- are written, also through pointers. At the offset of every candidate a name is read again.
 abbrev pub AnyRecordsAreRead : Type 0
 AnyRecordsAreRead = (r : Record) (pieces : List DataPiece) (v w : Encoder) → v.offset ≡ length v.bytes → v.max_size ≤ max_message → CandidatesAreRead v
-    → HasPieces (kinds_of r.data.record_type) r.data.octets pieces → EmitsAnyRecord r v (Ok tt) w
+    → HasPieces (data_kinds r.data) r.data.octets pieces → EmitsAnyRecord r v (Ok tt) w
     → (x : RecordValue) × RecordAt w.bytes v.offset x w.offset × (x.owner ≡ in_mode v.encoding r.name.labels)
-    × (x.record_type ≡ type_of_code (type_code r.data.record_type)) × (x.class ≡ class_of_code (class_code r.dns_class)) × (x.ttl ≡ r.ttl)
-    × FieldsAre x.start (kinds_of r.data.record_type) (record_fields x).reader
-    (piece_values (kinds_of r.data.record_type) (written_pieces v.encoding v.canonical pieces)) None
+    × (x.record_type ≡ type_of_code (type_code r.data.record_type)) × (x.class ≡ class_of_code (class_code r.data.class)) × (x.ttl ≡ r.ttl)
+    × ((record_fields x).kinds ≡ data_kinds r.data)
+    × FieldsAre x.start (data_kinds r.data) (record_fields x).reader (piece_values (data_kinds r.data) (written_pieces v.encoding v.canonical pieces)) None
     × CandidatesAreRead w
 
 -- ---- octets
@@ -113,7 +113,7 @@ AnyRecordsAreRead = (r : Record) (pieces : List DataPiece) (v w : Encoder) → v
 -- written: so canonical form goes by the lowered labels of names and the other octets alone.
 abbrev pub WholeDataAreOctets : Type 0
 WholeDataAreOctets = (x : DataValue) (pieces : List DataPiece) (v w : Encoder) → v.offset ≡ length v.bytes
-    → HasPieces (kinds_of x.record_type) x.octets pieces → is_compressed (mode_of Compressible v.encoding v.canonical) ≡ false → EmitsRData x v (Ok tt) w
+    → HasPieces (data_kinds x) x.octets pieces → is_compressed (mode_of Compressible v.encoding v.canonical) ≡ false → EmitsRData x v (Ok tt) w
     → w.bytes ≡ v.bytes ++ octets_of (written_pieces v.encoding v.canonical pieces)
 
 -- Without compression and canonical form these are the octets of the data.

@@ -19,8 +19,8 @@ use Rattle.dnw_write.specs.Checkpoints.{checkpoint_of, rewound}
 use Rattle.dnw_record.specs.Records.{RecordValue}
 use Rattle.dnw_record.specs.Parts.{EmitsSized, EmitsWireParts, Then, WirePart, bytes_part, name_part}
 use Rattle.dnw_record_owned.specs.declared.record.Record.{Record}
-use Rattle.dnw_record_owned.specs.DataCopies.{Copies, data_start}
-use Rattle.dnw_record_owned.specs.DataPieces.{DataValue, HasPieces, DataPiece, kinds_of, name_piece, octets_piece}
+use Rattle.dnw_record_owned.specs.DataCopies.{Copies, data_start, record_kinds}
+use Rattle.dnw_record_owned.specs.DataPieces.{DataValue, HasPieces, DataPiece, data_kinds, name_piece, octets_piece}
 
 -- ---- data
 
@@ -52,7 +52,7 @@ parts_of pieces mode canonical = parts_after [] pieces mode canonical
 -- The octets are written as the parts of their pieces.
 abbrev pub EmitsRData : Emits DataValue
 EmitsRData x v outcome w =
-    (pieces : List DataPiece) × HasPieces (kinds_of x.record_type) x.octets pieces
+    (pieces : List DataPiece) × HasPieces (data_kinds x) x.octets pieces
     × EmitsWireParts (parts_of pieces v.encoding v.canonical) v outcome w
 
 -- ---- records
@@ -62,14 +62,14 @@ abbrev pub fixed_octets : RecordType → DNSClass → ℕ → List ℕ
 fixed_octets record_type class ttl = to_be_bytes w16 (type_code record_type) ++ (to_be_bytes w16 (class_code class) ++ to_be_bytes w32 ttl)
 
 abbrev pub type_class_ttl : Record → List ℕ
-type_class_ttl r = fixed_octets r.data.record_type r.dns_class r.ttl
+type_class_ttl r = fixed_octets r.data.record_type r.data.class r.ttl
 
 -- The record is a copy of one of a message: with its owner, class and time to live, and its data, in which every name has its
 -- wire form.
 abbrev pub IsCopyOf : RecordValue → Record → Type 0
 IsCopyOf x r =
-    (r.name ≡ name_of x.owner) × (r.dns_class ≡ x.class) × (r.ttl ≡ x.ttl) × (r.data.record_type ≡ x.record_type)
-    × Copies (kinds_of x.record_type) (data_start x) r.data.octets
+    (r.name ≡ name_of x.owner) × (r.data.class ≡ x.class) × (r.ttl ≡ x.ttl) × (r.data.record_type ≡ x.record_type)
+    × Copies (record_kinds x) (data_start x) r.data.octets
 
 -- the owner, the type, the class, the time to live, and the data with their length
 abbrev pub EmitsAnyFields : Emits Record
@@ -80,16 +80,16 @@ abbrev pub FixedFit : RecordType → DNSClass → ℕ → Type 0
 FixedFit record_type class ttl = (type_code record_type < 2 ^ 16) × (class_code class < 2 ^ 16) × (ttl < 2 ^ 32)
 
 abbrev pub AnyNumbersFit : Record → Type 0
-AnyNumbersFit r = FixedFit r.data.record_type r.dns_class r.ttl
+AnyNumbersFit r = FixedFit r.data.record_type r.data.class r.ttl
 
 -- A record is written whole, or undone whole: then the encoder is back at its checkpoint, whichever field failed.
 abbrev pub EmitsAnyRecord : Emits Record
 EmitsAnyRecord r v (Ok done) w = AnyNumbersFit r × EmitsAnyFields r v (Ok tt) w
 EmitsAnyRecord r v (Err error) w = (u : Encoder) × EmitsAnyFields r v (Err error) u × (w ≡ rewound u (checkpoint_of v))
 
--- The data of a record of a message are fields of its type, up to their end.
+-- The data of a record of a message are fields of its class and type, up to their end.
 abbrev pub HasFields : RecordValue → Type 0
-HasFields x = (octets : List ℕ) × Copies (kinds_of x.record_type) (data_start x) octets
+HasFields x = (octets : List ℕ) × Copies (record_kinds x) (data_start x) octets
 
 -- A record of a message is written as its copy is: whole or not at all.
 abbrev pub EmitsCopyOf : Emits RecordValue

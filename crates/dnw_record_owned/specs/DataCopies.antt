@@ -1,5 +1,7 @@
 -- The data of a record are copied from a message, where names may have pointers.
-use Rattle.std.specs.Prelude.{◌≡◌, ℕ, None, Some, List, [], ◌∷◌, length}
+use Rattle.std.specs.Prelude.{◌≡◌, ℕ, None, Some, List, [], ◌∷◌, drop, length}
+use Rattle.dnw_base.specs.declared.dns_class.DNSClass.{DNSClass}
+use Rattle.dnw_base.specs.declared.record_type.RecordType.{RecordType}
 use Rattle.dnw_base.specs.Decoder.{Decoder, HasLeft, advanced}
 use Rattle.dnw_name_read.specs.Reading.{TakesName}
 use Rattle.dnw_data.specs.declared.kind.Kind.{Kind}
@@ -12,15 +14,23 @@ use Rattle.dnw_record.specs.Records.{RecordValue}
 use Rattle.dnw_record.specs.RecordFields.{record_fields}
 use Rattle.dnw_record_owned.specs.declared.rdata.RDataError.{RDataError}
 use Rattle.dnw_record_owned.specs.declared.rdata.RDataError.TheVariants.{Field, Memory}
-use Rattle.dnw_record_owned.specs.DataPieces.{DataPiece, name_piece, octets_of, octets_piece}
+use Rattle.dnw_record_owned.specs.DataPieces.{DataPiece, kinds_of, name_piece, octets_of, octets_piece}
 
 -- data that stand alone, from their start
 abbrev pub alone : List ℕ → Decoder
 alone octets = record { bytes = octets; index = 0 }
 
+-- the kinds of the fields of data that start there, by class and type
+abbrev pub kinds_at : DNSClass → RecordType → Decoder → List Kind
+kinds_at class record_type d = kinds_of class record_type (drop d.index d.bytes)
+
 -- the data of a record of a message, from their start
 abbrev pub data_start : RecordValue → Decoder
 data_start record_value = (record_fields record_value).reader
+
+-- the kinds of their fields
+abbrev pub record_kinds : RecordValue → List Kind
+record_kinds record_value = (record_fields record_value).kinds
 
 -- A name is read, and this is its piece.
 abbrev pub TakesNamePiece : NameForm → Decoder → DataPiece → Decoder → Type 0

@@ -1,7 +1,9 @@
 -- The octets of the data of a record, with every name in its wire form: they are made of pieces, one for each field.
 use Rattle.std.specs.Prelude.{◌≡◌, ℕ, None, List, [], ◌∷◌, ◌++◌, length}
 use Rattle.std.specs.List.{flat_map}
+use Rattle.dnw_base.specs.declared.dns_class.DNSClass.{DNSClass}
 use Rattle.dnw_base.specs.declared.record_type.RecordType.{RecordType}
+use Rattle.dnw_base.specs.DnsClasses.{class_code}
 use Rattle.dnw_base.specs.RecordTypes.{type_code}
 use Rattle.dnw_base.specs.Names.{AreLabels, wire}
 use Rattle.dnw_data.specs.declared.kind.Kind.{Kind}
@@ -46,15 +48,20 @@ pub record HasPieces (kinds : List Kind) (octets : List ℕ) (pieces : List Data
 abbrev pub IsData : List Kind → List ℕ → Type 0
 IsData kinds octets = (pieces : List DataPiece) × HasPieces kinds octets pieces
 
--- the kinds of the fields of a type
-abbrev pub kinds_of : RecordType → List Kind
-kinds_of record_type = fields_of (type_code record_type)
+-- the kinds of the fields of these data, by class and type
+abbrev pub kinds_of : DNSClass → RecordType → List ℕ → List Kind
+kinds_of class record_type octets = fields_of (class_code class) (type_code record_type) octets
 
--- The data of a record: its type, and their octets.
+-- The data of a record: its class, its type, and their octets.
 pub record DataValue : Type 0 where
+  pub class : DNSClass
   pub record_type : RecordType
   pub octets : List ℕ
 
--- They are data of their type.
+-- the kinds of their fields
+abbrev pub data_kinds : DataValue → List Kind
+data_kinds x = kinds_of x.class x.record_type x.octets
+
+-- They are data of their class and type.
 abbrev pub IsDataOfType : DataValue → Type 0
-IsDataOfType x = IsData (kinds_of x.record_type) x.octets
+IsDataOfType x = IsData (data_kinds x) x.octets

@@ -8,7 +8,7 @@ use Rattle.dnw_record.specs.declared.record.WireRecord.{WireRecord}
 use Rattle.dnw_record.specs.declared.record.WireData.{WireData}
 use Rattle.dnw_record.specs.declared.record.WireData.TheVariants.{Bytes, Name}
 use Rattle.dnw_record_owned.specs.declared.record.Record.{Record}
-use Rattle.dnw_record_owned.specs.DataPieces.{kinds_of}
+use Rattle.dnw_record_owned.specs.DataPieces.{data_kinds, kinds_of}
 use Rattle.dnw_record_owned.specs.DataCopies.{Copies, alone}
 use Rattle.dnw_record_owned.specs.AnyRecords.{encoding_of}
 
@@ -20,8 +20,8 @@ wire_data_octets (Name name encoding) = wire name.labels
 -- The record has these data, read as a message that holds nothing else, and the owner, type, class and time to live.
 abbrev pub IsOfWireRecord : WireRecord → Record → Type 0
 IsOfWireRecord x r =
-    (r.name ≡ x.owner) × (r.dns_class ≡ x.class) × (r.ttl ≡ x.ttl) × (r.data.record_type ≡ x.record_type)
-    × Copies (kinds_of x.record_type) (alone (wire_data_octets x.rdata)) r.data.octets
+    (r.name ≡ x.owner) × (r.data.class ≡ x.class) × (r.ttl ≡ x.ttl) × (r.data.record_type ≡ x.record_type)
+    × Copies (kinds_of x.class x.record_type (wire_data_octets x.rdata)) (alone (wire_data_octets x.rdata)) r.data.octets
 
 -- None of these kinds is a name.
 abbrev pub HaveNoName : List Kind → Type 0
@@ -43,5 +43,5 @@ HaveNameAndOthers fields = (¬ (HaveNoName fields)) × ((form : NameForm) → fi
 -- The records are the same: with this owner, type, class and time to live, and these data.
 abbrev pub SaysRecord : Record → WireRecord → Type 0
 SaysRecord r x =
-    (x.owner ≡ r.name) × (x.record_type ≡ r.data.record_type) × (x.class ≡ r.dns_class) × (x.ttl ≡ r.ttl)
-    × SaysData (kinds_of r.data.record_type) r.data.octets x.rdata
+    (x.owner ≡ r.name) × (x.record_type ≡ r.data.record_type) × (x.class ≡ r.data.class) × (x.ttl ≡ r.ttl)
+    × SaysData (data_kinds r.data) r.data.octets x.rdata

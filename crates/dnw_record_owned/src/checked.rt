@@ -2,8 +2,7 @@
 ghost use Rattle.std.specs.Prelude.{◌≡◌, ℕ, List, [], IfErr, OnOk};
 ghost use Rattle.dnw_write.specs.EncoderValue.{value, lender};
 ghost use Rattle.dnw_record_owned.specs.declared.rdata.RDataError.{RDataError};
-ghost use Rattle.dnw_record_owned.specs.DataPieces.{kinds_of};
-ghost use Rattle.dnw_record_owned.specs.DataCopies.{Copies, FailsToCopy, data_start};
+ghost use Rattle.dnw_record_owned.specs.DataCopies.{Copies, FailsToCopy, data_start, record_kinds};
 ghost use Rattle.dnw_record_owned.specs.AnyRecords.{AnyNumbersFit, EmitsCopyOf, HasFields};
 ghost use Rattle.dnw_record_owned.specs.AnyRecordFrames.{frame_copy};
 ghost use Rattle.dnw_record_owned.specs.Inside.Walking.{EmitsFieldsOf, copy_with};
@@ -14,13 +13,12 @@ use dnw_base::error::{DecodeError, ProtoResult};
 use dnw_data::field::Field;
 use dnw_data::fields::FieldError;
 use dnw_data::kind::Kind;
-use dnw_data::table;
 use dnw_record::record::RecordRef;
 use dnw_write::binary::BinEncodable;
 use dnw_write::encoder::BinEncoder;
 use std::marker::Model;
 
-/// A record of a message whose data are fields of its type, so that it can be written into another message: from where it is,
+/// A record of a message whose data are fields of its class and type, so that it can be written into another message: from where it is,
 /// without a copy. Nothing here allocates.
 ///
 /// A `RecordRef` alone is passed on as the octets that it has, which pointers among them forbid. This is written as a
@@ -45,16 +43,16 @@ impl<'r> Model for CheckedRecord<'r> {
 impl<'r> CheckedRecord<'r> {
     ghost use Rattle.std.specs.Prelude.{IfOk, IfErr, IsOk};
 
-    /// Checks that the data of a record are fields of the kinds of its type, up to their end. Names in them may have
+    /// Checks that the data of a record are fields of the kinds of its class and type, up to their end. Names in them may have
     /// pointers.
     ///
     /// It fails with the first field that is none, as `Record::from_ref` does.
     pub fn new(item: RecordRef<'r>) -> Result<Self, FieldError>
         ensures ok { IfOk result (λ checked. (checked ≡ item.entry) × HasFields item.entry) }
-        ensures err { IfErr result (λ error. FailsToCopy (kinds_of item.entry.record_type) (data_start item.entry) (RDataError.Field error)) }
+        ensures err { IfErr result (λ error. FailsToCopy (record_kinds item.entry) (data_start item.entry) (RDataError.Field error)) }
         ensures accepts { HasFields item.entry → IsOk result }
     {
-        check_fields(item.data_decoder(), table::fields_of(item.record_type()))?;
+        check_fields(item.data_decoder(), item.kinds())?;
         Ok(CheckedRecord { item })
     }
 }
@@ -113,5 +111,5 @@ fn emit_fields(item: &RecordRef<'_>, encoder: &mut BinEncoder<'_>) -> ProtoResul
     let record_type = item.record_type();
     item.owner().emit(encoder)?;
     encoder.emit_vec(&fixed_octets(record_type, item.class(), item.ttl()))?;
-    emit_sized(item.data_decoder(), table::fields_of(record_type), encoder)
+    emit_sized(item.data_decoder(), item.kinds(), encoder)
 }

@@ -3,9 +3,10 @@ ghost use Rattle.std.specs.Prelude.{◌≡◌, ◌+◌, ◌<◌, ◌^◌, ◌++�
 ghost use Rattle.std.specs.List.{AllByRecursion, flat_map};
 ghost use Rattle.dnw_data.specs.Values.{seen};
 ghost use Rattle.dnw_data.specs.FieldWires.{IsFieldValue, field_wire};
-ghost use Rattle.dnw_record_owned.specs.GivenFields.{AreFieldsOf, FailsGivenFields, IsFieldOf};
+ghost use Rattle.dnw_record_owned.specs.GivenFields.{AreFieldsOf, FailsGivenFields, IsFieldOf, front, front_of};
 
 use crate::rdata::RData;
+use dnw_base::dns_class::DNSClass;
 use dnw_base::record_type::RecordType;
 use dnw_data::field::Field;
 use dnw_data::kind::{Kind, ListKind};
@@ -60,15 +61,16 @@ impl RData {
     ghost use Rattle.dnw_data.specs.Walks.{FieldsAre};
     ghost use Rattle.dnw_record_owned.specs.declared.from_fields.FromFieldsError.TheVariants.{Memory};
     ghost use Rattle.dnw_record_owned.specs.DataCopies.{alone};
-    ghost use Rattle.dnw_record_owned.specs.DataPieces.{kinds_of};
-    ghost use Rattle.dnw_record_owned.specs.GivenFields.{AreFieldsOf, FailsGivenFields};
+    ghost use Rattle.dnw_record_owned.specs.DataPieces.{data_kinds};
+    ghost use Rattle.dnw_record_owned.specs.GivenFields.{AreFieldsOf, FailsGivenFields, given_kinds};
 
-    /// Creates data of these fields, which an iterator over the data yields again. They must be those of the type, by the
-    /// table of `dnw_data::table`.
+    /// Creates data of these fields, which an iterator over the data yields again. They must be those of the class and type,
+    /// by the table of `dnw_data::table`. Which fields A6 has depends on the first of them: no name follows a prefix without
+    /// bits. No fields are data of any type under NONE and ANY.
     ///
     /// ```
     /// let fields = [Field::U16(10), Field::Name(exchange.as_name_ref())];
-    /// let mail = RData::from_fields(alloc, RecordType::MX, &fields)?;
+    /// let mail = RData::from_fields(alloc, DNSClass::IN, RecordType::MX, &fields)?;
     /// ```
     ///
     /// It fails with `Mismatch` for the first field that is of another kind, or that no octets of its kind are: a `Counted`
@@ -78,21 +80,51 @@ impl RData {
     /// too many, and with `Memory` if an allocation fails.
     pub fn from_fields(
         alloc: Global,
+        class: DNSClass,
         record_type: RecordType,
         fields: &[Field<'_>],
     ) -> Result<Self, FromFieldsError>
-        ensures ok { IfOk result (λ r. (r.record_type ≡ record_type)
-            × FieldsAre 0 (kinds_of record_type) (alone r.octets) (map seen fields.now) None) }
-        ensures err { IfErr result (λ e. (e ≡ Memory) ⊎ FailsGivenFields 0 (kinds_of record_type) (map seen fields.now) e) }
+        ensures ok { IfOk result (λ r. (r.class ≡ class) × (r.record_type ≡ record_type)
+            × FieldsAre 0 (data_kinds r) (alone r.octets) (map seen fields.now) None) }
+        ensures err { IfErr result (λ e. (e ≡ Memory)
+            ⊎ FailsGivenFields 0 (given_kinds class record_type (map seen fields.now)) (map seen fields.now) e) }
 
         // It accepts the fields of the type, and no others; then it fails only for memory.
-        ensures only { OnOk result (AreFieldsOf (kinds_of record_type) (map seen fields.now)) }
-        ensures accepts { AreFieldsOf (kinds_of record_type) (map seen fields.now)
+        ensures only { OnOk result (AreFieldsOf (given_kinds class record_type (map seen fields.now)) (map seen fields.now)) }
+        ensures accepts { AreFieldsOf (given_kinds class record_type (map seen fields.now)) (map seen fields.now)
             → MatchResult result (λ r. Unit {0}) (λ e. e ≡ Memory) }
     {
         let mut octets = Vec::new(alloc);
-        append_fields(0, table::fields_of(record_type), fields, &mut octets)?;
-        Ok(RData::of_octets(record_type, octets))
+        let kinds = table::fields_of(class, record_type, front_of(fields));
+        append_fields(0, kinds, fields, &mut octets)?;
+        Ok(RData::of_octets(class, record_type, octets))
+    }
+}
+
+/// Returns octets that the data of these fields begin with, as far as the table looks at them.
+fn front_of<'f>(fields: &'f [Field<'_>]) -> &'f [u8]
+    ensures { result.now ≡ front_of (map seen fields.now) }
+{
+    match fields {
+        [] => &[],
+        [field, ..] => front(field),
+    }
+}
+
+/// Returns the octets of a field that may have none, or whose first one says what follows it; and one in place of those of
+/// another.
+fn front<'f>(field: &'f Field<'_>) -> &'f [u8]
+    ensures { result.now ≡ front (seen field.now) }
+{
+    match field {
+        Field::Octets(octets) => octets,
+        Field::Texts(items)
+        | Field::Types(items)
+        | Field::Params(items)
+        | Field::Prefixes(items)
+        | Field::Names(items) => items.as_bytes(),
+        Field::Shaped(shaped) => shaped.as_bytes(),
+        _ => &[1],
     }
 }
 
@@ -135,7 +167,7 @@ fn is_field_of(kind: Kind, field: &Field<'_>) -> bool
     match (kind, field) {
         (Kind::Name(_), Field::Name(_)) => true,
         (Kind::U8, Field::U8(_)) => true,
-        (Kind::U16, Field::U16(_)) => true,
+        (Kind::U16 | Kind::ChaosAddress, Field::U16(_)) => true,
         (Kind::U32, Field::U32(_)) => true,
         (Kind::U48 | Kind::LongTime, Field::U48(number)) => *number < 1 << 48,
         (Kind::U64 | Kind::Locator, Field::U64(_)) => true,

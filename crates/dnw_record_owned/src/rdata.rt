@@ -1,10 +1,11 @@
 //! The data of a record of any type.
 ghost use Rattle.std.specs.Prelude.{◌≡◌, ℕ, ◌≤◌, List, ◌++◌, length, IfOk, IfErr, MatchResult, OnOk};
-ghost use Rattle.dnw_record_owned.specs.DataPieces.{IsData, DataPiece, kinds_of, piece_octets};
+ghost use Rattle.dnw_record_owned.specs.DataPieces.{IsData, DataPiece, data_kinds, kinds_of, piece_octets};
 ghost use Rattle.dnw_record_owned.specs.Inside.Copying.{IsNoName};
-ghost use Rattle.dnw_record_owned.specs.DataCopies.{Copies, FailsPiece, FailsToCopy, TakesNamePiece, TakesOwnPiece, TakesPiece, alone};
+ghost use Rattle.dnw_record_owned.specs.DataCopies.{Copies, FailsPiece, FailsToCopy, TakesNamePiece, TakesOwnPiece, TakesPiece, alone, kinds_at};
 
 use dnw_base::decoder::BinDecoder;
+use dnw_base::dns_class::DNSClass;
 use dnw_base::error::DecodeError;
 use dnw_base::record_type::RecordType;
 use dnw_data::field::Field;
@@ -17,7 +18,7 @@ use std::alloc::{AllocError, Global};
 use std::marker::Model;
 use thiserror::Error;
 
-/// Why there are no data of a type.
+/// Why there are no data of a class and a type.
 #[derive(Debug, Drop, Error)]
 pub enum RDataError {
     /// A field is none of its kind, or octets are left after the last one.
@@ -50,56 +51,76 @@ impl From<AllocError> for RDataError {
     }
 }
 
-/// The data of a record of any type: the type, and the octets, with every name in its wire form (RFC 1035, section 3.1).
+/// The data of a record of any type: the class, the type, and the octets, with every name in its wire form (RFC 1035, section
+/// 3.1).
 ///
-/// They are always data of their type, by the table of `dnw_data::table`. A contract sees them as their type and octets.
+/// They are always data of their class and type, by the table of `dnw_data::table`. A contract sees them as class, type and
+/// octets.
 #[derive(Debug, Drop)]
 pub struct RData {
+    class: DNSClass,
     record_type: RecordType,
     octets: Vec<u8>,
 }
 
 impl Model for RData {
-    ghost use Rattle.dnw_record_owned.specs.DataPieces.{DataValue, IsData, kinds_of};
+    ghost use Rattle.dnw_record_owned.specs.DataPieces.{DataValue, IsDataOfType};
 
     ghost Value = { DataValue };
 
-    ghost view = { λ r. record { record_type = r.record_type; octets = r.octets.items } };
+    ghost view = { λ r. record { class = r.class; record_type = r.record_type; octets = r.octets.items } };
 
-    ghost invariant = { λ r. IsData (kinds_of r.record_type) r.octets.items };
+    ghost invariant = { λ r. IsDataOfType (record { class = r.class; record_type = r.record_type; octets = r.octets.items }) };
 }
 
 impl RData {
     ghost use Rattle.dnw_data.specs.Walks.{fields_at};
-    ghost use Rattle.dnw_record_owned.specs.DataCopies.{data_start};
-    ghost use Rattle.dnw_record_owned.specs.DataPieces.{IsDataOfType, kinds_of};
+    ghost use Rattle.dnw_record_owned.specs.DataCopies.{data_start, record_kinds};
+    ghost use Rattle.dnw_record_owned.specs.DataPieces.{IsDataOfType, data_kinds, kinds_of};
 
     /// Creates the data that these octets are, which are read as a message that holds nothing else: a name may have pointers
     /// to what is before it there.
     ///
-    /// It fails with `Field` if they are not fields of the kinds of the type up to their end, and with `Memory` if an
-    /// allocation fails.
-    pub fn new(alloc: Global, record_type: RecordType, octets: &[u8]) -> Result<Self, RDataError>
-        ensures ok { IfOk result (λ r. (r.record_type ≡ record_type) × Copies (kinds_of record_type) (alone octets.now) r.octets) }
-        ensures err { IfErr result (FailsToCopy (kinds_of record_type) (alone octets.now)) }
+    /// No octets are data of any type under NONE and ANY. It fails with `Field` if they are not fields of the kinds of the
+    /// class and type up to their end, and with `Memory` if an allocation fails.
+    pub fn new(
+        alloc: Global,
+        class: DNSClass,
+        record_type: RecordType,
+        octets: &[u8],
+    ) -> Result<Self, RDataError>
+        ensures ok { IfOk result (λ r. (r.class ≡ class) × (r.record_type ≡ record_type)
+            × Copies (kinds_of class record_type octets.now) (alone octets.now) r.octets) }
+        ensures err { IfErr result (FailsToCopy (kinds_of class record_type octets.now) (alone octets.now)) }
 
         // Octets that are such data with every name in its wire form are accepted, and stay as they are.
-        ensures kept { IsData (kinds_of record_type) octets.now
+        ensures kept { IsData (kinds_of class record_type octets.now) octets.now
             → MatchResult result (λ r. r.octets ≡ octets.now) (λ e. e ≡ RDataError.Memory) }
     {
-        RData::copied(alloc, record_type, BinDecoder::new(octets))
+        let kinds = table::fields_of(class, record_type, octets);
+        RData::copied(alloc, class, record_type, kinds, BinDecoder::new(octets))
     }
 
     /// Copies the data of a record of a message, in which names may have pointers.
     ///
-    /// It fails with `Field` if they are not fields of the kinds of the type up to their end, and with `Memory` if an
-    /// allocation fails.
+    /// It fails with `Field` if they are not fields of the kinds of the class and type up to their end, and with `Memory` if
+    /// an allocation fails.
     pub fn from_ref(alloc: Global, item: &RecordRef<'_>) -> Result<Self, RDataError>
-        ensures ok { IfOk result (λ r. (r.record_type ≡ item.now.record_type)
-            × Copies (kinds_of item.now.record_type) (data_start item.now) r.octets) }
-        ensures err { IfErr result (FailsToCopy (kinds_of item.now.record_type) (data_start item.now)) }
+        ensures ok { IfOk result (λ r. (r.class ≡ item.now.class) × (r.record_type ≡ item.now.record_type)
+            × Copies (record_kinds item.now) (data_start item.now) r.octets) }
+        ensures err { IfErr result (FailsToCopy (record_kinds item.now) (data_start item.now)) }
     {
-        RData::copied(alloc, item.record_type(), item.data_decoder())
+        let record_type = item.record_type();
+        let start = item.data_decoder();
+        RData::copied(alloc, item.class(), record_type, item.kinds(), start)
+    }
+
+    /// Returns the class.
+    #[inline(always)]
+    pub fn class(&self) -> DNSClass
+        ensures { result ≡ self.now.class }
+    {
+        self.class
     }
 
     /// Returns the type.
@@ -122,34 +143,40 @@ impl RData {
     /// Returns an iterator over the fields. No error comes.
     #[inline(always)]
     pub fn fields(&self) -> Fields<'_>
-        ensures { result ≡ fields_at self.now.octets 0 (kinds_of self.now.record_type) }
+        ensures { result ≡ fields_at self.now.octets 0 (data_kinds self.now) }
     {
-        Fields::new(self.octets.as_slice(), 0, self.record_type)
+        Fields::new(self.octets.as_slice(), 0, self.class, self.record_type)
     }
 
     /// Creates the data that these octets are.
-    pub(crate) fn of_octets(record_type: RecordType, octets: Vec<u8>) -> Self
-        requires { IsData (kinds_of record_type) octets.items }
-        ensures { result ≡ record { record_type = record_type; octets = octets.items } }
+    pub(crate) fn of_octets(class: DNSClass, record_type: RecordType, octets: Vec<u8>) -> Self
+        requires { IsData (kinds_of class record_type octets.items) octets.items }
+        ensures { result ≡ record { class = class; record_type = record_type; octets = octets.items } }
     {
         RData {
+            class,
             record_type,
             octets,
         }
     }
 
-    /// Copies data of this type from the cursor up to the end of the reader's message.
+    /// Copies data of this class and type, which have these kinds of field, from the cursor up to the end of the reader's
+    /// message.
     fn copied(
         alloc: Global,
+        class: DNSClass,
         record_type: RecordType,
+        kinds: &[Kind],
         mut reader: BinDecoder<'_>,
     ) -> Result<Self, RDataError>
-        ensures ok { IfOk result (λ r. (r.record_type ≡ record_type) × Copies (kinds_of record_type) reader.entry r.octets) }
-        ensures err { IfErr result (FailsToCopy (kinds_of record_type) reader.entry) }
+        requires { kinds.now ≡ kinds_at class record_type reader }
+        ensures ok { IfOk result (λ r. (r.class ≡ class) × (r.record_type ≡ record_type) × Copies kinds.now reader.entry r.octets) }
+        ensures err { IfErr result (FailsToCopy kinds.now reader.entry) }
     {
         let mut octets = Vec::new(alloc);
-        copy_fields(table::fields_of(record_type), &mut reader, &mut octets)?;
+        copy_fields(kinds, &mut reader, &mut octets)?;
         Ok(RData {
+            class,
             record_type,
             octets,
         })

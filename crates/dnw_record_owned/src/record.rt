@@ -26,7 +26,7 @@ use dnw_write::binary::BinEncodable;
 use dnw_write::encoder::{BinEncoder, RDataEncoding};
 use std::alloc::Global;
 
-/// A record of any type, to be written into a message (RFC 1035, section 4.1.3). Its data have the type.
+/// A record of any type, to be written into a message (RFC 1035, section 4.1.3). Its data have the class and the type.
 ///
 /// It is written whole or not at all: a write that fails leaves the encoder unchanged if it began at the buffer's end, as the
 /// writes of a message do.
@@ -34,18 +34,15 @@ use std::alloc::Global;
 pub struct Record {
     /// The name that owns the record, written in the encoder's mode.
     pub name: Name,
-    /// The class.
-    pub dns_class: DNSClass,
     /// The time to live, in seconds.
     pub ttl: u32,
-    /// The data, after a length of two octets that is filled in once they are written.
+    /// The class and the type, and the data, after a length of two octets that is filled in once they are written.
     pub data: RData,
 }
 
 impl Record {
-    ghost use Rattle.std.specs.Prelude.{IfOk, IfErr};
-    ghost use Rattle.dnw_record_owned.specs.DataPieces.{kinds_of};
-    ghost use Rattle.dnw_record_owned.specs.DataCopies.{FailsToCopy, data_start};
+    ghost use Rattle.std.specs.Prelude.{◌≡◌, IfOk, IfErr};
+    ghost use Rattle.dnw_record_owned.specs.DataCopies.{FailsToCopy, data_start, record_kinds};
     ghost use Rattle.dnw_record_owned.specs.AnyRecords.{IsCopyOf};
 
     /// Copies a record of a message, in which names may have pointers. Its owner is fully qualified.
@@ -53,15 +50,22 @@ impl Record {
     /// It fails as `RData::from_ref` does.
     pub fn from_ref(alloc: Global, item: &RecordRef<'_>) -> Result<Self, RDataError>
         ensures ok { IfOk result (IsCopyOf item.now) }
-        ensures err { IfErr result (FailsToCopy (kinds_of item.now.record_type) (data_start item.now)) }
+        ensures err { IfErr result (FailsToCopy (record_kinds item.now) (data_start item.now)) }
     {
         let data = RData::from_ref(alloc, item)?;
         Ok(Record {
             name: item.owner().to_name(alloc).unwrap(),
-            dns_class: item.class(),
             ttl: item.ttl(),
             data,
         })
+    }
+
+    /// Returns the class, which the data have.
+    #[inline(always)]
+    pub fn dns_class(&self) -> DNSClass
+        ensures { result ≡ self.now.data.class }
+    {
+        self.data.class()
     }
 }
 
@@ -93,8 +97,9 @@ impl BinEncodable for RData {
 
     /// Writes the octets of the data, and each name among them as the table says, as `Record` does.
     fn emit(&self, encoder: &mut BinEncoder<'_>) -> ProtoResult<()> {
-        let kinds = table::fields_of(self.record_type());
-        emit_data(BinDecoder::new(self.octets()), kinds, encoder)
+        let octets = self.octets();
+        let kinds = table::fields_of(self.class(), self.record_type(), octets);
+        emit_data(BinDecoder::new(octets), kinds, encoder)
     }
 }
 
@@ -104,11 +109,13 @@ fn emit_fields(item: &Record, encoder: &mut BinEncoder<'_>) -> ProtoResult<()>
     ensures fit { OnOk result (AnyNumbersFit item.now) }
     ensures lender { lender encoder.new ≡ lender encoder.old }
 {
+    let class = item.data.class();
     let record_type = item.data.record_type();
+    let octets = item.data.octets();
     item.name.emit(encoder)?;
-    encoder.emit_vec(&fixed_octets(record_type, item.dns_class, item.ttl))?;
-    let start = BinDecoder::new(item.data.octets());
-    emit_sized(start, table::fields_of(record_type), encoder)
+    encoder.emit_vec(&fixed_octets(record_type, class, item.ttl))?;
+    let start = BinDecoder::new(octets);
+    emit_sized(start, table::fields_of(class, record_type, octets), encoder)
 }
 
 /// Returns the type, the class and the time to live, as they are written.

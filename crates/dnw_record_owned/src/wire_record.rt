@@ -1,7 +1,7 @@
 //! Records of any type from those whose data are bytes or one name, and back.
 ghost use Rattle.std.specs.Prelude.{◌≡◌, [], ◌∷◌, true, IfNone, IfOk, IfSome, MatchOption};
 ghost use Rattle.dnw_base.specs.Names.{wire};
-ghost use Rattle.dnw_record_owned.specs.DataPieces.{kinds_of};
+ghost use Rattle.dnw_record_owned.specs.DataPieces.{data_kinds};
 ghost use Rattle.dnw_record_owned.specs.WireRecords.{HaveNameAndOthers, SaysData};
 
 use crate::rdata::{RData, RDataError};
@@ -16,7 +16,7 @@ use std::alloc::{AllocError, Global};
 
 impl Record {
     ghost use Rattle.std.specs.Prelude.{◌≡◌, IfOk, IfErr, MatchOption, MatchResult};
-    ghost use Rattle.dnw_record_owned.specs.DataPieces.{IsData, kinds_of};
+    ghost use Rattle.dnw_record_owned.specs.DataPieces.{IsData, data_kinds, kinds_of};
     ghost use Rattle.dnw_record_owned.specs.DataCopies.{FailsToCopy, alone};
     ghost use Rattle.dnw_record_owned.specs.WireRecords.{HaveNameAndOthers, IsOfWireRecord, SaysRecord, wire_data_octets};
 
@@ -26,20 +26,20 @@ impl Record {
     /// It fails as `RData::new` does.
     pub fn from_wire_record(alloc: Global, item: &WireRecord) -> Result<Self, RDataError>
         ensures ok { IfOk result (IsOfWireRecord item.now) }
-        ensures err { IfErr result (FailsToCopy (kinds_of item.now.record_type) (alone (wire_data_octets item.now.rdata))) }
+        ensures err { IfErr result (FailsToCopy (kinds_of item.now.class item.now.record_type (wire_data_octets item.now.rdata))
+            (alone (wire_data_octets item.now.rdata))) }
 
         // Octets that are data of the type with every name in its wire form are accepted, and stay as they are.
-        ensures kept { IsData (kinds_of item.now.record_type) (wire_data_octets item.now.rdata)
+        ensures kept { IsData (kinds_of item.now.class item.now.record_type (wire_data_octets item.now.rdata)) (wire_data_octets item.now.rdata)
             → MatchResult result (λ r. r.data.octets ≡ wire_data_octets item.now.rdata) (λ e. e ≡ RDataError.Memory) }
     {
         let octets = match &item.rdata {
             WireData::Bytes(bytes) => bytes.as_slice(),
             WireData::Name { name, .. } => name.as_wire(),
         };
-        let data = RData::new(alloc, item.record_type, octets)?;
+        let data = RData::new(alloc, item.class, item.record_type, octets)?;
         Ok(Record {
             name: item.owner.copied(),
-            dns_class: item.class,
             ttl: item.ttl,
             data,
         })
@@ -51,7 +51,7 @@ impl Record {
     ///
     /// It fails if an allocation fails.
     pub fn to_wire_record(&self, alloc: Global) -> Result<Option<WireRecord>, AllocError>
-        ensures { IfOk result (λ x. MatchOption x (HaveNameAndOthers (kinds_of self.now.data.record_type)) (SaysRecord self.now)) }
+        ensures { IfOk result (λ x. MatchOption x (HaveNameAndOthers (data_kinds self.now.data)) (SaysRecord self.now)) }
     {
         let Some(rdata) = wire_data(alloc, &self.data)? else {
             return Ok(None);
@@ -59,7 +59,7 @@ impl Record {
         Ok(Some(WireRecord {
             owner: self.name.copied(),
             record_type: self.data.record_type(),
-            class: self.dns_class,
+            class: self.data.class(),
             ttl: self.ttl,
             rdata,
         }))
@@ -68,10 +68,11 @@ impl Record {
 
 /// Returns data as bytes or as a name, if they are one of these.
 fn wire_data(alloc: Global, rdata: &RData) -> Result<Option<WireData>, AllocError>
-    ensures { IfOk result (λ x. MatchOption x (HaveNameAndOthers (kinds_of rdata.now.record_type))
-        (SaysData (kinds_of rdata.now.record_type) rdata.now.octets)) }
+    ensures { IfOk result (λ x. MatchOption x (HaveNameAndOthers (data_kinds rdata.now))
+        (SaysData (data_kinds rdata.now) rdata.now.octets)) }
 {
-    let kinds = table::fields_of(rdata.record_type());
+    let octets = rdata.octets();
+    let kinds = table::fields_of(rdata.class(), rdata.record_type(), octets);
     if let Some(form) = only_form(kinds) {
         return Ok(Some(WireData::Name {
             name: only_name(alloc, rdata),
@@ -81,7 +82,7 @@ fn wire_data(alloc: Global, rdata: &RData) -> Result<Option<WireData>, AllocErro
     if has_name(kinds) {
         return Ok(None);
     }
-    Ok(Some(WireData::Bytes(Vec::from_slice(alloc, rdata.octets())?)))
+    Ok(Some(WireData::Bytes(Vec::from_slice(alloc, octets)?)))
 }
 
 /// Returns the form of the name that is the only one of these kinds.
@@ -97,7 +98,7 @@ fn only_form(kinds: &[Kind]) -> Option<NameForm>
 
 /// Returns the name that the data are.
 fn only_name(alloc: Global, rdata: &RData) -> Name
-    requires { (form : NameForm) × (kinds_of rdata.now.record_type ≡ Kind.Name form ∷ []) }
+    requires { (form : NameForm) × (data_kinds rdata.now ≡ Kind.Name form ∷ []) }
     ensures { (result.is_fqdn ≡ true) × (rdata.now.octets ≡ wire result.labels) }
 {
     let name = NameRef::read(&mut BinDecoder::new(rdata.octets())).unwrap();

@@ -1,20 +1,22 @@
 -- The data of an RRSIG are 18 octets, the signer's name and the signature.
-use Rattle.std.proofs.Common.{◌≡◌, ℕ, ◌+◌, ◌≤◌, List, [], ◌∷◌, ◌++◌, length, take, Result, Ok, Err, refl, sym, ap, ◌∙◌, subst, append_assoc, arith, rules}
+use Rattle.std.proofs.Common.{◌≡◌, ℕ, ◌+◌, ◌≤◌, false, List, [], ◌∷◌, ◌++◌, length, take, Result, Ok, Err, refl, sym, ap, ◌∙◌, subst, append_assoc, arith, rules}
 use Rattle.std.proofs.Math.Seq.{take-append_seam}
 use Rattle.std.specs.Result.{IsOk, IsOkAnd}
 use Rattle.dnw_base.specs.declared.error.DecodeError.{DecodeError}
 use Rattle.dnw_base.specs.declared.error.DecodeError.TheVariants.{InsufficientBytes}
 use Rattle.dnw_base.specs.Decoder.{Decoder, HasLeft, Takes, advanced}
 use Rattle.dnw_data.specs.declared.kind.NameForm.TheVariants.{Plain}
+use Rattle.dnw_record_owned.proofs.Alike.{known_anywhere}
 use Rattle.dnw_record_owned.proofs.Pieces.{behind, name_again}
 use Rattle.dnw_name_read.specs.Reading.{TakesName}
 use Rattle.std.proofs.lemmas.List.{length-append}
 use Rattle.std.specs.List.{AllByRecursion}
+use Rattle.dnw_base.specs.DnsClasses.{class_code}
 use Rattle.dnw_base.specs.Names.{AreLabels, lower, wire}
 use Rattle.dnw_data.specs.declared.kind.Kind.{Kind}
 use Rattle.dnw_data.specs.declared.kind.Kind.TheVariants.{Name, U8, U16, U32, TypeCode, Time}
 use Rattle.dnw_data.specs.declared.kind.NameForm.{NameForm}
-use Rattle.dnw_data.specs.Table.{base64, fields_of, lowered_name}
+use Rattle.dnw_data.specs.Table.{base64, fields_of, is_internet_type, lowered_name}
 use Rattle.dnw_data.specs.Values.{own_size}
 use Rattle.dnw_record_owned.specs.DataPieces.{ArePiecesOf, DataPiece, DataValue, IsDataOfType, HasPieces, name_piece, octets_of, octets_piece}
 use Rattle.dnw_record_owned.specs.Inside.Copying.{IsNoName}
@@ -67,9 +69,13 @@ name_first form kinds (octets_piece own ∷ pieces) are = absurd are.0
 abbrev fixed_kinds : List Kind
 fixed_kinds = TypeCode ∷ U8 ∷ U8 ∷ U32 ∷ Time ∷ Time ∷ U16 ∷ []
 
-rrsig_kinds : fields_of 46 ≡ fixed_kinds ++ lowered_name ∷ base64 ∷ []
-unfolding fields_of
-rrsig_kinds = refl
+no_internet_type : is_internet_type 46 ≡ false
+unfolding is_internet_type
+no_internet_type = refl
+
+rrsig_kinds : (class : ℕ) (own : List ℕ) → 1 ≤ length own → fields_of class 46 own ≡ fixed_kinds ++ lowered_name ∷ base64 ∷ []
+rrsig_kinds class [] some = absurd (omega (arith, some))
+rrsig_kinds class (o ∷ os) some = known_anywhere class 46 (o ∷ os) (λ none. absurd cc) no_internet_type
 
 always : (kind : Kind) → IsNoName kind → ((left : List ℕ) → own_size kind left ≡ own_size kind []) → IsFixed kind
 always kind other size = record { other = other; size = size }
@@ -112,7 +118,9 @@ parts_of octets pieces has =
     }
 
 pub rrsig_parts : (x : DataValue) → IsRrsig x → IsDataOfType x → RrsigParts x.octets
-rrsig_parts x rrsig (pieces, has) = parts_of x.octets pieces (subst (λ kinds. HasPieces kinds x.octets pieces) (ap fields_of rrsig ∙ rrsig_kinds) has)
+rrsig_parts x (rrsig, long) (pieces, has) =
+    let kinds = ap (λ code. fields_of (class_code x.class) code x.octets) rrsig ∙ rrsig_kinds (class_code x.class) x.octets (omega (arith, long)) in
+    parts_of x.octets pieces (subst (λ fields. HasPieces fields x.octets pieces) kinds has)
 
 -- the signer's name is read where it is
 labels_of : DataPiece → List (List ℕ)
@@ -136,6 +144,11 @@ pub skipped : (d after : Decoder) (n : ℕ) (r : Result (Unit {0}) DecodeError) 
 skipped d after n (Ok done) left h = (search rules, h.2)
 skipped d after n (Err InsufficientBytes) left h = absurd (h.0 left)
 skipped d after n (Err error) left h = absurd h
+
+-- the tests of the code
+pub is_rrsig : (x : DataValue) (octets : List ℕ) (count : ℕ) (short : Bool) → type_code x.record_type ≡ type_code RRSIG → octets ≡ x.octets → count ≡ length octets
+    → short ≡ nat_lt count before_signer → short ≡ false → IsRrsig x
+is_rrsig x octets count short kind same len is long = (kind, grind (arith, same, len, is, long))
 
 pub long_enough : (octets : List ℕ) → RrsigParts octets → before_signer ≤ length octets
 long_enough octets p = omega (arith, ap length p.whole, length-append p.fixed (wire p.signer ++ p.signature), p.size)

@@ -23,8 +23,8 @@ Within all others = (octets : List ℕ) → Contains all octets → Contains oth
 -- the same owner in lower case, type and class make the same beginning
 same_head : (first other : Record) (labels ttl : ℕ) → IsOfSet other first → set_head first labels ttl ≡ set_head other labels ttl
 same_head first other labels ttl same =
-    ap (λ ls. wire (signed_owner ls labels) ++ (to_be_bytes w16 (type_code first.data.record_type) ++ (to_be_bytes w16 (class_code first.dns_class) ++ to_be_bytes w32 ttl))) same.owner
-    ∙ ap (λ n. wire (signed_owner (lower other.name.labels) labels) ++ (to_be_bytes w16 n ++ (to_be_bytes w16 (class_code first.dns_class) ++ to_be_bytes w32 ttl))) same.kind
+    ap (λ ls. wire (signed_owner ls labels) ++ (to_be_bytes w16 (type_code first.data.record_type) ++ (to_be_bytes w16 (class_code first.data.class) ++ to_be_bytes w32 ttl))) same.owner
+    ∙ ap (λ n. wire (signed_owner (lower other.name.labels) labels) ++ (to_be_bytes w16 n ++ (to_be_bytes w16 (class_code first.data.class) ++ to_be_bytes w32 ttl))) same.kind
     ∙ ap (λ n. wire (signed_owner (lower other.name.labels) labels) ++ (to_be_bytes w16 (type_code other.data.record_type) ++ (to_be_bytes w16 n ++ to_be_bytes w32 ttl))) same.class
 
 same_sets : (records others : List Record) (labels ttl : ℕ) (a b : List ℕ) (s : IsRecordSet records labels ttl a) (t : IsRecordSet others labels ttl b)

@@ -3,7 +3,7 @@
 use Rattle.std.specs.Prelude.{◌≡◌, ℕ, List, map}
 use Rattle.dnw_base.specs.Names.{lower}
 use Rattle.dnw_data.specs.declared.kind.NameForm.TheVariants.{Plain}
-use Rattle.dnw_record_owned.specs.DataPieces.{DataPiece, DataValue, HasPieces, kinds_of, name_piece, octets_of, octets_piece}
+use Rattle.dnw_record_owned.specs.DataPieces.{DataPiece, DataValue, HasPieces, data_kinds, name_piece, octets_of, octets_piece}
 
 abbrev pub canonical_piece : DataPiece → DataPiece
 canonical_piece (name_piece Plain labels) = name_piece Plain labels
@@ -15,4 +15,4 @@ canonical_pieces pieces = map canonical_piece pieces
 
 -- The octets are those of the data in canonical form.
 abbrev pub IsCanonical : DataValue → List ℕ → Type 0
-IsCanonical x octets = (pieces : List DataPiece) × HasPieces (kinds_of x.record_type) x.octets pieces × (octets ≡ octets_of (canonical_pieces pieces))
+IsCanonical x octets = (pieces : List DataPiece) × HasPieces (data_kinds x) x.octets pieces × (octets ≡ octets_of (canonical_pieces pieces))

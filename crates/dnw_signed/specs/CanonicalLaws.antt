@@ -3,15 +3,15 @@ use Rattle.std.specs.Prelude.{◌≡◌, ℕ, List}
 use Rattle.std.specs.List.{All, Any}
 use Rattle.std.specs.List.Sorted.{IsPermutation}
 use Rattle.dnw_record_owned.specs.declared.record.Record.{Record}
-use Rattle.dnw_record_owned.specs.DataPieces.{DataPiece, DataValue, HasPieces, kinds_of}
+use Rattle.dnw_record_owned.specs.DataPieces.{DataPiece, DataValue, HasPieces, data_kinds}
 use Rattle.dnw_signed.specs.CanonicalData.{canonical_pieces}
 use Rattle.dnw_signed.specs.RecordSets.{IsOfSet, IsRecordSet}
 
 -- Data are the same but for the case of names that canonical form lowers.
 abbrev pub IsLikeData : DataValue → DataValue → Type 0
 IsLikeData x y =
-    (pieces : List DataPiece) × (others : List DataPiece) × HasPieces (kinds_of x.record_type) x.octets pieces
-    × HasPieces (kinds_of y.record_type) y.octets others × (canonical_pieces pieces ≡ canonical_pieces others)
+    (pieces : List DataPiece) × (others : List DataPiece) × HasPieces (data_kinds x) x.octets pieces
+    × HasPieces (data_kinds y) y.octets others × (canonical_pieces pieces ≡ canonical_pieces others)
 
 -- A record is the same as another but for the case of such names, and but for its time to live.
 abbrev pub IsLike : Record → Record → Type 0

@@ -21,7 +21,7 @@ use Rattle.dnw_signed.specs.CanonicalData.{IsCanonical}
 pub record IsOfSet (first r : Record) : Type 0 where
   pub owner : lower r.name.labels ≡ lower first.name.labels
   pub kind : type_code r.data.record_type ≡ type_code first.data.record_type
-  pub class : class_code r.dns_class ≡ class_code first.dns_class
+  pub class : class_code r.data.class ≡ class_code first.data.class
 
 -- So it has, and two octets can say how long its data are.
 abbrev pub IsMember : Record → Record → Type 0
@@ -45,7 +45,7 @@ signed_owner lowered labels = if nat_lt labels (length lowered) then wildcard �
 abbrev pub set_head : Record → ℕ → ℕ → List ℕ
 set_head first labels ttl =
     wire (signed_owner (lower first.name.labels) labels)
-    ++ (to_be_bytes w16 (type_code first.data.record_type) ++ (to_be_bytes w16 (class_code first.dns_class) ++ to_be_bytes w32 ttl))
+    ++ (to_be_bytes w16 (type_code first.data.record_type) ++ (to_be_bytes w16 (class_code first.data.class) ++ to_be_bytes w32 ttl))
 
 -- a record: what it begins with, and its data with their length
 abbrev pub set_record : List ℕ → List ℕ → List ℕ

@@ -1,5 +1,5 @@
 -- The octets of an RRSIG that its signature covers: its data without the signature (RFC 4034, sections 3.1 and 3.1.8.1).
-use Rattle.std.specs.Prelude.{◌≡◌, ℕ, List, ◌++◌, length}
+use Rattle.std.specs.Prelude.{◌≡◌, ◌≤◌, ℕ, List, ◌++◌, length}
 use Rattle.dnw_base.specs.RecordTypes.{type_code}
 use Rattle.dnw_base.specs.declared.record_type.RecordType.TheVariants.{RRSIG}
 use Rattle.dnw_base.specs.Names.{AreLabels, lower, wire}
@@ -12,8 +12,9 @@ use Rattle.dnw_signed.specs.declared.error.CanonicalError.TheVariants.{Memory, N
 abbrev pub before_signer : ℕ
 before_signer = 18
 
+-- The data are those of an RRSIG, and are not left out (RFC 2136, section 2.4).
 abbrev pub IsRrsig : DataValue → Type 0
-IsRrsig x = type_code x.record_type ≡ type_code RRSIG
+IsRrsig x = (type_code x.record_type ≡ type_code RRSIG) × (before_signer ≤ length x.octets)
 
 -- The data are the fixed fields, the signer's name and the signature. What is signed are the fixed fields and the name in lower
 -- case.

@@ -66,6 +66,10 @@ pub fn signed_fields(alloc: Global, rrsig: &RData) -> Result<Vec<u8>, CanonicalE
         return Err(CanonicalError::NotRrsig);
     }
     let octets = rrsig.octets();
+    // Under NONE and ANY data may be left out.
+    if octets.len() < BEFORE_SIGNER {
+        return Err(CanonicalError::NotRrsig);
+    }
     let mut reader = BinDecoder::new(octets);
     reader.skip(BEFORE_SIGNER).unwrap();
     let signer = Name::read(alloc, &mut reader).unwrap();
@@ -108,7 +112,7 @@ fn is_of_set(first: &Record, item: &Record) -> bool
 {
     item.name.eq_ignore_root(&first.name)
         && u16::from(item.data.record_type()) == u16::from(first.data.record_type())
-        && u16::from(item.dns_class) == u16::from(first.dns_class)
+        && u16::from(item.dns_class()) == u16::from(first.dns_class())
 }
 
 /// Returns what each record begins with.
@@ -123,7 +127,7 @@ fn head_of(
     let mut head = Vec::new(alloc);
     put_owner(&first.name, labels, &mut head)?;
     head.extend_from_slice(&u16::to_be_bytes(u16::from(first.data.record_type())))?;
-    head.extend_from_slice(&u16::to_be_bytes(u16::from(first.dns_class)))?;
+    head.extend_from_slice(&u16::to_be_bytes(u16::from(first.dns_class())))?;
     head.extend_from_slice(&u32::to_be_bytes(original_ttl))?;
     Ok(head)
 }

@@ -1,15 +1,19 @@
 -- Whole data that are printed are parsed as the same octets.
-use Rattle.std.proofs.Common.{◌≡◌, ◌≢◌, ◌≤◌, ◌<◌, ◌+◌, ◌⊎◌, ℕ, ◌-◌, ◌==◌, ◌&&◌, Bool, true, List, [], ◌∷◌, ◌++◌, length, drop, refl, sym, ap, ◌∙◌, subst, arith, length-append, inl, inr}
+use Rattle.std.proofs.Common.{◌≡◌, ◌≢◌, ◌≤◌, ◌<◌, ◌+◌, ◌⊎◌, ℕ, ◌-◌, ◌==◌, ◌&&◌, ◌||◌, Bool, true, false, List, [], ◌∷◌, ◌++◌, length, drop, slice_index, length-drop, refl, sym, ap, ◌∙◌, subst, arith, length-append, inl, inr}
 use Rattle.std.specs.Prelude.{not, Option, None, find, unwrap_or, flat_map}
 use Rattle.std.specs.List.{list_all}
 use Rattle.std.proofs.lemmas.Bool.{and_parts, cases_Bool, cases_lt}
+use Rattle.std.proofs.lemmas.List.{nil_from_length}
 use Rattle.dnw_base.specs.Decoder.{Decoder}
 use Rattle.dnw_base.specs.Names.{NameValue}
+use Rattle.dnw_base.specs.DnsClasses.{class_code}
 use Rattle.dnw_base.specs.RecordTypes.{type_code}
 use Rattle.dnw_name_read.specs.ReadingLaws.{AreBytes}
 use Rattle.dnw_data.specs.declared.kind.Kind.{Kind}
-use Rattle.dnw_data.specs.Table.{Row, fields_of, table}
+use Rattle.dnw_data.specs.declared.kind.Kind.TheVariants.{Shaped}
+use Rattle.dnw_data.specs.Table.{Row, a6, a6_fields, fields_elsewhere, fields_in, fields_in_internet, fields_of, fields_of_some, is_internet_type, is_like_internet, may_lack_data, table}
 use Rattle.dnw_data.specs.Values.{FieldValue}
+use Rattle.dnw_data.proofs.Rows.{Alike, alike_fields}
 use Rattle.dnw_data.proofs.Taking.{moves_on}
 use Rattle.dnw_record.specs.Records.{RecordValue}
 use Rattle.dnw_record.specs.RecordFields.{record_fields}
@@ -21,7 +25,7 @@ use Rattle.dnw_zone_data.specs.Generic.{generic_mark, IsGeneric}
 use Rattle.dnw_base.specs.Limits.{max_data}
 use Rattle.dnw_zone_data.specs.Parsing.{takes_all, AreFieldTexts}
 use Rattle.dnw_zone_data.specs.Printing.{Prints, PrintsFields}
-use Rattle.dnw_zone_data.specs.DataTexts.{without_space, AreWire, IsOwnText, IsPlainData, IsTextOf}
+use Rattle.dnw_zone_data.specs.DataTexts.{has_own_form, is_blank, stand_in, text_kinds, without_space, AreWire, IsFieldsText, IsOwnText, IsPlainData, IsTextOf}
 use Rattle.dnw_zone_data.specs.DataTextLaws.{DataComeBack, FieldComesBack, FollowsField}
 use Rattle.dnw_zone_data.proofs.FieldValues.{both_fit, field_back, wire_fit}
 use Rattle.dnw_zone_data.proofs.GenericText.{generic}
@@ -42,9 +46,34 @@ found test passes (row ∷ rows) other all is =
     let parts = and_parts (passes row) (list_all passes rows) all in
     elim (cases_Bool (test row)) [ inl here ↦ rw here parts.0 | inr there ↦ rw there (found test passes rows other parts.1 is) ]
 
-in_turn : (code : ℕ) → are_in_turn (fields_of code) ≡ true
+rows_in_turn : (code : ℕ) → are_in_turn (fields_in table code) ≡ true
+rows_in_turn code = found (λ row. row.code == code) (λ row. are_in_turn row.fields) table _ refl refl
+
+a6_in_turn : (prefix : ℕ) → are_in_turn (a6_fields prefix) ≡ true
+a6_in_turn prefix = elim (cases_Bool (prefix == 0)) [ inl none ↦ rw none refl | inr some ↦ rw some refl ]
+
+elsewhere_in_turn : (class code : ℕ) → are_in_turn (fields_elsewhere class code) ≡ true
+elsewhere_in_turn class code = elim (cases_Bool (class == 3 && code == 1)) [ inl is ↦ rw is refl | inr other ↦ rw other refl ]
+
+internet_in_turn : (code : ℕ) (own : List ℕ) → are_in_turn (fields_in_internet code own) ≡ true
+internet_in_turn code own = elim (cases_Bool (code == a6)) [
+  | inl is ↦ rw is (a6_in_turn (slice_index own 0))
+  | inr other ↦ rw other (rows_in_turn code)
+]
+
+some_in_turn : (class code : ℕ) (own : List ℕ) → are_in_turn (fields_of_some class code own) ≡ true
+some_in_turn class code own = elim (cases_Bool (is_like_internet class || not (is_internet_type code))) [
+  | inl like ↦ rw like (internet_in_turn code own)
+  | inr other ↦ rw other (elsewhere_in_turn class code)
+]
+
+in_turn : (class code : ℕ) (own : List ℕ) → are_in_turn (fields_of class code own) ≡ true
 unfolding fields_of
-in_turn code = found (λ row. row.code == code) (λ row. are_in_turn row.fields) table _ refl refl
+in_turn class code [] = elim (cases_Bool (may_lack_data class code)) [
+  | inl may ↦ rw may refl
+  | inr must ↦ rw must (some_in_turn class code [])
+]
+in_turn class code (x ∷ xs) = some_in_turn class code (x ∷ xs)
 
 -- nothing is printed after a field that takes all words
 turn_ends : (kind : Kind) (kinds : List Kind) (d : Decoder) (text : List ℕ) → are_in_turn (kind ∷ kinds) ≡ true → takes_all kind ≡ true
@@ -107,23 +136,39 @@ same_start origin (kind ∷ kinds) text start (v ∷ values) e are = rw e are
 
 -- ---- data
 
+-- octets that stand in for data that are printed are alike
+text_alike : (kinds : List Kind) (d : Decoder) (printed start : List ℕ) → has_own_form kinds ≡ true → PrintsFields kinds d printed → is_blank kinds printed ≡ false
+    → start ≡ after_spaces printed → Alike kinds (drop d.index d.bytes) (stand_in start)
+text_alike [] d printed start form (end, none) shown e =
+    (nil_from_length (drop d.index d.bytes) (omega (arith, end, length-drop d.index d.bytes)), ap stand_in (e ∙ ap after_spaces none))
+text_alike (Shaped shape ∷ kinds) d printed start form prints shown e = absurd cc
+text_alike (kind ∷ kinds) d printed [] form prints shown e =
+    let blank : is_blank (kind ∷ kinds) printed ≡ true = ap (λ (xs : List ℕ). length xs == 0) (sym e) in
+    let no : true ≡ false = sym blank ∙ shown in absurd cc
+text_alike (kind ∷ kinds) d printed (c ∷ cs) form prints shown e = λ none. absurd cc
+
 own_back : (origin : Option NameValue) (r : RecordValue) (text : List ℕ) → AreBytes r.message → IsOwnText (record_fields r) text
     → (own : List ℕ) × IsPlainData r own
-    × ((max_data < length own) ⊎ IsGeneric text own ⊎ IsTextOf origin (fields_of (type_code r.record_type)) text own)
-own_back origin r text h (form, printed, prints, e) =
-    let kinds = fields_of (type_code r.record_type) in
+    × ((max_data < length own) ⊎ IsGeneric text own ⊎ IsTextOf origin (fields_of (class_code r.class) (type_code r.record_type)) text own)
+own_back origin r text h (form, printed, prints, shown, e) =
+    let fields = fields_of (class_code r.class) (type_code r.record_type) in
     let d = (record_fields r).reader in
+    let left = drop d.index d.bytes in
+    let kinds = fields left in
     let bytes : AreBytes d.bytes = take_fit (r.start + r.len - 0) r.message h in
-    let (values, wire, back) = fields_back kinds d printed (in_turn (type_code r.record_type)) bytes prints in
+    let (values, wire, back) = fields_back kinds d printed (in_turn (class_code r.class) (type_code r.record_type) left) bytes prints in
     let own = flat_map field_wire values in
-    let start : after_spaces text ≡ after_spaces printed = ap after_spaces e ∙ no_space printed in (
+    let start : after_spaces text ≡ after_spaces printed = ap after_spaces e ∙ no_space printed in
+    let same : text_kinds fields text ≡ kinds =
+    alike_fields (class_code r.class) (type_code r.record_type) left (stand_in (after_spaces text)) (text_alike kinds d printed (after_spaces text) form prints shown start) in (
       own,
       inl wire,
       elim (cases_lt max_data (length own)) [
         | inl many ↦ inl many
         | inr few ↦
             let are = back few in
-            inr (inr (inr (λ same. are.other (ap word (sym start) ∙ same), form, values, same_start origin kinds printed text values start (are.reads origin), refl)))
+            inr (inr (inr (subst (λ (ks : List Kind). IsFieldsText origin ks text own) (sym same)
+            (λ marked. are.other (ap word (sym start) ∙ marked), form, values, same_start origin kinds printed text values start (are.reads origin), refl))))
       ],
     )
 

@@ -20,7 +20,7 @@ use Rattle.dnw_data.specs.declared.kind.ListKind.TheVariants as lists
 use Rattle.dnw_data.specs.declared.kind.Shown.{Shown}
 use Rattle.dnw_data.specs.declared.kind.Shown.TheVariants.{Text, Tag, Hex, Base32Hex, Base64, Other}
 use Rattle.dnw_data.specs.Fields.{own_at, size_at, TakesField}
-use Rattle.dnw_data.specs.Values.{FieldValue, name, u48, u64, counted, long_counted, shaped, octets, prefixes, names, items, long_counted_size}
+use Rattle.dnw_data.specs.Values.{FieldValue, name, u16, u48, u64, counted, long_counted, shaped, octets, prefixes, names, items, long_counted_size}
 use Rattle.dnw_data.proofs.Shaping.{long_is}
 use Rattle.dnw_zone_values.specs.Octets.{IsOctets}
 use Rattle.dnw_zone_values.specs.Strings.{IsString}
@@ -30,7 +30,8 @@ use Rattle.dnw_zone_data.specs.DataTextLaws.{FieldComesBack}
 use Rattle.dnw_zone_data.proofs.FieldsBack.{first, u8_back, u16_back, u32_back, time_back, type_back, ipv4_back, string_back, tag_back, salt_back, hash_back, octets_back, text_back, strings_back}
 use Rattle.dnw_zone_data.proofs.NamesBack.{name_back}
 use Rattle.dnw_zone_data.proofs.ParamsBack.{params_back}
-use Rattle.dnw_zone_data.proofs.TypesBack.{code_back, types_back}
+use Rattle.dnw_data.proofs.Codes.{code_back}
+use Rattle.dnw_zone_data.proofs.TypesBack.{types_back}
 use Rattle.dnw_zone_data.proofs.WordsBack.{base64_back, eight_fit, eui48_back, eui64_back, ipv6_back, six_fit}
 
 own_fit : (kind : Kind) (d : Decoder) → AreBytes d.bytes → IsOctets (own_at kind d)
@@ -117,6 +118,8 @@ field_back (kinds.Counted Other) d value after h takes few =
     by_value (kinds.Counted Other) value (counted (drop 1 (own_at (kinds.Counted Other) d))) takes.2 (λ origin text rest print end. absurd print)
 field_back kinds.LongTime d value after h takes few =
     by_value kinds.LongTime value (u48 (from_be_bytes w64 (0 ∷ 0 ∷ own_at kinds.LongTime d))) takes.2 (λ origin text rest print end. absurd print)
+field_back kinds.ChaosAddress d value after h takes few =
+    by_value kinds.ChaosAddress value (u16 (from_be_bytes w16 (own_at kinds.ChaosAddress d))) takes.2 (λ origin text rest print end. absurd print)
 field_back kinds.Locator d value after h takes few =
     by_value kinds.Locator value (u64 (from_be_bytes w64 (own_at kinds.Locator d))) takes.2 (λ origin text rest print end. absurd print)
 field_back (kinds.LongCounted shown) d value after h takes few =
@@ -190,6 +193,7 @@ wire_fit kinds.Time d value after h takes = by_octets value _ takes.2 (four_fit 
 wire_fit (kinds.Counted shown) d value after h takes =
     let is = counted_fit shown d h takes.0 in by_octets value _ takes.2 (first _ _ (omega (arith, is.1)) is.0)
 wire_fit kinds.LongTime d value after h takes = by_octets value _ takes.2 (six_fit _)
+wire_fit kinds.ChaosAddress d value after h takes = by_octets value _ takes.2 (two_fit _)
 wire_fit kinds.Locator d value after h takes = by_octets value _ takes.2 (eight_fit _)
 wire_fit (kinds.LongCounted shown) d value after h takes =
     let own = own_at (kinds.LongCounted shown) d in

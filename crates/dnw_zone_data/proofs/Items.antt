@@ -1,7 +1,7 @@
 -- The items of lists that data end with, and words after white space.
 use Rattle.std.proofs.Common.{◌≡◌, ◌≤◌, ℕ, suc, ◌+◌, Bool, true, false, List, [], ◌∷◌, ◌++◌, length, take, drop, inl, inr, refl, rules, tests, if◌then◌else◌}
-use Rattle.std.specs.Prelude.{nat_lt, find, unwrap_or, ◌==◌, Some, None, Option}
-use Rattle.std.proofs.lemmas.Bool.{cases_Bool, eqb-true}
+use Rattle.std.specs.Prelude.{nat_lt, Some, None, Option}
+use Rattle.std.proofs.lemmas.Bool.{cases_Bool}
 use Rattle.dnw_base.specs.declared.error.DecodeError.TheVariants.{InsufficientBytes}
 use Rattle.dnw_data.specs.declared.kind.ListKind.{ListKind}
 use Rattle.dnw_data.specs.Lists.{tag_of, count_of, item_size, item_fault, may_come, out_of_order, fault_within}
@@ -31,14 +31,6 @@ item_first n least kind first others fine =
     let left = first ∷ others in
     by_tests n least kind left (nat_lt (length left) (item_size kind left)) (may_come kind least (tag_of kind left) (count_of kind left))
     (item_fault kind (take (item_size kind left) left)) refl refl fine
-
--- what is found by its code has the code, and so has what is taken if nothing is found
-pub find_code : {A : Type 0} (code : A → ℕ) (n : ℕ) (xs : List A) (other : A) → code other ≡ n → code (unwrap_or (find (λ x. code x == n) xs) other) ≡ n
-find_code code n [] other is = is
-find_code code n (x ∷ xs) other is = elim (cases_Bool (code x == n)) [
-  | inl here ↦ rw here (eqb-true (code x) n here)
-  | inr there ↦ rw there (find_code code n xs other is)
-]
 
 -- white space that is left out once is left out
 pub starts_twice : (text : List ℕ) → after_spaces (after_spaces text) ≡ after_spaces text

@@ -7,7 +7,7 @@ use Rattle.dnw_data.specs.Values.{FieldValue}
 use Rattle.dnw_zone_data.specs.Words.{after_spaces, after_word}
 use Rattle.dnw_zone_data.specs.declared.error.DataTextError.{DataTextError}
 use Rattle.dnw_zone_data.specs.declared.error.DataTextError.TheVariants.{Memory}
-use Rattle.dnw_zone_data.specs.DataTexts.{ArePlain, FailsGeneric}
+use Rattle.dnw_zone_data.specs.DataTexts.{ArePlain, FailsGeneric, text_kinds}
 use Rattle.dnw_zone_data.specs.Generic.{AreHexWords, IsSized, FailsSized}
 use Rattle.dnw_zone_data.specs.Parsing.{ReadsBy, AreFieldTexts, FailsFields, takes_all}
 use Rattle.dnw_zone_data.specs.DataTextLaws.{GenericIsParsed, TextsAreParsed}
@@ -35,24 +35,24 @@ sized_fails len left own e (n, size, are) (inr (inl (m, also, none, is))) =
     absurd (none own (subst (λ (k : ℕ). AreHexWords k (after_spaces (after_word (after_spaces left))) own) same are))
 sized_fails len left own e (n, size, are) (inr (inr memory)) = memory.3
 
-generic_fails : (kinds : List Kind) (len : ℕ) (left own : List ℕ) (e : DataTextError) → IsSized left own → FailsGeneric kinds len left e
-    → (e ≡ Memory) ⊎ (¬ (ArePlain kinds own))
-generic_fails kinds len left own e sized (inl fails) = inl (sized_fails len left own e sized fails)
-generic_fails kinds len left own e sized (inr (inl memory)) = inl memory
-generic_fails kinds len left own e sized (inr (inr (other, also, none, is))) =
-    inr (λ plain. none (subst (λ (xs : List ℕ). ArePlain kinds xs) (one_sized left own other sized also) plain))
+generic_fails : (fields : List ℕ → List Kind) (len : ℕ) (left own : List ℕ) (e : DataTextError) → IsSized left own → FailsGeneric fields len left e
+    → (e ≡ Memory) ⊎ (¬ (ArePlain (fields own) own))
+generic_fails fields len left own e sized (inl fails) = inl (sized_fails len left own e sized fails)
+generic_fails fields len left own e sized (inr (inl memory)) = inl memory
+generic_fails fields len left own e sized (inr (inr (other, also, none, is))) =
+    inr (λ plain. none (subst (λ (xs : List ℕ). ArePlain (fields xs) xs) (one_sized left own other sized also) plain))
 
 pub generic_parsed : GenericIsParsed
-generic_parsed origin kinds text own e (marked, sized) (inl fails) = generic_fails kinds (length text) (after_word (after_spaces text)) own e sized fails.1
-generic_parsed origin kinds text own e (marked, sized) (inr (inl fails)) = absurd (fails.0 marked)
-generic_parsed origin kinds text own e (marked, sized) (inr (inr fails)) = absurd (fails.0 marked)
+generic_parsed origin fields text own e (marked, sized) (inl fails) = generic_fails fields (length text) (after_word (after_spaces text)) own e sized fails.1
+generic_parsed origin fields text own e (marked, sized) (inr (inl fails)) = absurd (fails.0 marked)
+generic_parsed origin fields text own e (marked, sized) (inr (inr fails)) = absurd (fails.0 marked)
 
 pub parsed : TextsAreParsed
-parsed origin kinds text own e (inl (generic, plain)) fails = elim (generic_parsed origin kinds text own e generic fails) [
+parsed origin fields text own e (inl (generic, plain)) fails = elim (generic_parsed origin fields text own e generic fails) [
   | inl memory ↦ memory
   | inr none ↦ absurd (none plain)
 ]
-parsed origin kinds text own e (inr (other, form, values, are, is)) (inl fails) = absurd (other fails.0)
-parsed origin kinds text own e (inr (other, form, values, are, is)) (inr (inl fails)) = let no : true ≡ false = sym form ∙ fails.1 in absurd cc
-parsed origin kinds text own e (inr (other, form, values, are, is)) (inr (inr (marked, has, inl memory))) = memory
-parsed origin kinds text own e (inr (other, form, values, are, is)) (inr (inr (marked, has, inr fails))) = absurd (no_fault origin _ _ kinds text values e are fails)
+parsed origin fields text own e (inr (other, form, values, are, is)) (inl fails) = absurd (other fails.0)
+parsed origin fields text own e (inr (other, form, values, are, is)) (inr (inl fails)) = let no : true ≡ false = sym form ∙ fails.1 in absurd cc
+parsed origin fields text own e (inr (other, form, values, are, is)) (inr (inr (marked, has, inl memory))) = memory
+parsed origin fields text own e (inr (other, form, values, are, is)) (inr (inr (marked, has, inr fails))) = absurd (no_fault origin _ _ (text_kinds fields text) text values e are fails)

@@ -9,6 +9,7 @@ use Rattle.std.proofs.lemmas.Bool.{cases_Bool}
 use Rattle.std.proofs.lemmas.Option.{same_Some}
 use Rattle.dnw_base.specs.Names.{NameValue, label_wire}
 use Rattle.dnw_base.specs.declared.record_type.RecordType.{RecordType}
+use Rattle.dnw_base.specs.DnsClasses.{class_code}
 use Rattle.dnw_base.specs.RecordTypes.{type_code as code_of}
 use Rattle.dnw_data.specs.declared.kind.Kind.{Kind}
 use Rattle.dnw_data.specs.declared.kind.Kind.TheVariants as kinds
@@ -27,7 +28,7 @@ use Rattle.dnw_data.specs.FieldWires.{field_wire}
 use Rattle.dnw_zone_data.specs.ParamLists.{AreParamWords}
 use Rattle.dnw_zone_data.specs.TypeLists.{AreTypeWords}
 use Rattle.dnw_zone_data.specs.Words.{after_spaces, after_word, without_spaces, word}
-use Rattle.dnw_zone_data.specs.DataTexts.{IsPlainData, IsTextOf}
+use Rattle.dnw_zone_data.specs.DataTexts.{IsPlainData, IsTextOf, text_kinds}
 use Rattle.dnw_zone_data.specs.Generic.{IsGeneric}
 use Rattle.dnw_zone_data.specs.DataTextLaws.{DataAreUnambiguous, PrintedDataAreSame}
 use Rattle.dnw_zone_data.specs.Parsing.{takes_all, AreAll, AreFieldTexts, AreStringWords, IsIdentifierField, IsNumber, IsWord, ReadsField, SpellsShown, eui48, eui64}
@@ -93,6 +94,7 @@ one_word_lem origin kinds.U16 text v w x y = one_number 65535 u16 text v w x y
 one_word_lem origin kinds.U32 text v w x y = one_number 4294967295 u32 text v w x y
 one_word_lem origin kinds.Time text v w x y = x.3 ∙ ap time (one_time text x.0 y.0 x.2 y.2) ∙ sym y.3
 one_word_lem origin kinds.LongTime text v w x y = absurd x
+one_word_lem origin kinds.ChaosAddress text v w x y = absurd x
 one_word_lem origin kinds.Locator text v w x y = absurd x
 one_word_lem origin (kinds.LongCounted shown) text v w x y = absurd x
 one_word_lem origin (kinds.Shaped shape) text v w x y = absurd x
@@ -162,23 +164,23 @@ one_fields origin (kind ∷ kinds) left (v ∷ vs) (w ∷ ws) hv hw (rest, reads
     ap (λ (z : FieldValue). z ∷ vs) first.0 ∙ ap (λ (zs : List FieldValue). w ∷ zs) same
 
 pub unambiguous : DataAreUnambiguous
-unambiguous origin kinds text own other h k (inl x) (inl y) = one_generic text own other x.0 y.0
-unambiguous origin kinds text own other h k (inl x) (inr y) = absurd (y.0 x.0.0)
-unambiguous origin kinds text own other h k (inr x) (inl y) = absurd (x.0 y.0.0)
-unambiguous origin kinds text own other h k (inr x) (inr y) =
+unambiguous origin fields text own other h k (inl x) (inl y) = one_generic text own other x.0 y.0
+unambiguous origin fields text own other h k (inl x) (inr y) = absurd (y.0 x.0.0)
+unambiguous origin fields text own other h k (inr x) (inl y) = absurd (x.0 y.0.0)
+unambiguous origin fields text own other h k (inr x) (inr y) =
     let vs = x.2 in
     let ws = y.2 in
-    x.4 ∙ ap (λ (zs : List FieldValue). flat_map field_wire zs) (one_fields origin kinds text vs ws (subst IsOctets x.4 h) (subst IsOctets y.4 k) x.3 y.3) ∙ sym y.4
+    x.4 ∙ ap (λ (zs : List FieldValue). flat_map field_wire zs) (one_fields origin (text_kinds fields text) text vs ws (subst IsOctets x.4 h) (subst IsOctets y.4 k) x.3 y.3) ∙ sym y.4
 
-same_generic : (origin : Option NameValue) (kinds : List Kind) (text own other : List ℕ) → IsGeneric text own → IsTextOf origin kinds text other → own ≡ other
-same_generic origin kinds text own other h (inl is) = one_generic text own other h is.0
-same_generic origin kinds text own other h (inr is) = absurd (is.0 h.0)
+same_generic : (origin : Option NameValue) (fields : List ℕ → List Kind) (text own other : List ℕ) → IsGeneric text own → IsTextOf origin fields text other → own ≡ other
+same_generic origin fields text own other h (inl is) = one_generic text own other h is.0
+same_generic origin fields text own other h (inr is) = absurd (is.0 h.0)
 
 pub printed : PrintedDataAreSame
 printed origin r text own h print fit is =
     let (plain, are, done) = back origin r text h print in
     elim done [
       | inl many ↦ inr (plain, are, many)
-      | inr (inl shown) ↦ inl (subst (λ (xs : List ℕ). IsPlainData r xs) (same_generic origin (fields_of (code_of r.record_type)) text plain own shown is) are)
-      | inr (inr also) ↦ inl (subst (λ (xs : List ℕ). IsPlainData r xs) (unambiguous origin (fields_of (code_of r.record_type)) text plain own (data_fit r plain h are) fit also is) are)
+      | inr (inl shown) ↦ inl (subst (λ (xs : List ℕ). IsPlainData r xs) (same_generic origin (fields_of (class_code r.class) (code_of r.record_type)) text plain own shown is) are)
+      | inr (inr also) ↦ inl (subst (λ (xs : List ℕ). IsPlainData r xs) (unambiguous origin (fields_of (class_code r.class) (code_of r.record_type)) text plain own (data_fit r plain h are) fit also is) are)
     ]

@@ -22,7 +22,8 @@ use Rattle.dnw_zone_data.specs.TypeLists.{is_window, codes_within, codes_text, I
 use Rattle.dnw_zone_data.proofs.CodesWithin.{Within, octets_within, within_less}
 use Rattle.dnw_zone_data.specs.Generic.{generic_mark}
 use Rattle.dnw_zone_data.specs.DataTextLaws.{FieldComesBack}
-use Rattle.dnw_zone_data.proofs.Items.{find_code, item_first, starts_twice}
+use Rattle.dnw_data.proofs.Codes.{code_back}
+use Rattle.dnw_zone_data.proofs.Items.{item_first, starts_twice}
 use Rattle.dnw_zone_data.proofs.Plain.{plain_starts, plain_word, plain_after, plain_utf8}
 use Rattle.dnw_zone_data.proofs.FieldsBack.{type_plain, type_some}
 
@@ -90,10 +91,6 @@ windows (suc n) (suc m) least (number ∷ len ∷ bytes) codes h few fine print 
 ]
 
 -- ---- the types of codes
-
-pub code_back : (code : ℕ) → type_code (type_of_code code) ≡ code
-unfolding type_of_code
-code_back code = find_code (λ (record_type : RecordType). type_code record_type) code named_types (rr.Unknown code) refl
 
 codes_back : (codes : List ℕ) → map type_code (map type_of_code codes) ≡ codes
 codes_back [] = refl

@@ -6,6 +6,7 @@ use Rattle.std.specs.declared.net.Ipv4Addr.{Ipv4Addr}
 use Rattle.std.specs.declared.net.Ipv6Addr.{Ipv6Addr}
 use Rattle.dnw_base.specs.Names.{NameValue, AreLabels}
 use Rattle.dnw_base.specs.declared.record_type.RecordType.{RecordType}
+use Rattle.dnw_base.specs.DnsClasses.{class_code}
 use Rattle.dnw_base.specs.RecordTypes.{type_code as code_of, type_of_code}
 use Rattle.dnw_data.specs.declared.kind.Kind.{Kind}
 use Rattle.dnw_data.specs.declared.kind.NameForm.{NameForm}
@@ -113,27 +114,27 @@ StringsComeBack = (own : List ℕ) → IsOctets own → 1 ≤ length own → Fie
 abbrev pub DataComeBack : Type 0
 DataComeBack = (origin : Option NameValue) (r : RecordValue) (text : List ℕ) → AreBytes r.message → IsDataText r text
     → (own : List ℕ) × IsPlainData r own
-    × ((max_data < length own) ⊎ IsGeneric text own ⊎ IsTextOf origin (fields_of (code_of r.record_type)) text own)
+    × ((max_data < length own) ⊎ IsGeneric text own ⊎ IsTextOf origin (fields_of (class_code r.class) (code_of r.record_type)) text own)
 
 -- If a text is data of a type, parsing it fails for no other reason than memory.
 abbrev pub TextsAreParsed : Type 0
-TextsAreParsed = (origin : Option NameValue) (kinds : List Kind) (text own : List ℕ) (error : DataTextError)
-    → IsTextOf origin kinds text own → FailsText origin kinds text error → error ≡ Memory
+TextsAreParsed = (origin : Option NameValue) (fields : List ℕ → List Kind) (text own : List ℕ) (error : DataTextError)
+    → IsTextOf origin fields text own → FailsText origin fields text error → error ≡ Memory
 
 -- If a text is octets in the form that any data have, parsing it fails for no other reason than memory, or that they are no data of
 -- the type.
 abbrev pub GenericIsParsed : Type 0
-GenericIsParsed = (origin : Option NameValue) (kinds : List Kind) (text own : List ℕ) (error : DataTextError)
-    → IsGeneric text own → FailsText origin kinds text error → (error ≡ Memory) ⊎ (¬ (ArePlain kinds own))
+GenericIsParsed = (origin : Option NameValue) (fields : List ℕ → List Kind) (text own : List ℕ) (error : DataTextError)
+    → IsGeneric text own → FailsText origin fields text error → (error ≡ Memory) ⊎ (¬ (ArePlain (fields own) own))
 
 -- No text is two lists of octets. A bitmap of types does not say that its items are below 256, so the law supposes it.
 abbrev pub DataAreUnambiguous : Type 0
-DataAreUnambiguous = (origin : Option NameValue) (kinds : List Kind) (text own other : List ℕ) → IsOctets own → IsOctets other
-    → IsTextOf origin kinds text own → IsTextOf origin kinds text other → own ≡ other
+DataAreUnambiguous = (origin : Option NameValue) (fields : List ℕ → List Kind) (text own other : List ℕ) → IsOctets own → IsOctets other
+    → IsTextOf origin fields text own → IsTextOf origin fields text other → own ≡ other
 
 -- What is parsed of data that were printed are their octets, with names that are not compressed, if these are not more than data
 -- may have.
 abbrev pub PrintedDataAreSame : Type 0
 PrintedDataAreSame = (origin : Option NameValue) (r : RecordValue) (text own : List ℕ) → AreBytes r.message → IsDataText r text → IsOctets own
-    → IsTextOf origin (fields_of (code_of r.record_type)) text own
+    → IsTextOf origin (fields_of (class_code r.class) (code_of r.record_type)) text own
     → IsPlainData r own ⊎ ((long : List ℕ) × IsPlainData r long × (max_data < length long))

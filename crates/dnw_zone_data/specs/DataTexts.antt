@@ -6,7 +6,7 @@ use Rattle.dnw_base.specs.Decoder.{Decoder}
 use Rattle.dnw_base.specs.RecordTypes.{type_code}
 use Rattle.dnw_base.specs.Names.{NameValue}
 use Rattle.dnw_data.specs.declared.kind.Kind.{Kind}
-use Rattle.dnw_data.specs.declared.kind.Kind.TheVariants.{LongTime, Locator, LongCounted, Shaped, Octets}
+use Rattle.dnw_data.specs.declared.kind.Kind.TheVariants.{LongTime, Locator, ChaosAddress, LongCounted, Shaped, Octets}
 use Rattle.dnw_data.specs.declared.kind.Kind.TheVariants as kinds
 use Rattle.dnw_data.specs.declared.kind.ListKind.TheVariants.{Prefixes, Names}
 use Rattle.dnw_data.specs.declared.kind.Shown.TheVariants.{Hex, Other}
@@ -30,6 +30,7 @@ use Rattle.dnw_data.specs.FieldWires.{IsLong, field_wire}
 abbrev pub has_field_text : Kind → Bool
 has_field_text LongTime = false
 has_field_text Locator = false
+has_field_text ChaosAddress = false
 has_field_text (LongCounted shown) = false
 has_field_text (Shaped shape) = false
 has_field_text (Octets Other) = false
@@ -79,14 +80,25 @@ abbrev pub without_space : List ℕ → List ℕ
 without_space [] = []
 without_space (c ∷ cs) = if c == 32 then cs else c ∷ cs
 
+abbrev pub has_fields : List Kind → Bool
+has_fields [] = false
+has_fields (kind ∷ kinds) = true
+
+-- A text without a word is that of data that are left out, and of no others.
+abbrev pub is_blank : List Kind → List ℕ → Bool
+is_blank kinds text = has_fields kinds && length (after_spaces text) == 0
+
 -- the text of the fields
 abbrev pub IsOwnText : FieldsLeft → List ℕ → Type 0
 IsOwnText left text =
-    (has_own_form left.kinds ≡ true) × (own : List ℕ) × PrintsFields left.kinds left.reader own × (text ≡ without_space own)
+    (has_own_form left.kinds ≡ true) × (own : List ℕ) × PrintsFields left.kinds left.reader own × (is_blank left.kinds own ≡ false)
+    × (text ≡ without_space own)
 
 -- there is none
 abbrev pub LacksText : FieldsLeft → Type 0
-LacksText left = (has_own_form left.kinds ≡ false) ⊎ HasNoText left.kinds left.reader
+LacksText left =
+    (has_own_form left.kinds ≡ false) ⊎ HasNoText left.kinds left.reader
+    ⊎ ((own : List ℕ) × PrintsFields left.kinds left.reader own × (is_blank left.kinds own ≡ true))
 
 -- Types that have no name here, and of which many servers know no text: X25, ISDN, NSAP-PTR, GPOS, DHCID, NINFO, RKEY, TALINK,
 -- DSYNC, L32, LP, AVC, RESINFO, WALLET, CLA and DLV.
@@ -97,13 +109,16 @@ little_known =
 unfoldable pub is_little_known : ℕ → Bool
 is_little_known code = list_any (λ known. known == code) little_known
 
+-- data of this record's type have no form that is printed; data that are left out have no need of one
+abbrev pub is_unprinted : RecordValue → Bool
+is_unprinted r = is_little_known (type_code r.record_type) && has_fields (record_fields r).kinds
+
 -- the text of the data of a record: of a type that is little known it is in the form of any data, which each server reads
 -- (RFC 3597, section 5)
 abbrev pub IsDataText : RecordValue → List ℕ → Type 0
 IsDataText r text =
-    ((is_little_known (type_code r.record_type) ≡ false) × IsOwnText (record_fields r) text)
-    ⊎ (((is_little_known (type_code r.record_type) ≡ true) ⊎ LacksText (record_fields r)) × (own : List ℕ) × IsPlainData r own
-    × (text ≡ generic_text own))
+    ((is_unprinted r ≡ false) × IsOwnText (record_fields r) text)
+    ⊎ (((is_unprinted r ≡ true) ⊎ LacksText (record_fields r)) × (own : List ℕ) × IsPlainData r own × (text ≡ generic_text own))
 
 -- ---- parsing
 
@@ -118,18 +133,29 @@ IsFieldsText origin kinds text own =
 abbrev pub IsGenericData : List Kind → List ℕ → List ℕ → Type 0
 IsGenericData kinds text own = IsGeneric text own × ArePlain kinds own
 
-abbrev pub IsTextOf : Option NameValue → List Kind → List ℕ → List ℕ → Type 0
-IsTextOf origin kinds text own = IsGenericData kinds text own ⊎ IsFieldsText origin kinds text own
+-- octets in place of those that a text in the type's own form is, as far as the kinds of fields go by them: none if there is no
+-- word, else one
+abbrev pub stand_in : List ℕ → List ℕ
+stand_in [] = []
+stand_in (c ∷ cs) = 1 ∷ []
+
+-- the kinds of the fields of a text in the type's own form, if data have fields of these kinds by their octets
+abbrev pub text_kinds : (List ℕ → List Kind) → List ℕ → List Kind
+text_kinds fields text = fields (stand_in (after_spaces text))
+
+abbrev pub IsTextOf : Option NameValue → (List ℕ → List Kind) → List ℕ → List ℕ → Type 0
+IsTextOf origin fields text own = IsGenericData (fields own) text own ⊎ IsFieldsText origin (text_kinds fields text) text own
 
 -- why what is after `\#` is no data of a type, in a text of this length: no number and octets, or the octets are no such data
-abbrev pub FailsGeneric : List Kind → ℕ → List ℕ → DataTextError → Type 0
-FailsGeneric kinds len left e =
+abbrev pub FailsGeneric : (List ℕ → List Kind) → ℕ → List ℕ → DataTextError → Type 0
+FailsGeneric fields len left e =
     FailsSized len left e ⊎ (e ≡ Memory)
-    ⊎ ((own : List ℕ) × IsSized left own × (¬ (ArePlain kinds own)) × (e ≡ fault 1 (len - length (hex_words left)) Data))
+    ⊎ ((own : List ℕ) × IsSized left own × (¬ (ArePlain (fields own) own)) × (e ≡ fault 1 (len - length (hex_words left)) Data))
 
 -- why a text is no data of a type
-abbrev pub FailsText : Option NameValue → List Kind → List ℕ → DataTextError → Type 0
-FailsText origin kinds text e =
-    ((word (after_spaces text) ≡ generic_mark) × FailsGeneric kinds (length text) (after_word (after_spaces text)) e)
+abbrev pub FailsText : Option NameValue → (List ℕ → List Kind) → List ℕ → DataTextError → Type 0
+FailsText origin fields text e =
+    let kinds = text_kinds fields text in
+    ((word (after_spaces text) ≡ generic_mark) × FailsGeneric fields (length text) (after_word (after_spaces text)) e)
     ⊎ ((word (after_spaces text) ≢ generic_mark) × (has_own_form kinds ≡ false) × (e ≡ fault 0 (length text - length (after_spaces text)) Generic))
     ⊎ ((word (after_spaces text) ≢ generic_mark) × (has_own_form kinds ≡ true) × ((e ≡ Memory) ⊎ FailsFields origin (length kinds) (length text) kinds text e))

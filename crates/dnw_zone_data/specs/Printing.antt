@@ -7,7 +7,7 @@ use Rattle.dnw_base.specs.Decoder.{Decoder}
 use Rattle.dnw_base.specs.Names.{label_wire}
 use Rattle.dnw_base.specs.RecordTypes.{type_text}
 use Rattle.dnw_data.specs.declared.kind.Kind.{Kind}
-use Rattle.dnw_data.specs.declared.kind.Kind.TheVariants.{Counted, Octets, U48, U64}
+use Rattle.dnw_data.specs.declared.kind.Kind.TheVariants.{Counted, Octets, U16, U48, U64}
 use Rattle.dnw_data.specs.declared.kind.Shown.TheVariants.{Text, Tag, Hex, Base32Hex, Base64}
 use Rattle.dnw_data.specs.Values.{FieldValue, name, u8, u16, u32, u48, u64, ipv4, ipv6, type_code, time, counted, octets, texts, types, params}
 use Rattle.dnw_data.specs.Values.{prefixes, names, long_counted, shaped}
@@ -31,6 +31,11 @@ base64_part (o ∷ own) = 32 ∷ base64_text (o ∷ own)
 
 abbrev pub PrintsTime : ℕ → List ℕ → Type 0
 PrintsTime seconds text = (date : List ℕ) × IsDateText date seconds × (text ≡ 32 ∷ date)
+
+-- a number of two octets; an address of Chaosnet has no text here
+abbrev pub PrintsU16 : Kind → ℕ → List ℕ → Type 0
+PrintsU16 U16 n text = text ≡ 32 ∷ decimal n
+PrintsU16 kind n text = ⊥
 
 -- an identifier of six octets, or of eight; other numbers of so many octets have no text here
 abbrev pub PrintsU48 : Kind → ℕ → List ℕ → Type 0
@@ -71,7 +76,7 @@ PrintsStrings own text = (strings : List (List ℕ)) × AreStrings own strings �
 abbrev pub Prints : Kind → FieldValue → List ℕ → Type 0
 Prints kind (name labels) text = text ≡ 32 ∷ full_name_text labels
 Prints kind (u8 n) text = text ≡ 32 ∷ decimal n
-Prints kind (u16 n) text = text ≡ 32 ∷ decimal n
+Prints kind (u16 n) text = PrintsU16 kind n text
 Prints kind (u32 n) text = text ≡ 32 ∷ decimal n
 Prints kind (u48 n) text = PrintsU48 kind n text
 Prints kind (u64 n) text = PrintsU64 kind n text

@@ -2,15 +2,18 @@
 ghost use Rattle.std.specs.Prelude.{◌≡◌, ◌≤◌, ◌⊎◌, ◌++◌, ℕ, List, [], length, flat_map, IfOk, MatchBool, MatchResult, string_bytes};
 ghost use Rattle.std.specs.List.{list_all};
 ghost use Rattle.std.specs.Option.{option_copied};
+ghost use Rattle.dnw_base.specs.DnsClasses.{class_code};
 ghost use Rattle.dnw_base.specs.RecordTypes.{type_code};
 ghost use Rattle.dnw_name_read.specs.ReadingLaws.{AreBytes};
 ghost use Rattle.dnw_data.specs.Table.{fields_of};
 ghost use Rattle.dnw_data.specs.Values.{FieldValue};
+ghost use Rattle.dnw_record.specs.RecordFields.{record_fields};
 ghost use Rattle.dnw_zone_data.specs.declared.error.DataTextError.TheVariants.{Memory};
 ghost use Rattle.dnw_zone_data.specs.Parsing.{AreFieldTexts, FailsFields};
 ghost use Rattle.dnw_data.specs.FieldWires.{field_wire};
 ghost use Rattle.dnw_zone_data.specs.Generic.{IsSized};
-ghost use Rattle.dnw_zone_data.specs.DataTexts.{has_own_form, has_field_text, is_little_known, is_octets, without_space, ArePlain, IsPlainData, IsDataText, IsTextOf, FailsGeneric, FailsText};
+ghost use Rattle.dnw_zone_data.specs.DataTexts.{has_fields, has_own_form, has_field_text, is_blank, is_little_known, is_octets, stand_in};
+ghost use Rattle.dnw_zone_data.specs.DataTexts.{without_space, ArePlain, IsPlainData, IsDataText, IsTextOf, FailsGeneric, FailsText};
 ghost use Rattle.dnw_zone_data.specs.Inside.Wires.{AppendsWires};
 
 use crate::error::{DataTextError, Wanted};
@@ -18,6 +21,7 @@ use crate::generic::{Generic, MARK, hex_words, parse_sized};
 use crate::parsing::{Place, parse_fields};
 use crate::printing::{is_ended, next_field, write_fields};
 use crate::words::{after_spaces, split_word};
+use dnw_base::dns_class::DNSClass;
 use dnw_base::record_type::RecordType;
 use dnw_data::fields::Fields;
 use dnw_data::kind::{Kind, ListKind, Shown};
@@ -28,16 +32,17 @@ use std::alloc::{AllocError, Global};
 
 /// Returns the text of the data of a record in a master file: its fields with a space between them, or the form that any data
 /// have, as `\# 4 0A000001`, if its type or a field has no text, if many servers know no text of the type (RFC 3597, section
-/// 5), or if the data are no fields of their type.
+/// 5), or if the data are no fields of their class and type. Data that are left out, under NONE or ANY, have an empty text.
 ///
 /// It fails only if it runs out of memory.
 pub fn data_text(alloc: Global, record: &RecordRef<'_>) -> Result<String, AllocError>
     ensures { IfOk result (λ text. IsDataText «record».now (string_bytes text)) }
 {
-    let kinds = fields_of(record.record_type());
-    if !is_little_known(record.record_type()) && has_own_form(kinds) {
+    let kinds = record.kinds();
+    if !(is_little_known(record.record_type()) && has_fields(kinds)) && has_own_form(kinds) {
         let mut text = String::new(alloc);
-        if write_fields(alloc, kinds, &mut record.fields(), &mut text)? {
+        let is_written = write_fields(alloc, kinds, &mut record.fields(), &mut text)?;
+        if is_written && !is_blank(kinds, text.as_str()) {
             return without_space(alloc, text.as_str());
         }
     }
@@ -45,41 +50,43 @@ pub fn data_text(alloc: Global, record: &RecordRef<'_>) -> Result<String, AllocE
     format!(in alloc; "{}", Generic(octets.as_slice()))
 }
 
-/// Returns the octets of the data that a text is, for a type, with names that are not compressed. The text is in the type's
-/// own form or in that of any data, `\# 4 0A000001`; an origin completes names without a dot at their end. Octets in the form of
-/// any data have to be data of the type, without compression pointers, as RFC 3597 wants it (sections 4 and 5): so what is
-/// returned can be put into any message.
+/// Returns the octets of the data that a text is, for a class and a type, with names that are not compressed. The text is in
+/// the type's own form or in that of any data, `\# 4 0A000001`; an origin completes names without a dot at their end. Octets in
+/// the form of any data have to be data of the class and type, without compression pointers, as RFC 3597 wants it (sections 4
+/// and 5): so what is returned can be put into any message. An empty text is data that are left out, under NONE or ANY.
 ///
 /// Parentheses and comments are not part of a text. It fails with the number of the first field that is not as wanted, and
 /// where in the text it should be.
 pub fn parse(
     alloc: Global,
+    class: DNSClass,
     record_type: RecordType,
     text: &str,
     origin: Option<&Name>,
 ) -> Result<Vec<u8>, DataTextError>
-    ensures { MatchResult result (λ own. IsTextOf (option_copied origin.entry) (fields_of (type_code record_type)) text.now own.items)
-        (FailsText (option_copied origin.entry) (fields_of (type_code record_type)) text.now) }
+    ensures { MatchResult result (λ own. IsTextOf (option_copied origin.entry) (fields_of (class_code class) (type_code record_type)) text.now own.items)
+        (FailsText (option_copied origin.entry) (fields_of (class_code class) (type_code record_type)) text.now) }
 {
-    parse_bytes(alloc, record_type, text.as_bytes(), origin)
+    parse_bytes(alloc, class, record_type, text.as_bytes(), origin)
 }
 
 /// Returns the octets of the data that the bytes of a text are, as `parse` does.
 pub fn parse_bytes(
     alloc: Global,
+    class: DNSClass,
     record_type: RecordType,
     text: &[u8],
     origin: Option<&Name>,
 ) -> Result<Vec<u8>, DataTextError>
-    ensures { MatchResult result (λ own. IsTextOf (option_copied origin.entry) (fields_of (type_code record_type)) text.now own.items)
-        (FailsText (option_copied origin.entry) (fields_of (type_code record_type)) text.now) }
+    ensures { MatchResult result (λ own. IsTextOf (option_copied origin.entry) (fields_of (class_code class) (type_code record_type)) text.now own.items)
+        (FailsText (option_copied origin.entry) (fields_of (class_code class) (type_code record_type)) text.now) }
 {
     let start = after_spaces(text);
     let (word, rest) = split_word(start);
     if word == MARK {
-        return parse_generic(alloc, record_type, rest, text.len());
+        return parse_generic(alloc, class, record_type, rest, text.len());
     }
-    let kinds = fields_of(record_type);
+    let kinds = fields_of(class, record_type, stand_in(start));
     if !has_own_form(kinds) {
         return Err(DataTextError::Wanted {
             field: 0,
@@ -90,19 +97,31 @@ pub fn parse_bytes(
     parse_own(alloc, kinds, text, origin)
 }
 
-/// Returns the octets after `\#` in a text of this length, if they are data of the type.
+/// Returns octets in place of those that a text in the type's own form is, which begins here.
+fn stand_in(start: &[u8]) -> &'static [u8]
+    ensures { result.now ≡ stand_in start.now }
+{
+    if start.is_empty() {
+        return &[];
+    }
+    &[1]
+}
+
+/// Returns the octets after `\#` in a text of this length, if they are data of the class and type.
 fn parse_generic(
     alloc: Global,
+    class: DNSClass,
     record_type: RecordType,
     left: &[u8],
     len: usize,
 ) -> Result<Vec<u8>, DataTextError>
     requires within { length left.now ≤ len }
-    ensures { MatchResult result (λ own. IsSized left.now own.items × ArePlain (fields_of (type_code record_type)) own.items)
-        (FailsGeneric (fields_of (type_code record_type)) len left.now) }
+    ensures { MatchResult result (λ own. IsSized left.now own.items
+        × ArePlain (fields_of (class_code class) (type_code record_type) own.items) own.items)
+        (FailsGeneric (fields_of (class_code class) (type_code record_type)) len left.now) }
 {
     let octets = parse_sized(alloc, left, len)?;
-    if is_plain(alloc, record_type, octets.as_slice())? {
+    if is_plain(alloc, class, record_type, octets.as_slice())? {
         return Ok(octets);
     }
     Err(DataTextError::Wanted {
@@ -112,21 +131,36 @@ fn parse_generic(
     })
 }
 
-/// Returns `true` if octets are data of a type, and no name in them is compressed.
-fn is_plain(alloc: Global, record_type: RecordType, octets: &[u8]) -> Result<bool, AllocError>
-    ensures { IfOk result (λ is. MatchBool is (ArePlain (fields_of (type_code record_type)) octets.now) (¬ (ArePlain (fields_of (type_code record_type)) octets.now))) }
+/// Returns `true` if octets are data of a class and a type, and no name in them is compressed.
+fn is_plain(
+    alloc: Global,
+    class: DNSClass,
+    record_type: RecordType,
+    octets: &[u8],
+) -> Result<bool, AllocError>
+    ensures { IfOk result (λ is. let kinds = fields_of (class_code class) (type_code record_type) octets.now in
+        MatchBool is (ArePlain kinds octets.now) (¬ (ArePlain kinds octets.now))) }
 {
-    let mut fields = Fields::new(octets, 0, record_type);
+    let kinds = fields_of(class, record_type, octets);
+    let mut fields = Fields::new(octets, 0, class, record_type);
     let mut written = Vec::new(alloc);
-    let are_fields = append_fields(fields_of(record_type), &mut fields, &mut written)?;
-    Ok(is_written_as(record_type, octets, are_fields, written.as_slice()))
+    let are_fields = append_fields(kinds, &mut fields, &mut written)?;
+    Ok(is_written_as(class, record_type, octets, are_fields, written.as_slice()))
 }
 
 /// Returns `true` if octets are fields, and what these are written as are the same octets.
-fn is_written_as(record_type: RecordType, octets: &[u8], are_fields: bool, written: &[u8]) -> bool
+fn is_written_as(
+    class: DNSClass,
+    record_type: RecordType,
+    octets: &[u8],
+    are_fields: bool,
+    written: &[u8],
+) -> bool
     requires bytes { AreBytes octets.now }
-    requires appends { AppendsWires (fields_of (type_code record_type)) (record { bytes = octets.now; index = 0 }) [] written.now are_fields }
-    ensures { MatchBool result (ArePlain (fields_of (type_code record_type)) octets.now) (¬ (ArePlain (fields_of (type_code record_type)) octets.now)) }
+    requires appends { AppendsWires (fields_of (class_code class) (type_code record_type) octets.now)
+        (record { bytes = octets.now; index = 0 }) [] written.now are_fields }
+    ensures { let kinds = fields_of (class_code class) (type_code record_type) octets.now in
+        MatchBool result (ArePlain kinds octets.now) (¬ (ArePlain kinds octets.now)) }
 {
     if !are_fields {
         return false;
@@ -164,6 +198,20 @@ fn is_little_known(record_type: RecordType) -> bool
     )
 }
 
+/// Returns `true` if there are such kinds.
+fn has_fields(kinds: &[Kind]) -> bool
+    ensures { result ≡ has_fields kinds.now }
+{
+    matches!(kinds, [_, ..])
+}
+
+/// Returns `true` if a text of fields of these kinds would be that of data that are left out.
+fn is_blank(kinds: &[Kind], text: &str) -> bool
+    ensures { result ≡ is_blank kinds.now text.now }
+{
+    has_fields(kinds) && after_spaces(text.as_bytes()).is_empty()
+}
+
 /// Returns `true` if data of these kinds have a form of their own.
 fn has_own_form(kinds: &[Kind]) -> bool
     ensures { result ≡ has_own_form kinds.now }
@@ -193,6 +241,7 @@ fn has_field_text(kind: Kind) -> bool
         kind,
         Kind::LongTime
             | Kind::Locator
+            | Kind::ChaosAddress
             | Kind::LongCounted(_)
             | Kind::Shaped(_)
             | Kind::Octets(Shown::Other)
@@ -217,7 +266,7 @@ fn plain_octets(
     record: &RecordRef<'_>,
     kinds: &[Kind],
 ) -> Result<Vec<u8>, AllocError>
-    requires { kinds.now ≡ fields_of (type_code «record».now.record_type) }
+    requires { kinds.now ≡ (record_fields «record».now).kinds }
     ensures { IfOk result (λ own. IsPlainData «record».now own.items) }
 {
     let mut octets = Vec::new(alloc);

@@ -4,7 +4,7 @@ ghost use Rattle.dnw_data.specs.Values.{seen};
 ghost use Rattle.std.specs.Option.{option_map};
 ghost use Rattle.dnw_data.specs.Walks.{IsAtEnd};
 ghost use Rattle.dnw_zone_data.specs.Inside.Steps.{ReadsNext};
-ghost use Rattle.dnw_zone_data.specs.Printing.{Prints, PrintsU48, PrintsU64, PrintsTime, PrintsCounted, PrintsOctets, PrintsStrings, AppendsFields};
+ghost use Rattle.dnw_zone_data.specs.Printing.{Prints, PrintsU16, PrintsU48, PrintsU64, PrintsTime, PrintsCounted, PrintsOctets, PrintsStrings, AppendsFields};
 ghost use Rattle.dnw_zone_data.specs.Appending.{Appended, AppendedInPart};
 
 use crate::name::write_name;
@@ -74,7 +74,7 @@ fn write_field(
             write_name(name, out)?;
         }
         Field::U8(number) => write!(out, " {number}")?,
-        Field::U16(number) => write!(out, " {number}")?,
+        Field::U16(number) => return write_u16(kind, *number, out),
         Field::U32(number) => write!(out, " {number}")?,
         Field::U48(number) => return write_u48(kind, *number, out),
         Field::U64(number) => return write_u64(kind, *number, out),
@@ -93,6 +93,17 @@ fn write_field(
         Field::Prefixes(_) | Field::Names(_) | Field::LongCounted(_) | Field::Shaped(_) => {
             return Ok(false);
         }
+    }
+    Ok(true)
+}
+
+/// Appends the text of a number of two octets. Returns `false` if it is an address of Chaosnet.
+fn write_u16(kind: Kind, number: u16, out: &mut String) -> Result<bool, AllocError>
+    ensures { IfOk result (Appended (PrintsU16 kind number) (string_bytes out.old) (string_bytes out.new)) }
+{
+    match kind {
+        Kind::U16 => write!(out, " {number}")?,
+        _ => return Ok(false),
     }
     Ok(true)
 }

@@ -9,7 +9,7 @@ use Rattle.std.proofs.lemmas.List.{take_at, drop_at}
 use Rattle.dnw_base.specs.Names.{NameValue, AreLabels}
 use Rattle.dnw_base.specs.declared.dns_class.DNSClass.{DNSClass}
 use Rattle.dnw_base.specs.declared.dns_class.DNSClass.TheVariants.{OPT, Unknown}
-use Rattle.dnw_base.specs.DnsClasses.{class_code, class_of_code, class_text, named_classes}
+use Rattle.dnw_base.specs.DnsClasses.{class_code, class_of_code, class_text}
 use Rattle.dnw_base.specs.RecordTypes.{type_code, type_of_code, type_text}
 use Rattle.dnw_base.proofs.PrintedClasses.{classes_come_back}
 use Rattle.dnw_base.proofs.PrintedTypes.{types_come_back}
@@ -25,17 +25,17 @@ use Rattle.dnw_zone_lexer.specs.Times.{groups_after, time_seconds, total_seconds
 use Rattle.dnw_zone_data.specs.NameTexts.{full_name_text}
 use Rattle.dnw_zone_data.specs.Words.{is_end, word, after_word}
 use Rattle.dnw_base.specs.Limits.{max_data}
-use Rattle.dnw_zone_data.specs.DataTexts.{IsTextOf}
+use Rattle.dnw_zone_data.specs.DataTexts.{IsTextOf, text_kinds}
 use Rattle.dnw_zone_data.specs.NameReading.{named_at}
-use Rattle.dnw_zone_record.specs.RecordLines.{record_line, next_word, after_next_word, line_octets, IsRecordLine, IsTtlWord, IsClassWord, IsTypeWord, IsHead, IsDataOf, IsAfterOwner, HasClassNext}
+use Rattle.dnw_zone_record.specs.declared.record_line.LineHead.{LineHead}
+use Rattle.dnw_zone_record.specs.RecordLines.{record_line, spaced, next_word, after_next_word, line_octets, IsRecordLine, IsTtlWord, IsClassWord, IsTypeWord, IsHead, IsDataOf, IsAfterOwner, HasClassNext}
 use Rattle.dnw_zone_record.specs.RecordTextLaws.{line_head, LinesComeBack}
 use Rattle.dnw_zone_data.proofs.DataBack.{back, same_start}
 use Rattle.dnw_zone_data.proofs.FieldValues.{labels_fit}
 use Rattle.dnw_zone_data.proofs.FieldsBack.{type_plain, type_some}
-use Rattle.dnw_zone_data.proofs.Items.{find_code}
 use Rattle.dnw_zone_data.proofs.NamesBack.{name_is, name_len}
 use Rattle.dnw_zone_data.proofs.Plain.{all_plain, decimal_plain, plain_after, plain_append, plain_starts, plain_utf8, plain_word}
-use Rattle.dnw_zone_data.proofs.TypesBack.{code_back}
+use Rattle.dnw_data.proofs.Codes.{class_back, code_back}
 
 -- ---- words
 
@@ -70,10 +70,6 @@ ttl_word n few =
     let group = ap (groups_after None) (sym (append-nil (decimal n))) ∙ digits_group n (omega (arith, few)) [] in
     (plain_utf8 (decimal n) (decimal_plain n (omega (arith, few))), time_of (decimal n) n (decimal_nonempty n (omega (arith, few))) group, few)
 
-pub class_back : (code : ℕ) → class_code (class_of_code code) ≡ code
-unfolding class_of_code
-class_back code = find_code (λ (class : DNSClass). class_code class) code named_classes (Unknown code) refl
-
 class_plain : (class : DNSClass) → class_code class < 65536 → (all_plain (class_text class) ≡ true) × (0 < length (class_text class))
 class_plain (OPT size) h =
     let code = class_code (OPT size) in
@@ -84,14 +80,28 @@ class_plain class h = (refl, omega arith)
 
 -- ---- lines
 
--- a space before data is left out
-after_space : (origin : Option NameValue) (kinds : List Kind) (text own : List ℕ) → IsTextOf origin kinds text own → IsTextOf origin kinds (32 ∷ text) own
-after_space origin kinds text own (inl generic) = inl generic
-after_space origin kinds text own (inr (other, form, values, are, e)) = inr (other, form, values, same_start origin kinds text (32 ∷ text) values refl are, e)
+-- the kinds of the fields of the data, by their octets
+abbrev pub head_fields : LineHead → List ℕ → List Kind
+head_fields head = fields_of (class_code head.class) (type_code head.record_type)
 
-pub without_space : (origin : Option NameValue) (kinds : List Kind) (text own : List ℕ) → IsTextOf origin kinds (32 ∷ text) own → IsTextOf origin kinds text own
-without_space origin kinds text own (inl generic) = inl generic
-without_space origin kinds text own (inr (other, form, values, are, e)) = inr (other, form, values, same_start origin kinds (32 ∷ text) text values refl are, e)
+-- a space before data is left out
+after_space : (origin : Option NameValue) (fields : List ℕ → List Kind) (text own : List ℕ) → IsTextOf origin fields text own
+    → IsTextOf origin fields (spaced text) own
+after_space origin fields [] own is = is
+after_space origin fields (c ∷ cs) own (inl generic) = inl generic
+after_space origin fields (c ∷ cs) own (inr (other, form, values, are, e)) =
+    inr (other, form, values, same_start origin (text_kinds fields (c ∷ cs)) (c ∷ cs) (32 ∷ c ∷ cs) values refl are, e)
+
+pub without_space : (origin : Option NameValue) (fields : List ℕ → List Kind) (text own : List ℕ) → IsTextOf origin fields (spaced text) own
+    → IsTextOf origin fields text own
+without_space origin fields [] own is = is
+without_space origin fields (c ∷ cs) own (inl generic) = inl generic
+without_space origin fields (c ∷ cs) own (inr (other, form, values, are, e)) =
+    inr (other, form, values, same_start origin (text_kinds fields (c ∷ cs)) (32 ∷ c ∷ cs) (c ∷ cs) values refl are, e)
+
+spaced_end : (text : List ℕ) → is_end (spaced text) ≡ true
+spaced_end [] = refl
+spaced_end (c ∷ cs) = refl
 
 slice_fit : (xs : List ℕ) (i j : ℕ) → IsOctets xs → IsOctets (slice_range xs i j)
 slice_fit xs i j h = take_fit (j - i) (drop i xs) (drop_fit i xs h)
@@ -110,15 +120,15 @@ pub record IsReadRecord (r : RecordValue) : Type 0 where
 
 -- what is after the owner
 abbrev pub line_rest : RecordValue → List ℕ → List ℕ
-line_rest r text = 32 ∷ (decimal r.ttl ++ (32 ∷ (class_text r.class ++ (32 ∷ (type_text r.record_type ++ (32 ∷ text))))))
+line_rest r text = 32 ∷ (decimal r.ttl ++ (32 ∷ (class_text r.class ++ (32 ∷ (type_text r.record_type ++ spaced text)))))
 
-pub head_back : (r : RecordValue) (text : List ℕ) → IsReadRecord r → IsHead (line_rest r text) (line_head r) (32 ∷ text)
+pub head_back : (r : RecordValue) (text : List ℕ) → IsReadRecord r → IsHead (line_rest r text) (line_head r) (spaced text)
 head_back r text is =
     let code : type_code r.record_type ≡ is.type_number = ap (λ k. type_code k) is.type_is ∙ code_back is.type_number in
     let number : class_code r.class ≡ is.class_number = ap (λ k. class_code k) is.class_is ∙ class_back is.class_number in
     let small : type_code r.record_type < 65536 = omega (arith, is.type_few, code) in
     let low : class_code r.class < 65536 = omega (arith, is.class_few, number) in
-    let rest4 = 32 ∷ text in
+    let rest4 = spaced text in
     let rest3 : List ℕ = 32 ∷ (type_text r.record_type ++ rest4) in
     let rest2 : List ℕ = 32 ∷ (class_text r.class ++ rest3) in
     let few : r.ttl < 2 ^ 64 = omega (arith, is.ttl_few) in
@@ -126,7 +136,7 @@ head_back r text is =
     let shape = class_plain r.class low in
     let name = plain_next (class_text r.class) rest3 shape.0 shape.1 refl in
     let plain = type_plain r.record_type small in
-    let last = plain_next (type_text r.record_type) rest4 plain (type_some r.record_type) refl in
+    let last = plain_next (type_text r.record_type) rest4 plain (type_some r.record_type) (spaced_end text) in
     let is_ttl : IsTtlWord (next_word (32 ∷ decimal r.ttl ++ rest2)) r.ttl = subst (λ (w : List ℕ). IsTtlWord w r.ttl) (sym ttl.0) (ttl_word r.ttl is.ttl_few) in
     let is_class : IsClassWord (next_word rest2) r.class =
     subst (λ (w : List ℕ). IsClassWord w r.class) (sym name.0)
@@ -156,13 +166,13 @@ split origin r text is =
       left = ap after_word whole ∙ left;
     }
 
-line_back : (origin : Option NameValue) (r : RecordValue) (text own : List ℕ) → IsReadRecord r → IsDataOf origin r.record_type (32 ∷ text) own
+line_back : (origin : Option NameValue) (r : RecordValue) (text own : List ℕ) → IsReadRecord r → IsDataOf origin r.class r.record_type (spaced text) own
     → IsRecordLine origin (record_line r text) (line_octets r.owner (line_head r) own)
 unfolding IsRecordLine
 line_back origin r text own is data_is =
     let parts = split origin r text is in
     let octets = line_octets r.owner (line_head r) own in
-    let after : IsAfterOwner origin r.owner (line_rest r text) octets = (line_head r, 32 ∷ text, own, head_back r text is, data_is, refl) in
+    let after : IsAfterOwner origin r.owner (line_rest r text) octets = (line_head r, spaced text, own, head_back r text is, data_is, refl) in
     (r.owner, parts.named, subst (λ (xs : List ℕ). IsAfterOwner origin r.owner xs octets) (sym parts.left) after)
 
 pub record_read : (b : List ℕ) (labels : List (List ℕ)) (p end k : ℕ) → AreBytes b → NameAt b p labels end k → IsReadRecord (record_of b labels end)
@@ -196,7 +206,7 @@ lines origin b p e r text h at print =
         | inr few ↦ elim done [
           | inl many ↦ inl many
           | inr (inl shown) ↦ inr (inl shown)
-          | inr (inr is) ↦ inr (inr (line_back origin r text own read (after_space origin (fields_of (type_code r.record_type)) text own is, few)))
+          | inr (inr is) ↦ inr (inr (line_back origin r text own read (after_space origin (head_fields (line_head r)) text own is, few)))
         ]
       ],
     )

@@ -8,7 +8,6 @@ use Rattle.dnw_base.specs.DnsClasses.{class_code}
 use Rattle.dnw_base.specs.RecordTypes.{type_code, type_of_text}
 use Rattle.dnw_base.specs.declared.dns_class.DNSClass.{DNSClass}
 use Rattle.dnw_base.specs.declared.record_type.RecordType.{RecordType}
-use Rattle.dnw_data.specs.Table.{fields_of}
 use Rattle.dnw_zone_values.specs.Octets.{IsOctets}
 use Rattle.dnw_name_read.specs.ReadingLaws.{AreBytes}
 use Rattle.dnw_record.specs.Records.{RecordValue}
@@ -16,8 +15,8 @@ use Rattle.dnw_zone_data.specs.Words.{after_word}
 use Rattle.dnw_zone_record.specs.declared.record_line.LineHead.{LineHead}
 use Rattle.dnw_zone_data.specs.DataTexts.{IsTextOf}
 use Rattle.dnw_zone_record.specs.RecordTextLaws.{line_head, LinesAreUnambiguous, PrintedLinesAreSame}
-use Rattle.dnw_zone_record.specs.RecordLines.{record_line, after_next_word, line_octets, next_word, HasClassNext, HasTtlAndClass, IsHead, IsRecordLine}
-use Rattle.dnw_zone_record.proofs.LinesBack.{IsReadRecord, head_back, line_rest, record_read, split, without_space}
+use Rattle.dnw_zone_record.specs.RecordLines.{record_line, spaced, after_next_word, line_octets, next_word, HasClassNext, HasTtlAndClass, IsHead, IsRecordLine}
+use Rattle.dnw_zone_record.proofs.LinesBack.{IsReadRecord, head_back, head_fields, line_rest, record_read, split, without_space}
 use Rattle.dnw_zone_data.proofs.OneBitmap.{back_fit}
 use Rattle.dnw_zone_data.proofs.OneText.{printed, unambiguous}
 
@@ -56,26 +55,26 @@ unfolding IsRecordLine
 unambiguous_lines origin line a b h k (owner, named, (head, text, own, is, (spelled, few), e)) (named_by, also, (other, rest, data_of, are, (text_of, low), f)) =
     let same_owner = same_Some owner named_by (sym named ∙ also) in
     let (same_head, same_text) = one_head (after_word line) head other text rest is are in
-    let moved : IsTextOf origin (fields_of (type_code other.record_type)) rest own =
-    subst (λ (x : LineHead). IsTextOf origin (fields_of (type_code x.record_type)) rest own) same_head (subst (λ (t : List ℕ). IsTextOf origin (fields_of (type_code head.record_type)) t own) same_text spelled) in
-    let same = unambiguous origin (fields_of (type_code other.record_type)) rest own data_of (own_fit owner head own a e h) (own_fit named_by other data_of b f k) moved text_of in
+    let moved : IsTextOf origin (head_fields other) rest own =
+    subst (λ (x : LineHead). IsTextOf origin (head_fields x) rest own) same_head (subst (λ (t : List ℕ). IsTextOf origin (head_fields head) t own) same_text spelled) in
+    let same = unambiguous origin (head_fields other) rest own data_of (own_fit owner head own a e h) (own_fit named_by other data_of b f k) moved text_of in
     e ∙ ap (λ (ls : List (List ℕ)). line_octets ls head own) same_owner ∙ ap (λ (x : LineHead). line_octets named_by x own) same_head
     ∙ ap (λ (xs : List ℕ). line_octets named_by other xs) same ∙ sym f
 
 -- the data of a line that was printed of a record
 line_data : (origin : Option NameValue) (r : RecordValue) (text octets : List ℕ) → IsReadRecord r → IsRecordLine origin (record_line r text) octets
-    → (own : List ℕ) × IsTextOf origin (fields_of (type_code r.record_type)) text own × (octets ≡ line_octets r.owner (line_head r) own)
+    → (own : List ℕ) × IsTextOf origin (head_fields (line_head r)) text own × (octets ≡ line_octets r.owner (line_head r) own)
 unfolding IsRecordLine
 line_data origin r text octets read (owner, named, (head, rest, own, is, (spelled, few), e)) =
     let parts = split origin r text read in
     let same_owner = same_Some owner r.owner (sym named ∙ parts.named) in
     let moved : IsHead (line_rest r text) head rest = subst (λ (xs : List ℕ). IsHead xs head rest) parts.left is in
-    let (same_head, same_text) = one_head (line_rest r text) head (line_head r) rest (32 ∷ text) moved (head_back r text read) in
-    let whole : IsTextOf origin (fields_of (type_code r.record_type)) (32 ∷ text) own =
-    subst (λ (x : LineHead). IsTextOf origin (fields_of (type_code x.record_type)) (32 ∷ text) own) same_head
-    (subst (λ (t : List ℕ). IsTextOf origin (fields_of (type_code head.record_type)) t own) same_text spelled) in (
+    let (same_head, same_text) = one_head (line_rest r text) head (line_head r) rest (spaced text) moved (head_back r text read) in
+    let whole : IsTextOf origin (head_fields (line_head r)) (spaced text) own =
+    subst (λ (x : LineHead). IsTextOf origin (head_fields x) (spaced text) own) same_head
+    (subst (λ (t : List ℕ). IsTextOf origin (head_fields head) t own) same_text spelled) in (
       own,
-      without_space origin (fields_of (type_code r.record_type)) text own whole,
+      without_space origin (head_fields (line_head r)) text own whole,
       e ∙ ap (λ (ls : List (List ℕ)). line_octets ls head own) same_owner ∙ ap (λ (x : LineHead). line_octets r.owner x own) same_head,
     )
 

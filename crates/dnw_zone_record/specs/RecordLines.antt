@@ -1,6 +1,6 @@
 -- Records as lines of master files (RFC 1035, section 5.1): the owner, a time to live and maybe a class in either order, the
 -- type and the data. Parentheses and comments are no part of a line, nor is anything of a line before it.
-use Rattle.std.specs.Prelude.{◌≡◌, ◌<◌, ◌≤◌, ◌⊎◌, ℕ, decimal, List, ◌∷◌, ◌++◌, length, Option, Some, None}
+use Rattle.std.specs.Prelude.{◌≡◌, ◌<◌, ◌≤◌, ◌⊎◌, ℕ, decimal, List, [], ◌∷◌, ◌++◌, length, Option, Some, None}
 use Rattle.std.specs.Int.{w16, w32, to_be_bytes}
 use Rattle.std.specs.Str.{IsUtf8}
 use Rattle.dnw_base.specs.Names.{NameValue, wire}
@@ -24,10 +24,15 @@ use Rattle.dnw_zone_data.specs.Words.{after_spaces, after_word, word}
 
 -- ---- printing
 
+-- a text after a space, if there is one
+abbrev pub spaced : List ℕ → List ℕ
+spaced [] = []
+spaced (c ∷ cs) = 32 ∷ c ∷ cs
+
 -- a line of a master file: the owner, the time to live, the class, the type and the data
 abbrev pub record_line : RecordValue → List ℕ → List ℕ
 record_line r text =
-    full_name_text r.owner ++ 32 ∷ decimal r.ttl ++ 32 ∷ class_text r.class ++ 32 ∷ type_text r.record_type ++ 32 ∷ text
+    full_name_text r.owner ++ 32 ∷ decimal r.ttl ++ 32 ∷ class_text r.class ++ 32 ∷ type_text r.record_type ++ spaced text
 
 -- ---- words
 
@@ -104,14 +109,14 @@ line_octets owner head own =
     wire owner ++ to_be_bytes w16 (type_code head.record_type) ++ to_be_bytes w16 (class_code head.class) ++ to_be_bytes w32 head.ttl
     ++ to_be_bytes w16 (length own) ++ own
 
--- the text is these data of a type, which are not too many
-abbrev pub IsDataOf : Option NameValue → RecordType → List ℕ → List ℕ → Type 0
-IsDataOf origin kind text own = IsTextOf origin (fields_of (type_code kind)) text own × (length own ≤ max_data)
+-- the text is these data of a class and a type, which are not too many
+abbrev pub IsDataOf : Option NameValue → DNSClass → RecordType → List ℕ → List ℕ → Type 0
+IsDataOf origin class kind text own = IsTextOf origin (fields_of (class_code class) (type_code kind)) text own × (length own ≤ max_data)
 
 -- After the owner is what makes a record of these octets.
 abbrev pub IsAfterOwner : Option NameValue → List (List ℕ) → List ℕ → List ℕ → Type 0
 IsAfterOwner origin owner left octets =
-    (head : LineHead) × (text : List ℕ) × (own : List ℕ) × IsHead left head text × IsDataOf origin head.record_type text own
+    (head : LineHead) × (text : List ℕ) × (own : List ℕ) × IsHead left head text × IsDataOf origin head.class head.record_type text own
     × (octets ≡ line_octets owner head own)
 
 -- A word is the owner, and what is after it makes a record of these octets.
@@ -123,13 +128,14 @@ IsRecordOf origin first rest octets =
 unfoldable pub IsRecordLine : Option NameValue → List ℕ → List ℕ → Type 0
 IsRecordLine origin line octets = IsRecordOf origin (word line) (after_word line) octets
 
--- why a text is no data of a type: a fault, too many octets, or no memory
-abbrev pub FailsDataOf : Option NameValue → RecordType → List ℕ → RecordLineError → Type 0
-FailsDataOf origin kind text (Data NoMemory) = ⊥
-FailsDataOf origin kind text (Data error) = FailsText origin (fields_of (type_code kind)) text error
-FailsDataOf origin kind text TooLong = (own : List ℕ) × IsTextOf origin (fields_of (type_code kind)) text own × (max_data < length own)
-FailsDataOf origin kind text Memory = Unit {0}
-FailsDataOf origin kind text error = ⊥
+-- why a text is no data of a class and type: a fault, too many octets, or no memory
+abbrev pub FailsDataOf : Option NameValue → DNSClass → RecordType → List ℕ → RecordLineError → Type 0
+FailsDataOf origin class kind text (Data NoMemory) = ⊥
+FailsDataOf origin class kind text (Data error) = FailsText origin (fields_of (class_code class) (type_code kind)) text error
+FailsDataOf origin class kind text TooLong =
+    (own : List ℕ) × IsTextOf origin (fields_of (class_code class) (type_code kind)) text own × (max_data < length own)
+FailsDataOf origin class kind text Memory = Unit {0}
+FailsDataOf origin class kind text error = ⊥
 
 -- the text lacks a time to live, or else a type
 abbrev pub FailsHead : List ℕ → RecordLineError → Type 0
@@ -139,7 +145,7 @@ FailsHead left error = (LacksTtl left × (error ≡ NoTimeToLive)) ⊎ (LacksTyp
 abbrev pub FailsAfterOwner : Option NameValue → List ℕ → RecordLineError → Type 0
 FailsAfterOwner origin left error =
     FailsHead left error
-    ⊎ ((head : LineHead) × (text : List ℕ) × IsHead left head text × FailsDataOf origin head.record_type text error)
+    ⊎ ((head : LineHead) × (text : List ℕ) × IsHead left head text × FailsDataOf origin head.class head.record_type text error)
     ⊎ (error ≡ Memory)
 
 -- why there is no record: the first word is no name, or what is after it makes none

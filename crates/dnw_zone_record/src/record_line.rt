@@ -35,7 +35,7 @@ pub enum RecordLineError {
     /// No type is after the time to live and the class.
     #[error("no type")]
     NoType,
-    /// The rest of the line is no data of the type. The offset is counted from after the type.
+    /// The rest of the line is no data of the class and type. The offset is counted from after the type.
     #[error("{0}")]
     Data(DataTextError),
     /// The data have more than 65535 octets.
@@ -66,7 +66,7 @@ pub(crate) struct LineHead {
 }
 
 /// Returns a record as a line of a master file (RFC 1035, section 5.1): the owner, the time to live, the class, the type and
-/// the data, with a space between them.
+/// the data, with a space between them. Of data that are left out, under NONE or ANY, there is nothing (RFC 2136, section 2.4).
 ///
 /// It fails only if it runs out of memory.
 pub fn record_text(alloc: Global, record: &RecordRef<'_>) -> Result<String, AllocError>
@@ -86,12 +86,11 @@ fn line_of(alloc: Global, record: &RecordRef<'_>, text: &str) -> Result<String, 
     let record_type = record.record_type().to_text();
     let mut line = String::new(alloc);
     write_name(record.owner(), &mut line)?;
-    write!(
-        line,
-        " {ttl} {} {} {text}",
-        class.as_str(),
-        record_type.as_str()
-    )?;
+    write!(line, " {ttl} {} {}", class.as_str(), record_type.as_str())?;
+    if text.is_empty() {
+        return Ok(line);
+    }
+    write!(line, " {text}")?;
     Ok(line)
 }
 
@@ -144,7 +143,7 @@ fn after_owner(
     ensures err { IfErr result (FailsAfterOwner (option_copied origin.entry) left.now) }
 {
     let (head, text) = head_of(alloc, left)?;
-    let own = data_of(alloc, head.record_type, text, origin)?;
+    let own = data_of(alloc, head.class, head.record_type, text, origin)?;
     let octets = octets_of(alloc, owner, head, own.as_slice())?;
     Ok(octets)
 }
@@ -260,14 +259,15 @@ fn type_of(word: &[u8]) -> Option<RecordType>
 /// Returns the octets of the data that a text is.
 fn data_of(
     alloc: Global,
+    class: DNSClass,
     record_type: RecordType,
     text: &[u8],
     origin: Option<&Name>,
 ) -> Result<Vec<u8>, RecordLineError>
-    ensures ok { IfOk result (λ own. IsDataOf (option_copied origin.entry) record_type text.now own.items) }
-    ensures err { IfErr result (FailsDataOf (option_copied origin.entry) record_type text.now) }
+    ensures ok { IfOk result (λ own. IsDataOf (option_copied origin.entry) class record_type text.now own.items) }
+    ensures err { IfErr result (FailsDataOf (option_copied origin.entry) class record_type text.now) }
 {
-    match parse_bytes(alloc, record_type, text, origin) {
+    match parse_bytes(alloc, class, record_type, text, origin) {
         Ok(own) if own.len() <= MAX_DATA => Ok(own),
         Ok(_) => Err(RecordLineError::TooLong),
         Err(DataTextError::Memory) => Err(RecordLineError::Memory),

@@ -6,6 +6,7 @@ use dns_names_wire::data_text::{
     DataTextError, Generic, RecordLineError, Wanted, data_text, parse, parse_record, record_text,
 };
 use dns_names_wire::decoder::BinDecoder;
+use dns_names_wire::dns_class::DNSClass;
 use dns_names_wire::field_text::parse_hexadecimal;
 use dns_names_wire::fields::Kind;
 use dns_names_wire::name::Name;
@@ -167,10 +168,16 @@ fn data_have_the_texts_of_dnspython(rt: HostRuntime) -> Result<(), Fail> {
         let octets = record_octets(alloc, *code, data.as_slice())?;
         let record = RecordRef::read_next(&mut BinDecoder::new(octets.as_slice()))?;
         assert_eq!(rt; data_text(alloc, &record)?.as_str(), *text);
-        let parsed = parse(alloc, RecordType::from(*code), text, None)?;
+        let parsed = parse(alloc, DNSClass::IN, RecordType::from(*code), text, None)?;
         assert_eq!(rt; parsed.as_slice(), data.as_slice());
         let generic = format!(in alloc; "{}", Generic(data.as_slice()))?;
-        let parsed = parse(alloc, RecordType::from(*code), generic.as_str(), None)?;
+        let parsed = parse(
+            alloc,
+            DNSClass::IN,
+            RecordType::from(*code),
+            generic.as_str(),
+            None,
+        )?;
         assert_eq!(rt; parsed.as_slice(), data.as_slice());
     }
     Ok(())
@@ -181,11 +188,14 @@ fn data_have_the_texts_of_dnspython(rt: HostRuntime) -> Result<(), Fail> {
 fn any_data_are_parsed_as_octets(rt: HostRuntime) -> Result<(), Fail> {
     let alloc = rt.alloc();
     let unknown = RecordType::from(731);
-    let parsed = parse(alloc, unknown, "\\# 6 abcd ef 01 23 45", None)?;
+    let parsed = parse(alloc, DNSClass::IN, unknown, "\\# 6 abcd ef 01 23 45", None)?;
     assert_eq!(rt; parsed.as_slice(), b"\xab\xcd\xef\x01\x23\x45".as_slice());
-    let parsed = parse(alloc, RecordType::A, "\\# 4 0A000001", None)?;
+    let parsed = parse(alloc, DNSClass::IN, RecordType::A, "\\# 4 0A000001", None)?;
     assert_eq!(rt; parsed.as_slice(), b"\x0a\x00\x00\x01".as_slice());
-    assert_eq!(rt; parse(alloc, unknown, "\\# 0", None)?.len(), 0);
+    assert_eq!(rt;
+        parse(alloc, DNSClass::IN, unknown, "\\# 0", None)?.len(),
+        0
+    );
     Ok(())
 }
 
@@ -193,12 +203,18 @@ fn any_data_are_parsed_as_octets(rt: HostRuntime) -> Result<(), Fail> {
 fn names_are_completed_by_the_origin(rt: HostRuntime) -> Result<(), Fail> {
     let alloc = rt.alloc();
     let origin = Name::from_ascii(alloc, "example.")?;
-    let parsed = parse(alloc, RecordType::MX, "10 mail", Some(&origin))?;
+    let parsed = parse(
+        alloc,
+        DNSClass::IN,
+        RecordType::MX,
+        "10 mail",
+        Some(&origin),
+    )?;
     assert_eq!(rt;
         parsed.as_slice(),
         b"\x00\x0a\x04mail\x07example\x00".as_slice()
     );
-    let parsed = parse(alloc, RecordType::MX, "10 @", Some(&origin))?;
+    let parsed = parse(alloc, DNSClass::IN, RecordType::MX, "10 @", Some(&origin))?;
     assert_eq!(rt; parsed.as_slice(), b"\x00\x0a\x07example\x00".as_slice());
     Ok(())
 }
@@ -208,7 +224,7 @@ fn a_wrong_text_has_its_field_and_offset(rt: HostRuntime) {
     let alloc = rt.alloc();
     assert!(rt;
         matches!(
-            parse(alloc, RecordType::MX, "10  mail", None),
+            parse(alloc, DNSClass::IN, RecordType::MX, "10  mail", None),
             Err(DataTextError::Wanted {
                 field: 1,
                 offset: 4,
@@ -218,7 +234,7 @@ fn a_wrong_text_has_its_field_and_offset(rt: HostRuntime) {
     );
     assert!(rt;
         matches!(
-            parse(alloc, RecordType::A, "192.0.2.1 x", None),
+            parse(alloc, DNSClass::IN, RecordType::A, "192.0.2.1 x", None),
             Err(DataTextError::Wanted {
                 field: 1,
                 offset: 10,
@@ -228,7 +244,7 @@ fn a_wrong_text_has_its_field_and_offset(rt: HostRuntime) {
     );
     assert!(rt;
         matches!(
-            parse(alloc, RecordType::A, "\\# 5 0A000001", None),
+            parse(alloc, DNSClass::IN, RecordType::A, "\\# 5 0A000001", None),
             Err(DataTextError::Wanted {
                 field: 1,
                 offset: 5,
@@ -238,7 +254,7 @@ fn a_wrong_text_has_its_field_and_offset(rt: HostRuntime) {
     );
     assert!(rt;
         matches!(
-            parse(alloc, RecordType::NULL, "0A", None),
+            parse(alloc, DNSClass::IN, RecordType::NULL, "0A", None),
             Err(DataTextError::Wanted {
                 field: 0,
                 offset: 0,
@@ -342,15 +358,22 @@ fn values_may_be_longer_than_a_string(rt: HostRuntime) -> Result<(), Fail> {
     let alloc = rt.alloc();
     let long = "v".repeat(alloc, 300)?;
     let text = format!(in alloc; "0 issue \"{long}\"")?;
-    let parsed = parse(alloc, RecordType::CAA, text.as_str(), None)?;
+    let parsed = parse(alloc, DNSClass::IN, RecordType::CAA, text.as_str(), None)?;
     assert_eq!(rt; parsed.len(), 307);
     let text = format!(in alloc; "10 1 \"{long}\"")?;
     assert_eq!(rt;
-        parse(alloc, RecordType::from(256), text.as_str(), None)?.len(),
+        parse(
+            alloc,
+            DNSClass::IN,
+            RecordType::from(256),
+            text.as_str(),
+            None
+        )?
+        .len(),
         304
     );
     let text = format!(in alloc; "\"{long}\"")?;
-    assert!(rt; parse(alloc, RecordType::TXT, text.as_str(), None).is_err());
+    assert!(rt; parse(alloc, DNSClass::IN, RecordType::TXT, text.as_str(), None).is_err());
     Ok(())
 }
 
@@ -359,14 +382,20 @@ fn values_may_be_longer_than_a_string(rt: HostRuntime) -> Result<(), Fail> {
 #[test]
 fn types_are_parsed_in_any_order(rt: HostRuntime) -> Result<(), Fail> {
     let alloc = rt.alloc();
-    let parsed = parse(alloc, RecordType::NSEC, ". RRSIG a NSEC MX TYPE1 A", None)?;
+    let parsed = parse(
+        alloc,
+        DNSClass::IN,
+        RecordType::NSEC,
+        ". RRSIG a NSEC MX TYPE1 A",
+        None,
+    )?;
     assert_eq!(rt;
         parsed.as_slice(),
         b"\x00\x00\x06\x40\x01\x00\x00\x00\x03".as_slice()
     );
-    let parsed = parse(alloc, RecordType::NSEC, ".", None)?;
+    let parsed = parse(alloc, DNSClass::IN, RecordType::NSEC, ".", None)?;
     assert_eq!(rt; parsed.as_slice(), b"\x00".as_slice());
-    assert!(rt; parse(alloc, RecordType::NSEC, ". A NOTYPE", None).is_err());
+    assert!(rt; parse(alloc, DNSClass::IN, RecordType::NSEC, ". A NOTYPE", None).is_err());
     let octets = record_octets(alloc, 47, b"\x00\x00\x02\x40\x00")?;
     let record = RecordRef::read_next(&mut BinDecoder::new(octets.as_slice()))?;
     assert_eq!(rt; data_text(alloc, &record)?.as_str(), "\\# 5 0000024000");
@@ -387,6 +416,6 @@ fn texts_of_other_forms_are_rejected(rt: HostRuntime) {
         (50, "1 0 0 - 2vptu5timamqttgl4luu9kg21e0aor3w A"),
         (50, "1 0 0 - 2vp A"),
     ] {
-        assert!(rt; parse(alloc, RecordType::from(*code), text, None).is_err());
+        assert!(rt; parse(alloc, DNSClass::IN, RecordType::from(*code), text, None).is_err());
     }
 }

@@ -59,7 +59,7 @@ fn made_again(alloc: Global, data: &RData) -> Result<RData, Fail> {
         };
         fields.push(field)?;
     }
-    match RData::from_fields(alloc, data.record_type(), fields.as_slice()) {
+    match RData::from_fields(alloc, data.class(), data.record_type(), fields.as_slice()) {
         Ok(made) => Ok(made),
         Err(_) => Err(Fail::from("fields of the type")),
     }
@@ -69,7 +69,7 @@ fn made_again(alloc: Global, data: &RData) -> Result<RData, Fail> {
 fn data_of_each_kind_are_made_of_their_fields(rt: HostRuntime) -> Result<(), Fail> {
     let alloc = rt.alloc();
     for (code, octets) in DATA {
-        let Ok(data) = RData::new(alloc, RecordType::from(code), octets) else {
+        let Ok(data) = RData::new(alloc, DNSClass::IN, RecordType::from(code), octets) else {
             return Err(Fail::from("data of the type"));
         };
         let made = made_again(alloc, &data)?;
@@ -83,7 +83,7 @@ fn data_of_each_kind_are_made_of_their_fields(rt: HostRuntime) -> Result<(), Fai
 fn fields_append_the_octets_that_they_are(rt: HostRuntime) -> Result<(), Fail> {
     let alloc = rt.alloc();
     for (code, octets) in DATA {
-        let Ok(data) = RData::new(alloc, RecordType::from(code), octets) else {
+        let Ok(data) = RData::new(alloc, DNSClass::IN, RecordType::from(code), octets) else {
             return Err(Fail::from("data of the type"));
         };
         let mut out = Vec::new(alloc);
@@ -110,12 +110,12 @@ fn octets_of_another_shape_are_reported(rt: HostRuntime) -> Result<(), Fail> {
         Field::U8(10),
         Field::Shaped(Shaped::new(Shape::Relay, b"\x01\xcb\x00\x71\x0f")?),
     ];
-    assert!(rt; RData::from_fields(alloc, data, &relay).is_ok());
+    assert!(rt; RData::from_fields(alloc, DNSClass::IN, data, &relay).is_ok());
     let gateway = [
         Field::U8(10),
         Field::Shaped(Shaped::new(Shape::Gateway, b"\x00\x02")?),
     ];
-    assert!(rt; RData::from_fields(alloc, data, &gateway).is_err());
+    assert!(rt; RData::from_fields(alloc, DNSClass::IN, data, &gateway).is_err());
     assert!(rt; Shaped::new(Shape::Relay, b"\x01\xcb\x00\x71").is_err());
     assert!(rt; Shaped::new(Shape::Relay, b"\x01\xcb\x00\x71\x0f\x00").is_err());
     assert!(rt; Shaped::new(Shape::Relay, b"\x03\xc0\x00").is_err());
@@ -140,11 +140,11 @@ fn receivers_decompress_names_of_some_types(rt: HostRuntime) -> Result<(), Fail>
 fn a_list_of_another_kind_is_reported(rt: HostRuntime) -> Result<(), Fail> {
     let alloc = rt.alloc();
     let texts = [Field::Texts(Items::new(ListKind::Texts, b"\x02ab")?)];
-    assert!(rt; RData::from_fields(alloc, RecordType::TXT, &texts).is_ok());
+    assert!(rt; RData::from_fields(alloc, DNSClass::IN, RecordType::TXT, &texts).is_ok());
     let texts = [Field::Texts(Items::new(ListKind::Types, b"\x00\x01\x40")?)];
-    assert!(rt; RData::from_fields(alloc, RecordType::TXT, &texts).is_err());
+    assert!(rt; RData::from_fields(alloc, DNSClass::IN, RecordType::TXT, &texts).is_err());
     let texts = [Field::Texts(Items::new(ListKind::Texts, b"")?)];
-    assert!(rt; RData::from_fields(alloc, RecordType::TXT, &texts).is_err());
+    assert!(rt; RData::from_fields(alloc, DNSClass::IN, RecordType::TXT, &texts).is_err());
     Ok(())
 }
 
@@ -153,7 +153,7 @@ fn data_are_made_of_a_number_and_a_name(rt: HostRuntime) -> Result<(), Fail> {
     let alloc = rt.alloc();
     let exchange = Name::from_ascii(alloc, "b.a.")?;
     let fields = [Field::U16(10), Field::Name(exchange.as_name_ref())];
-    let Ok(data) = RData::from_fields(alloc, RecordType::MX, &fields) else {
+    let Ok(data) = RData::from_fields(alloc, DNSClass::IN, RecordType::MX, &fields) else {
         return Err(Fail::from("fields of an MX record"));
     };
     assert!(rt; data.octets() == b"\x00\x0a\x01b\x01a\x00".as_slice());
@@ -164,7 +164,7 @@ fn data_are_made_of_a_number_and_a_name(rt: HostRuntime) -> Result<(), Fail> {
 fn fields_that_are_not_those_of_the_type_are_reported(rt: HostRuntime) -> Result<(), Fail> {
     let alloc = rt.alloc();
     let number = [Field::U16(10)];
-    let Err(missing) = RData::from_fields(alloc, RecordType::MX, &number) else {
+    let Err(missing) = RData::from_fields(alloc, DNSClass::IN, RecordType::MX, &number) else {
         return Err(Fail::from("a field is missing"));
     };
     assert!(rt;
@@ -181,12 +181,16 @@ fn fields_that_are_not_those_of_the_type_are_reported(rt: HostRuntime) -> Result
         "field 1 of kind Name(Compressible) is missing"
     );
     let numbers = [Field::U16(10), Field::U8(1)];
-    let Err(mismatch) = RData::from_fields(alloc, RecordType::MX, &numbers) else {
+    let Err(mismatch) = RData::from_fields(alloc, DNSClass::IN, RecordType::MX, &numbers) else {
         return Err(Fail::from("a number is no name"));
     };
     assert!(rt; matches!(mismatch, FromFieldsError::Mismatch { field: 1, .. }));
-    let Err(many) = RData::from_fields(alloc, RecordType::from(108), &[Field::U48(1), Field::U8(1)])
-    else {
+    let Err(many) = RData::from_fields(
+        alloc,
+        DNSClass::IN,
+        RecordType::from(108),
+        &[Field::U48(1), Field::U8(1)],
+    ) else {
         return Err(Fail::from("a field too many"));
     };
     assert!(rt; matches!(many, FromFieldsError::TooMany { field: 1 }));
@@ -200,6 +204,7 @@ fn fields_that_are_too_long_are_reported(rt: HostRuntime) -> Result<(), Fail> {
     let fields = [Field::Counted(&long[1..]), Field::Counted(&long)];
     let Err(FromFieldsError::Mismatch { field, .. }) = RData::from_fields(
         alloc,
+        DNSClass::IN,
         RecordType::HINFO,
         &fields,
     ) else {
@@ -207,9 +212,9 @@ fn fields_that_are_too_long_are_reported(rt: HostRuntime) -> Result<(), Fail> {
     };
     assert_eq!(rt; field, 1);
     let number = [Field::U48(1 << 48)];
-    assert!(rt; RData::from_fields(alloc, RecordType::from(108), &number).is_err());
+    assert!(rt; RData::from_fields(alloc, DNSClass::IN, RecordType::from(108), &number).is_err());
     let number = [Field::U48((1 << 48) - 1)];
-    assert!(rt; RData::from_fields(alloc, RecordType::from(108), &number).is_ok());
+    assert!(rt; RData::from_fields(alloc, DNSClass::IN, RecordType::from(108), &number).is_ok());
     Ok(())
 }
 
@@ -237,7 +242,7 @@ fn bytes_and_names_become_records_and_come_back(rt: HostRuntime) -> Result<(), F
         return Err(Fail::from("an address"));
     };
     assert!(rt; record.name == Name::from_ascii(alloc, "a.")?);
-    assert!(rt; record.dns_class == DNSClass::CH);
+    assert!(rt; record.dns_class() == DNSClass::CH);
     assert_eq!(rt; record.ttl, 300);
     let WireRecord { rdata, .. } = record.to_wire_record(alloc)?.ok_or("a record of bytes")?;
     let WireData::Bytes(bytes) = rdata else {

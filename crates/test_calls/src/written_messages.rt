@@ -86,9 +86,8 @@ fn record(
 ) -> ProtoResult<Record> {
     Ok(Record {
         name: Name::from_ascii(alloc, owner)?,
-        dns_class: DNSClass::IN,
         ttl,
-        data: RData::new(alloc, record_type, data).map_err(|_| ProtoError::Memory)?,
+        data: RData::new(alloc, DNSClass::IN, record_type, data).map_err(|_| ProtoError::Memory)?,
     })
 }
 

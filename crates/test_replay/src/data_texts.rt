@@ -3,6 +3,7 @@
 use crate::notation::{BAD_LINE, first_word, hexadecimal, number, octets};
 use dns_names_wire::data_text::{DataTextError, data_text, parse};
 use dns_names_wire::decoder::BinDecoder;
+use dns_names_wire::dns_class::DNSClass;
 use dns_names_wire::error::{ProtoError, ProtoResult};
 use dns_names_wire::record::RecordRef;
 use dns_names_wire::record_type::RecordType;
@@ -42,7 +43,7 @@ fn printed(alloc: Global, code: u16, data: &[u8]) -> ProtoResult<String> {
 
 /// Returns the octets of the data that a text is, or the error.
 fn parsed(alloc: Global, code: u16, text: &str) -> ProtoResult<String> {
-    match parse(alloc, RecordType::from(code), text, None) {
+    match parse(alloc, DNSClass::IN, RecordType::from(code), text, None) {
         Ok(data) => Ok(hexadecimal(alloc, data.as_slice())?),
         Err(DataTextError::Memory) => Err(ProtoError::Memory),
         Err(error) => Ok(format!(in alloc; "err: {error}")?),

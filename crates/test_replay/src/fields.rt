@@ -4,6 +4,7 @@ use crate::notation::{
     BAD_LINE, decode_error_word, first_word, hexadecimal, number, octets, push_word,
 };
 use dns_names_wire::decoder::BinDecoder;
+use dns_names_wire::dns_class::DNSClass;
 use dns_names_wire::error::ProtoResult;
 use dns_names_wire::fields::{
     Field, FieldError, Fields, Items, ListKind, Shape, Shaped, fields_of,
@@ -39,8 +40,9 @@ fn read_in_turn(
     let mut answer = String::new(alloc);
     let mut reader = BinDecoder::new(message);
     reader.skip(start)?;
-    for record_type in fields_of(record_type) {
-        let Ok(field) = Field::read(*record_type, &mut reader) else {
+    let left = message.get(start..).ok_or(BAD_LINE)?;
+    for kind in fields_of(DNSClass::IN, record_type, left) {
+        let Ok(field) = Field::read(*kind, &mut reader) else {
             return Ok(answer);
         };
         push_word(&mut answer, field_word(alloc, &field)?.as_str())?;
@@ -59,7 +61,7 @@ fn walked(
         return Err(BAD_LINE);
     }
     let mut answer = String::new(alloc);
-    for field in Fields::new(message, start, record_type) {
+    for field in Fields::new(message, start, DNSClass::IN, record_type) {
         let word = match field {
             Ok(field) => field_word(alloc, &field)?,
             Err(error) => error_word(alloc, &error)?,
@@ -101,6 +103,7 @@ fn shaped_word(alloc: Global, shaped: &Shaped<'_>) -> Result<String, AllocError>
         Shape::Gateway => "gateway",
         Shape::Relay => "relay",
         Shape::HostIdentity => "identity",
+        Shape::AddressSuffix => "suffix",
     };
     match Shaped::new(shaped.shape(), shaped.as_bytes()) {
         Ok(_) => octets_word(alloc, name, shaped.as_bytes()),

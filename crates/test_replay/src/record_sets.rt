@@ -18,7 +18,7 @@ const ORIGINAL_TTL: usize = 4;
 pub(crate) fn answer(alloc: Global, words: &str) -> ProtoResult<String> {
     let (digits, words) = first_word(words)?;
     let given = octets(alloc, digits)?;
-    let rrsig = data_of(alloc, RecordType::RRSIG, given.as_slice())?;
+    let rrsig = data_of(alloc, DNSClass::IN, RecordType::RRSIG, given.as_slice())?;
     let mut records = Vec::new(alloc);
     for word in words.split(' ') {
         records.push(record(alloc, word)?)?;
@@ -50,9 +50,14 @@ fn signed(alloc: Global, rrsig: &RData, records: &[Record]) -> Result<Vec<u8>, C
     Ok(octets)
 }
 
-/// Returns the data of a type that these octets are.
-fn data_of(alloc: Global, record_type: RecordType, octets: &[u8]) -> ProtoResult<RData> {
-    match RData::new(alloc, record_type, octets) {
+/// Returns the data of a class and a type that these octets are.
+fn data_of(
+    alloc: Global,
+    class: DNSClass,
+    record_type: RecordType,
+    octets: &[u8],
+) -> ProtoResult<RData> {
+    match RData::new(alloc, class, record_type, octets) {
         Ok(data) => Ok(data),
         Err(_) => Err(BAD_LINE),
     }
@@ -65,11 +70,11 @@ pub(crate) fn record(alloc: Global, word: &str) -> ProtoResult<Record> {
     let (kind, rest) = rest.split_once(',').ok_or(BAD_LINE)?;
     let (ttl, digits) = rest.split_once(',').ok_or(BAD_LINE)?;
     let given = octets(alloc, digits)?;
+    let class = DNSClass::from(number::<u16>(class)?);
     let kind = RecordType::from(number::<u16>(kind)?);
     Ok(Record {
         name: Name::from_ascii(alloc, owner)?,
-        dns_class: DNSClass::from(number::<u16>(class)?),
         ttl: number::<u32>(ttl)?,
-        data: data_of(alloc, kind, given.as_slice())?,
+        data: data_of(alloc, class, kind, given.as_slice())?,
     })
 }

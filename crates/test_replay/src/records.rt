@@ -20,7 +20,7 @@ pub(crate) fn answer(alloc: Global, words: &str) -> ProtoResult<String> {
     let (code, data) = first_word(words)?;
     let octets = octets(alloc, data)?;
     let kind = RecordType::from(number::<u16>(code)?);
-    match RData::new(alloc, kind, octets.as_slice()) {
+    match RData::new(alloc, DNSClass::IN, kind, octets.as_slice()) {
         Ok(data) => written(alloc, data),
         Err(RDataError::Field(error)) => {
             let cause = decode_error_word(alloc, &error.cause)?;
@@ -34,7 +34,6 @@ pub(crate) fn answer(alloc: Global, words: &str) -> ProtoResult<String> {
 fn written(alloc: Global, data: RData) -> ProtoResult<String> {
     let record = Record {
         name: Name::root(alloc),
-        dns_class: DNSClass::IN,
         ttl: 0,
         data,
     };

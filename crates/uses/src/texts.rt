@@ -11,7 +11,7 @@ use std::alloc::Global;
 /// record, it returns `None`.
 ///
 /// What is printed is parsed. So it fails only if memory runs out, if the data have more octets than data may have once their
-/// names are whole, or if they are no data of the record's type.
+/// names are whole, or if they are no data of the record's class and type.
 pub fn print_and_parse(alloc: Global, octets: &[u8]) -> Result<Option<Vec<u8>>, DataTextError>
     ensures { IfErr result (λ e. (e ≡ DataTextError.Memory) ⊎ HasLongData octets.now ⊎ HasNoFields octets.now) }
 {
@@ -20,7 +20,13 @@ pub fn print_and_parse(alloc: Global, octets: &[u8]) -> Result<Option<Vec<u8>>, 
         return Ok(None);
     };
     let text = data_text(alloc, &record)?;
-    match parse(alloc, record.record_type(), text.as_str(), None) {
+    match parse(
+        alloc,
+        record.class(),
+        record.record_type(),
+        text.as_str(),
+        None,
+    ) {
         Ok(own) => Ok(Some(own)),
         Err(error) => Err(error),
     }

@@ -3,13 +3,14 @@
 //! The functions do nothing: each exists for its clauses.
 ghost use Rattle.std.specs.Prelude.{◌≡◌};
 ghost use Rattle.dnw_name_order.specs.SortKeys.{max_sort_key};
-ghost use Rattle.dnw_name_order.specs.SortKeyLaws.{KeysCompare, KeysCompareNames, KeysAreEqual, ZonesBegin, KeysAreShort};
+ghost use Rattle.dnw_name_order.specs.SortKeyLaws.{EndedKeysCompare, KeysCompare, KeysCompareNames, KeysAreEqual, ZonesBegin, KeysAreShort};
 ghost use Rattle.dnw_name_order.specs.declared.sort_key.TheConstants.{MAX_SORT_KEY_LENGTH};
 
 /// The plain order of keys, a prefix first, is the canonical order of the labels, and so that of names that are all fully
-/// qualified, or all relative.
+/// qualified, or all relative. If an octet 0 is after each key, the names decide before what is after it.
 pub fn keys_compare()
     ensures labels { KeysCompare }
+    ensures ended { EndedKeysCompare }
     ensures names { KeysCompareNames }
 {}
 

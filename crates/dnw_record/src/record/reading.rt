@@ -12,6 +12,8 @@ use dnw_base::dns_class::DNSClass;
 use dnw_base::error::DecodeError;
 use dnw_base::record_type::RecordType;
 use dnw_data::fields::Fields;
+use dnw_data::kind::Kind;
+use dnw_data::table;
 use dnw_name::binary::BinDecodable;
 use dnw_name::name::Name;
 use dnw_name::name_ref::NameRef;
@@ -145,7 +147,17 @@ impl<'r> RecordRef<'r> {
         ensures { result ≡ record_fields self.now }
     {
         let message = &self.message[..self.start + self.len as usize];
-        Fields::new(message, self.start, self.record_type)
+        Fields::new(message, self.start, self.class, self.record_type)
+    }
+
+    /// Returns the kinds of those fields.
+    #[inline(always)]
+    pub fn kinds(&self) -> &'static [Kind]
+        ensures { result.now ≡ (record_fields self.now).kinds }
+    {
+        let end = self.start + self.len as usize;
+        let data = &self.message[..end][self.start..];
+        table::fields_of(self.class, self.record_type, data)
     }
 
     /// Returns a decoder of the message up to the end of the data, at their start. Names that are read from it may have

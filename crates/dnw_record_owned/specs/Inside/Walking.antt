@@ -8,8 +8,8 @@ use Rattle.dnw_write.specs.Emitting.{Outcome}
 use Rattle.dnw_record.specs.Parts.{EmitsWireParts, Write}
 use Rattle.dnw_record.specs.Records.{RecordValue}
 use Rattle.dnw_record_owned.specs.declared.record.Record.{Record}
-use Rattle.dnw_record_owned.specs.DataPieces.{DataPiece, kinds_of}
-use Rattle.dnw_record_owned.specs.DataCopies.{Copies, TakesPieces, data_start}
+use Rattle.dnw_record_owned.specs.DataPieces.{DataPiece}
+use Rattle.dnw_record_owned.specs.DataCopies.{Copies, TakesPieces, data_start, record_kinds}
 use Rattle.dnw_record_owned.specs.AnyRecords.{EmitsAnyFields, name_of, parts_after, parts_of}
 
 abbrev pub is_name : Kind → Bool
@@ -41,12 +41,11 @@ pub record IsWriting (kinds : List Kind) (start : Decoder) (old : Encoder) (left
 abbrev pub copy_with : RecordValue → List ℕ → Record
 copy_with x octets = record {
   name = name_of x.owner;
-  dns_class = x.class;
   ttl = x.ttl;
-  «data» = record { record_type = x.record_type; octets = octets };
+  «data» = record { class = x.class; record_type = x.record_type; octets = octets };
 }
 
 -- The fields of a record of a message are written as those of its copy are.
 abbrev pub EmitsFieldsOf : RecordValue → Write
 EmitsFieldsOf x v outcome w =
-    (octets : List ℕ) × Copies (kinds_of x.record_type) (data_start x) octets × EmitsAnyFields (copy_with x octets) v outcome w
+    (octets : List ℕ) × Copies (record_kinds x) (data_start x) octets × EmitsAnyFields (copy_with x octets) v outcome w

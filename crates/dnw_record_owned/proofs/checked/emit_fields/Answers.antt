@@ -1,8 +1,6 @@
 -- The owner, the fixed fields and the data are written in turn, as those of a copy are.
 use Rattle.dnw_write.specs.EncoderValue.{value}
-use Rattle.dnw_record_owned.specs.DataCopies.{data_start}
-use Rattle.dnw_record_owned.specs.Inside.Walking.{copy_with}
-use Rattle.dnw_record_owned.proofs.WrittenCopies.{fields_on}
+use Rattle.dnw_record_owned.proofs.WrittenCopies.{copied_on}
 use Rattle.dnw_record_owned.proofs.checked.emit_fields.Goals as goal
 
 pub returns-clause-writes : goal.returns-clause-writes
@@ -10,8 +8,8 @@ returns-clause-writes c =
     let (octets, copied) = c.requires in (
       octets,
       copied,
-      fields_on (copy_with c.args.item.now octets) (data_start c.args.item.now) (value c.args.encoder.now) (value c.emit.new.encoder) (value c.emit_vec.new.self)
+      copied_on c.args.item.now octets (value c.args.encoder.now) (value c.emit.new.encoder) (value c.emit_vec.new.self)
           c.emit_sized.result (value c.emit_sized.new.encoder) copied (rw c.owner.ensures at c.in_ok-emit.ensures.emits)
           (rw (c.fixed_octets.ensures.octets, c.record_type-record_type.ensures, c.class.ensures, c.ttl.ensures) at c.in_ok-emit_vec.ensures.writes)
-          (rw (c.fields_of.ensures, c.record_type-record_type.ensures, c.data_decoder.ensures) at c.emit_sized.ensures.writes),
+          (rw (c.kinds.ensures, c.data_decoder.ensures) at c.emit_sized.ensures.writes),
     )

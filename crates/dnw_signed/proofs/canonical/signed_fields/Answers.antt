@@ -8,7 +8,7 @@ use Rattle.dnw_signed.proofs.canonical.signed_fields.Goals as goal
 
 pub unwrap-requires : goal.unwrap-requires
 unwrap-requires c =
-    let rrsig : IsRrsig c.args.rrsig.now = search (rules, c.if-from.false, c.from.ensures, c.from-2.ensures, c.record_type.ensures) in
+    let rrsig = is_rrsig c.args.rrsig.now _ _ _ (search (rules, c.if-from.false, c.from.ensures, c.from-2.ensures, c.record_type.ensures)) c.octets-octets.ensures.octets c.len.ensures c.if-len.false in
     let p = rrsig_parts c.args.rrsig.now rrsig c.octets-octets.ensures.of_type in
     let long = long_enough c.args.rrsig.now.octets p in
     (skipped c.new-reader.result c.skip.new.self before_signer c.skip.result
@@ -16,7 +16,7 @@ unwrap-requires c =
 
 pub unwrap-signer-requires : goal.unwrap-signer-requires
 unwrap-signer-requires c =
-    let rrsig : IsRrsig c.args.rrsig.now = search (rules, c.if-from.false, c.from.ensures, c.from-2.ensures, c.record_type.ensures) in
+    let rrsig = is_rrsig c.args.rrsig.now _ _ _ (search (rules, c.if-from.false, c.from.ensures, c.from-2.ensures, c.record_type.ensures)) c.octets-octets.ensures.octets c.len.ensures c.if-len.false in
     let p = rrsig_parts c.args.rrsig.now rrsig c.octets-octets.ensures.of_type in
     let long = long_enough c.args.rrsig.now.octets p in
     let at = (skipped c.new-reader.result c.skip.new.self before_signer c.skip.result
@@ -27,7 +27,7 @@ unwrap-signer-requires c =
 
 pub returns-clause-ok : goal.returns-clause-ok
 returns-clause-ok c =
-    let rrsig : IsRrsig c.args.rrsig.now = search (rules, c.if-from.false, c.from.ensures, c.from-2.ensures, c.record_type.ensures) in
+    let rrsig = is_rrsig c.args.rrsig.now _ _ _ (search (rules, c.if-from.false, c.from.ensures, c.from-2.ensures, c.record_type.ensures)) c.octets-octets.ensures.octets c.len.ensures c.if-len.false in
     let p = rrsig_parts c.args.rrsig.now rrsig c.octets-octets.ensures.of_type in
     let long = long_enough c.args.rrsig.now.octets p in
     let at = (skipped c.new-reader.result c.skip.new.self before_signer c.skip.result

@@ -2,6 +2,7 @@
 use Rattle.std.proofs.Common.{◌≡◌, ℕ, List, length, inl, sym, ap, ◌∙◌, subst}
 use Rattle.std.proofs.lemmas.Result.{MatchResult-weaker}
 use Rattle.std.proofs.lemmas.Slice.Eq.{bytes_eq-Decides}
+use Rattle.dnw_base.specs.DnsClasses.{class_code}
 use Rattle.dnw_base.specs.RecordTypes.{type_code}
 use Rattle.dnw_data.specs.Table.{fields_of}
 use Rattle.dnw_zone_data.specs.Words.{after_spaces, after_word, word}
@@ -18,4 +19,4 @@ returns-then-eq c =
     let left : c.split_word.result.1.now ≡ after_word (after_spaces text) = c.split_word.ensures.rest ∙ ap after_word start in
     MatchResult-weaker c.parse_generic.result c.parse_generic.ensures
     (λ own has. inl ((marked, subst (λ (xs : List ℕ). IsSized xs own.items) left has.0), has.1))
-    (λ e fails. inl (marked, subst (λ (xs : List ℕ). FailsGeneric (fields_of (type_code c.args.record_type)) (length text) xs e) left fails))
+    (λ e fails. inl (marked, subst (λ (xs : List ℕ). FailsGeneric (fields_of (class_code c.args.class) (type_code c.args.record_type)) (length text) xs e) left fails))

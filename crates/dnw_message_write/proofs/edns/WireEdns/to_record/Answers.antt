@@ -7,10 +7,10 @@ use Rattle.dnw_message_write.proofs.edns.WireEdns.to_record.Goals as goal
 pub returns-clause-ok : goal.returns-clause-ok
 returns-clause-ok c = record {
   owner = ap (λ (n : NameValue). n.labels) c.root.ensures;
-  record_type = c.in-Ok.ensures.ok.0;
-  class = refl;
+  record_type = c.in-Ok.ensures.ok.1;
+  class = c.in-Ok.ensures.ok.0;
   ttl = c.ttl_of.ensures.value;
-  octets = c.in-Ok.ensures.kept (opt_data c.as_slice.result.now) ∙ (c.as_slice.ensures.value ∙ c.in_ok-options.ensures.ok.0);
+  octets = c.in-Ok.ensures.kept (opt_data _ c.as_slice.result.now) ∙ (c.as_slice.ensures.value ∙ c.in_ok-options.ensures.ok.0);
   fit = c.ttl_of.ensures.fit;
   options = c.in_ok-options.ensures.ok.1;
 }

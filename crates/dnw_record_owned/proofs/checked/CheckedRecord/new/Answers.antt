@@ -5,4 +5,4 @@ pub returns-in_err-check_fields-clause-accepts : goal.returns-in_err-check_field
 returns-in_err-check_fields-clause-accepts c has =
     let (_, copied) = has in
     absurd (not_both _ _ copied.0 c.in_err-check_fields.field-0.0 copied.1
-    (rw (c.fields_of.ensures, c.record_type.ensures, c.data_decoder.ensures) at c.in_err-check_fields.ensures.err))
+    (rw (c.kinds.ensures, c.data_decoder.ensures) at c.in_err-check_fields.ensures.err))
