@@ -328,7 +328,7 @@ static uint32_t write_items(const uint8_t *items, size_t items_len, uint16_t max
     return dnw_message_write(items, items_len, max_size, is_canonical, buffer, size, written);
 }
 
-/* A record of a name `A` whose data are `B.A`, written in three ways and in canonical form (RFC 4034, section 6.2). */
+/* A record of a name `A` whose data are `B.A`, written in four ways and in canonical form (RFC 4034, section 6.2). */
 #define FIELDS "\000\002\000\001\000\000\000\000\000"
 #define ITEM(kind) BYTES(kind "\001A\000" FIELDS "\005\001B\001A\000")
 
@@ -348,7 +348,10 @@ static void writes_messages(void)
     EXPECT(write_items(ITEM("\005"), 512, true, 255, &written) == DNW_DONE);
     EXPECT(written.len == 18 && holds("\001A\000" FIELDS "\005\001B\001A\000", 18));
     EXPECT(write_items(ITEM("\002"), 512, true, 255, &written) == DNW_DONE);
-    EXPECT(written.len == 18 && holds("\001A\000" FIELDS "\005\001B\001A\000", 18));
+    EXPECT(written.len == 18 && holds("\001A\000" FIELDS "\005\001b\001a\000", 18));
+    EXPECT(write_items(ITEM("\002"), 512, false, 255, &written) == DNW_DONE && written.len == 17);
+    EXPECT(holds("\001A\000" FIELDS "\004\001B\300\000", 17));
+    EXPECT(write_items(BYTES("\002\000" FIELDS "\001\001"), 512, false, 255, &written) == DNW_BAD_DATA);
     EXPECT(write_items(BYTES(""), 0, false, 0, &written) == DNW_DONE && written.len == 0 && written.count == 0);
 }
 

@@ -15,12 +15,12 @@ struct list {
     size_t at;
 };
 
-/* The data of a record are written by the kind of its item: as they are, or as a name. */
-static bool write_data(struct model_writer *w, uint8_t kind, bool is_canonical, const uint8_t *data, size_t len,
-                       struct model_name *name)
+/* The data of a record are written by the kind of its item: as the fields of its type, or as a name. */
+static bool write_data(struct model_writer *w, uint8_t kind, bool is_canonical, const uint8_t *list,
+                       const struct dnw_record *record, struct model_name *name)
 {
     if (kind == DNW_ITEM_RECORD)
-        return model_write_bytes(w, data, len);
+        return model_write_fields(w, list, record, is_canonical);
     if (is_canonical && kind != DNW_ITEM_OTHER_NAME)
         model_lower(name);
     return model_write_name(w, name, kind == DNW_ITEM_STANDARD_NAME && !is_canonical);
@@ -34,6 +34,8 @@ static uint32_t write_record(struct model_writer *w, uint8_t kind, bool is_canon
     struct dnw_record record;
     if (model_record(list->bytes, list->len, list->at, &owner, &record) != DNW_DONE)
         return DNW_BAD_ITEM;
+    if (kind == DNW_ITEM_RECORD && model_data_failure(list->bytes, &record) != DNW_DONE)
+        return DNW_BAD_DATA;
     if (kind != DNW_ITEM_RECORD &&
         (model_read(list->bytes, list->len, record.data_offset, &name) != DNW_DONE || name.end != record.end))
         return DNW_BAD_ITEM;
@@ -46,7 +48,7 @@ static uint32_t write_record(struct model_writer *w, uint8_t kind, bool is_canon
         return DNW_MESSAGE_TOO_LONG;
     }
     size_t start = w->offset;
-    if (!write_data(w, kind, is_canonical, data, record.data_len, &name)) {
+    if (!write_data(w, kind, is_canonical, list->bytes, &record, &name)) {
         *w = before;
         return DNW_MESSAGE_TOO_LONG;
     }

@@ -397,3 +397,66 @@ bool model_in_zone(const struct model_name *name, const struct model_name *zone)
             return false;
     }
 }
+
+/* The types of RFC 1035, whose names in data are compressed (RFC 3597, section 4); with addresses of the class CH. */
+static bool compresses(const struct dnw_record *record)
+{
+    uint16_t type = record->record_type;
+    if (type == DNW_TYPE_A)
+        return record->record_class == DNW_CLASS_CH;
+    return (type >= 2 && type <= 9) || type == 12 || type == 14 || type == 15;
+}
+
+bool model_is_lowered(uint16_t type)
+{
+    static const uint8_t types[] = {1,  2,  3,  4,  5,  6,  7,  8,  9,  12, 14, 15,
+                                    17, 18, 21, 24, 26, 30, 33, 35, 36, 38, 39, 46};
+    return type < 256 && memchr(types, type, sizeof types) != NULL;
+}
+
+/* The next field of a record of a message. */
+static uint32_t next_field(const uint8_t *message, const struct dnw_record *record, struct dnw_fields *fields,
+                           struct dnw_field *field)
+{
+    return model_next(message, record->end, record->data_offset, record->record_class, record->record_type, fields, field);
+}
+
+uint32_t model_data_failure(const uint8_t *message, const struct dnw_record *record)
+{
+    struct dnw_fields fields = {record->data_offset, 0};
+    struct dnw_field field;
+    for (;;) {
+        uint32_t failure = next_field(message, record, &fields, &field);
+        if (failure != DNW_DONE || field.kind == DNW_FIELD_END)
+            return failure;
+    }
+}
+
+static bool write_field(struct model_writer *w, const uint8_t *message, const struct dnw_record *record, char letter,
+                        const struct dnw_field *field, bool is_canonical)
+{
+    struct model_name name;
+    size_t head = model_head(letter);
+    if (letter != 'n')
+        return model_write_bytes(w, message + field->offset - head, field->len + head);
+    if (model_read(message, record->end, field->offset, &name) != DNW_DONE)
+        return false;
+    if (is_canonical && model_is_lowered(record->record_type))
+        model_lower(&name);
+    return model_write_name(w, &name, !is_canonical && compresses(record));
+}
+
+bool model_write_fields(struct model_writer *w, const uint8_t *message, const struct dnw_record *record, bool is_canonical)
+{
+    const uint8_t *data = message + record->data_offset;
+    const char *row = model_fields_of(record->record_class, record->record_type, data, record->data_len);
+    struct dnw_fields fields = {record->data_offset, 0};
+    struct dnw_field field;
+    while (next_field(message, record, &fields, &field) == DNW_DONE) {
+        if (field.kind == DNW_FIELD_END)
+            return true;
+        if (!write_field(w, message, record, row[fields.number - 1], &field, is_canonical))
+            return false;
+    }
+    return false;
+}

@@ -73,6 +73,15 @@ size_t model_print(const struct model_name *name, bool is_fqdn, uint8_t *text);
 bool model_write_bytes(struct model_writer *w, const uint8_t *bytes, size_t len);
 bool model_write_name(struct model_writer *w, const struct model_name *name, bool is_compressed);
 
+/* Whether canonical form puts the names of a type in lower case (RFC 4034, section 6.2, and RFC 6840, section 5.1). */
+bool model_is_lowered(uint16_t type);
+
+/* Why the data of a record are none of its type. */
+uint32_t model_data_failure(const uint8_t *message, const struct dnw_record *record);
+
+/* Writes data, which are fields of their type: names are compressed if the type is one of RFC 1035, or are in canonical form. */
+bool model_write_fields(struct model_writer *w, const uint8_t *message, const struct dnw_record *record, bool is_canonical);
+
 /* Writes a list into a message at `out`, which has room for 65,535 bytes, and puts the message's length and its names. */
 uint32_t model_write(const uint8_t *list, size_t list_len, size_t max_size, uint8_t *out,
                      struct dnw_written_names *written);

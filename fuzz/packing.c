@@ -4,41 +4,6 @@
 
 static struct room input, output;
 
-/* The types of RFC 1035, whose names in data are compressed (RFC 3597, section 4). */
-static bool compresses(const struct dnw_record *record)
-{
-    uint16_t type = record->record_type;
-    if (type == DNW_TYPE_A)
-        return record->record_class == DNW_CLASS_CH;
-    return (type >= 2 && type <= 9) || type == 12 || type == 14 || type == 15;
-}
-
-static bool write_field(struct model_writer *w, const uint8_t *message, const struct dnw_record *record, char letter,
-                        const struct dnw_field *field)
-{
-    struct model_name name;
-    size_t head = model_head(letter);
-    if (letter != 'n')
-        return model_write_bytes(w, message + field->offset - head, field->len + head);
-    CHECK(model_read(message, record->end, field->offset, &name) == DNW_DONE);
-    return model_write_name(w, &name, compresses(record));
-}
-
-/* The data are fields of their type. */
-static bool write_fields(struct model_writer *w, const uint8_t *message, const struct dnw_record *record)
-{
-    const char *row = model_fields_of(record->record_class, record->record_type, message + record->data_offset, record->data_len);
-    struct dnw_fields fields = {record->data_offset, 0};
-    struct dnw_field field;
-    for (;;) {
-        CHECK(model_next(message, record->end, record->data_offset, record->record_class, record->record_type, &fields, &field) == DNW_DONE);
-        if (field.kind == DNW_FIELD_END)
-            return true;
-        if (!write_field(w, message, record, row[fields.number - 1], &field))
-            return false;
-    }
-}
-
 static bool write_record(struct model_writer *w, const uint8_t *message, const struct model_name *owner,
                          const struct dnw_record *record)
 {
@@ -47,23 +12,11 @@ static bool write_record(struct model_writer *w, const uint8_t *message, const s
         !model_write_bytes(w, length, 2))
         return false;
     size_t start = w->offset;
-    if (!write_fields(w, message, record))
+    if (!model_write_fields(w, message, record, false))
         return false;
     w->out[start - 2] = (uint8_t)((w->offset - start) >> 8);
     w->out[start - 1] = (uint8_t)(w->offset - start);
     return true;
-}
-
-/* Why the data of a record are none of its type. */
-static uint32_t data_failure(const uint8_t *message, const struct dnw_record *record)
-{
-    struct dnw_fields fields = {record->data_offset, 0};
-    struct dnw_field field;
-    for (;;) {
-        uint32_t failure = model_next(message, record->end, record->data_offset, record->record_class, record->record_type, &fields, &field);
-        if (failure != DNW_DONE || field.kind == DNW_FIELD_END)
-            return failure;
-    }
 }
 
 /* How many octets the OPT record among the additional ones has, or 0, and where it goes on after its owner, the root. */
@@ -106,7 +59,7 @@ static uint32_t write_section(struct model_writer *w, const uint8_t *message, si
             CHECK(section == 3 || record.record_type != DNW_TYPE_OPT);
             if (record.record_type == DNW_TYPE_OPT)
                 continue;
-            uint32_t failure = data_failure(message, &record);
+            uint32_t failure = model_data_failure(message, &record);
             if (failure != DNW_DONE)
                 return failure;
             is_written = write_record(w, message, &name, &record);

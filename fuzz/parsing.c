@@ -46,7 +46,7 @@ static void put_number(uint8_t *out, uint32_t number, size_t count)
 }
 
 /* What is between the owner and the data: type, class and time to live, as a record has them. */
-static uint32_t model_head(struct part *text, uint8_t head[8], uint16_t *type)
+static uint32_t head_of(struct part *text, uint8_t head[8], uint16_t *type)
 {
     uint32_t ttl;
     uint16_t class = DNW_CLASS_IN;
@@ -89,7 +89,7 @@ static uint32_t model_line(struct part text, struct part origin, size_t *len)
     failure = dnw_data_parse(DNW_CLASS_IN, DNW_TYPE_CNAME, word.bytes, word.len, origin.bytes, origin.len, wanted, DNW_FORM_SIZE, len);
     if (failure != DNW_DONE || word.len == 0)
         return DNW_BAD_TEXT;
-    failure = model_head(&text, wanted + *len, &type);
+    failure = head_of(&text, wanted + *len, &type);
     if (failure != DNW_DONE)
         return failure;
     size_t data_len;

@@ -16,16 +16,6 @@ struct data {
 static uint8_t octets[1 << 22], wanted[1 << 22];
 static struct data found[RECORDS];
 
-/* The types whose names canonical form puts in lower case (RFC 4034, section 6.2, and RFC 6840, section 5.1). */
-static bool is_lowered(uint16_t type)
-{
-    static const uint8_t types[] = {2, 3, 4, 5, 6, 7, 8, 9, 12, 14, 15, 17, 18, 21, 24, 26, 30, 33, 35, 36, 38, 39, 46};
-    for (size_t i = 0; i < sizeof types; i++)
-        if (types[i] == type)
-            return true;
-    return false;
-}
-
 /* Puts the data of a record, names whole and lowered or not. Returns why they are none of their type. */
 static uint32_t put_data(const uint8_t *message, const struct dnw_record *record, bool lowers, size_t *at)
 {
@@ -87,7 +77,7 @@ static uint32_t collect(const uint8_t *message, size_t end, size_t start, const 
         CHECK(*count < RECORDS);
         struct data *data = &found[(*count)++];
         data->at = at;
-        failure = put_data(message, &record, is_lowered(covered), &at);
+        failure = put_data(message, &record, model_is_lowered(covered), &at);
         if (failure != DNW_DONE)
             return failure;
         data->len = at - data->at;

@@ -220,7 +220,7 @@ static uint32_t next(struct reader *r, struct model_token *token, bool at_line_s
     return is_line_end(c) ? line_end(r, token) : entry(r, token, c, bytes);
 }
 
-static uint32_t model_next(const uint8_t *text, size_t len, struct dnw_lexer at, struct model_token *token)
+static uint32_t next_token(const uint8_t *text, size_t len, struct dnw_lexer at, struct model_token *token)
 {
     static uint8_t bytes[80000];
     struct reader r = {text, len, at.offset < len ? at.offset : len};
@@ -279,7 +279,7 @@ static void takes_all(const uint8_t *text, size_t len, struct dnw_lexer at)
     for (size_t calls = 1;; calls++) {
         struct model_token token;
         struct dnw_lexer before = at;
-        uint32_t wanted = model_next(text, len, at, &token);
+        uint32_t wanted = next_token(text, len, at, &token);
         uint32_t answer = takes(text, len, &at, left, token.is_open ? NULL : &token);
         CHECK(calls <= left + 1);
         if (token.is_open)

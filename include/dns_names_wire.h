@@ -75,7 +75,7 @@ enum dnw_failure {
     DNW_OWNER_NOT_ROOT = 32,   /* an OPT record whose owner is not the root */
     DNW_CUT_OPTION = 33,       /* an option of an OPT record that is cut */
     DNW_BAD_PARAMS = 34,       /* service parameters that are not in ascending order */
-    DNW_BAD_DATA = 35,         /* a text that is not data of the record type, or has more than 65535 octets of data */
+    DNW_BAD_DATA = 35,         /* a text or octets that are not data of the record type, or more than 65535 octets */
     DNW_NOT_RRSIG = 36,        /* a record that should be an RRSIG and is of another type */
     DNW_NOT_COVERED = 37,      /* an RRSIG that covers none of the records */
     DNW_TOO_FEW_LABELS = 38,   /* an RRSIG whose owner has fewer labels than it counts */
@@ -480,7 +480,7 @@ uint32_t dnw_zone_digest(const uint8_t *apex, size_t apex_len, const uint8_t *re
 enum dnw_item_kind {
     DNW_ITEM_BYTES = 0,          /* two octets of length, and the bytes */
     DNW_ITEM_NAME = 1,           /* a name's wire form */
-    DNW_ITEM_RECORD = 2,         /* a record; its data are written unchanged */
+    DNW_ITEM_RECORD = 2,         /* a record; the names in its data are written as its type says */
     DNW_ITEM_STANDARD_NAME = 3,  /* a record whose data are a name: of a type of RFC 1035, as NS, CNAME and PTR */
     DNW_ITEM_CANONICAL_NAME = 4, /* of a later type that canonical form puts in lower case, as DNAME */
     DNW_ITEM_OTHER_NAME = 5      /* of any other type */
@@ -493,17 +493,19 @@ struct dnw_written_message {
 };
 
 /* Writes the items of a list to a message, one after another, and stores the message. Names of items and owners of
-   records are compressed. Names in data are compressed for DNW_ITEM_STANDARD_NAME, and not for the others. If
-   `is_canonical` is set, names in data are in canonical form instead (RFC 4034, section 6.2): those of
-   DNW_ITEM_STANDARD_NAME and of DNW_ITEM_CANONICAL_NAME are uncompressed and in lower case. The data length is that of
-   the data that are written.
+   records are compressed. The data of a DNW_ITEM_RECORD are the fields of its type, and the names among them are
+   compressed if the type is one of RFC 1035 (RFC 3597, section 4). Those of DNW_ITEM_STANDARD_NAME are compressed, and
+   those of the others are not. If `is_canonical` is set, names in data are in canonical form instead (RFC 4034, section
+   6.2): those of DNW_ITEM_STANDARD_NAME, of DNW_ITEM_CANONICAL_NAME, and of the types that it lists, are uncompressed
+   and in lower case. The data length is that of the data that are written.
 
    It fails with DNW_MESSAGE_TOO_LONG at the first item that would go past `max_size` bytes. Then the message up to that
    item is stored, and `written` has its length and the number of its items: a caller sets the TC bit and the counts of
    its header (RFC 1035, section 4.1.1).
 
-   It fails with DNW_BAD_ITEM at the first octet of the list that does not begin an item; with DNW_NO_MEMORY; and with
-   DNW_NO_ROOM if the message, whole or up to an item that would go past `max_size`, has more than `message_size` bytes.
+   It fails with DNW_BAD_ITEM at the first octet of the list that does not begin an item; with DNW_BAD_DATA at a
+   DNW_ITEM_RECORD whose data are not the fields of its type; with DNW_NO_MEMORY; and with DNW_NO_ROOM if the message,
+   whole or up to an item that would go past `max_size`, has more than `message_size` bytes.
    A buffer of `max_size` bytes is always enough, and so is one as long as the list if its names are wire forms.
    Compressed names are read with the list as their message. */
 uint32_t dnw_message_write(const uint8_t *items, size_t items_len, uint16_t max_size, bool is_canonical, uint8_t *message,

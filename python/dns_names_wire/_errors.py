@@ -255,7 +255,7 @@ class BadParams(DnsError):
 
 
 class BadData(DnsError):
-    """A text that is not data of the record type, or that has more than 65535 octets of data."""
+    """A text or octets that are not data of the record type, or more than 65535 octets of data."""
 
     number = 35
 

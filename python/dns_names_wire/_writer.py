@@ -68,8 +68,9 @@ class MessageWriter:
         self._parts.append([bytes([_NAME]) + wire, bytes([_BYTES, 0, len(codes)]) + codes])
 
     def record(self, owner: Name, record_type: int, record_class: int, ttl: int, data: Union[Name, Bytes]) -> None:
-        """Adds a record. If its data are a `Name`, they are compressed if the type is one of RFC 1035 (RFC 3597,
-        section 4). Bytes are written unchanged. Raises `ValueError` for data of more than 65535 octets."""
+        """Adds a record. Its data are a `Name`, or bytes, which are the fields of the type. The names among them are
+        compressed if the type is one of RFC 1035 (RFC 3597, section 4). Raises `ValueError` for data of more than 65535
+        octets. `finish` raises `BadData` for bytes that are not the fields of the type."""
         wire, _ = wire_of("owner", owner)
         fields = _number("record_type", record_type, 2) + _number("record_class", record_class, 2) + _number("ttl", ttl, 4)
         kind, octets = _RECORD, data.wire if isinstance(data, Name) else _checks.octets("data", data)

@@ -208,7 +208,7 @@ class Records(unittest.TestCase):
             dnw.BadText: "a label, a character or an escape of the text is not allowed",
             dnw.BadTime: "the text is no time to live",
             dnw.UnknownText: "the text names no record type and no class",
-            dnw.BadData: "the text is no data of the record type",
+            dnw.BadData: "not data of the record type",
             dnw.NotUtf8: "the text is not UTF-8",
         }
         for line, error in [

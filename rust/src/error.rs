@@ -223,7 +223,7 @@ pub enum ErrorKind {
     CutOption,
     /// Service parameters that are not in ascending order.
     BadParams,
-    /// A text that is not data of the record type, or that has more than 65535 octets of data.
+    /// A text or octets that are not data of the record type, or more than 65535 octets of data.
     BadData,
     /// A record that should be an RRSIG and is of another type.
     NotRrsig,

@@ -140,8 +140,9 @@ impl MessageWriter {
         self.add_part(|list| add_name(list, name) + add_bytes(list, &[type_high, type_low, class_high, class_low]))
     }
 
-    /// Adds a record. Its data are written unchanged. If they have more than 65535 octets,
-    /// [`finish`](MessageWriter::finish) fails with `MessageTooLong`.
+    /// Adds a record. Its data are the fields of its type; the names among them are compressed if the type is one of
+    /// RFC 1035 (RFC 3597, section 4). [`finish`](MessageWriter::finish) fails with `BadData` if they are not, and with
+    /// `MessageTooLong` if they have more than 65535 octets.
     ///
     /// ```
     /// use dns_names_wire::{Class, MessageWriter, Name, RecordType};

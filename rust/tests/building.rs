@@ -277,7 +277,7 @@ fn texts_that_are_no_records() {
         (ErrorKind::BadText, "a label, a character or an escape of the text is not allowed"),
         (ErrorKind::BadTime, "the text is no time to live"),
         (ErrorKind::UnknownText, "the text names no record type and no class"),
-        (ErrorKind::BadData, "the text is no data of the record type"),
+        (ErrorKind::BadData, "not data of the record type"),
     ];
     for (line, number) in [
         ("", 0),

@@ -74,11 +74,11 @@ pub use Rattle.dnw_data.specs.WholeNames
 pub use Rattle.dnw_data.specs.Table
 pub use Rattle.dnw_data.specs.Values
 pub use Rattle.dnw_data.specs.Walks
-pub use Rattle.dnw_record_owned.specs.DataPieces
-pub use Rattle.dnw_record_owned.specs.DataCopies
-pub use Rattle.dnw_record_owned.specs.AnyRecords
-pub use Rattle.dnw_record_owned.specs.AnyRecordFrames
-pub use Rattle.dnw_record_owned.specs.AnyRecordLaws
+pub use Rattle.dnw_record.specs.DataPieces
+pub use Rattle.dnw_record.specs.DataCopies
+pub use Rattle.dnw_record.specs.AnyRecords
+pub use Rattle.dnw_record.specs.AnyRecordFrames
+pub use Rattle.dnw_record.specs.AnyRecordLaws
 pub use Rattle.dnw_zone_values.specs.Numbers
 pub use Rattle.dnw_zone_values.specs.Octets
 pub use Rattle.dnw_zone_values.specs.Spelling

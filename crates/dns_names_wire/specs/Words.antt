@@ -83,13 +83,12 @@ pub use Rattle.dnw_write.specs.CandidateLaws.{KeepsPreceding, NewPrecede, Writes
 pub use Rattle.dnw_write.specs.CandidateLaws.{StoresPrecede, TrimsPrecede, RewindsPrecede, ItemsPrecede, ItemPrecedes}
 -- Resource records.
 pub use Rattle.dnw_record.specs.Records.{RecordValue, RecordAt, record_of, TakesRecord, FailsRecord, HasDataName, FailsDataName, data_octets}
-pub use Rattle.dnw_record.specs.declared.record.WireRecord.{WireRecord}
+pub use Rattle.dnw_record.specs.declared.wire_record.WireRecord.{WireRecord}
 pub use Rattle.dnw_record.specs.WrittenRecords.{EmitsData, EmitsRecord, NumbersFit}
-pub use Rattle.dnw_record.specs.PassedRecords.{IsSound, PassesFields, PassesRecord, passed_octets, owner_name}
-pub use Rattle.dnw_record.specs.RecordFrames.{frame_data, frame_passed, frame_record}
-pub use Rattle.dnw_record.specs.RecordLaws.{RefusedRecordsUndo, RefusedDataUndo, RefusedPassedUndo, PassedFit, PassedAreRead}
-pub use Rattle.dnw_record.specs.RecordLaws.{PartPrecedes, PartsPrecede, CountedPrecede, DataPrecede, RecordsPrecede, PassedPrecede}
-pub use Rattle.dnw_record.specs.RecordLaws.{KeepsBounded, PartStaysBounded, PartsStayBounded, CountedStayBounded, DataStayBounded, RecordsStayBounded, PassedStayBounded}
+pub use Rattle.dnw_record.specs.RecordFrames.{frame_data, frame_record}
+pub use Rattle.dnw_record.specs.RecordLaws.{RefusedRecordsUndo, RefusedDataUndo}
+pub use Rattle.dnw_record.specs.RecordLaws.{PartPrecedes, PartsPrecede, CountedPrecede, DataPrecede, RecordsPrecede}
+pub use Rattle.dnw_record.specs.RecordLaws.{KeepsBounded, PartStaysBounded, PartsStayBounded, CountedStayBounded, DataStayBounded, RecordsStayBounded}
 pub use Rattle.dnw_record.specs.Parts.{WirePart, EmitsWirePart, EmitsWireParts, EmitsCounted, HasTextOfSize, parts_size, wire_size}
 -- The fields of the data of records.
 pub use Rattle.dnw_record.specs.RecordFields.{record_fields}
@@ -190,19 +189,19 @@ pub use Rattle.dnw_message_write.specs.declared.writer.Entry.{Entry}
 pub use Rattle.dnw_message_header.specs.declared.header.HeaderCounts.{HeaderCounts}
 pub use Rattle.dnw_message_header.specs.declared.header.Metadata.{Metadata}
 -- the data of records of any type, and records that are written from them
-pub use Rattle.dnw_record_owned.specs.declared.record.Record.{Record}
-pub use Rattle.dnw_record_owned.specs.declared.rdata.RDataError.{RDataError}
-pub use Rattle.dnw_record_owned.specs.declared.from_fields.FromFieldsError.{FromFieldsError}
-pub use Rattle.dnw_record_owned.specs.DataPieces.{ArePiecesOf, DataPiece, DataValue, HasPieces, IsData, IsDataOfType, data_kinds, kinds_of, octets_of, piece_octets}
-pub use Rattle.dnw_record_owned.specs.DataCopies.{Copies, FailsToCopy, TakesPiece, TakesPieces, alone, data_start, kinds_at, record_kinds}
-pub use Rattle.dnw_record_owned.specs.GivenFields.{AreFieldsOf, FailsGivenFields, IsFieldOf, front, front_of, given_kinds}
-pub use Rattle.dnw_record_owned.specs.WireRecords.{HaveNameAndOthers, HaveNoName, IsOfWireRecord, SaysData, SaysRecord, wire_data_octets}
-pub use Rattle.dnw_record_owned.specs.AnyRecords.{AnyNumbersFit, EmitsAnyRecord, EmitsCopyOf, EmitsRData, HasFields, IsCopyOf, encoding_of, mode_of, parts_of}
-pub use Rattle.dnw_record_owned.specs.AnyRecordFrames.{frame_any_record, frame_copy}
-pub use Rattle.dnw_record_owned.specs.AnyRecordLaws.{AnyRecordsAreRead, AnyRecordsFit, AnyRecordsPrecede, AnyRecordsStayBounded, CandidatesAreRead, DataHaveFields}
-pub use Rattle.dnw_record_owned.specs.AnyRecordLaws.{NamesKeepRead, NewAreRead, PlainDataAreOctets, ReadsAs, RefusedAnyUndo, WholeDataAreOctets, WritesKeepRead}
-pub use Rattle.dnw_record_owned.specs.AnyRecordLaws.{any_record_size, piece_value, piece_values, written_piece, written_pieces}
-pub use Rattle.dnw_record_owned.specs.AnyRecordFrames.{frame_rdata}
+pub use Rattle.dnw_record.specs.declared.record.Record.{Record}
+pub use Rattle.dnw_record.specs.declared.rdata.RDataError.{RDataError}
+pub use Rattle.dnw_record.specs.declared.from_fields.FromFieldsError.{FromFieldsError}
+pub use Rattle.dnw_record.specs.DataPieces.{ArePiecesOf, DataPiece, DataValue, HasPieces, IsData, IsDataOfType, data_kinds, kinds_of, octets_of, piece_octets}
+pub use Rattle.dnw_record.specs.DataCopies.{Copies, FailsToCopy, TakesPiece, TakesPieces, alone, data_start, kinds_at, record_kinds}
+pub use Rattle.dnw_record.specs.GivenFields.{AreFieldsOf, FailsGivenFields, IsFieldOf, front, front_of, given_kinds}
+pub use Rattle.dnw_record.specs.WireRecords.{HaveNameAndOthers, HaveNoName, IsOfWireRecord, SaysData, SaysRecord, wire_data_octets}
+pub use Rattle.dnw_record.specs.AnyRecords.{AnyNumbersFit, EmitsAnyRecord, EmitsCopyOf, EmitsRData, HasFields, IsCopyOf, encoding_of, mode_of, parts_of}
+pub use Rattle.dnw_record.specs.AnyRecordFrames.{frame_any_record, frame_copy}
+pub use Rattle.dnw_record.specs.AnyRecordLaws.{AnyRecordsAreRead, AnyRecordsFit, AnyRecordsPrecede, AnyRecordsStayBounded, CandidatesAreRead, DataHaveFields}
+pub use Rattle.dnw_record.specs.AnyRecordLaws.{NamesKeepRead, NewAreRead, PlainDataAreOctets, ReadsAs, RefusedAnyUndo, WholeDataAreOctets, WritesKeepRead}
+pub use Rattle.dnw_record.specs.AnyRecordLaws.{any_record_size, piece_value, piece_values, written_piece, written_pieces}
+pub use Rattle.dnw_record.specs.AnyRecordFrames.{frame_rdata}
 -- records in canonical form
 pub use Rattle.dnw_signed.specs.declared.error.CanonicalError.{CanonicalError}
 pub use Rattle.dnw_signed.specs.CanonicalData.{IsCanonical, canonical_piece, canonical_pieces}

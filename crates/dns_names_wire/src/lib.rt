@@ -20,7 +20,8 @@ pub use dnw_name_lower::into_name::IntoName;
 pub use dnw_name_lower::lower_name::LowerName;
 pub use dnw_name_zones::rr_key::RrKey;
 pub use dnw_name_zones::usage::ZoneUsage;
-pub use dnw_record::record::{RecordRef, WireData, WireRecord};
+pub use dnw_record::record_ref::RecordRef;
+pub use dnw_record::wire_record::{WireData, WireRecord};
 pub use dnw_write::binary::BinEncodable;
 pub use dnw_write::encoder::{BinEncoder, NameEncoding, Place, RDataEncoding};
 
@@ -200,16 +201,17 @@ pub mod net {
 
 /// The data of records of any type, and records that are written from them, by the table of `fields`.
 pub mod rdata {
-    pub use dnw_record_owned::checked::CheckedRecord;
-    pub use dnw_record_owned::from_fields::FromFieldsError;
-    pub use dnw_record_owned::laws;
-    pub use dnw_record_owned::rdata::{RData, RDataError};
-    pub use dnw_record_owned::record::Record;
+    pub use dnw_record::checked::CheckedRecord;
+    pub use dnw_record::from_fields::FromFieldsError;
+    pub use dnw_record::rdata::{RData, RDataError};
+    pub use dnw_record::record::Record;
 }
 
 /// Resource records: written whole or not at all, and read without a copy.
 pub mod record {
-    pub use dnw_record::record::{RecordRef, WireData, WireRecord, laws};
+    pub use dnw_record::laws;
+    pub use dnw_record::record_ref::RecordRef;
+    pub use dnw_record::wire_record::{WireData, WireRecord};
 }
 
 /// The types of records.

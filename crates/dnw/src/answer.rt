@@ -1,9 +1,13 @@
 //! What the program answers to its words.
 
 mod messages;
+mod sums;
 
+use dns_names_wire::data_text::RecordLineError;
+use dns_names_wire::dnssec::DnssecError;
 use dns_names_wire::message::{EdnsError, MessageError};
 use dns_names_wire::name_text::NameTextError;
+use dns_names_wire::rdata::RDataError;
 use dns_names_wire::{DecodeError, ProtoError};
 use hex::FromHexError;
 use std::alloc::{AllocError, AllocFailed, Global};
@@ -15,7 +19,7 @@ use thiserror::Error;
 #[derive(Debug, Drop, Error)]
 enum Refusal {
     /// The words ask for nothing that the program does.
-    #[error("usage: dnw message HEX | message - | query NAME TYPE [--edns]")]
+    #[error("usage: dnw message HEX | message - | query NAME TYPE [--edns] | key-tag RECORD | ds RECORD | nsec3 NAME ITERATIONS SALT | zone-digest APEX ALGORITHM -")]
     Usage,
     /// Standard input could not be read.
     #[error("refused: standard input: {0}")]
@@ -29,7 +33,7 @@ enum Refusal {
     /// A message was refused.
     #[error("refused: {0}")]
     Message(MessageError),
-    /// An `OPT` record is outside the additional section.
+    /// An `OPT` record is outside the additional section, or a name or a record could not be read.
     #[error("refused: {0}")]
     Decode(DecodeError),
     /// What the additional section says by EDNS was refused.
@@ -40,6 +44,15 @@ enum Refusal {
         /// What is wrong.
         error: EdnsError,
     },
+    /// A line is no record.
+    #[error("refused: {0}")]
+    Line(RecordLineError),
+    /// The data of a record are not those of its type.
+    #[error("refused: {0}")]
+    Data(RDataError),
+    /// There is no sum.
+    #[error("refused: {0}")]
+    Sum(DnssecError),
 }
 
 impl From<NameTextError> for Refusal {
@@ -63,6 +76,30 @@ impl From<ProtoError> for Refusal {
 impl From<MessageError> for Refusal {
     fn from(e: MessageError) -> Self {
         Refusal::Message(e)
+    }
+}
+
+impl From<DecodeError> for Refusal {
+    fn from(e: DecodeError) -> Self {
+        Refusal::Decode(e)
+    }
+}
+
+impl From<RecordLineError> for Refusal {
+    fn from(e: RecordLineError) -> Self {
+        Refusal::Line(e)
+    }
+}
+
+impl From<RDataError> for Refusal {
+    fn from(e: RDataError) -> Self {
+        Refusal::Data(e)
+    }
+}
+
+impl From<DnssecError> for Refusal {
+    fn from(e: DnssecError) -> Self {
+        Refusal::Sum(e)
     }
 }
 
@@ -115,6 +152,17 @@ fn reply<I: Read>(alloc: Global, words: &[String], input: &mut I) -> Result<Stri
         [command, name, record_type, edns]
             if command.as_str() == "query" && edns.as_str() == "--edns" => {
             messages::query(alloc, name.as_str(), record_type.as_str(), true)
+        }
+        [command, line] if command.as_str() == "key-tag" => sums::tag(alloc, line.as_str()),
+        [command, line] if command.as_str() == "ds" => sums::ds(alloc, line.as_str()),
+        [command, name, iterations, salt] if command.as_str() == "nsec3" => {
+            sums::nsec3(alloc, name.as_str(), iterations.as_str(), salt.as_str())
+        }
+        [command, apex, algorithm, dash]
+            if command.as_str() == "zone-digest" && dash.as_str() == "-" => {
+            let mut zone = Vec::new(alloc);
+            input.read_to_end(&mut zone)?;
+            sums::digest(alloc, apex.as_str(), algorithm.as_str(), zone.as_slice())
         }
         _ => Err(Refusal::Usage),
     }

@@ -78,7 +78,7 @@ pub enum Failure {
     CutOption,
     /// Service parameters are not in ascending order.
     BadParams,
-    /// A text is no data of its record type, or has too many octets of them.
+    /// A text or octets that are not data of the record type, or too many octets of them.
     BadData,
     /// A record is no RRSIG.
     NotRrsig,
@@ -139,7 +139,7 @@ macro_rules! failures {
             OwnerNotRoot = 32, "the OPT record is not owned by the root";
             CutOption = 33, "an option of the OPT record is cut";
             BadParams = 34, "the service parameters are not in ascending order";
-            BadData = 35, "the text is no data of the record type";
+            BadData = 35, "not data of the record type";
             NotRrsig = 36, "the record is no RRSIG";
             NotCovered = 37, "the RRSIG covers none of the records";
             TooFewLabels = 38, "the owner has fewer labels than the RRSIG counts";

@@ -7,10 +7,13 @@ use Rattle.dnw_base.proofs.Wires.{encoded_size_cons}
 use Rattle.dnw_name_read.specs.Reading.{NameAt, Reads, zero_octet, label, pointer}
 use Rattle.dnw_name_read.proofs.Counts.{length_label}
 use Rattle.dnw_write.specs.Encoder.{Encoder}
-use Rattle.dnw_record.specs.Records.{RecordValue}
-use Rattle.dnw_record.specs.RecordLaws.{data_size, passed_size, record_size}
+use Rattle.dnw_record.specs.Records.{RecordValue, fixed_size}
+use Rattle.dnw_record.specs.RecordLaws.{data_size, record_size}
+use Rattle.dnw_record.specs.AnyRecordLaws.{any_record_size}
+use Rattle.dnw_record.specs.DataCopies.{Copies, data_start}
+use Rattle.dnw_record.specs.DataPieces.{kinds_of}
 use Rattle.dnw_record.proofs.Parts.{done_bytes, done_name, fits_fields}
-use Rattle.dnw_record.proofs.Passing.{fits_passed}
+use Rattle.dnw_record.proofs.Going as any_fields
 use Rattle.dnw_c_messages.specs.declared.writing.Kind.{Kind}
 use Rattle.dnw_c_messages.specs.declared.writing.Kind.TheVariants as Kinds
 use Rattle.dnw_c_messages.specs.MessageItems.{AllWireForms, Bytes, EmitsListed, HasLittleRoom, HasNoPointer, HasWireForms, ListedItem, ItemBegins, Name, Record, RecordOfName, TakesListed, TakesOf, WritesItems, WritesWhole, after_one, at_start, block_len, more, none, new_encoder}
@@ -29,45 +32,51 @@ plain : {b : List ℕ} {p e k : ℕ} {ls : List (List ℕ)} → NameAt b p ls e 
 plain {k = k} {ls = ls} at bare = plain_own at.reads (bare ls _ k at)
 
 -- the octets of an item with its names whole
-abbrev item_size : ListedItem → ℕ
-item_size (Bytes bytes) = length bytes
-item_size (Name labels) = encoded_size labels
-item_size (Record x) = passed_size x
-item_size (RecordOfName r) = record_size r
+abbrev IsItemSize : ListedItem → ℕ → Type 0
+IsItemSize (Bytes bytes) n = n ≡ length bytes
+IsItemSize (Name labels) n = n ≡ encoded_size labels
+IsItemSize (Record x) n =
+    (octets : List ℕ) × Copies (kinds_of x.record_type) (data_start x) octets × (n ≡ encoded_size x.owner + fixed_size + length octets)
+IsItemSize (RecordOfName r) n = n ≡ record_size r
 
 few_range : (bytes : List ℕ) (i n : ℕ) → length (slice_range bytes i (i + n)) ≤ n
 few_range bytes i n = omega (arith, length-take (i + n - i) (drop i bytes))
 
 -- The names of a list are wire forms, so an item has as many octets there as it is written with, or more.
-item_own : (kind : Kind) (item : ListedItem) (d after : Decoder) → TakesOf kind d item after → HasWireForms kind d → d.index + item_size item ≤ after.index
-item_own Kinds.Bytes (Bytes bytes) d after (has, is, moved) forms =
+item_own : (kind : Kind) (item : ListedItem) (d after : Decoder) (n : ℕ) → TakesOf kind d item after → HasWireForms kind d → IsItemSize item n
+    → d.index + n ≤ after.index
+item_own Kinds.Bytes (Bytes bytes) d after size (has, is, moved) forms size_is =
     let n = block_len d in
     let end : after.index ≡ d.index + 2 + n = ap (λ (x : Decoder). x.index) moved in
-    omega (arith, end, ap length is, few_range d.bytes (d.index + 2) n)
-item_own Kinds.Name (Name labels) d after (k, takes) forms =
+    omega (arith, size_is, end, ap length is, few_range d.bytes (d.index + 2) n)
+item_own Kinds.Name (Name labels) d after size (k, takes) forms size_is =
     let end : after.index ≡ takes.end = ap (λ (x : Decoder). x.index) takes.moved in
-    omega (arith, end, plain takes.name forms)
-item_own Kinds.Record (Record x) d after (e, at, moved) forms =
+    omega (arith, size_is, end, plain takes.name forms)
+item_own Kinds.Record (Record x) d after size ((e, at, moved), _) forms (octets, copied, size_is) =
     let end : after.index ≡ e = ap (λ (y : Decoder). y.index) moved in
     let own : encoded_size x.owner ≡ encoded_size at.labels = ap (λ (y : RecordValue). encoded_size y.owner) at.is in
     let start : x.start ≡ at.owner_end + 10 = ap (λ (y : RecordValue). y.start) at.is in
-    omega (arith, end, own, start, at.ends, plain at.owner_read forms, few_range x.message x.start x.len)
-item_own (Kinds.RecordOfName encoding) (RecordOfName r) d after (x, (e, at, moved), (owner, _, _, _, name, is, has)) forms =
+    omega (arith, size_is, end, own, start, at.ends, plain at.owner_read forms.0, forms.1 x after octets (e, at, moved) copied)
+item_own (Kinds.RecordOfName encoding) (RecordOfName r) d after size (x, (e, at, moved), (owner, _, _, _, name, is, has)) forms size_is =
     let end : after.index ≡ e = ap (λ (y : Decoder). y.index) moved in
     let own : encoded_size x.owner ≡ encoded_size at.labels = ap (λ (y : RecordValue). encoded_size y.owner) at.is in
     let same : encoded_size r.owner.labels ≡ encoded_size x.owner = ap (λ (n : NameValue). encoded_size n.labels) owner in
     let start : x.start ≡ at.owner_end + 10 = ap (λ (y : RecordValue). y.start) at.is in
     let message : x.message ≡ d.bytes = ap (λ (y : RecordValue). y.message) at.is in
     let there = subst (λ b. NameAt b x.start name.labels (x.start + x.len) has.1) message has.2 in
-    omega (arith, end, own, same, start, at.ends, plain at.owner_read forms.0, ap data_size is, plain there (forms.1 x after (e, at, moved)))
-item_own kind item d after takes forms = absurd takes
+    omega (arith, size_is, end, own, same, start, at.ends, plain at.owner_read forms.0, ap data_size is, plain there (forms.1 x after (e, at, moved)))
+item_own kind item d after size takes forms size_is = absurd takes
 
 item_written : (item : ListedItem) (v w : Encoder) → EmitsListed item v (Ok tt) w
-    → (w.offset ≤ v.offset + item_size item) × (w.offset ≤ v.max_size) × (w.max_size ≡ v.max_size)
-item_written (Bytes bytes) v w h = let (few, within, same, _) = done_bytes bytes v w h in (few, within, same)
-item_written (Name labels) v w h = let (few, within, same, _) = done_name (record { is_fqdn = true; labels = labels }) v w h in (few, within, same)
-item_written (Record x) v w h = let (few, within, same, _) = (fits_passed x).done v w h.1 in (few, within, same)
-item_written (RecordOfName r) v w h = let (few, within, same, _) = (fits_fields r).done v w h.1 in (few, within, same)
+    → (n : ℕ) × IsItemSize item n × (w.offset ≤ v.offset + n) × (w.offset ≤ v.max_size) × (w.max_size ≡ v.max_size)
+item_written (Bytes bytes) v w h = let (few, within, same, _) = done_bytes bytes v w h in (length bytes, refl, few, within, same)
+item_written (Name labels) v w h =
+    let (few, within, same, _) = done_name (record { is_fqdn = true; labels = labels }) v w h in (encoded_size labels, refl, few, within, same)
+item_written (Record x) v w (r, (owner, _, _, _, copied), h) =
+    let (few, within, same, _) = (any_fields.fits_fields r).done v w h.1 in
+    let size = omega (arith, ap (λ (n : NameValue). encoded_size n.labels) owner) in
+    (any_record_size r, (r.data.octets, copied, size), few, within, same)
+item_written (RecordOfName r) v w h = let (few, within, same, _) = (fits_fields r).done v w h.1 in (record_size r, refl, few, within, same)
 
 -- ---- a list
 
@@ -95,7 +104,7 @@ written start empty none = record {
 written start empty (more count d next item v w before takes emits) =
     let h = written start empty before in
     let (onward, within, bytes) = item_onward item d next takes in
-    let (few, inside, kept) = item_written item v w emits in
+    let (size, size_is, few, inside, kept) = item_written item v w emits in
     record {
       begins = after_one d next item h.begins takes;
       within = within;
@@ -105,7 +114,7 @@ written start empty (more count d next item v w before takes emits) =
       maximum = kept ∙ h.maximum;
       short = λ forms.
           let (kind, is, taken) = takes in
-          let own = item_own kind item (advanced d 1) next taken (forms d kind h.begins is) in
+          let own = item_own kind item (advanced d 1) next size taken (forms d kind h.begins is) size_is in
           omega (arith, few, h.short forms, own);
     }
 

@@ -8,20 +8,21 @@ use Rattle.dnw_write.specs.Encoder.{Encoder}
 use Rattle.dnw_write.specs.EmittedName.{EmitsAs, Share, in_mode}
 use Rattle.dnw_write.specs.EmittingLaws.{fails_unchanged, frame}
 use Rattle.dnw_write.specs.NameFrames.{frame_name}
-use Rattle.dnw_record.specs.RecordFrames.{frame_fields, frame_passed, frame_passed_fields, frame_record}
+use Rattle.dnw_record.specs.AnyRecordFrames.{frame_any_fields, frame_copy}
+use Rattle.dnw_record.specs.RecordFrames.{frame_fields, frame_record}
 use Rattle.dnw_c_messages.specs.declared.writing.Kind.{Kind}
 use Rattle.dnw_c_messages.specs.declared.writing.Kind.TheVariants as Kinds
 use Rattle.dnw_c_base.specs.Failures.{of_proto}
 use Rattle.dnw_c_base.specs.declared.failure.Failure.{Failure}
 use Rattle.dnw_c_messages.specs.MessageItems.{ListedItem, Bytes, Name, Record, RecordOfName, EmitsListed, FailsToCopyOf, TakesOf, TakesListed, WritesItems, none, more}
 use Rattle.dnw_c_base.proofs.Starts.{takes_onward, takes_within}
-use Rattle.dnw_record.proofs.Reading.{record_own}
+use Rattle.dnw_record.proofs.RecordReading.{record_own}
 
 -- an item that is written at the buffer's end ends there
 pub item_ends : (item : ListedItem) (v w : Encoder) → v.offset ≡ length v.bytes → EmitsListed item v (Ok tt) w → w.offset ≡ length w.bytes
 item_ends (Bytes bytes) v w e h = (frame v bytes (Ok tt) w e h).ends
 item_ends (Name labels) v w e h = (frame_name (record { is_fqdn = true; labels = labels }) v (Ok tt) w e h).ends
-item_ends (Record x) v w e h = (frame_passed x v (Ok tt) w e h).ends
+item_ends (Record x) v w e h = (frame_copy x v (Ok tt) w e h).ends
 item_ends (RecordOfName r) v w e h = (frame_record r v (Ok tt) w e h).ends
 
 -- a name that is not written changes nothing
@@ -36,8 +37,8 @@ pub item_undone : (item : ListedItem) (v w : Encoder) (error : ProtoError) → v
     → w.bytes ≡ v.bytes
 item_undone (Bytes bytes) v w error e h = ap (λ (x : Encoder). x.bytes) (fails_unchanged v bytes error w h)
 item_undone (Name labels) v w error e h = ap (λ (x : Encoder). x.bytes) (name_unchanged v (in_mode v.encoding labels) h.choice error w h.written_as)
-item_undone (Record x) v w error e (u, fields, is) =
-    ap (λ (y : Encoder). y.bytes) is ∙ (frame_passed_fields x v (Err error) u e fields).bytes
+item_undone (Record x) v w error e (r, copy, u, fields, is) =
+    ap (λ (y : Encoder). y.bytes) is ∙ (frame_any_fields r v (Err error) u e fields).bytes
 item_undone (RecordOfName r) v w error e (u, fields, is) =
     ap (λ (x : Encoder). x.bytes) is ∙ (frame_fields r v (Err error) u e fields).bytes
 
@@ -49,7 +50,7 @@ taken_within Kinds.Bytes (Bytes bytes) d after (has, is, moved) =
 taken_within Kinds.Name (Name labels) d after (k, takes) =
     let further = takes_onward takes in
     (omega (arith, further), takes_within takes, ap (λ (x : Decoder). x.bytes) takes.moved)
-taken_within Kinds.Record (Record x) d after (e, at, moved) =
+taken_within Kinds.Record (Record x) d after ((e, at, moved), fields) =
     let (further, inside) = record_own at in
     rw moved (omega (arith, further), inside, refl)
 taken_within (Kinds.RecordOfName encoding) (RecordOfName r) d after (x, (e, at, moved), is) =

@@ -15,24 +15,27 @@ use Rattle.dnw_write.specs.Emitting.{Outcome}
 use Rattle.dnw_write.specs.EmittedName.{EmitsName}
 use Rattle.dnw_write.specs.declared.encoder.modes.RDataEncoding.{RDataEncoding}
 use Rattle.dnw_write.specs.declared.encoder.modes.RDataEncoding.TheVariants.{StandardRecord, Canonical, Other}
-use Rattle.dnw_record.specs.declared.record.WireRecord.{WireRecord}
-use Rattle.dnw_record.specs.declared.record.WireData.TheVariants as Data
+use Rattle.dnw_record.specs.declared.wire_record.WireRecord.{WireRecord}
+use Rattle.dnw_record.specs.declared.wire_record.WireData.TheVariants as Data
 use Rattle.dnw_record.specs.Records.{RecordValue, TakesRecord, FailsRecord, HasDataName, FailsDataName}
-use Rattle.dnw_record.specs.PassedRecords.{PassesRecord, owner_name}
+use Rattle.dnw_record.specs.AnyRecords.{EmitsCopyOf, HasFields, name_of}
+use Rattle.dnw_record.specs.DataCopies.{Copies, FailsToCopy, data_start}
+use Rattle.dnw_record.specs.DataPieces.{kinds_of}
+use Rattle.dnw_record.specs.declared.rdata.RDataError.{RDataError}
 use Rattle.dnw_record.specs.WrittenRecords.{EmitsRecord}
 use Rattle.dnw_name_read.specs.Buffers.{put}
 use Rattle.dnw_c_base.specs.Failures.{of_proto}
 use Rattle.dnw_c_base.specs.Offsets.{at_offset}
 use Rattle.dnw_c_base.specs.declared.failure.Failure.{Failure}
-use Rattle.dnw_c_base.specs.declared.failure.Failure.TheVariants.{BadItem, MessageTooLong, NoRoom}
+use Rattle.dnw_c_base.specs.declared.failure.Failure.TheVariants.{BadData, BadItem, MessageTooLong, NoRoom}
 use Rattle.dnw_c_messages.specs.declared.writing.Kind.{Kind}
 use Rattle.dnw_c_messages.specs.declared.writing.Kind.TheVariants as Kinds
 use Rattle.dnw_c_messages.specs.declared.writing.WrittenMessage.{WrittenMessage}
 
 -- ---- the items of a list
 
--- what is written into a message: bytes as they are, the labels of a name, a record as it is in the list, or a record whose
--- data are a name
+-- what is written into a message: bytes as they are, the labels of a name, a record, whose names are written anew as the
+-- table of fields says, or a record whose data are a name, which is written in a way
 pub data ListedItem : Type 0 where
   Bytes : List ℕ → ListedItem
   Name : List (List ℕ) → ListedItem
@@ -75,14 +78,14 @@ TakesBlock d bytes after =
 -- the record that is written for a record of a list whose data are a name, which is written in this way
 abbrev pub IsRecordOfName : RDataEncoding → RecordValue → WireRecord → Type 0
 IsRecordOfName encoding x r =
-    (r.owner ≡ owner_name x) × (r.record_type ≡ x.record_type) × (r.class ≡ x.class) × (r.ttl ≡ x.ttl)
+    (r.owner ≡ name_of x.owner) × (r.record_type ≡ x.record_type) × (r.class ≡ x.class) × (r.ttl ≡ x.ttl)
     × (name : NameValue) × (r.rdata ≡ Data.Name name encoding) × HasDataName x name
 
 -- After the octet for its kind an item is taken.
 abbrev pub TakesOf : Kind → Decoder → ListedItem → Decoder → Type 0
 TakesOf Kinds.Bytes d (Bytes bytes) after = TakesBlock d bytes after
 TakesOf Kinds.Name d (Name labels) after = (k : ℕ) × TakesName d after labels k
-TakesOf Kinds.Record d (Record x) after = TakesRecord d x after
+TakesOf Kinds.Record d (Record x) after = TakesRecord d x after × HasFields x
 TakesOf (Kinds.RecordOfName encoding) d (RecordOfName r) after = (x : RecordValue) × TakesRecord d x after × IsRecordOfName encoding x r
 TakesOf kind d item after = ⊥
 
@@ -93,6 +96,11 @@ TakesListed d item after = (kind : Kind) × IsKind d kind × TakesOf kind (advan
 -- no record is there
 abbrev pub HasNoRecord : Decoder → Type 0
 HasNoRecord d = (error : DecodeError) × FailsRecord d error
+
+-- a record is there, but its data are not the fields of its type
+abbrev pub HasOtherData : Decoder → Type 0
+HasOtherData d = (x : RecordValue) × (after : Decoder) × TakesRecord d x after
+    × (error : RDataError) × FailsToCopy (kinds_of x.record_type) (data_start x) error
 
 -- a record is there, but its data are no name
 abbrev pub HasNoDataName : Decoder → Type 0
@@ -106,6 +114,7 @@ LacksItem Kinds.Record d = HasNoRecord d
 LacksItem (Kinds.RecordOfName encoding) d = HasNoRecord d ⊎ HasNoDataName d
 
 abbrev pub FailsToTakeOf : Kind → Decoder → Failure → Type 0
+FailsToTakeOf Kinds.Record d failure = (HasNoRecord d × (failure ≡ BadItem)) ⊎ (HasOtherData d × (failure ≡ BadData))
 FailsToTakeOf kind d failure = LacksItem kind d × (failure ≡ BadItem)
 
 -- ---- writing
@@ -114,7 +123,7 @@ FailsToTakeOf kind d failure = LacksItem kind d × (failure ≡ BadItem)
 abbrev pub EmitsListed : ListedItem → Encoder → Outcome → Encoder → Type 0
 EmitsListed (Bytes bytes) v outcome w = Writes v bytes outcome w
 EmitsListed (Name labels) v outcome w = EmitsName (record { is_fqdn = true; labels = labels }) v outcome w
-EmitsListed (Record x) v outcome w = PassesRecord x v outcome w
+EmitsListed (Record x) v outcome w = EmitsCopyOf x v outcome w
 EmitsListed (RecordOfName r) v outcome w = EmitsRecord r v outcome w
 
 -- a new encoder of a message of that size at most, in canonical form or not
@@ -179,11 +188,16 @@ FailsToWriteMessage list first size failure =
 abbrev pub HasNoPointer : List ℕ → ℕ → Type 0
 HasNoPointer list p = (labels : List (List ℕ)) (end k : ℕ) → NameAt list p labels end k → k ≡ 0
 
+-- The data of the record there are as many octets as with each of their names whole.
+abbrev pub HasWholeNames : Decoder → Type 0
+HasWholeNames d = (x : RecordValue) (after : Decoder) (octets : List ℕ) → TakesRecord d x after
+    → Copies (kinds_of x.record_type) (data_start x) octets → length octets ≤ x.len
+
 -- After the octet for its kind the names of an item are wire forms: they have no pointers.
 abbrev pub HasWireForms : Kind → Decoder → Type 0
 HasWireForms Kinds.Bytes d = ⊤
 HasWireForms Kinds.Name d = HasNoPointer d.bytes d.index
-HasWireForms Kinds.Record d = HasNoPointer d.bytes d.index
+HasWireForms Kinds.Record d = HasNoPointer d.bytes d.index × HasWholeNames d
 HasWireForms (Kinds.RecordOfName encoding) d =
     HasNoPointer d.bytes d.index × ((x : RecordValue) (after : Decoder) → TakesRecord d x after → HasNoPointer d.bytes x.start)
 

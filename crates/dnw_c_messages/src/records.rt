@@ -11,7 +11,7 @@ use dnw_c_base::failure::Failure;
 use dnw_c_base::names::{name_ref_at, put_name};
 use dnw_c_base::results::report;
 use dnw_name::binary::BinDecodable;
-use dnw_record::record::RecordRef;
+use dnw_record::record_ref::RecordRef;
 use std::alloc::Global;
 
 /// A record that was read: the number of bytes of its owner that were put, its type, class and time to live, the offset and

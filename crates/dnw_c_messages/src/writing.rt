@@ -14,7 +14,9 @@ use dnw_c_base::buffer::put;
 use dnw_c_base::failure::{Failure, of_proto};
 use dnw_name::binary::BinDecodable;
 use dnw_name::name_ref::NameRef;
-use dnw_record::record::{RecordRef, WireData, WireRecord};
+use dnw_record::checked::CheckedRecord;
+use dnw_record::record_ref::RecordRef;
+use dnw_record::wire_record::{WireData, WireRecord};
 use dnw_write::binary::BinEncodable;
 use dnw_write::encoder::{BinEncoder, RDataEncoding};
 use std::alloc::Global;
@@ -34,7 +36,7 @@ enum Kind {
     Bytes,
     /// A name.
     Name,
-    /// A record, whose data are written as they are.
+    /// A record, whose names are written as the table of fields says.
     Record,
     /// A record whose data are a name, which is written in this way.
     RecordOfName(RDataEncoding),
@@ -201,7 +203,7 @@ fn write_name(decoder: &mut BinDecoder<'_>, encoder: &mut BinEncoder<'_>) -> Res
     }
 }
 
-/// Writes a record from where it is in the list.
+/// Writes a record of the list: its names anew, compressed and in lower case as the table of fields says.
 fn write_record(
     alloc: Global,
     decoder: &mut BinDecoder<'_>,
@@ -215,6 +217,9 @@ fn write_record(
 {
     let Ok(record) = RecordRef::read(alloc, decoder) else {
         return Err(Failure::BadItem);
+    };
+    let Ok(record) = CheckedRecord::new(record) else {
+        return Err(Failure::BadData);
     };
     match record.emit(encoder) {
         Ok(()) => Ok(()),

@@ -3,8 +3,8 @@ use Rattle.std.proofs.Common.{◌≡◌, ℕ, ◌+◌, ◌<◌, ◌≤◌, List,
 use Rattle.std.proofs.lemmas.List.{append-nil}
 use Rattle.dnw_base.specs.Decoder.{Decoder}
 use Rattle.dnw_c_base.specs.declared.failure.Failure.{Failure}
-use Rattle.dnw_record_owned.specs.declared.record.Record.{Record}
-use Rattle.dnw_record.proofs.Reading.{record_own}
+use Rattle.dnw_record.specs.declared.record.Record.{Record}
+use Rattle.dnw_record.proofs.RecordReading.{record_own}
 use Rattle.dnw_record.specs.Records.{RecordAt, RecordValue, TakesRecord}
 use Rattle.dnw_c_signed.specs.SigningCalls.{Collects, FailsToCollect, FailsToCollectNext, Selects, none, next}
 use Rattle.dnw_c_signed.specs.declared.covering.Rrsig.{Rrsig}

@@ -3,9 +3,9 @@ use Rattle.std.proofs.Common.{◌≡◌, ℕ, ◌+◌, ◌<◌, ◌≤◌, List,
 use Rattle.std.proofs.lemmas.List.{append-nil}
 use Rattle.dnw_base.specs.Decoder.{Decoder}
 use Rattle.dnw_c_base.specs.declared.failure.Failure.{Failure}
-use Rattle.dnw_record_owned.specs.AnyRecords.{IsCopyOf}
-use Rattle.dnw_record_owned.specs.declared.record.Record.{Record}
-use Rattle.dnw_record.proofs.Reading.{record_own}
+use Rattle.dnw_record.specs.AnyRecords.{IsCopyOf}
+use Rattle.dnw_record.specs.declared.record.Record.{Record}
+use Rattle.dnw_record.proofs.RecordReading.{record_own}
 use Rattle.dnw_record.specs.Records.{RecordAt, RecordValue, TakesRecord}
 use Rattle.dnw_c_signed.specs.ZoneCalls.{AreRecordCopies, FailsToCopyAll, FailsToCopyNext, copy_first, no_copies}
 

@@ -14,11 +14,11 @@ use Rattle.dnw_base.specs.declared.error.DecodeError.{DecodeError}
 use Rattle.dnw_c_base.specs.Failures.{of_decode}
 use Rattle.dnw_c_base.specs.declared.failure.Failure.{Failure}
 use Rattle.dnw_c_base.specs.declared.failure.Failure.TheVariants as why
-use Rattle.dnw_record_owned.specs.AnyRecords.{IsCopyOf}
-use Rattle.dnw_record_owned.specs.DataCopies.{FailsToCopy, data_start, record_kinds}
-use Rattle.dnw_record_owned.specs.declared.rdata.RDataError.{RDataError}
-use Rattle.dnw_record_owned.specs.declared.rdata.RDataError.TheVariants.{Field, Memory}
-use Rattle.dnw_record_owned.specs.declared.record.Record.{Record}
+use Rattle.dnw_record.specs.AnyRecords.{IsCopyOf}
+use Rattle.dnw_record.specs.DataCopies.{FailsToCopy, data_start, record_kinds}
+use Rattle.dnw_record.specs.declared.rdata.RDataError.{RDataError}
+use Rattle.dnw_record.specs.declared.rdata.RDataError.TheVariants.{Field, Memory}
+use Rattle.dnw_record.specs.declared.record.Record.{Record}
 use Rattle.dnw_c_base.specs.Results.{Puts, Refuses}
 use Rattle.dnw_record.specs.Records.{FailsRecord, RecordAt, RecordValue}
 use Rattle.dnw_c_signed.specs.declared.covering.Rrsig.{Rrsig}

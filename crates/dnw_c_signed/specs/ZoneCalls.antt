@@ -4,8 +4,8 @@ use Rattle.dnw_base.specs.Decoder.{Decoder}
 use Rattle.dnw_base.specs.declared.error.DecodeError.{DecodeError}
 use Rattle.dnw_name_read.specs.Buffers.{put}
 use Rattle.dnw_record.specs.Records.{FailsRecord, RecordAt, RecordValue}
-use Rattle.dnw_record_owned.specs.AnyRecords.{IsCopyOf}
-use Rattle.dnw_record_owned.specs.declared.record.Record.{Record}
+use Rattle.dnw_record.specs.AnyRecords.{IsCopyOf}
+use Rattle.dnw_record.specs.declared.record.Record.{Record}
 use Rattle.dnw_dnssec.specs.ZoneDigests.{FailsZoneDigest, IsZoneDigest}
 use Rattle.dnw_c_base.specs.Failures.{of_decode}
 use Rattle.dnw_c_base.specs.WireForms.{IsFormOf, IsNoForm}

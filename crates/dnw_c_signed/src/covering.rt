@@ -1,17 +1,17 @@
 //! The records that an RRSIG covers.
 ghost use Rattle.std.specs.Prelude.{◌≡◌, ◌≤◌, ◌↔◌, List, ◌++◌, length, IfOk, IfErr, IsTrue, OnOk};
 ghost use Rattle.dnw_signed.specs.SignedFields.{before_signer};
-ghost use Rattle.dnw_record_owned.specs.AnyRecords.{IsCopyOf};
-ghost use Rattle.dnw_record_owned.specs.declared.record.Record.{Record};
+ghost use Rattle.dnw_record.specs.AnyRecords.{IsCopyOf};
+ghost use Rattle.dnw_record.specs.declared.record.Record.{Record};
 ghost use Rattle.dnw_record.specs.Records.{FailsRecord, RecordValue, TakesRecord};
 ghost use Rattle.dnw_c_signed.specs.SigningCalls.{Collects, FailsRecordAt, FailsToCollect, FailsToCollectNext, FailsToCopyRecord, HasRecordAt, IsCovered, Selects, at_offset, of_rdata, type_covered};
 
 use dnw_base::decoder::BinDecoder;
 use dnw_base::error::DecodeError;
 use dnw_c_base::failure::{Failure, of_decode};
-use dnw_record::record::RecordRef;
-use dnw_record_owned::rdata::RDataError;
-use dnw_record_owned::record::Record;
+use dnw_record::rdata::RDataError;
+use dnw_record::record::Record;
+use dnw_record::record_ref::RecordRef;
 use std::alloc::Global;
 
 /// An RRSIG of a message: a copy of the record, and the octets of its data that its signature covers.

@@ -1,8 +1,8 @@
 //! The digest of a zone.
 ghost use Rattle.std.specs.Prelude.{◌≡◌, ◌≢◌, [], ◌∷◌, ◌++◌, length, IfOk, IfErr, OnOk, OnErr};
 ghost use Rattle.dnw_record.specs.Records.{RecordValue, TakesRecord};
-ghost use Rattle.dnw_record_owned.specs.AnyRecords.{IsCopyOf};
-ghost use Rattle.dnw_record_owned.specs.declared.record.Record.{Record};
+ghost use Rattle.dnw_record.specs.AnyRecords.{IsCopyOf};
+ghost use Rattle.dnw_record.specs.declared.record.Record.{Record};
 ghost use Rattle.dnw_c_base.specs.Failures.{NumberOf};
 ghost use Rattle.dnw_c_signed.specs.ZoneCalls.{AreRecordCopies, FailsToCopyAll, FailsToCopyNext, FailsToDigestZone, FailsToPutZone};
 ghost use Rattle.dnw_c_signed.specs.ZoneCalls.{HasZoneDigest, PutsZoneDigest};
@@ -14,8 +14,8 @@ use dnw_c_base::buffer::put;
 use dnw_c_base::failure::{Failure, of_decode};
 use dnw_dnssec::ds::Digest;
 use dnw_dnssec::zone_digest::zone_digest;
-use dnw_record::record::RecordRef;
-use dnw_record_owned::record::Record;
+use dnw_record::record::Record;
+use dnw_record::record_ref::RecordRef;
 use std::alloc::Global;
 
 /// Puts the digest of a zone, whose records are these octets, one after another.

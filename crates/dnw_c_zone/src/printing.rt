@@ -10,7 +10,7 @@ use dnw_base::error::DecodeError;
 use dnw_c_base::buffer::put;
 use dnw_c_base::failure::Failure;
 use dnw_c_base::results::report;
-use dnw_record::record::RecordRef;
+use dnw_record::record_ref::RecordRef;
 use dnw_zone_record::record_line::record_text;
 use std::alloc::Global;
 

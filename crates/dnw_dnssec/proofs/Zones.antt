@@ -10,7 +10,7 @@ use Rattle.sha2.specs.Sha512.{sha384, sha512}
 use Rattle.dnw_base.specs.Limits.{max_message}
 use Rattle.dnw_base.specs.Names.{lower, wire}
 use Rattle.dnw_name_order.specs.Order.{canonical}
-use Rattle.dnw_record_owned.specs.declared.record.Record.{Record}
+use Rattle.dnw_record.specs.declared.record.Record.{Record}
 use Rattle.dnw_dnssec.specs.Inside.Measuring.{AreMeasured}
 use Rattle.dnw_dnssec.specs.ZoneDigests.{CanonicalRecord, FirstTooLong, HasShortData, IsCanonicalRecord, IsZoneHash, is_digested, zone_cmp, zone_hash, zone_record}
 

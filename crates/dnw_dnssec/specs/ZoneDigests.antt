@@ -12,7 +12,7 @@ use Rattle.dnw_base.specs.Limits.{max_message}
 use Rattle.dnw_base.specs.Names.{lower, wire}
 use Rattle.dnw_name_form.specs.LabelOrder.{octets_cmp}
 use Rattle.dnw_name_order.specs.Order.{labels_cmp}
-use Rattle.dnw_record_owned.specs.declared.record.Record.{Record}
+use Rattle.dnw_record.specs.declared.record.Record.{Record}
 use Rattle.dnw_signed.specs.CanonicalData.{IsCanonical}
 use Rattle.dnw_dnssec.specs.declared.error.DnssecError.{DnssecError}
 use Rattle.dnw_dnssec.specs.declared.error.DnssecError.TheVariants.{DataTooLong, Memory, UnknownHash}

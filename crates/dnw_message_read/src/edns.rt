@@ -9,7 +9,7 @@ use crate::items::Records;
 use dnw_base::error::DecodeError;
 use dnw_base::limits::MIN_PAYLOAD;
 use dnw_base::record_type::RecordType;
-use dnw_record::record::RecordRef;
+use dnw_record::record_ref::RecordRef;
 use std::marker::Model;
 use thiserror::Error;
 

@@ -6,7 +6,7 @@ ghost use Rattle.dnw_message_read.specs.Inside.Kept.{AreLeft, queries_in, record
 
 use crate::query::QueryRef;
 use dnw_base::decoder::BinDecoder;
-use dnw_record::record::RecordRef;
+use dnw_record::record_ref::RecordRef;
 use std::marker::Model;
 
 /// An iterator over the questions of a message.

@@ -16,7 +16,7 @@ use dnw_base::limits::MAX_POINTERS;
 use dnw_base::record_type::RecordType;
 use dnw_message_header::header::Header;
 use dnw_message_header::response_code::ResponseCode;
-use dnw_record::record::RecordRef;
+use dnw_record::record_ref::RecordRef;
 use std::marker::Model;
 
 /// The offsets at which the sections of records of a message begin. The questions begin after the header, at `Header::LEN`.

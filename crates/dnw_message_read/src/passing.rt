@@ -11,7 +11,7 @@ use dnw_base::decoder::BinDecoder;
 use dnw_base::error::DecodeError;
 use dnw_name::name_ref::NameRef;
 use dnw_name_read::walk::ReadSteps;
-use dnw_record::record::FIXED_SIZE;
+use dnw_record::record_ref::FIXED_SIZE;
 
 /// How many octets of a question are after its name (RFC 1035, section 4.1.2).
 const QUESTION_FIELDS: usize = 4;

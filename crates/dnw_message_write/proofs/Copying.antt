@@ -6,9 +6,9 @@ use Rattle.dnw_base.specs.declared.error.ProtoError.{ProtoError}
 use Rattle.dnw_base.specs.declared.error.ProtoError.TheVariants.{Memory}
 use Rattle.dnw_write.specs.Encoder.{Encoder, fresh}
 use Rattle.dnw_record.specs.Records.{RecordValue}
-use Rattle.dnw_record_owned.specs.declared.record.Record.{Record}
-use Rattle.dnw_record_owned.specs.AnyRecords.{EmitsAnyRecord, EmitsCopyOf, HasFields, IsCopyOf}
-use Rattle.dnw_record_owned.proofs.WrittenCopies.{some_copy}
+use Rattle.dnw_record.specs.declared.record.Record.{Record}
+use Rattle.dnw_record.specs.AnyRecords.{EmitsAnyRecord, EmitsCopyOf, HasFields, IsCopyOf}
+use Rattle.dnw_record.proofs.WrittenCopies.{some_copy}
 use Rattle.dnw_message_read.specs.Edns.{is_opt, opts_in, opts_outside}
 use Rattle.dnw_message_read.specs.Messages.{MessageValue, QueryValue}
 use Rattle.dnw_message_header.specs.declared.header.Header.{Header}

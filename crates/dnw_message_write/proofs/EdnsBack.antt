@@ -24,10 +24,10 @@ use Rattle.dnw_data.specs.declared.kind.Shown.TheVariants.{Hex}
 use Rattle.dnw_data.specs.Fields.{own_at}
 use Rattle.dnw_data.specs.Table.{fields_of, is_internet_type, may_lack_data}
 use Rattle.dnw_record.specs.Records.{RecordValue, data_octets}
-use Rattle.dnw_record_owned.specs.declared.record.Record.{Record}
-use Rattle.dnw_record_owned.specs.DataPieces.{IsData, kinds_of, octets_piece, piece_octets}
-use Rattle.dnw_record_owned.specs.DataCopies.{Copies, data_start, record_kinds}
-use Rattle.dnw_record_owned.proofs.Alike.{known_anywhere}
+use Rattle.dnw_record.specs.declared.record.Record.{Record}
+use Rattle.dnw_record.specs.DataPieces.{IsData, kinds_of, octets_piece, piece_octets}
+use Rattle.dnw_record.specs.DataCopies.{Copies, data_start, record_kinds}
+use Rattle.dnw_record.proofs.Alike.{known_anywhere}
 use Rattle.dnw_message_header.specs.Headers.{flag}
 use Rattle.dnw_message_read.specs.Edns.{OptionValue, OptionsAre, first_option, none, one_more, option_of, option_size}
 use Rattle.dnw_message_write.specs.declared.edns.WireOption.{WireOption}

@@ -6,9 +6,9 @@ use Rattle.dnw_base.specs.declared.error.ProtoError.TheVariants.{MaxBufferSizeEx
 use Rattle.dnw_write.specs.Encoder.{Encoder, Writes, fresh, moved_to, written}
 use Rattle.dnw_write.specs.Emitting.{Outcome}
 use Rattle.dnw_write.proofs.Preceding.{new_precede, writes_precede}
-use Rattle.dnw_record_owned.specs.declared.record.Record.{Record}
-use Rattle.dnw_record_owned.specs.AnyRecordLaws.{any_record_size}
-use Rattle.dnw_record_owned.proofs.Reading.{InBoth}
+use Rattle.dnw_record.specs.declared.record.Record.{Record}
+use Rattle.dnw_record.specs.AnyRecordLaws.{any_record_size}
+use Rattle.dnw_record.proofs.Reading.{InBoth}
 use Rattle.dnw_message_header.specs.declared.header.Header.{Header}
 use Rattle.dnw_message_header.specs.declared.header.Metadata.{Metadata}
 use Rattle.dnw_message_header.specs.Headers.{header_wire}

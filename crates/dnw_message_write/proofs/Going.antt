@@ -23,17 +23,17 @@ use Rattle.dnw_record.specs.RecordLaws.{FailsForSize}
 use Rattle.dnw_record.proofs.Laying.{added}
 use Rattle.dnw_record.proofs.Parts.{done_bytes, done_name, fails_later, refused_name, refused_room}
 use Rattle.dnw_record.proofs.Preceding.{precede_then}
-use Rattle.dnw_record_owned.specs.declared.record.Record.{Record}
-use Rattle.dnw_record_owned.specs.DataPieces.{DataPiece, data_kinds, name_piece, octets_piece}
-use Rattle.dnw_record_owned.specs.DataCopies.{TakesPieces, data_start}
-use Rattle.dnw_record_owned.specs.AnyRecords.{EmitsAnyRecord}
-use Rattle.dnw_record_owned.specs.AnyRecordFrames.{frame_any_record}
-use Rattle.dnw_record_owned.specs.AnyRecordLaws.{any_record_size, written_pieces}
-use Rattle.dnw_record_owned.proofs.Alike.{read_kinds}
-use Rattle.dnw_record_owned.proofs.AnyRecords.{any_records_fit, any_records_precede, any_records_stay_bounded, refused_any_undo}
-use Rattle.dnw_record_owned.proofs.Counting.{counts_name, counts_record}
-use Rattle.dnw_record_owned.proofs.Reading.{InBoth, append_both, name_both}
-use Rattle.dnw_record_owned.proofs.Records.{record_both}
+use Rattle.dnw_record.specs.declared.record.Record.{Record}
+use Rattle.dnw_record.specs.DataPieces.{DataPiece, data_kinds, name_piece, octets_piece}
+use Rattle.dnw_record.specs.DataCopies.{TakesPieces, data_start}
+use Rattle.dnw_record.specs.AnyRecords.{EmitsAnyRecord}
+use Rattle.dnw_record.specs.AnyRecordFrames.{frame_any_record}
+use Rattle.dnw_record.specs.AnyRecordLaws.{any_record_size, written_pieces}
+use Rattle.dnw_record.proofs.Alike.{read_kinds}
+use Rattle.dnw_record.proofs.AnyRecords.{any_records_fit, any_records_precede, any_records_stay_bounded, refused_any_undo}
+use Rattle.dnw_record.proofs.Counting.{counts_name, counts_record}
+use Rattle.dnw_record.proofs.Reading.{InBoth, append_both, name_both}
+use Rattle.dnw_record.proofs.Records.{record_both}
 use Rattle.dnw_message_write.specs.declared.query.WireQuery.{WireQuery}
 use Rattle.dnw_message_write.specs.WireQueries.{EmitsQuery, EmitsQueryFields}
 use Rattle.dnw_message_write.specs.QueryFrames.{frame_query, frame_query_fields}

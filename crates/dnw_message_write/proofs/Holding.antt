@@ -6,7 +6,7 @@ use Rattle.std.proofs.Math.Nat.{min-eq_left}
 use Rattle.dnw_base.specs.declared.error.ProtoError.{ProtoError}
 use Rattle.dnw_base.specs.declared.error.ProtoError.TheVariants.{MaxBufferSizeExceeded, Memory}
 use Rattle.dnw_write.specs.Encoder.{Encoder}
-use Rattle.dnw_record_owned.specs.declared.record.Record.{Record}
+use Rattle.dnw_record.specs.declared.record.Record.{Record}
 use Rattle.dnw_message_header.specs.declared.header.Header.{Header}
 use Rattle.dnw_message_header.specs.declared.header.Metadata.{Metadata}
 use Rattle.dnw_message_write.specs.declared.query.WireQuery.{WireQuery}

@@ -8,12 +8,12 @@ use Rattle.dnw_write.specs.EmittingLaws.{frames_follow}
 use Rattle.dnw_write.proofs.Preceding.{rewinding_undoes}
 use Rattle.dnw_record.specs.RecordLaws.{FailsForSize}
 use Rattle.dnw_record.proofs.Parts.{fails_later}
-use Rattle.dnw_record_owned.specs.declared.record.Record.{Record}
-use Rattle.dnw_record_owned.specs.AnyRecords.{EmitsAnyRecord}
-use Rattle.dnw_record_owned.specs.AnyRecordFrames.{frame_any_record}
-use Rattle.dnw_record_owned.specs.AnyRecordLaws.{any_record_size}
-use Rattle.dnw_record_owned.proofs.AnyRecords.{any_records_fit}
-use Rattle.dnw_record_owned.proofs.Going.{GoesOn, on_fields}
+use Rattle.dnw_record.specs.declared.record.Record.{Record}
+use Rattle.dnw_record.specs.AnyRecords.{EmitsAnyRecord}
+use Rattle.dnw_record.specs.AnyRecordFrames.{frame_any_record}
+use Rattle.dnw_record.specs.AnyRecordLaws.{any_record_size}
+use Rattle.dnw_record.proofs.AnyRecords.{any_records_fit}
+use Rattle.dnw_record.proofs.Going.{GoesOn, on_fields}
 use Rattle.dnw_message_write.specs.ReadRecords.{RecordIsThere}
 use Rattle.dnw_message_write.specs.Together.{EmitsInTurn, EmitsTogether, records_size}
 use Rattle.dnw_message_write.specs.Written.{Stand}

@@ -7,7 +7,7 @@ use Rattle.std.proofs.lemmas.Nat.{from_be_bytes-to_be_bytes_2}
 use Rattle.dnw_base.specs.RecordTypes.{type_code, type_of_code}
 use Rattle.dnw_base.specs.DnsClasses.{class_code, class_of_code}
 use Rattle.dnw_name_read.specs.Reading.{NameAt}
-use Rattle.dnw_record_owned.specs.declared.record.Record.{Record}
+use Rattle.dnw_record.specs.declared.record.Record.{Record}
 use Rattle.dnw_record.specs.Records.{RecordValue, number_at}
 use Rattle.dnw_message_header.specs.Headers.{header_of, header_wire}
 use Rattle.dnw_message_header.specs.HeaderLaws.{with_low_codes}

@@ -10,8 +10,8 @@ use Rattle.dnw_data.specs.Table.{fields_of}
 use Rattle.dnw_data.specs.Walks.{FieldsLeft, fields_at}
 use Rattle.dnw_record.specs.RecordFields.{record_fields}
 use Rattle.dnw_record.specs.Records.{RecordValue, class_field, fixed_at, length_field, ttl_field, type_field}
-use Rattle.dnw_record_owned.specs.declared.record.Record.{Record}
-use Rattle.dnw_record_owned.specs.DataCopies.{Copies}
+use Rattle.dnw_record.specs.declared.record.Record.{Record}
+use Rattle.dnw_record.specs.DataCopies.{Copies}
 use Rattle.dnw_message_write.specs.declared.query.WireQuery.{WireQuery}
 use Rattle.dnw_message_write.specs.ReadRecords.{RecordIsRead, RecordIsThere}
 use Rattle.dnw_message_write.specs.Written.{QueryStands, Stand}

@@ -5,11 +5,11 @@ use Rattle.dnw_base.specs.declared.error.ProtoError.{ProtoError}
 use Rattle.dnw_base.specs.declared.error.ProtoError.TheVariants.{MaxBufferSizeExceeded, Memory}
 use Rattle.dnw_write.specs.Encoder.{Encoder}
 use Rattle.dnw_record.specs.Records.{RecordValue}
-use Rattle.dnw_record_owned.specs.declared.record.Record.{Record}
-use Rattle.dnw_record_owned.specs.declared.rdata.RDataError.TheVariants.{Field}
-use Rattle.dnw_record_owned.specs.DataCopies.{FailsToCopy, data_start, record_kinds}
-use Rattle.dnw_record_owned.specs.AnyRecords.{IsCopyOf, name_of}
-use Rattle.dnw_record_owned.specs.AnyRecordLaws.{any_record_size}
+use Rattle.dnw_record.specs.declared.record.Record.{Record}
+use Rattle.dnw_record.specs.declared.rdata.RDataError.TheVariants.{Field}
+use Rattle.dnw_record.specs.DataCopies.{FailsToCopy, data_start, record_kinds}
+use Rattle.dnw_record.specs.AnyRecords.{IsCopyOf, name_of}
+use Rattle.dnw_record.specs.AnyRecordLaws.{any_record_size}
 use Rattle.dnw_message_read.specs.Edns.{FailsEdns, is_opt, opts_in, opts_outside}
 use Rattle.dnw_message_header.specs.Headers.{header_size}
 use Rattle.dnw_message_read.specs.Messages.{MessageValue, QueryValue}

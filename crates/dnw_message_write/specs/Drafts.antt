@@ -8,8 +8,8 @@ use Rattle.dnw_message_header.specs.declared.header.Header.{Header}
 use Rattle.dnw_message_header.specs.declared.header.HeaderCounts.{HeaderCounts}
 use Rattle.dnw_message_header.specs.declared.header.Metadata.{Metadata}
 use Rattle.dnw_message_header.specs.Headers.{header_wire}
-use Rattle.dnw_record_owned.specs.declared.record.Record.{Record}
-use Rattle.dnw_record_owned.specs.AnyRecords.{EmitsAnyRecord}
+use Rattle.dnw_record.specs.declared.record.Record.{Record}
+use Rattle.dnw_record.specs.AnyRecords.{EmitsAnyRecord}
 use Rattle.dnw_message_write.specs.WireQueries.{EmitsQuery}
 use Rattle.dnw_message_write.specs.Together.{EmitsTogether}
 use Rattle.dnw_message_write.specs.declared.writer.Entry.{Entry}

@@ -3,8 +3,8 @@ use Rattle.std.specs.Prelude.{◌≡◌, ℕ, List}
 use Rattle.dnw_base.specs.RecordTypes.{type_code, type_of_code}
 use Rattle.dnw_base.specs.DnsClasses.{class_code, class_of_code}
 use Rattle.dnw_record.specs.Records.{RecordAt, RecordValue}
-use Rattle.dnw_record_owned.specs.declared.record.Record.{Record}
-use Rattle.dnw_record_owned.specs.DataCopies.{Copies, data_start, record_kinds}
+use Rattle.dnw_record.specs.declared.record.Record.{Record}
+use Rattle.dnw_record.specs.DataCopies.{Copies, data_start, record_kinds}
 
 -- A record is read as it was written: its owner, its type and class by their codes, its time to live, and its data, whose fields
 -- are read through any pointers: with every name in its wire form they are the same octets.

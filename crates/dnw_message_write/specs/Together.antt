@@ -3,9 +3,9 @@ use Rattle.std.specs.Prelude.{◌≡◌, ℕ, ◌+◌, List, [], ◌∷◌, Ok, 
 use Rattle.dnw_write.specs.Encoder.{Encoder}
 use Rattle.dnw_write.specs.Emitting.{Emits}
 use Rattle.dnw_write.specs.Checkpoints.{checkpoint_of, rewound}
-use Rattle.dnw_record_owned.specs.declared.record.Record.{Record}
-use Rattle.dnw_record_owned.specs.AnyRecords.{EmitsAnyRecord}
-use Rattle.dnw_record_owned.specs.AnyRecordLaws.{any_record_size}
+use Rattle.dnw_record.specs.declared.record.Record.{Record}
+use Rattle.dnw_record.specs.AnyRecords.{EmitsAnyRecord}
+use Rattle.dnw_record.specs.AnyRecordLaws.{any_record_size}
 
 -- Records are written in turn, up to the first that fails.
 abbrev pub EmitsInTurn : Emits (List Record)

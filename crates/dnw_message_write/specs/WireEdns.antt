@@ -6,7 +6,7 @@ use Rattle.dnw_base.specs.declared.record_type.RecordType.TheVariants as kind
 use Rattle.dnw_base.specs.declared.dns_class.DNSClass.TheVariants as class
 use Rattle.dnw_base.specs.RecordTypes.{type_code, type_of_code}
 use Rattle.dnw_base.specs.Limits.{max_message, min_payload}
-use Rattle.dnw_record_owned.specs.declared.record.Record.{Record}
+use Rattle.dnw_record.specs.declared.record.Record.{Record}
 use Rattle.dnw_message_read.specs.Edns.{EdnsValue, OptionValue, is_opt}
 use Rattle.dnw_message_header.specs.Headers.{flag}
 use Rattle.dnw_message_write.specs.declared.edns.WireEdns.{WireEdns}

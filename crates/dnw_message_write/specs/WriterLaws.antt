@@ -5,8 +5,8 @@ use Rattle.dnw_base.specs.Limits.{max_message}
 use Rattle.dnw_base.specs.declared.error.ProtoError.TheVariants.{Memory}
 use Rattle.dnw_write.specs.Encoder.{Encoder, fresh}
 use Rattle.dnw_write.specs.Emitting.{Outcome}
-use Rattle.dnw_record_owned.specs.declared.record.Record.{Record}
-use Rattle.dnw_record_owned.specs.AnyRecordLaws.{any_record_size}
+use Rattle.dnw_record.specs.declared.record.Record.{Record}
+use Rattle.dnw_record.specs.AnyRecordLaws.{any_record_size}
 use Rattle.dnw_message_header.specs.declared.header.Header.{Header}
 use Rattle.dnw_message_header.specs.declared.header.Metadata.{Metadata}
 use Rattle.dnw_message_write.specs.declared.writer.Entry.{Entry}

@@ -3,8 +3,8 @@ use Rattle.std.specs.Prelude.{◌≡◌, ℕ, ◌+◌, ◌-◌, ◌≤◌, Optio
 use Rattle.std.specs.Borrow.{GName}
 use Rattle.dnw_write.specs.Encoder.{fresh}
 use Rattle.dnw_write.specs.EncoderValue.{lender, value}
-use Rattle.dnw_record_owned.specs.declared.record.Record.{Record}
-use Rattle.dnw_record_owned.specs.AnyRecordLaws.{any_record_size}
+use Rattle.dnw_record.specs.declared.record.Record.{Record}
+use Rattle.dnw_record.specs.AnyRecordLaws.{any_record_size}
 use Rattle.dnw_message_header.specs.Headers.{header_size}
 use Rattle.dnw_message_header.specs.declared.header.Metadata.{Metadata}
 use Rattle.dnw_message_write.specs.declared.writer.one_by_one.MessageWriter.{MessageWriter}

@@ -8,8 +8,8 @@ use Rattle.dnw_base.specs.Limits.{max_labels, max_message}
 use Rattle.dnw_base.specs.Names.{encoded_size}
 use Rattle.dnw_name_read.specs.Reading.{NameAt}
 use Rattle.dnw_write.specs.Encoder.{usual_names}
-use Rattle.dnw_record_owned.specs.declared.record.Record.{Record}
-use Rattle.dnw_record_owned.specs.AnyRecordLaws.{any_record_size}
+use Rattle.dnw_record.specs.declared.record.Record.{Record}
+use Rattle.dnw_record.specs.AnyRecordLaws.{any_record_size}
 use Rattle.dnw_message_header.specs.HeaderLaws.{HeaderFits}
 use Rattle.dnw_message_header.specs.Headers.{header_size, header_wire}
 use Rattle.dnw_message_header.specs.declared.header.Header.{Header}

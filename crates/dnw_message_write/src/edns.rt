@@ -10,8 +10,8 @@ use dnw_base::dns_class::DNSClass;
 use dnw_base::error::{ProtoError, ProtoResult};
 use dnw_base::record_type::RecordType;
 use dnw_name::name::Name;
-use dnw_record_owned::rdata::RData;
-use dnw_record_owned::record::Record;
+use dnw_record::rdata::RData;
+use dnw_record::record::Record;
 use std::alloc::Global;
 
 /// An option to be written into an `OPT` record (RFC 6891, section 6.1.2).

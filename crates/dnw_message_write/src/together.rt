@@ -7,7 +7,7 @@ ghost use Rattle.dnw_message_write.specs.Together.{EmitsInTurn};
 use crate::section::{AddError, Section, cuts, is_open};
 use dnw_base::error::ProtoResult;
 use dnw_message_header::header::{Header, HeaderCounts};
-use dnw_record_owned::record::Record;
+use dnw_record::record::Record;
 use dnw_write::binary::BinEncodable;
 use dnw_write::encoder::BinEncoder;
 

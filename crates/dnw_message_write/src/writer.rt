@@ -15,7 +15,7 @@ use crate::section::{Section, add};
 use crate::together::add_together;
 use dnw_base::error::ProtoResult;
 use dnw_message_header::header::{Header, HeaderCounts, Metadata};
-use dnw_record_owned::record::Record;
+use dnw_record::record::Record;
 use dnw_write::binary::BinEncodable;
 use dnw_write::encoder::BinEncoder;
 use std::alloc::Global;

@@ -8,10 +8,10 @@ use Rattle.dnw_write.specs.EncoderLaws.{StaysBounded}
 use Rattle.dnw_write.specs.EmittedName.{EmitsName}
 use Rattle.dnw_write.proofs.Bounds.{fills_stay_bounded, places_stay_bounded, writes_stay_bounded}
 use Rattle.dnw_write.proofs.NameBack.{names_stay_bounded}
-use Rattle.dnw_record.specs.declared.record.WireData.{WireData}
-use Rattle.dnw_record.specs.declared.record.WireData.TheVariants.{Bytes, Name}
+use Rattle.dnw_record.specs.declared.wire_record.WireData.{WireData}
+use Rattle.dnw_record.specs.declared.wire_record.WireData.TheVariants.{Bytes, Name}
 use Rattle.dnw_record.specs.Parts.{EmitsCounted, EmitsSized, EmitsWirePart, EmitsWireParts, Then, WirePart, Write, bytes_part, in_encoding, name_part, text_part}
-use Rattle.dnw_record.specs.WrittenRecords.{EmitsData, EmitsFields, data_part, wire_fixed}
+use Rattle.dnw_record.specs.WrittenRecords.{EmitsData, EmitsInOrder, EmitsWhole, NumbersFit, data_part, wire_fixed}
 use Rattle.dnw_record.specs.RecordLaws.{CountedStayBounded, DataStayBounded, KeepsBounded, PartStaysBounded, PartsStayBounded, RecordsStayBounded}
 use Rattle.dnw_record.proofs.Parts.{done_bytes, done_name}
 
@@ -96,9 +96,14 @@ counted_stay_bounded front back =
 pub data_stay_bounded : DataStayBounded
 data_stay_bounded rdata = keeps (EmitsData rdata) (stays_data rdata)
 
+-- fields in order that are written whole or not at all
+pub keeps_whole : (Fit : Type 0) (owner : NameValue) (fixed : List ℕ) (write : Write) → Stays write
+    → KeepsBounded (EmitsWhole Fit (EmitsInOrder owner fixed write))
+keeps_whole Fit owner fixed write stays v w le h =
+    let sized : Write = EmitsSized write in
+    let octets : Write = λ x. Writes x fixed in
+    let last : Stays (Then octets sized) = stays_then octets sized (stays_bytes fixed) (stays_sized write stays) in
+    keeps (EmitsInOrder owner fixed write) (stays_then (EmitsName owner) (Then octets sized) (stays_name owner) last) v w le h.1
+
 pub records_stay_bounded : RecordsStayBounded
-records_stay_bounded r v w le h =
-    let sized : Write = EmitsSized (EmitsData r.rdata) in
-    let fields : Write = λ v. Writes v (wire_fixed r) in
-    let last : Stays (Then fields sized) = stays_then fields sized (stays_bytes (wire_fixed r)) (stays_sized (EmitsData r.rdata) (stays_data r.rdata)) in
-    keeps (EmitsFields r) (stays_then (EmitsName r.owner) (Then fields sized) (stays_name r.owner) last) v w le h.1
+records_stay_bounded r = keeps_whole (NumbersFit r) r.owner (wire_fixed r) (EmitsData r.rdata) (stays_data r.rdata)

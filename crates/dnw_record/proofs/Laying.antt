@@ -16,8 +16,8 @@ use Rattle.dnw_write.specs.EmittedName.{Chooses, Share, emitted, form, in_mode, 
 use Rattle.dnw_write.specs.EmittingLaws.{frame, frames_follow, take_all_lem}
 use Rattle.dnw_write.specs.NameFrames.{frame_name}
 use Rattle.dnw_write.proofs.NameBack.{name_is_read}
-use Rattle.dnw_record.specs.declared.record.WireData.{WireData}
-use Rattle.dnw_record.specs.declared.record.WireData.TheVariants.{Bytes, Name}
+use Rattle.dnw_record.specs.declared.wire_record.WireData.{WireData}
+use Rattle.dnw_record.specs.declared.wire_record.WireData.TheVariants.{Bytes, Name}
 use Rattle.dnw_record.specs.Records.{RecordAt, class_field, fixed_at, length_field, record_of, ttl_field, type_field}
 use Rattle.dnw_record.specs.WrittenRecords.{EmitsData, wire_fixed}
 use Rattle.dnw_record.specs.RecordFrames.{frame_data, frame_grows, frame_record, frame_reserved}

@@ -11,11 +11,11 @@ use Rattle.dnw_write.specs.EmittedName.{Chooses, EmitsAs, EmitsName, Share, in_m
 use Rattle.dnw_write.proofs.NameBack.{names_take_no_more, pointers_save, size_in_mode}
 use Rattle.dnw_write.proofs.Suffixes.{length_all}
 use Rattle.dnw_base.proofs.Wires.{length_wire}
-use Rattle.dnw_record.specs.declared.record.WireRecord.{WireRecord}
-use Rattle.dnw_record.specs.declared.record.WireData.{WireData}
-use Rattle.dnw_record.specs.declared.record.WireData.TheVariants.{Bytes, Name}
+use Rattle.dnw_record.specs.declared.wire_record.WireRecord.{WireRecord}
+use Rattle.dnw_record.specs.declared.wire_record.WireData.{WireData}
+use Rattle.dnw_record.specs.declared.wire_record.WireData.TheVariants.{Bytes, Name}
 use Rattle.dnw_record.specs.Parts.{EmitsSized, EmitsWirePart, EmitsWireParts, HasTextOfSize, Then, WirePart, Write, bytes_part, in_encoding, name_part, parts_size, text_part, wire_size}
-use Rattle.dnw_record.specs.WrittenRecords.{EmitsData, EmitsFields, data_part, wire_fixed}
+use Rattle.dnw_record.specs.WrittenRecords.{EmitsData, EmitsFields, EmitsWhole, NumbersFit, data_part, wire_fixed}
 use Rattle.dnw_record.specs.RecordLaws.{FailsForSize, RecordsFit, data_size, record_size}
 
 -- ---- what is accepted
@@ -215,5 +215,10 @@ fits_data (Name name encoding) = record {
 pub fits_fields : (r : WireRecord) → Fits (record_size r) (EmitsFields r)
 fits_fields r = fits_as (omega arith) (fits-then (fits_name r.owner) (fits-then (fits_bytes (wire_fixed r)) (fits-sized (fits_data r.rdata))))
 
+pub fits_whole : (Fit : Type 0) (n : ℕ) (fields : Write) → Fits n fields
+    → ((v w : Encoder) → EmitsWhole Fit fields v (Ok tt) w → w.offset ≤ v.offset + n)
+    × ((v w : Encoder) (error : ProtoError) → EmitsWhole Fit fields v (Err error) w → FailsForSize v n error)
+fits_whole Fit n fields fits = (λ v w h. (fits.done v w h.1).0, λ v w error (u, h, is). (fits.refused v u error h).1)
+
 pub records_fit : RecordsFit
-records_fit r = (λ v w h. ((fits_fields r).done v w h.1).0, λ v w error (u, h, is). ((fits_fields r).refused v u error h).1)
+records_fit r = fits_whole (NumbersFit r) (record_size r) (EmitsFields r) (fits_fields r)

@@ -1,16 +1,17 @@
 -- Parts and records keep every candidate before the offset.
-use Rattle.std.proofs.Common.{[], ◌∷◌, Ok, Err, inl, inr, sym, ◌∙◌, subst}
-use Rattle.dnw_write.specs.Encoder.{CandidatesPrecede, Writes, reserved}
+use Rattle.std.proofs.Common.{◌≡◌, ℕ, List, [], ◌∷◌, length, Ok, Err, inl, inr, sym, ◌∙◌, subst}
+use Rattle.dnw_base.specs.declared.error.ProtoError.{ProtoError}
+use Rattle.dnw_base.specs.Names.{NameValue}
+use Rattle.dnw_write.specs.Encoder.{CandidatesPrecede, Encoder, Writes, reserved}
 use Rattle.dnw_write.specs.EmittedName.{EmitsName}
 use Rattle.dnw_write.specs.Checkpoints.{checkpoint_of}
 use Rattle.dnw_write.specs.CandidateLaws.{KeepsPreceding}
 use Rattle.dnw_write.proofs.Preceding.{names_precede, places_precede, rewinding_undoes, rewinds_precede, texts_precede, writes_precede}
-use Rattle.dnw_record.specs.declared.record.WireRecord.{WireRecord}
-use Rattle.dnw_record.specs.declared.record.WireData.TheVariants.{Bytes, Name}
+use Rattle.dnw_record.specs.declared.wire_record.WireData.TheVariants.{Bytes, Name}
 use Rattle.dnw_record.specs.Parts.{EmitsSized, EmitsWireParts, Then, Write, bytes_part, in_encoding, name_part, text_part}
-use Rattle.dnw_record.specs.WrittenRecords.{EmitsData, EmitsFields, data_part, wire_fixed}
+use Rattle.dnw_record.specs.WrittenRecords.{EmitsData, EmitsFields, EmitsInOrder, EmitsWhole, NumbersFit, data_part, wire_fixed}
 use Rattle.dnw_record.specs.RecordLaws.{CountedPrecede, DataPrecede, PartPrecedes, PartsPrecede, RecordsPrecede, RefusedRecordsUndo}
-use Rattle.dnw_record.specs.RecordFrames.{frame_fields}
+use Rattle.dnw_record.specs.RecordFrames.{KeepsFrame, frame_fields}
 use Rattle.dnw_record.proofs.Parts.{refused_room}
 
 pub precede_then : (first second : Write) → KeepsPreceding first → KeepsPreceding second → KeepsPreceding (Then first second)
@@ -42,15 +43,21 @@ pub data_precede : DataPrecede
 data_precede (Bytes bytes) v w outcome p h = part_precedes (bytes_part bytes.items) v w outcome p h
 data_precede (Name name encoding) v w outcome p h = part_precedes (data_part v.encoding v.canonical (Name name encoding)) v w outcome p h
 
-fields_precede : (r : WireRecord) → KeepsPreceding (EmitsFields r)
-fields_precede r =
-    precede_then (EmitsName r.owner) _ (names_precede r.owner)
-    (precede_then (λ v. Writes v (wire_fixed r)) _ (writes_precede (wire_fixed r)) (precede_sized (EmitsData r.rdata) (data_precede r.rdata)))
+-- fields in order that are written whole or not at all
+pub precede_whole : (Fit : Type 0) (owner : NameValue) (fixed : List ℕ) (write : Write) → KeepsPreceding write
+    → KeepsPreceding (EmitsWhole Fit (EmitsInOrder owner fixed write))
+precede_whole Fit owner fixed write keeps v w (Ok tt) p h =
+    let last = precede_then (λ x. Writes x fixed) _ (writes_precede fixed) (precede_sized write keeps) in
+    precede_then (EmitsName owner) _ (names_precede owner) last v w (Ok tt) p h.1
+precede_whole Fit owner fixed write keeps v w (Err error) p (u, fields, is) = subst CandidatesPrecede (sym is) (rewinds_precede u (checkpoint_of v))
 
 pub records_precede : RecordsPrecede
-records_precede r v w (Ok tt) p h = fields_precede r v w (Ok tt) p h.1
-records_precede r v w (Err error) p (u, fields, is) = subst CandidatesPrecede (sym is) (rewinds_precede u (checkpoint_of v))
+records_precede r = precede_whole (NumbersFit r) r.owner (wire_fixed r) (EmitsData r.rdata) (data_precede r.rdata)
+
+pub refused_whole_undo : (Fit : Type 0) (fields : Write) → KeepsFrame fields → (v w : Encoder) (error : ProtoError) → v.offset ≡ length v.bytes
+    → CandidatesPrecede v → EmitsWhole Fit fields v (Err error) w → w ≡ v
+refused_whole_undo Fit fields keeps v w error at_end precede (u, written, is) =
+    is ∙ rewinding_undoes v u (Err error) precede (keeps v (Err error) u at_end written)
 
 pub refused_records_undo : RefusedRecordsUndo
-refused_records_undo r v w error at_end precede (u, fields, is) =
-    is ∙ rewinding_undoes v u (Err error) precede (frame_fields r v (Err error) u at_end fields)
+refused_records_undo r = refused_whole_undo (NumbersFit r) (EmitsFields r) (frame_fields r)

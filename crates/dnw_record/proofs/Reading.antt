@@ -1,118 +1,163 @@
--- At each place there is one record at most, or one error.
-use Rattle.std.proofs.Common.{◌≡◌, ◌≢◌, ℕ, ◌+◌, ◌-◌, ◌<◌, ◌≤◌, List, length, Result, Ok, Err, IfOk, true, inl, inr, sym, ap, ◌∙◌, subst, arith, zero-add}
-use Rattle.std.specs.Prelude.{⊤}
-use Rattle.dnw_base.specs.Decoder.{Decoder, Takes}
-use Rattle.dnw_base.proofs.DecoderReads.{Takes_enough}
-use Rattle.dnw_base.specs.Names.{NameValue}
-use Rattle.dnw_base.specs.declared.error.DecodeError.{DecodeError}
-use Rattle.dnw_base.specs.declared.error.DecodeError.TheVariants.{IncorrectRDataLengthRead}
-use Rattle.dnw_name_read.specs.Reading.{NameAt, FaultAt, StopsAt, TakesName}
-use Rattle.dnw_name_read.proofs.Counts.{Reads_own}
-use Rattle.dnw_name_read.proofs.Unique.{Reads_unique, Stops_unique, Reads_not_Stops}
-use Rattle.dnw_record.specs.Records.{RecordValue, RecordAt, TakesRecord, FailsRecord, LacksRecord, HasRest, HasDataName, FailsDataName, record_of}
+-- Names and candidates are read in a message, and in one with other octets where a length is filled in later.
+use Rattle.std.proofs.Common.{◌≡◌, ℕ, suc, ◌+◌, ◌-◌, ◌*◌, ◌≤◌, Bool, true, false, nat_lt, if◌then◌else◌, Option, Some, None, List, [], ◌∷◌, ◌++◌, length, take, drop, Ok, refl, sym, ap, ◌∙◌, subst, append_assoc, arith}
+use Rattle.std.specs.List.{All, AllByRecursion}
+use Rattle.std.proofs.lemmas.List.{append-nil, drop_at, length-append}
+use Rattle.std.proofs.lemmas.List.Elements.{All-append, All-cons, All-drop, All-filter, All-head, All-nil, All-take, All-weaker}
+use Rattle.dnw_base.specs.Labels.{IsLabel}
+use Rattle.dnw_base.specs.Names.{AreLabels, NameValue, encoded_size, label_wire, labels_wire, wire}
+use Rattle.dnw_base.proofs.Wires.{AreLabels_few, encoded_size_cons, length_wire}
+use Rattle.dnw_write_suffixes.specs.Candidates.{Candidate, suffixes}
+use Rattle.dnw_name_read.specs.Reading.{NameAt, Reads}
+use Rattle.dnw_name_read.proofs.Back.{Reads_wire}
+use Rattle.dnw_name_read.proofs.Stand.{Reads_append}
+use Rattle.dnw_name_read.proofs.Unique.{Reads_unique}
+use Rattle.dnw_write.specs.Encoder.{Encoder, written}
+use Rattle.dnw_write.specs.EmittedName.{Chooses, EmitsAs, EmitsName, Share, form, in_mode, kept, pointer_to}
+use Rattle.dnw_write.specs.EmittingLaws.{take_all_lem}
+use Rattle.dnw_write.proofs.NameBack.{Reads_shared, each_front}
+use Rattle.dnw_record.proofs.Laying.{added}
+use Rattle.dnw_record.specs.AnyRecordLaws.{ReadsAs}
+use Rattle.dnw_record.proofs.Counting.{counts_as}
 
--- a decoder that skips to an index of a message is there
-pub started : (message : List ℕ) (index : ℕ) (start : Decoder) (skipped : Result (Unit {0}) DecodeError) (after : Decoder)
-    → start ≡ record { bytes = message; index = 0 } → index ≤ length message → Takes start index (λ _. ⊤) skipped after
-    → after ≡ record { bytes = message; index = index }
-started message index start skipped after is within takes =
-    let at : ℕ → Decoder = λ i. record { bytes = message; index = i } in
-    let from : Takes (at 0) index (λ _. ⊤) skipped after = subst (λ d. Takes d index (λ _. ⊤) skipped after) is takes in
-    (Takes_enough (at 0) index (λ _. ⊤) skipped after (omega arith) from).1 ∙ ap at (zero-add index)
+-- A candidate is the same name in both messages.
+abbrev pub InBoth : List ℕ → List ℕ → Candidate → Type 0
+InBoth b c candidate = (ls : List (List ℕ)) × ReadsAs b candidate.0 ls × ReadsAs c candidate.0 ls
 
-not_both : {b : List ℕ} {p e k followed found : ℕ} {ls : List (List ℕ)} {error : DecodeError} → NameAt b p ls e k → FaultAt b p error followed found → ⊥
-not_both h fault = let fits = h.fits in Reads_not_Stops h.reads (omega arith) fault
+append_read : (b more : List ℕ) (p : ℕ) (ls : List (List ℕ)) → ReadsAs b p ls → ReadsAs (b ++ more) p ls
+append_read b more p ls (e, k, h, few) = (e, k, record { reads = Reads_append more h.reads; fits = h.fits }, few)
 
-RecordAt_unique : (b : List ℕ) (p : ℕ) (r r' : RecordValue) (e e' : ℕ) → RecordAt b p r e → RecordAt b p r' e' → (r ≡ r') × (e ≡ e')
-RecordAt_unique b p r r' e e' h h' =
-    let (labels, ends, _) = Reads_unique h.owner_read.reads h'.owner_read.reads in
-    let same : r ≡ r' = h.is ∙ (ap (λ ls. record_of b ls h.owner_end) labels ∙ ap (record_of b h'.labels) ends) ∙ sym h'.is in
-    (same, h.ends ∙ ap (λ (x : RecordValue). x.start + x.len) same ∙ sym h'.ends)
+pub append_both : (b c x y : List ℕ) (cs : List Candidate) → All (InBoth b c) cs → All (InBoth (b ++ x) (c ++ y)) cs
+append_both b c x y cs all =
+    All-weaker (InBoth b c) (InBoth (b ++ x) (c ++ y))
+    (λ candidate (ls, one, two). (ls, append_read b x candidate.0 ls one, append_read c y candidate.0 ls two)) cs all
 
--- A record has octets of its own, which are within the message.
-pub record_own : {b : List ℕ} {p e : ℕ} {r : RecordValue} → RecordAt b p r e → (p < e) × (e ≤ length b)
-record_own {b} {p} {e} at =
-    let (further, inside) = Reads_own at.owner_read.reads in
-    let end = at.ends ∙ ap (λ (r : RecordValue). r.start + r.len) at.is in
-    let rest = at.rest in
-    (omega (arith, further, end, rest), omega (arith, end, rest))
+-- ---- what ends labels: the closing zero, or a pointer
 
-pub TakesRecord_unique : (d : Decoder) (r r' : RecordValue) (after after' : Decoder) → TakesRecord d r after → TakesRecord d r' after' → (r ≡ r') × (after ≡ after')
-TakesRecord_unique d r r' after after' h h' =
-    let (same, ends) = RecordAt_unique d.bytes d.index r r' h.0 h'.0 h.1 h'.1 in
-    let at : ℕ → Decoder = λ i. record { bytes = d.bytes; index = i } in
-    (same, h.2 ∙ ap at ends ∙ sym h'.2)
+-- After any octets, labels and this end are read as a name that goes on as the back. It follows no more pointers than the back has labels.
+abbrev Ends : List ℕ → List ℕ → List (List ℕ) → Type 0
+Ends b tail back = (y x : List ℕ) (front : List (List ℕ)) → y ≡ b ++ x → AllByRecursion IsLabel front → encoded_size (front ++ back) ≤ 255
+    → (k : ℕ) × NameAt (y ++ (labels_wire front ++ tail)) (length y) (front ++ back) (length (y ++ (labels_wire front ++ tail))) k × (k ≤ length back)
 
-has_rest : (b : List ℕ) (p : ℕ) (r : RecordValue) (e : ℕ) → RecordAt b p r e → LacksRecord b p → ⊥
-has_rest b p r e h lacks =
-    let (_, ends, _) = Reads_unique h.owner_read.reads lacks.3.reads in
-    lacks.4 (subst (HasRest b) ends h.rest)
+ends_zero : (b : List ℕ) → Ends b (0 ∷ []) []
+ends_zero b y x front is each fit =
+    let end = length-append y (wire front) ∙ ap (λ n. length y + n) (length_wire front) in
+    let reads = Reads_wire (y ++ wire front) y [] front (length y) (length y) (length (y ++ wire front)) refl end (ap (λ (z : List ℕ). y ++ z) (sym (append-nil (wire front)))) each in
+    (0, record { reads = rw append-nil reads; fits = fit }, omega arith)
 
-pub TakesRecord_not_Fails : (d : Decoder) (r : RecordValue) (after : Decoder) (error : DecodeError) → TakesRecord d r after → FailsRecord d error → ⊥
-TakesRecord_not_Fails d r after error h (inl stops) = not_both h.1.owner_read stops.2
-TakesRecord_not_Fails d r after error h (inr lacks) = has_rest d.bytes d.index r h.0 h.1 lacks.0
+ends_pointer : (b : List ℕ) (back : List (List ℕ)) (target : ℕ) → ReadsAs b target back → Ends b (pointer_to target) back
+ends_pointer b back target (e, k, h, few) y x front is each fit =
+    let there = subst (λ z. Reads z target target None back e k) (sym is) (Reads_append x h.reads) in
+    let end : length y + length (labels_wire front) + 2 ≡ length (y ++ (labels_wire front ++ pointer_to target)) =
+    omega (arith, length-append y (labels_wire front ++ pointer_to target), length-append (labels_wire front) (pointer_to target)) in
+    (suc k, record { reads = rw end at (Reads_shared y [] front back target e k each there); fits = fit }, omega (arith, few))
 
-pub FailsRecord_unique : (d : Decoder) (error other : DecodeError) → FailsRecord d error → FailsRecord d other → error ≡ other
-FailsRecord_unique d error other (inl stops) (inl stops') = (Stops_unique stops.2 stops'.2).0
-FailsRecord_unique d error other (inl stops) (inr lacks) = absurd (not_both lacks.0.3 stops.2)
-FailsRecord_unique d error other (inr lacks) (inl stops) = absurd (not_both lacks.0.3 stops.2)
-FailsRecord_unique d error other (inr lacks) (inr lacks') = lacks.1 ∙ sym lacks'.1
+-- such a name has a label more
+ends_as : (b tail y x : List ℕ) (back front : List (List ℕ)) (l : List ℕ) → Ends b tail back → y ≡ b ++ x → AllByRecursion IsLabel (l ∷ front)
+    → encoded_size ((l ∷ front) ++ back) ≤ 255 → ReadsAs (y ++ (labels_wire (l ∷ front) ++ tail)) (length y) (l ∷ (front ++ back))
+ends_as b tail y x back front l ends is each fit =
+    let (k, name, few) = ends y x (l ∷ front) is each fit in (_, k, name, omega (arith, few, length-append front back))
 
--- the same at the start of a message
-pub from_start : (result : Result RecordValue DecodeError) (d d' after : Decoder) → d ≡ d' → IfOk result (λ r. TakesRecord d r after)
-    → IfOk result (λ r. (after : Decoder) × TakesRecord d' r after)
-from_start (Ok r) d d' after same h = (after, subst (λ x. TakesRecord x r after) same h)
-from_start (Err e) d d' after same h = tt
+-- the suffixes of labels that are written are names
+suffix_both : (b c tail x y z : List ℕ) (back front : List (List ℕ)) → length b ≡ length c → Ends b tail back → Ends c tail back → y ≡ b ++ x → z ≡ c ++ x
+    → AllByRecursion IsLabel front → encoded_size (front ++ back) ≤ 255
+    → All (InBoth (y ++ (labels_wire front ++ tail)) (z ++ (labels_wire front ++ tail))) (take (length front) (suffixes (length y) (front ++ back)))
+suffix_both b c tail x y z back [] long ends also y_is z_is each fit = All-nil (InBoth (y ++ tail) (z ++ tail))
+suffix_both b c tail x y z back (l ∷ front) long ends also y_is z_is each fit =
+    let rest = labels_wire front ++ tail in
+    let P = InBoth (y ++ (labels_wire (l ∷ front) ++ tail)) (z ++ (labels_wire (l ∷ front) ++ tail)) in
+    let same : length z ≡ length y = omega (arith, ap length y_is, ap length z_is, length-append b x, length-append c x, long) in
+    let first : P (length y, labels_wire (l ∷ (front ++ back))) = (
+      l ∷ (front ++ back),
+      ends_as b tail y x back front l ends y_is each fit,
+      subst (λ p. ReadsAs (z ++ (labels_wire (l ∷ front) ++ tail)) p (l ∷ (front ++ back))) same (ends_as c tail z x back front l also z_is each fit),
+    ) in
+    let more = suffix_both b c tail (x ++ label_wire l) (y ++ label_wire l) (z ++ label_wire l) back front long ends also
+    (ap (λ (q : List ℕ). q ++ label_wire l) y_is ∙ append_assoc b x (label_wire l)) (ap (λ (q : List ℕ). q ++ label_wire l) z_is ∙ append_assoc c x (label_wire l))
+    each.1 (omega (arith, fit, encoded_size_cons l (front ++ back))) in
+    let all : (q : List ℕ) → (q ++ label_wire l) ++ rest ≡ q ++ (labels_wire (l ∷ front) ++ tail) =
+    λ q. append_assoc q (label_wire l) rest ∙ ap (λ (o : List ℕ). q ++ o) (sym (append_assoc (label_wire l) (labels_wire front) tail)) in
+    let at : length (y ++ label_wire l) ≡ length y + 1 + length l = omega (arith, length-append y (label_wire l)) in
+    let others : All P (take (length front) (suffixes (length y + 1 + length l) (front ++ back))) =
+    subst (λ o. All P (take (length front) (suffixes o (front ++ back)))) at
+    (subst (λ o. All (InBoth o (z ++ (labels_wire (l ∷ front) ++ tail))) (take (length front) (suffixes (length (y ++ label_wire l)) (front ++ back)))) (all y)
+    (subst (λ o. All (InBoth ((y ++ label_wire l) ++ rest) o) (take (length front) (suffixes (length (y ++ label_wire l)) (front ++ back)))) (all z) more)) in
+    All-cons P (length y, labels_wire (l ∷ (front ++ back))) (take (length front) (suffixes (length y + 1 + length l) (front ++ back))) first others
 
--- ---- data that are a name
+-- as many of them as are kept
+kept_all : (P : Candidate → Type 0) (v : Encoder) (ls : List (List ℕ)) (n : ℕ) → All P (take n (suffixes v.offset ls)) → All P (kept v ls n)
+kept_all P v ls n all =
+    let some = take (v.candidate_limit - length v.candidates) (take n (suffixes v.offset ls)) in
+    let M : Bool → Type 0 = λ b. All P (if b then some else []) in
+    let cases : (b : Bool) → M b = λ b. elim b as M [
+      | true ↦ All-take P _ _ all
+      | false ↦ All-nil P
+    ] in
+    cases (nat_lt (v.offset + length (labels_wire ls)) 16383)
 
-by_labels : (x y : NameValue) → x.is_fqdn ≡ true → y.is_fqdn ≡ true → x.labels ≡ y.labels → x ≡ y
-by_labels x y fqdn fqdn' labels =
-    let of : List (List ℕ) → NameValue = λ ls. record { is_fqdn = true; labels = ls } in
-    ap (λ b. record { is_fqdn = b; labels = x.labels }) fqdn ∙ (ap of labels ∙ sym (ap (λ b. record { is_fqdn = b; labels = y.labels }) fqdn'))
+-- one of several
+one_of : (P : Candidate → Type 0) (cs before after : List Candidate) (c : Candidate) → cs ≡ before ++ c ∷ after → All P cs → P c
+one_of P cs before after c is all =
+    let left : All P (drop (length before) (before ++ c ∷ after)) = All-drop P (length before) (before ++ c ∷ after) (subst (All P) is all) in
+    All-head P c after (subst (All P) (drop_at before (c ∷ after) (length before) refl) left)
 
-pub HasDataName_unique : (r : RecordValue) (name other : NameValue) → HasDataName r name → HasDataName r other → name ≡ other
-HasDataName_unique r name other h h' = by_labels name other h.0 h'.0 (Reads_unique h.2.reads h'.2.reads).0
+-- ---- a name that is written
 
-pub HasDataName_not_Fails : (r : RecordValue) (name : NameValue) (error : DecodeError) → HasDataName r name → FailsDataName r error → ⊥
-HasDataName_not_Fails r name error h (inl stops) = not_both h.2 stops.2
-HasDataName_not_Fails r name error h (inr longer) = longer.4 (sym (Reads_unique h.2.reads longer.3.reads).1)
+-- A name is written at the end of a message. It is read there, and so in another message of the same length in which the
+-- candidates are the same names; and these stay the same names in both. It follows at most 127 pointers, and none if it is not
+-- counted.
+pub record WrittenInBoth (v w : Encoder) (c : List ℕ) (ls : List (List ℕ)) : Type 0 where
+  pub own : List ℕ
+  pub bytes : w.bytes ≡ v.bytes ++ own
+  pub offset : w.offset ≡ length w.bytes
+  pub pointers : ℕ
+  pub name : NameAt (c ++ own) (length c) ls (length (c ++ own)) pointers
+  pub few : pointers + 127 * v.names ≤ 127 * w.names
+  pub candidates : All (InBoth w.bytes (c ++ own)) w.candidates
 
-pub FailsDataName_unique : (r : RecordValue) (error other : DecodeError) → FailsDataName r error → FailsDataName r other → error ≡ other
-FailsDataName_unique r error other (inl stops) (inl stops') = (Stops_unique stops.2 stops'.2).0
-FailsDataName_unique r error other (inl stops) (inr longer) = absurd (not_both longer.3 stops.2)
-FailsDataName_unique r error other (inr longer) (inl stops) = absurd (not_both longer.3 stops.2)
-FailsDataName_unique r error other (inr longer) (inr longer') =
-    longer.5 ∙ (ap (λ e. IncorrectRDataLengthRead (e - r.start) r.len) (Reads_unique longer.3.reads longer'.3.reads).1 ∙ sym longer'.5)
+-- labels and this end are written, and the suffixes of those labels are kept as candidates
+written_as : (v w : Encoder) (c tail : List ℕ) (back front ls : List (List ℕ)) → front ++ back ≡ ls → AreLabels ls → v.offset ≡ length v.bytes
+    → length v.bytes ≡ length c → All (InBoth v.bytes c) v.candidates → Ends v.bytes tail back → Ends c tail back → AllByRecursion IsLabel front
+    → w.bytes ≡ v.bytes ++ (labels_wire front ++ tail) → w.offset ≡ v.offset + length (labels_wire front ++ tail) → length back + 127 * v.names ≤ 127 * w.names
+    → ((P : Candidate → Type 0) → All P (v.candidates ++ kept v ls (length front)) → All P w.candidates) → WrittenInBoth v w c ls
+written_as v w c tail back front ls parts are e long all ends also each bytes offset few keeps =
+    let own = labels_wire front ++ tail in
+    let P = InBoth (v.bytes ++ own) (c ++ own) in
+    let fit : encoded_size (front ++ back) ≤ 255 = rw parts are.fit in
+    let new = suffix_both v.bytes c tail [] v.bytes c back front long ends also (sym (append-nil v.bytes)) (sym (append-nil c)) each fit in
+    let some : All P (take (length front) (suffixes v.offset ls)) = rw (e, ← parts) new in
+    let every = All-append P v.candidates (kept v ls (length front)) (append_both v.bytes c own own v.candidates all) (kept_all P v ls (length front) some) in
+    let (k, name, less) = also c [] front (sym (append-nil c)) each fit in
+    record {
+      own = own;
+      bytes = bytes;
+      offset = omega (arith, offset, ap length bytes, length-append v.bytes own, e);
+      pointers = k;
+      name = rw parts at name;
+      few = omega (arith, less, few);
+      candidates = subst (λ b. All (InBoth b (c ++ own)) w.candidates) (sym bytes) (keeps P every);
+    }
 
--- Reading a name where the data start: it ends there or after, and it is the data if it has their length.
-pub data_name_read : (r now : RecordValue) → r ≡ now → (start : Decoder) (skipped : Result (Unit {0}) DecodeError) (at after : Decoder) (name : NameValue) (index : ℕ)
-    → start ≡ record { bytes = r.message; index = 0 } → r.start + r.len ≤ length r.message → Takes start r.start (λ _. ⊤) skipped at
-    → (name.is_fqdn ≡ true) × (k : ℕ) × TakesName at after name.labels k → index ≡ after.index
-    → (r.start ≤ index) × (index - r.start ≡ r.len → HasDataName now name)
-    × (index - r.start ≢ r.len → FailsDataName now (IncorrectRDataLengthRead (index - r.start) r.len))
-data_name_read r now same start skipped at after name index is inside takes (fqdn, k, read) there =
-    let begins = started r.message r.start start skipped at is (omega (arith, inside)) takes in
-    let moved = rw begins at read in
-    let (later, within) = Reads_own moved.name.reads in
-    let ends : index ≡ moved.end = there ∙ ap (λ (d : Decoder). d.index) moved.moved in
-    let le : r.start ≤ index = omega (arith, later, ends) in
-    let has : index - r.start ≡ r.len → HasDataName r name = λ length_is.
-    let e : moved.end ≡ r.start + r.len = omega (arith, le, ends, length_is) in
-    (fqdn, k, subst (λ end. NameAt r.message r.start name.labels end k) e moved.name) in
-    let fails : index - r.start ≢ r.len → FailsDataName r (IncorrectRDataLengthRead (index - r.start) r.len) = λ differs.
-    let not : moved.end ≢ r.start + r.len = λ e. differs (omega (arith, le, ends, e)) in
-    inr (name.labels, moved.end, k, moved.name, not, ap (λ e. IncorrectRDataLengthRead (e - r.start) r.len) ends) in (
-      le,
-      λ length_is. subst (λ x. HasDataName x name) same (has length_is),
-      λ differs. subst (λ x. FailsDataName x (IncorrectRDataLengthRead (index - r.start) r.len)) same (fails differs),
-    )
+as_both : (v w : Encoder) (c : List ℕ) (ls : List (List ℕ)) (choice : Option Share) → AreLabels ls → v.offset ≡ length v.bytes → length v.bytes ≡ length c
+    → All (InBoth v.bytes c) v.candidates → Chooses v ls choice → EmitsAs v ls choice (Ok tt) w → WrittenInBoth v w c ls
+as_both v w c ls None are e long all chosen h =
+    written_as v w c (0 ∷ []) [] ls ls (append-nil ls) are e long all (ends_zero v.bytes) (ends_zero c) are.each
+    (ap (λ (x : Encoder). x.bytes) h.1 ∙ added v (written v (wire ls)) (wire ls) e refl) (ap (λ (x : Encoder). x.offset) h.1)
+    (omega (arith, (counts_as v w ls None h).1.on)) (λ P every. subst (All P) (sym (ap (λ (x : Encoder). x.candidates) h.1)) every)
+as_both v w c ls (Some share) are e long all (may, points) h =
+    let front = share.front in
+    let back = share.back in
+    let u = points.usable.usable in
+    let (labels, one, two) = one_of (InBoth v.bytes c) v.candidates points.usable.before points.usable.after (share.target, labels_wire back) u.split all in
+    let there : NameAt v.bytes share.target back u.end u.pointers = rw (take_all_lem v.offset v.bytes e) at u.name in
+    let same : labels ≡ back = (Reads_unique one.2.reads there.reads).0 in
+    let one_counted : w.names ≡ v.names + 1 = (counts_as v w ls (Some share) h).0 ∙ ap (λ (b : Bool). if b then v.names + 1 else v.names) may in
+    written_as v w c (pointer_to share.target) back front ls (sym points.parts) are e long all
+    (ends_pointer v.bytes back share.target (subst (ReadsAs v.bytes share.target) same one)) (ends_pointer c back share.target (subst (ReadsAs c share.target) same two))
+    (each_front front back (subst (λ x. AllByRecursion IsLabel x) points.parts are.each))
+    (ap (λ (x : Encoder). x.bytes) h.1 ∙ ap (λ (x : List ℕ). x ++ form ls (Some share)) (take_all_lem v.offset v.bytes e)) (ap (λ (x : Encoder). x.offset) h.1)
+    (omega (arith, ap length points.parts, length-append front back, AreLabels_few ls are, one_counted))
+    (λ P every. subst (All P) (sym (ap (λ (x : Encoder). x.candidates) h.1)) (All-filter _ P (v.candidates ++ kept v ls (length front)) every))
 
--- If reading a name there stops, so does reading the data as a name.
-pub data_name_stops : (r now : RecordValue) → r ≡ now → (start : Decoder) (skipped : Result (Unit {0}) DecodeError) (at : Decoder) (error : DecodeError)
-    → start ≡ record { bytes = r.message; index = 0 } → r.start + r.len ≤ length r.message → Takes start r.start (λ _. ⊤) skipped at
-    → (k : ℕ) × (j : ℕ) × StopsAt at error k j → FailsDataName now error
-data_name_stops r now same start skipped at error is inside takes (k, j, stops) =
-    let begins = started r.message r.start start skipped at is (omega (arith, inside)) takes in
-    let moved = rw begins at stops in
-    subst (λ x. FailsDataName x error) same (inl (k, j, moved))
+pub name_both : (name : NameValue) (v w : Encoder) (c : List ℕ) → v.offset ≡ length v.bytes → length v.bytes ≡ length c → All (InBoth v.bytes c) v.candidates
+    → EmitsName name v (Ok tt) w → WrittenInBoth v w c (in_mode v.encoding name.labels)
+name_both name v w c e long all h = as_both v w c (in_mode v.encoding name.labels) h.choice h.are_labels e long all h.chooses h.written_as

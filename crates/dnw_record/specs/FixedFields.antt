@@ -1,6 +1,6 @@
 -- The fields of a record between its owner and its data, as a struct has them.
 use Rattle.std.specs.Prelude.{◌≡◌, ℕ, List}
-use Rattle.dnw_record.specs.declared.record.reading.FixedFields.{FixedFields}
+use Rattle.dnw_record.specs.declared.record_ref.FixedFields.{FixedFields}
 use Rattle.dnw_record.specs.Records.{type_field, class_field, ttl_field, length_field}
 
 abbrev pub FieldsOf : List ℕ → FixedFields → Type 0

@@ -3,6 +3,13 @@ pub mod FixedFields
 pub mod RecordFields
 pub mod Parts
 pub mod WrittenRecords
-pub mod PassedRecords
 pub mod RecordFrames
 pub mod RecordLaws
+pub mod DataPieces
+pub mod DataCopies
+pub mod GivenFields
+pub mod AnyRecords
+pub mod WireRecords
+pub mod AnyRecordFrames
+pub mod AnyRecordLaws
+pub mod Inside

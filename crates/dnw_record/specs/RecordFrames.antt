@@ -4,6 +4,7 @@ use Rattle.std.specs.Int.{w16, to_be_bytes}
 use Rattle.std.proofs.lemmas.List.{length-append, length-take, length-replicate, length-drop, length-take-le, take-append-le, take-take}
 use Rattle.dnw_base.specs.declared.error.ProtoError.{ProtoError}
 use Rattle.dnw_base.specs.declared.error.ProtoError.TheVariants.{MaxBufferSizeExceeded, Memory}
+use Rattle.dnw_base.specs.Names.{NameValue}
 use Rattle.dnw_write.specs.declared.encoder.modes.NameEncoding.{NameEncoding}
 use Rattle.dnw_write.specs.Encoder.{Encoder, TakesRoom, Writes, filled, mode_of_rdata, reserved}
 use Rattle.dnw_write.specs.Emitting.{Outcome, Frame}
@@ -11,13 +12,11 @@ use Rattle.dnw_write.specs.EmittingLaws.{candidates_before_twice, frame, frame_m
 use Rattle.dnw_write.specs.EmittedName.{EmitsName}
 use Rattle.dnw_write.specs.NameFrames.{frame_name}
 use Rattle.dnw_write.specs.Checkpoints.{checkpoint_of, rewound}
-use Rattle.dnw_record.specs.declared.record.WireRecord.{WireRecord}
-use Rattle.dnw_record.specs.declared.record.WireData.{WireData}
-use Rattle.dnw_record.specs.declared.record.WireData.TheVariants.{Bytes, Name}
+use Rattle.dnw_record.specs.declared.wire_record.WireRecord.{WireRecord}
+use Rattle.dnw_record.specs.declared.wire_record.WireData.{WireData}
+use Rattle.dnw_record.specs.declared.wire_record.WireData.TheVariants.{Bytes, Name}
 use Rattle.dnw_record.specs.Parts.{EmitsSized, EmitsWirePart, Then, WirePart, Write, bytes_part, in_encoding, name_part, text_part}
-use Rattle.dnw_record.specs.Records.{RecordValue, data_octets}
-use Rattle.dnw_record.specs.PassedRecords.{PassesFields, PassesRecord, passed_octets, owner_name}
-use Rattle.dnw_record.specs.WrittenRecords.{EmitsData, EmitsFields, EmitsRecord, wire_fixed}
+use Rattle.dnw_record.specs.WrittenRecords.{EmitsData, EmitsFields, EmitsInOrder, EmitsRecord, EmitsWhole, NumbersFit, wire_fixed}
 
 -- what writes keep that begin at the buffer's end
 abbrev pub KeepsFrame : Write → Type 0
@@ -119,11 +118,11 @@ frame_sized write keeps v (Err error) w e (inr h) =
 
 -- ---- records
 
-pub frame_fields : (r : WireRecord) → KeepsFrame (EmitsFields r)
-frame_fields r =
-    let fields : KeepsFrame (λ v. Writes v (wire_fixed r)) = λ v outcome w e h. frame v (wire_fixed r) outcome w e h in
-    let last = frame_then (λ v. Writes v (wire_fixed r)) (EmitsSized (EmitsData r.rdata)) fields (frame_sized (EmitsData r.rdata) (frame_data r.rdata)) in
-    frame_then (EmitsName r.owner) _ (λ v outcome w e h. frame_name r.owner v outcome w e h) last
+pub frame_in_order : (owner : NameValue) (fixed : List ℕ) (write : Write) → KeepsFrame write → KeepsFrame (EmitsInOrder owner fixed write)
+frame_in_order owner fixed write keeps =
+    let octets : KeepsFrame (λ v. Writes v fixed) = λ v outcome w e h. frame v fixed outcome w e h in
+    let last = frame_then (λ v. Writes v fixed) (EmitsSized write) octets (frame_sized write keeps) in
+    frame_then (EmitsName owner) _ (λ v outcome w e h. frame_name owner v outcome w e h) last
 
 pub frame_rewound : (v u : Encoder) (error : ProtoError) → Frame v (Err error) u → Frame v (Err error) (rewound u (checkpoint_of v))
 frame_rewound v u error f =
@@ -138,20 +137,14 @@ frame_rewound v u error f =
       ends = tt;
     }
 
-pub frame_record : (r : WireRecord) (v : Encoder) (outcome : Outcome) (w : Encoder) → v.offset ≡ length v.bytes → EmitsRecord r v outcome w → Frame v outcome w
-frame_record r v (Ok tt) w e h = frame_fields r v (Ok tt) w e h.1
-frame_record r v (Err error) w e (u, fields, is) =
+pub frame_whole : (Fit : Type 0) (fields : Write) → KeepsFrame fields → KeepsFrame (EmitsWhole Fit fields)
+frame_whole Fit fields keeps v (Ok tt) w e h = keeps v (Ok tt) w e h.1
+frame_whole Fit fields keeps v (Err error) w e (u, written, is) =
     let P : Encoder → Type 0 = λ x. Frame v (Err error) x in
-    subst P (sym is) (frame_rewound v u error (frame_fields r v (Err error) u e fields))
+    subst P (sym is) (frame_rewound v u error (keeps v (Err error) u e written))
 
-pub frame_passed_fields : (x : RecordValue) → KeepsFrame (PassesFields x)
-frame_passed_fields x =
-    let octets : (d : List ℕ) → KeepsFrame (λ v. Writes v d) = λ d v outcome w e h. frame v d outcome w e h in
-    let rest = frame_then (λ v. Writes v (passed_octets x)) (λ v. Writes v (data_octets x)) (octets (passed_octets x)) (octets (data_octets x)) in
-    frame_then (EmitsName (owner_name x)) _ (λ v outcome w e h. frame_name (owner_name x) v outcome w e h) rest
+pub frame_fields : (r : WireRecord) → KeepsFrame (EmitsFields r)
+frame_fields r = frame_in_order r.owner (wire_fixed r) (EmitsData r.rdata) (frame_data r.rdata)
 
-pub frame_passed : (x : RecordValue) (v : Encoder) (outcome : Outcome) (w : Encoder) → v.offset ≡ length v.bytes → PassesRecord x v outcome w → Frame v outcome w
-frame_passed x v (Ok tt) w e h = frame_passed_fields x v (Ok tt) w e h.1
-frame_passed x v (Err error) w e (u, fields, is) =
-    let P : Encoder → Type 0 = λ y. Frame v (Err error) y in
-    subst P (sym is) (frame_rewound v u error (frame_passed_fields x v (Err error) u e fields))
+pub frame_record : (r : WireRecord) (v : Encoder) (outcome : Outcome) (w : Encoder) → v.offset ≡ length v.bytes → EmitsRecord r v outcome w → Frame v outcome w
+frame_record r = frame_whole (NumbersFit r) (EmitsFields r) (frame_fields r)

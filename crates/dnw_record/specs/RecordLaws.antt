@@ -13,12 +13,11 @@ use Rattle.dnw_write.specs.EmittedName.{in_mode}
 use Rattle.dnw_write.specs.Encoder.{CandidatesPrecede, Encoder}
 use Rattle.dnw_write.specs.EncoderLaws.{StaysBounded}
 use Rattle.dnw_write.specs.CandidateLaws.{KeepsPreceding}
-use Rattle.dnw_record.specs.declared.record.WireRecord.{WireRecord}
-use Rattle.dnw_record.specs.declared.record.WireData.{WireData}
-use Rattle.dnw_record.specs.declared.record.WireData.TheVariants.{Bytes, Name}
+use Rattle.dnw_record.specs.declared.wire_record.WireRecord.{WireRecord}
+use Rattle.dnw_record.specs.declared.wire_record.WireData.{WireData}
+use Rattle.dnw_record.specs.declared.wire_record.WireData.TheVariants.{Bytes, Name}
 use Rattle.dnw_record.specs.Parts.{EmitsCounted, EmitsWirePart, EmitsWireParts, WirePart, Write}
 use Rattle.dnw_record.specs.Records.{RecordAt, RecordValue, data_octets, fixed_at, fixed_size}
-use Rattle.dnw_record.specs.PassedRecords.{PassesRecord}
 use Rattle.dnw_record.specs.WrittenRecords.{EmitsData, EmitsRecord, NumbersFit}
 
 -- A refused record, begun at the buffer's end with every candidate before it, leaves the whole encoder.
@@ -29,11 +28,6 @@ RefusedRecordsUndo = (r : WireRecord) (v w : Encoder) (error : ProtoError) → v
 -- Refused data leave it wherever they began.
 abbrev pub RefusedDataUndo : Type 0
 RefusedDataUndo = (rdata : WireData) (v w : Encoder) (error : ProtoError) → EmitsData rdata v (Err error) w → w ≡ v
-
--- So does a record that is passed on and refused.
-abbrev pub RefusedPassedUndo : Type 0
-RefusedPassedUndo = (x : RecordValue) (v w : Encoder) (error : ProtoError) → v.offset ≡ length v.bytes
-    → CandidatesPrecede v → PassesRecord x v (Err error) w → w ≡ v
 
 -- ---- candidates before the offset
 
@@ -51,9 +45,6 @@ DataPrecede = (rdata : WireData) → KeepsPreceding (EmitsData rdata)
 
 abbrev pub RecordsPrecede : Type 0
 RecordsPrecede = (r : WireRecord) → KeepsPreceding (EmitsRecord r)
-
-abbrev pub PassedPrecede : Type 0
-PassedPrecede = (x : RecordValue) → KeepsPreceding (PassesRecord x)
 
 -- ---- sizes
 
@@ -76,9 +67,6 @@ DataStayBounded = (rdata : WireData) → KeepsBounded (EmitsData rdata)
 abbrev pub RecordsStayBounded : Type 0
 RecordsStayBounded = (r : WireRecord) → KeepsBounded (EmitsRecord r)
 
-abbrev pub PassedStayBounded : Type 0
-PassedStayBounded = (x : RecordValue) → KeepsBounded (PassesRecord x)
-
 -- the octets of data with a name whole
 abbrev pub data_size : WireData → ℕ
 data_size (Bytes bytes) = length bytes.items
@@ -98,15 +86,6 @@ abbrev pub RecordsFit : Type 0
 RecordsFit = (r : WireRecord)
     → ((v w : Encoder) → EmitsRecord r v (Ok tt) w → w.offset ≤ v.offset + record_size r)
     × ((v w : Encoder) (error : ProtoError) → EmitsRecord r v (Err error) w → FailsForSize v (record_size r) error)
-
--- the octets of a record that is passed on, with its owner whole
-abbrev pub passed_size : RecordValue → ℕ
-passed_size x = encoded_size x.owner + fixed_size + length (data_octets x)
-
-abbrev pub PassedFit : Type 0
-PassedFit = (x : RecordValue)
-    → ((v w : Encoder) → PassesRecord x v (Ok tt) w → w.offset ≤ v.offset + passed_size x)
-    × ((v w : Encoder) (error : ProtoError) → PassesRecord x v (Err error) w → FailsForSize v (passed_size x) error)
 
 -- ---- reading back
 
@@ -144,11 +123,3 @@ RecordsAreRead = (b : List ℕ) (mode : NameEncoding) (r : WireRecord) (p e : �
     → (x : RecordValue) × RecordAt b p x e × (x.owner ≡ in_mode mode r.owner.labels)
     × (x.record_type ≡ type_of_code (type_code r.record_type)) × (x.class ≡ class_of_code (class_code r.class)) × (x.ttl ≡ r.ttl)
     × HasBytes b r.rdata x.start e
-
--- A record that is passed on at the buffer's end is read there at once: the same owner in the encoder's mode, the same type
--- and class by their codes, the same time to live, and the same octets of data.
-abbrev pub PassedAreRead : Type 0
-PassedAreRead = (x : RecordValue) (v w : Encoder) → v.offset ≡ length v.bytes → v.max_size ≤ max_message → PassesRecord x v (Ok tt) w
-    → (y : RecordValue) × RecordAt w.bytes v.offset y w.offset × (y.owner ≡ in_mode v.encoding x.owner)
-    × (y.record_type ≡ type_of_code (type_code x.record_type)) × (y.class ≡ class_of_code (class_code x.class)) × (y.ttl ≡ x.ttl)
-    × (data_octets y ≡ data_octets x)

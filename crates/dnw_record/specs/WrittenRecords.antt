@@ -1,6 +1,8 @@
 -- How a record is written (RFC 1035, section 4.1.3): its fields in turn, and the length once the data are written.
 use Rattle.std.specs.Prelude.{◌≡◌, ℕ, ◌<◌, ◌^◌, Bool, List, ◌++◌, Ok, Err}
 use Rattle.std.specs.Int.{w16, w32, to_be_bytes}
+use Rattle.dnw_base.specs.declared.record_type.RecordType.{RecordType}
+use Rattle.dnw_base.specs.declared.dns_class.DNSClass.{DNSClass}
 use Rattle.dnw_base.specs.RecordTypes.{type_code}
 use Rattle.dnw_base.specs.DnsClasses.{class_code}
 use Rattle.dnw_base.specs.Names.{NameValue}
@@ -10,10 +12,10 @@ use Rattle.dnw_write.specs.Encoder.{Encoder, Writes, mode_of_rdata}
 use Rattle.dnw_write.specs.Emitting.{Outcome, Emits}
 use Rattle.dnw_write.specs.EmittedName.{EmitsName}
 use Rattle.dnw_write.specs.Checkpoints.{checkpoint_of, rewound}
-use Rattle.dnw_record.specs.Parts.{EmitsSized, Then, WirePart, bytes_part, name_part, in_encoding}
-use Rattle.dnw_record.specs.declared.record.WireRecord.{WireRecord}
-use Rattle.dnw_record.specs.declared.record.WireData.{WireData}
-use Rattle.dnw_record.specs.declared.record.WireData.TheVariants.{Bytes, Name}
+use Rattle.dnw_record.specs.Parts.{EmitsSized, Then, WirePart, Write, bytes_part, name_part, in_encoding}
+use Rattle.dnw_record.specs.declared.wire_record.WireRecord.{WireRecord}
+use Rattle.dnw_record.specs.declared.wire_record.WireData.{WireData}
+use Rattle.dnw_record.specs.declared.wire_record.WireData.TheVariants.{Bytes, Name}
 
 -- ---- data
 
@@ -34,18 +36,30 @@ data_part mode canonical (Name name encoding) = name_part (mode_of_rdata encodin
 -- ---- records
 
 -- the type, the class and the time to live
-abbrev pub wire_fixed : WireRecord → List ℕ
-wire_fixed r = to_be_bytes w16 (type_code r.record_type) ++ (to_be_bytes w16 (class_code r.class) ++ to_be_bytes w32 r.ttl)
-
--- the owner, the type, the class, the time to live, and the data with their length
-abbrev pub EmitsFields : Emits WireRecord
-EmitsFields r = Then (EmitsName r.owner) (Then (λ v. Writes v (wire_fixed r)) (EmitsSized (EmitsData r.rdata)))
+abbrev pub fixed_octets : RecordType → DNSClass → ℕ → List ℕ
+fixed_octets record_type class ttl = to_be_bytes w16 (type_code record_type) ++ (to_be_bytes w16 (class_code class) ++ to_be_bytes w32 ttl)
 
 -- The numbers of a record fit their fields, as those of the code do.
-abbrev pub NumbersFit : WireRecord → Type 0
-NumbersFit r = (type_code r.record_type < 2 ^ 16) × (class_code r.class < 2 ^ 16) × (r.ttl < 2 ^ 32)
+abbrev pub FixedFit : RecordType → DNSClass → ℕ → Type 0
+FixedFit record_type class ttl = (type_code record_type < 2 ^ 16) × (class_code class < 2 ^ 16) × (ttl < 2 ^ 32)
 
--- A record is written whole, or undone whole: then the encoder is back at its checkpoint, whichever field failed.
+-- The owner is written, then the type, the class and the time to live, and then data after their length.
+abbrev pub EmitsInOrder : NameValue → List ℕ → Write → Write
+EmitsInOrder owner fixed write = Then (EmitsName owner) (Then (λ v. Writes v fixed) (EmitsSized write))
+
+-- Fields that fit are written whole, or undone whole: then the encoder is back at its checkpoint, whichever failed.
+abbrev pub EmitsWhole : Type 0 → Write → Write
+EmitsWhole Fit fields v (Ok done) w = Fit × fields v (Ok tt) w
+EmitsWhole Fit fields v (Err error) w = (u : Encoder) × fields v (Err error) u × (w ≡ rewound u (checkpoint_of v))
+
+abbrev pub wire_fixed : WireRecord → List ℕ
+wire_fixed r = fixed_octets r.record_type r.class r.ttl
+
+abbrev pub EmitsFields : Emits WireRecord
+EmitsFields r = EmitsInOrder r.owner (wire_fixed r) (EmitsData r.rdata)
+
+abbrev pub NumbersFit : WireRecord → Type 0
+NumbersFit r = FixedFit r.record_type r.class r.ttl
+
 abbrev pub EmitsRecord : Emits WireRecord
-EmitsRecord r v (Ok done) w = NumbersFit r × EmitsFields r v (Ok tt) w
-EmitsRecord r v (Err error) w = (u : Encoder) × EmitsFields r v (Err error) u × (w ≡ rewound u (checkpoint_of v))
+EmitsRecord r = EmitsWhole (NumbersFit r) (EmitsFields r)

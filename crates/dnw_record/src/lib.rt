@@ -1,6 +1,14 @@
-//! Resource records, as they are read from messages and written into them.
+//! Resource records: read from messages, owned, and written into messages by the table of fields.
 //!
-//! It stands on names and the encoder. Read `specs/Records.antt` first: what a record in a message is.
+//! It stands on `dnw_data` and the encoder. Read `specs/Records.antt` first: what a record in a message is; then
+//! `specs/DataPieces.antt`: what the octets of data are made of.
 #![tactic(auto)]
 
+pub mod checked;
+mod conversions;
+pub mod from_fields;
+pub mod laws;
+pub mod rdata;
 pub mod record;
+pub mod record_ref;
+pub mod wire_record;

@@ -8,13 +8,13 @@ use Rattle.dnw_base.specs.Limits.{max_message}
 use Rattle.dnw_data.specs.declared.kind.NameForm.TheVariants.{Compressible, Lowered, Plain}
 use Rattle.dnw_write.specs.declared.encoder.modes.NameEncoding.{NameEncoding}
 use Rattle.dnw_write.specs.Encoder.{Encoder}
-use Rattle.dnw_record_owned.specs.declared.record.Record.{Record}
-use Rattle.dnw_record_owned.specs.AnyRecordFrames.{frame_rdata}
-use Rattle.dnw_record_owned.specs.AnyRecordLaws.{written_pieces}
-use Rattle.dnw_record_owned.specs.AnyRecords.{EmitsRData}
-use Rattle.dnw_record_owned.specs.DataPieces.{DataPiece, DataValue, name_piece, octets_of, octets_piece}
-use Rattle.dnw_record_owned.proofs.Going.{fits_rdata}
-use Rattle.dnw_record_owned.proofs.Octets.{whole_data_are_octets}
+use Rattle.dnw_record.specs.declared.record.Record.{Record}
+use Rattle.dnw_record.specs.AnyRecordFrames.{frame_rdata}
+use Rattle.dnw_record.specs.AnyRecordLaws.{written_pieces}
+use Rattle.dnw_record.specs.AnyRecords.{EmitsRData}
+use Rattle.dnw_record.specs.DataPieces.{DataPiece, DataValue, name_piece, octets_of, octets_piece}
+use Rattle.dnw_record.proofs.Going.{fits_rdata}
+use Rattle.dnw_record.proofs.Octets.{whole_data_are_octets}
 use Rattle.dnw_signed.specs.CanonicalData.{IsCanonical, canonical_piece, canonical_pieces}
 use Rattle.dnw_signed.specs.RecordSets.{AreCanonical, FailsSetFrom, FailsSet, FirstOther, IsMember, IsRecordSet, IsSet, IsInOrder, set_head, set_record}
 use Rattle.dnw_signed.specs.declared.error.CanonicalError.{CanonicalError}

@@ -1,9 +1,9 @@
 -- The canonical octets of data are the only ones, and so are those of records in turn.
 use Rattle.std.proofs.Common.{◌≡◌, ℕ, List, [], ◌∷◌, ◌⊎◌, inl, inr, refl, sym, ap, ◌∙◌, subst}
 use Rattle.std.specs.List.{Contains}
-use Rattle.dnw_record_owned.specs.declared.record.Record.{Record}
-use Rattle.dnw_record_owned.specs.DataPieces.{DataValue, octets_of}
-use Rattle.dnw_record_owned.proofs.AnyRecords.{data_have_fields}
+use Rattle.dnw_record.specs.declared.record.Record.{Record}
+use Rattle.dnw_record.specs.DataPieces.{DataValue, octets_of}
+use Rattle.dnw_record.proofs.AnyRecords.{data_have_fields}
 use Rattle.dnw_signed.specs.CanonicalData.{IsCanonical, canonical_pieces}
 use Rattle.dnw_signed.specs.CanonicalLaws.{IsLikeData}
 use Rattle.dnw_signed.specs.RecordSets.{AreCanonical}

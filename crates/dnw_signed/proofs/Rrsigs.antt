@@ -6,8 +6,8 @@ use Rattle.dnw_base.specs.declared.error.DecodeError.{DecodeError}
 use Rattle.dnw_base.specs.declared.error.DecodeError.TheVariants.{InsufficientBytes}
 use Rattle.dnw_base.specs.Decoder.{Decoder, HasLeft, Takes, advanced}
 use Rattle.dnw_data.specs.declared.kind.NameForm.TheVariants.{Plain}
-use Rattle.dnw_record_owned.proofs.Alike.{known_anywhere}
-use Rattle.dnw_record_owned.proofs.Pieces.{behind, name_again}
+use Rattle.dnw_record.proofs.Alike.{known_anywhere}
+use Rattle.dnw_record.proofs.Pieces.{behind, name_again}
 use Rattle.dnw_name_read.specs.Reading.{TakesName}
 use Rattle.std.proofs.lemmas.List.{length-append}
 use Rattle.std.specs.List.{AllByRecursion}
@@ -18,8 +18,8 @@ use Rattle.dnw_data.specs.declared.kind.Kind.TheVariants.{Name, U8, U16, U32, Ty
 use Rattle.dnw_data.specs.declared.kind.NameForm.{NameForm}
 use Rattle.dnw_data.specs.Table.{base64, fields_of, is_internet_type, lowered_name}
 use Rattle.dnw_data.specs.Values.{own_size}
-use Rattle.dnw_record_owned.specs.DataPieces.{ArePiecesOf, DataPiece, DataValue, IsDataOfType, HasPieces, name_piece, octets_of, octets_piece}
-use Rattle.dnw_record_owned.specs.Inside.Copying.{IsNoName}
+use Rattle.dnw_record.specs.DataPieces.{ArePiecesOf, DataPiece, DataValue, IsDataOfType, HasPieces, name_piece, octets_of, octets_piece}
+use Rattle.dnw_record.specs.Inside.Copying.{IsNoName}
 use Rattle.dnw_signed.specs.SignedFields.{IsRrsig, IsSignedFields, before_signer}
 
 -- a field of this kind takes the same number of octets whatever is left

@@ -10,7 +10,7 @@ use Rattle.std.specs.List.Sorted.{IsPermutation}
 use Rattle.dnw_base.specs.RecordTypes.{type_code}
 use Rattle.dnw_base.specs.DnsClasses.{class_code}
 use Rattle.dnw_base.specs.Names.{lower, wire}
-use Rattle.dnw_record_owned.specs.declared.record.Record.{Record}
+use Rattle.dnw_record.specs.declared.record.Record.{Record}
 use Rattle.dnw_signed.specs.CanonicalLaws.{AreAmong, DependsOnSet, IsLike, KeepsInAnyOrder}
 use Rattle.dnw_signed.specs.RecordSets.{AreCanonical, IsMember, IsOfSet, IsRecordSet, IsSet, set_head, set_record, signed_owner}
 use Rattle.dnw_signed.proofs.OneForm.{canonical_like, canonical_one, has_octets, of_record}

@@ -3,7 +3,7 @@
 use Rattle.std.specs.Prelude.{◌≡◌, ℕ, List, map}
 use Rattle.dnw_base.specs.Names.{lower}
 use Rattle.dnw_data.specs.declared.kind.NameForm.TheVariants.{Plain}
-use Rattle.dnw_record_owned.specs.DataPieces.{DataPiece, DataValue, HasPieces, data_kinds, name_piece, octets_of, octets_piece}
+use Rattle.dnw_record.specs.DataPieces.{DataPiece, DataValue, HasPieces, data_kinds, name_piece, octets_of, octets_piece}
 
 abbrev pub canonical_piece : DataPiece → DataPiece
 canonical_piece (name_piece Plain labels) = name_piece Plain labels

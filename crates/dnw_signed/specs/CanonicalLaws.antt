@@ -2,8 +2,8 @@
 use Rattle.std.specs.Prelude.{◌≡◌, ℕ, List}
 use Rattle.std.specs.List.{All, Any}
 use Rattle.std.specs.List.Sorted.{IsPermutation}
-use Rattle.dnw_record_owned.specs.declared.record.Record.{Record}
-use Rattle.dnw_record_owned.specs.DataPieces.{DataPiece, DataValue, HasPieces, data_kinds}
+use Rattle.dnw_record.specs.declared.record.Record.{Record}
+use Rattle.dnw_record.specs.DataPieces.{DataPiece, DataValue, HasPieces, data_kinds}
 use Rattle.dnw_signed.specs.CanonicalData.{canonical_pieces}
 use Rattle.dnw_signed.specs.RecordSets.{IsOfSet, IsRecordSet}
 

@@ -10,7 +10,7 @@ use Rattle.dnw_base.specs.DnsClasses.{class_code}
 use Rattle.dnw_base.specs.Labels.{wildcard}
 use Rattle.dnw_base.specs.Limits.{max_message}
 use Rattle.dnw_base.specs.Names.{lower, wire}
-use Rattle.dnw_record_owned.specs.declared.record.Record.{Record}
+use Rattle.dnw_record.specs.declared.record.Record.{Record}
 use Rattle.dnw_signed.specs.declared.error.CanonicalError.{CanonicalError}
 use Rattle.dnw_signed.specs.declared.error.CanonicalError.TheVariants.{DataTooLong, Memory, NoRecords, NotInSet, TooFewLabels}
 use Rattle.dnw_signed.specs.CanonicalData.{IsCanonical}

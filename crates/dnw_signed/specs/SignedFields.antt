@@ -3,7 +3,7 @@ use Rattle.std.specs.Prelude.{◌≡◌, ◌≤◌, ℕ, List, ◌++◌, length}
 use Rattle.dnw_base.specs.RecordTypes.{type_code}
 use Rattle.dnw_base.specs.declared.record_type.RecordType.TheVariants.{RRSIG}
 use Rattle.dnw_base.specs.Names.{AreLabels, lower, wire}
-use Rattle.dnw_record_owned.specs.DataPieces.{DataValue}
+use Rattle.dnw_record.specs.DataPieces.{DataValue}
 use Rattle.dnw_signed.specs.declared.error.CanonicalError.{CanonicalError}
 use Rattle.dnw_signed.specs.declared.error.CanonicalError.TheVariants.{Memory, NotRrsig}
 

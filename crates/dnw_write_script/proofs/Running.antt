@@ -10,7 +10,7 @@ use Rattle.dnw_base.specs.declared.error.ProtoError.{ProtoError}
 use Rattle.dnw_write.specs.Encoder.{Encoder}
 use Rattle.dnw_write.specs.EmittedName.{so_far}
 use Rattle.dnw_write.specs.EmittingLaws.{take_all_lem}
-use Rattle.dnw_record.specs.declared.record.WireRecord.{WireRecord}
+use Rattle.dnw_record.specs.declared.wire_record.WireRecord.{WireRecord}
 use Rattle.dnw_record.specs.WrittenRecords.{EmitsRecord}
 use Rattle.dnw_record.specs.Parts.{WirePart, bytes_part, name_part, text_part}
 use Rattle.dnw_record.proofs.Bounded.{part_stays_bounded, parts_stay_bounded}

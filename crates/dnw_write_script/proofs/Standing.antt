@@ -17,9 +17,9 @@ use Rattle.dnw_write.specs.EmittingLaws.{frame, frame_same, frames_follow}
 use Rattle.dnw_write.specs.Emitting.{Frame}
 use Rattle.dnw_write.specs.NameFrames.{frame_name}
 use Rattle.dnw_write.proofs.NameBack.{names_take_no_more, size_in_mode, Reads_shared, each_back, each_front}
-use Rattle.dnw_record.specs.declared.record.WireRecord.{WireRecord}
-use Rattle.dnw_record.specs.declared.record.WireData.{WireData}
-use Rattle.dnw_record.specs.declared.record.WireData.TheVariants as rdata
+use Rattle.dnw_record.specs.declared.wire_record.WireRecord.{WireRecord}
+use Rattle.dnw_record.specs.declared.wire_record.WireData.{WireData}
+use Rattle.dnw_record.specs.declared.wire_record.WireData.TheVariants as rdata
 use Rattle.dnw_record.specs.Parts.{EmitsWirePart, EmitsWireParts, WirePart, bytes_part, in_encoding, name_part, text_part, with_length}
 use Rattle.dnw_record.specs.RecordFrames.{frame_reserved, frame_wire_part}
 use Rattle.dnw_record.specs.WrittenRecords.{EmitsData, EmitsFields, NumbersFit, wire_fixed}

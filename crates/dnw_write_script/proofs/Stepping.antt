@@ -9,7 +9,7 @@ use Rattle.dnw_base.specs.declared.error.ProtoError.TheVariants.{MaxBufferSizeEx
 use Rattle.dnw_base.specs.Limits.{max_message}
 use Rattle.dnw_write.specs.Encoder.{Encoder, filled, moved_to, reserved, TakesRoom, Writes, WritesText, written}
 use Rattle.dnw_write.specs.Emitting.{Frame, InTurn, rolled_back, list_error}
-use Rattle.dnw_record.specs.declared.record.WireRecord.{WireRecord}
+use Rattle.dnw_record.specs.declared.wire_record.WireRecord.{WireRecord}
 use Rattle.dnw_record.specs.Parts.{EmitsWirePart, EmitsWireParts, parts_size, WirePart, bytes_part, in_encoding, name_part, text_part}
 use Rattle.dnw_record.specs.RecordFrames.{frame_fields, frame_reserved, frame_wire_part}
 use Rattle.dnw_record.specs.RecordLaws.{record_size, FailsForSize}

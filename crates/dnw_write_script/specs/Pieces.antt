@@ -10,9 +10,9 @@ use Rattle.dnw_base.specs.DnsClasses.{class_code}
 use Rattle.dnw_base.specs.Limits.{max_message}
 use Rattle.dnw_base.specs.Names.{encoded_size}
 use Rattle.dnw_name_read.specs.Reading.{NameAt}
-use Rattle.dnw_record.specs.declared.record.WireRecord.{WireRecord}
-use Rattle.dnw_record.specs.declared.record.WireData.{WireData}
-use Rattle.dnw_record.specs.declared.record.WireData.TheVariants as rdata
+use Rattle.dnw_record.specs.declared.wire_record.WireRecord.{WireRecord}
+use Rattle.dnw_record.specs.declared.wire_record.WireData.{WireData}
+use Rattle.dnw_record.specs.declared.wire_record.WireData.TheVariants as rdata
 use Rattle.dnw_record.specs.Parts.{WirePart, bytes_part, name_part, text_part}
 use Rattle.dnw_record.specs.Records.{fixed_size}
 use Rattle.dnw_record.specs.RecordLaws.{fixed_and_length}

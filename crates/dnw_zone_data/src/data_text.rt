@@ -27,7 +27,7 @@ use dnw_data::fields::Fields;
 use dnw_data::kind::{Kind, ListKind, Shown};
 use dnw_data::table::fields_of;
 use dnw_name::name::Name;
-use dnw_record::record::RecordRef;
+use dnw_record::record_ref::RecordRef;
 use std::alloc::{AllocError, Global};
 
 /// Returns the text of the data of a record in a master file: its fields with a space between them, or the form that any data

@@ -12,7 +12,7 @@ use dnw_base::limits::MAX_DATA;
 use dnw_base::record_type::RecordType;
 use dnw_name::name::Name;
 use dnw_name_form::form::WireForm;
-use dnw_record::record::RecordRef;
+use dnw_record::record_ref::RecordRef;
 use dnw_zone_data::data_text::{data_text, parse_bytes};
 use dnw_zone_data::error::DataTextError;
 use dnw_zone_data::name::write_name;

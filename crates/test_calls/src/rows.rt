@@ -6,6 +6,7 @@ use dns_names_wire::decoder::BinDecoder;
 use dns_names_wire::encoder::{BinEncoder, RDataEncoding};
 use dns_names_wire::error::{DecodeError, ProtoError};
 use dns_names_wire::name::Name;
+use dns_names_wire::rdata::CheckedRecord;
 use dns_names_wire::record::RecordRef;
 use dns_names_wire::record_type::RecordType;
 use std::test::Fail;
@@ -50,14 +51,14 @@ fn records_are_written_after_their_owner(rt: HostRuntime) -> Result<(), Fail> {
 }
 
 #[test]
-fn a_record_of_a_message_is_passed_on(rt: HostRuntime) -> Result<(), Fail> {
+fn a_record_of_a_message_is_written_again(rt: HostRuntime) -> Result<(), Fail> {
     let alloc = rt.alloc();
     let tail = b"\x00\x01\x00\x01\x00\x00\x01\x2c\x00\x04\x01\x02\x03\x04";
     let mut message = Vec::from_slice(alloc, b"\x01a\x00\x01b\xc0\x00")?;
     message.extend_from_slice(tail)?;
     let mut decoder = BinDecoder::new(message.as_slice());
     decoder.skip(3)?;
-    let record = RecordRef::read(alloc, &mut decoder)?;
+    let record = CheckedRecord::new(RecordRef::read(alloc, &mut decoder)?)?;
     let mut bytes = Vec::new(alloc);
     let mut encoder = BinEncoder::new(&mut bytes);
     Name::from_ascii(alloc, "x.b.a.")?.emit(&mut encoder)?;

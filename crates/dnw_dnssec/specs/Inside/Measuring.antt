@@ -2,7 +2,7 @@
 use Rattle.std.specs.Prelude.{◌≡◌, ◌≤◌, ℕ, List, ◌++◌, length}
 use Rattle.std.specs.List.{All, AllByRecursion}
 use Rattle.dnw_base.specs.Limits.{max_message}
-use Rattle.dnw_record_owned.specs.declared.record.Record.{Record}
+use Rattle.dnw_record.specs.declared.record.Record.{Record}
 use Rattle.dnw_dnssec.specs.ZoneDigests.{CanonicalRecord, HasShortData}
 
 -- two octets can say how long the data of each are

@@ -2,7 +2,7 @@
 ghost use Rattle.std.specs.Prelude.{◌≡◌, ◌+◌, ◌-◌, ◌<◌, ◌≤◌, ◌^◌, ◌⊎◌, IfOk, IfErr};
 ghost use Rattle.dnw_base.specs.declared.error.ProtoError.{ProtoError};
 ghost use Rattle.dnw_write.specs.EncoderValue.{value, lender};
-ghost use Rattle.dnw_record_owned.specs.AnyRecordLaws.{any_record_size};
+ghost use Rattle.dnw_record.specs.AnyRecordLaws.{any_record_size};
 ghost use Rattle.dnw_message_header.specs.Headers.{header_size};
 ghost use Rattle.dnw_message_write.specs.Drafts.{AddsLast, Draft};
 
@@ -11,8 +11,8 @@ use crate::query::WireQuery;
 use crate::section::{Section, add, count};
 use dnw_base::error::{ProtoError, ProtoResult};
 use dnw_message_header::header::{Header, Metadata};
-use dnw_record::record::FIXED_SIZE;
-use dnw_record_owned::record::Record;
+use dnw_record::record::Record;
+use dnw_record::record_ref::FIXED_SIZE;
 use dnw_write::binary::BinEncodable;
 use dnw_write::encoder::BinEncoder;
 
@@ -34,7 +34,7 @@ pub struct MessageWriter<'a> {
 impl<'a> MessageWriter<'a> {
     ghost use Rattle.std.specs.Prelude.{replicate, Ok, Err, Some, None, List, []};
     ghost use Rattle.dnw_write.specs.Encoder.{Encoder, fresh};
-    ghost use Rattle.dnw_record_owned.specs.AnyRecords.{EmitsAnyRecord};
+    ghost use Rattle.dnw_record.specs.AnyRecords.{EmitsAnyRecord};
     ghost use Rattle.dnw_message_write.specs.declared.section.Section.TheVariants.{Queries, Answers, Authorities, Additionals};
     ghost use Rattle.dnw_message_write.specs.WireQueries.{EmitsQuery};
     ghost use Rattle.dnw_message_write.specs.Drafts.{Adds, Begins};

@@ -4,7 +4,7 @@ ghost use Rattle.std.specs.Prelude.{◌≡◌};
 use super::{AddError, MessageWriter};
 use crate::section::Section;
 use crate::together::add_together;
-use dnw_record_owned::record::Record;
+use dnw_record::record::Record;
 
 impl<'a> MessageWriter<'a> {
     ghost use Rattle.dnw_message_write.specs.declared.section.Section.TheVariants.{Answers, Authorities, Additionals};

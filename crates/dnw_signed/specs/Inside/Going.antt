@@ -4,7 +4,7 @@ use Rattle.std.specs.Global.{Vec}
 use Rattle.std.specs.List.{All, AllByRecursion}
 use Rattle.dnw_write.specs.Encoder.{Encoder, fresh}
 use Rattle.dnw_base.specs.Limits.{max_message}
-use Rattle.dnw_record_owned.specs.declared.record.Record.{Record}
+use Rattle.dnw_record.specs.declared.record.Record.{Record}
 use Rattle.dnw_signed.specs.RecordSets.{AreCanonical, IsMember}
 
 -- an encoder that writes in canonical form, and keeps no candidates

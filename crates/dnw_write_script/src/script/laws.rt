@@ -4,7 +4,7 @@
 ghost use Rattle.dnw_write_script.specs.ScriptLaws.{RunsReply, RunsFinish, RunsStayUseful, RunsAreShortest, RunsStayBounded, RunsUndoRecords, StandingRecordsAreRead};
 ghost use Rattle.dnw_write_script.specs.ScriptLaws.{PartsOfScriptsStayBounded, ItemsOfScriptsStayBounded};
 
-use dnw_record::record::laws;
+use dnw_record::laws;
 
 /// Each step has the reply that its definition says.
 #[tactic(auto, using(crate::proofs::Running::runs_reply))]

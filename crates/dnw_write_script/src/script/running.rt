@@ -15,7 +15,7 @@ ghost use Rattle.dnw_write_script.specs.Inside.Running.{FillsKept, HoldsPlace, K
 
 use super::{Item, Reply, Step};
 use dnw_base::error::ProtoResult;
-use dnw_record::record::WireRecord;
+use dnw_record::wire_record::WireRecord;
 use dnw_write::binary::BinEncodable;
 use dnw_write::encoder::{BinEncoder, CANDIDATE_LIMIT, NAME_LIMIT, NameEncoding, Place};
 use std::alloc::Global;

@@ -2,8 +2,8 @@
 use Rattle.std.proofs.Common.{Option, Err, refl, sym, subst}
 use Rattle.dnw_write.specs.Encoder.{Encoder}
 use Rattle.dnw_write.specs.EncoderValue.{value}
-use Rattle.dnw_record_owned.specs.declared.record.Record.{Record}
-use Rattle.dnw_record_owned.specs.AnyRecords.{EmitsAnyRecord}
+use Rattle.dnw_record.specs.declared.record.Record.{Record}
+use Rattle.dnw_record.specs.AnyRecords.{EmitsAnyRecord}
 use Rattle.dnw_message_write.specs.Drafts.{AddsLast}
 use Rattle.dnw_message_write.proofs.writer.one_by_one.add_last.Goals as goal
 

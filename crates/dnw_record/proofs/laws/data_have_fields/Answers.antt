@@ -1,0 +1,5 @@
+use Rattle.dnw_record.proofs.AnyRecords.{data_have_fields}
+use Rattle.dnw_record.proofs.laws.data_have_fields.Goals as goal
+
+pub returns : goal.returns
+returns c = data_have_fields

@@ -1,5 +1,0 @@
-use Rattle.dnw_record_owned.proofs.AnyRecords.{data_have_fields}
-use Rattle.dnw_record_owned.proofs.laws.data_have_fields.Goals as goal
-
-pub returns : goal.returns
-returns c = data_have_fields
