@@ -68,9 +68,12 @@ static void signs_sets(void)
     EXPECT(signs(BYTES(OTHERS FIRST OTHERS SECOND OF_A), 0, SIZE(OTHERS FIRST OTHERS SECOND), WANTED(SIGNED(A, "\002") BOTH)));
     EXPECT(signs(BYTES(OF_A RECORD(A_B, A, TTL, ADDRESS("\003")) FIRST SECOND), SIZE(OF_A FIRST), 0,
                  WANTED(SIGNED(A, "\002") BOTH)));
-    /* of the root */
-    EXPECT(signs(BYTES(RRSIG("\000", A, "\000") RECORD("\000", A, TTL, ADDRESS("\001"))), SIZE(RRSIG("\000", A, "\000")), 0,
-                 WANTED(SIGNED(A, "\000") RECORD("\000", A, ORIGINAL, ADDRESS("\001")))));
+    /* of the root, by the root; a name below can't be the zone of its records */
+#define OF_ROOT "\000\000\056\000\001" TTL "\000\026" FIELDS(A, "\000") "\000sig"
+    EXPECT(signs(BYTES(OF_ROOT RECORD("\000", A, TTL, ADDRESS("\001"))), SIZE(OF_ROOT), 0,
+                 WANTED(FIELDS(A, "\000") "\000" RECORD("\000", A, ORIGINAL, ADDRESS("\001")))));
+    EXPECT(fails(BYTES(RRSIG("\000", A, "\000") RECORD("\000", A, TTL, ADDRESS("\001"))), SIZE(RRSIG("\000", A, "\000")), 0)
+           == DNW_NOT_COVERED);
     /* an absent octet is before a zero */
 #define DATA(data) RECORD(A_B, NULL_TYPE, TTL, data)
 #define SHOWN(data) RECORD(A_B, NULL_TYPE, ORIGINAL, data)
@@ -144,11 +147,12 @@ static void refuses_records(void)
     EXPECT(fails(list, whole, whole + 1, 0) == DNW_MESSAGE_CUT);
     EXPECT(fails(list, whole, SIZE_MAX, 0) == DNW_MESSAGE_CUT);
     EXPECT(fails(BYTES(OF_A FIRST "\100"), SIZE(OF_A), 0) == DNW_RESERVED_OCTET);
-    EXPECT(fails(BYTES(OF_A RECORD(A_B, A, TTL, "\000\003123") "\100"), SIZE(OF_A), 0) == DNW_MESSAGE_CUT);
+    /* all records are read before data are */
+    EXPECT(fails(BYTES(OF_A RECORD(A_B, A, TTL, "\000\003123") "\100"), SIZE(OF_A), 0) == DNW_RESERVED_OCTET);
     EXPECT(fails(BYTES(OF_A RECORD(A_B, A, TTL, "\000\00512345")), SIZE(OF_A), 0) == DNW_WRONG_DATA_LENGTH);
     EXPECT(fails(BYTES(RRSIG(A_B, MX, "\002") RECORD(A_B, MX, TTL, "\000\003\000\001\100")), SIZE(OF_A), 0) == DNW_RESERVED_OCTET);
-    /* no record is covered, whatever the labels are */
-    EXPECT(fails(BYTES(RRSIG(A_B, A, "\377")), SIZE(OF_A), 0) == DNW_NOT_COVERED);
+    /* too many labels, whether a record is covered or not */
+    EXPECT(fails(BYTES(RRSIG(A_B, A, "\377")), SIZE(OF_A), 0) == DNW_TOO_FEW_LABELS);
 }
 
 /* Parameters of 65,531 octets after a name of two octets, which takes five without compression. */

@@ -1,9 +1,9 @@
 """Exchanges the texts of names with dnspython and BIND: `name_texts.py LIBRARY [NAMES [SEED]]`.
 
-Names by chance, of any octets, are printed by ours and read by dnspython, printed by dnspython and read by ours, and in a zone put
-through `named-checkzone -D`, which reads ours and prints its own. All must be the same octets. Texts by chance, of what means
-something to a reader and with one octet changed, are read by ours and by dnspython, with and without an origin: the same octets, or
-both refuse; where they differ on purpose, DIFFERENCES says so, and how often is printed.
+Names by chance, of any octets, are printed by ours and read by dnspython, printed by dnspython and read by ours, and in a
+zone put through `named-checkzone -D`, which reads ours and prints its own. All must be the same octets. Texts by chance, of
+what means something to a reader and with one octet changed, are read by ours and by dnspython, with and without an origin:
+the same octets, or both refuse; where they differ on purpose, DIFFERENCES says so, and how often is printed.
 """
 
 import collections
@@ -45,16 +45,18 @@ def parse(text, origin=b""):
     """The wire form of a text's name and whether it is fully qualified, or None."""
     form, parsed = ctypes.create_string_buffer(255), Parsed()
     sizes = [ctypes.c_size_t(len(it)) for it in (text, origin)]
-    failed = OURS.dnw_name_parse(text, sizes[0], origin, sizes[1], form, ctypes.c_size_t(255), ctypes.byref(parsed))
+    given = (text, sizes[0], origin, sizes[1])
+    failed = OURS.dnw_name_parse(*given, form, ctypes.c_size_t(255), ctypes.byref(parsed))
     offset = ctypes.c_size_t(len(text) + 1)
-    assert OURS.dnw_name_text_fault(text, sizes[0], origin, sizes[1], ctypes.byref(offset)) == failed, text
+    assert OURS.dnw_name_text_fault(*given, ctypes.byref(offset)) == failed, text
     assert failed == 0 or offset.value <= len(text), text
     return None if failed else (form.raw[: parsed.len], parsed.is_fqdn)
 
 
 def show(form, is_fqdn):
     text, length = ctypes.create_string_buffer(1004), ctypes.c_size_t()
-    failed = OURS.dnw_name_print(form, ctypes.c_size_t(len(form)), is_fqdn, text, ctypes.c_size_t(1004), ctypes.byref(length))
+    size = ctypes.c_size_t(len(form))
+    failed = OURS.dnw_name_print(form, size, is_fqdn, text, ctypes.c_size_t(1004), ctypes.byref(length))
     assert failed == 0, form
     return text.raw[: length.value]
 
@@ -99,7 +101,8 @@ def by_bind(texts):
             zone.write(b"$TTL 60\n@ IN SOA . . 1 2 3 4 5\n@ IN NS ns.\nns. IN A 192.0.2.1\n")
             for text in texts:
                 zone.write(text + b" IN TXT \"a\"\n")
-        words = ["named-checkzone", "-q", "-i", "none", "-k", "ignore", "-n", "ignore", "-D", "-o", f"{folder}/out", ".", f"{folder}/zone"]
+        checks = ["-q", "-i", "none", "-k", "ignore", "-n", "ignore"]
+        words = ["named-checkzone", *checks, "-D", "-o", f"{folder}/out", ".", f"{folder}/zone"]
         ran = subprocess.run(words, capture_output=True)
         assert ran.returncode == 0, ran.stdout + ran.stderr
         with open(f"{folder}/out", "rb") as out:
@@ -119,7 +122,8 @@ def main():
     random.seed(SEED)
     found = collections.Counter()
     for example in EXAMPLES:
-        assert parse(example.encode()) == theirs(example.encode()) and show(*parse(example.encode())) == example.encode(), example
+        own = parse(example.encode())
+        assert own == theirs(example.encode()) and show(*own) == example.encode(), example
     lines = set()
     for i in range(NAMES):
         labels = name()

@@ -57,12 +57,9 @@ static int by_data(const void *left, const void *right)
     return order != 0 ? order : (a->len > b->len) - (a->len < b->len);
 }
 
-/* Puts the data of the records that are covered. */
-static uint32_t collect(const uint8_t *message, size_t end, size_t start, const struct model_name *owner,
-                        const struct dnw_record *rrsig, uint16_t covered, size_t *count)
+/* Whether records follow one another up to the end. */
+static uint32_t follow(const uint8_t *message, size_t end, size_t start)
 {
-    size_t at = 0;
-    *count = 0;
     if (start > end)
         return DNW_MESSAGE_CUT;
     while (start < end) {
@@ -72,15 +69,32 @@ static uint32_t collect(const uint8_t *message, size_t end, size_t start, const 
         if (failure != DNW_DONE)
             return failure;
         start = record.end;
+    }
+    return DNW_DONE;
+}
+
+/* Puts the data of the records that are covered. */
+static uint32_t collect(const uint8_t *message, size_t end, size_t start, const struct model_name *owner,
+                        const struct dnw_record *rrsig, uint16_t covered, size_t *count)
+{
+    size_t at = 0;
+    *count = 0;
+    while (start < end) {
+        struct model_name name;
+        struct dnw_record record;
+        CHECK(model_record(message, end, start, &name, &record) == DNW_DONE);
+        start = record.end;
         if (record.record_type != covered || record.record_class != rrsig->record_class || !is_same_name(&name, owner))
             continue;
         CHECK(*count < RECORDS);
         struct data *data = &found[(*count)++];
         data->at = at;
-        failure = put_data(message, &record, model_is_lowered(covered), &at);
+        uint32_t failure = put_data(message, &record, model_is_lowered(covered), &at);
         if (failure != DNW_DONE)
             return failure;
         data->len = at - data->at;
+        if (data->len > 65535)
+            return DNW_DATA_TOO_LONG;
     }
     return DNW_DONE;
 }
@@ -100,6 +114,16 @@ static size_t last_labels(const struct model_name *name, size_t most)
     for (size_t count = count_labels(name); count > most; count--)
         at += 1 + name->form[at];
     return at;
+}
+
+/* Whether a name is another one, or below it. */
+static bool is_below(const struct model_name *name, const struct model_name *other)
+{
+    struct model_name last = *name;
+    size_t at = last_labels(name, count_labels(other));
+    last.len = name->len - at;
+    memmove(last.form, name->form + at, last.len);
+    return is_same_name(&last, other);
 }
 
 static size_t add(uint8_t *out, size_t at, const void *bytes, size_t len)
@@ -138,6 +162,9 @@ static uint32_t model_signed(const uint8_t *message, size_t end, size_t start, s
     uint32_t failure = at > end ? DNW_MESSAGE_CUT : model_record(message, end, at, &owner, &rrsig);
     if (failure != DNW_DONE)
         return failure;
+    failure = follow(message, end, start);
+    if (failure != DNW_DONE)
+        return failure;
     if (rrsig.record_type != DNW_TYPE_RRSIG)
         return DNW_NOT_RRSIG;
     failure = put_data(message, &rrsig, true, &put);
@@ -146,16 +173,15 @@ static uint32_t model_signed(const uint8_t *message, size_t end, size_t start, s
     CHECK(model_read(message, rrsig.end, rrsig.data_offset + 18, &signer) == DNW_DONE);
     size_t fields = 18 + signer.len;
     memcpy(wanted, octets, fields);
+    if (count_labels(&owner) < wanted[3])
+        return DNW_TOO_FEW_LABELS;
+    if (!is_below(&owner, &signer))
+        return DNW_NOT_COVERED;
     failure = collect(message, end, start, &owner, &rrsig, (uint16_t)model_number(wanted, 2), &count);
     if (failure != DNW_DONE)
         return failure;
     if (count == 0)
         return DNW_NOT_COVERED;
-    if (count_labels(&owner) < wanted[3])
-        return DNW_TOO_FEW_LABELS;
-    for (size_t i = 0; i < count; i++)
-        if (found[i].len > 65535)
-            return DNW_DATA_TOO_LONG;
     *len = put_set(fields, &owner, &rrsig, count);
     return DNW_DONE;
 }

@@ -35,7 +35,7 @@ static void parses_without_memory(const uint8_t *text, size_t len, uint32_t answ
     CHECK(dnw_name_parse(text, len, text, 0, form, DNW_FORM_SIZE, &parsed) == answer && !was_refused());
 }
 
-/* A text that gives no name goes wrong by the same rule, and so does what is up to the octet at the offset and two more. */
+/* A text that gives no name goes wrong by the same rule, and so does what is up to the octet at the offset. A dot alone is the root. */
 static void goes_wrong(const uint8_t *text, size_t len, uint32_t answer)
 {
     size_t offset = len + 1;
@@ -45,7 +45,7 @@ static void goes_wrong(const uint8_t *text, size_t len, uint32_t answer)
     if (answer == DNW_DONE)
         CHECK(offset == len + 1);
     else
-        CHECK(offset <= len && (offset == len || model_parse(text, offset + 1, &name) == answer));
+        CHECK(offset == 0 || (offset <= len && (offset == len || model_parse(text, offset + 1, &name) == answer)));
 }
 
 static void parses(const uint8_t *text, size_t len)

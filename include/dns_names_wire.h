@@ -398,7 +398,8 @@ uint32_t dnw_record_parse(const uint8_t *text, size_t text_len, const uint8_t *o
    records as a set in canonical form and order (RFC 4034, section 6), each once, with the original TTL. If the owner
    has more labels than the RRSIG counts, it is replaced by the wildcard that made the records (RFC 4035, section
    5.3.2). The covered records are those with the RRSIG's owner (ignoring ASCII case), its class and the type covered,
-   among the records from offset `start` up to the end.
+   among the records from offset `start` up to the end; there are none if the signer is neither that owner nor a name
+   that the owner is below (RFC 4035, section 5.3.1).
 
    To verify a signature, pass a message up to the end of a section, and the offset at which that section begins, both
    from dnw_message_read. `rrsig` is the offset of the RRSIG, in that section or before it. To make a signature, pass
@@ -407,12 +408,26 @@ uint32_t dnw_record_parse(const uint8_t *text, size_t text_len, const uint8_t *o
 
    It fails with DNW_MESSAGE_CUT if `rrsig` or `start` is after the end, and as dnw_record_read if a record at one of
    them, or after another record, is not valid, but never for the room of the owner; with DNW_NOT_RRSIG if the record at
-   `rrsig` is of another type; as dnw_field_next if the data of the RRSIG or of a covered record are not valid; with
-   DNW_NOT_COVERED if it covers no record; with DNW_TOO_FEW_LABELS if the owner has fewer labels than it counts; with
-   DNW_DATA_TOO_LONG if a record has more than 65535 octets of data once names are uncompressed; with DNW_NO_ROOM if
-   there are more than `octets_size` octets; and with DNW_NO_MEMORY. */
+   `rrsig` is of another type; as dnw_field_next if the data of the RRSIG are not valid; with DNW_TOO_FEW_LABELS if the
+   owner has fewer labels than it counts; at the first covered record, as dnw_field_next if its data are not valid, and
+   with DNW_DATA_TOO_LONG if they have more than 65535 octets once names are uncompressed; with DNW_NOT_COVERED if it
+   covers no record; with DNW_NO_ROOM if there are more than `octets_size` octets; and with DNW_NO_MEMORY. */
 uint32_t dnw_signed_octets(const uint8_t *message, size_t section_end, size_t start, size_t rrsig, uint8_t *octets,
                            size_t octets_size, size_t *len);
+
+/* Stores the sort key of the record at an offset of a message, and its length in `len`. Keys compare with memcmp, a
+   shorter one first, as records do in canonical order (RFC 4034, section 6): by owner, type, class and data. Two records
+   have the same key exactly if they are equal (RFC 2136, section 1.1.1): the TTL makes no difference, and neither do
+   compression and the case of the owner and of the names that canonical form lowers. So keys can be hashed.
+
+   A key has the octets that dnw_name_sort_key stores for the owner, an octet 0, two octets of type, two of class, and the
+   data with names whole. DNW_SORT_KEY_SIZE + 5 + 512 octets and as many as the data have are always enough.
+
+   It fails with DNW_MESSAGE_CUT if `start` is after the end; as dnw_record_read, but never for the room of the owner; as
+   dnw_field_next if the data are not valid; with DNW_NO_ROOM if the key has more than `key_size` octets; and with
+   DNW_NO_MEMORY. */
+uint32_t dnw_record_sort_key(const uint8_t *message, size_t message_len, size_t start, uint8_t *key, size_t key_size,
+                             size_t *len);
 
 /* Stores the key tag of a DNSKEY, by its data (RFC 4034, appendix B). It does not allocate.
 

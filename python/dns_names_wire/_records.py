@@ -200,7 +200,8 @@ class Record:
         These are its data up to the signature, and the covered records: those of `records` with its owner, its class
         and the type covered, as a set in canonical form and order (RFC 4034, section 6), each once, with the original
         TTL. If the owner has more labels than the RRSIG counts, it is replaced by the wildcard that made the records
-        (RFC 4035, section 5.3.2).
+        (RFC 4035, section 5.3.2). It covers none if its signer is neither the owner nor a name that the owner is below
+        (RFC 4035, section 5.3.1).
 
         To verify a signature, pass a section of a message. To make one, pass the records to sign, and leave the
         signature of the RRSIG empty. The signature and its times are not checked.

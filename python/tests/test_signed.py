@@ -50,10 +50,11 @@ A 192.0.2.1
 AAAA 2001:db8::1""".splitlines()
 
 
-def rrsig(covered, labels=2, owner="a.B."):
+def rrsig(covered, labels=2, owner="a.B.", signer="B."):
     """An RRSIG that covers a type, and its fields up to the signature in hexadecimal."""
-    text = f"{owner} 5 IN RRSIG {covered} 13 {labels} 3600 20010909014640 20010909014640 7 B. c2ln"
-    fields = f"{dnw.type_code(covered):04x} 0d {labels:02x} 00000e10 3b9aca00 3b9aca00 0007 016200"
+    text = f"{owner} 5 IN RRSIG {covered} 13 {labels} 3600 20010909014640 20010909014640 7 {signer} c2ln"
+    name = Name(signer.lower()).wire.hex()
+    fields = f"{dnw.type_code(covered):04x} 0d {labels:02x} 00000e10 3b9aca00 3b9aca00 0007 {name}"
     return Record.from_text(text), fields
 
 
@@ -105,6 +106,8 @@ class Signed(unittest.TestCase):
         with self.assertRaisesRegex(dnw.NotCovered, "^the RRSIG covers none of the records$"):
             own.signed_octets([])
         self.assertRaises(dnw.NotCovered, own.signed_octets, records("a.b. 5 AAAA ::1", "b.b. 5 A 192.0.2.1"))
+        self.assertRaises(dnw.NotCovered, rrsig("A", signer="C.")[0].signed_octets, covered)
+        self.assertRaises(dnw.NotCovered, rrsig("A", signer="x.a.b.")[0].signed_octets, covered)
         with self.assertRaisesRegex(dnw.TooFewLabels, "^the owner has fewer labels than the RRSIG counts$"):
             rrsig("A", 3)[0].signed_octets(covered)
         with self.assertRaisesRegex(dnw.NotRrsig, "^the record is no RRSIG$"):
@@ -128,7 +131,7 @@ class Signed(unittest.TestCase):
             most = owner.count(".") - owner.startswith("*")
             # dnspython has names for more types.
             code = f"TYPE{int(dns.rdatatype.from_text(kind))}"
-            own, _ = rrsig(code, rng.randrange(most + 1), owner)
+            own, _ = rrsig(code, rng.randrange(most + 1), owner, "Example.")
             found = records(*(f"{owner} {rng.randrange(99)} IN {code} {line}" for line in lines))
             rng.shuffle(found)
             signature = dns.rdata.from_wire(1, 46, own.raw_data, 0, len(own.raw_data))

@@ -67,9 +67,8 @@ fn each_fault_is_its_error() {
 
 #[test]
 fn texts_are_read_and_shown() {
-    for text in
-        ["a.bc.", "a.bc", ".", "@", "*.a.", "_443._tcp.a.", "0/25.2.0.192.in-addr.arpa.", "-dash.a!b.example.", "_sip._tcp.x."]
-    {
+    let strange = ["0/25.2.0.192.in-addr.arpa.", "-dash.a!b.example.", "_sip._tcp.x.", "sp\\032ace.a\\.b."];
+    for text in ["a.bc.", "a.bc", ".", "@", "*.a.", "_443._tcp.a."].into_iter().chain(strange) {
         let read = name(text);
         assert_eq!(read.to_string(), text);
         assert_eq!(read.is_fqdn(), text.ends_with('.'));

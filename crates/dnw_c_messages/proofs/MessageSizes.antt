@@ -10,8 +10,7 @@ use Rattle.dnw_write.specs.Encoder.{Encoder}
 use Rattle.dnw_record.specs.Records.{RecordValue, fixed_size}
 use Rattle.dnw_record.specs.RecordLaws.{data_size, record_size}
 use Rattle.dnw_record.specs.AnyRecordLaws.{any_record_size}
-use Rattle.dnw_record.specs.DataCopies.{Copies, data_start}
-use Rattle.dnw_record.specs.DataPieces.{kinds_of}
+use Rattle.dnw_record.specs.DataCopies.{Copies, data_start, record_kinds}
 use Rattle.dnw_record.proofs.Parts.{done_bytes, done_name, fits_fields}
 use Rattle.dnw_record.proofs.Going as any_fields
 use Rattle.dnw_c_messages.specs.declared.writing.Kind.{Kind}
@@ -36,7 +35,7 @@ abbrev IsItemSize : ListedItem → ℕ → Type 0
 IsItemSize (Bytes bytes) n = n ≡ length bytes
 IsItemSize (Name labels) n = n ≡ encoded_size labels
 IsItemSize (Record x) n =
-    (octets : List ℕ) × Copies (kinds_of x.record_type) (data_start x) octets × (n ≡ encoded_size x.owner + fixed_size + length octets)
+    (octets : List ℕ) × Copies (record_kinds x) (data_start x) octets × (n ≡ encoded_size x.owner + fixed_size + length octets)
 IsItemSize (RecordOfName r) n = n ≡ record_size r
 
 few_range : (bytes : List ℕ) (i n : ℕ) → length (slice_range bytes i (i + n)) ≤ n
@@ -74,7 +73,7 @@ item_written (Name labels) v w h =
     let (few, within, same, _) = done_name (record { is_fqdn = true; labels = labels }) v w h in (encoded_size labels, refl, few, within, same)
 item_written (Record x) v w (r, (owner, _, _, _, copied), h) =
     let (few, within, same, _) = (any_fields.fits_fields r).done v w h.1 in
-    let size = omega (arith, ap (λ (n : NameValue). encoded_size n.labels) owner) in
+    let size : any_record_size r ≡ encoded_size x.owner + fixed_size + length r.data.octets = omega (arith, ap (λ (n : NameValue). encoded_size n.labels) owner) in
     (any_record_size r, (r.data.octets, copied, size), few, within, same)
 item_written (RecordOfName r) v w h = let (few, within, same, _) = (fits_fields r).done v w h.1 in (record_size r, refl, few, within, same)
 

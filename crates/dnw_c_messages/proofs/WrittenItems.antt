@@ -37,7 +37,7 @@ pub item_undone : (item : ListedItem) (v w : Encoder) (error : ProtoError) → v
     → w.bytes ≡ v.bytes
 item_undone (Bytes bytes) v w error e h = ap (λ (x : Encoder). x.bytes) (fails_unchanged v bytes error w h)
 item_undone (Name labels) v w error e h = ap (λ (x : Encoder). x.bytes) (name_unchanged v (in_mode v.encoding labels) h.choice error w h.written_as)
-item_undone (Record x) v w error e (r, copy, u, fields, is) =
+item_undone (Record x) v w error e (r, copy, (u, fields, is)) =
     ap (λ (y : Encoder). y.bytes) is ∙ (frame_any_fields r v (Err error) u e fields).bytes
 item_undone (RecordOfName r) v w error e (u, fields, is) =
     ap (λ (x : Encoder). x.bytes) is ∙ (frame_fields r v (Err error) u e fields).bytes

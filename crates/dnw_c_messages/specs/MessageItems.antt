@@ -19,8 +19,7 @@ use Rattle.dnw_record.specs.declared.wire_record.WireRecord.{WireRecord}
 use Rattle.dnw_record.specs.declared.wire_record.WireData.TheVariants as Data
 use Rattle.dnw_record.specs.Records.{RecordValue, TakesRecord, FailsRecord, HasDataName, FailsDataName}
 use Rattle.dnw_record.specs.AnyRecords.{EmitsCopyOf, HasFields, name_of}
-use Rattle.dnw_record.specs.DataCopies.{Copies, FailsToCopy, data_start}
-use Rattle.dnw_record.specs.DataPieces.{kinds_of}
+use Rattle.dnw_record.specs.DataCopies.{Copies, FailsToCopy, data_start, record_kinds}
 use Rattle.dnw_record.specs.declared.rdata.RDataError.{RDataError}
 use Rattle.dnw_record.specs.WrittenRecords.{EmitsRecord}
 use Rattle.dnw_name_read.specs.Buffers.{put}
@@ -100,7 +99,7 @@ HasNoRecord d = (error : DecodeError) × FailsRecord d error
 -- a record is there, but its data are not the fields of its type
 abbrev pub HasOtherData : Decoder → Type 0
 HasOtherData d = (x : RecordValue) × (after : Decoder) × TakesRecord d x after
-    × (error : RDataError) × FailsToCopy (kinds_of x.record_type) (data_start x) error
+    × (error : RDataError) × FailsToCopy (record_kinds x) (data_start x) error
 
 -- a record is there, but its data are no name
 abbrev pub HasNoDataName : Decoder → Type 0
@@ -191,7 +190,7 @@ HasNoPointer list p = (labels : List (List ℕ)) (end k : ℕ) → NameAt list p
 -- The data of the record there are as many octets as with each of their names whole.
 abbrev pub HasWholeNames : Decoder → Type 0
 HasWholeNames d = (x : RecordValue) (after : Decoder) (octets : List ℕ) → TakesRecord d x after
-    → Copies (kinds_of x.record_type) (data_start x) octets → length octets ≤ x.len
+    → Copies (record_kinds x) (data_start x) octets → length octets ≤ x.len
 
 -- After the octet for its kind the names of an item are wire forms: they have no pointers.
 abbrev pub HasWireForms : Kind → Decoder → Type 0

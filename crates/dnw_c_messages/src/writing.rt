@@ -1,6 +1,7 @@
 //! Messages, written item by item.
 ghost use Rattle.std.specs.Prelude.{◌≡◌, ◌≢◌, ◌<◌, ◌≤◌, ℕ, true, false, Ok, length, IfOk, IfErr, OnOk, OnErr};
 ghost use Rattle.dnw_base.specs.Decoder.{advanced};
+ghost use Rattle.dnw_record.specs.AnyRecords.{HasFields};
 ghost use Rattle.dnw_record.specs.Records.{RecordValue, TakesRecord};
 ghost use Rattle.dnw_write.specs.Encoder.{Encoder};
 ghost use Rattle.dnw_write.specs.EncoderValue.{value, lender};
@@ -215,12 +216,7 @@ fn write_record(
     ensures undone { OnErr result ((value encoder.new).bytes ≡ (value encoder.old).bytes) }
     ensures lender { lender encoder.new ≡ lender encoder.old }
 {
-    let Ok(record) = RecordRef::read(alloc, decoder) else {
-        return Err(Failure::BadItem);
-    };
-    let Ok(record) = CheckedRecord::new(record) else {
-        return Err(Failure::BadData);
-    };
+    let record = read_checked(alloc, decoder)?;
     match record.emit(encoder) {
         Ok(()) => Ok(()),
         Err(error) => Err(of_proto(&error)),
@@ -278,6 +274,23 @@ fn read_block<'a>(decoder: &mut BinDecoder<'a>) -> Result<&'a [u8], Failure>
     match decoder.skip(len.unverified() as usize) {
         Ok(()) => Ok(&decoder.message()[start..decoder.index()]),
         Err(_) => Err(Failure::BadItem),
+    }
+}
+
+/// Reads a record whose data are the fields of its type.
+fn read_checked<'l>(
+    alloc: Global,
+    decoder: &mut BinDecoder<'l>,
+) -> Result<CheckedRecord<'l>, Failure>
+    ensures ok { IfOk result (λ x. TakesRecord decoder.old x decoder.new × HasFields x) }
+    ensures err { IfErr result (FailsToTakeOf Record decoder.old) }
+{
+    let Ok(item) = RecordRef::read(alloc, decoder) else {
+        return Err(Failure::BadItem);
+    };
+    match CheckedRecord::new(item) {
+        Ok(record) => Ok(record),
+        Err(_) => Err(Failure::BadData),
     }
 }
 

@@ -1,5 +1,5 @@
 -- The failure of a text's fault.
-use Rattle.std.proofs.Common.{◌≡◌, List, ℕ, Ok, Err, Result, refl, ap}
+use Rattle.std.proofs.Common.{◌≡◌, Ok, Err, Result, refl, ap}
 use Rattle.dnw_base.specs.declared.error.ProtoError.{ProtoError}
 use Rattle.dnw_base.specs.declared.error.ProtoError.TheVariants.{Message, Msg, Memory}
 use Rattle.dnw_base.specs.Fault.{Fault, EmptyLabel, LabelTooLong, MalformedLabel, NameTooLong, UnrecognizedChar, IllegalChar, UnfinishedEscape, UnconvertedLabels, FailsOr, Reports}

@@ -1,2 +1,2 @@
-mod Collected
+mod Following
 pub mod Copied

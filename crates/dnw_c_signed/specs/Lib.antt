@@ -1,3 +1,5 @@
+pub mod RecordCalls
+pub mod RecordKeyCalls
 pub mod SigningCalls
 pub mod SumCalls
 pub mod ZoneCalls

@@ -11,7 +11,7 @@ use Rattle.dnw_c_base.specs.Failures.{of_decode}
 use Rattle.dnw_c_base.specs.WireForms.{IsFormOf, IsNoForm}
 use Rattle.dnw_c_base.specs.declared.failure.Failure.{Failure}
 use Rattle.dnw_c_base.specs.declared.failure.Failure.TheVariants as why
-use Rattle.dnw_c_signed.specs.SigningCalls.{FailsToCopyRecord, HasRecordAt, at_offset}
+use Rattle.dnw_c_signed.specs.RecordCalls.{FailsToCopyRecord, HasRecordAt, at_offset}
 use Rattle.dnw_c_signed.specs.SumCalls.{FailsAs}
 
 -- Records follow one another from p to e, and these are copies of them, in turn.

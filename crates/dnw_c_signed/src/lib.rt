@@ -1,4 +1,4 @@
-//! The functions of the C library for what signatures cover. `include/dns_names_wire.h` says what each takes and returns, and
+//! The functions of the C library for what signatures cover, and for the order of records. `include/dns_names_wire.h` says what each takes and returns, and
 //! `tools/c-library` joins them with those of `dnw_c_names`.
 //!
 //! A slice is passed as a pointer and then a length, and results are put into buffers of the caller. Every input is tested,
@@ -6,8 +6,10 @@
 //! call puts.
 #![tactic(auto)]
 
-/// The records that an RRSIG covers.
-pub mod covering;
+/// Sort keys of records.
+pub mod record_keys;
+/// Records of a message.
+pub mod records;
 /// The octets that a signature covers.
 pub mod signing;
 /// The sums of DNSSEC.

@@ -1,15 +1,13 @@
 //! The octets that a signature covers.
-ghost use Rattle.std.specs.Prelude.{◌≡◌, ◌≤◌, length, IfOk, IfErr};
+ghost use Rattle.std.specs.Prelude.{◌≡◌, IfOk, IfErr};
 ghost use Rattle.dnw_c_base.specs.Results.{Returns};
-ghost use Rattle.dnw_signed.specs.SignedFields.{before_signer};
-ghost use Rattle.dnw_c_signed.specs.SigningCalls.{FailsRrsig, FailsToSign, IsRrsigAt, IsSigned, PutsSigned, label_count, of_canonical, original_ttl};
+ghost use Rattle.dnw_c_signed.specs.SigningCalls.{FailsToSignAt, IsSignedAt, PutsSigned, of_canonical};
 
-use crate::covering::{Rrsig, copy_of, covered, record_at};
-use dnw_base::record_type::RecordType;
+use crate::records::{record_at, records_from};
 use dnw_c_base::buffer::put;
-use dnw_c_base::failure::Failure;
+use dnw_c_base::failure::{Failure, of_decode};
 use dnw_c_base::results::report;
-use dnw_signed::canonical::{record_set, signed_fields};
+use dnw_signed::covering::signed_octets;
 use dnw_signed::error::CanonicalError;
 use std::alloc::Global;
 
@@ -45,59 +43,19 @@ fn put_signed(
 
 /// Returns the octets that an RRSIG covers.
 fn signed(alloc: Global, message: &[u8], start: usize, at: usize) -> Result<Vec<u8>, Failure>
-    ensures ok { IfOk result (λ own. IsSigned message.now start at own.items) }
-    ensures err { IfErr result (FailsToSign message.now start at) }
+    ensures ok { IfOk result (λ own. IsSignedAt message.now start at own.items) }
+    ensures err { IfErr result (FailsToSignAt message.now start at) }
 {
-    let rrsig = rrsig_at(alloc, message, at)?;
-    let records = covered(alloc, &rrsig, message, start)?;
-    let fields = rrsig.fields.as_slice();
-    let set = match record_set(
-        alloc,
-        records.as_slice(),
-        labels_of(fields),
-        original_ttl(fields),
-    ) {
-        Ok(set) => set,
-        Err(error) => return Err(of_canonical(&error)),
-    };
-    let mut own = rrsig.fields;
-    own.extend_from_slice(set.as_slice())?;
-    Ok(own)
-}
-
-/// Returns the RRSIG at an offset.
-fn rrsig_at(alloc: Global, message: &[u8], at: usize) -> Result<Rrsig, Failure>
-    ensures ok { IfOk result (IsRrsigAt message.now at) }
-    ensures err { IfErr result (FailsRrsig message.now at) }
-{
-    let item = record_at(message, at)?;
-    if u16::from(item.record_type()) != u16::from(RecordType::RRSIG) {
-        return Err(Failure::NotRrsig);
-    }
-    let record = copy_of(alloc, &item)?;
-    match signed_fields(alloc, &record.data) {
-        Ok(fields) => Ok(Rrsig { record, fields }),
+    let rrsig = record_at(message, at)?;
+    let records = records_from(alloc, message, start)?;
+    let mut own = Vec::new(alloc);
+    match signed_octets(alloc, &rrsig, records.as_slice(), &mut own) {
+        Ok(()) => Ok(own),
         Err(error) => Err(of_canonical(&error)),
     }
 }
 
-/// Returns how many labels an RRSIG counts in its owner (RFC 4034, section 3.1.3).
-fn labels_of(fields: &[u8]) -> u8
-    requires { before_signer ≤ length fields.now }
-    ensures { result ≡ label_count fields.now }
-{
-    fields[3]
-}
-
-/// Returns the time to live of the records as it was when they were signed (RFC 4034, section 3.1.4).
-fn original_ttl(fields: &[u8]) -> u32
-    requires { before_signer ≤ length fields.now }
-    ensures { result ≡ original_ttl fields.now }
-{
-    u32::from_be_bytes([fields[4], fields[5], fields[6], fields[7]])
-}
-
-/// Returns the failure that stands for why records are not put into canonical form.
+/// Returns the failure that stands for why there are no octets.
 fn of_canonical(error: &CanonicalError) -> Failure
     ensures { result ≡ of_canonical error.now }
 {
@@ -107,6 +65,9 @@ fn of_canonical(error: &CanonicalError) -> Failure
         CanonicalError::NotInSet { record: _ } => Failure::Other,
         CanonicalError::DataTooLong { record: _ } => Failure::DataTooLong,
         CanonicalError::NotRrsig => Failure::NotRrsig,
+        CanonicalError::RrsigField(error) | CanonicalError::Field { record: _, error } => {
+            of_decode(&error.cause)
+        }
         CanonicalError::Memory => Failure::NoMemory,
     }
 }

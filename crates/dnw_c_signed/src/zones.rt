@@ -7,7 +7,7 @@ ghost use Rattle.dnw_c_base.specs.Failures.{NumberOf};
 ghost use Rattle.dnw_c_signed.specs.ZoneCalls.{AreRecordCopies, FailsToCopyAll, FailsToCopyNext, FailsToDigestZone, FailsToPutZone};
 ghost use Rattle.dnw_c_signed.specs.ZoneCalls.{HasZoneDigest, PutsZoneDigest};
 
-use crate::covering::copy_of;
+use crate::records::copy_of;
 use crate::sums::{name_of, of_dnssec};
 use dnw_base::decoder::BinDecoder;
 use dnw_c_base::buffer::put;

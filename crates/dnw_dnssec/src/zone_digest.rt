@@ -1,11 +1,7 @@
 //! Digests of zones, as ZONEMD records have them.
-ghost use Rattle.std.specs.Prelude.{◌≡◌, ℕ, List, ◌↔◌, ◌≤◌, ◌++◌, length, Ok, IfOk, IfErr, OnOk, IsTrue};
+ghost use Rattle.std.specs.Prelude.{◌≡◌, ℕ, List, ◌↔◌, ◌≤◌, ◌++◌, length, IfOk, IfErr, OnOk, IsTrue};
 ghost use Rattle.std.specs.List.{AllByRecursion, AllZip, filter, flat_map};
 ghost use Rattle.dnw_base.specs.Limits.{max_message};
-ghost use Rattle.dnw_write.specs.Encoder.{Encoder};
-ghost use Rattle.dnw_record.specs.AnyRecords.{EmitsRData};
-ghost use Rattle.dnw_signed.specs.CanonicalData.{IsCanonical};
-ghost use Rattle.dnw_signed.specs.Inside.Going.{canonical_start};
 ghost use Rattle.dnw_base.specs.RecordTypes.{type_code};
 ghost use Rattle.dnw_dnssec.specs.ZoneDigests.{FailsZoneDigest, FirstTooLong, HasShortData, IsZoneOrder, IsZoneDigest, IsZoneHash, IsCanonicalRecord};
 ghost use Rattle.dnw_dnssec.specs.ZoneDigests.{covers_zonemd, is_digested, is_of_zonemd, place_cmp, zone_cmp, zone_record};
@@ -14,14 +10,12 @@ ghost use Rattle.dnw_dnssec.specs.declared.error.DnssecError.TheVariants.{DataTo
 
 use crate::ds::{Digest, digest_of};
 use crate::error::DnssecError;
-use dnw_base::error::ProtoResult;
 use dnw_base::limits::MAX_MESSAGE;
 use dnw_base::record_type::RecordType;
 use dnw_name::name::Name;
 use dnw_record::rdata::RData;
 use dnw_record::record::Record;
-use dnw_write::binary::BinEncodable;
-use dnw_write::encoder::BinEncoder;
+use dnw_signed::fields::canonical_octets;
 use sha2::{Digest as HashFunction, Sha384, Sha512};
 use std::alloc::{AllocError, Global};
 use std::cmp::Ordering;
@@ -217,27 +211,4 @@ fn hash_record<H: HashFunction>(hasher: &mut H, item: &ZoneRecord<'_>)
     hasher.update(&u32::to_be_bytes(item.record.ttl));
     hasher.update(&u16::to_be_bytes(item.octets.len() as u16));
     hasher.update(item.octets.as_slice());
-}
-
-/// Returns the canonical octets of data, which must not be longer than a message may be. So it fails only if memory runs out.
-fn canonical_octets(alloc: Global, data: &RData) -> Result<Vec<u8>, AllocError>
-    requires { length «data».now.octets ≤ max_message }
-    ensures ok { IfOk result (λ octets. IsCanonical «data».now octets.items × (length octets.items ≤ max_message)) }
-{
-    match written(alloc, data) {
-        Ok(octets) => Ok(octets),
-        Err(_) => Err(AllocError),
-    }
-}
-
-/// Writes data in canonical form.
-fn written(alloc: Global, data: &RData) -> ProtoResult<Vec<u8>>
-    ensures ok { IfOk result (λ octets. (w : Encoder) × EmitsRData «data».now canonical_start (Ok tt) w × (octets.items ≡ w.bytes)) }
-{
-    let mut octets = Vec::new(alloc);
-    let mut encoder = BinEncoder::new(&mut octets).with_limits(0, 0);
-    encoder.set_canonical_form(true);
-    data.emit(&mut encoder)?;
-    drop(encoder);
-    Ok(octets)
 }

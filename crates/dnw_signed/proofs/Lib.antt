@@ -2,4 +2,8 @@ pub mod Sets
 pub mod OneForm
 pub mod SameSets
 pub mod Rrsigs
+pub mod RecordKeys
+pub mod Putting
+pub mod Listing
+pub mod Selecting
 pub mod Going

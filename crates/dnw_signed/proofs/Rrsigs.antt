@@ -1,5 +1,5 @@
 -- The data of an RRSIG are 18 octets, the signer's name and the signature.
-use Rattle.std.proofs.Common.{◌≡◌, ℕ, ◌+◌, ◌≤◌, false, List, [], ◌∷◌, ◌++◌, length, take, Result, Ok, Err, refl, sym, ap, ◌∙◌, subst, append_assoc, arith, rules}
+use Rattle.std.proofs.Common.{◌≡◌, ℕ, ◌+◌, ◌<◌, ◌≤◌, false, List, [], ◌∷◌, ◌++◌, length, take, drop, Result, Ok, Err, refl, sym, ap, ◌∙◌, subst, append_assoc, arith, rules}
 use Rattle.std.proofs.Math.Seq.{take-append_seam}
 use Rattle.std.specs.Result.{IsOk, IsOkAnd}
 use Rattle.dnw_base.specs.declared.error.DecodeError.{DecodeError}
@@ -7,19 +7,26 @@ use Rattle.dnw_base.specs.declared.error.DecodeError.TheVariants.{InsufficientBy
 use Rattle.dnw_base.specs.Decoder.{Decoder, HasLeft, Takes, advanced}
 use Rattle.dnw_data.specs.declared.kind.NameForm.TheVariants.{Plain}
 use Rattle.dnw_record.proofs.Alike.{known_anywhere}
-use Rattle.dnw_record.proofs.Pieces.{behind, name_again}
+use Rattle.dnw_record.proofs.Pieces.{are_pieces, behind, name_again}
 use Rattle.dnw_name_read.specs.Reading.{TakesName}
-use Rattle.std.proofs.lemmas.List.{length-append}
+use Rattle.std.proofs.lemmas.List.{length-append, length-drop}
 use Rattle.std.specs.List.{AllByRecursion}
 use Rattle.dnw_base.specs.DnsClasses.{class_code}
+use Rattle.dnw_base.specs.RecordTypes.{type_code}
+use Rattle.dnw_base.specs.declared.record_type.RecordType.TheVariants.{RRSIG}
 use Rattle.dnw_base.specs.Names.{AreLabels, lower, wire}
 use Rattle.dnw_data.specs.declared.kind.Kind.{Kind}
 use Rattle.dnw_data.specs.declared.kind.Kind.TheVariants.{Name, U8, U16, U32, TypeCode, Time}
-use Rattle.dnw_data.specs.declared.kind.NameForm.{NameForm}
 use Rattle.dnw_data.specs.Table.{base64, fields_of, is_internet_type, lowered_name}
 use Rattle.dnw_data.specs.Values.{own_size}
-use Rattle.dnw_record.specs.DataPieces.{ArePiecesOf, DataPiece, DataValue, IsDataOfType, HasPieces, name_piece, octets_of, octets_piece}
+use Rattle.dnw_record.specs.DataCopies.{Copies, data_start, record_kinds}
+use Rattle.dnw_record.specs.RecordFields.{record_fields, up_to_end}
+use Rattle.dnw_record.specs.Records.{RecordValue}
+use Rattle.dnw_record.specs.DataPieces.{ArePiecesOf, DataPiece, DataValue, HasPieces, name_piece, octets_of, octets_piece}
 use Rattle.dnw_record.specs.Inside.Copying.{IsNoName}
+use Rattle.dnw_name_form.proofs.LowerWires.{AreLabels_lower}
+use Rattle.dnw_signed.specs.CanonicalData.{IsCanonical, canonical_labels, canonical_pieces}
+use Rattle.dnw_signed.specs.Covering.{HasRrsigType}
 use Rattle.dnw_signed.specs.SignedFields.{IsRrsig, IsSignedFields, before_signer}
 
 -- a field of this kind takes the same number of octets whatever is left
@@ -31,23 +38,24 @@ abbrev sizes : List Kind → ℕ
 sizes [] = 0
 sizes (kind ∷ kinds) = own_size kind [] + sizes kinds
 
--- octets of some size, and fields after them
-record Splits (size : ℕ) (kinds : List Kind) (octets : List ℕ) : Type 0 where
+-- octets of some size, and fields after them; in canonical form too
+record Splits (size : ℕ) (kinds : List Kind) (pieces : List DataPiece) : Type 0 where
   front : List ℕ
   rest : List DataPiece
-  whole : octets ≡ front ++ octets_of rest
+  whole : octets_of pieces ≡ front ++ octets_of rest
+  canonical : octets_of (canonical_pieces pieces) ≡ front ++ octets_of (canonical_pieces rest)
   count : length front ≡ size
   are : ArePiecesOf kinds rest
 
-own_first : (kind : Kind) (kinds : List Kind) (pieces : List DataPiece) → IsFixed kind → ArePiecesOf (kind ∷ kinds) pieces → Splits (own_size kind []) kinds (octets_of pieces)
+own_first : (kind : Kind) (kinds : List Kind) (pieces : List DataPiece) → IsFixed kind → ArePiecesOf (kind ∷ kinds) pieces → Splits (own_size kind []) kinds pieces
 own_first kind kinds [] f are = absurd are
 own_first (Name form) kinds (piece ∷ pieces) f are = absurd f.other
 own_first kind kinds (name_piece form labels ∷ pieces) f are = absurd are.0
 own_first kind kinds (octets_piece own ∷ pieces) f ((size, right), are) =
-    record { front = own; rest = pieces; whole = refl; count = size ∙ f.size (own ++ octets_of pieces); are = are }
+    record { front = own; rest = pieces; whole = refl; canonical = refl; count = size ∙ f.size (own ++ octets_of pieces); are = are }
 
-fixed_first : (front kinds : List Kind) (pieces : List DataPiece) → AllByRecursion IsFixed front → ArePiecesOf (front ++ kinds) pieces → Splits (sizes front) kinds (octets_of pieces)
-fixed_first [] kinds pieces f are = record { front = []; rest = pieces; whole = refl; count = refl; are = are }
+fixed_first : (front kinds : List Kind) (pieces : List DataPiece) → AllByRecursion IsFixed front → ArePiecesOf (front ++ kinds) pieces → Splits (sizes front) kinds pieces
+fixed_first [] kinds pieces f are = record { front = []; rest = pieces; whole = refl; canonical = refl; count = refl; are = are }
 fixed_first (kind ∷ front) kinds pieces (f, fs) are =
     let one = own_first kind (front ++ kinds) pieces f are in
     let more = fixed_first front kinds one.rest fs one.are in
@@ -55,15 +63,19 @@ fixed_first (kind ∷ front) kinds pieces (f, fs) are =
       front = one.front ++ more.front;
       rest = more.rest;
       whole = one.whole ∙ ap (λ (x : List ℕ). one.front ++ x) more.whole ∙ sym (append_assoc one.front more.front (octets_of more.rest));
+      canonical = one.canonical ∙ ap (λ (x : List ℕ). one.front ++ x) more.canonical
+          ∙ sym (append_assoc one.front more.front (octets_of (canonical_pieces more.rest)));
       count = omega (arith, length-append one.front more.front, one.count, more.count);
       are = more.are;
     }
 
-name_first : (form : NameForm) (kinds : List Kind) (pieces : List DataPiece) → ArePiecesOf (Name form ∷ kinds) pieces
-    → (labels : List (List ℕ)) × (rest : List ℕ) × AreLabels labels × (octets_of pieces ≡ wire labels ++ rest)
-name_first form kinds [] are = absurd are
-name_first form kinds (name_piece own labels ∷ pieces) ((is, labels_are), are) = (labels, octets_of pieces, labels_are, refl)
-name_first form kinds (octets_piece own ∷ pieces) are = absurd are.0
+name_first : (kinds : List Kind) (pieces : List DataPiece) → ArePiecesOf (lowered_name ∷ kinds) pieces
+    → (labels : List (List ℕ)) × (rest : List DataPiece) × AreLabels labels × (octets_of pieces ≡ wire labels ++ octets_of rest)
+    × (octets_of (canonical_pieces pieces) ≡ wire (lower labels) ++ octets_of (canonical_pieces rest))
+name_first kinds [] are = absurd are
+name_first kinds (name_piece own labels ∷ pieces) ((is, labels_are), are) =
+    (labels, pieces, labels_are, refl, ap (λ form. wire (canonical_labels form labels) ++ octets_of (canonical_pieces pieces)) is)
+name_first kinds (octets_piece own ∷ pieces) are = absurd are.0
 
 -- the fields before the signer's name
 abbrev fixed_kinds : List Kind
@@ -95,49 +107,82 @@ all_fixed = (
   ),
 )
 
--- the parts of the data
-pub record RrsigParts (octets : List ℕ) : Type 0 where
+-- the parts of the data, and of the same in canonical form
+pub record RrsigParts (octets canonical : List ℕ) : Type 0 where
   pub fixed : List ℕ
   pub size : length fixed ≡ before_signer
   pub signer : List (List ℕ)
   pub are_labels : AreLabels signer
   pub signature : List ℕ
   pub whole : octets ≡ fixed ++ (wire signer ++ signature)
+  pub rest : List ℕ
+  pub lowered : canonical ≡ fixed ++ (wire (lower signer) ++ rest)
 
-parts_of : (octets : List ℕ) (pieces : List DataPiece) → HasPieces (fixed_kinds ++ lowered_name ∷ base64 ∷ []) octets pieces → RrsigParts octets
-parts_of octets pieces has =
+parts_of : (octets canonical : List ℕ) (pieces : List DataPiece) → HasPieces (fixed_kinds ++ lowered_name ∷ base64 ∷ []) octets pieces
+    → canonical ≡ octets_of (canonical_pieces pieces) → RrsigParts octets canonical
+parts_of octets canonical pieces has canonical_is =
     let split = fixed_first fixed_kinds (lowered_name ∷ base64 ∷ []) pieces all_fixed has.are in
-    let (labels, rest, are, is) = name_first _ (base64 ∷ []) split.rest split.are in
+    let (labels, rest, are, is, lowered) = name_first (base64 ∷ []) split.rest split.are in
     record {
       fixed = split.front;
       size = split.count;
       signer = labels;
       are_labels = are;
-      signature = rest;
+      signature = octets_of rest;
       whole = has.whole ∙ split.whole ∙ ap (λ (x : List ℕ). split.front ++ x) is;
+      rest = octets_of (canonical_pieces rest);
+      lowered = canonical_is ∙ split.canonical ∙ ap (λ (x : List ℕ). split.front ++ x) lowered;
     }
 
-pub rrsig_parts : (x : DataValue) → IsRrsig x → IsDataOfType x → RrsigParts x.octets
-rrsig_parts x (rrsig, long) (pieces, has) =
+pub rrsig_parts : (x : DataValue) (canonical : List ℕ) → IsRrsig x → IsCanonical x canonical → RrsigParts x.octets canonical
+rrsig_parts x canonical (rrsig, long) (pieces, has, is) =
     let kinds = ap (λ code. fields_of (class_code x.class) code x.octets) rrsig ∙ rrsig_kinds (class_code x.class) x.octets (omega (arith, long)) in
-    parts_of x.octets pieces (subst (λ fields. HasPieces fields x.octets pieces) kinds has)
+    parts_of x.octets canonical pieces (subst (λ fields. HasPieces fields x.octets pieces) kinds has) is
+
+-- data are left if the decoder at their start has octets left
+pub has_rrsig : (s : RecordValue) (d : Decoder) (n : ℕ) → type_code s.record_type ≡ type_code RRSIG → d ≡ (record_fields s).reader
+    → d.index + n ≡ length d.bytes → 0 < n → HasRrsigType s
+has_rrsig s d n kind is size some =
+    let index : d.index ≡ s.start = ap (λ (x : Decoder). x.index) is in
+    let bytes : length d.bytes ≡ length (up_to_end s) = ap (λ (x : Decoder). length x.bytes) is in
+    (kind, omega (arith, index, bytes, size, some, length-drop s.start (up_to_end s)))
+
+pub has_no_rrsig : (s : RecordValue) (d : Decoder) (n : ℕ) → HasRrsigType s → d ≡ (record_fields s).reader → d.index + n ≡ length d.bytes → 0 < n
+has_no_rrsig s d n has is size =
+    let index : d.index ≡ s.start = ap (λ (x : Decoder). x.index) is in
+    let bytes : length d.bytes ≡ length (up_to_end s) = ap (λ (x : Decoder). length x.bytes) is in
+    omega (arith, index, bytes, size, has.1, length-drop s.start (up_to_end s))
+
+-- a copy of an RRSIG of a message is one, if its data are not left out
+pub copied_rrsig : (s : RecordValue) (own : List ℕ) → HasRrsigType s → Copies (record_kinds s) (data_start s) own
+    → IsRrsig (record { class = s.class; record_type = s.record_type; octets = own })
+copied_rrsig s own (rrsig, some) (pieces, takes, is) =
+    let left = drop s.start (up_to_end s) in
+    let kinds = ap (λ code. fields_of (class_code s.class) code left) rrsig ∙ rrsig_kinds (class_code s.class) left some in
+    let has : HasPieces (record_kinds s) own pieces = record { are = are_pieces (record_kinds s) (data_start s) pieces takes; whole = is } in
+    let p = parts_of own (octets_of (canonical_pieces pieces)) pieces (subst (λ fields. HasPieces fields own pieces) kinds has) refl in
+    (rrsig, omega (arith, p.size, ap length p.whole, length-append p.fixed (wire p.signer ++ p.signature)))
 
 -- the signer's name is read where it is
 labels_of : DataPiece → List (List ℕ)
 labels_of (name_piece form labels) = labels
 labels_of (octets_piece own) = []
 
-pub signer_there : (octets : List ℕ) (p : RrsigParts octets) (d : Decoder) → d ≡ record { bytes = octets; index = before_signer }
-    → (after : Decoder) × (k : ℕ) × TakesName d after p.signer k
+-- the octets that are signed
+abbrev pub signed_part : {octets canonical : List ℕ} → RrsigParts octets canonical → List ℕ
+signed_part p = p.fixed ++ wire (lower p.signer)
+
+pub signer_there : {octets canonical : List ℕ} (p : RrsigParts octets canonical) (d : Decoder) → d ≡ record { bytes = canonical; index = before_signer }
+    → (k : ℕ) × TakesName d (behind (signed_part p) p.rest) (lower p.signer) k
 unfolding labels_of
-signer_there octets p d at =
-    let (labels, k, takes, is) = name_again Plain p.signer p.fixed p.signature p.are_labels in
-    let here : behind p.fixed (wire p.signer ++ p.signature) ≡ d =
-    ap (λ (b : List ℕ). record { bytes = b; index = length p.fixed }) (sym p.whole) ∙ ap (λ n. record { bytes = octets; index = n }) p.size ∙ sym at in (
-      behind (p.fixed ++ wire p.signer) p.signature,
+signer_there {canonical = canonical} p d at =
+    let signer = lower p.signer in
+    let (labels, k, takes, is) = name_again Plain signer p.fixed p.rest (AreLabels_lower p.signer p.are_labels) in
+    let here : behind p.fixed (wire signer ++ p.rest) ≡ d =
+    ap (λ (b : List ℕ). record { bytes = b; index = length p.fixed }) (sym p.lowered) ∙ ap (λ n. record { bytes = canonical; index = n }) p.size ∙ sym at in (
       k,
-      subst (λ x. TakesName x (behind (p.fixed ++ wire p.signer) p.signature) p.signer k) here
-          (subst (λ ls. TakesName (behind p.fixed (wire p.signer ++ p.signature)) (behind (p.fixed ++ wire p.signer) p.signature) ls k) (sym (ap labels_of is)) takes),
+      subst (λ x. TakesName x (behind (signed_part p) p.rest) signer k) here
+          (subst (λ ls. TakesName (behind p.fixed (wire signer ++ p.rest)) (behind (signed_part p) p.rest) ls k) (sym (ap labels_of is)) takes),
     )
 
 pub skipped : (d after : Decoder) (n : ℕ) (r : Result (Unit {0}) DecodeError) → HasLeft d n → Takes d n (λ _. Unit {0}) r after → IsOk r × (after ≡ advanced d n)
@@ -145,41 +190,16 @@ skipped d after n (Ok done) left h = (search rules, h.2)
 skipped d after n (Err InsufficientBytes) left h = absurd (h.0 left)
 skipped d after n (Err error) left h = absurd h
 
--- the tests of the code
-pub is_rrsig : (x : DataValue) (octets : List ℕ) (count : ℕ) (short : Bool) → type_code x.record_type ≡ type_code RRSIG → octets ≡ x.octets → count ≡ length octets
-    → short ≡ nat_lt count before_signer → short ≡ false → IsRrsig x
-is_rrsig x octets count short kind same len is long = (kind, grind (arith, same, len, is, long))
+pub long_enough : {octets canonical : List ℕ} → RrsigParts octets canonical → before_signer ≤ length canonical
+long_enough p = omega (arith, ap length p.lowered, length-append p.fixed (wire (lower p.signer) ++ p.rest), p.size)
 
-pub long_enough : (octets : List ℕ) → RrsigParts octets → before_signer ≤ length octets
-long_enough octets p = omega (arith, ap length p.whole, length-append p.fixed (wire p.signer ++ p.signature), p.size)
+pub front_part : {octets canonical : List ℕ} (p : RrsigParts octets canonical) → take (length (signed_part p)) canonical ≡ signed_part p
+front_part p =
+    ap (λ (x : List ℕ). take (length (signed_part p)) x) (p.lowered ∙ sym (append_assoc p.fixed (wire (lower p.signer)) p.rest))
+    ∙ take-append_seam (signed_part p) p.rest
 
-pub fixed_part : (octets : List ℕ) (p : RrsigParts octets) → take before_signer octets ≡ p.fixed
-fixed_part octets p =
-    ap (λ (x : List ℕ). take before_signer x) p.whole ∙ ap (λ n. take n (p.fixed ++ (wire p.signer ++ p.signature))) (sym p.size)
-    ∙ take-append_seam p.fixed (wire p.signer ++ p.signature)
-
--- ---- results
-
-pub is_ok : {A E : Type 0} (r : Result A E) (P : A → Type 0) → IsOkAnd r P → IsOk r
-is_ok (Ok x) P h = search rules
-is_ok (Err e) P h = absurd h
-
-pub holds_of : {A E : Type 0} (r : Result A E) (x : A) (P : A → Type 0) → r ≡ Ok x → IsOkAnd r P → P x
-holds_of r x P is h = subst (λ s. IsOkAnd s P) is h
-
-value_or : {A E : Type 0} → Result A E → A → A
-value_or (Ok x) other = x
-value_or (Err e) other = other
-
-pub same_value : {A E : Type 0} (r : Result A E) (x y : A) → r ≡ Ok x → r ≡ Ok y → x ≡ y
-unfolding value_or
-same_value r x y is is' = ap (λ s. value_or s x) (sym is ∙ is')
-
--- ---- what is signed
-
-pub signed_made : (x : DataValue) → IsRrsig x → (p : RrsigParts x.octets) → (none mid out w : List ℕ) (labels : List (List ℕ)) → none ≡ []
-    → mid ≡ none ++ take before_signer x.octets → out ≡ mid ++ w → w ≡ wire labels → labels ≡ lower p.signer → IsSignedFields x out
-signed_made x rrsig p none mid out w labels none_is mid_is out_is w_is labels_is =
+pub signed_made : (x : DataValue) (canonical out : List ℕ) → IsRrsig x → (p : RrsigParts x.octets canonical) → out ≡ signed_part p → IsSignedFields x out
+signed_made x canonical out rrsig p is =
     record {
       rrsig = rrsig;
       fixed = p.fixed;
@@ -188,6 +208,9 @@ signed_made x rrsig p none mid out w labels none_is mid_is out_is w_is labels_is
       are_labels = p.are_labels;
       signature = p.signature;
       whole = p.whole;
-      signed = out_is ∙ ap (λ (y : List ℕ). y ++ w) (mid_is ∙ ap (λ (y : List ℕ). y ++ take before_signer x.octets) none_is ∙ fixed_part x.octets p)
-          ∙ ap (λ (y : List ℕ). p.fixed ++ y) (w_is ∙ ap wire labels_is);
+      signed = is;
     }
+
+pub is_ok : {A E : Type 0} (r : Result A E) (P : A → Type 0) → IsOkAnd r P → IsOk r
+is_ok (Ok x) P h = search rules
+is_ok (Err e) P h = absurd h

@@ -1,5 +1,5 @@
 -- Sets of keys: lists in strictly ascending order that have the same elements are the same list, and a sort and a `dedup` make one.
-use Rattle.std.proofs.Common.{BTreeSet, ◌≡◌, suc, zero, List, [], ◌∷◌, map, ◌⊎◌, inl, inr, refl, sym, ap, ◌∙◌, subst, arith, Bool, true, rules, tests}
+use Rattle.std.proofs.Common.{BTreeSet, ◌≡◌, suc, zero, List, [], ◌∷◌, map, ◌⊎◌, inl, inr, sym, ◌∙◌, subst, arith, Bool, true}
 use Rattle.std.specs.Cmp.{IsTotalOrder, IsEquivalence}
 use Rattle.std.specs.List.{All, AllByRecursion, Contains, dedup}
 use Rattle.std.specs.List.Sorted.{IsPermutation, IsSorted, IsStrictlySortedBy}

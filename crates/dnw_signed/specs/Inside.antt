@@ -1,2 +1,5 @@
--- What no public clause cites: what the loops over records keep true as they go.
+-- What no public clause cites: what the loops over fields and records keep true as they go.
+pub mod Listing
 pub mod Going
+pub mod Putting
+pub mod Selecting

@@ -1,5 +1,7 @@
 pub mod CanonicalData
 pub mod RecordSets
 pub mod SignedFields
+pub mod Covering
 pub mod CanonicalLaws
+pub mod RecordKeys
 pub mod Inside

@@ -42,10 +42,12 @@ abbrev pub signed_owner : List (List ℕ) → ℕ → List (List ℕ)
 signed_owner lowered labels = if nat_lt labels (length lowered) then wildcard ∷ drop (length lowered - labels) lowered else lowered
 
 -- what each record begins with: its owner, type, class and original time to live
+abbrev pub head_octets : List (List ℕ) → ℕ → ℕ → ℕ → ℕ → List ℕ
+head_octets owner code class labels ttl =
+    wire (signed_owner (lower owner) labels) ++ (to_be_bytes w16 code ++ (to_be_bytes w16 class ++ to_be_bytes w32 ttl))
+
 abbrev pub set_head : Record → ℕ → ℕ → List ℕ
-set_head first labels ttl =
-    wire (signed_owner (lower first.name.labels) labels)
-    ++ (to_be_bytes w16 (type_code first.data.record_type) ++ (to_be_bytes w16 (class_code first.data.class) ++ to_be_bytes w32 ttl))
+set_head first labels ttl = head_octets first.name.labels (type_code first.data.record_type) (class_code first.data.class) labels ttl
 
 -- a record: what it begins with, and its data with their length
 abbrev pub set_record : List ℕ → List ℕ → List ℕ

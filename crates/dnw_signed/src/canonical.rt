@@ -1,32 +1,27 @@
-//! What a signature covers.
-ghost use Rattle.std.specs.Prelude.{◌≡◌, ℕ, ◌≤◌, ◌++◌, length, IfOk, IfErr, OnOk, Ok, IsTrue, ◌↔◌};
-ghost use Rattle.std.specs.List.{AllByRecursion, flat_map};
-ghost use Rattle.dnw_base.specs.Limits.{max_message};
-ghost use Rattle.dnw_base.specs.Names.{lower, wire};
-ghost use Rattle.dnw_write.specs.Encoder.{Encoder};
-ghost use Rattle.dnw_record.specs.AnyRecords.{EmitsRData};
+//! What a signature covers of owned records.
+ghost use Rattle.std.specs.Prelude.{◌≡◌, ◌≤◌, ◌↔◌, length, IfOk, IfErr, IsTrue};
+ghost use Rattle.std.specs.List.{AllByRecursion};
+ghost use Rattle.dnw_record.specs.DataPieces.{DataValue};
 ghost use Rattle.dnw_signed.specs.CanonicalData.{IsCanonical};
-ghost use Rattle.dnw_signed.specs.RecordSets.{AreCanonical, FailsSet, IsOfSet, IsRecordSet, IsSet, IsInOrder, set_head, set_record, signed_owner};
-ghost use Rattle.dnw_signed.specs.SignedFields.{FailsSignedFields, IsSignedFields};
-ghost use Rattle.dnw_signed.specs.Inside.Going.{AreShort, HasLength, all_items, canonical_start};
+ghost use Rattle.dnw_signed.specs.RecordSets.{AreCanonical, FailsSet, IsOfSet, IsRecordSet, IsSet};
+ghost use Rattle.dnw_signed.specs.SignedFields.{FailsSignedFields, IsRrsig, IsSignedFields};
+ghost use Rattle.dnw_signed.specs.Inside.Going.{HasLength};
+ghost use Rattle.dnw_signed.specs.Inside.Listing.{HoldsData, data_of};
 
+use crate::data_list::DataList;
 use crate::error::CanonicalError;
+use crate::fields::canonical_octets;
+use crate::set::{append_set, head_of, make_set};
 use dnw_base::decoder::BinDecoder;
-use dnw_base::error::ProtoResult;
 use dnw_base::limits::MAX_MESSAGE;
 use dnw_base::record_type::RecordType;
-use dnw_name::name::Name;
+use dnw_name::name_ref::NameRef;
 use dnw_record::rdata::RData;
 use dnw_record::record::Record;
-use dnw_write::binary::BinEncodable;
-use dnw_write::encoder::BinEncoder;
 use std::alloc::{AllocError, Global};
 
 /// The octets before the signer's name in the data of an RRSIG (RFC 4034, section 3.1).
-const BEFORE_SIGNER: usize = 18;
-
-/// The wire form of the label `*`.
-const WILDCARD: &[u8] = b"\x01*";
+pub(crate) const BEFORE_SIGNER: usize = 18;
 
 /// Returns the octets of a set of records that a signature covers, after those of `signed_fields` (RFC 4034, section 3.1.8.1).
 ///
@@ -48,10 +43,15 @@ pub fn record_set(
     ensures err { IfErr result (FailsSet records.now labels) }
 {
     let first = check(records, labels)?;
-    let head = head_of(alloc, first, labels, original_ttl)?;
-    let mut all = canonical_data(alloc, records)?;
+    let code = u16::from(first.data.record_type());
+    let class = u16::from(first.dns_class());
+    let head = head_of(alloc, &first.name, code, class, labels, original_ttl)?;
+    let list = canonical_data(alloc, records)?;
+    let mut all = list.slices(alloc)?;
     make_set(&mut all);
-    Ok(join(alloc, head.as_slice(), all.as_slice())?)
+    let mut octets = Vec::new(alloc);
+    append_set(head.as_slice(), all.as_slice(), &mut octets)?;
+    Ok(octets)
 }
 
 /// Returns the octets of an RRSIG that its signature covers: its data without the signature, and with the signer's name in
@@ -62,22 +62,32 @@ pub fn signed_fields(alloc: Global, rrsig: &RData) -> Result<Vec<u8>, CanonicalE
     ensures ok { IfOk result (λ octets. IsSignedFields rrsig.now octets.items) }
     ensures err { IfErr result (FailsSignedFields rrsig.now) }
 {
-    if u16::from(rrsig.record_type()) != u16::from(RecordType::RRSIG) {
+    if !is_rrsig(rrsig) {
         return Err(CanonicalError::NotRrsig);
     }
-    let octets = rrsig.octets();
-    // Under NONE and ANY data may be left out.
-    if octets.len() < BEFORE_SIGNER {
-        return Err(CanonicalError::NotRrsig);
-    }
-    let mut reader = BinDecoder::new(octets);
+    let mut fields = canonical_octets(alloc, rrsig)?;
+    cut_signature(&mut fields);
+    Ok(fields)
+}
+
+/// Returns `true` if the data are those of an RRSIG, and are not left out.
+fn is_rrsig(data: &RData) -> bool
+    ensures { IsTrue result ↔ IsRrsig «data».now }
+{
+    u16::from(data.record_type()) == u16::from(RecordType::RRSIG)
+        && data.octets().len() >= BEFORE_SIGNER
+}
+
+/// Cuts the signature off the data of an RRSIG in canonical form.
+pub(crate) fn cut_signature(fields: &mut Vec<u8>)
+    requires { (x : DataValue) × IsRrsig x × IsCanonical x fields.old.items }
+    ensures { (x : DataValue) → IsRrsig x → IsCanonical x fields.old.items → IsSignedFields x fields.new.items }
+{
+    let mut reader = BinDecoder::new(fields.as_slice());
     reader.skip(BEFORE_SIGNER).unwrap();
-    let signer = Name::read(alloc, &mut reader).unwrap();
-    let lowered = signer.to_lowercase().unwrap();
-    let mut signed = Vec::new(alloc);
-    signed.extend_from_slice(&octets[..BEFORE_SIGNER])?;
-    signed.extend_from_slice(lowered.as_wire())?;
-    Ok(signed)
+    NameRef::read(&mut reader).unwrap();
+    let end = reader.index();
+    fields.truncate(end);
 }
 
 /// Checks that the records are a set, and returns the first one.
@@ -115,98 +125,19 @@ fn is_of_set(first: &Record, item: &Record) -> bool
         && u16::from(item.dns_class()) == u16::from(first.dns_class())
 }
 
-/// Returns what each record begins with.
-fn head_of(
-    alloc: Global,
-    first: &Record,
-    labels: u8,
-    original_ttl: u32,
-) -> Result<Vec<u8>, AllocError>
-    ensures { IfOk result (λ head. head.items ≡ set_head first.now labels original_ttl) }
-{
-    let mut head = Vec::new(alloc);
-    put_owner(&first.name, labels, &mut head)?;
-    head.extend_from_slice(&u16::to_be_bytes(u16::from(first.data.record_type())))?;
-    head.extend_from_slice(&u16::to_be_bytes(u16::from(first.dns_class())))?;
-    head.extend_from_slice(&u32::to_be_bytes(original_ttl))?;
-    Ok(head)
-}
-
-/// Appends the owner as it was signed: in lower case, and if it has more than `labels` labels, the last of them after `*`.
-fn put_owner(name: &Name, labels: u8, head: &mut Vec<u8>) -> Result<(), AllocError>
-    ensures { OnOk result (head.new.items ≡ head.old.items ++ wire (signed_owner (lower name.now.labels) labels)) }
-{
-    let owner = name.to_lowercase().unwrap();
-    if owner.wire_labels().len() <= labels as usize {
-        return head.extend_from_slice(owner.as_wire());
-    }
-    let last = owner.trim_to(labels as usize).unwrap();
-    head.extend_from_slice(WILDCARD)?;
-    head.extend_from_slice(last.as_wire())
-}
-
-/// Returns the canonical octets of the data of each record, in turn.
-#[tactic(auto, using(crate::proofs::Going::lists_on, crate::proofs::Going::fits_next))]
-fn canonical_data(alloc: Global, records: &[Record]) -> Result<Vec<Vec<u8>>, AllocError>
+/// Returns the data of each record in canonical form.
+#[tactic(auto, using(crate::proofs::Going::lists_on))]
+fn canonical_data(alloc: Global, records: &[Record]) -> Result<DataList, AllocError>
     requires { AllByRecursion HasLength records.now }
-    ensures ok { IfOk result (λ all. AreCanonical records.now (all_items all.items) × AreShort all.items) }
+    ensures { IfOk result (λ list. HoldsData list × AreCanonical records.now (data_of list)) }
 {
-    let mut all = Vec::new(alloc);
+    let mut list = DataList::new(alloc);
     let mut left = records;
     'records: while let Some((item, others)) = left.split_first() {
-        let octets = canonical_octets(alloc, &item.data)?;
-        if all.push(octets).is_err() {
-            return Err(AllocError);
+        match list.push_data(alloc, &item.data) {
+            Ok(_) => left = others,
+            Err(_) => return Err(AllocError),
         }
-        left = others;
     }
-    Ok(all)
-}
-
-/// Returns the canonical octets of data, which must not be longer than a message may be. So it fails only if memory runs out.
-#[tactic(auto, using(crate::proofs::Going::made))]
-fn canonical_octets(alloc: Global, data: &RData) -> Result<Vec<u8>, AllocError>
-    requires { length «data».now.octets ≤ max_message }
-    ensures ok { IfOk result (λ octets. IsCanonical «data».now octets.items × (length octets.items ≤ max_message)) }
-{
-    match written(alloc, data) {
-        Ok(octets) => Ok(octets),
-        Err(_) => Err(AllocError),
-    }
-}
-
-/// Writes data in canonical form.
-fn written(alloc: Global, data: &RData) -> ProtoResult<Vec<u8>>
-    ensures ok { IfOk result (λ octets. (w : Encoder) × EmitsRData «data».now canonical_start (Ok tt) w × (octets.items ≡ w.bytes)) }
-{
-    let mut octets = Vec::new(alloc);
-    let mut encoder = BinEncoder::new(&mut octets).with_limits(0, 0);
-    encoder.set_canonical_form(true);
-    data.emit(&mut encoder)?;
-    drop(encoder);
-    Ok(octets)
-}
-
-/// Puts octets in ascending order, and removes duplicates.
-fn make_set(all: &mut Vec<Vec<u8>>)
-    requires { AreShort all.old.items }
-    ensures set { IsInOrder (all_items all.old.items) (all_items all.new.items) }
-    ensures short { AreShort all.new.items }
-{
-    all.sort_unstable();
-    all.dedup();
-}
-
-/// Joins the records: each begins with these octets, and its data follow after their length.
-fn join(alloc: Global, head: &[u8], all: &[Vec<u8>]) -> Result<Vec<u8>, AllocError>
-    requires { AreShort all.now }
-    ensures { IfOk result (λ octets. octets.items ≡ flat_map (set_record head.now) (all_items all.now)) }
-{
-    let mut octets = Vec::new(alloc);
-    'records: for item in all {
-        octets.extend_from_slice(head)?;
-        octets.extend_from_slice(&u16::to_be_bytes(item.len() as u16))?;
-        octets.extend_from_slice(item.as_slice())?;
-    }
-    Ok(octets)
+    Ok(list)
 }

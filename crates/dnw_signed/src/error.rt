@@ -1,5 +1,6 @@
 //! Why there are no octets that a signature covers.
 
+use dnw_data::fields::FieldError;
 use std::alloc::{AllocError, AllocFailed};
 use thiserror::Error;
 
@@ -27,6 +28,17 @@ pub enum CanonicalError {
     /// The data are not those of an RRSIG.
     #[error("no data of an RRSIG")]
     NotRrsig,
+    /// A field of an RRSIG is none of its kind, or octets are left after the last one.
+    #[error("the RRSIG: {0}")]
+    RrsigField(FieldError),
+    /// A field of a record is none of its kind, or octets are left after the last one.
+    #[error("record {record}: {error}")]
+    Field {
+        /// The number of the record, from 0.
+        record: usize,
+        /// Why there is no such field.
+        error: FieldError,
+    },
     /// An allocation failed.
     #[error("out of memory")]
     Memory,

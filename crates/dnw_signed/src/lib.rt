@@ -4,5 +4,10 @@
 #![tactic(auto)]
 
 pub mod canonical;
+pub mod covering;
+mod data_list;
 pub mod error;
+pub mod fields;
 pub mod laws;
+pub mod record_key;
+mod set;

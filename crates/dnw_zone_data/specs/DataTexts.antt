@@ -100,7 +100,7 @@ LacksText left =
     (has_own_form left.kinds ≡ false) ⊎ HasNoText left.kinds left.reader
     ⊎ ((own : List ℕ) × PrintsFields left.kinds left.reader own × (is_blank left.kinds own ≡ true))
 
--- Types that have no name here, and of which many servers know no text: X25, ISDN, NSAP-PTR, GPOS, DHCID, NINFO, RKEY, TALINK,
+-- Types of which many servers know no text: X25, ISDN, NSAP-PTR, GPOS, DHCID, NINFO, RKEY, TALINK,
 -- DSYNC, L32, LP, AVC, RESINFO, WALLET, CLA and DLV.
 abbrev pub little_known : List ℕ
 little_known =

@@ -1,7 +1,6 @@
 -- What no public clause cites: what the parts of a call return.
 pub mod TypeWords
 pub mod ParamSteps
-pub mod Labels
 pub mod Steps
 pub mod Reads
 pub mod StringWords

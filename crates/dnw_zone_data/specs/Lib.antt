@@ -1,5 +1,4 @@
 pub mod Words
-pub mod NameTexts
 pub mod NameReading
 pub mod Appending
 pub mod TypeLists

@@ -19,7 +19,7 @@ use Rattle.dnw_zone_values.specs.Tags.{IsTag}
 use Rattle.dnw_zone_values.specs.Base32.{base32_text}
 use Rattle.dnw_zone_values.specs.Pairs.{pairs_text}
 use Rattle.dnw_zone_values.specs.Times.{IsDateText}
-use Rattle.dnw_zone_data.specs.NameTexts.{full_name_text}
+use Rattle.dnw_name_text.specs.NameTexts.{full_name_text}
 use Rattle.dnw_zone_data.specs.TypeLists.{PrintsTypes}
 use Rattle.dnw_zone_data.specs.ParamLists.{PrintsParams}
 use Rattle.dnw_zone_data.specs.Generic.{hex_part}

@@ -1,5 +1,5 @@
 //! The text of the data of records.
-ghost use Rattle.std.specs.Prelude.{◌≡◌, ◌≤◌, ◌⊎◌, ◌++◌, ℕ, List, [], length, flat_map, IfOk, MatchBool, MatchResult, string_bytes};
+ghost use Rattle.std.specs.Prelude.{◌≡◌, ◌≤◌, ◌⊎◌, ◌++◌, ℕ, List, [], length, flat_map, true, false, IfOk, MatchBool, MatchOption, MatchResult, string_bytes};
 ghost use Rattle.std.specs.List.{list_all};
 ghost use Rattle.std.specs.Option.{option_copied};
 ghost use Rattle.dnw_base.specs.DnsClasses.{class_code};
@@ -12,8 +12,8 @@ ghost use Rattle.dnw_zone_data.specs.declared.error.DataTextError.TheVariants.{M
 ghost use Rattle.dnw_zone_data.specs.Parsing.{AreFieldTexts, FailsFields};
 ghost use Rattle.dnw_data.specs.FieldWires.{field_wire};
 ghost use Rattle.dnw_zone_data.specs.Generic.{IsSized};
-ghost use Rattle.dnw_zone_data.specs.DataTexts.{has_fields, has_own_form, has_field_text, is_blank, is_little_known, is_octets, stand_in};
-ghost use Rattle.dnw_zone_data.specs.DataTexts.{without_space, ArePlain, IsPlainData, IsDataText, IsTextOf, FailsGeneric, FailsText};
+ghost use Rattle.dnw_zone_data.specs.DataTexts.{has_fields, has_own_form, has_field_text, is_blank, is_little_known, is_octets, is_unprinted, stand_in};
+ghost use Rattle.dnw_zone_data.specs.DataTexts.{without_space, ArePlain, IsPlainData, IsDataText, IsOwnText, IsTextOf, FailsGeneric, FailsText, LacksText};
 ghost use Rattle.dnw_zone_data.specs.Inside.Wires.{AppendsWires};
 
 use crate::error::{DataTextError, Wanted};
@@ -39,15 +39,46 @@ pub fn data_text(alloc: Global, record: &RecordRef<'_>) -> Result<String, AllocE
     ensures { IfOk result (λ text. IsDataText «record».now (string_bytes text)) }
 {
     let kinds = record.kinds();
-    if !(is_little_known(record.record_type()) && has_fields(kinds)) && has_own_form(kinds) {
-        let mut text = String::new(alloc);
-        let is_written = write_fields(alloc, kinds, &mut record.fields(), &mut text)?;
-        if is_written && !is_blank(kinds, text.as_str()) {
-            return without_space(alloc, text.as_str());
-        }
+    if let Some(text) = own_text(alloc, record, kinds)? {
+        return Ok(text);
     }
     let octets = plain_octets(alloc, record, kinds)?;
     format!(in alloc; "{}", Generic(octets.as_slice()))
+}
+
+/// Returns the text of the data of a record as its fields, if they have one that is printed.
+fn own_text(
+    alloc: Global,
+    record: &RecordRef<'_>,
+    kinds: &[Kind],
+) -> Result<Option<String>, AllocError>
+    requires { kinds.now ≡ (record_fields «record».now).kinds }
+    ensures { IfOk result (λ own. MatchOption own ((is_unprinted «record».now ≡ true) ⊎ LacksText (record_fields «record».now))
+        (λ text. (is_unprinted «record».now ≡ false) × IsOwnText (record_fields «record».now) (string_bytes text))) }
+{
+    let has_form = has_own_form(kinds);
+    if is_unprinted(record, kinds) {
+        return Ok(None);
+    }
+    if !has_form {
+        return Ok(None);
+    }
+    let mut text = String::new(alloc);
+    if !write_fields(alloc, kinds, &mut record.fields(), &mut text)? {
+        return Ok(None);
+    }
+    if is_blank(kinds, text.as_str()) {
+        return Ok(None);
+    }
+    Ok(Some(without_space(alloc, text.as_str())?))
+}
+
+/// Returns `true` if the text of the fields of a record is not printed, since many servers know none of the type.
+fn is_unprinted(record: &RecordRef<'_>, kinds: &[Kind]) -> bool
+    requires { kinds.now ≡ (record_fields «record».now).kinds }
+    ensures { result ≡ is_unprinted «record».now }
+{
+    is_little_known(record.record_type()) && has_fields(kinds)
 }
 
 /// Returns the octets of the data that a text is, for a class and a type, with names that are not compressed. The text is in

@@ -11,7 +11,6 @@ pub mod error;
 pub mod generic;
 pub mod laws;
 pub mod name;
-pub mod name_reading;
 pub mod params;
 mod parsing;
 mod printing;

@@ -10,7 +10,7 @@ ghost use Rattle.dnw_zone_data.specs.Inside.Reads.{AppendsRest, IsEndedBy};
 ghost use Rattle.dnw_zone_data.specs.Appending.{AppendsOne};
 
 use crate::error::{DataTextError, Wanted};
-use crate::name_reading::read_name;
+use crate::name::read_name;
 use crate::params::parse_params;
 use crate::spelling::{base64_of, hex_of, pairs_of, spelled, string_of_word, text_of};
 use crate::types::parse_types;

@@ -22,7 +22,7 @@ use Rattle.dnw_record.specs.Records.{RecordValue, record_of, fixed_at, number_at
 use Rattle.dnw_zone_values.specs.Octets.{IsOctets}
 use Rattle.dnw_zone_svcb.proofs.ParamTextsBack.{drop_fit, take_fit}
 use Rattle.dnw_zone_lexer.specs.Times.{groups_after, time_seconds, total_seconds}
-use Rattle.dnw_zone_data.specs.NameTexts.{full_name_text}
+use Rattle.dnw_name_text.specs.NameTexts.{full_name_text}
 use Rattle.dnw_zone_data.specs.Words.{is_end, word, after_word}
 use Rattle.dnw_base.specs.Limits.{max_data}
 use Rattle.dnw_zone_data.specs.DataTexts.{IsTextOf, text_kinds}

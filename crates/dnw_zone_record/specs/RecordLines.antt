@@ -19,7 +19,7 @@ use Rattle.dnw_zone_record.specs.declared.record_line.RecordLineError.TheVariant
 use Rattle.dnw_zone_data.specs.DataTexts.{FailsText, IsTextOf}
 use Rattle.dnw_base.specs.Limits.{max_data}
 use Rattle.dnw_zone_data.specs.NameReading.{named_at}
-use Rattle.dnw_zone_data.specs.NameTexts.{full_name_text}
+use Rattle.dnw_name_text.specs.NameTexts.{full_name_text}
 use Rattle.dnw_zone_data.specs.Words.{after_spaces, after_word, word}
 
 -- ---- printing

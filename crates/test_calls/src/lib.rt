@@ -44,6 +44,8 @@ mod scripts;
 #[cfg(test)]
 mod sections;
 #[cfg(test)]
+mod signed;
+#[cfg(test)]
 mod sizes;
 #[cfg(test)]
 mod sort_keys;

@@ -1,12 +1,12 @@
 use Rattle.std.proofs.Common.{length, inl, inr, subst}
 use Rattle.dnw_c_base.proofs.Exits.{refused}
 use Rattle.dnw_c_base.specs.Results.{Puts}
-use Rattle.dnw_c_signed.specs.SigningCalls.{FailsToSign}
+use Rattle.dnw_c_signed.specs.SigningCalls.{FailsToSignAt}
 use Rattle.dnw_c_signed.proofs.signing.put_signed.Goals as goal
 
 pub returns-in_err-own : goal.returns-in_err-own
 returns-in_err-own c =
-    inr (refused (FailsToSign c.args.message.now c.args.start c.args.rrsig) c.args.octets.now c.from_residual.result _ c.from_residual.ensures.1 c.in_err-own.ensures.err)
+    inr (refused (FailsToSignAt c.args.message.now c.args.start c.args.rrsig) c.args.octets.now c.from_residual.result _ c.from_residual.ensures.1 c.in_err-own.ensures.err)
 
 pub returns : goal.returns
 returns c =

@@ -1,6 +1,6 @@
 use Rattle.std.proofs.Common.{◌≡◌, length, ap, arith}
 use Rattle.std.proofs.lemmas.Result.{err_from_is_err_and}
-use Rattle.dnw_c_signed.proofs.Collected.{takes_on}
+use Rattle.dnw_c_signed.proofs.Following.{takes_on}
 use Rattle.dnw_c_signed.proofs.Copied.{all_copied, copied_more, copied_up_to, none_copied}
 use Rattle.dnw_c_signed.proofs.zones.copies_of.Goals as goal
 

@@ -1,0 +1,54 @@
+-- Which records of a message the functions for C read, and why they read none.
+use Rattle.std.specs.Prelude.{◌≡◌, ◌<◌, ◌⊎◌, ℕ, List, [], ◌∷◌, length}
+use Rattle.dnw_base.specs.Decoder.{Decoder}
+use Rattle.dnw_base.specs.declared.error.DecodeError.{DecodeError}
+use Rattle.dnw_c_base.specs.Failures.{of_decode}
+use Rattle.dnw_c_base.specs.declared.failure.Failure.{Failure}
+use Rattle.dnw_c_base.specs.declared.failure.Failure.TheVariants as why
+use Rattle.dnw_record.specs.DataCopies.{FailsToCopy, data_start, record_kinds}
+use Rattle.dnw_record.specs.declared.rdata.RDataError.{RDataError}
+use Rattle.dnw_record.specs.declared.rdata.RDataError.TheVariants.{Field, Memory}
+use Rattle.dnw_record.specs.Records.{FailsRecord, RecordAt, RecordValue}
+
+-- a decoder at an offset of a message
+abbrev pub at_offset : List ℕ → ℕ → Decoder
+at_offset message start = record { bytes = message; index = start }
+
+-- There is a record at an offset.
+abbrev pub HasRecordAt : List ℕ → ℕ → RecordValue → Type 0
+HasRecordAt message p r = (e : ℕ) × RecordAt message p r e
+
+-- There is none: the offset is past the message, or no record can be read there.
+abbrev pub FailsRecordAt : List ℕ → ℕ → Failure → Type 0
+FailsRecordAt message p failure =
+    ((length message < p) × (failure ≡ why.MessageCut))
+    ⊎ ((error : DecodeError) × FailsRecord (at_offset message p) error × (failure ≡ of_decode error))
+
+-- why the data of a record are not copied
+abbrev pub of_rdata : RDataError → Failure
+of_rdata (Field error) = of_decode error.cause
+of_rdata Memory = why.NoMemory
+
+-- The data of a record are no fields of its class and type, or memory ran out.
+abbrev pub FailsToCopyRecord : RecordValue → Failure → Type 0
+FailsToCopyRecord r failure =
+    (error : RDataError) × FailsToCopy (record_kinds r) (data_start r) error × (failure ≡ of_rdata error)
+
+-- ---- one after another
+
+-- Records follow one another from p to e.
+pub data AreRecords (message : List ℕ) : ℕ → List RecordValue → ℕ → Type 0 where
+  no_records : {p : ℕ} → AreRecords message p [] p
+  record_first : (p q e : ℕ) (r : RecordValue) (records : List RecordValue)
+      → RecordAt message p r q → AreRecords message q records e → AreRecords message p (r ∷ records) e
+
+-- There is no record at the cursor, or memory ran out.
+abbrev pub FailsToReadNext : Decoder → Failure → Type 0
+FailsToReadNext d failure = ((error : DecodeError) × FailsRecord d error × (failure ≡ of_decode error)) ⊎ (failure ≡ why.NoMemory)
+
+-- The records do not go on to the end: the offset at which they begin is past it; or after some of them, before the end, there is
+-- none.
+abbrev pub FailsToRead : List ℕ → ℕ → Failure → Type 0
+FailsToRead message start failure =
+    ((length message < start) × (failure ≡ why.MessageCut))
+    ⊎ ((records : List RecordValue) × (p : ℕ) × AreRecords message start records p × (p < length message) × FailsToReadNext (at_offset message p) failure)

@@ -1,0 +1,90 @@
+//! Records of a message.
+ghost use Rattle.std.specs.Prelude.{◌≡◌, ◌≤◌, ◌∷◌, [], ◌++◌, length, IfOk, IfErr, OnOk};
+ghost use Rattle.dnw_record.specs.AnyRecords.{IsCopyOf};
+ghost use Rattle.dnw_record.specs.Records.{FailsRecord, RecordValue, TakesRecord};
+ghost use Rattle.dnw_c_signed.specs.RecordCalls.{AreRecords, FailsRecordAt, FailsToCopyRecord, FailsToRead, FailsToReadNext, HasRecordAt, at_offset, of_rdata};
+
+use dnw_base::decoder::BinDecoder;
+use dnw_base::error::DecodeError;
+use dnw_c_base::failure::{Failure, of_decode};
+use dnw_record::rdata::RDataError;
+use dnw_record::record::Record;
+use dnw_record::record_ref::RecordRef;
+use std::alloc::Global;
+
+/// Returns the records from an offset up to the end of the octets.
+pub(crate) fn records_from(
+    alloc: Global,
+    message: &[u8],
+    start: usize,
+) -> Result<Vec<RecordRef<'_>>, Failure>
+    ensures ok { IfOk result (λ records. AreRecords message.now start records.items (length message.now)) }
+    ensures err { IfErr result (FailsToRead message.now start) }
+{
+    if message.len() < start {
+        return Err(Failure::MessageCut);
+    }
+    let mut reader = BinDecoder::new(message);
+    reader.skip(start).unwrap();
+    let mut records = Vec::new(alloc);
+    'records: while !reader.is_empty() {
+        push_next(&mut reader, &mut records)?;
+    }
+    Ok(records)
+}
+
+/// Appends the record at the cursor.
+fn push_next<'r>(
+    reader: &mut BinDecoder<'r>,
+    records: &mut Vec<RecordRef<'r>>,
+) -> Result<(), Failure>
+    ensures ok { OnOk result ((r : RecordValue) × TakesRecord reader.old r reader.new × (records.new.items ≡ records.old.items ++ r ∷ [])) }
+    ensures err { IfErr result (FailsToReadNext reader.old) }
+{
+    let item = RecordRef::read_next(reader)?;
+    records.push(item)?;
+    Ok(())
+}
+
+/// Returns the record at an offset.
+pub(crate) fn record_at(message: &[u8], start: usize) -> Result<RecordRef<'_>, Failure>
+    ensures ok { IfOk result (HasRecordAt message.now start) }
+    ensures err { IfErr result (FailsRecordAt message.now start) }
+{
+    if message.len() < start {
+        return Err(Failure::MessageCut);
+    }
+    Ok(read_at(message, start)?)
+}
+
+/// Reads the record at an offset that is not past the octets.
+fn read_at(message: &[u8], start: usize) -> Result<RecordRef<'_>, DecodeError>
+    requires { start ≤ length message.now }
+    ensures ok { IfOk result (HasRecordAt message.now start) }
+    ensures err { IfErr result (FailsRecord (at_offset message.now start)) }
+{
+    let mut reader = BinDecoder::new(message);
+    reader.skip(start).unwrap();
+    RecordRef::read_next(&mut reader)
+}
+
+/// Returns a copy of a record, in which every name has its wire form.
+pub(crate) fn copy_of(alloc: Global, item: &RecordRef<'_>) -> Result<Record, Failure>
+    ensures ok { IfOk result (IsCopyOf item.now) }
+    ensures err { IfErr result (FailsToCopyRecord item.now) }
+{
+    match Record::from_ref(alloc, item) {
+        Ok(record) => Ok(record),
+        Err(error) => Err(of_rdata(&error)),
+    }
+}
+
+/// Returns the failure that stands for why the data of a record are not copied.
+pub(crate) fn of_rdata(error: &RDataError) -> Failure
+    ensures { result ≡ of_rdata error.now }
+{
+    match error {
+        RDataError::Field(error) => of_decode(&error.cause),
+        RDataError::Memory => Failure::NoMemory,
+    }
+}

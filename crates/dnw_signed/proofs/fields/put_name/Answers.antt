@@ -1,0 +1,8 @@
+use Rattle.std.proofs.Common.{refl}
+use Rattle.dnw_record.specs.DataPieces.{name_piece}
+use Rattle.dnw_signed.proofs.fields.put_name.Goals as goal
+
+pub returns-clause-ok : goal.returns-clause-ok
+returns-clause-ok c =
+    let (k, takes) = c.in-Ok.ensures.ok in
+    (name_piece c.args.form c.in-Ok.name, (c.in-Ok.name, k, takes, refl), rw (c.as_wire.ensures, c.canonical_name-own.ensures) at c.in_ok-extend_from_slice.ensures.items)

@@ -1,8 +1,0 @@
-use Rattle.std.proofs.Common.{take}
-use Rattle.std.specs.Fmt.{HasWritten, IsPlainFormatter}
-use Rattle.dnw_zone_data.specs.NameTexts.{label_octets}
-use Rattle.dnw_zone_data.proofs.name.LabelTextDisplay.fmt.Given as goal
-
-abbrev pub invariant-loop-octet : goal.invariant-loop-octet
-invariant-loop-octet g l =
-    IsPlainFormatter l.fn.f → HasWritten g.W.Write.write_str_gives l.fn.f (label_octets (take l.octet-index l.self.0.now)) l.f
