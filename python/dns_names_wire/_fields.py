@@ -112,6 +112,20 @@ def fields(message: bytes, start: int, end: int, record_class: int, record_type:
             yield _VALUES[read.kind](message[read.offset : read.offset + read.len])
 
 
+def whole_data(message: bytes, start: int, end: int, record_class: int, record_type: int) -> bytes:
+    """Returns data of a class and a type between two offsets of a message, with each name in its wire form."""
+    next_field, read, copied = Fields(start, 0), Read(), start
+    parts: List[bytes] = []
+    while True:
+        number = library.dnw_field_next(message, end, start, record_class, record_type, byref(next_field), byref(read))
+        check(number, next_field.offset)
+        if read.kind == _END:
+            return b"".join([*parts, message[copied:end]])
+        if read.kind == _NAME:
+            parts += [message[copied : read.offset], _read(message, end, read.offset)[0].wire]
+            copied = next_field.offset
+
+
 # A name of a message, and the offset after its own octets; and the names that were read in a message, by their offsets.
 Placed = Tuple[Name, int]
 Names = Dict[int, Placed]

@@ -143,6 +143,7 @@ _FUNCTIONS = {
     "dnw_data_parse": (c_uint16, c_uint16, *_READ, *_READ, *_WRITTEN, POINTER(c_size_t)),
     "dnw_record_parse": (*_READ, *_READ, *_WRITTEN, POINTER(c_size_t)),
     "dnw_record_print": (*_READ, c_size_t, *_WRITTEN, POINTER(PrintedRecord)),
+    "dnw_record_sort_key": (*_READ, c_size_t, *_WRITTEN, POINTER(c_size_t)),
     "dnw_signed_octets": (*_READ, c_size_t, c_size_t, *_WRITTEN, POINTER(c_size_t)),
     "dnw_key_tag": (*_READ, POINTER(c_uint16)),
     "dnw_ds_digest": (*_READ, *_READ, c_uint8, *_WRITTEN, POINTER(c_size_t)),

@@ -7,9 +7,9 @@ from typing import Dict, Iterable, Iterator, Optional, Tuple
 from . import _checks
 from ._checks import Bytes
 from ._codes import RecordClass, RecordType
-from ._errors import DataTooLong, MessageCut, NotRrsig, check
-from ._fields import FieldValue, Names, Placed, checked_name, fields
-from ._library import FORM_SIZE, Form, library, taken
+from ._errors import DataTooLong, DnsError, MessageCut, NotRrsig, check
+from ._fields import FieldValue, Names, Placed, checked_name, fields, whole_data
+from ._library import FORM_SIZE, SORT_KEY_SIZE, Form, library, taken
 from ._library import Record as Read
 from ._names import Name, placed, wire_of
 from ._rdata import CLASSES, Data, data_in, parsed, printed
@@ -164,7 +164,10 @@ class Record:
         """Returns the octets of the record, without compression."""
         if self._names is _NO_NAMES:
             return self._message
-        data = self.data.to_wire() if "n" in getattr(CLASSES.get(self._type), "_kinds", "") else self.raw_data
+        kinds = getattr(CLASSES.get(self._type), "_kinds", "n") if self._class == RecordClass.IN else "n"
+        data = self.raw_data
+        if "n" in kinds:
+            data = whole_data(self._message, self._data_offset, self._end, self._class, self._type)
         return self.owner.wire + _FIXED.pack(self._type, self._class, self._ttl, len(data)) + data
 
     def data_name(self, skip: int = 0) -> Name:
@@ -226,6 +229,63 @@ class Record:
         room, length = (c_char * len(wire))(), c_size_t()
         check(library.dnw_signed_octets(wire, len(wire), len(own), 0, room, len(wire), byref(length)))
         return taken(room, length.value)
+
+    def sort_key(self) -> bytes:
+        """Returns the sort key of the record. Keys compare as records do in canonical order (RFC 4034, section 6): by
+        owner, type, class and data. Raises as `fields` if the data are not the fields of their type.
+
+        >>> Record.from_text("b.A. 60 IN A 192.0.2.1").sort_key().hex(" ", -4)
+        '61006200 00000100 01c00002 01'
+        """
+        # The names of no data grow by more than two whole names.
+        size = SORT_KEY_SIZE + 5 + self._end - self._data_offset + 2 * FORM_SIZE
+        key, length = (c_char * size)(), c_size_t()
+        check(library.dnw_record_sort_key(self._message, self._end, self._start, key, size, byref(length)))
+        return taken(key, length.value)
+
+    def _order_key(self) -> bytes:
+        """Returns what records compare and hash by: the sort key, or, if the data are not the fields of their type, the
+        same with the octets of the data as they are."""
+        try:
+            return self.sort_key()
+        except DnsError:
+            codes = self._type.to_bytes(2, "big") + self._class.to_bytes(2, "big")
+            return self.owner.sort_key() + b"\0" + codes + self.raw_data
+
+    def __eq__(self, other: object) -> bool:
+        """Returns whether the owners, types, classes and data are equal (RFC 2136, section 1.1.1). The TTL makes no
+        difference, and neither do compression and the case of the owner and of the names that canonical form lowers.
+
+        >>> Record.from_text("b.a. 60 IN MX 1 c.a.") == Record.from_text("B.A. 5 IN MX 1 C.A.")
+        True
+        """
+        if not isinstance(other, Record):
+            return NotImplemented
+        return (self._type, self._class) == (other._type, other._class) and self._order_key() == other._order_key()
+
+    def __hash__(self) -> int:
+        return hash(self._order_key())
+
+    def __lt__(self, other: object) -> bool:
+        """Compares in canonical order (RFC 4034, section 6): by owner, type, class and data."""
+        if not isinstance(other, Record):
+            return NotImplemented
+        return self._order_key() < other._order_key()
+
+    def __le__(self, other: object) -> bool:
+        if not isinstance(other, Record):
+            return NotImplemented
+        return self._order_key() <= other._order_key()
+
+    def __gt__(self, other: object) -> bool:
+        if not isinstance(other, Record):
+            return NotImplemented
+        return self._order_key() > other._order_key()
+
+    def __ge__(self, other: object) -> bool:
+        if not isinstance(other, Record):
+            return NotImplemented
+        return self._order_key() >= other._order_key()
 
     def __str__(self) -> str:
         return printed(self._message, self._start)

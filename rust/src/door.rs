@@ -291,6 +291,14 @@ extern "C" {
         octets_size: usize,
         len: *mut usize,
     ) -> u32;
+    fn dnw_record_sort_key(
+        message: *const u8,
+        message_len: usize,
+        start: usize,
+        key: *mut u8,
+        key_size: usize,
+        len: *mut usize,
+    ) -> u32;
     fn dnw_key_tag(dnskey: *const u8, dnskey_len: usize, tag: *mut u16) -> u32;
     fn dnw_ds_digest(
         owner: *const u8,
@@ -642,6 +650,16 @@ pub(crate) fn signed_octets(list: &[u8], start: usize) -> Result<Vec<u8>, Error>
         dnw_signed_octets(first, end, start, 0, room, size, len)
     })?;
     Ok(octets)
+}
+
+/// Returns the sort key of the record at an offset of a message, whose data are as many octets.
+pub(crate) fn record_sort_key(message: &[u8], start: usize, data_len: usize) -> Result<Vec<u8>, Error> {
+    let (mut key, first, end) = (Vec::new(), message.as_ptr(), message.len());
+    // The names of no data grow by more than two whole names.
+    let most = SORT_KEY_SIZE + 5 + data_len + 2 * FORM_SIZE;
+    // SAFETY: pointers with their lengths, see the module; and the room is not read.
+    append_put(&mut key, most, |room, size, len| unsafe { dnw_record_sort_key(first, end, start, room, size, len) })?;
+    Ok(key)
 }
 
 /// Returns the key tag of the data of a DNSKEY.

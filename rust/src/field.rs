@@ -113,6 +113,25 @@ impl<'a> Fields<'a> {
 
 /// Reads one field after another, each of the kind that the type has there. See [`RData`](crate::RData).
 impl<'a> Fields<'a> {
+    /// Appends the octets of the data, with each name in its wire form.
+    pub(crate) fn put_whole(mut self, octets: &mut Vec<u8>) -> Result<(), Error> {
+        let mut copied = self.start;
+        loop {
+            let field = door::next_field(self.message, self.start, self.form, &mut self.next)?;
+            match field.kind {
+                0 => break,
+                1 => {
+                    octets.extend_from_slice(&self.message[copied..field.offset]);
+                    NameRef::checked(self.message, field.offset, field.offset + field.len).put(octets);
+                    copied = self.next.offset;
+                }
+                _ => {}
+            }
+        }
+        octets.extend_from_slice(&self.message[copied..]);
+        Ok(())
+    }
+
     /// Reads the next field, and returns where it is.
     #[inline]
     fn place(&mut self) -> Result<door::Field, Error> {

@@ -8,7 +8,9 @@ use crate::name_ref::{pass_name, NameRef};
 use crate::rdata::RData;
 use crate::record_buf::put_record;
 use alloc::vec::Vec;
+use core::cmp::Ordering;
 use core::fmt;
+use core::hash::{Hash, Hasher};
 
 /// The octets of a record between its owner and its data: type, class, TTL and data length.
 const FIXED_SIZE: usize = 10;
@@ -292,12 +294,46 @@ impl<'a> Record<'a> {
         door::signed_octets(&list, start)
     }
 
+    /// Returns the sort key of the record. Keys compare as bytes as records do in canonical order (RFC 4034, section 6):
+    /// by owner, type, class and data.
+    ///
+    /// # Errors
+    ///
+    /// The errors of [`data`](Record::data), or `NoMemory`.
+    ///
+    /// ```
+    /// use dns_names_wire::RecordBuf;
+    ///
+    /// let record: RecordBuf = "b.A. 60 A 192.0.2.1".parse()?;
+    /// assert_eq!(record.as_record().sort_key()?, b"a\0b\0\0\0\x01\0\x01\xC0\0\x02\x01");
+    /// # Ok::<(), dns_names_wire::Error>(())
+    /// ```
+    pub fn sort_key(&self) -> Result<Vec<u8>, Error> {
+        door::record_sort_key(self.message(), self.owner.start(), self.raw_data().len())
+    }
+
+    /// Returns what records compare and hash by: the sort key, or, if the data are not the fields of their type, the
+    /// same with the octets of the data as they are.
+    pub(crate) fn order_key(&self) -> Vec<u8> {
+        match self.sort_key() {
+            Ok(key) => key,
+            Err(error) if error.kind() == ErrorKind::NoMemory => panic!("{error}"),
+            Err(_) => {
+                let mut key = self.owner.sort_key();
+                key.push(0);
+                key.extend_from_slice(&self.record_type.to_be_bytes());
+                key.extend_from_slice(&self.class.to_be_bytes());
+                key.extend_from_slice(self.raw_data());
+                key
+            }
+        }
+    }
+
     /// Appends the octets, without compression, and returns the offset at which the owner ends. If it fails, nothing is
     /// appended.
     pub(crate) fn put(&self, octets: &mut Vec<u8>) -> Result<usize, Error> {
-        let data = self.data()?;
         let fields = (self.record_type(), self.class(), self.ttl);
-        put_record(octets, self.owner, fields, |octets| data.put(octets))
+        put_record(octets, self.owner, fields, |octets| self.fields().put_whole(octets))
     }
 
     /// Returns the offset after the record, where the next one begins.
@@ -310,6 +346,50 @@ impl<'a> Record<'a> {
     /// ```
     pub fn end(&self) -> usize {
         self.end
+    }
+}
+
+/// Two records are equal if their owners, types, classes and data are (RFC 2136, section 1.1.1). The TTL makes no
+/// difference, and neither do compression and the case of the owner and of the names that canonical form lowers (RFC
+/// 4034, section 6.2).
+///
+/// ```
+/// use dns_names_wire::RecordBuf;
+/// use std::collections::BTreeSet;
+///
+/// let lines = ["b.a. 60 MX 1 c.a.", "a. 60 NS b.a.", "B.A. 5 MX 1 C.A.", "b.a. 60 A 192.0.2.1"];
+/// let records = lines.iter().map(|line| line.parse::<RecordBuf>()).collect::<Result<Vec<_>, _>>()?;
+/// assert_eq!(records[0], records[2]);
+/// let set: Vec<String> = records.into_iter().collect::<BTreeSet<_>>().iter().map(|it| it.to_string()).collect();
+/// assert_eq!(set, ["a.\t60\tIN\tNS\tb.a.", "b.a.\t60\tIN\tA\t192.0.2.1", "b.a.\t60\tIN\tMX\t1 c.a."]);
+/// # Ok::<(), dns_names_wire::Error>(())
+/// ```
+impl PartialEq for Record<'_> {
+    fn eq(&self, other: &Self) -> bool {
+        (self.record_type, self.class) == (other.record_type, other.class)
+            && self.owner == other.owner
+            && self.order_key() == other.order_key()
+    }
+}
+
+impl Eq for Record<'_> {}
+
+impl PartialOrd for Record<'_> {
+    fn partial_cmp(&self, other: &Self) -> Option<Ordering> {
+        Some(self.cmp(other))
+    }
+}
+
+/// Canonical order (RFC 4034, section 6): by owner, type, class and data.
+impl Ord for Record<'_> {
+    fn cmp(&self, other: &Self) -> Ordering {
+        self.order_key().cmp(&other.order_key())
+    }
+}
+
+impl Hash for Record<'_> {
+    fn hash<H: Hasher>(&self, state: &mut H) {
+        self.order_key().hash(state);
     }
 }
 

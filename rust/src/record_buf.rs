@@ -7,7 +7,9 @@ use crate::name_ref::NameRef;
 use crate::rdata::RData;
 use crate::record::Record;
 use alloc::vec::Vec;
+use core::cmp::Ordering;
 use core::fmt;
+use core::hash::{Hash, Hasher};
 use core::str::FromStr;
 
 /// The offsets of the fields after the owner.
@@ -29,7 +31,7 @@ const FIXED_SIZE: usize = 10;
 /// assert_eq!(record, RecordBuf::from_text("@ 1m MX 10 b", &owner)?);
 /// # Ok::<(), dns_names_wire::Error>(())
 /// ```
-#[derive(Clone, PartialEq, Eq, Hash)]
+#[derive(Clone)]
 pub struct RecordBuf {
     octets: Vec<u8>,
     /// the offset at which the owner ends
@@ -299,6 +301,34 @@ pub(crate) fn put_record(
 }
 
 /// Prints a line of a master file, as [`Record`] does.
+/// As [`Record`] compares.
+impl PartialEq for RecordBuf {
+    fn eq(&self, other: &Self) -> bool {
+        self.as_record() == other.as_record()
+    }
+}
+
+impl Eq for RecordBuf {}
+
+impl PartialOrd for RecordBuf {
+    fn partial_cmp(&self, other: &Self) -> Option<Ordering> {
+        Some(self.cmp(other))
+    }
+}
+
+/// As [`Record`] is ordered.
+impl Ord for RecordBuf {
+    fn cmp(&self, other: &Self) -> Ordering {
+        self.as_record().cmp(&other.as_record())
+    }
+}
+
+impl Hash for RecordBuf {
+    fn hash<H: Hasher>(&self, state: &mut H) {
+        self.as_record().hash(state);
+    }
+}
+
 impl fmt::Display for RecordBuf {
     fn fmt(&self, f: &mut fmt::Formatter<'_>) -> fmt::Result {
         fmt::Display::fmt(&self.as_record(), f)

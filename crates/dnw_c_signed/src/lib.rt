@@ -1,5 +1,5 @@
-//! The functions of the C library for what signatures cover, and for the order of records. `include/dns_names_wire.h` says what each takes and returns, and
-//! `tools/c-library` joins them with those of `dnw_c_names`.
+//! The functions of the C library for what signatures cover, for the sums of DNSSEC, and for the order of records.
+//! `include/dns_names_wire.h` says what each takes and returns, and `tools/c-library` joins them with those of `dnw_c_names`.
 //!
 //! A slice is passed as a pointer and then a length, and results are put into buffers of the caller. Every input is tested,
 //! whatever the caller promises, and nothing is kept from one call to the next. Read `specs/SigningCalls.antt` first: what a

@@ -11,6 +11,7 @@ pub mod Going
 pub mod Counting
 pub mod Walking
 pub mod AnyRecords
+pub mod Alike
 pub mod Reading
 pub mod ReadBack
 pub mod Records

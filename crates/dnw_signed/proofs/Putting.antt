@@ -1,5 +1,5 @@
 -- Fields are put into canonical form one by one, as a copy of them is made.
-use Rattle.std.proofs.Common.{◌≡◌, ℕ, List, [], ◌∷◌, ◌++◌, length, refl, sym, ap, ◌∙◌, subst, append_assoc, arith}
+use Rattle.std.proofs.Common.{◌≡◌, ℕ, List, [], ◌∷◌, ◌++◌, length, refl, sym, subst, ap, ◌∙◌, append_assoc, arith}
 use Rattle.std.proofs.lemmas.List.{append-nil, length-append, map-append}
 use Rattle.std.proofs.lemmas.List.Concat.{flat_map-append}
 use Rattle.dnw_base.proofs.Wires.{length_wire}
@@ -10,8 +10,8 @@ use Rattle.dnw_data.specs.declared.kind.NameForm.TheVariants.{Compressible, Lowe
 use Rattle.dnw_data.specs.Walks.{IsAtEnd}
 use Rattle.dnw_name_form.proofs.LowerWires.{encoded_size_lower}
 use Rattle.dnw_record.specs.Records.{RecordValue}
-use Rattle.dnw_record.specs.DataCopies.{Copies, TakesPiece, alone, data_start, record_kinds}
-use Rattle.dnw_record.specs.DataPieces.{DataPiece, DataValue, HasPieces, IsDataOfType, data_kinds, kinds_of, name_piece, octets_of, octets_piece, piece_octets}
+use Rattle.dnw_record.specs.DataCopies.{Copies, TakesPiece, TakesPieces, alone, data_start, record_kinds}
+use Rattle.dnw_record.specs.DataPieces.{DataPiece, DataValue, HasPieces, IsDataOfType, data_kinds, name_piece, octets_of, octets_piece, piece_octets}
 use Rattle.dnw_record.proofs.Alike.{copied_kinds}
 use Rattle.dnw_record.proofs.AnyRecords.{whole_pieces}
 use Rattle.dnw_record.proofs.Copying.{begins, goes-on}
@@ -73,12 +73,18 @@ canonical_of x octets (pieces, has) (read, takes, is) =
     let canonical : octets ≡ octets_of (canonical_pieces pieces) = is ∙ ap (λ ps. octets_of (canonical_pieces ps)) same in
     ((pieces, has, canonical), ap length canonical ∙ same_size pieces ∙ ap length (sym has.whole))
 
+-- a copy of the data of a record of a message
+abbrev pub copy_of : RecordValue → List ℕ → DataValue
+copy_of r own = record { class = r.class; record_type = r.record_type; octets = own }
+
 pub canonical_copy : (r : RecordValue) (octets : List ℕ) → IsCanonicalOf r octets
-    → (own : List ℕ) × Copies (record_kinds r) (data_start r) own
-    × IsCanonical (record { class = r.class; record_type = r.record_type; octets = own }) octets
+    → (own : List ℕ) × Copies (record_kinds r) (data_start r) own × IsCanonical (copy_of r own) octets × (length octets ≡ length own)
 canonical_copy r octets (pieces, takes, is) =
     let own = octets_of pieces in
     let copied : Copies (record_kinds r) (data_start r) own = (pieces, takes, refl) in
-    let has : HasPieces (record_kinds r) own pieces = record { are = are_pieces (record_kinds r) (data_start r) pieces takes; whole = refl } in
-    let same : kinds_of r.class r.record_type own ≡ record_kinds r = copied_kinds r.class r.record_type (data_start r) own copied in
-    (own, copied, (pieces, subst (λ kinds. HasPieces kinds own pieces) (sym same) has, is))
+    let has : HasPieces (record_kinds r) own pieces = record { are = are_pieces (record_kinds r) (data_start r) pieces takes; whole = refl } in (
+      own,
+      copied,
+      (pieces, subst (λ kinds. HasPieces kinds own pieces) (sym (copied_kinds r.class r.record_type (data_start r) own copied)) has, is),
+      ap length is ∙ same_size pieces,
+    )

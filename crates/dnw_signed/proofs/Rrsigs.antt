@@ -1,5 +1,5 @@
 -- The data of an RRSIG are 18 octets, the signer's name and the signature.
-use Rattle.std.proofs.Common.{◌≡◌, ℕ, ◌+◌, ◌<◌, ◌≤◌, false, List, [], ◌∷◌, ◌++◌, length, take, drop, Result, Ok, Err, refl, sym, ap, ◌∙◌, subst, append_assoc, arith, rules}
+use Rattle.std.proofs.Common.{◌≡◌, ℕ, ◌+◌, ◌≤◌, false, List, [], ◌∷◌, ◌++◌, length, take, Result, Ok, Err, refl, sym, ap, ◌∙◌, subst, append_assoc, arith, rules}
 use Rattle.std.proofs.Math.Seq.{take-append_seam}
 use Rattle.std.specs.Result.{IsOk, IsOkAnd}
 use Rattle.dnw_base.specs.declared.error.DecodeError.{DecodeError}
@@ -7,26 +7,20 @@ use Rattle.dnw_base.specs.declared.error.DecodeError.TheVariants.{InsufficientBy
 use Rattle.dnw_base.specs.Decoder.{Decoder, HasLeft, Takes, advanced}
 use Rattle.dnw_data.specs.declared.kind.NameForm.TheVariants.{Plain}
 use Rattle.dnw_record.proofs.Alike.{known_anywhere}
-use Rattle.dnw_record.proofs.Pieces.{are_pieces, behind, name_again}
+use Rattle.dnw_record.proofs.Pieces.{behind, name_again}
 use Rattle.dnw_name_read.specs.Reading.{TakesName}
-use Rattle.std.proofs.lemmas.List.{length-append, length-drop}
+use Rattle.std.proofs.lemmas.List.{length-append}
 use Rattle.std.specs.List.{AllByRecursion}
 use Rattle.dnw_base.specs.DnsClasses.{class_code}
-use Rattle.dnw_base.specs.RecordTypes.{type_code}
-use Rattle.dnw_base.specs.declared.record_type.RecordType.TheVariants.{RRSIG}
 use Rattle.dnw_base.specs.Names.{AreLabels, lower, wire}
 use Rattle.dnw_data.specs.declared.kind.Kind.{Kind}
 use Rattle.dnw_data.specs.declared.kind.Kind.TheVariants.{Name, U8, U16, U32, TypeCode, Time}
 use Rattle.dnw_data.specs.Table.{base64, fields_of, is_internet_type, lowered_name}
 use Rattle.dnw_data.specs.Values.{own_size}
-use Rattle.dnw_record.specs.DataCopies.{Copies, data_start, record_kinds}
-use Rattle.dnw_record.specs.RecordFields.{record_fields, up_to_end}
-use Rattle.dnw_record.specs.Records.{RecordValue}
 use Rattle.dnw_record.specs.DataPieces.{ArePiecesOf, DataPiece, DataValue, HasPieces, name_piece, octets_of, octets_piece}
 use Rattle.dnw_record.specs.Inside.Copying.{IsNoName}
 use Rattle.dnw_name_form.proofs.LowerWires.{AreLabels_lower}
 use Rattle.dnw_signed.specs.CanonicalData.{IsCanonical, canonical_labels, canonical_pieces}
-use Rattle.dnw_signed.specs.Covering.{HasRrsigType}
 use Rattle.dnw_signed.specs.SignedFields.{IsRrsig, IsSignedFields, before_signer}
 
 -- a field of this kind takes the same number of octets whatever is left
@@ -138,30 +132,6 @@ pub rrsig_parts : (x : DataValue) (canonical : List ℕ) → IsRrsig x → IsCan
 rrsig_parts x canonical (rrsig, long) (pieces, has, is) =
     let kinds = ap (λ code. fields_of (class_code x.class) code x.octets) rrsig ∙ rrsig_kinds (class_code x.class) x.octets (omega (arith, long)) in
     parts_of x.octets canonical pieces (subst (λ fields. HasPieces fields x.octets pieces) kinds has) is
-
--- data are left if the decoder at their start has octets left
-pub has_rrsig : (s : RecordValue) (d : Decoder) (n : ℕ) → type_code s.record_type ≡ type_code RRSIG → d ≡ (record_fields s).reader
-    → d.index + n ≡ length d.bytes → 0 < n → HasRrsigType s
-has_rrsig s d n kind is size some =
-    let index : d.index ≡ s.start = ap (λ (x : Decoder). x.index) is in
-    let bytes : length d.bytes ≡ length (up_to_end s) = ap (λ (x : Decoder). length x.bytes) is in
-    (kind, omega (arith, index, bytes, size, some, length-drop s.start (up_to_end s)))
-
-pub has_no_rrsig : (s : RecordValue) (d : Decoder) (n : ℕ) → HasRrsigType s → d ≡ (record_fields s).reader → d.index + n ≡ length d.bytes → 0 < n
-has_no_rrsig s d n has is size =
-    let index : d.index ≡ s.start = ap (λ (x : Decoder). x.index) is in
-    let bytes : length d.bytes ≡ length (up_to_end s) = ap (λ (x : Decoder). length x.bytes) is in
-    omega (arith, index, bytes, size, has.1, length-drop s.start (up_to_end s))
-
--- a copy of an RRSIG of a message is one, if its data are not left out
-pub copied_rrsig : (s : RecordValue) (own : List ℕ) → HasRrsigType s → Copies (record_kinds s) (data_start s) own
-    → IsRrsig (record { class = s.class; record_type = s.record_type; octets = own })
-copied_rrsig s own (rrsig, some) (pieces, takes, is) =
-    let left = drop s.start (up_to_end s) in
-    let kinds = ap (λ code. fields_of (class_code s.class) code left) rrsig ∙ rrsig_kinds (class_code s.class) left some in
-    let has : HasPieces (record_kinds s) own pieces = record { are = are_pieces (record_kinds s) (data_start s) pieces takes; whole = is } in
-    let p = parts_of own (octets_of (canonical_pieces pieces)) pieces (subst (λ fields. HasPieces fields own pieces) kinds has) refl in
-    (rrsig, omega (arith, p.size, ap length p.whole, length-append p.fixed (wire p.signer ++ p.signature)))
 
 -- the signer's name is read where it is
 labels_of : DataPiece → List (List ℕ)

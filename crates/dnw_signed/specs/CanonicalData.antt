@@ -36,6 +36,6 @@ ReadsCanonical kinds d octets = (pieces : List DataPiece) × TakesPieces kinds d
 abbrev pub IsCanonicalOf : RecordValue → List ℕ → Type 0
 IsCanonicalOf r octets = ReadsCanonical (record_kinds r) (data_start r) octets
 
--- The data of a record of a message are no fields of its type; or memory ran out.
+-- The data of a record of a message are no fields of its class and type; or memory ran out.
 abbrev pub FailsCanonical : RecordValue → RDataError → Type 0
 FailsCanonical r error = FailsToCopy (record_kinds r) (data_start r) error

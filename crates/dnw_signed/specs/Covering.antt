@@ -8,7 +8,6 @@ use Rattle.dnw_base.specs.Names.{AreLabels, lower, wire}
 use Rattle.dnw_base.specs.RecordTypes.{type_code}
 use Rattle.dnw_base.specs.declared.record_type.RecordType.TheVariants.{RRSIG}
 use Rattle.dnw_name_order.specs.Order.{IsZoneOf}
-use Rattle.dnw_record.specs.RecordFields.{up_to_end}
 use Rattle.dnw_record.specs.Records.{RecordValue}
 use Rattle.dnw_record.specs.DataCopies.{Copies, data_start, record_kinds}
 use Rattle.dnw_record.specs.declared.rdata.RDataError.TheVariants as rdata
@@ -31,9 +30,8 @@ label_count fields = get_or fields 3 0
 abbrev pub original_ttl : List ℕ → ℕ
 original_ttl fields = from_be_bytes w32 (slice_range fields 4 8)
 
--- The record has that type, and its data are not left out (RFC 2136, section 2.4).
 abbrev pub HasRrsigType : RecordValue → Type 0
-HasRrsigType s = (type_code s.record_type ≡ type_code RRSIG) × (1 ≤ length (drop s.start (up_to_end s)))
+HasRrsigType s = type_code s.record_type ≡ type_code RRSIG
 
 -- The record of a message is an RRSIG: the octets of its data, with the signer's name in its wire form, and those that are signed.
 pub record IsRrsigOf (s : RecordValue) (fields : List ℕ) : Type 0 where
@@ -107,10 +105,10 @@ pub record FirstFails (s : RecordValue) (fields : List ℕ) (records : List Reco
 abbrev pub IsTooLong : RecordValue → Type 0
 IsTooLong r = (octets : List ℕ) × IsCanonicalOf r octets × (max_message < length octets)
 
--- Why the record is no RRSIG: it has another type, or its data are left out; they are none of one; or it counts too many labels; or
--- memory ran out.
+-- Why the record is no RRSIG: it has another type, or its data are left out (RFC 2136, section 2.4); its data are none of one; or it
+-- counts too many labels; or memory ran out.
 abbrev pub FailsRrsig : RecordValue → CanonicalError → Type 0
-FailsRrsig s why.NotRrsig = ¬ (HasRrsigType s)
+FailsRrsig s why.NotRrsig = (¬ (HasRrsigType s)) ⊎ ((octets : List ℕ) × IsCanonicalOf s octets × (length octets < before_signer))
 FailsRrsig s (why.RrsigField error) = HasRrsigType s × FailsCanonical s (rdata.Field error)
 FailsRrsig s why.TooFewLabels = (fields : List ℕ) × IsRrsigOf s fields × (length s.owner < label_count fields)
 FailsRrsig s why.Memory = HasRrsigType s

@@ -62,20 +62,16 @@ pub fn signed_fields(alloc: Global, rrsig: &RData) -> Result<Vec<u8>, CanonicalE
     ensures ok { IfOk result (λ octets. IsSignedFields rrsig.now octets.items) }
     ensures err { IfErr result (FailsSignedFields rrsig.now) }
 {
-    if !is_rrsig(rrsig) {
+    if u16::from(rrsig.record_type()) != u16::from(RecordType::RRSIG) {
+        return Err(CanonicalError::NotRrsig);
+    }
+    // Under NONE and ANY data may be left out.
+    if rrsig.octets().len() < BEFORE_SIGNER {
         return Err(CanonicalError::NotRrsig);
     }
     let mut fields = canonical_octets(alloc, rrsig)?;
     cut_signature(&mut fields);
     Ok(fields)
-}
-
-/// Returns `true` if the data are those of an RRSIG, and are not left out.
-fn is_rrsig(data: &RData) -> bool
-    ensures { IsTrue result ↔ IsRrsig «data».now }
-{
-    u16::from(data.record_type()) == u16::from(RecordType::RRSIG)
-        && data.octets().len() >= BEFORE_SIGNER
 }
 
 /// Cuts the signature off the data of an RRSIG in canonical form.

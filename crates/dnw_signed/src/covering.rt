@@ -80,7 +80,7 @@ fn rrsig_of(alloc: Global, rrsig: &RecordRef<'_>) -> Result<Rrsig, CanonicalErro
     ensures ok { IfOk result (IsRrsigAs rrsig.now) }
     ensures err { IfErr result (FailsRrsig rrsig.now) }
 {
-    if !is_rrsig(rrsig) {
+    if u16::from(rrsig.record_type()) != u16::from(RecordType::RRSIG) {
         return Err(CanonicalError::NotRrsig);
     }
     let fields = fields_of(alloc, rrsig)?;
@@ -96,14 +96,6 @@ fn rrsig_of(alloc: Global, rrsig: &RecordRef<'_>) -> Result<Rrsig, CanonicalErro
     })
 }
 
-/// Returns `true` if a record is an RRSIG whose data are not left out.
-#[tactic(auto, using(crate::proofs::Rrsigs::has_rrsig, crate::proofs::Rrsigs::has_no_rrsig))]
-fn is_rrsig(item: &RecordRef<'_>) -> bool
-    ensures { IsTrue result ↔ HasRrsigType item.now }
-{
-    u16::from(item.record_type()) == u16::from(RecordType::RRSIG) && item.data_decoder().len() > 0
-}
-
 /// Returns the octets of the data of an RRSIG that its signature covers.
 fn fields_of(alloc: Global, rrsig: &RecordRef<'_>) -> Result<Vec<u8>, CanonicalError>
     requires { HasRrsigType rrsig.now }
@@ -115,6 +107,10 @@ fn fields_of(alloc: Global, rrsig: &RecordRef<'_>) -> Result<Vec<u8>, CanonicalE
         Ok(()) => {}
         Err(RDataError::Field(error)) => return Err(CanonicalError::RrsigField(error)),
         Err(RDataError::Memory) => return Err(CanonicalError::Memory),
+    }
+    // Under NONE and ANY data may be left out.
+    if fields.as_slice().len() < BEFORE_SIGNER {
+        return Err(CanonicalError::NotRrsig);
     }
     cut_signature(&mut fields);
     Ok(fields)

@@ -269,8 +269,8 @@ fn a_wrong_text_has_its_field_and_offset(rt: HostRuntime) {
 fn a_line_is_parsed_as_a_record(rt: HostRuntime) -> Result<(), Fail> {
     let alloc = rt.alloc();
     let origin = Name::from_ascii(alloc, "example.")?;
-    let wanted = b"\x01a\x07example\x00\x00\x01\x00\x03\x00\x00\x0e\x10\x00\x04\xc0\x00\x02\x01";
-    for line in &["a 3600 CH A 192.0.2.1", "a.example. CH 1h A 192.0.2.1"] {
+    let wanted = b"\x01a\x07example\x00\x00\x01\x00\xfe\x00\x00\x0e\x10\x00\x04\xc0\x00\x02\x01";
+    for line in &["a 3600 NONE A 192.0.2.1", "a.example. NONE 1h A 192.0.2.1"] {
         let octets = parse_record(alloc, line, Some(&origin))?;
         assert_eq!(rt; octets.as_slice(), wanted.as_slice());
     }

@@ -227,7 +227,7 @@ fn wire_record(
     Ok(WireRecord {
         owner: Name::from_ascii(alloc, "a.")?,
         record_type,
-        class: DNSClass::CH,
+        class: DNSClass::NONE,
         ttl: 300,
         rdata,
     })
@@ -242,7 +242,7 @@ fn bytes_and_names_become_records_and_come_back(rt: HostRuntime) -> Result<(), F
         return Err(Fail::from("an address"));
     };
     assert!(rt; record.name == Name::from_ascii(alloc, "a.")?);
-    assert!(rt; record.dns_class() == DNSClass::CH);
+    assert!(rt; record.dns_class() == DNSClass::NONE);
     assert_eq!(rt; record.ttl, 300);
     let WireRecord { rdata, .. } = record.to_wire_record(alloc)?.ok_or("a record of bytes")?;
     let WireData::Bytes(bytes) = rdata else {

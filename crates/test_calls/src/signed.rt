@@ -1,7 +1,8 @@
 //! What signatures cover of the records of a message. The octets are worked out by hand from RFC 4034, sections 3.1.8.1 and 6.
 
-use dns_names_wire::canonical::{CanonicalError, canonical_octets, signed_octets};
+use dns_names_wire::canonical::{CanonicalError, canonical_octets, record_key, signed_octets};
 use dns_names_wire::decoder::BinDecoder;
+use dns_names_wire::dns_class::DNSClass;
 use dns_names_wire::rdata::RData;
 use dns_names_wire::record::RecordRef;
 use dns_names_wire::record_type::RecordType;
@@ -60,11 +61,31 @@ fn data_have_a_canonical_form(rt: HostRuntime) -> Result<(), Fail> {
         (15, b"\x00\x0a\x01B\x00", b"\x00\x0a\x01b\x00"),
         (107, b"\x00\x0a\x01B\x00", b"\x00\x0a\x01B\x00"),
     ] {
-        let Ok(data) = RData::new(alloc, RecordType::from(code), given) else {
+        let Ok(data) = RData::new(alloc, DNSClass::IN, RecordType::from(code), given) else {
             return Err(Fail::from("data"));
         };
         let octets = canonical_octets(alloc, &data)?;
         assert!(rt; octets.as_slice() == wanted.as_slice());
     }
+    Ok(())
+}
+
+#[test]
+fn records_have_sort_keys(rt: HostRuntime) -> Result<(), Fail> {
+    let alloc = rt.alloc();
+    let found = records(alloc)?;
+    let mut keys = Vec::new(alloc);
+    for item in found.as_slice() {
+        let Ok(key) = record_key(alloc, item) else {
+            return Err(Fail::from("a key"));
+        };
+        keys.push(key)?;
+    }
+    // The MX records with another time to live, and without a name of their own, have the same key.
+    let mail = b"a\x00b\x00\x00\x00\x0f\x00\x01\x00\x0a\x01b\x01a\x00";
+    assert!(rt; keys[1].as_slice() == mail.as_slice() && keys[4].as_slice() == mail.as_slice());
+    let address = b"a\x00b\x00\x00\x00\x01\x00\x01\xc0\x00\x02\x01";
+    assert!(rt; keys[3].as_slice() == address.as_slice());
+    assert!(rt; keys[3] < keys[1] && keys[1] < keys[2] && keys[2] < keys[0]);
     Ok(())
 }
