@@ -172,6 +172,17 @@ pub mod message {
     pub use dnw_message_write::writer::{AddError, CopyError, Entry, MessageWriter, copy, write};
 }
 
+/// Messages written item by item into a buffer of the caller: without an allocation, and with names that are compressed by hints,
+/// each of which is checked by reading.
+pub mod message_writer {
+    pub use dnw_message_writer::hints::SLOTS;
+    pub use dnw_message_writer::laws;
+    pub use dnw_message_writer::pieces::Piece;
+    pub use dnw_message_writer::section::{Section, WriteError};
+    pub use dnw_message_writer::set::Data;
+    pub use dnw_message_writer::state::WriterState;
+}
+
 /// Domain names, owned and within a message, and what follows from the definitions of reading them.
 pub mod name {
     pub use dnw_name::name::Name;

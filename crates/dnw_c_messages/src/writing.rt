@@ -288,10 +288,10 @@ fn read_checked<'l>(
     let Ok(item) = RecordRef::read(alloc, decoder) else {
         return Err(Failure::BadItem);
     };
-    match CheckedRecord::new(item) {
-        Ok(record) => Ok(record),
-        Err(_) => Err(Failure::BadData),
-    }
+    let Ok(record) = CheckedRecord::new(item) else {
+        return Err(Failure::BadData);
+    };
+    Ok(record)
 }
 
 /// Reads a record whose data are a name, which is to be written in a way.

@@ -28,6 +28,7 @@ mod guards;
 #[cfg(test)]
 mod items;
 #[cfg(test)]
+mod message_writer;
 mod messages;
 #[cfg(test)]
 mod name_tables;

@@ -1,0 +1,11 @@
+pub mod Counting
+pub mod Fitting
+pub mod Going
+pub mod Hashes
+pub mod Laying
+pub mod Puts
+pub mod Places
+pub mod Spelling
+pub mod Stands
+pub mod Turning
+pub mod Wholes

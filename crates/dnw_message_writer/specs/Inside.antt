@@ -1,0 +1,4 @@
+-- What no public clause cites.
+pub mod Fitting
+pub mod Going
+pub mod Turns

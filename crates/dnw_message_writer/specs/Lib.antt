@@ -1,0 +1,10 @@
+pub mod CompressedNames
+pub mod Hints
+pub mod Inside
+pub mod Items
+pub mod NameLaws
+pub mod Pieces
+pub mod Sections
+pub mod Sets
+pub mod Standing
+pub mod States

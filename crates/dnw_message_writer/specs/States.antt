@@ -1,0 +1,93 @@
+-- A message while it is written: how an item is added to it, whole or not at all (RFC 1035, section 4.1).
+use Rattle.std.specs.Prelude.{◌≡◌, ℕ, ◌+◌, ◌-◌, ◌<◌, ◌≤◌, ◌⊎◌, min, List, [], ◌∷◌, ◌++◌, length, take, replicate, slice_index}
+use Rattle.std.specs.Int.{w16, from_be_bytes, to_be_bytes}
+use Rattle.dnw_base.specs.Limits.{max_message}
+use Rattle.dnw_message_writer.specs.CompressedNames.{put_at}
+use Rattle.dnw_message_writer.specs.Items.{place_at}
+use Rattle.dnw_message_writer.specs.Sections.{offset_of_count, rank}
+use Rattle.dnw_message_writer.specs.Standing.{first_item}
+use Rattle.dnw_message_writer.specs.declared.section.Section.{Section}
+use Rattle.dnw_message_writer.specs.declared.section.Section.TheVariants.{Additionals}
+use Rattle.dnw_message_writer.specs.declared.section.WriteError.{WriteError}
+use Rattle.dnw_message_writer.specs.declared.section.WriteError.TheVariants.{NoMessage, NoRoom, OutOfOrder}
+use Rattle.dnw_message_writer.specs.declared.state.WriterState.{WriterState}
+
+-- the header of a message without items
+abbrev pub empty_header : ℕ → ℕ → List ℕ
+empty_header id flags = to_be_bytes w16 id ++ (to_be_bytes w16 flags ++ replicate 8 0)
+
+-- A message begins: its header is put at the start, and nothing is known of names.
+abbrev pub BeginsMessage : ℕ → ℕ → ℕ → List ℕ → WriterState → List ℕ → Type 0
+BeginsMessage id flags max_size old w new =
+    (new ≡ put_at old 0 (empty_header id flags))
+    × (w ≡ record { end = first_item; max_size = max_size; reserved = 0; owner = 0; rank = 0; hints = replicate 512 0 })
+
+-- how many items the header says that a section has
+abbrev pub count_in_header : Section → List ℕ → ℕ
+count_in_header s m = from_be_bytes w16 (slice_index m (offset_of_count s) ∷ slice_index m (offset_of_count s + 1) ∷ [])
+
+-- the message with one more item of a section
+abbrev pub with_one_more : Section → List ℕ → List ℕ
+with_one_more s m = put_at m (offset_of_count s) (to_be_bytes w16 (count_in_header s m + 1))
+
+-- the offset up to which items may go
+abbrev pub room_of : WriterState → List ℕ → ℕ
+room_of w m = min (min max_message (length m)) w.max_size - w.reserved
+
+-- The state is that of a message, whose section has one more item to count.
+pub record IsOfMessage (s : Section) (w : WriterState) (m : List ℕ) : Type 0 where
+  pub whole : first_item ≤ w.end
+  pub there : first_item ≤ length m
+  pub few : count_in_header s m < 65535
+
+-- An item of a section may follow, up to this limit.
+pub record IsLimit (s : Section) (w : WriterState) (m : List ℕ) (limit : ℕ) : Type 0 where
+  pub message : IsOfMessage s w m
+  pub ordered : w.rank ≤ rank s
+  pub limit_is : limit ≡ room_of w m
+  pub room : w.end ≤ limit
+
+-- No item of a section may follow: the first of these that holds says why.
+abbrev pub FailsToTakeLimit : Section → WriterState → List ℕ → WriteError → Type 0
+FailsToTakeLimit s w m e =
+    ((IsOfMessage s w m → ⊥) × (e ≡ NoMessage))
+    ⊎ (IsOfMessage s w m × (rank s < w.rank) × (e ≡ OutOfOrder))
+    ⊎ (IsOfMessage s w m × (w.rank ≤ rank s) × (room_of w m < w.end) × (e ≡ NoRoom))
+
+-- the state after an item of a section that ends here
+abbrev pub added : Section → List ℕ → ℕ → WriterState → WriterState
+added s m end w = record {
+  end = end;
+  max_size = w.max_size;
+  reserved = w.reserved;
+  owner = place_at m w.end;
+  rank = rank s;
+  hints = w.hints;
+}
+
+-- how an item is written after a message, with the place of the last owner and hints: as these octets, and the hints become others
+abbrev pub ItemForm : Type 1
+ItemForm = List ℕ → ℕ → List ℕ → List ℕ → List ℕ → Type 0
+
+-- An item of this form is added: it is written at the end, and counted.
+abbrev pub AddsItem : Section → ItemForm → WriterState → List ℕ → WriterState → List ℕ → Type 0
+AddsItem s form w old after new =
+    (octets : List ℕ) × (hints : List ℕ) × form (take w.end old) w.owner w.hints octets hints
+    × IsLimit s w old (room_of w old) × (w.end + length octets ≤ room_of w old)
+    × (new ≡ with_one_more s (put_at old w.end octets))
+    × (after ≡ added s (put_at old w.end octets) (w.end + length octets) (record w { hints = hints }))
+
+-- It is not: no item may follow, or this one goes past the limit.
+abbrev pub FailsToAdd : Section → (ℕ → List ℕ → ℕ → List ℕ → Type 0) → WriterState → List ℕ → WriteError → Type 0
+FailsToAdd s goes_past w m e =
+    FailsToTakeLimit s w m e
+    ⊎ (IsLimit s w m (room_of w m) × goes_past (room_of w m) (take w.end m) w.owner w.hints × (e ≡ NoRoom))
+
+-- the state that holds back so many octets fewer
+abbrev pub released : ℕ → WriterState → WriterState
+released held w = record w { reserved = w.reserved - held }
+
+-- An item is added to the additional section, and no other may follow.
+abbrev pub AddsLastItem : ItemForm → WriterState → List ℕ → WriterState → List ℕ → Type 0
+AddsLastItem form w old after new =
+    (v : WriterState) × AddsItem Additionals form w old v new × (after ≡ record v { rank = 4 })

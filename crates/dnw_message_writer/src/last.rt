@@ -1,0 +1,71 @@
+//! Octets that are held back, and a last record (RFC 8945, section 5.1).
+ghost use Rattle.std.specs.Prelude.{◌≡◌, ◌+◌, ◌-◌, ◌≤◌, min, take, OnOk, IfErr, OnErr};
+ghost use Rattle.dnw_message_writer.specs.Hints.{slot_of};
+ghost use Rattle.dnw_message_writer.specs.Items.{IsRecord, RecordGoesPast, fields_of_record};
+ghost use Rattle.dnw_message_writer.specs.States.{AddsLastItem, FailsToAdd, released};
+ghost use Rattle.dnw_message_writer.specs.declared.section.Section.TheVariants as Sections;
+
+use crate::pieces::Piece;
+use crate::section::{Section, WriteError};
+use crate::state::WriterState;
+use dnw_name_form::wire_labels::WireLabels;
+
+/// A rank after that of every section: no item may follow.
+const AFTER_ALL: u8 = 4;
+
+impl WriterState {
+    /// Holds back so many more octets of the maximum, for items that come last: an `OPT` record, a signature.
+    #[inline(always)]
+    pub fn hold_back(&mut self, octets: usize)
+        ensures { self.new ≡ record self.old { reserved = min (self.old.reserved + octets) 18446744073709551615 } }
+    {
+        self.reserved = self.reserved.saturating_add(octets);
+    }
+
+    /// Gives back so many of the octets that are held back, or all if there are fewer.
+    #[inline(always)]
+    pub fn give_back(&mut self, octets: usize)
+        ensures { self.new ≡ released octets self.old }
+    {
+        self.reserved = self.reserved.saturating_sub(octets);
+    }
+
+    /// Adds the last record of a message, to the additional section, or nothing of it. It has so many of the octets that are held
+    /// back, and no item may follow it.
+    pub fn last_record(
+        &mut self,
+        message: &mut [u8],
+        held: usize,
+        owner: WireLabels<'_>,
+        record_type: u16,
+        class: u16,
+        ttl: u32,
+        pieces: &[Piece<'_>],
+    ) -> Result<(), WriteError>
+        ensures ok { OnOk result (AddsLastItem (λ b near hints octets after. IsRecord slot_of b near hints owner.entry (fields_of_record record_type class ttl) pieces.now octets after) (released held self.old) message.old self.new message.new) }
+        ensures err { IfErr result (FailsToAdd Sections.Additionals (λ limit b near hints. RecordGoesPast slot_of limit b near hints owner.entry (fields_of_record record_type class ttl) pieces.now) (released held self.old) message.old) }
+        ensures same { OnErr result ((self.new ≡ self.old) × (take self.old.end message.new ≡ take self.old.end message.old)) }
+    {
+        let reserved = self.reserved;
+        self.give_back(held);
+        let added = self.record(
+            message,
+            Section::Additionals,
+            owner,
+            record_type,
+            class,
+            ttl,
+            pieces,
+        );
+        match added {
+            Ok(()) => {
+                self.rank = AFTER_ALL;
+                Ok(())
+            }
+            Err(error) => {
+                self.reserved = reserved;
+                Err(error)
+            }
+        }
+    }
+}

@@ -1,0 +1,16 @@
+//! Messages, written item by item into a buffer of the caller (RFC 1035, section 4). Nothing is allocated.
+//!
+//! It stands on the wire form and on reading. Read `specs/CompressedNames.antt` first: how a name is written.
+#![tactic(auto)]
+
+pub mod hints;
+mod items;
+mod last;
+pub mod laws;
+pub mod names;
+pub mod pieces;
+pub mod section;
+pub mod set;
+pub mod standing;
+pub mod state;
+mod whole;

@@ -1,0 +1,154 @@
+//! Names, written with pointers to where their suffixes stand (RFC 1035, section 4.1.4).
+ghost use Rattle.std.specs.Prelude.{◌≡◌, ◌↔◌, ◌<◌, ◌≤◌, ◌+◌, ◌/◌, ◌%◌, ◌++◌, ◌∷◌, [], ℕ, List, length, take, IsTrue, IfSome, IfNone};
+ghost use Rattle.dnw_base.specs.Names.{encoded_size};
+ghost use Rattle.dnw_message_writer.specs.CompressedNames.{Compresses, MayPointTo, PutsForm, PutsPast, kept_hints, put_at, pointer_octets, spelled};
+ghost use Rattle.dnw_message_writer.specs.Hints.{slot_of};
+
+use crate::hints::{SLOTS, hash_after, hash_of, slot_of};
+use crate::standing::{FIRST_ITEM, stands_at};
+use dnw_base::limits::POINTER_BITS;
+use dnw_name_form::wire_labels::WireLabels;
+
+/// A pointer holds one of as many offsets (RFC 1035, section 4.1.4).
+const POINTER_OFFSETS: usize = 16384;
+
+/// How a name is written.
+#[derive(Clone, Copy)]
+pub(crate) struct Spelling {
+    /// How many octets of its wire form are written, from its start.
+    pub(crate) front: usize,
+    /// The offset that a pointer after them points to. If there is none, the closing zero is written.
+    pub(crate) pointer: Option<u16>,
+}
+
+/// Writes a name at `at`, where the message ends so far, up to `limit` at most, and returns where it ends now. The longest suffix
+/// that the hints find is written as a pointer. If there is no room, it returns `None`, and the message is unchanged.
+pub(crate) fn put_name(
+    message: &mut [u8],
+    at: usize,
+    gap: usize,
+    limit: usize,
+    hints: &mut [u16; SLOTS],
+    labels: WireLabels<'_>,
+) -> Option<usize>
+    requires gap { gap ≤ at }
+    requires at { at ≤ limit }
+    requires limit { limit ≤ length message.old }
+    ensures some { IfSome result (λ end. PutsForm (λ octets. Compresses slot_of (take at message.old) gap at hints.old labels.entry octets hints.new) message.old at message.new end × (end ≤ limit)) }
+    ensures none { IfNone result (PutsPast (λ octets. Compresses slot_of (take at message.old) gap at hints.old labels.entry octets hints.new) at limit × (message.new ≡ message.old)) }
+{
+    let name = labels.as_wire();
+    let spelling = spell(&message[..at], gap, hints, labels);
+    let front = &name[..spelling.front];
+    match spelling.pointer {
+        None => put_parts(message, at, limit, front, &[0]),
+        Some(target) => put_parts(message, at, limit, front, &pointer_octets(target)),
+    }
+}
+
+/// Finds how a name is written after a message, and puts the offsets of its labels among the hints.
+#[inline(always)]
+fn spell(message: &[u8], gap: usize, hints: &mut [u16; SLOTS], labels: WireLabels<'_>) -> Spelling
+    requires { gap ≤ length message.now }
+    ensures spells { Compresses slot_of message.now gap (length message.now) hints.old labels.entry (spelled labels.entry result) hints.new }
+    ensures front { result.front ≤ encoded_size labels.entry }
+    ensures reached { IfSome result.pointer (λ target. target < 16384) }
+{
+    let name = labels.as_wire();
+    let at = message.len();
+    let mut rest = labels;
+    let mut hash = hash_of(name);
+    let mut front = 0;
+    'suffixes: loop {
+        let suffix = rest.clone();
+        let form = suffix.as_wire();
+        let Some(label) = rest.next() else {
+            return Spelling {
+                front,
+                pointer: None,
+            };
+        };
+        let slot = slot_of(hash);
+        let hint = hints[slot];
+        if is_usable(message, gap, hint, suffix) {
+            return Spelling {
+                front,
+                pointer: Some(hint),
+            };
+        }
+        keep(hints, slot, at, at + front);
+        let size = label.len() + 1;
+        hash = hash_after(hash, form, size);
+        front += size;
+    }
+}
+
+/// Returns `true` if a pointer to this offset may stand for the labels.
+#[inline(always)]
+pub(crate) fn is_usable(message: &[u8], gap: usize, hint: u16, labels: WireLabels<'_>) -> bool
+    requires { gap ≤ length message.now }
+    ensures { IsTrue result ↔ MayPointTo message.now gap hint labels.entry }
+{
+    let start = hint as usize;
+    if start < FIRST_ITEM {
+        // Mostly the slot is empty.
+        return false;
+    }
+    start < POINTER_OFFSETS && stands_at(message, gap, start, labels)
+}
+
+/// Puts the offset of a suffix into its slot, unless a longer suffix of the same name, which begins at `at`, has it.
+#[inline(always)]
+fn keep(hints: &mut [u16; SLOTS], slot: usize, at: usize, offset: usize)
+    requires { slot < length hints.old }
+    ensures { hints.new ≡ kept_hints hints.old slot at offset }
+{
+    if offset < POINTER_OFFSETS && (hints[slot] as usize) < at {
+        hints[slot] = offset as u16;
+    }
+}
+
+/// Returns the octets of a pointer.
+#[inline(always)]
+pub(crate) fn pointer_octets(offset: u16) -> [u8; 2]
+    requires { offset < 16384 }
+    ensures { result ≡ pointer_octets offset }
+{
+    [POINTER_BITS + (offset / 256) as u8, (offset % 256) as u8]
+}
+
+/// Puts two runs of octets at an offset, one after the other, or nothing if they do not end up to `limit`.
+#[inline(always)]
+#[tactic(auto, using(crate::proofs::Puts::put_at_put_at, crate::proofs::Puts::length_put_at))]
+fn put_parts(
+    message: &mut [u8],
+    at: usize,
+    limit: usize,
+    front: &[u8],
+    last: &[u8],
+) -> Option<usize>
+    requires at { at ≤ limit }
+    requires limit { limit ≤ length message.old }
+    ensures some { IfSome result (λ end. (message.new ≡ put_at message.old at (front.now ++ last.now)) × (end ≡ at + length (front.now ++ last.now)) × (end ≤ limit)) }
+    ensures none { IfNone result ((message.new ≡ message.old) × (limit < at + length (front.now ++ last.now))) }
+{
+    let room = limit - at;
+    if front.len() > room || last.len() > room - front.len() {
+        return None;
+    }
+    let middle = at + front.len();
+    let end = middle + last.len();
+    put_at(message, at, front);
+    put_at(message, middle, last);
+    Some(end)
+}
+
+/// Puts octets at an offset.
+#[inline(always)]
+#[tactic(auto, using(crate::proofs::Puts::is_mid))]
+pub(crate) fn put_at(message: &mut [u8], at: usize, octets: &[u8])
+    requires { at + length octets.now ≤ length message.old }
+    ensures { message.new ≡ put_at message.old at octets.now }
+{
+    message[at..at + octets.len()].copy_from_slice(octets);
+}

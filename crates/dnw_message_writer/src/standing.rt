@@ -1,0 +1,128 @@
+//! Labels that stand in a message while it is written, so that a pointer may stand for them.
+ghost use Rattle.std.specs.Prelude.{◌≡◌, ◌↔◌, ◌<◌, ◌≤◌, ◌+◌, ◌∷◌, length, IsTrue};
+ghost use Rattle.dnw_message_writer.specs.Standing.{FollowsPointer, AreSettled, IsThere, LeadsBack, StandsSettled};
+
+use dnw_base::limits::POINTER_BITS;
+use dnw_name_form::wire_labels::WireLabels;
+use dnw_name_read::walk::pointer_target;
+
+/// The offset of the first item of a message, after the header (RFC 1035, section 4.1.1).
+pub const FIRST_ITEM: usize = 12;
+
+/// How far a reading has come.
+#[derive(Clone, Copy)]
+pub struct Spot {
+    /// The offset of the next element of the name.
+    pub position: usize,
+    /// The start of the segment that it is in: the last target of a pointer.
+    pub segment: usize,
+    /// The offset before which each element of the segment begins.
+    pub limit: usize,
+}
+
+/// Returns `true` if these labels are read at `start`, in octets of the message that are settled: not in the header, and not
+/// in the two octets at `gap`, which will say how long the data are that are being written.
+///
+/// At most one pointer is followed before each label, so this takes few steps, whatever the octets are.
+#[inline(never)]
+pub fn stands_at(message: &[u8], gap: usize, start: usize, labels: WireLabels<'_>) -> bool
+    requires { gap ≤ length message.now }
+    ensures { IsTrue result ↔ StandsSettled message.now gap start labels.entry }
+{
+    let mut rest = labels;
+    let mut spot = Spot {
+        position: start,
+        segment: start,
+        limit: message.len(),
+    };
+    'labels: loop {
+        let here = followed(message, gap, spot);
+        let suffix = rest.as_wire();
+        if is_whole(message, gap, here, suffix) {
+            return true;
+        }
+        let Some(label) = rest.next() else {
+            return is_there(message, gap, here, suffix);
+        };
+        let size = label.len() + 1;
+        if !is_there(message, gap, here, &suffix[..size]) {
+            return false;
+        }
+        spot = Spot {
+            position: here.position + size,
+            segment: here.segment,
+            limit: here.limit,
+        };
+    }
+}
+
+/// Returns `true` if the next octets of the segment are these, and are settled: a wire form that stands in one piece.
+#[inline(always)]
+fn is_whole(message: &[u8], gap: usize, spot: Spot, octets: &[u8]) -> bool
+    requires gap { gap ≤ length message.now }
+    requires limit { spot.limit ≤ length message.now }
+    ensures { IsTrue result → IsThere message.now gap spot octets.now × (spot.position + length octets.now ≤ spot.limit) }
+{
+    if !is_there(message, gap, spot, octets) {
+        return false;
+    }
+    octets.len() <= spot.limit - spot.position
+}
+
+/// Follows the pointer that is next, if there is one that leads back.
+#[inline(always)]
+fn followed(message: &[u8], gap: usize, spot: Spot) -> Spot
+    requires gap { gap ≤ length message.now }
+    requires limit { spot.limit ≤ length message.now }
+    ensures { FollowsPointer message.now gap spot result }
+{
+    if !leads_back(message, gap, spot) {
+        return spot;
+    }
+    let target = pointer_target(message[spot.position], message[spot.position + 1]);
+    Spot {
+        position: target,
+        segment: target,
+        limit: spot.segment,
+    }
+}
+
+/// Returns `true` if a pointer is next, and points before its segment.
+#[inline(always)]
+fn leads_back(message: &[u8], gap: usize, spot: Spot) -> bool
+    requires gap { gap ≤ length message.now }
+    requires limit { spot.limit ≤ length message.now }
+    ensures { IsTrue result ↔ LeadsBack message.now gap spot }
+{
+    if spot.position >= spot.limit || !is_settled(message, gap, spot.position, 2) {
+        return false;
+    }
+    let high = message[spot.position];
+    high >= POINTER_BITS && pointer_target(high, message[spot.position + 1]) < spot.segment
+}
+
+/// Returns `true` if the next octets are these, and are settled.
+#[inline(always)]
+fn is_there(message: &[u8], gap: usize, spot: Spot, octets: &[u8]) -> bool
+    requires gap { gap ≤ length message.now }
+    requires limit { spot.limit ≤ length message.now }
+    ensures { IsTrue result ↔ IsThere message.now gap spot octets.now }
+{
+    if spot.position >= spot.limit || !is_settled(message, gap, spot.position, octets.len()) {
+        return false;
+    }
+    &message[spot.position..spot.position + octets.len()] == octets
+}
+
+/// Returns `true` if the message has so many octets from an offset on, and they are settled.
+#[inline(always)]
+fn is_settled(message: &[u8], gap: usize, position: usize, count: usize) -> bool
+    requires gap { gap ≤ length message.now }
+    requires position { position ≤ length message.now }
+    ensures { IsTrue result ↔ AreSettled message.now gap position count }
+{
+    if count > message.len() - position || position < FIRST_ITEM {
+        return false;
+    }
+    position + count <= gap || position >= gap + 2
+}
