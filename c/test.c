@@ -800,7 +800,7 @@ static void lacks_memory(void)
     EXPECT(dnw_reverse_name(BYTES("\300\000\002\001"), buffer, 255, &len) == DNW_DONE);
     EXPECT(dnw_reverse_parse(BYTES("\007in-addr\004arpa\000"), buffer, 4, &net) == DNW_DONE && net.prefix_len == 0);
     EXPECT(refuses_items(BYTES("\001\000")) == DNW_NO_MEMORY);
-    EXPECT(refuses_items(BYTES("\002\000" FIELDS "\001a")) == DNW_NO_MEMORY);
+    EXPECT(refuses_items(BYTES("\002\000" FIELDS "\001\000")) == DNW_NO_MEMORY);
     no_memory = false;
 }
 

@@ -120,7 +120,7 @@ static void parses_records(void)
 {
     EXPECT(gives(BELOW("@ 172800 NS ns", COM), OCTETS(NS_OF_COM)));
     EXPECT(gives(BELOW("@\tin 2d ns \t ns.example.com.\r\n", COM), OCTETS(NS_OF_COM)));
-    EXPECT(gives(BELOW("a 1h1s HS a 192.0.2.1", COM), OCTETS(A_OF("\001a" COM, "\004", "\000\000\016\021"))));
+    EXPECT(gives(BELOW("a 1h1s HS a \\# 4 c0000201", COM), OCTETS(A_OF("\001a" COM, "\004", "\000\000\016\021"))));
     EXPECT(gives(BELOW("a 0 CLASS5 TYPE1 \\# 4 C0 000201", "\000"), OCTETS(A_OF("\001a\000", "\005", "\000\000\000\000"))));
     EXPECT(gives(LINE("\\0650. 4294967295 TYPE65280 \\# 0"), OCTETS("\002A0\000\377\000\000\001\377\377\377\377\000\000")));
     EXPECT(gives(LINE(". 0 IN uri 10 1 \"x\""), OCTETS("\000\001\000\000\001\000\000\000\000\000\005\000\012\000\001\170")));

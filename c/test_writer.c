@@ -44,7 +44,7 @@ static uint32_t record(size_t size, uint32_t section, const uint8_t *owner, size
                        size_t len)
 {
     keep();
-    return done(dnw_writer_record(message, size, section, owner, owner_len, DNW_TYPE_A, DNW_CLASS_CH, 0x01020304, octets, len,
+    return done(dnw_writer_record(message, size, section, owner, owner_len, DNW_TYPE_A, DNW_CLASS_NONE, 0x01020304, octets, len,
                                   &writer));
 }
 
@@ -112,7 +112,7 @@ static void appends(void)
     EXPECT(writer.section == DNW_SECTION_QUESTIONS);
     EXPECT(record(63, DNW_SECTION_ANSWERS, BYTES(WWW), BYTES("\300\000\002\001")) == DNW_NO_ROOM);
     EXPECT(record(64, DNW_SECTION_ANSWERS, BYTES(WWW), BYTES("\300\000\002\001")) == DNW_DONE);
-#define RECORD(owner) owner "\000\001\000\003\001\002\003\004"
+#define RECORD(owner) owner "\000\001\000\376\001\002\003\004"
 #define ANSWER RECORD(WWW) "\000\004\300\000\002\001"
     expect_message(BYTES(HEADER("\000\001\000\001\000\000\000\000") QUESTION ANSWER));
     EXPECT(writer.section == DNW_SECTION_ANSWERS);
@@ -339,7 +339,7 @@ static void is_packed(void)
         EXPECT(record(ROOM, DNW_SECTION_ANSWERS, BYTES(WWW), BYTES("\300\000\002\001")) == DNW_DONE);
     EXPECT(edns(ROOM, 1232, false, BYTES("")) == DNW_DONE);
     EXPECT(dnw_message_pack(message, writer.len, 512, out, sizeof out, &packed) == DNW_DONE);
-#define PACKED "\300\014\000\001\000\003\001\002\003\004\000\004\300\000\002\001"
+#define PACKED "\300\014\000\001\000\376\001\002\003\004\000\004\300\000\002\001"
 #define PLAIN_OPT "\000\000\051\004\320\241\262\000\000\000\000"
     EXPECT(!packed.truncated && packed.len == 33 + 2 * 16 + 11);
     EXPECT(memcmp(out, "\022\064\200\000\000\001\000\002\000\000\000\001" QUESTION PACKED PACKED PLAIN_OPT, packed.len) == 0);

@@ -22,7 +22,7 @@ from cryptography.hazmat.primitives import hashes
 from cryptography.hazmat.primitives.asymmetric import ec, ed25519, utils
 
 import dns_names_wire as dnw
-from dns_names_wire._library import check as succeeds
+from dns_names_wire._errors import check as succeeds
 from dns_names_wire._library import library
 
 ZONE = "Example."
@@ -134,7 +134,7 @@ class Bind:
         (self.room / "zone").write_text(zone_text(codes) + pathlib.Path(f"{self.key}.key").read_text())
         signed = self.room / "signed"
         signed.unlink(missing_ok=True)
-        run("dnssec-signzone", "-P", "-z", "-O", "raw=0", "-o", ZONE, "-f", signed, self.room / "zone", self.key)
+        run("dnssec-signzone", "-d", self.room, "-P", "-z", "-O", "raw=0", "-o", ZONE, "-f", signed, self.room / "zone", self.key)
         return list(self.records(signed.read_bytes())) if signed.exists() else None
 
     @staticmethod

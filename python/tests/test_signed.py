@@ -69,7 +69,7 @@ class Signed(unittest.TestCase):
     def test_a_set_is_in_order_and_each_record_once(self):
         own, fields = rrsig("A")
         covered = records("A.b. 9 A 192.0.2.2", "a.b. 8 A 192.0.2.1", "a.b. 5 A 192.0.2.2")
-        others = records("a.b. 5 AAAA ::1", "b. 5 A 192.0.2.3", "a.b. 5 CH A 192.0.2.4")
+        others = records("a.b. 5 AAAA ::1", "b. 5 A 192.0.2.3", "a.b. 5 NONE A 192.0.2.4")
         self.signs(own, covered + others + [own], f"{fields} {FIRST} {SECOND}")
         self.signs(own, iter(covered[1:2]), f"{fields} {FIRST}")
         # to be signed: no signature yet

@@ -28,7 +28,7 @@ class Edits(unittest.TestCase):
                 name.prepend_label(label)
         with self.assertRaises(dnw.NameTooLong):
             long.append(long)
-        self.assertEqual([str(Name("a.b.c").trim_to(n)) for n in [0, 1, 2, 3, 2**70]], ["", "c", "b.c", "a.b.c", "a.b.c"])
+        self.assertEqual([str(Name("a.b.c").trim_to(n)) for n in [0, 1, 2, 3, 2**70]], ["@", "c", "b.c", "a.b.c", "a.b.c"])
         with self.assertRaises(ValueError):
             Name("a").trim_to(-1)
         self.assertEqual([str(Name(text).to_wildcard()) for text in ["a.b.", "."]], ["*.b.", "."])

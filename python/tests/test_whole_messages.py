@@ -62,7 +62,9 @@ class WholeMessages(unittest.TestCase):
         for octets, line in [
             ("00 000f 0001 00000000 0001 05", ". 0 IN MX \\# 1 05"),
             ("02612000 0001 0001 00000000 0004 c0000201", "a\\032. 0 IN A 192.0.2.1"),
-            ("00 ff00 00fe 00000000 0000", ". 0 NONE TYPE65280 \\# 0"),
+            ("00 ff00 0001 00000000 0000", ". 0 IN TYPE65280 \\# 0"),
+            # Under NONE data may be left out (RFC 2136, section 2.4).
+            ("00 ff00 00fe 00000000 0000", ". 0 NONE TYPE65280"),
         ]:
             self.assertEqual(str(read_record(bytes.fromhex(octets))), line)
         self.assertEqual(str(Record(Name("a."), 1, dnw.Unknown(65280, b"\1\2"))), "a. 1 IN TYPE65280 \\# 2 0102")

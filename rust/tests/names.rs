@@ -77,7 +77,8 @@ fn texts_are_read_and_shown() {
     assert_eq!(name("sp ace.\u{e4}\\ a").as_wire(), b"\x06sp ace\x04\xc3\xa4 a\0");
     assert_eq!(Name::from_wire(b"\x03a\x80.\x01/\0").unwrap().to_string(), "a\\128\\../.");
     assert!(name(".").is_root() && !name("@").is_root() && name("@") == Name::new() && name(".") == Name::root());
-    let origin = Some(&Name::root());
+    let root = Name::root();
+    let origin = Some(&root);
     assert_eq!(Name::from_text("a", origin).unwrap(), name("a."));
     assert_eq!(Name::from_text("@", Some(&name("b."))).unwrap(), name("b."));
     assert_eq!(format!("{:>6}|{:<4}|{:?}", name("a."), name("."), name("a.b.")), "    a.|.   |Name(\"a.b.\")");

@@ -267,7 +267,7 @@ fn a_record_is_a_line() {
     for (octets, line) in [
         (&b"\0\0\x0F\0\x01\0\0\0\0\0\x01\x05"[..], ".\t0\tIN\tMX\t\\# 1 05"),
         (b"\x02a \0\x00\x01\0\x01\0\0\0\0\0\x04\xC0\0\x02\x01", "a\\032.\t0\tIN\tA\t192.0.2.1"),
-        (b"\0\xFF\0\0\xFE\0\0\0\0\0\0", ".\t0\tNONE\tTYPE65280\t\\# 0"),
+        (b"\0\xFF\0\0\xFE\0\0\0\0\0\0", ".\t0\tNONE\tTYPE65280"),
     ] {
         assert_eq!(Record::read(octets, 0).unwrap().to_string(), line);
     }

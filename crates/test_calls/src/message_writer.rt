@@ -138,7 +138,8 @@ fn a_set_is_whole_or_left_out(rt: HostRuntime) -> Result<(), Fail> {
     let last = state.last_record(&mut buffer, 17, owner.wire_labels(), 250, 255, 0, &second);
     assert!(rt; last.is_ok() && state.end == 45);
     assert!(rt;
-        &buffer[29..45] == b"\xc0\x0c\x00\xfa\x00\xff\x00\x00\x00\x00\x00\x04\xc0\x00\x02\x02"
+        &buffer[29..45]
+            == b"\xc0\x0c\x00\xfa\x00\xff\x00\x00\x00\x00\x00\x04\xc0\x00\x02\x02".as_slice()
     );
     state.max_size = 64;
     let outcome = state.record_set(
