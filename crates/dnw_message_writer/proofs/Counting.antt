@@ -16,7 +16,7 @@ count_small Answers = omega arith
 count_small Authorities = omega arith
 count_small Additionals = omega arith
 
--- a count is as before if the octets up to an offset after the header are
+-- a count is unchanged if the octets up to an offset after the header are
 pub count_kept : (s : Section) (m n : List ℕ) (at : ℕ) → 12 ≤ at → take at m ≡ take at n → count_in_header s m ≡ count_in_header s n
 count_kept s m n at after same =
     let small = count_small s in

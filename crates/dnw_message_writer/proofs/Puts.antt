@@ -18,7 +18,7 @@ put_at_put_at m p q a b next within =
     ∙ drop-drop (length b) (p + length a) m ∙ ap (λ n. drop n m) (omega (arith, length-append a b)) in
     rw (head, tail) (append_assoc (take p m) a _ ∙ ap (λ l. take p m ++ l) (sym (append_assoc a b _)))
 
--- the buffer is as long as before
+-- the size of the buffer is unchanged
 pub length_put_at : (m : List ℕ) (p : ℕ) (a : List ℕ) → p + length a ≤ length m → length (put_at m p a) ≡ length m
 length_put_at m p a fits =
     omega (arith, length-append (take p m) (a ++ drop (p + length a) m), length-append a (drop (p + length a) m), length-take-le p m (omega (arith, fits)), length-drop (p + length a) m, fits)

@@ -24,6 +24,6 @@ module _ (s : Section) (form : Data → ItemForm) where
 abbrev pub cut_off : List ℕ → List ℕ
 cut_off m = if nat_le first_item (length m) && nat_eq (slice_index m 2 / 2 % 2) 0 then slice_set m 2 (slice_index m 2 + 2) else m
 
--- What the message has up to its end is as before, but TC is set.
+-- What the message has up to its end is unchanged, but TC is set.
 abbrev pub CutsOff : ℕ → List ℕ → List ℕ → Type 0
 CutsOff end old new = (between : List ℕ) × (take end between ≡ take end old) × (new ≡ cut_off between)

@@ -13,7 +13,7 @@ use Rattle.dnw_message_writer.specs.declared.state.WriterState.{WriterState}
 abbrev pub count_octets : List ℕ → ℕ → List ℕ
 count_octets m p = slice_index m p ∷ slice_index m (p + 1) ∷ []
 
--- The octets are as before, but for the count of the section.
+-- The octets are unchanged, but for the count of the section.
 abbrev pub KeptCount : Section → List ℕ → List ℕ → Type 0
 KeptCount s before now =
     (now ≡ before)
