@@ -65,10 +65,10 @@ def sets():
     table |= {49: [b"\0\1\1" + bytes(range(32))], 50: [hashed], 51: [b"\1\0\0\5\2\xab\xcd"], 52: [b"\3\1\1" + bytes(range(32))], 53: [b"\3\1\1" + bytes(range(32))]}
     table |= {55: [b"\4\2\0\4hit!key!" + host], 57: [key], 59: [b"\xec\x45\x0d\2" + bytes(range(32))], 60: [key], 61: [b"openpgp"]}
     table |= {62: [b"\0\0\0\x42\0\3\0\1\x60"], 63: [b"\0\0\0\5\1\1" + bytes(range(48))], 64: [b"\0\1" + host + b"\0\1\0\3\2h2", b"\0\0" + other]}
-    table |= {65: [b"\0\1" + host + b"\0\4\0\4\xc0\0\2\1", b"\0\0" + other], 66: [b"\0\x3b\1\0\x35" + host], 104: [b"\0\x0a" + bytes(range(8))]}
+    table |= {65: [b"\0\1" + host + b"\0\4\0\4\xc0\0\2\1", b"\0\0" + other], 66: [b"\0\x3b\1\0\x35" + host], 67: [b"Hhit"], 68: [b"brid"], 104: [b"\0\x0a" + bytes(range(8))]}
     table |= {105: [b"\0\x0a\xc0\0\2\1"], 106: [b"\0\x0a" + bytes(range(8))], 108: [bytes(range(6))], 109: [bytes(range(8))]}
     table |= {256: [b"\0\x0a\0\1https://Example/"], 257: [b"\0\5issueCA.Example", b"\0\5issueca.example"], 259: [bytes(9) + text("a/b") + b"data"]}
-    table |= {260: [b"\x0a\1\xc0\0\2\1", b"\x0a\3" + host, b"\x0a\x80"], 263: [text("cla")], 32769: [b"\xec\x45\5\1" + bytes(range(20))]}
+    table |= {260: [b"\x0a\1\xc0\0\2\1", b"\x0a\3" + host, b"\x0a\x80"], 263: [text("cla")], 264: [bytes(range(8))], 32768: [b"\xec\x45\5\1" + bytes(range(20))], 32769: [b"\xec\x45\5\1" + bytes(range(20))]}
     return table | {65280: [b"Octets", b"octets", b"octet"]}
 
 

@@ -126,6 +126,8 @@ late_rows =
     ∷ row 64 (U16 ∷ plain ∷ params ∷ [])  -- SVCB (RFC 9460, section 2.2)
     ∷ row 65 (U16 ∷ plain ∷ params ∷ [])  -- HTTPS (RFC 9460, section 9)
     ∷ row 66 (TypeCode ∷ U8 ∷ U16 ∷ plain ∷ [])  -- DSYNC (RFC 9859, section 2.1)
+    ∷ row 67 (base64 ∷ [])  -- HHIT (RFC 9886, section 5.1)
+    ∷ row 68 (base64 ∷ [])  -- BRID (RFC 9886, section 5.2)
     ∷ row 99 (texts ∷ [])  -- SPF (RFC 4408, section 3.1.1)
     ∷ row 104 (U16 ∷ Locator ∷ [])  -- NID (RFC 6742, section 2.1.1)
     ∷ row 105 (U16 ∷ Ipv4 ∷ [])  -- L32 (RFC 6742, section 2.2.1)
@@ -143,6 +145,8 @@ late_rows =
     ∷ row 261 (texts ∷ [])  -- RESINFO (RFC 9606, section 4)
     ∷ row 262 (texts ∷ [])  -- WALLET (the template WALLET of the registry)
     ∷ row 263 (texts ∷ [])  -- CLA (the template CLA of the registry)
+    ∷ row 264 (Locator ∷ [])  -- IPN (the template IPN of the registry)
+    ∷ row 32768 (U16 ∷ U8 ∷ U8 ∷ hex ∷ [])  -- TA (the registry's reference for it: as DS)
     ∷ row 32769 (U16 ∷ U8 ∷ U8 ∷ hex ∷ [])  -- DLV (RFC 4431, section 2)
     ∷ []
 

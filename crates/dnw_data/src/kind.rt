@@ -25,7 +25,7 @@ pub enum Kind {
     Time,
     /// A time of six octets, in seconds since 1970 (RFC 8945, section 4.2).
     LongTime,
-    /// An identifier of a node, or a locator, of eight octets (RFC 6742, sections 2.1.1 and 2.3.1).
+    /// An identifier of a node or of an endpoint, or a locator, of eight octets (RFC 6742, sections 2.1.1 and 2.3.1).
     Locator,
     /// An address of Chaosnet, of two octets (RFC 1035, section 3.6).
     ChaosAddress,

@@ -251,6 +251,8 @@ fn late_fields_of(code: u16) -> &'static [Kind]
         64 => &[Kind::U16, PLAIN, PARAMS], // SVCB
         65 => &[Kind::U16, PLAIN, PARAMS], // HTTPS
         66 => &[Kind::TypeCode, Kind::U8, Kind::U16, PLAIN], // DSYNC
+        67 => &[BASE64], // HHIT
+        68 => &[BASE64], // BRID
         99 => &[TEXTS], // SPF
         104 => &[Kind::U16, Kind::Locator], // NID
         105 => &[Kind::U16, Kind::Ipv4], // L32
@@ -286,6 +288,8 @@ fn late_fields_of(code: u16) -> &'static [Kind]
         261 => &[TEXTS], // RESINFO
         262 => &[TEXTS], // WALLET
         263 => &[TEXTS], // CLA
+        264 => &[Kind::Locator], // IPN
+        32768 => &[Kind::U16, Kind::U8, Kind::U8, HEX], // TA
         32769 => &[Kind::U16, Kind::U8, Kind::U8, HEX], // DLV
         _ => &[HEX],
     }

@@ -528,8 +528,6 @@ impl Name {
         ensures short { length (name_text self.now) ≤ max_text }
         ensures err { IfErr result (λ e. (1 ≤ length (name_text self.now)) × (e ≡ ProtoError.Memory)) }
     {
-        // The proof reads here that the labels fit together.
-        let _size = self.encoded_len();
         if self.has_no_text() {
             return Ok(String::new(alloc));
         }
@@ -537,13 +535,14 @@ impl Name {
     }
 
     /// Returns `true` if the text is empty: the name is relative and has no labels.
+    #[tactic(auto, using(dnw_base::proofs::Wires::no_labels_size, dnw_name_ascii::proofs::TextSizes::some_text))]
     fn has_no_text(&self) -> bool
         ensures none { IsTrue result → name_text self.now ≡ [] }
         ensures some { result ≡ false → 1 ≤ length (name_text self.now) }
+        ensures labels { AreLabels self.now.labels }
     {
-        // The proof reads here that each label has bytes.
-        let _size = self.encoded_len();
-        !self.is_fqdn && self.form.has_no_labels()
+        let size = self.encoded_len();
+        !self.is_fqdn && size == 1
     }
 
     /// Returns `true` if the last label is `localhost`, ignoring ASCII case (RFC 6761, section 6.3).

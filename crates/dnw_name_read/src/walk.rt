@@ -1,5 +1,5 @@
 //! The walk over the elements of a name in a message, which copies nothing (RFC 1035, section 4.1.4).
-ghost use Rattle.std.specs.Prelude.{◌≡◌, ℕ, ◌+◌, ◌<◌, ◌≤◌, min, length, slice_get, Some, unwrap_or, IfOk, IfErr, IfSome, IfNone, OnOk};
+ghost use Rattle.std.specs.Prelude.{◌≡◌, ℕ, ◌+◌, ◌<◌, ◌≤◌, min, length, slice_get, Some, None, unwrap_or, IfOk, IfErr, IfSome, IfNone, OnOk};
 ghost use Rattle.dnw_name_read.specs.Reading.{IsWithin, Stops, FaultAt, target};
 ghost use Rattle.dnw_base.specs.Limits.{max_label, max_labels, pointer_bits, pointer_offsets};
 ghost use Rattle.dnw_name_read.specs.Inside.Walking.{IsElement, IsNoElement, once_followed};
@@ -69,18 +69,11 @@ fn walk_elements(
     ensures none { IfNone result (FaultAt message.now start fault.new steps.new.pointers steps.new.labels) }
 {
     *steps = ReadSteps::default();
-    let mut position = start;
-    let mut segment = start;
-    let mut first = start;
-    let mut limit = message.len();
-    let mut end = start;
-    let mut size = 1;
+    let (mut position, mut segment, mut first) = (start, start, start);
+    let (mut limit, mut end, mut size) = (message.len(), start, 1);
     'elements: loop {
         match next_element(message, position, segment, limit, steps.pointers) {
-            Err(error) => {
-                *fault = error;
-                return None;
-            }
+            Err(error) => return failed(fault, error),
             Ok(Element::End) => {
                 return Some(Walked {
                     first,
@@ -93,8 +86,7 @@ fn walk_elements(
                 steps.labels += 1;
                 size = size + 1 + len;
                 if size > MAX_NAME {
-                    *fault = DecodeError::DomainNameTooLong(len);
-                    return None;
+                    return failed(fault, DecodeError::DomainNameTooLong(len));
                 }
                 position = position + 1 + len;
             }
@@ -108,6 +100,16 @@ fn walk_elements(
             }
         }
     }
+}
+
+/// Says why there is no name.
+#[inline(always)]
+fn failed(fault: &mut DecodeError, error: DecodeError) -> Option<Walked>
+    ensures none { result ≡ None }
+    ensures fault { fault.new ≡ error }
+{
+    *fault = error;
+    None
 }
 
 /// Returns where the name's own octets end: after the first pointer if one was followed, else here.

@@ -10,7 +10,7 @@ elements-init c = rw (c.default.ensures.0, c.default.ensures.1) (WalksOn_start _
 pub returns-in-Err-clause-none : goal.returns-in-Err-clause-none
 returns-in-Err-clause-none c =
     let stops = rw c.in-Err.is at c.next_element.ensures.err in
-    simp add-zero at (c.elements.invariant.stops _ 0 0 (stops _))
+    rw (c.failed.ensures.none, c.failed.ensures.fault) (simp add-zero at (c.elements.invariant.stops _ 0 0 (stops _)))
 
 pub returns-in-Ok-End-clause-some : goal.returns-in-Ok-End-clause-some
 returns-in-Ok-End-clause-some c =
@@ -22,7 +22,9 @@ pub returns-then-size-gt-MAX_NAME-clause-none : goal.returns-then-size-gt-MAX_NA
 returns-then-size-gt-MAX_NAME-clause-none c =
     let there = rw (c.in-Ok-Label.is, c.in-Ok-Label.field-0-is) at c.next_element.ensures.ok in
     let within = rw c.in-Ok-Label.is at c.next_element.ensures.within in
-    rw add-zero at (c.elements.invariant.stops _ 0 1 (too_long _ within there.octet there.some there.few there.there c.if-size-gt-MAX_NAME.true))
+    let stops = c.elements.invariant.stops _ 0 1 (too_long _ within there.octet there.some there.few there.there c.if-size-gt-MAX_NAME.true) in
+    let failed = c.failed-then-size-gt-MAX_NAME.ensures in
+    rw (failed.none, failed.fault) (rw add-zero at stops)
 
 pub elements-preserved-in-Ok-Label : goal.elements-preserved-in-Ok-Label
 elements-preserved-in-Ok-Label c =
