@@ -23,7 +23,7 @@ pub none_fit : (left : ℕ) (all : List Piece) → all ≡ [] → FitWhole left 
 none_fit left all none = subst (λ ps. FitWhole left ps) (sym none) tt
 
 module _ (slot : List (List ℕ) → ℕ) where
-  owner_fits : (b : List ℕ) (near : ℕ) (hints : List ℕ) (ls : List (List ℕ)) (octets after : List ℕ) → AreLabels ls
+  pub owner_fits : (b : List ℕ) (near : ℕ) (hints : List ℕ) (ls : List (List ℕ)) (octets after : List ℕ) → AreLabels ls
       → IsOwner slot b near hints ls octets after → length octets ≤ length (wire ls)
   owner_fits b near hints ls octets after are (inl (usable, is, same)) = omega (arith, usable.0, ap length is)
   owner_fits b near hints ls octets after are (inr (not, h)) =
@@ -34,7 +34,7 @@ module _ (slot : List (List ℕ) → ℕ) where
   question_fits limit b near hints ls are room (name, after, owner, past) =
       omega (arith, owner_fits b near hints ls name after are owner, room, past)
 
-  piece_fits : (b : List ℕ) (gap : ℕ) (hints : List ℕ) (x : Piece) (octets after : List ℕ) → HasLabels x
+  pub piece_fits : (b : List ℕ) (gap : ℕ) (hints : List ℕ) (x : Piece) (octets after : List ℕ) → HasLabels x
       → IsPiece slot b gap hints x octets after → length octets ≤ whole_size x
   piece_fits b gap hints (Octets bytes) octets after labels h = omega (arith, ap length h.0)
   piece_fits b gap hints (Name ls) octets after labels h =

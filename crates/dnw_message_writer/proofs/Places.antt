@@ -56,14 +56,14 @@ range_index : (b : List ℕ) (p n k : ℕ) → k < n → get_or (slice_range b p
 range_index b p n k small = grind (arith, common_steps)
 
 module _ (b later : List ℕ) (gap : ℕ) (keeps : KeepsSettled gap b later) where
-  same_there : (p n k : ℕ) → AreSettled b gap p n → k < n → get_or later (p + k) 0 ≡ get_or b (p + k) 0
+  pub same_there : (p n k : ℕ) → AreSettled b gap p n → k < n → get_or later (p + k) 0 ≡ get_or b (p + k) 0
   same_there p n k settled small =
       let inside = settled.inside in
       let header = settled.after_header in
       let apart : (p + k < gap) ⊎ (gap + 2 ≤ p + k) = elim settled.apart [ inl before ↦ inl (omega arith) | inr behind ↦ inr (omega arith) ] in
       keeps.same (p + k) (omega arith) (omega arith) apart
 
-  part_later : (p n : ℕ) → AreSettled b gap p n → slice_range later p (p + n) ≡ slice_range b p (p + n)
+  pub part_later : (p n : ℕ) → AreSettled b gap p n → slice_range later p (p + n) ≡ slice_range b p (p + n)
   part_later p n settled =
       let longer : length b ≤ length later = keeps.longer in
       let inside = settled.inside in
@@ -83,13 +83,14 @@ module _ (b later : List ℕ) (gap : ℕ) (keeps : KeepsSettled gap b later) whe
       sym (take-append-drop n (drop p later)) ∙ (ap (λ x. x ++ drop n (drop p later)) part ∙ ap (λ x. octets ++ x) (drop-drop n p later))
 
   -- a pointer is followed, or not
-  follow_later : (s t : Spot) (ls : List (List ℕ)) (limit : Option ℕ) → FollowsPointer b gap s t → ((q : ℕ) → q < s.limit → IsWithin q limit)
-      → ((wider : Option ℕ) → ((q : ℕ) → q < t.limit → IsWithin q wider) → (e : ℕ) × (k : ℕ) × Reads later t.position t.segment wider ls e k)
-      → (e : ℕ) × (k : ℕ) × Reads later s.position s.segment limit ls e k
-  follow_later s t ls limit (inr (not, t_is)) within on =
-      subst (λ (x : Spot). (e : ℕ) × (k : ℕ) × Reads later x.position x.segment limit ls e k) t_is
-      (on limit (λ q less. within q (subst (λ (x : Spot). q < x.limit) t_is less)))
-  follow_later s t ls limit (inl (leads, t_is)) within on =
+  follow_later : (s t : Spot) (ls : List (List ℕ)) (limit : Option ℕ) (most : ℕ) → FollowsPointer b gap s t → ((q : ℕ) → q < s.limit → IsWithin q limit)
+      → ((wider : Option ℕ) → ((q : ℕ) → q < t.limit → IsWithin q wider)
+      → (e : ℕ) × (k : ℕ) × Reads later t.position t.segment wider ls e k × (k ≤ most))
+      → (e : ℕ) × (k : ℕ) × Reads later s.position s.segment limit ls e k × (k ≤ most + 1)
+  follow_later s t ls limit most (inr (not, t_is)) within on =
+      let (e, k, r, few) = on limit (λ q less. within q (subst (λ (x : Spot). q < x.limit) t_is less)) in
+      (e, k, subst (λ (x : Spot). Reads later x.position x.segment limit ls e k) t_is r, omega (arith, few))
+  follow_later s t ls limit most (inl (leads, t_is)) within on =
       let p = s.position in
       let high = get_or b p 0 in
       let low = get_or b (p + 1) 0 in
@@ -100,34 +101,37 @@ module _ (b later : List ℕ) (gap : ℕ) (keeps : KeepsSettled gap b later) whe
       let second : get_or later (p + 1) 0 ≡ low = same_there p 2 1 leads.settled (omega arith) in
       let one : slice_get later p ≡ Some high = slice_get-get_or later p 0 (omega (arith, inside, longer)) ∙ ap Some first in
       let two : slice_get later (p + 1) ≡ Some low = slice_get-get_or later (p + 1) 0 (omega (arith, inside, longer)) ∙ ap Some second in
-      let (e, k, r) = on (Some s.segment) (λ q less. subst (λ (x : Spot). q < x.limit) t_is less) in
+      let (e, k, r, few) = on (Some s.segment) (λ q less. subst (λ (x : Spot). q < x.limit) t_is less) in
       let there : Reads later (target high low) (target high low) (Some s.segment) ls e k =
       subst (λ (x : Spot). Reads later x.position x.segment (Some s.segment) ls e k) t_is r in
-      (p + 2, suc k, pointer high low (within p leads.before) one leads.marked two leads.prior there)
+      (p + 2, suc k, pointer high low (within p leads.before) one leads.marked two leads.prior there, omega (arith, few))
 
   -- labels that stand are read later
   pub read_later : (s : Spot) (ls : List (List ℕ)) (limit : Option ℕ) → StandsFrom b gap s ls → AllByRecursion IsLabel ls
-      → ((q : ℕ) → q < s.limit → IsWithin q limit) → (e : ℕ) × (k : ℕ) × Reads later s.position s.segment limit ls e k
+      → ((q : ℕ) → q < s.limit → IsWithin q limit)
+      → (e : ℕ) × (k : ℕ) × Reads later s.position s.segment limit ls e k × (k ≤ length ls + 1)
   read_later s [] limit (t, f, there) all within =
-      follow_later s t [] limit f within
+      follow_later s t [] limit 0 f within
       (λ wider inside. (
         t.position + 1,
         0,
         zero_octet (inside t.position there.before) (octet_at later t.position 0 _ (there_later t (0 ∷ []) there)),
+        omega arith,
       ))
   read_later s (l ∷ ls) limit (t, f, there, more) all within =
-      follow_later s t (l ∷ ls) limit f within
+      follow_later s t (l ∷ ls) limit (length (l ∷ ls)) f within
       (λ wider inside.
-      let (e, k, r) = read_later (after_octets t (length l + 1)) ls wider more all.1 inside in
+      let (e, k, r, few) = read_later (after_octets t (length l + 1)) ls wider more all.1 inside in
       let moved : t.position + (length l + 1) ≡ t.position + 1 + length l = omega arith in (
         e,
         k,
         label_read later t.position t.segment e k wider l _ ls (there_later t (label_wire l) there) all.0 (inside t.position there.before)
             (subst (λ q. Reads later q t.segment wider ls e k) moved r),
+        omega (arith, few),
       ))
 
 -- labels stand within the message
-stands_inside : (b : List ℕ) (gap : ℕ) (s : Spot) (ls : List (List ℕ)) → StandsFrom b gap s ls → s.position < s.limit
+pub stands_inside : (b : List ℕ) (gap : ℕ) (s : Spot) (ls : List (List ℕ)) → StandsFrom b gap s ls → s.position < s.limit
 stands_inside b gap s [] (t, inl (leads, t_is), there) = leads.before
 stands_inside b gap s [] (t, inr (not, t_is), there) = subst (λ (x : Spot). x.position < x.limit) t_is there.before
 stands_inside b gap s (l ∷ ls) (t, inl (leads, t_is), there, more) = leads.before
@@ -143,7 +147,7 @@ stands_after_header b gap s (l ∷ ls) (t, inr (not, t_is), there, more) = subst
 pub points_after_header : (b : List ℕ) (gap hint : ℕ) (ls : List (List ℕ)) → MayPointTo b gap hint ls → 12 ≤ hint
 points_after_header b gap hint ls usable = stands_after_header b gap (record { position = hint; segment = hint; limit = length b }) ls usable.1
 
-pointer_leads : (offset : ℕ) → target (192 + offset / 256) (offset % 256) ≡ offset
+pub pointer_leads : (offset : ℕ) → target (192 + offset / 256) (offset % 256) ≡ offset
 pointer_leads offset = omega (arith, div-add-mod' offset 256)
 
 -- ---- written names
@@ -151,10 +155,10 @@ pointer_leads offset = omega (arith, div-add-mod' offset 256)
 module _ (slot : List (List ℕ) → ℕ) (b later : List ℕ) (gap : ℕ) (keeps : KeepsSettled gap b later) where
   written_later : (at : ℕ) (hints : List ℕ) (ls : List (List ℕ)) (octets after more : List ℕ) → AllByRecursion IsLabel ls
       → Compresses slot b gap at hints ls octets after → drop at later ≡ octets ++ more
-      → (k : ℕ) × Reads later at (length b) None ls (at + length octets) k
+      → (k : ℕ) × Reads later at (length b) None ls (at + length octets) k × (k ≤ length ls + 2)
   written_later at hints [] octets after more all h here =
       let r : Reads later at (length b) None [] (at + 1) 0 = zero_octet tt (octet_at later at 0 more (here ∙ ap (λ x. x ++ more) h.0)) in
-      (0, subst (λ e. Reads later at (length b) None [] e 0) (ap (λ (x : List ℕ). at + length x) (sym h.0)) r)
+      (0, subst (λ e. Reads later at (length b) None [] e 0) (ap (λ (x : List ℕ). at + length x) (sym h.0)) r, omega arith)
   written_later at hints (l ∷ ls) octets after more all (inl (usable, is, same)) here =
       let hint = slice_index hints (slot (l ∷ ls)) in
       let high = 192 + hint / 256 in
@@ -162,29 +166,33 @@ module _ (slot : List (List ℕ) → ℕ) (b later : List ℕ) (gap : ℕ) (keep
       let start : Spot = record { position = hint; segment = hint; limit = length b } in
       let prior : hint < length b = stands_inside b gap start (l ∷ ls) usable.1 in
       let leads = pointer_leads hint in
-      let (e, k, r) = read_later b later gap keeps start (l ∷ ls) (Some (length b)) usable.1 all (λ q less. less) in
+      let (e, k, r, few) = read_later b later gap keeps start (l ∷ ls) (Some (length b)) usable.1 all (λ q less. less) in
       let octets_at : drop at later ≡ high ∷ (low ∷ more) = here ∙ ap (λ x. x ++ more) is in
       let there : Reads later (target high low) (target high low) (Some (length b)) (l ∷ ls) e k =
       subst (λ t. Reads later t t (Some (length b)) (l ∷ ls) e k) (sym leads) r in
       let whole : Reads later at (length b) None (l ∷ ls) (at + 2) (suc k) =
       pointer high low tt (octet_at later at high (low ∷ more) octets_at) (omega arith)
-      (octet_at later (at + 1) low more (next_at later at high (low ∷ more) octets_at)) (omega (arith, leads, prior)) there in
-      (suc k, subst (λ e. Reads later at (length b) None (l ∷ ls) e (suc k)) (ap (λ (x : List ℕ). at + length x) (sym is)) whole)
+      (octet_at later (at + 1) low more (next_at later at high (low ∷ more) octets_at)) (omega (arith, leads, prior)) there in (
+        suc k,
+        subst (λ e. Reads later at (length b) None (l ∷ ls) e (suc k)) (ap (λ (x : List ℕ). at + length x) (sym is)) whole,
+        omega (arith, few),
+      )
   written_later at hints (l ∷ ls) octets after more all (inr (not, rest, is, others)) here =
       let octets_at : drop at later ≡ label_wire l ++ (rest ++ more) = here ∙ (ap (λ x. x ++ more) is ∙ append_assoc (label_wire l) rest more) in
       let behind : drop (at + 1 + length l) later ≡ rest ++ more =
       after_at later at (at + 1 + length l) (label_wire l) (rest ++ more) octets_at (omega arith) in
-      let (k, r) = written_later (at + 1 + length l) (kept_hints hints (slot (l ∷ ls)) (length b) at) ls rest after more all.1 others behind in
+      let (k, r, few) = written_later (at + 1 + length l) (kept_hints hints (slot (l ∷ ls)) (length b) at) ls rest after more all.1 others behind in
       let end : at + 1 + length l + length rest ≡ at + length octets = omega (arith, ap length is, length-append (label_wire l) rest) in (
         k,
         subst (λ e. Reads later at (length b) None (l ∷ ls) e k) end
             (label_read later at (length b) (at + 1 + length l + length rest) k None l (rest ++ more) ls octets_at all.0 tt r),
+        omega (arith, few),
       )
 
 pub written_names_are_read : WrittenNamesAreRead
 written_names_are_read slot b gap hints ls octets after later more are h keeps here =
-    let (k, r) = written_later slot b later gap keeps (length b) hints ls octets after more are.each h here in
-    (k, record { reads = r; fits = are.fit })
+    let (k, r, few) = written_later slot b later gap keeps (length b) hints ls octets after more are.each h here in
+    (k, record { reads = r; fits = are.fit }, few)
 
 no_more : (slot : List (List ℕ) → ℕ) (b : List ℕ) (gap at : ℕ) (hints : List ℕ) (ls : List (List ℕ)) (octets after : List ℕ)
     → AllByRecursion IsLabel ls → Compresses slot b gap at hints ls octets after → length octets ≤ encoded_size ls

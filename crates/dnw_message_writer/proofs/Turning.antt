@@ -1,13 +1,12 @@
 -- Records that are added in turn.
-use Rattle.std.proofs.Common.{◌≡◌, ◌⊎◌, ℕ, suc, ◌+◌, ◌-◌, ◌*◌, ◌<◌, ◌≤◌, Result, Ok, Err, OnErr, List, [], ◌∷◌, ◌++◌, length, take, drop, get_or, slice_index, drop-cons, add-one, refl, sym, ap, ◌∙◌, subst, inl, inr, append_assoc, arith, length-append}
+use Rattle.std.proofs.Common.{◌≡◌, ◌⊎◌, ℕ, suc, ◌+◌, ◌-◌, ◌<◌, ◌≤◌, Result, Ok, Err, OnErr, List, [], ◌∷◌, ◌++◌, length, take, drop, get_or, drop-cons, add-one, refl, sym, ap, ◌∙◌, subst, inl, inr, append_assoc, arith, length-append}
 use Rattle.std.specs.Int.{w16, to_be_bytes}
-use Rattle.std.proofs.Math.Nat.{min-le_left, min-le_right}
 use Rattle.std.proofs.Math.Seq.{take-add}
 use Rattle.std.proofs.lemmas.Bool.{cases_order}
 use Rattle.std.proofs.lemmas.List.{append-nil, drop-take, drop_at, get_or-take, length-take-le, take_all, take_at, take-append-drop}
 use Rattle.dnw_message_writer.specs.CompressedNames.{put_at}
 use Rattle.dnw_message_writer.specs.Inside.Turns.{KeptCount, Turned, count_octets}
-use Rattle.dnw_message_writer.specs.Sections.{offset_of_count, rank}
+use Rattle.dnw_message_writer.specs.Sections.{offset_of_count}
 use Rattle.dnw_message_writer.specs.Sets.{AddsSet, FailsToAddSet}
 use Rattle.dnw_message_writer.specs.States.{AddsItem, FailsToAdd, ItemForm, count_in_header}
 use Rattle.dnw_message_writer.specs.declared.section.Section.{Section}
@@ -19,7 +18,7 @@ use Rattle.dnw_message_writer.proofs.Going.{take_before}
 use Rattle.dnw_message_writer.proofs.Laying.{put_at_inside, take_less}
 use Rattle.dnw_message_writer.proofs.Puts.{length_put_at}
 
-le_or_lt : (a b : ℕ) → (a ≤ b) ⊎ (b < a)
+pub le_or_lt : (a b : ℕ) → (a ≤ b) ⊎ (b < a)
 le_or_lt a b = elim (cases_order a b) [
   | inl same ↦ inl (omega (arith, same))
   | inr other ↦ elim other [ inl less ↦ inl (omega (arith, less)) | inr more ↦ inr more ]

@@ -4,17 +4,16 @@ use Rattle.dnw_message_writer.specs.Standing.{first_item}
 use Rattle.dnw_message_writer.specs.States.{AddsItem, FailsToAdd, ItemForm}
 use Rattle.dnw_message_writer.specs.declared.section.Section.{Section}
 use Rattle.dnw_message_writer.specs.declared.section.WriteError.{WriteError}
-use Rattle.dnw_message_writer.specs.declared.set.Data.{Data}
 use Rattle.dnw_message_writer.specs.declared.state.WriterState.{WriterState}
 
-module _ (s : Section) (form : Data → ItemForm) where
-  abbrev pub AddsSet : List Data → WriterState → List ℕ → WriterState → List ℕ → Type 0
+module _ {D : Type 0} (s : Section) (form : D → ItemForm) where
+  abbrev pub AddsSet : List D → WriterState → List ℕ → WriterState → List ℕ → Type 0
   AddsSet [] w old after new = (after ≡ w) × (new ≡ old)
   AddsSet (d ∷ ds) w old after new =
       (v : WriterState) × (between : List ℕ) × AddsItem s (form d) w old v between × AddsSet ds v between after new
 
   -- The first that is not added says why.
-  abbrev pub FailsToAddSet : (Data → ℕ → List ℕ → ℕ → List ℕ → Type 0) → List Data → WriterState → List ℕ → WriteError → Type 0
+  abbrev pub FailsToAddSet : (D → ℕ → List ℕ → ℕ → List ℕ → Type 0) → List D → WriterState → List ℕ → WriteError → Type 0
   FailsToAddSet goes_past [] w m e = ⊥
   FailsToAddSet goes_past (d ∷ ds) w m e =
       FailsToAdd s (goes_past d) w m e

@@ -1,6 +1,9 @@
-//! What follows from how names are written, for callers' proofs.
+//! What follows from how names, items and messages are written, for callers' proofs.
 //!
-//! The function does nothing: it exists for its clauses.
+//! The functions do nothing. Each is there for its clauses.
+ghost use Rattle.dnw_message_writer.specs.ContentLaws.{BegunMessagesAreEmpty, CutMessagesHold, GivenRecordsAreAdded, LastRecordsAreAdded, QuestionsAreAdded, RecordsAreAdded, SetsAreAdded, UnchangedMessagesHold};
+ghost use Rattle.dnw_message_writer.specs.ReadItems.{DataNamesAreRead, GivenDataComeBack, HeldItemsAreRead, HeldItemsNeverFail, OctetsAreRead, ReadMessagesHaveItems};
+ghost use Rattle.dnw_message_writer.specs.SizeLaws.{HintsBegin, NearOwnersTakeTwo, QuestionsAreNear, QuestionsTakeNoMore, RecordsAreNear, RecordsTakeNoMore};
 ghost use Rattle.dnw_message_writer.specs.NameLaws.{CompressedNamesTakeNoMore, WrittenNamesAreRead};
 
 /// A name that is written is read back, whatever the hints say, and takes no more octets than its wire form.
@@ -8,4 +11,47 @@ ghost use Rattle.dnw_message_writer.specs.NameLaws.{CompressedNamesTakeNoMore, W
 pub fn names_come_back()
     ensures read { WrittenNamesAreRead }
     ensures size { CompressedNamesTakeNoMore }
+{}
+
+/// What a message holds, after each call of its writer: exactly the items that were added.
+pub fn messages_hold_their_items()
+    ensures begun { BegunMessagesAreEmpty }
+    ensures question { QuestionsAreAdded }
+    ensures record { RecordsAreAdded }
+    ensures given { GivenRecordsAreAdded }
+    ensures set { SetsAreAdded }
+    ensures last { LastRecordsAreAdded }
+    ensures cut { CutMessagesHold }
+    ensures unchanged { UnchangedMessagesHold }
+{}
+
+/// What is written is what is read: a message that holds items is read as exactly these, in their sections and order, with its id and
+/// its flags, from octets which begin with it. Each name follows at most 129 pointers, so `MessageRef::read`, which allows 65,536,
+/// reads each message of at most 508 items.
+pub fn held_items_are_read()
+    ensures read { HeldItemsAreRead }
+    ensures never_fails { HeldItemsNeverFail }
+    ensures same { ReadMessagesHaveItems }
+{}
+
+/// Data that are octets alone are read as these, and data that are a name alone as this name. Data whose pieces are those of octets with
+/// every name in its wire form are read as these octets, field by field, whatever names are compressed.
+pub fn data_are_read()
+    ensures octets { OctetsAreRead }
+    ensures name { DataNamesAreRead }
+    ensures given { GivenDataComeBack }
+{}
+
+/// An item takes no more octets than with its names whole, and has no room only if it would have none so.
+pub fn items_take_no_more()
+    ensures question { QuestionsTakeNoMore }
+    ensures record { RecordsTakeNoMore }
+{}
+
+/// An owner that repeats the name of the question before it, or the owner of the record before it, takes two octets.
+pub fn repeated_owners_take_two()
+    ensures begun { HintsBegin }
+    ensures question { QuestionsAreNear }
+    ensures record { RecordsAreNear }
+    ensures two { NearOwnersTakeTwo }
 {}

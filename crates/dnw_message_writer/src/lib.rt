@@ -3,12 +3,16 @@
 //! It stands on the wire form and on reading. Read `specs/CompressedNames.antt` first: how a name is written.
 #![tactic(auto)]
 
+pub mod data;
+pub mod edns;
 pub mod hints;
 mod items;
 mod last;
 pub mod laws;
+pub mod listed;
 pub mod names;
 pub mod pieces;
+pub mod reply;
 pub mod section;
 pub mod set;
 pub mod standing;

@@ -32,6 +32,13 @@ impl<'a> Piece<'a> {
     }
 }
 
+/// No octets.
+impl Default for Piece<'_> {
+    fn default() -> Self {
+        Piece::Octets(&[])
+    }
+}
+
 /// Writes pieces at `at`, one after the other, up to `limit` at most, and returns where they end. If there is no room, it returns
 /// `None`, and the message is unchanged up to `at`.
 pub(crate) fn put_pieces(

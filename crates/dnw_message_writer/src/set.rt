@@ -109,7 +109,7 @@ impl WriterState {
 }
 
 /// Returns two octets, or zeros if there are none.
-fn two_at(message: &[u8], at: usize) -> [u8; 2]
+pub(crate) fn two_at(message: &[u8], at: usize) -> [u8; 2]
     requires { at ≤ 10 }
     ensures { 12 ≤ length message.now → result ≡ count_octets message.now at }
 {
@@ -121,7 +121,7 @@ fn two_at(message: &[u8], at: usize) -> [u8; 2]
 
 /// Says in the header that something is missing that the message was to have: TC (RFC 2181, section 9).
 #[inline(always)]
-fn cut_off(message: &mut [u8])
+pub fn cut_off(message: &mut [u8])
     ensures { message.new ≡ cut_off message.old }
 {
     if message.len() >= FIRST_ITEM && message[2] / 2 % 2 == 0 {

@@ -163,7 +163,7 @@ impl WriterState {
 
     /// Returns the offset up to which items may go.
     #[inline(always)]
-    fn room_of(&self, message: &[u8]) -> usize
+    pub(crate) fn room_of(&self, message: &[u8]) -> usize
         ensures { result ≡ room_of self.now message.now }
     {
         let most = usize::from(MAX_MESSAGE)

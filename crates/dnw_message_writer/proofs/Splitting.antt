@@ -1,0 +1,263 @@
+-- Data that are taken apart, field by field.
+use Rattle.std.proofs.Common.{◌≡◌, ℕ, ◌+◌, ◌-◌, ◌==◌, ◌≤◌, Bool, true, false, None, Some, List, [], ◌∷◌, ◌++◌, length, take, drop, inl, inr, refl, sym, ap, ◌∙◌, subst, append_assoc, arith}
+use Rattle.std.specs.Prelude.{◌&&◌, ◌||◌, nat_le, not, slice_index}
+use Rattle.std.specs.List.{flat_map}
+use Rattle.std.proofs.lemmas.Bool.{cases_Bool, leb-true}
+use Rattle.std.proofs.lemmas.List.{append-nil, drop_at, length-append, length-take-le, nil_from_length, take-append-drop, take_at}
+use Rattle.std.proofs.lemmas.Option.{none-some}
+use Rattle.dnw_base.specs.Decoder.{Decoder}
+use Rattle.dnw_base.specs.declared.error.DecodeError.{DecodeError}
+use Rattle.dnw_base.specs.Names.{AreLabels, wire}
+use Rattle.dnw_base.proofs.Wires.{length_wire}
+use Rattle.dnw_data.specs.declared.kind.Kind.{Kind}
+use Rattle.dnw_data.specs.declared.kind.Kind.TheVariants as kinds
+use Rattle.dnw_data.specs.declared.kind.NameForm.{NameForm}
+use Rattle.dnw_data.specs.declared.kind.NameForm.TheVariants.{Compressible, Lowered, Plain}
+use Rattle.dnw_data.specs.Fields.{FailsField, TakesField, own_at}
+use Rattle.dnw_data.specs.Table.{Row, a6, a6_fields, fields_elsewhere, fields_in, fields_in_internet, fields_of, fields_of_some, is_internet_type, is_like_internet, may_lack_data, table}
+use Rattle.dnw_data.specs.Values.{FieldValue, own_fault, own_size}
+use Rattle.dnw_name_read.proofs.Takes.{TakesName_unique}
+use Rattle.dnw_record.specs.DataPieces.{ArePiecesOf, DataPiece, HasPieces, IsData, IsPieceOf, name_piece, octets_of, octets_piece, piece_octets}
+use Rattle.dnw_record.specs.DataCopies.{alone}
+use Rattle.dnw_record.specs.Inside.Copying.{IsNoName}
+use Rattle.dnw_record.proofs.Pieces.{behind, name_again}
+use Rattle.dnw_message_writer.specs.Data.{AreOfData, AreOfFields, StartsNoName, are_to_compress, is_to_compress, names_among, names_to_compress, whole_octets}
+use Rattle.dnw_message_writer.specs.Inside.Splitting.{HasField, HasNoField, most_pieces}
+use Rattle.dnw_message_writer.specs.declared.pieces.Piece.{Piece}
+
+-- ---- the first field
+
+rest_of : (a rest : List ℕ) (octets : List ℕ) → octets ≡ a ++ rest → drop (length a) octets ≡ rest
+rest_of a rest octets is = ap (drop (length a)) is ∙ drop_at a rest (length a) refl
+
+pub name_field : (form : NameForm) (ls : List (List ℕ)) (octets own : List ℕ) → AreLabels ls → own ≡ wire ls
+    → octets ≡ wire ls ++ drop (length (wire ls)) octets → HasField (kinds.Name form) octets own
+name_field form ls octets own are own_is is =
+    (name_piece form ls, own_is, rw own_is is, (refl, are))
+
+pub no_name_field : (form : NameForm) (octets : List ℕ) → StartsNoName octets → HasNoField (kinds.Name form) octets
+no_name_field form octets none (name_piece own ls) rest is (same, are) = none ls rest are is
+no_name_field form octets none (octets_piece own) rest is wrong = wrong
+
+own_piece : (kind : Kind) (own rest : List ℕ) → IsNoName kind → length own ≡ own_size kind (own ++ rest) → own_fault kind own ≡ None
+    → IsPieceOf kind (octets_piece own) rest
+own_piece (kinds.Name form) own rest other size right = absurd other
+own_piece kind own rest other size right = (size, right)
+
+piece_own : (kind : Kind) (piece : DataPiece) (rest : List ℕ) → IsNoName kind → IsPieceOf kind piece rest
+    → (piece ≡ octets_piece (piece_octets piece)) × (length (piece_octets piece) ≡ own_size kind (piece_octets piece ++ rest)) × (own_fault kind (piece_octets piece) ≡ None)
+piece_own (kinds.Name form) piece rest other is = absurd other
+piece_own kind (name_piece form ls) rest other is = absurd is
+piece_own kind (octets_piece own) rest other (size, right) = (refl, size, right)
+
+pub has_own : (kind : Kind) (octets : List ℕ) (v : FieldValue) (after : Decoder) → IsNoName kind → TakesField kind (alone octets) v after
+    → HasField kind octets (take after.index octets)
+has_own (kinds.Name form) octets v after other takes = absurd other
+has_own kind octets v after other (enough, right, is, there) =
+    let n = own_size kind octets in
+    let at : after.index ≡ n = omega (arith, ap (λ (x : Decoder). x.index) there) in
+    let many : 0 + n - 0 ≡ n = omega arith in
+    let own = take n octets in
+    let own_is : own_at kind (alone octets) ≡ own = ap (λ k. take k octets) many in
+    let size : length own ≡ n = length-take-le n octets (omega (arith, enough)) in
+    let whole : own ++ drop n octets ≡ octets = take-append-drop n octets in
+    let split : octets ≡ own ++ drop (length own) octets = sym (ap (λ k. own ++ drop k octets) size ∙ whole) in
+    let piece : IsPieceOf kind (octets_piece own) (drop (length own) octets) =
+    own_piece kind own (drop (length own) octets) tt (size ∙ ap (own_size kind) split) (ap (own_fault kind) (sym own_is) ∙ right) in
+    subst (λ k. HasField kind octets (take k octets)) (sym at) (octets_piece own, refl, split, piece)
+
+pub has_no_own : (kind : Kind) (octets : List ℕ) (e : DecodeError) → IsNoName kind → FailsField kind (alone octets) e → HasNoField kind octets
+has_no_own (kinds.Name form) octets e other fails = absurd other
+has_no_own kind octets e other (inl (few, is)) = λ piece rest split p.
+    let (own, size, right) = piece_own kind piece rest tt p in
+    few (omega (arith, size, ap (own_size kind) split, ap length split, length-append (piece_octets piece) rest))
+has_no_own kind octets e other (inr (enough, wrong)) = λ piece rest split p.
+    let (own, size, right) = piece_own kind piece rest tt p in
+    let n : own_size kind octets ≡ length (piece_octets piece) = ap (own_size kind) split ∙ sym size in
+    let many : 0 + own_size kind octets - 0 ≡ length (piece_octets piece) = omega (arith, n) in
+    let same : own_at kind (alone octets) ≡ piece_octets piece =
+    ap (λ k. take k octets) many ∙ (ap (take (length (piece_octets piece))) split ∙ take_at (piece_octets piece) rest (length (piece_octets piece)) refl) in
+    none-some e (sym (ap (own_fault kind) same ∙ right) ∙ wrong)
+
+-- in one way
+same_rest : (kind : Kind) (p q : DataPiece) (rest others octets : List ℕ) → octets ≡ piece_octets p ++ rest → octets ≡ piece_octets q ++ others
+    → IsPieceOf kind p rest → IsPieceOf kind q others → rest ≡ others
+same_rest (kinds.Name form) (octets_piece own) q rest others octets is is' h h' = absurd h
+same_rest (kinds.Name form) (name_piece own ls) (octets_piece own') rest others octets is is' h h' = absurd h'
+same_rest (kinds.Name form) (name_piece own ls) (name_piece own' ls') rest others octets is is' (f, are) (f', are') =
+    let (l, k, takes, named) = name_again form ls [] rest are in
+    let (l', k', takes', named') = name_again form ls' [] others are' in
+    let there : wire ls' ++ others ≡ wire ls ++ rest = sym is' ∙ is in
+    let found : l ≡ l' = (TakesName_unique takes (rw there at takes')).0 in
+    let first : ls ≡ l = cc in
+    let second : ls' ≡ l' = cc in
+    let same : ls ≡ ls' = first ∙ (found ∙ sym second) in
+    sym (rest_of (wire ls) rest octets is) ∙ (ap (λ n. drop (length (wire n)) octets) same ∙ rest_of (wire ls') others octets is')
+same_rest kind p q rest others octets is is' h h' =
+    let (own, size, right) = piece_own kind p rest tt h in
+    let (own', size', right') = piece_own kind q others tt h' in
+    let n : length (piece_octets p) ≡ length (piece_octets q) = size ∙ (ap (own_size kind) (sym is ∙ is') ∙ sym size') in
+    sym (rest_of (piece_octets p) rest octets is) ∙ (ap (λ k. drop k octets) n ∙ rest_of (piece_octets q) others octets is')
+
+-- ---- data
+
+pub data_first : (kind : Kind) (others : List Kind) (octets own : List ℕ) → HasField kind octets own → IsData others (drop (length own) octets)
+    → IsData (kind ∷ others) octets
+data_first kind others octets own (piece, own_is, split, is) (pieces, has) =
+    let rest = drop (length own) octets in (
+      piece ∷ pieces,
+      record { are = (subst (λ r. IsPieceOf kind piece r) has.whole is, has.are); whole = split ∙ (ap (λ r. own ++ r) has.whole ∙ ap (λ o. o ++ octets_of pieces) own_is) },
+    )
+
+pub data_rest : (kind : Kind) (others : List Kind) (octets own : List ℕ) → HasField kind octets own → IsData (kind ∷ others) octets
+    → IsData others (drop (length own) octets)
+data_rest kind others octets own first ([], has) = absurd has.are
+data_rest kind others octets own (piece, own_is, split, is) (q ∷ pieces, has) =
+    let same = same_rest kind piece q (drop (length own) octets) (octets_of pieces) octets (split ∙ ap (λ o. o ++ drop (length own) octets) own_is) has.whole is has.are.0 in
+    (pieces, record { are = has.are.1; whole = same })
+
+pub data_none : (kind : Kind) (others : List Kind) (octets : List ℕ) → HasNoField kind octets → IsData (kind ∷ others) octets → ⊥
+data_none kind others octets none ([], has) = has.are
+data_none kind others octets none (piece ∷ pieces, has) = none piece (octets_of pieces) has.whole has.are.0
+
+pub data_empty : (octets : List ℕ) → octets ≡ [] → IsData [] octets
+data_empty octets is = ([], record { are = tt; whole = is })
+
+pub data_over : (octets : List ℕ) → IsData [] octets → octets ≡ []
+data_over octets ([], has) = has.whole
+data_over octets (piece ∷ pieces, has) = absurd has.are
+
+-- ---- pieces
+
+-- the names of the fields that follow one that is none to compress
+passed : (at : ℕ) (kind : Kind) (piece : DataPiece) (fields : List DataPiece) (rest : List ℕ) → IsPieceOf kind piece rest → is_to_compress kind ≡ false
+    → names_to_compress at (piece ∷ fields) ≡ names_to_compress (at + length (piece_octets piece)) fields
+passed at kind (octets_piece own) fields rest is other = refl
+passed at (kinds.Name Compressible) (name_piece form ls) fields rest is other = absurd cc
+passed at (kinds.Name Lowered) (name_piece form ls) fields rest (same, are) other = rw same refl
+passed at (kinds.Name Plain) (name_piece form ls) fields rest (same, are) other = rw same refl
+passed at kind (name_piece form ls) fields rest is other = absurd is
+
+no_names : (ks : List Kind) (fields : List DataPiece) (at : ℕ) → ArePiecesOf ks fields → are_to_compress ks ≡ false → names_to_compress at fields ≡ []
+no_names [] [] at are none = refl
+no_names [] (piece ∷ fields) at are none = absurd are
+no_names (kind ∷ ks) [] at are none = absurd are
+no_names (kind ∷ ks) (piece ∷ fields) at (one, more) none = elim (cases_Bool (is_to_compress kind)) [
+  | inl found ↦ let wrong : true ≡ false = rw found at none in absurd cc
+  | inr other ↦ passed at kind piece fields (octets_of fields) one other ∙ no_names ks fields (at + length (piece_octets piece)) more (rw other at none)
+]
+
+pub of_all : (ks : List Kind) (octets : List ℕ) (xs : List Piece) → are_to_compress ks ≡ false → IsData ks octets → flat_map whole_octets xs ≡ octets
+    → ((at : ℕ) → names_among at xs ≡ []) → AreOfData ks octets xs
+of_all ks octets xs none (fields, has) whole names =
+    (fields, has, record { whole = whole ∙ has.whole; names = λ at. names at ∙ sym (no_names ks fields at has.are none) })
+
+-- a field that is no name to compress is a piece of octets
+pub of_own : (kind : Kind) (ks : List Kind) (octets own : List ℕ) (x : Piece) (xs : List Piece) → is_to_compress kind ≡ false → HasField kind octets own
+    → whole_octets x ≡ own → ((at : ℕ) → names_among at (x ∷ xs) ≡ names_among (at + length own) xs) → AreOfData ks (drop (length own) octets) xs
+    → AreOfData (kind ∷ ks) octets (x ∷ xs)
+of_own kind ks octets own x xs other (piece, own_is, split, is) x_is names (fields, has, of) =
+    let rest = drop (length own) octets in (
+      piece ∷ fields,
+      record { are = (subst (λ r. IsPieceOf kind piece r) has.whole is, has.are); whole = split ∙ (ap (λ r. own ++ r) has.whole ∙ ap (λ o. o ++ octets_of fields) own_is) },
+      record {
+        whole = ap (λ o. o ++ flat_map whole_octets xs) (x_is ∙ own_is) ∙ ap (λ o. piece_octets piece ++ o) of.whole;
+        names = λ at. names at ∙ (of.names (at + length own) ∙ (ap (λ o. names_to_compress (at + length o) fields) own_is ∙ sym (passed at kind piece fields rest is other)));
+      },
+    )
+
+pub compress_name : (kind : Kind) → is_to_compress kind ≡ true → kind ≡ kinds.Name Compressible
+compress_name (kinds.Name Compressible) is = refl
+compress_name (kinds.Name Lowered) is = absurd cc
+compress_name (kinds.Name Plain) is = absurd cc
+compress_name kind is = absurd cc
+
+-- a name to compress is one
+pub of_name : (kind : Kind) (ks : List Kind) (octets : List ℕ) (ls : List (List ℕ)) (x : Piece) (xs : List Piece) → is_to_compress kind ≡ true → AreLabels ls
+    → octets ≡ wire ls ++ drop (length (wire ls)) octets → whole_octets x ≡ wire ls
+    → ((at : ℕ) → names_among at (x ∷ xs) ≡ (at, ls) ∷ names_among (at + length (wire ls)) xs) → AreOfData ks (drop (length (wire ls)) octets) xs
+    → AreOfData (kind ∷ ks) octets (x ∷ xs)
+of_name kind ks octets ls x xs is are split x_is names (fields, has, of) =
+    subst (λ k. AreOfData (k ∷ ks) octets (x ∷ xs)) (sym (compress_name kind is)) (
+      name_piece Compressible ls ∷ fields,
+      record { are = ((refl, are), has.are); whole = split ∙ ap (λ r. wire ls ++ r) has.whole },
+      record {
+        whole = ap (λ o. o ++ flat_map whole_octets xs) x_is ∙ ap (λ o. wire ls ++ o) of.whole;
+        names = λ at. names at ∙ ap (λ more. (at, ls) ∷ more) (of.names (at + length (wire ls)));
+      },
+    )
+
+-- what follows a name is data of the other kinds
+pub data_after : (kind : Kind) (ks : List Kind) (octets : List ℕ) (ls : List (List ℕ)) → is_to_compress kind ≡ true → AreLabels ls
+    → octets ≡ wire ls ++ drop (length (wire ls)) octets → IsData (kind ∷ ks) octets → IsData ks (drop (length (wire ls)) octets)
+data_after kind ks octets ls is are split h =
+    data_rest kind ks octets (wire ls)
+    (subst (λ k. HasField k octets (wire ls)) (sym (compress_name kind is)) (name_field Compressible ls octets (wire ls) are refl split)) h
+
+pub none_after : (kind : Kind) (ks : List Kind) (octets : List ℕ) → is_to_compress kind ≡ true → StartsNoName octets → IsData (kind ∷ ks) octets → ⊥
+none_after kind ks octets is none h =
+    data_none kind ks octets (subst (λ k. HasNoField k octets) (sym (compress_name kind is)) (no_name_field Compressible octets none)) h
+
+-- ---- few pieces
+
+pub some_pieces : (ks : List Kind) → 1 ≤ most_pieces ks
+some_pieces [] = omega arith
+some_pieces (kind ∷ others) = elim (cases_Bool (are_to_compress (kind ∷ others))) [
+  | inl found ↦ rw found (omega arith)
+  | inr none ↦ rw none (omega arith)
+]
+
+pub more_pieces : (ks : List Kind) (kind : Kind) (others : List Kind) → ks ≡ kind ∷ others → are_to_compress ks ≡ true → most_pieces ks ≡ 1 + most_pieces others
+more_pieces ks kind others split is =
+    let found : are_to_compress (kind ∷ others) ≡ true = ap are_to_compress (sym split) ∙ is in
+    ap most_pieces split ∙ rw found refl
+
+abbrev few : List Row → Bool
+few [] = true
+few (row ∷ rows) = nat_le (most_pieces row.fields) 3 && few rows
+
+few_in : (rows : List Row) (code : ℕ) → few rows ≡ true → most_pieces (fields_in rows code) ≤ 3
+few_in [] code are = omega arith
+few_in (row ∷ rows) code are = elim (cases_Bool (nat_le (most_pieces row.fields) 3)) [
+  | inr long ↦ let wrong : false ≡ true = rw long at are in absurd cc
+  | inl short ↦ elim (cases_Bool (row.code == code)) [
+    | inl here ↦
+        let is : fields_in (row ∷ rows) code ≡ row.fields = rw (here, fields_in) refl in
+        omega (arith, ap most_pieces is, leb-true (most_pieces row.fields) 3 short)
+    | inr there ↦
+        let is : fields_in (row ∷ rows) code ≡ fields_in rows code = rw (there, fields_in) refl in
+        omega (arith, ap most_pieces is, few_in rows code (rw short at are))
+  ]
+]
+
+few_internet : (code : ℕ) (octets : List ℕ) → most_pieces (fields_in_internet code octets) ≤ 3
+few_internet code octets = elim (cases_Bool (code == a6)) [
+  | inl is ↦ rw is (few_a6 (slice_index octets 0))
+  | inr other ↦ rw other (few_in table code refl)
+]
+  where
+    few_a6 : (prefix : ℕ) → most_pieces (a6_fields prefix) ≤ 3
+    few_a6 prefix = elim (cases_Bool (prefix == 0)) [
+      | inl none ↦ rw none (omega arith)
+      | inr some ↦ rw some (omega arith)
+    ]
+
+few_elsewhere : (class code : ℕ) → most_pieces (fields_elsewhere class code) ≤ 3
+few_elsewhere class code = elim (cases_Bool (class == 3 && code == 1)) [
+  | inl is ↦ rw is (omega arith)
+  | inr other ↦ rw other (omega arith)
+]
+
+few_some : (class code : ℕ) (octets : List ℕ) → most_pieces (fields_of_some class code octets) ≤ 3
+few_some class code octets = elim (cases_Bool (is_like_internet class || not (is_internet_type code))) [
+  | inl like ↦ rw like (few_internet code octets)
+  | inr other ↦ rw other (few_elsewhere class code)
+]
+
+pub few_pieces : (class code : ℕ) (octets : List ℕ) → most_pieces (fields_of class code octets) ≤ 3
+unfolding fields_of
+few_pieces class code [] = elim (cases_Bool (may_lack_data class code)) [
+  | inl may ↦ rw may (omega arith)
+  | inr must ↦ rw must (few_some class code [])
+]
+few_pieces class code (octet ∷ octets) = few_some class code (octet ∷ octets)

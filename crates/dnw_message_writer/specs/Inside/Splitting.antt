@@ -1,0 +1,19 @@
+-- Data that are taken apart, field by field.
+use Rattle.std.specs.Prelude.{◌≡◌, ℕ, ◌+◌, if◌then◌else◌, List, [], ◌∷◌, ◌++◌, drop, length}
+use Rattle.dnw_data.specs.declared.kind.Kind.{Kind}
+use Rattle.dnw_record.specs.DataPieces.{DataPiece, IsPieceOf, piece_octets}
+use Rattle.dnw_message_writer.specs.Data.{are_to_compress}
+
+-- The octets begin with a field of this kind.
+abbrev pub HasField : Kind → List ℕ → List ℕ → Type 0
+HasField kind octets own =
+    (piece : DataPiece) × (own ≡ piece_octets piece) × (octets ≡ own ++ drop (length own) octets) × IsPieceOf kind piece (drop (length own) octets)
+
+-- They begin with none.
+abbrev pub HasNoField : Kind → List ℕ → Type 0
+HasNoField kind octets = (piece : DataPiece) (rest : List ℕ) → octets ≡ piece_octets piece ++ rest → IsPieceOf kind piece rest → ⊥
+
+-- no data with fields of these kinds have more pieces
+abbrev pub most_pieces : List Kind → ℕ
+most_pieces [] = 1
+most_pieces (kind ∷ others) = if are_to_compress (kind ∷ others) then 1 + most_pieces others else 1

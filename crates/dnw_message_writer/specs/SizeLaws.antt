@@ -1,0 +1,81 @@
+-- How many octets items take. Each is the clause of a public function, and so proved.
+use Rattle.std.specs.Prelude.{◌≢◌, ℕ, ◌+◌, ◌<◌, ◌≤◌, ◌⊎◌, List, [], ◌∷◌, slice_index, take}
+use Rattle.std.specs.List.{AllByRecursion}
+use Rattle.dnw_base.specs.Limits.{pointer_bits, pointer_offsets}
+use Rattle.dnw_base.specs.Names.{AreLabels, encoded_size}
+use Rattle.dnw_message_writer.specs.Contents.{AddedQuestion, AddedRecord}
+use Rattle.dnw_message_writer.specs.Inside.Fitting.{HasLabels, whole_size}
+use Rattle.dnw_message_writer.specs.Items.{IsNear, IsQuestion, IsRecord, QuestionGoesPast, RecordGoesPast, fields_of_record}
+use Rattle.dnw_message_writer.specs.Standing.{first_item}
+use Rattle.dnw_message_writer.specs.States.{AddsItem, BeginsMessage, FailsToAdd, room_of}
+use Rattle.dnw_message_writer.specs.declared.pieces.Piece.{Piece}
+use Rattle.dnw_message_writer.specs.declared.section.Section.{Section}
+use Rattle.dnw_message_writer.specs.declared.section.Section.TheVariants.{Queries}
+use Rattle.dnw_message_writer.specs.declared.section.WriteError.TheVariants.{NoRoom}
+use Rattle.dnw_message_writer.specs.declared.state.WriterState.{WriterState}
+
+-- the octets of pieces with their names whole
+abbrev pub whole_pieces : List Piece → ℕ
+whole_pieces [] = 0
+whole_pieces (x ∷ xs) = whole_size x + whole_pieces xs
+
+-- the octets of a question and of a record with their names whole
+abbrev pub whole_question : AddedQuestion → ℕ
+whole_question q = encoded_size q.name + 4
+
+abbrev pub whole_record : AddedRecord → ℕ
+whole_record r = encoded_size r.owner + 10 + whole_pieces r.pieces
+
+-- A question takes no more octets than with its name whole, and has no room only if it would have none so.
+abbrev pub QuestionsTakeNoMore : Type 0
+QuestionsTakeNoMore = (slot : List (List ℕ) → ℕ) (q : AddedQuestion) (w : WriterState) (old : List ℕ) → AreLabels q.name
+    → ((v : WriterState) (new : List ℕ) → AddsItem Queries (λ b near hints octets after. IsQuestion slot b near hints q.name q.query_type q.class octets after) w old v new
+    → v.end ≤ w.end + whole_question q)
+    × (FailsToAdd Queries (λ limit b near hints. QuestionGoesPast slot limit b near hints q.name) w old NoRoom → room_of w old < w.end + whole_question q)
+
+-- So does a record.
+abbrev pub RecordsTakeNoMore : Type 0
+RecordsTakeNoMore = (slot : List (List ℕ) → ℕ) (s : Section) (r : AddedRecord) (w : WriterState) (old : List ℕ) → AreLabels r.owner
+    → AllByRecursion HasLabels r.pieces
+    → ((v : WriterState) (new : List ℕ)
+    → AddsItem s (λ b near hints octets after. IsRecord slot b near hints r.owner (fields_of_record r.record_type r.class r.ttl) r.pieces octets after) w old v new
+    → v.end ≤ w.end + whole_record r)
+    × (FailsToAdd s (λ limit b near hints. RecordGoesPast slot limit b near hints r.owner (fields_of_record r.record_type r.class r.ttl) r.pieces) w old NoRoom
+    → room_of w old < w.end + whole_record r)
+
+-- ---- owners that repeat
+
+-- No hint is the offset of a pointer: it is in the header, where none may point to, or that of a label of the message.
+abbrev pub HintsAtLabels : WriterState → List ℕ → Type 0
+HintsAtLabels w m =
+    (i : ℕ) → first_item ≤ slice_index w.hints i → (slice_index w.hints i < w.end) × (slice_index m (slice_index w.hints i) < pointer_bits)
+
+abbrev pub HintsBegin : Type 0
+HintsBegin = (id flags max_size : ℕ) (old new : List ℕ) (w : WriterState) → BeginsMessage id flags max_size old w new → HintsAtLabels w new
+
+-- A pointer may stand for the owner of the next item, if it is this one.
+abbrev pub IsNearNext : WriterState → List ℕ → List (List ℕ) → Type 0
+IsNearNext w m ls = IsNear (take w.end m) w.owner ls
+
+-- So it is after a question with this name, and the hints are still so. It begins at an offset that a pointer can hold, or a pointer stood
+-- for the name already.
+abbrev pub QuestionsAreNear : Type 0
+QuestionsAreNear = (slot : List (List ℕ) → ℕ) (q : AddedQuestion) (w v : WriterState) (old new : List ℕ) → HintsAtLabels w old → AreLabels q.name
+    → AddsItem Queries (λ b near hints octets after. IsQuestion slot b near hints q.name q.query_type q.class octets after) w old v new
+    → HintsAtLabels v new
+    × (q.name ≢ [] → (w.end < pointer_offsets) ⊎ IsNearNext w old q.name → IsNearNext v new q.name)
+
+-- So it is after a record with this owner.
+abbrev pub RecordsAreNear : Type 0
+RecordsAreNear = (slot : List (List ℕ) → ℕ) (s : Section) (r : AddedRecord) (w v : WriterState) (old new : List ℕ) → HintsAtLabels w old
+    → AreLabels r.owner → AllByRecursion HasLabels r.pieces
+    → AddsItem s (λ b near hints octets after. IsRecord slot b near hints r.owner (fields_of_record r.record_type r.class r.ttl) r.pieces octets after) w old v new
+    → HintsAtLabels v new
+    × (r.owner ≢ [] → (w.end < pointer_offsets) ⊎ IsNearNext w old r.owner → IsNearNext v new r.owner)
+
+-- Then an owner takes two octets.
+abbrev pub NearOwnersTakeTwo : Type 0
+NearOwnersTakeTwo = (slot : List (List ℕ) → ℕ) (s : Section) (r : AddedRecord) (w v : WriterState) (old new : List ℕ) → IsNearNext w old r.owner
+    → AllByRecursion HasLabels r.pieces
+    → AddsItem s (λ b near hints octets after. IsRecord slot b near hints r.owner (fields_of_record r.record_type r.class r.ttl) r.pieces octets after) w old v new
+    → v.end ≤ w.end + (2 + 10 + whole_pieces r.pieces)

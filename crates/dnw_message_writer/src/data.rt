@@ -1,0 +1,199 @@
+//! The data of records as pieces, by the table of the fields of each type.
+ghost use Rattle.std.specs.Prelude.{◌≡◌, ◌↔◌, ◌+◌, ◌<◌, ◌≤◌, ◌∷◌, ◌++◌, [], List, length, drop, take, IfSome, IfNone, IsTrue, true, false};
+ghost use Rattle.dnw_base.specs.Names.{AreLabels, wire};
+ghost use Rattle.dnw_data.specs.Table.{fields_of};
+ghost use Rattle.dnw_message_writer.specs.Data.{AreOfData, StartsNoName, are_to_compress, is_to_compress};
+ghost use Rattle.dnw_message_writer.specs.Inside.Splitting.{HasField, HasNoField, most_pieces};
+ghost use Rattle.dnw_message_writer.specs.declared.pieces.Piece.{Piece};
+ghost use Rattle.dnw_record.specs.DataPieces.{IsData};
+ghost use Rattle.dnw_record.specs.Inside.Copying.{IsNoName};
+
+use crate::pieces::Piece;
+use arrayvec::ArrayVec;
+use dnw_base::decoder::BinDecoder;
+use dnw_base::dns_class::DNSClass;
+use dnw_base::limits::{MAX_LABEL, MAX_NAME};
+use dnw_base::record_type::RecordType;
+use dnw_data::field::Field;
+use dnw_data::kind::{Kind, NameForm};
+use dnw_data::table::fields_of;
+use dnw_name_form::wire_labels::WireLabels;
+use std::marker::Model;
+
+/// No data have more pieces: those of SOA are two names and octets.
+const MOST_PIECES: usize = 3;
+
+/// The pieces of the data of a record.
+///
+/// A contract sees them as their list.
+#[derive(Drop)]
+pub struct Pieces<'a> {
+    all: ArrayVec<Piece<'a>, MOST_PIECES>,
+}
+
+impl<'a> Model for Pieces<'a> {
+    ghost use Rattle.std.specs.Prelude.{List};
+    ghost use Rattle.dnw_message_writer.specs.declared.pieces.Piece.{Piece};
+
+    ghost Value = { List Piece };
+
+    ghost view = { λ it. it.all.items };
+}
+
+impl<'a> Pieces<'a> {
+    /// Returns them one after the other.
+    #[inline(always)]
+    pub fn as_slice(&self) -> &[Piece<'a>]
+        ensures { result.now ≡ self.now }
+    {
+        self.all.as_slice()
+    }
+
+    /// Creates none.
+    #[inline(always)]
+    fn new() -> Self
+        ensures { result ≡ [] }
+    {
+        Pieces {
+            all: ArrayVec::new(),
+        }
+    }
+
+    /// Adds one at the end.
+    #[inline(always)]
+    fn push(&mut self, piece: Piece<'a>)
+        requires { length self.old < 3 }
+        ensures { self.new ≡ self.old ++ piece.entry ∷ [] }
+    {
+        self.all.push(piece);
+    }
+}
+
+/// Returns the pieces of data of a class and a type, by their codes: the names that may be compressed, which are those of the types of
+/// RFC 1035 (RFC 3597, section 4), and the octets between them. Returns `None` if the octets are not data of the class and type, with
+/// every name in its wire form. Nothing is allocated.
+pub fn pieces_of(class: u16, record_type: u16, octets: &[u8]) -> Option<Pieces<'_>>
+    ensures some { IfSome result (AreOfData (fields_of class record_type octets.now) octets.now) }
+    ensures none { IfNone result (IsData (fields_of class record_type octets.now) octets.now → ⊥) }
+{
+    let class = DNSClass::from(class);
+    let record_type = RecordType::from(record_type);
+    let kinds = fields_of(class, record_type, octets);
+    let mut pieces = Pieces::new();
+    if split(kinds, octets, &mut pieces) {
+        Some(pieces)
+    } else {
+        None
+    }
+}
+
+/// Adds the pieces of data with fields of these kinds, or returns `false` if the octets are no such data.
+fn split<'a>(kinds: &[Kind], octets: &'a [u8], pieces: &mut Pieces<'a>) -> bool
+    requires few { length pieces.old + most_pieces kinds.now ≤ 3 }
+    ensures are { IsTrue result → (xs : List Piece) × (pieces.new ≡ pieces.old ++ xs) × AreOfData kinds.now octets.now xs }
+    ensures none { result ≡ false → IsData kinds.now octets.now → ⊥ }
+{
+    if !are_to_compress(kinds) {
+        if !are_data(kinds, octets) {
+            return false;
+        }
+        if !octets.is_empty() {
+            pieces.push(Piece::Octets(octets));
+        }
+        return true;
+    }
+    let Some((kind, others)) = kinds.split_first() else {
+        return false;
+    };
+    if is_to_compress(*kind) {
+        let Some(labels) = whole_name(octets) else {
+            return false;
+        };
+        let rest = &octets[labels.as_wire().len()..];
+        pieces.push(Piece::Name(labels));
+        return split(others, rest, pieces);
+    }
+    let Some(own) = first_field(*kind, octets) else {
+        return false;
+    };
+    let rest = &octets[own.len()..];
+    pieces.push(Piece::Octets(own));
+    split(others, rest, pieces)
+}
+
+/// Returns `true` if a field of this kind is a name that may be compressed.
+fn is_to_compress(kind: Kind) -> bool
+    ensures { result ≡ is_to_compress kind }
+{
+    matches!(kind, Kind::Name(NameForm::Compressible))
+}
+
+/// Returns `true` if one of the kinds is that of a name that may be compressed.
+fn are_to_compress(kinds: &[Kind]) -> bool
+    ensures { result ≡ are_to_compress kinds.now }
+{
+    let Some((kind, others)) = kinds.split_first() else {
+        return false;
+    };
+    is_to_compress(*kind) || are_to_compress(others)
+}
+
+/// Returns `true` if the octets are data with fields of these kinds.
+fn are_data(kinds: &[Kind], octets: &[u8]) -> bool
+    ensures { IsTrue result ↔ IsData kinds.now octets.now }
+{
+    let Some((kind, others)) = kinds.split_first() else {
+        return octets.is_empty();
+    };
+    let Some(own) = first_field(*kind, octets) else {
+        return false;
+    };
+    let rest = &octets[own.len()..];
+    are_data(others, rest)
+}
+
+/// Returns the octets of the field of this kind that the octets begin with.
+fn first_field(kind: Kind, octets: &[u8]) -> Option<&[u8]>
+    ensures some { IfSome result (λ own. HasField kind octets.now own.now) }
+    ensures none { IfNone result (HasNoField kind octets.now) }
+{
+    match kind {
+        Kind::Name(_) => {
+            let labels = whole_name(octets)?;
+            Some(labels.as_wire())
+        }
+        _ => own_field(kind, octets),
+    }
+}
+
+/// Returns the octets of the field of this kind, no name, that the octets begin with.
+fn own_field(kind: Kind, octets: &[u8]) -> Option<&[u8]>
+    requires { IsNoName kind }
+    ensures some { IfSome result (λ own. HasField kind octets.now own.now) }
+    ensures none { IfNone result (HasNoField kind octets.now) }
+{
+    let mut reader = BinDecoder::new(octets);
+    let Ok(_) = Field::read(kind, &mut reader) else {
+        return None;
+    };
+    Some(&octets[..reader.index()])
+}
+
+/// Returns the labels of the name whose wire form the octets begin with, or `None` if they begin with none (RFC 1035, section 3.1).
+pub fn whole_name(octets: &[u8]) -> Option<WireLabels<'_>>
+    ensures some { IfSome result (λ labels. AreLabels labels × (octets.now ≡ wire labels ++ drop (length (wire labels)) octets.now)) }
+    ensures none { IfNone result (StartsNoName octets.now) }
+{
+    let mut at = 0;
+    'labels: while at < octets.len() && at < MAX_NAME {
+        let len = octets[at] as usize;
+        if len == 0 {
+            return Some(WireLabels::new(&octets[..at + 1]));
+        }
+        if len > MAX_LABEL {
+            return None;
+        }
+        at += 1 + len;
+    }
+    None
+}

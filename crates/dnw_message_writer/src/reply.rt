@@ -1,0 +1,197 @@
+//! Replies, as they begin (RFC 1035, section 4.1.1; RFC 6891, section 7; RFC 9619).
+ghost use Rattle.std.specs.Prelude.{◌≡◌, ◌↔◌, ◌≤◌, length, IfErr, IfOk, IsTrue, OnErr, OnOk};
+ghost use Rattle.dnw_message_writer.specs.Replies.{AsksByEdns, AsksOf, BeginsAsked, FailsToBeginAsked, FailsToReply, IsRequest, BeginsReplyTo, field_at, nothing_asked, reply_code, reply_flags};
+
+use crate::section::WriteError;
+use crate::standing::FIRST_ITEM;
+use crate::state::WriterState;
+use dnw_base::limits::{MAX_NAME, MIN_PAYLOAD};
+use dnw_message_read::message::MessageRef;
+use dnw_message_read::query::QueryRef;
+use thiserror::Error;
+
+/// The octets of an `OPT` record without options.
+const OPT_SIZE: usize = 11;
+
+/// The response code of a request that is not understood (RFC 1035, section 4.1.1).
+const FORMAT_ERROR: u16 = 1;
+
+/// The response code of a request with a version of EDNS that is not known (RFC 6891, section 6.1.3).
+const BAD_VERSION: u16 = 16;
+
+/// What a request asks of its reply.
+#[derive(Clone, Copy, Debug, PartialEq, Eq)]
+pub struct Asked {
+    /// Whether the reply is to have an `OPT` record, for which 11 octets are held back.
+    pub has_edns: bool,
+    /// The size of the messages that the sender accepts, in octets: 512 without EDNS.
+    pub max_payload: u16,
+    /// Whether the sender accepts DNSSEC records.
+    pub dnssec_ok: bool,
+    /// The response code that the reply has to have: 1 (FORMERR), 16 (BADVERS), or 0 if the server chooses it.
+    pub rcode: u16,
+}
+
+/// Why no reply was begun.
+#[derive(Debug, Drop, Error, PartialEq, Eq)]
+pub enum ReplyError {
+    /// The request has no header, or is a reply itself.
+    #[error("the octets are no request")]
+    NoRequest,
+    /// The header or the question has no room.
+    #[error("{0}")]
+    Write(WriteError),
+}
+
+impl From<WriteError> for ReplyError {
+    ghost use Rattle.std.specs.Prelude.{◌≡◌};
+    ghost use Rattle.dnw_message_writer.specs.declared.reply.ReplyError.TheVariants.{Write};
+
+    ghost from_gives = { λ error e. e ≡ Write error };
+
+    fn from(error: WriteError) -> Self {
+        ReplyError::Write(error)
+    }
+}
+
+impl WriterState {
+    /// Begins the reply to a request: with its id, operation, RD and CD, and its question. AA, RA, AD and the response code are those
+    /// of `flags`. Returns what the request asks.
+    ///
+    /// A request that cannot be read, or has more than one question (RFC 9619), or breaks a rule of EDNS, is answered with FORMERR and
+    /// without an `OPT` record (RFC 6891, section 7); one of another version of EDNS with BADVERS, whose high bits the `OPT` record has
+    /// to have. If it fails, the state is unchanged, but the octets of the message may have changed.
+    pub fn reply_to(
+        &mut self,
+        message: &mut [u8],
+        request: &[u8],
+        flags: u16,
+        max_size: usize,
+    ) -> Result<Asked, ReplyError>
+        ensures ok { IfOk result (λ asked. BeginsReplyTo request.now flags max_size asked message.old self.new message.new) }
+        ensures err { IfErr result (FailsToReply request.now flags max_size message.old) }
+        ensures same { OnErr result (self.new ≡ self.old) }
+    {
+        if !is_request(request) {
+            return Err(ReplyError::NoRequest);
+        }
+        let (asked, query) = asked_of(request);
+        let saved = *self;
+        let id = field_at(request, 0);
+        let own = reply_flags(field_at(request, 2), flags, reply_code(asked, flags));
+        let begun = self.begin_with(message, id, own, max_size, query);
+        if let Err(error) = begun {
+            *self = saved;
+            return Err(ReplyError::Write(error));
+        }
+        if asked.has_edns {
+            self.hold_back(OPT_SIZE);
+        }
+        Ok(asked)
+    }
+
+    /// Begins a message with a question, if there is one.
+    fn begin_with(
+        &mut self,
+        message: &mut [u8],
+        id: u16,
+        flags: u16,
+        max_size: usize,
+        query: Option<QueryRef<'_>>,
+    ) -> Result<(), WriteError>
+        ensures ok { OnOk result (BeginsAsked query.entry id flags max_size message.old self.new message.new) }
+        ensures err { IfErr result (FailsToBeginAsked query.entry id flags max_size message.old) }
+    {
+        self.begin(message, id, flags, max_size)?;
+        let Some(query) = query else {
+            return Ok(());
+        };
+        let mut room = [0; MAX_NAME];
+        let query_type = u16::from(query.query_type());
+        let class = u16::from(query.query_class());
+        self.question(
+            message,
+            query.name().wire_labels(&mut room),
+            query_type,
+            class,
+        )
+    }
+}
+
+/// Returns `true` if the octets have a header, which is that of a request.
+fn is_request(octets: &[u8]) -> bool
+    ensures { IsTrue result ↔ IsRequest octets.now }
+{
+    octets.len() >= FIRST_ITEM && octets[2] < 128
+}
+
+/// Returns the number that two octets are.
+fn field_at(octets: &[u8], at: usize) -> u16
+    requires few { at ≤ 10 }
+    requires header { 12 ≤ length octets.now }
+    ensures { result ≡ field_at octets.now at }
+{
+    u16::from_be_bytes([octets[at], octets[at + 1]])
+}
+
+/// Returns the flags of a reply.
+fn reply_flags(requested: u16, own: u16, code: u16) -> u16
+    ensures { result ≡ reply_flags requested own code }
+{
+    0x8000 | (requested & 0x7910) | (own & 0x04a0) | code
+}
+
+/// Returns the low four bits of the response code of a reply.
+fn reply_code(asked: Asked, flags: u16) -> u16
+    ensures { result ≡ reply_code asked flags }
+{
+    if asked.rcode == 0 {
+        return flags % 16;
+    }
+    asked.rcode % 16
+}
+
+/// Returns what a request asks, and the question that its reply repeats.
+fn asked_of(request: &[u8]) -> (Asked, Option<QueryRef<'_>>)
+    ensures { AsksOf request.now result.0 result.1 }
+{
+    let Ok(message) = MessageRef::read(request) else {
+        return (nothing_asked(FORMAT_ERROR), None);
+    };
+    let mut queries = message.queries();
+    let first = queries.next();
+    if queries.next().is_some() {
+        return (nothing_asked(FORMAT_ERROR), None);
+    }
+    (asked_by_edns(&message), first)
+}
+
+/// Returns what a message asks by EDNS.
+fn asked_by_edns(message: &MessageRef<'_>) -> Asked
+    ensures { AsksByEdns message.now result }
+{
+    let Ok(edns) = message.edns() else {
+        return nothing_asked(FORMAT_ERROR);
+    };
+    let Some(edns) = edns else {
+        return nothing_asked(0);
+    };
+    Asked {
+        has_edns: true,
+        max_payload: edns.max_payload(),
+        dnssec_ok: edns.dnssec_ok(),
+        rcode: if edns.version() > 0 { BAD_VERSION } else { 0 },
+    }
+}
+
+/// Returns what a request without EDNS asks.
+fn nothing_asked(rcode: u16) -> Asked
+    ensures { result ≡ nothing_asked rcode }
+{
+    Asked {
+        has_edns: false,
+        max_payload: MIN_PAYLOAD,
+        dnssec_ok: false,
+        rcode,
+    }
+}
