@@ -20,6 +20,9 @@ use Rattle.dnw_record.specs.RecordFields.{record_fields}
 use Rattle.dnw_zone_values.specs.Octets.{IsOctets}
 use Rattle.dnw_zone_svcb.proofs.ParamTextsBack.{drop_fit, take_fit}
 use Rattle.dnw_data.specs.FieldWires.{field_wire}
+use Rattle.dnw_zone_data.specs.declared.number_form.NumberForm.{NumberForm}
+use Rattle.dnw_zone_data.specs.declared.number_form.NumberForm.TheVariants.{Decimal}
+use Rattle.dnw_zone_data.specs.NumberForms.{first_form, number_forms, other_forms}
 use Rattle.dnw_zone_data.specs.Words.{is_end, word, after_spaces}
 use Rattle.dnw_zone_data.specs.Generic.{generic_mark, IsGeneric}
 use Rattle.dnw_base.specs.Limits.{max_data}
@@ -89,7 +92,7 @@ turn_rest kind (next ∷ kinds) turn = (and_parts (not (takes_all kind)) (are_in
 
 -- a text is these fields, whatever the origin
 record AreBack (kinds : List Kind) (text : List ℕ) (values : List FieldValue) : Type 0 where
-  reads : (origin : Option NameValue) → AreFieldTexts origin kinds text values
+  reads : (origin : Option NameValue) (ways : List NumberForm) → AreFieldTexts origin ways kinds text values
   other : word (after_spaces text) ≢ generic_mark
   begins : is_end text ≡ true
 
@@ -98,16 +101,16 @@ one_back : (kind : Kind) (kinds : List Kind) (after : Decoder) (value : FieldVal
     → AreBack (kind ∷ kinds) (own ++ others) (value ∷ values)
 one_back kind kinds after value own others values turn back print prints rest =
     let follows : FollowsField kind others = (λ all. turn_ends kind kinds after others turn all prints, rest.begins) in
-    let first = back None own others print follows in
+    let first = back None Decimal own others print follows in
     record {
-      reads = λ origin. (others, (back origin own others print follows).0, rest.reads origin);
+      reads = λ origin ways. (others, (back origin (first_form ways) own others print follows).0, rest.reads origin (other_forms ways));
       other = first.1;
       begins = end_append own others first.2 rest.begins;
     }
 
 fields_back : (kinds : List Kind) (d : Decoder) (text : List ℕ) → are_in_turn kinds ≡ true → AreBytes d.bytes → PrintsFields kinds d text
     → (values : List FieldValue) × AreWire kinds d (flat_map field_wire values) × (length (flat_map field_wire values) ≤ max_data → AreBack kinds text values)
-fields_back [] d text turn h (end, none) = ([], (end, refl), λ few. rw none (record { reads = λ origin. refl; other = λ e. cc; begins = refl }))
+fields_back [] d text turn h (end, none) = ([], (end, refl), λ few. rw none (record { reads = λ origin ways. refl; other = λ e. cc; begins = refl }))
 fields_back (kind ∷ kinds) d text turn h (value, after, own, others, takes, print, prints, e) =
     let same = (moves_on kind d after value takes).1 in
     let bytes : AreBytes after.bytes = subst AreBytes (sym same) h in
@@ -127,12 +130,12 @@ no_space (c ∷ text) = elim (cases_Bool (c == 32)) [
   | inr other ↦ let kept : without_space (c ∷ text) ≡ c ∷ text = rw other refl in ap after_spaces kept
 ]
 
-pub same_start : (origin : Option NameValue) (kinds : List Kind) (text start : List ℕ) (values : List FieldValue) → after_spaces start ≡ after_spaces text
-    → AreFieldTexts origin kinds text values → AreFieldTexts origin kinds start values
-same_start origin [] text start [] e are = e ∙ are
-same_start origin [] text start (v ∷ values) e are = are
-same_start origin (kind ∷ kinds) text start [] e are = are
-same_start origin (kind ∷ kinds) text start (v ∷ values) e are = rw e are
+pub same_start : (origin : Option NameValue) (ways : List NumberForm) (kinds : List Kind) (text start : List ℕ) (values : List FieldValue) → after_spaces start ≡ after_spaces text
+    → AreFieldTexts origin ways kinds text values → AreFieldTexts origin ways kinds start values
+same_start origin ways [] text start [] e are = e ∙ are
+same_start origin ways [] text start (v ∷ values) e are = are
+same_start origin ways (kind ∷ kinds) text start [] e are = are
+same_start origin ways (kind ∷ kinds) text start (v ∷ values) e are = rw e are
 
 -- ---- data
 
@@ -149,9 +152,10 @@ text_alike (kind ∷ kinds) d printed (c ∷ cs) form prints shown e = λ none. 
 
 own_back : (origin : Option NameValue) (r : RecordValue) (text : List ℕ) → AreBytes r.message → IsOwnText (record_fields r) text
     → (own : List ℕ) × IsPlainData r own
-    × ((max_data < length own) ⊎ IsGeneric text own ⊎ IsTextOf origin (fields_of (class_code r.class) (type_code r.record_type)) text own)
+    × ((max_data < length own) ⊎ IsGeneric text own ⊎ IsTextOf origin (number_forms (type_code r.record_type)) (fields_of (class_code r.class) (type_code r.record_type)) text own)
 own_back origin r text h (form, printed, prints, shown, e) =
     let fields = fields_of (class_code r.class) (type_code r.record_type) in
+    let ways = number_forms (type_code r.record_type) in
     let d = (record_fields r).reader in
     let left = drop d.index d.bytes in
     let kinds = fields left in
@@ -167,8 +171,8 @@ own_back origin r text h (form, printed, prints, shown, e) =
         | inl many ↦ inl many
         | inr few ↦
             let are = back few in
-            inr (inr (inr (subst (λ (ks : List Kind). IsFieldsText origin ks text own) (sym same)
-            (λ marked. are.other (ap word (sym start) ∙ marked), form, values, same_start origin kinds printed text values start (are.reads origin), refl))))
+            inr (inr (inr (subst (λ (ks : List Kind). IsFieldsText origin ways ks text own) (sym same)
+            (λ marked. are.other (ap word (sym start) ∙ marked), form, values, same_start origin ways kinds printed text values start (are.reads origin ways), refl))))
       ],
     )
 

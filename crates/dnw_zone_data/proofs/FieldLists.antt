@@ -4,32 +4,40 @@ use Rattle.std.specs.Prelude.{Option, Some, flat_map}
 use Rattle.dnw_base.specs.Names.{NameValue}
 use Rattle.dnw_data.specs.declared.kind.Kind.{Kind}
 use Rattle.dnw_data.specs.Values.{FieldValue}
+use Rattle.dnw_zone_data.specs.declared.number_form.NumberForm.{NumberForm}
+use Rattle.dnw_zone_data.specs.NumberForms.{first_form, other_forms}
 use Rattle.dnw_zone_data.specs.declared.error.DataTextError.{DataTextError}
-use Rattle.dnw_zone_data.specs.declared.error.Wanted.TheVariants.{Field}
-use Rattle.dnw_zone_data.specs.Faults.{fault}
+use Rattle.dnw_zone_data.specs.declared.error.Wanted.{Wanted}
+use Rattle.dnw_zone_data.specs.Faults.{fault, wanted_of}
 use Rattle.dnw_zone_data.specs.Words.{after_spaces}
 use Rattle.dnw_zone_data.specs.Parsing.{ReadsField, AreFieldTexts, FailsFields}
 use Rattle.dnw_data.specs.FieldWires.{field_wire}
 use Rattle.dnw_zone_data.specs.Inside.Reads.{AppendsRest}
 
-pub field_missing : (origin : Option NameValue) (count len : ℕ) (kinds others : List Kind) (kind : Kind) (left start : List ℕ) → kinds ≡ kind ∷ others
-    → start ≡ after_spaces left → ((value : FieldValue) (rest : List ℕ) → ¬ (ReadsField origin kind start value rest))
-    → FailsFields origin count len kinds left (fault (count - length kinds) (len - length start) (Field kind))
-field_missing origin count len kinds others kind left start e s none =
-    let none-there = subst (λ (xs : List ℕ). (value : FieldValue) (rest : List ℕ) → ¬ (ReadsField origin kind xs value rest)) s none in
-    rw (e, s) (inl (none-there, refl))
+pub field_missing : (origin : Option NameValue) (count len : ℕ) (ways : List NumberForm) (way : NumberForm) (kinds others : List Kind) (kind : Kind) (left start : List ℕ) (wanted : Wanted)
+    → kinds ≡ kind ∷ others → start ≡ after_spaces left → way ≡ first_form ways → wanted ≡ wanted_of way kind
+    → ((value : FieldValue) (rest : List ℕ) → ¬ (ReadsField origin way kind start value rest))
+    → FailsFields origin count len ways kinds left (fault (count - length kinds) (len - length start) wanted)
+field_missing origin count len ways way kinds others kind left start wanted e s f w none =
+    let here = subst (λ (x : NumberForm). (value : FieldValue) (rest : List ℕ) → ¬ (ReadsField origin x kind start value rest)) f none in
+    let there = subst (λ (xs : List ℕ). (value : FieldValue) (rest : List ℕ) → ¬ (ReadsField origin (first_form ways) kind xs value rest)) s here in
+    let same : wanted ≡ wanted_of (first_form ways) kind = w ∙ ap (λ (x : NumberForm). wanted_of x kind) f in
+    rw (e, s, same) (inl (there, refl))
 
-abbrev pub AreAppended : Option NameValue → List Kind → List ℕ → List ℕ → List ℕ → Type 0
-AreAppended origin kinds left old new = (values : List FieldValue) × AreFieldTexts origin kinds left values × (new ≡ old ++ flat_map field_wire values)
+abbrev pub AreAppended : Option NameValue → List NumberForm → List Kind → List ℕ → List ℕ → List ℕ → Type 0
+AreAppended origin ways kinds left old new = (values : List FieldValue) × AreFieldTexts origin ways kinds left values × (new ≡ old ++ flat_map field_wire values)
 
-pub field_more : (origin : Option NameValue) (kinds others : List Kind) (kind : Kind) (left start rest old mid new : List ℕ) (r : Result Unit DataTextError)
-    → kinds ≡ kind ∷ others → start ≡ after_spaces left → AppendsRest (ReadsField origin kind start) old mid (Some rest)
-    → IfOk r (λ _. AreAppended origin others rest mid new) → IfOk r (λ _. AreAppended origin kinds left old new)
-field_more origin kinds others kind left start rest old mid new (Err x) e s h are = tt
-field_more origin kinds others kind left start rest old mid new (Ok x) e s h are =
-    let reads = subst (λ (xs : List ℕ). ReadsField origin kind xs h.0 rest) s h.1 in
-    let all : AreFieldTexts origin (kind ∷ others) left (h.0 ∷ are.0) = (rest, reads, are.1) in (
+pub field_more : (origin : Option NameValue) (ways ways_after : List NumberForm) (way : NumberForm) (kinds others : List Kind) (kind : Kind) (left start rest old mid new : List ℕ) (r : Result Unit DataTextError)
+    → kinds ≡ kind ∷ others → start ≡ after_spaces left → way ≡ first_form ways → ways_after ≡ other_forms ways
+    → AppendsRest (ReadsField origin way kind start) old mid (Some rest)
+    → IfOk r (λ _. AreAppended origin ways_after others rest mid new) → IfOk r (λ _. AreAppended origin ways kinds left old new)
+field_more origin ways ways_after way kinds others kind left start rest old mid new (Err x) e s f o h are = tt
+field_more origin ways ways_after way kinds others kind left start rest old mid new (Ok x) e s f o h are =
+    let here = subst (λ (w : NumberForm). ReadsField origin w kind start h.0 rest) f h.1 in
+    let reads = subst (λ (xs : List ℕ). ReadsField origin (first_form ways) kind xs h.0 rest) s here in
+    let more = subst (λ (ws : List NumberForm). AreFieldTexts origin ws others rest are.0) o are.1 in
+    let all : AreFieldTexts origin ways (kind ∷ others) left (h.0 ∷ are.0) = (rest, reads, more) in (
       h.0 ∷ are.0,
-      subst (λ ks. AreFieldTexts origin ks left (h.0 ∷ are.0)) (sym e) all,
+      subst (λ ks. AreFieldTexts origin ways ks left (h.0 ∷ are.0)) (sym e) all,
       are.2 ∙ ap (λ (xs : List ℕ). xs ++ flat_map field_wire are.0) h.2 ∙ append_assoc old (field_wire h.0) (flat_map field_wire are.0),
     )

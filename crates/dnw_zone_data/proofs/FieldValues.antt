@@ -111,38 +111,38 @@ field_back (kinds.Counted Hex) d value after h takes few = by_value (kinds.Count
 field_back (kinds.Counted Base32Hex) d value after h takes few =
     let own = drop 1 (own_at (kinds.Counted Base32Hex) d) in
     let is = counted_fit Base32Hex d h takes.0 in
-    by_value (kinds.Counted Base32Hex) value (counted own) takes.2 (λ origin text rest print end. hash_back own (is.0, print.0, is.1) origin text rest print end)
+    by_value (kinds.Counted Base32Hex) value (counted own) takes.2 (λ origin way text rest print end. hash_back own (is.0, print.0, is.1) origin way text rest print end)
 field_back (kinds.Counted Base64) d value after h takes few =
-    by_value (kinds.Counted Base64) value (counted (drop 1 (own_at (kinds.Counted Base64) d))) takes.2 (λ origin text rest print end. absurd print)
+    by_value (kinds.Counted Base64) value (counted (drop 1 (own_at (kinds.Counted Base64) d))) takes.2 (λ origin way text rest print end. absurd print)
 field_back (kinds.Counted Other) d value after h takes few =
-    by_value (kinds.Counted Other) value (counted (drop 1 (own_at (kinds.Counted Other) d))) takes.2 (λ origin text rest print end. absurd print)
+    by_value (kinds.Counted Other) value (counted (drop 1 (own_at (kinds.Counted Other) d))) takes.2 (λ origin way text rest print end. absurd print)
 field_back kinds.LongTime d value after h takes few =
-    by_value kinds.LongTime value (u48 (from_be_bytes w64 (0 ∷ 0 ∷ own_at kinds.LongTime d))) takes.2 (λ origin text rest print end. absurd print)
+    by_value kinds.LongTime value (u48 (from_be_bytes w64 (0 ∷ 0 ∷ own_at kinds.LongTime d))) takes.2 (λ origin way text rest print end. absurd print)
 field_back kinds.ChaosAddress d value after h takes few =
-    by_value kinds.ChaosAddress value (u16 (from_be_bytes w16 (own_at kinds.ChaosAddress d))) takes.2 (λ origin text rest print end. absurd print)
+    by_value kinds.ChaosAddress value (u16 (from_be_bytes w16 (own_at kinds.ChaosAddress d))) takes.2 (λ origin way text rest print end. absurd print)
 field_back kinds.Locator d value after h takes few =
-    by_value kinds.Locator value (u64 (from_be_bytes w64 (own_at kinds.Locator d))) takes.2 (λ origin text rest print end. absurd print)
+    by_value kinds.Locator value (u64 (from_be_bytes w64 (own_at kinds.Locator d))) takes.2 (λ origin way text rest print end. absurd print)
 field_back (kinds.LongCounted shown) d value after h takes few =
-    by_value (kinds.LongCounted shown) value (long_counted (drop 2 (own_at (kinds.LongCounted shown) d))) takes.2 (λ origin text rest print end. absurd print)
+    by_value (kinds.LongCounted shown) value (long_counted (drop 2 (own_at (kinds.LongCounted shown) d))) takes.2 (λ origin way text rest print end. absurd print)
 field_back (kinds.Shaped shape) d value after h takes few =
-    by_value (kinds.Shaped shape) value (shaped (record { shape = shape; octets = own_at (kinds.Shaped shape) d })) takes.2 (λ origin text rest print end. absurd print)
+    by_value (kinds.Shaped shape) value (shaped (record { shape = shape; octets = own_at (kinds.Shaped shape) d })) takes.2 (λ origin way text rest print end. absurd print)
 field_back (kinds.Octets Text) d value after h takes few =
     let short = subst (λ (v : FieldValue). length (field_wire v) ≤ 65535) takes.2 few in
     by_value (kinds.Octets Text) value _ takes.2 (text_back _ (own_fit (kinds.Octets Text) d h, short))
 field_back (kinds.Octets Hex) d value after h takes few = by_value (kinds.Octets Hex) value _ takes.2 (octets_back _ (own_fit (kinds.Octets Hex) d h))
 field_back (kinds.Octets Base64) d value after h takes few = by_value (kinds.Octets Base64) value _ takes.2 (base64_back _ (own_fit (kinds.Octets Base64) d h))
 field_back (kinds.Octets Tag) d value after h takes few =
-    by_value (kinds.Octets Tag) value (octets (own_at (kinds.Octets Tag) d)) takes.2 (λ origin text rest print end. absurd print)
+    by_value (kinds.Octets Tag) value (octets (own_at (kinds.Octets Tag) d)) takes.2 (λ origin way text rest print end. absurd print)
 field_back (kinds.Octets Base32Hex) d value after h takes few =
-    by_value (kinds.Octets Base32Hex) value (octets (own_at (kinds.Octets Base32Hex) d)) takes.2 (λ origin text rest print end. absurd print)
+    by_value (kinds.Octets Base32Hex) value (octets (own_at (kinds.Octets Base32Hex) d)) takes.2 (λ origin way text rest print end. absurd print)
 field_back (kinds.Octets Other) d value after h takes few =
-    by_value (kinds.Octets Other) value (octets (own_at (kinds.Octets Other) d)) takes.2 (λ origin text rest print end. absurd print)
+    by_value (kinds.Octets Other) value (octets (own_at (kinds.Octets Other) d)) takes.2 (λ origin way text rest print end. absurd print)
 field_back (kinds.List lists.Prefixes) d value after h takes few =
     let kind = kinds.List lists.Prefixes in
-    by_value kind value (prefixes (items lists.Prefixes (own_at kind d))) takes.2 (λ origin text rest print end. absurd print)
+    by_value kind value (prefixes (items lists.Prefixes (own_at kind d))) takes.2 (λ origin way text rest print end. absurd print)
 field_back (kinds.List lists.Names) d value after h takes few =
     let kind = kinds.List lists.Names in
-    by_value kind value (names (items lists.Names (own_at kind d))) takes.2 (λ origin text rest print end. absurd print)
+    by_value kind value (names (items lists.Names (own_at kind d))) takes.2 (λ origin way text rest print end. absurd print)
 field_back (kinds.List lists.Texts) d value after h takes few =
     let kind = kinds.List lists.Texts in
     by_value kind value _ takes.2 (strings_back (own_at kind d) (own_fit kind d h) (omega (arith, own_len kind d takes.0, some (length (drop d.index d.bytes)))))

@@ -7,6 +7,7 @@ use Rattle.std.specs.declared.net.Ipv4Addr.{Ipv4Addr}
 use Rattle.std.proofs.NetLemmas.Texts.{IsDotted-ipv4_text}
 use Rattle.std.specs.List.{AllPass}
 use Rattle.std.specs.Char.{is_ascii_digit, is_ascii_alphanumeric}
+use Rattle.std.proofs.lemmas.Fmt.{decimal_nonempty}
 use Rattle.std.proofs.lemmas.Bool.{cases_eq, cases_Bool, lt-ltb, ltb-true, ne_eqb}
 use Rattle.std.proofs.lemmas.List.{take_at, drop_at}
 use Rattle.hex.proofs.HexLemmas.{length-encode_with}
@@ -33,53 +34,55 @@ use Rattle.dnw_zone_values.proofs.Identifiers.{hash}
 use Rattle.dnw_zone_values.proofs.ComeBack.{numbers, salt}
 use Rattle.dnw_zone_values.proofs.StringText.{string, text}
 use Rattle.dnw_zone_svcb.proofs.ParamTextsBack.{string_utf8}
-use Rattle.dnw_zone_data.specs.Words.{is_end, word_len, word, after_word, after_spaces}
+use Rattle.dnw_zone_data.specs.declared.number_form.NumberForm.{NumberForm}
+use Rattle.dnw_zone_data.specs.Words.{is_end, quoted_len, word_len, word, after_word, after_spaces}
 use Rattle.dnw_zone_data.specs.Parsing.{takes_all, IsWord, IsStringWord, AreStringWords, AreTexts, ReadsField}
 use Rattle.dnw_zone_data.specs.Printing.{strings_text}
 use Rattle.dnw_zone_data.specs.DataTextLaws.{IsReadType, IsFieldReadBack, FieldComesBack}
 use Rattle.dnw_zone_data.specs.Generic.{generic_mark, hex_part}
 use Rattle.dnw_zone_data.proofs.GenericText.{hex_end, hex_words}
-use Rattle.dnw_zone_data.proofs.Plain.{is_plain, all_plain, plain_starts, plain_word, plain_after, plain_utf8, plain_append, decimal_plain, hex_plain}
+use Rattle.dnw_zone_data.proofs.NumberFormsBack.{in_any_form}
+use Rattle.dnw_zone_data.proofs.Plain.{is_plain, plain_by_tests, all_plain, plain_starts, plain_word, plain_after, plain_utf8, plain_append, decimal_plain, hex_plain}
 
 -- a word is read as its field
-pub by_word : (origin : Option NameValue) (kind : Kind) (printed w rest : List ℕ) (value : FieldValue) → takes_all kind ≡ false
-    → printed ≡ 32 ∷ w → after_spaces (w ++ rest) ≡ w ++ rest → word (w ++ rest) ≡ w → after_word (w ++ rest) ≡ rest → IsWord origin kind w value
-    → w ≢ generic_mark → IsFieldReadBack origin kind printed value rest
-by_word origin kind printed w rest value one print begins whole left is other =
+pub by_word : (origin : Option NameValue) (way : NumberForm) (kind : Kind) (printed w rest : List ℕ) (value : FieldValue) → takes_all kind ≡ false
+    → printed ≡ 32 ∷ w → after_spaces (w ++ rest) ≡ w ++ rest → word (w ++ rest) ≡ w → after_word (w ++ rest) ≡ rest → IsWord origin way kind w value
+    → w ≢ generic_mark → IsFieldReadBack origin way kind printed value rest
+by_word origin way kind printed w rest value one print begins whole left is other =
     let start : after_spaces (printed ++ rest) ≡ w ++ rest = ap (λ (xs : List ℕ). after_spaces (xs ++ rest)) print ∙ begins in
-    let reads : IsWord origin kind (word (w ++ rest)) value × (rest ≡ after_word (w ++ rest)) =
-    (subst (λ (xs : List ℕ). IsWord origin kind xs value) (sym whole) is, sym left) in
-    let by : ReadsField origin kind (w ++ rest) value rest = rw one reads in
-    (subst (λ (xs : List ℕ). ReadsField origin kind xs value rest) (sym start) by, λ e. other (sym whole ∙ ap word (sym start) ∙ e), ap is_end print)
+    let reads : IsWord origin way kind (word (w ++ rest)) value × (rest ≡ after_word (w ++ rest)) =
+    (subst (λ (xs : List ℕ). IsWord origin way kind xs value) (sym whole) is, sym left) in
+    let by : ReadsField origin way kind (w ++ rest) value rest = rw one reads in
+    (subst (λ (xs : List ℕ). ReadsField origin way kind xs value rest) (sym start) by, λ e. other (sym whole ∙ ap word (sym start) ∙ e), ap is_end print)
 
 -- ---- plain words
 
 plain_other : (w : List ℕ) → all_plain w ≡ true → w ≢ generic_mark
 plain_other w plain e = let no : false ≡ true = ap all_plain (sym e) ∙ plain in cc
 
-pub plain_by : (origin : Option NameValue) (kind : Kind) (printed w rest : List ℕ) (value : FieldValue) → takes_all kind ≡ false
-    → printed ≡ 32 ∷ w → all_plain w ≡ true → 0 < length w → is_end rest ≡ true → IsWord origin kind w value
-    → IsFieldReadBack origin kind printed value rest
-plain_by origin kind printed w rest value one print plain some end is =
-    by_word origin kind printed w rest value one print (plain_starts w rest plain some) (plain_word w rest plain end) (plain_after w rest plain end) is (plain_other w plain)
+pub plain_by : (origin : Option NameValue) (way : NumberForm) (kind : Kind) (printed w rest : List ℕ) (value : FieldValue) → takes_all kind ≡ false
+    → printed ≡ 32 ∷ w → all_plain w ≡ true → 0 < length w → is_end rest ≡ true → IsWord origin way kind w value
+    → IsFieldReadBack origin way kind printed value rest
+plain_by origin way kind printed w rest value one print plain some end is =
+    by_word origin way kind printed w rest value one print (plain_starts w rest plain some) (plain_word w rest plain end) (plain_after w rest plain end) is (plain_other w plain)
 
 pub u8_back : (n : ℕ) → n ≤ max_u8 → FieldComesBack U8 (u8 n)
-u8_back n few origin printed rest print end =
+u8_back n few origin way printed rest print end =
     let plain = decimal_plain n (omega (arith, few)) in
-    let is = (numbers max_u8 (omega arith) n few).0 in
-    plain_by origin U8 printed (decimal n) rest (u8 n) refl print plain is.0.0 end.1 (n, plain_utf8 (decimal n) plain, is, refl)
+    let some = decimal_nonempty n (omega (arith, few)) in
+    plain_by origin way U8 printed (decimal n) rest (u8 n) refl print plain some end.1 (n, plain_utf8 (decimal n) plain, in_any_form way max_u8 n (omega arith) few, refl)
 
 pub u16_back : (n : ℕ) → n ≤ max_u16 → FieldComesBack U16 (u16 n)
-u16_back n few origin printed rest print end =
+u16_back n few origin way printed rest print end =
     let plain = decimal_plain n (omega (arith, few)) in
-    let is = (numbers max_u16 (omega arith) n few).0 in
-    plain_by origin U16 printed (decimal n) rest (u16 n) refl print plain is.0.0 end.1 (n, plain_utf8 (decimal n) plain, is, refl)
+    let some = decimal_nonempty n (omega (arith, few)) in
+    plain_by origin way U16 printed (decimal n) rest (u16 n) refl print plain some end.1 (n, plain_utf8 (decimal n) plain, in_any_form way max_u16 n (omega arith) few, refl)
 
 pub u32_back : (n : ℕ) → n ≤ max_u32 → FieldComesBack U32 (u32 n)
-u32_back n few origin printed rest print end =
+u32_back n few origin way printed rest print end =
     let plain = decimal_plain n (omega (arith, few)) in
-    let is = (numbers max_u32 (omega arith) n few).0 in
-    plain_by origin U32 printed (decimal n) rest (u32 n) refl print plain is.0.0 end.1 (n, plain_utf8 (decimal n) plain, is, refl)
+    let some = decimal_nonempty n (omega (arith, few)) in
+    plain_by origin way U32 printed (decimal n) rest (u32 n) refl print plain some end.1 (n, plain_utf8 (decimal n) plain, in_any_form way max_u32 n (omega arith) few, refl)
 
 digit_plain : (c : ℕ) → is_ascii_digit c ≡ true → is_plain c ≡ true
 digit_plain c h = grind arith
@@ -89,23 +92,23 @@ digits_plain [] h = refl
 digits_plain (c ∷ w) h = rw (digit_plain c (h 0 0 (omega arith))) (digits_plain w (λ i d within. h (suc i) d (omega arith)))
 
 pub time_back : (n : ℕ) → n ≤ max_u32 → FieldComesBack Time (time n)
-time_back n few origin printed rest print end =
+time_back n few origin way printed rest print end =
     let (date, is, e) = print in
     let plain = digits_plain date is.digits.1 in
-    plain_by origin Time printed date rest (time n) refl e plain (omega (arith, is.digits.0)) end.1 (n, plain_utf8 date plain, inl (is, few), refl)
+    plain_by origin way Time printed date rest (time n) refl e plain (omega (arith, is.digits.0)) end.1 (n, plain_utf8 date plain, inl (is, few), refl)
 
 letter_plain : (c : ℕ) → is_ascii_alphanumeric c ≡ true → is_plain c ≡ true
-letter_plain c h = grind arith
+letter_plain c h = plain_by_tests c (grind arith) (grind arith) (grind arith) (grind arith) (grind arith) (grind arith) (grind arith)
 
 letters_plain : (w : List ℕ) → AllPass is_ascii_alphanumeric w → all_plain w ≡ true
 letters_plain [] h = refl
 letters_plain (c ∷ w) h = rw (letter_plain c (h 0 0 (omega arith))) (letters_plain w (λ i d within. h (suc i) d (omega arith)))
 
 pub tag_back : (tag : List ℕ) → FieldComesBack (Counted Tag) (counted tag)
-tag_back tag origin printed rest print end =
+tag_back tag origin way printed rest print end =
     let (is, e) = print in
     let plain = letters_plain tag is.2 in
-    plain_by origin (Counted Tag) printed tag rest (counted tag) refl e plain is.0 end.1 (tag, plain_utf8 tag plain, (refl, is), refl)
+    plain_by origin way (Counted Tag) printed tag rest (counted tag) refl e plain is.0 end.1 (tag, plain_utf8 tag plain, (refl, is), refl)
 
 salt_plain : (own : List ℕ) → IsOctets own → all_plain (salt_text own) ≡ true
 salt_plain [] h = refl
@@ -116,10 +119,10 @@ salt_some [] = omega arith
 salt_some (o ∷ own) = omega (arith, length-encode_with upper_digits (o ∷ own))
 
 pub salt_back : (own : List ℕ) → IsSalt own → FieldComesBack (Counted Hex) (counted own)
-salt_back own is origin printed rest print end =
+salt_back own is origin way printed rest print end =
     let w = salt_text own in
     let plain = salt_plain own is.0 in
-    plain_by origin (Counted Hex) printed w rest (counted own) refl print plain (salt_some own) end.1 (own, plain_utf8 w plain, (salt own is).0, refl)
+    plain_by origin way (Counted Hex) printed w rest (counted own) refl print plain (salt_some own) end.1 (own, plain_utf8 w plain, (salt own is).0, refl)
 
 name_plain : (record_type : RecordType) → all_plain (type_name record_type) ≡ true
 name_plain (rr.Unknown code) = refl
@@ -141,10 +144,10 @@ type_some record_type =
     ltb-true 0 (length (type_text record_type)) (text_by (λ w. nat_lt 0 (length w)) name_some refl record_type number)
 
 pub type_back : (record_type : RecordType) → IsReadType record_type → FieldComesBack TypeCode (type_code_of record_type)
-type_back record_type is origin printed rest print end =
+type_back record_type is origin way printed rest print end =
     let w = type_text record_type in
     let plain = type_plain record_type is.0 in
-    plain_by origin TypeCode printed w rest (type_code_of record_type) refl print plain (type_some record_type) end.1 (record_type, plain_utf8 w plain, types_come_back record_type is.0 ∙ ap Some is.1, refl)
+    plain_by origin way TypeCode printed w rest (type_code_of record_type) refl print plain (type_some record_type) end.1 (record_type, plain_utf8 w plain, types_come_back record_type is.0 ∙ ap Some is.1, refl)
 
 pub longer : (x y : List ℕ) → all_plain x ≡ true → 0 < length x → all_plain y ≡ true → (all_plain (x ++ y) ≡ true) × (0 < length (x ++ y))
 longer x y p some q = (plain_append x y p q, omega (arith, some, length-append x y))
@@ -167,14 +170,14 @@ dotted a b c d ha hb hc hd =
     longer three (decimal d) u.0 u.1 (octet_plain d hd)
 
 pub ipv4_back : (a : Ipv4Addr) → IsIpv4Addr a → FieldComesBack Ipv4 (ipv4 (ipv4_octets a))
-ipv4_back a is origin printed rest print end =
+ipv4_back a is origin way printed rest print end =
     let o = ipv4_octets a in
     let w = ipv4_text o in
     let shape = dotted (slice_index o 0) (slice_index o 1) (slice_index o 2) (slice_index o 3) (is.1 0) (is.1 1) (is.1 2) (is.1 3) in
-    plain_by origin Ipv4 printed w rest (ipv4 o) refl print shape.0 shape.1 end.1 (a, plain_utf8 w shape.0, IsDotted-ipv4_text _ is.0 is.1, refl)
+    plain_by origin way Ipv4 printed w rest (ipv4 o) refl print shape.0 shape.1 end.1 (a, plain_utf8 w shape.0, IsDotted-ipv4_text _ is.0 is.1, refl)
 
 base32_plain : (c : ℕ) → is_base32 c ≡ true → is_plain c ≡ true
-base32_plain c h = grind arith
+base32_plain c h = plain_by_tests c (grind arith) (grind arith) (grind arith) (grind arith) (grind arith) (grind arith) (grind arith)
 
 hash_plain : (w : List ℕ) → AllPass is_base32 w → all_plain w ≡ true
 hash_plain [] h = refl
@@ -189,11 +192,11 @@ hash_some (a ∷ b ∷ c ∷ d ∷ []) some = omega arith
 hash_some (a ∷ b ∷ c ∷ d ∷ e ∷ own) some = omega arith
 
 pub hash_back : (own : List ℕ) → IsHash own → FieldComesBack (Counted Base32Hex) (counted own)
-hash_back own is origin printed rest print end =
+hash_back own is origin way printed rest print end =
     let w = base32_text own in
     let spells = (hash own is).0 in
     let plain = hash_plain w spells.0 in
-    plain_by origin (Counted Base32Hex) printed w rest (counted own) refl print.1 plain (hash_some own is.1) end.1 (own, plain_utf8 w plain, spells, refl)
+    plain_by origin way (Counted Base32Hex) printed w rest (counted own) refl print.1 plain (hash_some own is.1) end.1 (own, plain_utf8 w plain, spells, refl)
 
 -- ---- all words
 
@@ -211,20 +214,16 @@ hex_no_mark [] h e = cc
 hex_no_mark (o ∷ own) h e = plain_no_mark (hex_text (o ∷ own)) (hex_plain (o ∷ own) h) e
 
 pub octets_back : (own : List ℕ) → IsOctets own → FieldComesBack (Octets Hex) (octets own)
-octets_back own is origin printed rest print end =
+octets_back own is origin way printed rest print end =
     let none : rest ≡ [] = end.0 refl in
     let words = hex_words own is in
-    let reads : ReadsField origin (Octets Hex) (after_spaces (hex_part own)) (octets own) [] = ((own, (words.0, words.1), refl), refl) in
+    let reads : ReadsField origin way (Octets Hex) (after_spaces (hex_part own)) (octets own) [] = ((own, (words.0, words.1), refl), refl) in
     rw (none, print, append-nil) (reads, hex_no_mark own is, hex_end own)
 
 -- ---- words in quotes
 
-pub end_len : (rest : List ℕ) → is_end rest ≡ true → word_len false false rest ≡ 0
-end_len [] end = refl
-end_len (c ∷ cs) end = rw end refl
-
 -- an octet in quotes
-octet_len : (o : ℕ) (xs : List ℕ) → o < 256 → word_len true false (octet_text o ++ xs) ≡ length (octet_text o) + word_len true false xs
+octet_len : (o : ℕ) (xs : List ℕ) → o < 256 → quoted_len false (octet_text o ++ xs) ≡ length (octet_text o) + quoted_len false xs
 octet_len o xs fits = elim (cases_eq o quote) [
   | inl e ↦ rw e (omega arith)
   | inr no_quote ↦ elim (cases_eq o backslash) [
@@ -244,36 +243,35 @@ octet_len o xs fits = elim (cases_eq o quote) [
   ]
 ]
 
-quoted_len : (own rest : List ℕ) → IsOctets own → is_end rest ≡ true
-    → word_len true false (flat_map octet_text own ++ quote ∷ rest) ≡ length (flat_map octet_text own) + 1
-quoted_len [] rest h end = rw (end_len rest end) refl
-quoted_len (o ∷ own) rest h end =
-    let so_far = quoted_len own rest (λ i. h (suc i)) end in
+in_quotes : (own rest : List ℕ) → IsOctets own → quoted_len false (flat_map octet_text own ++ quote ∷ rest) ≡ length (flat_map octet_text own) + 1
+in_quotes [] rest h = refl
+in_quotes (o ∷ own) rest h =
+    let so_far = in_quotes own rest (λ i. h (suc i)) in
     rw (append_assoc (octet_text o) (flat_map octet_text own) (quote ∷ rest))
     (octet_len o (flat_map octet_text own ++ quote ∷ rest) (h 0) ∙ omega (arith, so_far, length-append (octet_text o) (flat_map octet_text own)))
 
-pub string_len : (own rest : List ℕ) → IsOctets own → is_end rest ≡ true → word_len false false (string_text own ++ rest) ≡ length (string_text own)
-string_len own rest h end =
+pub string_len : (own rest : List ℕ) → IsOctets own → word_len (string_text own ++ rest) ≡ length (string_text own)
+string_len own rest h =
     let seam = append_assoc (flat_map octet_text own) (quote ∷ []) rest in
-    let size = quoted_len own rest h end in
-    ap (λ (xs : List ℕ). word_len false false (quote ∷ xs)) seam ∙ omega (arith, size, length-append (flat_map octet_text own) (quote ∷ []))
+    let size = in_quotes own rest h in
+    ap (λ (xs : List ℕ). word_len (quote ∷ xs)) seam ∙ omega (arith, size, length-append (flat_map octet_text own) (quote ∷ []))
 
 string_word : (own rest : List ℕ) → IsOctets own → is_end rest ≡ true → word (string_text own ++ rest) ≡ string_text own
-string_word own rest h end = take_at (string_text own) rest _ (sym (string_len own rest h end))
+string_word own rest h end = take_at (string_text own) rest _ (sym (string_len own rest h))
 
 string_after : (own rest : List ℕ) → IsOctets own → is_end rest ≡ true → after_word (string_text own ++ rest) ≡ rest
-string_after own rest h end = drop_at (string_text own) rest _ (sym (string_len own rest h end))
+string_after own rest h end = drop_at (string_text own) rest _ (sym (string_len own rest h))
 
 pub string_back : (own : List ℕ) → IsString own → FieldComesBack (Counted Text) (counted own)
-string_back own is origin printed rest print end =
+string_back own is origin way printed rest print end =
     let w = string_text own in
-    by_word origin (Counted Text) printed w rest (counted own) refl print refl (string_word own rest is.0 end.1) (string_after own rest is.0 end.1)
+    by_word origin way (Counted Text) printed w rest (counted own) refl print refl (string_word own rest is.0 end.1) (string_after own rest is.0 end.1)
     (own, string_utf8 own is.0, (string own is).0, refl) (λ e. cc)
 
 pub text_back : (own : List ℕ) → IsText own → FieldComesBack (Octets Text) (octets own)
-text_back own is origin printed rest print end =
+text_back own is origin way printed rest print end =
     let w = string_text own in
-    by_word origin (Octets Text) printed w rest (octets own) refl print refl (string_word own rest is.0 end.1) (string_after own rest is.0 end.1)
+    by_word origin way (Octets Text) printed w rest (octets own) refl print refl (string_word own rest is.0 end.1) (string_after own rest is.0 end.1)
     (own, string_utf8 own is.0, (text own is).0, refl) (λ e. cc)
 
 -- ---- strings up to the end
@@ -322,7 +320,7 @@ texts_of own (s ∷ strings) e h some =
     (s, strings, words, ap (λ (xs : List ℕ). texts (items lists.Texts xs)) e)
 
 pub strings_back : (own : List ℕ) → IsOctets own → 1 ≤ length own → FieldComesBack (ListOf lists.Texts) (texts (items lists.Texts own))
-strings_back own h some origin printed rest print end =
+strings_back own h some origin way printed rest print end =
     let (strings, are, e) = print in
     let none : rest ≡ [] = end.0 refl in
     rw (none, e, append-nil) ((texts_of own strings are h some, refl), strings_no_mark strings (subst IsOctets are h), strings_end strings)

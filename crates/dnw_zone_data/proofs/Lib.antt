@@ -12,6 +12,7 @@ pub mod Rests
 pub mod FieldLists
 pub mod Identifiers
 pub mod FieldsBack
+pub mod NumberFormsBack
 pub mod NamesBack
 pub mod WordsBack
 pub mod Items

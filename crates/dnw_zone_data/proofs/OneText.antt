@@ -18,6 +18,7 @@ use Rattle.dnw_data.specs.declared.kind.Shown.{Shown}
 use Rattle.dnw_data.specs.declared.kind.Shown.TheVariants.{Text, Tag, Hex, Base32Hex, Base64, Other}
 use Rattle.dnw_data.specs.Table.{fields_of}
 use Rattle.dnw_data.specs.Values.{FieldValue, name, u8, u16, u32, ipv4, ipv6, type_code, time, counted, octets, texts, types, params, items}
+use Rattle.dnw_zone_values.specs.Mnemonics.{IsNumberOrName, algorithm_named, begins_with_digit, certificate_type_named}
 use Rattle.dnw_zone_values.specs.Octets.{IsOctets, IsHexText, IsBase64Text, IsSaltText}
 use Rattle.dnw_zone_values.specs.Strings.{IsTextWithin}
 use Rattle.dnw_zone_values.specs.Times.{IsDateText, IsTimeText}
@@ -25,9 +26,12 @@ use Rattle.dnw_zone_values.proofs.ComeBack.{base64}
 use Rattle.dnw_zone_svcb.specs.Params.{ParamValue, in_key_order, params_wire}
 use Rattle.dnw_zone_svcb.proofs.Steps.{one_word as one-param}
 use Rattle.dnw_data.specs.FieldWires.{field_wire}
+use Rattle.dnw_zone_data.specs.declared.number_form.NumberForm.{NumberForm}
+use Rattle.dnw_zone_data.specs.declared.number_form.NumberForm.TheVariants.{Decimal, Period, Algorithm, CertificateType}
+use Rattle.dnw_zone_data.specs.NumberForms.{first_form, number_forms, other_forms, IsNumberIn}
 use Rattle.dnw_zone_data.specs.ParamLists.{AreParamWords}
 use Rattle.dnw_zone_data.specs.TypeLists.{AreTypeWords}
-use Rattle.dnw_zone_data.specs.Words.{after_spaces, after_word, without_spaces, word}
+use Rattle.dnw_zone_data.specs.Words.{after_param, after_spaces, after_word, param_word, without_spaces, word}
 use Rattle.dnw_zone_data.specs.DataTexts.{IsPlainData, IsTextOf, text_kinds}
 use Rattle.dnw_zone_data.specs.Generic.{IsGeneric}
 use Rattle.dnw_zone_data.specs.DataTextLaws.{DataAreUnambiguous, PrintedDataAreSame}
@@ -73,32 +77,44 @@ one_time text m n (inl x) (inr y) = absurd (y.0 x.0.digits.0)
 one_time text m n (inr x) (inl y) = absurd (x.0 y.0.digits.0)
 one_time text m n (inr x) (inr y) = sym x.1.1 ∙ y.1.1
 
-one_number : (max : ℕ) (field : ℕ → FieldValue) (text : List ℕ) (v w : FieldValue) → IsNumber max field text v → IsNumber max field text w → v ≡ w
-one_number max field text v w x y = x.3 ∙ ap field (sym x.2.1 ∙ y.2.1) ∙ sym y.3
+one_or_name : (named : List ℕ → Option ℕ) (max : ℕ) (text : List ℕ) (m n : ℕ) → IsNumberOrName named max text m → IsNumberOrName named max text n → m ≡ n
+one_or_name named max text m n x y = elim (cases_Bool (begins_with_digit text)) [
+  | inl digit ↦ let a = rw digit at x in let b = rw digit at y in sym a.1 ∙ b.1
+  | inr letter ↦ let a = rw letter at x in let b = rw letter at y in same_Some m n (sym a.0 ∙ b.0)
+]
+
+one_in_form : (way : NumberForm) (max : ℕ) (text : List ℕ) (m n : ℕ) → IsNumberIn way max text m → IsNumberIn way max text n → m ≡ n
+one_in_form Decimal max text m n x y = sym x.1 ∙ y.1
+one_in_form Period max text m n x y = same_Some m n (sym x.0.0 ∙ y.0.0)
+one_in_form Algorithm max text m n x y = one_or_name algorithm_named max text m n x y
+one_in_form CertificateType max text m n x y = one_or_name certificate_type_named max text m n x y
+
+one_number : (way : NumberForm) (max : ℕ) (field : ℕ → FieldValue) (text : List ℕ) (v w : FieldValue) → IsNumber way max field text v → IsNumber way max field text w → v ≡ w
+one_number way max field text v w x y = x.3 ∙ ap field (one_in_form way max text x.0 y.0 x.2 y.2) ∙ sym y.3
 
 one_identifier : (size : ℕ) (field : List ℕ → FieldValue) (text : List ℕ) (v w : FieldValue) → IsIdentifierField size field text v → IsIdentifierField size field text w → v ≡ w
 one_identifier size field text v w x y = x.4 ∙ ap field (same_Some x.0 y.0 (sym x.2 ∙ y.2)) ∙ sym y.4
 
-one_word_lem : (origin : Option NameValue) (kind : Kind) (text : List ℕ) (v w : FieldValue) → IsWord origin kind text v → IsWord origin kind text w → v ≡ w
-one_word_lem origin (kinds.Name form) text v w x y = x.2 ∙ ap name (same_Some x.0 y.0 (sym x.1 ∙ y.1)) ∙ sym y.2
-one_word_lem origin kinds.Ipv4 text v w x y = x.3 ∙ ap (λ (a : Ipv4Addr). ipv4 (ipv4_octets a)) (IsIpv4Text_unique text x.0 y.0 x.2 y.2) ∙ sym y.3
-one_word_lem origin kinds.Ipv6 text v w x y = x.3 ∙ ap (λ (a : Ipv6Addr). ipv6 (ipv6_segments a)) (IsIpv6Text_unique text x.0 y.0 x.2 y.2) ∙ sym y.3
-one_word_lem origin kinds.TypeCode text v w x y = x.3 ∙ ap type_code (same_Some x.0 y.0 (sym x.2 ∙ y.2)) ∙ sym y.3
-one_word_lem origin kinds.U48 text v w x y = one_identifier 6 eui48 text v w x y
-one_word_lem origin kinds.U64 text v w x y = one_identifier 8 eui64 text v w x y
-one_word_lem origin (kinds.Counted shown) text v w x y = x.3 ∙ ap counted (one_spelled shown text x.0 y.0 x.2 y.2) ∙ sym y.3
-one_word_lem origin (kinds.Octets Text) text v w x y = x.3 ∙ ap octets (one_within 65535 text x.0 y.0 x.2 y.2) ∙ sym y.3
-one_word_lem origin (kinds.Octets shown) text v w x y = absurd x
-one_word_lem origin kinds.U8 text v w x y = one_number 255 u8 text v w x y
-one_word_lem origin kinds.U16 text v w x y = one_number 65535 u16 text v w x y
-one_word_lem origin kinds.U32 text v w x y = one_number 4294967295 u32 text v w x y
-one_word_lem origin kinds.Time text v w x y = x.3 ∙ ap time (one_time text x.0 y.0 x.2 y.2) ∙ sym y.3
-one_word_lem origin kinds.LongTime text v w x y = absurd x
-one_word_lem origin kinds.ChaosAddress text v w x y = absurd x
-one_word_lem origin kinds.Locator text v w x y = absurd x
-one_word_lem origin (kinds.LongCounted shown) text v w x y = absurd x
-one_word_lem origin (kinds.Shaped shape) text v w x y = absurd x
-one_word_lem origin (kinds.List list) text v w x y = absurd x
+one_word_lem : (origin : Option NameValue) (way : NumberForm) (kind : Kind) (text : List ℕ) (v w : FieldValue) → IsWord origin way kind text v → IsWord origin way kind text w → v ≡ w
+one_word_lem origin way (kinds.Name form) text v w x y = x.2 ∙ ap name (same_Some x.0 y.0 (sym x.1 ∙ y.1)) ∙ sym y.2
+one_word_lem origin way kinds.Ipv4 text v w x y = x.3 ∙ ap (λ (a : Ipv4Addr). ipv4 (ipv4_octets a)) (IsIpv4Text_unique text x.0 y.0 x.2 y.2) ∙ sym y.3
+one_word_lem origin way kinds.Ipv6 text v w x y = x.3 ∙ ap (λ (a : Ipv6Addr). ipv6 (ipv6_segments a)) (IsIpv6Text_unique text x.0 y.0 x.2 y.2) ∙ sym y.3
+one_word_lem origin way kinds.TypeCode text v w x y = x.3 ∙ ap type_code (same_Some x.0 y.0 (sym x.2 ∙ y.2)) ∙ sym y.3
+one_word_lem origin way kinds.U48 text v w x y = one_identifier 6 eui48 text v w x y
+one_word_lem origin way kinds.U64 text v w x y = one_identifier 8 eui64 text v w x y
+one_word_lem origin way (kinds.Counted shown) text v w x y = x.3 ∙ ap counted (one_spelled shown text x.0 y.0 x.2 y.2) ∙ sym y.3
+one_word_lem origin way (kinds.Octets Text) text v w x y = x.3 ∙ ap octets (one_within 65535 text x.0 y.0 x.2 y.2) ∙ sym y.3
+one_word_lem origin way (kinds.Octets shown) text v w x y = absurd x
+one_word_lem origin way kinds.U8 text v w x y = one_number way 255 u8 text v w x y
+one_word_lem origin way kinds.U16 text v w x y = one_number way 65535 u16 text v w x y
+one_word_lem origin way kinds.U32 text v w x y = one_number way 4294967295 u32 text v w x y
+one_word_lem origin way kinds.Time text v w x y = x.3 ∙ ap time (one_time text x.0 y.0 x.2 y.2) ∙ sym y.3
+one_word_lem origin way kinds.LongTime text v w x y = absurd x
+one_word_lem origin way kinds.ChaosAddress text v w x y = absurd x
+one_word_lem origin way kinds.Locator text v w x y = absurd x
+one_word_lem origin way (kinds.LongCounted shown) text v w x y = absurd x
+one_word_lem origin way (kinds.Shaped shape) text v w x y = absurd x
+one_word_lem origin way (kinds.List list) text v w x y = absurd x
 
 -- ---- all words
 
@@ -121,7 +137,7 @@ one_params left [] [] x y = refl
 one_params left [] (q ∷ b) x y = absurd (y.0 x)
 one_params left (p ∷ a) [] x y = absurd (x.0 y)
 one_params left (p ∷ a) (q ∷ b) x y =
-    ap (λ (one : ParamValue). one ∷ a) (one-param (word (after_spaces left)) p q x.1 y.1) ∙ ap (λ (rest : List ParamValue). q ∷ rest) (one_params (after_word (after_spaces left)) a b x.2 y.2)
+    ap (λ (one : ParamValue). one ∷ a) (one-param (param_word (after_spaces left)) p q x.1 y.1) ∙ ap (λ (rest : List ParamValue). q ∷ rest) (one_params (after_param (after_spaces left)) a b x.2 y.2)
 
 types_fit : (v : FieldValue) (own : List ℕ) → v ≡ types (items lists.Types own) → IsOctets (field_wire v) → IsOctets own
 types_fit v own e h = subst (λ (z : FieldValue). IsOctets (field_wire z)) e h
@@ -143,44 +159,44 @@ one_list kind left v w hv hw x y = absurd x
 
 -- ---- fields
 
-one_field : (origin : Option NameValue) (kind : Kind) (left : List ℕ) (v w : FieldValue) (r s : List ℕ) → IsOctets (field_wire v) → IsOctets (field_wire w)
-    → ReadsField origin kind left v r → ReadsField origin kind left w s → (v ≡ w) × (r ≡ s)
-one_field origin kind left v w r s hv hw x y = elim (cases_Bool (takes_all kind)) [
+one_field : (origin : Option NameValue) (way : NumberForm) (kind : Kind) (left : List ℕ) (v w : FieldValue) (r s : List ℕ) → IsOctets (field_wire v) → IsOctets (field_wire w)
+    → ReadsField origin way kind left v r → ReadsField origin way kind left w s → (v ≡ w) × (r ≡ s)
+one_field origin way kind left v w r s hv hw x y = elim (cases_Bool (takes_all kind)) [
   | inl all ↦ let a = rw all at x in let b = rw all at y in (one_list kind left v w hv hw a.0 b.0, a.1 ∙ sym b.1)
-  | inr one ↦ let a = rw one at x in let b = rw one at y in (one_word_lem origin kind (word left) v w a.0 b.0, a.1 ∙ sym b.1)
+  | inr one ↦ let a = rw one at x in let b = rw one at y in (one_word_lem origin way kind (word left) v w a.0 b.0, a.1 ∙ sym b.1)
 ]
 
-one_fields : (origin : Option NameValue) (kinds : List Kind) (left : List ℕ) (vs ws : List FieldValue) → IsOctets (flat_map field_wire vs) → IsOctets (flat_map field_wire ws)
-    → AreFieldTexts origin kinds left vs → AreFieldTexts origin kinds left ws → vs ≡ ws
-one_fields origin [] left [] [] hv hw x y = refl
-one_fields origin [] left [] (w ∷ ws) hv hw x y = absurd y
-one_fields origin [] left (v ∷ vs) ws hv hw x y = absurd x
-one_fields origin (kind ∷ kinds) left [] ws hv hw x y = absurd x
-one_fields origin (kind ∷ kinds) left (v ∷ vs) [] hv hw x y = absurd y
-one_fields origin (kind ∷ kinds) left (v ∷ vs) (w ∷ ws) hv hw (rest, reads, more) (other, also, others) =
-    let first = one_field origin kind (after_spaces left) v w rest other (front_fit (field_wire v) (flat_map field_wire vs) hv) (front_fit (field_wire w) (flat_map field_wire ws) hw) reads also in
-    let same = one_fields origin kinds other vs ws (back_fit (field_wire v) (flat_map field_wire vs) hv) (back_fit (field_wire w) (flat_map field_wire ws) hw)
-    (subst (λ (xs : List ℕ). AreFieldTexts origin kinds xs vs) first.1 more) others in
+one_fields : (origin : Option NameValue) (ways : List NumberForm) (kinds : List Kind) (left : List ℕ) (vs ws : List FieldValue) → IsOctets (flat_map field_wire vs) → IsOctets (flat_map field_wire ws)
+    → AreFieldTexts origin ways kinds left vs → AreFieldTexts origin ways kinds left ws → vs ≡ ws
+one_fields origin ways [] left [] [] hv hw x y = refl
+one_fields origin ways [] left [] (w ∷ ws) hv hw x y = absurd y
+one_fields origin ways [] left (v ∷ vs) ws hv hw x y = absurd x
+one_fields origin ways (kind ∷ kinds) left [] ws hv hw x y = absurd x
+one_fields origin ways (kind ∷ kinds) left (v ∷ vs) [] hv hw x y = absurd y
+one_fields origin ways (kind ∷ kinds) left (v ∷ vs) (w ∷ ws) hv hw (rest, reads, more) (other, also, others) =
+    let first = one_field origin (first_form ways) kind (after_spaces left) v w rest other (front_fit (field_wire v) (flat_map field_wire vs) hv) (front_fit (field_wire w) (flat_map field_wire ws) hw) reads also in
+    let same = one_fields origin (other_forms ways) kinds other vs ws (back_fit (field_wire v) (flat_map field_wire vs) hv) (back_fit (field_wire w) (flat_map field_wire ws) hw)
+    (subst (λ (xs : List ℕ). AreFieldTexts origin (other_forms ways) kinds xs vs) first.1 more) others in
     ap (λ (z : FieldValue). z ∷ vs) first.0 ∙ ap (λ (zs : List FieldValue). w ∷ zs) same
 
 pub unambiguous : DataAreUnambiguous
-unambiguous origin fields text own other h k (inl x) (inl y) = one_generic text own other x.0 y.0
-unambiguous origin fields text own other h k (inl x) (inr y) = absurd (y.0 x.0.0)
-unambiguous origin fields text own other h k (inr x) (inl y) = absurd (x.0 y.0.0)
-unambiguous origin fields text own other h k (inr x) (inr y) =
+unambiguous origin ways fields text own other h k (inl x) (inl y) = one_generic text own other x.0 y.0
+unambiguous origin ways fields text own other h k (inl x) (inr y) = absurd (y.0 x.0.0)
+unambiguous origin ways fields text own other h k (inr x) (inl y) = absurd (x.0 y.0.0)
+unambiguous origin ways fields text own other h k (inr x) (inr y) =
     let vs = x.2 in
     let ws = y.2 in
-    x.4 ∙ ap (λ (zs : List FieldValue). flat_map field_wire zs) (one_fields origin (text_kinds fields text) text vs ws (subst IsOctets x.4 h) (subst IsOctets y.4 k) x.3 y.3) ∙ sym y.4
+    x.4 ∙ ap (λ (zs : List FieldValue). flat_map field_wire zs) (one_fields origin ways (text_kinds fields text) text vs ws (subst IsOctets x.4 h) (subst IsOctets y.4 k) x.3 y.3) ∙ sym y.4
 
-same_generic : (origin : Option NameValue) (fields : List ℕ → List Kind) (text own other : List ℕ) → IsGeneric text own → IsTextOf origin fields text other → own ≡ other
-same_generic origin fields text own other h (inl is) = one_generic text own other h is.0
-same_generic origin fields text own other h (inr is) = absurd (is.0 h.0)
+same_generic : (origin : Option NameValue) (ways : List NumberForm) (fields : List ℕ → List Kind) (text own other : List ℕ) → IsGeneric text own → IsTextOf origin ways fields text other → own ≡ other
+same_generic origin ways fields text own other h (inl is) = one_generic text own other h is.0
+same_generic origin ways fields text own other h (inr is) = absurd (is.0 h.0)
 
 pub printed : PrintedDataAreSame
 printed origin r text own h print fit is =
     let (plain, are, done) = back origin r text h print in
     elim done [
       | inl many ↦ inr (plain, are, many)
-      | inr (inl shown) ↦ inl (subst (λ (xs : List ℕ). IsPlainData r xs) (same_generic origin (fields_of (class_code r.class) (code_of r.record_type)) text plain own shown is) are)
-      | inr (inr also) ↦ inl (subst (λ (xs : List ℕ). IsPlainData r xs) (unambiguous origin (fields_of (class_code r.class) (code_of r.record_type)) text plain own (data_fit r plain h are) fit also is) are)
+      | inr (inl shown) ↦ inl (subst (λ (xs : List ℕ). IsPlainData r xs) (same_generic origin (number_forms (code_of r.record_type)) (fields_of (class_code r.class) (code_of r.record_type)) text plain own shown is) are)
+      | inr (inr also) ↦ inl (subst (λ (xs : List ℕ). IsPlainData r xs) (unambiguous origin (number_forms (code_of r.record_type)) (fields_of (class_code r.class) (code_of r.record_type)) text plain own (data_fit r plain h are) fit also is) are)
     ]

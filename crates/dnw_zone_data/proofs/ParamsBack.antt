@@ -1,8 +1,9 @@
 -- Parameters that are printed one after another are read as these parameters.
-use Rattle.std.proofs.Common.{◌≡◌, ◌≢◌, ◌≤◌, ◌<◌, ℕ, zero, suc, ◌+◌, true, false, List, [], ◌∷◌, ◌++◌, length, take, drop, refl, sym, ap, ◌∙◌, subst, arith, append_assoc, append-nil, length-append, length-drop, inl, inr}
-use Rattle.std.specs.Prelude.{nat_le, Some, None, flat_map}
+use Rattle.std.proofs.Common.{◌≡◌, ◌≢◌, ◌≤◌, ◌<◌, ℕ, zero, suc, ◌+◌, ◌==◌, true, false, List, [], ◌∷◌, ◌++◌, length, take, drop, refl, sym, ap, ◌∙◌, subst, arith, append_assoc, append-nil, length-append, length-drop, inl, inr}
+use Rattle.std.specs.Prelude.{nat_le, slice_index, Some, None, flat_map}
+use Rattle.std.specs.List.{position_or_len}
 use Rattle.std.specs.Int.{w16, from_be_bytes, to_be_bytes}
-use Rattle.std.proofs.lemmas.Bool.{le-leb, leb-true, and_parts}
+use Rattle.std.proofs.lemmas.Bool.{cases_Bool, le-leb, leb-true, and_parts}
 use Rattle.std.proofs.lemmas.List.{take-append-drop, length-take-le, take_at, drop_at}
 use Rattle.std.proofs.lemmas.Nat.{be_bytes_2}
 use Rattle.dnw_data.specs.declared.kind.Kind.TheVariants.{List as ListOf}
@@ -11,20 +12,22 @@ use Rattle.dnw_data.specs.Lists.{fault_within, list_fault}
 use Rattle.dnw_data.specs.Values.{params, items}
 use Rattle.dnw_zone_values.specs.Octets.{IsOctets}
 use Rattle.dnw_zone_values.specs.Strings.{quote, string_text}
-use Rattle.dnw_zone_svcb.specs.ParamKeys.{generic_key}
+use Rattle.dnw_zone_svcb.specs.ParamKeys.{generic_key, named_key}
 use Rattle.dnw_zone_svcb.specs.ParamLaws.{IsParamValue}
 use Rattle.dnw_zone_svcb.specs.Params.{ParamValue, param_wire, params_wire, in_key_order}
 use Rattle.dnw_zone_svcb.specs.ParamTexts.{param_text, params_within}
-use Rattle.dnw_zone_svcb.specs.ParamWords.{IsParam}
-use Rattle.dnw_zone_svcb.proofs.ParamTextsBack.{AreBelow, IsShaped, below_more, below_weaker, drop_fit, map_some, param_shaped, params as param-back, take_fit, with_last}
+use Rattle.dnw_zone_svcb.specs.ParamWords.{IsParam, is_equals, key_part}
+use Rattle.dnw_zone_svcb.specs.Inside.Steps.{AreBelow}
+use Rattle.dnw_zone_svcb.proofs.Ascending.{with_last}
+use Rattle.dnw_zone_svcb.proofs.ParamTextsBack.{IsShaped, all_key, is_key, no_equals, below_more, below_weaker, drop_fit, map_some, param_shaped, params as param-back, take_fit}
 use Rattle.dnw_zone_svcb.proofs.Steps.{word_some}
 use Rattle.dnw_zone_data.specs.ParamLists.{AreParamWords, AreParams}
-use Rattle.dnw_zone_data.specs.Words.{is_end, word_len, word, after_spaces}
+use Rattle.dnw_zone_data.specs.Words.{is_end, is_word_end, param_len, param_word, word_len, word, after_spaces}
 use Rattle.dnw_zone_data.specs.Generic.{generic_mark}
 use Rattle.dnw_zone_data.specs.DataTextLaws.{FieldComesBack}
-use Rattle.dnw_zone_data.proofs.FieldsBack.{end_len, string_len}
+use Rattle.dnw_zone_data.proofs.FieldsBack.{string_len}
 use Rattle.dnw_zone_data.proofs.Items.{item_first, starts_twice}
-use Rattle.dnw_zone_data.proofs.Plain.{all_plain, is_plain, plain_no_backslash, plain_no_quote, plain_no_space}
+use Rattle.dnw_zone_data.proofs.Plain.{all_plain, is_plain, plain_goes_on, plain_no_space, plain_word_len, space_ends}
 
 -- ---- the parameters of octets
 
@@ -93,16 +96,43 @@ sorted least done (p ∷ ps) below up =
 
 -- ---- the words of parameters
 
-shaped_len : (front back rest : List ℕ) → all_plain front ≡ true → word_len false false (back ++ rest) ≡ length back
-    → word_len false false ((front ++ back) ++ rest) ≡ length (front ++ back)
-shaped_len [] back rest plain len = len
-shaped_len (c ∷ front) back rest plain len =
+plain_ends : (front rest : List ℕ) → all_plain front ≡ true → is_end rest ≡ true → param_len (front ++ rest) ≡ length front
+plain_ends [] [] plain end = refl
+plain_ends [] (c ∷ cs) plain end = rw (space_ends c end) refl
+plain_ends (c ∷ front) rest plain end =
     let parts = and_parts (is_plain c) (all_plain front) plain in
-    rw (plain_no_space c parts.0, plain_no_quote c parts.0, plain_no_backslash c parts.0) (let so_far = shaped_len front back rest parts.1 len in omega (arith, so_far))
+    let goes_on = plain_goes_on c parts.0 in
+    elim (cases_Bool (c == 61)) [
+      | inl equals ↦ rw (goes_on, equals) (let value = plain_word_len front rest parts.1 end in omega (arith, value))
+      | inr other ↦ rw (goes_on, other) (let more = plain_ends front rest parts.1 end in omega (arith, more))
+    ]
 
-word_ends : (w rest : List ℕ) → IsShaped w → is_end rest ≡ true → word_len false false (w ++ rest) ≡ length w
-word_ends w rest (front, back, e, plain, inl none) end = rw (e, none) (shaped_len front [] rest plain (end_len rest end))
-word_ends w rest (front, back, e, plain, inr (own, fit, is)) end = rw (e, is) (shaped_len front (string_text own) rest plain (string_len own rest fit end))
+key_goes_on : (c : ℕ) → is_key c ≡ true → is_word_end c ≡ false
+key_goes_on c h = grind arith
+
+-- a key before a value
+key_ends : (key value rest : List ℕ) → all_key key ≡ true → word_len (value ++ rest) ≡ length value → param_len (key ++ (61 ∷ (value ++ rest))) ≡ length key + 1 + length value
+key_ends [] value rest is len = omega (arith, len)
+key_ends (c ∷ key) value rest is len =
+    let parts = and_parts (is_key c) (all_key key) is in
+    let more = key_ends key value rest parts.1 len in
+    rw (key_goes_on c parts.0, no_equals c parts.0) (omega (arith, more))
+
+seam : (key value rest : List ℕ) → ((key ++ (61 ∷ [])) ++ value) ++ rest ≡ key ++ (61 ∷ (value ++ rest))
+seam key value rest = append_assoc (key ++ (61 ∷ [])) value rest ∙ append_assoc key (61 ∷ []) (value ++ rest)
+
+both_len : (key value : List ℕ) → length ((key ++ (61 ∷ [])) ++ value) ≡ length key + 1 + length value
+both_len key value = length-append (key ++ (61 ∷ [])) value ∙ ap (λ (n : ℕ). n + length value) (length-append key (61 ∷ []))
+
+key_and_value : (key value rest : List ℕ) → all_key key ≡ true → word_len (value ++ rest) ≡ length value
+    → param_len (((key ++ (61 ∷ [])) ++ value) ++ rest) ≡ length ((key ++ (61 ∷ [])) ++ value)
+key_and_value key value rest is len = ap param_len (seam key value rest) ∙ key_ends key value rest is len ∙ sym (both_len key value)
+
+word_ends : (w rest : List ℕ) → IsShaped w → is_end rest ≡ true → param_len (w ++ rest) ≡ length w
+word_ends w rest (front, back, e, plain, inl none) end =
+    rw (e, none, append-nil front) (plain_ends front rest plain end)
+word_ends w rest (front, back, e, plain, inr (own, key, fit, is, begins, are)) end =
+    rw (e, is, begins) (key_and_value key (string_text own) rest are (string_len own rest fit))
 
 shaped_starts : (front back rest : List ℕ) → all_plain front ≡ true → 0 < length (front ++ back) → ((c : ℕ) (cs : List ℕ) → back ≡ c ∷ cs → c ≡ quote)
     → after_spaces ((front ++ back) ++ rest) ≡ (front ++ back) ++ rest
@@ -113,7 +143,7 @@ shaped_starts (c ∷ front) back rest plain some quoted = rw (plain_no_space c (
 starts : (w rest : List ℕ) → IsShaped w → 0 < length w → after_spaces (w ++ rest) ≡ w ++ rest
 starts w rest (front, back, e, plain, inl none) some =
     rw e (shaped_starts front back rest plain (omega (arith, some, ap length e)) (λ c cs is. let no : [] ≡ c ∷ cs = sym none ∙ is in absurd cc))
-starts w rest (front, back, e, plain, inr (own, fit, is)) some =
+starts w rest (front, back, e, plain, inr (own, key, fit, is, begins, are)) some =
     rw e (shaped_starts front back rest plain (omega (arith, some, ap length e)) (λ c cs also. let same : string_text own ≡ c ∷ cs = sym is ∙ also in cc))
 
 params_end : (ps : List ParamValue) → is_end (flat_map spaced ps) ≡ true
@@ -136,19 +166,39 @@ from_start : (text : List ℕ) (ps : List ParamValue) → AreParamWords text ps 
 from_start text [] h = starts_twice text ∙ h
 from_start text (p ∷ ps) h = rw (starts_twice text) h
 
-no_param : (p : ParamValue) → IsParam generic_mark p → ⊥
-no_param p is = elim is.3 [
-  | inl named ↦ let no : None ≡ Some p.key = named.0 in cc
-  | inr generic ↦ let no : generic_mark ≡ generic_key p.key = generic.0.1 in cc
+take_one : (n c : ℕ) (xs : List ℕ) → take (1 + n) (c ∷ xs) ≡ c ∷ take n xs
+take_one n c xs = let one : 1 + n ≡ suc n = omega arith in ap (λ (k : ℕ). take k (c ∷ xs)) one
+
+key_begins : (w : List ℕ) → key_part (92 ∷ w) ≡ 92 ∷ key_part w
+key_begins w = take_one (position_or_len is_equals w) 92 w
+
+no_param : (w : List ℕ) (p : ParamValue) → IsParam (92 ∷ w) p → ⊥
+no_param w p is = elim is.3 [
+  | inl named ↦
+      let at : named_key (92 ∷ key_part w) ≡ Some p.key = sym (ap named_key (key_begins w)) ∙ named.0 in
+      let no : None ≡ Some p.key = at in
+      cc
+  | inr generic ↦ let head : 92 ≡ 107 = ap (λ (xs : List ℕ). slice_index xs 0) (sym (key_begins w) ∙ generic.0.1) in absurd (omega (arith, head))
 ]
+
+take_begins : (n c : ℕ) (cs : List ℕ) → take n (c ∷ cs) ≡ generic_mark → c ≡ 92
+take_begins zero c cs e = let no : [] ≡ generic_mark = e in cc
+take_begins (suc n) c cs e = cc
+
+no_param_at : (left : List ℕ) (p : ParamValue) → IsParam (param_word left) p → word left ≡ generic_mark → ⊥
+no_param_at [] p is e = let no : [] ≡ generic_mark = e in cc
+no_param_at (c ∷ cs) p is e =
+    let first : c ≡ 92 = take_begins (word_len (c ∷ cs)) c cs e in
+    let at : IsParam (param_word (92 ∷ cs)) p = subst (λ (d : ℕ). IsParam (param_word (d ∷ cs)) p) first is in
+    no_param (take (param_len cs) cs) p (subst (λ (w : List ℕ). IsParam w p) (take_one (param_len cs) 92 cs) at)
 
 params_no_mark : (text : List ℕ) (ps : List ParamValue) → AreParamWords text ps → word (after_spaces text) ≢ generic_mark
 params_no_mark text [] h e = let no : word [] ≡ generic_mark = ap word (sym h) ∙ e in cc
-params_no_mark text (p ∷ ps) h e = no_param p (subst (λ (w : List ℕ). IsParam w p) e h.1)
+params_no_mark text (p ∷ ps) h e = no_param_at (after_spaces text) p h.1 e
 
 pub params_back : (own : List ℕ) → IsOctets own → list_fault lists.Params own ≡ None → FieldComesBack (ListOf lists.Params) (params (items lists.Params own))
 unfolding list_fault
-params_back own h fine origin printed rest print end =
+params_back own h fine origin way printed rest print end =
     let none : rest ≡ [] = end.0 refl in
     let (ps, wire, e, up) = printed_are (length own) (length own) 0 own printed h (omega arith) fine print in
     let text = flat_map spaced ps in

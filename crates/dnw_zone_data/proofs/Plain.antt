@@ -1,5 +1,5 @@
--- Words of characters that are neither white space nor quotes nor backslashes.
-use Rattle.std.proofs.Common.{◌≡◌, ℕ, ◌+◌, ◌^◌, ◌<◌, ◌/◌, ◌%◌, Bool, true, false, not, ◌&&◌, ◌==◌, List, [], ◌∷◌, ◌++◌, length, slice_index, refl, sym, ap, arith, suc, zero, inl, inr, decimal}
+-- Words of characters that are neither white space nor quotes, parentheses, semicolons or backslashes.
+use Rattle.std.proofs.Common.{◌≡◌, ℕ, ◌+◌, ◌^◌, ◌<◌, ◌/◌, ◌%◌, Bool, true, false, not, ◌&&◌, ◌==◌, List, [], ◌∷◌, ◌++◌, length, slice_index, refl, sym, ap, ◌∙◌, ◌||◌, arith, suc, zero, inl, inr, decimal}
 use Rattle.std.specs.Prelude.{nat_le}
 use Rattle.std.specs.List.{list_all}
 use Rattle.std.specs.Str.{IsUtf8, IsAscii}
@@ -10,17 +10,24 @@ use Rattle.std.proofs.lemmas.List.{take_at, drop_at}
 use Rattle.std.proofs.lemmas.Fmt.{decimal_by_steps}
 use Rattle.hex.specs.Hex.{encode_with, upper_digits}
 use Rattle.dnw_zone_values.specs.Octets.{IsOctets, hex_text}
-use Rattle.dnw_zone_data.specs.Words.{is_space, is_end, word_len, word, after_word, after_spaces, without_spaces}
+use Rattle.dnw_zone_data.specs.Words.{is_space, is_end, begins_with_quote, is_word_end, plain_len, word_len, word, after_word, after_spaces, without_spaces}
 
--- a printable character that is no space, quote or backslash
+-- a printable character that is no space, quote, parenthesis, semicolon or backslash
 abbrev pub is_plain : ℕ → Bool
-is_plain c = nat_le 33 c && nat_le c 126 && not (c == 34) && not (c == 92)
+is_plain c = nat_le 33 c && nat_le c 126 && not (c == 34) && not (c == 40) && not (c == 41) && not (c == 59) && not (c == 92)
+
+pub plain_by_tests : (c : ℕ) → nat_le 33 c ≡ true → nat_le c 126 ≡ true → (c == 34) ≡ false → (c == 40) ≡ false → (c == 41) ≡ false → (c == 59) ≡ false
+    → (c == 92) ≡ false → is_plain c ≡ true
+plain_by_tests c low high a b d e f = rw (low, high, a, b, d, e, f) refl
 
 abbrev pub all_plain : List ℕ → Bool
 all_plain w = list_all is_plain w
 
 pub plain_no_space : (c : ℕ) → is_plain c ≡ true → is_space c ≡ false
 plain_no_space c h = grind arith
+
+pub plain_goes_on : (c : ℕ) → is_plain c ≡ true → is_word_end c ≡ false
+plain_goes_on c h = grind arith
 
 pub plain_no_quote : (c : ℕ) → is_plain c ≡ true → (c == 34) ≡ false
 plain_no_quote c h = grind arith
@@ -31,13 +38,38 @@ plain_no_backslash c h = grind arith
 plain_ascii : (c : ℕ) → is_plain c ≡ true → c < 128
 plain_ascii c h = grind arith
 
+-- white space is no quote, and it ends a word
+pub space_ends : (c : ℕ) → is_space c ≡ true → is_word_end c ≡ true
+space_ends c h = rw h refl
+
+space_no_quote : (c : ℕ) → is_space c ≡ true → (c == 34) ≡ false
+space_no_quote c h = grind arith
+
+pub end_unquoted : (rest : List ℕ) → is_end rest ≡ true → begins_with_quote rest ≡ false
+end_unquoted [] end = refl
+end_unquoted (c ∷ cs) end = space_no_quote c end
+
+pub end_plain : (rest : List ℕ) → is_end rest ≡ true → plain_len false rest ≡ 0
+end_plain [] end = refl
+end_plain (c ∷ cs) end = rw (space_ends c end) refl
+
+-- a word that does not begin with a quote
+pub unquoted_len : (text : List ℕ) → begins_with_quote text ≡ false → word_len text ≡ plain_len false text
+unquoted_len text h = rw h refl
+
+pub plain_unquoted : (w rest : List ℕ) → all_plain w ≡ true → is_end rest ≡ true → begins_with_quote (w ++ rest) ≡ false
+plain_unquoted [] rest h end = end_unquoted rest end
+plain_unquoted (c ∷ w) rest h end = plain_no_quote c (and_parts (is_plain c) (all_plain w) h).0
+
 -- a plain word up to its end
-pub plain_word_len : (w rest : List ℕ) → all_plain w ≡ true → is_end rest ≡ true → word_len false false (w ++ rest) ≡ length w
-plain_word_len [] [] h end = refl
-plain_word_len [] (c ∷ cs) h end = rw end refl
-plain_word_len (c ∷ w) rest h end =
+pub plain_up_to : (w rest : List ℕ) → all_plain w ≡ true → is_end rest ≡ true → plain_len false (w ++ rest) ≡ length w
+plain_up_to [] rest h end = end_plain rest end
+plain_up_to (c ∷ w) rest h end =
     let parts = and_parts (is_plain c) (all_plain w) h in
-    rw (plain_no_space c parts.0, plain_no_quote c parts.0, plain_no_backslash c parts.0) (let rest-len = plain_word_len w rest parts.1 end in omega (arith, rest-len))
+    rw (plain_goes_on c parts.0, plain_no_backslash c parts.0) (let rest-len = plain_up_to w rest parts.1 end in omega (arith, rest-len))
+
+pub plain_word_len : (w rest : List ℕ) → all_plain w ≡ true → is_end rest ≡ true → word_len (w ++ rest) ≡ length w
+plain_word_len w rest h end = unquoted_len (w ++ rest) (plain_unquoted w rest h end) ∙ plain_up_to w rest h end
 
 pub plain_joined : (w : List ℕ) → all_plain w ≡ true → without_spaces w ≡ w
 plain_joined [] h = refl

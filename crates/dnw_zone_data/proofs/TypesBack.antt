@@ -155,7 +155,7 @@ types_no_mark text (kind ∷ kinds) h e = no_type kind (subst (λ (w : List ℕ)
 
 pub types_back : (own : List ℕ) → IsOctets own → list_fault lists.Types own ≡ None → FieldComesBack (ListOf lists.Types) (types (items lists.Types own))
 unfolding list_fault
-types_back own h fine origin printed rest (codes, print, e) end =
+types_back own h fine origin way printed rest (codes, print, e) end =
     let none : rest ≡ [] = end.0 refl in
     let there = windows (length own) (length own) 0 own codes h (omega arith) fine print in
     let words = types_words 0 codes there.5 in

@@ -38,10 +38,10 @@ ipv6_some a is =
     (λ none. no_colon_hex (ipv6_segments a) (subst (λ (w : List ℕ). IsColonHex w (ipv6_segments a)) none is))
 
 pub ipv6_back : (a : Ipv6Addr) → IsIpv6Addr a → FieldComesBack Ipv6 (ipv6 (ipv6_segments a))
-ipv6_back a is origin printed rest print end =
+ipv6_back a is origin way printed rest print end =
     let w = ipv6_text (ipv6_segments a) in
     let plain : all_plain w ≡ true = bare_open w (ipv6_bare (ipv6_segments a) is.1) in
-    plain_by origin Ipv6 printed w rest (ipv6 (ipv6_segments a)) refl print plain (ipv6_some a (IsColonHex-ipv6_text _ is.0 is.1)) end.1 (a, plain_utf8 w plain, IsColonHex-ipv6_text _ is.0 is.1, refl)
+    plain_by origin way Ipv6 printed w rest (ipv6 (ipv6_segments a)) refl print plain (ipv6_some a (IsColonHex-ipv6_text _ is.0 is.1)) end.1 (a, plain_utf8 w plain, IsColonHex-ipv6_text _ is.0 is.1, refl)
 
 -- ---- identifiers
 
@@ -71,22 +71,22 @@ lead : (a b : ℕ) (own : List ℕ) → a ≡ 0 → b ≡ 0 → 0 ∷ 0 ∷ own 
 lead a b own p q = rw (p, q) refl
 
 pub eui48_back : (n : ℕ) → n ≤ max_u48 → FieldComesBack U48 (u48 n)
-eui48_back n few origin printed rest print end =
+eui48_back n few origin way printed rest print end =
     let own = drop 2 (to_be_bytes w64 n) in
     let w = pairs_text own in
     let plain = pairs_plain own (six_fit n) in
     let a : n / 72057594037927936 % 256 ≡ 0 = omega (arith, few) in
     let b : n / 281474976710656 % 256 ≡ 0 = omega (arith, few) in
     let back : from_be_bytes w64 (0 ∷ 0 ∷ own) ≡ n = ap (from_be_bytes w64) (lead _ _ own a b) ∙ from_be_bytes-to_be_bytes_8 n (omega (arith, few)) in
-    plain_by origin U48 printed w rest (u48 n) refl print plain (omega arith) end.1 (own, plain_utf8 w plain, (pairs own (six_fit n, omega arith)).0, refl, ap u48 (sym back))
+    plain_by origin way U48 printed w rest (u48 n) refl print plain (omega arith) end.1 (own, plain_utf8 w plain, (pairs own (six_fit n, omega arith)).0, refl, ap u48 (sym back))
 
 pub eui64_back : (n : ℕ) → n < 2 ^ 64 → FieldComesBack U64 (u64 n)
-eui64_back n few origin printed rest print end =
+eui64_back n few origin way printed rest print end =
     let own = to_be_bytes w64 n in
     let w = pairs_text own in
     let fit = eight_fit n in
     let plain = pairs_plain own fit in
-    plain_by origin U64 printed w rest (u64 n) refl print plain (omega arith) end.1
+    plain_by origin way U64 printed w rest (u64 n) refl print plain (omega arith) end.1
     (own, plain_utf8 w plain, (pairs own (fit, omega arith)).0, refl, ap u64 (sym (from_be_bytes-to_be_bytes_8 n few)))
 
 -- ---- octets in base 64
@@ -109,7 +109,7 @@ base64_end [] = refl
 base64_end (o ∷ own) = refl
 
 pub base64_back : (own : List ℕ) → IsOctets own → FieldComesBack (Octets Base64) (octets own)
-base64_back own is origin printed rest print end =
+base64_back own is origin way printed rest print end =
     let none : rest ≡ [] = end.0 refl in
-    let reads : ReadsField origin (Octets Base64) (after_spaces (base64_part own)) (octets own) [] = ((own, base64_words own is, refl), refl) in
+    let reads : ReadsField origin way (Octets Base64) (after_spaces (base64_part own)) (octets own) [] = ((own, base64_words own is, refl), refl) in
     rw (none, print, append-nil) (reads, base64_no_mark own is, base64_end own)

@@ -28,6 +28,8 @@ use Rattle.dnw_zone_data.specs.declared.error.DataTextError.{DataTextError}
 use Rattle.dnw_zone_data.specs.declared.error.DataTextError.TheVariants.{Memory}
 use Rattle.dnw_zone_data.specs.Generic.{generic_mark, generic_text, IsGeneric}
 use Rattle.dnw_base.specs.Limits.{max_data}
+use Rattle.dnw_zone_data.specs.declared.number_form.NumberForm.{NumberForm}
+use Rattle.dnw_zone_data.specs.NumberForms.{number_forms}
 use Rattle.dnw_zone_data.specs.Words.{is_end, word, after_spaces}
 use Rattle.dnw_zone_data.specs.Printing.{Prints}
 use Rattle.dnw_zone_data.specs.DataTexts.{ArePlain, FailsText, IsDataText, IsPlainData, IsTextOf}
@@ -47,14 +49,14 @@ FollowsField kind rest = (takes_all kind ≡ true → rest ≡ []) × (is_end re
 
 -- A text is read as the field, and what follows is left. It begins with white space or is empty, and its first word is not the
 -- one that the form of any data begins with; so it can be the first field of data, or follow another.
-abbrev pub IsFieldReadBack : Option NameValue → Kind → List ℕ → FieldValue → List ℕ → Type 0
-IsFieldReadBack origin kind text value rest =
-    ReadsField origin kind (after_spaces (text ++ rest)) value rest × (word (after_spaces (text ++ rest)) ≢ generic_mark) × (is_end text ≡ true)
+abbrev pub IsFieldReadBack : Option NameValue → NumberForm → Kind → List ℕ → FieldValue → List ℕ → Type 0
+IsFieldReadBack origin way kind text value rest =
+    ReadsField origin way kind (after_spaces (text ++ rest)) value rest × (word (after_spaces (text ++ rest)) ≢ generic_mark) × (is_end text ≡ true)
 
--- What is printed of a field of this kind with this value is read as it.
+-- What is printed of a field of this kind with this value is read as it, whatever form its number may have.
 abbrev pub FieldComesBack : Kind → FieldValue → Type 0
 FieldComesBack kind value =
-    (origin : Option NameValue) (text rest : List ℕ) → Prints kind value text → FollowsField kind rest → IsFieldReadBack origin kind text value rest
+    (origin : Option NameValue) (way : NumberForm) (text rest : List ℕ) → Prints kind value text → FollowsField kind rest → IsFieldReadBack origin way kind text value rest
 
 -- a type as it is read from its code
 abbrev pub IsReadType : RecordType → Type 0
@@ -114,27 +116,27 @@ StringsComeBack = (own : List ℕ) → IsOctets own → 1 ≤ length own → Fie
 abbrev pub DataComeBack : Type 0
 DataComeBack = (origin : Option NameValue) (r : RecordValue) (text : List ℕ) → AreBytes r.message → IsDataText r text
     → (own : List ℕ) × IsPlainData r own
-    × ((max_data < length own) ⊎ IsGeneric text own ⊎ IsTextOf origin (fields_of (class_code r.class) (code_of r.record_type)) text own)
+    × ((max_data < length own) ⊎ IsGeneric text own ⊎ IsTextOf origin (number_forms (code_of r.record_type)) (fields_of (class_code r.class) (code_of r.record_type)) text own)
 
 -- If a text is data of a type, parsing it fails for no other reason than memory.
 abbrev pub TextsAreParsed : Type 0
-TextsAreParsed = (origin : Option NameValue) (fields : List ℕ → List Kind) (text own : List ℕ) (error : DataTextError)
-    → IsTextOf origin fields text own → FailsText origin fields text error → error ≡ Memory
+TextsAreParsed = (origin : Option NameValue) (ways : List NumberForm) (fields : List ℕ → List Kind) (len : ℕ) (text own : List ℕ) (error : DataTextError)
+    → IsTextOf origin ways fields text own → FailsText origin ways fields len text error → error ≡ Memory
 
 -- If a text is octets in the form that any data have, parsing it fails for no other reason than memory, or that they are no data of
 -- the type.
 abbrev pub GenericIsParsed : Type 0
-GenericIsParsed = (origin : Option NameValue) (fields : List ℕ → List Kind) (text own : List ℕ) (error : DataTextError)
-    → IsGeneric text own → FailsText origin fields text error → (error ≡ Memory) ⊎ (¬ (ArePlain (fields own) own))
+GenericIsParsed = (origin : Option NameValue) (ways : List NumberForm) (fields : List ℕ → List Kind) (len : ℕ) (text own : List ℕ) (error : DataTextError)
+    → IsGeneric text own → FailsText origin ways fields len text error → (error ≡ Memory) ⊎ (¬ (ArePlain (fields own) own))
 
 -- No text is two lists of octets. A bitmap of types does not say that its items are below 256, so the law supposes it.
 abbrev pub DataAreUnambiguous : Type 0
-DataAreUnambiguous = (origin : Option NameValue) (fields : List ℕ → List Kind) (text own other : List ℕ) → IsOctets own → IsOctets other
-    → IsTextOf origin fields text own → IsTextOf origin fields text other → own ≡ other
+DataAreUnambiguous = (origin : Option NameValue) (ways : List NumberForm) (fields : List ℕ → List Kind) (text own other : List ℕ) → IsOctets own → IsOctets other
+    → IsTextOf origin ways fields text own → IsTextOf origin ways fields text other → own ≡ other
 
 -- What is parsed of data that were printed are their octets, with names that are not compressed, if these are not more than data
 -- may have.
 abbrev pub PrintedDataAreSame : Type 0
 PrintedDataAreSame = (origin : Option NameValue) (r : RecordValue) (text own : List ℕ) → AreBytes r.message → IsDataText r text → IsOctets own
-    → IsTextOf origin (fields_of (class_code r.class) (code_of r.record_type)) text own
+    → IsTextOf origin (number_forms (code_of r.record_type)) (fields_of (class_code r.class) (code_of r.record_type)) text own
     → IsPlainData r own ⊎ ((long : List ℕ) × IsPlainData r long × (max_data < length long))

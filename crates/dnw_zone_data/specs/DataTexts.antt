@@ -19,6 +19,7 @@ use Rattle.dnw_record.specs.RecordFields.{record_fields}
 use Rattle.dnw_zone_data.specs.declared.error.DataTextError.{DataTextError}
 use Rattle.dnw_zone_data.specs.declared.error.DataTextError.TheVariants.{Memory}
 use Rattle.dnw_zone_data.specs.declared.error.Wanted.TheVariants.{Data, Generic}
+use Rattle.dnw_zone_data.specs.declared.number_form.NumberForm.{NumberForm}
 use Rattle.dnw_zone_data.specs.Faults.{fault}
 use Rattle.dnw_zone_data.specs.Words.{after_spaces, word, after_word}
 use Rattle.dnw_zone_data.specs.Generic.{generic_mark, generic_text, hex_words, IsGeneric, IsSized, FailsSized}
@@ -101,10 +102,10 @@ LacksText left =
     ⊎ ((own : List ℕ) × PrintsFields left.kinds left.reader own × (is_blank left.kinds own ≡ true))
 
 -- Types of which many servers know no text: X25, ISDN, NSAP-PTR, GPOS, DHCID, NINFO, RKEY, TALINK,
--- DSYNC, L32, LP, AVC, RESINFO, WALLET, CLA and DLV.
+-- DSYNC, HHIT, BRID, L32, LP, AVC, RESINFO, WALLET, CLA, TA and DLV.
 abbrev pub little_known : List ℕ
 little_known =
-    19 ∷ 20 ∷ 23 ∷ 27 ∷ 49 ∷ 56 ∷ 57 ∷ 58 ∷ 66 ∷ 105 ∷ 107 ∷ 258 ∷ 261 ∷ 262 ∷ 263 ∷ 32769 ∷ []
+    19 ∷ 20 ∷ 23 ∷ 27 ∷ 49 ∷ 56 ∷ 57 ∷ 58 ∷ 66 ∷ 67 ∷ 68 ∷ 105 ∷ 107 ∷ 258 ∷ 261 ∷ 262 ∷ 263 ∷ 32768 ∷ 32769 ∷ []
 
 unfoldable pub is_little_known : ℕ → Bool
 is_little_known code = list_any (λ known. known == code) little_known
@@ -123,9 +124,9 @@ IsDataText r text =
 -- ---- parsing
 
 -- the text is these octets, in the type's own form
-abbrev pub IsFieldsText : Option NameValue → List Kind → List ℕ → List ℕ → Type 0
-IsFieldsText origin kinds text own =
-    (word (after_spaces text) ≢ generic_mark) × (has_own_form kinds ≡ true) × (values : List FieldValue) × AreFieldTexts origin kinds text values
+abbrev pub IsFieldsText : Option NameValue → List NumberForm → List Kind → List ℕ → List ℕ → Type 0
+IsFieldsText origin ways kinds text own =
+    (word (after_spaces text) ≢ generic_mark) × (has_own_form kinds ≡ true) × (values : List FieldValue) × AreFieldTexts origin ways kinds text values
     × (own ≡ flat_map field_wire values)
 
 -- the text is these octets in the form that any data have, and they are data of the type, without pointers: nothing is said in
@@ -143,8 +144,9 @@ stand_in (c ∷ cs) = 1 ∷ []
 abbrev pub text_kinds : (List ℕ → List Kind) → List ℕ → List Kind
 text_kinds fields text = fields (stand_in (after_spaces text))
 
-abbrev pub IsTextOf : Option NameValue → (List ℕ → List Kind) → List ℕ → List ℕ → Type 0
-IsTextOf origin fields text own = IsGenericData (fields own) text own ⊎ IsFieldsText origin (text_kinds fields text) text own
+-- the text is these octets, as data with fields of these kinds, whose numbers are in these forms
+abbrev pub IsTextOf : Option NameValue → List NumberForm → (List ℕ → List Kind) → List ℕ → List ℕ → Type 0
+IsTextOf origin ways fields text own = IsGenericData (fields own) text own ⊎ IsFieldsText origin ways (text_kinds fields text) text own
 
 -- why what is after `\#` is no data of a type, in a text of this length: no number and octets, or the octets are no such data
 abbrev pub FailsGeneric : (List ℕ → List Kind) → ℕ → List ℕ → DataTextError → Type 0
@@ -152,10 +154,10 @@ FailsGeneric fields len left e =
     FailsSized len left e ⊎ (e ≡ Memory)
     ⊎ ((own : List ℕ) × IsSized left own × (¬ (ArePlain (fields own) own)) × (e ≡ fault 1 (len - length (hex_words left)) Data))
 
--- why a text is no data of a type
-abbrev pub FailsText : Option NameValue → (List ℕ → List Kind) → List ℕ → DataTextError → Type 0
-FailsText origin fields text e =
+-- why a text is no data of a type, at the end of a line of this length
+abbrev pub FailsText : Option NameValue → List NumberForm → (List ℕ → List Kind) → ℕ → List ℕ → DataTextError → Type 0
+FailsText origin ways fields len text e =
     let kinds = text_kinds fields text in
-    ((word (after_spaces text) ≡ generic_mark) × FailsGeneric fields (length text) (after_word (after_spaces text)) e)
-    ⊎ ((word (after_spaces text) ≢ generic_mark) × (has_own_form kinds ≡ false) × (e ≡ fault 0 (length text - length (after_spaces text)) Generic))
-    ⊎ ((word (after_spaces text) ≢ generic_mark) × (has_own_form kinds ≡ true) × ((e ≡ Memory) ⊎ FailsFields origin (length kinds) (length text) kinds text e))
+    ((word (after_spaces text) ≡ generic_mark) × FailsGeneric fields len (after_word (after_spaces text)) e)
+    ⊎ ((word (after_spaces text) ≢ generic_mark) × (has_own_form kinds ≡ false) × (e ≡ fault 0 (len - length (after_spaces text)) Generic))
+    ⊎ ((word (after_spaces text) ≢ generic_mark) × (has_own_form kinds ≡ true) × ((e ≡ Memory) ⊎ FailsFields origin (length kinds) len ways kinds text e))

@@ -1,4 +1,5 @@
 pub mod Words
+pub mod NumberForms
 pub mod NameReading
 pub mod Appending
 pub mod TypeLists

@@ -2,12 +2,13 @@
 use Rattle.std.specs.Prelude.{ℕ, if◌then◌else◌, List, Option, Some, None, Ok, Err}
 use Rattle.dnw_base.specs.Names.{NameValue}
 use Rattle.dnw_name_text.specs.NameReading.{Parsed, name_of_text, origin_labels}
+use Rattle.dnw_zone_data.specs.Words.{begins_with_quote}
 
 -- the labels, if the name is fully qualified
 abbrev pub qualified_labels : Parsed NameValue → Option (List (List ℕ))
 qualified_labels (Ok name) = if name.is_fqdn then Some name.labels else None
 qualified_labels (Err error) = None
 
--- the labels of the fully qualified name that a text gives with an origin, if any
+-- the labels of the fully qualified name that a word gives with an origin, if any; a word in quotes is no name
 abbrev pub named_at : Option NameValue → List ℕ → Option (List (List ℕ))
-named_at origin text = qualified_labels (name_of_text (origin_labels origin) text)
+named_at origin text = if begins_with_quote text then None else qualified_labels (name_of_text (origin_labels origin) text)

@@ -6,7 +6,7 @@ use Rattle.dnw_data.specs.Values.{FieldValue, params, items}
 use Rattle.dnw_zone_svcb.specs.Params.{ParamValue, in_key_order, params_wire}
 use Rattle.dnw_zone_svcb.specs.ParamTexts.{params_text}
 use Rattle.dnw_zone_svcb.specs.ParamWords.{IsParam}
-use Rattle.dnw_zone_data.specs.Words.{after_spaces, word, after_word}
+use Rattle.dnw_zone_data.specs.Words.{after_spaces, param_word, after_param}
 
 -- The text is that of the parameters that octets are, each after a space.
 abbrev pub PrintsParams : List ℕ → List ℕ → Type 0
@@ -16,7 +16,7 @@ PrintsParams own text = params_text own ≡ Some text
 abbrev pub AreParamWords : List ℕ → List ParamValue → Type 0
 AreParamWords left [] = after_spaces left ≡ []
 AreParamWords left (p ∷ ps) =
-    (after_spaces left ≢ []) × IsParam (word (after_spaces left)) p × AreParamWords (after_word (after_spaces left)) ps
+    (after_spaces left ≢ []) × IsParam (param_word (after_spaces left)) p × AreParamWords (after_param (after_spaces left)) ps
 
 -- the words of a text are parameters, no key is there twice, and these are their octets; there may be none
 abbrev pub AreParams : List ℕ → FieldValue → Type 0

@@ -16,7 +16,7 @@ use Rattle.dnw_data.specs.declared.kind.ListKind.TheVariants as lists
 use Rattle.dnw_data.specs.declared.kind.Shown.{Shown}
 use Rattle.dnw_data.specs.declared.kind.Shown.TheVariants.{Text, Tag, Hex, Base32Hex, Base64, Other}
 use Rattle.dnw_data.specs.Values.{FieldValue, name, u8, u16, u32, u48, u64, ipv4, ipv6, type_code, time, counted, octets, texts, items}
-use Rattle.dnw_zone_values.specs.Numbers.{max_u8, max_u16, max_u32, IsNumberText}
+use Rattle.dnw_zone_values.specs.Numbers.{max_u8, max_u16, max_u32}
 use Rattle.dnw_zone_values.specs.Octets.{IsHexText, IsBase64Text, IsSaltText}
 use Rattle.dnw_zone_values.specs.Strings.{IsStringText, IsLongText}
 use Rattle.dnw_zone_values.specs.Tags.{IsTagText}
@@ -24,18 +24,20 @@ use Rattle.dnw_zone_values.specs.Base32.{IsHashText}
 use Rattle.dnw_zone_values.specs.Pairs.{IsPairsText}
 use Rattle.dnw_zone_values.specs.Times.{IsTimeText}
 use Rattle.dnw_zone_data.specs.declared.error.DataTextError.{DataTextError}
-use Rattle.dnw_zone_data.specs.declared.error.Wanted.TheVariants.{Field, End}
+use Rattle.dnw_zone_data.specs.declared.error.Wanted.TheVariants.{End}
+use Rattle.dnw_zone_data.specs.declared.number_form.NumberForm.{NumberForm}
+use Rattle.dnw_zone_data.specs.NumberForms.{first_form, other_forms, IsNumberIn}
 use Rattle.dnw_zone_data.specs.Words.{after_spaces, word, after_word, without_spaces}
-use Rattle.dnw_zone_data.specs.Faults.{fault}
+use Rattle.dnw_zone_data.specs.Faults.{fault, wanted_of}
 use Rattle.dnw_zone_data.specs.NameReading.{named_at}
 use Rattle.dnw_zone_data.specs.TypeLists.{AreTypes}
 use Rattle.dnw_zone_data.specs.ParamLists.{AreParams}
 
 -- ---- the fields of words
 
--- a number of this size, as the field that it makes
-abbrev pub IsNumber : ℕ → (ℕ → FieldValue) → List ℕ → FieldValue → Type 0
-IsNumber max field text value = (n : ℕ) × IsUtf8 text × IsNumberText max text n × (value ≡ field n)
+-- a number of this size in a form, as the field that it makes
+abbrev pub IsNumber : NumberForm → ℕ → (ℕ → FieldValue) → List ℕ → FieldValue → Type 0
+IsNumber way max field text value = (n : ℕ) × IsUtf8 text × IsNumberIn way max text n × (value ≡ field n)
 
 -- octets in a spelling
 abbrev pub AreOctetsOf : (List ℕ → List ℕ → Type 0) → (List ℕ → FieldValue) → List ℕ → FieldValue → Type 0
@@ -46,12 +48,12 @@ abbrev pub IsNameField : Option NameValue → List ℕ → FieldValue → Type 0
 IsNameField origin text value = (labels : List (List ℕ)) × (named_at origin text ≡ Some labels) × (value ≡ name labels)
 
 -- a word is a number or a time of this kind
-abbrev pub IsNumberOf : Kind → List ℕ → FieldValue → Type 0
-IsNumberOf kinds.U8 text value = IsNumber max_u8 u8 text value
-IsNumberOf kinds.U16 text value = IsNumber max_u16 u16 text value
-IsNumberOf kinds.U32 text value = IsNumber max_u32 u32 text value
-IsNumberOf kinds.Time text value = (n : ℕ) × IsUtf8 text × IsTimeText text n × (value ≡ time n)
-IsNumberOf kind text value = ⊥
+abbrev pub IsNumberOf : NumberForm → Kind → List ℕ → FieldValue → Type 0
+IsNumberOf way kinds.U8 text value = IsNumber way max_u8 u8 text value
+IsNumberOf way kinds.U16 text value = IsNumber way max_u16 u16 text value
+IsNumberOf way kinds.U32 text value = IsNumber way max_u32 u32 text value
+IsNumberOf way kinds.Time text value = (n : ℕ) × IsUtf8 text × IsTimeText text n × (value ≡ time n)
+IsNumberOf way kind text value = ⊥
 
 -- pairs of digits are so many octets, as the field that they make
 abbrev pub IsIdentifierField : ℕ → (List ℕ → FieldValue) → List ℕ → FieldValue → Type 0
@@ -77,17 +79,17 @@ abbrev pub IsOctetsOf : Shown → List ℕ → FieldValue → Type 0
 IsOctetsOf Text text value = AreOctetsOf IsLongText octets text value
 IsOctetsOf shown text value = ⊥
 
--- a word is a field of this kind
-abbrev pub IsWord : Option NameValue → Kind → List ℕ → FieldValue → Type 0
-IsWord origin (kinds.Name form) text value = IsNameField origin text value
-IsWord origin kinds.Ipv4 text value = (a : Ipv4Addr) × IsUtf8 text × IsIpv4Text text a × (value ≡ ipv4 (ipv4_octets a))
-IsWord origin kinds.Ipv6 text value = (a : Ipv6Addr) × IsUtf8 text × IsIpv6Text text a × (value ≡ ipv6 (ipv6_segments a))
-IsWord origin kinds.TypeCode text value = (code : RecordType) × IsUtf8 text × (type_of_text text ≡ Some code) × (value ≡ type_code code)
-IsWord origin kinds.U48 text value = IsIdentifierField 6 eui48 text value
-IsWord origin kinds.U64 text value = IsIdentifierField 8 eui64 text value
-IsWord origin (kinds.Counted shown) text value = AreOctetsOf (SpellsShown shown) counted text value
-IsWord origin (kinds.Octets shown) text value = IsOctetsOf shown text value
-IsWord origin kind text value = IsNumberOf kind text value
+-- a word is a field of this kind, and its number is in a form
+abbrev pub IsWord : Option NameValue → NumberForm → Kind → List ℕ → FieldValue → Type 0
+IsWord origin way (kinds.Name form) text value = IsNameField origin text value
+IsWord origin way kinds.Ipv4 text value = (a : Ipv4Addr) × IsUtf8 text × IsIpv4Text text a × (value ≡ ipv4 (ipv4_octets a))
+IsWord origin way kinds.Ipv6 text value = (a : Ipv6Addr) × IsUtf8 text × IsIpv6Text text a × (value ≡ ipv6 (ipv6_segments a))
+IsWord origin way kinds.TypeCode text value = (code : RecordType) × IsUtf8 text × (type_of_text text ≡ Some code) × (value ≡ type_code code)
+IsWord origin way kinds.U48 text value = IsIdentifierField 6 eui48 text value
+IsWord origin way kinds.U64 text value = IsIdentifierField 8 eui64 text value
+IsWord origin way (kinds.Counted shown) text value = AreOctetsOf (SpellsShown shown) counted text value
+IsWord origin way (kinds.Octets shown) text value = IsOctetsOf shown text value
+IsWord origin way kind text value = IsNumberOf way kind text value
 
 -- a word is this string
 abbrev pub IsStringWord : List ℕ → List ℕ → Type 0
@@ -134,25 +136,26 @@ AreAll (kinds.List list) left value = AreList list left value
 AreAll kind left value = ⊥
 
 -- All words are the field, or the first is.
-abbrev pub ReadsBy : Bool → Option NameValue → Kind → List ℕ → FieldValue → List ℕ → Type 0
-ReadsBy true origin kind left value rest = AreAll kind left value × (rest ≡ [])
-ReadsBy false origin kind left value rest = IsWord origin kind (word left) value × (rest ≡ after_word left)
+abbrev pub ReadsBy : Bool → Option NameValue → NumberForm → Kind → List ℕ → FieldValue → List ℕ → Type 0
+ReadsBy true origin way kind left value rest = AreAll kind left value × (rest ≡ [])
+ReadsBy false origin way kind left value rest = IsWord origin way kind (word left) value × (rest ≡ after_word left)
 
--- The first word of a text, or all, are a field of this kind, and this is after it.
-abbrev pub ReadsField : Option NameValue → Kind → List ℕ → FieldValue → List ℕ → Type 0
-ReadsField origin kind left value rest = ReadsBy (takes_all kind) origin kind left value rest
+-- The first word of a text, or all, are a field of this kind with its number in a form, and this is after it.
+abbrev pub ReadsField : Option NameValue → NumberForm → Kind → List ℕ → FieldValue → List ℕ → Type 0
+ReadsField origin way kind left value rest = ReadsBy (takes_all kind) origin way kind left value rest
 
--- The text is these fields of these kinds.
-abbrev pub AreFieldTexts : Option NameValue → List Kind → List ℕ → List FieldValue → Type 0
-AreFieldTexts origin [] left [] = after_spaces left ≡ []
-AreFieldTexts origin (kind ∷ kinds) left (value ∷ values) =
-    (rest : List ℕ) × ReadsField origin kind (after_spaces left) value rest × AreFieldTexts origin kinds rest values
-AreFieldTexts origin kinds left values = ⊥
+-- The text is these fields of these kinds, with numbers in these forms.
+abbrev pub AreFieldTexts : Option NameValue → List NumberForm → List Kind → List ℕ → List FieldValue → Type 0
+AreFieldTexts origin ways [] left [] = after_spaces left ≡ []
+AreFieldTexts origin ways (kind ∷ kinds) left (value ∷ values) =
+    (rest : List ℕ) × ReadsField origin (first_form ways) kind (after_spaces left) value rest × AreFieldTexts origin (other_forms ways) kinds rest values
+AreFieldTexts origin ways kinds left values = ⊥
 
 -- The text goes wrong at a field, or goes on after the last: of so many fields, in a text of this length.
-abbrev pub FailsFields : Option NameValue → ℕ → ℕ → List Kind → List ℕ → DataTextError → Type 0
-FailsFields origin count len [] left e = (after_spaces left ≢ []) × (e ≡ fault count (len - length (after_spaces left)) End)
-FailsFields origin count len (kind ∷ kinds) left e =
-    (((value : FieldValue) (rest : List ℕ) → ¬ (ReadsField origin kind (after_spaces left) value rest))
-    × (e ≡ fault (count - length (kind ∷ kinds)) (len - length (after_spaces left)) (Field kind)))
-    ⊎ ((value : FieldValue) × (rest : List ℕ) × ReadsField origin kind (after_spaces left) value rest × FailsFields origin count len kinds rest e)
+abbrev pub FailsFields : Option NameValue → ℕ → ℕ → List NumberForm → List Kind → List ℕ → DataTextError → Type 0
+FailsFields origin count len ways [] left e = (after_spaces left ≢ []) × (e ≡ fault count (len - length (after_spaces left)) End)
+FailsFields origin count len ways (kind ∷ kinds) left e =
+    (((value : FieldValue) (rest : List ℕ) → ¬ (ReadsField origin (first_form ways) kind (after_spaces left) value rest))
+    × (e ≡ fault (count - length (kind ∷ kinds)) (len - length (after_spaces left)) (wanted_of (first_form ways) kind)))
+    ⊎ ((value : FieldValue) × (rest : List ℕ) × ReadsField origin (first_form ways) kind (after_spaces left) value rest
+    × FailsFields origin count len (other_forms ways) kinds rest e)

@@ -1,5 +1,7 @@
--- How a text is split into words (RFC 1035, section 5.1): by white space that is neither in quotes nor after a backslash.
--- Parentheses and comments are of the lines around a text, and are no part of it.
+-- How a text is split into words (RFC 1035, section 5.1). A word that begins with a quote goes up to the next quote that is not after a
+-- backslash. Any other goes up to white space, a quote, a parenthesis or a semicolon that is not after a backslash. Comments and
+-- parentheses are of the lines around a text, and are no part of it: at one of these characters no word begins, so that no field is
+-- there.
 use Rattle.std.specs.Prelude.{ℕ, ◌+◌, Bool, not, true, false, ◌&&◌, ◌||◌, ◌==◌, if◌then◌else◌, List, [], ◌∷◌, take, drop}
 use Rattle.std.specs.List.{filter}
 use Rattle.dnw_zone_values.specs.Strings.{quote, backslash}
@@ -15,29 +17,54 @@ abbrev pub after_spaces : List ℕ → List ℕ
 after_spaces [] = []
 after_spaces (c ∷ cs) = if is_space c then after_spaces cs else c ∷ cs
 
--- the character ends a word, in quotes or not, after a backslash or not
-abbrev pub ends_word_at : Bool → Bool → ℕ → Bool
-ends_word_at quoted escaped c = not quoted && not escaped && is_space c
+-- `"`, `(`, `)`, `;` and white space end a word that is not in quotes
+abbrev pub is_word_end : ℕ → Bool
+is_word_end c = is_space c || c == quote || c == 40 || c == 41 || c == 59
 
--- the next character is in quotes, or after a backslash
-abbrev pub quoted_next : Bool → Bool → ℕ → Bool
-quoted_next quoted escaped c = if not escaped && (c == quote) then not quoted else quoted
-
+-- the next character is after a backslash
 abbrev pub escaped_after : Bool → ℕ → Bool
 escaped_after escaped c = not escaped && (c == backslash)
 
--- the number of characters up to the end of a word
-abbrev pub word_len : Bool → Bool → List ℕ → ℕ
-word_len quoted escaped [] = 0
-word_len quoted escaped (c ∷ cs) =
-    if ends_word_at quoted escaped c then 0 else 1 + word_len (quoted_next quoted escaped c) (escaped_after escaped c) cs
+-- the number of characters up to the end of a word without quotes, after a backslash or not
+abbrev pub plain_len : Bool → List ℕ → ℕ
+plain_len escaped [] = 0
+plain_len escaped (c ∷ cs) = if not escaped && is_word_end c then 0 else 1 + plain_len (escaped_after escaped c) cs
+
+-- the number of characters up to the quote at the end of a word, and with it
+abbrev pub quoted_len : Bool → List ℕ → ℕ
+quoted_len escaped [] = 0
+quoted_len escaped (c ∷ cs) = if not escaped && (c == quote) then 1 else 1 + quoted_len (escaped_after escaped c) cs
+
+abbrev pub begins_with_quote : List ℕ → Bool
+begins_with_quote [] = false
+begins_with_quote (c ∷ cs) = c == quote
+
+-- the number of characters of the first word
+abbrev pub word_len : List ℕ → ℕ
+word_len text = if begins_with_quote text then 1 + quoted_len false (drop 1 text) else plain_len false text
 
 -- the first word of a text, and what is after it
 abbrev pub word : List ℕ → List ℕ
-word text = take (word_len false false text) text
+word text = take (word_len text) text
 
 abbrev pub after_word : List ℕ → List ℕ
-after_word text = drop (word_len false false text) text
+after_word text = drop (word_len text) text
+
+-- ---- service parameters
+
+-- A service parameter is a key up to the first `=`, and a word after that (RFC 9460, section 2.1).
+abbrev pub param_len : List ℕ → ℕ
+param_len [] = 0
+param_len (c ∷ cs) = if is_word_end c then 0 else if c == 61 then 1 + word_len cs else 1 + param_len cs
+
+-- the first parameter of a text, and what is after it
+abbrev pub param_word : List ℕ → List ℕ
+param_word text = take (param_len text) text
+
+abbrev pub after_param : List ℕ → List ℕ
+after_param text = drop (param_len text) text
+
+-- ---- ends
 
 -- the text ends, or goes on with white space
 abbrev pub is_end : List ℕ → Bool

@@ -12,12 +12,14 @@ ghost use Rattle.dnw_zone_data.specs.declared.error.DataTextError.TheVariants.{M
 ghost use Rattle.dnw_zone_data.specs.Parsing.{AreFieldTexts, FailsFields};
 ghost use Rattle.dnw_data.specs.FieldWires.{field_wire};
 ghost use Rattle.dnw_zone_data.specs.Generic.{IsSized};
+ghost use Rattle.dnw_zone_data.specs.NumberForms.{number_forms};
 ghost use Rattle.dnw_zone_data.specs.DataTexts.{has_fields, has_own_form, has_field_text, is_blank, is_little_known, is_octets, is_unprinted, stand_in};
 ghost use Rattle.dnw_zone_data.specs.DataTexts.{without_space, ArePlain, IsPlainData, IsDataText, IsOwnText, IsTextOf, FailsGeneric, FailsText, LacksText};
 ghost use Rattle.dnw_zone_data.specs.Inside.Wires.{AppendsWires};
 
 use crate::error::{DataTextError, Wanted};
 use crate::generic::{Generic, MARK, hex_words, parse_sized};
+use crate::number_form::{NumberForm, number_forms};
 use crate::parsing::{Place, parse_fields};
 use crate::printing::{is_ended, next_field, write_fields};
 use crate::words::{after_spaces, split_word};
@@ -95,8 +97,8 @@ pub fn parse(
     text: &str,
     origin: Option<&Name>,
 ) -> Result<Vec<u8>, DataTextError>
-    ensures { MatchResult result (λ own. IsTextOf (option_copied origin.entry) (fields_of (class_code class) (type_code record_type)) text.now own.items)
-        (FailsText (option_copied origin.entry) (fields_of (class_code class) (type_code record_type)) text.now) }
+    ensures { MatchResult result (λ own. IsTextOf (option_copied origin.entry) (number_forms (type_code record_type)) (fields_of (class_code class) (type_code record_type)) text.now own.items)
+        (FailsText (option_copied origin.entry) (number_forms (type_code record_type)) (fields_of (class_code class) (type_code record_type)) (length text.now) text.now) }
 {
     parse_bytes(alloc, class, record_type, text.as_bytes(), origin)
 }
@@ -109,23 +111,40 @@ pub fn parse_bytes(
     text: &[u8],
     origin: Option<&Name>,
 ) -> Result<Vec<u8>, DataTextError>
-    ensures { MatchResult result (λ own. IsTextOf (option_copied origin.entry) (fields_of (class_code class) (type_code record_type)) text.now own.items)
-        (FailsText (option_copied origin.entry) (fields_of (class_code class) (type_code record_type)) text.now) }
+    ensures { MatchResult result (λ own. IsTextOf (option_copied origin.entry) (number_forms (type_code record_type)) (fields_of (class_code class) (type_code record_type)) text.now own.items)
+        (FailsText (option_copied origin.entry) (number_forms (type_code record_type)) (fields_of (class_code class) (type_code record_type)) (length text.now) text.now) }
+{
+    parse_in_line(alloc, class, record_type, text.len(), text, origin)
+}
+
+/// Returns the octets of the data that the bytes of a text are, as `parse` does. The text is the end of a line of this length, in which
+/// the offsets of faults are counted.
+pub fn parse_in_line(
+    alloc: Global,
+    class: DNSClass,
+    record_type: RecordType,
+    len: usize,
+    text: &[u8],
+    origin: Option<&Name>,
+) -> Result<Vec<u8>, DataTextError>
+    requires within { length text.now ≤ len }
+    ensures { MatchResult result (λ own. IsTextOf (option_copied origin.entry) (number_forms (type_code record_type)) (fields_of (class_code class) (type_code record_type)) text.now own.items)
+        (FailsText (option_copied origin.entry) (number_forms (type_code record_type)) (fields_of (class_code class) (type_code record_type)) len text.now) }
 {
     let start = after_spaces(text);
     let (word, rest) = split_word(start);
     if word == MARK {
-        return parse_generic(alloc, class, record_type, rest, text.len());
+        return parse_generic(alloc, class, record_type, rest, len);
     }
     let kinds = fields_of(class, record_type, stand_in(start));
     if !has_own_form(kinds) {
         return Err(DataTextError::Wanted {
             field: 0,
-            offset: text.len() - start.len(),
+            offset: len - start.len(),
             wanted: Wanted::Generic,
         });
     }
-    parse_own(alloc, kinds, text, origin)
+    parse_own(alloc, number_forms(record_type), kinds, len, text, origin)
 }
 
 /// Returns octets in place of those that a text in the type's own form is, which begins here.
@@ -199,22 +218,25 @@ fn is_written_as(
     written == octets
 }
 
-/// Returns the octets of the fields that a text is.
+/// Returns the octets of the fields that a text is, at the end of a line of this length.
 fn parse_own(
     alloc: Global,
+    forms: &[NumberForm],
     kinds: &[Kind],
+    len: usize,
     text: &[u8],
     origin: Option<&Name>,
 ) -> Result<Vec<u8>, DataTextError>
-    ensures { MatchResult result (λ own. (values : List FieldValue) × AreFieldTexts (option_copied origin.entry) kinds.now text.now values × (own.items ≡ flat_map field_wire values))
-        (λ e. (e ≡ Memory) ⊎ FailsFields (option_copied origin.entry) (length kinds.now) (length text.now) kinds.now text.now e) }
+    requires within { length text.now ≤ len }
+    ensures { MatchResult result (λ own. (values : List FieldValue) × AreFieldTexts (option_copied origin.entry) forms.now kinds.now text.now values × (own.items ≡ flat_map field_wire values))
+        (λ e. (e ≡ Memory) ⊎ FailsFields (option_copied origin.entry) (length kinds.now) len forms.now kinds.now text.now e) }
 {
     let place = Place {
         count: kinds.len(),
-        len: text.len(),
+        len,
     };
     let mut octets = Vec::new(alloc);
-    parse_fields(alloc, place, kinds, text, origin, &mut octets)?;
+    parse_fields(alloc, place, forms, kinds, text, origin, &mut octets)?;
     Ok(octets)
 }
 
@@ -225,7 +247,7 @@ fn is_little_known(record_type: RecordType) -> bool
 {
     matches!(
         u16::from(record_type),
-        19 | 20 | 23 | 27 | 49 | 56..=58 | 66 | 105 | 107 | 258 | 261..=263 | 32769
+        19 | 20 | 23 | 27 | 49 | 56..=58 | 66..=68 | 105 | 107 | 258 | 261..=263 | 32768 | 32769
     )
 }
 

@@ -11,6 +11,7 @@ pub mod error;
 pub mod generic;
 pub mod laws;
 pub mod name;
+pub mod number_form;
 pub mod params;
 mod parsing;
 mod printing;

@@ -4,6 +4,7 @@ ghost use Rattle.std.specs.Option.{option_copied};
 ghost use Rattle.dnw_name_text.specs.NameTexts.{full_name_text};
 ghost use Rattle.dnw_zone_data.specs.NameReading.{named_at};
 
+use crate::words::begins_with_quote;
 use arrayvec::ArrayString;
 use dnw_base::limits::MAX_NAME;
 use dnw_name::name::Name;
@@ -22,10 +23,14 @@ pub fn write_name(name: &NameRef<'_>, out: &mut String) -> Result<(), AllocError
     out.push_str(text.as_str())
 }
 
-/// Returns the wire form of the fully qualified name that a text gives, if any. An origin completes it if no dot is at its end.
+/// Returns the wire form of the fully qualified name that a word gives, if any. An origin completes it if no dot is at its end. A word
+/// in quotes is no name.
 pub fn read_name(alloc: Global, text: &[u8], origin: Option<&Name>) -> Option<WireForm>
     ensures { result ≡ named_at (option_copied origin.entry) text.now }
 {
+    if begins_with_quote(text) {
+        return None;
+    }
     let labels = match origin {
         Some(name) => Some(name.wire_labels()),
         None => None,

@@ -4,7 +4,7 @@ ghost use Rattle.dnw_zone_svcb.specs.Params.{ParamValue, in_key_order};
 ghost use Rattle.dnw_zone_data.specs.ParamLists.{AreParamWords, AreParams};
 ghost use Rattle.dnw_zone_data.specs.Appending.{AppendsOne};
 
-use crate::words::{after_spaces, split_word};
+use crate::words::{after_spaces, split_param};
 use dnw_zone_svcb::param::{Param, insert_param, push_params};
 use dnw_zone_svcb::word::parse_param;
 use std::alloc::{AllocError, Global};
@@ -29,7 +29,7 @@ fn params_of_words(alloc: Global, text: &[u8]) -> Result<Option<Vec<Param>>, All
     let mut params = Vec::new(alloc);
     let mut left = after_spaces(text);
     'params: while !left.is_empty() {
-        let (word, rest) = split_word(left);
+        let (word, rest) = split_param(left);
         let Some(param) = parse_param(alloc, word)? else {
             return Ok(None);
         };

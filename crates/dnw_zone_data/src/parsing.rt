@@ -9,8 +9,9 @@ ghost use Rattle.dnw_data.specs.FieldWires.{field_wire};
 ghost use Rattle.dnw_zone_data.specs.Inside.Reads.{AppendsRest, IsEndedBy};
 ghost use Rattle.dnw_zone_data.specs.Appending.{AppendsOne};
 
-use crate::error::{DataTextError, Wanted};
+use crate::error::{DataTextError, Wanted, wanted_of};
 use crate::name::read_name;
+use crate::number_form::{NumberForm, next_form, u8_in, u16_in, u32_in};
 use crate::params::parse_params;
 use crate::spelling::{base64_of, hex_of, pairs_of, spelled, string_of_word, text_of};
 use crate::types::parse_types;
@@ -19,7 +20,6 @@ use dnw_base::record_type::RecordType;
 use dnw_data::kind::{Kind, ListKind, Shown};
 use dnw_name::name::Name;
 use dnw_zone_values::address::{parse_ipv4, parse_ipv6};
-use dnw_zone_values::number::{parse_u8, parse_u16, parse_u32};
 use dnw_zone_values::time::parse_time;
 use std::alloc::{AllocError, Global};
 use std::str;
@@ -33,10 +33,11 @@ pub(crate) struct Place {
     pub(crate) len: usize,
 }
 
-/// Appends the octets of the fields that are left.
+/// Appends the octets of the fields that are left, whose numbers are in these forms.
 pub(crate) fn parse_fields(
     alloc: Global,
     place: Place,
+    forms: &[NumberForm],
     kinds: &[Kind],
     left: &[u8],
     origin: Option<&Name>,
@@ -44,9 +45,9 @@ pub(crate) fn parse_fields(
 ) -> Result<(), DataTextError>
     requires count { length kinds.now ≤ place.count }
     requires within { length left.now ≤ place.len }
-    ensures ok { IfOk result (λ _. (values : List FieldValue) × AreFieldTexts (option_copied origin.entry) kinds.now left.now values
+    ensures ok { IfOk result (λ _. (values : List FieldValue) × AreFieldTexts (option_copied origin.entry) forms.now kinds.now left.now values
         × (out.new.items ≡ out.old.items ++ flat_map field_wire values)) }
-    ensures err { IfErr result (λ e. (e ≡ Memory) ⊎ FailsFields (option_copied origin.entry) place.count place.len kinds.now left.now e) }
+    ensures err { IfErr result (λ e. (e ≡ Memory) ⊎ FailsFields (option_copied origin.entry) place.count place.len forms.now kinds.now left.now e) }
 {
     let left = after_spaces(left);
     let field = place.count - kinds.len();
@@ -62,33 +63,35 @@ pub(crate) fn parse_fields(
             wanted,
         });
     };
-    let Some(rest) = parse_field(alloc, *kind, left, origin, out)? else {
-        let wanted = Wanted::Field(*kind);
+    let (form, other_forms) = next_form(forms);
+    let Some(rest) = parse_field(alloc, form, *kind, left, origin, out)? else {
+        let wanted = wanted_of(form, *kind);
         return Err(DataTextError::Wanted {
             field,
             offset,
             wanted,
         });
     };
-    parse_fields(alloc, place, others, rest, origin, out)
+    parse_fields(alloc, place, other_forms, others, rest, origin, out)
 }
 
-/// Appends the octets of the field that a text begins with. Returns what is after it, or `None` if it is none of this kind.
+/// Appends the octets of the field that a text begins with, whose number is in a form. Returns what is after it, or `None` if it is none of this kind.
 fn parse_field<'t>(
     alloc: Global,
+    form: NumberForm,
     kind: Kind,
     left: &'t [u8],
     origin: Option<&Name>,
     out: &mut Vec<u8>,
 ) -> Result<Option<&'t [u8]>, AllocError>
-    ensures reads { IfOk result (λ rest. AppendsRest (ReadsField (option_copied origin.entry) kind left.now) out.old.items out.new.items (option_map (λ r. r.now) rest)) }
+    ensures reads { IfOk result (λ rest. AppendsRest (ReadsField (option_copied origin.entry) form kind left.now) out.old.items out.new.items (option_map (λ r. r.now) rest)) }
     ensures within { IfOk result (λ rest. IfSome rest (λ r. length r.now ≤ length left.now)) }
 {
     if takes_all(kind) {
         return parse_all(alloc, kind, left, out);
     }
     let (word, rest) = split_word(left);
-    if parse_word(alloc, kind, word, origin, out)? {
+    if parse_word(alloc, form, kind, word, origin, out)? {
         Ok(Some(rest))
     } else {
         Ok(None)
@@ -198,15 +201,16 @@ fn takes_all(kind: Kind) -> bool
     )
 }
 
-/// Appends the octets of a word's field. Returns `false` if it is none of this kind.
+/// Appends the octets of a word's field, whose number is in a form. Returns `false` if it is none of this kind.
 fn parse_word(
     alloc: Global,
+    form: NumberForm,
     kind: Kind,
     word: &[u8],
     origin: Option<&Name>,
     out: &mut Vec<u8>,
 ) -> Result<bool, AllocError>
-    ensures { IfOk result (AppendsOne (IsWord (option_copied origin.entry) kind word.now) out.old.items out.new.items) }
+    ensures { IfOk result (AppendsOne (IsWord (option_copied origin.entry) form kind word.now) out.old.items out.new.items) }
 {
     if let Kind::Name(_) = kind {
         return parse_name(alloc, word, origin, out);
@@ -237,7 +241,7 @@ fn parse_word(
         Kind::U64 => return parse_eui64(alloc, text, out),
         Kind::Counted(shown) => return parse_counted(alloc, shown, text, out),
         Kind::Octets(shown) => return parse_octets(alloc, shown, text, out),
-        _ => return parse_number(kind, text, out),
+        _ => return parse_number(form, kind, text, out),
     }
     Ok(true)
 }
@@ -258,25 +262,30 @@ fn parse_name(
     Ok(true)
 }
 
-/// Appends the octets of a number or a time. Returns `false` if the text is none of this kind.
-fn parse_number(kind: Kind, text: &str, out: &mut Vec<u8>) -> Result<bool, AllocError>
-    ensures { IfOk result (AppendsOne (IsNumberOf kind text.now) out.old.items out.new.items) }
+/// Appends the octets of a number in a form, or of a time. Returns `false` if the text is none of this kind.
+fn parse_number(
+    form: NumberForm,
+    kind: Kind,
+    text: &str,
+    out: &mut Vec<u8>,
+) -> Result<bool, AllocError>
+    ensures { IfOk result (AppendsOne (IsNumberOf form kind text.now) out.old.items out.new.items) }
 {
     match kind {
         Kind::U8 => {
-            let Ok(number) = parse_u8(text) else {
+            let Some(number) = u8_in(form, text) else {
                 return Ok(false);
             };
             out.push(number)?;
         }
         Kind::U16 => {
-            let Ok(number) = parse_u16(text) else {
+            let Some(number) = u16_in(form, text) else {
                 return Ok(false);
             };
             out.extend_from_slice(&number.to_be_bytes())?;
         }
         Kind::U32 => {
-            let Ok(number) = parse_u32(text) else {
+            let Some(number) = u32_in(form, text) else {
                 return Ok(false);
             };
             out.extend_from_slice(&number.to_be_bytes())?;

@@ -1,7 +1,8 @@
 //! How a text is split into words.
-ghost use Rattle.std.specs.Prelude.{◌≡◌, ◌≤◌, ◌+◌, ◌++◌, Bool, not, length, false, take, drop, IfOk};
+ghost use Rattle.std.specs.Prelude.{◌≡◌, ◌≤◌, ◌+◌, ◌==◌, ◌&&◌, not, length, false, IfOk};
 ghost use Rattle.std.specs.List.{filter};
-ghost use Rattle.dnw_zone_data.specs.Words.{is_space, is_no_space, ends_word_at, quoted_next, escaped_after, word_len, after_spaces};
+ghost use Rattle.dnw_zone_values.specs.Strings.{quote};
+ghost use Rattle.dnw_zone_data.specs.Words.{after_param, after_spaces, after_word, begins_with_quote, is_word_end, escaped_after, is_no_space, is_space, param_len, param_word, plain_len, quoted_len, word, word_len};
 
 use std::alloc::{AllocError, Global};
 
@@ -27,43 +28,116 @@ pub fn after_spaces(text: &[u8]) -> &[u8]
     left
 }
 
-/// Splits a text after the word that it begins with.
+/// Splits a text after the word that it begins with: one in quotes, or one up to white space, a quote, a parenthesis or a semicolon.
 pub fn split_word(text: &[u8]) -> (&[u8], &[u8])
-    ensures word { result.0.now ≡ take (word_len false false text.now) text.now }
-    ensures rest { result.1.now ≡ drop (word_len false false text.now) text.now }
+    ensures word { result.0.now ≡ word text.now }
+    ensures rest { result.1.now ≡ after_word text.now }
     ensures whole { length result.0.now + length result.1.now ≡ length text.now }
 {
-    let mut quoted = false;
+    text.split_at(word_len(text))
+}
+
+/// Splits a text after the service parameter that it begins with: a key up to the first `=`, and a word after that.
+pub fn split_param(text: &[u8]) -> (&[u8], &[u8])
+    ensures word { result.0.now ≡ param_word text.now }
+    ensures rest { result.1.now ≡ after_param text.now }
+    ensures whole { length result.0.now + length result.1.now ≡ length text.now }
+{
+    text.split_at(param_len(text))
+}
+
+/// Returns `true` if a text begins with a quote.
+pub(crate) fn begins_with_quote(text: &[u8]) -> bool
+    ensures { result ≡ begins_with_quote text.now }
+{
+    match text.first() {
+        Some(first) => *first == b'"',
+        None => false,
+    }
+}
+
+/// Returns the length of the word that a text begins with.
+fn word_len(text: &[u8]) -> usize
+    ensures is { result ≡ word_len text.now }
+    ensures within { result ≤ length text.now }
+{
+    if begins_with_quote(text) {
+        return 1 + quoted_len(&text[1..]);
+    }
+    plain_len(text)
+}
+
+/// Returns the length of what is up to the quote at the end of a word, and with it.
+fn quoted_len(text: &[u8]) -> usize
+    ensures is { result ≡ quoted_len false text.now }
+    ensures within { result ≤ length text.now }
+{
     let mut escaped = false;
     let mut left = text;
     while let Some((first, rest)) = left.split_first() {
-        if ends_word(quoted, escaped, *first) {
-            break;
+        if is_end_quote(escaped, *first) {
+            return text.len() - rest.len();
         }
-        let was_escaped = escaped;
-        escaped = escaped_after(was_escaped, *first);
-        quoted = quoted_after(quoted, was_escaped, *first);
+        escaped = escaped_after(escaped, *first);
         left = rest;
     }
-    text.split_at(text.len() - left.len())
+    text.len()
 }
 
-/// Returns `true` if a character ends a word: it is white space, and neither in quotes nor after a backslash.
-fn ends_word(quoted: bool, escaped: bool, c: u8) -> bool
-    ensures { result ≡ ends_word_at quoted escaped c }
+/// Returns the length of a word without quotes.
+fn plain_len(text: &[u8]) -> usize
+    ensures is { result ≡ plain_len false text.now }
+    ensures within { result ≤ length text.now }
 {
-    !quoted && !escaped && is_space(c)
-}
-
-/// Returns `true` if the next character is in quotes.
-fn quoted_after(quoted: bool, escaped: bool, c: u8) -> bool
-    ensures { result ≡ quoted_next quoted escaped c }
-{
-    if !escaped && c == b'"' {
-        !quoted
-    } else {
-        quoted
+    let mut escaped = false;
+    let mut left = text;
+    while let Some((first, rest)) = left.split_first() {
+        if ends_plain(escaped, *first) {
+            return text.len() - left.len();
+        }
+        escaped = escaped_after(escaped, *first);
+        left = rest;
     }
+    text.len()
+}
+
+/// Returns the length of the service parameter that a text begins with.
+fn param_len(text: &[u8]) -> usize
+    ensures is { result ≡ param_len text.now }
+    ensures within { result ≤ length text.now }
+{
+    let mut left = text;
+    while let Some((first, rest)) = left.split_first() {
+        if is_word_end(*first) {
+            return text.len() - left.len();
+        }
+        if *first == b'=' {
+            return text.len() - rest.len() + word_len(rest);
+        }
+        left = rest;
+    }
+    text.len()
+}
+
+/// Returns `true` if a character ends a word that is not in quotes, unless it is after a backslash.
+fn is_word_end(c: u8) -> bool
+    ensures { result ≡ is_word_end c }
+{
+    is_space(c) || c == b'"' || c == b'(' || c == b')' || c == b';'
+}
+
+/// Returns `true` if a character, after a backslash or not, ends a word that is not in quotes.
+fn ends_plain(escaped: bool, c: u8) -> bool
+    ensures { result ≡ (not escaped && is_word_end c) }
+{
+    !escaped && is_word_end(c)
+}
+
+/// Returns `true` if a character, after a backslash or not, is the quote at the end of a word.
+fn is_end_quote(escaped: bool, c: u8) -> bool
+    ensures { result ≡ (not escaped && (c == quote)) }
+{
+    !escaped && c == b'"'
 }
 
 /// Returns `true` if the next character is after a backslash.

@@ -22,7 +22,7 @@ pub fn parse_ttl(alloc: Global, ttl_str: &str) -> ParseResult<u32>
     ensures err { IfErr result (IsParseTime ttl_str.now) }
     ensures no_ttl { OnErr result (IsNoTtl (time_seconds ttl_str.now)) }
 {
-    match seconds(ttl_str.as_bytes()) {
+    match ttl_seconds(ttl_str.as_bytes()) {
         Some(seconds) => Ok(seconds),
         None => Err(ParseError::ParseTime(copied(alloc, ttl_str)?)),
     }
@@ -31,9 +31,9 @@ pub fn parse_ttl(alloc: Global, ttl_str: &str) -> ParseResult<u32>
 /// The greatest time to live, in seconds: its field has 32 bits.
 const MAX_TTL: u64 = 4294967295;
 
-/// Returns the seconds of a time, if the text is one and they are not too many.
+/// Returns the seconds of a time, if the text is one and they are not too many, as `parse_ttl` reads it. It allocates nothing.
 #[tactic(auto, using(crate::proofs::Sums::from_start, crate::proofs::Sums::too_many))]
-fn seconds(text: &[u8]) -> Option<u32>
+pub fn ttl_seconds(text: &[u8]) -> Option<u32>
     ensures { MatchOption result (IsNoTtl (time_seconds text.now)) (λ seconds. time_seconds text.now ≡ Some seconds) }
 {
     if text.is_empty() {

@@ -1,3 +1,4 @@
 pub mod LinesBack
 pub mod OneLine
 mod RecordWords
+pub mod EntryLines

@@ -21,8 +21,9 @@ use Rattle.dnw_data.specs.Table.{fields_of}
 use Rattle.dnw_record.specs.Records.{RecordValue, record_of, fixed_at, number_at}
 use Rattle.dnw_zone_values.specs.Octets.{IsOctets}
 use Rattle.dnw_zone_svcb.proofs.ParamTextsBack.{drop_fit, take_fit}
-use Rattle.dnw_zone_lexer.specs.Times.{groups_after, time_seconds, total_seconds}
 use Rattle.dnw_name_text.specs.NameTexts.{full_name_text}
+use Rattle.dnw_zone_data.specs.declared.number_form.NumberForm.{NumberForm}
+use Rattle.dnw_zone_data.specs.NumberForms.{number_forms}
 use Rattle.dnw_zone_data.specs.Words.{is_end, word, after_word}
 use Rattle.dnw_base.specs.Limits.{max_data}
 use Rattle.dnw_zone_data.specs.DataTexts.{IsTextOf, text_kinds}
@@ -34,6 +35,7 @@ use Rattle.dnw_zone_data.proofs.DataBack.{back, same_start}
 use Rattle.dnw_zone_data.proofs.FieldValues.{labels_fit}
 use Rattle.dnw_zone_data.proofs.FieldsBack.{type_plain, type_some}
 use Rattle.dnw_zone_data.proofs.NamesBack.{name_is, name_len}
+use Rattle.dnw_zone_data.proofs.NumberFormsBack.{period}
 use Rattle.dnw_zone_data.proofs.Plain.{all_plain, decimal_plain, plain_after, plain_append, plain_starts, plain_utf8, plain_word}
 use Rattle.dnw_data.proofs.Codes.{class_back, code_back}
 
@@ -48,27 +50,9 @@ plain_next w rest plain some end =
     let start = plain_starts w rest plain some in
     (ap word start ∙ plain_word w rest plain end, ap after_word start ∙ plain_after w rest plain end)
 
-digit : (d : ℕ) → d < 10 → is_ascii_digit (48 + d) ≡ true
-digit d few = grind arith
-
--- the digits of a number are one group
-digits_group : (n : ℕ) → n < 2 ^ 64 → (rest : List ℕ) → groups_after None (decimal n ++ rest) ≡ groups_after (Some n) rest
-digits_group n h =
-    decimal_by_steps (λ m ds. (rest : List ℕ) → groups_after None (ds ++ rest) ≡ groups_after (Some m) rest)
-    (λ m below rest. let same : 48 + m - 48 ≡ m = omega arith in rw (digit m below, same) refl)
-    (λ m ds ten so_far rest.
-    let same : 10 * (m / 10) + (48 + m % 10 - 48) ≡ m = omega arith in
-    ap (groups_after None) (append_assoc ds ((48 + m % 10) ∷ []) rest) ∙ so_far ((48 + m % 10) ∷ rest) ∙ rw (digit (m % 10) (omega arith), same) refl) n h
-
-time_of : (w : List ℕ) (n : ℕ) → 0 < length w → groups_after None w ≡ Some ((n, 1) ∷ []) → time_seconds w ≡ Some n
-time_of [] n some e = absurd (omega (arith, some))
-time_of (c ∷ w) n some e =
-    let one : total_seconds ((n, 1) ∷ []) ≡ n = omega arith in ap (option_map total_seconds) e ∙ ap Some one
-
 ttl_word : (n : ℕ) → n ≤ 4294967295 → IsTtlWord (decimal n) n
 ttl_word n few =
-    let group = ap (groups_after None) (sym (append-nil (decimal n))) ∙ digits_group n (omega (arith, few)) [] in
-    (plain_utf8 (decimal n) (decimal_plain n (omega (arith, few))), time_of (decimal n) n (decimal_nonempty n (omega (arith, few))) group, few)
+    (plain_utf8 (decimal n) (decimal_plain n (omega (arith, few))), period n few)
 
 class_plain : (class : DNSClass) → class_code class < 65536 → (all_plain (class_text class) ≡ true) × (0 < length (class_text class))
 class_plain (OPT size) h =
@@ -84,20 +68,24 @@ class_plain class h = (refl, omega arith)
 abbrev pub head_fields : LineHead → List ℕ → List Kind
 head_fields head = fields_of (class_code head.class) (type_code head.record_type)
 
--- a space before data is left out
-after_space : (origin : Option NameValue) (fields : List ℕ → List Kind) (text own : List ℕ) → IsTextOf origin fields text own
-    → IsTextOf origin fields (spaced text) own
-after_space origin fields [] own is = is
-after_space origin fields (c ∷ cs) own (inl generic) = inl generic
-after_space origin fields (c ∷ cs) own (inr (other, form, values, are, e)) =
-    inr (other, form, values, same_start origin (text_kinds fields (c ∷ cs)) (c ∷ cs) (32 ∷ c ∷ cs) values refl are, e)
+-- the forms of their numbers
+abbrev pub head_forms : LineHead → List NumberForm
+head_forms head = number_forms (type_code head.record_type)
 
-pub without_space : (origin : Option NameValue) (fields : List ℕ → List Kind) (text own : List ℕ) → IsTextOf origin fields (spaced text) own
-    → IsTextOf origin fields text own
-without_space origin fields [] own is = is
-without_space origin fields (c ∷ cs) own (inl generic) = inl generic
-without_space origin fields (c ∷ cs) own (inr (other, form, values, are, e)) =
-    inr (other, form, values, same_start origin (text_kinds fields (c ∷ cs)) (32 ∷ c ∷ cs) (c ∷ cs) values refl are, e)
+-- a space before data is left out
+after_space : (origin : Option NameValue) (ways : List NumberForm) (fields : List ℕ → List Kind) (text own : List ℕ) → IsTextOf origin ways fields text own
+    → IsTextOf origin ways fields (spaced text) own
+after_space origin ways fields [] own is = is
+after_space origin ways fields (c ∷ cs) own (inl generic) = inl generic
+after_space origin ways fields (c ∷ cs) own (inr (other, form, values, are, e)) =
+    inr (other, form, values, same_start origin ways (text_kinds fields (c ∷ cs)) (c ∷ cs) (32 ∷ c ∷ cs) values refl are, e)
+
+pub without_space : (origin : Option NameValue) (ways : List NumberForm) (fields : List ℕ → List Kind) (text own : List ℕ) → IsTextOf origin ways fields (spaced text) own
+    → IsTextOf origin ways fields text own
+without_space origin ways fields [] own is = is
+without_space origin ways fields (c ∷ cs) own (inl generic) = inl generic
+without_space origin ways fields (c ∷ cs) own (inr (other, form, values, are, e)) =
+    inr (other, form, values, same_start origin ways (text_kinds fields (c ∷ cs)) (32 ∷ c ∷ cs) (c ∷ cs) values refl are, e)
 
 spaced_end : (text : List ℕ) → is_end (spaced text) ≡ true
 spaced_end [] = refl
@@ -157,7 +145,7 @@ pub split : (origin : Option NameValue) (r : RecordValue) (text : List ℕ) → 
 split origin r text is =
     let w = full_name_text r.owner in
     let rest = line_rest r text in
-    let len = name_len r.owner rest is.octets refl in
+    let len = name_len r.owner rest is.labels.each is.octets refl in
     let first : word (w ++ rest) ≡ w = take_at w rest _ (sym len) in
     let left : after_word (w ++ rest) ≡ rest = drop_at w rest _ (sym len) in
     let whole : record_line r text ≡ w ++ rest = simp append_assoc in
@@ -206,7 +194,7 @@ lines origin b p e r text h at print =
         | inr few ↦ elim done [
           | inl many ↦ inl many
           | inr (inl shown) ↦ inr (inl shown)
-          | inr (inr is) ↦ inr (inr (line_back origin r text own read (after_space origin (head_fields (line_head r)) text own is, few)))
+          | inr (inr is) ↦ inr (inr (line_back origin r text own read (after_space origin (head_forms (line_head r)) (head_fields (line_head r)) text own is, few)))
         ]
       ],
     )

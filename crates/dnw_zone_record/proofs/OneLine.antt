@@ -16,7 +16,7 @@ use Rattle.dnw_zone_record.specs.declared.record_line.LineHead.{LineHead}
 use Rattle.dnw_zone_data.specs.DataTexts.{IsTextOf}
 use Rattle.dnw_zone_record.specs.RecordTextLaws.{line_head, LinesAreUnambiguous, PrintedLinesAreSame}
 use Rattle.dnw_zone_record.specs.RecordLines.{record_line, spaced, after_next_word, line_octets, next_word, HasClassNext, HasTtlAndClass, IsHead, IsRecordLine}
-use Rattle.dnw_zone_record.proofs.LinesBack.{IsReadRecord, head_back, head_fields, line_rest, record_read, split, without_space}
+use Rattle.dnw_zone_record.proofs.LinesBack.{IsReadRecord, head_back, head_fields, head_forms, line_rest, record_read, split, without_space}
 use Rattle.dnw_zone_data.proofs.OneBitmap.{back_fit}
 use Rattle.dnw_zone_data.proofs.OneText.{printed, unambiguous}
 
@@ -28,11 +28,11 @@ one_class left c d r s (inr x) (inr y) = (x.1 ∙ sym y.1, x.2 ∙ sym y.2)
 
 one_ttl : (left : List ℕ) (m n : ℕ) (c d : DNSClass) (r s : List ℕ) → HasTtlAndClass left m c r → HasTtlAndClass left n d s → (m ≡ n) × (c ≡ d) × (r ≡ s)
 one_ttl left m n c d r s (inl (ttl, class)) (inl (also, other)) =
-    let next = one_class (after_next_word left) c d r s class other in (same_Some m n (sym ttl.1 ∙ also.1), next.0, next.1)
+    let next = one_class (after_next_word left) c d r s class other in (same_Some m n (sym ttl.1.0 ∙ also.1.0), next.0, next.1)
 one_ttl left m n c d r s (inl (ttl, class)) (inr (none, other)) = absurd (none m ttl)
 one_ttl left m n c d r s (inr (none, class)) (inl (ttl, other)) = absurd (none n ttl)
 one_ttl left m n c d r s (inr (none, (class, ttl, e))) (inr (lacks, (other, also, f))) =
-    (same_Some m n (sym ttl.1 ∙ also.1), same_Some c d (sym class.1 ∙ other.1), e ∙ sym f)
+    (same_Some m n (sym ttl.1.0 ∙ also.1.0), same_Some c d (sym class.1 ∙ other.1), e ∙ sym f)
 
 one_head : (left : List ℕ) (head other : LineHead) (r s : List ℕ) → IsHead left head r → IsHead left other s → (head ≡ other) × (r ≡ s)
 one_head left head other r s (between, has, kind, e) (among, also, other_kind, f) =
@@ -55,26 +55,26 @@ unfolding IsRecordLine
 unambiguous_lines origin line a b h k (owner, named, (head, text, own, is, (spelled, few), e)) (named_by, also, (other, rest, data_of, are, (text_of, low), f)) =
     let same_owner = same_Some owner named_by (sym named ∙ also) in
     let (same_head, same_text) = one_head (after_word line) head other text rest is are in
-    let moved : IsTextOf origin (head_fields other) rest own =
-    subst (λ (x : LineHead). IsTextOf origin (head_fields x) rest own) same_head (subst (λ (t : List ℕ). IsTextOf origin (head_fields head) t own) same_text spelled) in
-    let same = unambiguous origin (head_fields other) rest own data_of (own_fit owner head own a e h) (own_fit named_by other data_of b f k) moved text_of in
+    let moved : IsTextOf origin (head_forms other) (head_fields other) rest own =
+    subst (λ (x : LineHead). IsTextOf origin (head_forms x) (head_fields x) rest own) same_head (subst (λ (t : List ℕ). IsTextOf origin (head_forms head) (head_fields head) t own) same_text spelled) in
+    let same = unambiguous origin (head_forms other) (head_fields other) rest own data_of (own_fit owner head own a e h) (own_fit named_by other data_of b f k) moved text_of in
     e ∙ ap (λ (ls : List (List ℕ)). line_octets ls head own) same_owner ∙ ap (λ (x : LineHead). line_octets named_by x own) same_head
     ∙ ap (λ (xs : List ℕ). line_octets named_by other xs) same ∙ sym f
 
 -- the data of a line that was printed of a record
 line_data : (origin : Option NameValue) (r : RecordValue) (text octets : List ℕ) → IsReadRecord r → IsRecordLine origin (record_line r text) octets
-    → (own : List ℕ) × IsTextOf origin (head_fields (line_head r)) text own × (octets ≡ line_octets r.owner (line_head r) own)
+    → (own : List ℕ) × IsTextOf origin (head_forms (line_head r)) (head_fields (line_head r)) text own × (octets ≡ line_octets r.owner (line_head r) own)
 unfolding IsRecordLine
 line_data origin r text octets read (owner, named, (head, rest, own, is, (spelled, few), e)) =
     let parts = split origin r text read in
     let same_owner = same_Some owner r.owner (sym named ∙ parts.named) in
     let moved : IsHead (line_rest r text) head rest = subst (λ (xs : List ℕ). IsHead xs head rest) parts.left is in
     let (same_head, same_text) = one_head (line_rest r text) head (line_head r) rest (spaced text) moved (head_back r text read) in
-    let whole : IsTextOf origin (head_fields (line_head r)) (spaced text) own =
-    subst (λ (x : LineHead). IsTextOf origin (head_fields x) (spaced text) own) same_head
-    (subst (λ (t : List ℕ). IsTextOf origin (head_fields head) t own) same_text spelled) in (
+    let whole : IsTextOf origin (head_forms (line_head r)) (head_fields (line_head r)) (spaced text) own =
+    subst (λ (x : LineHead). IsTextOf origin (head_forms x) (head_fields x) (spaced text) own) same_head
+    (subst (λ (t : List ℕ). IsTextOf origin (head_forms head) (head_fields head) t own) same_text spelled) in (
       own,
-      without_space origin (head_fields (line_head r)) text own whole,
+      without_space origin (head_forms (line_head r)) (head_fields (line_head r)) text own whole,
       e ∙ ap (λ (ls : List (List ℕ)). line_octets ls head own) same_owner ∙ ap (λ (x : LineHead). line_octets r.owner x own) same_head,
     )
 

@@ -1,2 +1,3 @@
 pub mod RecordLines
+pub mod RecordEntries
 pub mod RecordTextLaws

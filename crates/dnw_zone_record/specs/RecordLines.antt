@@ -1,6 +1,6 @@
 -- Records as lines of master files (RFC 1035, section 5.1): the owner, a time to live and maybe a class in either order, the
 -- type and the data. Parentheses and comments are no part of a line, nor is anything of a line before it.
-use Rattle.std.specs.Prelude.{◌≡◌, ◌<◌, ◌≤◌, ◌⊎◌, ℕ, decimal, List, [], ◌∷◌, ◌++◌, length, Option, Some, None}
+use Rattle.std.specs.Prelude.{◌≡◌, ◌<◌, ◌≤◌, ◌⊎◌, ℕ, ◌-◌, decimal, List, [], ◌∷◌, ◌++◌, length, Option, Some, None}
 use Rattle.std.specs.Int.{w16, w32, to_be_bytes}
 use Rattle.std.specs.Str.{IsUtf8}
 use Rattle.dnw_base.specs.Names.{NameValue, wire}
@@ -11,7 +11,6 @@ use Rattle.dnw_base.specs.declared.dns_class.DNSClass.TheVariants.{IN}
 use Rattle.dnw_base.specs.declared.record_type.RecordType.{RecordType}
 use Rattle.dnw_data.specs.Table.{fields_of}
 use Rattle.dnw_record.specs.Records.{RecordValue}
-use Rattle.dnw_zone_lexer.specs.Times.{max_ttl, time_seconds}
 use Rattle.dnw_zone_data.specs.declared.error.DataTextError.TheVariants.{Memory as NoMemory}
 use Rattle.dnw_zone_record.specs.declared.record_line.LineHead.{LineHead}
 use Rattle.dnw_zone_record.specs.declared.record_line.RecordLineError.{RecordLineError}
@@ -19,6 +18,7 @@ use Rattle.dnw_zone_record.specs.declared.record_line.RecordLineError.TheVariant
 use Rattle.dnw_zone_data.specs.DataTexts.{FailsText, IsTextOf}
 use Rattle.dnw_base.specs.Limits.{max_data}
 use Rattle.dnw_zone_data.specs.NameReading.{named_at}
+use Rattle.dnw_zone_data.specs.NumberForms.{number_forms, IsPeriod}
 use Rattle.dnw_name_text.specs.NameTexts.{full_name_text}
 use Rattle.dnw_zone_data.specs.Words.{after_spaces, after_word, word}
 
@@ -43,9 +43,9 @@ next_word left = word (after_spaces left)
 abbrev pub after_next_word : List ℕ → List ℕ
 after_next_word left = after_word (after_spaces left)
 
--- a word is a time to live of so many seconds
+-- a word is a time to live of so many seconds, or with units
 abbrev pub IsTtlWord : List ℕ → ℕ → Type 0
-IsTtlWord text n = IsUtf8 text × (time_seconds text ≡ Some n) × (n ≤ max_ttl)
+IsTtlWord text n = IsUtf8 text × IsPeriod text n
 
 -- a word is a class
 abbrev pub IsClassWord : List ℕ → DNSClass → Type 0
@@ -97,9 +97,14 @@ IsHead left head rest =
     (between : List ℕ) × HasTtlAndClass left head.ttl head.class between × IsTypeWord (next_word between) head.record_type
     × (rest ≡ after_next_word between)
 
--- the time to live and the class are there, and no type is after them
-abbrev pub LacksType : List ℕ → Type 0
-LacksType left = (ttl : ℕ) × (class : DNSClass) × (between : List ℕ) × HasTtlAndClass left ttl class between × LacksTypeWord between
+-- the offset of the next word, if this is left of a line of this length
+abbrev pub next_offset : ℕ → List ℕ → ℕ
+next_offset len left = len - length (after_spaces left)
+
+-- the time to live and the class are there, and no type is after them, at this offset of a line of this length
+abbrev pub LacksType : ℕ → List ℕ → ℕ → Type 0
+LacksType len left offset =
+    (ttl : ℕ) × (class : DNSClass) × (between : List ℕ) × HasTtlAndClass left ttl class between × LacksTypeWord between × (offset ≡ next_offset len between)
 
 -- ---- lines
 
@@ -111,7 +116,7 @@ line_octets owner head own =
 
 -- the text is these data of a class and a type, which are not too many
 abbrev pub IsDataOf : Option NameValue → DNSClass → RecordType → List ℕ → List ℕ → Type 0
-IsDataOf origin class kind text own = IsTextOf origin (fields_of (class_code class) (type_code kind)) text own × (length own ≤ max_data)
+IsDataOf origin class kind text own = IsTextOf origin (number_forms (type_code kind)) (fields_of (class_code class) (type_code kind)) text own × (length own ≤ max_data)
 
 -- After the owner is what makes a record of these octets.
 abbrev pub IsAfterOwner : Option NameValue → List (List ℕ) → List ℕ → List ℕ → Type 0
@@ -128,31 +133,34 @@ IsRecordOf origin first rest octets =
 unfoldable pub IsRecordLine : Option NameValue → List ℕ → List ℕ → Type 0
 IsRecordLine origin line octets = IsRecordOf origin (word line) (after_word line) octets
 
--- why a text is no data of a class and type: a fault, too many octets, or no memory
-abbrev pub FailsDataOf : Option NameValue → DNSClass → RecordType → List ℕ → RecordLineError → Type 0
-FailsDataOf origin class kind text (Data NoMemory) = ⊥
-FailsDataOf origin class kind text (Data error) = FailsText origin (fields_of (class_code class) (type_code kind)) text error
-FailsDataOf origin class kind text TooLong =
-    (own : List ℕ) × IsTextOf origin (fields_of (class_code class) (type_code kind)) text own × (max_data < length own)
-FailsDataOf origin class kind text Memory = Unit {0}
-FailsDataOf origin class kind text error = ⊥
+-- why a text is no data of a class and type, at the end of a line of this length: a fault, too many octets, or no memory
+abbrev pub FailsDataOf : Option NameValue → DNSClass → RecordType → ℕ → List ℕ → RecordLineError → Type 0
+FailsDataOf origin class kind len text (Data NoMemory) = ⊥
+FailsDataOf origin class kind len text (Data error) =
+    FailsText origin (number_forms (type_code kind)) (fields_of (class_code class) (type_code kind)) len text error
+FailsDataOf origin class kind len text (TooLong offset) =
+    (own : List ℕ) × IsTextOf origin (number_forms (type_code kind)) (fields_of (class_code class) (type_code kind)) text own × (max_data < length own)
+    × (offset ≡ next_offset len text)
+FailsDataOf origin class kind len text Memory = Unit {0}
+FailsDataOf origin class kind len text error = ⊥
 
 -- the text lacks a time to live, or else a type
-abbrev pub FailsHead : List ℕ → RecordLineError → Type 0
-FailsHead left error = (LacksTtl left × (error ≡ NoTimeToLive)) ⊎ (LacksType left × (error ≡ NoType))
+abbrev pub FailsHead : ℕ → List ℕ → RecordLineError → Type 0
+FailsHead len left error =
+    (LacksTtl left × (error ≡ NoTimeToLive (next_offset len left))) ⊎ ((offset : ℕ) × LacksType len left offset × (error ≡ NoType offset))
 
 -- why there is no record after the owner: no time to live or no type, or no data of the type, or no memory
-abbrev pub FailsAfterOwner : Option NameValue → List ℕ → RecordLineError → Type 0
-FailsAfterOwner origin left error =
-    FailsHead left error
-    ⊎ ((head : LineHead) × (text : List ℕ) × IsHead left head text × FailsDataOf origin head.class head.record_type text error)
+abbrev pub FailsAfterOwner : Option NameValue → ℕ → List ℕ → RecordLineError → Type 0
+FailsAfterOwner origin len left error =
+    FailsHead len left error
+    ⊎ ((head : LineHead) × (text : List ℕ) × IsHead left head text × FailsDataOf origin head.class head.record_type len text error)
     ⊎ (error ≡ Memory)
 
--- why there is no record: the first word is no name, or what is after it makes none
-abbrev pub FailsRecordOf : Option NameValue → List ℕ → List ℕ → RecordLineError → Type 0
-FailsRecordOf origin first rest error =
+-- why there is no record in a line of this length: the first word is no name, or what is after it makes none
+abbrev pub FailsRecordOf : Option NameValue → ℕ → List ℕ → List ℕ → RecordLineError → Type 0
+FailsRecordOf origin len first rest error =
     ((named_at origin first ≡ None) × (error ≡ NoOwner))
-    ⊎ ((owner : List (List ℕ)) × (named_at origin first ≡ Some owner) × FailsAfterOwner origin rest error)
+    ⊎ ((owner : List (List ℕ)) × (named_at origin first ≡ Some owner) × FailsAfterOwner origin len rest error)
 
 unfoldable pub FailsRecordLine : Option NameValue → List ℕ → RecordLineError → Type 0
-FailsRecordLine origin line error = FailsRecordOf origin (word line) (after_word line) error
+FailsRecordLine origin line error = FailsRecordOf origin (length line) (word line) (after_word line) error

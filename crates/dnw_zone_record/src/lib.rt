@@ -4,5 +4,6 @@
 //! It stands on the texts of data. Read `specs/RecordLines.antt` first: which line is which record.
 #![tactic(auto)]
 
+pub mod entry;
 pub mod laws;
 pub mod record_line;

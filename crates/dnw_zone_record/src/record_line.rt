@@ -1,11 +1,11 @@
 //! Records as lines of master files (RFC 1035, section 5.1), printed and parsed.
-ghost use Rattle.std.specs.Prelude.{◌≡◌, ◌≤◌, ℕ, List, length, IfOk, IfErr, MatchOption, string_bytes};
+ghost use Rattle.std.specs.Prelude.{◌≡◌, ◌≤◌, ℕ, List, length, IfOk, IfErr, IfSome, MatchOption, string_bytes};
 ghost use Rattle.std.specs.Option.{option_copied};
 ghost use Rattle.dnw_base.specs.declared.dns_class.DNSClass.{DNSClass};
 ghost use Rattle.dnw_base.specs.declared.record_type.RecordType.{RecordType};
 ghost use Rattle.dnw_zone_data.specs.DataTexts.{IsDataText};
 ghost use Rattle.dnw_base.specs.Limits.{max_data};
-ghost use Rattle.dnw_zone_record.specs.RecordLines.{FailsAfterOwner, FailsDataOf, FailsHead, FailsRecordLine, FailsRecordOf, HasClassNext, HasTtlAndClass, IsAfterOwner, IsClassWord, IsDataOf, IsHead, IsRecordLine, IsRecordOf, IsTtlWord, IsTypeWord, LacksTtl, LacksTtlWord, LacksTypeWord, after_next_word, line_octets, next_word, record_line};
+ghost use Rattle.dnw_zone_record.specs.RecordLines.{FailsAfterOwner, FailsDataOf, FailsHead, FailsRecordLine, FailsRecordOf, HasClassNext, HasTtlAndClass, IsAfterOwner, IsClassWord, IsDataOf, IsHead, IsRecordLine, IsRecordOf, IsTtlWord, IsTypeWord, LacksTtl, LacksTtlWord, LacksTypeWord, after_next_word, line_octets, next_offset, next_word, record_line};
 
 use dnw_base::dns_class::DNSClass;
 use dnw_base::limits::MAX_DATA;
@@ -13,11 +13,11 @@ use dnw_base::record_type::RecordType;
 use dnw_name::name::Name;
 use dnw_name_form::form::WireForm;
 use dnw_record::record_ref::RecordRef;
-use dnw_zone_data::data_text::{data_text, parse_bytes};
+use dnw_zone_data::data_text::{data_text, parse_in_line};
 use dnw_zone_data::error::DataTextError;
 use dnw_zone_data::name::{read_name, write_name};
+use dnw_zone_data::number_form::period_seconds;
 use dnw_zone_data::words::{after_spaces, split_word};
-use dnw_zone_lexer::ttl::parse_ttl;
 use std::alloc::{AllocError, Global};
 use std::str;
 use thiserror::Error;
@@ -26,20 +26,29 @@ use thiserror::Error;
 #[derive(Debug, Drop, Error)]
 pub enum RecordLineError {
     /// The line does not begin with a name.
-    #[error("no owner")]
+    #[error("at offset 0: wanted an owner")]
     NoOwner,
     /// No time to live is after the owner, nor after the class there.
-    #[error("no time to live")]
-    NoTimeToLive,
+    #[error("at offset {offset}: wanted a time to live")]
+    NoTimeToLive {
+        /// The offset of what is after the owner, in the line.
+        offset: usize,
+    },
     /// No type is after the time to live and the class.
-    #[error("no type")]
-    NoType,
-    /// The rest of the line is no data of the class and type. The offset is counted from after the type.
+    #[error("at offset {offset}: wanted a record type")]
+    NoType {
+        /// The offset of what is there, in the line.
+        offset: usize,
+    },
+    /// The rest of the line is no data of the class and type. The offset is counted in the line.
     #[error("{0}")]
     Data(DataTextError),
     /// The data have more than 65535 octets.
-    #[error("data of more than 65535 octets")]
-    TooLong,
+    #[error("at offset {offset}: wanted data of at most 65535 octets")]
+    TooLong {
+        /// The offset of the data, in the line.
+        offset: usize,
+    },
     /// An allocation failed.
     #[error("out of memory")]
     Memory,
@@ -109,23 +118,25 @@ pub fn parse_record(
     ensures err { IfErr result (FailsRecordLine (option_copied origin.entry) line.now) }
 {
     let (word, rest) = split_word(line.as_bytes());
-    record_of(alloc, word, rest, origin)
+    record_of(alloc, line.len(), word, rest, origin)
 }
 
 /// Returns the octets of a record whose owner is a word, and of which a text has the rest.
-fn record_of(
+pub(crate) fn record_of(
     alloc: Global,
+    len: usize,
     word: &[u8],
     rest: &[u8],
     origin: Option<&Name>,
 ) -> Result<Vec<u8>, RecordLineError>
+    requires within { length rest.now ≤ len }
     ensures ok { IfOk result (λ own. IsRecordOf (option_copied origin.entry) word.now rest.now own.items) }
-    ensures err { IfErr result (FailsRecordOf (option_copied origin.entry) word.now rest.now) }
+    ensures err { IfErr result (FailsRecordOf (option_copied origin.entry) len word.now rest.now) }
 {
     let Some(owner) = read_name(alloc, word, origin) else {
         return Err(RecordLineError::NoOwner);
     };
-    match after_owner(alloc, &owner, rest, origin) {
+    match after_owner(alloc, len, &owner, rest, origin) {
         Ok(octets) => Ok(octets),
         Err(error) => Err(error),
     }
@@ -134,38 +145,53 @@ fn record_of(
 /// Returns the octets of a record of this owner, of which the text has the rest.
 fn after_owner(
     alloc: Global,
+    len: usize,
     owner: &WireForm,
     left: &[u8],
     origin: Option<&Name>,
 ) -> Result<Vec<u8>, RecordLineError>
+    requires within { length left.now ≤ len }
     ensures ok { IfOk result (λ own. IsAfterOwner (option_copied origin.entry) owner.now left.now own.items) }
-    ensures err { IfErr result (FailsAfterOwner (option_copied origin.entry) left.now) }
+    ensures err { IfErr result (FailsAfterOwner (option_copied origin.entry) len left.now) }
 {
-    let (head, text) = head_of(alloc, left)?;
-    let own = data_of(alloc, head.class, head.record_type, text, origin)?;
+    let (head, text) = head_of(len, left)?;
+    let own = data_of(alloc, head.class, head.record_type, len, text, origin)?;
     let octets = octets_of(alloc, owner, head, own.as_slice())?;
     Ok(octets)
 }
 
 /// Returns what is between the owner and the data, and the text of the data.
-fn head_of(alloc: Global, text: &[u8]) -> Result<(LineHead, &[u8]), RecordLineError>
+fn head_of(len: usize, text: &[u8]) -> Result<(LineHead, &[u8]), RecordLineError>
+    requires within { length text.now ≤ len }
     ensures ok { IfOk result (λ r. IsHead text.now r.0 r.1.now) }
-    ensures err { IfErr result (FailsHead text.now) }
+    ensures rest { IfOk result (λ r. length r.1.now ≤ length text.now) }
+    ensures err { IfErr result (FailsHead len text.now) }
 {
-    match ttl_and_class(alloc, text) {
-        Some((ttl, class, left)) => before_type(ttl, class, left),
-        None => Err(RecordLineError::NoTimeToLive),
+    match ttl_and_class(text) {
+        Some((ttl, class, left)) => before_type(len, ttl, class, left),
+        None => Err(RecordLineError::NoTimeToLive {
+            offset: len - after_spaces(text).len(),
+        }),
     }
 }
 
 /// Returns what is between the owner and the data, of which the text has the type, and the text of the data.
-fn before_type(ttl: u32, class: DNSClass, left: &[u8]) -> Result<(LineHead, &[u8]), RecordLineError>
+fn before_type(
+    len: usize,
+    ttl: u32,
+    class: DNSClass,
+    left: &[u8],
+) -> Result<(LineHead, &[u8]), RecordLineError>
+    requires within { length left.now ≤ len }
     ensures ok { IfOk result (λ r. (r.0.ttl ≡ ttl) × (r.0.class ≡ class) × IsTypeWord (next_word left.now) r.0.record_type × (r.1.now ≡ after_next_word left.now)) }
-    ensures err { IfErr result (λ e. (e ≡ RecordLineError.NoType) × LacksTypeWord left.now) }
+    ensures rest { IfOk result (λ r. length r.1.now ≤ length left.now) }
+    ensures err { IfErr result (λ e. (e ≡ RecordLineError.NoType (next_offset len left.now)) × LacksTypeWord left.now) }
 {
     let (word, rest) = next_word(left);
     let Some(record_type) = type_of(word) else {
-        return Err(RecordLineError::NoType);
+        return Err(RecordLineError::NoType {
+            offset: len - after_spaces(left).len(),
+        });
     };
     let head = LineHead {
         record_type,
@@ -176,30 +202,32 @@ fn before_type(ttl: u32, class: DNSClass, left: &[u8]) -> Result<(LineHead, &[u8
 }
 
 /// Returns the time to live and the class that a text begins with, in either order, and what is after them.
-fn ttl_and_class(alloc: Global, text: &[u8]) -> Option<(u32, DNSClass, &[u8])>
-    ensures { MatchOption result (LacksTtl text.now) (λ r. HasTtlAndClass text.now r.0 r.1 r.2.now) }
+fn ttl_and_class(text: &[u8]) -> Option<(u32, DNSClass, &[u8])>
+    ensures is { MatchOption result (LacksTtl text.now) (λ r. HasTtlAndClass text.now r.0 r.1 r.2.now) }
+    ensures within { IfSome result (λ r. length r.2.now ≤ length text.now) }
 {
     let (word, rest) = next_word(text);
-    match ttl_of(alloc, word) {
+    match ttl_of(word) {
         Some(ttl) => {
             let (class, rest) = class_or_in(rest);
             Some((ttl, class, rest))
         }
-        None => class_and_ttl(alloc, text),
+        None => class_and_ttl(text),
     }
 }
 
 /// Returns the class and then the time to live that a text begins with, and what is after them.
-fn class_and_ttl(alloc: Global, text: &[u8]) -> Option<(u32, DNSClass, &[u8])>
+fn class_and_ttl(text: &[u8]) -> Option<(u32, DNSClass, &[u8])>
     requires { LacksTtlWord text.now }
-    ensures { MatchOption result (LacksTtl text.now) (λ r. HasTtlAndClass text.now r.0 r.1 r.2.now) }
+    ensures is { MatchOption result (LacksTtl text.now) (λ r. HasTtlAndClass text.now r.0 r.1 r.2.now) }
+    ensures within { IfSome result (λ r. length r.2.now ≤ length text.now) }
 {
     let (word, rest) = next_word(text);
     let Some(class) = class_of(word) else {
         return None;
     };
     let (word, rest) = next_word(rest);
-    let Some(ttl) = ttl_of(alloc, word) else {
+    let Some(ttl) = ttl_of(word) else {
         return None;
     };
     Some((ttl, class, rest))
@@ -207,7 +235,8 @@ fn class_and_ttl(alloc: Global, text: &[u8]) -> Option<(u32, DNSClass, &[u8])>
 
 /// Returns the class that a text begins with, or `IN`, and what is after it.
 fn class_or_in(text: &[u8]) -> (DNSClass, &[u8])
-    ensures { HasClassNext text.now result.0 result.1.now }
+    ensures next { HasClassNext text.now result.0 result.1.now }
+    ensures within { length result.1.now ≤ length text.now }
 {
     let (word, rest) = next_word(text);
     match class_of(word) {
@@ -217,30 +246,24 @@ fn class_or_in(text: &[u8]) -> (DNSClass, &[u8])
 }
 
 /// Returns the next word of a text, and what is after it.
-fn next_word(text: &[u8]) -> (&[u8], &[u8])
+pub fn next_word(text: &[u8]) -> (&[u8], &[u8])
     ensures word { result.0.now ≡ next_word text.now }
     ensures rest { result.1.now ≡ after_next_word text.now }
+    ensures within { length result.1.now ≤ length text.now }
 {
     split_word(after_spaces(text))
 }
 
 /// Returns the time to live that a word is.
-#[tactic(auto, using(crate::proofs::RecordWords::no_time))]
-fn ttl_of(alloc: Global, word: &[u8]) -> Option<u32>
+pub fn ttl_of(word: &[u8]) -> Option<u32>
     ensures { MatchOption result ((n : ℕ) → ¬ (IsTtlWord word.now n)) (IsTtlWord word.now) }
 {
-    let Ok(text) = str::from_utf8(word) else {
-        return None;
-    };
-    match parse_ttl(alloc, text) {
-        Ok(seconds) => Some(seconds),
-        // If memory runs out for the error's text, the word is no time to live all the same.
-        Err(_) => None,
-    }
+    let text = str::from_utf8(word).ok()?;
+    period_seconds(text)
 }
 
 /// Returns the class that a word is.
-fn class_of(word: &[u8]) -> Option<DNSClass>
+pub fn class_of(word: &[u8]) -> Option<DNSClass>
     ensures { MatchOption result ((class : DNSClass) → ¬ (IsClassWord word.now class)) (IsClassWord word.now) }
 {
     let text = str::from_utf8(word).ok()?;
@@ -248,7 +271,7 @@ fn class_of(word: &[u8]) -> Option<DNSClass>
 }
 
 /// Returns the record type that a word is.
-fn type_of(word: &[u8]) -> Option<RecordType>
+pub fn type_of(word: &[u8]) -> Option<RecordType>
     ensures { MatchOption result ((record_type : RecordType) → ¬ (IsTypeWord word.now record_type)) (IsTypeWord word.now) }
 {
     let text = str::from_utf8(word).ok()?;
@@ -256,19 +279,23 @@ fn type_of(word: &[u8]) -> Option<RecordType>
 }
 
 /// Returns the octets of the data that a text is.
-fn data_of(
+pub fn data_of(
     alloc: Global,
     class: DNSClass,
     record_type: RecordType,
+    len: usize,
     text: &[u8],
     origin: Option<&Name>,
 ) -> Result<Vec<u8>, RecordLineError>
+    requires within { length text.now ≤ len }
     ensures ok { IfOk result (λ own. IsDataOf (option_copied origin.entry) class record_type text.now own.items) }
-    ensures err { IfErr result (FailsDataOf (option_copied origin.entry) class record_type text.now) }
+    ensures err { IfErr result (FailsDataOf (option_copied origin.entry) class record_type len text.now) }
 {
-    match parse_bytes(alloc, class, record_type, text, origin) {
+    match parse_in_line(alloc, class, record_type, len, text, origin) {
         Ok(own) if own.len() <= MAX_DATA => Ok(own),
-        Ok(_) => Err(RecordLineError::TooLong),
+        Ok(_) => Err(RecordLineError::TooLong {
+            offset: len - after_spaces(text).len(),
+        }),
         Err(DataTextError::Memory) => Err(RecordLineError::Memory),
         Err(error) => Err(RecordLineError::Data(error)),
     }

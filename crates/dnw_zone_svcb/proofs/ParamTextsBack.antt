@@ -35,15 +35,17 @@ use Rattle.dnw_zone_svcb.specs.ParamTexts.{any_part, own_part, own_text, param_t
 use Rattle.dnw_zone_svcb.specs.Params.{ParamValue, with_param, in_key_order}
 use Rattle.dnw_zone_svcb.specs.ParamWords.{is_equals, key_part, value_part, keys_of, keys_wire, IsValueText, IsOwnValue, IsParam, IsParamOf}
 use Rattle.dnw_zone_svcb.specs.ParamLaws.{IsParamValue, ParamsComeBack}
-use Rattle.dnw_zone_svcb.proofs.Steps.{not_before, value_some, one_word}
+use Rattle.dnw_zone_svcb.specs.Inside.Steps.{AreBelow}
+use Rattle.dnw_zone_svcb.proofs.Ascending.{with_last}
+use Rattle.dnw_zone_svcb.proofs.Steps.{value_some, one_word}
 
 -- ---- keys
 
 -- a letter, a digit, or a hyphen, and some others, but no `=` and no backslash
-abbrev is_key : ℕ → Bool
-is_key c = nat_le 45 c && nat_le c 122 && not (c == 61) && not (c == 92)
+abbrev pub is_key : ℕ → Bool
+is_key c = nat_le 45 c && nat_le c 122 && not (c == 59) && not (c == 61) && not (c == 92)
 
-abbrev all_key : List ℕ → Bool
+abbrev pub all_key : List ℕ → Bool
 all_key k = list_all is_key k
 
 key_append : (a b : List ℕ) → all_key a ≡ true → all_key b ≡ true → all_key (a ++ b) ≡ true
@@ -62,7 +64,7 @@ name_key : (form : Form) (key : ℕ) → key < 2 ^ 64 → all_key (key_name form
 name_key forms.Any key few = decimal_key key few
 name_key form key few = refl
 
-no_equals : (c : ℕ) → is_key c ≡ true → (c == 61) ≡ false
+pub no_equals : (c : ℕ) → is_key c ≡ true → (c == 61) ≡ false
 no_equals c h = grind arith
 
 found : (k v : List ℕ) → all_key k ≡ true → position_or_len is_equals (k ++ 61 ∷ v) ≡ length k
@@ -94,7 +96,7 @@ without_value k h = rw (not_found k h, not_less (length k)) (take-length k, refl
 
 -- characters that are no quotes and no backslashes
 abbrev pub is_open : ℕ → Bool
-is_open c = nat_le 33 c && nat_le c 126 && not (c == 34) && not (c == 92)
+is_open c = nat_le 33 c && nat_le c 126 && not (c == 34) && not (c == 40) && not (c == 41) && not (c == 59) && not (c == 92)
 
 abbrev pub all_open : List ℕ → Bool
 all_open t = list_all is_open t
@@ -133,7 +135,7 @@ any_value k (o ∷ own) key is =
 
 -- characters of an item that is no identifier
 abbrev pub is_bare : ℕ → Bool
-is_bare c = nat_le 33 c && nat_le c 126 && not (c == 34) && not (c == 92) && not (c == 44)
+is_bare c = nat_le 33 c && nat_le c 126 && not (c == 34) && not (c == 40) && not (c == 41) && not (c == 59) && not (c == 92) && not (c == 44)
 
 abbrev pub all_bare : List ℕ → Bool
 all_bare t = list_all is_bare t
@@ -413,15 +415,6 @@ list_back list octets t h keys e =
 
 -- ---- keys in order
 
--- all keys are below a number
-abbrev pub AreBelow : ℕ → List ParamValue → Type 0
-AreBelow n [] = Unit {0}
-AreBelow n (q ∷ qs) = (q.key < n) × AreBelow n qs
-
-pub with_last : (p : ParamValue) (done : List ParamValue) → AreBelow p.key done → with_param p done ≡ Some (done ++ p ∷ [])
-with_last p [] h = refl
-with_last p (q ∷ done) h = rw (ne_eqb p.key q.key (omega (arith, h.0)), not_before p.key q.key (omega (arith, h.0)), with_last p done h.1) refl
-
 pub below_more : (m n : ℕ) (p : ParamValue) (done : List ParamValue) → AreBelow m done → m ≤ n → p.key < n → AreBelow n (done ++ p ∷ [])
 below_more m n p [] h le lt = (lt, tt)
 below_more m n p (q ∷ done) h le lt = (omega (arith, h.0, le), below_more m n p done h.1 le lt)
@@ -609,19 +602,27 @@ text_some : (form : Form) (t own : List ℕ) → (form ≡ forms.Nothing → ⊥
 text_some form [] own other is = absurd (value_some form own other is)
 text_some form (c ∷ t) own other is = omega arith
 
--- characters that are no white space, no quotes and no backslashes, and after them octets in quotes, or nothing
+-- characters that are no white space, quotes, parentheses, semicolons or backslashes; after them nothing, or octets in quotes, if
+-- they are a key and a `=`
 abbrev pub IsShaped : List ℕ → Type 0
 IsShaped w =
     (front : List ℕ) × (back : List ℕ) × (w ≡ front ++ back) × (all_open front ≡ true)
-    × ((back ≡ []) ⊎ ((own : List ℕ) × IsOctets own × (back ≡ string_text own)))
+    × ((back ≡ []) ⊎ ((own : List ℕ) × (key : List ℕ) × IsOctets own × (back ≡ string_text own) × (front ≡ key ++ 61 ∷ []) × (all_key key ≡ true)))
 
 any_shaped : (own : List ℕ) → IsOctets own → IsShaped (any_part own)
 any_shaped [] h = ([], [], refl, refl, inl refl)
-any_shaped (o ∷ own) h = (61 ∷ [], string_text (o ∷ own), refl, refl, inr (o ∷ own, h, refl))
+any_shaped (o ∷ own) h = (61 ∷ [], string_text (o ∷ own), refl, refl, inr (o ∷ own, [], h, refl, refl, refl))
 
 shaped_after : (k part : List ℕ) → all_key k ≡ true → IsShaped part → IsShaped (k ++ part)
-shaped_after k part key (front, back, e, shape, end) =
-    (k ++ front, back, ap (λ (xs : List ℕ). k ++ xs) e ∙ sym (append_assoc k front back), open_append k front (bare_open k (key_bare k key)) shape, end)
+shaped_after k part key (front, back, e, shape, inl none) =
+    (k ++ front, back, ap (λ (xs : List ℕ). k ++ xs) e ∙ sym (append_assoc k front back), open_append k front (bare_open k (key_bare k key)) shape, inl none)
+shaped_after k part key (front, back, e, shape, inr (own, name, fit, is, begins, are)) = (
+  k ++ front,
+  back,
+  ap (λ (xs : List ℕ). k ++ xs) e ∙ sym (append_assoc k front back),
+  open_append k front (bare_open k (key_bare k key)) shape,
+  inr (own, k ++ name, fit, is, ap (λ (xs : List ℕ). k ++ xs) begins ∙ sym (append_assoc k name (61 ∷ [])), key_append k name key are),
+)
 
 -- the text is this key, and the value writes these
 abbrev IsWritten : List ℕ → List ℕ → List ℕ → Type 0

@@ -169,7 +169,7 @@ pub place_taken : (key : ℕ) (octets : List ℕ) (done left rest : List ParamVa
 place_taken key octets done left rest q whole e same so_far =
     let step : with_param (record { key = key; octets = octets }) left ≡ None = rw (e, same) refl in so_far ∙ ap (after_these done) step
 
-insert_at : (done left : List ParamValue) (p : ParamValue) → insert (done ++ left) (length done) p ≡ done ++ p ∷ left
+pub insert_at : (done left : List ParamValue) (p : ParamValue) → insert (done ++ left) (length done) p ≡ done ++ p ∷ left
 insert_at [] left p = refl
 insert_at (d ∷ done) left p = ap (λ (xs : List ParamValue). d ∷ xs) (insert_at done left p)
 

@@ -1,5 +1,6 @@
 pub mod Spelling
 pub mod Numbers
+pub mod Mnemonics
 pub mod Octets
 pub mod Strings
 pub mod Times

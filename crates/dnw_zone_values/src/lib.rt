@@ -10,6 +10,7 @@ pub mod address;
 pub mod base32;
 pub mod error;
 pub mod laws;
+pub mod mnemonic;
 pub mod number;
 pub mod octets;
 pub mod pairs;

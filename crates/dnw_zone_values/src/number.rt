@@ -46,8 +46,8 @@ pub fn parse_u48(text: &str) -> Result<u64, FieldTextError>
     parse_up_to(text, MAX_U48)
 }
 
-/// Parses a number up to `max`.
-fn parse_up_to(text: &str, max: u64) -> Result<u64, FieldTextError>
+/// Parses a number up to `max`, as `parse_u8` does one.
+pub fn parse_up_to(text: &str, max: u64) -> Result<u64, FieldTextError>
     ensures { ReadsText (Number max) (IsNumberText max text.now) result }
 {
     // std takes a sign

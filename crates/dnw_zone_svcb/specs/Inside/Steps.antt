@@ -17,6 +17,11 @@ abbrev pub PushesOne : (List ℕ → Type 0) → List ℕ → List ℕ → Bool 
 PushesOne Is old new true = (own : List ℕ) × Is own × (new ≡ old ++ own)
 PushesOne Is old new false = (own : List ℕ) → ¬ (Is own)
 
+-- all keys are below a number
+abbrev pub AreBelow : ℕ → List ParamValue → Type 0
+AreBelow n [] = ⊤
+AreBelow n (q ∷ qs) = (q.key < n) × AreBelow n qs
+
 -- The parameter is put where it belongs, or its key is there.
 abbrev pub Inserts : ParamValue → List ParamValue → List ParamValue → Bool → Type 0
 Inserts p old new true = with_param p old ≡ Some new

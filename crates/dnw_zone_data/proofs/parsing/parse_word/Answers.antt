@@ -43,9 +43,9 @@ returns-in-Octets c =
 
 pub returns-in_default-kind : goal.returns-in_default-kind
 returns-in_default-kind c =
-    let Is : List ℕ → Type 0 = λ t. IfOk c.parse_number.result (AppendsOne (IsNumberOf c.args.kind t) c.args.out.now.items c.parse_number.new.out.items) in
+    let Is : List ℕ → Type 0 = λ t. IfOk c.parse_number.result (AppendsOne (IsNumberOf c.args.form c.args.kind t) c.args.out.now.items c.parse_number.new.out.items) in
     let no = c.in_default-kind in
-    as_number (option_copied c.args.origin) c.args.kind c.args.word.now c.args.out.now.items c.parse_number.new.out.items c.parse_number.result c.in_default.not-Name no.not-Ipv4 no.not-Ipv6 no.not-TypeCode no.not-U48 no.not-U64 no.not-Counted no.not-Octets (subst Is c.in-Ok.ensures.cases.0 c.parse_number.ensures)
+    as_number (option_copied c.args.origin) c.args.form c.args.kind c.args.word.now c.args.out.now.items c.parse_number.new.out.items c.parse_number.result c.in_default.not-Name no.not-Ipv4 no.not-Ipv6 no.not-TypeCode no.not-U48 no.not-U64 no.not-Counted no.not-Octets (subst Is c.in-Ok.ensures.cases.0 c.parse_number.ensures)
 
 pub returns-in_ok-extend_from_slice-in-Ipv4 : goal.returns-in_ok-extend_from_slice-in-Ipv4
 returns-in_ok-extend_from_slice-in-Ipv4 c =

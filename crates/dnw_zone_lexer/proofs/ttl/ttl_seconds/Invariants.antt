@@ -1,7 +1,7 @@
 use Rattle.std.proofs.Common.{◌≡◌, ◌≤◌, ◌<◌, ◌-◌, None, length, drop}
 use Rattle.dnw_zone_lexer.specs.Times.{max_ttl, time_seconds}
 use Rattle.dnw_zone_lexer.specs.Inside.Finds.{seconds_after}
-use Rattle.dnw_zone_lexer.proofs.ttl.seconds.Given as goal
+use Rattle.dnw_zone_lexer.proofs.ttl.ttl_seconds.Given as goal
 
 -- what is left, after the groups so far, gives what all gives
 abbrev pub invariant-loop-seconds : goal.invariant-loop-seconds

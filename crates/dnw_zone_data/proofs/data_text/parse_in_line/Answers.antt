@@ -8,7 +8,7 @@ use Rattle.dnw_data.specs.Table.{fields_of}
 use Rattle.dnw_zone_data.specs.Words.{after_spaces, after_word, word}
 use Rattle.dnw_zone_data.specs.DataTexts.{FailsGeneric}
 use Rattle.dnw_zone_data.specs.Generic.{generic_mark, IsSized}
-use Rattle.dnw_zone_data.proofs.data_text.parse_bytes.Goals as goal
+use Rattle.dnw_zone_data.proofs.data_text.parse_in_line.Goals as goal
 
 pub returns-then-eq : goal.returns-then-eq
 returns-then-eq c =
@@ -19,4 +19,4 @@ returns-then-eq c =
     let left : c.split_word.result.1.now ≡ after_word (after_spaces text) = c.split_word.ensures.rest ∙ ap after_word start in
     MatchResult-weaker c.parse_generic.result c.parse_generic.ensures
     (λ own has. inl ((marked, subst (λ (xs : List ℕ). IsSized xs own.items) left has.0), has.1))
-    (λ e fails. inl (marked, subst (λ (xs : List ℕ). FailsGeneric (fields_of (class_code c.args.class) (type_code c.args.record_type)) (length text) xs e) left fails))
+    (λ e fails. inl (marked, subst (λ (xs : List ℕ). FailsGeneric (fields_of (class_code c.args.class) (type_code c.args.record_type)) c.args.len xs e) left fails))

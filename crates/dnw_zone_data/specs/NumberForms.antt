@@ -1,0 +1,59 @@
+-- How the numbers in data of each type are written: in decimal, and those of some fields also in another form.
+use Rattle.std.specs.Prelude.{◌≡◌, ◌≤◌, ℕ, ◌==◌, ◌&&◌, ◌||◌, ◌-◌, Bool, not, true, length, slice_index, if◌then◌else◌, List, [], ◌∷◌, Some}
+use Rattle.std.specs.Char.{is_ascii_digit}
+use Rattle.std.specs.List.{list_all, list_any}
+use Rattle.dnw_zone_lexer.specs.Times.{max_ttl, time_seconds}
+use Rattle.dnw_zone_values.specs.Mnemonics.{IsNumberOrName, algorithm_named, certificate_type_named}
+use Rattle.dnw_zone_values.specs.Numbers.{IsNumberText}
+use Rattle.dnw_zone_data.specs.declared.number_form.NumberForm.{NumberForm}
+use Rattle.dnw_zone_data.specs.declared.number_form.NumberForm.TheVariants.{Decimal, Period, Algorithm, CertificateType}
+
+-- types whose second field is the number of an algorithm: SIG, DS, RRSIG, CDS, TA and DLV
+abbrev pub with_algorithm_second : List ℕ
+with_algorithm_second = 24 ∷ 43 ∷ 46 ∷ 59 ∷ 32768 ∷ 32769 ∷ []
+
+-- types whose third field is: KEY, DNSKEY, RKEY and CDNSKEY
+abbrev pub with_algorithm_third : List ℕ
+with_algorithm_third = 25 ∷ 48 ∷ 57 ∷ 60 ∷ []
+
+abbrev pub is_one_of : List ℕ → ℕ → Bool
+is_one_of codes code = list_any (λ known. known == code) codes
+
+-- The forms of the first fields of data of a type. The times of SOA (RFC 1035, section 3.3.13) take units; CERT has a type of
+-- certificates and an algorithm (RFC 4398, section 2). Numbers of other fields are in decimal.
+unfoldable pub number_forms : ℕ → List NumberForm
+number_forms code =
+    if code == 6 then Decimal ∷ Decimal ∷ Decimal ∷ Period ∷ Period ∷ Period ∷ Period ∷ []
+    else if code == 37 then CertificateType ∷ Decimal ∷ Algorithm ∷ []
+    else if is_one_of with_algorithm_second code then Decimal ∷ Algorithm ∷ []
+    else if is_one_of with_algorithm_third code then Decimal ∷ Decimal ∷ Algorithm ∷ []
+    else []
+
+-- the form of the next field, and those of the fields after it
+abbrev pub first_form : List NumberForm → NumberForm
+first_form [] = Decimal
+first_form (form ∷ forms) = form
+
+abbrev pub other_forms : List NumberForm → List NumberForm
+other_forms [] = []
+other_forms (form ∷ forms) = forms
+
+-- ---- what a number is in a form
+
+abbrev pub ends_with_digit : List ℕ → Bool
+ends_with_digit text = is_ascii_digit (slice_index text (length text - 1))
+
+-- seconds alone, or groups each of which has a unit: `1d1` is neither
+abbrev pub is_whole : List ℕ → Bool
+is_whole text = list_all is_ascii_digit text || not (ends_with_digit text)
+
+-- a period of at most 2^32 - 1 seconds
+abbrev pub IsPeriod : List ℕ → ℕ → Type 0
+IsPeriod text n = (time_seconds text ≡ Some n) × (n ≤ max_ttl) × (is_whole text ≡ true)
+
+-- the text is this number in a form, which is no greater than the first
+abbrev pub IsNumberIn : NumberForm → ℕ → List ℕ → ℕ → Type 0
+IsNumberIn Decimal max text n = IsNumberText max text n
+IsNumberIn Period max text n = IsPeriod text n × (n ≤ max)
+IsNumberIn Algorithm max text n = IsNumberOrName algorithm_named max text n
+IsNumberIn CertificateType max text n = IsNumberOrName certificate_type_named max text n

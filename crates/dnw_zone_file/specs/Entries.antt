@@ -1,0 +1,174 @@
+-- What an entry of a zone file is, after the entries before it (RFC 1035, section 5.1; RFC 2308, section 4). It is given by its line,
+-- in which words are parted by spaces; comments and parentheses are spaces there. An entry that begins with a space has the owner of
+-- the record before it.
+use Rattle.std.specs.Prelude.{◌≡◌, ◌≢◌, ◌⊎◌, ◌-◌, ◌==◌, ◌||◌, Bool, true, false, ℕ, List, [], ◌∷◌, length, if◌then◌else◌, Option, Some, None, Ok}
+use Rattle.std.specs.Str.{IsUtf8}
+use Rattle.dnw_base.specs.Names.{NameValue}
+use Rattle.dnw_base.specs.declared.dns_class.DNSClass.{DNSClass}
+use Rattle.dnw_base.specs.declared.record_type.RecordType.{RecordType}
+use Rattle.dnw_name_text.specs.NameReading.{name_of_text}
+use Rattle.dnw_zone_data.specs.NameReading.{named_at}
+use Rattle.dnw_zone_data.specs.Words.{after_spaces, after_word, word}
+use Rattle.dnw_zone_record.specs.RecordLines.{after_next_word, FailsDataOf, IsDataOf, IsTtlWord, LacksTtlWord, next_word}
+use Rattle.dnw_zone_record.specs.declared.record_line.RecordLineError.{RecordLineError}
+use Rattle.dnw_zone_file.specs.declared.context.Context.{Context}
+use Rattle.dnw_zone_file.specs.declared.directive.Directive.{Directive}
+use Rattle.dnw_zone_file.specs.declared.directive.Directive.TheVariants as directives
+use Rattle.dnw_zone_file.specs.declared.entry.Entry.{Entry}
+use Rattle.dnw_zone_file.specs.declared.entry.Entry.TheVariants.{Nothing, Record as RecordEntry, Include as IncludeEntry}
+use Rattle.dnw_zone_file.specs.declared.entry.Include.{Include}
+use Rattle.dnw_zone_file.specs.declared.entry.LineKind.{LineKind}
+use Rattle.dnw_zone_file.specs.declared.entry.LineKind.TheVariants.{Blank, OwnerBefore, Dollar, OwnerFirst}
+use Rattle.dnw_zone_file.specs.declared.entry.ZoneRecord.{ZoneRecord}
+use Rattle.dnw_zone_file.specs.declared.error.ZoneError.{ZoneError}
+use Rattle.dnw_zone_file.specs.declared.error.ZoneError.TheVariants.{Wrong, Data}
+use Rattle.dnw_zone_file.specs.declared.error.ZoneRule.{ZoneRule}
+use Rattle.dnw_zone_file.specs.declared.error.ZoneRule.TheVariants.{NoOwner, BadOwner, NoTimeToLive, UnknownDirective, Generate, NoName, NoTime, NoFile, WordsLeft}
+use Rattle.dnw_zone_file.specs.declared.head.Head.{Head}
+use Rattle.dnw_zone_file.specs.Contexts.{class_after, ttl_after, with_origin, with_record, with_ttl}
+use Rattle.dnw_zone_file.specs.Directives.{IsDirective}
+use Rattle.dnw_zone_file.specs.Heads.{LacksHead, IsZoneHead, wrong_at}
+
+abbrev pub begins_with : ℕ → List ℕ → Bool
+begins_with octet [] = false
+begins_with octet (c ∷ cs) = c == octet
+
+-- no word is left
+abbrev pub IsEnd : List ℕ → Type 0
+IsEnd left = after_spaces left ≡ []
+
+-- ---- records
+
+-- the owner that a word is, completed by the origin; a quoted string is none
+abbrev pub owner_at : NameValue → List ℕ → Option (List (List ℕ))
+owner_at origin first = if begins_with 34 first then None else named_at (Some origin) first
+
+-- A text at the end of an entry of this length is no data of the class and type.
+abbrev pub FailsData : NameValue → DNSClass → RecordType → ℕ → List ℕ → ZoneError → Type 0
+FailsData origin class kind len text error = (why : RecordLineError) × FailsDataOf (Some origin) class kind len text why × (error ≡ Data why)
+
+-- what is after the owner: the head and the record
+abbrev pub IsRecordData : Context → List ℕ → Head → ZoneRecord → Type 0
+IsRecordData before left head r =
+    (text : List ℕ) × IsZoneHead left head text × (ttl_after before head.ttl ≡ Some r.ttl) × (r.class ≡ class_after before head.class)
+    × (r.record_type ≡ head.record_type) × IsDataOf (Some before.origin) r.class r.record_type text r.wire.items
+
+-- The entry is a record of this owner, which is kept for later entries, with a time to live and a class of its own.
+abbrev pub IsZoneRecord : Context → List (List ℕ) → List ℕ → Entry → Context → Type 0
+IsZoneRecord before owner left entry after =
+    (head : Head) × (r : ZoneRecord) × IsRecordData before left head r × (entry ≡ RecordEntry r) × (after ≡ with_record before owner head)
+
+-- No record is after the owner, in an entry of this length: it has no type, or no time to live is known, or no data of the type.
+abbrev pub FailsZoneRecord : Context → ℕ → List ℕ → ZoneError → Type 0
+FailsZoneRecord before len left error =
+    LacksHead len left error
+    ⊎ ((head : Head) × (text : List ℕ) × IsZoneHead left head text × (ttl_after before head.ttl ≡ None) × (error ≡ wrong_at len left NoTimeToLive))
+    ⊎ ((head : Head) × (text : List ℕ) × IsZoneHead left head text
+    × FailsData before.origin (class_after before head.class) head.record_type len text error)
+
+-- ---- entries that begin with `$`
+
+-- A word is a name, completed by the origin. A quoted string is none.
+abbrev pub IsNameWord : NameValue → List ℕ → NameValue → Type 0
+IsNameWord origin first name = (begins_with 34 first ≡ false) × IsUtf8 first × (name_of_text (Some origin.labels) first ≡ Ok name)
+
+abbrev pub LacksNameWord : NameValue → List ℕ → Type 0
+LacksNameWord origin first = (name : NameValue) → ¬ (IsNameWord origin first name)
+
+-- A name is all that is left, or it is not.
+abbrev pub IsOnlyName : NameValue → List ℕ → NameValue → Type 0
+IsOnlyName origin left name = IsNameWord origin (next_word left) name × IsEnd (after_next_word left)
+
+abbrev pub FailsOnlyName : NameValue → ℕ → List ℕ → ZoneError → Type 0
+FailsOnlyName origin len left error =
+    (LacksNameWord origin (next_word left) × (error ≡ wrong_at len left NoName))
+    ⊎ ((name : NameValue) × IsNameWord origin (next_word left) name × (¬ (IsEnd (after_next_word left)))
+    × (error ≡ wrong_at len (after_next_word left) WordsLeft))
+
+-- A time is all that is left, or it is not.
+abbrev pub IsOnlyTtl : List ℕ → ℕ → Type 0
+IsOnlyTtl left ttl = IsTtlWord (next_word left) ttl × IsEnd (after_next_word left)
+
+abbrev pub FailsTtl : ℕ → List ℕ → ZoneError → Type 0
+FailsTtl len left error =
+    (LacksTtlWord left × (error ≡ wrong_at len left NoTime))
+    ⊎ ((ttl : ℕ) × IsTtlWord (next_word left) ttl × (¬ (IsEnd (after_next_word left))) × (error ≡ wrong_at len (after_next_word left) WordsLeft))
+
+-- The origin of a file that is included is the name that is left, or the origin so far.
+abbrev pub IsIncludeOrigin : NameValue → List ℕ → NameValue → Type 0
+IsIncludeOrigin origin left name = (IsEnd left × (name ≡ origin)) ⊎ ((¬ (IsEnd left)) × IsOnlyName origin left name)
+
+-- A file is left, and maybe an origin.
+abbrev pub IsInclude : NameValue → ℕ → List ℕ → Include → Type 0
+IsInclude origin len left include =
+    (next_word left ≢ []) × (include.file ≡ len - length (after_spaces left)) × (include.file_len ≡ length (next_word left))
+    × IsIncludeOrigin origin (after_next_word left) include.origin
+
+abbrev pub FailsInclude : NameValue → ℕ → List ℕ → ZoneError → Type 0
+FailsInclude origin len left error =
+    ((next_word left ≡ []) × (error ≡ wrong_at len left NoFile))
+    ⊎ ((next_word left ≢ []) × (¬ (IsEnd (after_next_word left))) × FailsOnlyName origin len (after_next_word left) error)
+
+-- what an entry is by its first word
+abbrev pub IsDirectiveEntry : Context → List ℕ → ℕ → List ℕ → Entry → Context → Type 0
+IsDirectiveEntry before first len rest entry after =
+    (IsDirective first directives.Origin × (entry ≡ Nothing) × (name : NameValue) × IsOnlyName before.origin rest name × (after ≡ with_origin before name))
+    ⊎ (IsDirective first directives.Ttl × (entry ≡ Nothing) × (ttl : ℕ) × IsOnlyTtl rest ttl × (after ≡ with_ttl before ttl))
+    ⊎ (IsDirective first directives.Include × (include : Include) × IsInclude before.origin len rest include × (entry ≡ IncludeEntry include) × (after ≡ before))
+
+abbrev pub FailsDirectiveEntry : Context → List ℕ → ℕ → List ℕ → ZoneError → Type 0
+FailsDirectiveEntry before first len rest error =
+    (IsDirective first directives.Origin × FailsOnlyName before.origin len rest error)
+    ⊎ (IsDirective first directives.Ttl × FailsTtl len rest error)
+    ⊎ (IsDirective first directives.Include × FailsInclude before.origin len rest error)
+    ⊎ (IsDirective first directives.Generate × (error ≡ Wrong 0 Generate))
+    ⊎ (((directive : Directive) → ¬ (IsDirective first directive)) × (error ≡ Wrong 0 UnknownDirective))
+
+-- ---- entries
+
+-- how an entry begins: with white space, with `$`, or with its owner
+abbrev pub line_kind : List ℕ → LineKind
+line_kind line =
+    if length (after_spaces line) == 0 then Blank
+    else if begins_with 32 line || begins_with 9 line then OwnerBefore
+    else if begins_with 36 line then Dollar
+    else OwnerFirst
+
+-- The entry is a record of this owner, of which the rest is left.
+abbrev pub IsOwned : Option (List (List ℕ)) → Context → List ℕ → Entry → Context → Type 0
+IsOwned (Some owner) before left entry after = IsZoneRecord before owner left entry after
+IsOwned None before left entry after = ⊥
+
+-- The rest is none, or there is no owner and the line breaks this rule.
+abbrev pub FailsOwned : Option (List (List ℕ)) → Context → List ℕ → List ℕ → ZoneRule → ZoneError → Type 0
+FailsOwned (Some owner) before line left rule error = FailsZoneRecord before (length line) left error
+FailsOwned None before line left rule error = error ≡ wrong_at (length line) line rule
+
+-- What an entry is, by how it begins, of which this is the line, its first word and the rest. Without words it says nothing.
+abbrev pub IsEntryBy : LineKind → Context → List ℕ → List ℕ → List ℕ → Entry → Context → Type 0
+IsEntryBy Blank before line first rest entry after = (entry ≡ Nothing) × (after ≡ before)
+IsEntryBy OwnerBefore before line first rest entry after =
+    (owner : Option (List (List ℕ))) × (owner ≡ before.owner) × IsOwned owner before line entry after
+IsEntryBy Dollar before line first rest entry after = IsDirectiveEntry before first (length line) rest entry after
+IsEntryBy OwnerFirst before line first rest entry after =
+    (owner : Option (List (List ℕ))) × (owner ≡ owner_at before.origin first) × IsOwned owner before rest entry after
+
+abbrev pub FailsEntryBy : LineKind → Context → List ℕ → List ℕ → List ℕ → ZoneError → Type 0
+FailsEntryBy Blank before line first rest error = ⊥
+FailsEntryBy OwnerBefore before line first rest error =
+    (owner : Option (List (List ℕ))) × (owner ≡ before.owner) × FailsOwned owner before line line NoOwner error
+FailsEntryBy Dollar before line first rest error = FailsDirectiveEntry before first (length line) rest error
+FailsEntryBy OwnerFirst before line first rest error =
+    (owner : Option (List (List ℕ))) × (owner ≡ owner_at before.origin first) × FailsOwned owner before line rest BadOwner error
+
+-- what an entry is with this line
+abbrev pub IsEntry : Context → List ℕ → Entry → Context → Type 0
+IsEntry before line entry after =
+    (kind : LineKind) × (first : List ℕ) × (rest : List ℕ) × (kind ≡ line_kind line) × (first ≡ word line) × (rest ≡ after_word line)
+    × IsEntryBy kind before line first rest entry after
+
+-- why a line is no entry
+abbrev pub FailsEntry : Context → List ℕ → ZoneError → Type 0
+FailsEntry before line error =
+    (kind : LineKind) × (first : List ℕ) × (rest : List ℕ) × (kind ≡ line_kind line) × (first ≡ word line) × (rest ≡ after_word line)
+    × FailsEntryBy kind before line first rest error

@@ -1,0 +1,36 @@
+//! What earlier entries say for later ones.
+ghost use Rattle.dnw_zone_file.specs.Contexts.{IsFirst};
+
+use dnw_base::dns_class::DNSClass;
+use dnw_name::name::Name;
+use dnw_name_form::form::WireForm;
+
+/// What the entries so far say for those that leave it out (RFC 1035, section 5.1; RFC 2308, section 4).
+#[derive(Drop)]
+pub struct Context {
+    /// The name that completes names without a dot at their end.
+    pub origin: Name,
+    /// The owner of the last record.
+    pub owner: Option<WireForm>,
+    /// The time to live of the last `$TTL`.
+    pub default_ttl: Option<u32>,
+    /// The last time to live of a record that has one of its own.
+    pub last_ttl: Option<u32>,
+    /// The last class of a record that has one of its own, or else `IN`.
+    pub class: DNSClass,
+}
+
+impl Context {
+    /// Creates what is known before the first entry.
+    pub fn new(origin: Name) -> Self
+        ensures { IsFirst origin result }
+    {
+        Context {
+            origin,
+            owner: None,
+            default_ttl: None,
+            last_ttl: None,
+            class: DNSClass::IN,
+        }
+    }
+}

@@ -1,0 +1,426 @@
+//! Single entries of zone files.
+ghost use Rattle.std.specs.Prelude.{◌≡◌, ◌≢◌, ◌≤◌, [], Some, None, length, IfOk, IfErr, MatchOption};
+ghost use Rattle.dnw_base.specs.Names.{NameValue};
+ghost use Rattle.dnw_zone_data.specs.Words.{after_spaces};
+ghost use Rattle.dnw_zone_file.specs.declared.error.ZoneRule.TheVariants.{NoTimeToLive};
+ghost use Rattle.dnw_zone_file.specs.Heads.{IsZoneHead, wrong_at};
+ghost use Rattle.dnw_zone_file.specs.Contexts.{class_after, ttl_after, with_record};
+ghost use Rattle.dnw_zone_file.specs.Entries.{FailsData, FailsDirectiveEntry, FailsEntry, FailsEntryBy, FailsInclude, FailsOnlyName, FailsOwned, FailsZoneRecord, FailsTtl, IsDirectiveEntry, IsEntry, IsEntryBy, IsInclude, IsIncludeOrigin, IsNameWord, IsOnlyName, IsOnlyTtl, IsOwned, IsRecordData, IsZoneRecord, begins_with, line_kind, owner_at};
+ghost use Rattle.dnw_zone_record.specs.RecordLines.{IsDataOf};
+
+use crate::context::Context;
+use crate::directive::{Directive, directive_of};
+use crate::error::{ZoneError, ZoneRule};
+use crate::head::{Head, head_of, wrong_at};
+use dnw_base::dns_class::DNSClass;
+use dnw_base::record_type::RecordType;
+use dnw_name::name::Name;
+use dnw_name_form::form::WireForm;
+use dnw_zone_data::name::read_name;
+use dnw_zone_data::words::{after_spaces, split_word};
+use dnw_zone_record::record_line::{data_of, next_word, ttl_of};
+use std::alloc::Global;
+use std::str;
+
+/// A record of a zone file. Its owner is the context's, after the entry.
+#[derive(Drop)]
+pub struct ZoneRecord {
+    /// The type.
+    pub record_type: RecordType,
+    /// The class.
+    pub class: DNSClass,
+    /// The time to live, in seconds.
+    pub ttl: u32,
+    /// The octets of the data, with names that are not compressed.
+    pub wire: Vec<u8>,
+}
+
+/// An `$INCLUDE`, which the caller follows: the file's entries come next, with the owner as it stands and this origin.
+#[derive(Drop)]
+pub struct Include {
+    /// The offset, in the entry, of the file as it stands there, with quotes and escapes.
+    pub file: usize,
+    /// The number of octets of the file as it stands there.
+    pub file_len: usize,
+    /// The origin of the file's entries.
+    pub origin: Name,
+}
+
+/// What an entry is.
+#[derive(Drop)]
+pub enum Entry {
+    /// No word, or `$ORIGIN` or `$TTL`.
+    Nothing,
+    /// A record.
+    Record(ZoneRecord),
+    /// An `$INCLUDE`.
+    Include(Include),
+}
+
+/// How an entry begins.
+#[derive(Clone, Copy)]
+pub enum LineKind {
+    /// It has no word.
+    Blank,
+    /// With white space: the owner is that of the last record.
+    OwnerBefore,
+    /// With `$`.
+    Dollar,
+    /// With the owner.
+    OwnerFirst,
+}
+
+/// Returns what an entry is, of which this is the line that `dnw_zone_words` scans, after the entries that made the context. What it
+/// says for later ones goes into the context, which is unchanged if it fails.
+pub fn entry_of(alloc: Global, context: &mut Context, line: &[u8]) -> Result<Entry, ZoneError>
+    ensures ok { IfOk result (λ entry. IsEntry context.old line.now entry context.new) }
+    ensures err { IfErr result (λ e. FailsEntry context.old line.now e × (context.new ≡ context.old)) }
+{
+    let kind = line_kind(line);
+    let (word, rest) = split_word(line);
+    entry_by(alloc, context, kind, line, word, rest)
+}
+
+/// Returns how the entry with this line begins.
+fn line_kind(line: &[u8]) -> LineKind
+    ensures { result ≡ line_kind line.now }
+{
+    if after_spaces(line).is_empty() {
+        LineKind::Blank
+    } else if begins_with(line, b' ') || begins_with(line, b'\t') {
+        LineKind::OwnerBefore
+    } else if begins_with(line, b'$') {
+        LineKind::Dollar
+    } else {
+        LineKind::OwnerFirst
+    }
+}
+
+/// Returns what an entry is that begins so, of which this is the line, its first word and the rest.
+fn entry_by(
+    alloc: Global,
+    context: &mut Context,
+    kind: LineKind,
+    line: &[u8],
+    word: &[u8],
+    rest: &[u8],
+) -> Result<Entry, ZoneError>
+    requires { length rest.now ≤ length line.now }
+    ensures ok { IfOk result (λ entry. IsEntryBy kind context.old line.now word.now rest.now entry context.new) }
+    ensures err { IfErr result (λ e. FailsEntryBy kind context.old line.now word.now rest.now e × (context.new ≡ context.old)) }
+{
+    match kind {
+        LineKind::Blank => Ok(Entry::Nothing),
+        LineKind::OwnerBefore => {
+            let owner = owner_before(context);
+            owned(alloc, context, owner, ZoneRule::NoOwner, line, line)
+        }
+        LineKind::Dollar => directive_entry(alloc, context, word, line.len(), rest),
+        LineKind::OwnerFirst => {
+            let owner = owner_at(alloc, &context.origin, word);
+            owned(alloc, context, owner, ZoneRule::BadOwner, line, rest)
+        }
+    }
+}
+
+/// Returns the record of an owner, of which the text has the rest, or that the line breaks this rule, without an owner.
+fn owned(
+    alloc: Global,
+    context: &mut Context,
+    owner: Option<WireForm>,
+    rule: ZoneRule,
+    line: &[u8],
+    left: &[u8],
+) -> Result<Entry, ZoneError>
+    requires { length left.now ≤ length line.now }
+    ensures ok { IfOk result (λ entry. IsOwned owner context.old left.now entry context.new) }
+    ensures err { IfErr result (λ e. FailsOwned owner context.old line.now left.now rule e × (context.new ≡ context.old)) }
+{
+    match owner {
+        Some(owner) => record_of(alloc, context, owner, line.len(), left),
+        None => Err(wrong_at(line.len(), line, rule)),
+    }
+}
+
+/// Returns `true` if a text begins with an octet.
+fn begins_with(text: &[u8], octet: u8) -> bool
+    ensures { result ≡ begins_with octet text.now }
+{
+    match text.first() {
+        Some(first) => *first == octet,
+        None => false,
+    }
+}
+
+/// Returns the owner of the last record.
+fn owner_before(context: &Context) -> Option<WireForm>
+    ensures { result ≡ context.now.owner }
+{
+    match &context.owner {
+        Some(owner) => Some(owner.clone()),
+        None => None,
+    }
+}
+
+/// Returns the owner that a word is, if it is a name. A quoted string is none.
+fn owner_at(alloc: Global, origin: &Name, word: &[u8]) -> Option<WireForm>
+    ensures { result ≡ owner_at origin.now word.now }
+{
+    if begins_with(word, b'"') {
+        return None;
+    }
+    read_name(alloc, word, Some(origin))
+}
+
+/// Returns the record of an owner, of which the text has the rest, and which is what is left of an entry of this length.
+fn record_of(
+    alloc: Global,
+    context: &mut Context,
+    owner: WireForm,
+    len: usize,
+    left: &[u8],
+) -> Result<Entry, ZoneError>
+    requires { length left.now ≤ len }
+    ensures ok { IfOk result (λ entry. IsZoneRecord context.old owner left.now entry context.new) }
+    ensures err { IfErr result (λ e. FailsZoneRecord context.old len left.now e × (context.new ≡ context.old)) }
+{
+    match record_data(alloc, context, len, left) {
+        Ok((head, found)) => {
+            note(context, owner, head);
+            Ok(Entry::Record(found))
+        }
+        Err(error) => Err(error),
+    }
+}
+
+/// Keeps what a record says for later ones.
+fn note(context: &mut Context, owner: WireForm, head: Head)
+    ensures { context.new ≡ with_record context.old owner head }
+{
+    context.owner = Some(owner);
+    context.last_ttl = head.ttl.or(context.last_ttl);
+    if let Some(class) = head.class {
+        context.class = class;
+    }
+}
+
+/// Returns what is between the owner and the data, and the record.
+fn record_data(
+    alloc: Global,
+    context: &Context,
+    len: usize,
+    left: &[u8],
+) -> Result<(Head, ZoneRecord), ZoneError>
+    requires { length left.now ≤ len }
+    ensures ok { IfOk result (λ r. IsRecordData context.now left.now r.0 r.1) }
+    ensures err { IfErr result (FailsZoneRecord context.now len left.now) }
+{
+    match head_of(len, left) {
+        Ok((head, text)) => data_after(alloc, context, len, left, head, text),
+        Err(error) => Err(error),
+    }
+}
+
+/// Returns what is between the owner and the data, which this is, and the record, of which the text has the data.
+fn data_after(
+    alloc: Global,
+    context: &Context,
+    len: usize,
+    left: &[u8],
+    head: Head,
+    text: &[u8],
+) -> Result<(Head, ZoneRecord), ZoneError>
+    requires left { length left.now ≤ len }
+    requires text { length text.now ≤ length left.now }
+    requires head { IsZoneHead left.now head text.now }
+    ensures ok { IfOk result (λ r. IsRecordData context.now left.now r.0 r.1) }
+    ensures err { IfErr result (FailsZoneRecord context.now len left.now) }
+{
+    let ttl = match ttl_of_head(context, head.ttl, len, left) {
+        Ok(ttl) => ttl,
+        Err(error) => return Err(error),
+    };
+    let class = class_after(context, head.class);
+    let record_type = head.record_type;
+    let wire = wire_of(alloc, class, record_type, len, text, &context.origin)?;
+    let found = ZoneRecord {
+        record_type,
+        class,
+        ttl,
+        wire,
+    };
+    Ok((head, found))
+}
+
+/// Returns the time to live of a record, of which the text has what is after the owner.
+fn ttl_of_head(
+    context: &Context,
+    own: Option<u32>,
+    len: usize,
+    left: &[u8],
+) -> Result<u32, ZoneError>
+    requires { length left.now ≤ len }
+    ensures ok { IfOk result (λ ttl. ttl_after context.now own ≡ Some ttl) }
+    ensures err { IfErr result (λ e. (ttl_after context.now own ≡ None) × (e ≡ wrong_at len left.now NoTimeToLive)) }
+{
+    match ttl_after(context, own) {
+        Some(ttl) => Ok(ttl),
+        None => Err(wrong_at(len, left, ZoneRule::NoTimeToLive)),
+    }
+}
+
+/// Returns the time to live of a record.
+fn ttl_after(context: &Context, own: Option<u32>) -> Option<u32>
+    ensures { result ≡ ttl_after context.now own }
+{
+    own.or(context.default_ttl.or(context.last_ttl))
+}
+
+/// Returns the class of a record.
+fn class_after(context: &Context, own: Option<DNSClass>) -> DNSClass
+    ensures { result ≡ class_after context.now own }
+{
+    match own {
+        Some(class) => class,
+        None => context.class,
+    }
+}
+
+/// Returns the octets of the data that a text is, which is at the end of an entry of this length.
+fn wire_of(
+    alloc: Global,
+    class: DNSClass,
+    record_type: RecordType,
+    len: usize,
+    text: &[u8],
+    origin: &Name,
+) -> Result<Vec<u8>, ZoneError>
+    requires { length text.now ≤ len }
+    ensures ok { IfOk result (λ wire. IsDataOf (Some origin.now) class record_type text.now wire.items) }
+    ensures err { IfErr result (FailsData origin.now class record_type len text.now) }
+{
+    match data_of(alloc, class, record_type, len, text, Some(origin)) {
+        Ok(wire) => Ok(wire),
+        Err(error) => Err(ZoneError::Data(error)),
+    }
+}
+
+/// Returns what an entry is that begins with this word, which begins with `$`.
+fn directive_entry(
+    alloc: Global,
+    context: &mut Context,
+    word: &[u8],
+    len: usize,
+    rest: &[u8],
+) -> Result<Entry, ZoneError>
+    requires { length rest.now ≤ len }
+    ensures ok { IfOk result (λ entry. IsDirectiveEntry context.old word.now len rest.now entry context.new) }
+    ensures err { IfErr result (λ e. FailsDirectiveEntry context.old word.now len rest.now e × (context.new ≡ context.old)) }
+{
+    match directive_of(word) {
+        Some(Directive::Origin) => {
+            let origin = only_name(alloc, &context.origin, len, rest)?;
+            context.origin = origin;
+            Ok(Entry::Nothing)
+        }
+        Some(Directive::Ttl) => {
+            let ttl = only_ttl(len, rest)?;
+            context.default_ttl = Some(ttl);
+            Ok(Entry::Nothing)
+        }
+        Some(Directive::Include) => {
+            let include = include_of(alloc, &context.origin, len, rest)?;
+            Ok(Entry::Include(include))
+        }
+        Some(Directive::Generate) => Err(ZoneError::Wrong {
+            offset: 0,
+            rule: ZoneRule::Generate,
+        }),
+        None => Err(ZoneError::Wrong {
+            offset: 0,
+            rule: ZoneRule::UnknownDirective,
+        }),
+    }
+}
+
+/// Returns the time that is all that is left.
+fn only_ttl(len: usize, left: &[u8]) -> Result<u32, ZoneError>
+    requires { length left.now ≤ len }
+    ensures ok { IfOk result (IsOnlyTtl left.now) }
+    ensures err { IfErr result (FailsTtl len left.now) }
+{
+    let (word, rest) = next_word(left);
+    let Some(ttl) = ttl_of(word) else {
+        return Err(wrong_at(len, left, ZoneRule::NoTime));
+    };
+    if after_spaces(rest).is_empty() {
+        return Ok(ttl);
+    }
+    Err(wrong_at(len, rest, ZoneRule::WordsLeft))
+}
+
+/// Returns the name that is all that is left.
+fn only_name(alloc: Global, origin: &Name, len: usize, left: &[u8]) -> Result<Name, ZoneError>
+    requires { length left.now ≤ len }
+    ensures ok { IfOk result (IsOnlyName origin.now left.now) }
+    ensures err { IfErr result (FailsOnlyName origin.now len left.now) }
+{
+    let (word, rest) = next_word(left);
+    let Some(name) = name_at(alloc, origin, word) else {
+        return Err(wrong_at(len, left, ZoneRule::NoName));
+    };
+    if after_spaces(rest).is_empty() {
+        return Ok(name);
+    }
+    Err(wrong_at(len, rest, ZoneRule::WordsLeft))
+}
+
+/// Returns the name that a word is, completed by the origin. A quoted string is none.
+fn name_at(alloc: Global, origin: &Name, word: &[u8]) -> Option<Name>
+    ensures { MatchOption result ((name : NameValue) → ¬ (IsNameWord origin.now word.now name)) (IsNameWord origin.now word.now) }
+{
+    if begins_with(word, b'"') {
+        return None;
+    }
+    let Ok(text) = str::from_utf8(word) else {
+        return None;
+    };
+    match Name::from_text(alloc, text, Some(origin)) {
+        Ok(name) => Some(name),
+        Err(_) => None,
+    }
+}
+
+/// Returns the `$INCLUDE` of which the text has the file, and maybe an origin.
+fn include_of(alloc: Global, origin: &Name, len: usize, left: &[u8]) -> Result<Include, ZoneError>
+    requires { length left.now ≤ len }
+    ensures ok { IfOk result (IsInclude origin.now len left.now) }
+    ensures err { IfErr result (FailsInclude origin.now len left.now) }
+{
+    let (word, rest) = next_word(left);
+    if word.is_empty() {
+        return Err(wrong_at(len, left, ZoneRule::NoFile));
+    }
+    let file = len - after_spaces(left).len();
+    let file_len = word.len();
+    match include_origin(alloc, origin, len, rest) {
+        Ok(origin) => Ok(Include {
+            file,
+            file_len,
+            origin,
+        }),
+        Err(error) => Err(error),
+    }
+}
+
+/// Returns the origin of a file that is included: the name that is left, or the origin so far.
+fn include_origin(alloc: Global, origin: &Name, len: usize, left: &[u8]) -> Result<Name, ZoneError>
+    requires { length left.now ≤ len }
+    ensures ok { IfOk result (IsIncludeOrigin origin.now left.now) }
+    ensures err { IfErr result (λ e. (after_spaces left.now ≢ []) × FailsOnlyName origin.now len left.now e) }
+{
+    if after_spaces(left).is_empty() {
+        return Ok(origin.copied());
+    }
+    only_name(alloc, origin, len, left)
+}

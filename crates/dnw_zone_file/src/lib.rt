@@ -1,0 +1,20 @@
+//! Zone files, entry by entry (RFC 1035, section 5; RFC 2308, section 4): records, `$ORIGIN`, `$TTL` and `$INCLUDE`, with the place of
+//! each error.
+//!
+//! Read `specs/Entries.antt` first: what an entry is, after those before it. `specs/Steps.antt` has what a text begins with.
+#![tactic(auto)]
+
+/// What earlier entries say for later ones.
+pub mod context;
+/// Single entries.
+pub mod entry;
+/// Why an entry is none.
+pub mod error;
+/// Words of entries that begin with `$`.
+pub mod directive;
+/// The time to live, the class and the type of a record.
+pub mod head;
+/// Entries of a text, one after the other.
+pub mod step;
+/// Lines and columns of texts.
+pub mod place;

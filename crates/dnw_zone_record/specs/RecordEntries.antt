@@ -1,0 +1,45 @@
+-- Which record a text is, with comments and parentheses (RFC 1035, section 5.1): the one that the line of its entry is. White space
+-- may be after the entry, and nothing else.
+use Rattle.std.specs.Prelude.{◌≡◌, ◌⊎◌, ◌==◌, ℕ, ⊤, Bool, true, false, List, drop, length, Option}
+use Rattle.dnw_base.specs.Names.{NameValue}
+use Rattle.dnw_zone_words.specs.Lines.{line_of}
+use Rattle.dnw_zone_words.specs.declared.scan.Ending.{Ending}
+use Rattle.dnw_zone_words.specs.declared.scan.Ending.TheVariants.{Line as AtLine, Text as AtText, Cut, Wrong}
+use Rattle.dnw_zone_data.specs.Words.{after_spaces}
+use Rattle.dnw_zone_record.specs.RecordLines.{FailsRecordLine, IsRecordLine}
+use Rattle.dnw_zone_record.specs.declared.record_line.RecordLineError.{RecordLineError}
+use Rattle.dnw_zone_record.specs.declared.entry.RecordEntryError.{RecordEntryError}
+use Rattle.dnw_zone_record.specs.declared.entry.RecordEntryError.TheVariants.{Words, MoreEntries, Line, Memory}
+
+-- white space alone
+abbrev pub is_blank_rest : List ℕ → Bool
+is_blank_rest text = length (after_spaces text) == 0
+
+-- The entry with this line is the only one of a text.
+abbrev pub EndsEntry : List ℕ → List ℕ → Ending → Type 0
+EndsEntry text line AtText = ⊤
+EndsEntry text line AtLine = is_blank_rest (drop (length line) text) ≡ true
+EndsEntry text line other = ⊥
+
+-- The text is the record of these octets.
+abbrev pub IsRecordEntry : Option NameValue → List ℕ → List ℕ → Type 0
+IsRecordEntry origin text octets =
+    (line : List ℕ) × (ending : Ending) × (line_of text ≡ (line, ending)) × EndsEntry text line ending × IsRecordLine origin line octets
+
+-- The line is no record.
+abbrev pub FailsLine : Option NameValue → List ℕ → RecordEntryError → Type 0
+FailsLine origin line error = (why : RecordLineError) × FailsRecordLine origin line why × (error ≡ Line why)
+
+-- why a text is none, of which this is the line, by how it ends
+abbrev pub FailsEnded : Option NameValue → List ℕ → List ℕ → Ending → RecordEntryError → Type 0
+FailsEnded origin text line (Cut rule) error = error ≡ Words (length line) rule
+FailsEnded origin text line (Wrong rule) error = error ≡ Words (length line) rule
+FailsEnded origin text line AtText error = FailsLine origin line error
+FailsEnded origin text line AtLine error =
+    ((is_blank_rest (drop (length line) text) ≡ false) × (error ≡ MoreEntries (length line)))
+    ⊎ ((is_blank_rest (drop (length line) text) ≡ true) × FailsLine origin line error)
+
+abbrev pub FailsRecordEntry : Option NameValue → List ℕ → RecordEntryError → Type 0
+FailsRecordEntry origin text error =
+    (error ≡ Memory)
+    ⊎ ((line : List ℕ) × (ending : Ending) × (line_of text ≡ (line, ending)) × FailsEnded origin text line ending error)

@@ -1,0 +1,60 @@
+-- Numbers that have names in master files: algorithms of DNSSEC, and types of certificates. A name is in upper or lower case.
+use Rattle.std.specs.Prelude.{◌≡◌, ◌≤◌, ℕ, Bool, true, false, if◌then◌else◌, List, [], ◌∷◌, codes, Option, Some, None}
+use Rattle.std.specs.Char.{is_ascii_digit}
+use Rattle.std.specs.Str.{str_eq_ignore_ascii_case}
+use Rattle.dnw_zone_values.specs.Numbers.{IsNumberText}
+
+-- The number of an algorithm: the mnemonics of IANA's registry "DNS Security Algorithm Numbers" (RFC 4034, appendix A.1, began it),
+-- and for 6, 7 and 12 also those that BIND prints.
+abbrev pub algorithm_named : List ℕ → Option ℕ
+algorithm_named name =
+    if str_eq_ignore_ascii_case name (codes "RSAMD5") then Some 1
+    else if str_eq_ignore_ascii_case name (codes "DH") then Some 2
+    else if str_eq_ignore_ascii_case name (codes "DSA") then Some 3
+    else if str_eq_ignore_ascii_case name (codes "RSASHA1") then Some 5
+    else if str_eq_ignore_ascii_case name (codes "DSA-NSEC3-SHA1") then Some 6
+    else if str_eq_ignore_ascii_case name (codes "NSEC3DSA") then Some 6
+    else if str_eq_ignore_ascii_case name (codes "RSASHA1-NSEC3-SHA1") then Some 7
+    else if str_eq_ignore_ascii_case name (codes "NSEC3RSASHA1") then Some 7
+    else if str_eq_ignore_ascii_case name (codes "RSASHA256") then Some 8
+    else if str_eq_ignore_ascii_case name (codes "RSASHA512") then Some 10
+    else if str_eq_ignore_ascii_case name (codes "ECC-GOST") then Some 12
+    else if str_eq_ignore_ascii_case name (codes "ECCGOST") then Some 12
+    else if str_eq_ignore_ascii_case name (codes "ECDSAP256SHA256") then Some 13
+    else if str_eq_ignore_ascii_case name (codes "ECDSAP384SHA384") then Some 14
+    else if str_eq_ignore_ascii_case name (codes "ED25519") then Some 15
+    else if str_eq_ignore_ascii_case name (codes "ED448") then Some 16
+    else if str_eq_ignore_ascii_case name (codes "SM2SM3") then Some 17
+    else if str_eq_ignore_ascii_case name (codes "ECC-GOST12") then Some 23
+    else if str_eq_ignore_ascii_case name (codes "INDIRECT") then Some 252
+    else if str_eq_ignore_ascii_case name (codes "PRIVATEDNS") then Some 253
+    else if str_eq_ignore_ascii_case name (codes "PRIVATEOID") then Some 254
+    else None
+
+-- the number of a type of certificates (RFC 4398, section 2.1)
+abbrev pub certificate_type_named : List ℕ → Option ℕ
+certificate_type_named name =
+    if str_eq_ignore_ascii_case name (codes "PKIX") then Some 1
+    else if str_eq_ignore_ascii_case name (codes "SPKI") then Some 2
+    else if str_eq_ignore_ascii_case name (codes "PGP") then Some 3
+    else if str_eq_ignore_ascii_case name (codes "IPKIX") then Some 4
+    else if str_eq_ignore_ascii_case name (codes "ISPKI") then Some 5
+    else if str_eq_ignore_ascii_case name (codes "IPGP") then Some 6
+    else if str_eq_ignore_ascii_case name (codes "ACPKIX") then Some 7
+    else if str_eq_ignore_ascii_case name (codes "IACPKIX") then Some 8
+    else if str_eq_ignore_ascii_case name (codes "URI") then Some 253
+    else if str_eq_ignore_ascii_case name (codes "OID") then Some 254
+    else None
+
+abbrev pub begins_with_digit : List ℕ → Bool
+begins_with_digit [] = false
+begins_with_digit (c ∷ cs) = is_ascii_digit c
+
+-- a number in decimal, or that of a name
+abbrev pub IsNumberOrNamed : Bool → (List ℕ → Option ℕ) → ℕ → List ℕ → ℕ → Type 0
+IsNumberOrNamed true named max text n = IsNumberText max text n
+IsNumberOrNamed false named max text n = (named text ≡ Some n) × (n ≤ max)
+
+-- a text that begins with a digit is a number, and any other is a name
+abbrev pub IsNumberOrName : (List ℕ → Option ℕ) → ℕ → List ℕ → ℕ → Type 0
+IsNumberOrName named max text n = IsNumberOrNamed (begins_with_digit text) named max text n
