@@ -7,8 +7,8 @@
    threads at once.
 
    Each function except `dnw_error_text` and `dnw_serial_add` returns 0, or the number of an error. A function that
-   fails stores nothing, neither in the buffer nor through a pointer. There are three exceptions: `dnw_message_write`,
-   if a message is too long, and `dnw_name_text_fault` and `dnw_message_read`, which store where the input is wrong.
+   fails stores nothing, neither in the buffer nor through a pointer. There are exceptions: `dnw_name_text_fault` and
+   `dnw_message_read` store where the input is wrong, and what writes a message or its table may leave any octets there.
    Every input is checked: no byte outside the arguments is read or written.
 
    The wire form of a name (RFC 1035, section 3.1) is its labels, each with a length octet before it, and a zero octet
@@ -51,7 +51,7 @@ enum dnw_failure {
     DNW_BAD_TEXT = 9,          /* a label, a character or an escape that is not allowed */
     DNW_NOT_UTF8 = 10,         /* a text that is not UTF-8 */
     DNW_BYTES_LEFT = 11,       /* bytes follow a name that should end the input */
-    DNW_MESSAGE_TOO_LONG = 12, /* a message longer than its maximum, or with more than 65535 items in a section */
+    DNW_MESSAGE_TOO_LONG = 12, /* a message longer than its maximum */
     DNW_OTHER = 13,            /* no function returns it */
     DNW_UNKNOWN_TEXT = 14,     /* a text that is not the name of a type or class */
     DNW_NOT_ORDERED = 15,      /* two serial numbers that are 2^31 apart */
@@ -67,7 +67,7 @@ enum dnw_failure {
     DNW_BAD_ADDRESS = 25,      /* an address of neither 4 nor 16 bytes */
     DNW_NOT_REVERSE = 26,      /* a name that is not the reverse name of an address or a net */
     DNW_BAD_ITEM = 27,         /* a list with an item of an unknown kind, one that is cut, or one whose name or record
-                                  is not valid; or an item of a message after one of a later section */
+                                  is not valid; or an item of a message after one of a later section, or after the last */
     DNW_EMPTY_LABEL = 28,      /* a text with an empty label */
     DNW_BAD_ESCAPE = 29,       /* an escape that is not three decimal digits up to 255 */
     DNW_TOO_MANY_POINTERS = 30, /* the names of a message follow more compression pointers than the caller allows */
@@ -241,6 +241,13 @@ struct dnw_message_fault {
 uint32_t dnw_message_read(const uint8_t *message, size_t message_len, size_t max_pointers, struct dnw_message *read,
                           struct dnw_message_fault *fault);
 
+/* Stores in `is_reply` whether a message answers a request (RFC 5452, section 9.1): QR is set in the response and not in the
+   request, its id and opcode are those of the request, and each of them has one question, with the same type, the same class
+   and the same name, ignoring case. Addresses and ports are the caller's to compare. It does not allocate. It fails as
+   dnw_message_read with DNW_MAX_POINTERS if one of them is not a complete message. */
+uint32_t dnw_is_reply_to(const uint8_t *request, size_t request_len, const uint8_t *response, size_t response_len,
+                         bool *is_reply);
+
 /* The EDNS fields of a message (RFC 6891, section 6.1). The `options_len` octets at offset `options_offset` of the
    message are options, each two octets of code, two of length, and as many octets as that. Without an OPT record,
    `is_present` is false, `max_payload` is 512, and all others except the response code are 0. */
@@ -342,6 +349,62 @@ struct dnw_field {
 uint32_t dnw_field_next(const uint8_t *message, size_t data_end, size_t data_offset, uint16_t record_class,
                         uint16_t record_type, struct dnw_fields *fields, struct dnw_field *field);
 
+/* A row of the table of a message. The row of an item, which is a question or a record, has its section, kind 0, and its type
+   and class. `number` is the TTL of a record, and 0 for a question. The `len` octets at `offset` are the data of a record; a
+   question has none. So each item ends at `offset + len`, where the next one begins. The wire form of its name is the
+   `name_len` octets at `name` of the names.
+
+   The rows of the fields of a record's data follow its row. They have section, type and class 0. The kind, `offset` and `len`
+   of a field are as dnw_field_next stores them; if it is a name, its wire form is the `name_len` octets at `name` of the names.
+   The rows of the entries of a list follow its row, of kind DNW_ROW_ENTRY: of character strings, with their octets after the
+   length; of type bitmaps, with the number of the window in `number`, and its bits; of service parameters, with the key and
+   the value; of address prefixes, with the family and the octets after it, of which the first is the length in bits, the
+   highest bit of the second negates, and the others are the address; and of names in wire form.
+
+   If the data of a record are not the fields of its type, a row of kind DNW_ROW_FAULT comes after those of the fields that
+   are there, and is the last of that record: `number` is the error that dnw_field_next returns there, and `offset` is where
+   the field would begin. */
+struct dnw_row {
+    uint32_t section; /* of enum dnw_section, from DNW_SECTION_QUESTIONS on, in the row of an item */
+    uint32_t kind;    /* of enum dnw_field_kind or dnw_row_kind, in the other rows */
+    uint16_t record_type;
+    uint16_t record_class;
+    uint32_t number;
+    size_t offset;
+    size_t len;
+    size_t name;
+    size_t name_len;
+};
+
+enum dnw_row_kind {
+    DNW_ROW_ENTRY = 19, /* an entry of the list before it */
+    DNW_ROW_FAULT = 20  /* data that are not the fields of their type, from here on */
+};
+
+/* So many rows, and so many octets of names, were stored. */
+struct dnw_table {
+    size_t row_count;
+    size_t names_len;
+};
+
+/* Reads a whole message in one pass, and stores its table: rows for all its questions and records in order, and for the
+   fields of their data; and the wire forms of all names among these, one after another. `rows_size` is the number of rows that
+   there is room for. What follows in both buffers is unchanged. The header is not part of the table; dnw_message_read stores
+   it. It does not allocate.
+
+   It fails as dnw_message_read if the message is not complete, and with DNW_TOO_MANY_POINTERS if its names, those of data
+   included, follow more than `max_pointers` compression pointers in total. So its time is linear in `message_len` and
+   `max_pointers`. It fails with DNW_NO_ROOM if there are more rows or octets of names than there is room for; begin with some
+   rows for each record and some octets for each row, and double both until it does not. If it fails, `table` is unchanged, and
+   what the buffers hold has no meaning. */
+uint32_t dnw_message_table(const uint8_t *message, size_t message_len, size_t max_pointers, struct dnw_row *rows, size_t rows_size,
+                           uint8_t *names, size_t names_size, struct dnw_table *table);
+
+/* Stores the data of the record at offset `start` of a message, with every name in its wire form, and their length in `len`.
+   It fails as dnw_record_read if no record is there, as dnw_field_next at the first field that is wrong, with DNW_NO_ROOM if
+   the data have more than `data_size` octets, and with DNW_NO_MEMORY. */
+uint32_t dnw_record_data(const uint8_t *message, size_t message_len, size_t start, uint8_t *data, size_t data_size, size_t *len);
+
 /* `len` bytes of text were stored in the buffer, and the record ends at offset `end` of the message. */
 struct dnw_printed_record {
     size_t len;
@@ -366,7 +429,9 @@ uint32_t dnw_record_print(const uint8_t *message, size_t message_len, size_t sta
    compression pointers. A type without fields of its own takes only that form. An empty text is no data, which classes
    NONE and ANY allow. Names are stored uncompressed. The name with the wire form `origin`
    is appended to names without a last dot, and `@` is that name; if `origin_len` is 0 there is no origin, and such
-   names are rejected. Parentheses and comments are not supported.
+   names are rejected. The times of SOA take units, as `1h30m`, and algorithms of DNSSEC and types of CERT are numbers or
+   IANA's mnemonics, as `RSASHA256`. A word ends before white space, a quote, a parenthesis or a semicolon, and one in
+   quotes at its last quote; only strings may be in quotes. Parentheses and comments are not supported.
 
    If the origin is not a wire form, it fails as dnw_name_compare. Otherwise it fails with DNW_NOT_UTF8; with
    DNW_BAD_DATA if the text is not data of the type, or has more than 65535 octets of data; with DNW_NO_ROOM if it has
@@ -375,19 +440,23 @@ uint32_t dnw_data_parse(uint16_t record_class, uint16_t record_type, const uint8
                         size_t origin_len, uint8_t *data, size_t data_size, size_t *len);
 
 /* Parses a line of a master file (RFC 1035, section 5.1), and stores the record, and its length in `len`: the owner's
-   wire form, two octets of type, two of class, four of TTL, two of the length of the data, and the data. So it is a
-   DNW_ITEM_RECORD of dnw_message_write, and dnw_record_read reads it at offset 0.
+   wire form, two octets of type, two of class, four of TTL, two of the length of the data, and the data. So it is an item
+   of dnw_message_write after its octet, and dnw_record_read reads it at offset 0.
 
-   The line is the owner, the TTL as dnw_ttl_parse takes it, the class, the type and the data as dnw_data_parse takes
-   them, with white space between them. The class may be before the TTL, or be left out for IN. The owner, the TTL and
-   the type must be there, since nothing is kept of earlier lines. The origin is appended to the owner as to names in
-   the data. The line that dnw_record_print prints is accepted if the data are valid for their type. Parentheses and
-   comments are not supported.
+   The text is one entry: comments are left out, and in parentheses the end of a line is white space. It has the owner,
+   the TTL as dnw_ttl_parse takes it (but a last number without a unit may not follow others, as in `1d1`), the class,
+   the type and the data as dnw_data_parse takes them, with white space between them. The class may be before the TTL,
+   or be left out for IN. The owner, the TTL and the type must be there, since nothing is kept of earlier lines. The
+   origin is appended to the owner as to names in the data. The line that dnw_record_print prints is accepted if the
+   data are valid for their type.
 
    If the origin is not a wire form, it fails as dnw_name_compare. Otherwise it fails with DNW_NOT_UTF8; with
+   DNW_UNCLOSED_LIST, DNW_UNCLOSED_QUOTE or DNW_TEXT_CUT if the text ends within parentheses, or a line within a quoted
+   string or an escape; with DNW_ILLEGAL_CHARACTER at a parenthesis within parentheses, or one that closes none; with
    DNW_BAD_TEXT if the first word is not a name, or there is no word; with DNW_BAD_TIME if there is no TTL, or none
-   after the class; with DNW_UNKNOWN_TEXT if there is no type; as dnw_data_parse for the data; with DNW_NO_ROOM if the
-   record has more than `record_size` octets; and with DNW_NO_MEMORY. */
+   after the class; with DNW_UNKNOWN_TEXT if there is no type; as dnw_data_parse for the data; with DNW_BAD_DATA if more
+   than white space follows the entry; with DNW_NO_ROOM if the record has more than `record_size` octets; and with
+   DNW_NO_MEMORY. */
 uint32_t dnw_record_parse(const uint8_t *text, size_t text_len, const uint8_t *origin, size_t origin_len, uint8_t *record,
                           size_t record_size, size_t *len);
 
@@ -490,45 +559,8 @@ uint32_t dnw_nsec3_covers(const uint8_t *own, size_t own_len, const uint8_t *nex
 uint32_t dnw_zone_digest(const uint8_t *apex, size_t apex_len, const uint8_t *records, size_t records_len, uint8_t algorithm,
                          uint8_t *digest, size_t digest_size, size_t *len);
 
-/* The kinds of items of a message, and what follows the octet for the kind in a list. A record is as in a message: the
-   owner's wire form, two octets of type, two of class, four of TTL, two of the length of the data, and the data. */
-enum dnw_item_kind {
-    DNW_ITEM_BYTES = 0,          /* two octets of length, and the bytes */
-    DNW_ITEM_NAME = 1,           /* a name's wire form */
-    DNW_ITEM_RECORD = 2,         /* a record; the names in its data are written as its type says */
-    DNW_ITEM_STANDARD_NAME = 3,  /* a record whose data are a name: of a type of RFC 1035, as NS, CNAME and PTR */
-    DNW_ITEM_CANONICAL_NAME = 4, /* of a later type that canonical form puts in lower case, as DNAME */
-    DNW_ITEM_OTHER_NAME = 5      /* of any other type */
-};
-
-/* `len` bytes were stored in the buffer, for `count` items. */
-struct dnw_written_message {
-    size_t len;
-    size_t count;
-};
-
-/* Writes the items of a list to a message, one after another, and stores the message. Names of items and owners of
-   records are compressed. The data of a DNW_ITEM_RECORD are the fields of its type, and the names among them are
-   compressed if the type is one of RFC 1035 (RFC 3597, section 4). Those of DNW_ITEM_STANDARD_NAME are compressed, and
-   those of the others are not. If `is_canonical` is set, names in data are in canonical form instead (RFC 4034, section
-   6.2): those of DNW_ITEM_STANDARD_NAME, of DNW_ITEM_CANONICAL_NAME, and of the types that it lists, are uncompressed
-   and in lower case. The data length is that of the data that are written.
-
-   It fails with DNW_MESSAGE_TOO_LONG at the first item that would go past `max_size` bytes. Then the message up to that
-   item is stored, and `written` has its length and the number of its items: a caller sets the TC bit and the counts of
-   its header (RFC 1035, section 4.1.1).
-
-   It fails with DNW_BAD_ITEM at the first octet of the list that does not begin an item; with DNW_BAD_DATA at a
-   DNW_ITEM_RECORD whose data are not the fields of its type; with DNW_NO_MEMORY; and with DNW_NO_ROOM if the message,
-   whole or up to an item that would go past `max_size`, has more than `message_size` bytes.
-   A buffer of `max_size` bytes is always enough, and so is one as long as the list if its names are wire forms.
-   Compressed names are read with the list as their message. */
-uint32_t dnw_message_write(const uint8_t *items, size_t items_len, uint16_t max_size, bool is_canonical, uint8_t *message,
-                           size_t message_size, struct dnw_written_message *written);
-
-/* The flags of a header (RFC 1035, section 4.1.1; RFC 4035, section 3.2), for dnw_writer_begin. A caller joins with `|`
-   the flags to set, the operation code as `op_code << 11`, and the low four bits of the response code as
-   `response_code & 15`. */
+/* The flags of a header (RFC 1035, section 4.1.1; RFC 4035, section 3.2). A caller joins with `|` the flags to set, the
+   operation code as `op_code << 11`, and the low four bits of the response code as `response_code & 15`. */
 enum dnw_flag {
     DNW_FLAG_RESPONSE = 0x8000,            /* QR */
     DNW_FLAG_AUTHORITATIVE = 0x0400,       /* AA */
@@ -539,57 +571,125 @@ enum dnw_flag {
     DNW_FLAG_CHECKING_DISABLED = 0x0010    /* CD */
 };
 
-/* The state of a message that is written item by item: the message is the first `len` octets of its buffer, its last
-   item is in the section `section` of enum dnw_section (DNW_SECTION_HEADER if it has none), and it has `opt_count` OPT
-   records, 0 or 1. The counts of the items are in its header. dnw_writer_begin fills it in, and a caller only reads
-   it. */
+/* The number of octets of an OPT record without options, which a caller holds back for dnw_writer_edns. */
+#define DNW_EDNS_SIZE 11
+
+/* The state of a message that is written item by item. The message is the first `len` octets of its buffer.
+   dnw_writer_begin and dnw_writer_reply fill it in, and a caller only reads `len`, and may lower `max_size`. It is plain
+   data: it may be copied, and a copy put back, with the octets of the message, takes back what was written since. */
 struct dnw_writer {
     size_t len;
-    uint32_t section;
-    uint32_t opt_count;
+    size_t max_size; /* the most octets that the message may have */
+    size_t reserved; /* how many of them are held back */
+    uint16_t owner;
+    uint8_t rank;
+    uint16_t hints[512];
 };
 
-/* Begins a message in a buffer: stores a header with this id, these flags, and counts of 0. It fails with DNW_NO_ROOM
-   if `message_size` is less than DNW_HEADER_SIZE.
+/* Begins a message of at most `max_size` octets in a buffer: stores a header with this id, these flags, and counts of 0.
+   It fails with DNW_NO_ROOM if `message_size` is less than DNW_HEADER_SIZE.
 
-   The functions below append an item to the message and count it in the header; the other octets of the buffer are
-   unchanged. Names are not compressed. None of these functions allocates. After each of them the message is complete,
-   and has at most 65535 octets: dnw_message_pack writes it again, compressed and in as many octets as the receiver
-   accepts.
+   The functions below add an item at the end of the message and count it in the header. An item is added whole or not at
+   all: a function that fails leaves the writer and the `len` octets of the message unchanged, but for TC where it says so.
+   The octets of the buffer after the message may be anything then. Names are compressed (RFC 1035, section 4.1.4): owners,
+   names of questions, and the names in data of the types that RFC 3597, section 4 allows: NS, MD, MF, CNAME, SOA, MB, MG,
+   MR, PTR, MINFO and MX. An item fits exactly if what is written of it, compressed, does. None of these functions
+   allocates. After each of them the message is complete.
 
-   Whatever a writer and its buffer hold, nothing outside the buffer is written. These rules are checked in order, and
-   the first that is broken decides the error. An item fails with DNW_BAD_ITEM if its section is before `section`; with
-   DNW_MESSAGE_CUT if the message has fewer than DNW_HEADER_SIZE octets; with DNW_MESSAGE_TOO_LONG if the message would
-   have more than 65535 octets (RFC 1035, section 4.2.2); with DNW_NO_ROOM if the buffer has no room for it after the
-   first `len` octets; and with DNW_MESSAGE_TOO_LONG if it is the 65536th that its section counts. */
-uint32_t dnw_writer_begin(uint8_t *message, size_t message_size, uint16_t id, uint16_t flags, struct dnw_writer *writer);
+   Whatever a writer and its buffer hold, nothing outside the buffer is written, and the name of no item is wrong. After
+   the rules that the function itself has, an item fails with
 
-/* Appends a question: the wire form of its name, its type and its class. It fails as dnw_name_print if the name is not
-   a wire form, and otherwise by the rules above. */
-uint32_t dnw_writer_question(uint8_t *message, size_t message_size, const uint8_t *name, size_t name_len, uint16_t query_type,
-                             uint16_t record_class, struct dnw_writer *writer);
+    DNW_MESSAGE_CUT       if the message or the buffer has fewer than DNW_HEADER_SIZE octets, or its header counts 65535
+                          items of the section;
+    DNW_BAD_ITEM          if a later section has items already, or after dnw_writer_last;
+    DNW_MESSAGE_TOO_LONG  if the message would be longer than `max_size`, the buffer, or 65535 octets, less the octets
+                          that are held back. */
+uint32_t dnw_writer_begin(uint8_t *message, size_t message_size, size_t max_size, uint16_t id, uint16_t flags,
+                          struct dnw_writer *writer);
 
-/* Appends a record to a section: DNW_SECTION_ANSWERS, DNW_SECTION_AUTHORITIES or DNW_SECTION_ADDITIONALS. `owner` is a
-   wire form. The data are written unchanged, and names in them have to be uncompressed. The data are not checked here,
-   but by dnw_message_pack. It fails with DNW_BAD_ITEM if `section` is another number, and as dnw_name_print if the
-   owner is not a wire form.
+/* Begins the reply to a request: its id, operation code, RD and CD, QR, and its question, with AA, RA, AD and the response
+   code of `flags`. It stores in `edns` what the reply needs: `is_present` is whether it needs an OPT record, for which
+   DNW_EDNS_SIZE octets are held back then (dnw_writer_edns gives them back); `dnssec_ok` and `max_payload` are those of the
+   request, 512 without EDNS; the others are 0. Its `response_code` is that of the reply, whose high bits are
+   `response_code >> 4`: mostly that of `flags`; BADVERS (16) if the version of EDNS is above 0 (RFC 6891, section 6.1.3);
+   FORMERR (1), without an OPT record, if the request is not complete, its EDNS is not valid (RFC 6891, section 7), or it
+   has more than one question (RFC 9619). Over UDP a caller then lowers `writer->max_size` to `edns->max_payload`.
 
-   A record of type DNW_TYPE_OPT, as dnw_writer_edns writes it, is counted in `opt_count`. It fails with
-   DNW_OUTSIDE_ADDITIONALS if `section` is not DNW_SECTION_ADDITIONALS, with DNW_DUPLICATE_EDNS if `opt_count` is not 0,
-   and with DNW_OWNER_NOT_ROOT if its owner is not the root (RFC 6891, section 6.1). Then any record fails with
-   DNW_DATA_TOO_LONG if it has more than 65535 octets of data, and otherwise by the rules above. */
+   It fails with DNW_BAD_ITEM if the request has no whole header, or is a response; and with DNW_MESSAGE_TOO_LONG if the
+   header or the question does not fit. Then the buffer may hold anything. It does not allocate. */
+uint32_t dnw_writer_reply(uint8_t *message, size_t message_size, size_t max_size, const uint8_t *request,
+                          size_t request_len, uint16_t flags, struct dnw_writer *writer, struct dnw_edns *edns);
+
+/* Adds a question: the wire form of its name, its type and its class. It fails as dnw_name_compare if the name is not a
+   wire form, and otherwise by the rules above. */
+uint32_t dnw_writer_question(uint8_t *message, size_t message_size, const uint8_t *name, size_t name_len,
+                             uint16_t query_type, uint16_t record_class, struct dnw_writer *writer);
+
+/* Adds a record to a section: DNW_SECTION_ANSWERS, DNW_SECTION_AUTHORITIES or DNW_SECTION_ADDITIONALS of enum
+   dnw_section. `owner` is a wire form. The data are the fields of the type and class in wire form, with their names
+   uncompressed; they may be empty in the classes ANY and NONE (RFC 2136). It fails with DNW_BAD_ITEM if `section` is
+   another number; as dnw_name_compare if the owner is not a wire form; with DNW_BAD_DATA if the data are not those of
+   the type; and otherwise by the rules above. */
 uint32_t dnw_writer_record(uint8_t *message, size_t message_size, uint32_t section, const uint8_t *owner, size_t owner_len,
-                           uint16_t record_type, uint16_t record_class, uint32_t ttl, const uint8_t *octets, size_t octets_len,
+                           uint16_t record_type, uint16_t record_class, uint32_t ttl, const uint8_t *data, size_t data_len,
                            struct dnw_writer *writer);
 
-/* Appends an OPT record to the Additional section (RFC 6891, section 6.1): the size of the largest message that the
-   sender accepts, at least 512 octets (less is written as 512); the high eight bits of the response code,
-   `response_code >> 4`; the version, which is 0; DO; and the options, each two octets of code, two of length, and as
-   many octets as that. The options are not checked here, but by dnw_message_pack. It fails with DNW_DUPLICATE_EDNS if
-   `opt_count` is not 0; with DNW_DATA_TOO_LONG if there are more than 65535 octets of options; and otherwise by the
-   rules above. */
-uint32_t dnw_writer_edns(uint8_t *message, size_t message_size, uint16_t max_payload, uint8_t rcode_high, uint8_t version,
-                         bool dnssec_ok, const uint8_t *options, size_t options_len, struct dnw_writer *writer);
+/* Adds the records of a set, or none of them (RFC 2181, section 5). `set` has for each record two octets of length, and
+   the data as for dnw_writer_record. If the set has no room and `is_required` is set, TC is set in the header (RFC 2181,
+   section 9): for answers, and for what a reply cannot do without. It fails with DNW_BAD_ITEM also if the set ends within a
+   record, and otherwise as dnw_writer_record, for the first record that fails. */
+uint32_t dnw_writer_set(uint8_t *message, size_t message_size, uint32_t section, bool is_required, const uint8_t *owner,
+                        size_t owner_len, uint16_t record_type, uint16_t record_class, uint32_t ttl, const uint8_t *set,
+                        size_t set_len, struct dnw_writer *writer);
+
+/* Holds back so many octets of the maximum, for items that come last; and gives back so many, or all if fewer are held.
+   They cannot fail. */
+uint32_t dnw_writer_hold(size_t octets, struct dnw_writer *writer);
+uint32_t dnw_writer_release(size_t octets, struct dnw_writer *writer);
+
+/* Adds an OPT record to the Additional section (RFC 6891, section 6.1), and gives back `held` octets first: the size of
+   the largest message that the sender accepts, at least 512 octets (less is written as 512); the high eight bits of the
+   response code, `response_code >> 4`; the version, which is 0; DO; and the options, each two octets of code, two of
+   length, and as many octets as that. The options are not checked. If `block` is not 0, the option for padding is added
+   after them (RFC 7830), so that the octets of the message, with those that are still held back, are a multiple of
+   `block` (RFC 8467), or of 512 if it is more; but not if there is no room for that. It fails by the rules above. */
+uint32_t dnw_writer_edns(uint8_t *message, size_t message_size, size_t held, uint16_t max_payload, uint8_t rcode_high,
+                         uint8_t version, bool dnssec_ok, const uint8_t *options, size_t options_len, uint16_t block,
+                         struct dnw_writer *writer);
+
+/* Adds a record to the Additional section after which no item may follow, as TSIG (RFC 8945, section 5.1) or SIG(0), and
+   gives back `held` octets first. It fails as dnw_writer_record. */
+uint32_t dnw_writer_last(uint8_t *message, size_t message_size, size_t held, const uint8_t *owner, size_t owner_len,
+                         uint16_t record_type, uint16_t record_class, uint32_t ttl, const uint8_t *data, size_t data_len,
+                         struct dnw_writer *writer);
+
+/* The first octet of an item of dnw_message_write: its section, and for a record one of the others joined by `|`. */
+enum dnw_list_item {
+    DNW_LIST_QUESTION = 0,
+    DNW_LIST_ANSWER = 1,
+    DNW_LIST_AUTHORITY = 2,
+    DNW_LIST_ADDITIONAL = 3,
+    DNW_LIST_LAST = 0x40,    /* with DNW_LIST_ADDITIONAL: an item that is never left out */
+    DNW_LIST_OPTIONAL = 0x80 /* a record that may be left out without TC */
+};
+
+/* Writes a message of a list of items, in at most `max_size` octets and `message_size`, and stores it. An item is an octet
+   of enum dnw_list_item, the wire form of a name, two octets of type and two of class, and for a record four of TTL, two of
+   the length of its data, and the data as for dnw_writer_record. The items are in the order of the sections. Those
+   with DNW_LIST_LAST are the last of the list: an OPT record (whose class is the payload size and whose TTL has the high
+   bits of the response code, the version and DO), then TSIG or SIG(0). Their octets are held back from the start.
+
+   Successive records with the same octet, owner, type and class are a set, and are written whole or not at all. If a set
+   does not fit, it and the later ones of its section are left out, and TC is set if one of their records is not
+   DNW_LIST_OPTIONAL. `result` has the length of the message and its TC bit. Names of questions and owners may be
+   compressed: they are read with the list as their message. It does not allocate.
+
+   It fails with DNW_BAD_ITEM if the list is not one of items in this order; with DNW_NO_ROOM if `message_size` is less
+   than DNW_HEADER_SIZE; with DNW_MESSAGE_TOO_LONG if the header, a question or an item with DNW_LIST_LAST does not fit;
+   and with DNW_BAD_DATA if the data of a record are not those of its type, unless it is left out since an earlier set of
+   its section was. Then `result` is unchanged, and the buffer may hold anything. */
+uint32_t dnw_message_write(const uint8_t *items, size_t items_len, size_t max_size, uint16_t id, uint16_t flags,
+                           uint8_t *message, size_t message_size, struct dnw_packed *result);
 
 /* Stores the wire form of the reverse name of an address, which owns its PTR records, and its length in `len`. The
    address is 4 bytes for IPv4 (RFC 1035, section 3.5) or 16 for IPv6 (RFC 3596, section 2.5), as in struct in_addr and
@@ -766,7 +866,7 @@ enum dnw_type {
     DNW_TYPE_IPN = 264,       /* A node of the Bundle Protocol (IANA's registry) */
     DNW_TYPE_TA = 32768,      /* An authority of trust (IANA's registry) */
     DNW_TYPE_DLV = 32769,     /* The digest of a key, for validators, obsolete (RFC 4431) */
-    DNW_TYPE_ANAME = 65305,   /* An alias at the top of a zone (draft-ietf-dnsop-aname). Its code was never assigned */
+    DNW_TYPE_ANAME = 65305    /* An alias at the top of a zone (draft-ietf-dnsop-aname). Its code was never assigned */
 };
 
 enum dnw_class {
@@ -774,7 +874,7 @@ enum dnw_class {
     DNW_CLASS_CH = 3,     /* Chaosnet (RFC 1035, section 3.2.4) */
     DNW_CLASS_HS = 4,     /* Hesiod (RFC 1035, section 3.2.4) */
     DNW_CLASS_NONE = 254, /* No class, in an update (RFC 2136, section 2.4) */
-    DNW_CLASS_ANY = 255,  /* Any class, in a question (RFC 1035, section 3.2.5) */
+    DNW_CLASS_ANY = 255   /* Any class, in a question (RFC 1035, section 3.2.5) */
 };
 
 /* Stores the text of a record type, and its length in `len`: its name in IANA's registry, in capitals, or, if it has none

@@ -1,10 +1,11 @@
 mod Taken
-mod WrittenItems
-pub mod MessageSizes
 mod RecordEnds
 pub mod TypeCodes
-mod Chains
 mod Forms
-mod Kept
-mod Pieces
-mod Wholes
+mod Items
+mod Runs
+mod Sheets
+mod Steps
+mod FieldSteps
+mod ItemSteps
+mod Tables

@@ -29,7 +29,7 @@ long_more (a ∷ []) = omega arith
 long_more (a ∷ b ∷ left) = omega (arith, long_is a b left)
 
 -- a field has what is before its value
-past_head : (kind : Kind) (d after : Decoder) (v : FieldValue) → TakesField kind d v after → d.index + head_of kind ≤ after.index
+pub past_head : (kind : Kind) (d after : Decoder) (v : FieldValue) → TakesField kind d v after → d.index + head_of kind ≤ after.index
 past_head (kinds.Counted shown) d after v h =
     let there = ap (λ (x : Decoder). x.index) h.3 in omega (arith, there)
 past_head (kinds.LongCounted shown) d after v h =

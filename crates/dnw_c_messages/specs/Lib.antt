@@ -1,9 +1,15 @@
 pub mod EdnsCalls
 pub mod FieldCalls
+pub mod ListCalls
 pub mod MessageCalls
 pub mod PackCalls
-pub mod MessageItems
+pub mod Packed
 pub mod RecordCalls
+pub mod BegunReplies
+pub mod SetCalls
 pub mod TypeLists
-pub mod Messages
 pub mod WriterCalls
+pub mod Inside
+pub mod Listings
+pub mod TableCalls
+pub mod ReplyCalls

@@ -1,10 +1,9 @@
 -- What the function for C puts that writes a message again, and why it puts nothing.
-use Rattle.std.specs.Prelude.{◌≡◌, ◌⊎◌, ℕ, ◌≤◌, Bool, List, length, take, Result}
+use Rattle.std.specs.Prelude.{◌≡◌, ◌⊎◌, ℕ, ◌≤◌, List, length, Result}
 use Rattle.dnw_c_base.specs.Failures.{of_decode, of_proto}
 use Rattle.dnw_c_base.specs.Results.{Puts, Refuses}
 use Rattle.dnw_c_base.specs.declared.failure.Failure.{Failure}
 use Rattle.dnw_base.specs.Limits.{max_pointers}
-use Rattle.dnw_message_header.specs.Headers.{header_of, header_size}
 use Rattle.dnw_message_read.specs.Messages.{FailsMessage, MessageAt, MessageValue}
 use Rattle.dnw_message_read.specs.declared.error.MessageError.{MessageError}
 use Rattle.dnw_message_write.specs.Copies.{FailsCopy, IsCopied}
@@ -12,7 +11,8 @@ use Rattle.dnw_message_write.specs.declared.writer.copying.CopyError.{CopyError}
 use Rattle.dnw_message_write.specs.declared.writer.copying.CopyError.TheVariants.{Data, Edns, Proto}
 use Rattle.dnw_c_messages.specs.EdnsCalls.{of_edns}
 use Rattle.dnw_c_messages.specs.MessageCalls.{of_message}
-use Rattle.dnw_c_messages.specs.declared.packing.PackedMessage.{PackedMessage}
+use Rattle.dnw_c_messages.specs.Packed.{is_cut}
+use Rattle.dnw_c_messages.specs.declared.packed.PackedMessage.{PackedMessage}
 
 -- the octets begin with this message
 abbrev pub IsReadMessage : List ℕ → MessageValue → Type 0
@@ -21,10 +21,6 @@ IsReadMessage octets m = (k : ℕ) × MessageAt octets m k × (k ≤ max_pointer
 -- They begin with a message of which this is a copy, in at most so many octets.
 abbrev pub HasCopy : List ℕ → ℕ → List ℕ → Type 0
 HasCopy octets most copy = (m : MessageValue) × IsReadMessage octets m × IsCopied m most copy
-
--- bit TC of the header
-abbrev pub is_cut : List ℕ → Bool
-is_cut message = (header_of (take header_size message)).metadata.truncation
 
 -- why a message is not copied: a field of the data of a record, EDNS, no room for the header and the OPT record, or memory
 abbrev pub of_copy : CopyError → Failure

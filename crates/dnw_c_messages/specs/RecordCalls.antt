@@ -6,12 +6,15 @@ use Rattle.dnw_base.specs.DnsClasses.{class_code}
 use Rattle.dnw_base.specs.Limits.{max_name}
 use Rattle.dnw_base.specs.Names.{wire}
 use Rattle.dnw_name_read.specs.Reading.{NameAt}
+use Rattle.dnw_record.specs.DataCopies.{Copies, FailsToCopy, data_start, record_kinds}
 use Rattle.dnw_record.specs.Records.{RecordAt, RecordValue, FailsRecord}
+use Rattle.dnw_record.specs.declared.rdata.RDataError.{RDataError}
+use Rattle.dnw_record.specs.declared.rdata.RDataError.TheVariants.{Field, Memory}
 use Rattle.dnw_c_base.specs.Failures.{of_decode}
 use Rattle.dnw_c_base.specs.Offsets.{HasNoName, at_offset}
-use Rattle.dnw_c_base.specs.Results.{PutsWithin, Refuses}
+use Rattle.dnw_c_base.specs.Results.{Puts, PutsWithin, Refuses}
 use Rattle.dnw_c_base.specs.declared.failure.Failure.{Failure}
-use Rattle.dnw_c_base.specs.declared.failure.Failure.TheVariants.{WrongDataLength}
+use Rattle.dnw_c_base.specs.declared.failure.Failure.TheVariants as why
 use Rattle.dnw_c_messages.specs.declared.records.ReadRecord.{ReadRecord}
 
 -- what C learns of a record that ends at an offset, beside its owner's wire form
@@ -44,4 +47,21 @@ PutsDataName message start data_len old new result =
     × PutsWithin max_name (wire labels) (length (wire labels)) old new result)
     ⊎ Refuses (λ failure. HasNoName message start failure
     ⊎ ((labels : List (List ℕ)) × (end : ℕ) × (k : ℕ) × NameAt message start labels end k × (end ≢ start + data_len)
-    × (failure ≡ WrongDataLength))) old new result
+    × (failure ≡ why.WrongDataLength))) old new result
+
+-- the failure that stands for why data are not copied
+abbrev pub failure_of_rdata : RDataError → Failure
+failure_of_rdata (Field error) = of_decode error.cause
+failure_of_rdata Memory = why.NoMemory
+
+-- the data of a record are not the fields of their type up to their end, or memory ran out
+abbrev pub HasNoData : RecordValue → Failure → Type 0
+HasNoData r failure = (error : RDataError) × FailsToCopy (record_kinds r) (data_start r) error × (failure ≡ failure_of_rdata error)
+
+-- The data of the record at an offset of a message are put, with every name in its wire form.
+abbrev pub PutsWholeData : List ℕ → ℕ → List ℕ → List ℕ → Result ℕ Failure → Type 0
+PutsWholeData message start old new result =
+    ((r : RecordValue) × (end : ℕ) × (octets : List ℕ) × RecordAt message start r end × Copies (record_kinds r) (data_start r) octets
+    × Puts octets (length octets) old new result)
+    ⊎ Refuses (λ failure. HasNoRecord message start failure
+    ⊎ ((r : RecordValue) × (end : ℕ) × RecordAt message start r end × HasNoData r failure)) old new result

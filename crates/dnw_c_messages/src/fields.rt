@@ -115,7 +115,7 @@ fn end_of(kind: Kind, message: &[u8], offset: usize) -> Result<usize, DecodeErro
 }
 
 /// Returns how many octets of a field are before its value.
-fn head_of(kind: Kind) -> usize
+pub(crate) fn head_of(kind: Kind) -> usize
     ensures { result ≡ head_of kind }
 {
     match kind {
@@ -126,7 +126,7 @@ fn head_of(kind: Kind) -> usize
 }
 
 /// Returns the number of a kind in C.
-fn field_kind(kind: Kind) -> u32
+pub(crate) fn field_kind(kind: Kind) -> u32
     ensures { result ≡ field_kind kind }
 {
     match kind {

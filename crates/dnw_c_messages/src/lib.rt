@@ -3,31 +3,42 @@
 //! `dnw_c_names`.
 //!
 //! A slice is passed as a pointer and then a length, and results are put into structs and buffers of the caller. What is known of a message
-//! that is written item by item is in a struct of the caller's, and in the header at the start of the buffer. Every input is tested,
-//! whatever the caller promises, nothing is kept from one call to the next, and only what writes a whole message or lists types allocates.
-//! Read `specs/MessageCalls.antt` first: what a call puts of a message; and `specs/WriterCalls.antt`: what a call puts of an item, and why
-//! it puts nothing. `specs/Messages.antt` says that what was begun is a message, and each call keeps that.
+//! that is written item by item is in a struct of the caller's. Every input is tested, whatever the caller promises, nothing is kept from
+//! one call to the next, and only what copies data or lists types allocates. Read `specs/MessageCalls.antt` first: what a call puts of a
+//! message; `specs/Listings.antt`: the rows of its table; `specs/WriterCalls.antt`: what a call adds of an item, and why it adds nothing;
+//! and `specs/ListCalls.antt`: a message from a list.
 #![tactic(auto)]
-
 /// What messages say by EDNS.
 pub mod edns;
 /// The fields of the data of records.
 pub mod fields;
-/// Items of messages, as they are appended and counted.
-pub mod items;
+/// Lists of the items of a message.
+mod listed;
 /// Whole messages.
 pub mod message;
-/// `OPT` records, of which a message has one at most.
-pub mod opts;
 /// Names that are given by their wire forms.
 pub mod owners;
+/// Messages that are written whole, and if they are truncated.
+pub mod packed;
 /// Messages, written again.
 pub mod packing;
 /// The records of messages.
 pub mod records;
+/// Whether messages reply to requests.
+pub mod replies;
+/// The fields of data in the table of a message.
+pub mod row_fields;
+/// The rows of the table of a message.
+pub mod rows;
+/// All items of a message and the fields of their data as a flat table.
+pub mod table;
+/// Replies, as they begin.
+pub mod replying;
+/// Sets of records, and `OPT` records, added to messages.
+pub mod sets;
 /// Bitmaps of types, and lists of their codes.
 pub mod type_sets;
-/// The functions for C.
-pub mod writer;
 /// Messages, written item by item.
+pub mod writer;
+/// Messages, written from lists of items.
 pub mod writing;

@@ -118,7 +118,7 @@ fn fault_of(error: &MessageError) -> MessageFault
 }
 
 /// Returns the number of a section in C.
-fn section_number(section: Section) -> u32
+pub(crate) fn section_number(section: Section) -> u32
     ensures { result ≡ section_number section }
 {
     match section {

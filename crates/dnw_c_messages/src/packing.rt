@@ -2,25 +2,17 @@
 ghost use Rattle.std.specs.Prelude.{◌≡◌, ◌≤◌, length, IfOk, IfErr};
 ghost use Rattle.dnw_c_base.specs.Results.{Returns};
 ghost use Rattle.dnw_message_header.specs.Headers.{header_size};
-ghost use Rattle.dnw_c_messages.specs.PackCalls.{FailsToMakeCopy, HasCopy, PacksMessage, is_cut, of_copy};
+ghost use Rattle.dnw_c_messages.specs.PackCalls.{FailsToMakeCopy, HasCopy, PacksMessage, of_copy};
 
 use crate::edns::of_edns;
 use crate::message::of_message;
+use crate::packed::{PackedMessage, is_cut};
 use dnw_c_base::buffer::put;
 use dnw_c_base::failure::{Failure, of_decode, of_proto};
 use dnw_c_base::results::report;
-use dnw_message_header::header::Header;
 use dnw_message_read::message::MessageRef;
 use dnw_message_write::writer::{CopyError, copy};
 use std::alloc::Global;
-
-/// A message that was packed: the number of octets that were put, and the bit TC of its header.
-#[repr(C)]
-#[derive(Clone, Copy)]
-pub struct PackedMessage {
-    pub len: usize,
-    pub truncated: bool,
-}
 
 /// Puts a copy of the message at the start of these octets, with compression, in at most `max_size` octets. Without room for an
 /// answer or an authority record, the copy is truncated. An `OPT` record is always there.
@@ -67,15 +59,6 @@ fn copy_of(alloc: Global, octets: &[u8], max_size: u16) -> Result<Vec<u8>, Failu
         Ok(()) => Ok(buffer),
         Err(error) => Err(of_copy(&error)),
     }
-}
-
-/// Returns `true` if the bit TC of a message is set.
-fn is_cut(message: &[u8]) -> bool
-    requires { header_size ≤ length message.now }
-    ensures { result ≡ is_cut message.now }
-{
-    let header = Header::from_octets(message.first_chunk().unwrap());
-    header.metadata.truncation
 }
 
 /// Returns the failure that stands for why a message is not copied.

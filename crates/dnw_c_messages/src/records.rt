@@ -1,16 +1,19 @@
 //! The records of messages.
-ghost use Rattle.std.specs.Prelude.{IfOk, IfErr};
+ghost use Rattle.std.specs.Prelude.{◌≡◌, IfOk, IfErr};
 ghost use Rattle.dnw_record.specs.Records.{FailsRecord, RecordAt};
 ghost use Rattle.dnw_c_base.specs.Offsets.{at_offset};
 ghost use Rattle.dnw_c_base.specs.Results.{Returns};
-ghost use Rattle.dnw_c_messages.specs.RecordCalls.{PutsDataName, ReadsRecord};
+ghost use Rattle.dnw_record.specs.DataCopies.{Copies, data_start, record_kinds};
+ghost use Rattle.dnw_c_messages.specs.RecordCalls.{HasNoData, PutsWholeData, PutsDataName, ReadsRecord, failure_of_rdata};
 
 use dnw_base::decoder::BinDecoder;
 use dnw_base::error::DecodeError;
-use dnw_c_base::failure::Failure;
+use dnw_c_base::buffer::put;
+use dnw_c_base::failure::{Failure, of_decode};
 use dnw_c_base::names::{name_ref_at, put_name};
 use dnw_c_base::results::report;
 use dnw_name::binary::BinDecodable;
+use dnw_record::rdata::{RData, RDataError};
 use dnw_record::record_ref::RecordRef;
 use std::alloc::Global;
 
@@ -55,6 +58,20 @@ pub extern "C" fn dnw_record_data_name(
     ensures { Returns (PutsDataName message.now data_offset data_len form.old form.new) len.old len.new result }
 {
     report(data_name(message, data_offset, data_len, form), len)
+}
+
+/// Puts the data of the record at an offset of a message with every name in its wire form, and their length.
+#[unsafe(no_mangle)]
+pub extern "C" fn dnw_record_data(
+    alloc: Global,
+    message: &[u8],
+    start: usize,
+    octets: &mut [u8],
+    len: &mut usize,
+) -> u32
+    ensures { Returns (PutsWholeData message.now start octets.old octets.new) len.old len.new result }
+{
+    report(whole_data(alloc, message, start, octets), len)
 }
 
 /// Reads the record at an offset, and puts its owner's wire form.
@@ -104,4 +121,39 @@ fn data_name(
         return Err(Failure::WrongDataLength);
     }
     put_name(form, &name)
+}
+
+/// Puts the data of the record at an offset with every name in its wire form, and returns their length.
+fn whole_data(
+    alloc: Global,
+    message: &[u8],
+    start: usize,
+    octets: &mut [u8],
+) -> Result<usize, Failure>
+    ensures { PutsWholeData message.now start octets.old octets.new result }
+{
+    let (record, _) = record_at(alloc, message, start)?;
+    let data = copied(alloc, &record)?;
+    put(octets, data.octets())
+}
+
+/// Returns the data of a record with every name in its wire form.
+fn copied(alloc: Global, item: &RecordRef<'_>) -> Result<RData, Failure>
+    ensures ok { IfOk result (λ r. Copies (record_kinds item.now) (data_start item.now) r.octets) }
+    ensures err { IfErr result (HasNoData item.now) }
+{
+    match RData::from_ref(alloc, item) {
+        Ok(data) => Ok(data),
+        Err(error) => Err(failure_of_rdata(&error)),
+    }
+}
+
+/// Returns the failure that stands for why data are not copied.
+fn failure_of_rdata(error: &RDataError) -> Failure
+    ensures { result ≡ failure_of_rdata error.now }
+{
+    match error {
+        RDataError::Field(field) => of_decode(&field.cause),
+        RDataError::Memory => Failure::NoMemory,
+    }
 }

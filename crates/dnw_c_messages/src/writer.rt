@@ -1,72 +1,49 @@
 //! Messages, written item by item.
-ghost use Rattle.std.specs.Prelude.{◌≡◌, ◌≤◌, length};
-ghost use Rattle.dnw_base.specs.Limits.{max_name};
-ghost use Rattle.dnw_c_base.specs.Results.{Returns, ReturnsNumber};
-ghost use Rattle.dnw_c_messages.specs.Messages.{IsWholeMessage};
-ghost use Rattle.dnw_c_messages.specs.WriterCalls.{AppendsRecord, BeginsOr, FailsToAppendRecord, FailsToPutEdns, FailsToPutQuestion, FailsToPutRecord, PutsEdns, PutsOr, PutsQuestion, AddsRecord, opt_ttl, question_fields};
+ghost use Rattle.std.specs.Prelude.{◌≡◌, ◌+◌, ◌-◌, min, IfOk, IfErr, IfSome, IfNone};
+ghost use Rattle.dnw_message_writer.specs.States.{released};
+ghost use Rattle.dnw_c_base.specs.Results.{ReturnsNumber};
+ghost use Rattle.dnw_c_messages.specs.WriterCalls.{AddsGiven, AddsLastRecord, AddsOr, AddsQuestionOf, AddsRecord, BeginsOr, FailsToAddGiven, FailsToAddLast, FailsToAddQuestion, FailsToAddRecord, IsGiven, IsNoNumber, IsNotGiven, IsSectionNumber, of_write};
 
-use crate::items::{append, record_fields};
-use crate::opts::{check_opt, opts_after};
-use crate::owners::check_form;
-use dnw_base::dns_class::DNSClass;
-use dnw_base::record_type::RecordType;
-use dnw_c_base::buffer::put;
+use crate::owners::labels_of;
 use dnw_c_base::failure::Failure;
 use dnw_c_base::results::report;
-use dnw_message_header::header::Header;
+use dnw_message_writer::data::{Pieces, pieces_of};
+use dnw_message_writer::section::{Section, WriteError};
+use dnw_message_writer::state::WriterState;
+use dnw_name_form::wire_labels::WireLabels;
 
-/// The number of the section of questions.
-const QUESTIONS: u32 = 1;
-/// The number of the section of answers.
-const ANSWERS: u32 = 2;
-/// The number of the section of additional records.
-pub(crate) const ADDITIONALS: u32 = 4;
-
-/// What is known of a message that is written: the number of its octets, the number of the section of the last item, or 0, and the
-/// number of `OPT` records.
-#[repr(C)]
-#[derive(Clone, Copy)]
-pub struct Writer {
-    pub len: usize,
-    pub section: u32,
-    pub opt_count: u32,
-}
-
-/// Puts a header without items at the start of a buffer.
-#[tactic(auto, using(crate::proofs::Wholes::begin_whole))]
+/// Begins a message: puts a header without items at the start of a buffer.
 #[unsafe(no_mangle)]
 pub extern "C" fn dnw_writer_begin(
     message: &mut [u8],
+    max_size: usize,
     id: u16,
     flags: u16,
-    writer: &mut Writer,
+    writer: &mut WriterState,
 ) -> u32
-    ensures put { Returns (BeginsOr id flags message.old message.new) writer.old writer.new result }
-    ensures whole { result ≡ 0 → IsWholeMessage message.new writer.new }
+    ensures { ReturnsNumber (BeginsOr id flags max_size writer.old message.old writer.new message.new) result }
 {
-    report(begin(message, id, flags), writer)
+    let begun = begin(message, max_size, id, flags, writer);
+    report(begun, &mut ())
 }
 
-/// Appends a question.
-#[tactic(auto, using(crate::proofs::Wholes::question_whole))]
+/// Adds a question.
 #[unsafe(no_mangle)]
 pub extern "C" fn dnw_writer_question(
     message: &mut [u8],
     name: &[u8],
     query_type: u16,
     class: u16,
-    writer: &mut Writer,
+    writer: &mut WriterState,
 ) -> u32
-    ensures put { ReturnsNumber (PutsOr (PutsQuestion name.now query_type class) (FailsToPutQuestion name.now)
-        writer.old writer.new message.old message.new) result }
-    ensures whole { result ≡ 0 → IsWholeMessage message.old writer.old → IsWholeMessage message.new writer.new }
+    ensures { ReturnsNumber (AddsOr (AddsQuestionOf name.now query_type class) (FailsToAddQuestion name.now)
+        writer.old message.old writer.new message.new) result }
 {
-    let put = put_question(message, name, query_type, class, writer);
-    report(put, &mut ())
+    let added = add_question(message, name, query_type, class, writer);
+    report(added, &mut ())
 }
 
-/// Appends a record to a section, whose number is that of the answers or a later one.
-#[tactic(auto, using(crate::proofs::Wholes::put_whole))]
+/// Adds a record to a section, whose number is that of the answers or a later one.
 #[unsafe(no_mangle)]
 pub extern "C" fn dnw_writer_record(
     message: &mut [u8],
@@ -76,13 +53,12 @@ pub extern "C" fn dnw_writer_record(
     class: u16,
     ttl: u32,
     octets: &[u8],
-    writer: &mut Writer,
+    writer: &mut WriterState,
 ) -> u32
-    ensures put { ReturnsNumber (PutsOr (AddsRecord section owner.now record_type class ttl octets.now)
-        (FailsToPutRecord section owner.now record_type octets.now) writer.old writer.new message.old message.new) result }
-    ensures whole { result ≡ 0 → IsWholeMessage message.old writer.old → IsWholeMessage message.new writer.new }
+    ensures { ReturnsNumber (AddsOr (AddsRecord section owner.now record_type class ttl octets.now)
+        (FailsToAddRecord section owner.now record_type class ttl octets.now) writer.old message.old writer.new message.new) result }
 {
-    let put = put_record(
+    let added = add_record(
         message,
         section,
         owner,
@@ -92,163 +68,201 @@ pub extern "C" fn dnw_writer_record(
         octets,
         writer,
     );
-    report(put, &mut ())
+    report(added, &mut ())
 }
 
-/// Appends an `OPT` record to the additional section, if there is none.
+/// Adds the last record of a message. It has so many of the octets that are held back.
 #[unsafe(no_mangle)]
-pub extern "C" fn dnw_writer_edns(
+pub extern "C" fn dnw_writer_last(
     message: &mut [u8],
-    max_payload: u16,
-    rcode_high: u8,
-    version: u8,
-    dnssec_ok: bool,
-    options: &[u8],
-    writer: &mut Writer,
-) -> u32
-    ensures put { ReturnsNumber (PutsOr (PutsEdns max_payload (opt_ttl rcode_high version dnssec_ok) options.now) (FailsToPutEdns options.now)
-        writer.old writer.new message.old message.new) result }
-    ensures whole { result ≡ 0 → IsWholeMessage message.old writer.old → IsWholeMessage message.new writer.new }
-{
-    let ttl = edns_ttl(rcode_high, version, dnssec_ok);
-    let put = put_edns(message, max_payload, ttl, options, writer);
-    report(put, &mut ())
-}
-
-/// Puts a header without items.
-fn begin(message: &mut [u8], id: u16, flags: u16) -> Result<Writer, Failure>
-    ensures { BeginsOr id flags message.old message.new result }
-{
-    let id = id.to_be_bytes();
-    let flags = flags.to_be_bytes();
-    let header = [id[0], id[1], flags[0], flags[1], 0, 0, 0, 0, 0, 0, 0, 0];
-    let len = put(message, &header)?;
-    Ok(Writer {
-        len,
-        section: 0,
-        opt_count: 0,
-    })
-}
-
-/// Appends a question.
-fn put_question(
-    message: &mut [u8],
-    name: &[u8],
-    query_type: u16,
-    class: u16,
-    writer: &mut Writer,
-) -> Result<(), Failure>
-    ensures { PutsOr (PutsQuestion name.now query_type class) (FailsToPutQuestion name.now) writer.old writer.new message.old message.new result }
-{
-    check_form(name)?;
-    append(
-        message,
-        QUESTIONS,
-        name,
-        &question_fields(query_type, class),
-        &[],
-        writer,
-    )?;
-    Ok(())
-}
-
-/// Appends a record to a section of records.
-fn put_record(
-    message: &mut [u8],
-    section: u32,
+    held: usize,
     owner: &[u8],
     record_type: u16,
     class: u16,
     ttl: u32,
     octets: &[u8],
-    writer: &mut Writer,
-) -> Result<(), Failure>
-    ensures { PutsOr (AddsRecord section owner.now record_type class ttl octets.now) (FailsToPutRecord section owner.now record_type octets.now)
-        writer.old writer.new message.old message.new result }
+    writer: &mut WriterState,
+) -> u32
+    ensures { ReturnsNumber (AddsOr (AddsLastRecord held owner.now record_type class ttl octets.now)
+        (FailsToAddLast held owner.now record_type class ttl octets.now) writer.old message.old writer.new message.new) result }
 {
-    if section < ANSWERS || section > ADDITIONALS {
-        return Err(Failure::BadItem);
-    }
-    check_form(owner)?;
-    check_opt(section, owner, record_type, writer)?;
-    append_record(
+    let added = add_last(
         message,
-        section,
+        held,
         owner,
         record_type,
         class,
         ttl,
         octets,
         writer,
-    )?;
-    Ok(())
+    );
+    report(added, &mut ())
 }
 
-/// Appends an `OPT` record, with this number for its time to live.
-fn put_edns(
-    message: &mut [u8],
-    max_payload: u16,
-    ttl: u32,
-    options: &[u8],
-    writer: &mut Writer,
-) -> Result<(), Failure>
-    ensures { PutsOr (PutsEdns max_payload ttl options.now) (FailsToPutEdns options.now) writer.old writer.new message.old message.new result }
+/// Holds back so many more octets of the maximum.
+#[unsafe(no_mangle)]
+pub extern "C" fn dnw_writer_hold(octets: usize, writer: &mut WriterState) -> u32
+    ensures done { result ≡ 0 }
+    ensures held { writer.new ≡ record writer.old { reserved = min (writer.old.reserved + octets) 18446744073709551615 } }
 {
-    if writer.opt_count != 0 {
-        return Err(Failure::DuplicateEdns);
-    }
-    let record_type = u16::from(RecordType::OPT);
-    let class = u16::from(DNSClass::OPT(max_payload));
-    append_record(
-        message,
-        ADDITIONALS,
-        &[0],
-        record_type,
-        class,
-        ttl,
-        options,
-        writer,
-    )?;
-    Ok(())
+    writer.hold_back(octets);
+    0
 }
 
-/// Appends a record whose owner is a wire form.
-fn append_record(
+/// Gives back so many of the octets that are held back, or all if there are fewer.
+#[unsafe(no_mangle)]
+pub extern "C" fn dnw_writer_release(octets: usize, writer: &mut WriterState) -> u32
+    ensures done { result ≡ 0 }
+    ensures given { writer.new ≡ released octets writer.old }
+{
+    writer.give_back(octets);
+    0
+}
+
+/// Begins a message.
+pub(crate) fn begin(
     message: &mut [u8],
-    section: u32,
-    owner: &[u8],
+    max_size: usize,
+    id: u16,
+    flags: u16,
+    writer: &mut WriterState,
+) -> Result<(), Failure>
+    ensures { BeginsOr id flags max_size writer.old message.old writer.new message.new result }
+{
+    match writer.begin(message, id, flags, max_size) {
+        Ok(()) => Ok(()),
+        Err(_) => Err(Failure::NoRoom),
+    }
+}
+
+/// Adds a question.
+fn add_question(
+    message: &mut [u8],
+    form: &[u8],
+    query_type: u16,
+    class: u16,
+    writer: &mut WriterState,
+) -> Result<(), Failure>
+    ensures { AddsOr (AddsQuestionOf form.now query_type class) (FailsToAddQuestion form.now)
+        writer.old message.old writer.new message.new result }
+{
+    let name = labels_of(form)?;
+    match writer.question(message, name, query_type, class) {
+        Ok(()) => Ok(()),
+        Err(error) => Err(of_write(&error)),
+    }
+}
+
+/// Adds a record to a section.
+fn add_record(
+    message: &mut [u8],
+    number: u32,
+    form: &[u8],
     record_type: u16,
     class: u16,
     ttl: u32,
     octets: &[u8],
-    writer: &mut Writer,
+    writer: &mut WriterState,
 ) -> Result<(), Failure>
-    requires section { (1 ≤ section) × (section ≤ 4) }
-    requires few { length owner.now ≤ max_name }
-    ensures { PutsOr (AppendsRecord section owner.now record_type class ttl octets.now) (FailsToAppendRecord section owner.now octets.now)
-        writer.old writer.new message.old message.new result }
+    ensures { AddsOr (AddsRecord number form.now record_type class ttl octets.now)
+        (FailsToAddRecord number form.now record_type class ttl octets.now) writer.old message.old writer.new message.new result }
 {
-    let Ok(len) = u16::try_from(octets.len()) else {
-        return Err(Failure::DataTooLong);
+    let Some(section) = section_of(number) else {
+        return Err(Failure::BadItem);
     };
-    let fields = record_fields(record_type, class, ttl, len);
-    append(message, section, owner, &fields, octets, writer)?;
-    writer.opt_count = opts_after(record_type, writer.opt_count);
-    Ok(())
+    add_given(
+        message,
+        section,
+        form,
+        record_type,
+        class,
+        ttl,
+        octets,
+        writer,
+    )
 }
 
-/// Returns the fields of a question after its name.
-fn question_fields(query_type: u16, class: u16) -> [u8; 4]
-    ensures { result ≡ question_fields query_type class }
+/// Adds a record that is given by its owner's wire form and its data to a section.
+fn add_given(
+    message: &mut [u8],
+    section: Section,
+    form: &[u8],
+    record_type: u16,
+    class: u16,
+    ttl: u32,
+    octets: &[u8],
+    writer: &mut WriterState,
+) -> Result<(), Failure>
+    ensures { AddsOr (AddsGiven section form.now record_type class ttl octets.now)
+        (FailsToAddGiven section form.now record_type class ttl octets.now) writer.old message.old writer.new message.new result }
 {
-    let query_type = query_type.to_be_bytes();
-    let class = class.to_be_bytes();
-    [query_type[0], query_type[1], class[0], class[1]]
+    let (owner, pieces) = given(form, record_type, class, octets)?;
+    let pieces = pieces.as_slice();
+    match writer.record(message, section, owner, record_type, class, ttl, pieces) {
+        Ok(()) => Ok(()),
+        Err(error) => Err(of_write(&error)),
+    }
 }
 
-/// Returns the high bits of the response code, the version and the flags of EDNS as one number.
-fn edns_ttl(rcode_high: u8, version: u8, dnssec_ok: bool) -> u32
-    ensures { result ≡ opt_ttl rcode_high version dnssec_ok }
+/// Adds the last record of a message.
+fn add_last(
+    message: &mut [u8],
+    held: usize,
+    form: &[u8],
+    record_type: u16,
+    class: u16,
+    ttl: u32,
+    octets: &[u8],
+    writer: &mut WriterState,
+) -> Result<(), Failure>
+    ensures { AddsOr (AddsLastRecord held form.now record_type class ttl octets.now)
+        (FailsToAddLast held form.now record_type class ttl octets.now) writer.old message.old writer.new message.new result }
 {
-    (u32::from(rcode_high) << 24) + (u32::from(version) << 16) + (u32::from(dnssec_ok) << 15)
+    let (owner, pieces) = given(form, record_type, class, octets)?;
+    let pieces = pieces.as_slice();
+    match writer.last_record(message, held, owner, record_type, class, ttl, pieces) {
+        Ok(()) => Ok(()),
+        Err(error) => Err(of_write(&error)),
+    }
+}
+
+/// Returns the owner and the pieces of the data of a record.
+fn given<'g>(
+    form: &'g [u8],
+    record_type: u16,
+    class: u16,
+    octets: &'g [u8],
+) -> Result<(WireLabels<'g>, Pieces<'g>), Failure>
+    ensures ok { IfOk result (λ g. IsGiven form.now record_type class octets.now g.0 g.1) }
+    ensures err { IfErr result (IsNotGiven form.now record_type class octets.now) }
+{
+    let owner = labels_of(form)?;
+    match pieces_of(class, record_type, octets) {
+        Some(pieces) => Ok((owner, pieces)),
+        None => Err(Failure::BadData),
+    }
+}
+
+/// Returns the section of records that has this number in C.
+pub(crate) fn section_of(number: u32) -> Option<Section>
+    ensures some { IfSome result (IsSectionNumber number) }
+    ensures none { IfNone result (IsNoNumber number) }
+{
+    match number {
+        2 => Some(Section::Answers),
+        3 => Some(Section::Authorities),
+        4 => Some(Section::Additionals),
+        _ => None,
+    }
+}
+
+/// Returns the failure that stands for why an item is not added.
+pub(crate) fn of_write(error: &WriteError) -> Failure
+    ensures { result ≡ of_write error.now }
+{
+    match error {
+        WriteError::NoMessage => Failure::MessageCut,
+        WriteError::OutOfOrder => Failure::BadItem,
+        WriteError::NoRoom => Failure::MessageTooLong,
+    }
 }

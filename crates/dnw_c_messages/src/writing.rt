@@ -1,319 +1,345 @@
-//! Messages, written item by item.
-ghost use Rattle.std.specs.Prelude.{◌≡◌, ◌≢◌, ◌<◌, ◌≤◌, ℕ, true, false, Ok, length, IfOk, IfErr, OnOk, OnErr};
-ghost use Rattle.dnw_base.specs.Decoder.{advanced};
-ghost use Rattle.dnw_record.specs.AnyRecords.{HasFields};
-ghost use Rattle.dnw_record.specs.Records.{RecordValue, TakesRecord};
-ghost use Rattle.dnw_write.specs.Encoder.{Encoder};
-ghost use Rattle.dnw_write.specs.EncoderValue.{value, lender};
-ghost use Rattle.dnw_c_base.specs.Failures.{NumberOf, number};
-ghost use Rattle.dnw_c_messages.specs.MessageItems.{CopiesOf, EmitsListed, FailsToCopyItem, FailsToCopyOf, FailsToTakeOf, FailsToWriteMessage, HasBlock, HasLittleRoom, IsKind, IsNoKind, IsRecordOfName, ListedItem, PutsMessage, StopsAfter, TakesBlock, TakesListed, WritesWhole, new_encoder};
-ghost use Rattle.dnw_c_messages.specs.declared.writing.Kind.TheVariants.{Bytes, Name, Record, RecordOfName};
-ghost use Rattle.dnw_c_base.specs.declared.failure.Failure.TheVariants.{BadItem, MessageTooLong, NoRoom};
+//! Messages that are written from a list of items.
+ghost use Rattle.std.specs.Prelude.{◌≡◌, ◌≢◌, ◌<◌, ◌≤◌, ◌⊎◌, ℕ, List, length, take, if◌then◌else◌, IfOk, IfErr, OnOk, OnErr};
+ghost use Rattle.dnw_base.specs.Decoder.{Decoder};
+ghost use Rattle.dnw_record.specs.Records.{RecordValue};
+ghost use Rattle.dnw_message_writer.specs.CompressedNames.{put_at};
+ghost use Rattle.dnw_message_writer.specs.Inside.Turns.{KeptCount, count_octets};
+ghost use Rattle.dnw_message_writer.specs.Sections.{offset_of_count, rank};
+ghost use Rattle.dnw_message_writer.specs.Sets.{cut_off};
+ghost use Rattle.dnw_message_writer.specs.States.{AddsItem};
+ghost use Rattle.dnw_message_writer.specs.declared.section.Section.TheVariants as Sections;
+ghost use Rattle.dnw_message_writer.specs.declared.state.WriterState.{WriterState};
+ghost use Rattle.dnw_c_base.specs.Results.{Returns};
+ghost use Rattle.dnw_c_base.specs.declared.failure.Failure.TheVariants.{BadItem};
+ghost use Rattle.dnw_c_messages.specs.ListCalls.{AddsHeldItem, AddsListed, AddsRecords, BeginsWithOctet, FailsToAddLastItem, FailsToAddListed, FailsToAddRecords, FailsToGo, Goes, GoesFrom, IsCutRun, IsNoItem, IsOctetOf, LacksListed, Progress, QuestionPast, TakesListed, TakesQuestion, WritesListOr, last_octet, left_with, progress, progress_at, question_octet};
+ghost use Rattle.dnw_c_messages.specs.WriterCalls.{FailsToAddItem, StaysAsItWas, question_form};
 
+use crate::listed::{
+    LAST, QUESTION, held_for, is_next, octet_at, part, read_question, read_record, section_after,
+    whole_item,
+};
+use crate::packed::{PackedMessage, is_cut};
+use crate::writer::{begin, of_write};
 use dnw_base::decoder::BinDecoder;
-use dnw_c_base::buffer::put;
-use dnw_c_base::failure::{Failure, of_proto};
-use dnw_name::binary::BinDecodable;
-use dnw_name::name_ref::NameRef;
-use dnw_record::checked::CheckedRecord;
+use dnw_base::limits::MAX_NAME;
+use dnw_c_base::failure::Failure;
+use dnw_c_base::results::report;
+use dnw_message_writer::data::pieces_of;
+use dnw_message_writer::hints::SLOTS;
+use dnw_message_writer::section::Section;
+use dnw_message_writer::standing::FIRST_ITEM;
+use dnw_message_writer::state::WriterState;
 use dnw_record::record_ref::RecordRef;
-use dnw_record::wire_record::{WireData, WireRecord};
-use dnw_write::binary::BinEncodable;
-use dnw_write::encoder::{BinEncoder, RDataEncoding};
-use std::alloc::Global;
 
-/// A message that was written: the number of bytes that were put, and the number of items.
-#[repr(C)]
+/// What is left out of a message: how many sections are before that of the last set that had no room, or 0 if each had; and if a
+/// record is missing that the message has to have.
 #[derive(Clone, Copy)]
-pub struct WrittenMessage {
-    pub len: usize,
-    pub count: usize,
+pub(crate) struct LeftOut {
+    closed: u8,
+    missing: bool,
 }
 
-/// The kind of an item, as the octet before it says.
+/// What is known of a message before a set.
 #[derive(Clone, Copy)]
-enum Kind {
-    /// Bytes as they are.
-    Bytes,
-    /// A name.
-    Name,
-    /// A record, whose names are written as the table of fields says.
-    Record,
-    /// A record whose data are a name, which is written in this way.
-    RecordOfName(RDataEncoding),
+struct Before {
+    end: usize,
+    owner: u16,
+    rank: u8,
+    count: [u8; 2],
 }
 
-/// A message of a list, and whether it has all of the items.
-#[derive(Drop)]
-struct Message {
-    bytes: Vec<u8>,
-    count: usize,
-    is_whole: bool,
-}
-
-/// Puts a message of the items of a list, up to the first that would go past the maximum size.
+/// Puts a message of the items of a list. Sets of records that have no room are left out.
 #[unsafe(no_mangle)]
 pub extern "C" fn dnw_message_write(
-    alloc: Global,
     items: &[u8],
-    max_size: u16,
-    is_canonical: bool,
+    max_size: usize,
+    id: u16,
+    flags: u16,
     message: &mut [u8],
-    written: &mut WrittenMessage,
+    written: &mut PackedMessage,
 ) -> u32
-    ensures ok { result ≡ 0 → PutsMessage true items.now (new_encoder max_size is_canonical) message.old message.new written.new }
-    ensures cut { result ≡ number MessageTooLong → PutsMessage false items.now (new_encoder max_size is_canonical) message.old message.new written.new }
-    ensures err { result ≢ 0 → result ≢ number MessageTooLong
-        → NumberOf (FailsToWriteMessage items.now (new_encoder max_size is_canonical) (length message.old)) result }
-    ensures room { result ≡ number NoRoom → HasLittleRoom items.now max_size (length message.old) }
-    ensures same { result ≢ 0 → result ≢ number MessageTooLong → (message.new ≡ message.old) × (written.new ≡ written.old) }
+    ensures { Returns (WritesListOr items.now max_size id flags message.old message.new) written.old written.new result }
 {
-    match write(alloc, items, max_size, is_canonical, message) {
-        Ok((put, is_whole)) => {
-            *written = put;
-            if is_whole {
-                0
-            } else {
-                Failure::MessageTooLong.number()
-            }
-        }
-        Err(failure) => failure.number(),
-    }
+    report(write(items, max_size, id, flags, message), written)
 }
 
-/// Puts a message of the items of a list, and returns whether it has all of them.
+/// Puts a message of the items of a list.
 fn write(
-    alloc: Global,
     items: &[u8],
-    max_size: u16,
-    is_canonical: bool,
+    max_size: usize,
+    id: u16,
+    flags: u16,
     message: &mut [u8],
-) -> Result<(WrittenMessage, bool), Failure>
-    ensures ok { IfOk result (λ r. PutsMessage r.1 items.now (new_encoder max_size is_canonical) message.old message.new r.0) }
-    ensures err { IfErr result (FailsToWriteMessage items.now (new_encoder max_size is_canonical) (length message.old)) }
-    ensures other { IfErr result (λ failure. failure ≢ MessageTooLong) }
-    ensures room { IfErr result (λ failure. failure ≡ NoRoom → HasLittleRoom items.now max_size (length message.old)) }
-    ensures same { OnErr result (message.new ≡ message.old) }
+) -> Result<PackedMessage, Failure>
+    ensures { WritesListOr items.now max_size id flags message.old message.new result }
 {
-    let written = write_all(alloc, items, max_size, is_canonical)?;
-    let len = put(message, written.bytes.as_slice())?;
-    let count = written.count;
-    Ok((WrittenMessage { len, count }, written.is_whole))
-}
-
-/// Returns the message of a list's items.
-fn write_all(
-    alloc: Global,
-    items: &[u8],
-    max_size: u16,
-    is_canonical: bool,
-) -> Result<Message, Failure>
-    ensures ok { IfOk result (λ m. (v : Encoder) × WritesWhole m.is_whole items.now (new_encoder max_size is_canonical) m.count v
-        × (m.bytes.items ≡ v.bytes)) }
-    ensures err { IfErr result (λ failure. (failure ≢ MessageTooLong) × (count : ℕ) × (v : Encoder)
-        × StopsAfter items.now (new_encoder max_size is_canonical) count v failure) }
-{
-    let mut bytes = Vec::new(alloc);
-    let mut encoder = BinEncoder::new(&mut bytes);
-    encoder.set_max_size(max_size);
-    encoder.set_canonical_form(is_canonical);
-    let (count, is_whole) = write_items(alloc, items, &mut encoder)?;
-    drop(encoder);
-    Ok(Message {
-        bytes,
-        count,
-        is_whole,
+    let held = held_for(items)?;
+    if message.len() < FIRST_ITEM {
+        return Err(Failure::NoRoom);
+    }
+    if max_size < FIRST_ITEM {
+        return Err(Failure::MessageTooLong);
+    }
+    let mut writer = WriterState {
+        end: 0,
+        max_size: 0,
+        reserved: 0,
+        owner: 0,
+        rank: 0,
+        hints: [0; SLOTS],
+    };
+    begin(message, max_size, id, flags, &mut writer)?;
+    writer.reserved = held;
+    let missing = write_items(items, message, &mut writer)?;
+    finish(message, missing);
+    let truncated = is_cut(message);
+    Ok(PackedMessage {
+        len: writer.end,
+        truncated,
     })
 }
 
-/// Writes the items of a list up to the first that would go past the maximum size. Returns their number, and whether these
-/// are all.
-fn write_items(
-    alloc: Global,
-    items: &[u8],
-    encoder: &mut BinEncoder<'_>,
-) -> Result<(usize, bool), Failure>
-    requires { (value encoder.old).offset ≡ length (value encoder.old).bytes }
-    ensures ok { IfOk result (λ r. (v : Encoder) × WritesWhole r.1 items.now (value encoder.old) r.0 v
-        × ((value encoder.new).bytes ≡ v.bytes)) }
-    ensures err { IfErr result (λ failure. (failure ≢ MessageTooLong) × (count : ℕ) × (v : Encoder)
-        × StopsAfter items.now (value encoder.old) count v failure) }
-    ensures lender { lender encoder.new ≡ lender encoder.old }
+/// Writes the items of a list. Returns `true` if a record is left out that the message has to have.
+fn write_items(items: &[u8], message: &mut [u8], writer: &mut WriterState) -> Result<bool, Failure>
+    ensures ok { IfOk result (λ missing. (d : Decoder) × (closed : ℕ)
+        × GoesFrom (progress_at items.now writer.old message.old) (progress d writer.new message.new (record { closed = closed; missing = missing }))
+        × (d.index ≡ length items.now)) }
+    ensures err { IfErr result (λ failure. (p : Progress) × GoesFrom (progress_at items.now writer.old message.old) p × FailsToGo p failure) }
 {
     let mut decoder = BinDecoder::new(items);
-    let mut count = 0;
+    let mut left = LeftOut {
+        closed: 0,
+        missing: false,
+    };
     'list: while !decoder.is_empty() {
-        match write_next(alloc, &mut decoder, encoder) {
-            Ok(()) => count += 1,
-            Err(Failure::MessageTooLong) => return Ok((count, false)),
-            Err(failure) => return Err(failure),
+        write_next(&mut decoder, message, writer, &mut left)?;
+    }
+    Ok(left.missing)
+}
+
+/// Writes the next items of a list: a question, the records of a set, or one of the last items.
+fn write_next(
+    decoder: &mut BinDecoder<'_>,
+    message: &mut [u8],
+    writer: &mut WriterState,
+    left: &mut LeftOut,
+) -> Result<(), Failure>
+    requires { decoder.old.index < length decoder.old.bytes }
+    ensures ok { OnOk result (Goes (progress decoder.old writer.old message.old left.old) (progress decoder.new writer.new message.new left.new)) }
+    ensures err { IfErr result (FailsToGo (progress decoder.old writer.old message.old left.old)) }
+{
+    let octet = octet_at(decoder);
+    if octet == QUESTION {
+        return write_question(decoder, message, writer);
+    }
+    if octet == LAST {
+        return write_last(decoder, message, writer);
+    }
+    let Some(section) = section_after(octet) else {
+        return Err(Failure::BadItem);
+    };
+    if section.rank() != left.closed {
+        return write_set(octet, section, decoder, message, writer, left);
+    }
+    read_record(decoder)?;
+    *left = left_with(section, octet, *left);
+    Ok(())
+}
+
+/// Writes a question.
+fn write_question(
+    decoder: &mut BinDecoder<'_>,
+    message: &mut [u8],
+    writer: &mut WriterState,
+) -> Result<(), Failure>
+    requires { BeginsWithOctet decoder.old question_octet }
+    ensures ok { OnOk result ((name : List (List ℕ)) × (query_type : ℕ) × (class : ℕ)
+        × TakesQuestion decoder.old name query_type class decoder.new
+        × AddsItem Sections.Queries (question_form name query_type class) writer.old message.old writer.new message.new) }
+    ensures err { IfErr result (λ failure. (IsNoItem decoder.old × (failure ≡ BadItem))
+        ⊎ ((name : List (List ℕ)) × (query_type : ℕ) × (class : ℕ) × (after : Decoder)
+        × TakesQuestion decoder.old name query_type class after
+        × FailsToAddItem Sections.Queries (QuestionPast name) writer.old message.old failure)) }
+{
+    let question = read_question(decoder)?;
+    let mut room = [0; MAX_NAME];
+    let name = question.name.wire_labels(&mut room);
+    match writer.question(message, name, question.query_type, question.class) {
+        Ok(()) => Ok(()),
+        Err(error) => Err(of_write(&error)),
+    }
+}
+
+/// Writes one of the last items.
+fn write_last(
+    decoder: &mut BinDecoder<'_>,
+    message: &mut [u8],
+    writer: &mut WriterState,
+) -> Result<(), Failure>
+    requires { BeginsWithOctet decoder.old last_octet }
+    ensures ok { OnOk result ((x : RecordValue) × TakesListed decoder.old last_octet x decoder.new
+        × AddsHeldItem x writer.old message.old writer.new message.new) }
+    ensures err { IfErr result (λ failure. (IsNoItem decoder.old × (failure ≡ BadItem))
+        ⊎ ((x : RecordValue) × (after : Decoder) × TakesListed decoder.old last_octet x after
+        × FailsToAddLastItem x writer.old message.old failure)) }
+{
+    let record = read_record(decoder)?;
+    writer.give_back(whole_item(&record));
+    match add_listed(Section::Additionals, &record, message, writer) {
+        Ok(()) => Ok(()),
+        Err(failure) => Err(failure),
+    }
+}
+
+/// Writes the records of a set. If they have no room, those that were written are taken back, and the set is left out.
+fn write_set(
+    octet: u8,
+    section: Section,
+    decoder: &mut BinDecoder<'_>,
+    message: &mut [u8],
+    writer: &mut WriterState,
+    left: &mut LeftOut,
+) -> Result<(), Failure>
+    requires begins { BeginsWithOctet decoder.old octet }
+    requires octet { IsOctetOf octet section }
+    requires open { rank section ≢ left.old.closed }
+    ensures ok { OnOk result (Goes (progress decoder.old writer.old message.old left.old) (progress decoder.new writer.new message.new left.new)) }
+    ensures err { IfErr result (FailsToGo (progress decoder.old writer.old message.old left.old)) }
+{
+    let before = Before {
+        end: writer.end,
+        owner: writer.owner,
+        rank: writer.rank,
+        count: two_at(message, 4 + 2 * usize::from(section.rank())),
+    };
+    match add_records(octet, section, decoder, message, writer) {
+        Ok(()) => Ok(()),
+        Err(Failure::MessageTooLong) => {
+            take_back(section, before, message, writer);
+            *left = left_with(section, octet, *left);
+            Ok(())
+        }
+        Err(failure) => Err(failure),
+    }
+}
+
+/// Adds the records of the set that is next, up to the first that fails.
+fn add_records(
+    octet: u8,
+    section: Section,
+    decoder: &mut BinDecoder<'_>,
+    message: &mut [u8],
+    writer: &mut WriterState,
+) -> Result<(), Failure>
+    requires begins { BeginsWithOctet decoder.old octet }
+    requires record_octet { octet ≢ question_octet }
+    ensures ok { OnOk result (AddsRecords decoder.old octet section writer.old message.old decoder.new writer.new message.new) }
+    ensures err { IfErr result (λ failure.
+        FailsToAddRecords decoder.old octet section writer.old message.old decoder.new writer.new failure
+        ⊎ ((failure ≡ BadItem) × (LacksListed decoder.old ⊎ IsCutRun octet section decoder.old writer.old message.old))) }
+    ensures kept { OnErr result (KeptCount section (take writer.old.end message.old) (take writer.old.end message.new)) }
+    ensures state { OnErr result ((writer.new.max_size ≡ writer.old.max_size) × (writer.new.reserved ≡ writer.old.reserved)) }
+{
+    let start = decoder.index();
+    let first = read_record(decoder)?;
+    let key = part(decoder.message(), start, first.rdata_offset() - 6);
+    let added = add_listed(section, &first, message, writer);
+    if let Err(failure) = added {
+        return Err(failure);
+    }
+    'set: while is_next(decoder, key) {
+        let record = read_record(decoder)?;
+        let added = add_listed(section, &record, message, writer);
+        if let Err(failure) = added {
+            return Err(failure);
         }
     }
-    Ok((count, true))
+    Ok(())
 }
 
-/// Writes the item at the cursor of a list.
-fn write_next(
-    alloc: Global,
-    decoder: &mut BinDecoder<'_>,
-    encoder: &mut BinEncoder<'_>,
+/// Adds a record of a list to a section.
+fn add_listed(
+    section: Section,
+    record: &RecordRef<'_>,
+    message: &mut [u8],
+    writer: &mut WriterState,
 ) -> Result<(), Failure>
-    requires left { decoder.old.index < length decoder.old.bytes }
-    requires ends { (value encoder.old).offset ≡ length (value encoder.old).bytes }
-    ensures ok { OnOk result ((item : ListedItem) × TakesListed decoder.old item decoder.new
-        × EmitsListed item (value encoder.old) (Ok tt) (value encoder.new)) }
-    ensures err { IfErr result (FailsToCopyItem decoder.old (value encoder.old)) }
-    ensures undone { OnErr result ((value encoder.new).bytes ≡ (value encoder.old).bytes) }
-    ensures lender { lender encoder.new ≡ lender encoder.old }
+    ensures ok { OnOk result (AddsListed section record.now writer.old message.old writer.new message.new) }
+    ensures err { IfErr result (FailsToAddListed section record.now writer.old message.old) }
+    ensures same { OnErr result (StaysAsItWas writer.old message.old writer.new message.new) }
 {
-    match read_kind(decoder)? {
-        Kind::Bytes => write_bytes(decoder, encoder),
-        Kind::Name => write_name(decoder, encoder),
-        Kind::Record => write_record(alloc, decoder, encoder),
-        Kind::RecordOfName(encoding) => write_record_of_name(alloc, encoding, decoder, encoder),
-    }
-}
-
-/// Writes bytes that stand after their number.
-fn write_bytes(decoder: &mut BinDecoder<'_>, encoder: &mut BinEncoder<'_>) -> Result<(), Failure>
-    ensures ok { OnOk result (CopiesOf Bytes decoder.old (value encoder.old) decoder.new (value encoder.new)) }
-    ensures err { IfErr result (FailsToCopyOf Bytes decoder.old (value encoder.old)) }
-    ensures undone { OnErr result ((value encoder.new).bytes ≡ (value encoder.old).bytes) }
-    ensures lender { lender encoder.new ≡ lender encoder.old }
-{
-    let bytes = read_block(decoder)?;
-    match encoder.emit_vec(bytes) {
-        Ok(()) => Ok(()),
-        Err(error) => Err(of_proto(&error)),
-    }
-}
-
-/// Writes a name.
-fn write_name(decoder: &mut BinDecoder<'_>, encoder: &mut BinEncoder<'_>) -> Result<(), Failure>
-    ensures ok { OnOk result (CopiesOf Name decoder.old (value encoder.old) decoder.new (value encoder.new)) }
-    ensures err { IfErr result (FailsToCopyOf Name decoder.old (value encoder.old)) }
-    ensures undone { OnErr result ((value encoder.new).bytes ≡ (value encoder.old).bytes) }
-    ensures lender { lender encoder.new ≡ lender encoder.old }
-{
-    let Ok(name) = NameRef::read(decoder) else {
-        return Err(Failure::BadItem);
-    };
-    match name.emit(encoder) {
-        Ok(()) => Ok(()),
-        Err(error) => Err(of_proto(&error)),
-    }
-}
-
-/// Writes a record of the list: its names anew, compressed and in lower case as the table of fields says.
-fn write_record(
-    alloc: Global,
-    decoder: &mut BinDecoder<'_>,
-    encoder: &mut BinEncoder<'_>,
-) -> Result<(), Failure>
-    requires ends { (value encoder.old).offset ≡ length (value encoder.old).bytes }
-    ensures ok { OnOk result (CopiesOf Record decoder.old (value encoder.old) decoder.new (value encoder.new)) }
-    ensures err { IfErr result (FailsToCopyOf Record decoder.old (value encoder.old)) }
-    ensures undone { OnErr result ((value encoder.new).bytes ≡ (value encoder.old).bytes) }
-    ensures lender { lender encoder.new ≡ lender encoder.old }
-{
-    let record = read_checked(alloc, decoder)?;
-    match record.emit(encoder) {
-        Ok(()) => Ok(()),
-        Err(error) => Err(of_proto(&error)),
-    }
-}
-
-/// Writes a record whose data are a name, which is written in a way. It is not inlined, since its names take room that the
-/// other kinds do not need.
-#[inline(never)]
-fn write_record_of_name(
-    alloc: Global,
-    encoding: RDataEncoding,
-    decoder: &mut BinDecoder<'_>,
-    encoder: &mut BinEncoder<'_>,
-) -> Result<(), Failure>
-    requires ends { (value encoder.old).offset ≡ length (value encoder.old).bytes }
-    ensures ok { OnOk result (CopiesOf (RecordOfName encoding) decoder.old (value encoder.old) decoder.new (value encoder.new)) }
-    ensures err { IfErr result (FailsToCopyOf (RecordOfName encoding) decoder.old (value encoder.old)) }
-    ensures undone { OnErr result ((value encoder.new).bytes ≡ (value encoder.old).bytes) }
-    ensures lender { lender encoder.new ≡ lender encoder.old }
-{
-    let record = read_record(alloc, encoding, decoder)?;
-    match record.emit(encoder) {
-        Ok(()) => Ok(()),
-        Err(error) => Err(of_proto(&error)),
-    }
-}
-
-/// Reads the octet for the kind of an item.
-fn read_kind(decoder: &mut BinDecoder<'_>) -> Result<Kind, Failure>
-    requires left { decoder.old.index < length decoder.old.bytes }
-    ensures ok { IfOk result (λ kind. IsKind decoder.old kind × (decoder.new ≡ advanced decoder.old 1)) }
-    ensures err { IfErr result (λ failure. IsNoKind decoder.old × (failure ≡ BadItem)) }
-{
-    match decoder.pop().unwrap().unverified() {
-        0 => Ok(Kind::Bytes),
-        1 => Ok(Kind::Name),
-        2 => Ok(Kind::Record),
-        3 => Ok(Kind::RecordOfName(RDataEncoding::StandardRecord)),
-        4 => Ok(Kind::RecordOfName(RDataEncoding::Canonical)),
-        5 => Ok(Kind::RecordOfName(RDataEncoding::Other)),
-        _ => Err(Failure::BadItem),
-    }
-}
-
-/// Reads bytes after their number.
-fn read_block<'a>(decoder: &mut BinDecoder<'a>) -> Result<&'a [u8], Failure>
-    ensures ok { IfOk result (λ bytes. TakesBlock decoder.old bytes.now decoder.new) }
-    ensures err { IfErr result (λ failure. (¬ (HasBlock decoder.old)) × (failure ≡ BadItem)) }
-{
-    let Ok(len) = decoder.read_u16() else {
-        return Err(Failure::BadItem);
-    };
-    let start = decoder.index();
-    match decoder.skip(len.unverified() as usize) {
-        Ok(()) => Ok(&decoder.message()[start..decoder.index()]),
-        Err(_) => Err(Failure::BadItem),
-    }
-}
-
-/// Reads a record whose data are the fields of its type.
-fn read_checked<'l>(
-    alloc: Global,
-    decoder: &mut BinDecoder<'l>,
-) -> Result<CheckedRecord<'l>, Failure>
-    ensures ok { IfOk result (λ x. TakesRecord decoder.old x decoder.new × HasFields x) }
-    ensures err { IfErr result (FailsToTakeOf Record decoder.old) }
-{
-    let Ok(item) = RecordRef::read(alloc, decoder) else {
-        return Err(Failure::BadItem);
-    };
-    let Ok(record) = CheckedRecord::new(item) else {
+    let mut room = [0; MAX_NAME];
+    let owner = record.owner().wire_labels(&mut room);
+    let record_type = u16::from(record.record_type());
+    let class = u16::from(record.class());
+    let Some(pieces) = pieces_of(class, record_type, record.rdata()) else {
         return Err(Failure::BadData);
     };
-    Ok(record)
+    let pieces = pieces.as_slice();
+    match writer.record(
+        message,
+        section,
+        owner,
+        record_type,
+        class,
+        record.ttl(),
+        pieces,
+    ) {
+        Ok(()) => Ok(()),
+        Err(error) => Err(of_write(&error)),
+    }
 }
 
-/// Reads a record whose data are a name, which is to be written in a way.
-fn read_record(
-    alloc: Global,
-    encoding: RDataEncoding,
-    decoder: &mut BinDecoder<'_>,
-) -> Result<WireRecord, Failure>
-    ensures ok { IfOk result (λ r. (x : RecordValue) × TakesRecord decoder.old x decoder.new × IsRecordOfName encoding x r) }
-    ensures err { IfErr result (FailsToTakeOf (RecordOfName encoding) decoder.old) }
+/// Takes back what was added of a set. The hints stay: each is checked when it is used.
+fn take_back(section: Section, before: Before, message: &mut [u8], writer: &mut WriterState)
+    ensures state { writer.new ≡ record writer.old { end = before.end; owner = before.owner; rank = before.rank } }
+    ensures count { ((12 ≤ before.end) × (12 ≤ length message.old) × (message.new ≡ put_at message.old (offset_of_count section) before.count))
+        ⊎ (((before.end < 12) ⊎ (length message.old < 12)) × (message.new ≡ message.old)) }
 {
-    let Ok(record) = RecordRef::read(alloc, decoder) else {
-        return Err(Failure::BadItem);
-    };
-    match record.data_name(alloc) {
-        Ok(name) => Ok(WireRecord {
-            owner: record.owner().to_name(alloc).unwrap(),
-            record_type: record.record_type(),
-            class: record.class(),
-            ttl: record.ttl(),
-            rdata: WireData::Name { name, encoding },
-        }),
-        Err(_) => Err(Failure::BadItem),
+    writer.end = before.end;
+    writer.owner = before.owner;
+    writer.rank = before.rank;
+    if before.end >= FIRST_ITEM && message.len() >= FIRST_ITEM {
+        let at = 4 + 2 * usize::from(section.rank());
+        message[at..at + 2].copy_from_slice(&before.count);
+    }
+}
+
+/// Returns two octets, or zeros if there are none.
+fn two_at(message: &[u8], at: usize) -> [u8; 2]
+    requires { at ≤ 10 }
+    ensures { 12 ≤ length message.now → result ≡ count_octets message.now at }
+{
+    if message.len() < FIRST_ITEM {
+        return [0, 0];
+    }
+    [message[at], message[at + 1]]
+}
+
+/// Returns what is left out, with the records of a section too.
+fn left_with(section: Section, octet: u8, left: LeftOut) -> LeftOut
+    ensures { result ≡ left_with section octet left }
+{
+    LeftOut {
+        closed: section.rank(),
+        missing: left.missing || octet < 128,
+    }
+}
+
+/// Says in the header if something is missing.
+fn finish(message: &mut [u8], missing: bool)
+    ensures { message.new ≡ (if missing then cut_off message.old else message.old) }
+{
+    if missing {
+        cut_off(message);
+    }
+}
+
+/// Says in the header that something is missing that the message was to have: TC (RFC 2181, section 9).
+fn cut_off(message: &mut [u8])
+    ensures { message.new ≡ cut_off message.old }
+{
+    if message.len() >= FIRST_ITEM && message[2] / 2 % 2 == 0 {
+        message[2] += 2;
     }
 }

@@ -9,10 +9,16 @@ use Rattle.dnw_base.specs.declared.record_type.RecordType.{RecordType}
 use Rattle.dnw_data.specs.Table.{fields_of}
 use Rattle.dnw_zone_data.specs.DataTexts.{FailsText, IsTextOf}
 use Rattle.dnw_base.specs.Limits.{max_data}
-use Rattle.dnw_zone_record.specs.RecordLines.{FailsRecordLine, IsDataOf, IsRecordLine}
+use Rattle.dnw_zone_data.specs.NumberForms.{number_forms}
+use Rattle.dnw_zone_record.specs.RecordEntries.{FailsRecordEntry, IsRecordEntry}
+use Rattle.dnw_zone_record.specs.RecordLines.{IsDataOf}
 use Rattle.dnw_zone_data.specs.declared.error.DataTextError.{DataTextError}
 use Rattle.dnw_zone_data.specs.declared.error.DataTextError.TheVariants.{Memory as DataMemory}
 use Rattle.dnw_zone_record.specs.declared.record_line.RecordLineError.{RecordLineError}
+use Rattle.dnw_zone_record.specs.declared.entry.RecordEntryError.{RecordEntryError}
+use Rattle.dnw_zone_record.specs.declared.entry.RecordEntryError.TheVariants as entries
+use Rattle.dnw_zone_words.specs.declared.error.WordRule.{WordRule}
+use Rattle.dnw_zone_words.specs.declared.error.WordRule.TheVariants.{NestedParenthesis, UnopenedParenthesis, UnclosedParenthesis, UnclosedQuote, UnfinishedEscape}
 use Rattle.dnw_zone_record.specs.declared.record_line.RecordLineError.TheVariants.{NoOwner, NoTimeToLive, NoType, Data, TooLong, Memory}
 use Rattle.dnw_c_base.specs.Results.{Puts, Refuses}
 use Rattle.dnw_c_base.specs.WireForms.{IsFormOf, IsNoForm}
@@ -44,29 +50,44 @@ HasParsedData origin class kind text own = IsUtf8 text × IsDataOf origin class 
 abbrev pub LacksData : Option NameValue → DNSClass → RecordType → List ℕ → Failure → Type 0
 LacksData origin class kind text failure =
     let fields = fields_of (class_code class) (type_code kind) in
+    let ways = number_forms (type_code kind) in
     ((¬ (IsUtf8 text)) × (failure ≡ why.NotUtf8))
-    ⊎ ((error : DataTextError) × IsUtf8 text × FailsText origin fields text error × (failure ≡ of_data error))
-    ⊎ ((own : List ℕ) × IsUtf8 text × IsTextOf origin fields text own × (max_data < length own) × (failure ≡ why.BadData))
+    ⊎ ((error : DataTextError) × IsUtf8 text × FailsText origin ways fields (length text) text error × (failure ≡ of_data error))
+    ⊎ ((own : List ℕ) × IsUtf8 text × IsTextOf origin ways fields text own × (max_data < length own) × (failure ≡ why.BadData))
 
 -- ---- records
 
 abbrev pub of_line : RecordLineError → Failure
 of_line NoOwner = why.BadText
-of_line NoTimeToLive = why.BadTime
-of_line NoType = why.UnknownText
+of_line (NoTimeToLive offset) = why.BadTime
+of_line (NoType offset) = why.UnknownText
 of_line (Data error) = why.BadData
-of_line TooLong = why.BadData
+of_line (TooLong offset) = why.BadData
 of_line Memory = why.NoMemory
 
--- The text is a record of these octets.
+-- the rule that a text is against
+abbrev pub failure_of_rule : WordRule → Failure
+failure_of_rule NestedParenthesis = why.IllegalCharacter
+failure_of_rule UnopenedParenthesis = why.IllegalCharacter
+failure_of_rule UnclosedParenthesis = why.UnclosedList
+failure_of_rule UnclosedQuote = why.UnclosedQuote
+failure_of_rule UnfinishedEscape = why.TextCut
+
+abbrev pub of_entry : RecordEntryError → Failure
+of_entry (entries.Words offset rule) = failure_of_rule rule
+of_entry (entries.MoreEntries offset) = why.BadData
+of_entry (entries.Line error) = of_line error
+of_entry entries.Memory = why.NoMemory
+
+-- The text is a record of these octets, maybe with comments and parentheses.
 abbrev pub HasParsedRecord : Option NameValue → List ℕ → List ℕ → Type 0
-HasParsedRecord origin text own = IsUtf8 text × IsRecordLine origin text own
+HasParsedRecord origin text own = IsUtf8 text × IsRecordEntry origin text own
 
 -- It is none: not UTF-8, or no record.
 abbrev pub LacksParsedRecord : Option NameValue → List ℕ → Failure → Type 0
 LacksParsedRecord origin text failure =
     ((¬ (IsUtf8 text)) × (failure ≡ why.NotUtf8))
-    ⊎ ((error : RecordLineError) × IsUtf8 text × FailsRecordLine origin text error × (failure ≡ of_line error))
+    ⊎ ((error : RecordEntryError) × IsUtf8 text × FailsRecordEntry origin text error × (failure ≡ of_entry error))
 
 -- ---- what is put
 

@@ -3,7 +3,7 @@ ghost use Rattle.std.specs.Prelude.{◌≡◌, IfOk, IfErr};
 ghost use Rattle.dnw_base.specs.DnsClasses.{class_of_code};
 ghost use Rattle.dnw_base.specs.RecordTypes.{type_of_code};
 ghost use Rattle.dnw_c_base.specs.Results.{Returns};
-ghost use Rattle.dnw_c_zone.specs.ParseCalls.{HasParsedData, HasParsedRecord, IsNoOrigin, IsOrigin, LacksData, LacksParsedRecord, PutsData, PutsParsedRecord, of_data, of_line};
+ghost use Rattle.dnw_c_zone.specs.ParseCalls.{HasParsedData, HasParsedRecord, IsNoOrigin, IsOrigin, LacksData, LacksParsedRecord, PutsData, PutsParsedRecord, of_data, of_entry, of_line, failure_of_rule};
 
 use dnw_base::dns_class::DNSClass;
 use dnw_base::limits::MAX_DATA;
@@ -15,7 +15,9 @@ use dnw_c_base::results::report;
 use dnw_name::name::Name;
 use dnw_zone_data::data_text::parse;
 use dnw_zone_data::error::DataTextError;
-use dnw_zone_record::record_line::{RecordLineError, parse_record};
+use dnw_zone_record::entry::{RecordEntryError, parse_entry};
+use dnw_zone_record::record_line::RecordLineError;
+use dnw_zone_words::error::WordRule;
 use std::alloc::Global;
 use std::str;
 
@@ -36,7 +38,7 @@ pub extern "C" fn dnw_data_parse(
     report(put, len)
 }
 
-/// Puts the octets of the record that a line of a master file is. The origin is a wire form, or no octets for none.
+/// Puts the octets of the record that a text of a master file is, with comments and parentheses. The origin is a wire form, or no octets for none.
 #[unsafe(no_mangle)]
 pub extern "C" fn dnw_record_parse(
     alloc: Global,
@@ -121,9 +123,9 @@ fn record_of(alloc: Global, text: &[u8], origin: &Option<Name>) -> Result<Vec<u8
     let Ok(text) = str::from_utf8(text) else {
         return Err(Failure::NotUtf8);
     };
-    match parse_record(alloc, text, origin.as_ref()) {
+    match parse_entry(alloc, text.as_bytes(), origin.as_ref()) {
         Ok(own) => Ok(own),
-        Err(error) => Err(of_line(&error)),
+        Err(error) => Err(of_entry(&error)),
     }
 }
 
@@ -141,15 +143,39 @@ fn of_data(error: &DataTextError) -> Failure
     }
 }
 
+/// Returns the failure that stands for why a text is no record.
+fn of_entry(error: &RecordEntryError) -> Failure
+    ensures { result ≡ of_entry error.now }
+{
+    match error {
+        RecordEntryError::Words { offset: _, rule } => failure_of_rule(*rule),
+        RecordEntryError::MoreEntries { offset: _ } => Failure::BadData,
+        RecordEntryError::Line(error) => of_line(error),
+        RecordEntryError::Memory => Failure::NoMemory,
+    }
+}
+
+/// Returns the failure that stands for a rule that a text is against.
+fn failure_of_rule(rule: WordRule) -> Failure
+    ensures { result ≡ failure_of_rule rule }
+{
+    match rule {
+        WordRule::NestedParenthesis | WordRule::UnopenedParenthesis => Failure::IllegalCharacter,
+        WordRule::UnclosedParenthesis => Failure::UnclosedList,
+        WordRule::UnclosedQuote => Failure::UnclosedQuote,
+        WordRule::UnfinishedEscape => Failure::TextCut,
+    }
+}
+
 /// Returns the failure that stands for why a line is no record.
 fn of_line(error: &RecordLineError) -> Failure
     ensures { result ≡ of_line error.now }
 {
     match error {
         RecordLineError::NoOwner => Failure::BadText,
-        RecordLineError::NoTimeToLive => Failure::BadTime,
-        RecordLineError::NoType => Failure::UnknownText,
-        RecordLineError::Data(_) | RecordLineError::TooLong => Failure::BadData,
+        RecordLineError::NoTimeToLive { offset: _ } => Failure::BadTime,
+        RecordLineError::NoType { offset: _ } => Failure::UnknownText,
+        RecordLineError::Data(_) | RecordLineError::TooLong { offset: _ } => Failure::BadData,
         RecordLineError::Memory => Failure::NoMemory,
     }
 }

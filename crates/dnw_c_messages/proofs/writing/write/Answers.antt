@@ -1,13 +1,16 @@
-use Rattle.std.proofs.Common.{◌∙◌, length}
+-- The items of a list are not all written.
+use Rattle.std.proofs.Common.{inr, refl}
 use Rattle.std.proofs.lemmas.Result.{err_from_is_err_and}
-use Rattle.dnw_c_messages.proofs.MessageSizes.{little_room}
+use Rattle.dnw_c_messages.specs.ListCalls.{Starts, progress_at}
 use Rattle.dnw_c_messages.proofs.writing.write.Goals as goal
 
-pub returns-in_err-len-clause-room : goal.returns-in_err-len-clause-room
-returns-in_err-len-clause-room c =
-    let p = err_from_is_err_and c.from_residual-in_err-len.result c.from_residual-in_err-len.ensures.1 in
-    let (v, whole, same) = c.in_ok-written.ensures.ok in
-    let (_, less, _) = c.in_err-len.ensures in
-    let message = c.in_ok-written.written in
-    rw (p.1, p.2) (λ _. little_room message.is_whole c.args.items.now c.args.max_size c.args.is_canonical message.count v c.as_slice.result.now
-    (length c.args.message.now) whole (c.as_slice.ensures.value ∙ same) less)
+pub returns-in_err-missing : goal.returns-in_err-missing
+returns-in_err-missing c =
+    let w = c.begin.new.writer in
+    let m = c.begin.new.message in
+    let first = progress_at c.args.items.now (record w { reserved = c.in_ok-held.held }) m in
+    let (p, goes, fails) = c.in_err-missing.ensures.err in
+    let starts : Starts c.args.items.now c.args.max_size c.args.id c.args.flags c.args.message.now first =
+    (c.in_ok-held.held, w, m, c.in_ok-held.ensures.ok, c.in_ok-begin.ensures, refl) in
+    let e = err_from_is_err_and c.from_residual-in_err-missing.result c.from_residual-in_err-missing.ensures.1 in
+    rw (e.1, e.2) (inr (inr (inr (first, p, starts, goes, fails))))

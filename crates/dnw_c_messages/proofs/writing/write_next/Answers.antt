@@ -1,18 +1,21 @@
-use Rattle.std.proofs.Common.{inr}
-use Rattle.std.proofs.lemmas.Result.{IfErr-weaker}
-use Rattle.dnw_c_messages.specs.declared.writing.Kind.TheVariants.{Record, RecordOfName}
+-- What is next in a list is written or left out.
+use Rattle.std.proofs.Common.{◌≡◌, rules}
+use Rattle.std.proofs.lemmas.Result.{on_ok_weaker}
+use Rattle.dnw_c_messages.proofs.Runs.{last_goes, passed, question_goes}
 use Rattle.dnw_c_messages.proofs.writing.write_next.Goals as goal
 
-pub returns-in-RecordOfName-clause-err : goal.returns-in-RecordOfName-clause-err
-returns-in-RecordOfName-clause-err c =
-    let (kind, moved) = c.in_ok-read_kind.ensures.ok in
-    let said = rw c.in-RecordOfName.is at kind in
-    let fails = rw moved at c.write_record_of_name.ensures.err in
-    IfErr-weaker c.write_record_of_name.result _ _ (λ _ failed. inr (RecordOfName c.in-RecordOfName.encoding, said, failed)) fails
+pub returns-then-octet-eq-QUESTION-clause-ok : goal.returns-then-octet-eq-QUESTION-clause-ok
+returns-then-octet-eq-QUESTION-clause-ok c =
+    on_ok_weaker c.write_question.result (question_goes c.args.decoder.now c.write_question.new.decoder c.args.writer.now c.write_question.new.writer
+    c.args.message.now c.write_question.new.message c.args.left.now) c.write_question.ensures.ok
 
-pub returns-in-Record-clause-err : goal.returns-in-Record-clause-err
-returns-in-Record-clause-err c =
-    let (kind, moved) = c.in_ok-read_kind.ensures.ok in
-    let said = rw c.in-Record.is at kind in
-    let fails = rw moved at c.write_record.ensures.err in
-    IfErr-weaker c.write_record.result _ _ (λ _ failed. inr (Record, said, failed)) fails
+pub returns-then-octet-eq-LAST-clause-ok : goal.returns-then-octet-eq-LAST-clause-ok
+returns-then-octet-eq-LAST-clause-ok c =
+    on_ok_weaker c.write_last.result (last_goes c.args.decoder.now c.write_last.new.decoder c.args.writer.now c.write_last.new.writer
+    c.args.message.now c.write_last.new.message c.args.left.now) c.write_last.ensures.ok
+
+pub returns-clause-ok : goal.returns-clause-ok
+returns-clause-ok c =
+    let shut : c.rank.result ≡ c.args.left.now.closed = search rules in
+    passed c.octet_at-octet.result c.rank.result c.in-Some.section _ c.args.decoder.now c.read_record.new.decoder c.args.writer.now c.args.message.now c.args.left.now
+    c.left_with.result c.in-Some.ensures.some c.rank.ensures.value shut c.octet_at-octet.ensures c.in_ok-read_record.ensures.ok c.left_with.ensures
