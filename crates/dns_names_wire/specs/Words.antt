@@ -140,6 +140,9 @@ pub use Rattle.dnw_zone_values.specs.Tags.{IsTag, IsTagText}
 pub use Rattle.dnw_zone_values.specs.Strings.{with_octet}
 pub use Rattle.dnw_zone_values.specs.Times.{IsDateText, IsDay, IsMoment, IsTimeText, two_at}
 -- Texts of the data of records.
+pub use Rattle.dnw_zone_data.specs.NumberForms.{IsNumberIn, IsPeriod}
+unfoldable pub use Rattle.dnw_zone_data.specs.NumberForms.{number_forms}
+pub use Rattle.dnw_zone_data.specs.declared.number_form.NumberForm.{NumberForm}
 pub use Rattle.dnw_zone_data.specs.DataTexts.{ArePlain, FailsText, IsDataText, IsPlainData, IsTextOf, stand_in, text_kinds}
 pub use Rattle.dnw_zone_data.specs.Generic.{generic_text, IsGeneric}
 pub use Rattle.dnw_zone_record.specs.RecordLines.{FailsRecordLine, IsRecordLine, line_octets, record_line}
@@ -217,3 +220,26 @@ pub use Rattle.dnw_dnssec.specs.HashedNames.{FailsToHash, MayHash, iterated_hash
 pub use Rattle.dnw_dnssec.specs.Covers.{Nsec3Covers, NsecCovers}
 pub use Rattle.dnw_dnssec.specs.ZoneDigests.{AreZoneOctets, FailsZoneDigest, FirstTooLong, HasShortData, IsZoneDigest, IsZoneHash, IsZoneOrder, IsCanonicalRecord, CanonicalRecord}
 pub use Rattle.dnw_dnssec.specs.ZoneDigests.{is_digested, is_duplicate, is_of_zonemd, place_cmp, zone_cmp, zone_hash, zone_record}
+-- Messages that are written item by item into a buffer, and what is read of them.
+pub use Rattle.dnw_message_writer.specs.Contents.{AddedItems, AddedQuestion, AddedRecord, HoldsItems, KeepsItems, PieceStands, PiecesStand, QuestionFits, ReadsAsQuestion, ReadsAsRecord, RecordFits}
+pub use Rattle.dnw_message_writer.specs.Contents.{cut_flags, fields_before, items_of_section, most_followed, no_items, with_data, with_question, with_records}
+pub use Rattle.dnw_message_writer.specs.ContentLaws.{BegunMessagesAreEmpty, CutMessagesHold, LastRecordsAreAdded, QuestionsAreAdded, RecordsAreAdded, SetsAreAdded, UnchangedMessagesHold}
+pub use Rattle.dnw_message_writer.specs.ReadItems.{AreNameAlone, AreOctetsAlone, DataNamesAreRead, HasItems, HeldItemsAreRead, HeldItemsNeverFail, IsAddedQuestion, IsAddedRecord}
+pub use Rattle.dnw_message_writer.specs.ReadItems.{OctetsAreRead, ReadMessagesHaveItems, counts_of_items, item_count}
+pub use Rattle.dnw_message_writer.specs.SizeLaws.{QuestionsTakeNoMore, RecordsTakeNoMore, whole_pieces, whole_question, whole_record}
+pub use Rattle.dnw_message_writer.specs.CompressedNames.{Compresses, kept_hints, MayPointTo, pointer_octets, put_at, PutsForm, PutsPast, spelled}
+pub use Rattle.dnw_message_writer.specs.ContentLaws.{GivenRecordsAreAdded}
+pub use Rattle.dnw_message_writer.specs.Data.{AreOfData}
+pub use Rattle.dnw_message_writer.specs.Edns.{AddsOpt, FailsToAddOpt, opt_data, opt_size, padding, ttl_of_edns}
+pub use Rattle.dnw_message_writer.specs.Hints.{slot_of}
+pub use Rattle.dnw_message_writer.specs.Items.{fields_of_record, IsNear, IsOwner, IsQuestion, IsRecord, QuestionGoesPast, RecordGoesPast}
+pub use Rattle.dnw_message_writer.specs.Listed.{data_form, FailsListed, FailsToAddData, ListsData}
+pub use Rattle.dnw_message_writer.specs.NameLaws.{CompressedNamesTakeNoMore, KeepsSettled, WrittenNamesAreRead}
+pub use Rattle.dnw_message_writer.specs.Pieces.{ArePieces, GoesPast, IsPiece}
+pub use Rattle.dnw_message_writer.specs.ReadItems.{GivenDataComeBack}
+pub use Rattle.dnw_message_writer.specs.Replies.{AsksOf, BeginsReplyTo, FailsToReply, reply_code, reply_flags}
+pub use Rattle.dnw_message_writer.specs.Sections.{offset_of_count, rank}
+pub use Rattle.dnw_message_writer.specs.Sets.{cut_off, CutsOff, FailsToAddSet}
+pub use Rattle.dnw_message_writer.specs.SizeLaws.{HintsAtLabels, HintsBegin, IsNearNext, NearOwnersTakeTwo, QuestionsAreNear, RecordsAreNear}
+pub use Rattle.dnw_message_writer.specs.States.{added, AddsItem, AddsLastItem, BeginsMessage, FailsToAdd, IsLimit, IsOfMessage, ItemForm, released, room_of}
+pub use Rattle.dnw_message_writer.specs.declared.state.WriterState.{WriterState}

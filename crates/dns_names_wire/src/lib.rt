@@ -64,6 +64,7 @@ pub mod data_text {
     pub use dnw_zone_data::data_text::{data_text, parse};
     pub use dnw_zone_data::error::{DataTextError, Wanted};
     pub use dnw_zone_data::generic::Generic;
+    pub use dnw_zone_record::entry::{RecordEntryError, parse_entry};
     pub use dnw_zone_record::laws;
     pub use dnw_zone_record::record_line::{RecordLineError, parse_record, record_text};
 }
@@ -175,11 +176,15 @@ pub mod message {
 /// Messages written item by item into a buffer of the caller: without an allocation, and with names that are compressed by hints,
 /// each of which is checked by reading.
 pub mod message_writer {
+    pub use dnw_message_writer::data::{Pieces, pieces_of, whole_name};
+    pub use dnw_message_writer::edns::{Edns, MAX_BLOCK};
     pub use dnw_message_writer::hints::SLOTS;
     pub use dnw_message_writer::laws;
+    pub use dnw_message_writer::listed::DataError;
     pub use dnw_message_writer::pieces::Piece;
+    pub use dnw_message_writer::reply::{Asked, ReplyError};
     pub use dnw_message_writer::section::{Section, WriteError};
-    pub use dnw_message_writer::set::Data;
+    pub use dnw_message_writer::set::{Data, cut_off};
     pub use dnw_message_writer::state::WriterState;
 }
 
@@ -288,4 +293,16 @@ pub mod usage {
         ZoneUsage, default, in_addr_arpa, in_addr_arpa_127, in_addr_arpa_169_254, invalid,
         ip6_arpa, ip6_arpa_1, ip6_arpa_fe_8, ip6_arpa_fe_9, ip6_arpa_fe_b, local, localhost, onion,
     };
+}
+
+/// Zone files, entry by entry (RFC 1035, section 5; RFC 2308, section 4), with the place of each error.
+pub mod zone {
+    pub use dnw_zone_file::context::Context;
+    pub use dnw_zone_file::entry::{Entry, Include, ZoneRecord, entry_of};
+    pub use dnw_zone_file::error::{ZoneError, ZoneRule};
+    pub use dnw_zone_file::place::{TextPlace, place_of};
+    pub use dnw_zone_file::step::{Found, Step, take_entry};
+    pub use dnw_zone_words::error::WordRule;
+    pub use dnw_zone_words::laws;
+    pub use dnw_zone_words::scan::{Ending, scan};
 }

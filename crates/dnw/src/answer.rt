@@ -2,6 +2,7 @@
 
 mod messages;
 mod sums;
+mod zones;
 
 use dns_names_wire::data_text::RecordLineError;
 use dns_names_wire::dnssec::DnssecError;
@@ -19,7 +20,7 @@ use thiserror::Error;
 #[derive(Debug, Drop, Error)]
 enum Refusal {
     /// The words ask for nothing that the program does.
-    #[error("usage: dnw message HEX | message - | query NAME TYPE [--edns] | key-tag RECORD | ds RECORD | nsec3 NAME ITERATIONS SALT | zone-digest APEX ALGORITHM -")]
+    #[error("usage: dnw message HEX | message - | query NAME TYPE [--edns] | key-tag RECORD | ds RECORD | nsec3 NAME ITERATIONS SALT | zone-digest APEX ALGORITHM - | zone ORIGIN -")]
     Usage,
     /// Standard input could not be read.
     #[error("refused: standard input: {0}")]
@@ -53,6 +54,9 @@ enum Refusal {
     /// There is no sum.
     #[error("refused: {0}")]
     Sum(DnssecError),
+    /// A zone has entries that are none: the lines that say where and why, and the records of the others.
+    #[error("{0}")]
+    Zone(String),
 }
 
 impl From<NameTextError> for Refusal {
@@ -163,6 +167,11 @@ fn reply<I: Read>(alloc: Global, words: &[String], input: &mut I) -> Result<Stri
             let mut zone = Vec::new(alloc);
             input.read_to_end(&mut zone)?;
             sums::digest(alloc, apex.as_str(), algorithm.as_str(), zone.as_slice())
+        }
+        [command, origin, dash] if command.as_str() == "zone" && dash.as_str() == "-" => {
+            let mut zone = Vec::new(alloc);
+            input.read_to_end(&mut zone)?;
+            zones::listing(alloc, origin.as_str(), zone.as_slice())
         }
         _ => Err(Refusal::Usage),
     }

@@ -6,6 +6,8 @@
 #![tactic(auto)]
 
 #[cfg(test)]
+mod ample;
+#[cfg(test)]
 mod borrowed;
 #[cfg(test)]
 mod callers;
@@ -56,3 +58,5 @@ mod values;
 mod whole_messages;
 #[cfg(test)]
 mod written_messages;
+#[cfg(test)]
+mod zones;

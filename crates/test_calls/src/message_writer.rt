@@ -1,6 +1,9 @@
 //! Messages written into a buffer of the caller. The octets are worked out by hand from RFC 1035, sections 4.1 and 4.1.4.
 
-use dns_names_wire::message_writer::{Data, Piece, SLOTS, Section, WriteError, WriterState};
+use dns_names_wire::message_writer::{
+    Asked, Data, DataError, Edns, Piece, ReplyError, SLOTS, Section, WriteError, WriterState,
+    pieces_of, whole_name,
+};
 use dns_names_wire::name::Name;
 use std::test::Fail;
 
@@ -153,4 +156,90 @@ fn a_set_is_whole_or_left_out(rt: HostRuntime) -> Result<(), Fail> {
     );
     assert!(rt; outcome == Err(WriteError::OutOfOrder));
     Ok(())
+}
+
+/// A query for the address of `a.`, by a sender that accepts 1,232 octets and DNSSEC records.
+const QUERY: &[u8] = b"\xab\xcd\x01\x10\x00\x01\x00\x00\x00\x00\x00\x01\x01a\x00\x00\x01\x00\x01\
+\x00\x00\x29\x04\xd0\x00\x00\x80\x00\x00\x00";
+
+/// The reply, with an address, and padded to 64 octets.
+const REPLY: &[u8] = b"\xab\xcd\x85\x10\x00\x01\x00\x01\x00\x00\x00\x01\x01a\x00\x00\x01\x00\x01\
+\xc0\x0c\x00\x01\x00\x01\x00\x00\x00\x3c\x00\x04\xc0\x00\x02\x01\
+\x00\x00\x29\x04\xd0\x00\x00\x80\x00\x00\x12\x00\x0c\x00\x0e\
+\x00\x00\x00\x00\x00\x00\x00\x00\x00\x00\x00\x00\x00\x00";
+
+#[test]
+fn a_reply_has_the_question_edns_and_padding(rt: HostRuntime) -> Result<(), Fail> {
+    let mut buffer = [7; 100];
+    let mut state = no_message();
+    let asked = Asked {
+        has_edns: true,
+        max_payload: 1232,
+        dnssec_ok: true,
+        rcode: 0,
+    };
+    assert!(rt; state.reply_to(&mut buffer, QUERY, 0x0400, 512) == Ok(asked));
+    assert!(rt; state.end == 19 && state.reserved == 11);
+    let owner = whole_name(b"\x01a\x00").unwrap();
+    let answers = Section::Answers;
+    let address = b"\xc0\x00\x02\x01";
+    let short = state.record_data(&mut buffer, answers, owner.clone(), 1, 1, 60, &address[1..]);
+    assert!(rt; short == Err(DataError::Data) && state.end == 19);
+    let cut = state.set_data(
+        &mut buffer,
+        answers,
+        owner.clone(),
+        1,
+        1,
+        60,
+        b"\x00\x04\xc0",
+    );
+    assert!(rt; cut == Err(DataError::List) && state.end == 19);
+    let list = b"\x00\x04\xc0\x00\x02\x01";
+    let added = state.set_data(&mut buffer, answers, owner, 1, 1, 60, list);
+    assert!(rt; added.is_ok());
+    let edns = Edns {
+        max_payload: 1232,
+        rcode_high: 0,
+        version: 0,
+        dnssec_ok: true,
+        options: b"",
+    };
+    assert!(rt; state.edns(&mut buffer, 11, &edns, 64).is_ok());
+    assert!(rt; state.end == REPLY.len() && &buffer[..state.end] == REPLY);
+    Ok(())
+}
+
+#[test]
+fn what_is_no_request_has_no_reply(rt: HostRuntime) {
+    let mut buffer = [7; 100];
+    let mut state = no_message();
+    let outcome = state.reply_to(&mut buffer, REPLY, 0, 512);
+    assert!(rt; outcome == Err(ReplyError::NoRequest) && buffer == [7; 100]);
+    let outcome = state.reply_to(&mut buffer, &QUERY[..11], 0, 512);
+    assert!(rt; outcome == Err(ReplyError::NoRequest));
+    let refused = Asked {
+        has_edns: false,
+        max_payload: 512,
+        dnssec_ok: false,
+        rcode: 1,
+    };
+    assert!(rt; state.reply_to(&mut buffer, &QUERY[..18], 0x0400, 512) == Ok(refused));
+    assert!(rt; &buffer[..12] == b"\xab\xcd\x85\x11\x00\x00\x00\x00\x00\x00\x00\x00".as_slice());
+    assert!(rt; state.end == 12);
+}
+
+#[test]
+fn names_of_the_first_types_are_pieces(rt: HostRuntime) {
+    let mail = pieces_of(1, 15, b"\x00\x0a\x02mx\x00").unwrap();
+    assert!(rt;
+        matches!(
+            mail.as_slice(),
+            [Piece::Octets(b"\x00\x0a"), Piece::Name(_)]
+        )
+    );
+    let service = pieces_of(1, 33, b"\x00\x01\x00\x02\x00\x03\x02mx\x00").unwrap();
+    assert!(rt; matches!(service.as_slice(), [Piece::Octets(_)]));
+    assert!(rt; pieces_of(1, 15, b"\x00\x0a\xc0\x0c").is_none());
+    assert!(rt; pieces_of(254, 15, b"").unwrap().as_slice().is_empty());
 }

@@ -1,0 +1,106 @@
+//! Zone files: what the entries of a text are, in one window or cut at every octet. What they are, BIND, NSD and dnspython say.
+
+use dns_names_wire::data_text::{RecordEntryError, parse_entry, parse_record};
+use dns_names_wire::name::Name;
+use dns_names_wire::zone::{
+    Context, Ending, Entry, Found, WordRule, ZoneError, ZoneRule, entry_of, place_of, scan,
+    take_entry,
+};
+use std::alloc::Global;
+use std::test::Fail;
+
+/// A zone with what may be left out, comments, parentheses and a blank owner.
+const ZONE: &[u8] =
+    b"$ORIGIN example.\n@ 60 IN SOA ns h 1 2 3 4 5 ; first\n\tNS ns\n\n$TTL 2h\nb TXT ( \"a;b\"\r\n  c ) \n  MX 1 a;b\n";
+
+/// Returns the owner, the time to live and the data of each record, one after the other.
+fn records(alloc: Global, text: &[u8], window: usize) -> Result<Vec<u8>, Fail> {
+    let mut context = Context::new(Name::from_ascii(alloc, "example.")?);
+    let mut line = Vec::new(alloc);
+    let mut octets = Vec::new(alloc);
+    let mut at = 0;
+    let mut end = 0;
+    for _ in 0..1000 {
+        let step = take_entry(
+            alloc,
+            &mut context,
+            &text[at..end],
+            end < text.len(),
+            &mut line,
+        );
+        let used = step.used;
+        match step.found {
+            Ok(Found::Entry(Entry::Record(found))) => {
+                if let Some(owner) = &context.owner {
+                    octets.extend_from_slice(owner.as_bytes())?;
+                }
+                octets.extend_from_slice(&found.ttl.to_be_bytes())?;
+                octets.extend_from_slice(found.wire.as_slice())?;
+            }
+            Ok(Found::Entry(_)) => {}
+            Ok(Found::More) => end = text.len().min(end + window),
+            _ => return Ok(octets),
+        }
+        at += used;
+    }
+    Ok(octets)
+}
+
+#[test]
+fn windows_cut_anywhere_give_the_same_records(rt: HostRuntime) -> Result<(), Fail> {
+    let alloc = rt.alloc();
+    let wanted =
+        b"\x07example\x00\x00\x00\x00\x3c\x02ns\x07example\x00\x01h\x07example\x00\x00\x00\x00\x01\x00\x00\x00\x02\x00\x00\x00\x03\x00\x00\x00\x04\x00\x00\x00\x05\x07example\x00\x00\x00\x00\x3c\x02ns\x07example\x00\x01b\x07example\x00\x00\x00\x1c\x20\x03a;b\x01c\x01b\x07example\x00\x00\x00\x1c\x20\x00\x01\x01a\x07example\x00";
+    for window in &[1, 7, 1000] {
+        let octets = records(alloc, ZONE, *window)?;
+        assert_eq!(rt; octets.as_slice(), wanted.as_slice());
+    }
+    Ok(())
+}
+
+#[test]
+fn a_record_has_comments_and_parentheses(rt: HostRuntime) -> Result<(), Fail> {
+    let alloc = rt.alloc();
+    let octets = parse_entry(alloc, b"a. 60 TXT ( \"v; k\" ; c\n b )\n", None)?;
+    let same = parse_record(alloc, "a. 60 TXT \"v; k\" b", None)?;
+    assert_eq!(rt; octets.as_slice(), same.as_slice());
+    assert!(rt;
+        matches!(
+            parse_entry(alloc, b"a. 60 TXT b\na. 60 TXT c", None),
+            Err(RecordEntryError::MoreEntries { offset: 11 })
+        )
+    );
+    assert!(rt;
+        matches!(
+            parse_entry(alloc, b"a. 60 TXT )", None),
+            Err(RecordEntryError::Words {
+                offset: 10,
+                rule: WordRule::UnopenedParenthesis
+            })
+        )
+    );
+    Ok(())
+}
+
+#[test]
+fn a_fault_has_its_place(rt: HostRuntime) -> Result<(), Fail> {
+    let alloc = rt.alloc();
+    let mut line = Vec::new(alloc);
+    let ending = scan(b"a \"b\nc", &mut line)?;
+    assert!(rt; ending == Ending::Wrong(WordRule::UnclosedQuote));
+    let mut context = Context::new(Name::from_ascii(alloc, "example.")?);
+    let found = entry_of(alloc, &mut context, b"$GENERATE 1-9 a A 1.2.3.$");
+    assert!(rt;
+        matches!(
+            found,
+            Err(ZoneError::Wrong {
+                offset: 0,
+                rule: ZoneRule::Generate
+            })
+        )
+    );
+    let place = place_of(b"ab\ncd\nef", 7);
+    assert_eq!(rt; place.line, 2);
+    assert_eq!(rt; place.column, 1);
+    Ok(())
+}
