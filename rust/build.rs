@@ -1,10 +1,11 @@
 //! Finds the archive `libdns_names_wire.a` and links it.
 //!
-//! It is taken from the folder that the environment variable `DNW_LIB_DIR` names; if that is not set, from `lib` beside
-//! this file, which a packaged crate has. If neither is there, in a checkout of the repository, `tools/c-library`
-//! builds it, which needs the Rattle toolchain (`rt`).
+//! It is taken from the folder that the environment variable `DNW_LIB_DIR` names; if that is not set, from the folder
+//! of the target's processor in `lib` beside this file, which a packaged crate has. If neither is there, in a checkout
+//! of the repository, `tools/c-library` builds it, which needs the Rattle toolchain (`rt`).
 //!
-//! An archive is for one processor, on Linux. For another target the build fails here, and not in the linker.
+//! An archive is for one processor, on Linux with glibc or musl. For another target the build fails here, and not in
+//! the linker.
 use std::env;
 use std::fs;
 use std::path::{Path, PathBuf};
@@ -31,8 +32,16 @@ fn folder() -> Result<PathBuf, String> {
         };
     }
     let here = PathBuf::from(env::var_os("CARGO_MANIFEST_DIR").expect("cargo sets it"));
-    if here.join("lib").join(ARCHIVE).is_file() {
-        return Ok(here.join("lib"));
+    let packed = here.join("lib");
+    if packed.is_dir() {
+        let own = packed.join(target("ARCH"));
+        return match own.join(ARCHIVE).is_file() {
+            true => Ok(own),
+            false => Err(format!(
+                "this crate has no archive for {}: set DNW_LIB_DIR to a folder that has one",
+                target("ARCH")
+            )),
+        };
     }
     build(&here.join("../tools/c-library"))
 }
@@ -43,7 +52,7 @@ fn build(tool: &Path) -> Result<PathBuf, String> {
         return Err(format!("set DNW_LIB_DIR to the folder that has {ARCHIVE}"));
     }
     let out = PathBuf::from(env::var_os("OUT_DIR").expect("cargo sets it"));
-    match Command::new(tool).arg(&out).status() {
+    match Command::new(tool).arg(&out).args(["", &target("ARCH")]).status() {
         Ok(status) if status.success() => Ok(out),
         _ => Err(format!("{} failed: it needs the Rattle toolchain; or set DNW_LIB_DIR", tool.display())),
     }

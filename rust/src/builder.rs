@@ -1,34 +1,42 @@
 //! Messages that are built section by section.
 use crate::codes::{Class, RecordType};
-use crate::door;
-use crate::error::{Error, ErrorKind};
+use crate::door::{self, HEADER_SIZE};
+use crate::error::{Error, ErrorKind, Section};
 use crate::header::{Header, ResponseCode};
-use crate::message::{Edns, Message, COUNTS_SIZE, HEADER_SIZE};
-use crate::name_ref::NameRef;
+use crate::message::{Edns, Message};
+use crate::name_ref::{pass_name, NameRef};
+use crate::octets::{Room, Sink};
 use crate::rdata::RData;
 use crate::record_buf::{put_record, RecordBuf};
+use crate::record_set::RecordSet;
+use crate::writer::Need;
 use alloc::vec::Vec;
 use core::borrow::Borrow;
+use core::fmt;
 
 /// The sections, in the order in which they are written.
-const QUESTIONS: usize = 0;
-const ANSWERS: usize = 1;
-const AUTHORITIES: usize = 2;
-const ADDITIONALS: usize = 3;
+const QUESTIONS: u8 = 0;
+const ANSWERS: u8 = 1;
+const AUTHORITIES: u8 = 2;
+const ADDITIONALS: u8 = 3;
 const SECTIONS: usize = 4;
+
+/// What is joined to the section of an item in the list of `dnw_message_write`: it is last, or optional.
+const LAST: u8 = 0x40;
+const OPTIONAL: u8 = 0x80;
+/// An item is optional if there are answers. The C library does not see this.
+const BESIDE_ANSWERS: u8 = 0x20;
 
 /// The initial capacity, in octets.
 const USUAL_SIZE: usize = 512;
+/// The octets of the longest reply without records: a header and a question.
+const REPLY_SIZE: usize = HEADER_SIZE + door::FORM_SIZE + 4;
 /// The largest message that a reply accepts, in octets. It goes through most networks without fragmentation.
 const USUAL_PAYLOAD: u16 = 1232;
-/// The octets of an OPT record before its options.
-const OPT_SIZE: usize = 11;
-/// The greatest response code that fits in a header.
-const MOST_IN_HEADER: u16 = 15;
-/// The most items of a section, with one left for an OPT record. That many records have more than 65535 octets.
-const MOST_ITEMS: u16 = u16::MAX - 1;
 /// DO, in the high octet of the low half of the TTL of an OPT record.
 const DNSSEC_OK: u8 = 0x80;
+/// The greatest response code that fits in a header.
+const MOST_IN_HEADER: u16 = 15;
 
 /// Builds a message: a query, or a reply to one. Sections may be filled in any order.
 /// [`finish`](MessageBuilder::finish) writes the message: compressed, within a size, with its counts, and with TC if
@@ -63,19 +71,22 @@ const DNSSEC_OK: u8 = 0x80;
 /// );
 /// # Ok::<(), dns_names_wire::Error>(())
 /// ```
-#[derive(Clone, Debug)]
+#[derive(Clone)]
 pub struct MessageBuilder {
     header: Header,
-    /// A placeholder for the header, and then the sections, without compression.
-    octets: Vec<u8>,
-    /// The offset at which each section ends, and the number of its items.
+    /// The list of items that `dnw_message_write` takes, but for those that are last.
+    items: Vec<u8>,
+    /// The offset at which each section ends.
     ends: [usize; SECTIONS],
-    counts: [u16; SECTIONS],
     edns: Option<Opt>,
+    /// The last record.
+    last: Option<RecordBuf>,
+    /// Why there is no such reply.
+    failure: Option<Error>,
 }
 
 /// The EDNS fields.
-#[derive(Clone, Debug)]
+#[derive(Clone)]
 struct Opt {
     max_payload: u16,
     version: u8,
@@ -93,9 +104,8 @@ impl MessageBuilder {
     /// # Ok::<(), dns_names_wire::Error>(())
     /// ```
     pub fn new(header: Header) -> Self {
-        let mut octets = Vec::with_capacity(USUAL_SIZE);
-        octets.resize(HEADER_SIZE, 0);
-        MessageBuilder { header, octets, ends: [HEADER_SIZE; SECTIONS], counts: [0; SECTIONS], edns: None }
+        let items = Vec::with_capacity(USUAL_SIZE);
+        MessageBuilder { header, items, ends: [0; SECTIONS], edns: None, last: None, failure: None }
     }
 
     /// Returns a query for records of a name, of class IN, with RD set.
@@ -115,12 +125,14 @@ impl MessageBuilder {
         query
     }
 
-    /// Returns a reply to a request. It repeats the id, the operation code, RD, CD and the questions of the request
-    /// (RFC 1035, section 4.1.1; RFC 4035, section 3.2.2). It has EDNS if the request has (RFC 6891, section 6.1.1),
-    /// with the same DO (RFC 3225, section 3), version 0, and 1232 octets as the largest message that is accepted.
+    /// Returns a reply to a request, as [`MessageWriter::reply_to`] begins it: with its id, operation code, RD, CD and
+    /// question. It has EDNS if the request has (RFC 6891, section 6.1.1), with the same DO (RFC 3225, section 3),
+    /// version 0, and 1232 octets as the largest message that is accepted.
     ///
-    /// The response code is `NoError`; or `FormErr` if the EDNS of the request is not valid, or `BADVERS` if its
-    /// version is above 0 (RFC 6891, sections 6.1.1 and 6.1.3).
+    /// [`MessageWriter::reply_to`]: crate::MessageWriter::reply_to
+    ///
+    /// The response code is `NoError`; or `BADVERS` or `FormErr` if the request is not one to answer. If the request is
+    /// itself a response, [`finish`](MessageBuilder::finish) fails with `BadItem`.
     ///
     /// ```
     /// use dns_names_wire::{Message, MessageBuilder, Name, RecordType};
@@ -131,33 +143,30 @@ impl MessageBuilder {
     /// # Ok::<(), dns_names_wire::Error>(())
     /// ```
     pub fn reply_to(request: &Message<'_>) -> Self {
-        let asked = request.header();
-        let mut reply = MessageBuilder::new(Header {
-            id: asked.id,
-            is_response: true,
-            op_code: asked.op_code,
-            recursion_desired: asked.recursion_desired,
-            checking_disabled: asked.checking_disabled,
-            ..Header::default()
-        });
-        for question in request.questions() {
-            reply.question(question.name, question.question_type, question.class);
-        }
-        match request.edns() {
-            Ok(None) => (),
-            Ok(Some(edns)) => {
-                let mut own = Edns::new(USUAL_PAYLOAD);
-                own.dnssec_ok = edns.dnssec_ok;
-                reply.edns(&own);
-                if edns.version > 0 {
-                    reply.response_code(ResponseCode::BADVERS);
-                }
-            }
-            Err(_) => {
-                reply.response_code(ResponseCode::FormErr);
-            }
+        let mut reply = MessageBuilder::new(Header::default());
+        if let Err(error) = reply.begin_reply(request) {
+            reply.failure = Some(error);
         }
         reply
+    }
+
+    fn begin_reply(&mut self, request: &Message<'_>) -> Result<(), Error> {
+        let (mut room, mut writer) = ([0; REPLY_SIZE], door::Writer::none());
+        let edns = writer.reply(&mut room, REPLY_SIZE, request.octets(), 0)?;
+        let [i, d, high, low, ..] = room;
+        self.header = Header::of_bits(u16::from_be_bytes([i, d]), u16::from_be_bytes([high, low]));
+        self.header.response_code = edns.response_code.into();
+        // The reply has one question or none, so its name is whole.
+        if writer.len > HEADER_SIZE {
+            self.items.push(QUESTIONS);
+            self.items.extend_from_slice(&room[HEADER_SIZE..writer.len]);
+            self.added(QUESTIONS, 0);
+        }
+        if edns.is_present {
+            let (max_payload, version, dnssec_ok) = (USUAL_PAYLOAD, 0, edns.dnssec_ok);
+            self.edns = Some(Opt { max_payload, version, dnssec_ok, options: Vec::new() });
+        }
+        Ok(())
     }
 
     /// Returns the header. Its counts are not used.
@@ -254,10 +263,11 @@ impl MessageBuilder {
     /// # Ok::<(), dns_names_wire::Error>(())
     /// ```
     pub fn question<'n>(&mut self, name: impl Into<NameRef<'n>>, record_type: RecordType, class: Class) -> &mut Self {
-        let start = self.octets.len();
-        name.into().put(&mut self.octets);
-        self.octets.extend_from_slice(&record_type.code().to_be_bytes());
-        self.octets.extend_from_slice(&class.code().to_be_bytes());
+        let start = self.items.len();
+        self.items.push(QUESTIONS);
+        name.into().put(&mut self.items);
+        self.items.extend_from_slice(&record_type.code().to_be_bytes());
+        self.items.extend_from_slice(&class.code().to_be_bytes());
         self.added(QUESTIONS, start);
         self
     }
@@ -285,7 +295,7 @@ impl MessageBuilder {
         ttl: u32,
         data: impl Into<RData<'d>>,
     ) -> Result<&mut Self, Error> {
-        self.data(ANSWERS, name.into(), ttl, &data.into())
+        self.data(ANSWERS, 0, name.into(), ttl, &data.into())
     }
 
     /// Adds a record of class IN to the Authority section.
@@ -309,7 +319,7 @@ impl MessageBuilder {
         ttl: u32,
         data: impl Into<RData<'d>>,
     ) -> Result<&mut Self, Error> {
-        self.data(AUTHORITIES, name.into(), ttl, &data.into())
+        self.data(AUTHORITIES, BESIDE_ANSWERS, name.into(), ttl, &data.into())
     }
 
     /// Adds a record of class IN to the Additional section.
@@ -332,7 +342,7 @@ impl MessageBuilder {
         ttl: u32,
         data: impl Into<RData<'d>>,
     ) -> Result<&mut Self, Error> {
-        self.data(ADDITIONALS, name.into(), ttl, &data.into())
+        self.data(ADDITIONALS, OPTIONAL, name.into(), ttl, &data.into())
     }
 
     /// Adds records to the Answer section.
@@ -346,7 +356,7 @@ impl MessageBuilder {
     /// # Ok::<(), dns_names_wire::Error>(())
     /// ```
     pub fn answers<R: Borrow<RecordBuf>>(&mut self, records: impl IntoIterator<Item = R>) -> &mut Self {
-        self.records(ANSWERS, records)
+        self.all(ANSWERS, 0, records)
     }
 
     /// Adds records to the Authority section.
@@ -360,7 +370,7 @@ impl MessageBuilder {
     /// # Ok::<(), dns_names_wire::Error>(())
     /// ```
     pub fn authorities<R: Borrow<RecordBuf>>(&mut self, records: impl IntoIterator<Item = R>) -> &mut Self {
-        self.records(AUTHORITIES, records)
+        self.all(AUTHORITIES, BESIDE_ANSWERS, records)
     }
 
     /// Adds records to the Additional section.
@@ -374,19 +384,84 @@ impl MessageBuilder {
     /// # Ok::<(), dns_names_wire::Error>(())
     /// ```
     pub fn additionals<R: Borrow<RecordBuf>>(&mut self, records: impl IntoIterator<Item = R>) -> &mut Self {
-        self.records(ADDITIONALS, records)
+        self.all(ADDITIONALS, OPTIONAL, records)
+    }
+
+    /// Adds records to the Answer, Authority or Additional section, and says whether the message is truncated without
+    /// them. In another section, [`finish`](MessageBuilder::finish) fails with `BadItem`.
+    ///
+    /// A referral needs the addresses of name servers that are below the zone (RFC 9471):
+    ///
+    /// ```
+    /// use dns_names_wire::{Message, MessageBuilder, Name, Need, RecordBuf, RecordType, Section};
+    ///
+    /// let records = ["a. 60 NS ns.a.", "ns.a. 60 A 192.0.2.1"].map(|line| line.parse::<RecordBuf>().unwrap());
+    /// let query = MessageBuilder::query(7, &"b.a.".parse::<Name>()?, RecordType::A).finish(512)?;
+    /// let mut reply = MessageBuilder::reply_to(&Message::read(&query)?);
+    /// reply.authorities(&records[..1]).records(Section::Additionals, Need::Required, &records[1..]);
+    /// assert!(Message::read(&reply.finish(40)?)?.header().truncation);
+    /// # Ok::<(), dns_names_wire::Error>(())
+    /// ```
+    pub fn records<R: Borrow<RecordBuf>>(
+        &mut self,
+        section: Section,
+        need: Need,
+        records: impl IntoIterator<Item = R>,
+    ) -> &mut Self {
+        match Self::place(section, need) {
+            Ok((section, need)) => self.all(section, need, records),
+            Err(error) => {
+                self.failure = Some(error);
+                self
+            }
+        }
+    }
+
+    /// As [`records`](MessageBuilder::records), with the records of a set.
+    ///
+    /// ```
+    /// use dns_names_wire::{Header, Message, MessageBuilder, Need, RecordBuf, RecordSet, Section};
+    ///
+    /// let records = ["a. 60 A 192.0.2.1", "a. 60 A 192.0.2.2"].map(|line| line.parse::<RecordBuf>().unwrap());
+    /// let sets = RecordSet::group(&records)?;
+    /// let octets = MessageBuilder::new(Header::default()).set(Section::Answers, Need::Required, &sets[0]).finish(512)?;
+    /// assert_eq!(Message::read(&octets)?.answers().len(), 2);
+    /// # Ok::<(), dns_names_wire::Error>(())
+    /// ```
+    pub fn set(&mut self, section: Section, need: Need, set: &RecordSet) -> &mut Self {
+        self.records(section, need, set.records())
+    }
+
+    /// Adds a record after all others, in place of the one that was set before: TSIG (RFC 8945, section 5.1) or SIG(0).
+    /// It is never left out.
+    ///
+    /// ```
+    /// use dns_names_wire::{Edns, Header, Message, MessageBuilder, RecordBuf};
+    ///
+    /// let record: RecordBuf = "a. 0 ANY TSIG \\# 19 00 00005F0F9043 012C 0002 491B DCC6 0000 0000".parse()?;
+    /// let octets = MessageBuilder::new(Header::default()).last(&record).edns(&Edns::new(1232)).finish(512)?;
+    /// assert_eq!(Message::read(&octets)?.additionals().last(), Some(record.as_record()));
+    /// # Ok::<(), dns_names_wire::Error>(())
+    /// ```
+    pub fn last(&mut self, record: &RecordBuf) -> &mut Self {
+        self.last = Some(record.clone());
+        self
     }
 
     /// Returns the message in at most `max_size` octets: 512 over UDP without EDNS, what the requester accepts with
-    /// EDNS, and 65535 over TCP. Questions and records that do not fit are left out. TC is set if a record of the
-    /// Answer or Authority section is left out (RFC 2181, section 9). The OPT record is never left out.
+    /// EDNS, and 65535 over TCP.
+    ///
+    /// Successive records of a section with the same owner, type and class are a set, which is written whole or left out
+    /// (RFC 2181, section 5). If a set does not fit, it and the later ones of its section are left out. TC is set if one
+    /// of them is required (RFC 2181, section 9): answers are, and authorities if there are no answers, but additional
+    /// records are not; [`records`](MessageBuilder::records) says otherwise. The questions, the OPT record and the last
+    /// record are never left out.
     ///
     /// # Errors
     ///
-    /// `MessageTooLong` if the header and the OPT record have more than `max_size` octets; `OutsideAdditionals` if an
-    /// OPT record was added to the Answer or Authority section; `DuplicateEdns` if there are two OPT records; the
-    /// errors of [`Record::fields`](crate::Record::fields) if a record was made from octets that are not data of its
-    /// type; or `NoMemory`.
+    /// `NoRoom` if `max_size` is less than 12; `MessageTooLong` if there is no room for a question, the OPT record or the
+    /// last record; `BadData` if the data of a record are not those of its type; or `BadItem` if this is a reply to a
+    /// response, or if records were added to no section of records.
     ///
     /// ```
     /// use dns_names_wire::{ErrorKind, Message, MessageBuilder, Name, RecordType, Texts, RData};
@@ -398,7 +473,7 @@ impl MessageBuilder {
     /// let (cut, whole) = (message.finish(512)?, message.finish(65535)?);
     /// assert!(Message::read(&cut)?.header().truncation && !Message::read(&whole)?.header().truncation);
     /// assert_eq!((cut.len(), whole.len()), (19, 19 + 2 + 10 + 512));
-    /// assert_eq!(message.finish(11).unwrap_err().kind(), ErrorKind::MessageTooLong);
+    /// assert_eq!(message.finish(18).unwrap_err().kind(), ErrorKind::MessageTooLong);
     /// # Ok::<(), dns_names_wire::Error>(())
     /// ```
     pub fn finish(&self, max_size: u16) -> Result<Vec<u8>, Error> {
@@ -423,55 +498,107 @@ impl MessageBuilder {
     /// # Ok::<(), dns_names_wire::Error>(())
     /// ```
     pub fn finish_into(&self, max_size: u16, message: &mut Vec<u8>) -> Result<bool, Error> {
-        door::pack(&self.to_plain()?, max_size, message)
+        if let Some(error) = self.failure {
+            return Err(error);
+        }
+        door::write_list(self.list()?.as_slice(), max_size, (self.header.id, self.header.flag_bits()), message)
     }
 
-    /// Returns the message without compression, of any size.
-    fn to_plain(&self) -> Result<Vec<u8>, Error> {
+    /// Returns the whole list of items.
+    fn list(&self) -> Result<Room, Error> {
         let (code, usual) = (u16::from(self.header.response_code), Opt::of(&Edns::new(USUAL_PAYLOAD)));
-        let said = self.edns.as_ref().or_else(|| (code > MOST_IN_HEADER).then_some(&usual));
-        let mut plain = Vec::with_capacity(self.octets.len() + OPT_SIZE + said.map_or(0, |edns| edns.options.len()));
-        plain.extend_from_slice(&self.octets);
-        if let Some(edns) = said {
-            edns.put(code, &mut plain)?;
+        let mut list = Room::new();
+        list.extend_from_slice(&self.items);
+        self.mark_authorities(list.as_mut_slice());
+        if let Some(edns) = self.edns.as_ref().or_else(|| (code > MOST_IN_HEADER).then_some(&usual)) {
+            list.extend_from_slice(&[ADDITIONALS | LAST]);
+            edns.put(code, &mut list)?;
         }
-        let [questions, answers, authorities, additionals] = self.counts;
-        let counts = [questions, answers, authorities, additionals + u16::from(said.is_some())];
-        plain[..HEADER_SIZE - COUNTS_SIZE].copy_from_slice(&self.header.first_octets());
-        for (room, count) in plain[HEADER_SIZE - COUNTS_SIZE..HEADER_SIZE].chunks_exact_mut(2).zip(counts) {
-            room.copy_from_slice(&count.to_be_bytes());
+        if let Some(record) = &self.last {
+            list.extend_from_slice(&[ADDITIONALS | LAST]);
+            list.extend_from_slice(record.as_wire());
         }
-        Ok(plain)
+        Ok(list)
     }
 
-    fn data(&mut self, section: usize, name: NameRef<'_>, ttl: u32, data: &RData<'_>) -> Result<&mut Self, Error> {
-        let start = self.octets.len();
-        put_record(&mut self.octets, name, (data.record_type(), Class::IN, ttl), |octets| data.put(octets))?;
-        self.added(section, start);
+    /// Marks the authorities that are optional beside answers.
+    fn mark_authorities(&self, list: &mut [u8]) {
+        let [questions, answers, authorities, _] = self.ends;
+        let need = if answers > questions { OPTIONAL } else { 0 };
+        let mut at = answers;
+        while at < authorities {
+            if list[at] & BESIDE_ANSWERS != 0 {
+                list[at] = AUTHORITIES | need;
+            }
+            at = pass_record(list, at + 1).unwrap_or(authorities);
+        }
+    }
+
+    /// Returns the number of a section of records, and what is joined to it.
+    fn place(section: Section, need: Need) -> Result<(u8, u8), Error> {
+        let need = if need == Need::Optional { OPTIONAL } else { 0 };
+        match section {
+            Section::Answers => Ok((ANSWERS, need)),
+            Section::Authorities => Ok((AUTHORITIES, need)),
+            Section::Additionals => Ok((ADDITIONALS, need)),
+            _ => Err(ErrorKind::BadItem.into()),
+        }
+    }
+
+    fn data(
+        &mut self,
+        section: u8,
+        need: u8,
+        name: NameRef<'_>,
+        ttl: u32,
+        data: &RData<'_>,
+    ) -> Result<&mut Self, Error> {
+        let start = self.items.len();
+        self.items.push(section | need);
+        match put_record(&mut self.items, name, (data.record_type(), Class::IN, ttl), |octets| data.put(octets)) {
+            Ok(_) => self.added(section, start),
+            Err(error) => {
+                self.items.truncate(start);
+                return Err(error);
+            }
+        }
         Ok(self)
     }
 
-    fn records<R: Borrow<RecordBuf>>(&mut self, section: usize, records: impl IntoIterator<Item = R>) -> &mut Self {
+    fn all<R: Borrow<RecordBuf>>(&mut self, section: u8, need: u8, records: impl IntoIterator<Item = R>) -> &mut Self {
         for record in records {
-            let start = self.octets.len();
-            self.octets.extend_from_slice(record.borrow().as_wire());
+            let start = self.items.len();
+            self.items.push(section | need);
+            self.items.extend_from_slice(record.borrow().as_wire());
             self.added(section, start);
         }
         self
     }
 
-    /// Moves what was added at the end to the end of its section. If the section is full, the item is left out: it fits
-    /// in no message.
-    fn added(&mut self, section: usize, start: usize) {
-        let added = self.octets.len() - start;
-        if self.counts[section] == MOST_ITEMS {
-            self.octets.truncate(start);
-            return;
-        }
-        self.octets[self.ends[section]..].rotate_right(added);
+    /// Moves what was added at the end to the end of its section.
+    fn added(&mut self, section: u8, start: usize) {
+        let (section, added) = (usize::from(section), self.items.len() - start);
+        self.items[self.ends[section]..].rotate_right(added);
         self.ends[section..].iter_mut().for_each(|end| *end += added);
-        self.counts[section] += 1;
     }
+}
+
+/// Shows the message that is written in as many octets as it takes, or why it cannot be.
+impl fmt::Debug for MessageBuilder {
+    fn fmt(&self, f: &mut fmt::Formatter<'_>) -> fmt::Result {
+        let mut tuple = f.debug_tuple("MessageBuilder");
+        match self.finish(u16::MAX) {
+            Ok(octets) => tuple.field(&Message::read(&octets)).finish(),
+            Err(error) => tuple.field(&error).finish(),
+        }
+    }
+}
+
+/// Returns the offset after a record without compression.
+fn pass_record(list: &[u8], start: usize) -> Option<usize> {
+    let (fixed, _) = pass_name(list, start)?;
+    let len = list.get(fixed + 8..fixed + 10)?;
+    Some(fixed + 10 + usize::from(u16::from_be_bytes([len[0], len[1]])))
 }
 
 impl Opt {
@@ -480,21 +607,19 @@ impl Opt {
             max_payload: edns.max_payload,
             version: edns.version,
             dnssec_ok: edns.dnssec_ok,
-            options: edns.options().0.to_vec(),
+            options: edns.options.to_vec(),
         }
     }
 
-    /// Appends an OPT record (RFC 6891, section 6.1.2) with the high bits of a response code. Options that are too long
-    /// for a record are too long for any message.
-    fn put(&self, code: u16, octets: &mut Vec<u8>) -> Result<(), Error> {
+    /// Appends an OPT record, as the list has it: the class is the size, and the TTL has the high bits of a response code,
+    /// the version and DO. Options that are too long for a record are too long for any message.
+    fn put(&self, code: u16, list: &mut Room) -> Result<(), Error> {
         let len = u16::try_from(self.options.len()).map_err(|_| ErrorKind::MessageTooLong)?;
-        let [type_high, type_low] = RecordType::OPT.code().to_be_bytes();
-        let [size_high, size_low] = self.max_payload.to_be_bytes();
+        let ([t, u], [c, d], [n, m]) =
+            (RecordType::OPT.code().to_be_bytes(), self.max_payload.to_be_bytes(), len.to_be_bytes());
         let flags = if self.dnssec_ok { DNSSEC_OK } else { 0 };
-        let high = (code >> 4) as u8;
-        octets.extend_from_slice(&[0, type_high, type_low, size_high, size_low, high, self.version, flags, 0]);
-        octets.extend_from_slice(&len.to_be_bytes());
-        octets.extend_from_slice(&self.options);
+        list.extend_from_slice(&[0, t, u, c, d, (code >> 4) as u8, self.version, flags, 0, n, m]);
+        list.extend_from_slice(&self.options);
         Ok(())
     }
 }

@@ -10,8 +10,9 @@ use core::fmt;
 /// let error = Name::read(b"\0\0\0\xC0\x05", 3).unwrap_err();
 /// assert_eq!((error.kind(), error.offset()), (ErrorKind::PointerNotBack, Some(3)));
 /// assert_eq!(error.to_string(), "at offset 3: a compression pointer does not point back");
+/// assert_eq!(format!("{error:?}"), format!("Error(PointerNotBack: {error})"));
 /// ```
-#[derive(Clone, Copy, Debug, PartialEq, Eq, Hash)]
+#[derive(Clone, Copy, PartialEq, Eq, Hash)]
 pub struct Error {
     kind: ErrorKind,
     place: Option<Place>,
@@ -22,7 +23,6 @@ pub struct Error {
 enum Place {
     Offset(usize),
     Text(TextFault),
-    Part(usize),
     Item(Section, u16, usize),
 }
 
@@ -41,11 +41,6 @@ impl Error {
     /// Returns the same error at the fault of the text.
     pub(crate) fn at_fault(self, fault: TextFault) -> Self {
         Error { place: Some(Place::Text(fault)), ..self }
-    }
-
-    /// Returns the same error at a part of the message that is written.
-    pub(crate) fn at_part(self, part: usize) -> Self {
-        Error { place: Some(Place::Part(part)), ..self }
     }
 
     /// Returns the same error at an item of a message.
@@ -84,7 +79,6 @@ impl Error {
             Place::Offset(offset) => Some(offset),
             Place::Text(fault) => Some(fault.offset),
             Place::Item(_, _, offset) => Some(offset),
-            Place::Part(_) => None,
         }
     }
 
@@ -97,22 +91,6 @@ impl Error {
     pub fn rule(self) -> Option<TextRule> {
         match self.place? {
             Place::Text(fault) => Some(fault.rule),
-            _ => None,
-        }
-    }
-
-    /// Returns the index of the part that does not fit, if a message that is written is too long (`MessageTooLong`).
-    ///
-    /// ```
-    /// use dns_names_wire::MessageWriter;
-    ///
-    /// let error = MessageWriter::with_max_size(3).bytes(b"12").bytes(b"34").finish().unwrap_err();
-    /// assert_eq!(error.part(), Some(1));
-    /// assert_eq!(error.to_string(), "at part 1: the message would be longer than its maximum");
-    /// ```
-    pub fn part(self) -> Option<usize> {
-        match self.place? {
-            Place::Part(part) => Some(part),
             _ => None,
         }
     }
@@ -168,6 +146,8 @@ impl Error {
 pub enum ErrorKind {
     /// The C library is out of memory.
     NoMemory,
+    /// A buffer of the caller is too short.
+    NoRoom,
     /// The message ends within the name, or before it.
     MessageCut,
     /// A compression pointer does not point backwards, to before the segment that it ends. A segment is a run of labels
@@ -213,6 +193,9 @@ pub enum ErrorKind {
     WrongDataLength,
     /// A name that is not the reverse name of an address or a net.
     NotReverse,
+    /// An item that may not be there: in a message after one of a later section or after the last one, or in a set of
+    /// records one with another owner, type or class.
+    BadItem,
     /// The names of a message follow more compression pointers than the caller allows.
     TooManyPointers,
     /// A message with more than one OPT record.
@@ -248,8 +231,9 @@ pub enum ErrorKind {
 }
 
 /// The errors of the C library that have a name in this crate, each with its number in `dns_names_wire.h`.
-const NUMBERS: [(u32, ErrorKind); 38] = [
+const NUMBERS: [(u32, ErrorKind); 40] = [
     (1, ErrorKind::NoMemory),
+    (2, ErrorKind::NoRoom),
     (3, ErrorKind::MessageCut),
     (4, ErrorKind::PointerNotBack),
     (5, ErrorKind::ReservedOctet),
@@ -270,6 +254,7 @@ const NUMBERS: [(u32, ErrorKind); 38] = [
     (23, ErrorKind::UnknownEntry),
     (24, ErrorKind::WrongDataLength),
     (26, ErrorKind::NotReverse),
+    (27, ErrorKind::BadItem),
     (28, ErrorKind::EmptyLabel),
     (29, ErrorKind::BadEscape),
     (30, ErrorKind::TooManyPointers),
@@ -419,12 +404,18 @@ impl fmt::Display for Error {
         match self.place {
             Some(Place::Offset(offset)) => write!(f, "at offset {offset}: {}", self.kind),
             Some(Place::Text(fault)) => fmt::Display::fmt(&fault, f),
-            Some(Place::Part(part)) => write!(f, "at part {part}: {}", self.kind),
             Some(Place::Item(section, item, offset)) => {
                 write!(f, "{section} {item}, at offset {offset}: {}", self.kind)
             }
             None => fmt::Display::fmt(&self.kind, f),
         }
+    }
+}
+
+/// Prints the kind and the sentence, since a `main` that fails prints its error so.
+impl fmt::Debug for Error {
+    fn fmt(&self, f: &mut fmt::Formatter<'_>) -> fmt::Result {
+        write!(f, "Error({:?}: {self})", self.kind)
     }
 }
 
@@ -446,9 +437,13 @@ impl fmt::Display for TextRule {
     }
 }
 
-/// It has no source, since the C library reports only the kind.
+/// It has no source: [`kind`](Error::kind) and [`offset`](Error::offset) are all that is known. Without the feature `std`, it
+/// is `core::error::Error`.
 #[cfg(feature = "std")]
 impl std::error::Error for Error {}
+
+#[cfg(not(feature = "std"))]
+impl core::error::Error for Error {}
 
 /// Returns an error of kind `InvalidData`, or `OutOfMemory` for `NoMemory`, with this error inside.
 ///

@@ -3,13 +3,15 @@ use crate::codes::{Class, RecordType};
 use crate::door;
 use crate::error::{Error, ErrorKind};
 use crate::name_ref::NameRef;
+use crate::octets::{Octets, Sink};
 use crate::type_set::TypeSet;
 use crate::{Ipv4Addr, Ipv6Addr};
 use alloc::vec::Vec;
+use core::fmt;
 use core::iter::FusedIterator;
 
 /// A field of the data of a record. All but `Types` borrow from the message.
-#[derive(Clone, Debug, PartialEq, Eq)]
+#[derive(Clone, PartialEq, Eq)]
 #[non_exhaustive]
 pub enum Field<'a> {
     /// A name.
@@ -49,6 +51,38 @@ pub enum Field<'a> {
     Names(WholeNames<'a>),
     /// The length of a prefix, and the octets of an IPv6 address with the other bits (RFC 2874, section 3.1.1).
     AddressSuffix(&'a [u8]),
+}
+
+impl fmt::Debug for Field<'_> {
+    fn fmt(&self, f: &mut fmt::Formatter<'_>) -> fmt::Result {
+        let shown = match self {
+            Field::Text(octets) | Field::Octets(octets) | Field::Location(octets) | Field::Gateway(octets) => octets,
+            Field::Relay(octets) | Field::HostIdentity(octets) | Field::AddressSuffix(octets) => octets,
+            _ => &[][..],
+        };
+        let shown = Octets(shown);
+        let (name, value): (&str, &dyn fmt::Debug) = match self {
+            Field::Name(name) => ("Name", name),
+            Field::Number(number) => ("Number", number),
+            Field::Ipv4(address) => ("Ipv4", address),
+            Field::Ipv6(address) => ("Ipv6", address),
+            Field::Type(record_type) => ("Type", record_type),
+            Field::Time(time) => ("Time", time),
+            Field::Text(_) => ("Text", &shown),
+            Field::Octets(_) => ("Octets", &shown),
+            Field::Texts(texts) => ("Texts", texts),
+            Field::Types(types) => ("Types", types),
+            Field::Params(pairs) => ("Params", pairs),
+            Field::Location(_) => ("Location", &shown),
+            Field::Gateway(_) => ("Gateway", &shown),
+            Field::Relay(_) => ("Relay", &shown),
+            Field::HostIdentity(_) => ("HostIdentity", &shown),
+            Field::Prefixes(prefixes) => ("Prefixes", prefixes),
+            Field::Names(names) => ("Names", names),
+            Field::AddressSuffix(_) => ("AddressSuffix", &shown),
+        };
+        f.debug_tuple(name).field(value).finish()
+    }
 }
 
 /// An iterator over the fields of the data of a record. See [`Record::fields`](crate::Record::fields).
@@ -104,7 +138,7 @@ impl<'a> Fields<'a> {
             14 => Field::Relay(octets),
             15 => Field::HostIdentity(octets),
             16 => Field::Prefixes(Prefixes(octets)),
-            17 => Field::Names(WholeNames { octets, offset: 0 }),
+            17 => Field::Names(WholeNames::checked(octets)),
             18 => Field::AddressSuffix(octets),
             _ => Field::Octets(octets),
         }))
@@ -113,25 +147,6 @@ impl<'a> Fields<'a> {
 
 /// Reads one field after another, each of the kind that the type has there. See [`RData`](crate::RData).
 impl<'a> Fields<'a> {
-    /// Appends the octets of the data, with each name in its wire form.
-    pub(crate) fn put_whole(mut self, octets: &mut Vec<u8>) -> Result<(), Error> {
-        let mut copied = self.start;
-        loop {
-            let field = door::next_field(self.message, self.start, self.form, &mut self.next)?;
-            match field.kind {
-                0 => break,
-                1 => {
-                    octets.extend_from_slice(&self.message[copied..field.offset]);
-                    NameRef::checked(self.message, field.offset, field.offset + field.len).put(octets);
-                    copied = self.next.offset;
-                }
-                _ => {}
-            }
-        }
-        octets.extend_from_slice(&self.message[copied..]);
-        Ok(())
-    }
-
     /// Reads the next field, and returns where it is.
     #[inline]
     fn place(&mut self) -> Result<door::Field, Error> {
@@ -248,7 +263,17 @@ impl<'a> Fields<'a> {
     }
 
     pub(crate) fn whole_names(&mut self) -> Result<WholeNames<'a>, Error> {
-        self.octets().map(|octets| WholeNames { octets, offset: 0 })
+        self.octets().map(WholeNames::checked)
+    }
+
+    /// Returns whether the first field is the one that the type has in class IN: the data are not left out, and the type
+    /// is not only IN's, or the class is one of updates (RFC 2136, sections 2.4 and 2.5).
+    pub(crate) fn are_as_in(&self) -> bool {
+        let first = |class: Class| {
+            let field = door::next_field(self.message, self.start, (class.code(), self.form.1), &mut self.next.clone());
+            field.map(|field| field.kind).map_err(Error::kind)
+        };
+        first(Class::from(self.form.0)) == first(Class::IN)
     }
 
     /// Returns the octets that are left.
@@ -270,104 +295,105 @@ impl<'a> Fields<'a> {
 /// Appends a field, in the form that [`Fields`] reads.
 pub(crate) mod put {
     use super::{
-        Error, ErrorKind, Ipv4Addr, Ipv6Addr, NameRef, Pairs, Prefixes, RecordType, Texts, TypeSet, Vec, WholeNames,
+        Error, ErrorKind, Ipv4Addr, Ipv6Addr, NameRef, Pairs, Prefixes, RecordType, Sink, Texts, TypeSet, WholeNames,
     };
 
     type Put = Result<(), Error>;
 
     /// Appends octets, which the C library checks when the message is packed.
-    pub(crate) fn rest(octets: &mut Vec<u8>, value: &[u8]) -> Put {
+    pub(crate) fn rest(octets: &mut impl Sink, value: &[u8]) -> Put {
         octets.extend_from_slice(value);
         Ok(())
     }
 
     /// Appends a length octet and octets.
-    pub(crate) fn string(octets: &mut Vec<u8>, value: &[u8]) -> Put {
-        octets.push(u8::try_from(value.len()).map_err(|_| Error::from(ErrorKind::DataTooLong))?);
+    pub(crate) fn string(octets: &mut impl Sink, value: &[u8]) -> Put {
+        let len = u8::try_from(value.len()).map_err(|_| Error::from(ErrorKind::DataTooLong))?;
+        u8(octets, &len)?;
         rest(octets, value)
     }
 
-    pub(crate) fn counted(octets: &mut Vec<u8>, value: &[u8]) -> Put {
+    pub(crate) fn counted(octets: &mut impl Sink, value: &[u8]) -> Put {
         string(octets, value)
     }
 
-    pub(crate) fn name(octets: &mut Vec<u8>, value: &NameRef<'_>) -> Put {
+    pub(crate) fn name(octets: &mut impl Sink, value: &NameRef<'_>) -> Put {
         value.put(octets);
         Ok(())
     }
 
-    pub(crate) fn u8(octets: &mut Vec<u8>, value: &u8) -> Put {
+    pub(crate) fn u8(octets: &mut impl Sink, value: &u8) -> Put {
         rest(octets, &[*value])
     }
 
-    pub(crate) fn u16(octets: &mut Vec<u8>, value: &u16) -> Put {
+    pub(crate) fn u16(octets: &mut impl Sink, value: &u16) -> Put {
         rest(octets, &value.to_be_bytes())
     }
 
-    pub(crate) fn u32(octets: &mut Vec<u8>, value: &u32) -> Put {
+    pub(crate) fn u32(octets: &mut impl Sink, value: &u32) -> Put {
         rest(octets, &value.to_be_bytes())
     }
 
     /// Appends a number of six octets.
-    pub(crate) fn u48(octets: &mut Vec<u8>, value: &u64) -> Put {
+    pub(crate) fn u48(octets: &mut impl Sink, value: &u64) -> Put {
         match value >> 48 {
             0 => rest(octets, &value.to_be_bytes()[2..]),
             _ => Err(ErrorKind::DataTooLong.into()),
         }
     }
 
-    pub(crate) fn u64(octets: &mut Vec<u8>, value: &u64) -> Put {
+    pub(crate) fn u64(octets: &mut impl Sink, value: &u64) -> Put {
         rest(octets, &value.to_be_bytes())
     }
 
     /// Appends the number of octets in two octets, and the octets.
-    pub(crate) fn long(octets: &mut Vec<u8>, value: &[u8]) -> Put {
+    pub(crate) fn long(octets: &mut impl Sink, value: &[u8]) -> Put {
         let len = u16::try_from(value.len()).map_err(|_| Error::from(ErrorKind::DataTooLong))?;
         u16(octets, &len)?;
         rest(octets, value)
     }
 
-    pub(crate) fn shaped(octets: &mut Vec<u8>, value: &[u8]) -> Put {
+    pub(crate) fn shaped(octets: &mut impl Sink, value: &[u8]) -> Put {
         rest(octets, value)
     }
 
-    pub(crate) fn prefixes(octets: &mut Vec<u8>, value: &Prefixes<'_>) -> Put {
+    pub(crate) fn prefixes(octets: &mut impl Sink, value: &Prefixes<'_>) -> Put {
         rest(octets, value.0)
     }
 
-    pub(crate) fn whole_names(octets: &mut Vec<u8>, value: &WholeNames<'_>) -> Put {
-        rest(octets, &value.octets[value.offset..])
+    pub(crate) fn whole_names(octets: &mut impl Sink, value: &WholeNames<'_>) -> Put {
+        rest(octets, value.left())
     }
 
-    pub(crate) fn eui48(octets: &mut Vec<u8>, value: &[u8; 6]) -> Put {
+    pub(crate) fn eui48(octets: &mut impl Sink, value: &[u8; 6]) -> Put {
         rest(octets, value)
     }
 
-    pub(crate) fn eui64(octets: &mut Vec<u8>, value: &[u8; 8]) -> Put {
+    pub(crate) fn eui64(octets: &mut impl Sink, value: &[u8; 8]) -> Put {
         rest(octets, value)
     }
 
-    pub(crate) fn ipv4(octets: &mut Vec<u8>, value: &Ipv4Addr) -> Put {
+    pub(crate) fn ipv4(octets: &mut impl Sink, value: &Ipv4Addr) -> Put {
         rest(octets, &value.octets())
     }
 
-    pub(crate) fn ipv6(octets: &mut Vec<u8>, value: &Ipv6Addr) -> Put {
+    pub(crate) fn ipv6(octets: &mut impl Sink, value: &Ipv6Addr) -> Put {
         rest(octets, &value.octets())
     }
 
-    pub(crate) fn record_type(octets: &mut Vec<u8>, value: &RecordType) -> Put {
+    pub(crate) fn record_type(octets: &mut impl Sink, value: &RecordType) -> Put {
         u16(octets, &value.code())
     }
 
-    pub(crate) fn texts(octets: &mut Vec<u8>, value: &Texts<'_>) -> Put {
+    pub(crate) fn texts(octets: &mut impl Sink, value: &Texts<'_>) -> Put {
         rest(octets, value.0)
     }
 
-    pub(crate) fn types(octets: &mut Vec<u8>, value: &TypeSet) -> Put {
+    pub(crate) fn types(octets: &mut impl Sink, value: &TypeSet) -> Put {
         rest(octets, &value.to_bitmap()?)
     }
 
-    pub(crate) fn params(octets: &mut Vec<u8>, value: &Pairs<'_>) -> Put {
+    pub(crate) fn params(octets: &mut impl Sink, value: &Pairs<'_>) -> Put {
         rest(octets, value.0)
     }
 }
@@ -410,10 +436,20 @@ impl FusedIterator for Fields<'_> {}
 /// }
 /// # Ok::<(), dns_names_wire::Error>(())
 /// ```
-#[derive(Clone, Debug, PartialEq, Eq)]
+#[derive(Clone, PartialEq, Eq)]
 pub struct Texts<'a>(&'a [u8]);
 
 impl<'a> Texts<'a> {
+    /// Returns the character strings in octets that were checked.
+    pub(crate) fn checked(octets: &'a [u8]) -> Self {
+        Texts(octets)
+    }
+
+    /// Returns the octets of the character strings that are left.
+    pub(crate) fn left(&self) -> &'a [u8] {
+        self.0
+    }
+
     /// Returns the character strings in octets, where each has a length octet before it.
     ///
     /// # Errors
@@ -473,6 +509,12 @@ impl<'a> Iterator for Texts<'a> {
 
 impl FusedIterator for Texts<'_> {}
 
+impl fmt::Debug for Texts<'_> {
+    fn fmt(&self, f: &mut fmt::Formatter<'_>) -> fmt::Result {
+        f.debug_list().entries(self.clone().map(Octets)).finish()
+    }
+}
+
 /// Pairs of a number and octets: service parameters, each a key and its value, or EDNS options, each a code and its
 /// octets.
 ///
@@ -487,10 +529,20 @@ impl FusedIterator for Texts<'_> {}
 /// }
 /// # Ok::<(), dns_names_wire::Error>(())
 /// ```
-#[derive(Clone, Debug, PartialEq, Eq)]
-pub struct Pairs<'a>(pub(crate) &'a [u8]);
+#[derive(Clone, PartialEq, Eq)]
+pub struct Pairs<'a>(&'a [u8]);
 
 impl<'a> Pairs<'a> {
+    /// Returns the pairs in octets that were checked.
+    pub(crate) fn checked(octets: &'a [u8]) -> Self {
+        Pairs(octets)
+    }
+
+    /// Returns the octets of the pairs that are left.
+    pub(crate) fn left(&self) -> &'a [u8] {
+        self.0
+    }
+
     /// Returns the pairs in octets. Each is two octets of number, two of length, and as many octets as that.
     ///
     /// # Errors
@@ -554,8 +606,14 @@ impl<'a> Iterator for Pairs<'a> {
 
 impl FusedIterator for Pairs<'_> {}
 
+impl fmt::Debug for Pairs<'_> {
+    fn fmt(&self, f: &mut fmt::Formatter<'_>) -> fmt::Result {
+        f.debug_map().entries(self.clone().map(|(number, octets)| (number, Octets(octets)))).finish()
+    }
+}
+
 /// An address prefix of a list (RFC 3123, section 4).
-#[derive(Clone, Copy, Debug, PartialEq, Eq)]
+#[derive(Clone, Copy, PartialEq, Eq)]
 pub struct Prefix<'a> {
     /// The family of the address: 1 for IPv4, 2 for IPv6.
     pub family: u16,
@@ -584,8 +642,20 @@ pub struct Prefix<'a> {
 /// }
 /// # Ok::<(), dns_names_wire::Error>(())
 /// ```
-#[derive(Clone, Debug, PartialEq, Eq)]
+#[derive(Clone, PartialEq, Eq)]
 pub struct Prefixes<'a>(&'a [u8]);
+
+impl<'a> Prefixes<'a> {
+    /// Returns the prefixes in octets that were checked.
+    pub(crate) fn checked(octets: &'a [u8]) -> Self {
+        Prefixes(octets)
+    }
+
+    /// Returns the octets of the prefixes that are left.
+    pub(crate) fn left(&self) -> &'a [u8] {
+        self.0
+    }
+}
 
 impl<'a> Iterator for Prefixes<'a> {
     type Item = Prefix<'a>;
@@ -601,6 +671,19 @@ impl<'a> Iterator for Prefixes<'a> {
 
 impl FusedIterator for Prefixes<'_> {}
 
+impl fmt::Debug for Prefix<'_> {
+    fn fmt(&self, f: &mut fmt::Formatter<'_>) -> fmt::Result {
+        let sign = if self.is_negated { "!" } else { "" };
+        write!(f, "{sign}{}:{:?}/{}", self.family, Octets(self.octets), self.length)
+    }
+}
+
+impl fmt::Debug for Prefixes<'_> {
+    fn fmt(&self, f: &mut fmt::Formatter<'_>) -> fmt::Result {
+        f.debug_list().entries(self.clone()).finish()
+    }
+}
+
 /// Names in their wire form up to the end of the data.
 ///
 /// ```
@@ -614,10 +697,22 @@ impl FusedIterator for Prefixes<'_> {}
 /// }
 /// # Ok::<(), dns_names_wire::Error>(())
 /// ```
-#[derive(Clone, Debug, PartialEq, Eq)]
+#[derive(Clone, PartialEq, Eq)]
 pub struct WholeNames<'a> {
     octets: &'a [u8],
     offset: usize,
+}
+
+impl<'a> WholeNames<'a> {
+    /// Returns the names in octets that were checked.
+    pub(crate) fn checked(octets: &'a [u8]) -> Self {
+        WholeNames { octets, offset: 0 }
+    }
+
+    /// Returns the octets of the names that are left.
+    pub(crate) fn left(&self) -> &'a [u8] {
+        &self.octets[self.offset..]
+    }
 }
 
 impl<'a> Iterator for WholeNames<'a> {
@@ -637,3 +732,9 @@ impl<'a> Iterator for WholeNames<'a> {
 }
 
 impl FusedIterator for WholeNames<'_> {}
+
+impl fmt::Debug for WholeNames<'_> {
+    fn fmt(&self, f: &mut fmt::Formatter<'_>) -> fmt::Result {
+        f.debug_list().entries(self.clone()).finish()
+    }
+}

@@ -186,20 +186,36 @@ impl Default for Header {
 }
 
 impl Header {
-    /// Returns the octets before the counts.
-    pub(crate) fn first_octets(&self) -> [u8; 4] {
-        let [id_high, id_low] = self.id.to_be_bytes();
-        let bit = |is_set: bool, at: u8| u8::from(is_set) << at;
-        let high = bit(self.is_response, 7)
-            | (u8::from(self.op_code) & 15) << 3
-            | bit(self.authoritative, 2)
-            | bit(self.truncation, 1)
-            | bit(self.recursion_desired, 0);
-        let low = bit(self.recursion_available, 7)
+    /// Returns the header, without counts, with an id and the 16 bits after it.
+    pub(crate) fn of_bits(id: u16, bits: u16) -> Self {
+        let bit = |at: u8| bits >> at & 1 == 1;
+        Header {
+            id,
+            is_response: bit(15),
+            op_code: ((bits >> 11 & 15) as u8).into(),
+            authoritative: bit(10),
+            truncation: bit(9),
+            recursion_desired: bit(8),
+            recursion_available: bit(7),
+            authentic_data: bit(5),
+            checking_disabled: bit(4),
+            response_code: (bits & 15).into(),
+            ..Header::default()
+        }
+    }
+
+    /// Returns the 16 bits after the id.
+    pub(crate) fn flag_bits(&self) -> u16 {
+        let bit = |is_set: bool, at: u8| u16::from(is_set) << at;
+        bit(self.is_response, 15)
+            | u16::from(u8::from(self.op_code) & 15) << 11
+            | bit(self.authoritative, 10)
+            | bit(self.truncation, 9)
+            | bit(self.recursion_desired, 8)
+            | bit(self.recursion_available, 7)
             | bit(self.authentic_data, 5)
             | bit(self.checking_disabled, 4)
-            | u16::from(self.response_code) as u8 & 15;
-        [id_high, id_low, high, low]
+            | u16::from(self.response_code) & 15
     }
 
     /// Returns the flags by the names that `dig` prints, in the order of their bits.

@@ -26,19 +26,20 @@
 //! | read the records of a message, and their data by type or field by field | [`Record`], [`records()`], [`Record::data`] and [`RData`], [`Record::fields`] |
 //! | print records as lines of master files, and messages as `dig` does | `Display` of [`Record`] and [`Message`] |
 //! | build queries and replies, section by section, and write them within a size | [`MessageBuilder`] |
+//! | write messages item by item into a buffer, without an allocation | [`MessageWriter`] |
 //! | make records from data by type, or parse them from lines of master files | [`RecordBuf`] |
+//! | keep data by type, and sets of records | [`owned`], [`RecordSet`] |
 //! | verify signatures, or make them | [`Record::signed_octets`] |
 //! | make key tags and digests of keys and zones, hash names, and check denials | [`dnssec`] |
-//! | write any list of names, questions, records and bytes, with compression | [`MessageWriter`] |
 //! | convert addresses to reverse names, and back | [`Name::from_ip`], [`Name::parse_arpa_name`] |
 //! | name types and classes, read and write type bitmaps, compare serial numbers | [`RecordType`], [`Class`], [`TypeSet`], [`SerialNumber`] |
-//! | read master files | [`tokens`](tokens()), [`parse_ttl`] |
+//! | parse times to live | [`parse_ttl`] |
 //!
 //! All types are `Send` and `Sync`. A call that fails returns an [`Error`], which has what is wrong and where. No input
 //! makes a call panic.
 //!
-//! The feature `std` is on by default. Without it, the crate needs Rust 1.77, `core`, `alloc` and the system's C
-//! library, and has no reverse names and no error traits.
+//! The feature `std` is on by default. Without it, the crate needs Rust 1.81, `core`, `alloc` and the system's C
+//! library, and does not make a `std::io::Error`.
 //!
 //! `build.rs` takes the archive from the folder that the environment variable `DNW_LIB_DIR` names, or from `lib` in
 //! this crate. In a checkout of the repository it builds the archive, if the Rattle toolchain is there.
@@ -62,14 +63,19 @@ mod codes;
 pub mod dnssec;
 mod error;
 mod field;
+mod form;
 mod header;
+mod labels;
 mod message;
 mod name;
 mod name_ref;
+mod octets;
+pub mod owned;
 pub mod rdata;
 mod record;
 mod record_buf;
-mod text;
+mod record_set;
+mod ttl;
 mod type_set;
 mod writer;
 
@@ -78,15 +84,17 @@ pub use codes::{Class, RecordType, SerialNumber};
 pub use error::{Error, ErrorKind, Section, TextFault, TextRule};
 pub use field::{Field, Fields, Pairs, Prefix, Prefixes, Texts, WholeNames};
 pub use header::{Header, OpCode, ResponseCode};
+pub use labels::Labels;
 pub use message::{Edns, Message, Question, Questions, SectionRecords};
-pub use name::{sort_names, Labels, Name};
+pub use name::{sort_names, Name};
 pub use name_ref::{names, NameRef, Names};
 pub use rdata::RData;
 pub use record::{records, Record, Records};
 pub use record_buf::RecordBuf;
-pub use text::{parse_ttl, tokens, Token, Tokens};
+pub use record_set::RecordSet;
+pub use ttl::parse_ttl;
 pub use type_set::TypeSet;
-pub use writer::MessageWriter;
+pub use writer::{MessageWriter, Need};
 
 /// Makes the program in the README a test.
 #[cfg(doctest)]

@@ -1,6 +1,6 @@
 //! Whole messages, which are checked once.
 use crate::codes::{Class, RecordType};
-use crate::door;
+use crate::door::{self, HEADER_SIZE};
 use crate::error::Error;
 use crate::field::Pairs;
 use crate::header::{Header, ResponseCode};
@@ -13,10 +13,8 @@ use core::iter::FusedIterator;
 /// How many compression pointers the names of a message may follow in total, by default.
 const MAX_POINTERS: usize = 65536;
 
-/// The octets of a header (RFC 1035, section 4.1.1).
-pub(crate) const HEADER_SIZE: usize = 12;
 /// The octets of the counts, at the end of the header.
-pub(crate) const COUNTS_SIZE: usize = 8;
+const COUNTS_SIZE: usize = 8;
 
 /// A message that was checked as a whole (RFC 1035, section 4): its header, its questions and its records are all
 /// there. It borrows the octets that it was read from.
@@ -228,8 +226,8 @@ impl<'a> Message<'a> {
         Ok(self.read_edns()?.map_or(self.read.response_code, |(read, _)| read.response_code).into())
     }
 
-    /// Returns whether the message is a response with the id, the operation code and the questions of a request (RFC
-    /// 5452, section 9.1). Names are compared ignoring case.
+    /// Returns whether the message is a response with the id, the operation code and the one question of a request, which
+    /// is itself none (RFC 5452, section 9.1). Names are compared ignoring case. A response without a question is not.
     ///
     /// ```
     /// use dns_names_wire::{Message, MessageBuilder, Name, RecordType};
@@ -241,10 +239,8 @@ impl<'a> Message<'a> {
     /// # Ok::<(), dns_names_wire::Error>(())
     /// ```
     pub fn is_reply_to(&self, request: &Message<'_>) -> bool {
-        let (own, asked) = (self.header(), request.header());
-        own.is_response
-            && (own.id, own.op_code) == (asked.id, asked.op_code)
-            && self.questions().eq(request.questions())
+        // Both messages are complete, so the call does not fail.
+        door::is_reply_to(request.octets(), self.octets()).unwrap_or(false)
     }
 
     /// Returns the message written again: compressed, in at most `max_size` octets, with the OPT record last. Questions
@@ -346,12 +342,28 @@ impl fmt::Display for Message<'_> {
 
 impl fmt::Debug for Message<'_> {
     fn fmt(&self, f: &mut fmt::Formatter<'_>) -> fmt::Result {
-        f.debug_struct("Message").field("header", &self.header()).field("octets", &self.octets()).finish()
+        let records = [self.answers(), self.authorities(), self.additionals()].map(Vec::from_iter);
+        f.debug_struct("Message")
+            .field("header", &self.header())
+            .field("questions", &Vec::from_iter(self.questions()))
+            .field("answers", &records[0])
+            .field("authorities", &records[1])
+            .field("additionals", &records[2])
+            .finish()
+    }
+}
+
+/// The same as [`Message::read`].
+impl<'a> TryFrom<&'a [u8]> for Message<'a> {
+    type Error = Error;
+
+    fn try_from(octets: &'a [u8]) -> Result<Self, Error> {
+        Message::read(octets)
     }
 }
 
 /// A question (RFC 1035, section 4.1.2). It is printed as its name, its class and its type, with tabs between them.
-#[derive(Clone, Copy, Debug, PartialEq, Eq)]
+#[derive(Clone, Copy, PartialEq, Eq)]
 #[non_exhaustive]
 pub struct Question<'a> {
     /// The name that is asked for.
@@ -365,6 +377,12 @@ pub struct Question<'a> {
 impl fmt::Display for Question<'_> {
     fn fmt(&self, f: &mut fmt::Formatter<'_>) -> fmt::Result {
         write!(f, "{}\t{}\t{}", self.name, self.class, self.question_type)
+    }
+}
+
+impl fmt::Debug for Question<'_> {
+    fn fmt(&self, f: &mut fmt::Formatter<'_>) -> fmt::Result {
+        f.debug_tuple("Question").field(&format_args!("{self}")).finish()
     }
 }
 
@@ -428,7 +446,7 @@ impl ExactSizeIterator for SectionRecords<'_> {}
 impl FusedIterator for SectionRecords<'_> {}
 
 /// The EDNS fields of a message (RFC 6891, section 6.1). See [`Message::edns`].
-#[derive(Clone, Copy, Debug, PartialEq, Eq)]
+#[derive(Clone, Copy, PartialEq, Eq)]
 #[non_exhaustive]
 pub struct Edns<'a> {
     /// The size of the largest message that the sender accepts, at least 512 octets.
@@ -437,7 +455,7 @@ pub struct Edns<'a> {
     pub version: u8,
     /// DO: the sender accepts DNSSEC records (RFC 3225, section 3).
     pub dnssec_ok: bool,
-    options: &'a [u8],
+    pub(crate) options: &'a [u8],
 }
 
 impl<'a> Edns<'a> {
@@ -466,7 +484,7 @@ impl<'a> Edns<'a> {
     /// # Ok::<(), dns_names_wire::Error>(())
     /// ```
     pub fn with_options(self, options: Pairs<'a>) -> Self {
-        Edns { options: options.0, ..self }
+        Edns { options: options.left(), ..self }
     }
 
     /// Returns the options, each a code and its octets.
@@ -477,6 +495,17 @@ impl<'a> Edns<'a> {
     /// # Ok::<(), dns_names_wire::Error>(())
     /// ```
     pub fn options(&self) -> Pairs<'a> {
-        Pairs(self.options)
+        Pairs::checked(self.options)
+    }
+}
+
+impl fmt::Debug for Edns<'_> {
+    fn fmt(&self, f: &mut fmt::Formatter<'_>) -> fmt::Result {
+        f.debug_struct("Edns")
+            .field("max_payload", &self.max_payload)
+            .field("version", &self.version)
+            .field("dnssec_ok", &self.dnssec_ok)
+            .field("options", &self.options())
+            .finish()
     }
 }

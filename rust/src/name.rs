@@ -1,19 +1,22 @@
 //! Names that own their wire form.
-use crate::door::{self, FORM_SIZE, SORT_KEY_SIZE, TEXT_SIZE};
+use crate::door::{self, FORM_SIZE, SORT_KEY_SIZE};
 use crate::error::{Error, ErrorKind, TextFault};
+use crate::form;
+use crate::labels::Labels;
+use crate::IpAddr;
+use alloc::boxed::Box;
 use alloc::vec::Vec;
 use core::cmp::Ordering;
 use core::fmt;
 use core::hash::{Hash, Hasher};
+use core::mem;
 use core::str::FromStr;
-#[cfg(feature = "std")]
-use std::net::IpAddr;
 
 /// A domain name: at most 255 octets of wire form (RFC 1035, section 3.1), and whether it is fully qualified.
 ///
-/// The wire form is stored inline, so a name does not allocate. Case is kept, and is ignored when names are compared,
-/// ordered and hashed (RFC 4343). The order is canonical (RFC 4034, section 6.1); names that are not fully qualified
-/// are before all others.
+/// A name takes 40 bytes, which have a wire form of up to 37 octets; a longer one is in a box. Case is kept, and is
+/// ignored when names are compared, ordered and hashed (RFC 4343). The order is canonical (RFC 4034, section 6.1); names
+/// that are not fully qualified are before all others.
 ///
 /// ```
 /// use dns_names_wire::Name;
@@ -28,10 +31,16 @@ use std::net::IpAddr;
 /// # Ok::<(), dns_names_wire::Error>(())
 /// ```
 #[derive(Clone)]
-pub struct Name {
-    form: [u8; FORM_SIZE],
-    len: u8,
-    is_fqdn: bool,
+pub struct Name(Form);
+
+/// The octets of the longest wire form that is stored inline.
+const INLINE_SIZE: usize = 37;
+
+/// A wire form from the C library, and whether the name is fully qualified.
+#[derive(Clone)]
+enum Form {
+    Inline { is_fqdn: bool, len: u8, octets: [u8; INLINE_SIZE] },
+    Boxed { is_fqdn: bool, octets: Box<[u8]> },
 }
 
 /// Why `expect` never fails: every `Name` but the empty ones was made by the C library.
@@ -44,7 +53,7 @@ impl Name {
     /// assert_eq!(dns_names_wire::Name::new().to_string(), "@");
     /// ```
     pub fn new() -> Self {
-        Name { form: [0; FORM_SIZE], len: 1, is_fqdn: false }
+        Name(Form::Inline { is_fqdn: false, len: 1, octets: [0; INLINE_SIZE] })
     }
 
     /// Returns the root, which has no labels and is fully qualified.
@@ -53,12 +62,37 @@ impl Name {
     /// assert_eq!(dns_names_wire::Name::root().to_string(), ".");
     /// ```
     pub fn root() -> Self {
-        Name { is_fqdn: true, ..Name::new() }
+        Name(Form::Inline { is_fqdn: true, len: 1, octets: [0; INLINE_SIZE] })
+    }
+
+    /// Returns the name with a wire form from the C library, which is the first `len` octets.
+    #[inline]
+    pub(crate) fn of_form(form: &[u8; FORM_SIZE], len: usize, is_fqdn: bool) -> Self {
+        if len > INLINE_SIZE {
+            return Name(Form::Boxed { is_fqdn, octets: form[..len].into() });
+        }
+        let mut octets = [0; INLINE_SIZE];
+        octets.copy_from_slice(&form[..INLINE_SIZE]);
+        Name(Form::Inline { is_fqdn, len: len as u8, octets })
     }
 
     /// Returns the fully qualified name with a wire form from the C library.
-    pub(crate) fn of_form(form: [u8; FORM_SIZE], len: usize) -> Self {
-        Name { form, len: len as u8, is_fqdn: true }
+    #[inline]
+    pub(crate) fn of_octets(form: &[u8]) -> Self {
+        if form.len() > INLINE_SIZE {
+            return Name(Form::Boxed { is_fqdn: true, octets: form.into() });
+        }
+        let mut octets = [0; INLINE_SIZE];
+        octets[..form.len()].copy_from_slice(form);
+        Name(Form::Inline { is_fqdn: true, len: form.len() as u8, octets })
+    }
+
+    /// Returns the name that a call of the C library stores. The call returns the length of its wire form.
+    #[inline]
+    fn made<E>(is_fqdn: bool, make: impl FnOnce(&mut [u8; FORM_SIZE]) -> Result<usize, E>) -> Result<Self, E> {
+        let mut form = [0; FORM_SIZE];
+        let len = make(&mut form)?;
+        Ok(Name::of_form(&form, len, is_fqdn))
     }
 
     /// Returns the reverse name of an address, which owns its PTR records (RFC 1035, section 3.5; RFC 3596, section
@@ -70,14 +104,12 @@ impl Name {
     /// let name = dns_names_wire::Name::from_ip(Ipv4Addr::new(192, 0, 2, 1).into());
     /// assert_eq!(name.to_string(), "1.2.0.192.in-addr.arpa.");
     /// ```
-    #[cfg(feature = "std")]
     pub fn from_ip(address: IpAddr) -> Self {
-        let mut form = [0; FORM_SIZE];
-        let len = match address {
-            IpAddr::V4(address) => door::reverse_name(&address.octets(), &mut form),
-            IpAddr::V6(address) => door::reverse_name(&address.octets(), &mut form),
+        let name = match address {
+            IpAddr::V4(address) => Name::made(true, |form| door::reverse_name(&address.octets(), form)),
+            IpAddr::V6(address) => Name::made(true, |form| door::reverse_name(&address.octets(), form)),
         };
-        Name::of_form(form, len.expect("an address of 4 or 16 bytes"))
+        name.expect("an address of 4 or 16 bytes")
     }
 
     /// Reads the name at an offset of a message, following compression pointers (RFC 1035, section 4.1.4). Returns it
@@ -102,11 +134,10 @@ impl Name {
     pub fn read(message: &[u8], start: usize) -> Result<(Self, usize), Error> {
         let mut form = [0; FORM_SIZE];
         let read = door::read(message, start, &mut form)?;
-        Ok((Name::of_form(form, read.len), read.end))
+        Ok((Name::of_form(&form, read.len, true), read.end))
     }
 
     /// Replaces this name with the one at an offset of a message, and returns the offset after that name's own octets.
-    /// Use it in place of [`Name::read`] to read many names into one `Name`.
     ///
     /// # Errors
     ///
@@ -127,9 +158,9 @@ impl Name {
     /// ```
     #[inline]
     pub fn read_from(&mut self, message: &[u8], start: usize) -> Result<usize, Error> {
-        let read = door::read(message, start, &mut self.form)?;
-        (self.len, self.is_fqdn) = (read.len as u8, true);
-        Ok(read.end)
+        let (name, end) = Name::read(message, start)?;
+        *self = name;
+        Ok(end)
     }
 
     /// Returns the fully qualified name with this wire form: the name at offset 0, up to the end. It may be compressed.
@@ -176,11 +207,9 @@ impl Name {
     /// ```
     #[inline]
     pub fn from_text(text: &str, origin: Option<&Name>) -> Result<Self, Error> {
-        let mut name = Name::new();
-        let parsed = door::parse(text, origin.map_or(&[], |name| name.as_wire()), &mut name.form)?;
-        name.len = parsed.len as u8;
-        name.is_fqdn = parsed.is_fqdn;
-        Ok(name)
+        let mut form = [0; FORM_SIZE];
+        let parsed = door::parse(text, origin.map_or(&[], |name| name.as_wire()), &mut form)?;
+        Ok(Name::of_form(&form, parsed.len, parsed.is_fqdn))
     }
 
     /// Returns where a text is wrong and the rule that it breaks there, or `None` if it is the text of a name.
@@ -227,7 +256,10 @@ impl Name {
     /// ```
     #[inline]
     pub fn as_wire(&self) -> &[u8] {
-        &self.form[..usize::from(self.len)]
+        match &self.0 {
+            Form::Inline { len, octets, .. } => &octets[..usize::from(*len)],
+            Form::Boxed { octets, .. } => octets,
+        }
     }
 
     /// Returns whether the name is fully qualified.
@@ -240,7 +272,9 @@ impl Name {
     /// ```
     #[inline]
     pub fn is_fqdn(&self) -> bool {
-        self.is_fqdn
+        match self.0 {
+            Form::Inline { is_fqdn, .. } | Form::Boxed { is_fqdn, .. } => is_fqdn,
+        }
     }
 
     /// Sets whether the name is fully qualified.
@@ -253,7 +287,9 @@ impl Name {
     /// ```
     #[inline]
     pub fn set_fqdn(&mut self, is_fqdn: bool) {
-        self.is_fqdn = is_fqdn;
+        match &mut self.0 {
+            Form::Inline { is_fqdn: own, .. } | Form::Boxed { is_fqdn: own, .. } => *own = is_fqdn,
+        }
     }
 
     /// Returns whether the name has no labels and is fully qualified.
@@ -265,7 +301,7 @@ impl Name {
     /// ```
     #[inline]
     pub fn is_root(&self) -> bool {
-        self.len == 1 && self.is_fqdn
+        self.is_fqdn() && self.as_wire().len() == 1
     }
 
     /// Returns whether the first label is `*` (RFC 4592, section 2.1.1).
@@ -333,9 +369,7 @@ impl Name {
     /// # Ok::<(), dns_names_wire::Error>(())
     /// ```
     pub fn eq_ignore_root(&self, other: &Name) -> bool {
-        // Equal names have wire forms of one length, and a form equals itself.
-        self.len == other.len
-            && (self.as_wire() == other.as_wire() || door::equal(self.as_wire(), other.as_wire()).expect(VALID))
+        form::are_equal(self.as_wire(), other.as_wire())
     }
 
     /// Returns a key of at most 504 octets. The order of keys as bytes is the canonical order of names (RFC 4034,
@@ -366,9 +400,7 @@ impl Name {
     /// # Ok::<(), dns_names_wire::Error>(())
     /// ```
     pub fn to_lowercase(&self) -> Name {
-        let mut lowered = Name { is_fqdn: self.is_fqdn, ..Name::new() };
-        lowered.len = door::to_lowercase(self.as_wire(), &mut lowered.form).expect(VALID) as u8;
-        lowered
+        Name::made(self.is_fqdn(), |form| door::to_lowercase(self.as_wire(), form)).expect(VALID)
     }
 
     /// Returns the name with the labels of another name after its own. It is fully qualified if the other is.
@@ -385,9 +417,7 @@ impl Name {
     /// # Ok::<(), dns_names_wire::Error>(())
     /// ```
     pub fn append(&self, suffix: &Name) -> Result<Name, Error> {
-        let mut name = Name { is_fqdn: suffix.is_fqdn, ..Name::new() };
-        name.len = door::append(self.as_wire(), suffix.as_wire(), &mut name.form)? as u8;
-        Ok(name)
+        Name::made(suffix.is_fqdn(), |form| door::append(self.as_wire(), suffix.as_wire(), form))
     }
 
     /// Returns the name with a label, of any octets, before its own labels.
@@ -403,9 +433,7 @@ impl Name {
     /// # Ok::<(), dns_names_wire::Error>(())
     /// ```
     pub fn prepend_label(&self, label: &[u8]) -> Result<Name, Error> {
-        let mut name = Name { is_fqdn: self.is_fqdn, ..Name::new() };
-        name.len = door::prepend_label(label, self.as_wire(), &mut name.form)? as u8;
-        Ok(name)
+        Name::made(self.is_fqdn(), |form| door::prepend_label(label, self.as_wire(), form))
     }
 
     /// Returns the name with only the last `labels` labels, or the whole name if it has fewer.
@@ -416,9 +444,7 @@ impl Name {
     /// # Ok::<(), dns_names_wire::Error>(())
     /// ```
     pub fn trim_to(&self, labels: usize) -> Name {
-        let mut name = Name { is_fqdn: self.is_fqdn, ..Name::new() };
-        name.len = door::trim(self.as_wire(), labels, &mut name.form).expect(VALID) as u8;
-        name
+        Name::made(self.is_fqdn(), |form| door::trim(self.as_wire(), labels, form)).expect(VALID)
     }
 
     /// Returns the name without its first label: its parent. A name without labels is unchanged.
@@ -443,9 +469,7 @@ impl Name {
     /// # Ok::<(), dns_names_wire::Error>(())
     /// ```
     pub fn to_wildcard(&self) -> Name {
-        let mut name = Name { is_fqdn: self.is_fqdn, ..Name::new() };
-        name.len = door::to_wildcard(self.as_wire(), &mut name.form).expect(VALID) as u8;
-        name
+        Name::made(self.is_fqdn(), |form| door::to_wildcard(self.as_wire(), form)).expect(VALID)
     }
 
     /// Returns the net of a reverse name: its address and the length of its prefix in bits. For the reverse name of an
@@ -463,9 +487,8 @@ impl Name {
     /// assert_eq!(name.parse_arpa_name()?, ([192, 168, 0, 0].into(), 16));
     /// # Ok::<(), dns_names_wire::Error>(())
     /// ```
-    #[cfg(feature = "std")]
     pub fn parse_arpa_name(&self) -> Result<(IpAddr, u8), Error> {
-        if !self.is_fqdn {
+        if !self.is_fqdn() {
             return Err(ErrorKind::NotReverse.into());
         }
         let mut room = [0; 16];
@@ -474,12 +497,6 @@ impl Name {
             Ok(octets) => Ok((octets.into(), net.prefix_len)),
             Err(_) => Ok((room.into(), net.prefix_len)),
         }
-    }
-
-    /// Calls a function with the text of the name.
-    fn with_text<T>(&self, use_text: impl FnOnce(&str) -> T) -> Result<T, Error> {
-        let mut room = [0; TEXT_SIZE];
-        Ok(use_text(door::print(self.as_wire(), self.is_fqdn, &mut room)?))
     }
 }
 
@@ -505,9 +522,10 @@ pub fn sort_names(names: &mut [Name]) {
         // It ran out of memory: the names are valid, and there is room for the numbers.
         return names.sort();
     }
-    let (absolute, relative): (Vec<_>, Vec<_>) = order.into_iter().partition(|&number| names[number].is_fqdn);
-    let sorted: Vec<Name> = relative.into_iter().chain(absolute).map(|number| names[number].clone()).collect();
-    names.clone_from_slice(&sorted);
+    let (absolute, relative): (Vec<_>, Vec<_>) = order.into_iter().partition(|&number| names[number].is_fqdn());
+    let order = relative.into_iter().chain(absolute);
+    let sorted: Vec<Name> = order.map(|number| mem::take(&mut names[number])).collect();
+    names.iter_mut().zip(sorted).for_each(|(name, next)| *name = next);
 }
 
 impl Default for Name {
@@ -517,7 +535,6 @@ impl Default for Name {
 }
 
 /// The same as [`Name::from_ip`].
-#[cfg(feature = "std")]
 impl From<IpAddr> for Name {
     fn from(address: IpAddr) -> Name {
         Name::from_ip(address)
@@ -567,19 +584,19 @@ impl<'a> IntoIterator for &'a Name {
 /// a backslash and three decimal digits.
 impl fmt::Display for Name {
     fn fmt(&self, f: &mut fmt::Formatter<'_>) -> fmt::Result {
-        self.with_text(|text| f.pad(text)).map_err(|_| fmt::Error)?
+        form::show(self.as_wire(), self.is_fqdn(), f)
     }
 }
 
 impl fmt::Debug for Name {
     fn fmt(&self, f: &mut fmt::Formatter<'_>) -> fmt::Result {
-        self.with_text(|text| f.debug_tuple("Name").field(&text).finish()).map_err(|_| fmt::Error)?
+        form::show_debug(self.as_wire(), self.is_fqdn(), f)
     }
 }
 
 impl PartialEq for Name {
     fn eq(&self, other: &Self) -> bool {
-        self.is_fqdn == other.is_fqdn && self.eq_ignore_root(other)
+        self.is_fqdn() == other.is_fqdn() && self.eq_ignore_root(other)
     }
 }
 
@@ -593,104 +610,13 @@ impl PartialOrd for Name {
 
 impl Ord for Name {
     fn cmp(&self, other: &Self) -> Ordering {
-        let labels = || door::compare(self.as_wire(), other.as_wire()).expect(VALID).cmp(&0);
-        self.is_fqdn.cmp(&other.is_fqdn).then_with(labels)
+        let labels = || form::compare(self.as_wire(), other.as_wire());
+        self.is_fqdn().cmp(&other.is_fqdn()).then_with(labels)
     }
 }
 
 impl Hash for Name {
     fn hash<H: Hasher>(&self, state: &mut H) {
-        // A length octet is at most 63, which is no letter, so the whole form is lowered at once.
-        let mut form = self.form;
-        let form = &mut form[..usize::from(self.len)];
-        form.make_ascii_lowercase();
-        state.write(form);
-        state.write_u8(self.is_fqdn.into());
+        form::hash(self.as_wire(), self.is_fqdn(), state);
     }
 }
-
-/// An iterator over the labels of a name, from either end. See [`Name::labels`] and
-/// [`NameRef::labels`](crate::NameRef::labels).
-///
-/// `len` and `next_back` walk over all labels that are left.
-///
-/// ```
-/// let name: dns_names_wire::Name = "www.example.com.".parse()?;
-/// let mut labels = name.labels();
-/// assert_eq!((labels.next(), labels.next_back()), (Some(&b"www"[..]), Some(&b"com"[..])));
-/// assert_eq!(labels.len(), 1);
-/// # Ok::<(), dns_names_wire::Error>(())
-/// ```
-#[derive(Clone, Debug)]
-pub struct Labels<'a> {
-    message: &'a [u8],
-    at: usize,
-    /// the number of labels that are left, known after the first step from the back
-    left: Option<usize>,
-}
-
-impl<'a> Labels<'a> {
-    /// Returns the labels of the name at an offset of a message. The C library must have accepted the name.
-    #[inline]
-    pub(crate) fn new(message: &'a [u8], at: usize) -> Self {
-        Labels { message, at, left: None }
-    }
-
-    /// Returns the number of labels that are left.
-    fn count_left(&self) -> usize {
-        let mut at = self.at;
-        self.left.unwrap_or_else(|| core::iter::from_fn(|| step(self.message, &mut at)).count())
-    }
-}
-
-/// Returns the label at an offset of a message, following pointers, and moves the offset after it. Returns `None` at
-/// the end of the name. The C library has accepted the name, so each step is within the message, and each pointer
-/// points backwards.
-#[inline]
-fn step<'a>(message: &'a [u8], at: &mut usize) -> Option<&'a [u8]> {
-    loop {
-        let octet = usize::from(*message.get(*at)?);
-        match octet {
-            0 => return None,
-            1..=63 => {
-                let label = message.get(*at + 1..*at + 1 + octet)?;
-                *at += 1 + octet;
-                return Some(label);
-            }
-            _ => *at = (octet & 0x3F) << 8 | usize::from(*message.get(*at + 1)?),
-        }
-    }
-}
-
-impl<'a> Iterator for Labels<'a> {
-    type Item = &'a [u8];
-
-    #[inline]
-    fn next(&mut self) -> Option<&'a [u8]> {
-        if let Some(left) = &mut self.left {
-            *left = left.checked_sub(1)?;
-        }
-        step(self.message, &mut self.at)
-    }
-
-    fn size_hint(&self) -> (usize, Option<usize>) {
-        let left = self.count_left();
-        (left, Some(left))
-    }
-}
-
-impl DoubleEndedIterator for Labels<'_> {
-    fn next_back(&mut self) -> Option<Self::Item> {
-        let left = self.count_left().checked_sub(1)?;
-        self.left = Some(left);
-        let mut at = self.at;
-        (0..left).for_each(|_| {
-            step(self.message, &mut at);
-        });
-        step(self.message, &mut at)
-    }
-}
-
-impl ExactSizeIterator for Labels<'_> {}
-
-impl core::iter::FusedIterator for Labels<'_> {}

@@ -1,7 +1,10 @@
 //! Names that are borrowed from a message.
 use crate::door::{self, FORM_SIZE};
 use crate::error::Error;
-use crate::name::{Labels, Name};
+use crate::form;
+use crate::labels::Labels;
+use crate::name::Name;
+use crate::octets::Sink;
 use alloc::vec::Vec;
 use core::cmp::Ordering;
 use core::fmt;
@@ -9,7 +12,7 @@ use core::hash::{Hash, Hasher};
 
 /// A name that is borrowed from its message: the message and two offsets. It is fully qualified.
 ///
-/// Each print or comparison copies the name to the stack. If that is done often, read a [`Name`].
+/// Each print or comparison of a compressed name copies its labels to the stack. If that is done often, read a [`Name`].
 ///
 /// ```
 /// use dns_names_wire::NameRef;
@@ -53,13 +56,23 @@ impl<'a> NameRef<'a> {
         NameRef { message, start, end }
     }
 
-    /// Appends the wire form.
-    pub(crate) fn put(&self, octets: &mut Vec<u8>) {
+    /// Calls a function with the wire form.
+    #[inline]
+    pub(crate) fn with_form<T>(&self, use_form: impl FnOnce(&[u8]) -> T) -> T {
         match pass_name(self.message, self.start) {
             // A name without a pointer is its wire form.
-            Some((end, false)) => octets.extend_from_slice(&self.message[self.start..end]),
-            _ => octets.extend_from_slice(self.to_name().as_wire()),
+            Some((end, false)) => use_form(&self.message[self.start..end]),
+            _ => {
+                let mut form = [0; FORM_SIZE];
+                let read = door::read(self.message, self.start, &mut form).expect("a name that was read before");
+                use_form(&form[..read.len])
+            }
         }
+    }
+
+    /// Appends the wire form.
+    pub(crate) fn put(&self, octets: &mut impl Sink) {
+        self.with_form(|form| octets.extend_from_slice(form));
     }
 
     /// Returns the message.
@@ -126,8 +139,7 @@ impl<'a> NameRef<'a> {
     /// # Ok::<(), dns_names_wire::Error>(())
     /// ```
     pub fn to_name(&self) -> Name {
-        let (name, _) = Name::read(self.message, self.start).expect("a name that was read before");
-        name
+        self.with_form(Name::of_octets)
     }
 }
 
@@ -147,13 +159,13 @@ pub(crate) fn pass_name(message: &[u8], start: usize) -> Option<(usize, bool)> {
 
 impl fmt::Display for NameRef<'_> {
     fn fmt(&self, f: &mut fmt::Formatter<'_>) -> fmt::Result {
-        fmt::Display::fmt(&self.to_name(), f)
+        self.with_form(|form| form::show(form, true, f))
     }
 }
 
 impl fmt::Debug for NameRef<'_> {
     fn fmt(&self, f: &mut fmt::Formatter<'_>) -> fmt::Result {
-        fmt::Debug::fmt(&self.to_name(), f)
+        self.with_form(|form| form::show_debug(form, true, f))
     }
 }
 
@@ -174,7 +186,7 @@ impl<'a> From<&'a Name> for NameRef<'a> {
 /// Compares labels, ignoring case. The messages may differ.
 impl PartialEq for NameRef<'_> {
     fn eq(&self, other: &Self) -> bool {
-        self.to_name() == other.to_name()
+        self.with_form(|own| other.with_form(|form| form::are_equal(own, form)))
     }
 }
 
@@ -182,7 +194,7 @@ impl Eq for NameRef<'_> {}
 
 impl PartialEq<Name> for NameRef<'_> {
     fn eq(&self, other: &Name) -> bool {
-        self.to_name() == *other
+        other.is_fqdn() && self.with_form(|own| form::are_equal(own, other.as_wire()))
     }
 }
 
@@ -204,13 +216,13 @@ impl PartialOrd for NameRef<'_> {
 
 impl Ord for NameRef<'_> {
     fn cmp(&self, other: &Self) -> Ordering {
-        self.to_name().cmp(&other.to_name())
+        self.with_form(|own| other.with_form(|form| form::compare(own, form)))
     }
 }
 
 impl Hash for NameRef<'_> {
     fn hash<H: Hasher>(&self, state: &mut H) {
-        self.to_name().hash(state);
+        self.with_form(|own| form::hash(own, true, state));
     }
 }
 

@@ -1,35 +1,63 @@
-//! The data of records, by type.
+//! The data of records, by type: a struct for each form of several fields, borrowed from a message or from the caller.
+//!
+//! [`RData`] is what [`Record::data`] returns and what [`RecordBuf::new`] takes. The module [`owned`] has the same types
+//! with data of their own.
+//!
+//! [`Record::data`]: crate::Record::data
+//! [`RecordBuf::new`]: crate::RecordBuf::new
+//! [`owned`]: crate::owned
 use crate::codes::{Class, RecordType};
 use crate::error::Error;
 use crate::field::{put, Fields, Pairs, Prefixes, Texts, WholeNames};
 use crate::name_ref::NameRef;
+use crate::octets::{Octets, Sink};
+use crate::record_buf::data_text;
 use crate::type_set::TypeSet;
-use crate::{IpAddr, Ipv4Addr, Ipv6Addr};
+use crate::{owned, IpAddr, Ipv4Addr, Ipv6Addr};
 use alloc::vec::Vec;
+use core::fmt;
 
-/// The codes of the types that only IN has, as the table of fields has them (`crates/dnw_data/specs/Table.antt`).
-const INTERNET_TYPES: [u16; 13] = [1, 11, 22, 23, 26, 28, 33, 36, 38, 42, 49, 64, 65];
+mod table;
 
-/// Returns `true` if data of a class have the form of their type: they are not left out, and the type is not only IN's, or the
-/// class is IN, or NONE or ANY, which updates use (RFC 2136, sections 2.4 and 2.5).
-#[inline]
-fn has_type(class: Class, record_type: RecordType, are_empty: bool) -> bool {
-    match class.code() {
-        1 => true,
-        254 | 255 => !are_empty,
-        _ => !INTERNET_TYPES.contains(&record_type.code()),
-    }
+pub(crate) use table::{each_struct, each_variant};
+
+/// What a value of a kind is shown by: octets by themselves are shown as text.
+macro_rules! shown {
+    (string $value:expr) => {
+        &Octets($value)
+    };
+    (counted $value:expr) => {
+        &Octets($value)
+    };
+    (rest $value:expr) => {
+        &Octets($value)
+    };
+    (long $value:expr) => {
+        &Octets($value)
+    };
+    (shaped $value:expr) => {
+        &Octets($value)
+    };
+    ($kind:ident $value:expr) => {
+        $value
+    };
 }
 
-/// Defines structs for data with several fields. Each field is read and written by its kind.
+/// Defines the structs. Each field is read, written and shown by its kind.
 macro_rules! structs {
     ($($(#[$doc:meta])* $name:ident $(<$life:lifetime>)? {
         $($(#[$field_doc:meta])* $field:ident: $type:ty = $kind:ident,)*
     })*) => {$(
         $(#[$doc])*
-        #[derive(Clone, Debug, PartialEq, Eq)]
+        #[derive(Clone, PartialEq, Eq)]
         pub struct $name $(<$life>)? {
             $($(#[$field_doc])* pub $field: $type,)*
+        }
+
+        impl<'a> fmt::Debug for $name $(<$life>)? {
+            fn fmt(&self, f: &mut fmt::Formatter<'_>) -> fmt::Result {
+                f.debug_struct(stringify!($name))$(.field(stringify!($field), shown!($kind &self.$field)))*.finish()
+            }
         }
 
         impl<'a> $name $(<$life>)? {
@@ -37,7 +65,7 @@ macro_rules! structs {
                 Ok($name { $($field: fields.$kind()?,)* })
             }
 
-            fn put(&self, octets: &mut Vec<u8>) -> Result<(), Error> {
+            fn put(&self, octets: &mut impl Sink) -> Result<(), Error> {
                 $(put::$kind(octets, &self.$field)?;)*
                 Ok(())
             }
@@ -45,395 +73,7 @@ macro_rules! structs {
     )*};
 }
 
-structs! {
-    /// The start of a zone of authority (RFC 1035, section 3.3.13).
-    SOA<'a> {
-        /// The primary name server of the zone.
-        mname: NameRef<'a> = name,
-        /// The mailbox of the person responsible for the zone.
-        rname: NameRef<'a> = name,
-        /// The version of the zone, a [`SerialNumber`](crate::SerialNumber).
-        serial: u32 = u32,
-        /// The seconds until the zone should be refreshed.
-        refresh: u32 = u32,
-        /// The seconds until a failed refresh should be tried again.
-        retry: u32 = u32,
-        /// The seconds after which the zone is no longer authoritative.
-        expire: u32 = u32,
-        /// The TTL of negative answers, in seconds (RFC 2308, section 4).
-        minimum: u32 = u32,
-    }
-
-    /// Two mailboxes (RFC 1035, section 3.3.7), or a mailbox and the owner of a TXT record (RFC 1183, section 2.2).
-    Mailboxes<'a> {
-        /// The first mailbox.
-        mailbox: NameRef<'a> = name,
-        /// The second mailbox, or the owner of a TXT record.
-        other: NameRef<'a> = name,
-    }
-
-    /// A mail server for a domain (RFC 1035, section 3.3.9), or another host with a preference.
-    MX<'a> {
-        /// Lower values are preferred.
-        preference: u16 = u16,
-        /// The host.
-        exchange: NameRef<'a> = name,
-    }
-
-    /// The CPU and the operating system of a host (RFC 1035, section 3.3.2).
-    HINFO<'a> {
-        /// The CPU.
-        cpu: &'a [u8] = string,
-        /// The operating system.
-        os: &'a [u8] = string,
-    }
-
-    /// The host and the port of a service (RFC 2782).
-    SRV<'a> {
-        /// Lower values are tried first.
-        priority: u16 = u16,
-        /// How often the host is chosen among those of the same priority.
-        weight: u16 = u16,
-        /// The port.
-        port: u16 = u16,
-        /// The host.
-        target: NameRef<'a> = name,
-    }
-
-    /// A rule that rewrites a name (RFC 3403, section 4.1).
-    NAPTR<'a> {
-        /// The order in which rules are applied.
-        order: u16 = u16,
-        /// The preference among rules of the same order.
-        preference: u16 = u16,
-        /// What to do after the rule.
-        flags: &'a [u8] = string,
-        /// The service.
-        service: &'a [u8] = string,
-        /// A regular expression that makes the next name.
-        regexp: &'a [u8] = string,
-        /// The next name.
-        replacement: NameRef<'a> = name,
-    }
-
-    /// A certificate (RFC 4398, section 2).
-    CERT<'a> {
-        /// The type of the certificate.
-        certificate_type: u16 = u16,
-        /// The tag of its key.
-        key_tag: u16 = u16,
-        /// The algorithm of its key.
-        algorithm: u8 = u8,
-        /// The certificate.
-        certificate: &'a [u8] = rest,
-    }
-
-    /// The digest of a key of a child zone (RFC 4034, section 5.1).
-    DS<'a> {
-        /// The tag of the key.
-        key_tag: u16 = u16,
-        /// The algorithm of the key.
-        algorithm: u8 = u8,
-        /// The digest algorithm.
-        digest_type: u8 = u8,
-        /// The digest.
-        digest: &'a [u8] = rest,
-    }
-
-    /// The fingerprint of an SSH key (RFC 4255, section 3.1).
-    SSHFP<'a> {
-        /// The algorithm of the key.
-        algorithm: u8 = u8,
-        /// The fingerprint algorithm.
-        fp_type: u8 = u8,
-        /// The fingerprint.
-        fingerprint: &'a [u8] = rest,
-    }
-
-    /// A key of a zone (RFC 4034, section 2.1).
-    DNSKEY<'a> {
-        /// 256 for a zone key, 257 for a zone key that is also a secure entry point.
-        flags: u16 = u16,
-        /// Always 3.
-        protocol: u8 = u8,
-        /// The algorithm.
-        algorithm: u8 = u8,
-        /// The key.
-        key: &'a [u8] = rest,
-    }
-
-    /// A signature of records (RFC 4034, section 3.1).
-    RRSIG<'a> {
-        /// The type of the records.
-        type_covered: RecordType = record_type,
-        /// The algorithm.
-        algorithm: u8 = u8,
-        /// The number of labels of the owner, without a `*` at the start.
-        labels: u8 = u8,
-        /// The TTL of the records in their zone.
-        original_ttl: u32 = u32,
-        /// When the signature expires, in seconds since 1970, as a [`SerialNumber`](crate::SerialNumber).
-        expiration: u32 = u32,
-        /// When the signature becomes valid, in the same form.
-        inception: u32 = u32,
-        /// The tag of the key.
-        key_tag: u16 = u16,
-        /// The zone of the key.
-        signer: NameRef<'a> = name,
-        /// The signature.
-        signature: &'a [u8] = rest,
-    }
-
-    /// The next name in a zone, and the types at this name (RFC 4034, section 4.1).
-    NSEC<'a> {
-        /// The next name.
-        next: NameRef<'a> = name,
-        /// The types of the owner.
-        types: TypeSet = types,
-    }
-
-    /// The next hash in a zone, and the types at this name (RFC 5155, section 3.2).
-    NSEC3<'a> {
-        /// The hash algorithm.
-        algorithm: u8 = u8,
-        /// 1 for opt-out: unsigned delegations may be between the hashes.
-        flags: u8 = u8,
-        /// The number of additional iterations of the hash.
-        iterations: u16 = u16,
-        /// The salt, which is appended before each iteration.
-        salt: &'a [u8] = counted,
-        /// The next hash.
-        next: &'a [u8] = counted,
-        /// The types of the owner.
-        types: TypeSet = types,
-    }
-
-    /// How the names of a zone are hashed (RFC 5155, section 4.2).
-    NSEC3PARAM<'a> {
-        /// The hash algorithm.
-        algorithm: u8 = u8,
-        /// Always 0.
-        flags: u8 = u8,
-        /// The number of additional iterations of the hash.
-        iterations: u16 = u16,
-        /// The salt, which is appended before each iteration.
-        salt: &'a [u8] = counted,
-    }
-
-    /// A certificate to match (RFC 6698, section 2.1; RFC 8162, section 2).
-    TLSA<'a> {
-        /// The certificate usage: what has to match.
-        usage: u8 = u8,
-        /// The selector: the whole certificate, or its public key.
-        selector: u8 = u8,
-        /// The matching type: the selected content itself, or a hash of it.
-        mtype: u8 = u8,
-        /// The content or its hash.
-        cert: &'a [u8] = rest,
-    }
-
-    /// The types that a parent zone may copy from its child (RFC 7477, section 2.1).
-    CSYNC {
-        /// The lowest serial number of the child at which the parent may copy.
-        serial: u32 = u32,
-        /// Whether the parent may copy immediately (1), and whether the serial number is used (2).
-        flags: u16 = u16,
-        /// The types to copy.
-        types: TypeSet = types,
-    }
-
-    /// The digest of a zone (RFC 8976, section 2.2).
-    ZONEMD<'a> {
-        /// The serial number of the zone.
-        serial: u32 = u32,
-        /// How the records are collated.
-        scheme: u8 = u8,
-        /// The hash algorithm.
-        hash_algorithm: u8 = u8,
-        /// The digest.
-        digest: &'a [u8] = rest,
-    }
-
-    /// How to reach a service (RFC 9460, section 2.2).
-    SVCB<'a> {
-        /// 0 for an alias. Of others, lower values are preferred.
-        priority: u16 = u16,
-        /// The host, or the root for the owner itself.
-        target: NameRef<'a> = name,
-        /// The parameters, each a key and its value.
-        params: Pairs<'a> = params,
-    }
-
-    /// The URI of a service (RFC 7553, section 4).
-    URI<'a> {
-        /// Lower values are tried first.
-        priority: u16 = u16,
-        /// How often the URI is chosen among those of the same priority.
-        weight: u16 = u16,
-        /// The URI.
-        target: &'a [u8] = rest,
-    }
-
-    /// The authorities that may issue certificates for a domain (RFC 8659, section 4.1).
-    CAA<'a> {
-        /// 128 if an authority that does not know the tag must not issue.
-        flags: u8 = u8,
-        /// The tag of the property.
-        tag: &'a [u8] = string,
-        /// The value of the property.
-        value: &'a [u8] = rest,
-    }
-
-    /// The services of a host by their ports, which is obsolete (RFC 1035, section 3.4.2).
-    WKS<'a> {
-        /// The address of the host.
-        address: Ipv4Addr = ipv4,
-        /// The protocol.
-        protocol: u8 = u8,
-        /// A bit for each port.
-        bitmap: &'a [u8] = rest,
-    }
-
-    /// A mapping between mail addresses and those of X.400 (RFC 2163, section 4).
-    PX<'a> {
-        /// Lower values are preferred.
-        preference: u16 = u16,
-        /// The part that is a domain name.
-        map822: NameRef<'a> = name,
-        /// The part that is from an address of X.400.
-        mapx400: NameRef<'a> = name,
-    }
-
-    /// Where a host is, in degrees and metres (RFC 1712, section 3).
-    GPOS<'a> {
-        /// The longitude.
-        longitude: &'a [u8] = string,
-        /// The latitude.
-        latitude: &'a [u8] = string,
-        /// The altitude.
-        altitude: &'a [u8] = string,
-    }
-
-    /// The next name in a zone and the types at this name, in an old form (RFC 2535, section 5.2).
-    NXT<'a> {
-        /// The next name.
-        next: NameRef<'a> = name,
-        /// A bit for each type below 128.
-        bitmap: &'a [u8] = rest,
-    }
-
-    /// A gateway and its key for IPsec (RFC 4025, section 2.1).
-    IPSECKEY<'a> {
-        /// Lower values are preferred.
-        precedence: u8 = u8,
-        /// The type of the gateway, the algorithm of the key, and the gateway.
-        gateway: &'a [u8] = shaped,
-        /// The key.
-        public_key: &'a [u8] = rest,
-    }
-
-    /// The identity of a host, and its rendezvous servers (RFC 8005, section 5).
-    HIP<'a> {
-        /// The length of the tag, the algorithm of the key, its length, the tag and the key.
-        identity: &'a [u8] = shaped,
-        /// The servers.
-        servers: WholeNames<'a> = whole_names,
-    }
-
-    /// The links of a chain of trust anchors, by the registry's template.
-    TALINK<'a> {
-        /// The name before.
-        previous: NameRef<'a> = name,
-        /// The name after.
-        next: NameRef<'a> = name,
-    }
-
-    /// Where to send notifications about a delegation (RFC 9859, section 2.1).
-    DSYNC<'a> {
-        /// The type that a notification is about.
-        notified_type: RecordType = record_type,
-        /// How to notify.
-        scheme: u8 = u8,
-        /// The port.
-        port: u16 = u16,
-        /// The host.
-        target: NameRef<'a> = name,
-    }
-
-    /// A locator of 32 bits (RFC 6742, section 2.2).
-    L32 {
-        /// Lower values are preferred.
-        preference: u16 = u16,
-        /// The locator.
-        locator: Ipv4Addr = ipv4,
-    }
-
-    /// The identifier of a node, or a locator, of 64 bits (RFC 6742, sections 2.1 and 2.3).
-    L64 {
-        /// Lower values are preferred.
-        preference: u16 = u16,
-        /// The identifier or the locator.
-        locator: u64 = u64,
-    }
-
-    /// The making of a key for TSIG (RFC 2930, section 2).
-    TKEY<'a> {
-        /// The algorithm.
-        algorithm: NameRef<'a> = name,
-        /// When the key begins to be valid, in seconds since 1970, a [`SerialNumber`](crate::SerialNumber).
-        inception: u32 = u32,
-        /// When it ends.
-        expiration: u32 = u32,
-        /// How the key is made.
-        mode: u16 = u16,
-        /// An error, or 0.
-        error: u16 = u16,
-        /// The key, or what it is made from.
-        key: &'a [u8] = long,
-        /// Other data.
-        other: &'a [u8] = long,
-    }
-
-    /// The signature of a message (RFC 8945, section 4.2).
-    TSIG<'a> {
-        /// The algorithm.
-        algorithm: NameRef<'a> = name,
-        /// The time, in seconds since 1970.
-        time_signed: u64 = u48,
-        /// The seconds that clocks may differ.
-        fudge: u16 = u16,
-        /// The signature.
-        mac: &'a [u8] = long,
-        /// The identifier of the message that was signed.
-        original_id: u16 = u16,
-        /// An error, or 0.
-        error: u16 = u16,
-        /// Other data.
-        other: &'a [u8] = long,
-    }
-
-    /// A digital object, by the registry's template.
-    DOA<'a> {
-        /// The number of the enterprise.
-        enterprise: u32 = u32,
-        /// The type of the object.
-        object_type: u32 = u32,
-        /// Where the object is.
-        location: u8 = u8,
-        /// Its media type.
-        media_type: &'a [u8] = string,
-        /// The object, or where it is.
-        data: &'a [u8] = rest,
-    }
-
-    /// A relay for multicast (RFC 8777, section 4.2).
-    AMTRELAY<'a> {
-        /// Lower values are preferred.
-        precedence: u8 = u8,
-        /// A bit and 7 bits of the type of the relay, and the relay.
-        relay: &'a [u8] = shaped,
-    }
-}
+each_struct!(structs);
 
 /// Defines `RData`: a variant for each type, with its code, which has one value of a kind or a struct.
 macro_rules! variants {
@@ -442,7 +82,7 @@ macro_rules! variants {
         several { $($(#[$other_doc:meta])* $other:ident = $other_code:literal: $struct:ident $(<$life:lifetime>)?,)* }
     ) => {
         /// The data of a record, by its type. Names and octets are borrowed, from a message that was read or from the
-        /// caller.
+        /// caller. [`owned::RData`] has names and octets of its own.
         ///
         /// ```
         /// use dns_names_wire::{rdata::MX, RData, Record};
@@ -455,7 +95,7 @@ macro_rules! variants {
         /// }
         /// # Ok::<(), dns_names_wire::Error>(())
         /// ```
-        #[derive(Clone, Debug, PartialEq, Eq)]
+        #[derive(Clone, PartialEq, Eq)]
         #[non_exhaustive]
         pub enum RData<'a> {
             $($(#[$doc])* $name($type),)*
@@ -488,7 +128,7 @@ macro_rules! variants {
             /// Reads the data of a class and a type from their first field on.
             #[inline]
             pub(crate) fn take(class: Class, record_type: RecordType, mut fields: Fields<'a>) -> Result<Self, Error> {
-                if !has_type(class, record_type, fields.left().is_empty()) {
+                if class != Class::IN && !fields.are_as_in() {
                     return Ok(RData::Unknown { record_type, octets: fields.left() });
                 }
                 match record_type.code() {
@@ -508,7 +148,7 @@ macro_rules! variants {
             }
 
             /// Appends the octets, without compression.
-            pub(crate) fn put(&self, octets: &mut Vec<u8>) -> Result<(), Error> {
+            pub(crate) fn put(&self, octets: &mut impl Sink) -> Result<(), Error> {
                 match self {
                     $(RData::$name(value) => put::$kind(octets, value),)*
                     $(RData::$other(value) => value.put(octets),)*
@@ -516,165 +156,22 @@ macro_rules! variants {
                 }
             }
         }
+
+        impl fmt::Debug for RData<'_> {
+            fn fmt(&self, f: &mut fmt::Formatter<'_>) -> fmt::Result {
+                match self {
+                    $(RData::$name(value) => f.debug_tuple(stringify!($name)).field(shown!($kind value)).finish(),)*
+                    $(RData::$other(value) => f.debug_tuple(stringify!($other)).field(value).finish(),)*
+                    RData::Unknown { record_type, octets } => {
+                        f.debug_tuple("Unknown").field(record_type).field(&Octets(octets)).finish()
+                    }
+                }
+            }
+        }
     };
 }
 
-variants! {
-    one {
-        /// An IPv4 address (RFC 1035, section 3.4.1).
-        A = 1: Ipv4Addr = ipv4,
-        /// A name server of a zone (RFC 1035, section 3.3.11).
-        NS = 2: NameRef<'a> = name,
-        /// A host that takes mail, which is obsolete (RFC 1035, section 3.3.4).
-        MD = 3: NameRef<'a> = name,
-        /// A host that forwards mail, which is obsolete (RFC 1035, section 3.3.5).
-        MF = 4: NameRef<'a> = name,
-        /// The canonical name of an alias (RFC 1035, section 3.3.1).
-        CNAME = 5: NameRef<'a> = name,
-        /// A host of a mailbox (RFC 1035, section 3.3.3).
-        MB = 7: NameRef<'a> = name,
-        /// A member of a group of mailboxes (RFC 1035, section 3.3.6).
-        MG = 8: NameRef<'a> = name,
-        /// The new name of a mailbox (RFC 1035, section 3.3.8).
-        MR = 9: NameRef<'a> = name,
-        /// A pointer to another name (RFC 1035, section 3.3.12).
-        PTR = 12: NameRef<'a> = name,
-        /// Texts (RFC 1035, section 3.3.14).
-        TXT = 16: Texts<'a> = texts,
-        /// An IPv6 address (RFC 3596, section 2.2).
-        AAAA = 28: Ipv6Addr = ipv6,
-        /// The name that a subtree is an alias of (RFC 6672).
-        DNAME = 39: NameRef<'a> = name,
-        /// SPF texts, now in TXT records (RFC 7208, section 3.1).
-        SPF = 99: Texts<'a> = texts,
-        /// An EUI-48 address (RFC 7043, section 3).
-        EUI48 = 108: [u8; 6] = eui48,
-        /// An EUI-64 address (RFC 7043, section 4).
-        EUI64 = 109: [u8; 8] = eui64,
-        /// An address of X.25 (RFC 1183, section 3.1).
-        X25 = 19: &'a [u8] = string,
-        /// An address of ISDN, and a subaddress if there is one (RFC 1183, section 3.2).
-        ISDN = 20: Texts<'a> = texts,
-        /// An address of OSI (RFC 1706, section 5).
-        NSAP = 22: &'a [u8] = rest,
-        /// The name of an address of OSI (RFC 1706, section 6).
-        NSAPPTR = 23: NameRef<'a> = name,
-        /// A location: 16 octets if the first, the version, is 0 (RFC 1876, section 2).
-        LOC = 29: &'a [u8] = shaped,
-        /// Address prefixes (RFC 3123, section 4).
-        APL = 42: Prefixes<'a> = prefixes,
-        /// Which client of DHCP owns a name (RFC 4701, section 3.1).
-        DHCID = 49: &'a [u8] = rest,
-        /// The state of a zone, by the registry's template.
-        NINFO = 56: Texts<'a> = texts,
-        /// What is known of an application, by the registry's template.
-        AVC = 258: Texts<'a> = texts,
-        /// What a resolver says of itself (RFC 9606, section 4).
-        RESINFO = 261: Texts<'a> = texts,
-        /// A public address of a wallet, by the registry's template.
-        WALLET = 262: Texts<'a> = texts,
-        /// What an authority claims, by the registry's template.
-        CLA = 263: Texts<'a> = texts,
-    }
-    several {
-        /// The services of a host by their ports.
-        WKS = 11: WKS<'a>,
-        /// A host that routes to another one (RFC 1183, section 3.3).
-        RT = 21: MX<'a>,
-        /// A mapping between mail addresses and those of X.400.
-        PX = 26: PX<'a>,
-        /// Where a host is.
-        GPOS = 27: GPOS<'a>,
-        /// The next name in a zone and the types at this name, in an old form.
-        NXT = 30: NXT<'a>,
-        /// A gateway and its key for IPsec.
-        IPSECKEY = 45: IPSECKEY<'a>,
-        /// The identity of a host.
-        HIP = 55: HIP<'a>,
-        /// A key for the encryption of NAPTR records, by the registry's template.
-        RKEY = 57: DNSKEY<'a>,
-        /// The links of a chain of trust anchors.
-        TALINK = 58: TALINK<'a>,
-        /// Where to send notifications about a delegation.
-        DSYNC = 66: DSYNC<'a>,
-        /// The identifier of a node (RFC 6742, section 2.1).
-        NID = 104: L64,
-        /// A locator of 32 bits.
-        L32 = 105: L32,
-        /// A locator of 64 bits (RFC 6742, section 2.3).
-        L64 = 106: L64,
-        /// The name of locators (RFC 6742, section 2.4).
-        LP = 107: MX<'a>,
-        /// The making of a key for TSIG.
-        TKEY = 249: TKEY<'a>,
-        /// The signature of a message.
-        TSIG = 250: TSIG<'a>,
-        /// A digital object.
-        DOA = 259: DOA<'a>,
-        /// A relay for multicast.
-        AMTRELAY = 260: AMTRELAY<'a>,
-        /// The digest of a key of a zone that is looked up aside (RFC 4431, section 2).
-        DLV = 32769: DS<'a>,
-        /// The start of a zone of authority.
-        SOA = 6: SOA<'a>,
-        /// A mailbox for requests and one for errors (RFC 1035, section 3.3.7).
-        MINFO = 14: Mailboxes<'a>,
-        /// The CPU and the operating system of a host.
-        HINFO = 13: HINFO<'a>,
-        /// A mail server for a domain.
-        MX = 15: MX<'a>,
-        /// The person responsible for a name (RFC 1183, section 2.2).
-        RP = 17: Mailboxes<'a>,
-        /// A server of an AFS or DCE cell (RFC 1183, section 1).
-        AFSDB = 18: MX<'a>,
-        /// A signature of a message (RFC 2931).
-        SIG = 24: RRSIG<'a>,
-        /// A key of a host (RFC 2535, section 3.1).
-        KEY = 25: DNSKEY<'a>,
-        /// The host and the port of a service.
-        SRV = 33: SRV<'a>,
-        /// A rule that rewrites a name.
-        NAPTR = 35: NAPTR<'a>,
-        /// A host that exchanges keys (RFC 2230, section 3).
-        KX = 36: MX<'a>,
-        /// A certificate.
-        CERT = 37: CERT<'a>,
-        /// The digest of a key of a child zone.
-        DS = 43: DS<'a>,
-        /// The fingerprint of an SSH key.
-        SSHFP = 44: SSHFP<'a>,
-        /// A signature of records.
-        RRSIG = 46: RRSIG<'a>,
-        /// The next name in a zone, and the types at this name.
-        NSEC = 47: NSEC<'a>,
-        /// A key of a zone.
-        DNSKEY = 48: DNSKEY<'a>,
-        /// The next hash in a zone, and the types at this name.
-        NSEC3 = 50: NSEC3<'a>,
-        /// How the names of a zone are hashed.
-        NSEC3PARAM = 51: NSEC3PARAM<'a>,
-        /// A certificate of a TLS server.
-        TLSA = 52: TLSA<'a>,
-        /// A certificate for mail.
-        SMIMEA = 53: TLSA<'a>,
-        /// The child's copy of a DS (RFC 7344, section 3.1).
-        CDS = 59: DS<'a>,
-        /// The child's copy of a DNSKEY (RFC 7344, section 3.2).
-        CDNSKEY = 60: DNSKEY<'a>,
-        /// The types that a parent zone may copy from its child.
-        CSYNC = 62: CSYNC,
-        /// The digest of a zone.
-        ZONEMD = 63: ZONEMD<'a>,
-        /// How to reach a service.
-        SVCB = 64: SVCB<'a>,
-        /// How to reach a service over HTTPS.
-        HTTPS = 65: SVCB<'a>,
-        /// The URI of a service.
-        URI = 256: URI<'a>,
-        /// The authorities that may issue certificates for a domain.
-        CAA = 257: CAA<'a>,
-    }
-}
+each_variant!(variants);
 
 impl<'a> RData<'a> {
     /// Returns the address of A or AAAA data. `IpAddr`, `Ipv4Addr` and `Ipv6Addr` implement `TryFrom` for the same.
@@ -711,6 +208,34 @@ impl<'a> RData<'a> {
         let mut octets = Vec::new();
         self.put(&mut octets)?;
         Ok(octets)
+    }
+
+    /// Returns the data with names and octets of their own.
+    ///
+    /// ```
+    /// use dns_names_wire::{owned, RecordBuf};
+    ///
+    /// let data: owned::RData = "a. 60 IN MX 10 b.".parse::<RecordBuf>()?.data()?.into_owned();
+    /// assert_eq!(data, owned::MX { preference: 10, exchange: "b.".parse()? }.into());
+    /// # Ok::<(), dns_names_wire::Error>(())
+    /// ```
+    pub fn into_owned(self) -> owned::RData {
+        self.into()
+    }
+}
+
+/// Prints the data as in a master file.
+///
+/// ```
+/// use dns_names_wire::{rdata::CAA, RData};
+///
+/// let data = RData::CAA(CAA { flags: 0, tag: b"issue", value: b"ca.example" });
+/// assert_eq!(data.to_string(), "0 issue \"ca.example\"");
+/// assert_eq!(format!("{data:?}"), r#"CAA(CAA { flags: 0, tag: "issue", value: "ca.example" })"#);
+/// ```
+impl fmt::Display for RData<'_> {
+    fn fmt(&self, f: &mut fmt::Formatter<'_>) -> fmt::Result {
+        f.write_str(&data_text(self).map_err(|_| fmt::Error)?)
     }
 }
 
@@ -768,20 +293,39 @@ impl<'a> TryFrom<RData<'a>> for Ipv6Addr {
     }
 }
 
-impl From<CSYNC> for RData<'_> {
-    fn from(data: CSYNC) -> Self {
-        RData::CSYNC(data)
-    }
+/// Passes the structs that are the data of the type of their name to a macro.
+macro_rules! each_own_struct {
+    ($then:ident) => {
+        $then! {
+            WKS<'a>, PX<'a>, GPOS<'a>, NXT<'a>, IPSECKEY<'a>, HIP<'a>, TALINK<'a>, DSYNC<'a>, L32, L64, TKEY<'a>, TSIG<'a>,
+            DOA<'a>, AMTRELAY<'a>, SOA<'a>, HINFO<'a>, MX<'a>, SRV<'a>, NAPTR<'a>, CERT<'a>, DS<'a>, SSHFP<'a>, RRSIG<'a>,
+            NSEC<'a>, DNSKEY<'a>, NSEC3<'a>, NSEC3PARAM<'a>, TLSA<'a>, CSYNC, ZONEMD<'a>, SVCB<'a>, URI<'a>, CAA<'a>,
+        }
+    };
 }
 
 macro_rules! from_struct {
-    ($($name:ident,)*) => {$(
-        impl<'a> From<$name<'a>> for RData<'a> {
-            fn from(data: $name<'a>) -> Self {
+    ($($name:ident $(<$life:lifetime>)?,)*) => {$(
+        impl<'a> From<$name $(<$life>)?> for RData<'a> {
+            fn from(data: $name $(<$life>)?) -> Self {
                 RData::$name(data)
+            }
+        }
+
+        /// Returns data of another type as the error.
+        impl<'a> TryFrom<RData<'a>> for $name $(<$life>)? {
+            type Error = RData<'a>;
+
+            fn try_from(data: RData<'a>) -> Result<Self, RData<'a>> {
+                match data {
+                    RData::$name(data) => Ok(data),
+                    other => Err(other),
+                }
             }
         }
     )*};
 }
 
-from_struct! { SOA, HINFO, MX, SRV, NAPTR, CERT, DS, SSHFP, RRSIG, NSEC, DNSKEY, NSEC3, NSEC3PARAM, TLSA, ZONEMD, SVCB, URI, CAA, }
+each_own_struct!(from_struct);
+
+pub(crate) use each_own_struct;

@@ -15,7 +15,7 @@ use core::hash::{Hash, Hasher};
 /// The octets of a record between its owner and its data: type, class, TTL and data length.
 const FIXED_SIZE: usize = 10;
 /// The parts of a record's text: the owner, the TTL, the class, the type and the data.
-const TEXT_PARTS: usize = 5;
+pub(crate) const TEXT_PARTS: usize = 5;
 
 /// A record that was read from a message (RFC 1035, section 4.1.3). Its owner and its data are borrowed from the
 /// message. The data are not checked until [`data`](Record::data) or [`fields`](Record::fields) is called.
@@ -221,7 +221,7 @@ impl<'a> Record<'a> {
         let left = (self.end - self.data_offset()).checked_sub(octets).ok_or_else(cut)?;
         let mut form = [0; FORM_SIZE];
         let len = door::data_name(self.message(), self.data_offset() + octets, left, &mut form)?;
-        Ok(Name::of_form(form, len))
+        Ok(Name::of_form(&form, len, true))
     }
 
     /// Returns an iterator over the fields of the data, by the record's class and type. Data of an unknown type are one
@@ -333,7 +333,17 @@ impl<'a> Record<'a> {
     /// appended.
     pub(crate) fn put(&self, octets: &mut Vec<u8>) -> Result<usize, Error> {
         let fields = (self.record_type(), self.class(), self.ttl);
-        put_record(octets, self.owner, fields, |octets| self.fields().put_whole(octets))
+        put_record(octets, self.owner, fields, |octets| self.put_data(octets))
+    }
+
+    /// Stores the octets of the data, with each name in its wire form, and returns their number.
+    pub(crate) fn store_data(&self, room: &mut [u8]) -> Result<usize, Error> {
+        door::store_record_data(&self.message()[..self.end], self.owner.start(), room)
+    }
+
+    /// Appends the octets of the data, with each name in its wire form.
+    pub(crate) fn put_data(&self, octets: &mut Vec<u8>) -> Result<(), Error> {
+        door::record_data(&self.message()[..self.end], self.owner.start(), octets)
     }
 
     /// Returns the offset after the record, where the next one begins.
@@ -408,15 +418,10 @@ impl fmt::Display for Record<'_> {
     }
 }
 
+/// Prints the line, as `Display` does.
 impl fmt::Debug for Record<'_> {
     fn fmt(&self, f: &mut fmt::Formatter<'_>) -> fmt::Result {
-        f.debug_struct("Record")
-            .field("owner", &self.owner)
-            .field("record_type", &self.record_type())
-            .field("class", &self.class())
-            .field("ttl", &self.ttl())
-            .field("data", &self.raw_data())
-            .finish()
+        f.debug_tuple("Record").field(&format_args!("{self}")).finish()
     }
 }
 

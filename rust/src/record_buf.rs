@@ -5,7 +5,8 @@ use crate::error::{Error, ErrorKind};
 use crate::name::Name;
 use crate::name_ref::NameRef;
 use crate::rdata::RData;
-use crate::record::Record;
+use crate::record::{Record, TEXT_PARTS};
+use alloc::string::String;
 use alloc::vec::Vec;
 use core::cmp::Ordering;
 use core::fmt;
@@ -300,7 +301,16 @@ pub(crate) fn put_record(
     }
 }
 
-/// Prints a line of a master file, as [`Record`] does.
+/// Returns the text of data in a master file.
+pub(crate) fn data_text(data: &RData<'_>) -> Result<String, Error> {
+    let (mut octets, mut line) = (Vec::new(), Vec::new());
+    let root = Name::root();
+    put_record(&mut octets, (&root).into(), (data.record_type(), Class::IN, 0), |octets| data.put(octets))?;
+    let line = door::print_record(&octets, 0, &mut line)?;
+    // No owner, TTL, class or type has a space in its text.
+    Ok(line.splitn(TEXT_PARTS, ' ').nth(TEXT_PARTS - 1).unwrap_or_default().into())
+}
+
 /// As [`Record`] compares.
 impl PartialEq for RecordBuf {
     fn eq(&self, other: &Self) -> bool {
@@ -329,15 +339,17 @@ impl Hash for RecordBuf {
     }
 }
 
+/// Prints a line of a master file, as [`Record`] does.
 impl fmt::Display for RecordBuf {
     fn fmt(&self, f: &mut fmt::Formatter<'_>) -> fmt::Result {
         fmt::Display::fmt(&self.as_record(), f)
     }
 }
 
+/// Prints the line, as `Display` does.
 impl fmt::Debug for RecordBuf {
     fn fmt(&self, f: &mut fmt::Formatter<'_>) -> fmt::Result {
-        fmt::Debug::fmt(&self.as_record(), f)
+        f.debug_tuple("RecordBuf").field(&format_args!("{self}")).finish()
     }
 }
 
@@ -347,6 +359,15 @@ impl FromStr for RecordBuf {
 
     fn from_str(line: &str) -> Result<Self, Error> {
         RecordBuf::parse(line, &[])
+    }
+}
+
+/// The same as [`RecordBuf::from_text`], without an origin.
+impl TryFrom<&str> for RecordBuf {
+    type Error = Error;
+
+    fn try_from(line: &str) -> Result<Self, Error> {
+        line.parse()
     }
 }
 

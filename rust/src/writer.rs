@@ -1,378 +1,431 @@
-//! Messages written with compression.
+//! Messages that are written item by item, into a buffer of the caller.
 use crate::codes::{Class, RecordType};
 use crate::door;
-use crate::error::{Error, ErrorKind};
-use crate::name::Name;
+use crate::error::{Error, ErrorKind, Section};
+use crate::header::{Header, ResponseCode};
+use crate::message::{Edns, Message};
+use crate::name_ref::NameRef;
+use crate::octets::{Room, STACK_SIZE};
+use crate::rdata::RData;
+use crate::record::Record;
+use crate::record_buf::RecordBuf;
+use crate::record_set::RecordSet;
 use alloc::vec::Vec;
+use core::fmt;
 
-/// The kinds of items, in `dns_names_wire.h`.
-const BYTES: u8 = 0;
-const NAME: u8 = 1;
-const RECORD: u8 = 2;
-const STANDARD_NAME: u8 = 3;
-const CANONICAL_NAME: u8 = 4;
-const OTHER_NAME: u8 = 5;
-
-/// The initial capacity, in bytes of items.
-const USUAL_SIZE: usize = 512;
-
-/// Writes a message from parts: bytes (as its header), questions, records and names. Names are compressed (RFC 1035,
-/// section 4.1.4).
-///
-/// The parts are collected, and [`finish`](MessageWriter::finish) writes them from the first byte of the message.
-/// Adding a part never fails: `finish` fails if a part does not fit, or has too much data.
+/// Whether a message is truncated if it has no room for an item (RFC 2181, section 9).
 ///
 /// ```
-/// use dns_names_wire::{records, Class, MessageWriter, Name, RecordType};
+/// use dns_names_wire::{Header, Message, MessageBuilder, Need, RecordBuf, Section};
 ///
-/// let zone: Name = "example.com.".parse()?;
-/// let mut writer = MessageWriter::new();
-/// writer
-///     .bytes(b"\x12\x34\x84\0\0\x01\0\x01\0\0\0\0")
-///     .question(&zone, RecordType::NS, Class::IN)
-///     .name_record(&zone, RecordType::NS, Class::IN, 300, &"ns1.example.com.".parse()?);
-/// let message = writer.finish()?;
-/// assert_eq!(message.len(), 12 + 17 + 2 + 10 + 6);
-/// let record = records(&message, 29).next().unwrap()?;
-/// assert_eq!(record.data_name()?.to_string(), "ns1.example.com.");
+/// let record: RecordBuf = "a. 60 A 192.0.2.1".parse()?;
+/// for (need, is_truncated) in [(Need::Required, true), (Need::Optional, false)] {
+///     let octets = MessageBuilder::new(Header::default()).records(Section::Answers, need, [&record]).finish(16)?;
+///     assert_eq!(Message::read(&octets)?.header().truncation, is_truncated);
+/// }
 /// # Ok::<(), dns_names_wire::Error>(())
 /// ```
-#[derive(Clone, Debug)]
-pub struct MessageWriter {
-    /// The list of items that `dnw_message_write` takes.
-    list: Vec<u8>,
-    /// The number of items in the list, and the number of parts.
-    items: usize,
-    parts: usize,
-    /// The parts that are not exactly one item.
-    joined: Vec<Joined>,
-    /// Whether a part is longer than any message. That part and later ones are not in the list.
-    is_over: bool,
-    max_size: u16,
-    is_canonical: bool,
+#[derive(Clone, Copy, Debug, PartialEq, Eq, Hash)]
+pub enum Need {
+    /// The message is truncated without it: TC is set.
+    Required,
+    /// The message is whole without it.
+    Optional,
 }
 
-/// A part of no item or of more than one.
-#[derive(Clone, Debug)]
-struct Joined {
-    /// The number of items before it, and of their bytes in the list.
-    before: usize,
-    start: usize,
-    items: usize,
+/// Writes a message into a buffer, item by item: the questions, then the records of each section. Names are compressed
+/// (RFC 1035, section 4.1.4; RFC 3597, section 4). Nothing is allocated, unless the data of a record have more than 512
+/// octets.
+///
+/// Each item is added whole or not at all, and the message is complete after each call. An item that fails leaves the
+/// message unchanged, but for TC in [`set`](MessageWriter::set). It fails with `MessageTooLong` if there is no room for
+/// it, with `BadItem` if a later section has items already or if it comes after [`last`](MessageWriter::last), and with
+/// `BadData` if its data are not those of its type.
+///
+/// ```
+/// use dns_names_wire::{Class, Header, Message, MessageWriter, Name, RData, RecordType, Section};
+///
+/// let (zone, host): (Name, Name) = ("example.com.".parse()?, "ns1.example.com.".parse()?);
+/// let mut room = [0; 512];
+/// let mut writer = MessageWriter::new(&mut room, 512, &Header::default())?;
+/// writer.question(&zone, RecordType::NS, Class::IN)?;
+/// writer.data(Section::Answers, &zone, 300, RData::NS((&host).into()))?;
+/// let octets = writer.finish();
+/// assert_eq!(octets.len(), 12 + 17 + 2 + 10 + 6);
+/// assert_eq!(Message::read(octets)?.answers().next().unwrap().data_name()?, host);
+/// # Ok::<(), dns_names_wire::Error>(())
+/// ```
+pub struct MessageWriter<'m> {
+    message: &'m mut [u8],
+    state: door::Writer,
+    /// the response code
+    code: u16,
+    /// the octets that are held back for an OPT record
+    held: usize,
 }
 
-impl MessageWriter {
-    /// Returns a writer for messages of at most 65535 bytes.
+impl<'m> MessageWriter<'m> {
+    /// Begins a message of at most `max_size` octets with this header, whose counts are not used. A response code above
+    /// 15 is written by [`edns`](MessageWriter::edns).
+    ///
+    /// # Errors
+    ///
+    /// `NoRoom` if the buffer has fewer than 12 octets.
     ///
     /// ```
-    /// assert!(dns_names_wire::MessageWriter::new().finish()?.is_empty());
+    /// use dns_names_wire::{Header, MessageWriter};
+    ///
+    /// let mut room = [0; 12];
+    /// assert_eq!(MessageWriter::new(&mut room, 512, &Header::default())?.finish(), [0; 12]);
     /// # Ok::<(), dns_names_wire::Error>(())
     /// ```
-    pub fn new() -> Self {
-        MessageWriter::with_max_size(u16::MAX)
+    pub fn new(message: &'m mut [u8], max_size: usize, header: &Header) -> Result<Self, Error> {
+        let mut writer =
+            MessageWriter { message, state: door::Writer::none(), code: header.response_code.into(), held: 0 };
+        writer.state.begin(writer.message, max_size, (header.id, header.flag_bits()))?;
+        Ok(writer)
     }
 
-    /// Returns a writer for messages of at most `max_size` bytes.
+    /// Begins the reply to a request, in at most `max_size` octets.
+    ///
+    /// It has the id, the operation code, RD, CD and the question of the request (RFC 1035, section 4.1.1; RFC 4035,
+    /// section 3.2.2), and AA, RA, AD and the response code of `header`. But [`response_code`] is `BADVERS` if the
+    /// version of EDNS is above 0 (RFC 6891, section 6.1.3), and `FormErr`, without a question and EDNS, if the request
+    /// is not complete, its EDNS is not valid (RFC 6891, section 7), or it has more than one question (RFC 9619).
+    ///
+    /// If the request has EDNS, the size of the largest message that it accepts and DO are returned. Then the reply needs
+    /// an OPT record, and its octets are held back until [`edns`](MessageWriter::edns). Over UDP,
+    /// [`set_max_size`](MessageWriter::set_max_size) to that size.
+    ///
+    /// [`response_code`]: MessageWriter::response_code
+    ///
+    /// # Errors
+    ///
+    /// `BadItem` if the request has no whole header or is a response; or `MessageTooLong` if there is no room for the
+    /// header or the question.
     ///
     /// ```
-    /// use dns_names_wire::{ErrorKind, MessageWriter};
+    /// use dns_names_wire::{Header, MessageBuilder, MessageWriter, Name, RecordType};
     ///
-    /// let mut writer = MessageWriter::with_max_size(512);
-    /// assert_eq!(writer.bytes(&[0; 513]).finish().unwrap_err().kind(), ErrorKind::MessageTooLong);
-    /// ```
-    pub fn with_max_size(max_size: u16) -> Self {
-        let list = Vec::with_capacity(USUAL_SIZE);
-        MessageWriter { list, items: 0, parts: 0, joined: Vec::new(), is_over: false, max_size, is_canonical: false }
-    }
-
-    /// Sets whether the names in records' data are written in canonical form (RFC 4034, section 6.2).
-    ///
-    /// ```
-    /// use dns_names_wire::{Class, MessageWriter, Name, RecordType};
-    ///
-    /// let name: Name = "A.".parse()?;
-    /// let mut writer = MessageWriter::new();
-    /// writer.set_canonical_form(true).name_record(&name, RecordType::NS, Class::IN, 0, &name);
-    /// assert!(writer.finish()?.ends_with(b"\x01a\0"));
+    /// let query = MessageBuilder::query(7, &Name::root(), RecordType::NS).finish(512)?;
+    /// let mut room = [0; 512];
+    /// let (reply, edns) = MessageWriter::reply_to(&mut room, 512, &query, &Header::default())?;
+    /// assert_eq!(edns, None);
+    /// assert_eq!(reply.finish(), b"\0\x07\x81\0\0\x01\0\0\0\0\0\0\0\0\x02\0\x01");
     /// # Ok::<(), dns_names_wire::Error>(())
     /// ```
-    pub fn set_canonical_form(&mut self, is_canonical: bool) -> &mut Self {
-        self.is_canonical = is_canonical;
+    pub fn reply_to(
+        message: &'m mut [u8],
+        max_size: usize,
+        request: &[u8],
+        header: &Header,
+    ) -> Result<(Self, Option<Edns<'static>>), Error> {
+        let mut writer = MessageWriter { message, state: door::Writer::none(), code: 0, held: 0 };
+        let asked = writer.state.reply(writer.message, max_size, request, header.flag_bits())?;
+        writer.code = asked.response_code;
+        if !asked.is_present {
+            return Ok((writer, None));
+        }
+        writer.held = door::EDNS_SIZE;
+        let (max_payload, version, dnssec_ok) = (asked.max_payload, asked.version, asked.dnssec_ok);
+        Ok((writer, Some(Edns { max_payload, version, dnssec_ok, options: &[] })))
+    }
+
+    /// Adds a question.
+    ///
+    /// # Errors
+    ///
+    /// See [`MessageWriter`].
+    ///
+    /// ```
+    /// use dns_names_wire::{Class, ErrorKind, Header, MessageWriter, Name, RecordType};
+    ///
+    /// let mut room = [0; 512];
+    /// let mut writer = MessageWriter::new(&mut room, 17, &Header::default())?;
+    /// writer.question(&Name::root(), RecordType::NS, Class::IN)?;
+    /// let error = writer.question(&Name::root(), RecordType::NS, Class::IN).map(drop).unwrap_err();
+    /// assert_eq!((error.kind(), writer.octets().len()), (ErrorKind::MessageTooLong, 17));
+    /// # Ok::<(), dns_names_wire::Error>(())
+    /// ```
+    pub fn question<'n>(
+        &mut self,
+        name: impl Into<NameRef<'n>>,
+        record_type: RecordType,
+        class: Class,
+    ) -> Result<&mut Self, Error> {
+        let form = (record_type.code(), class.code());
+        name.into().with_form(|name| self.state.question(self.message, name, form))?;
+        Ok(self)
+    }
+
+    /// Adds a record of class IN with these data to a section.
+    ///
+    /// # Errors
+    ///
+    /// See [`MessageWriter`]; and `DataTooLong` as [`RecordBuf::new`].
+    ///
+    /// ```
+    /// use dns_names_wire::{Header, Message, MessageWriter, Name, Section};
+    ///
+    /// let mut room = [0; 512];
+    /// let mut writer = MessageWriter::new(&mut room, 512, &Header::default())?;
+    /// writer.data(Section::Answers, &Name::root(), 60, std::net::Ipv4Addr::LOCALHOST)?;
+    /// assert_eq!(Message::read(writer.octets())?.answers().next().unwrap().to_string(), ".\t60\tIN\tA\t127.0.0.1");
+    /// # Ok::<(), dns_names_wire::Error>(())
+    /// ```
+    pub fn data<'n, 'd>(
+        &mut self,
+        section: Section,
+        owner: impl Into<NameRef<'n>>,
+        ttl: u32,
+        data: impl Into<RData<'d>>,
+    ) -> Result<&mut Self, Error> {
+        let (mut room, data) = (Room::new(), data.into());
+        data.put(&mut room)?;
+        self.raw_data(section, owner, (data.record_type(), Class::IN, ttl), room.as_slice())
+    }
+
+    /// Adds a record with these octets as its data, whose names are not compressed, and with this type, class and TTL.
+    ///
+    /// # Errors
+    ///
+    /// See [`MessageWriter`].
+    ///
+    /// ```
+    /// use dns_names_wire::{Class, ErrorKind, Header, MessageWriter, Name, RecordType, Section};
+    ///
+    /// let mut room = [0; 512];
+    /// let mut writer = MessageWriter::new(&mut room, 512, &Header::default())?;
+    /// let fixed = (RecordType::A, Class::IN, 60);
+    /// writer.raw_data(Section::Answers, &Name::root(), fixed, &[192, 0, 2, 1])?;
+    /// let error = writer.raw_data(Section::Answers, &Name::root(), fixed, &[192, 0, 2]).map(drop).unwrap_err();
+    /// assert_eq!(error.kind(), ErrorKind::BadData);
+    /// # Ok::<(), dns_names_wire::Error>(())
+    /// ```
+    pub fn raw_data<'n>(
+        &mut self,
+        section: Section,
+        owner: impl Into<NameRef<'n>>,
+        (record_type, class, ttl): (RecordType, Class, u32),
+        data: &[u8],
+    ) -> Result<&mut Self, Error> {
+        let fixed = (record_type.code(), class.code(), ttl);
+        owner.into().with_form(|owner| self.state.record(self.message, section, owner, fixed, data))?;
+        Ok(self)
+    }
+
+    /// Adds a copy of a record, of another message or owned, to a section.
+    ///
+    /// # Errors
+    ///
+    /// See [`MessageWriter`]; and the errors of [`Record::data`] for data that are not valid.
+    ///
+    /// ```
+    /// use dns_names_wire::{Header, Message, MessageWriter, RecordBuf, Section};
+    ///
+    /// let record: RecordBuf = "a. 60 NS b.a.".parse()?;
+    /// let mut room = [0; 512];
+    /// let mut writer = MessageWriter::new(&mut room, 512, &Header::default())?;
+    /// writer.record(Section::Answers, &record)?;
+    /// let octets = writer.finish();
+    /// assert!(octets.ends_with(b"\x01b\xC0\x0C"));
+    /// assert_eq!(Message::read(octets)?.answers().next(), Some(record.as_record()));
+    /// # Ok::<(), dns_names_wire::Error>(())
+    /// ```
+    pub fn record<'r>(&mut self, section: Section, record: impl Into<Record<'r>>) -> Result<&mut Self, Error> {
+        let record = record.into();
+        let fixed = (record.record_type(), record.class(), record.ttl());
+        let mut room = [0; STACK_SIZE];
+        match record.store_data(&mut room) {
+            Ok(len) => self.raw_data(section, record.owner(), fixed, &room[..len]),
+            Err(error) if error.kind() == ErrorKind::NoRoom => {
+                let mut data = Vec::new();
+                record.put_data(&mut data)?;
+                self.raw_data(section, record.owner(), fixed, &data)
+            }
+            Err(error) => Err(error),
+        }
+    }
+
+    /// Adds the records of a set to a section, or none of them (RFC 2181, section 5). If there is no room for them and
+    /// they are required, TC is set.
+    ///
+    /// # Errors
+    ///
+    /// See [`MessageWriter`].
+    ///
+    /// ```
+    /// use dns_names_wire::{ErrorKind, Header, Message, MessageWriter, Need, RecordBuf, RecordSet, Section};
+    ///
+    /// let records = ["a. 60 A 192.0.2.1", "a. 60 A 192.0.2.2"].map(|line| line.parse::<RecordBuf>().unwrap());
+    /// let sets = RecordSet::group(&records)?;
+    /// let mut room = [0; 32];
+    /// let mut writer = MessageWriter::new(&mut room, 512, &Header::default())?;
+    /// let error = writer.set(Section::Answers, Need::Required, &sets[0]).map(drop).unwrap_err();
+    /// assert_eq!(error.kind(), ErrorKind::MessageTooLong);
+    /// assert!(Message::read(writer.octets())?.header().truncation);
+    /// # Ok::<(), dns_names_wire::Error>(())
+    /// ```
+    pub fn set(&mut self, section: Section, need: Need, set: &RecordSet) -> Result<&mut Self, Error> {
+        let fixed = (set.record_type().code(), set.class().code(), set.ttl());
+        let place = (section, need == Need::Required);
+        self.state.set(self.message, place, set.owner().as_wire(), fixed, set.as_list())?;
+        Ok(self)
+    }
+
+    /// Holds back octets of the maximum, for items that come last.
+    ///
+    /// ```
+    /// use dns_names_wire::{Header, MessageWriter, Name, Section};
+    /// use std::net::Ipv4Addr;
+    ///
+    /// let mut room = [0; 27];
+    /// let mut writer = MessageWriter::new(&mut room, 27, &Header::default())?;
+    /// writer.hold(1);
+    /// assert!(writer.data(Section::Answers, &Name::root(), 60, Ipv4Addr::LOCALHOST).is_err());
+    /// writer.release(1);
+    /// assert!(writer.data(Section::Answers, &Name::root(), 60, Ipv4Addr::LOCALHOST).is_ok());
+    /// # Ok::<(), dns_names_wire::Error>(())
+    /// ```
+    pub fn hold(&mut self, octets: usize) -> &mut Self {
+        self.state.hold(octets);
         self
     }
 
-    /// Adds a name. Whether it is fully qualified is not written.
-    ///
-    /// ```
-    /// use dns_names_wire::{MessageWriter, Name};
-    ///
-    /// let name: Name = "a.".parse()?;
-    /// assert_eq!(MessageWriter::new().push(&name).push(&name).finish()?, b"\x01a\0\xC0\0");
-    /// # Ok::<(), dns_names_wire::Error>(())
-    /// ```
-    pub fn push(&mut self, name: &Name) -> &mut Self {
-        self.add_part(|list| add_name(list, name))
+    /// Gives back octets that are held back, or all if there are fewer.
+    pub fn release(&mut self, octets: usize) -> &mut Self {
+        self.state.release(octets);
+        self
     }
 
-    /// Adds bytes unchanged, for example a header.
+    /// Adds an OPT record with the response code (RFC 6891, section 6.1). In a reply, the octets that are held back for
+    /// it are used.
+    ///
+    /// # Errors
+    ///
+    /// See [`MessageWriter`]. A second OPT record is not noticed.
     ///
     /// ```
-    /// assert_eq!(dns_names_wire::MessageWriter::new().bytes(b"\x12\x34").finish()?, b"\x12\x34");
+    /// use dns_names_wire::{Edns, Header, Message, MessageWriter, ResponseCode};
+    ///
+    /// let mut header = Header::default();
+    /// header.response_code = ResponseCode::BADCOOKIE;
+    /// let mut room = [0; 512];
+    /// let mut writer = MessageWriter::new(&mut room, 512, &header)?;
+    /// writer.edns(&Edns::new(1232))?;
+    /// let message = Message::read(writer.finish())?;
+    /// assert_eq!(message.response_code()?, ResponseCode::BADCOOKIE);
     /// # Ok::<(), dns_names_wire::Error>(())
     /// ```
-    pub fn bytes(&mut self, bytes: &[u8]) -> &mut Self {
-        self.add_part(|list| add_bytes(list, bytes))
+    pub fn edns(&mut self, edns: &Edns<'_>) -> Result<&mut Self, Error> {
+        self.padded_edns(edns, 0)
     }
 
-    /// Adds a question (RFC 1035, section 4.1.2).
+    /// As [`edns`](MessageWriter::edns), with an option that pads the message to a multiple of `block` octets (RFC 7830;
+    /// RFC 8467), or of 512 if it is more. No option is added if `block` is 0, or if there is no room for that.
+    ///
+    /// # Errors
+    ///
+    /// The errors of [`edns`](MessageWriter::edns).
     ///
     /// ```
-    /// use dns_names_wire::{Class, MessageWriter, Name, RecordType};
+    /// use dns_names_wire::{Edns, Header, MessageWriter};
     ///
-    /// let mut writer = MessageWriter::new();
-    /// writer.question(&Name::root(), RecordType::NS, Class::IN);
-    /// assert_eq!(writer.finish()?, b"\0\0\x02\0\x01");
+    /// let mut room = [0; 512];
+    /// let mut writer = MessageWriter::new(&mut room, 512, &Header::default())?;
+    /// writer.padded_edns(&Edns::new(1232), 128)?;
+    /// assert_eq!(writer.finish().len(), 128);
     /// # Ok::<(), dns_names_wire::Error>(())
     /// ```
-    pub fn question(&mut self, name: &Name, record_type: RecordType, class: Class) -> &mut Self {
-        let [type_high, type_low] = record_type.code().to_be_bytes();
-        let [class_high, class_low] = class.code().to_be_bytes();
-        self.add_part(|list| add_name(list, name) + add_bytes(list, &[type_high, type_low, class_high, class_low]))
+    pub fn padded_edns(&mut self, edns: &Edns<'_>, block: u16) -> Result<&mut Self, Error> {
+        let fields = (edns.max_payload, self.code, edns.version, edns.dnssec_ok);
+        self.state.edns(self.message, (self.held, block), fields, edns.options)?;
+        self.held = 0;
+        Ok(self)
     }
 
-    /// Adds a record. Its data are the fields of its type; the names among them are compressed if the type is one of
-    /// RFC 1035 (RFC 3597, section 4). [`finish`](MessageWriter::finish) fails with `BadData` if they are not, and with
-    /// `MessageTooLong` if they have more than 65535 octets.
+    /// Adds a record to the Additional section after which no item may follow: TSIG (RFC 8945, section 5.1) or SIG(0).
+    /// `held` octets are given back first.
+    ///
+    /// # Errors
+    ///
+    /// See [`MessageWriter`].
     ///
     /// ```
-    /// use dns_names_wire::{Class, MessageWriter, Name, RecordType};
+    /// use dns_names_wire::{Edns, ErrorKind, Header, MessageWriter, RecordBuf};
     ///
-    /// let mut writer = MessageWriter::new();
-    /// writer.record(&Name::root(), RecordType::A, Class::IN, 60, &[192, 0, 2, 1]);
-    /// assert_eq!(writer.finish()?, b"\0\0\x01\0\x01\0\0\0\x3C\0\x04\xC0\0\x02\x01");
+    /// let record: RecordBuf = "a. 0 ANY TSIG \\# 19 00 00005F0F9043 012C 0002 491B DCC6 0000 0000".parse()?;
+    /// let mut room = [0; 512];
+    /// let mut writer = MessageWriter::new(&mut room, 512, &Header::default())?;
+    /// writer.last(0, &record)?;
+    /// assert_eq!(writer.edns(&Edns::new(512)).map(drop).unwrap_err().kind(), ErrorKind::BadItem);
     /// # Ok::<(), dns_names_wire::Error>(())
     /// ```
-    pub fn record(&mut self, owner: &Name, record_type: RecordType, class: Class, ttl: u32, data: &[u8]) -> &mut Self {
-        self.add_record(RECORD, (owner, record_type, class, ttl), data)
+    pub fn last(&mut self, held: usize, record: &RecordBuf) -> Result<&mut Self, Error> {
+        let read = record.as_record();
+        let fixed = (read.record_type().code(), read.class().code(), read.ttl());
+        read.owner().with_form(|owner| self.state.last(self.message, held, owner, fixed, read.raw_data()))?;
+        Ok(self)
     }
 
-    /// Adds a record whose data are a name. The name is compressed if the type is one of RFC 1035 (RFC 3597, section
-    /// 4).
+    /// Returns the response code: that of the header, or in a reply what the request makes of it. Its high bits are in
+    /// the OPT record.
     ///
     /// ```
-    /// use dns_names_wire::{Class, MessageWriter, Name, RecordType};
+    /// use dns_names_wire::{Header, MessageWriter, ResponseCode};
     ///
-    /// let (owner, host): (Name, Name) = ("b.".parse()?, "a.b.".parse()?);
-    /// let mut writer = MessageWriter::new();
-    /// writer.name_record(&owner, RecordType::NS, Class::IN, 60, &host);
-    /// assert_eq!(writer.finish()?, b"\x01b\0\0\x02\0\x01\0\0\0\x3C\0\x04\x01a\xC0\0");
+    /// let mut room = [0; 12];
+    /// let writer = MessageWriter::new(&mut room, 12, &Header::default())?;
+    /// assert_eq!(writer.response_code(), ResponseCode::NoError);
     /// # Ok::<(), dns_names_wire::Error>(())
     /// ```
-    pub fn name_record(
-        &mut self,
-        owner: &Name,
-        record_type: RecordType,
-        class: Class,
-        ttl: u32,
-        data: &Name,
-    ) -> &mut Self {
-        // NS, MD, MF, CNAME, MB, MG, MR and PTR; and DNAME
-        let kind = match record_type.code() {
-            2..=5 | 7..=9 | 12 => STANDARD_NAME,
-            39 => CANONICAL_NAME,
-            _ => OTHER_NAME,
-        };
-        self.add_record(kind, (owner, record_type, class, ttl), data.as_wire())
+    pub fn response_code(&self) -> ResponseCode {
+        self.code.into()
+    }
+
+    /// Sets the most octets that the message may have.
+    ///
+    /// ```
+    /// use dns_names_wire::{Header, MessageWriter, Name, Section};
+    ///
+    /// let mut room = [0; 512];
+    /// let mut writer = MessageWriter::new(&mut room, 512, &Header::default())?;
+    /// writer.set_max_size(26);
+    /// assert!(writer.data(Section::Answers, &Name::root(), 60, std::net::Ipv4Addr::LOCALHOST).is_err());
+    /// # Ok::<(), dns_names_wire::Error>(())
+    /// ```
+    pub fn set_max_size(&mut self, max_size: usize) -> &mut Self {
+        self.state.max_size = max_size;
+        self
+    }
+
+    /// Returns the message so far, which is complete.
+    ///
+    /// ```
+    /// use dns_names_wire::{Header, MessageWriter};
+    ///
+    /// assert_eq!(MessageWriter::new(&mut [0; 512], 512, &Header::default())?.octets(), [0; 12]);
+    /// # Ok::<(), dns_names_wire::Error>(())
+    /// ```
+    pub fn octets(&self) -> &[u8] {
+        &self.message[..self.state.len]
     }
 
     /// Returns the message.
     ///
-    /// # Errors
-    ///
-    /// `MessageTooLong` if it would be longer than the maximum, with [the part](Error::part) that does not fit; or
-    /// `NoMemory`.
-    ///
     /// ```
-    /// use dns_names_wire::{ErrorKind, MessageWriter, Name};
+    /// use dns_names_wire::{Header, MessageWriter};
     ///
-    /// assert_eq!(MessageWriter::new().push(&Name::root()).finish(), Ok(vec![0]));
-    /// let error = MessageWriter::with_max_size(1).bytes(b"1").bytes(b"2").finish().unwrap_err();
-    /// assert_eq!((error.kind(), error.part()), (ErrorKind::MessageTooLong, Some(1)));
-    /// ```
-    pub fn finish(&self) -> Result<Vec<u8>, Error> {
-        let mut message = Vec::new();
-        self.finish_into(&mut message)?;
-        Ok(message)
-    }
-
-    /// Replaces `message` with the message. Use it with [`clear`](MessageWriter::clear) to write many messages without
-    /// an allocation in Rust.
-    ///
-    /// # Errors
-    ///
-    /// The errors of [`finish`](MessageWriter::finish). Then `message` has the first parts that fit, or is empty.
-    ///
-    /// ```
-    /// use dns_names_wire::{MessageWriter, Name};
-    ///
-    /// let (mut writer, mut message) = (MessageWriter::new(), Vec::new());
-    /// for text in ["a.b.", "c."] {
-    ///     let name: Name = text.parse()?;
-    ///     writer.clear().push(&name).push(&name).finish_into(&mut message)?;
-    ///     assert_eq!(message, [name.as_wire(), b"\xC0\0"].concat());
-    /// }
+    /// assert_eq!(MessageWriter::new(&mut [0; 512], 512, &Header::default())?.finish(), [0; 12]);
     /// # Ok::<(), dns_names_wire::Error>(())
     /// ```
-    pub fn finish_into(&self, message: &mut Vec<u8>) -> Result<(), Error> {
-        match self.put_whole_parts(message)? {
-            parts if parts == self.parts => Ok(()),
-            parts => Err(Error::from(ErrorKind::MessageTooLong).at_part(parts)),
-        }
-    }
-
-    /// Returns the message, or as many of its first parts as fit, and the number of these parts. If some do not fit,
-    /// the caller has to set the TC bit and the counts of the header (RFC 1035, section 4.1.1).
-    ///
-    /// # Errors
-    ///
-    /// `NoMemory`.
-    ///
-    /// ```
-    /// use dns_names_wire::MessageWriter;
-    ///
-    /// let mut writer = MessageWriter::with_max_size(3);
-    /// writer.push(&"a.".parse()?).push(&"b.".parse()?);
-    /// assert_eq!(writer.finish_truncated()?, (b"\x01a\0".to_vec(), 1));
-    /// # Ok::<(), dns_names_wire::Error>(())
-    /// ```
-    pub fn finish_truncated(&self) -> Result<(Vec<u8>, usize), Error> {
-        let mut message = Vec::new();
-        let parts = self.put_whole_parts(&mut message)?;
-        Ok((message, parts))
-    }
-
-    /// Removes all parts, and keeps the memory for another message.
-    ///
-    /// ```
-    /// use dns_names_wire::{MessageWriter, Name};
-    ///
-    /// let mut writer = MessageWriter::new();
-    /// writer.push(&"a.".parse()?).clear();
-    /// assert_eq!(writer.push(&Name::root()).finish()?, b"\0");
-    /// # Ok::<(), dns_names_wire::Error>(())
-    /// ```
-    pub fn clear(&mut self) -> &mut Self {
-        self.list.clear();
-        self.joined.clear();
-        (self.items, self.parts, self.is_over) = (0, 0, false);
-        self
-    }
-
-    /// Replaces `message` with as many of the first parts as fit, and returns their number.
-    fn put_whole_parts(&self, message: &mut Vec<u8>) -> Result<usize, Error> {
-        let (items, is_whole) = self.write(self.list.len(), message)?;
-        if is_whole && !self.is_over {
-            return Ok(self.parts);
-        }
-        let (parts, cut) = self.whole_parts(items);
-        if let Some(part) = cut {
-            self.write(part.start, message)?;
-        }
-        Ok(parts)
-    }
-
-    /// Returns the number of whole parts in the first `items` items, and the part that they cut, if any.
-    fn whole_parts(&self, items: usize) -> (usize, Option<&Joined>) {
-        let mut parts = items;
-        for part in &self.joined {
-            if part.before + part.items <= items {
-                parts = parts + 1 - part.items;
-            } else if part.before < items {
-                return (parts - (items - part.before), Some(part));
-            }
-        }
-        (parts, None)
-    }
-
-    /// Writes the items in the first `end` bytes of the list. Returns the number of items written, and whether these
-    /// are all.
-    fn write(&self, end: usize, message: &mut Vec<u8>) -> Result<(usize, bool), Error> {
-        door::write_message(&self.list[..end], self.max_size, self.is_canonical, message)
-    }
-
-    fn add_record(
-        &mut self,
-        kind: u8,
-        (owner, record_type, class, ttl): (&Name, RecordType, Class, u32),
-        data: &[u8],
-    ) -> &mut Self {
-        match u16::try_from(data.len()) {
-            Ok(len) => self.add_part(|list| {
-                list.push(kind);
-                list.extend_from_slice(owner.as_wire());
-                list.extend_from_slice(&record_type.code().to_be_bytes());
-                list.extend_from_slice(&class.code().to_be_bytes());
-                list.extend_from_slice(&ttl.to_be_bytes());
-                list.extend_from_slice(&len.to_be_bytes());
-                list.extend_from_slice(data);
-                1
-            }),
-            Err(_) => self.add_part_over(),
-        }
-    }
-
-    /// Adds a part. The function adds its items to the list, and returns their number.
-    fn add_part(&mut self, add: impl FnOnce(&mut Vec<u8>) -> usize) -> &mut Self {
-        if !self.is_over {
-            let (before, start) = (self.items, self.list.len());
-            let items = add(&mut self.list);
-            if items != 1 {
-                self.joined.push(Joined { before, start, items });
-            }
-            self.items += items;
-        }
-        self.parts += 1;
-        self
-    }
-
-    /// Adds a part that is longer than any message.
-    fn add_part_over(&mut self) -> &mut Self {
-        self.is_over = true;
-        self.parts += 1;
-        self
+    pub fn finish(self) -> &'m mut [u8] {
+        &mut self.message[..self.state.len]
     }
 }
 
-fn add_name(list: &mut Vec<u8>, name: &Name) -> usize {
-    let form = name.as_wire();
-    list.reserve(1 + form.len());
-    list.push(NAME);
-    list.extend_from_slice(form);
-    1
-}
-
-/// Adds items of bytes, and returns their number.
-fn add_bytes(list: &mut Vec<u8>, bytes: &[u8]) -> usize {
-    let chunks = bytes.chunks(u16::MAX.into());
-    let items = chunks.len();
-    for chunk in chunks {
-        list.push(BYTES);
-        list.extend_from_slice(&(chunk.len() as u16).to_be_bytes());
-        list.extend_from_slice(chunk);
-    }
-    items
-}
-
-impl Default for MessageWriter {
-    fn default() -> Self {
-        MessageWriter::new()
-    }
-}
-
-impl<'a> Extend<&'a Name> for MessageWriter {
-    fn extend<I: IntoIterator<Item = &'a Name>>(&mut self, names: I) {
-        names.into_iter().for_each(|name| {
-            self.push(name);
-        });
+impl fmt::Debug for MessageWriter<'_> {
+    fn fmt(&self, f: &mut fmt::Formatter<'_>) -> fmt::Result {
+        f.debug_tuple("MessageWriter").field(&Message::read(self.octets())).finish()
     }
 }

@@ -2,8 +2,8 @@
 //! by hand from RFC 1035, sections 4.1 and 5.1, RFC 6891, section 6.1, and RFC 2181, section 9.
 use dns_names_wire::rdata::{AMTRELAY, CSYNC, L32, L64, MX, SOA, SRV, TSIG};
 use dns_names_wire::{
-    Class, Edns, Error, ErrorKind, Header, Message, MessageBuilder, Name, OpCode, Pairs, RData, Record, RecordBuf,
-    RecordType, ResponseCode, Texts, TypeSet,
+    Class, Edns, Error, ErrorKind, Header, Message, MessageBuilder, Name, Need, OpCode, Pairs, RData, Record,
+    RecordBuf, RecordSet, RecordType, ResponseCode, Section, Texts, TypeSet,
 };
 use std::net::{IpAddr, Ipv4Addr, Ipv6Addr};
 
@@ -77,35 +77,141 @@ fn a_query_and_its_reply_are_written() {
     assert!(read.is_reply_to(&Message::read(&upper).unwrap()));
 }
 
-/// With fewer octets, fewer records fit. TC is set if one of the Answer or Authority section is left out. OPT always
-/// fits.
+/// With fewer octets, fewer sets of records fit. TC is set if one of the Answer section is left out. The question and OPT
+/// always fit.
 #[test]
 fn a_reply_has_no_more_than_the_size() {
     let octets_of_query = query();
     let mut reply = MessageBuilder::reply_to(&Message::read(&octets_of_query).unwrap());
     fill(&mut reply).unwrap();
     let whole = reply.finish(u16::MAX).unwrap();
+    let all = Message::read(&whole).unwrap();
     let (mut message, mut before) = (Vec::new(), usize::MAX);
-    for size in (23..=whole.len() as u16).rev() {
+    for size in (44..=whole.len() as u16).rev() {
         let is_cut = reply.finish_into(size, &mut message).unwrap();
         assert!(message.len() <= size.into());
         let read = Message::read(&message).unwrap();
-        let count = read.answers().len() + read.authorities().len();
-        assert_eq!((is_cut, read.header().truncation), (count < 7, count < 7), "{size}");
-        assert!(count <= before || count == 7, "{size}");
-        before = count;
+        let (answers, authorities) = (read.answers().len(), read.authorities().len());
+        assert_eq!((is_cut, read.header().truncation), (answers < 5, answers < 5), "{size}");
+        assert!(read.answers().eq(all.answers().take(answers)), "{size}");
+        assert!(read.authorities().eq(all.authorities().take(authorities)), "{size}");
+        assert!(answers <= before, "{size}");
+        before = answers;
+        assert_eq!(read.questions().len(), 1);
         assert_eq!(read.edns().unwrap().map(|edns| edns.max_payload), Some(1232));
         assert_eq!(read.additionals().last().map(|record| record.record_type()), Some(RecordType::OPT));
-        assert_eq!(Message::read(&whole).unwrap().to_wire(size).unwrap(), message);
+        let copy = all.to_wire(size).unwrap();
+        let copy = Message::read(&copy).unwrap();
+        assert!(copy.octets().len() <= size.into() && copy.questions().eq(all.questions()), "{size}");
     }
     // The address of ns.example.com. is not required, so TC is not set without it.
     let without = whole.len() as u16 - 1;
     assert!(!reply.finish_into(without, &mut message).unwrap());
     assert_eq!(Message::read(&message).unwrap().additionals().len(), 1);
-    assert_eq!(reply.finish(22).unwrap_err().to_string(), "the message would be longer than its maximum");
-    assert_eq!(Message::read(&whole).unwrap().to_wire(22).unwrap_err().kind(), ErrorKind::MessageTooLong);
-    assert_eq!(MessageBuilder::new(Header::default()).finish(11).unwrap_err().kind(), ErrorKind::MessageTooLong);
+    for size in 12..44 {
+        let error = reply.finish(size).unwrap_err();
+        assert_eq!(error.to_string(), "the message would be longer than its maximum", "{size}");
+    }
+    assert_eq!(MessageBuilder::new(Header::default()).finish(11).unwrap_err().kind(), ErrorKind::NoRoom);
     assert_eq!(MessageBuilder::new(Header::default()).finish(12).unwrap(), [0; 12]);
+}
+
+/// What is required by default, and otherwise (RFC 2181, section 9; RFC 9471).
+#[test]
+fn what_is_required_decides_on_tc() {
+    let (soa, address) = (record("a. 60 SOA a. a. 1 2 3 4 5"), record("a. 60 A 192.0.2.1"));
+    let is_cut = |add: &dyn Fn(&mut MessageBuilder)| {
+        let mut message = MessageBuilder::query(7, &name("a."), RecordType::A);
+        add(&mut message);
+        let written = message.finish(19 + 16).unwrap();
+        Message::read(&written).unwrap().header().truncation
+    };
+    assert!(is_cut(&|it| {
+        it.authorities([&soa]);
+    }));
+    assert!(!is_cut(&|it| {
+        it.answers([&address]).authorities([&soa]);
+    }));
+    assert!(!is_cut(&|it| {
+        it.authorities([&soa]).answers([&address]);
+    }));
+    assert!(!is_cut(&|it| {
+        it.additionals([&soa]);
+    }));
+    assert!(!is_cut(&|it| {
+        it.answers([&address]).additionals([&soa]);
+    }));
+    assert!(is_cut(&|it| {
+        it.answers([&soa]);
+    }));
+    for (need, cut) in [(Need::Required, true), (Need::Optional, false)] {
+        for section in [Section::Answers, Section::Authorities, Section::Additionals] {
+            assert_eq!(
+                is_cut(&|it| {
+                    it.records(section, need, [&soa]);
+                }),
+                cut,
+                "{section}"
+            );
+            assert_eq!(
+                is_cut(&|it| {
+                    it.answers([&address]).records(section, need, [&soa]);
+                }),
+                cut,
+                "{section}"
+            );
+        }
+        for section in [Section::Header, Section::Questions] {
+            let mut message = MessageBuilder::new(Header::default());
+            let error = message.records(section, need, [&soa]).finish(512).unwrap_err();
+            assert_eq!(error.kind(), ErrorKind::BadItem);
+        }
+    }
+}
+
+/// A set is written whole or not at all, and a later one of the section is not written without it.
+#[test]
+fn sets_are_whole() {
+    let lines = ["a. 60 A 192.0.2.1", "a. 60 A 192.0.2.2", "a. 60 NS a."];
+    let records = lines.map(record);
+    for size in 19..100 {
+        let written = MessageBuilder::query(7, &name("a."), RecordType::A).answers(&records).finish(size).unwrap();
+        let message = Message::read(&written).unwrap();
+        let wanted = if size < 19 + 32 {
+            0
+        } else if size < 19 + 32 + 14 {
+            2
+        } else {
+            3
+        };
+        assert_eq!((message.answers().len(), message.header().truncation), (wanted, wanted < 3), "{size}");
+    }
+    let sets = RecordSet::group(&records).unwrap();
+    let mut message = MessageBuilder::query(7, &name("a."), RecordType::A);
+    for set in &sets {
+        message.set(Section::Answers, Need::Required, set);
+    }
+    let written = message.finish(512).unwrap();
+    assert!(Message::read(&written).unwrap().answers().eq(records.iter().map(RecordBuf::as_record)));
+}
+
+/// The last record is after OPT, and there at every size that has room for what is never left out.
+#[test]
+fn the_last_record_is_last() {
+    let tsig = record("a. 0 ANY TSIG \\# 19 00 00005F0F9043 012C 0002 491B DCC6 0000 0000");
+    let least = 19 + 11 + tsig.as_wire().len() as u16;
+    let mut message = MessageBuilder::query(7, &name("a."), RecordType::A);
+    message.last(&tsig).edns(&Edns::new(1232)).answers([record("a. 60 A 192.0.2.1")]);
+    for size in least..least + 40 {
+        let written = message.finish(size).unwrap();
+        let read = Message::read(&written).unwrap();
+        let types: Vec<_> = read.additionals().map(|record| record.record_type()).collect();
+        assert_eq!(types, [RecordType::OPT, RecordType::TSIG]);
+        assert_eq!(read.additionals().last(), Some(tsig.as_record()));
+        assert_eq!(read.header().truncation, read.answers().len() == 0);
+    }
+    // The owner of TSIG may be compressed.
+    assert_eq!(message.finish(least - 3).unwrap_err().kind(), ErrorKind::MessageTooLong);
 }
 
 #[test]
@@ -175,19 +281,10 @@ fn what_fails_leaves_a_message_unchanged() {
     assert_eq!(message.finish(512), Ok(before));
     // Octets that are not data of their type are found when the message is written.
     let wrong = RecordBuf::from_octets(&root, RecordType::A, Class::IN, 0, &[1, 2, 3]).unwrap();
-    assert_eq!(message.clone().answers([&wrong]).finish(512).unwrap_err().kind(), ErrorKind::MessageCut);
-    // So is a second OPT record.
-    let opt = RecordBuf::from_octets(&root, RecordType::OPT, Class::from(512), 0, b"").unwrap();
-    assert_eq!(message.clone().additionals([&opt, &opt]).finish(512).unwrap_err().kind(), ErrorKind::DuplicateEdns);
-    assert_eq!(message.clone().answers([&opt]).finish(512).unwrap_err().kind(), ErrorKind::OutsideAdditionals);
-    assert_eq!(message.clone().authorities([&opt]).finish(512).unwrap_err().kind(), ErrorKind::OutsideAdditionals);
-    assert_eq!(
-        message.edns(&Edns::new(512)).additionals([opt]).finish(512).unwrap_err().kind(),
-        ErrorKind::DuplicateEdns
-    );
+    assert_eq!(message.clone().answers([&wrong]).finish(512).unwrap_err().kind(), ErrorKind::BadData);
 }
 
-/// More records than a section can count: they fit in no message, and do not change its count.
+/// More records than a section can count fit in no message.
 #[test]
 fn a_section_counts_no_more_than_65535() {
     let record = RecordBuf::from_octets(&Name::root(), RecordType::from(65280), Class::IN, 0, b"").unwrap();
@@ -195,8 +292,7 @@ fn a_section_counts_no_more_than_65535() {
     message.answers(std::iter::repeat(&record).take(70_000)).edns(&Edns::new(512));
     let written = message.finish(u16::MAX).unwrap();
     let read = Message::read(&written).unwrap();
-    assert_eq!((read.answers().len(), read.header().truncation), ((65535 - 12 - 11) / 11, true));
-    assert!(read.edns().unwrap().is_some());
+    assert_eq!((read.answers().len(), read.header().truncation, read.edns().unwrap().is_some()), (0, true, true));
 }
 
 const LINES: [(&str, &str); 10] = [

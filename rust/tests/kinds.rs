@@ -1,6 +1,6 @@
-//! Types, classes, bitmaps, serial numbers, master files, and names made from names. Expected values are from RFC 4034,
-//! section 4.3, RFC 1982, section 5, RFC 1035, sections 5.1 and 5.3, or counted by hand.
-use dns_names_wire::{parse_ttl, tokens, Class, ErrorKind, Name, RecordType, SerialNumber, Token, TypeSet};
+//! Types, classes, bitmaps, serial numbers, times to live, and names made from names. Expected values are from RFC 4034,
+//! section 4.3, RFC 1982, section 5, or counted by hand.
+use dns_names_wire::{parse_ttl, Class, ErrorKind, Name, RecordType, SerialNumber, TypeSet};
 use std::cmp::Ordering;
 
 fn name(text: &str) -> Name {
@@ -136,58 +136,5 @@ fn times_are_sums() {
     }
     for text in ["", "h", "4294967296", "1x"] {
         assert_eq!(parse_ttl(text).unwrap_err().kind(), ErrorKind::BadTime, "{text}");
-    }
-}
-
-#[test]
-fn tokens_of_a_master_file() {
-    let text = |text: &str| Token::Text(text.into());
-    let read: Result<Vec<_>, _> = tokens("$ORIGIN a.\n@ 1h SOA ns (1 2) ; a comment\n b TXT \"c d\"\n").collect();
-    let list = Token::List(vec!["1".into(), "2".into()]);
-    let first = vec![Token::Origin, text("a."), Token::LineEnd];
-    let second = vec![Token::At, text("1h"), text("SOA"), text("ns"), list, Token::LineEnd];
-    let third = vec![Token::Blank, text("b"), text("TXT"), text("c d"), Token::LineEnd];
-    assert_eq!(read.unwrap(), [first, second, third].concat());
-    assert_eq!(tokens("").next(), None);
-    let faults =
-        [("(a", ErrorKind::UnclosedList), ("\"a", ErrorKind::UnclosedQuote), ("$FOO", ErrorKind::UnknownEntry)];
-    for (text, kind) in faults {
-        let mut read = tokens(text);
-        let error = read.next().unwrap().unwrap_err();
-        assert_eq!((error.kind(), error.offset(), read.next(), read.offset()), (kind, Some(0), None, 0), "{text}");
-    }
-    let mut read = tokens("a\n)");
-    assert_eq!((read.by_ref().take(2).filter(Result::is_ok).count(), read.offset()), (2, 2));
-    let error = read.next().unwrap().unwrap_err();
-    assert_eq!(error.to_string(), "at offset 2: a character stands where it may not");
-}
-
-/// Tokens of any length, at any offset, are the same in a long text as in a short one.
-#[test]
-fn long_texts_have_the_tokens_of_their_parts() {
-    for len in (1..70).chain([127, 128, 129, 1000, 10_000]) {
-        let long = "\u{e4}".repeat(len);
-        let parts = [
-            format!("{long} "),
-            format!("\"{long} \\\"\""),
-            format!("({long} ; {long}\n{long})"),
-            format!("{} ; {long}\r\n", " ".repeat(len)),
-            "$ORIGIN".into(),
-        ];
-        let text = parts.concat();
-        let read: Vec<Token> = tokens(&text).map(|token| token.unwrap()).collect();
-        let list = Token::List(vec![long.clone(), long.clone()]);
-        let wanted =
-            [Token::Text(long.clone()), Token::Text(format!("{long} \"")), list, Token::LineEnd, Token::Origin];
-        assert_eq!(read, wanted, "{len}");
-        let faults = [("(", ErrorKind::UnclosedList), ("\"", ErrorKind::UnclosedQuote), ("$", ErrorKind::UnknownEntry)];
-        for (cut, kind) in faults {
-            let text = format!("{long} {cut}{long}");
-            let mut read = tokens(&text);
-            assert_eq!(read.next(), Some(Ok(Token::Text(long.clone()))), "{len}");
-            let error = read.next().unwrap().unwrap_err();
-            assert_eq!((error.kind(), error.offset()), (kind, Some(long.len())), "{len}");
-            assert_eq!(&text[read.offset()..read.offset() + 2], format!(" {cut}"), "{len}");
-        }
     }
 }

@@ -1,6 +1,9 @@
 //! Messages of records, and reverse names. Expected bytes are worked out by hand from RFC 1035, sections 3.5 and 4.1.1
 //! to 4.1.4, and RFC 3596, section 2.5.
-use dns_names_wire::{records, Class, Error, ErrorKind, MessageWriter, Name, Record, RecordType};
+use dns_names_wire::{
+    records, Class, Edns, Error, ErrorKind, Header, Message, MessageBuilder, MessageWriter, Name, Need, Pairs, RData,
+    Record, RecordBuf, RecordSet, RecordType, ResponseCode, Section,
+};
 use std::net::{IpAddr, Ipv4Addr, Ipv6Addr};
 
 /// A referral with glue: ns.example.com is the server for www.example.com. The name of the question is at offset 12, so
@@ -12,21 +15,28 @@ fn name(text: &str) -> Name {
     text.parse().unwrap_or_else(|e| panic!("{text}: {e}"))
 }
 
-fn referral(max_size: u16) -> MessageWriter {
-    let (a, ns, class) = (RecordType::A, RecordType::NS, Class::IN);
-    let mut writer = MessageWriter::with_max_size(max_size);
-    writer
-        .bytes(&REFERRAL[..12])
-        .question(&name("www.example.com."), a, class)
-        .name_record(&name("example.com."), ns, class, 172_800, &name("ns.example.com."))
-        .record(&name("ns.example.com."), a, class, 172_800, &[192, 0, 2, 1]);
-    writer
+/// Writes the referral up to the first item that has no room, and returns the message and the number of its items.
+fn referral(room: &mut [u8], max_size: usize) -> (&[u8], usize) {
+    let (question, zone, server) = (name("www.example.com."), name("example.com."), name("ns.example.com."));
+    let mut header = Header::default();
+    (header.id, header.is_response) = (0x1234, true);
+    let mut writer = MessageWriter::new(room, max_size, &header).unwrap();
+    let written = [
+        writer.question(&question, RecordType::A, Class::IN).map(drop),
+        writer.data(Section::Authorities, &zone, 172_800, RData::NS((&server).into())).map(drop),
+        writer.data(Section::Additionals, &server, 172_800, Ipv4Addr::new(192, 0, 2, 1)).map(drop),
+    ];
+    for error in written.iter().filter_map(|written| written.err()) {
+        assert_eq!(error.kind(), ErrorKind::MessageTooLong);
+    }
+    (writer.finish(), written.iter().take_while(|written| written.is_ok()).count())
 }
 
 #[test]
 fn a_referral_is_written_and_read() {
-    assert_eq!(referral(512).finish().as_deref(), Ok(REFERRAL));
-    assert_eq!(referral(66).finish_truncated(), Ok((REFERRAL.to_vec(), 4)));
+    for max_size in [66, 512, 65535, usize::MAX] {
+        assert_eq!(referral(&mut [0xFF; 512], max_size), (REFERRAL, 3));
+    }
     let read = records(REFERRAL, 33).collect::<Result<Vec<Record>, Error>>().unwrap();
     assert_eq!(read.len(), 2);
     let (ns, a) = (&read[0], &read[1]);
@@ -39,59 +49,184 @@ fn a_referral_is_written_and_read() {
     assert_eq!(format!("{a}"), "ns.example.com.\t172800\tIN\tA\t192.0.2.1");
 }
 
+/// At every maximum, by the number or by the buffer, as many items as have room, each whole; and the message is complete.
 #[test]
 fn what_does_not_fit_is_left_out_whole() {
-    for (max_size, len, parts) in
-        [(65, 50, 3), (59, 33, 2), (33, 33, 2), (32, 12, 1), (29, 12, 1), (12, 12, 1), (11, 0, 0)]
-    {
-        assert_eq!(referral(max_size).finish_truncated(), Ok((REFERRAL[..len].to_vec(), parts)), "{max_size}");
-        let error = referral(max_size).finish().unwrap_err();
-        assert_eq!((error.kind(), error.part(), error.offset()), (ErrorKind::MessageTooLong, Some(parts), None));
-        assert_eq!(error.to_string(), format!("at part {parts}: the message would be longer than its maximum"));
+    for (max_size, len, items) in [(65, 50, 2), (59, 50, 2), (50, 50, 2), (49, 33, 1), (33, 33, 1)] {
+        for (message, written) in [referral(&mut [0; 512], max_size), referral(&mut vec![0; max_size], 512)] {
+            assert_eq!((message.len(), written), (len, items), "{max_size}");
+            assert_eq!(message[12..], REFERRAL[12..len]);
+            let read = Message::read(message).unwrap();
+            let counts = (read.questions().len(), read.authorities().len(), read.additionals().len());
+            assert_eq!(counts, (1, usize::from(items > 1), 0));
+        }
     }
-    assert_eq!(MessageWriter::new().finish_truncated(), Ok((vec![], 0)));
-    let mut long = MessageWriter::new();
-    long.push(&name("a.")).record(&Name::root(), RecordType::A, Class::IN, 0, &[0; 65536]).push(&name("b."));
-    let error = long.finish().unwrap_err();
-    assert_eq!((error.kind(), error.part()), (ErrorKind::MessageTooLong, Some(1)));
-    assert_eq!(long.finish_truncated(), Ok((b"\x01a\0".to_vec(), 1)));
-    assert_eq!(long.clear().push(&name("b.")).finish().as_deref(), Ok(&b"\x01b\0"[..]));
-    let mut bytes = MessageWriter::new();
-    bytes.bytes(&[7; 65535]).bytes(b"8");
-    assert_eq!(bytes.finish_truncated(), Ok((vec![7; 65535], 1)));
+    for max_size in 12..33 {
+        let mut room = [0; 512];
+        let (message, items) = referral(&mut room, max_size);
+        assert_eq!(items, 0);
+        assert!(Message::read(message).is_ok() && message.len() <= max_size);
+    }
+    let error = MessageWriter::new(&mut [0; 11], 512, &Header::default()).map(drop).unwrap_err();
+    assert_eq!(error.kind(), ErrorKind::NoRoom);
 }
 
+/// An item after one of a later section, or after the last one, changes nothing.
 #[test]
-fn parts_of_two_items_and_of_none_are_whole_or_left_out() {
-    let write = |max_size| {
-        let mut writer = MessageWriter::with_max_size(max_size);
-        let (kind, class) = (RecordType::A, Class::IN);
-        writer.bytes(&[0; 12]).question(&name("a."), kind, class).question(&name("b."), kind, class);
-        writer.bytes(b"").push(&name("c."));
-        writer.finish_truncated().map(|(message, parts)| (message.len(), parts))
-    };
-    for (max_size, len, parts) in
-        [(29, 29, 5), (28, 26, 4), (26, 26, 4), (25, 19, 2), (21, 19, 2), (18, 12, 1), (11, 0, 0)]
-    {
-        assert_eq!(write(max_size), Ok((len, parts)), "{max_size}");
+fn items_are_in_order() {
+    let (root, four) = (Name::root(), Ipv4Addr::LOCALHOST);
+    let bad = |written: Result<&mut MessageWriter, Error>| written.map(drop).map_err(Error::kind);
+    let mut room = [0; 512];
+    let mut writer = MessageWriter::new(&mut room, 512, &Header::default()).unwrap();
+    writer.data(Section::Authorities, &root, 0, four).unwrap();
+    let before = writer.octets().to_vec();
+    assert_eq!(bad(writer.question(&root, RecordType::A, Class::IN)), Err(ErrorKind::BadItem));
+    for section in [Section::Header, Section::Questions, Section::Answers] {
+        assert_eq!(bad(writer.data(section, &root, 0, four)), Err(ErrorKind::BadItem), "{section}");
+    }
+    assert_eq!(writer.octets(), before);
+    writer.data(Section::Authorities, &root, 0, four).unwrap().data(Section::Additionals, &root, 0, four).unwrap();
+    let tsig: RecordBuf = "a. 0 ANY TSIG \\# 19 00 00005F0F9043 012C 0002 491B DCC6 0000 0000".parse().unwrap();
+    writer.last(0, &tsig).unwrap();
+    assert_eq!(bad(writer.data(Section::Additionals, &root, 0, four)), Err(ErrorKind::BadItem));
+    assert_eq!(bad(writer.edns(&Edns::new(512))), Err(ErrorKind::BadItem));
+    assert_eq!(bad(writer.last(0, &tsig)), Err(ErrorKind::BadItem));
+    let message = Message::read(writer.finish()).unwrap();
+    assert_eq!((message.authorities().len(), message.additionals().len()), (2, 2));
+    assert_eq!(message.additionals().last(), Some(tsig.as_record()));
+}
+
+fn sets(lines: &[&str]) -> Vec<RecordSet> {
+    let records: Vec<RecordBuf> = lines.iter().map(|line| line.parse().unwrap()).collect();
+    RecordSet::group(&records).unwrap()
+}
+
+/// A set is there whole or not at all, and only one that is required sets TC (RFC 2181, sections 5 and 9).
+#[test]
+fn sets_are_whole() {
+    let sets = sets(&["a. 60 A 192.0.2.1", "a. 60 A 192.0.2.2", "a. 60 A 192.0.2.3"]);
+    // The header, a. and three records, of which two have a pointer as their owner
+    let len = 12 + 17 + 2 * 16;
+    for need in [Need::Required, Need::Optional] {
+        for max_size in 12..100 {
+            let mut room = [0; 512];
+            let mut writer = MessageWriter::new(&mut room, max_size, &Header::default()).unwrap();
+            let written = writer.set(Section::Answers, need, &sets[0]).map(drop);
+            let message = Message::read(writer.finish()).unwrap();
+            let fits = max_size >= len;
+            assert_eq!((written.is_ok(), message.answers().len()), (fits, if fits { 3 } else { 0 }), "{max_size}");
+            assert_eq!(message.header().truncation, !fits && need == Need::Required, "{max_size}");
+        }
     }
 }
 
-/// The names of NS, DNAME and a private type, in and out of canonical form (RFC 3597, section 4; RFC 4034, section
-/// 6.2).
+/// The names of NS, DNAME and a private type (RFC 3597, section 4).
 #[test]
 fn types_decide_how_their_names_are_written() {
-    let write = |kind: u16, is_canonical| {
-        let mut writer = MessageWriter::new();
-        writer.set_canonical_form(is_canonical);
-        writer.name_record(&name("A."), kind.into(), 1.into(), 0, &name("B.A."));
-        writer.finish().unwrap()[13..].to_vec()
+    let write = |record: &RecordBuf| {
+        let mut room = [0; 512];
+        let mut writer = MessageWriter::new(&mut room, 512, &Header::default()).unwrap();
+        writer.record(Section::Answers, record).unwrap();
+        writer.finish()[25..].to_vec()
     };
-    assert_eq!(write(2, false), b"\x01B\xC0\0");
-    assert_eq!(write(2, true), b"\x01b\x01a\0");
-    assert_eq!(write(39, false), b"\x01B\x01A\0");
-    assert_eq!(write(39, true), b"\x01b\x01a\0");
-    assert_eq!(write(65280, true), b"\x01B\x01A\0");
+    assert_eq!(write(&"A. 0 NS B.A.".parse().unwrap()), b"\x01B\xC0\x0C");
+    assert_eq!(write(&"A. 0 DNAME B.A.".parse().unwrap()), b"\x01B\x01A\0");
+    assert_eq!(write(&"A. 0 TYPE65280 \\# 5 0142014100".parse().unwrap()), b"\x01B\x01A\0");
+}
+
+/// A record is copied with the names that its message has, and compressed again.
+#[test]
+fn records_of_messages_are_copied() {
+    let read = Message::read(REFERRAL).unwrap();
+    let mut room = [0; 512];
+    let mut writer = MessageWriter::new(&mut room, 512, &Header::default()).unwrap();
+    for record in read.authorities().chain(read.additionals()) {
+        writer.record(Section::Answers, record).unwrap();
+    }
+    let copy = Message::read(writer.finish()).unwrap();
+    assert!(copy.answers().eq(read.authorities().chain(read.additionals())));
+    assert_eq!(copy.octets().len(), 12 + 13 + 10 + 5 + 2 + 10 + 4);
+    // Data that are not valid
+    let cut = Record::read(b"\0\0\x01\0\x01\0\0\0\0\0\x03\xC0\0\x02", 0).unwrap();
+    let mut room = [0; 512];
+    let mut writer = MessageWriter::new(&mut room, 512, &Header::default()).unwrap();
+    assert_eq!(writer.record(Section::Answers, cut).map(drop).unwrap_err().kind(), ErrorKind::MessageCut);
+    assert_eq!(writer.finish(), [0; 12]);
+}
+
+/// What a request says decides how its reply begins (RFC 6891, sections 6.1 and 7; RFC 9619).
+#[test]
+fn replies_are_begun() {
+    let query = MessageBuilder::query(7, &name("a."), RecordType::NS).edns(&Edns::new(1232)).finish(512).unwrap();
+    let mut header = Header::default();
+    (header.authoritative, header.recursion_available) = (true, true);
+    header.response_code = ResponseCode::NXDomain;
+    let mut room = [0; 512];
+    let (mut reply, edns) = MessageWriter::reply_to(&mut room, 30, &query, &header).unwrap();
+    assert_eq!((reply.response_code(), edns), (ResponseCode::NXDomain, Some(Edns::new(1232))));
+    // The octets of OPT are held back.
+    assert!(reply.data(Section::Answers, &name("a."), 0, Ipv4Addr::LOCALHOST).is_err());
+    reply.edns(&Edns::new(512)).unwrap();
+    assert_eq!(reply.octets(), b"\0\x07\x85\x83\0\x01\0\0\0\0\0\x01\x01a\0\0\x02\0\x01\0\0\x29\x02\0\0\0\0\0\0\0");
+    let begin = |request: &[u8]| {
+        let mut room = [0; 512];
+        let (mut reply, edns) = MessageWriter::reply_to(&mut room, 512, request, &Header::default())?;
+        if edns.is_some() {
+            reply.edns(&Edns::new(512))?;
+        }
+        let message = Message::read(reply.finish())?;
+        Ok::<_, Error>((message.response_code()?, message.questions().len(), edns.is_some()))
+    };
+    let mut later = query.clone();
+    later[25] = 1;
+    assert_eq!(begin(&query), Ok((ResponseCode::NoError, 1, true)));
+    assert_eq!(begin(&later), Ok((ResponseCode::BADVERS, 1, true)));
+    let mut two = MessageBuilder::query(7, &name("a."), RecordType::NS);
+    let two = two.question(&name("b."), RecordType::NS, Class::IN).finish(512).unwrap();
+    assert_eq!(begin(&two), Ok((ResponseCode::FormErr, 0, false)));
+    assert_eq!(begin(&query[..20]), Ok((ResponseCode::FormErr, 0, false)));
+    assert_eq!(begin(&query[..11]).unwrap_err().kind(), ErrorKind::BadItem);
+    let mut response = query;
+    response[2] |= 0x80;
+    assert_eq!(begin(&response).unwrap_err().kind(), ErrorKind::BadItem);
+    let message = Message::read(&response).unwrap();
+    assert_eq!(MessageBuilder::reply_to(&message).finish(512).unwrap_err().kind(), ErrorKind::BadItem);
+}
+
+/// Padding fills the message to a multiple of the block if there is room (RFC 7830; RFC 8467).
+#[test]
+fn messages_are_padded() {
+    for (max_size, block, len) in [(512, 128, 128), (512, 1, 27), (127, 128, 23), (26, 128, 23), (512, 0, 23)] {
+        let mut room = [0; 512];
+        let mut writer = MessageWriter::new(&mut room, max_size, &Header::default()).unwrap();
+        writer.padded_edns(&Edns::new(1232), block).unwrap();
+        let message = Message::read(writer.finish()).unwrap();
+        assert_eq!(message.octets().len(), len, "{max_size} {block}");
+        let edns = message.edns().unwrap().unwrap();
+        assert!(edns.options().all(|(code, octets)| code == 12 && octets.iter().all(|octet| *octet == 0)));
+    }
+    let options = Pairs::to_wire([(10, [7; 8])]).unwrap();
+    let mut room = [0; 512];
+    let mut writer = MessageWriter::new(&mut room, 512, &Header::default()).unwrap();
+    writer.padded_edns(&Edns::new(1232).with_options(Pairs::from_wire(&options).unwrap()), 64).unwrap();
+    assert_eq!(writer.octets().len(), 64);
+}
+
+/// The octets that are held back are there for what comes last.
+#[test]
+fn octets_are_held_back() {
+    let tsig: RecordBuf = "a. 0 ANY TSIG \\# 19 00 00005F0F9043 012C 0002 491B DCC6 0000 0000".parse().unwrap();
+    let held = tsig.as_wire().len();
+    let mut room = [0; 512];
+    let mut writer = MessageWriter::new(&mut room, 12 + held + 30, &Header::default()).unwrap();
+    writer.hold(held);
+    let mut count = 0;
+    while writer.data(Section::Answers, &Name::root(), 0, Ipv4Addr::LOCALHOST).is_ok() {
+        count += 1;
+    }
+    writer.last(held, &tsig).unwrap();
+    let message = Message::read(writer.finish()).unwrap();
+    assert_eq!((count, message.answers().len(), message.additionals().len()), (2, 2, 1));
 }
 
 /// The error of a record has the offset of its start; that of its data has the offset of the name in them, or of their

@@ -1,8 +1,8 @@
 //! The crate as its users call it. Expected values are from RFC 1035, section 4.1.4, RFC 4034, section 6.1, or counted
 //! by hand.
 use dns_names_wire::{
-    names, records, sort_names, tokens, Class, Error, ErrorKind, Labels, MessageWriter, Name, NameRef, Names, Record,
-    RecordType, Records, SerialNumber, TextFault, TextRule, Token, Tokens, TypeSet,
+    names, owned, records, sort_names, Class, Error, ErrorKind, Labels, Name, NameRef, Names, RData, Record, RecordBuf,
+    RecordSet, RecordType, Records, SerialNumber, TextFault, TextRule, TypeSet,
 };
 use std::cmp::Ordering;
 use std::collections::hash_map::DefaultHasher;
@@ -218,29 +218,6 @@ fn zones_and_lower_case() {
 }
 
 #[test]
-fn what_is_written_reads_back() {
-    let list = [".", "www.de.", "mail.de.", "WWW.de.", "x.www.de."].map(name);
-    let mut writer = MessageWriter::default();
-    writer.extend(&list);
-    let message = writer.finish().unwrap();
-    let read: Vec<Name> = names(&message, 0).map(|name| name.unwrap().into()).collect();
-    assert!(read.iter().map(Name::as_wire).eq(list.iter().map(Name::as_wire)));
-    assert!(message.len() < list.iter().map(|name| name.as_wire().len()).sum());
-    assert_eq!(MessageWriter::new().finish(), Ok(vec![]));
-}
-
-#[test]
-fn a_message_has_a_maximum() {
-    let mut writer = MessageWriter::with_max_size(7);
-    writer.push(&name("a.bc."));
-    assert_eq!(writer.finish().unwrap(), b"\x01a\x02bc\0");
-    writer.push(&name("."));
-    assert_eq!(writer.finish().unwrap().len(), 7);
-    writer.push(&name("."));
-    assert_eq!(writer.finish().unwrap_err().kind(), ErrorKind::MessageTooLong);
-}
-
-#[test]
 fn names_of_a_message_end_after_an_error() {
     let mut read = names(b"\x01a\0\x40\0", 0);
     assert_eq!(read.next().unwrap().unwrap().to_name(), name("a."));
@@ -256,7 +233,7 @@ fn errors_have_texts_and_numbers() {
     assert_eq!(ErrorKind::Other(99).to_string(), "failure 99");
     let error = Error::from(ErrorKind::BadTime);
     assert_eq!(
-        (error.kind(), error.number(), error.offset(), error.rule(), error.part()),
+        (error.kind(), error.number(), error.offset(), error.rule(), error.section()),
         (ErrorKind::BadTime, 17, None, None, None)
     );
     assert_eq!(error.to_string(), ErrorKind::BadTime.to_string());
@@ -276,8 +253,7 @@ fn values_cross_threads() {
     is_shared::<(Error, ErrorKind)>();
     is_shared::<(NameRef<'static>, Names<'static>, Labels<'static>)>();
     is_shared::<(Record<'static>, Records<'static>)>();
-    is_shared::<(Token, Tokens<'static>)>();
-    is_shared::<MessageWriter>();
+    is_shared::<(RData<'static>, owned::RData, RecordBuf, RecordSet)>();
     is_shared::<(RecordType, Class, SerialNumber, TypeSet)>();
 }
 
@@ -321,7 +297,34 @@ fn iterators_say_where_they_stand() {
     assert_eq!((read.next().map(|name| name.is_ok()), read.offset(), read.next()), (Some(false), 1, None));
     let mut read = records(b"\0", 0);
     assert_eq!((read.next().unwrap().unwrap_err().offset(), read.offset()), (Some(0), 0));
-    assert_eq!(tokens("  ").offset(), 0);
+}
+
+/// Names of each length, on both sides of the longest that is stored inline.
+#[test]
+fn names_of_all_lengths_are_kept() {
+    let mut seen = vec![Name::root()];
+    for len in 2..=255 {
+        let labels: Vec<Vec<u8>> = match len {
+            2 => continue,
+            len => {
+                vec![b'a'; len - 1].chunks(64).map(|chunk| chunk[1..].to_vec()).filter(|it| !it.is_empty()).collect()
+            }
+        };
+        let name = Name::from_labels(&labels).unwrap();
+        let (mut copy, mut relative) = (Name::root(), name.clone());
+        assert_eq!(copy.read_from(name.as_wire(), 0), Ok(name.as_wire().len()));
+        relative.set_fqdn(false);
+        assert!(copy == name && name.is_fqdn() && !relative.is_fqdn() && relative.eq_ignore_root(&name));
+        assert!(hash(&copy) == hash(&name) && copy.cmp(&relative) == Ordering::Greater);
+        assert_eq!(name.to_string().parse(), Ok(copy));
+        assert_eq!(name.to_lowercase().as_wire(), name.as_wire());
+        seen.push(name);
+    }
+    let mut sorted = seen.clone();
+    sorted.reverse();
+    sort_names(&mut sorted);
+    seen.sort();
+    assert_eq!(sorted, seen);
 }
 
 /// A linear congruential generator.

@@ -1,0 +1,48 @@
+//! Whole messages.
+use super::*;
+
+/// Checks a whole message.
+pub(crate) fn read_message(message: &[u8], max_pointers: usize) -> Result<Message, Error> {
+    let (mut read, mut fault) = (Message::default(), MessageFault::default());
+    // SAFETY: a pointer with its length, see the module, and pointers to structs of these types.
+    let number = unsafe { dnw_message_read(message.as_ptr(), message.len(), max_pointers, &mut read, &mut fault) };
+    outcome(number, read).map_err(|error| error.at_item(Section::from_number(fault.section), fault.item, fault.offset))
+}
+
+/// Returns the EDNS fields of a message.
+pub(crate) fn read_edns(message: &[u8], max_pointers: usize) -> Result<Edns, Error> {
+    let mut edns = Edns::default();
+    // SAFETY: a pointer with its length, see the module, and one to a struct of this type.
+    let number = unsafe { dnw_edns_read(message.as_ptr(), message.len(), max_pointers, &mut edns) };
+    outcome(number, edns)
+}
+
+/// Replaces `packed` with a whole message, compressed and in at most `max_size` octets. Returns whether its TC bit is
+/// set.
+pub(crate) fn pack(message: &[u8], max_size: u16, packed: &mut Vec<u8>) -> Result<bool, Error> {
+    packed.clear();
+    // A message without compression is not longer when it is packed.
+    packed.reserve(message.len().min(max_size.into()));
+    loop {
+        let (mut result, room) = (Packed::default(), packed.spare_capacity_mut());
+        let (first, size) = (room.as_mut_ptr().cast(), room.len());
+        // SAFETY: pointers with their lengths, see the module; and the room is not read.
+        let number = unsafe { dnw_message_pack(message.as_ptr(), message.len(), max_size, first, size, &mut result) };
+        if number == NO_ROOM && size < max_size.into() {
+            packed.reserve(max_size.into());
+            continue;
+        }
+        outcome(number, ())?;
+        // SAFETY: these bytes of the room were written.
+        unsafe { packed.set_len(result.len) };
+        return Ok(result.truncated);
+    }
+}
+
+/// Returns whether a message is a reply to a request.
+pub(crate) fn is_reply_to(request: &[u8], response: &[u8]) -> Result<bool, Error> {
+    let (mut is, asked, len) = (false, request.as_ptr(), request.len());
+    // SAFETY: pointers with their lengths, see the module.
+    let number = unsafe { dnw_is_reply_to(asked, len, response.as_ptr(), response.len(), &mut is) };
+    outcome(number, is)
+}

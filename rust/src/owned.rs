@@ -1,0 +1,484 @@
+//! The data of records with names and octets of their own, by type: what [`rdata`] has, but not borrowed.
+//!
+//! A program that keeps data, or that makes them from what it has, uses these. All calls take them by reference.
+//!
+//! ```
+//! use dns_names_wire::{owned, Name, RecordBuf};
+//!
+//! let mail = owned::MX { preference: 10, exchange: "mail.example.".parse()? };
+//! let record = RecordBuf::new(&"example.".parse::<Name>()?, 300, &mail)?;
+//! assert_eq!(record.to_string(), "example.\t300\tIN\tMX\t10 mail.example.");
+//! assert_eq!(owned::RData::try_from(record.as_record())?, owned::RData::MX(mail));
+//! # Ok::<(), dns_names_wire::Error>(())
+//! ```
+use crate::codes::RecordType;
+use crate::error::Error;
+use crate::field::{self, Prefix};
+use crate::name::Name;
+use crate::name_ref::NameRef;
+use crate::rdata::{self, each_own_struct, each_struct, each_variant};
+use crate::record::Record;
+use crate::type_set::TypeSet;
+use crate::{ErrorKind, IpAddr, Ipv4Addr, Ipv6Addr};
+use alloc::vec::Vec;
+use core::fmt;
+
+/// The type of an owned value, by its kind.
+#[rustfmt::skip]
+macro_rules! owned {
+    (name) => { Name };
+    (u8) => { u8 };
+    (u16) => { u16 };
+    (u32) => { u32 };
+    (u48) => { u64 };
+    (u64) => { u64 };
+    (eui48) => { [u8; 6] };
+    (eui64) => { [u8; 8] };
+    (ipv4) => { Ipv4Addr };
+    (ipv6) => { Ipv6Addr };
+    (record_type) => { RecordType };
+    (string) => { Vec<u8> };
+    (counted) => { Vec<u8> };
+    (rest) => { Vec<u8> };
+    (long) => { Vec<u8> };
+    (shaped) => { Vec<u8> };
+    (texts) => { Texts };
+    (types) => { TypeSet };
+    (params) => { Pairs };
+    (prefixes) => { Prefixes };
+    (whole_names) => { WholeNames };
+}
+
+/// A borrowed value that can be owned.
+trait Own {
+    type Owned;
+
+    fn own(self) -> Self::Owned;
+}
+
+/// An owned value that can be borrowed.
+trait Lend<'a> {
+    type Lent;
+
+    fn lend(&'a self) -> Self::Lent;
+}
+
+/// Values that are the same in both forms.
+macro_rules! same {
+    ($($same:ty),*) => {$(
+        impl Own for $same {
+            type Owned = $same;
+
+            fn own(self) -> $same {
+                self
+            }
+        }
+
+        impl Lend<'_> for $same {
+            type Lent = $same;
+
+            fn lend(&self) -> $same {
+                self.clone()
+            }
+        }
+    )*};
+}
+
+same!(u8, u16, u32, u64, [u8; 6], [u8; 8], Ipv4Addr, Ipv6Addr, RecordType, TypeSet);
+
+impl Own for NameRef<'_> {
+    type Owned = Name;
+
+    fn own(self) -> Name {
+        self.to_name()
+    }
+}
+
+impl<'a> Lend<'a> for Name {
+    type Lent = NameRef<'a>;
+
+    fn lend(&'a self) -> NameRef<'a> {
+        self.into()
+    }
+}
+
+impl Own for &[u8] {
+    type Owned = Vec<u8>;
+
+    fn own(self) -> Vec<u8> {
+        self.to_vec()
+    }
+}
+
+impl<'a> Lend<'a> for Vec<u8> {
+    type Lent = &'a [u8];
+
+    fn lend(&'a self) -> &'a [u8] {
+        self
+    }
+}
+
+/// Defines the owned lists. Each has its octets, and its borrowed form is the iterator over it.
+macro_rules! lists {
+    ($($(#[$doc:meta])* $name:ident: $item:ty;)*) => {$(
+        $(#[$doc])*
+        #[derive(Clone, PartialEq, Eq, Hash)]
+        pub struct $name(Vec<u8>);
+
+        impl $name {
+            /// Returns an iterator over the items, which borrow from the list.
+            pub fn iter(&self) -> field::$name<'_> {
+                field::$name::checked(&self.0)
+            }
+
+            /// Returns the octets, as in the data of a record.
+            pub fn as_wire(&self) -> &[u8] {
+                &self.0
+            }
+        }
+
+        impl<'a> IntoIterator for &'a $name {
+            type Item = $item;
+            type IntoIter = field::$name<'a>;
+
+            fn into_iter(self) -> field::$name<'a> {
+                self.iter()
+            }
+        }
+
+        impl fmt::Debug for $name {
+            fn fmt(&self, f: &mut fmt::Formatter<'_>) -> fmt::Result {
+                fmt::Debug::fmt(&self.iter(), f)
+            }
+        }
+
+        impl Own for field::$name<'_> {
+            type Owned = $name;
+
+            fn own(self) -> $name {
+                $name(self.left().to_vec())
+            }
+        }
+
+        impl<'a> Lend<'a> for $name {
+            type Lent = field::$name<'a>;
+
+            fn lend(&'a self) -> field::$name<'a> {
+                self.iter()
+            }
+        }
+
+        impl From<field::$name<'_>> for $name {
+            fn from(list: field::$name<'_>) -> Self {
+                list.own()
+            }
+        }
+    )*};
+}
+
+lists! {
+    /// Character strings.
+    ///
+    /// ```
+    /// use dns_names_wire::owned::{RData, Texts};
+    ///
+    /// let texts = Texts::new(["v=spf1", "-all"])?;
+    /// assert!(texts.iter().eq([&b"v=spf1"[..], b"-all"]));
+    /// assert_eq!(RData::TXT(texts).to_string(), r#""v=spf1" "-all""#);
+    /// # Ok::<(), dns_names_wire::Error>(())
+    /// ```
+    Texts: &'a [u8];
+
+    /// Pairs of a number and octets, as service parameters.
+    ///
+    /// ```
+    /// use dns_names_wire::owned::{RData, Pairs, SVCB};
+    /// use dns_names_wire::Name;
+    ///
+    /// let params = Pairs::new([(3, [0, 53])])?;
+    /// let data = RData::SVCB(SVCB { priority: 1, target: Name::root(), params });
+    /// assert_eq!(data.to_string(), "1 . port=53");
+    /// # Ok::<(), dns_names_wire::Error>(())
+    /// ```
+    Pairs: (u16, &'a [u8]);
+
+    /// Address prefixes.
+    ///
+    /// ```
+    /// use dns_names_wire::owned::{Prefixes, RData};
+    /// use dns_names_wire::Prefix;
+    ///
+    /// let prefix = Prefix { family: 1, length: 28, is_negated: true, octets: &[192, 168, 38] };
+    /// assert_eq!(RData::APL(Prefixes::new([prefix])?).to_wire()?, b"\0\x01\x1C\x83\xC0\xA8\x26");
+    /// # Ok::<(), dns_names_wire::Error>(())
+    /// ```
+    Prefixes: Prefix<'a>;
+
+    /// Names, one after another.
+    ///
+    /// ```
+    /// use dns_names_wire::owned::WholeNames;
+    ///
+    /// let mut names: WholeNames = ["a.".parse()?].into_iter().collect();
+    /// names.extend(["b.".parse()?]);
+    /// assert_eq!(names.as_wire(), b"\x01a\0\x01b\0");
+    /// # Ok::<(), dns_names_wire::Error>(())
+    /// ```
+    WholeNames: NameRef<'a>;
+}
+
+impl Texts {
+    /// Returns these texts.
+    ///
+    /// # Errors
+    ///
+    /// `DataTooLong` if one has more than 255 octets; or `MessageCut` if there is none.
+    pub fn new<T: AsRef<[u8]>>(texts: impl IntoIterator<Item = T>) -> Result<Self, Error> {
+        let octets = field::Texts::to_wire(texts)?;
+        field::Texts::from_wire(&octets)?;
+        Ok(Texts(octets))
+    }
+}
+
+impl Pairs {
+    /// Returns these pairs.
+    ///
+    /// # Errors
+    ///
+    /// `DataTooLong` if a value has more than 65535 octets.
+    pub fn new<T: AsRef<[u8]>>(pairs: impl IntoIterator<Item = (u16, T)>) -> Result<Self, Error> {
+        field::Pairs::to_wire(pairs).map(Pairs)
+    }
+}
+
+impl Prefixes {
+    /// Returns these prefixes. They are checked when a message with them is written.
+    ///
+    /// # Errors
+    ///
+    /// `DataTooLong` if one has more than 127 octets.
+    pub fn new<'p>(prefixes: impl IntoIterator<Item = Prefix<'p>>) -> Result<Self, Error> {
+        let mut octets = Vec::new();
+        for prefix in prefixes {
+            let len = u8::try_from(prefix.octets.len()).ok().filter(|len| *len < 128).ok_or(ErrorKind::DataTooLong)?;
+            octets.extend_from_slice(&prefix.family.to_be_bytes());
+            octets.extend_from_slice(&[prefix.length, u8::from(prefix.is_negated) << 7 | len]);
+            octets.extend_from_slice(prefix.octets);
+        }
+        Ok(Prefixes(octets))
+    }
+}
+
+impl FromIterator<Name> for WholeNames {
+    fn from_iter<I: IntoIterator<Item = Name>>(names: I) -> Self {
+        let mut all = WholeNames(Vec::new());
+        all.extend(names);
+        all
+    }
+}
+
+impl Extend<Name> for WholeNames {
+    fn extend<I: IntoIterator<Item = Name>>(&mut self, names: I) {
+        names.into_iter().for_each(|name| self.0.extend_from_slice(name.as_wire()));
+    }
+}
+
+/// Defines the structs.
+macro_rules! structs {
+    ($($(#[$doc:meta])* $name:ident $(<$life:lifetime>)? {
+        $($(#[$field_doc:meta])* $field:ident: $type:ty = $kind:ident,)*
+    })*) => {$(
+        $(#[$doc])*
+        #[derive(Clone, PartialEq, Eq, Hash)]
+        pub struct $name {
+            $($(#[$field_doc])* pub $field: owned!($kind),)*
+        }
+
+        impl<'a> From<rdata::$name $(<$life>)?> for $name {
+            fn from(data: rdata::$name $(<$life>)?) -> Self {
+                $name { $($field: data.$field.own(),)* }
+            }
+        }
+
+        impl<'a> From<&'a $name> for rdata::$name $(<$life>)? {
+            fn from(data: &'a $name) -> Self {
+                rdata::$name { $($field: data.$field.lend(),)* }
+            }
+        }
+
+        impl fmt::Debug for $name {
+            fn fmt(&self, f: &mut fmt::Formatter<'_>) -> fmt::Result {
+                fmt::Debug::fmt(&rdata::$name::from(self), f)
+            }
+        }
+    )*};
+}
+
+each_struct!(structs);
+
+/// Defines `RData`.
+macro_rules! variants {
+    (
+        one { $($(#[$doc:meta])* $name:ident = $code:literal: $type:ty = $kind:ident,)* }
+        several { $($(#[$other_doc:meta])* $other:ident = $other_code:literal: $struct:ident $(<$life:lifetime>)?,)* }
+    ) => {
+        /// The data of a record, by its type, with names and octets of their own. [`crate::RData`] is the borrowed form.
+        ///
+        /// ```
+        /// use dns_names_wire::{owned::RData, RecordBuf};
+        ///
+        /// let records = ["a. 60 NS b.", "a. 60 TXT \"text\""].map(|line| line.parse::<RecordBuf>().unwrap());
+        /// let data: Vec<RData> = records.iter().map(|it| it.as_record().try_into()).collect::<Result<_, _>>()?;
+        /// assert_eq!(data[0], RData::NS("b.".parse()?));
+        /// assert_eq!(format!("{data:?}"), r#"[NS(Name("b.")), TXT(["text"])]"#);
+        /// # Ok::<(), dns_names_wire::Error>(())
+        /// ```
+        #[derive(Clone, PartialEq, Eq, Hash)]
+        #[non_exhaustive]
+        pub enum RData {
+            $($(#[$doc])* $name(owned!($kind)),)*
+            $($(#[$other_doc])* $other($struct),)*
+            /// Data of any other type.
+            Unknown {
+                /// The type.
+                record_type: RecordType,
+                /// The octets of the data.
+                octets: Vec<u8>,
+            },
+        }
+
+        impl From<crate::RData<'_>> for RData {
+            fn from(data: crate::RData<'_>) -> Self {
+                match data {
+                    $(crate::RData::$name(value) => RData::$name(value.own()),)*
+                    $(crate::RData::$other(value) => RData::$other(value.into()),)*
+                    crate::RData::Unknown { record_type, octets } => {
+                        RData::Unknown { record_type, octets: octets.to_vec() }
+                    }
+                }
+            }
+        }
+
+        impl<'a> From<&'a RData> for crate::RData<'a> {
+            fn from(data: &'a RData) -> Self {
+                match data {
+                    $(RData::$name(value) => crate::RData::$name(value.lend()),)*
+                    $(RData::$other(value) => crate::RData::$other(value.into()),)*
+                    RData::Unknown { record_type, octets } => {
+                        crate::RData::Unknown { record_type: *record_type, octets }
+                    }
+                }
+            }
+        }
+    };
+}
+
+each_variant!(variants);
+
+impl RData {
+    /// Returns the data in the borrowed form.
+    ///
+    /// ```
+    /// let data = dns_names_wire::owned::RData::NS("a.".parse()?);
+    /// assert_eq!(data.as_borrowed().record_type(), dns_names_wire::RecordType::NS);
+    /// # Ok::<(), dns_names_wire::Error>(())
+    /// ```
+    pub fn as_borrowed(&self) -> crate::RData<'_> {
+        self.into()
+    }
+
+    /// Returns the type.
+    ///
+    /// ```
+    /// use dns_names_wire::{owned::RData, RecordType};
+    ///
+    /// assert_eq!(RData::X25(b"31".to_vec()).record_type(), RecordType::X25);
+    /// ```
+    pub fn record_type(&self) -> RecordType {
+        self.as_borrowed().record_type()
+    }
+
+    /// Returns the octets of the data, without compression.
+    ///
+    /// # Errors
+    ///
+    /// The errors of [`RData::to_wire`](crate::RData::to_wire).
+    ///
+    /// ```
+    /// assert_eq!(dns_names_wire::owned::RData::NS("a.".parse()?).to_wire()?, b"\x01a\0");
+    /// # Ok::<(), dns_names_wire::Error>(())
+    /// ```
+    pub fn to_wire(&self) -> Result<Vec<u8>, Error> {
+        self.as_borrowed().to_wire()
+    }
+}
+
+/// Prints the data as in a master file.
+impl fmt::Display for RData {
+    fn fmt(&self, f: &mut fmt::Formatter<'_>) -> fmt::Result {
+        fmt::Display::fmt(&self.as_borrowed(), f)
+    }
+}
+
+impl fmt::Debug for RData {
+    fn fmt(&self, f: &mut fmt::Formatter<'_>) -> fmt::Result {
+        fmt::Debug::fmt(&self.as_borrowed(), f)
+    }
+}
+
+/// Fails with the errors of [`Record::data`].
+impl TryFrom<Record<'_>> for RData {
+    type Error = Error;
+
+    fn try_from(record: Record<'_>) -> Result<Self, Error> {
+        record.data().map(RData::from)
+    }
+}
+
+impl From<IpAddr> for RData {
+    fn from(address: IpAddr) -> Self {
+        crate::RData::from(address).into()
+    }
+}
+
+impl From<Ipv4Addr> for RData {
+    fn from(address: Ipv4Addr) -> Self {
+        RData::A(address)
+    }
+}
+
+impl From<Ipv6Addr> for RData {
+    fn from(address: Ipv6Addr) -> Self {
+        RData::AAAA(address)
+    }
+}
+
+macro_rules! from_struct {
+    ($($name:ident $(<$life:lifetime>)?,)*) => {$(
+        impl From<$name> for RData {
+            fn from(data: $name) -> Self {
+                RData::$name(data)
+            }
+        }
+
+        impl<'a> From<&'a $name> for crate::RData<'a> {
+            fn from(data: &'a $name) -> Self {
+                crate::RData::$name(data.into())
+            }
+        }
+
+        /// Returns data of another type as the error.
+        impl TryFrom<RData> for $name {
+            type Error = RData;
+
+            fn try_from(data: RData) -> Result<Self, RData> {
+                match data {
+                    RData::$name(data) => Ok(data),
+                    other => Err(other),
+                }
+            }
+        }
+    )*};
+}
+
+each_own_struct!(from_struct);
