@@ -4,7 +4,7 @@
 
 The wheel has the shared library `libdns_names_wire.so`. It is taken from the folder that the environment variable
 DNW_LIB_DIR names; if that is not set, `tools/c-library` of the repository builds it, for which the Rattle toolchain has
-to be there.
+to be there. For which machine the wheel is, and whether for glibc or for musl, is read from the library.
 """
 
 import base64
@@ -14,7 +14,6 @@ import pathlib
 import re
 import subprocess
 import sys
-import sysconfig
 import tempfile
 import zipfile
 
@@ -22,28 +21,52 @@ HERE = pathlib.Path(__file__).resolve().parent
 LIBRARY = "libdns_names_wire.so"
 LICENCES = ["NOTICE", "LICENSE-APACHE", "LICENSE-MIT"]
 NAME = "dns_names_wire"
-# The version is only in rust/Cargo.toml.
-VERSION = re.search(r'^version = "(.+)"$', (HERE.parent / "rust/Cargo.toml").read_text(), re.M)[1]
+# The version, the authors and the place are only in rust/Cargo.toml.
+CARGO = (HERE.parent / "rust/Cargo.toml").read_text()
+VERSION = re.search(r'^version = "(.+)"$', CARGO, re.M)[1]
+AUTHORS = re.search(r'^authors = \["(.+)"\]$', CARGO, re.M)[1]
+PLACE = re.search(r'^repository = "(.+)"$', CARGO, re.M)[1]
+CLASSIFIERS = [
+    "Development Status :: 4 - Beta",
+    "Intended Audience :: Developers",
+    "Intended Audience :: System Administrators",
+    "License :: OSI Approved :: Apache Software License",
+    "License :: OSI Approved :: MIT License",
+    "Operating System :: POSIX :: Linux",
+    "Programming Language :: Python :: 3",
+    "Programming Language :: Python :: 3 :: Only",
+    "Programming Language :: Python :: Implementation :: CPython",
+    "Topic :: Internet :: Name Service (DNS)",
+    "Topic :: Security",
+    "Typing :: Typed",
+]
 METADATA = f"""Metadata-Version: 2.1
 Name: dns-names-wire
 Version: {VERSION}
 Summary: Names, records and messages of DNS read and written, and master files read, by a proved library
+Home-page: {PLACE}
+Author: {AUTHORS}
 License: MIT OR Apache-2.0
-{"".join(f"License-File: {licence}" + chr(10) for licence in LICENCES)}Requires-Python: >=3.9
+Project-URL: Source, {PLACE}
+Keywords: dns,domain,name,verified,wire
+Platform: Linux
+{"".join(f"Classifier: {classifier}" + chr(10) for classifier in CLASSIFIERS)}Requires-Python: >=3.9
 Description-Content-Type: text/markdown
-
+{"".join(f"License-File: {licence}" + chr(10) for licence in LICENCES)}
 {(HERE / "README.md").read_text()}"""
+# The machines of Linux by their number in an ELF header.
+MACHINES = {62: "x86_64", 183: "aarch64"}
 
 
 def platform_tag(library):
-    """Returns the platform tag: for Linux with the version of glibc that the library needs (PEP 600), or else
-    Python's."""
-    platform = sysconfig.get_platform().replace("-", "_").replace(".", "_")
+    """Returns the platform tag of a shared library: for glibc with the version that it needs (PEP 600), for musl with the
+    one that it was tried with (PEP 656)."""
+    machine = MACHINES[int.from_bytes(library[18:20], "little")]
+    if b"\0libc.so\0" in library:
+        return f"musllinux_1_2_{machine}"
     wanted = [int(version) for version in re.findall(rb"GLIBC_2\.(\d+)", library)]
-    if platform.startswith("linux_") and wanted:
-        # No system in use has a glibc before 2.17 (manylinux2014).
-        return platform.replace("linux_", f"manylinux_2_{max(17, *wanted)}_", 1)
-    return platform
+    # No system in use has a glibc before 2.17 (manylinux2014).
+    return f"manylinux_2_{max([17, *wanted])}_{machine}"
 
 
 def shared_library():
@@ -59,6 +82,7 @@ def contents(tag, library):
     """Returns the files of the wheel by name, except RECORD."""
     package = HERE / NAME
     files = {f"{NAME}/{path.name}": path.read_bytes() for path in sorted(package.glob("*.py"))}
+    files[f"{NAME}/_version.py"] = f'"""The version of the package."""\n\nVERSION = "{VERSION}"\n'.encode()
     files[f"{NAME}/py.typed"] = b""
     files[f"{NAME}/{LIBRARY}"] = library
     info = f"{NAME}-{VERSION}.dist-info"

@@ -1,316 +1,84 @@
-"""Bindings to a proved library that reads and writes DNS names, records and messages, and reads master files.
+"""DNS names, records and messages, read and written by a proved library.
 
 The library is the shared C library of `dns-names-wire`, which the wheel has. Its reader accepts exactly the names of
 RFC 1035, section 4.1.4, and no input makes it read outside the message, loop or crash. This package calls it by ctypes.
 The package itself is not proved. It uses only Python's standard library.
 
+>>> query = make_query("www.example.com", "A", payload=1232)
+>>> reply = query.reply([Record("www.example.com.", 60, A("192.0.2.1"))], authoritative=True)
+>>> message = Message.from_wire(reply.to_wire(query.max_payload))
+>>> for record in message.answers:
+...     print(record)
+www.example.com. 60 IN A 192.0.2.1
+
+`help(dns_names_wire.Message)`, or `pydoc dns_names_wire.Message`, explains a class or a function:
+
+messages    Message, Header, Question, Edns, OpCode, ResponseCode; make_query, make_response;
+            MessageWriter writes a message step by step
+records     Record, RRset; rrsets, read_record, records, parse_ttl; RecordType, RecordClass, with
+            type_text, type_code, class_text, class_code
+data        Data, with a class for each type, as A, MX, SOA or TXT, and Unknown for any other;
+            FieldValue, TypeSet; data_from_text, data_from_wire
+names       Name, NameAt; read_name, names, sort_names; reverse_name, parse_reverse_name
+DNSSEC      Record.signed_octets; key_tag, ds_digest, zone_digest, nsec_covers, nsec3_covers,
+            nsec3_hash, nsec3_label
+serials     serial_add, serial_compare
+errors      DnsError, with a subclass for each reason, and TextRule
+
+Wrong input raises a subclass of `DnsError`, which is a `ValueError`: `reason` is what is wrong, and `offset` is where, if it
+is known. An argument of a wrong type raises `TypeError`, and one that is out of bounds raises `ValueError`, with the
+argument's name. `MemoryError` means that the library is out of memory.
+
 The shared library is taken from the folder that the environment variable DNW_LIB_DIR names, or, if that is not set,
 from the folder of this file.
-
-Wrong input raises a subclass of `DnsError`, with the reason and, if it is known, the offset. An argument of a wrong
-type raises `TypeError`, and one that is out of bounds raises `ValueError`, with the argument's name.
-
->>> message = bytes.fromhex("123401000001000000000000 0377777707 6578616d706c65 03636f6d 00 0001 0001")
->>> name, end = read_name(message, 12)
->>> print(name, message[end:].hex())
-www.example.com. 00010001
 """
 
-from ._codes import OpCode, RecordClass, RecordType, ResponseCode, class_code, class_text, type_code, type_text
-from ._dnssec import ds_digest, key_tag, nsec3_covers, nsec3_hash, nsec3_label, nsec_covers, zone_digest
+from ._codes import (
+    OpCode as OpCode, RecordClass as RecordClass, RecordType as RecordType, ResponseCode as ResponseCode,
+    class_code as class_code, class_text as class_text, type_code as type_code, type_text as type_text,
+)  # fmt: skip
+from ._data import Data as Data, Unknown as Unknown, data_from_text as data_from_text, data_from_wire as data_from_wire
+from ._dnssec import (
+    ds_digest as ds_digest, key_tag as key_tag, nsec3_covers as nsec3_covers, nsec3_hash as nsec3_hash,
+    nsec3_label as nsec3_label, nsec_covers as nsec_covers, zone_digest as zone_digest,
+)  # fmt: skip
 from ._errors import (
-    BadBitmap,
-    BadFamily,
-    BadData,
-    BadEscape,
-    BadParams,
-    BadText,
-    BadTime,
-    BytesLeft,
-    ControlCharacter,
-    CutOption,
-    DataTooLong,
-    DnsError,
-    DuplicateEdns,
-    EmptyLabel,
-    IllegalCharacter,
-    LabelTooLong,
-    MessageCut,
-    MessageTooLong,
-    NameTooLong,
-    NotCovered,
-    NotDnskey,
-    NotOrdered,
-    NotReverse,
-    NotRrsig,
-    NotUtf8,
-    OutsideAdditionals,
-    OwnerNotRoot,
-    PointerNotBack,
-    ReservedOctet,
-    SegmentsOverlap,
-    TextCut,
-    TextRule,
-    TooFewLabels,
-    TooManyIterations,
-    TooManyPointers,
-    UnclosedList,
-    UnclosedQuote,
-    UnknownAlgorithm,
-    UnknownEntry,
-    UnknownText,
-    WrongDataLength,
-)
-from ._fields import FieldValue
-from ._messages import Edns, Header, Message, Question, make_query, make_response
-from ._names import Name, NameAt, names, read_name, sort_names
+    BadBitmap as BadBitmap, BadData as BadData, BadEscape as BadEscape, BadFamily as BadFamily, BadItem as BadItem,
+    BadParams as BadParams, BadText as BadText, BadTime as BadTime, BytesLeft as BytesLeft,
+    ControlCharacter as ControlCharacter, CutOption as CutOption, DataTooLong as DataTooLong, DnsError as DnsError,
+    DuplicateEdns as DuplicateEdns, EmptyLabel as EmptyLabel, IllegalCharacter as IllegalCharacter,
+    LabelTooLong as LabelTooLong, MessageCut as MessageCut, MessageTooLong as MessageTooLong,
+    NameTooLong as NameTooLong, NotCovered as NotCovered, NotDnskey as NotDnskey, NotOrdered as NotOrdered,
+    NotReverse as NotReverse, NotRrsig as NotRrsig, NotUtf8 as NotUtf8, OutsideAdditionals as OutsideAdditionals,
+    OwnerNotRoot as OwnerNotRoot, PointerNotBack as PointerNotBack, ReservedOctet as ReservedOctet,
+    SegmentsOverlap as SegmentsOverlap, TextCut as TextCut, TextRule as TextRule, TooFewLabels as TooFewLabels,
+    TooManyIterations as TooManyIterations, TooManyPointers as TooManyPointers, UnclosedList as UnclosedList,
+    UnclosedQuote as UnclosedQuote, UnknownAlgorithm as UnknownAlgorithm, UnknownEntry as UnknownEntry,
+    UnknownText as UnknownText, WrongDataLength as WrongDataLength,
+)  # fmt: skip
+from ._messages import (
+    Edns as Edns, Header as Header, Message as Message, Question as Question, make_query as make_query,
+    make_response as make_response,
+)  # fmt: skip
+from ._names import Name as Name, NameAt as NameAt, names as names, read_name as read_name, sort_names as sort_names
 from ._rdata import (
-    A,
-    AAAA,
-    AFSDB,
-    AMTRELAY,
-    APL,
-    AVC,
-    CAA,
-    CDNSKEY,
-    CDS,
-    CERT,
-    CLA,
-    CNAME,
-    CSYNC,
-    DHCID,
-    DLV,
-    DNAME,
-    DNSKEY,
-    DOA,
-    DS,
-    DSYNC,
-    Data,
-    EUI48,
-    EUI64,
-    GPOS,
-    HINFO,
-    HIP,
-    HTTPS,
-    IPSECKEY,
-    ISDN,
-    KEY,
-    KX,
-    L32,
-    L64,
-    LOC,
-    LP,
-    MB,
-    MD,
-    MF,
-    MG,
-    MINFO,
-    MR,
-    MX,
-    NAPTR,
-    NID,
-    NINFO,
-    NS,
-    NSAP,
-    NSAP_PTR,
-    NSEC,
-    NSEC3,
-    NSEC3PARAM,
-    NXT,
-    PTR,
-    PX,
-    RESINFO,
-    RKEY,
-    RP,
-    RRSIG,
-    RT,
-    SIG,
-    SMIMEA,
-    SOA,
-    SPF,
-    SRV,
-    SSHFP,
-    SVCB,
-    TALINK,
-    TKEY,
-    TLSA,
-    TSIG,
-    TXT,
-    URI,
-    Unknown,
-    WALLET,
-    WKS,
-    X25,
-    ZONEMD,
-    data_from_text,
-    data_from_wire,
-)
-from ._records import Record, read_record, records
-from ._reverse import parse_reverse_name, reverse_name
-from ._text import Token, TokenKind, parse_ttl, tokens
-from ._types import TypeSet, serial_add, serial_compare
-from ._writer import MessageWriter, Truncated
-
-__all__ = [
-    "A",
-    "AAAA",
-    "AFSDB",
-    "AMTRELAY",
-    "APL",
-    "AVC",
-    "BadBitmap",
-    "BadFamily",
-    "BadData",
-    "BadEscape",
-    "BadParams",
-    "BadText",
-    "BadTime",
-    "BytesLeft",
-    "CAA",
-    "CDNSKEY",
-    "CDS",
-    "CERT",
-    "CLA",
-    "CNAME",
-    "CSYNC",
-    "ControlCharacter",
-    "CutOption",
-    "DHCID",
-    "DLV",
-    "DNAME",
-    "DNSKEY",
-    "DOA",
-    "DS",
-    "DSYNC",
-    "Data",
-    "DataTooLong",
-    "DnsError",
-    "DuplicateEdns",
-    "EmptyLabel",
-    "EUI48",
-    "EUI64",
-    "Edns",
-    "FieldValue",
-    "GPOS",
-    "HINFO",
-    "HIP",
-    "HTTPS",
-    "Header",
-    "IPSECKEY",
-    "ISDN",
-    "IllegalCharacter",
-    "KEY",
-    "KX",
-    "L32",
-    "L64",
-    "LOC",
-    "LP",
-    "LabelTooLong",
-    "MB",
-    "MD",
-    "MF",
-    "MG",
-    "MINFO",
-    "MR",
-    "MX",
-    "Message",
-    "MessageCut",
-    "MessageTooLong",
-    "MessageWriter",
-    "NAPTR",
-    "NID",
-    "NINFO",
-    "NS",
-    "NSAP",
-    "NSAP_PTR",
-    "NSEC",
-    "NSEC3",
-    "NSEC3PARAM",
-    "NXT",
-    "Name",
-    "NameAt",
-    "NameTooLong",
-    "NotCovered",
-    "NotDnskey",
-    "NotOrdered",
-    "NotReverse",
-    "NotRrsig",
-    "NotUtf8",
-    "OpCode",
-    "OutsideAdditionals",
-    "OwnerNotRoot",
-    "PTR",
-    "PX",
-    "PointerNotBack",
-    "Question",
-    "RESINFO",
-    "RKEY",
-    "RP",
-    "RRSIG",
-    "RT",
-    "Record",
-    "RecordClass",
-    "RecordType",
-    "ReservedOctet",
-    "ResponseCode",
-    "SIG",
-    "SMIMEA",
-    "SOA",
-    "SPF",
-    "SRV",
-    "SSHFP",
-    "SVCB",
-    "SegmentsOverlap",
-    "TALINK",
-    "TKEY",
-    "TLSA",
-    "TSIG",
-    "TXT",
-    "TextCut",
-    "TextRule",
-    "Token",
-    "TokenKind",
-    "TooFewLabels",
-    "TooManyIterations",
-    "TooManyPointers",
-    "Truncated",
-    "TypeSet",
-    "URI",
-    "UnclosedList",
-    "UnclosedQuote",
-    "Unknown",
-    "UnknownAlgorithm",
-    "UnknownEntry",
-    "UnknownText",
-    "WALLET",
-    "WKS",
-    "WrongDataLength",
-    "X25",
-    "ZONEMD",
-    "class_code",
-    "class_text",
-    "data_from_text",
-    "data_from_wire",
-    "ds_digest",
-    "key_tag",
-    "make_query",
-    "make_response",
-    "names",
-    "nsec3_covers",
-    "nsec3_hash",
-    "nsec3_label",
-    "nsec_covers",
-    "parse_reverse_name",
-    "parse_ttl",
-    "read_name",
-    "read_record",
-    "records",
-    "reverse_name",
-    "serial_add",
-    "serial_compare",
-    "sort_names",
-    "tokens",
-    "type_code",
-    "type_text",
-    "zone_digest",
-]
+    A as A, AAAA as AAAA, AFSDB as AFSDB, AMTRELAY as AMTRELAY, APL as APL, AVC as AVC, BRID as BRID, CAA as CAA,
+    CDNSKEY as CDNSKEY, CDS as CDS, CERT as CERT, CLA as CLA, CNAME as CNAME, CSYNC as CSYNC, DHCID as DHCID,
+    DLV as DLV, DNAME as DNAME, DNSKEY as DNSKEY, DOA as DOA, DS as DS, DSYNC as DSYNC, EUI48 as EUI48,
+    EUI64 as EUI64, GPOS as GPOS, HHIT as HHIT, HINFO as HINFO, HIP as HIP, HTTPS as HTTPS, IPN as IPN,
+    IPSECKEY as IPSECKEY, ISDN as ISDN, KEY as KEY, KX as KX, L32 as L32, L64 as L64, LOC as LOC, LP as LP,
+    MB as MB, MD as MD, MF as MF, MG as MG, MINFO as MINFO, MR as MR, MX as MX, NAPTR as NAPTR, NID as NID,
+    NINFO as NINFO, NS as NS, NSAP as NSAP, NSAP_PTR as NSAP_PTR, NSEC as NSEC, NSEC3 as NSEC3,
+    NSEC3PARAM as NSEC3PARAM, NXT as NXT, PTR as PTR, PX as PX, RESINFO as RESINFO, RKEY as RKEY, RP as RP,
+    RRSIG as RRSIG, RT as RT, SIG as SIG, SMIMEA as SMIMEA, SOA as SOA, SPF as SPF, SRV as SRV, SSHFP as SSHFP,
+    SVCB as SVCB, TA as TA, TALINK as TALINK, TKEY as TKEY, TLSA as TLSA, TSIG as TSIG, TXT as TXT, URI as URI,
+    WALLET as WALLET, WKS as WKS, X25 as X25, ZONEMD as ZONEMD,
+)  # fmt: skip
+from ._records import Record as Record, read_record as read_record, records as records
+from ._reverse import parse_reverse_name as parse_reverse_name, reverse_name as reverse_name
+from ._sets import RRset as RRset, rrsets as rrsets
+from ._table import FieldValue as FieldValue
+from ._text import parse_ttl as parse_ttl
+from ._types import TypeSet as TypeSet, serial_add as serial_add, serial_compare as serial_compare
+from ._writer import MessageWriter as MessageWriter
+from ._version import VERSION as __version__

@@ -97,6 +97,11 @@ class _Code(int):
         return f"{own}.{text}" if hasattr(type(self), text) else f"{own}({int(self)})"
 
 
+def code_of(kind: Type[_Own], what: str, value: object) -> _Own:
+    """Returns an argument that has to be a code, as a number or by its name."""
+    return kind.from_text(value) if isinstance(value, str) else kind.of(_checks.number(what, value, kind._most))
+
+
 class RecordType(_Code):
     """A record type: its code, as an `int`. There is a constant for each type that has a name.
 

@@ -33,7 +33,6 @@ class DnsError(ValueError):
     - `offset` is where the input is wrong: the octet of the message at which the name or record should begin, the
       character of a master file after which no valid token is next, or the first wrong character of the text of a name.
     - `rule` is the `TextRule` that the text of a name breaks.
-    - `part` is the index of the part that does not fit, if a message that is written is too long.
     - `section` is "header", "question", "answer", "authority" or "additional", and `item` is the index in that section
       of the first item that is wrong, if a whole message was read.
 
@@ -59,7 +58,6 @@ class DnsError(ValueError):
     reason: str
     offset: Optional[int]
     rule: Optional[TextRule]
-    part: Optional[int]
     section: Optional[str]
     item: Optional[int]
 
@@ -68,14 +66,12 @@ class DnsError(ValueError):
         reason: str = "",
         offset: Optional[int] = None,
         rule: Optional[TextRule] = None,
-        part: Optional[int] = None,
         section: Optional[str] = None,
         item: Optional[int] = None,
     ) -> None:
-        places = [f"at {word} {at}: " for word, at in [("offset", offset), ("part", part)] if at is not None]
         which = "" if section is None else f"{section} {item}, "
-        super().__init__(which + "".join(places) + reason)
-        self.reason, self.offset, self.rule, self.part = reason, offset, rule, part
+        super().__init__(which + ("" if offset is None else f"at offset {offset}: ") + reason)
+        self.reason, self.offset, self.rule = reason, offset, rule
         self.section, self.item = section, item
 
 
@@ -168,6 +164,12 @@ class TextCut(DnsError):
     """A text that ends within an escape, or after a carriage return."""
 
     number = 18
+
+
+class BadItem(DnsError):
+    """An item of a message after one of a later section, or after the last one; or a reply to a response."""
+
+    number = 27
 
 
 class EmptyLabel(DnsError):

@@ -3,8 +3,8 @@
 import ctypes
 import os
 import pathlib
-from ctypes import POINTER, c_bool, c_char, c_char_p, c_int32, c_size_t, c_uint8, c_uint16, c_uint32
-from typing import Any
+from ctypes import POINTER, c_bool, c_char, c_char_p, c_int32, c_size_t, c_uint8, c_uint16, c_uint32, c_void_p
+from typing import Any, List
 
 LIBRARY = "libdns_names_wire.so"
 
@@ -25,6 +25,16 @@ SortKey = c_char * SORT_KEY_SIZE
 Text = c_char * TEXT_SIZE
 CodeText = c_char * CODE_SIZE
 ErrorText = c_char * 64
+
+
+# Buffers of these sizes. Their types are kept, since making a type takes longer than a call.
+_ROOMS = [c_char * (512 << step) for step in range(8)]
+
+
+def room_of(size: int) -> "ctypes.Array[c_char]":
+    """Returns a new buffer with room for so many octets."""
+    step = (size - 1 >> 9).bit_length() if size > 512 else 0
+    return _ROOMS[step]() if step < len(_ROOMS) else (c_char * size)()
 
 
 def taken(buffer: "ctypes.Array[c_char]", length: int) -> bytes:
@@ -92,16 +102,19 @@ class Edns(ctypes.Structure):
     ]
 
 
-class Fields(ctypes.Structure):
-    _fields_ = [("offset", c_size_t), ("number", c_size_t)]
+class Table(ctypes.Structure):
+    _fields_ = [("row_count", c_size_t), ("names_len", c_size_t)]
 
 
-class Field(ctypes.Structure):
-    _fields_ = [("kind", c_uint32), ("offset", c_size_t), ("len", c_size_t)]
-
-
-class WrittenMessage(ctypes.Structure):
-    _fields_ = [("len", c_size_t), ("count", c_size_t)]
+class Writer(ctypes.Structure):
+    _fields_ = [
+        ("len", c_size_t),
+        ("max_size", c_size_t),
+        ("reserved", c_size_t),
+        ("owner", c_uint16),
+        ("rank", c_uint8),
+        ("hints", c_uint16 * 512),
+    ]
 
 
 class Packed(ctypes.Structure):
@@ -116,14 +129,6 @@ class Net(ctypes.Structure):
     _fields_ = [("len", c_size_t), ("prefix_len", c_uint8)]
 
 
-class Lexer(ctypes.Structure):
-    _fields_ = [("offset", c_size_t), ("at_line_start", c_bool)]
-
-
-class Token(ctypes.Structure):
-    _fields_ = [("kind", c_uint32), ("len", c_size_t), ("count", c_size_t)]
-
-
 # A slice of bytes is two arguments: the bytes that are read, or the buffer that is written, and the length.
 _READ = (c_char_p, c_size_t)
 _WRITTEN = (c_char_p, c_size_t)
@@ -136,9 +141,22 @@ _FUNCTIONS = {
     "dnw_record_read": (*_READ, c_size_t, *_WRITTEN, POINTER(Record)),
     "dnw_record_data_name": (*_READ, c_size_t, c_size_t, *_WRITTEN, POINTER(c_size_t)),
     "dnw_message_read": (*_READ, c_size_t, POINTER(Message), POINTER(MessageFault)),
+    "dnw_is_reply_to": (*_READ, *_READ, POINTER(c_bool)),
     "dnw_edns_read": (*_READ, c_size_t, POINTER(Edns)),
-    "dnw_field_next": (*_READ, c_size_t, c_uint16, c_uint16, POINTER(Fields), POINTER(Field)),
-    "dnw_message_write": (*_READ, c_uint16, c_bool, *_WRITTEN, POINTER(WrittenMessage)),
+    "dnw_message_table": (*_READ, c_size_t, *_WRITTEN, *_WRITTEN, POINTER(Table)),
+    "dnw_record_data": (*_READ, c_size_t, *_WRITTEN, POINTER(c_size_t)),
+    "dnw_message_write": (*_READ, c_size_t, c_uint16, c_uint16, *_WRITTEN, POINTER(Packed)),
+    "dnw_writer_begin": (*_WRITTEN, c_size_t, c_uint16, c_uint16, POINTER(Writer)),
+    "dnw_writer_reply": (*_WRITTEN, c_size_t, *_READ, c_uint16, POINTER(Writer), POINTER(Edns)),
+    "dnw_writer_question": (*_WRITTEN, *_READ, c_uint16, c_uint16, POINTER(Writer)),
+    "dnw_writer_record": (*_WRITTEN, c_uint32, *_READ, c_uint16, c_uint16, c_uint32, *_READ, POINTER(Writer)),
+    "dnw_writer_set": (*_WRITTEN, c_uint32, c_bool, *_READ, c_uint16, c_uint16, c_uint32, *_READ, POINTER(Writer)),
+    "dnw_writer_hold": (c_size_t, POINTER(Writer)),
+    "dnw_writer_release": (c_size_t, POINTER(Writer)),
+    "dnw_writer_edns": (
+        *_WRITTEN, c_size_t, c_uint16, c_uint8, c_uint8, c_bool, *_READ, c_uint16, POINTER(Writer),
+    ),
+    "dnw_writer_last": (*_WRITTEN, c_size_t, *_READ, c_uint16, c_uint16, c_uint32, *_READ, POINTER(Writer)),
     "dnw_message_pack": (*_READ, c_uint16, *_WRITTEN, POINTER(Packed)),
     "dnw_data_parse": (c_uint16, c_uint16, *_READ, *_READ, *_WRITTEN, POINTER(c_size_t)),
     "dnw_record_parse": (*_READ, *_READ, *_WRITTEN, POINTER(c_size_t)),
@@ -170,10 +188,9 @@ _FUNCTIONS = {
     "dnw_class_parse": (*_READ, POINTER(c_uint16)),
     "dnw_serial_compare": (c_uint32, c_uint32, POINTER(c_int32)),
     "dnw_serial_add": (c_uint32, c_uint32),
-    "dnw_types_read": (*_READ, POINTER(c_uint16), c_size_t, POINTER(c_size_t)),
-    "dnw_types_write": (POINTER(c_uint16), c_size_t, *_WRITTEN, POINTER(c_size_t)),
+    "dnw_types_read": (*_READ, c_void_p, c_size_t, POINTER(c_size_t)),
+    "dnw_types_write": (c_void_p, c_size_t, *_WRITTEN, POINTER(c_size_t)),
     "dnw_ttl_parse": (*_READ, POINTER(c_uint32)),
-    "dnw_token_next": (*_READ, POINTER(Lexer), *_WRITTEN, POINTER(Token)),
 }
 
 
@@ -206,3 +223,49 @@ def _load() -> ctypes.CDLL:
 
 
 library = _load()
+
+
+def by_address(name: str, count: int) -> Any:
+    """Returns a function of the library with so many arguments: octets as `bytes`, buffers by their addresses, and numbers in
+    the range of their types. They are passed as pointers are, in whole registers, which takes half the time."""
+    function = library[name]
+    function.argtypes, function.restype = [c_char_p if at in _OCTETS[name] else c_void_p for at in range(count)], c_uint32
+    return function
+
+
+# Which arguments of these functions are octets.
+_OCTETS = {"dnw_message_write": (0,), "dnw_writer_reply": (3,), "dnw_message_table": (0,), "dnw_name_sort_key": (0,)}
+
+
+class Room:
+    """Buffers for the results of a call, and their addresses."""
+
+    __slots__ = (
+        "octets", "octets_at", "rows", "rows_at", "writer", "writer_at", "edns", "edns_at", "packed", "packed_at", "table",
+        "table_at", "length", "length_at",
+    )  # fmt: skip
+
+    def __init__(self) -> None:
+        self.octets, self.rows = (c_char * ROOM_SIZE)(), (c_char * ROWS_SIZE)()
+        self.writer, self.edns, self.packed, self.table, self.length = Writer(), Edns(), Packed(), Table(), c_size_t()
+        self.octets_at, self.rows_at = ctypes.addressof(self.octets), ctypes.addressof(self.rows)
+        self.writer_at, self.edns_at = ctypes.addressof(self.writer), ctypes.addressof(self.edns)
+        self.packed_at, self.table_at = ctypes.addressof(self.packed), ctypes.addressof(self.table)
+        self.length_at = ctypes.addressof(self.length)
+
+
+# The sizes of the buffers of a room.
+ROOM_SIZE = 4096
+ROWS_SIZE = 256 * 48
+
+# Rooms that no call uses. A call takes one out, so another call in between, of a signal handler or a thread, has its own.
+_FREE: List[Room] = []
+give_back, take_free = _FREE.append, _FREE.pop
+
+
+def take_room() -> Room:
+    """Returns a room that no other call uses, to be given back."""
+    try:
+        return take_free()
+    except IndexError:
+        return Room()

@@ -2,22 +2,35 @@
 
 import secrets
 import struct
-from ctypes import byref, c_char
-from dataclasses import dataclass, field, replace
+from ctypes import addressof, byref, c_bool
+from dataclasses import dataclass
 from functools import lru_cache
-from typing import Any, Dict, Iterable, Iterator, Optional, Tuple, Union
+from typing import TYPE_CHECKING, Any, Callable, Dict, Iterable, Iterator, List, Optional, Tuple, Type
 
 from . import _checks
 from ._checks import Bytes
-from ._codes import OpCode, RecordClass, RecordType, ResponseCode
+from ._codes import OpCode, RecordClass, RecordType, ResponseCode, code_of
+from ._data import NameLike, TypeLike, put_pairs, take_pairs
 from ._errors import SECTIONS, DataTooLong, DnsError, check, check_item
-from ._fields import Names, checked_name, pairs
+from ._library import (
+    NO_ROOM,
+    ROOM_SIZE,
+    MessageFault,
+    Packed,
+    Room,
+    by_address,
+    give_back,
+    library,
+    room_of,
+    take_free,
+    taken,
+)
 from ._library import Edns as ReadEdns
 from ._library import Message as Read
-from ._library import NO_ROOM, MessageFault, Packed, library, taken
-from ._names import Name, wire_of
-from ._rdata import put_pairs
-from ._records import Record, section_records
+from ._names import Name, whole_name
+from ._records import Record, record_at
+from ._sets import RRset, rrsets
+from ._table import Table, read_table
 
 # The type and the class of a question.
 _CODES = struct.Struct("!HH")
@@ -25,10 +38,19 @@ _CODES = struct.Struct("!HH")
 # flags, and the number of octets of options.
 _OPT = struct.Struct("!xHHBBHH")
 _DNSSEC_OK = 0x8000
-# The id, the flags and the codes, and the counts of a header.
+# The id, the flags and the codes, and the counts of a header; and the first two of these.
 _HEADER = struct.Struct("!HHHHHH")
+_head_of: Any = struct.Struct("!HH").unpack_from
+_HEADER_SIZE = 12
+# The first octets of the items of a list, by enum dnw_list_item in dns_names_wire.h.
+_ANSWER, _AUTHORITY, _OPTIONAL_AUTHORITY, _GLUE, _OPTIONAL_ADDITIONAL, _LAST = b"\1", b"\2", b"\x82", b"\3", b"\x83", b"\x43"
+# The types of records that are the last of a message, and never left out: OPT, and then TSIG (RFC 8945, section 5.1).
+_LAST_TYPES = (RecordType.OPT, RecordType.TSIG)
 _MOST = 65535
 _MAX_POINTERS = 65536
+_MOST_ITEMS = ROOM_SIZE - _HEADER_SIZE
+_message_write = by_address("dnw_message_write", 8)
+_writer_reply = by_address("dnw_writer_reply", 8)
 _MOST_POINTERS = 2**64 - 1
 
 
@@ -64,9 +86,9 @@ class Header:
         ]
         return tuple(name for name, is_set in named if is_set)
 
-    def _octets(self, *counts: int) -> bytes:
-        """Returns the octets, with the low four bits of the response code."""
-        flags = (
+    def _flags(self) -> int:
+        """Returns the flags and codes, with the low four bits of the response code."""
+        return (
             bool(self.is_response) << 15
             | _checks.number("op_code", self.op_code, 15) << 11
             | bool(self.authoritative) << 10
@@ -77,26 +99,39 @@ class Header:
             | bool(self.checking_disabled) << 4
             | self.response_code & 15
         )
-        return _HEADER.pack(_checks.number("id", self.id, _MOST), flags, *counts)
+
+
+# The questions of a message, and the records of each section.
+_Parts = Tuple[Tuple["Question", ...], Tuple[Record, ...], Tuple[Record, ...], Tuple[Record, ...]]
 
 
 @dataclass(frozen=True)
 class Question:
-    """A question (RFC 1035, section 4.1.2). `str` returns its name, class and type, with spaces between them."""
+    """A question (RFC 1035, section 4.1.2): its fully qualified name, type and class, each of which may be a text.
+
+    `str` returns the name, class and type, with spaces between them.
+
+    >>> print(Question("www.example.", "AAAA"))
+    www.example. IN AAAA
+    """
 
     name: Name
     question_type: RecordType
-    question_class: RecordClass
+    question_class: RecordClass = RecordClass.IN
+
+    if TYPE_CHECKING:
+        def __init__(self, name: NameLike, question_type: TypeLike, question_class: TypeLike = 1) -> None: ...
+
+    def __post_init__(self) -> None:
+        codes = code_of(RecordType, "question_type", self.question_type), code_of(RecordClass, "question_class", self.question_class)
+        self.__dict__.update(name=whole_name("name", self.name), question_type=codes[0], question_class=codes[1])
 
     def __str__(self) -> str:
         return f"{self.name} {self.question_class} {self.question_type}"
 
     def to_wire(self) -> bytes:
         """Returns the octets, without compression."""
-        wire, _ = wire_of("name", self.name)
-        codes = (_checks.number(what, code, _MOST) for what, code in
-                 [("question_type", self.question_type), ("question_class", self.question_class)])
-        return wire + _CODES.pack(*codes)
+        return self.name.wire + _CODES.pack(self.question_type, self.question_class)
 
 
 @dataclass(frozen=True)
@@ -112,23 +147,22 @@ class Edns:
     dnssec_ok: bool = False
     options: Tuple[Tuple[int, bytes], ...] = ()
 
-    def _record(self, code: int) -> Record:
+    def _record(self, code: int) -> bytes:
         """Returns the OPT record (RFC 6891, section 6.1.2), with the high bits of a response code."""
-        options = put_pairs("options", self.options)
+        options = put_pairs(take_pairs("options", self.options)) if self.options else b""
         if len(options) > _MOST:
             raise DataTooLong()
         payload, version = _checks.number("max_payload", self.max_payload, _MOST), _checks.number("version", self.version, 255)
         flags = _DNSSEC_OK if self.dnssec_ok else 0
-        return Record._made(_OPT.pack(RecordType.OPT, payload, code >> 4, version, flags, len(options)) + options, 1)
+        return _OPT.pack(RecordType.OPT, payload, code >> 4, version, flags, len(options)) + options
 
 
-@dataclass(frozen=True)
 class Message:
-    """A message that was checked as a whole (RFC 1035, section 4). `Message.from_wire` reads it.
+    """A message (RFC 1035, section 4): one that was read and checked as a whole, or one that was made.
 
-    The data of its records are not checked; `Record.fields` does. `trailing` is the octets after the message. Two
-    messages are equal if all their octets are. `Message.build`, `Message.query` and `Message.reply` make a message,
-    whose `wire` is not compressed; `to_wire` writes any message, compressed and within a size.
+    `Message.from_wire` reads a message. The data of its records are not checked; `Record.fields` does. `trailing` is the
+    octets after the message. `Message.build`, `Message.query` and `Message.reply` make a message. `to_wire` writes any
+    message, compressed and within a size. Two messages are equal if all their octets are.
 
     >>> message = Message.from_wire(bytes.fromhex("123484000001000100000000 016200 0001 0001 c00c 0001 0001 0000003c 0004 c0000201"))
     >>> message.id, message.flags
@@ -150,14 +184,13 @@ class Message:
     b. 60 IN A 192.0.2.1
     """
 
-    header: Header = field(compare=False)
-    questions: Tuple[Question, ...] = field(compare=False)
-    answers: Tuple[Record, ...] = field(compare=False)
-    authorities: Tuple[Record, ...] = field(compare=False)
-    additionals: Tuple[Record, ...] = field(compare=False)
-    wire: bytes
-    trailing: bytes
-    _max_pointers: int = field(compare=False)
+    __slots__ = ("_head",)
+
+    # The id and the flags.
+    _head: Tuple[int, int]
+
+    def __init__(self) -> None:
+        raise TypeError("a Message is made by Message.from_wire, build, query or reply")
 
     @classmethod
     def from_wire(cls, message: Bytes, *, max_pointers: int = _MAX_POINTERS) -> "Message":
@@ -165,35 +198,27 @@ class Message:
 
         Raises the exception of the first question or record that is wrong, with its `section`, `item` and `offset`: as
         `read_name` for its name, `MessageCut` if the octets end within it or within the header, and `TooManyPointers`
-        if the names up to it follow more than `max_pointers` compression pointers in total.
+        if the names up to it follow more than `max_pointers` compression pointers in total. Names in data count too; if these
+        are too many, there is no item.
         """
         whole = message if type(message) is bytes else _checks.octets("message", message)
         most = max_pointers if max_pointers is _MAX_POINTERS else _checks.number("max_pointers", max_pointers, _MOST_POINTERS)
-        # Each call has its own room, since a signal handler may read another message in between.
-        read, fault = Read(), MessageFault()
-        number = _message_read(whole, len(whole), most, byref(read), byref(fault))
-        if number:
+        failure, table = read_table(whole, most)
+        if failure:
+            read, fault = Read(), MessageFault()
+            number = library.dnw_message_read(whole, len(whole), most, byref(read), byref(fault))
             check_item(number, SECTIONS[fault.section], fault.item, fault.offset)
-        names: Names = {}
-        id, flags, asked, answer_count, authority_count, additional_count = _HEADER.unpack_from(whole)
-        questions, offset = _questions(whole, asked, names)
-        answers, offset = section_records(whole, offset, answer_count, names) if answer_count else ((), offset)
-        authorities, offset = section_records(whole, offset, authority_count, names) if authority_count else ((), offset)
-        additionals, end = section_records(whole, offset, additional_count, names) if additional_count else ((), offset)
-        header = object.__new__(Header)
-        header.__dict__.update(_fields_of(flags), id=id)
-        # All fields are set here, so __init__ need not be called.
-        made = object.__new__(cls)
-        made.__dict__.update(
-            header=header,
-            questions=questions,
-            answers=answers,
-            authorities=authorities,
-            additionals=additionals,
-            wire=whole[:end],
-            trailing=whole[end:],
-            _max_pointers=most,
-        )
+            # The names in data follow too many pointers.
+            check(failure)
+        end = _HEADER_SIZE
+        for row in reversed(table.rows):
+            if row[0]:
+                end = row[5] + row[6]
+                break
+        made = _new_read(_Read)
+        made._head = _head_of(whole)
+        made._wire, made._trailing, made._max_pointers, made._table = whole[:end], whole[end:], most, table
+        made._parts = None
         return made
 
     @classmethod
@@ -205,49 +230,54 @@ class Message:
         authorities: Iterable[Record] = (),
         additionals: Iterable[Record] = (),
         edns: Optional[Edns] = None,
+        *,
+        glue: Iterable[Record] = (),
     ) -> "Message":
         """Makes a message. The EDNS fields become the last record of the Additional section. A response code above 15
-        needs EDNS, so the message then always has an OPT record (RFC 6891, section 6.1.3).
+        needs EDNS, so the message then always has an OPT record (RFC 6891, section 6.1.3). `glue` is records of the
+        Additional section that the receiver needs, before the others (RFC 9471).
 
         Raises `ValueError` if a section has more than 65535 items or a number is out of bounds, and `DataTooLong` if
         the options have more than 65535 octets.
 
-        >>> from dns_names_wire import Header, MX, Name, Record
-        >>> record = Record(Name("a."), 60, MX(preference=10, exchange=Name("mail.a.")))
+        >>> from dns_names_wire import MX, Header, Record
+        >>> record = Record("a.", 60, MX(10, "mail.a."))
         >>> Message.build(Header(id=7, is_response=True), answers=[record]).to_wire().hex()
         '000780000000000100000000016100000f00010000003c0009000a046d61696cc00c'
         """
         code = _checks.number("response_code", header.response_code, 4095)
         if edns is None and code > 15:
             edns = Edns()
-        more = () if edns is None else (edns._record(code),)
-        asked, sections = tuple(questions), (tuple(answers), tuple(authorities), (*additionals, *more))
-        counts = [_checks.number(f"the number of {what}", len(part), _MOST) for what, part in zip(_PARTS, (asked, *sections))]
-        octets = [header._octets(*counts)]
-        octets += [question.to_wire() for question in asked]
-        octets += [record.to_wire() for section in sections for record in section]
-        low = replace(header, response_code=ResponseCode.of(code & 15))
-        return cls(low, asked, *sections, wire=b"".join(octets), trailing=b"", _max_pointers=_MAX_POINTERS)
+        number, asked = _checks.number("id", header.id, _MOST), tuple(questions)
+        sections = tuple(answers), tuple(authorities), tuple(glue), tuple(additionals)
+        last = () if edns is None else (edns,)
+        for what, count in zip(_PARTS, (asked, sections[0], sections[1], (*sections[2], *sections[3], *last))):
+            _checks.number(f"the number of {what}", len(count), _MOST)
+        items = b"".join([b"\0" + question.to_wire() for question in asked])
+        own = None if edns is None else edns._record(code)
+        made = _new_made(_Made)
+        made._head, made._asked, made._opt, made._questions = (number, header._flags()), items, own, asked
+        made._answers, made._authorities, made._glue, made._others = sections
+        return made
 
     @classmethod
     def query(
         cls,
-        name: Name,
-        record_type: int,
-        record_class: int = RecordClass.IN,
+        name: NameLike,
+        record_type: TypeLike,
+        record_class: TypeLike = RecordClass.IN,
         *,
         id: Optional[int] = None,
         recursion_desired: bool = True,
         edns: Optional[Edns] = None,
     ) -> "Message":
-        """Makes a query for records of a name. The default `id` is random (RFC 5452, section 9.2).
+        """Makes a query for records of a fully qualified name. The default `id` is random (RFC 5452, section 9.2).
 
-        >>> Message.query(Name("a."), RecordType.NS, id=7).to_wire().hex()
+        >>> Message.query("a.", RecordType.NS, id=7).to_wire().hex()
         '00070100000100000000000001610000020001'
         """
         number = secrets.randbelow(_MOST + 1) if id is None else id
-        codes = _checks.number("record_type", record_type, _MOST), _checks.number("record_class", record_class, _MOST)
-        question = Question(name, RecordType.of(codes[0]), RecordClass.of(codes[1]))
+        question = Question(name, record_type, record_class)
         return cls.build(Header(id=number, recursion_desired=recursion_desired), [question], edns=edns)
 
     def reply(
@@ -256,86 +286,149 @@ class Message:
         authorities: Iterable[Record] = (),
         additionals: Iterable[Record] = (),
         *,
+        glue: Iterable[Record] = (),
         authoritative: bool = False,
         recursion_available: bool = False,
+        authentic_data: bool = False,
         response_code: Optional[int] = None,
         edns: Optional[Edns] = None,
     ) -> "Message":
-        """Makes a reply to this request. It repeats the id, the operation code, RD, CD and the questions of the request
+        """Makes a reply to this request. It repeats the id, the operation code, RD, CD and the question of the request
         (RFC 1035, section 4.1.1; RFC 4035, section 3.2.2). It has EDNS if the request has (RFC 6891, section 6.1.1):
-        `edns`, or the same DO, version 0, and 1232 octets as the largest message that is accepted.
+        `edns`, or the same DO, version 0, and 1232 octets as the largest message that is accepted. `glue` is as in
+        `build`.
 
-        The default response code is NOERROR; or FORMERR if the EDNS of the request is not valid, or BADVERS if its
-        version is above 0 (RFC 6891, sections 6.1.1 and 6.1.3).
+        The default response code is NOERROR. It is always BADVERS if the version of the request's EDNS is above 0 (RFC
+        6891, section 6.1.3), and FORMERR, without a question and EDNS, if that is not valid (section 7) or a query has
+        more than one question (RFC 9619). Raises `BadItem` if the request is a response.
 
-        >>> Message.query(Name("a."), RecordType.NS, id=7).reply(response_code=ResponseCode.NXDOMAIN)
+        >>> Message.query("a.", RecordType.NS, id=7).reply(response_code=ResponseCode.NXDOMAIN)
         <Message 7 QR RD [1, 0, 0, 0]>
         """
+        wanted = 0 if response_code is None else _checks.number("response_code", response_code, 4095)
+        flags = wanted & 15
+        if authoritative:
+            flags |= 0x400
+        if recursion_available:
+            flags |= 0x80
+        if authentic_data:
+            flags |= 0x20
+        request = self.wire
         try:
-            asked, code = self.edns, ResponseCode.NOERROR
-        except DnsError:
-            asked, code = None, ResponseCode.FORMERR
-        if asked is not None and asked.version > 0:
-            code = ResponseCode.BADVERS
-        header = Header(
-            id=self.header.id,
-            is_response=True,
-            op_code=self.header.op_code,
-            authoritative=authoritative,
-            recursion_desired=self.header.recursion_desired,
-            recursion_available=recursion_available,
-            checking_disabled=self.header.checking_disabled,
-            response_code=code if response_code is None else ResponseCode.of(response_code),
-        )
-        own = None if asked is None else edns or Edns(dnssec_ok=asked.dnssec_ok)
-        return Message.build(header, self.questions, answers, authorities, additionals, own)
+            room = take_free()
+        except IndexError:
+            room = Room()
+        failure = _writer_reply(
+            room.octets_at, ROOM_SIZE, _MOST, request, len(request), flags, room.writer_at, room.edns_at
+        )  # fmt: skip
+        if failure:
+            check(failure)
+        head: Any = room.octets[: room.writer.len]
+        asked, opt = room.edns, None
+        if asked.is_present:
+            # The high bits are those of the given code, unless the library says another code.
+            code = asked.response_code
+            high = (wanted if wanted & 15 == code else code) >> 4
+            opt = _opt_of_reply(high, asked.dnssec_ok) if edns is None else edns._record(high << 4)
+        give_back(room)
+        made = _new_made(_Made)
+        made._head, made._asked, made._opt = _head_of(head), b"\0" + head[12:] if len(head) > 12 else b"", opt
+        made._answers, made._authorities = tuple(answers), tuple(authorities)
+        made._glue, made._others = tuple(glue), tuple(additionals)
+        return made
 
     def is_reply_to(self, request: "Message") -> bool:
-        """Returns whether this is a response with the id, the operation code and the questions of a request (RFC 5452,
-        section 9.1).
+        """Returns whether this is a response with the id, the operation code and the questions of a request, which is no
+        response itself (RFC 5452, section 9.1).
 
-        >>> request = Message.query(Name("a."), RecordType.NS)
+        >>> request = Message.query("a.", RecordType.NS)
         >>> request.reply().is_reply_to(request), request.is_reply_to(request)
         (True, False)
         """
-        own, asked = self.header, request.header
-        same = (own.id, own.op_code, self.questions) == (asked.id, asked.op_code, request.questions)
-        return own.is_response and same
+        own, asked, is_reply = self.wire, request.wire, c_bool()
+        check(library.dnw_is_reply_to(asked, len(asked), own, len(own), byref(is_reply)))
+        return is_reply.value
 
     def to_wire(self, max_size: int = 512) -> bytes:
-        """Returns the message with its names compressed, in at most `max_size` octets: 512 over UDP without EDNS, what
-        the requester accepts with EDNS, and 65535 over TCP. Questions and records that do not fit are left out. TC is
-        set if a record of the Answer or Authority section is left out (RFC 2181, section 9). An OPT record is
-        never left out, and is last.
+        """Returns the message with its names compressed, in at most `max_size` octets: 512 over UDP without EDNS,
+        `max_payload` of the request with EDNS, and 65535 over TCP.
 
-        Raises as `edns`, as `Record.fields` if the data of a record are not valid, `MessageTooLong` if the header and
-        the OPT record have more than `max_size` octets, and `TooManyPointers` if the names follow more than 65,536
-        compression pointers.
+        Sets of records that do not fit are left out whole (RFC 2181, section 5), with the later ones of their section. TC
+        is set if one is left out that the receiver needs (section 9): an answer, a record of the Authority section if
+        there are no answers, or glue. The questions and the OPT record are never left out.
+
+        Raises `BadData` or as `Record.fields` if the data of a record are not valid, as `edns` if there is an OPT record in
+        `additionals`, and `MessageTooLong` if the header, the questions and the OPT record have more than `max_size` octets.
 
         >>> record = Record.from_text("a. 60 IN TXT " + " ".join(["abcdefgh"] * 100))
-        >>> reply = Message.query(Name("a."), RecordType.TXT, id=7).reply([record])
+        >>> reply = Message.query("a.", RecordType.TXT, id=7).reply([record])
         >>> Message.from_wire(reply.to_wire()), Message.from_wire(reply.to_wire(65535))
         (<Message 7 QR TC RD [1, 0, 0, 0]>, <Message 7 QR RD [1, 1, 0, 0]>)
         """
-        most, wire, packed = _checks.number("max_size", max_size, _MOST), self.wire, Packed()
-        # A message without compression is not longer when it is packed.
-        size = min(len(wire), most)
-        while True:
-            room = (c_char * max(size, 1))()
-            number = library.dnw_message_pack(wire, len(wire), most, room, size, byref(packed))
-            if number != NO_ROOM or size == most:
-                check(number)
-                return taken(room, packed.len)
-            size = most
+        raise NotImplementedError
 
     def to_text(self) -> str:
         """Returns the lines that `dig` prints, as `str` does."""
         return str(self)
 
     @property
+    def header(self) -> Header:
+        """The fields of the header."""
+        made = object.__new__(Header)
+        id, flags = self._head
+        made.__dict__.update(_fields_of(flags), id=id)
+        return made
+
+    @property
+    def questions(self) -> Tuple[Question, ...]:
+        """The questions."""
+        raise NotImplementedError
+
+    @property
+    def answers(self) -> Tuple[Record, ...]:
+        """The records of the Answer section."""
+        raise NotImplementedError
+
+    @property
+    def authorities(self) -> Tuple[Record, ...]:
+        """The records of the Authority section."""
+        raise NotImplementedError
+
+    @property
+    def additionals(self) -> Tuple[Record, ...]:
+        """The records of the Additional section, with the OPT record."""
+        raise NotImplementedError
+
+    @property
+    def wire(self) -> bytes:
+        """The octets: of a message that was read as it was read, and of one that was made as `to_wire(65535)` returns
+        them."""
+        raise NotImplementedError
+
+    @property
+    def trailing(self) -> bytes:
+        """The octets after a message that was read."""
+        return b""
+
+    @property
+    def answer_sets(self) -> Tuple[RRset, ...]:
+        """The sets of records of the Answer section, in the order of their first records."""
+        return rrsets(self.answers)
+
+    @property
+    def authority_sets(self) -> Tuple[RRset, ...]:
+        """As `answer_sets`, of the Authority section."""
+        return rrsets(self.authorities)
+
+    @property
+    def additional_sets(self) -> Tuple[RRset, ...]:
+        """As `answer_sets`, of the Additional section."""
+        return rrsets(self.additionals)
+
+    @property
     def id(self) -> int:
         """The id of a request, which its response repeats."""
-        return self.header.id
+        return self._head[0]
 
     @property
     def flags(self) -> Tuple[str, ...]:
@@ -354,7 +447,13 @@ class Message:
         if not read.is_present:
             return None
         options = self.wire[read.options_offset : read.options_offset + read.options_len]
-        return Edns(int(read.max_payload), int(read.version), bool(read.dnssec_ok), pairs(options))
+        return Edns(int(read.max_payload), int(read.version), bool(read.dnssec_ok), _pairs(options))
+
+    @property
+    def max_payload(self) -> int:
+        """The size of the largest message that the sender accepts over UDP: 512 octets if there is no EDNS. Raises as
+        `edns`."""
+        return int(self._read_edns().max_payload)
 
     @property
     def response_code(self) -> ResponseCode:
@@ -363,8 +462,23 @@ class Message:
 
     def _read_edns(self) -> ReadEdns:
         read = ReadEdns()
-        check(library.dnw_edns_read(self.wire, len(self.wire), self._max_pointers, byref(read)))
+        check(library.dnw_edns_read(self.wire, len(self.wire), self._pointers(), byref(read)))
         return read
+
+    def _pointers(self) -> int:
+        """Returns the number of compression pointers that the names may follow."""
+        return _MAX_POINTERS
+
+    def __eq__(self, other: object) -> bool:
+        if not isinstance(other, Message):
+            return NotImplemented
+        return (self.wire, self.trailing) == (other.wire, other.trailing)
+
+    def __hash__(self) -> int:
+        return hash((self.wire, self.trailing))
+
+    def __reduce__(self) -> Tuple[object, Tuple[bytes, int]]:
+        return _read_again, (self.wire + self.trailing, self._pointers())
 
     def __str__(self) -> str:
         return "\n".join(_lines(self))
@@ -374,31 +488,238 @@ class Message:
         return f"<Message {self.id} {' '.join(self.flags)} {counts}>"
 
 
+class _Read(Message):
+    """A message that was read. Its questions and records are made when they are first used."""
+
+    __slots__ = ("_wire", "_trailing", "_max_pointers", "_table", "_parts")
+
+    _wire: bytes
+    _trailing: bytes
+    _max_pointers: int
+    _table: Table
+    _parts: Optional[_Parts]
+
+    @property
+    def wire(self) -> bytes:
+        return self._wire
+
+    @property
+    def trailing(self) -> bytes:
+        return self._trailing
+
+    @property
+    def questions(self) -> Tuple[Question, ...]:
+        return self._sections()[0]
+
+    @property
+    def answers(self) -> Tuple[Record, ...]:
+        return self._sections()[1]
+
+    @property
+    def authorities(self) -> Tuple[Record, ...]:
+        return self._sections()[2]
+
+    @property
+    def additionals(self) -> Tuple[Record, ...]:
+        return self._sections()[3]
+
+    def _sections(self) -> _Parts:
+        parts = self._parts
+        if parts is None:
+            parts = self._parts = _parts_of(self._table)
+        return parts
+
+    def _pointers(self) -> int:
+        return self._max_pointers
+
+    def to_wire(self, max_size: int = 512) -> bytes:
+        most, wire, packed = _checks.number("max_size", max_size, _MOST), self._wire, Packed()
+        # A message may be longer than it was, by the names that it has whole then.
+        room = room_of(min(2 * len(wire), most))
+        number = library.dnw_message_pack(wire, len(wire), most, room, len(room), byref(packed))
+        if number == NO_ROOM:
+            room = room_of(most)
+            number = library.dnw_message_pack(wire, len(wire), most, room, len(room), byref(packed))
+        check(number)
+        return taken(room, packed.len)
+
+
+class _Made(Message):
+    """A message that was made. `_asked` is its questions, as items of the list that is written."""
+
+    __slots__ = ("_asked", "_answers", "_authorities", "_glue", "_others", "_opt", "_questions", "_wire")
+
+    _asked: bytes
+    _answers: Tuple[Record, ...]
+    _authorities: Tuple[Record, ...]
+    _glue: Tuple[Record, ...]
+    _others: Tuple[Record, ...]
+    _opt: Optional[bytes]
+    # What is made when it is first used.
+    _questions: Tuple[Question, ...]
+    _wire: bytes
+
+    @property
+    def wire(self) -> bytes:
+        try:
+            return self._wire
+        except AttributeError:
+            self._wire = self.to_wire(_MOST)
+            return self._wire
+
+    @property
+    def questions(self) -> Tuple[Question, ...]:
+        try:
+            return self._questions
+        except AttributeError:
+            # A reply has one at most.
+            alone = _HEADER.pack(0, 0, 1 if self._asked else 0, 0, 0, 0) + self._asked[1:]
+            self._questions = _parts_of(read_table(alone, _MAX_POINTERS)[1])[0]
+            return self._questions
+
+    @property
+    def answers(self) -> Tuple[Record, ...]:
+        return self._answers
+
+    @property
+    def authorities(self) -> Tuple[Record, ...]:
+        return self._authorities
+
+    @property
+    def additionals(self) -> Tuple[Record, ...]:
+        own = () if self._opt is None else (Record._made(self._opt),)
+        return (*self._glue, *self._others, *own)
+
+    def to_wire(self, max_size: int = 512) -> bytes:
+        if type(max_size) is not int or not 0 <= max_size <= _MOST:
+            max_size = _checks.number("max_size", max_size, _MOST)
+        parts = [self._asked]
+        add = parts.append
+        for record in self._answers:
+            add(_ANSWER)
+            add(record._message if record._is_whole else record.to_wire())
+        mark = _OPTIONAL_AUTHORITY if self._answers else _AUTHORITY
+        for record in self._authorities:
+            add(mark)
+            add(record._message if record._is_whole else record.to_wire())
+        for record in self._glue:
+            add(_GLUE)
+            add(record._message if record._is_whole else record.to_wire())
+        others = self._others
+        for record in others:
+            if record._type not in _LAST_TYPES:
+                add(_OPTIONAL_ADDITIONAL)
+                add(record._message if record._is_whole else record.to_wire())
+        if self._opt is not None:
+            add(_LAST)
+            add(self._opt)
+        last = [record for record in others if record._type in _LAST_TYPES] if others else []
+        for record in sorted(last, key=_type_of):
+            add(_LAST)
+            add(record.to_wire())
+        items = b"".join(parts)
+        size = len(items)
+        try:
+            room = take_free()
+        except IndexError:
+            room = Room()
+        octets, place, has = room.octets, room.octets_at, ROOM_SIZE
+        # An item takes no more octets in a message than in the list, but for a header.
+        if size > _MOST_ITEMS < max_size:
+            octets = room_of(min(_HEADER_SIZE + size, max_size))
+            place, has = addressof(octets), len(octets)
+        failure = _message_write(items, size, max_size, *self._head, place, has, room.packed_at)
+        if failure:
+            check(failure)
+        wire: Any = octets[: room.packed.len]
+        give_back(room)
+        if last:
+            # There may be more than one OPT record.
+            check(library.dnw_edns_read(wire, len(wire), _MAX_POINTERS, byref(ReadEdns())))
+        return wire  # type: ignore[no-any-return]
+
+
+def _type_of(record: Record) -> int:
+    return record._type
+
+
+def _parts_of(table: Table) -> _Parts:
+    """Returns the questions and records of a message by its table."""
+    questions: List[Question] = []
+    sections: Tuple[List[Record], ...] = ([], [], [])
+    start = _HEADER_SIZE
+    for at, row in enumerate(table.rows):
+        section = row[0]
+        if section == 1:
+            question = object.__new__(Question)
+            codes = {"question_type": RecordType.of(row[2]), "question_class": RecordClass.of(row[3])}
+            question.__dict__.update(codes, name=table.name(row))
+            questions.append(question)
+            start = row[5]
+        elif section:
+            sections[section - 2].append(record_at(table, at, start))
+            start = row[5] + row[6]
+    answers, authorities, additionals = sections
+    return tuple(questions), tuple(answers), tuple(authorities), tuple(additionals)
+
+
+def edns_of_reply(dnssec_ok: bool) -> Edns:
+    """Returns the EDNS fields of a reply to a request with the same DO."""
+    return _WITH_DO if dnssec_ok else _WITHOUT_DO
+
+
+def _opt_of_reply(high: int, dnssec_ok: bool) -> bytes:
+    """Returns the OPT record of such a reply, with the high bits of its response code."""
+    key = high << 1 | dnssec_ok
+    own = _KEPT_OPT.get(key)
+    if own is None:
+        own = _KEPT_OPT[key] = edns_of_reply(dnssec_ok)._record(high << 4)
+    return own
+
+
+_KEPT_OPT: Dict[int, bytes] = {}
+_new_read: Callable[[Type[_Read]], _Read] = object.__new__
+_new_made: Callable[[Type[_Made]], _Made] = object.__new__
+
+
+def _read_again(octets: bytes, max_pointers: int) -> Message:
+    return Message.from_wire(octets, max_pointers=max_pointers)
+
+
+def _pairs(octets: bytes) -> Tuple[Tuple[int, bytes], ...]:
+    """Returns the options of EDNS, whose lengths the library checked."""
+    found, at = [], 0
+    while at < len(octets):
+        code, length = _CODES.unpack_from(octets, at)
+        found.append((code, octets[at + 4 : at + 4 + length]))
+        at += 4 + length
+    return tuple(found)
+
+
 # The words for the items of each section, for errors.
 _PARTS = ("questions", "answers", "authorities", "additionals")
 
 
 def make_query(
-    name: Union[Name, str],
-    record_type: Union[int, str],
-    record_class: Union[int, str] = RecordClass.IN,
+    name: NameLike,
+    record_type: TypeLike,
+    record_class: TypeLike = RecordClass.IN,
     *,
     want_dnssec: bool = False,
     payload: Optional[int] = None,
     id: Optional[int] = None,
 ) -> Message:
-    """As `Message.query`, but also takes texts. A `payload`, or `want_dnssec`, which sets DO, adds EDNS.
+    """As `Message.query`, for a name, or a text that the root completes. A `payload`, or `want_dnssec`, which sets DO, adds
+    EDNS.
 
-    >>> print(make_query("www.example.", "AAAA", payload=1232).questions[0])
+    >>> print(make_query("www.example", "AAAA", payload=1232).questions[0])
     www.example. IN AAAA
     """
-    own = Name(name) if isinstance(name, str) else name
-    kind = RecordType.from_text(record_type) if isinstance(record_type, str) else record_type
-    of_class = RecordClass.from_text(record_class) if isinstance(record_class, str) else record_class
+    own = Name.absolute(name) if isinstance(name, str) else name
     edns = None
     if want_dnssec or payload is not None:
         edns = Edns(max_payload=Edns.max_payload if payload is None else payload, dnssec_ok=want_dnssec)
-    return Message.query(own, kind, of_class, id=id, edns=edns)
+    return Message.query(own, record_type, record_class, id=id, edns=edns)
 
 
 def make_response(query: Message, *, recursion_available: bool = False) -> Message:
@@ -410,56 +731,48 @@ def make_response(query: Message, *, recursion_available: bool = False) -> Messa
     return query.reply(recursion_available=recursion_available)
 
 
+# The titles of the sections, and those of an update (RFC 2136, section 2).
+_TITLES = ("QUESTION", "ANSWER", "AUTHORITY", "ADDITIONAL")
+_UPDATE_TITLES = ("ZONE", "PREREQUISITE", "UPDATE", "ADDITIONAL")
+
+
 def _lines(message: Message) -> Iterator[str]:
     """Returns the lines that `dig` prints for a message, with spaces in place of tabs."""
     try:
         edns, status = message.edns, message.response_code
     except DnsError:
         edns, status = None, message.header.response_code
-    sections = [("ANSWER", message.answers), ("AUTHORITY", message.authorities), ("ADDITIONAL", message.additionals)]
-    numbers = [f"QUERY: {len(message.questions)}", *(f"{title}: {len(records)}" for title, records in sections)]
-    yield f";; ->>HEADER<<- opcode: {message.header.op_code}, status: {status}, id: {message.id}"
-    yield f";; {' '.join(['flags:', *message.flags]).lower()}; {', '.join(numbers)}"
+    header, sections = message.header, (message.answers, message.authorities, message.additionals)
+    counts = zip(("QUERY", *_TITLES[1:]), (message.questions, *sections))
+    yield f";; ->>HEADER<<- opcode: {header.op_code}, status: {status}, id: {message.id}"
+    yield f";; {' '.join(['flags:', *header.flags]).lower()}; {', '.join(f'{title}: {len(part)}' for title, part in counts)}"
     if edns is not None:
         yield from ("", ";; OPT PSEUDOSECTION:")
         yield f"; EDNS: version: {edns.version}, flags:{' do' * edns.dnssec_ok}; udp: {edns.max_payload}"
+        yield from (_option_line(code, value) for code, value in edns.options)
+    titles = _UPDATE_TITLES if header.op_code == OpCode.UPDATE else _TITLES
     if message.questions:
-        yield from ("", ";; QUESTION SECTION:", *(f";{question}" for question in message.questions))
-    for title, records in sections:
+        yield from ("", f";; {titles[0]} SECTION:", *(f";{question}" for question in message.questions))
+    for title, records in zip(titles[1:], sections):
         shown = [str(record) for record in records if edns is None or record.record_type != RecordType.OPT]
         if shown:
             yield from ("", f";; {title} SECTION:", *shown)
 
 
+def _option_line(code: int, value: bytes) -> str:
+    """Returns the line of an option, as `dig` prints one that it has no name for."""
+    text = "".join(chr(octet) if 32 <= octet < 127 else "." for octet in value)
+    return f"; OPT={code}: {value.hex(' ')} (\"{text}\")" if value else f"; OPT={code}:"
+
+
 @lru_cache(maxsize=1024)
 def _fields_of(flags: int) -> Dict[str, Any]:
-    """Returns the fields in the second number of a header."""
-    return {
-        "id": 0,
-        "is_response": bool(flags & 0x8000),
-        "op_code": OpCode.of(flags >> 11 & 15),
-        "authoritative": bool(flags & 0x400),
-        "truncation": bool(flags & 0x200),
-        "recursion_desired": bool(flags & 0x100),
-        "recursion_available": bool(flags & 0x80),
-        "authentic_data": bool(flags & 0x20),
-        "checking_disabled": bool(flags & 0x10),
-        "response_code": ResponseCode.of(flags & 15),
-    }
+    """Returns the fields in the second number of a header, as the library reads it."""
+    octets, read, fault = _HEADER.pack(0, flags, 0, 0, 0, 0), Read(), MessageFault()
+    check(library.dnw_message_read(octets, len(octets), 0, byref(read), byref(fault)))
+    fields: Dict[str, Any] = {name: getattr(read, name) for name in Header.__dataclass_fields__}
+    fields["op_code"], fields["response_code"] = OpCode.of(read.op_code), ResponseCode.of(read.response_code)
+    return fields
 
 
-def _questions(whole: bytes, count: int, names: Names) -> Tuple[Tuple[Question, ...], int]:
-    """Returns `count` questions of a message that was checked, and the offset after them."""
-    questions, offset = [], _HEADER.size
-    for _ in range(count):
-        name, end = checked_name(whole, offset, names)
-        kind, record_class = _CODES.unpack_from(whole, end)
-        question = object.__new__(Question)
-        codes = {"question_type": RecordType.of(kind), "question_class": RecordClass.of(record_class)}
-        question.__dict__.update(codes, name=name)
-        questions.append(question)
-        offset = end + _CODES.size
-    return tuple(questions), offset
-
-
-_message_read = library.dnw_message_read
+_WITH_DO, _WITHOUT_DO = Edns(dnssec_ok=True), Edns()

@@ -1,53 +1,78 @@
 """Names: read, parsed, printed, compared."""
 
 import ctypes
+import warnings
 from ctypes import byref, c_size_t
-from typing import Any, Callable, Iterable, Iterator, List, NamedTuple, Optional, Tuple
+from typing import Any, Callable, Iterable, Iterator, List, NamedTuple, Optional, Tuple, Union, overload
 
 from . import _checks
 from ._checks import Bytes
 from ._errors import BytesLeft, check, check_text, check_utf8
-from ._library import FORM_SIZE, SORT_KEY_SIZE, TEXT_SIZE, Form, ParsedName, ReadName, SortKey, Text, library, taken
+from ._library import (
+    FORM_SIZE,
+    SORT_KEY_SIZE,
+    TEXT_SIZE,
+    Form,
+    ParsedName,
+    ReadName,
+    Text,
+    by_address,
+    give_back,
+    library,
+    take_room,
+    taken,
+)
 
-_sort_key = library.dnw_name_sort_key
+_sort_key = by_address("dnw_name_sort_key", 5)
 
 
 class Name:
-    """A domain name: at most 255 octets of wire form (RFC 1035, section 3.1), and whether it is fully qualified.
+    """A domain name. `Name("a.b")` is relative and equals no name of a message; `Name("a.b.")` and `Name.absolute("a.b")` do.
 
-    It is immutable. Case is kept, and is ignored when names are compared and hashed (RFC 4343). The order is canonical
-    (RFC 4034, section 6.1); names that are not fully qualified are before all others.
+    A name without a dot at its end is relative, as in a master file: `absolute` or an origin completes it. Names of
+    messages are fully qualified, and a record takes no other names.
 
-    Its items are its labels: `len(name)` is their number, and `for label in name` goes from the first to the one before
-    the root. `a + b` appends, `bytes(name)` is the wire form, and `name in zone` is `name.is_in(zone)`. A name is
-    always truthy, even the root.
+    A name has at most 255 octets of wire form (RFC 1035, section 3.1). It is immutable. Case is kept, and is ignored when
+    names are compared and hashed (RFC 4343). The order is canonical (RFC 4034, section 6.1); relative names are before
+    all others. A name is not compared with a text: `name == "a.b."` is false, with a warning.
 
+    Its items are its labels: `len(name)` is their number, `name[0]` is the first, and a slice is a name of some of them.
+    `a + b` appends, `bytes(name)` is the wire form, and `name in zone` is `name.is_in(zone)`. A name is always truthy,
+    even the root.
+
+    >>> Name("www.example.com") == Name("www.example.com."), Name.absolute("www.example.com") == Name("www.example.com.")
+    (False, True)
     >>> name, zone = Name("www.Example.com."), Name("example.com.")
     >>> name in zone, zone < name, name == Name("WWW.example.com.")
     (True, True, True)
     >>> len(name), list(name), bytes(zone)
     (3, [b'www', b'Example', b'com'], b'\\x07example\\x03com\\x00')
-    >>> Name("www") + zone, name.parent
-    (Name('www.example.com.'), Name('Example.com.'))
+    >>> name[0], name[-1], name[1:], name[:1]
+    (b'www', b'com', Name('Example.com.'), Name('www'))
+    >>> Name("www") + zone, Name("www", zone), name.parent
+    (Name('www.example.com.'), Name('www.example.com.'), Name('Example.com.'))
     >>> sorted([Name("b.a."), Name("z."), Name("a.")])
     [Name('a.'), Name('b.a.'), Name('z.')]
     """
 
-    __slots__ = ("_wire", "_is_fqdn", "_hash")
+    __slots__ = ("_wire", "_is_fqdn", "_hash", "_order")
 
     _wire: bytes
     _is_fqdn: bool
     _hash: int
+    # An octet that says whether the name is fully qualified, and the sort key, once it is used. Names compare as these do.
+    _order: Any
 
-    def __new__(cls, text: str = "@") -> "Name":
-        """Parses a name (RFC 1035, section 5.1), as `from_text` without an origin."""
-        return cls.from_text(text)
+    def __new__(cls, text: str = "@", origin: Optional["Name"] = None) -> "Name":
+        """Parses a name (RFC 1035, section 5.1), as `from_text`."""
+        return cls.from_text(text, origin)
 
     @classmethod
     def _of(cls, wire: bytes, is_fqdn: bool) -> "Name":
         name = object.__new__(cls)
         _set_wire(name, wire)
         _set_is_fqdn(name, is_fqdn)
+        _set_order(name, None)
         return name
 
     @classmethod
@@ -98,6 +123,37 @@ class Name:
         'a\\\\032b\\\\.c.'
         """
         return str(self)
+
+    def absolute(self: Union["Name", str]) -> "Name":
+        """Returns the name, or the one with this text, fully qualified: a relative name is completed by the root.
+
+        >>> Name("www.example.com").absolute(), Name.absolute("www.example.com")
+        (Name('www.example.com.'), Name('www.example.com.'))
+        """
+        name = Name.from_text(self) if isinstance(self, str) else self
+        return name.derelativize(Name._of(b"\0", True))
+
+    def derelativize(self, origin: "Name") -> "Name":
+        """Returns a relative name with the labels of the origin after its own, and any other name as it is. May raise
+        `NameTooLong`.
+
+        >>> Name("www").derelativize(Name("example.")), Name("a.").derelativize(Name("example."))
+        (Name('www.example.'), Name('a.'))
+        """
+        wire_of("origin", origin)
+        return self if self._is_fqdn else self.append(origin)
+
+    def relativize(self, origin: "Name") -> "Name":
+        """Returns a name in the zone `origin` as a relative name, without the labels of the zone, and any other name as
+        it is.
+
+        >>> Name("www.Example.").relativize(Name("example.")), Name("a.").relativize(Name("example."))
+        (Name('www'), Name('a.'))
+        """
+        wire_of("origin", origin)
+        if self._is_fqdn != origin._is_fqdn or not self.is_in(origin):
+            return self
+        return Name._of(self[: len(self) - len(origin)]._wire, False)
 
     @classmethod
     def from_labels(cls, labels: Iterable[Bytes]) -> "Name":
@@ -158,6 +214,22 @@ class Name:
         """
         return tuple(self)
 
+    @overload
+    def __getitem__(self, index: int) -> bytes: ...
+
+    @overload
+    def __getitem__(self, index: slice) -> "Name": ...
+
+    def __getitem__(self, index: Union[int, slice]) -> Union[bytes, "Name"]:
+        """Returns the label with an index, or a name of the labels of a slice. It is fully qualified if this name is, and
+        the slice goes up to the last label; else it is relative."""
+        labels = self.labels
+        if not isinstance(index, slice):
+            return labels[index]
+        _, end, step = index.indices(len(labels))
+        wire = b"".join(bytes([len(label)]) + label for label in labels[index]) + b"\0"
+        return Name.from_wire(wire, is_fqdn=self._is_fqdn and end == len(labels) and step == 1)
+
     def __iter__(self) -> Iterator[bytes]:
         at = 0
         while self._wire[at]:
@@ -188,12 +260,15 @@ class Name:
 
     @property
     def parent(self) -> "Name":
-        """The name without its first label. A name without labels is its own parent.
+        """The name without its first label. Raises `ValueError` if it has no labels, as the root.
 
         >>> Name("www.example.com.").parent
         Name('example.com.')
         """
-        return self.trim_to(max(len(self) - 1, 0))
+        count = len(self)
+        if count == 0:
+            raise ValueError(f"the name {self} has no parent")
+        return self.trim_to(count - 1)
 
     def lower(self) -> "Name":
         """Returns the name with its ASCII letters in lower case."""
@@ -265,21 +340,14 @@ class Name:
         6.1). The key does not depend on whether the name is fully qualified.
 
         Keys are equal exactly if the labels are, ignoring case. The keys of the names in a zone are those that begin
-        with the zone's key. Sorting many names by their keys is much faster than without, and `sort_names` is faster
-        still.
+        with the zone's key. A name keeps its key once it is made, and is compared by it.
 
         >>> sorted(map(Name, ["z.example.", "example.", "Z.a.example."]), key=Name.sort_key)
         [Name('example.'), Name('Z.a.example.'), Name('z.example.')]
         >>> Name("WWW.example.").sort_key()
         b'example\\x00www\\x00'
         """
-        # It is called for many names, so it calls as few functions as possible.
-        wire, key, length = self._wire, SortKey(), c_size_t()
-        failure = _sort_key(wire, len(wire), key, SORT_KEY_SIZE, byref(length))
-        if failure:
-            check(failure)
-        octets: Any = key[: length.value]
-        return bytes(octets)
+        return _order_of(self)[1:]
 
     def __str__(self) -> str:
         text, length = Text(), ctypes.c_size_t()
@@ -295,6 +363,9 @@ class Name:
 
     def __eq__(self, other: object) -> bool:
         if not isinstance(other, Name):
+            if isinstance(other, (str, bytes)):
+                text = f"a Name is never equal to {type(other).__name__}: {other!r} has to be a Name to be compared with {self}"
+                warnings.warn(text, RuntimeWarning, stacklevel=2)
             return NotImplemented
         # Equal names have wire forms of one length, and a form equals itself.
         if self._is_fqdn != other._is_fqdn or len(self._wire) != len(other._wire):
@@ -310,34 +381,49 @@ class Name:
             return self._hash
         except AttributeError:
             # A length octet is at most 63, which is no letter, so the whole form is lowered at once.
-            object.__setattr__(self, "_hash", hash((self._wire.lower(), self._is_fqdn)))
+            _set_hash(self, hash((self._wire.lower(), self._is_fqdn)))
             return self._hash
 
-    def __lt__(self, other: object) -> bool:
-        if not isinstance(other, Name):
-            return NotImplemented
-        return self.compare(other) < 0
+    def __lt__(self, other: "Name") -> bool:
+        # `sorted` calls it for many names, whose keys are mostly there.
+        try:
+            return self._order < other._order  # type: ignore[no-any-return]
+        except (AttributeError, TypeError):
+            return _order_of(self) < _order_of(other) if isinstance(other, Name) else NotImplemented
 
-    def __le__(self, other: object) -> bool:
-        if not isinstance(other, Name):
-            return NotImplemented
-        return self.compare(other) <= 0
+    def __le__(self, other: "Name") -> bool:
+        return _order_of(self) <= _order_of(other) if isinstance(other, Name) else NotImplemented
 
-    def __gt__(self, other: object) -> bool:
-        if not isinstance(other, Name):
-            return NotImplemented
-        return self.compare(other) > 0
+    def __gt__(self, other: "Name") -> bool:
+        return _order_of(self) > _order_of(other) if isinstance(other, Name) else NotImplemented
 
-    def __ge__(self, other: object) -> bool:
-        if not isinstance(other, Name):
-            return NotImplemented
-        return self.compare(other) >= 0
+    def __ge__(self, other: "Name") -> bool:
+        return _order_of(self) >= _order_of(other) if isinstance(other, Name) else NotImplemented
 
 
-# The slots of a Name are set only when it is created.
+# The slots of a Name are set when it is created, or when they are first used.
 _set_wire: Callable[[Name, bytes], None] = Name.__dict__["_wire"].__set__
 _get_wire: Callable[[Name], bytes] = Name.__dict__["_wire"].__get__
 _set_is_fqdn: Callable[[Name, bool], None] = Name.__dict__["_is_fqdn"].__set__
+_get_is_fqdn: Callable[[Name], bool] = Name.__dict__["_is_fqdn"].__get__
+_set_order: Callable[[Name, Optional[bytes]], None] = Name.__dict__["_order"].__set__
+_set_hash: Callable[[Name, int], None] = Name.__dict__["_hash"].__set__
+
+
+def _order_of(name: Name) -> bytes:
+    """Returns what the name is compared by, and keeps it."""
+    order = name._order
+    if order is None:
+        # It is called for many names, so it calls as few functions as possible.
+        wire, room = _get_wire(name), take_room()
+        failure = _sort_key(wire, len(wire), room.octets_at, SORT_KEY_SIZE, room.length_at)
+        if failure:
+            check(failure)
+        octets: Any = room.octets[: room.length.value]
+        give_back(room)
+        order = (b"\1" if _get_is_fqdn(name) else b"\0") + bytes(octets)
+        _set_order(name, order)
+    return bytes(order)
 
 
 def _slice(name: Name) -> Tuple[bytes, int]:
@@ -353,8 +439,17 @@ def wire_of(what: str, name: object) -> Tuple[bytes, int]:
     return _slice(name)
 
 
+def whole_name(what: str, name: object) -> Name:
+    """Returns an argument that has to be a fully qualified name, or its text."""
+    own = Name.from_text(name) if isinstance(name, str) else name
+    wire_of(what, own)
+    if not isinstance(own, Name) or not _get_is_fqdn(own):
+        raise ValueError(f"{what}: {own} is relative; Name.absolute or an origin completes it")
+    return own
+
+
 def sort_names(names: Iterable[Name]) -> List[Name]:
-    """Sorts names as `sorted(names)` does, but in one call of the library, which is much faster.
+    """Sorts names as `sorted(names)` does, in one call of the library. The names keep no sort keys.
 
     Names that are not fully qualified are before those that are, both in canonical order (RFC 4034, section 6.1). Equal
     names keep their order.

@@ -1,296 +1,65 @@
-"""The data of records, by type: a frozen dataclass for each."""
+"""The data of records: a frozen dataclass for each type."""
 
-from ctypes import byref, c_char, c_size_t
 from dataclasses import dataclass
 from ipaddress import IPv4Address, IPv6Address
-from typing import Annotated, Any, Callable, ClassVar, Dict, Optional, Tuple, Type, TypeVar
+from typing import TYPE_CHECKING, Iterable
 
-from . import _checks
-from ._checks import Bytes
 from ._codes import RecordType
-from ._errors import DataTooLong, check
-from ._fields import Names, Prefix, fields, plain_values
-from ._library import FORM_SIZE, NO_ROOM, PrintedRecord, library, taken
-from ._names import Name, wire_of
+from ._data import (
+    U8,
+    U16,
+    U32,
+    U48,
+    U64,
+    Data,
+    IPv4Like,
+    IPv6Like,
+    Long,
+    NameLike,
+    Params,
+    Prefixes,
+    Rest,
+    Shaped,
+    String,
+    Strings,
+    Time,
+    TypeLike,
+    TypesLike,
+    WholeNames,
+)
+from ._names import Name
 from ._types import TypeSet
 
-_Own = TypeVar("_Own", bound="Data")
-
-# The octets of the longest record, and the initial size of a buffer.
-_MOST = FORM_SIZE + 10 + 65535
-_USUAL_SIZE = 512
-
-
-def parsed(parse: Callable[..., int], text: str, origin: Optional[Name]) -> bytes:
-    """Returns the octets that a function of the library stores for a text and an origin."""
-    encoded, wire, size, length = _checks.text("text", text), b"", _USUAL_SIZE, c_size_t()
-    if origin is not None:
-        wire, _ = wire_of("origin", origin)
-    while True:
-        room = (c_char * size)()
-        number = parse(encoded, len(encoded), wire, len(wire), room, size, byref(length))
-        if number != NO_ROOM or size == _MOST:
-            check(number)
-            return taken(room, length.value)
-        size = _MOST
-
-
-def printed(message: bytes, start: int) -> str:
-    """Returns the line of the record at an offset of a message."""
-    size, result = _USUAL_SIZE, PrintedRecord()
-    while True:
-        room = (c_char * size)()
-        number = library.dnw_record_print(message, len(message), start, room, size, byref(result))
-        if number != NO_ROOM:
-            check(number, start)
-            return taken(room, result.len).decode("ascii")
-        size *= 4
-
-
-# The class whose data have a form for each type.
-_IN = 1
-
-
-def data_from_wire(record_type: int, octets: Bytes) -> "Data":
-    """Reads data of a type in class IN from octets, in which no name is compressed. Returns the class of the type, or `Unknown`.
-    Raises as `Record.fields`.
-
-    >>> data_from_wire(15, bytes.fromhex("000a016100"))
-    MX(preference=10, exchange=Name('a.'))
-    """
-    code, whole = _checks.number("record_type", record_type, 65535), _checks.octets("octets", octets)
-    return data_in(whole, 0, len(whole), _IN, code, {})
-
-
-# The codes of the types that only IN has, as the table of fields has them (crates/dnw_data/specs/Table.antt).
-_INTERNET_TYPES = {1, 11, 22, 23, 26, 28, 33, 36, 38, 42, 49, 64, 65}
-
-
-def _has_type(record_class: int, record_type: int, size: int) -> bool:
-    """Whether data of a class have the form of their type: they are not left out, and the type is not only IN's, or the
-    class is IN, or NONE or ANY, which updates use (RFC 2136, sections 2.4 and 2.5)."""
-    if record_class == 1:
-        return True
-    return size > 0 if record_class in (254, 255) else record_type not in _INTERNET_TYPES
-
-
-def data_in(message: bytes, start: int, end: int, record_class: int, record_type: int, names: Names) -> "Data":
-    """Returns the data of a class and a type between two offsets of a message. `names` are those that were read there
-    before."""
-    kind = CLASSES.get(record_type) if _has_type(record_class, record_type, end - start) else None
-    if kind is None:
-        return Unknown(RecordType.of(record_type), message[start:end])
-    values = plain_values(message, start, end, kind._kinds, names)
-    if values is None:
-        found: Any = fields(message, start, end, record_class, record_type)
-        return kind(*found)
-    # There is a value for each field of the class, of its type, so __init__ need not be called.
-    made = object.__new__(kind)
-    made.__dict__.update(zip(kind.__dataclass_fields__, values))
-    return made
-
-
-def data_from_text(record_type: int, text: str, origin: Optional[Name] = None) -> "Data":
-    """Parses data of a type in class IN from their text in master files. The origin is appended to names without a last dot.
-
-    Raises `BadData` if the text is not data of the type.
-
-    >>> data_from_text(15, "10 mail", Name("example."))
-    MX(preference=10, exchange=Name('mail.example.'))
-    """
-    code = _checks.number("record_type", record_type, 65535)
-    octets = parsed(lambda *arguments: int(library.dnw_data_parse(_IN, code, *arguments)), text, origin)
-    return data_from_wire(code, octets)
-
-
-# The fields of data, each with its letter: numbers of as many octets, a time, octets after a length octet, octets up to
-# the end, texts, service parameters, octets after a length of two octets, octets whose first ones say what follows
-# them, address prefixes, and names in their wire form.
-U8 = Annotated[int, "1"]
-U16 = Annotated[int, "2"]
-U32 = Annotated[int, "4"]
-U48 = Annotated[int, "6"]
-U64 = Annotated[int, "8"]
-Time = Annotated[int, "T"]
-String = Annotated[bytes, "s"]
-Rest = Annotated[bytes, "o"]
-Strings = Annotated[Tuple[bytes, ...], "S"]
-Params = Annotated[Tuple[Tuple[int, bytes], ...], "P"]
-Long = Annotated[bytes, "l"]
-Shaped = Annotated[bytes, "g"]
-Prefixes = Annotated[Tuple[Prefix, ...], "p"]
-WholeNames = Annotated[Tuple[Name, ...], "N"]
-
-# The letters of fields that are known by their Python type: a name, addresses, a record type and a type bitmap.
-_LETTERS: Dict[Any, str] = {Name: "n", IPv4Address: "i", IPv6Address: "I", RecordType: "t", TypeSet: "B"}
-
-
-def _letter(annotation: Any) -> str:
-    letter: str = getattr(annotation, "__metadata__", [_LETTERS.get(annotation, "")])[0]
-    return letter
-
-
-class Data:
-    """The data of a record. There is a subclass for each type, which is a dataclass.
-
-    >>> from dns_names_wire import MX, Name
-    >>> MX(preference=10, exchange=Name("a.")).to_wire().hex()
-    '000a016100'
-    """
-
-    # The code of the type, if the class has one, and the letters of the fields, from their annotations.
-    _code: ClassVar[Optional[int]] = None
-    _kinds: ClassVar[str]
-    __dataclass_fields__: ClassVar[Dict[str, Any]]
-
-    def __init_subclass__(cls, code: Optional[int] = None) -> None:
-        cls._code = code
-        annotations = cls.__annotations__
-        if annotations:
-            cls._kinds = "".join(_letter(annotation) for annotation in annotations.values())
-
-    @property
-    def record_type(self) -> RecordType:
-        """The type of the data."""
-        return RecordType.of(self._own_code())
-
-    def to_wire(self) -> bytes:
-        """Returns the octets, without compression. Raises `DataTooLong` if a text has more than 255 octets, and
-        `ValueError` if a number is out of bounds."""
-        return b"".join([_PUT[kind](name, getattr(self, name)) for name, kind in zip(self.__dataclass_fields__, self._kinds)])
-
-    def to_text(self) -> str:
-        """Returns the text in master files: in the form of the type, or in that of any data, `\\# 4 0A000001` (RFC
-        3597, section 5). Raises as `to_wire`.
-
-        >>> from dns_names_wire import MX, Name
-        >>> MX(preference=10, exchange=Name("a.")).to_text()
-        '10 a.'
-        """
-        octets = self.to_wire()
-        if len(octets) > 65535:
-            raise DataTooLong()
-        # a record of the root, of class IN
-        head = b"\0" + self.record_type.to_bytes(2, "big") + b"\0\1\0\0\0\0" + len(octets).to_bytes(2, "big")
-        return printed(head + octets, 0).split(" ", 4)[4]
-
-    @classmethod
-    def from_wire(cls: Type[_Own], octets: Bytes) -> _Own:
-        """Reads the data from octets, in which no name is compressed. Raises as `Record.fields`."""
-        return cls._own(data_from_wire(cls._own_code(), octets))
-
-    @classmethod
-    def from_text(cls: Type[_Own], text: str, origin: Optional[Name] = None) -> _Own:
-        """Parses the data from their text in master files. The origin is appended to names without a last dot. Raises
-        `BadData`.
-
-        >>> from dns_names_wire import MX, Name
-        >>> MX.from_text("10 a", origin=Name("b."))
-        MX(preference=10, exchange=Name('a.b.'))
-        """
-        return cls._own(data_from_text(cls._own_code(), text, origin))
-
-    @classmethod
-    def _own_code(cls) -> int:
-        if cls._code is None:
-            raise TypeError(f"{cls.__name__} is of no type; data_from_wire and data_from_text take one")
-        return cls._code
-
-    @classmethod
-    def _own(cls: Type[_Own], data: "Data") -> _Own:
-        if not isinstance(data, cls):
-            raise _checks.wrong_type("data", f"{cls.__name__} is", data)
-        return data
-
-
-def _number(octets: int) -> Callable[[str, Any], bytes]:
-    most = 256**octets - 1
-    return lambda name, value: _checks.number(name, value, most).to_bytes(octets, "big")
-
-
-def _octets(name: str, value: Any) -> bytes:
-    return _checks.octets(name, value)
-
-
-def _string(name: str, value: Any) -> bytes:
-    octets = _checks.octets(name, value)
-    if len(octets) > 255:
-        raise DataTooLong()
-    return bytes([len(octets)]) + octets
-
-
-def _long(name: str, value: Any) -> bytes:
-    octets = _checks.octets(name, value)
-    if len(octets) > 65535:
-        raise DataTooLong()
-    return len(octets).to_bytes(2, "big") + octets
-
-
-def _prefix(name: str, prefix: Prefix) -> bytes:
-    family, length, is_negated, value = prefix
-    octets = _checks.octets(name, value)
-    head = (_checks.number(name, number, most) for number, most in ((family, 65535), (length, 255), (len(octets), 127)))
-    family, length, size = head
-    return family.to_bytes(2, "big") + bytes([length, size | (128 if is_negated else 0)]) + octets
-
-
-def _pair(name: str, pair: Tuple[int, bytes]) -> bytes:
-    key, value = pair
-    octets = _checks.octets(name, value)
-    head = (_checks.number(name, number, 65535) for number in (key, len(octets)))
-    return b"".join(number.to_bytes(2, "big") for number in head) + octets
-
-
-def put_pairs(name: str, value: Any) -> bytes:
-    """Returns the octets of service parameters or options, each a key and its octets."""
-    return b"".join(_pair(name, pair) for pair in value)
-
-
-# Functions that return the octets of a field from its name and value, by its letter.
-_PUT: Dict[str, Callable[[str, Any], bytes]] = {
-    **{str(octets): _number(octets) for octets in (1, 2, 4, 6, 8)},
-    "n": lambda name, value: wire_of(name, value)[0],
-    "i": lambda name, value: bytes(value.packed),
-    "I": lambda name, value: bytes(value.packed),
-    "t": _number(2),
-    "T": _number(4),
-    "s": _string,
-    "o": _octets,
-    "S": lambda name, value: b"".join(_string(name, text) for text in value),
-    "B": lambda name, value: TypeSet(value).to_bitmap(),
-    "P": put_pairs,
-    "l": _long,
-    "g": _octets,
-    "p": lambda name, value: b"".join(_prefix(name, prefix) for prefix in value),
-    "N": lambda name, value: b"".join(wire_of(name, one)[0] for one in value),
-}
+# What a class takes is written for type checkers alone: the dataclass makes __init__, and `Data` takes each field as its
+# kind says.
 
 
 @dataclass(frozen=True)
 class A(Data, code=1):
-    """An IPv4 address (RFC 1035, section 3.4.1). It may be passed as a text."""
+    """An IPv4 address (RFC 1035, section 3.4.1)."""
 
     address: IPv4Address
 
-    def __post_init__(self) -> None:
-        if not isinstance(self.address, IPv4Address):
-            object.__setattr__(self, "address", IPv4Address(self.address))
+    if TYPE_CHECKING:
+        def __init__(self, address: IPv4Like) -> None: ...
 
 
 @dataclass(frozen=True)
 class AAAA(Data, code=28):
-    """An IPv6 address (RFC 3596, section 2.2). It may be passed as a text."""
+    """An IPv6 address (RFC 3596, section 2.2)."""
 
     address: IPv6Address
 
-    def __post_init__(self) -> None:
-        if not isinstance(self.address, IPv6Address):
-            object.__setattr__(self, "address", IPv6Address(self.address))
+    if TYPE_CHECKING:
+        def __init__(self, address: IPv6Like) -> None: ...
 
 
 @dataclass(frozen=True)
 class _Target(Data):
     target: Name
+
+    if TYPE_CHECKING:
+        def __init__(self, target: NameLike) -> None: ...
 
 
 class NS(_Target, code=2):
@@ -341,6 +110,12 @@ class SOA(Data, code=6):
     expire: U32
     minimum: U32
 
+    if TYPE_CHECKING:
+        def __init__(
+            self, mname: NameLike, rname: NameLike, serial: U32, refresh: U32, retry: U32, expire: U32,
+            minimum: U32
+        ) -> None: ...
+
 
 @dataclass(frozen=True)
 class HINFO(Data, code=13):
@@ -357,6 +132,9 @@ class MINFO(Data, code=14):
     rmailbx: Name
     emailbx: Name
 
+    if TYPE_CHECKING:
+        def __init__(self, rmailbx: NameLike, emailbx: NameLike) -> None: ...
+
 
 @dataclass(frozen=True)
 class MX(Data, code=15):
@@ -364,6 +142,9 @@ class MX(Data, code=15):
 
     preference: U16
     exchange: Name
+
+    if TYPE_CHECKING:
+        def __init__(self, preference: U16, exchange: NameLike) -> None: ...
 
 
 @dataclass(frozen=True)
@@ -384,6 +165,9 @@ class RP(Data, code=17):
     mbox: Name
     txt: Name
 
+    if TYPE_CHECKING:
+        def __init__(self, mbox: NameLike, txt: NameLike) -> None: ...
+
 
 @dataclass(frozen=True)
 class AFSDB(Data, code=18):
@@ -391,6 +175,9 @@ class AFSDB(Data, code=18):
 
     subtype: U16
     hostname: Name
+
+    if TYPE_CHECKING:
+        def __init__(self, subtype: U16, hostname: NameLike) -> None: ...
 
 
 @dataclass(frozen=True)
@@ -401,6 +188,9 @@ class SRV(Data, code=33):
     weight: U16
     port: U16
     target: Name
+
+    if TYPE_CHECKING:
+        def __init__(self, priority: U16, weight: U16, port: U16, target: NameLike) -> None: ...
 
 
 @dataclass(frozen=True)
@@ -413,6 +203,11 @@ class NAPTR(Data, code=35):
     service: String
     regexp: String
     replacement: Name
+
+    if TYPE_CHECKING:
+        def __init__(
+            self, order: U16, preference: U16, flags: String, service: String, regexp: String, replacement: NameLike
+        ) -> None: ...
 
 
 class KX(MX, code=36):
@@ -466,6 +261,12 @@ class RRSIG(Data, code=46):
     signer: Name
     signature: Rest
 
+    if TYPE_CHECKING:
+        def __init__(
+            self, type_covered: TypeLike, algorithm: U8, labels: U8, original_ttl: U32, expiration: Time,
+            inception: Time, key_tag: U16, signer: NameLike, signature: Rest
+        ) -> None: ...
+
 
 class SIG(RRSIG, code=24):
     """A signature of a message (RFC 2931)."""
@@ -477,6 +278,9 @@ class NSEC(Data, code=47):
 
     next: Name
     types: TypeSet
+
+    if TYPE_CHECKING:
+        def __init__(self, next: NameLike, types: TypesLike) -> None: ...
 
 
 @dataclass(frozen=True)
@@ -507,6 +311,11 @@ class NSEC3(Data, code=50):
     salt: String
     next: String
     types: TypeSet
+
+    if TYPE_CHECKING:
+        def __init__(
+            self, algorithm: U8, flags: U8, iterations: U16, salt: String, next: String, types: TypesLike
+        ) -> None: ...
 
 
 @dataclass(frozen=True)
@@ -541,6 +350,9 @@ class CSYNC(Data, code=62):
     flags: U16
     types: TypeSet
 
+    if TYPE_CHECKING:
+        def __init__(self, serial: U32, flags: U16, types: TypesLike) -> None: ...
+
 
 @dataclass(frozen=True)
 class ZONEMD(Data, code=63):
@@ -560,6 +372,9 @@ class SVCB(Data, code=64):
     priority: U16
     target: Name
     params: Params
+
+    if TYPE_CHECKING:
+        def __init__(self, priority: U16, target: NameLike, params: Params) -> None: ...
 
 
 class HTTPS(SVCB, code=65):
@@ -606,6 +421,9 @@ class WKS(Data, code=11):
     protocol: U8
     bitmap: Rest
 
+    if TYPE_CHECKING:
+        def __init__(self, address: IPv4Like, protocol: U8, bitmap: Rest) -> None: ...
+
 
 @dataclass(frozen=True)
 class X25(Data, code=19):
@@ -641,6 +459,9 @@ class PX(Data, code=26):
     map822: Name
     mapx400: Name
 
+    if TYPE_CHECKING:
+        def __init__(self, preference: U16, map822: NameLike, mapx400: NameLike) -> None: ...
+
 
 @dataclass(frozen=True)
 class GPOS(Data, code=27):
@@ -657,6 +478,9 @@ class NXT(Data, code=30):
 
     next: Name
     bitmap: Rest
+
+    if TYPE_CHECKING:
+        def __init__(self, next: NameLike, bitmap: Rest) -> None: ...
 
 
 @dataclass(frozen=True)
@@ -691,6 +515,9 @@ class HIP(Data, code=55):
     identity: Shaped
     servers: WholeNames
 
+    if TYPE_CHECKING:
+        def __init__(self, identity: Shaped, servers: Iterable[NameLike]) -> None: ...
+
 
 @dataclass(frozen=True)
 class DHCID(Data, code=49):
@@ -714,6 +541,9 @@ class TALINK(Data, code=58):
     previous: Name
     next: Name
 
+    if TYPE_CHECKING:
+        def __init__(self, previous: NameLike, next: NameLike) -> None: ...
+
 
 @dataclass(frozen=True)
 class DSYNC(Data, code=66):
@@ -723,6 +553,23 @@ class DSYNC(Data, code=66):
     scheme: U8
     port: U16
     target: Name
+
+    if TYPE_CHECKING:
+        def __init__(self, notified_type: TypeLike, scheme: U8, port: U16, target: NameLike) -> None: ...
+
+
+@dataclass(frozen=True)
+class HHIT(Data, code=67):
+    """The identity of a host in a hierarchy (RFC 9886)."""
+
+    identity: Rest
+
+
+@dataclass(frozen=True)
+class BRID(Data, code=68):
+    """The identity of an unmanned aircraft (RFC 9886)."""
+
+    identity: Rest
 
 
 @dataclass(frozen=True)
@@ -740,6 +587,9 @@ class L32(Data, code=105):
     preference: U16
     locator: IPv4Address
 
+    if TYPE_CHECKING:
+        def __init__(self, preference: U16, locator: IPv4Like) -> None: ...
+
 
 @dataclass(frozen=True)
 class L64(Data, code=106):
@@ -756,6 +606,9 @@ class LP(Data, code=107):
     preference: U16
     fqdn: Name
 
+    if TYPE_CHECKING:
+        def __init__(self, preference: U16, fqdn: NameLike) -> None: ...
+
 
 @dataclass(frozen=True)
 class TKEY(Data, code=249):
@@ -769,6 +622,12 @@ class TKEY(Data, code=249):
     key: Long
     other: Long
 
+    if TYPE_CHECKING:
+        def __init__(
+            self, algorithm: NameLike, inception: Time, expiration: Time, mode: U16, error: U16, key: Long,
+            other: Long
+        ) -> None: ...
+
 
 @dataclass(frozen=True)
 class TSIG(Data, code=250):
@@ -781,6 +640,12 @@ class TSIG(Data, code=250):
     original_id: U16
     error: U16
     other: Long
+
+    if TYPE_CHECKING:
+        def __init__(
+            self, algorithm: NameLike, time_signed: U48, fudge: U16, mac: Long, original_id: U16, error:
+            U16, other: Long
+        ) -> None: ...
 
 
 @dataclass(frozen=True)
@@ -818,33 +683,16 @@ class CLA(TXT, code=263):
     """What an authority claims, by the registry's template."""
 
 
+@dataclass(frozen=True)
+class IPN(Data, code=264):
+    """The number of a node of the Bundle Protocol, by the registry's template."""
+
+    node: U64
+
+
+class TA(DS, code=32768):
+    """The digest of a key that is trusted, by the registry's template."""
+
+
 class DLV(DS, code=32769):
     """The digest of a key of a zone that is looked up aside (RFC 4431, section 2)."""
-
-
-@dataclass(frozen=True)
-class Unknown(Data):
-    """Data of a type that has no class of its own."""
-
-    of_type: int
-    octets: bytes
-
-    @property
-    def record_type(self) -> RecordType:
-        """The type of the data."""
-        return RecordType.of(_checks.number("of_type", self.of_type, 65535))
-
-    def to_wire(self) -> bytes:
-        """Returns the octets."""
-        return _checks.octets("octets", self.octets)
-
-
-def _classes(kind: Type[Data]) -> Dict[int, Type[Data]]:
-    found = {} if kind._code is None else {kind._code: kind}
-    for below in kind.__subclasses__():
-        found.update(_classes(below))
-    return found
-
-
-#: The class for the data of each type, by its code.
-CLASSES: Dict[int, Type[Data]] = _classes(Data)

@@ -1,50 +1,45 @@
 """The records of messages."""
 
 import struct
-from ctypes import byref, c_char, c_size_t
-from typing import Dict, Iterable, Iterator, Optional, Tuple
+from ctypes import byref, c_size_t
+from typing import Iterable, Iterator, List, Optional, Tuple
 
 from . import _checks
 from ._checks import Bytes
-from ._codes import RecordClass, RecordType
+from ._codes import RecordClass, RecordType, code_of
+from ._data import Data, NameLike, TypeLike, Unknown, data_of, parsed, printed
 from ._errors import DataTooLong, DnsError, MessageCut, NotRrsig, check
-from ._fields import FieldValue, Names, Placed, checked_name, fields, whole_data
-from ._library import FORM_SIZE, SORT_KEY_SIZE, Form, library, taken
+from ._library import FORM_SIZE, NO_ROOM, SORT_KEY_SIZE, Form, library, room_of, taken
 from ._library import Record as Read
-from ._names import Name, placed, wire_of
-from ._rdata import CLASSES, Data, data_in, parsed, printed
+from ._names import Name, placed, whole_name
+from ._table import ALONE_SIZE, FieldValue, Table, table_of
 
 # What is between the owner and the data: the type, the class, the TTL and the data length.
 _FIXED = struct.Struct("!HHIH")
 _MOST = 65535
-
-
-class _NoNames(Dict[int, Placed]):
-    """The names read in the wire form of a record, where no name is compressed. It keeps none."""
-
-    def __setitem__(self, offset: int, name: Placed) -> None:
-        """Keeps nothing."""
-
-
-_NO_NAMES = _NoNames()
+# The names of ordinary data grow by no more octets when they are whole.
+_USUAL_GROWTH = 256
+_record_data = library.dnw_record_data
 
 
 class Record:
     """A record of a message, or one that was made (RFC 1035, section 4.1.3).
 
-    It keeps its message, and reads its owner and its data when they are first used. `Record(owner, ttl, data)` makes
-    one of class IN. `str` returns a line of a master file (RFC 1035, section 5.1). Data without a text of their own are
-    printed as `\\# 4 0A000001` (RFC 3597, section 5). Escapes are decimal.
+    It keeps its message, and makes its owner and its data when they are first used. `Record(owner, ttl, data)` makes one
+    of class IN; the owner is a fully qualified name, or its text. `str` returns a line of a master file (RFC 1035, section
+    5.1). Data without a text of their own are printed as `\\# 4 0A000001` (RFC 3597, section 5). Escapes are decimal.
 
-    >>> from dns_names_wire import MX, Name, Record
-    >>> record = Record(Name("a."), 60, MX(preference=10, exchange=Name("b.a.")))
+    >>> from dns_names_wire import MX, Record
+    >>> record = Record("a.", 60, MX(10, "b.a."))
     >>> print(record)
     a. 60 IN MX 10 b.a.
     >>> record.to_wire().hex()
     '016100000f00010000003c0007000a0162016100'
     """
 
-    __slots__ = ("_message", "_start", "_type", "_class", "_ttl", "_data_offset", "_end", "_names", "_owner", "_data")
+    __slots__ = (
+        "_message", "_start", "_type", "_class", "_ttl", "_data_offset", "_end", "_is_whole", "_table", "_at", "_owner", "_data"
+    )  # fmt: skip
 
     _message: bytes
     _start: int
@@ -53,34 +48,40 @@ class Record:
     _ttl: int
     _data_offset: int
     _end: int
-    _names: Names
+    # Whether the octets are the record's own, in which no name is compressed.
+    _is_whole: bool
+    # What the library read of its message, or of its own octets, and the row of the record there.
+    _table: Optional[Table]
+    _at: int
     _owner: Optional[Name]
     _data: Optional[Data]
 
-    def __init__(self, owner: Name, ttl: int, data: Data, record_class: int = RecordClass.IN) -> None:
-        """Raises `DataTooLong` if the data have more than 65535 octets, or a text in them more than 255."""
+    def __init__(self, owner: NameLike, ttl: int, data: Data, record_class: TypeLike = RecordClass.IN) -> None:
+        """Raises `ValueError` if the owner is relative, and `DataTooLong` if the data have more than 65535 octets."""
         if not isinstance(data, Data):
             raise _checks.wrong_type("data", "a class of data is", data)
-        form, _ = wire_of("owner", owner)
+        name = whole_name("owner", owner)
         octets, code = data.to_wire(), data.record_type
         if len(octets) > _MOST:
             raise DataTooLong()
-        codes = _checks.number("record_class", record_class, _MOST), _checks.number("ttl", ttl, 2**32 - 1)
-        wire = form + _FIXED.pack(code, *codes, len(octets)) + octets
-        self._set(wire, 0, len(form), _NO_NAMES)
-
-    def _set(self, message: bytes, start: int, owner_end: int, names: Names) -> None:
-        self._message, self._start, self._names, self._owner, self._data = message, start, names, None, None
-        self._type, self._class, self._ttl, length = _FIXED.unpack_from(message, owner_end)
-        self._data_offset = owner_end + 10
-        self._end = owner_end + 10 + length
+        codes = code_of(RecordClass, "record_class", record_class), _checks.number("ttl", ttl, 2**32 - 1)
+        self._message, self._start = name.wire + _FIXED.pack(code, *codes, len(octets)) + octets, 0
+        self._type, (self._class, self._ttl) = code, codes
+        self._end = len(self._message)
+        self._data_offset = self._end - len(octets)
+        self._is_whole, self._table, self._at, self._owner = True, None, 0, name
+        # In another class than IN the octets may have other fields, and octets of no class may have those of their type.
+        self._data = data if codes[0] == 1 and not isinstance(data, Unknown) else None
 
     @classmethod
-    def _of(cls, message: bytes, start: int, owner_end: int, names: Names) -> "Record":
-        """Returns the record in a message whose owner ends at `owner_end`. `names` are those that were read there
-        before."""
-        record = cls.__new__(cls)
-        record._set(message, start, owner_end, names)
+    def _made(cls, wire: bytes) -> "Record":
+        """Returns the record with this wire form, in which no name is compressed."""
+        table = table_of(wire)
+        row, record = table.rows[0], cls.__new__(cls)
+        record._message, record._start = wire, 0
+        record._type, record._class, record._ttl = row[2:5]
+        record._data_offset, record._end = row[5] - ALONE_SIZE, len(wire)
+        record._is_whole, record._table, record._at, record._owner, record._data = True, table, 0, None, None
         return record
 
     @classmethod
@@ -95,13 +96,7 @@ class Record:
         >>> print(Record.from_text("www 1h IN CNAME @", origin=Name("example.")))
         www.example. 3600 IN CNAME example.
         """
-        wire = parsed(library.dnw_record_parse, text, origin)
-        return cls._made(wire, checked_name(wire, 0, {})[1])
-
-    @classmethod
-    def _made(cls, wire: bytes, owner_end: int) -> "Record":
-        """Returns the record with this wire form, whose owner ends at `owner_end`."""
-        return cls._of(wire, 0, owner_end, _NO_NAMES)
+        return cls._made(parsed(library.dnw_record_parse, text, origin))
 
     def to_text(self) -> str:
         """Returns the line of a master file, as `str` does."""
@@ -112,9 +107,20 @@ class Record:
         """The name that owns the record."""
         name = self._owner
         if name is None:
-            # It was checked when the record was read.
-            name = self._owner = checked_name(self._message, self._start, self._names)[0]
+            table = self._read()
+            name = self._owner = table.name(table.rows[self._at])
         return name
+
+    def _read(self) -> Table:
+        """Returns what the library read of the record, and keeps it."""
+        table = self._table
+        if table is None:
+            table = self._table = table_of(self.to_wire())
+        return table
+
+    def _fields(self) -> Tuple[Tuple[int, ...], List[FieldValue]]:
+        """Returns the kinds of the fields of the data, and their values."""
+        return self._read().fields(self._at, ALONE_SIZE if self._is_whole else 0)
 
     @property
     def record_type(self) -> RecordType:
@@ -140,9 +146,7 @@ class Record:
         """
         data = self._data
         if data is None:
-            data = self._data = data_in(
-                self._message, self._data_offset, self._end, self._class, self._type, self._names
-            )
+            data = self._data = data_of(self._type, *self._fields(), self.raw_data)
         return data
 
     @property
@@ -162,13 +166,22 @@ class Record:
 
     def to_wire(self) -> bytes:
         """Returns the octets of the record, without compression."""
-        if self._names is _NO_NAMES:
+        if self._is_whole:
             return self._message
-        kinds = getattr(CLASSES.get(self._type), "_kinds", "n") if self._class == RecordClass.IN else "n"
-        data = self.raw_data
-        if "n" in kinds:
-            data = whole_data(self._message, self._data_offset, self._end, self._class, self._type)
+        data = self._whole_data()
         return self.owner.wire + _FIXED.pack(self._type, self._class, self._ttl, len(data)) + data
+
+    def _whole_data(self) -> bytes:
+        """Returns the octets of the data, without compression."""
+        if self._is_whole:
+            return self.raw_data
+        room, length = room_of(self._end - self._data_offset + _USUAL_GROWTH), c_size_t()
+        number = _record_data(self._message, self._end, self._start, room, len(room), byref(length))
+        if number == NO_ROOM:
+            room = room_of(_MOST)
+            number = _record_data(self._message, self._end, self._start, room, len(room), byref(length))
+        check(number, self._data_offset)
+        return taken(room, length.value)
 
     def data_name(self, skip: int = 0) -> Name:
         """Reads the data after the first `skip` octets as a name: after two for MX, after six for SRV.
@@ -194,7 +207,7 @@ class Record:
         >>> read_record(bytes.fromhex("00 000f 0001 00000000 0005 000a 016100")).fields()
         (10, Name('a.'))
         """
-        return tuple(fields(self._message, self._data_offset, self._end, self._class, self._type))
+        return tuple(self._fields()[1])
 
     def signed_octets(self, records: Iterable["Record"]) -> bytes:
         """Returns the octets that the signature of this RRSIG covers (RFC 4034, section 3.1.8.1): the bytes to verify
@@ -226,8 +239,8 @@ class Record:
         own = self.to_wire()
         wire = own + b"".join(record.to_wire() for record in found)
         # A record is not longer in canonical form, and the signature is left out.
-        room, length = (c_char * len(wire))(), c_size_t()
-        check(library.dnw_signed_octets(wire, len(wire), len(own), 0, room, len(wire), byref(length)))
+        room, length = room_of(len(wire)), c_size_t()
+        check(library.dnw_signed_octets(wire, len(wire), len(own), 0, room, len(room), byref(length)))
         return taken(room, length.value)
 
     def sort_key(self) -> bytes:
@@ -239,8 +252,8 @@ class Record:
         """
         # The names of no data grow by more than two whole names.
         size = SORT_KEY_SIZE + 5 + self._end - self._data_offset + 2 * FORM_SIZE
-        key, length = (c_char * size)(), c_size_t()
-        check(library.dnw_record_sort_key(self._message, self._end, self._start, key, size, byref(length)))
+        key, length = room_of(size), c_size_t()
+        check(library.dnw_record_sort_key(self._message, self._end, self._start, key, len(key), byref(length)))
         return taken(key, length.value)
 
     def _order_key(self) -> bytes:
@@ -294,23 +307,13 @@ class Record:
         return f"<Record {self.owner} {self.ttl} {self.record_class} {self.record_type} {self.raw_data.hex()}>"
 
 
-def section_records(whole: bytes, offset: int, count: int, names: Names) -> Tuple[Tuple[Record, ...], int]:
-    """Returns `count` records from an offset of a message that was checked, and the offset after them. `names` are
-    those that were read there before."""
-    found, make, unpack, size = [], Record.__new__, _FIXED.unpack_from, _FIXED.size
-    for _ in range(count):
-        at, length = offset, whole[offset]
-        while 0 < length < 64:
-            at += 1 + length
-            length = whole[at]
-        at += 1 if length == 0 else 2
-        record = make(Record)
-        record._message, record._start, record._names, record._owner, record._data = whole, offset, names, None, None
-        record._type, record._class, record._ttl, length = unpack(whole, at)
-        record._data_offset = at = at + size
-        record._end = offset = at + length
-        found.append(record)
-    return tuple(found), offset
+def record_at(table: Table, at: int, start: int) -> Record:
+    """Returns the record at a row of the table of a message, which begins at an offset."""
+    row, record = table.rows[at], Record.__new__(Record)
+    record._message, record._start, record._is_whole, record._table, record._at = table.message, start, False, table, at
+    _, _, record._type, record._class, record._ttl, data_offset, length, _, _ = row
+    record._data_offset, record._end, record._owner, record._data = data_offset, data_offset + length, None, None
+    return record
 
 
 def read_record(message: Bytes, start: int = 0) -> Record:
@@ -328,8 +331,11 @@ def read_record(message: Bytes, start: int = 0) -> Record:
     whole, offset = placed(message, start)
     form, read = Form(), Read()
     check(library.dnw_record_read(whole, len(whole), offset, form, FORM_SIZE, byref(read)), start)
-    record = Record._of(whole, offset, read.data_offset - 10, {})
-    record._owner = Name._of(taken(form, read.owner_len), True)
+    record = Record.__new__(Record)
+    record._message, record._start, record._is_whole, record._table, record._at = whole, offset, False, None, 0
+    record._type, record._class, record._ttl = int(read.record_type), int(read.record_class), int(read.ttl)
+    record._data_offset, record._end = int(read.data_offset), int(read.end)
+    record._owner, record._data = Name._of(taken(form, read.owner_len), True), None
     return record
 
 

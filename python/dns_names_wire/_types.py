@@ -1,13 +1,17 @@
 """Sets of record types, and serial numbers."""
 
-from ctypes import byref, c_char, c_int32, c_size_t, c_uint16
-from typing import AbstractSet, FrozenSet, Iterable, Iterator
+from array import array
+from ctypes import addressof, byref, c_int32, c_size_t
+from typing import AbstractSet, FrozenSet, Iterable, Iterator, Union
 
 from . import _checks
 from ._checks import Bytes
-from ._codes import RecordType
+from ._codes import RecordType, code_of
 from ._errors import check
-from ._library import library, taken
+from ._library import library, room_of, taken
+
+
+_CODE_SIZE = 2
 
 
 class TypeSet(AbstractSet[int]):
@@ -18,7 +22,7 @@ class TypeSet(AbstractSet[int]):
     >>> types = TypeSet.from_bitmap(bytes.fromhex("0006400100000003"))
     >>> [str(kind) for kind in types], RecordType.MX in types, 15 in types
     (['A', 'MX', 'RRSIG', 'NSEC'], True, True)
-    >>> TypeSet([47, 1, 15, 46]).to_bitmap().hex()
+    >>> TypeSet([47, 1, "MX", "RRSIG"]).to_bitmap().hex()
     '0006400100000003'
     """
 
@@ -26,9 +30,9 @@ class TypeSet(AbstractSet[int]):
 
     _codes: FrozenSet[int]
 
-    def __init__(self, codes: Iterable[int] = ()) -> None:
-        """Creates the set of these codes, each from 0 to 65535."""
-        self._codes = frozenset(_checks.number("codes", code, 65535) for code in codes)
+    def __init__(self, codes: Iterable[Union[int, str]] = ()) -> None:
+        """Creates the set of these types, each its code, from 0 to 65535, or its name."""
+        self._codes = frozenset(int(code_of(RecordType, "codes", code)) for code in codes)
 
     @classmethod
     def from_bitmap(cls, bitmap: Bytes) -> "TypeSet":
@@ -39,18 +43,19 @@ class TypeSet(AbstractSet[int]):
         """
         octets = _checks.octets("bitmap", bitmap)
         size = 8 * len(octets)
-        codes, count = (c_uint16 * max(size, 1))(), c_size_t()
-        check(library.dnw_types_read(octets, len(octets), codes, size, byref(count)))
-        return cls(codes[: count.value])
+        room, count = room_of(_CODE_SIZE * size), c_size_t()
+        check(library.dnw_types_read(octets, len(octets), addressof(room), size, byref(count)))
+        made = cls.__new__(cls)
+        made._codes = frozenset(array("H", taken(room, _CODE_SIZE * count.value)))
+        return made
 
     def to_bitmap(self) -> bytes:
         """Returns the bitmap: windows in ascending order, none longer than needed."""
-        codes = (c_uint16 * max(len(self._codes), 1))(*self._codes)
+        codes, count = array("H", self._codes), len(self._codes)
         # A window has at most 34 octets.
-        size = 34 * len({code >> 8 for code in self._codes})
-        bitmap, length = (c_char * max(size, 1))(), c_size_t()
-        check(library.dnw_types_write(codes, len(self._codes), bitmap, size, byref(length)))
-        return taken(bitmap, length.value)
+        room, length = room_of(34 * len({code >> 8 for code in self._codes})), c_size_t()
+        check(library.dnw_types_write(codes.buffer_info()[0], count, room, len(room), byref(length)))
+        return taken(room, length.value)
 
     def __contains__(self, code: object) -> bool:
         return code in self._codes

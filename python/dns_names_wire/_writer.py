@@ -1,123 +1,203 @@
-"""Messages written with compression."""
+"""Messages written item by item."""
 
 from ctypes import byref, c_char
-from typing import List, NamedTuple, Tuple, Union
+from typing import Iterable, Optional, Tuple
 
 from . import _checks
-from ._checks import Bytes
-from ._errors import MessageTooLong, check, error_text
-from ._library import WrittenMessage, library, taken
-from ._names import Name, wire_of
+from ._data import put_pairs, take_pairs
+from ._errors import DuplicateEdns, check
+from ._library import Writer, library
+from ._library import Edns as ReadEdns
+from ._messages import Edns, Header, Message, Question, edns_of_reply
+from ._records import Record
+from ._sets import RRset
 
-# The kinds of items, in `dns_names_wire.h`.
-_BYTES, _NAME, _RECORD, _STANDARD_NAME, _CANONICAL_NAME, _OTHER_NAME = range(6)
+# The sections, by their numbers in dns_names_wire.h.
+ANSWER, AUTHORITY, ADDITIONAL = 2, 3, 4
 
-# The types of RFC 1035 whose data are a name (NS, MD, MF, CNAME, MB, MG, MR and PTR), and DNAME.
-_KINDS = {**dict.fromkeys([2, 3, 4, 5, 7, 8, 9, 12], _STANDARD_NAME), 39: _CANONICAL_NAME}
-
-
-class Truncated(NamedTuple):
-    """A message, or as many of its first parts as fit, and the number of these parts."""
-
-    message: bytes
-    parts: int
-
-
-def _number(what: str, number: int, octets: int) -> bytes:
-    return _checks.number(what, number, 256**octets - 1).to_bytes(octets, "big")
+_MOST = 65535
 
 
 class MessageWriter:
-    """Writes a message from parts: bytes (as its header), questions, records and names. Names are compressed (RFC 1035,
-    section 4.1.4).
+    """Writes a message into a bytearray, item by item, with names compressed (RFC 1035, section 4.1.4).
 
-    The parts are collected, and `finish` writes them from the first byte of the message.
+    An item is written whole, or it raises `MessageTooLong` and the message stays as it was. What was written is a message
+    after each item: `finish` returns it. Items are in the order of the sections; another order raises `BadItem`.
 
-    >>> from dns_names_wire import RecordClass, RecordType
-    >>> writer = MessageWriter()
-    >>> writer.push(Name("www.de."))
-    >>> writer.record(Name("de."), RecordType.NS, RecordClass.IN, 60, Name("ns.de."))
-    >>> writer.finish().hex(" ", 1)
-    '03 77 77 77 02 64 65 00 c0 04 00 02 00 01 00 00 00 3c 00 05 02 6e 73 c0 04'
+    >>> from dns_names_wire import NS, A, Header, Question, Record
+    >>> writer = MessageWriter(Header(id=7, is_response=True))
+    >>> writer.question(Question("a.", "NS"))
+    >>> writer.answer(Record("a.", 60, NS("b.a.")))
+    >>> writer.additional(Record("b.a.", 60, A("192.0.2.1")))
+    >>> print(Message.from_wire(writer.finish()))
+    ;; ->>HEADER<<- opcode: QUERY, status: NOERROR, id: 7
+    ;; flags: qr; QUERY: 1, ANSWER: 1, AUTHORITY: 0, ADDITIONAL: 1
+    <BLANKLINE>
+    ;; QUESTION SECTION:
+    ;a. IN NS
+    <BLANKLINE>
+    ;; ANSWER SECTION:
+    a. 60 IN NS b.a.
+    <BLANKLINE>
+    ;; ADDITIONAL SECTION:
+    b.a. 60 IN A 192.0.2.1
     """
 
-    def __init__(self, max_size: int = 65535, canonical: bool = False) -> None:
-        """Creates a writer for messages of at most `max_size` bytes, from 0 to 65535.
+    def __init__(self, header: Header = Header(), max_size: int = _MOST, buffer: Optional[bytearray] = None) -> None:
+        """Begins a message of at most `max_size` octets with this header. A `buffer` is written from its first octet on; its
+        size is a maximum too, and it cannot be resized as long as the writer is used."""
+        self._set(max_size, buffer)
+        code = _checks.number("response_code", header.response_code, 15)
+        id, flags = _checks.number("id", header.id, _MOST), header._flags() | code
+        check(library.dnw_writer_begin(self._room, len(self._room), self._max_size, id, flags, byref(self._state)))
 
-        `canonical` sets whether names in record data are written in canonical form (RFC 4034, section 6.2).
+    def _set(self, max_size: int, buffer: Optional[bytearray]) -> None:
+        self._max_size = _checks.number("max_size", max_size, _MOST)
+        self._buffer = bytearray(max(self._max_size, 12)) if buffer is None else buffer
+        if not isinstance(self._buffer, bytearray):
+            raise _checks.wrong_type("buffer", "a bytearray is", buffer)
+        self._room = (c_char * len(self._buffer)).from_buffer(self._buffer)
+        self._state, self._owed_edns = Writer(), None  # type: Writer, Optional[Edns]
+        self._code, self._has_edns = 0, False
+
+    @classmethod
+    def reply(
+        cls,
+        request: Message,
+        max_size: int = _MOST,
+        buffer: Optional[bytearray] = None,
+        *,
+        authoritative: bool = False,
+        recursion_available: bool = False,
+        authentic_data: bool = False,
+        response_code: int = 0,
+    ) -> "MessageWriter":
+        """Begins the reply to a request, as `Message.reply` makes it, with the question of the request. If the request has
+        EDNS, room is held back for the OPT record, which `edns` or `finish` writes.
+
+        >>> from dns_names_wire import make_query
+        >>> MessageWriter.reply(make_query("a.", "NS", id=7)).finish().hex()
+        '00078100000100000000000001610000020001'
         """
-        self._max_size, self._canonical = _checks.number("max_size", max_size, 65535), bool(canonical)
-        # the items of each part, as `dnw_message_write` takes them
-        self._parts: List[List[bytes]] = []
+        writer = cls.__new__(cls)
+        writer._set(max_size, buffer)
+        code = _checks.number("response_code", response_code, 4095)
+        flags = code & 15 | bool(authoritative) << 10 | bool(recursion_available) << 7 | bool(authentic_data) << 5
+        wire, asked = request.wire, ReadEdns()
+        room, most = writer._room, writer._max_size
+        check(library.dnw_writer_reply(room, len(room), most, wire, len(wire), flags, byref(writer._state), byref(asked)))
+        writer._owed_edns = edns_of_reply(asked.dnssec_ok) if asked.is_present else None
+        # The high bits are those of the given code, unless the library says another code.
+        writer._code = code if code & 15 == asked.response_code else asked.response_code
+        return writer
 
-    def push(self, name: Name) -> None:
-        """Adds a name. Whether it is fully qualified is not written."""
-        wire, _ = wire_of("name", name)
-        self._parts.append([bytes([_NAME]) + wire])
+    @property
+    def size(self) -> int:
+        """The number of octets of the message so far."""
+        return int(self._state.len)
 
-    def raw(self, octets: Bytes) -> None:
-        """Adds bytes unchanged, for example a header."""
-        whole = _checks.octets("octets", octets)
-        chunks = [whole[at : at + 65535] for at in range(0, len(whole), 65535)]
-        self._parts.append([bytes([_BYTES]) + len(chunk).to_bytes(2, "big") + chunk for chunk in chunks])
+    @property
+    def held(self) -> int:
+        """The number of octets that are held back."""
+        return int(self._state.reserved)
 
-    def question(self, name: Name, record_type: int, record_class: int) -> None:
-        """Adds a question (RFC 1035, section 4.1.2)."""
-        wire, _ = wire_of("name", name)
-        codes = _number("record_type", record_type, 2) + _number("record_class", record_class, 2)
-        self._parts.append([bytes([_NAME]) + wire, bytes([_BYTES, 0, len(codes)]) + codes])
+    def hold(self, octets: int) -> None:
+        """Holds back so many octets of the maximum, for items that come last."""
+        check(library.dnw_writer_hold(_checks.number("octets", octets, _MOST), byref(self._state)))
 
-    def record(self, owner: Name, record_type: int, record_class: int, ttl: int, data: Union[Name, Bytes]) -> None:
-        """Adds a record. Its data are a `Name`, or bytes, which are the fields of the type. The names among them are
-        compressed if the type is one of RFC 1035 (RFC 3597, section 4). Raises `ValueError` for data of more than 65535
-        octets. `finish` raises `BadData` for bytes that are not the fields of the type."""
-        wire, _ = wire_of("owner", owner)
-        fields = _number("record_type", record_type, 2) + _number("record_class", record_class, 2) + _number("ttl", ttl, 4)
-        kind, octets = _RECORD, data.wire if isinstance(data, Name) else _checks.octets("data", data)
-        if isinstance(data, Name):
-            kind = _KINDS.get(record_type, _OTHER_NAME)
-        length = _number("data: the number of octets", len(octets), 2)
-        self._parts.append([bytes([kind]) + wire + fields + length + octets])
+    def release(self, octets: int) -> None:
+        """Gives back so many octets that were held back, or all if fewer were."""
+        check(library.dnw_writer_release(_checks.number("octets", octets, _MOST), byref(self._state)))
+
+    def question(self, question: Question) -> None:
+        """Writes a question."""
+        if not isinstance(question, Question):
+            raise _checks.wrong_type("question", "a Question is", question)
+        wire, codes = question.name.wire, (question.question_type, question.question_class)
+        check(library.dnw_writer_question(self._room, len(self._room), wire, len(wire), *codes, byref(self._state)))
+
+    def answer(self, record: Record) -> None:
+        """Writes a record of the Answer section. Raises `BadData`, or as `Record.fields`, if its data are not valid."""
+        self._record(ANSWER, record)
+
+    def authority(self, record: Record) -> None:
+        """Writes a record of the Authority section, as `answer`."""
+        self._record(AUTHORITY, record)
+
+    def additional(self, record: Record) -> None:
+        """Writes a record of the Additional section, as `answer`."""
+        self._record(ADDITIONAL, record)
+
+    def answer_set(self, records: Iterable[Record], *, is_required: bool = True) -> None:
+        """Writes the records of a set to the Answer section, or none of them (RFC 2181, section 5). If there is no room and
+        the receiver needs the set, TC is set (section 9). Raises `ValueError` as `RRset`, and otherwise as `answer`."""
+        self._set_of(ANSWER, records, is_required)
+
+    def authority_set(self, records: Iterable[Record], *, is_required: bool = True) -> None:
+        """Writes a set to the Authority section, as `answer_set`."""
+        self._set_of(AUTHORITY, records, is_required)
+
+    def additional_set(self, records: Iterable[Record], *, is_required: bool = False) -> None:
+        """Writes a set to the Additional section, as `answer_set`. Glue is required (RFC 9471)."""
+        self._set_of(ADDITIONAL, records, is_required)
+
+    def _record(self, section: int, record: Record) -> None:
+        if not isinstance(record, Record):
+            raise _checks.wrong_type("record", "a Record is", record)
+        owner, data = record.owner.wire, record._whole_data()
+        codes = record.record_type, record.record_class, record.ttl
+        check(library.dnw_writer_record(
+            self._room, len(self._room), section, owner, len(owner), *codes, data, len(data), byref(self._state)
+        ))  # fmt: skip
+
+    def _set_of(self, section: int, records: Iterable[Record], is_required: bool) -> None:
+        found = records if isinstance(records, RRset) else RRset(records)
+        owner, ttl = found.owner.wire, found.ttl
+        octets = b"".join([part for record in found for part in _counted(record._whole_data())])
+        check(library.dnw_writer_set(
+            self._room, len(self._room), section, bool(is_required), owner, len(owner), found.record_type,
+            found.record_class, ttl, octets, len(octets), byref(self._state),
+        ))  # fmt: skip
+
+    def edns(self, edns: Optional[Edns] = None, *, block: int = 0) -> None:
+        """Writes the OPT record: of a reply, into the octets that are held back for it; the default is that of
+        `Message.reply`. If `block` is not 0, the message is padded to a multiple of so many octets (RFC 7830; RFC 8467).
+        Raises `DuplicateEdns` if there is one already."""
+        if self._has_edns:
+            check(DuplicateEdns.number)
+        own = edns or self._owed_edns or Edns()
+        options = put_pairs(take_pairs("options", own.options))
+        numbers = (
+            _checks.number("max_payload", own.max_payload, _MOST), self._code >> 4,
+            _checks.number("version", own.version, 255), bool(own.dnssec_ok),
+        )  # fmt: skip
+        held = 0 if self._owed_edns is None else 11
+        check(library.dnw_writer_edns(
+            self._room, len(self._room), held, *numbers, options, len(options), _checks.number("block", block, _MOST),
+            byref(self._state),
+        ))  # fmt: skip
+        self._owed_edns, self._has_edns = None, True
+
+    def last(self, record: Record, *, held: int = 0) -> None:
+        """Writes a record after which no item may follow, as TSIG (RFC 8945, section 5.1), and gives back octets that are
+        held back for it."""
+        if not isinstance(record, Record):
+            raise _checks.wrong_type("record", "a Record is", record)
+        if self._owed_edns is not None:
+            self.edns()
+        owner, data = record.owner.wire, record._whole_data()
+        codes = record.record_type, record.record_class, record.ttl
+        check(library.dnw_writer_last(
+            self._room, len(self._room), _checks.number("held", held, _MOST), owner, len(owner), *codes, data, len(data),
+            byref(self._state),
+        ))  # fmt: skip
 
     def finish(self) -> bytes:
-        """Returns the message. Raises `MessageTooLong`, with the part that does not fit, if it would be longer than the
-        maximum."""
-        message, parts = self.finish_truncated()
-        if parts != len(self._parts):
-            raise MessageTooLong(error_text(MessageTooLong.number), part=parts)
-        return message
+        """Returns the message. A reply gets its OPT record first, if it has none and the request has EDNS."""
+        if self._owed_edns is not None:
+            self.edns()
+        return bytes(self._buffer[: self._state.len])
 
-    def finish_truncated(self) -> Truncated:
-        """Returns the message, or as many of its first parts as fit, and the number of these parts.
 
-        If some do not fit, the caller has to set the TC bit and the counts of the header (RFC 1035, section 4.1.1).
-
-        >>> writer = MessageWriter(max_size=4)
-        >>> writer.push(Name("a."))
-        >>> writer.push(Name("b."))
-        >>> writer.finish_truncated()
-        Truncated(message=b'\\x01a\\x00', parts=1)
-        """
-        message, count = self._write(len(self._parts))
-        ends = [0]
-        for part in self._parts:
-            ends.append(ends[-1] + len(part))
-        whole = max(index for index, end in enumerate(ends) if end <= count)
-        if ends[whole] < count:
-            # A part is not left in the middle.
-            message, _ = self._write(whole)
-        return Truncated(message, whole)
-
-    def _write(self, parts: int) -> Tuple[bytes, int]:
-        """Returns the message of the first parts, or of as many of their items as fit, and the number of these
-        items."""
-        items = b"".join(item for part in self._parts[:parts] for item in part)
-        # An item takes no more octets in a message than in the list.
-        size = min(len(items), self._max_size)
-        message, written = (c_char * max(size, 1))(), WrittenMessage()
-        number = library.dnw_message_write(
-            items, len(items), self._max_size, self._canonical, message, size, byref(written)
-        )
-        if number != MessageTooLong.number:
-            check(number)
-        return taken(message, written.len), written.count
+def _counted(octets: bytes) -> Tuple[bytes, bytes]:
+    return len(octets).to_bytes(2, "big"), octets

@@ -1,7 +1,6 @@
 """Messages and records that are built. Expected octets are what dnspython 2.3.0 writes for the same, or are worked out
 by hand from RFC 1035, sections 4.1 and 5.1, RFC 6891, section 6.1, and RFC 2181, section 9."""
 
-import dataclasses
 import pickle
 import unittest
 
@@ -91,27 +90,32 @@ class Messages(unittest.TestCase):
         again = request.reply(read.answers, read.authorities, read.additionals[:1], authoritative=True)
         self.assertEqual((again.to_wire(), again), (REPLY, reply))
         self.assertEqual(pickle.loads(pickle.dumps(again)), again)
-        with self.assertRaises(dataclasses.FrozenInstanceError):
-            again.wire = b""
+        for attribute in ["wire", "answers", "other"]:
+            with self.assertRaises(AttributeError):
+                setattr(again, attribute, b"")
 
     def test_a_reply_has_no_more_than_the_size(self):
         reply = query().reply(ANSWERS, AUTHORITIES, ADDITIONALS, authoritative=True)
-        before = 8
-        for size in range(len(REPLY), 22, -1):
+        count = 5
+        for size in range(len(REPLY), 43, -1):
             wire = reply.to_wire(size)
             self.assertLessEqual(len(wire), size)
             read = Message.from_wire(wire)
-            count = len(read.answers) + len(read.authorities)
-            self.assertEqual(read.header.truncation, count < 7)
+            self.assertLessEqual(len(read.answers), count)
+            count = len(read.answers)
+            self.assertEqual(read.header.truncation, count < 5)
             self.assertEqual((read.edns.max_payload, read.additionals[-1].record_type), (1232, RecordType.OPT))
-            self.assertEqual(Message.from_wire(REPLY).to_wire(size), wire)
-            before = count
-        self.assertEqual(before, 0)
+            again = Message.from_wire(Message.from_wire(REPLY).to_wire(size))
+            self.assertLessEqual(len(again.wire), size)
+            self.assertEqual(again.additionals[-1].record_type, RecordType.OPT)
+            self.assertLessEqual(set(again.answers), set(ANSWERS))
+            self.assertTrue(again.header.truncation or len(again.answers) == 5)
+        self.assertEqual(count, 0)
         # The address of ns.example.com. is not required, so TC is not set without it.
         read = Message.from_wire(reply.to_wire(len(REPLY) - 1))
         self.assertEqual((read.header.truncation, len(read.additionals)), (False, 1))
         with self.assertRaisesRegex(dnw.MessageTooLong, "^the message would be longer than its maximum$"):
-            reply.to_wire(22)
+            reply.to_wire(43)
         self.assertEqual(Message.build().to_wire(12), bytes(12))
         self.assertRaises(dnw.MessageTooLong, Message.build().to_wire, 11)
         # 512 octets by default
@@ -133,7 +137,8 @@ class Messages(unittest.TestCase):
         self.assertEqual(later.reply().response_code, ResponseCode.BADVERS)
         two = Message.from_wire(bytes.fromhex("000100000000000000000002" + 2 * "0000290200000000000000"))
         self.assertEqual(two.reply().to_wire().hex(), "000180010000000000000000")
-        self.assertEqual(two.reply(response_code=ResponseCode.REFUSED).header.response_code, 5)
+        self.assertEqual(two.reply(response_code=ResponseCode.REFUSED).header.response_code, ResponseCode.FORMERR)
+        self.assertEqual(query().reply(response_code=ResponseCode.REFUSED).header.response_code, 5)
         own = query().reply(edns=Edns(4096, options=((3, b"a"),)), recursion_available=True)
         self.assertEqual((own.edns, own.flags), (Edns(4096, options=((3, b"a"),)), ("QR", "RD", "RA")))
         self.assertEqual(dnw.make_response(query(), recursion_available=True).flags, ("QR", "RD", "RA"))
@@ -158,8 +163,11 @@ class Messages(unittest.TestCase):
         record = Record(Name("."), 0, dnw.Unknown(65280, b""))
         with self.assertRaisesRegex(ValueError, "the number of answers"):
             Message.build(answers=[record] * 65536)
+        # a set is not cut (RFC 2181, section 5)
         whole = Message.from_wire(Message.build(answers=[record] * 65535).to_wire(65535))
-        self.assertEqual((len(whole.answers), whole.header.truncation), ((65535 - 12) // 11, True))
+        self.assertEqual((len(whole.answers), whole.header.truncation), (0, True))
+        whole = Message.from_wire(Message.build(answers=[record] * 5956).to_wire(65535))
+        self.assertEqual((len(whole.answers), whole.header.truncation), ((65535 - 12) // 11, False))
 
     def test_queries(self):
         asked = make_query(Name("a."), RecordType.NS, "CH", want_dnssec=True)
@@ -174,12 +182,19 @@ class Messages(unittest.TestCase):
 
     def test_what_is_no_message_is_not_written(self):
         wrong = Record(Name("."), 0, dnw.Unknown(1, b"\1\2\3"))
-        self.assertRaises(dnw.MessageCut, Message.build(answers=[wrong]).to_wire)
+        self.assertRaises(dnw.BadData, Message.build(answers=[wrong]).to_wire)
         opt = Record(Name("."), 0, dnw.Unknown(41, b""), 512)
         self.assertRaises(dnw.DuplicateEdns, Message.build(additionals=[opt], edns=Edns()).to_wire)
         self.assertRaises(dnw.DuplicateEdns, lambda: Message.build(additionals=[opt, opt]).edns)
-        self.assertRaises(dnw.OutsideAdditionals, Message.build(answers=[opt]).to_wire)
-        self.assertRaises(dnw.OutsideAdditionals, Message.build(authorities=[opt], edns=Edns()).to_wire)
+        self.assertRaises(dnw.OutsideAdditionals, lambda: Message.build(answers=[opt]).edns)
+        self.assertRaises(dnw.OutsideAdditionals, lambda: Message.build(authorities=[opt], edns=Edns()).edns)
+        # one OPT record among the others is that of the message, and TSIG is after it
+        key = Record("key.", 0, dnw.TSIG("hmac-sha256.", 1, 300, bytes(32), 7, 0, b""), RecordClass.ANY)
+        both = Message.from_wire(Message.build(additionals=[key, opt, *ADDITIONALS]).to_wire(65535))
+        self.assertEqual([record.record_type for record in both.additionals], [RecordType.A, RecordType.OPT, RecordType.TSIG])
+        self.assertEqual(both.edns, Edns(512))
+        one = Message.from_wire(Message.build(additionals=[*ADDITIONALS, key]).to_wire(12 + len(key.to_wire())))
+        self.assertEqual((one.additionals, one.header.truncation), ((key,), False))
 
 
 class Records(unittest.TestCase):

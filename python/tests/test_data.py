@@ -9,7 +9,7 @@ from ipaddress import IPv4Address, IPv6Address
 
 import dns_names_wire as dnw
 from dns_names_wire import Message, Name, OpCode, Record, ResponseCode
-from dns_names_wire._rdata import CLASSES
+from dns_names_wire._data import CLASSES
 
 from test_whole_messages import RESPONSE
 
@@ -79,7 +79,7 @@ class DataByType(unittest.TestCase):
 
 
 class ByChance(unittest.TestCase):
-    """Random data, often with a fault: what the package reads by itself is what the library reads, or fails as it
+    """Random data, often with a fault: a record of a message has the same data as one that is read alone, or fails as it
     does."""
 
     def setUp(self):
@@ -136,6 +136,8 @@ class ByChance(unittest.TestCase):
                 own = self.outcome(lambda: record.data)
                 wanted = self.outcome(lambda: CLASSES[record.record_type](*record.fields()))
                 self.assertEqual((own, repr(own)), (wanted, repr(wanted)), wire.hex())
+                alone = self.outcome(lambda: dnw.read_record(wire, record._start).data)
+                self.assertEqual(*[it if isinstance(it, dnw.Data) else it[0] for it in (alone, own)], wire.hex())
                 self.assertEqual(record.owner.wire, dnw.read_record(wire, record._start).owner.wire)
                 counts[isinstance(own, dnw.Data)] += 1
         self.assertGreater(min(counts.values()), 500)
@@ -144,7 +146,7 @@ class ByChance(unittest.TestCase):
 class Classes(unittest.TestCase):
     def test_each_class_has_its_type_and_its_fields(self):
         kinds = {kind._code: kind for kind in vars(dnw).values() if isinstance(kind, type) and getattr(kind, "_code", None)}
-        self.assertEqual(len(kinds), 75)
+        self.assertEqual(len(kinds), 79)
         for code, kind in kinds.items():
             self.assertEqual(len(kind._kinds), len(dataclasses.fields(kind)))
             self.assertEqual(dnw.type_text(code).replace("-", "_"), kind.__name__)
@@ -158,7 +160,7 @@ class Arguments(unittest.TestCase):
     def test_arguments_are_checked(self):
         root = Name(".")
         for make, error in [
-            (lambda: Record("a.", 0, dnw.A("192.0.2.1")), TypeError),
+            (lambda: Record(b"a.", 0, dnw.A("192.0.2.1")), TypeError),
             (lambda: Record(root, 0, b"\0"), TypeError),
             (lambda: Record(root, -1, dnw.A("192.0.2.1")), ValueError),
             (lambda: Record(root, 0, dnw.MX(65536, root)), ValueError),

@@ -220,7 +220,7 @@ class Order(unittest.TestCase):
                 self.assertEqual((left == right, left != right), (i == j, i != j))
         self.assertLess(Name("z"), Name("a."))
         self.assertNotEqual(Name("a"), Name("a."))
-        self.assertNotEqual(Name("a."), "a.")
+        self.assertNotEqual(Name("a."), 1)
         with self.assertRaises(TypeError):
             Name("a.") < "b."
 
@@ -290,7 +290,7 @@ class Values(unittest.TestCase):
         self.assertEqual((len(name), list(name), bytes(name)), (3, [b"www", b"example", b"com"], name.wire))
         self.assertEqual((len(Name(".")), list(Name("@")), bool(Name("."))), (0, [], True))
         self.assertEqual((name in Name("EXAMPLE.com."), Name("com.") in name, name in name), (True, False, True))
-        self.assertEqual((name.parent, Name("a").parent, Name(".").parent), (Name("example.com."), Name("@"), Name(".")))
+        self.assertEqual((name.parent, Name("a").parent), (Name("example.com."), Name("@")))
         self.assertEqual((Name("www") + Name("a."), f"{Name('a.'):>4}|{Name('a.')}"), (Name("www.a."), "  a.|a."))
         self.assertTrue(Name(".").is_root and not Name("@").is_root and not name.is_root)
         self.assertTrue(Name("*.a.").is_wildcard and not Name("a.*.").is_wildcard and not Name.from_wire(b"\x02.*\x00").is_wildcard)
@@ -304,10 +304,12 @@ class Values(unittest.TestCase):
 
     def test_other_types_are_not_compared(self):
         name = Name("a.")
-        for other in ["a.", b"\x01a\x00", None, 1]:
+        for other in [None, 1]:
             self.assertFalse(name == other)
             self.assertTrue(name != other)
-            for method in ["__eq__", "__lt__", "__le__", "__gt__", "__ge__", "__add__"]:
+            self.assertIs(name.__eq__(other), NotImplemented)
+        for other in ["a.", b"\x01a\x00", None, 1]:
+            for method in ["__lt__", "__le__", "__gt__", "__ge__", "__add__"]:
                 self.assertIs(getattr(name, method)(other), NotImplemented)
         with self.assertRaises(TypeError):
             name + "b."
@@ -329,7 +331,7 @@ class Values(unittest.TestCase):
 
 class Arguments(unittest.TestCase):
     def test_a_wrong_argument_is_named(self):
-        name, writer = Name("a."), dnw.MessageWriter()
+        name = Name("a.")
         record = dnw.read_record(bytes.fromhex("00 0001 0001 00000000 0000"))
         rows = [
             (lambda: Name(b"a."), "text: a str is wanted, not bytes"),
@@ -351,22 +353,11 @@ class Arguments(unittest.TestCase):
             (lambda: dnw.read_record(None), "message: bytes are wanted, not NoneType"),
             (lambda: list(dnw.records("", 0)), "message: bytes are wanted, not str"),
             (lambda: record.data_name("2"), "skip: an int is wanted, not str"),
-            (lambda: writer.push("a."), "name: a Name is wanted, not str"),
-            (lambda: writer.raw("a"), "octets: bytes are wanted, not str"),
-            (lambda: writer.question("a.", 1, 1), "name: a Name is wanted, not str"),
-            (lambda: writer.question(name, "A", 1), "record_type: an int is wanted, not str"),
-            (lambda: writer.question(name, 1, 65536), "record_class: 65536 is not from 0 to 65535"),
-            (lambda: writer.record(b"", 1, 1, 0, b""), "owner: a Name is wanted, not bytes"),
-            (lambda: writer.record(name, 1, 1, -1, b""), "ttl: -1 is not from 0 to 4294967295"),
-            (lambda: writer.record(name, 1, 1, 0, "a."), "data: bytes are wanted, not str"),
-            (lambda: writer.record(name, 1, 1, 0, bytes(65536)), "data: the number of octets: 65536 is not from 0 to 65535"),
-            (lambda: dnw.MessageWriter(65536), "max_size: 65536 is not from 0 to 65535"),
             (lambda: dnw.parse_reverse_name("a."), "name: a Name is wanted, not str"),
             (lambda: dnw.parse_ttl(300), "text: a str is wanted, not int"),
-            (lambda: dnw.tokens(b""), "text: a str is wanted, not bytes"),
             (lambda: dnw.type_code(1), "text: a str is wanted, not int"),
             (lambda: dnw.class_text("IN"), "code: an int is wanted, not str"),
-            (lambda: dnw.TypeSet(["A"]), "codes: an int is wanted, not str"),
+            (lambda: dnw.TypeSet([b"A"]), "codes: an int is wanted, not bytes"),
             (lambda: dnw.TypeSet.from_bitmap(""), "bitmap: bytes are wanted, not str"),
             (lambda: dnw.serial_add(0, 2**32), "other: 4294967296 is not from 0 to 4294967295"),
             (lambda: dnw.serial_compare("0", 0), "left: an int is wanted, not str"),
@@ -392,32 +383,8 @@ class Arguments(unittest.TestCase):
                     self.assertIn(part, ran.stderr)
 
 
-class Writing(unittest.TestCase):
-    def test_what_is_written_reads_back(self):
-        wanted = [Name(text) for text in [".", "www.de.", "mail.de.", "WWW.de.", "x.www.de."]]
-        writer = dnw.MessageWriter()
-        for name in wanted:
-            writer.push(name)
-        message = writer.finish()
-        self.assertEqual([name.wire for name, _ in names(message)], [name.wire for name in wanted])
-        self.assertLess(len(message), sum(len(name.wire) for name in wanted))
-        self.assertEqual(dnw.MessageWriter().finish(), b"")
-
-    def test_a_message_has_a_maximum(self):
-        writer = dnw.MessageWriter(7)
-        for text in ["a.bc.", "."]:
-            writer.push(Name(text))
-        self.assertEqual(writer.finish(), b"\x01a\x02bc\x00\x00")
-        writer.push(Name("."))
-        with self.assertRaises(dnw.MessageTooLong):
-            writer.finish()
-        for size in [-1, 65536]:
-            with self.assertRaises(ValueError):
-                dnw.MessageWriter(size)
-
-
 def load_tests(loader, tests, pattern):
-    for module in ["_errors", "_names", "_writer"]:
+    for module in ["_errors", "_names"]:
         tests.addTests(doctest.DocTestSuite(import_module(f"dns_names_wire.{module}")))
     tests.addTests(doctest.DocTestSuite(dnw))
     return tests

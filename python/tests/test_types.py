@@ -8,7 +8,7 @@ import unittest
 from importlib import import_module
 
 import dns_names_wire as dnw
-from dns_names_wire import Name, RecordClass, RecordType, Token, TokenKind, TypeSet, parse_ttl, tokens
+from dns_names_wire import Name, RecordClass, RecordType, TypeSet, parse_ttl
 
 BITMAP = bytes.fromhex("0006400100000003041b") + bytes(26) + b"\x20"
 
@@ -115,42 +115,6 @@ class Texts(unittest.TestCase):
         for text in ["", "h", "4294967296", "1x"]:
             with self.subTest(text=text), self.assertRaises(dnw.BadTime):
                 parse_ttl(text)
-
-    def test_tokens_of_a_master_file(self):
-        read = list(tokens('$ORIGIN a.\n@ 1h SOA ns (1 2) ; a comment\n b TXT "c \u00e4"\n'))
-        kinds = [token.kind.name for token in read]
-        self.assertEqual(kinds[:3], ["ORIGIN", "TEXT", "LINE_END"])
-        self.assertEqual(kinds[3:9], ["AT", "TEXT", "TEXT", "TEXT", "LIST", "LINE_END"])
-        self.assertEqual(kinds[9:], ["BLANK", "TEXT", "TEXT", "TEXT", "LINE_END"])
-        self.assertEqual(read[7], Token(TokenKind.LIST, ("1", "2")))
-        self.assertEqual(read[12].texts, ("c \u00e4",))
-        self.assertEqual(list(tokens("")), [])
-        for text, error in [("(a", dnw.UnclosedList), ('"a', dnw.UnclosedQuote), ("$FOO", dnw.UnknownEntry), ("\udc80", dnw.NotUtf8)]:
-            with self.subTest(text=text), self.assertRaises(error) as raised:
-                list(tokens(text))
-            self.assertEqual(raised.exception.offset, 0)
-        with self.assertRaises(dnw.IllegalCharacter) as raised:
-            list(tokens("\u00e4\n)"))
-        self.assertEqual((raised.exception.offset, str(raised.exception)[:13]), (2, "at offset 2: "))
-        self.assertEqual(eval(repr(read), {"Token": Token, "TokenKind": TokenKind}), read)
-
-
-    def test_long_texts_have_the_tokens_of_their_parts(self):
-        for length in [*range(1, 70), 127, 128, 129, 1000, 10000]:
-            long = "\u00e4" * length
-            blanks = " " * length
-            text = f'{long} "{long} \\""({long} ; {long}\n{long}){blanks} ; {long}\r\n$ORIGIN'
-            wanted = [("TEXT", (long,)), ("TEXT", (f'{long} "',)), ("LIST", (long, long)), ("LINE_END", ()), ("ORIGIN", ())]
-            self.assertEqual([(token.kind.name, token.texts) for token in tokens(text)], wanted)
-            for cut, error in [("(", dnw.UnclosedList), ('"', dnw.UnclosedQuote), ("$", dnw.UnknownEntry)]:
-                read = tokens(f"{long} {cut}{long}")
-                self.assertEqual(next(read).texts, (long,))
-                with self.assertRaises(error) as raised:
-                    next(read)
-                self.assertEqual(raised.exception.offset, length)
-        with self.assertRaises(dnw.NotUtf8) as raised:
-            tokens("a" * 100 + "\udc80")
-        self.assertEqual(raised.exception.offset, 100)
 
 
 def load_tests(loader, tests, pattern):

@@ -79,6 +79,7 @@ class WholeMessages(unittest.TestCase):
                 "",
                 ";; OPT PSEUDOSECTION:",
                 "; EDNS: version: 0, flags: do; udp: 1232",
+                '; OPT=10: 01 02 03 04 05 06 07 08 ("........")',
                 "",
                 ";; QUESTION SECTION:",
                 ";www.example.com. IN A",
@@ -127,8 +128,11 @@ class WholeMessages(unittest.TestCase):
         self.assertEqual(str(error), "additional 0, at offset 505: the message ends within the name")
 
     def test_pointers_are_counted(self):
-        # The owners of A and AAAA follow two pointers, the root none, and the others one each.
-        Message.from_wire(RESPONSE, max_pointers=15)
+        # The owners of A and AAAA follow two pointers, the root none, and the others one each; names in data follow four.
+        Message.from_wire(RESPONSE, max_pointers=19)
+        with self.assertRaises(dnw.TooManyPointers) as caught:
+            Message.from_wire(RESPONSE, max_pointers=18)
+        self.assertEqual((caught.exception.section, caught.exception.item), (None, None))
         with self.assertRaises(dnw.TooManyPointers) as caught:
             Message.from_wire(RESPONSE, max_pointers=14)
         self.assertEqual((caught.exception.section, caught.exception.item), ("authority", 3))

@@ -1,0 +1,315 @@
+"""Messages written item by item, and as lists. Expected octets are worked out by hand from RFC 1035, sections 4.1.1 to
+4.1.4, RFC 2181, sections 5 and 9, RFC 6891, section 6.1, RFC 7830 and RFC 9471."""
+
+import doctest
+import random
+import signal
+import sys
+import threading
+import unittest
+from importlib import import_module
+
+import dns_names_wire as dnw
+from dns_names_wire import (
+    A,
+    MX,
+    NS,
+    SOA,
+    TSIG,
+    TXT,
+    Edns,
+    Header,
+    Message,
+    MessageWriter,
+    Name,
+    OpCode,
+    Question,
+    Record,
+    RecordClass,
+    RecordType,
+    ResponseCode,
+    RRset,
+    Unknown,
+    make_query,
+)
+
+# A referral with glue: ns.example.com is the server for www.example.com. The name of the question is at offset 12, so
+# example.com is at 16; the records begin at 33 and 50, and ns.example.com is at 45.
+REFERRAL = bytes.fromhex(
+    "1234 8000 0001 0000 0001 0001 03777777 07 6578616d706c65 03636f6d 00 0001 0001"
+    "c010 0002 0001 0002a300 0005 026e73 c010 c02d 0001 0001 0002a300 0004 c0000201"
+)
+HEADER = Header(0x1234, is_response=True)
+QUESTION = Question("www.example.com.", "A")
+SERVER = Record("example.com.", 172800, NS("ns.example.com."))
+GLUE = Record("ns.example.com.", 172800, A("192.0.2.1"))
+KEY = Record("key.", 0, TSIG("hmac-sha256.", 1, 300, bytes(32), 7, 0, b""), RecordClass.ANY)
+
+
+def counts(message: bytes) -> "list[int]":
+    read = Message.from_wire(message)
+    return [len(part) for part in (read.questions, read.answers, read.authorities, read.additionals)]
+
+
+class Stepwise(unittest.TestCase):
+    def test_a_referral(self) -> None:
+        for records in [[SERVER, GLUE], [*Message.from_wire(REFERRAL).authorities, *Message.from_wire(REFERRAL).additionals]]:
+            writer = MessageWriter(HEADER)
+            self.assertEqual((writer.size, writer.finish()), (12, bytes.fromhex("123480000000000000000000")))
+            writer.question(QUESTION)
+            self.assertEqual(writer.finish(), REFERRAL[:5] + b"\1" + bytes(6) + REFERRAL[12:33])
+            writer.authority(records[0])
+            writer.additional(records[1])
+            self.assertEqual((writer.finish(), writer.size), (REFERRAL, 66))
+
+    def test_an_item_is_written_whole_or_not_at_all(self) -> None:
+        for size in range(12, len(REFERRAL) + 1):
+            writer, written = MessageWriter(HEADER, size), [12]
+            for write, item, end in [(writer.question, QUESTION, 33), (writer.authority, SERVER, 50), (writer.additional, GLUE, 66)]:
+                before = writer.finish()
+                if end <= size:
+                    write(item)  # type: ignore[operator]
+                    written.append(end)
+                    continue
+                with self.assertRaises(dnw.MessageTooLong):
+                    write(item)  # type: ignore[operator]
+                self.assertEqual(writer.finish(), before)
+            self.assertEqual(writer.size, max(written))
+        for buffer in [bytearray(66), bytearray(b"\xff" * 100)]:
+            writer = MessageWriter(HEADER, buffer=buffer)
+            writer.question(QUESTION)
+            writer.authority(SERVER)
+            writer.additional(GLUE)
+            self.assertEqual(bytes(buffer[: writer.size]), REFERRAL)
+        with self.assertRaises(dnw.DnsError):
+            MessageWriter(HEADER, buffer=bytearray(11))
+
+    def test_items_are_in_order(self) -> None:
+        writer = MessageWriter(HEADER)
+        writer.authority(SERVER)
+        before = writer.finish()
+        for write, item in [(writer.question, QUESTION), (writer.answer, SERVER)]:
+            with self.assertRaises(dnw.BadItem):
+                write(item)  # type: ignore[operator]
+        self.assertEqual(writer.finish(), before)
+
+    def test_a_set_is_written_whole_or_not_at_all(self) -> None:
+        addresses = RRset.of("a.", 60, [A(f"192.0.2.{number}") for number in range(4)])
+        writer = MessageWriter(HEADER, 12 + 17 + 3 * 16 - 1)
+        for is_required in (False, True):
+            with self.assertRaises(dnw.MessageTooLong):
+                writer.answer_set(addresses, is_required=is_required)
+            self.assertEqual((writer.size, Message.from_wire(writer.finish()).header.truncation), (12, is_required))
+        writer = MessageWriter(HEADER)
+        writer.answer_set(addresses)
+        writer.additional_set([GLUE])
+        self.assertEqual(counts(writer.finish()), [0, 4, 0, 1])
+        self.assertEqual(Message.from_wire(writer.finish()).answers, tuple(addresses))
+        with self.assertRaises(ValueError):
+            writer.additional_set([GLUE, SERVER])
+
+    def test_octets_that_are_held_back(self) -> None:
+        writer = MessageWriter(HEADER, 40)
+        writer.hold(8)
+        with self.assertRaises(dnw.MessageTooLong):
+            writer.question(QUESTION)
+        self.assertEqual(writer.held, 8)
+        writer.release(8)
+        writer.question(QUESTION)
+        self.assertEqual((writer.size, writer.held), (33, 0))
+
+    def test_edns_and_padding(self) -> None:
+        writer = MessageWriter(HEADER)
+        writer.question(QUESTION)
+        writer.edns(Edns(4096, dnssec_ok=True, options=((3, b"ab"),)), block=128)
+        wire = writer.finish()
+        read = Message.from_wire(wire)
+        assert read.edns is not None
+        self.assertEqual((len(wire) % 128, read.edns.max_payload, read.edns.dnssec_ok), (0, 4096, True))
+        self.assertEqual((read.edns.options[0], read.edns.options[1][0], set(read.edns.options[1][1])), ((3, b"ab"), 12, {0}))
+        with self.assertRaises(dnw.DuplicateEdns):
+            writer.edns()
+
+    def test_the_last_record_stays_last(self) -> None:
+        writer = MessageWriter(HEADER)
+        writer.question(QUESTION)
+        writer.last(KEY)
+        self.assertEqual(Message.from_wire(writer.finish()).additionals, (KEY,))
+        before = writer.finish()
+        for write in [lambda: writer.additional(GLUE), lambda: writer.last(KEY), lambda: writer.edns()]:
+            with self.assertRaises(dnw.BadItem):
+                write()
+        self.assertEqual(writer.finish(), before)
+
+    def test_replies(self) -> None:
+        query = make_query("www.example.com.", "A", id=0x1234, payload=1232)
+        writer = MessageWriter.reply(query, authoritative=True, response_code=ResponseCode.BADCOOKIE)
+        writer.answer(Record("www.example.com.", 60, A("192.0.2.1")))
+        own = query.reply([Record("www.example.com.", 60, A("192.0.2.1"))], authoritative=True, response_code=23)
+        self.assertEqual(writer.finish(), own.to_wire(65535))
+        self.assertEqual(Message.from_wire(writer.finish()).response_code, ResponseCode.BADCOOKIE)
+        writer = MessageWriter.reply(query, 12 + 21 + 11)
+        with self.assertRaises(dnw.MessageTooLong):
+            writer.answer(Record("www.example.com.", 60, A("192.0.2.1")))
+        writer.edns(Edns(1400))
+        self.assertEqual(Message.from_wire(writer.finish()).max_payload, 1400)
+        with self.assertRaises(dnw.BadItem):
+            MessageWriter.reply(query.reply())
+
+    def test_arguments(self) -> None:
+        writer = MessageWriter()
+        for call, text in [
+            (lambda: MessageWriter(Header(), 65536), "max_size: 65536 is not from 0 to 65535"),
+            (lambda: MessageWriter(Header(65536)), "id: 65536 is not from 0 to 65535"),
+            (lambda: MessageWriter(Header(response_code=ResponseCode(16))), "response_code: 16 is not from 0 to 15"),
+            (lambda: MessageWriter(buffer=bytes(12)), "buffer: a bytearray is wanted, not bytes"),  # type: ignore[arg-type]
+            (lambda: writer.question(Name("a.")), "question: a Question is wanted, not Name"),  # type: ignore[arg-type]
+            (lambda: writer.answer(QUESTION), "record: a Record is wanted, not Question"),  # type: ignore[arg-type]
+            (lambda: writer.last(QUESTION), "record: a Record is wanted, not Question"),  # type: ignore[arg-type]
+            (lambda: writer.hold(-1), "octets: -1 is not from 0 to 65535"),
+            (lambda: writer.edns(block=65536), "block: 65536 is not from 0 to 65535"),
+        ]:
+            with self.subTest(text=text), self.assertRaises((TypeError, ValueError)) as raised:
+                call()
+            self.assertEqual(str(raised.exception), text)
+
+    def test_a_state_of_any_octets_is_harmless(self) -> None:
+        """Names are right whatever the table of hints holds."""
+        rng = random.Random(7)
+        names = [f"host{number % 5}.zone{number % 3}.example." for number in range(30)]
+        for _ in range(20):
+            writer = MessageWriter(HEADER)
+            for number, name in enumerate(names):
+                writer._state.hints[rng.randrange(512)] = rng.randrange(65536)
+                writer._state.owner = rng.randrange(65536)
+                writer.answer(Record(name, number, NS(names[-1])))
+            read = Message.from_wire(writer.finish())
+            self.assertEqual([record.owner for record in read.answers], list(map(Name, names)))
+            self.assertEqual({record.data for record in read.answers}, {NS(names[-1])})
+
+
+class Lists(unittest.TestCase):
+    def test_what_the_receiver_needs_sets_tc(self) -> None:
+        query, text = make_query("a.", "TXT", id=7), Record("a.", 60, TXT((bytes(200),)))
+        extra = Record("b.", 60, TXT((bytes(200), bytes(200))))
+        negative = Record("a.", 60, SOA("b.", "c.", 1, 2, 3, 4, 5))
+        for reply, is_cut in [
+            (query.reply([text, extra]), True),
+            (query.reply([text], [extra]), False),
+            (query.reply([text], [], [extra]), False),
+            (query.reply([text], [], glue=[extra]), True),
+            (query.reply([], [negative, extra]), True),
+            (query.reply([], [negative], [extra]), False),
+        ]:
+            read = Message.from_wire(reply.to_wire(300))
+            self.assertEqual((read.header.truncation, sum(counts(read.wire)[1:])), (is_cut, 1), reply)
+            self.assertFalse(Message.from_wire(reply.to_wire(1200)).header.truncation)
+
+    def test_a_set_is_not_cut(self) -> None:
+        query = make_query("a.", "A", id=7)
+        reply = query.reply([Record("a.", 60, A(f"192.0.2.{number}")) for number in range(20)])
+        for size in range(len(query.to_wire()), len(reply.to_wire())):
+            read = Message.from_wire(reply.to_wire(size))
+            self.assertEqual((read.answers, read.header.truncation), ((), True))
+
+    def test_the_question_is_never_left_out(self) -> None:
+        query = make_query("www.example.com.", "A", id=7, payload=1232)
+        reply = query.reply([Record("www.example.com.", 60, A("192.0.2.1"))])
+        for size in range(12 + 21 + 11):
+            with self.assertRaises(dnw.MessageTooLong):
+                reply.to_wire(size)
+        self.assertEqual(counts(reply.to_wire(44)), [1, 0, 0, 1])
+
+    def test_answers_that_fit_compressed_are_there(self) -> None:
+        # the data of CNAME repeat the name of the question but for its first label: 51 octets in all
+        reply = make_query("www.example.com.", "A", id=7).reply([Record("www.example.com.", 60, dnw.CNAME("web.example.com."))])
+        self.assertEqual(len(reply.to_wire()), 51)
+        self.assertEqual(counts(reply.to_wire(51)), [1, 1, 0, 0])
+        self.assertEqual(counts(reply.to_wire(50)), [1, 0, 0, 0])
+
+    def test_requests_decide_what_a_reply_may_be(self) -> None:
+        two = Message.build(Header(7), [QUESTION, QUESTION])
+        self.assertEqual((two.reply([GLUE]).response_code, two.reply().questions), (ResponseCode.FORMERR, ()))
+        later = Message.build(Header(7), [QUESTION], edns=Edns(version=1))
+        self.assertEqual(later.reply(response_code=0).response_code, ResponseCode.BADVERS)
+        with self.assertRaises(dnw.BadItem):
+            Message.from_wire(REFERRAL).reply()
+        update = Message.build(Header(7, op_code=OpCode.UPDATE), [Question("a.", "SOA")])
+        self.assertEqual(update.reply().header.op_code, OpCode.UPDATE)
+
+    def test_data_that_are_not_of_their_type(self) -> None:
+        for data in [Unknown(1, b"abc"), Unknown(2, b"\xc0\x0c"), Unknown(15, b"\0\1")]:
+            with self.assertRaises(dnw.DnsError):
+                make_query("a.", "A").reply([Record("a.", 60, data)]).to_wire()
+        # data that are left out in an update (RFC 2136, section 2.4)
+        empty = Record("a.", 0, Unknown(1, b""), RecordClass.ANY)
+        self.assertEqual(Message.from_wire(Message.build(answers=[empty]).to_wire()).answers, (empty,))
+
+    def test_messages_are_equal_as_octets(self) -> None:
+        reply = make_query("a.", "MX", id=7).reply([Record("a.", 60, MX(1, "b.a."))])
+        self.assertEqual(Message.from_wire(reply.to_wire()), reply)
+        self.assertEqual(hash(Message.from_wire(reply.to_wire())), hash(reply))
+        self.assertEqual((reply.wire, reply.trailing), (reply.to_wire(65535), b""))
+        self.assertEqual(reply.answers[0].record_type, RecordType.MX)
+
+
+class Rooms(unittest.TestCase):
+    """Buffers are used again, and no two calls use one at once."""
+
+    def exchange(self, number: int) -> None:
+        owner = Name(f"host{number}.example.")
+        query = Message.from_wire(make_query(owner, "A", id=number, payload=1232).to_wire())
+        record = Record(owner, number, A(f"192.0.2.{number % 256}"))
+        reply = Message.from_wire(query.reply([record], authoritative=True).to_wire())
+        self.assertEqual((reply.id, reply.questions[0].name, str(reply.answers[0])), (number, owner, str(record)))
+        self.assertEqual(owner.sort_key(), f"example\0host{number}\0".encode())
+
+    def test_threads(self) -> None:
+        wrong: "list[BaseException]" = []
+
+        def work(first: int) -> None:
+            try:
+                for number in range(first, first + 200):
+                    self.exchange(number)
+            except BaseException as error:
+                wrong.append(error)
+
+        before = sys.getswitchinterval()
+        sys.setswitchinterval(1e-5)
+        try:
+            threads = [threading.Thread(target=work, args=(first,)) for first in (0, 1000, 2000, 3000)]
+            for thread in threads:
+                thread.start()
+            for thread in threads:
+                thread.join()
+        finally:
+            sys.setswitchinterval(before)
+        self.assertEqual(wrong, [])
+
+    def test_signal_handlers(self) -> None:
+        wrong: "list[BaseException]" = []
+
+        def handler(signum: int, frame: object) -> None:
+            try:
+                self.exchange(65000)
+            except BaseException as error:
+                wrong.append(error)
+
+        before = signal.signal(signal.SIGALRM, handler)
+        signal.setitimer(signal.ITIMER_REAL, 0.0005, 0.0005)
+        try:
+            for number in range(1500):
+                self.exchange(number)
+        finally:
+            signal.setitimer(signal.ITIMER_REAL, 0)
+            signal.signal(signal.SIGALRM, before)
+        self.assertEqual(wrong, [])
+
+
+def load_tests(loader: object, tests: unittest.TestSuite, pattern: object) -> unittest.TestSuite:
+    tests.addTests(doctest.DocTestSuite(import_module("dns_names_wire._writer")))
+    return tests
+
+
+if __name__ == "__main__":
+    unittest.main()
