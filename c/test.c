@@ -261,10 +261,6 @@ static void refuses_to_write(void)
 static const char referral[] =
     HEADER WWW "\000\001\000\001" "\300\020" "\000\002\000\001" TTL "\000\005\002ns\300\020" "\300\055" ADDRESS;
 
-static const char referral_items[] =
-    "\000\000\014" HEADER "\001" WWW "\000\000\004\000\001\000\001"
-    "\003" APEX "\000\002\000\001" TTL "\000\020" NS "\002" NS ADDRESS;
-
 static uint32_t read_record(size_t message_len, size_t start, size_t size, struct dnw_record *record)
 {
     clear();
@@ -319,100 +315,6 @@ static void refuses_records(void)
     EXPECT(data_name(45, SIZE_MAX, 255, &len) == DNW_WRONG_DATA_LENGTH);
     EXPECT(data_name(45, 5, 15, &len) == DNW_NO_ROOM);
     EXPECT(data_name(SIZE_MAX, 1, 255, &len) == DNW_MESSAGE_CUT && len == 7);
-}
-
-static uint32_t write_items(const uint8_t *items, size_t items_len, uint16_t max_size, bool is_canonical, size_t size,
-                            struct dnw_written_message *written)
-{
-    clear();
-    return dnw_message_write(items, items_len, max_size, is_canonical, buffer, size, written);
-}
-
-/* A record of a name `A` whose data are `B.A`, written in four ways and in canonical form (RFC 4034, section 6.2). */
-#define FIELDS "\000\002\000\001\000\000\000\000\000"
-#define ITEM(kind) BYTES(kind "\001A\000" FIELDS "\005\001B\001A\000")
-
-static void writes_messages(void)
-{
-    struct dnw_written_message written = {7, 9};
-    EXPECT(write_items(BYTES(referral_items), 512, false, 66, &written) == DNW_DONE);
-    EXPECT(written.len == 66 && written.count == 5 && holds(referral, 66));
-    EXPECT(write_items(ITEM("\003"), 512, false, 255, &written) == DNW_DONE && written.len == 17 && written.count == 1);
-    EXPECT(holds("\001A\000" FIELDS "\004\001B\300\000", 17));
-    EXPECT(write_items(ITEM("\003"), 512, true, 255, &written) == DNW_DONE && written.len == 18);
-    EXPECT(holds("\001A\000" FIELDS "\005\001b\001a\000", 18));
-    EXPECT(write_items(ITEM("\004"), 512, true, 255, &written) == DNW_DONE);
-    EXPECT(written.len == 18 && holds("\001A\000" FIELDS "\005\001b\001a\000", 18));
-    EXPECT(write_items(ITEM("\004"), 512, false, 255, &written) == DNW_DONE);
-    EXPECT(written.len == 18 && holds("\001A\000" FIELDS "\005\001B\001A\000", 18));
-    EXPECT(write_items(ITEM("\005"), 512, true, 255, &written) == DNW_DONE);
-    EXPECT(written.len == 18 && holds("\001A\000" FIELDS "\005\001B\001A\000", 18));
-    EXPECT(write_items(ITEM("\002"), 512, true, 255, &written) == DNW_DONE);
-    EXPECT(written.len == 18 && holds("\001A\000" FIELDS "\005\001b\001a\000", 18));
-    EXPECT(write_items(ITEM("\002"), 512, false, 255, &written) == DNW_DONE && written.len == 17);
-    EXPECT(holds("\001A\000" FIELDS "\004\001B\300\000", 17));
-    EXPECT(write_items(BYTES("\002\000" FIELDS "\001\001"), 512, false, 255, &written) == DNW_BAD_DATA);
-    EXPECT(write_items(BYTES(""), 0, false, 0, &written) == DNW_DONE && written.len == 0 && written.count == 0);
-}
-
-/* The data of a record, of any length, are put as they are, if the message has room for them. */
-static void passes_long_data(void)
-{
-    static const size_t lens[] = {0, 1, 255, 256, 512, 513, 65524, 65525, 65535};
-    static uint8_t list[12 + 65535], whole[65535];
-    memcpy(list, "\002\000\000\012\000\001\000\000\000\000", 10);
-    for (size_t i = 12; i < sizeof list; i++)
-        list[i] = (uint8_t)(i * 7);
-    for (size_t i = 0; i < sizeof lens / sizeof *lens; i++) {
-        size_t size = 11 + lens[i];
-        bool fits = size <= sizeof whole;
-        struct dnw_written_message written = {7, 9};
-        list[10] = (uint8_t)(lens[i] >> 8);
-        list[11] = (uint8_t)lens[i];
-        EXPECT(dnw_message_write(list, 1 + size, 65535, false, whole, sizeof whole, &written)
-               == (fits ? DNW_DONE : DNW_MESSAGE_TOO_LONG));
-        EXPECT(written.count == (fits ? 1 : 0) && written.len == (fits ? size : 0));
-        EXPECT(memcmp(whole, list + 1, written.len) == 0);
-    }
-}
-
-/* What goes past the maximum is left out whole, and all before it is there. */
-static void cuts_messages(void)
-{
-    struct dnw_written_message written = {7, 9};
-    EXPECT(write_items(BYTES(referral_items), 65, false, sizeof buffer, &written) == DNW_MESSAGE_TOO_LONG);
-    EXPECT(written.len == 50 && written.count == 4 && holds(referral, 50));
-    EXPECT(write_items(BYTES(referral_items), 49, false, sizeof buffer, &written) == DNW_MESSAGE_TOO_LONG);
-    EXPECT(written.len == 33 && written.count == 3 && holds(referral, 33));
-    EXPECT(write_items(BYTES(referral_items), 11, false, sizeof buffer, &written) == DNW_MESSAGE_TOO_LONG);
-    EXPECT(written.len == 0 && written.count == 0 && untouched());
-    written.count = 9;
-    EXPECT(write_items(BYTES(referral_items), 65, false, 49, &written) == DNW_NO_ROOM && untouched());
-    EXPECT(write_items(BYTES(referral_items), 66, false, 65, &written) == DNW_NO_ROOM && untouched());
-    EXPECT(written.len == 0 && written.count == 9);
-}
-
-static uint32_t refuses_items(const uint8_t *items, size_t items_len)
-{
-    struct dnw_written_message written = {7, 9};
-    uint32_t answer = write_items(items, items_len, 512, false, sizeof buffer, &written);
-    EXPECT(untouched() && written.len == 7 && written.count == 9);
-    return answer;
-}
-
-static void refuses_messages(void)
-{
-    EXPECT(refuses_items(BYTES("\006")) == DNW_BAD_ITEM);
-    EXPECT(refuses_items(BYTES("\377")) == DNW_BAD_ITEM);
-    EXPECT(refuses_items(BYTES("\001\000\006")) == DNW_BAD_ITEM);
-    EXPECT(refuses_items(BYTES("\000")) == DNW_BAD_ITEM);
-    EXPECT(refuses_items(BYTES("\000\000")) == DNW_BAD_ITEM);
-    EXPECT(refuses_items(BYTES("\000\000\002a")) == DNW_BAD_ITEM);
-    EXPECT(refuses_items(BYTES("\001")) == DNW_BAD_ITEM);
-    EXPECT(refuses_items(BYTES("\001\100")) == DNW_BAD_ITEM);
-    EXPECT(refuses_items(BYTES("\002\000" FIELDS)) == DNW_BAD_ITEM);
-    EXPECT(refuses_items(BYTES("\002\000" FIELDS "\001")) == DNW_BAD_ITEM);
-    EXPECT(refuses_items(BYTES("\003\000" FIELDS "\002\000\000")) == DNW_BAD_ITEM);
 }
 
 /* The names are those of RFC 1035, section 3.5, with an address of RFC 5737, and of RFC 3596, section 2.5. */
@@ -799,8 +701,6 @@ static void lacks_memory(void)
     EXPECT(read_record(sizeof referral - 1, 33, 255, &record) == DNW_DONE && data_name(45, 5, 255, &len) == DNW_DONE);
     EXPECT(dnw_reverse_name(BYTES("\300\000\002\001"), buffer, 255, &len) == DNW_DONE);
     EXPECT(dnw_reverse_parse(BYTES("\007in-addr\004arpa\000"), buffer, 4, &net) == DNW_DONE && net.prefix_len == 0);
-    EXPECT(refuses_items(BYTES("\001\000")) == DNW_NO_MEMORY);
-    EXPECT(refuses_items(BYTES("\002\000" FIELDS "\001\000")) == DNW_NO_MEMORY);
     no_memory = false;
 }
 
@@ -818,10 +718,6 @@ int main(void)
     refuses_to_write();
     reads_records();
     refuses_records();
-    writes_messages();
-    passes_long_data();
-    cuts_messages();
-    refuses_messages();
     reverses();
     edits();
     codes();

@@ -291,6 +291,35 @@ static void refuses_to_pack(void)
     EXPECT(pack(BYTES(ANSWER("\057", "\003\000\000\000")), 512, sizeof copy, &packed) == DNW_BAD_BITMAP);
 }
 
+static uint32_t replies(const uint8_t *request, size_t request_len, const uint8_t *response, size_t response_len, bool *is_reply)
+{
+    *is_reply = true;
+    return dnw_is_reply_to(request, request_len, response, response_len, is_reply);
+}
+
+/* A request for the address of www.example.com, and what is not a reply to it by one thing. */
+static void tells_replies(void)
+{
+#define ASKS(flags, name, type) "\022\064" flags "\000\001\000\000\000\000\000\000" name "\000" type "\000\001"
+    static const char asks[] = ASKS("\001\000", WWW, "\001");
+    static const char cases[] = ASKS("\201\200", "\003wWw\007EXAMPLE\003com\000", "\001");
+    bool is_reply;
+    EXPECT(replies(BYTES(asks), BYTES(referral), &is_reply) == DNW_DONE && is_reply);
+    EXPECT(replies(BYTES(asks), BYTES(cases), &is_reply) == DNW_DONE && is_reply);
+    EXPECT(replies(BYTES(asks), BYTES(asks), &is_reply) == DNW_DONE && !is_reply);
+    EXPECT(replies(BYTES(cases), BYTES(cases), &is_reply) == DNW_DONE && !is_reply);
+    EXPECT(replies(BYTES(asks), BYTES(ASKS("\251\200", WWW, "\001")), &is_reply) == DNW_DONE && !is_reply);
+    EXPECT(replies(BYTES(asks), BYTES(ASKS("\201\200", WWW, "\002")), &is_reply) == DNW_DONE && !is_reply);
+    EXPECT(replies(BYTES(asks), BYTES(ASKS("\201\200", "\003www\007example\003org\000", "\001")), &is_reply) == DNW_DONE);
+    EXPECT(!is_reply);
+    EXPECT(replies(BYTES(asks), BYTES("\022\064\201\200\000\000\000\000\000\000\000\000"), &is_reply) == DNW_DONE && !is_reply);
+    EXPECT(replies(BYTES(asks), BYTES("\022\065\201\200\000\001\000\000\000\000\000\000" WWW "\000\001\000\001"), &is_reply) == DNW_DONE);
+    EXPECT(!is_reply);
+    EXPECT(replies(BYTES("\022"), BYTES(referral), &is_reply) == DNW_MESSAGE_CUT && is_reply);
+    EXPECT(replies(BYTES(asks), BYTES(referral) - 1, &is_reply) == DNW_MESSAGE_CUT && is_reply);
+#undef ASKS
+}
+
 int main(void)
 {
     reads_messages();
@@ -300,5 +329,6 @@ int main(void)
     refuses_fields();
     packs_messages();
     refuses_to_pack();
+    tells_replies();
     return 0;
 }

@@ -124,6 +124,10 @@ static void parses_records(void)
     EXPECT(gives(BELOW("a 0 CLASS5 TYPE1 \\# 4 C0 000201", "\000"), OCTETS(A_OF("\001a\000", "\005", "\000\000\000\000"))));
     EXPECT(gives(LINE("\\0650. 4294967295 TYPE65280 \\# 0"), OCTETS("\002A0\000\377\000\000\001\377\377\377\377\000\000")));
     EXPECT(gives(LINE(". 0 IN uri 10 1 \"x\""), OCTETS("\000\001\000\000\001\000\000\000\000\000\005\000\012\000\001\170")));
+    /* comments, and parentheses over lines */
+    EXPECT(gives(LINE("a. 60 IN TXT ( \"v=DKIM1; k=rsa; \" ; the key\n \"p=ab\" )"),
+                 OCTETS("\001a\000\000\020\000\001\000\000\000\074\000\026\020v=DKIM1; k=rsa; \004p=ab")));
+    EXPECT(gives(LINE("a. 60 IN MX 1 a.;b\n"), OCTETS("\001a\000\000\017\000\001\000\000\000\074\000\005\000\001\001a\000")));
     /* what a server is asked to add for any class */
     EXPECT(gives(LINE(". 0 ANY ANY \\# 0"), OCTETS("\000\000\377\000\377\000\000\000\000\000\000")));
 }
@@ -149,6 +153,12 @@ static void refuses_records(void)
     EXPECT(fails(LINE("a. 300 IN A 192.0.2.1 0")) == DNW_BAD_DATA);
     EXPECT(fails(LINE("a. 300 IN NS ns")) == DNW_BAD_DATA);
     EXPECT(fails(LINE("a. 300 IN A 192.0.2.1\377")) == DNW_NOT_UTF8);
+    EXPECT(fails(LINE("a. 300 IN TXT ( b\n c")) == DNW_UNCLOSED_LIST);
+    EXPECT(fails(LINE("a. 300 IN TXT b )")) == DNW_ILLEGAL_CHARACTER);
+    EXPECT(fails(LINE("a. 300 IN TXT ( b ( c ) )")) == DNW_ILLEGAL_CHARACTER);
+    EXPECT(fails(LINE("a. 300 IN TXT \"b")) == DNW_UNCLOSED_QUOTE);
+    EXPECT(fails(LINE("a. 300 IN TXT b\\")) == DNW_TEXT_CUT);
+    EXPECT(fails(LINE("a. 300 IN TXT b\nb. 300 IN TXT c")) == DNW_BAD_DATA);
     EXPECT(fails(BELOW("a 300 IN A 192.0.2.1", "\001")) == DNW_MESSAGE_CUT);
     EXPECT(fails(BELOW("a 300 IN A 192.0.2.1", "\300\000")) == DNW_POINTER_NOT_BACK);
     EXPECT(fails(BELOW("\377", "\000\000")) == DNW_BYTES_LEFT);
@@ -164,6 +174,12 @@ static void parses_data(void)
     EXPECT(gives(DATA(DNW_TYPE_MX, "\\# 3 000500"), OCTETS("\000\005\000")));
     EXPECT(gives(DATA(65280, "\\# 0"), OCTETS("")));
     EXPECT(gives(DATA(DNW_TYPE_NSEC, "b. A RP LOC"), OCTETS("\001\142\000\000\004\100\000\100\004")));
+    /* times of SOA with units, algorithms and types of certificates by their mnemonics, words that end at quotes */
+    EXPECT(gives(DATA(DNW_TYPE_SOA, ". . 1 2h 1h 2w 5m"),
+                 OCTETS("\000\000\0\0\0\001\0\0\034\040\0\0\016\020\0\022\165\0\0\0\001\054")));
+    EXPECT(gives(DATA(DNW_TYPE_DS, "1 RSASHA256 2 00"), OCTETS("\000\001\010\002\000")));
+    EXPECT(gives(DATA(DNW_TYPE_CERT, "PKIX 1 ed25519 AQ=="), OCTETS("\000\001\000\001\017\001")));
+    EXPECT(gives(DATA(DNW_TYPE_TXT, "a\"b c\"d"), OCTETS("\001a\003b c\001d")));
 }
 
 static void refuses_data(void)
@@ -182,6 +198,12 @@ static void refuses_data(void)
     EXPECT(fails(DATA(DNW_TYPE_TXT, "\303(")) == DNW_NOT_UTF8);
     EXPECT(fails(DATA_BELOW(DNW_TYPE_A, "192.0.2.1", "\100")) == DNW_RESERVED_OCTET);
     EXPECT(fails(DATA_BELOW(DNW_TYPE_A, "\377", "\000.")) == DNW_BYTES_LEFT);
+    EXPECT(fails(DATA(DNW_TYPE_MX, "1 (")) == DNW_BAD_DATA);
+    EXPECT(fails(DATA(DNW_TYPE_MX, "1 a.;b")) == DNW_BAD_DATA);
+    EXPECT(fails(DATA(DNW_TYPE_NS, "\"a.\"")) == DNW_BAD_DATA);
+    EXPECT(fails(DATA(DNW_TYPE_TXT, "\"a\" ; comment")) == DNW_BAD_DATA);
+    EXPECT(fails(DATA(DNW_TYPE_SOA, ". . 1h 2 3 4 5")) == DNW_BAD_DATA);
+    EXPECT(fails(DATA(DNW_TYPE_SOA, ". . 1 2 3 4 1d1")) == DNW_BAD_DATA);
 }
 
 /* Data have at most 65535 octets. */

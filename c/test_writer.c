@@ -1,11 +1,12 @@
-/* Calls each function of dns_names_wire.h that writes a message item by item, at its limits, and with writers and buffers that
-   are spoiled. It prints nothing if all is well, and exits with 1 at the first result that is not the expected one. Expected
-   values are worked by hand from RFC 1035, section 4.1, and RFC 6891, section 6.1. */
+/* Calls each function of dns_names_wire.h that writes a message, item by item or from a list, at its limits, and with writers and
+   buffers that are spoiled. It prints nothing if all is well, and exits with 1 at the first result that is not the expected one.
+   Expected values are worked by hand from RFC 1035, section 4.1, and RFC 6891, section 6.1. */
 #include "dns_names_wire.h"
 #include "expect.h"
 
 #define ROOM 512
 #define WWW "\003www\007example\003com\000"
+#define WEB "\003web\007example\003com\000"
 #define ROOT "\000"
 
 static uint8_t message[ROOM], before[ROOM];
@@ -18,20 +19,20 @@ static void keep(void)
     was = writer;
 }
 
-/* Returns the result of a call. One that failed has changed nothing. */
+/* Returns the result of a call. One that failed has changed nothing up to where the message ends. */
 static uint32_t done(uint32_t answer)
 {
     if (answer != DNW_DONE) {
-        EXPECT(memcmp(before, message, ROOM) == 0);
-        EXPECT(writer.len == was.len && writer.section == was.section && writer.opt_count == was.opt_count);
+        EXPECT(memcmp(before, message, was.len < ROOM ? was.len : ROOM) == 0);
+        EXPECT(memcmp(&writer, &was, sizeof was) == 0);
     }
     return answer;
 }
 
-static uint32_t begin(size_t size, uint16_t id, uint16_t flags)
+static uint32_t begin(size_t size, size_t max_size, uint16_t id, uint16_t flags)
 {
     keep();
-    return done(dnw_writer_begin(message, size, id, flags, &writer));
+    return done(dnw_writer_begin(message, size, max_size, id, flags, &writer));
 }
 
 static uint32_t question(size_t size, const uint8_t *name, size_t len)
@@ -40,169 +41,131 @@ static uint32_t question(size_t size, const uint8_t *name, size_t len)
     return done(dnw_writer_question(message, size, name, len, DNW_TYPE_MX, DNW_CLASS_IN, &writer));
 }
 
-static uint32_t record(size_t size, uint32_t section, const uint8_t *owner, size_t owner_len, const uint8_t *octets,
-                       size_t len)
+static uint32_t record(size_t size, uint32_t section, const uint8_t *owner, size_t owner_len, uint16_t type,
+                       const uint8_t *octets, size_t len)
 {
     keep();
-    return done(dnw_writer_record(message, size, section, owner, owner_len, DNW_TYPE_A, DNW_CLASS_NONE, 0x01020304, octets, len,
+    return done(dnw_writer_record(message, size, section, owner, owner_len, type, DNW_CLASS_IN, 0x01020304, octets, len,
                                   &writer));
 }
 
-/* Appends an OPT record with the call for any record: no flags, a payload size of 1232, and no options. */
-static uint32_t opt_record(uint32_t section, const uint8_t *owner, size_t owner_len)
+static uint32_t address(size_t size, uint32_t section, const uint8_t *owner, size_t owner_len)
 {
-    keep();
-    return done(dnw_writer_record(message, ROOM, section, owner, owner_len, DNW_TYPE_OPT, 1232, 0, BYTES(""), &writer));
+    return record(size, section, owner, owner_len, DNW_TYPE_A, BYTES("\300\000\002\001"));
 }
 
-static uint32_t edns(size_t size, uint16_t max_payload, bool dnssec_ok, const uint8_t *options, size_t len)
+static uint32_t last(size_t held, const uint8_t *owner, size_t owner_len)
 {
     keep();
-    return done(dnw_writer_edns(message, size, max_payload, 0xA1, 0xB2, dnssec_ok, options, len, &writer));
+    return done(dnw_writer_last(message, ROOM, held, owner, owner_len, 65280, DNW_CLASS_ANY, 0, BYTES("\001\002"), &writer));
 }
 
-/* Expects that the message is these octets, and that the octets of the buffer after it are unchanged. */
+/* Expects that the message is these octets. */
 static void expect_message(const uint8_t *octets, size_t len)
 {
     EXPECT(writer.len == len);
     EXPECT(memcmp(message, octets, len) == 0);
-    EXPECT(memcmp(message + len, before + len, ROOM - len) == 0);
 }
 
 /* A message of no items, in a buffer of other octets. */
-static void begin_new(void)
+static void begin_new(size_t max_size)
 {
     memset(message, 0x5A, ROOM);
-    EXPECT(begin(ROOM, 0x1234, 0) == DNW_DONE);
+    EXPECT(begin(ROOM, max_size, 0x1234, 0x85B3) == DNW_DONE);
 }
 
 #define HEADER(counts) "\022\064\205\263" counts
+#define CUT(counts) "\022\064\207\263" counts
+#define QUESTION WWW "\000\017\000\001"
+#define FIELDS(type) "\000" type "\000\001\001\002\003\004"
+#define ADDRESS FIELDS("\001") "\000\004\300\000\002\001"
 
 static void begins(void)
 {
     memset(message, 0x5A, ROOM);
-    writer = (struct dnw_writer){7, 7, 7};
-    EXPECT(begin(0, 1, 2) == DNW_NO_ROOM);
-    EXPECT(begin(DNW_HEADER_SIZE - 1, 1, 2) == DNW_NO_ROOM);
+    memset(&writer, 7, sizeof writer);
+    EXPECT(begin(0, ROOM, 1, 2) == DNW_NO_ROOM);
+    EXPECT(begin(DNW_HEADER_SIZE - 1, ROOM, 1, 2) == DNW_NO_ROOM);
     uint16_t flags = DNW_FLAG_RESPONSE | DNW_FLAG_AUTHORITATIVE | DNW_FLAG_RECURSION_DESIRED | DNW_FLAG_RECURSION_AVAILABLE |
                      DNW_FLAG_AUTHENTIC_DATA | DNW_FLAG_CHECKING_DISABLED | 3;
-    EXPECT(begin(DNW_HEADER_SIZE, 0x1234, flags) == DNW_DONE);
+    EXPECT(begin(DNW_HEADER_SIZE, 77, 0x1234, flags) == DNW_DONE);
     expect_message(BYTES(HEADER("\000\000\000\000\000\000\000\000")));
-    EXPECT(writer.section == DNW_SECTION_HEADER && writer.opt_count == 0);
+    EXPECT(message[12] == 0x5A && writer.max_size == 77 && writer.reserved == 0);
     struct dnw_message read;
     struct dnw_message_fault fault;
     EXPECT(dnw_message_read(message, writer.len, 0, &read, &fault) == DNW_DONE);
     EXPECT(read.id == 0x1234 && read.is_response && read.op_code == 0 && read.authoritative && !read.truncation);
     EXPECT(read.recursion_desired && read.recursion_available && read.authentic_data && read.checking_disabled);
     EXPECT(read.response_code == 3 && read.end == DNW_HEADER_SIZE);
-    EXPECT(begin(ROOM, 0, DNW_FLAG_TRUNCATION | 5 << 11) == DNW_DONE);
+    EXPECT(begin(ROOM, 0, 0, DNW_FLAG_TRUNCATION | 5 << 11) == DNW_DONE);
     EXPECT(dnw_message_read(message, writer.len, 0, &read, &fault) == DNW_DONE);
     EXPECT(read.truncation && !read.is_response && read.op_code == 5 && read.end == DNW_HEADER_SIZE);
+    EXPECT(question(ROOM, BYTES(ROOT)) == DNW_MESSAGE_TOO_LONG);
 }
 
 /* One item of each kind, each in a buffer that it fills, after a try in one that is an octet shorter. */
 static void appends(void)
 {
-    memset(message, 0x5A, ROOM);
-    EXPECT(begin(12, 0x1234, 0x85B3) == DNW_DONE);
-    EXPECT(question(32, BYTES(WWW)) == DNW_NO_ROOM);
+    begin_new(ROOM);
+    EXPECT(question(32, BYTES(WWW)) == DNW_MESSAGE_TOO_LONG);
     EXPECT(question(33, BYTES(WWW)) == DNW_DONE);
-#define QUESTION WWW "\000\017\000\001"
     expect_message(BYTES(HEADER("\000\001\000\000\000\000\000\000") QUESTION));
-    EXPECT(writer.section == DNW_SECTION_QUESTIONS);
-    EXPECT(record(63, DNW_SECTION_ANSWERS, BYTES(WWW), BYTES("\300\000\002\001")) == DNW_NO_ROOM);
-    EXPECT(record(64, DNW_SECTION_ANSWERS, BYTES(WWW), BYTES("\300\000\002\001")) == DNW_DONE);
-#define RECORD(owner) owner "\000\001\000\376\001\002\003\004"
-#define ANSWER RECORD(WWW) "\000\004\300\000\002\001"
-    expect_message(BYTES(HEADER("\000\001\000\001\000\000\000\000") QUESTION ANSWER));
-    EXPECT(writer.section == DNW_SECTION_ANSWERS);
-    EXPECT(record(74, DNW_SECTION_AUTHORITIES, BYTES(ROOT), BYTES("")) == DNW_NO_ROOM);
-    EXPECT(record(75, DNW_SECTION_AUTHORITIES, BYTES(ROOT), BYTES("")) == DNW_DONE);
-    EXPECT(record(86, DNW_SECTION_AUTHORITIES, BYTES(ROOT), BYTES("")) == DNW_DONE);
-#define AUTHORITIES RECORD(ROOT) "\000\000" RECORD(ROOT) "\000\000"
-    expect_message(BYTES(HEADER("\000\001\000\001\000\002\000\000") QUESTION ANSWER AUTHORITIES));
-    EXPECT(edns(102, 1232, true, BYTES("\000\012\000\002\253\315")) == DNW_NO_ROOM);
-    EXPECT(edns(103, 1232, true, BYTES("\000\012\000\002\253\315")) == DNW_DONE);
-#define OPT "\000\000\051\004\320\241\262\200\000\000\006\000\012\000\002\253\315"
-    expect_message(BYTES(HEADER("\000\001\000\001\000\002\000\001") QUESTION ANSWER AUTHORITIES OPT));
-    EXPECT(writer.section == DNW_SECTION_ADDITIONALS && writer.opt_count == 1);
-    EXPECT(edns(ROOM, 1232, true, BYTES("")) == DNW_DUPLICATE_EDNS);
-    EXPECT(record(ROOM, DNW_SECTION_ADDITIONALS, BYTES("\001a\000"), BYTES("\001\002\003\004")) == DNW_DONE);
-    EXPECT(writer.len == 120 && writer.section == DNW_SECTION_ADDITIONALS && writer.opt_count == 1);
-    expect_message(BYTES(HEADER("\000\001\000\001\000\002\000\002") QUESTION ANSWER AUTHORITIES OPT RECORD("\001a\000")
-                         "\000\004\001\002\003\004"));
+    EXPECT(message[33] == 0x5A);
+    EXPECT(address(48, DNW_SECTION_ANSWERS, BYTES(WWW)) == DNW_MESSAGE_TOO_LONG);
+    EXPECT(address(49, DNW_SECTION_ANSWERS, BYTES(WWW)) == DNW_DONE);
+    expect_message(BYTES(HEADER("\000\001\000\001\000\000\000\000") QUESTION "\300\014" ADDRESS));
+    EXPECT(record(64, DNW_SECTION_AUTHORITIES, BYTES("\007example\003com\000"), DNW_TYPE_NS, BYTES(WEB)) == DNW_MESSAGE_TOO_LONG);
+    EXPECT(record(67, DNW_SECTION_AUTHORITIES, BYTES("\007example\003com\000"), DNW_TYPE_NS, BYTES(WEB)) == DNW_DONE);
+    EXPECT(address(83, DNW_SECTION_ADDITIONALS, BYTES(WEB)) == DNW_DONE);
+    expect_message(BYTES(HEADER("\000\001\000\001\000\001\000\001") QUESTION "\300\014" ADDRESS "\300\020" FIELDS("\002")
+                         "\000\006\003web\300\020" "\300\075" ADDRESS));
+    EXPECT(last(0, BYTES("\003key\000")) == DNW_DONE);
+    EXPECT(writer.len == 83 + 17 && message[11] == 2);
+    EXPECT(memcmp(message + 83, "\003key\000\377\000\000\377\000\000\000\000\000\002\001\002", 17) == 0);
+    EXPECT(address(ROOM, DNW_SECTION_ADDITIONALS, BYTES(WEB)) == DNW_BAD_ITEM);
+    EXPECT(last(0, BYTES("\003key\000")) == DNW_BAD_ITEM);
 }
 
-/* EDNS alone, as it is read. */
-static void puts_edns(void)
+/* Names in data are compressed for the types that may have it, and not for others (RFC 3597, section 4). */
+static void compresses_data(void)
 {
-    struct dnw_edns read;
-    begin_new();
-    EXPECT(edns(ROOM, 511, false, BYTES("")) == DNW_DONE);
-    EXPECT(memcmp(message + 12, "\000\000\051\002\000\241\262\000\000\000\000", 11) == 0 && writer.len == 23);
-    EXPECT(dnw_edns_read(message, writer.len, 0, &read) == DNW_DONE);
-    EXPECT(read.is_present && !read.dnssec_ok && read.version == 0xB2 && read.max_payload == 512);
-    EXPECT(read.response_code == 0xA10 && read.options_len == 0);
-    begin_new();
-    EXPECT(edns(ROOM, 65535, true, BYTES("\000\003\000\000")) == DNW_DONE);
-    EXPECT(dnw_edns_read(message, writer.len, 0, &read) == DNW_DONE);
-    EXPECT(read.is_present && read.dnssec_ok && read.max_payload == 65535 && read.options_offset == 23 && read.options_len == 4);
-}
-
-/* An OPT record is the only one, in the additional section, and owned by the root (RFC 6891, section 6.1.1 and 6.1.2), whichever
-   call appends it. So what is written breaks no rule of EDNS when it is read. */
-static void has_one_opt_record(void)
-{
-    struct dnw_edns read;
-    begin_new();
-    for (uint32_t section = DNW_SECTION_ANSWERS; section < DNW_SECTION_ADDITIONALS; section++)
-        EXPECT(opt_record(section, BYTES(ROOT)) == DNW_OUTSIDE_ADDITIONALS);
-    EXPECT(opt_record(DNW_SECTION_QUESTIONS, BYTES(ROOT)) == DNW_BAD_ITEM);
-    EXPECT(opt_record(DNW_SECTION_ADDITIONALS, BYTES("\001a\000")) == DNW_OWNER_NOT_ROOT);
-    EXPECT(opt_record(DNW_SECTION_ADDITIONALS, BYTES("\001a")) == DNW_MESSAGE_CUT);
-    EXPECT(opt_record(DNW_SECTION_ADDITIONALS, BYTES(ROOT)) == DNW_DONE);
-    EXPECT(writer.len == 23 && writer.section == DNW_SECTION_ADDITIONALS && writer.opt_count == 1);
-    EXPECT(memcmp(message + 4, "\000\000\000\000\000\000\000\001" "\000\000\051\004\320\000\000\000\000\000\000", 19) == 0);
-    EXPECT(opt_record(DNW_SECTION_ADDITIONALS, BYTES(ROOT)) == DNW_DUPLICATE_EDNS);
-    EXPECT(opt_record(DNW_SECTION_ADDITIONALS, BYTES("\001a\000")) == DNW_DUPLICATE_EDNS);
-    EXPECT(opt_record(DNW_SECTION_ANSWERS, BYTES(ROOT)) == DNW_OUTSIDE_ADDITIONALS);
-    EXPECT(edns(ROOM, 1232, true, BYTES("")) == DNW_DUPLICATE_EDNS);
-    EXPECT(record(ROOM, DNW_SECTION_ADDITIONALS, BYTES(ROOT), BYTES("")) == DNW_DONE && writer.opt_count == 1);
-    EXPECT(dnw_edns_read(message, writer.len, 0, &read) == DNW_DONE);
-    EXPECT(read.is_present && read.max_payload == 1232 && read.options_offset == 23 && read.options_len == 0);
-    begin_new();
-    EXPECT(edns(ROOM, 1232, true, BYTES("")) == DNW_DONE);
-    EXPECT(opt_record(DNW_SECTION_ADDITIONALS, BYTES(ROOT)) == DNW_DUPLICATE_EDNS);
-    /* the data are tested after that, and then the writer */
-    static const uint8_t octets[65536];
-    keep();
-    EXPECT(done(dnw_writer_record(message, ROOM, DNW_SECTION_ADDITIONALS, BYTES(ROOT), DNW_TYPE_OPT, 1232, 0, octets, sizeof octets,
-                                  &writer)) == DNW_DUPLICATE_EDNS);
-    begin_new();
-    keep();
-    EXPECT(done(dnw_writer_record(message, ROOM, DNW_SECTION_ADDITIONALS, BYTES(ROOT), DNW_TYPE_OPT, 1232, 0, octets, sizeof octets,
-                                  &writer)) == DNW_DATA_TOO_LONG);
-    writer.section = 5;
-    EXPECT(opt_record(DNW_SECTION_ADDITIONALS, BYTES(ROOT)) == DNW_BAD_ITEM);
+    begin_new(51);
+    EXPECT(question(ROOM, BYTES(WWW)) == DNW_DONE);
+    EXPECT(record(50, DNW_SECTION_ANSWERS, BYTES(WWW), DNW_TYPE_CNAME, BYTES(WEB)) == DNW_MESSAGE_TOO_LONG);
+    EXPECT(record(ROOM, DNW_SECTION_ANSWERS, BYTES(WWW), DNW_TYPE_CNAME, BYTES(WEB)) == DNW_DONE);
+    expect_message(BYTES(HEADER("\000\001\000\001\000\000\000\000") QUESTION "\300\014" FIELDS("\005") "\000\006\003web\300\020"));
+    begin_new(ROOM);
+    EXPECT(record(ROOM, DNW_SECTION_ANSWERS, BYTES("\001a\000"), DNW_TYPE_SOA, BYTES("\001b\001a\000\001c\001b\001a\000" "01234567890123456789")) == DNW_DONE);
+    expect_message(BYTES(HEADER("\000\000\000\001\000\000\000\000") "\001a\000" FIELDS("\006") "\000\034\001b\300\014\001c\300\031" "01234567890123456789"));
+    EXPECT(record(ROOM, DNW_SECTION_ANSWERS, BYTES("\001a\000"), DNW_TYPE_MX, BYTES("\000\012\001a\000")) == DNW_DONE);
+    EXPECT(memcmp(message + writer.len - 6, "\000\004\000\012\300\014", 6) == 0);
+    EXPECT(record(ROOM, DNW_SECTION_ANSWERS, BYTES("\001a\000"), DNW_TYPE_SRV, BYTES("\000\001\000\002\000\003\001a\000")) == DNW_DONE);
+    EXPECT(memcmp(message + writer.len - 11, "\000\011\000\001\000\002\000\003\001a\000", 11) == 0);
+    /* data that are not of the type, and data that are left out */
+    EXPECT(record(ROOM, DNW_SECTION_ANSWERS, BYTES("\001a\000"), DNW_TYPE_A, BYTES("\001\002\003")) == DNW_BAD_DATA);
+    EXPECT(record(ROOM, DNW_SECTION_ANSWERS, BYTES("\001a\000"), DNW_TYPE_A, BYTES("")) == DNW_BAD_DATA);
+    EXPECT(record(ROOM, DNW_SECTION_ANSWERS, BYTES("\001a\000"), DNW_TYPE_NS, BYTES("\300\014")) == DNW_BAD_DATA);
+    EXPECT(record(ROOM, DNW_SECTION_ANSWERS, BYTES("\001a\000"), DNW_TYPE_NS, BYTES("\001a\000\000")) == DNW_BAD_DATA);
+    EXPECT(dnw_writer_record(message, ROOM, DNW_SECTION_ANSWERS, BYTES("\001a\000"), DNW_TYPE_A, DNW_CLASS_ANY, 0, BYTES(""), &writer) == DNW_DONE);
 }
 
 static void minds_the_order(void)
 {
-    begin_new();
+    begin_new(ROOM);
     EXPECT(question(ROOM, BYTES(ROOT)) == DNW_DONE);
     const uint32_t numbers[] = {DNW_SECTION_HEADER, DNW_SECTION_QUESTIONS, 5, 0x102, UINT32_MAX};
     for (size_t i = 0; i < 5; i++)
-        EXPECT(record(ROOM, numbers[i], BYTES(ROOT), BYTES("")) == DNW_BAD_ITEM);
-    for (uint32_t last = DNW_SECTION_ANSWERS; last <= DNW_SECTION_ADDITIONALS; last++) {
-        EXPECT(record(ROOM, last, BYTES(ROOT), BYTES("")) == DNW_DONE);
+        EXPECT(address(ROOM, numbers[i], BYTES(ROOT)) == DNW_BAD_ITEM);
+    for (uint32_t here = DNW_SECTION_ANSWERS; here <= DNW_SECTION_ADDITIONALS; here++) {
+        EXPECT(address(ROOM, here, BYTES(ROOT)) == DNW_DONE);
         EXPECT(question(ROOM, BYTES(ROOT)) == DNW_BAD_ITEM);
-        for (uint32_t section = DNW_SECTION_ANSWERS; section < last; section++)
-            EXPECT(record(ROOM, section, BYTES(ROOT), BYTES("")) == DNW_BAD_ITEM);
-        EXPECT(record(ROOM, last, BYTES(ROOT), BYTES("")) == DNW_DONE);
+        for (uint32_t section = DNW_SECTION_ANSWERS; section < here; section++)
+            EXPECT(address(ROOM, section, BYTES(ROOT)) == DNW_BAD_ITEM);
+        EXPECT(address(ROOM, here, BYTES(ROOT)) == DNW_DONE);
     }
     /* a section may be left out */
-    begin_new();
-    EXPECT(record(ROOM, DNW_SECTION_AUTHORITIES, BYTES(ROOT), BYTES("")) == DNW_DONE);
+    begin_new(ROOM);
+    EXPECT(address(ROOM, DNW_SECTION_AUTHORITIES, BYTES(ROOT)) == DNW_DONE);
     EXPECT(memcmp(message + 4, "\000\000\000\000\000\001\000\000", 8) == 0);
 }
 
@@ -217,149 +180,320 @@ static void refuses_names(void)
         {"", 0, DNW_MESSAGE_CUT},          {"\001a", 2, DNW_MESSAGE_CUT},        {"\001a\000\000", 4, DNW_BYTES_LEFT},
         {"\100", 1, DNW_RESERVED_OCTET},   {"\300\000", 2, DNW_POINTER_NOT_BACK}, {"\000\000", 2, DNW_BYTES_LEFT},
     };
-    begin_new();
+    begin_new(ROOM);
     for (size_t i = 0; i < sizeof bad / sizeof *bad; i++) {
         const uint8_t *form = (const uint8_t *)bad[i].form;
         EXPECT(question(ROOM, form, bad[i].len) == bad[i].failure);
-        EXPECT(record(ROOM, DNW_SECTION_ANSWERS, form, bad[i].len, BYTES("")) == bad[i].failure);
+        EXPECT(address(ROOM, DNW_SECTION_ANSWERS, form, bad[i].len) == bad[i].failure);
+        EXPECT(last(0, form, bad[i].len) == bad[i].failure);
         EXPECT(question(0, form, bad[i].len) == bad[i].failure);
     }
     uint8_t form[256];
     memset(form, 1, sizeof form);
     form[254] = 0;
     EXPECT(question(ROOM, form, 255) == DNW_DONE && writer.len == 12 + 259);
-    begin_new();
+    begin_new(ROOM);
     form[254] = 1;
     form[255] = 0;
     EXPECT(question(ROOM, form, 256) == DNW_NAME_TOO_LONG);
     EXPECT(question(ROOM, form, 255) == DNW_MESSAGE_CUT);
 }
 
-/* What a caller may have spoiled. */
+/* Octets that are held back are there for what comes last. */
+static void holds_back(void)
+{
+    begin_new(60);
+    EXPECT(dnw_writer_hold(17, &writer) == DNW_DONE && writer.reserved == 17);
+    EXPECT(question(ROOM, BYTES(WWW)) == DNW_DONE);
+    EXPECT(address(ROOM, DNW_SECTION_ANSWERS, BYTES(WWW)) == DNW_MESSAGE_TOO_LONG);
+    EXPECT(last(16, BYTES("\020abcdefghijklmnop\000")) == DNW_MESSAGE_TOO_LONG && writer.reserved == 17);
+    EXPECT(last(17, BYTES("\003key\000")) == DNW_DONE && writer.len == 50 && writer.reserved == 0);
+    begin_new(48);
+    EXPECT(question(ROOM, BYTES(WWW)) == DNW_DONE);
+    EXPECT(address(ROOM, DNW_SECTION_ANSWERS, BYTES(WWW)) == DNW_MESSAGE_TOO_LONG);
+    writer.max_size = 49;
+    EXPECT(dnw_writer_hold(1, &writer) == DNW_DONE);
+    EXPECT(address(ROOM, DNW_SECTION_ANSWERS, BYTES(WWW)) == DNW_MESSAGE_TOO_LONG);
+    EXPECT(dnw_writer_release(5, &writer) == DNW_DONE && writer.reserved == 0);
+    EXPECT(address(ROOM, DNW_SECTION_ANSWERS, BYTES(WWW)) == DNW_DONE);
+    EXPECT(dnw_writer_hold(SIZE_MAX, &writer) == DNW_DONE && dnw_writer_hold(3, &writer) == DNW_DONE && writer.reserved == SIZE_MAX);
+}
+
+static uint32_t set(bool is_required, const uint8_t *records, size_t len)
+{
+    keep();
+    uint32_t answer = dnw_writer_set(message, ROOM, DNW_SECTION_ANSWERS, is_required, BYTES(WWW), DNW_TYPE_A, DNW_CLASS_IN, 0x01020304,
+                                     records, len, &writer);
+    if (answer == DNW_MESSAGE_TOO_LONG && is_required)
+        before[2] |= 2;
+    return done(answer);
+}
+
+/* A set is added whole or not at all, and TC says that it is missing. */
+static void adds_sets(void)
+{
+#define DATA "\000\004\300\000\002\001"
+    for (size_t most = 33; most <= 65; most++) {
+        begin_new(most);
+        EXPECT(question(ROOM, BYTES(WWW)) == DNW_DONE);
+        EXPECT(set(false, BYTES(DATA DATA)) == (most < 65 ? DNW_MESSAGE_TOO_LONG : DNW_DONE));
+        EXPECT(writer.len == (most < 65 ? 33 : 65) && message[2] == 0x85 && message[7] == (most < 65 ? 0 : 2));
+        if (most < 65)
+            EXPECT(set(true, BYTES(DATA DATA)) == DNW_MESSAGE_TOO_LONG && message[2] == 0x87 && message[7] == 0);
+    }
+    expect_message(BYTES(HEADER("\000\001\000\002\000\000\000\000") QUESTION "\300\014" ADDRESS "\300\014" ADDRESS));
+    begin_new(ROOM);
+    EXPECT(set(true, BYTES("")) == DNW_DONE && writer.len == 12);
+    EXPECT(set(true, BYTES(DATA "\000")) == DNW_BAD_ITEM && writer.len == 12 && message[7] == 0 && message[2] == 0x85);
+    EXPECT(set(true, BYTES(DATA "\000\002\001")) == DNW_BAD_ITEM);
+    EXPECT(set(true, BYTES(DATA "\000\002\001\002")) == DNW_BAD_DATA && writer.len == 12 && message[7] == 0);
+    EXPECT(dnw_writer_set(message, ROOM, 1, true, BYTES(WWW), 1, 1, 0, BYTES(""), &writer) == DNW_BAD_ITEM);
+    EXPECT(dnw_writer_set(message, ROOM, 2, true, BYTES("\001a"), 1, 1, 0, BYTES(""), &writer) == DNW_MESSAGE_CUT);
+}
+
+static uint32_t edns(size_t held, uint16_t max_payload, bool dnssec_ok, const uint8_t *options, size_t len, uint16_t block)
+{
+    keep();
+    return done(dnw_writer_edns(message, ROOM, held, max_payload, 0xA1, 0xB2, dnssec_ok, options, len, block, &writer));
+}
+
+/* EDNS alone, as it is read, with the octets that were held back for it, and padded. */
+static void puts_edns(void)
+{
+    struct dnw_edns read;
+    begin_new(23);
+    EXPECT(dnw_writer_hold(DNW_EDNS_SIZE, &writer) == DNW_DONE);
+    EXPECT(edns(10, 511, false, BYTES(""), 0) == DNW_MESSAGE_TOO_LONG && writer.reserved == 11);
+    EXPECT(edns(11, 511, false, BYTES(""), 0) == DNW_DONE && writer.reserved == 0);
+    EXPECT(memcmp(message + 12, "\000\000\051\002\000\241\262\000\000\000\000", 11) == 0 && writer.len == 23);
+    EXPECT(dnw_edns_read(message, writer.len, 0, &read) == DNW_DONE);
+    EXPECT(read.is_present && !read.dnssec_ok && read.version == 0xB2 && read.max_payload == 512);
+    EXPECT(read.response_code == 0xA13 && read.options_len == 0);
+    begin_new(ROOM);
+    EXPECT(edns(0, 65535, true, BYTES("\000\003\000\000"), 0) == DNW_DONE);
+    EXPECT(dnw_edns_read(message, writer.len, 0, &read) == DNW_DONE);
+    EXPECT(read.is_present && read.dnssec_ok && read.max_payload == 65535 && read.options_offset == 23 && read.options_len == 4);
+    for (uint16_t block = 1; block < 520; block++) {
+        begin_new(block % 2 == 0 ? ROOM : 400);
+        EXPECT(question(ROOM, BYTES(WWW)) == DNW_DONE);
+        EXPECT(dnw_writer_hold(7, &writer) == DNW_DONE);
+        EXPECT(edns(0, 1232, true, BYTES("\000\003\000\000"), block) == DNW_DONE);
+        size_t own = block > 512 ? 512 : block, least = 33 + 11 + 4 + 4 + 7, total = (least + own - 1) / own * own;
+        bool is_padded = total <= writer.max_size;
+        EXPECT(writer.len + 7 == (is_padded ? total : least - 4));
+        EXPECT(dnw_edns_read(message, writer.len, 0, &read) == DNW_DONE && read.options_len == writer.len - 44);
+        if (is_padded)
+            EXPECT(message[48] == 0 && message[49] == 12 && message[50] * 256u + message[51] == total - least);
+    }
+}
+
+#define ASKS(flags, counts) "\253\315" flags counts
+#define SAYS(version, flag) "\000\000\051\004\320\000" version flag "\000\000\000"
+
+static uint32_t reply(const uint8_t *request, size_t len, size_t max_size, uint16_t flags, struct dnw_edns *edns)
+{
+    memset(message, 0x5A, ROOM);
+    return dnw_writer_reply(message, ROOM, max_size, request, len, flags, &writer, edns);
+}
+
+/* A reply has the id, the operation, RD, CD and the question of the request. */
+static void begins_replies(void)
+{
+    struct dnw_edns edns;
+    const uint16_t flags = DNW_FLAG_AUTHORITATIVE | DNW_FLAG_RECURSION_AVAILABLE | 3;
+    EXPECT(reply(BYTES(ASKS("\001\020", "\000\001\000\000\000\000\000\000") QUESTION), ROOM, flags, &edns) == DNW_DONE);
+    expect_message(BYTES(ASKS("\205\223", "\000\001\000\000\000\000\000\000") QUESTION));
+    EXPECT(!edns.is_present && !edns.dnssec_ok && edns.max_payload == 512 && edns.response_code == 3 && writer.reserved == 0);
+    EXPECT(reply(BYTES(ASKS("\050\000", "\000\001\000\000\000\000\000\001") QUESTION SAYS("\000", "\200")), ROOM, 0, &edns) == DNW_DONE);
+    expect_message(BYTES(ASKS("\250\000", "\000\001\000\000\000\000\000\000") QUESTION));
+    EXPECT(edns.is_present && edns.dnssec_ok && edns.max_payload == 1232 && edns.response_code == 0 && writer.reserved == 11);
+    EXPECT(reply(BYTES(ASKS("\001\000", "\000\001\000\000\000\000\000\001") QUESTION SAYS("\001", "\000")), ROOM, 0, &edns) == DNW_DONE);
+    expect_message(BYTES(ASKS("\201\000", "\000\001\000\000\000\000\000\000") QUESTION));
+    EXPECT(edns.is_present && !edns.dnssec_ok && edns.response_code == 16);
+    /* not complete, two questions, two OPT records */
+    EXPECT(reply(BYTES(ASKS("\001\000", "\000\001\000\000\000\000\000\000") WWW), ROOM, 0, &edns) == DNW_DONE);
+    expect_message(BYTES(ASKS("\201\001", "\000\000\000\000\000\000\000\000")));
+    EXPECT(!edns.is_present && edns.response_code == 1);
+    EXPECT(reply(BYTES(ASKS("\001\000", "\000\002\000\000\000\000\000\000") QUESTION QUESTION), ROOM, 0, &edns) == DNW_DONE);
+    expect_message(BYTES(ASKS("\201\001", "\000\000\000\000\000\000\000\000")));
+    EXPECT(reply(BYTES(ASKS("\001\000", "\000\001\000\000\000\000\000\002") QUESTION SAYS("\000", "\000") SAYS("\000", "\000")), ROOM, 0, &edns) == DNW_DONE);
+    EXPECT(!edns.is_present && edns.response_code == 1 && message[3] == 1);
+    /* no request, and no room */
+    EXPECT(reply(BYTES("\253\315\001\000\000\001\000\000\000\000\000"), ROOM, 0, &edns) == DNW_BAD_ITEM);
+    EXPECT(reply(BYTES(ASKS("\201\000", "\000\001\000\000\000\000\000\000") QUESTION), ROOM, 0, &edns) == DNW_BAD_ITEM);
+    EXPECT(reply(BYTES(ASKS("\001\000", "\000\001\000\000\000\000\000\000") QUESTION), 32, 0, &edns) == DNW_MESSAGE_TOO_LONG);
+    EXPECT(reply(BYTES(ASKS("\001\000", "\000\001\000\000\000\000\000\000") QUESTION), 33, 0, &edns) == DNW_DONE);
+}
+
+/* What a caller may have spoiled: calls fail, or names are written whole, and nothing else happens. */
 static void takes_any_writer(void)
 {
-    const struct dnw_writer full = {ROOM, DNW_SECTION_ANSWERS, 0};
-    begin_new();
+    begin_new(ROOM);
+    const struct dnw_writer begun = writer;
     const size_t lens[] = {ROOM - 4, ROOM, ROOM + 1, 65524, 65536, SIZE_MAX - 4, SIZE_MAX};
     for (size_t i = 0; i < 7; i++) {
-        uint32_t failure = i < 4 ? DNW_NO_ROOM : DNW_MESSAGE_TOO_LONG;
-        writer = (struct dnw_writer){lens[i], 0, 0};
-        EXPECT(question(ROOM, BYTES(ROOT)) == failure);
-        EXPECT(record(ROOM, DNW_SECTION_ANSWERS, BYTES(ROOT), BYTES("")) == failure);
-        EXPECT(edns(ROOM, 0, false, BYTES("")) == failure);
+        writer = begun;
+        writer.len = lens[i];
+        EXPECT(question(ROOM, BYTES(ROOT)) == DNW_MESSAGE_TOO_LONG);
+        EXPECT(address(ROOM, DNW_SECTION_ANSWERS, BYTES(ROOT)) == DNW_MESSAGE_TOO_LONG);
+        EXPECT(last(SIZE_MAX, BYTES(ROOT)) == DNW_MESSAGE_TOO_LONG);
     }
     for (size_t len = 0; len < DNW_HEADER_SIZE; len++) {
-        writer = (struct dnw_writer){len, 0, 0};
+        writer = begun;
+        writer.len = len;
         EXPECT(question(ROOM, BYTES(ROOT)) == DNW_MESSAGE_CUT);
-        EXPECT(record(0, DNW_SECTION_ADDITIONALS, BYTES(ROOT), BYTES("")) == DNW_MESSAGE_CUT);
-        EXPECT(edns(ROOM, 0, false, BYTES("")) == DNW_MESSAGE_CUT);
+        EXPECT(address(0, DNW_SECTION_ADDITIONALS, BYTES(ROOT)) == DNW_MESSAGE_CUT);
     }
-    writer = (struct dnw_writer){SIZE_MAX, 5, 1};
+    writer = begun;
+    EXPECT(question(DNW_HEADER_SIZE - 1, BYTES(ROOT)) == DNW_MESSAGE_CUT);
+    writer.rank = 255;
     EXPECT(question(ROOM, BYTES(ROOT)) == DNW_BAD_ITEM);
-    EXPECT(record(ROOM, DNW_SECTION_ADDITIONALS, BYTES(ROOT), BYTES("")) == DNW_BAD_ITEM);
-    EXPECT(edns(ROOM, 0, false, BYTES("")) == DNW_DUPLICATE_EDNS);
-    writer.opt_count = 0;
-    EXPECT(edns(ROOM, 0, false, BYTES("")) == DNW_BAD_ITEM);
-    writer.section = UINT32_MAX;
-    EXPECT(record(ROOM, DNW_SECTION_ADDITIONALS, BYTES(ROOT), BYTES("")) == DNW_BAD_ITEM);
-    writer = full;
-    writer.opt_count = UINT32_MAX;
-    EXPECT(edns(ROOM, 0, false, BYTES("")) == DNW_DUPLICATE_EDNS);
-    /* a buffer of no header, and one that the message fills */
-    writer = full;
-    EXPECT(record(0, DNW_SECTION_ANSWERS, BYTES(ROOT), BYTES("")) == DNW_NO_ROOM);
-    writer.len = ROOM - 11;
-    EXPECT(record(ROOM, DNW_SECTION_ANSWERS, BYTES(ROOT), BYTES("")) == DNW_DONE && writer.len == ROOM);
+    EXPECT(address(ROOM, DNW_SECTION_ADDITIONALS, BYTES(ROOT)) == DNW_BAD_ITEM);
+    message[10] = message[11] = 255;
+    EXPECT(address(ROOM, DNW_SECTION_ADDITIONALS, BYTES(ROOT)) == DNW_MESSAGE_CUT);
+    writer = begun;
+    EXPECT(address(ROOM, DNW_SECTION_ADDITIONALS, BYTES(ROOT)) == DNW_MESSAGE_CUT);
+    message[11] = 254;
+    EXPECT(address(ROOM, DNW_SECTION_ADDITIONALS, BYTES(ROOT)) == DNW_DONE && message[10] == 255 && message[11] == 255);
+    /* hints and an owner that lead anywhere */
+    for (unsigned hint = 0; hint < 65536; hint += 7) {
+        begin_new(ROOM);
+        for (size_t i = 0; i < 512; i++)
+            writer.hints[i] = (uint16_t)hint;
+        writer.owner = (uint16_t)hint;
+        EXPECT(question(ROOM, BYTES(WWW)) == DNW_DONE);
+        expect_message(BYTES(HEADER("\000\001\000\000\000\000\000\000") QUESTION));
+    }
 }
 
 /* A message has at most 65,535 octets (RFC 1035, section 4.2.2), also in a longer buffer: its header and 13,104 questions of the
    root, and three octets are left. */
 static void ends_at_65535_octets(void)
 {
-    static uint8_t many[65536];
+    static uint8_t many[65536 + 11], octets[65536];
     struct dnw_writer w;
-    EXPECT(dnw_writer_begin(many, sizeof many, 0, 0, &w) == DNW_DONE);
+    EXPECT(dnw_writer_begin(many, sizeof many, SIZE_MAX, 0, 0, &w) == DNW_DONE);
     for (size_t i = 0; i < 13104; i++)
         EXPECT(dnw_writer_question(many, sizeof many, BYTES(ROOT), DNW_TYPE_A, DNW_CLASS_IN, &w) == DNW_DONE);
-    EXPECT(w.len == 65532 && many[4] == 13104 / 256 && many[5] == 13104 % 256);
     EXPECT(dnw_writer_question(many, sizeof many, BYTES(ROOT), DNW_TYPE_A, DNW_CLASS_IN, &w) == DNW_MESSAGE_TOO_LONG);
-    EXPECT(dnw_writer_record(many, sizeof many, DNW_SECTION_ANSWERS, BYTES(ROOT), DNW_TYPE_A, DNW_CLASS_IN, 0, BYTES(""), &w) ==
-           DNW_MESSAGE_TOO_LONG);
-    EXPECT(dnw_writer_edns(many, sizeof many, 0, 0, 0, false, BYTES(""), &w) == DNW_MESSAGE_TOO_LONG);
-    /* a longer buffer would not help, so that is said before that there is no room */
-    EXPECT(dnw_writer_question(many, 65532, BYTES(ROOT), DNW_TYPE_A, DNW_CLASS_IN, &w) == DNW_MESSAGE_TOO_LONG);
-    EXPECT(w.len == 65532 && w.section == DNW_SECTION_QUESTIONS && w.opt_count == 0);
-    EXPECT(many[4] == 13104 / 256 && many[5] == 13104 % 256 && many[7] == 0 && many[11] == 0 && many[65532] == 0);
-}
-
-static void counts_to_65535(void)
-{
-    /* the counts are those of the header, whoever set them */
-    begin_new();
-    message[10] = message[11] = 255;
-    EXPECT(edns(ROOM, 0, false, BYTES("")) == DNW_MESSAGE_TOO_LONG);
-    EXPECT(record(ROOM, DNW_SECTION_ADDITIONALS, BYTES(ROOT), BYTES("")) == DNW_MESSAGE_TOO_LONG);
-    message[11] = 254;
-    EXPECT(record(ROOM, DNW_SECTION_ADDITIONALS, BYTES(ROOT), BYTES("")) == DNW_DONE && message[10] == 255 && message[11] == 255);
-}
-
-static uint32_t put_octets(uint8_t *large, size_t size, const uint8_t *octets, size_t len, struct dnw_writer *w)
-{
-    return dnw_writer_record(large, size, DNW_SECTION_ANSWERS, BYTES(ROOT), 65280, DNW_CLASS_IN, 0, octets, len, w);
-}
-
-static void measures_data(void)
-{
-    static uint8_t large[65536 + 11], octets[65536];
-    struct dnw_writer w;
+    EXPECT(w.len == 65532 && many[4] == 51 && many[5] == 48);
     memset(octets, 7, sizeof octets);
-    EXPECT(dnw_writer_begin(large, sizeof large, 0, 0, &w) == DNW_DONE);
-    EXPECT(put_octets(large, sizeof large, octets, 65536, &w) == DNW_DATA_TOO_LONG);
-    EXPECT(dnw_writer_edns(large, sizeof large, 0, 0, 0, false, octets, 65536, &w) == DNW_DATA_TOO_LONG);
-    /* the most data of a message with one record: its header has 12 octets, and the record 11 before its data */
-    EXPECT(put_octets(large, sizeof large, octets, 65535, &w) == DNW_MESSAGE_TOO_LONG);
-    EXPECT(put_octets(large, sizeof large, octets, 65513, &w) == DNW_MESSAGE_TOO_LONG);
-    EXPECT(dnw_writer_edns(large, sizeof large, 0, 0, 0, false, octets, 65513, &w) == DNW_MESSAGE_TOO_LONG);
-    EXPECT(w.len == 12 && w.section == 0 && w.opt_count == 0 && large[7] == 0 && large[11] == 0 && large[12] == 0);
-    EXPECT(put_octets(large, 65534, octets, 65512, &w) == DNW_NO_ROOM);
-    EXPECT(put_octets(large, 65535, octets, 65512, &w) == DNW_DONE);
-    EXPECT(w.len == 65535 && large[21] == 255 && large[22] == 232 && large[23] == 7 && large[65534] == 7 && large[65535] == 0);
-    EXPECT(memcmp(large + 12, "\000\377\000\000\001\000\000\000\000", 9) == 0);
+    EXPECT(dnw_writer_begin(many, sizeof many, SIZE_MAX, 0, 0, &w) == DNW_DONE);
+    for (size_t len = 65513; len <= 65536; len++)
+        EXPECT(dnw_writer_record(many, sizeof many, DNW_SECTION_ANSWERS, BYTES(ROOT), 65280, DNW_CLASS_IN, 0, octets, len, &w) == DNW_MESSAGE_TOO_LONG);
+    EXPECT(dnw_writer_record(many, 65534, DNW_SECTION_ANSWERS, BYTES(ROOT), 65280, DNW_CLASS_IN, 0, octets, 65512, &w) == DNW_MESSAGE_TOO_LONG);
+    EXPECT(dnw_writer_record(many, 65535, DNW_SECTION_ANSWERS, BYTES(ROOT), 65280, DNW_CLASS_IN, 0, octets, 65512, &w) == DNW_DONE);
+    EXPECT(w.len == 65535 && many[21] == 255 && many[22] == 232 && many[23] == 7 && many[65534] == 7 && many[65535] == 0);
+    EXPECT(memcmp(many + 12, "\000\377\000\000\001\000\000\000\000", 9) == 0);
 }
 
-/* A response that is written item by item, and packed: the names after the question point back to it. */
-static void is_packed(void)
+/* ---- lists */
+
+static struct dnw_packed result;
+
+static uint32_t list(const uint8_t *items, size_t items_len, size_t max_size, size_t size)
 {
-    struct dnw_packed packed;
-    uint8_t out[ROOM];
-    begin_new();
-    EXPECT(begin(ROOM, 0x1234, DNW_FLAG_RESPONSE) == DNW_DONE);
-    EXPECT(question(ROOM, BYTES(WWW)) == DNW_DONE);
-    for (int i = 0; i < 2; i++)
-        EXPECT(record(ROOM, DNW_SECTION_ANSWERS, BYTES(WWW), BYTES("\300\000\002\001")) == DNW_DONE);
-    EXPECT(edns(ROOM, 1232, false, BYTES("")) == DNW_DONE);
-    EXPECT(dnw_message_pack(message, writer.len, 512, out, sizeof out, &packed) == DNW_DONE);
-#define PACKED "\300\014\000\001\000\376\001\002\003\004\000\004\300\000\002\001"
-#define PLAIN_OPT "\000\000\051\004\320\241\262\000\000\000\000"
-    EXPECT(!packed.truncated && packed.len == 33 + 2 * 16 + 11);
-    EXPECT(memcmp(out, "\022\064\200\000\000\001\000\002\000\000\000\001" QUESTION PACKED PACKED PLAIN_OPT, packed.len) == 0);
-    EXPECT(dnw_message_pack(message, writer.len, 60, out, sizeof out, &packed) == DNW_DONE);
-    EXPECT(packed.truncated && packed.len == 33 + 16 + 11);
-    EXPECT(memcmp(out, "\022\064\202\000\000\001\000\001\000\000\000\001" QUESTION PACKED PLAIN_OPT, packed.len) == 0);
+    memset(message, 0x5A, ROOM);
+    result = (struct dnw_packed){7, true};
+    uint32_t answer = dnw_message_write(items, items_len, max_size, 0x1234, 0x85B3, message, size, &result);
+    if (answer != DNW_DONE)
+        EXPECT(result.len == 7 && result.truncated);
+    return answer;
+}
+
+static bool lists(const uint8_t *items, size_t items_len, size_t max_size, const char *wanted, size_t len, bool truncated)
+{
+    EXPECT(list(items, items_len, max_size, ROOM) == DNW_DONE);
+    return result.len == len && result.truncated == truncated && memcmp(message, wanted, len) == 0;
+}
+
+#define WANTED(text) text, sizeof(text) - 1
+#define ASKED "\000" QUESTION
+#define RR(octet, owner) octet owner ADDRESS
+#define NS_RR(octet) octet "\007example\003com\000" FIELDS("\002") "\000\021" WEB
+#define PUT_NS "\300\020" FIELDS("\002") "\000\006\003web\300\020"
+#define OPT_RR "\103\000\000\051\004\320\000\000\000\000\000\000"
+#define TSIG_RR "\103\003key\000\377\000\000\377\000\000\000\000\000\002\001\002"
+#define PUT_A "\300\014" ADDRESS
+
+static void writes_lists(void)
+{
+    EXPECT(lists(BYTES(""), 12, WANTED(HEADER("\000\000\000\000\000\000\000\000")), false));
+    EXPECT(lists(BYTES(ASKED), ROOM, WANTED(HEADER("\000\001\000\000\000\000\000\000") QUESTION), false));
+    EXPECT(lists(BYTES(ASKED RR("\001", WWW) RR("\001", WWW) NS_RR("\202") RR("\203", WEB) OPT_RR TSIG_RR), ROOM,
+                 WANTED(HEADER("\000\001\000\002\000\001\000\003") QUESTION PUT_A PUT_A PUT_NS "\300\115" ADDRESS
+                        "\000\000\051\004\320\000\000\000\000\000\000" "\003key\000\377\000\000\377\000\000\000\000\000\002\001\002"),
+                 false));
+    /* names with pointers into the list */
+    EXPECT(lists(BYTES(ASKED "\001\300\001" ADDRESS), ROOM, WANTED(HEADER("\000\001\000\001\000\000\000\000") QUESTION PUT_A), false));
+}
+
+/* A set is there whole, or not at all, and TC says so if it was to be there. */
+static void leaves_sets_out(void)
+{
+#define TWO BYTES(ASKED RR("\001", WWW) RR("\001", WWW) RR("\001", WEB) NS_RR("\202") RR("\203", WEB) OPT_RR)
+#define PUT_OPT "\000\000\051\004\320\000\000\000\000\000\000"
+    /* 33, two addresses of 16, one of 20, NS 18, glue 16, OPT 11 */
+    EXPECT(lists(TWO, 33 + 32 + 20 + 14 + 16 + 11, WANTED(HEADER("\000\001\000\003\000\001\000\002") QUESTION PUT_A PUT_A "\003web\300\020" ADDRESS
+                      "\300\020" FIELDS("\002") "\000\002\300\101" "\300\101" ADDRESS PUT_OPT), false));
+    EXPECT(lists(TWO, 33 + 32 + 20 + 14 + 15 + 11, WANTED(HEADER("\000\001\000\003\000\001\000\001") QUESTION PUT_A PUT_A "\003web\300\020" ADDRESS
+                      "\300\020" FIELDS("\002") "\000\002\300\101" PUT_OPT), false));
+    EXPECT(lists(TWO, 33 + 32 + 20 + 13 + 11, WANTED(HEADER("\000\001\000\003\000\000\000\001") QUESTION PUT_A PUT_A "\003web\300\020" ADDRESS
+                      PUT_OPT), false));
+    EXPECT(lists(TWO, 33 + 32 + 11, WANTED(CUT("\000\001\000\002\000\000\000\001") QUESTION PUT_A PUT_A PUT_OPT), true));
+    /* one address of two is never there, and the set after it of its section is left out too, but not those of others */
+    EXPECT(lists(TWO, 33 + 31 + 11, WANTED(CUT("\000\001\000\000\000\001\000\001") QUESTION PUT_NS PUT_OPT), true));
+    EXPECT(lists(TWO, 33 + 17 + 11, WANTED(CUT("\000\001\000\000\000\000\000\001") QUESTION PUT_OPT), true));
+    EXPECT(lists(TWO, 33 + 11, WANTED(CUT("\000\001\000\000\000\000\000\001") QUESTION PUT_OPT), true));
+    EXPECT(list(TWO, 33 + 10, ROOM) == DNW_MESSAGE_TOO_LONG);
+    EXPECT(list(TWO, ROOM, 33 + 10) == DNW_MESSAGE_TOO_LONG);
+    EXPECT(list(TWO, ROOM, 33 + 11) == DNW_DONE && result.len == 44 && result.truncated && message[44] == 0x5A);
+    /* records that are left out since an earlier set was are not looked into, but for TC */
+    EXPECT(lists(BYTES(RR("\201", WWW) "\001\000" FIELDS("\001") "\000\000"), 12, WANTED(CUT("\000\000\000\000\000\000\000\000")), true));
+    EXPECT(lists(BYTES(RR("\201", WWW) "\201\000" FIELDS("\001") "\000\000"), 12, WANTED(HEADER("\000\000\000\000\000\000\000\000")), false));
+    EXPECT(list(BYTES("\001\000" FIELDS("\001") "\000\000"), 12, ROOM) == DNW_BAD_DATA);
+    EXPECT(list(BYTES(OPT_RR), 22, ROOM) == DNW_MESSAGE_TOO_LONG);
+    EXPECT(list(BYTES(OPT_RR), 23, 23) == DNW_DONE && result.len == 23);
+    EXPECT(list(BYTES(""), ROOM, 11) == DNW_NO_ROOM);
+    for (size_t most = 0; most < 12; most++)
+        EXPECT(list(BYTES(""), most, ROOM) == DNW_MESSAGE_TOO_LONG);
+}
+
+static void refuses_lists(void)
+{
+    EXPECT(list(BYTES("\004"), ROOM, ROOM) == DNW_BAD_ITEM);
+    EXPECT(list(BYTES("\000"), ROOM, ROOM) == DNW_BAD_ITEM);
+    EXPECT(list(BYTES("\000\000\000\001\000"), ROOM, ROOM) == DNW_BAD_ITEM);
+    EXPECT(list(BYTES("\000\100\000\001\000\001"), ROOM, ROOM) == DNW_BAD_ITEM);
+    for (unsigned octet = 4; octet < 256; octet++) {
+        uint8_t items[] = {(uint8_t)octet, 0, 255, 0, 0, 1, 0, 0, 0, 0, 0, 0};
+        bool is_known = octet == 67 || (octet >= 129 && octet <= 131);
+        EXPECT(list(items, sizeof items, ROOM, ROOM) == (is_known ? DNW_DONE : DNW_BAD_ITEM));
+        EXPECT(list(items, sizeof items - 1, ROOM, ROOM) == DNW_BAD_ITEM);
+    }
+    /* the order */
+    EXPECT(list(BYTES(RR("\001", ROOT) ASKED), ROOM, ROOM) == DNW_BAD_ITEM);
+    EXPECT(list(BYTES(RR("\202", ROOT) RR("\001", ROOT)), ROOM, ROOM) == DNW_BAD_ITEM);
+    EXPECT(list(BYTES(RR("\003", ROOT) RR("\202", ROOT)), ROOM, ROOM) == DNW_BAD_ITEM);
+    EXPECT(list(BYTES(OPT_RR RR("\003", ROOT)), ROOM, ROOM) == DNW_BAD_ITEM);
+    EXPECT(list(BYTES(OPT_RR "\000"), ROOM, 0) == DNW_BAD_ITEM);
 }
 
 int main(void)
 {
     begins();
     appends();
-    puts_edns();
-    has_one_opt_record();
+    compresses_data();
     minds_the_order();
     refuses_names();
+    holds_back();
+    adds_sets();
+    puts_edns();
+    begins_replies();
     takes_any_writer();
     ends_at_65535_octets();
-    counts_to_65535();
-    measures_data();
-    is_packed();
+    writes_lists();
+    leaves_sets_out();
+    refuses_lists();
     return 0;
 }

@@ -44,12 +44,11 @@ def respond(table, octets, most):
     if request.header.is_response:
         return b""
     try:
-        asked = request.edns
+        asked, accepted = request.edns, min(request.max_payload, PAYLOAD)
     except DnsError:
         return request.reply().to_wire()
     if asked is not None and asked.version > 0:
         return request.reply().to_wire()
-    accepted = 512 if asked is None else min(asked.max_payload, PAYLOAD)
     return reply_to(table, request).to_wire(most or accepted)
 
 

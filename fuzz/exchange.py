@@ -35,11 +35,10 @@ MOST_POINTERS = ctypes.c_size_t(65536)
 HEADER_SIZE = 12
 
 # The kinds of items and of fields in dns_names_wire.h.
-ITEM_BYTES, ITEM_NAME, ITEM_RECORD, ITEM_STANDARD_NAME = 0, 1, 2, 3
+LIST_LAST = 0x43
 FIELD_END, FIELD_NAME = 0, 1
 # The types of RFC 1035 whose data are a name: NS, MD, MF, CNAME, MB, MG, MR and PTR.
-STANDARD_NAMES = {2, 3, 4, 5, 7, 8, 9, 12}
-OPT = 41
+OPT, TSIG = 41, 250
 # The types that have a text of their own here, but not for dnspython: SIG and KEY.
 OTHER_TEXTS = {24, 25}
 
@@ -351,17 +350,19 @@ def message_by_chance(number, examples):
 
 def written_again(wire, read):
     """The message that ours writes from what it has read."""
-    items = [bytes([ITEM_BYTES]) + struct.pack("!H", HEADER_SIZE) + wire[:HEADER_SIZE]]
-    for name, kind, question_class in read[1]:
-        items.append(bytes([ITEM_NAME]) + name + bytes([ITEM_BYTES]) + struct.pack("!HHH", 4, kind, question_class))
-    for section in read[2]:
+    number, flags = struct.unpack("!HH", wire[:4])
+    items = [b"\0" + name + struct.pack("!HH", kind, question_class) for name, kind, question_class in read[1]]
+    last = []
+    for place, section in enumerate(read[2], 1):
         for (owner, kind, record_class, ttl, data), _ in section:
-            item = ITEM_STANDARD_NAME if kind in STANDARD_NAMES else ITEM_RECORD
-            items.append(bytes([item]) + owner + struct.pack("!HHIH", kind, record_class, ttl, len(data)) + data)
-    listed, room, written = b"".join(items), ctypes.create_string_buffer(65535), Pair()
-    answer = OURS.dnw_message_write(listed, ctypes.c_size_t(len(listed)), ctypes.c_uint16(65535), ctypes.c_bool(False), room,
-                                    ctypes.c_size_t(len(room)), ctypes.byref(written))
-    check(answer == 0 and written.other == 1 + 2 * len(read[1]) + sum(map(len, read[2])), "not written", answer, wire.hex())
+            fields = owner + struct.pack("!HHIH", kind, record_class, ttl, len(data)) + data
+            is_last = kind in (OPT, TSIG)
+            (last if is_last else items).append(bytes([LIST_LAST if is_last else place]) + fields)
+    last.sort(key=lambda item: item[1] != 0)  # OPT, and then TSIG
+    listed, room, written = b"".join(items + last), ctypes.create_string_buffer(65535), Pair()
+    answer = OURS.dnw_message_write(listed, ctypes.c_size_t(len(listed)), ctypes.c_size_t(65535), ctypes.c_uint16(number),
+                                    ctypes.c_uint16(flags), room, ctypes.c_size_t(len(room)), ctypes.byref(written))
+    check(answer == 0 and written.other & 255 == flags >> 9 & 1, "not written", answer, wire.hex())
     return room.raw[: written.len]
 
 

@@ -61,10 +61,10 @@ def records(names):
 
 
 def message(names):
-    """A list of items: a header of twelve octets, the first name, and the records of all, the data in each way in turn."""
-    items = b"\0\0\x0c" + bytes(12) + b"\1" + names[0]
+    """A list of items: a question, and records, each in one of the sections or left out at will."""
+    items = b"\0" + names[0] + b"\0\1\0\1"
     for number, record in enumerate(records(names)):
-        items += bytes([2 + number % 4 if number else 2]) + record
+        items += bytes([(1, 1, 130, 131)[min(number // 5, 3)]]) + record
     return items
 
 
@@ -74,11 +74,11 @@ def block(octets):
 
 
 def calls(names):
-    """The calls that write a message of these names: a question, records of each section, and EDNS."""
-    made = b"\0\x12\x34\x85\x80" + b"\2" + block(names[0]) + b"\0\1\0\1"
+    """The calls that write a message of these names: a question, and records of each section."""
+    made = b"\0\x12\x34\x85\x80\4\0" + b"\3\xf0" + block(names[0]) + b"\0\0"
     for number, name in enumerate(names):
-        made += b"\5" + bytes([min(2 + number // 4, 4)]) + block(name) + block(name) + b"\0\2\0\1" + bytes(4)
-    return made + b"\4\x04\xd0\1\0\1" + block(b"\0\x0a\0\2ab")
+        made += bytes([16 * min(2 + number // 4, 4) + 5]) + b"\xf0" + block(name) + b"\x11" + block(name)
+    return made
 
 
 def signature(code, labels):
@@ -136,9 +136,9 @@ def inputs(words):
             whole = bytes(4) + counts + names[0] + b"\0\1\0\1" + b"".join(records(names))
             yield "sections", b"\xff" + whole
             yield "packing", b"\2\0" + whole
-            yield "writer", b"\4\0" + calls(names)
-            for settings in b"\xff\xff\0\0", b"\0\x60\1\0", b"\xff\xff\0\xff":
-                yield "messages", settings + message(names)
+            for most in b"\4\0", b"\0\x60", b"\1\0":
+                yield "writer", b"\4\0" + most + b"\0\0" + calls(names)
+                yield "writer", b"\4\0" + most + b"\0\0" + message(names)
     elif kind == "order":
         for triple in triples([form(name) for name in rest][:4]):
             yield "order", triple

@@ -1,7 +1,8 @@
 """Times whole responses through the Python package beside dnspython: messages.py FILE.., with messages in hexadecimal.
 
-A response is read with all its records, whose owners, times to live and data are looked at; one that was made is written; and one
-is made of names and data and written. The two take turns, round by round, and the median of the rounds is taken.
+A response is read with all its records, whose owners, times to live and data are looked at; one that was made is written; one is
+made of names and data and written; and one is made of a query that was read and of records, and written, as a server does. The two
+take turns, round by round, and the median of the rounds is taken.
 """
 
 import pathlib
@@ -9,6 +10,7 @@ import statistics
 import sys
 import time
 
+import dns.flags
 import dns.message
 import dns.name
 import dns.rdataclass
@@ -83,11 +85,44 @@ def written_theirs(message):
     return len(message.to_wire(max_size=MOST))
 
 
+def query_of(octets):
+    """The octets of the query that a response answers: its header without QR and without other sections, and its question."""
+    asked = dns.message.from_wire(octets)
+    query = dns.message.make_query(asked.question[0].name, asked.question[0].rdtype, use_edns=0 if asked.edns == 0 else False)
+    return query.to_wire()
+
+
+def replied_ours(parts):
+    query, sections = parts
+    return len(query.reply(*sections, authoritative=True).to_wire(MOST))
+
+
+def reply_parts_of_ours(octets):
+    sections = [[Record(*record) for record in section if record[2].record_type != 41] for section in parts_of_ours(octets)[2:]]
+    return Message.from_wire(query_of(octets)), sections
+
+
+def replied_theirs(parts):
+    query, (answer, authority, additional) = parts
+    message = dns.message.make_response(query)
+    message.flags |= dns.flags.AA
+    message.answer.extend(answer)
+    message.authority.extend(authority)
+    message.additional.extend(additional)
+    return len(message.to_wire(max_size=MOST))
+
+
+def reply_parts_of_theirs(octets):
+    message = dns.message.from_wire(octets)
+    return dns.message.from_wire(query_of(octets)), (message.answer, message.authority, message.additional)
+
+
 # What each task does, and what it is done to: ours and theirs.
 TASKS = {
     "read": ((read_ours, bytes), (read_theirs, bytes)),
     "write": ((written_ours, lambda octets: built(octets)), (written_theirs, dns.message.from_wire)),
     "make": ((make_ours, parts_of_ours), (make_theirs, parts_of_theirs)),
+    "reply": ((replied_ours, reply_parts_of_ours), (replied_theirs, reply_parts_of_theirs)),
 }
 
 

@@ -1,7 +1,7 @@
 //! The tasks through the Rust crate.
 use crate::inputs::{Kind, Task};
 use crate::{repeat, sum, FAILED};
-use dns_names_wire::{names, records, sort_names, MessageWriter, Name, Record};
+use dns_names_wire::{names, records, sort_names, Header, MessageWriter, Name, Record, Section};
 use std::collections::hash_map::DefaultHasher;
 use std::hash::{Hash, Hasher};
 use std::hint::black_box;
@@ -10,10 +10,6 @@ pub fn run(task: &Task, count: u64) -> Option<u64> {
     let owned = || -> Vec<Name> { names(&task.bytes, 0).map(|name| name.expect("a name").into()).collect() };
     Some(match task.kind {
         Kind::Read => repeat(count, || sum(&task.starts, |start| read(black_box(&task.bytes), *start as usize))),
-        Kind::Emit => {
-            let names = owned();
-            repeat(count, || write(black_box(&names)))
-        }
         Kind::Parse => {
             let texts: Vec<&str> = std::str::from_utf8(&task.bytes).expect("UTF-8").lines().collect();
             repeat(count, || sum(black_box(&texts), |text| Name::from_text(text, None).map_or(FAILED, |name| size(&name))))
@@ -49,13 +45,14 @@ pub fn run(task: &Task, count: u64) -> Option<u64> {
                     (record, record.owner().to_name(), name)
                 })
                 .collect();
-            repeat(count, || write_records(black_box(&records)))
+            let mut room = vec![0; u16::MAX.into()];
+            repeat(count, || write_records(black_box(&records), &mut room))
         }
         _ => return None,
     })
 }
 
-/// Reads each name over the one before, and writes each message over the one before.
+/// Reads each name over the one before.
 pub fn run_reusing(task: &Task, count: u64) -> Option<u64> {
     match task.kind {
         Kind::Read => {
@@ -65,14 +62,6 @@ pub fn run_reusing(task: &Task, count: u64) -> Option<u64> {
                 end.map_or(FAILED, |end| end as u64 + 65536 * size(&name))
             };
             Some(repeat(count, || sum(&task.starts, |start| read(*start))))
-        }
-        Kind::Emit => {
-            let names: Vec<Name> = names(&task.bytes, 0).map(|name| name.expect("a name").into()).collect();
-            let (mut writer, mut message) = (MessageWriter::new(), vec![]);
-            Some(repeat(count, || {
-                writer.clear().extend(black_box(&names));
-                writer.finish_into(&mut message).map_or(FAILED, |()| black_box(&message).len() as u64)
-            }))
         }
         _ => None,
     }
@@ -96,17 +85,16 @@ fn record_size(record: &Record) -> u64 {
     size(&record.owner().to_name()) + data + u64::from(record.ttl())
 }
 
-fn write_records(records: &[(Record, Name, Option<Name>)]) -> u64 {
-    let mut writer = MessageWriter::new();
-    writer.bytes(&[0; HEADER_SIZE]);
+fn write_records(records: &[(Record, Name, Option<Name>)], room: &mut [u8]) -> u64 {
+    let mut writer = MessageWriter::new(room, u16::MAX.into(), &Header::default()).expect("room");
     for (record, owner, name) in records {
-        let (kind, class, ttl) = (record.record_type(), record.class(), record.ttl());
-        match name {
-            Some(name) => writer.name_record(owner, kind, class, ttl, name),
-            None => writer.record(owner, kind, class, ttl, record.raw_data()),
-        };
+        let fixed = (record.record_type(), record.class(), record.ttl());
+        let data = name.as_ref().map_or(record.raw_data(), Name::as_wire);
+        if writer.raw_data(Section::Answers, owner, fixed, data).is_err() {
+            return FAILED;
+        }
     }
-    writer.finish().map_or(FAILED, |message| black_box(message).len() as u64)
+    black_box(writer.finish()).len() as u64
 }
 
 fn size(name: &Name) -> u64 {
@@ -115,12 +103,6 @@ fn size(name: &Name) -> u64 {
 
 fn read(message: &[u8], start: usize) -> u64 {
     Name::read(message, start).map_or(FAILED, |(name, end)| end as u64 + 65536 * size(&name))
-}
-
-fn write(names: &[Name]) -> u64 {
-    let mut writer = MessageWriter::new();
-    writer.extend(names);
-    writer.finish().map_or(FAILED, |message| black_box(message).len() as u64)
 }
 
 fn copy(names: &[Name]) -> u64 {
