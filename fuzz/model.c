@@ -84,11 +84,6 @@ uint32_t model_form(const uint8_t *form, size_t len, struct model_name *name)
     return failure == DNW_DONE && name->end != len ? DNW_BYTES_LEFT : failure;
 }
 
-static bool is_letter(uint8_t c)
-{
-    return (c >= 'a' && c <= 'z') || (c >= 'A' && c <= 'Z');
-}
-
 uint32_t model_character(const uint8_t *text, size_t len, size_t *bytes)
 {
     static const uint32_t least[] = {0, 0, 0x80, 0x800, 0x10000};

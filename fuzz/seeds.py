@@ -119,6 +119,7 @@ def inputs(words):
         yield "printing", struct.pack(">H", code) + whole[start:]
         yield "packing", b"\2\0" + bytes(6) + b"\0\2" + bytes(4) + record + record
         yield "signing", b"\0\x1e" + signature(code, 0) + record + record
+        yield "sums", b"\1\1\0\1" + record + record
     elif kind == "data-parse":
         text = " ".join(rest[1:]).encode()
         yield "parsing", b"\0" + struct.pack(">H", int(rest[0])) + text
@@ -135,6 +136,7 @@ def inputs(words):
             counts = struct.pack(">HHHH", 1, 0, 0, len(names))
             whole = bytes(4) + counts + names[0] + b"\0\1\0\1" + b"".join(records(names))
             yield "sections", b"\xff" + whole
+            yield "table", b"\xff" + whole
             yield "packing", b"\2\0" + whole
             for most in b"\4\0", b"\0\x60", b"\1\0":
                 yield "writer", b"\4\0" + most + b"\0\0" + calls(names)
@@ -143,6 +145,7 @@ def inputs(words):
         for triple in triples([form(name) for name in rest][:4]):
             yield "order", triple
             yield "edits", triple
+            yield "sums", triple
     elif kind == "set-read":
         yield "types", b"\0" + octets(rest[-1])
         yield "sections", b"\xff" + struct.pack(">H", 47) + b"\0" + octets(rest[-1])
@@ -163,6 +166,7 @@ def replies():
     for line in (DIFF / "servers" / "replies.txt").read_text(encoding="utf-8").splitlines():
         whole = line.split(" ", 2)[1]
         yield "sections", b"\xff" + octets(whole)
+        yield "table", b"\xff" + octets(whole)
         yield "packing", b"\0\x80" + octets(whole)
         yield "printing", octets(whole)
 

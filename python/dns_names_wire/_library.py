@@ -208,7 +208,7 @@ def _open() -> ctypes.CDLL:
     try:
         return ctypes.CDLL(str(path))
     except OSError as error:
-        raise ImportError(f"{path} cannot be loaded: {error}. It is for Linux on x86-64.\n{_HOW}") from error
+        raise ImportError(f"{path} cannot be loaded: {error}. A wheel's is for one machine and one C library of Linux.\n{_HOW}") from error
 
 
 def _load() -> ctypes.CDLL:

@@ -1,7 +1,9 @@
 """Values that lie, buffers that change meanwhile, signals in between, and threads."""
 
 import gc
+import random
 import signal
+import struct
 import threading
 import unittest
 from typing import Any, Callable, Dict, List, Tuple, Type
@@ -191,6 +193,18 @@ class Lies(unittest.TestCase):
         for call in calls:
             with self.subTest(call=call):
                 self.outcome(call, "a\ud800.")
+
+
+class Texts(unittest.TestCase):
+    def test_texts_are_of_printable_ascii(self) -> None:
+        """Of a name and data with control characters, of all types that are known and one that is not."""
+        chance = random.Random(5)
+        for record_type in (*range(300), 32768, 32769, 65280):
+            for size in range(0, 40, 3):
+                data = bytes(chance.choice(b"\0\0\1\2\7\n\r\x1b \";\\\x7f\x80\xa0\xff") for _ in range(size))
+                octets = b"\3a\n\x1b\0" + struct.pack(">HHIH", record_type, 1, 1, len(data)) + data
+                text = str(dnw.read_record(octets, 0))
+                self.assertTrue(text.isascii() and text.isprintable(), (record_type, data, text))
 
 
 class Buffers(unittest.TestCase):
