@@ -431,7 +431,8 @@ uint32_t dnw_record_print(const uint8_t *message, size_t message_len, size_t sta
    is appended to names without a last dot, and `@` is that name; if `origin_len` is 0 there is no origin, and such
    names are rejected. The times of SOA take units, as `1h30m`, and algorithms of DNSSEC and types of CERT are numbers or
    IANA's mnemonics, as `RSASHA256`. A word ends before white space, a quote, a parenthesis or a semicolon, and one in
-   quotes at its last quote; only strings may be in quotes. Parentheses and comments are not supported.
+   quotes at its last quote; only strings may be in quotes. Parentheses and comments are no part of data here, but of
+   dnw_record_parse.
 
    If the origin is not a wire form, it fails as dnw_name_compare. Otherwise it fails with DNW_NOT_UTF8; with
    DNW_BAD_DATA if the text is not data of the type, or has more than 65535 octets of data; with DNW_NO_ROOM if it has

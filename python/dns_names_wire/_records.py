@@ -88,10 +88,12 @@ class Record:
     def from_text(cls, text: str, origin: Optional[Name] = None) -> "Record":
         """Parses a line of a master file (RFC 1035, section 5.1): the owner, the TTL, the class, the type and the data.
         The class may be before the TTL, or be left out for IN. The origin is appended to names without a last dot, and
-        `@` is the origin; without an origin such names are rejected. Parentheses and comments are not supported.
+        `@` is the origin; without an origin such names are rejected. The text may have comments, and parentheses in
+        which the end of a line is white space.
 
         Raises `BadText` if the first word is not a name, `BadTime` if there is no TTL, `UnknownText` if there is no
-        type, and `BadData` if the rest is not data of the type.
+        type, and `BadData` if the rest is not data of the type; and `UnclosedList`, `UnclosedQuote`, `TextCut` or
+        `IllegalCharacter` if parentheses, quotes or escapes are not closed, or a parenthesis is not allowed.
 
         >>> print(Record.from_text("www 1h IN CNAME @", origin=Name("example.")))
         www.example. 3600 IN CNAME example.

@@ -198,6 +198,14 @@ class Messages(unittest.TestCase):
 
 
 class Records(unittest.TestCase):
+    def test_texts_have_comments_and_parentheses(self):
+        record = Record.from_text('a. 60 TXT ( "v=DKIM1; k=rsa; " ; the key\n "p=ab" )\n')
+        self.assertEqual(str(record), 'a. 60 IN TXT "v=DKIM1; k=rsa; " "p=ab"')
+        wrong = [("( b", dnw.UnclosedList), ("b )", dnw.IllegalCharacter), ('"b', dnw.UnclosedQuote), ("b\\", dnw.TextCut)]
+        for text, error in [*wrong, ("b\nb. 60 TXT c", dnw.BadData)]:
+            with self.assertRaises(error):
+                Record.from_text(f"a. 60 TXT {text}")
+
     def test_records_are_parsed_and_shown(self):
         for line, hexadecimal in LINES:
             record = Record.from_text(line)

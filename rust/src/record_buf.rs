@@ -92,7 +92,7 @@ impl RecordBuf {
 
     /// Parses a line of a master file (RFC 1035, section 5.1): the owner, the TTL, the class, the type and the data.
     /// The class may be before the TTL, or be left out for IN. The origin is appended to names without a last dot, and
-    /// `@` is the origin. Parentheses and comments are not supported.
+    /// `@` is the origin. The text may have comments, and parentheses in which the end of a line is white space.
     ///
     /// `str::parse` does the same without an origin, and rejects such names.
     ///

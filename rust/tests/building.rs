@@ -470,3 +470,18 @@ fn data_of_more_types_have_their_octets() {
     let late = TSIG { time_signed: 1 << 48, ..signature };
     assert_eq!(RData::TSIG(late).to_wire().unwrap_err().kind(), ErrorKind::DataTooLong);
 }
+
+#[test]
+fn texts_have_comments_and_parentheses() {
+    let record: RecordBuf = "a. 60 TXT ( \"v=DKIM1; k=rsa; \" ; the key\n \"p=ab\" )\n".parse().unwrap();
+    assert_eq!(record.to_string().replace('\t', " "), "a. 60 IN TXT \"v=DKIM1; k=rsa; \" \"p=ab\"");
+    for (text, kind) in [
+        ("( b", ErrorKind::UnclosedList),
+        ("b )", ErrorKind::IllegalCharacter),
+        ("\"b", ErrorKind::UnclosedQuote),
+        ("b\\", ErrorKind::TextCut),
+        ("b\nb. 60 TXT c", ErrorKind::BadData),
+    ] {
+        assert_eq!(format!("a. 60 TXT {text}").parse::<RecordBuf>().unwrap_err().kind(), kind, "{text}");
+    }
+}
