@@ -119,7 +119,7 @@ def inputs(words):
         yield "printing", struct.pack(">H", code) + whole[start:]
         yield "packing", b"\2\0" + bytes(6) + b"\0\2" + bytes(4) + record + record
         yield "signing", b"\0\x1e" + signature(code, 0) + record + record
-        yield "sums", b"\1\1\0\1" + record + record
+        yield "sums", b"\1\1\0\1" + signature(63, 0) + record + record
     elif kind == "data-parse":
         text = " ".join(rest[1:]).encode()
         yield "parsing", b"\0" + struct.pack(">H", int(rest[0])) + text

@@ -6,7 +6,7 @@ import signal
 import struct
 import threading
 import unittest
-from typing import Any, Callable, Dict, List, Tuple, Type
+from typing import Any, Callable, Dict, List, Tuple
 
 import dns_names_wire as dnw
 from dns_names_wire import MX, NS, A, DnsError, Header, Message, MessageWriter, Name, Question, Record, RRset, TXT, make_query
@@ -258,6 +258,8 @@ class InBetween(unittest.TestCase):
     def test_signal_handlers_call_too(self) -> None:
         """A timer interrupts calls, and its handler makes the same calls; some of them raise through the call that is interrupted."""
         seen: Dict[str, int] = {"handled": 0, "raised": 0}
+        # Has an item while an exception of the handler is caught. The handler takes it out before it raises.
+        armed: List[int] = []
 
         class Interrupt(Exception):
             pass
@@ -265,33 +267,25 @@ class InBetween(unittest.TestCase):
         def handler(*_: Any) -> None:
             seen["handled"] += 1
             self.check_all()
-            if seen["handled"] % 3 == 0:
+            if armed and seen["handled"] % 3 == 0:
+                armed.clear()
                 raise Interrupt
 
         before = signal.signal(signal.SIGALRM, handler)
         try:
             signal.setitimer(signal.ITIMER_REAL, 0.001, 0.001)
-            self.go_on(lambda: seen["handled"] < 300, seen, Interrupt)
-        finally:
-            while True:
+            while seen["handled"] < 300:
                 try:
-                    signal.setitimer(signal.ITIMER_REAL, 0)
-                    signal.signal(signal.SIGALRM, before)
-                    break
+                    armed.append(1)
+                    self.check_all()
+                    armed.clear()
                 except Interrupt:
-                    pass
+                    seen["raised"] += 1
+        finally:
+            signal.setitimer(signal.ITIMER_REAL, 0)
+            signal.signal(signal.SIGALRM, before)
         self.check_all()
         self.assertGreater(seen["raised"], 0)
-
-    def go_on(self, wanted: Callable[[], bool], seen: Dict[str, int], interrupt: Type[Exception]) -> None:
-        """Makes the calls over and over, also after an exception, wherever that comes."""
-        while True:
-            try:
-                while wanted():
-                    self.check_all()
-                return
-            except interrupt:
-                seen["raised"] += 1
 
     def check_all(self) -> None:
         message = Message.from_wire(REPLY)
