@@ -455,3 +455,45 @@ bool model_write_fields(struct model_writer *w, const uint8_t *message, const st
     }
     return false;
 }
+
+size_t model_pointers(const uint8_t *message, size_t at)
+{
+    size_t count = 0;
+    while (message[at] != 0) {
+        if (message[at] < 64) {
+            at += 1 + message[at];
+        } else {
+            at = model_number(message + at, 2) & 0x3FFF;
+            count++;
+        }
+    }
+    return count;
+}
+
+uint32_t model_put_data(const uint8_t *message, const struct dnw_record *record, bool lowers, uint8_t *out, size_t *at)
+{
+    const uint8_t *data = message + record->data_offset;
+    const char *letters = model_fields_of(record->record_class, record->record_type, data, record->data_len);
+    struct dnw_fields fields = {record->data_offset, 0};
+    struct dnw_field field;
+    for (;;) {
+        uint32_t failure = next_field(message, record, &fields, &field);
+        if (failure != DNW_DONE || field.kind == DNW_FIELD_END)
+            return failure;
+        char letter = letters[fields.number - 1];
+        size_t head = model_head(letter), len = field.len + head;
+        struct model_name name;
+        if (letter != 'n') {
+            memcpy(out + *at, message + field.offset - head, len);
+        } else {
+            failure = model_read(message, record->end, field.offset, &name);
+            if (failure != DNW_DONE)
+                return failure;
+            if (lowers)
+                model_lower(&name);
+            memcpy(out + *at, name.form, name.len);
+            len = name.len;
+        }
+        *at += len;
+    }
+}

@@ -50,6 +50,9 @@ uint32_t model_number(const uint8_t *octets, size_t count);
 uint32_t model_read(const uint8_t *message, size_t len, size_t start, struct model_name *name);
 uint32_t model_record(const uint8_t *message, size_t len, size_t start, struct model_name *owner,
                       struct dnw_record *record);
+/* How many pointers the name at an offset follows, if one is there. */
+size_t model_pointers(const uint8_t *message, size_t at);
+
 uint32_t model_form(const uint8_t *form, size_t len, struct model_name *name);
 uint32_t model_parse(const uint8_t *text, size_t len, struct model_text *parsed);
 
@@ -96,6 +99,10 @@ bool model_is_sorted(const uint8_t *list, size_t len, const size_t *order, size_
 
 bool model_in_zone(const struct model_name *name, const struct model_name *zone);
 void model_lower(struct model_name *name);
+
+/* Puts the data of a record at `*at` of a buffer, with names whole, and lowered or not, and moves `*at` past them. Returns why they
+   are none of their type. */
+uint32_t model_put_data(const uint8_t *message, const struct dnw_record *record, bool lowers, uint8_t *out, size_t *at);
 
 bool model_is_utf8(const uint8_t *text, size_t len);
 

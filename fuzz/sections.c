@@ -7,21 +7,6 @@ static struct room input;
 
 static const struct dnw_message no_message = {.id = 7, .end = 7};
 
-/* How many pointers the name at an offset follows, if one is there. */
-static size_t pointers(const uint8_t *message, size_t at)
-{
-    size_t count = 0;
-    while (message[at] != 0) {
-        if (message[at] < 64) {
-            at += 1 + message[at];
-        } else {
-            at = model_number(message + at, 2) & 0x3FFF;
-            count++;
-        }
-    }
-    return count;
-}
-
 /* Passes one question or record, and takes the pointers of its name from those that are left. */
 static uint32_t pass(const uint8_t *message, size_t len, bool is_question, size_t *at, size_t *left)
 {
@@ -40,7 +25,7 @@ static uint32_t pass(const uint8_t *message, size_t len, bool is_question, size_
     }
     if (failure != DNW_DONE)
         return failure;
-    size_t count = pointers(message, start);
+    size_t count = model_pointers(message, start);
     if (*left < count)
         return DNW_TOO_MANY_POINTERS;
     *left -= count;

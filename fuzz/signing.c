@@ -16,32 +16,6 @@ struct data {
 static uint8_t octets[1 << 22], wanted[1 << 22];
 static struct data found[RECORDS];
 
-/* Puts the data of a record, names whole and lowered or not. Returns why they are none of their type. */
-static uint32_t put_data(const uint8_t *message, const struct dnw_record *record, bool lowers, size_t *at)
-{
-    const char *row = model_fields_of(record->record_class, record->record_type, message + record->data_offset, record->data_len);
-    struct dnw_fields fields = {record->data_offset, 0};
-    struct dnw_field field;
-    for (;;) {
-        uint32_t failure = model_next(message, record->end, record->data_offset, record->record_class, record->record_type, &fields, &field);
-        if (failure != DNW_DONE || field.kind == DNW_FIELD_END)
-            return failure;
-        char letter = row[fields.number - 1];
-        size_t head = model_head(letter), len = field.len + head;
-        if (letter == 'n') {
-            struct model_name name;
-            CHECK(model_read(message, record->end, field.offset, &name) == DNW_DONE);
-            if (lowers)
-                model_lower(&name);
-            memcpy(octets + *at, name.form, name.len);
-            len = name.len;
-        } else {
-            memcpy(octets + *at, message + field.offset - head, len);
-        }
-        *at += len;
-    }
-}
-
 static bool is_same_name(const struct model_name *a, const struct model_name *b)
 {
     struct model_name left = *a, right = *b;
@@ -89,7 +63,7 @@ static uint32_t collect(const uint8_t *message, size_t end, size_t start, const 
         CHECK(*count < RECORDS);
         struct data *data = &found[(*count)++];
         data->at = at;
-        uint32_t failure = put_data(message, &record, model_is_lowered(covered), &at);
+        uint32_t failure = model_put_data(message, &record, model_is_lowered(covered), octets, &at);
         if (failure != DNW_DONE)
             return failure;
         data->len = at - data->at;
@@ -167,7 +141,7 @@ static uint32_t model_signed(const uint8_t *message, size_t end, size_t start, s
         return failure;
     if (rrsig.record_type != DNW_TYPE_RRSIG)
         return DNW_NOT_RRSIG;
-    failure = put_data(message, &rrsig, true, &put);
+    failure = model_put_data(message, &rrsig, true, octets, &put);
     if (failure != DNW_DONE)
         return failure;
     CHECK(model_read(message, rrsig.end, rrsig.data_offset + 18, &signer) == DNW_DONE);

@@ -273,31 +273,6 @@ static int by_order(const void *left, const void *right)
     return order != 0 ? order : (a->ttl > b->ttl) - (a->ttl < b->ttl);
 }
 
-/* Puts the data of a record in canonical form. Returns why they are none of their type. */
-static uint32_t put_data(const uint8_t *message, const struct dnw_record *record, size_t *at)
-{
-    const char *letters = model_fields_of(record->record_class, record->record_type, message + record->data_offset, record->data_len);
-    struct dnw_fields fields = {record->data_offset, 0};
-    for (;;) {
-        struct dnw_field field;
-        uint32_t failure = model_next(message, record->end, record->data_offset, record->record_class, record->record_type, &fields, &field);
-        if (failure != DNW_DONE || field.kind == DNW_FIELD_END)
-            return failure;
-        size_t head = model_head(letters[fields.number - 1]);
-        struct model_name name;
-        if (letters[fields.number - 1] == 'n') {
-            CHECK(model_read(message, record->end, field.offset, &name) == DNW_DONE);
-            if (model_is_lowered(record->record_type))
-                model_lower(&name);
-            memcpy(octets + *at, name.form, name.len);
-            *at += name.len;
-        } else {
-            memcpy(octets + *at, message + field.offset - head, field.len + head);
-            *at += field.len + head;
-        }
-    }
-}
-
 static size_t collect(const uint8_t *records, size_t len, const struct model_name *apex, uint32_t *failure)
 {
     size_t count = 0, put = 0;
@@ -309,7 +284,7 @@ static size_t collect(const uint8_t *records, size_t len, const struct model_nam
         if (*failure != DNW_DONE)
             return 0;
         *next = (struct canonical){next->owner, record.record_type, record.record_class, record.ttl, put, 0};
-        *failure = put_data(records, &record, &put);
+        *failure = model_put_data(records, &record, model_is_lowered(record.record_type), octets, &put);
         if (*failure != DNW_DONE)
             return 0;
         next->len = put - next->at;

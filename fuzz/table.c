@@ -10,26 +10,11 @@ static struct dnw_row rows[ROWS], wanted[ROWS];
 static uint8_t names[NAMES], wanted_names[NAMES], data[DATA], wanted_data[DATA];
 static size_t row_count, names_len, left;
 
-/* How many pointers the name at an offset follows. */
-static size_t pointers(const uint8_t *message, size_t at)
-{
-    size_t count = 0;
-    while (message[at] != 0) {
-        if (message[at] < 64) {
-            at += 1 + message[at];
-        } else {
-            at = model_number(message + at, 2) & 0x3FFF;
-            count++;
-        }
-    }
-    return count;
-}
-
 /* Adds a row, with the name that stands there, or none. Returns false if its pointers are more than are left. */
 static bool add(struct dnw_row row, const uint8_t *message, size_t at, const struct model_name *name)
 {
     if (name != NULL) {
-        size_t count = pointers(message, at);
+        size_t count = model_pointers(message, at);
         if (left < count)
             return false;
         left -= count;
@@ -152,32 +137,6 @@ static void reads_table(const uint8_t *message, size_t len, size_t most)
         CHECK(dnw_message_table(message, len, most, rows, ROWS, names, names_len - 1, &table) == DNW_NO_ROOM);
 }
 
-/* Puts the data of a record, names whole, lowered or not. Returns why they are none of their type. */
-static uint32_t put_data(const uint8_t *message, const struct dnw_record *record, bool lowers, size_t *at)
-{
-    const char *letters = model_fields_of(record->record_class, record->record_type, message + record->data_offset, record->data_len);
-    struct dnw_fields fields = {record->data_offset, 0};
-    struct dnw_field field;
-    for (;;) {
-        uint32_t failure = model_next(message, record->end, record->data_offset, record->record_class, record->record_type, &fields, &field);
-        if (failure != DNW_DONE || field.kind == DNW_FIELD_END)
-            return failure;
-        char letter = letters[fields.number - 1];
-        size_t head = model_head(letter), len = field.len + head;
-        if (letter == 'n') {
-            struct model_name name;
-            CHECK(model_read(message, record->end, field.offset, &name) == DNW_DONE);
-            if (lowers)
-                model_lower(&name);
-            memcpy(wanted_data + *at, name.form, name.len);
-            len = name.len;
-        } else {
-            memcpy(wanted_data + *at, message + field.offset - head, len);
-        }
-        *at += len;
-    }
-}
-
 /* Puts the sort key of a name, and an octet 0. */
 static size_t put_key(const struct model_name *name)
 {
@@ -226,13 +185,13 @@ static void reads_record(const uint8_t *message, size_t len, size_t start)
     struct dnw_record record;
     size_t at = 0;
     uint32_t failure = model_record(message, len, start, &owner, &record);
-    uint32_t of_data = failure != DNW_DONE ? failure : put_data(message, &record, false, &at);
+    uint32_t of_data = failure != DNW_DONE ? failure : model_put_data(message, &record, false, wanted_data, &at);
     is_put(dnw_record_data, message, len, start, of_data, at);
     if (failure == DNW_DONE) {
         at = put_key(&owner);
         memcpy(wanted_data + at, message + owner.end, 4);
         at += 4;
-        failure = put_data(message, &record, model_is_lowered(record.record_type), &at);
+        failure = model_put_data(message, &record, model_is_lowered(record.record_type), wanted_data, &at);
     }
     is_put(dnw_record_sort_key, message, len, start, failure, at);
 }

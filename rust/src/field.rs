@@ -300,7 +300,7 @@ pub(crate) mod put {
 
     type Put = Result<(), Error>;
 
-    /// Appends octets, which the C library checks when the message is packed.
+    /// Appends octets, which the C library checks when the message is written.
     pub(crate) fn rest(octets: &mut impl Sink, value: &[u8]) -> Put {
         octets.extend_from_slice(value);
         Ok(())
