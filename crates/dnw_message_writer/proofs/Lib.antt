@@ -1,5 +1,7 @@
 pub mod ContentsBack
 pub mod ContentsKept
+pub mod Copied
+pub mod Passing
 pub mod Counting
 pub mod DataBack
 pub mod Fitting

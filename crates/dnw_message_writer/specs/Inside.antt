@@ -1,4 +1,5 @@
 -- What no public clause cites.
+pub mod CopiedSets
 pub mod Fitting
 pub mod Going
 pub mod Splitting

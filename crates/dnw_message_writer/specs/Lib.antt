@@ -1,6 +1,8 @@
 pub mod CompressedNames
 pub mod ContentLaws
 pub mod Contents
+pub mod Copying
+pub mod CopyLaws
 pub mod Data
 pub mod Edns
 pub mod Hints

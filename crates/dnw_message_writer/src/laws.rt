@@ -2,6 +2,7 @@
 //!
 //! The functions do nothing. Each is there for its clauses.
 ghost use Rattle.dnw_message_writer.specs.ContentLaws.{BegunMessagesAreEmpty, CutMessagesHold, GivenRecordsAreAdded, LastRecordsAreAdded, QuestionsAreAdded, RecordsAreAdded, SetsAreAdded, UnchangedMessagesHold};
+ghost use Rattle.dnw_message_writer.specs.CopyLaws.{CopiesHold};
 ghost use Rattle.dnw_message_writer.specs.ReadItems.{DataNamesAreRead, GivenDataComeBack, HeldItemsAreRead, HeldItemsNeverFail, OctetsAreRead, ReadMessagesHaveItems};
 ghost use Rattle.dnw_message_writer.specs.SizeLaws.{HintsBegin, NearOwnersTakeTwo, QuestionsAreNear, QuestionsTakeNoMore, RecordsAreNear, RecordsTakeNoMore};
 ghost use Rattle.dnw_message_writer.specs.NameLaws.{CompressedNamesTakeNoMore, WrittenNamesAreRead};
@@ -23,6 +24,12 @@ pub fn messages_hold_their_items()
     ensures last { LastRecordsAreAdded }
     ensures cut { CutMessagesHold }
     ensures unchanged { UnchangedMessagesHold }
+{}
+
+/// A message that was written again holds items of the other: all of its questions, and the first records of each section, which are all if
+/// they have room.
+pub fn copies_hold_the_items()
+    ensures { CopiesHold }
 {}
 
 /// What is written is what is read: a message that holds items is read as exactly these, in their sections and order, with its id and

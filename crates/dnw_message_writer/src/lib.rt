@@ -3,6 +3,7 @@
 //! It stands on the wire form and on reading. Read `specs/CompressedNames.antt` first: how a name is written.
 #![tactic(auto)]
 
+pub mod copying;
 pub mod data;
 pub mod edns;
 pub mod hints;

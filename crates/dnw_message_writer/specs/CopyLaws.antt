@@ -1,0 +1,56 @@
+-- What a message that was written again holds. It is the clause of a public function, and so proved.
+use Rattle.std.specs.Prelude.{◌≡◌, ◌≤◌, ℕ, Bool, true, if◌then◌else◌, List, [], ◌++◌, length}
+use Rattle.std.specs.List.{AllZip}
+use Rattle.dnw_base.specs.DnsClasses.{class_code}
+use Rattle.dnw_base.specs.RecordTypes.{type_code}
+use Rattle.dnw_data.specs.Table.{fields_of}
+use Rattle.dnw_record.specs.DataCopies.{Copies, data_start, record_kinds}
+use Rattle.dnw_record.specs.Records.{RecordValue}
+use Rattle.dnw_message_header.specs.Headers.{flags_of}
+use Rattle.dnw_message_read.specs.Messages.{MessageValue, QueryValue}
+use Rattle.dnw_message_writer.specs.Contents.{AddedItems, AddedQuestion, AddedRecord, HoldsItems, cut_flags}
+use Rattle.dnw_message_writer.specs.Copying.{CopiesMessage, held_in, is_missing, sets_of}
+use Rattle.dnw_message_writer.specs.Data.{AreOfData}
+use Rattle.dnw_message_writer.specs.declared.section.Section.TheVariants.{Additionals}
+use Rattle.dnw_message_writer.specs.declared.state.WriterState.{WriterState}
+
+-- The question is that of a message.
+abbrev pub IsCopiedQuestion : QueryValue → AddedQuestion → Type 0
+IsCopiedQuestion x q = (q.name ≡ x.name) × (q.query_type ≡ type_code x.query_type) × (q.class ≡ class_code x.query_class)
+
+-- The record is that of a message: its owner, its codes, its time to live, and the pieces of its data, with every name whole.
+abbrev pub IsCopiedRecord : RecordValue → AddedRecord → Type 0
+IsCopiedRecord x r =
+    (r.owner ≡ x.owner) × (r.record_type ≡ type_code x.record_type) × (r.class ≡ class_code x.class) × (r.ttl ≡ x.ttl)
+    × (own : List ℕ) × Copies (record_kinds x) (data_start x) own × AreOfData (fields_of r.class r.record_type own) own r.pieces
+
+-- The records are the first of those of a section, or all of them.
+pub record AreTheFirst (xs : List RecordValue) (rs : List AddedRecord) (all : Bool) : Type 0 where
+  pub copied : List RecordValue
+  pub left : List RecordValue
+  pub are : xs ≡ copied ++ left
+  pub copies : AllZip IsCopiedRecord copied rs
+  pub none_left : all ≡ true → left ≡ []
+
+-- The items are those of a message: all questions, the first records of each section, and all that it has to have. Whether a record
+-- is missing.
+pub record AreItemsOf (x : MessageValue) (c : AddedItems) (missing : Bool) : Type 0 where
+  pub queries : AllZip IsCopiedQuestion x.queries c.queries
+  pub all_answers : Bool
+  pub answers : AreTheFirst x.answers c.answers all_answers
+  pub all_authorities : Bool
+  pub authorities : AreTheFirst x.authorities c.authorities all_authorities
+  pub all_additionals : Bool
+  pub others : List AddedRecord
+  pub additionals : AreTheFirst (sets_of Additionals x.additionals) others all_additionals
+  pub last : List AddedRecord
+  pub held : AllZip IsCopiedRecord (held_in x.additionals) last
+  pub additionals_are : c.additionals ≡ others ++ last
+  pub missing_is : missing ≡ is_missing x all_answers all_authorities all_additionals
+
+-- A message that was written again holds items of the other, with its id and its flags, and with TC if a record is missing. It has at
+-- most so many octets.
+abbrev pub CopiesHold : Type 0
+CopiesHold = (x : MessageValue) (max_size : ℕ) (old new : List ℕ) (w : WriterState) → 12 ≤ length old → CopiesMessage x max_size old w new
+    → (missing : Bool) × (c : AddedItems) × AreItemsOf x c missing × (w.end ≤ max_size)
+    × HoldsItems x.header.metadata.id (if missing then cut_flags (flags_of x.header.metadata) else flags_of x.header.metadata) c w new

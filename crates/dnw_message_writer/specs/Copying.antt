@@ -1,0 +1,224 @@
+-- Records and messages that were read, written again (RFC 2181, sections 5 and 9; RFC 6891, section 6.1.1).
+use Rattle.std.specs.Prelude.{◌≡◌, ◌≢◌, ℕ, ◌+◌, ◌/◌, ◌<◌, ◌≤◌, ◌^◌, ◌==◌, ◌&&◌, ◌||◌, ◌⊎◌, not, min, if◌then◌else◌, Bool, true, false, Option, Some, None, List, [], ◌∷◌, ◌++◌, filter, length, take}
+use Rattle.std.specs.List.{AllByRecursion}
+use Rattle.dnw_base.specs.DnsClasses.{class_code}
+use Rattle.dnw_base.specs.Names.{AreLabels, encoded_size, lower}
+use Rattle.dnw_base.specs.RecordTypes.{type_code}
+use Rattle.dnw_record.specs.DataCopies.{Copies, FailsToCopy, data_start, record_kinds}
+use Rattle.dnw_record.specs.Records.{RecordValue}
+use Rattle.dnw_record.specs.declared.rdata.RDataError.TheVariants.{Field}
+use Rattle.dnw_message_header.specs.Headers.{flags_of}
+use Rattle.dnw_message_read.specs.Edns.{FailsEdns}
+use Rattle.dnw_message_read.specs.Messages.{MessageValue, QueryValue}
+use Rattle.dnw_message_read.specs.declared.edns.EdnsError.{EdnsError}
+use Rattle.dnw_message_writer.specs.Hints.{slot_of}
+use Rattle.dnw_message_writer.specs.Items.{IsQuestion, QuestionGoesPast}
+use Rattle.dnw_message_writer.specs.Listed.{DataGoPast, data_form}
+use Rattle.dnw_message_writer.specs.Sets.{AddsSet, cut_off}
+use Rattle.dnw_message_writer.specs.Standing.{first_item}
+use Rattle.dnw_message_writer.specs.States.{BeginsMessage, FailsToAdd, ItemForm}
+use Rattle.dnw_message_writer.specs.declared.copying.CopyError.{CopyError}
+use Rattle.dnw_message_writer.specs.declared.copying.CopyError.TheVariants as errors
+use Rattle.dnw_message_writer.specs.declared.section.Section.{Section}
+use Rattle.dnw_message_writer.specs.declared.section.Section.TheVariants.{Queries, Answers, Authorities, Additionals}
+use Rattle.dnw_message_writer.specs.declared.section.WriteError.{WriteError}
+use Rattle.dnw_message_writer.specs.declared.section.WriteError.TheVariants.{NoRoom}
+use Rattle.dnw_message_writer.specs.declared.state.WriterState.{WriterState}
+
+-- ---- items
+
+-- The codes and the time to live of a record fit their fields, as those of each record that is read do, and its owner is a name.
+abbrev pub CopyFits : RecordValue → Type 0
+CopyFits x = (type_code x.record_type < 2 ^ 16) × (class_code x.class < 2 ^ 16) × (x.ttl < 2 ^ 32) × AreLabels x.owner
+
+-- How a record of a message is written: with its owner, its codes and its time to live, and with its data, in which every name is
+-- whole before it is compressed.
+abbrev pub copied_form : RecordValue → ItemForm
+copied_form x b near hints octets after =
+    CopyFits x × (own : List ℕ) × Copies (record_kinds x) (data_start x) own
+    × data_form x.owner (type_code x.record_type) (class_code x.class) x.ttl own b near hints octets after
+
+abbrev pub CopyGoesPast : RecordValue → ℕ → List ℕ → ℕ → List ℕ → Type 0
+CopyGoesPast x limit b near hints =
+    (own : List ℕ) × Copies (record_kinds x) (data_start x) own
+    × DataGoPast x.owner (type_code x.record_type) (class_code x.class) x.ttl own limit b near hints
+
+-- Why a record of a message is not added: its data are none of its class and type, or it has no room, or memory ran out.
+abbrev pub FailsToAddCopy : Section → RecordValue → WriterState → List ℕ → CopyError → Type 0
+FailsToAddCopy s x w m (errors.Data offset error) =
+    (offset ≡ x.start) × FailsToCopy (record_kinds x) (data_start x) (Field error)
+FailsToAddCopy s x w m (errors.Edns error) = ⊥
+FailsToAddCopy s x w m (errors.Write error) = FailsToAdd s (CopyGoesPast x) w m error
+FailsToAddCopy s x w m errors.Memory = Unit {0}
+
+-- So is a question.
+abbrev pub query_form : QueryValue → ItemForm
+query_form q b near hints octets after =
+    (type_code q.query_type < 2 ^ 16) × (class_code q.query_class < 2 ^ 16) × AreLabels q.name
+    × IsQuestion slot_of b near hints q.name (type_code q.query_type) (class_code q.query_class) octets after
+
+-- ---- sets
+
+-- The records are of one set: they have the same type and class, and the same owner but for case (RFC 2181, section 5).
+abbrev pub AreOfOneSet : RecordValue → RecordValue → Type 0
+AreOfOneSet x y =
+    (type_code x.record_type ≡ type_code y.record_type) × (class_code x.class ≡ class_code y.class) × (lower x.owner ≡ lower y.owner)
+
+-- There are records, all of one set.
+abbrev pub AreASet : List RecordValue → Type 0
+AreASet [] = ⊥
+AreASet (x ∷ xs) = AllByRecursion (AreOfOneSet x) xs
+
+-- The next record is of another set, if there is one.
+abbrev pub EndsBefore : List RecordValue → List RecordValue → Type 0
+EndsBefore [] later = ⊥
+EndsBefore (x ∷ xs) [] = Unit {0}
+EndsBefore (x ∷ xs) (y ∷ ys) = AreOfOneSet x y → ⊥
+
+-- Some items are added in turn, and the one after them is not, for this reason.
+pub record StopsAmong {D : Type 0} (s : Section) (form : D → ItemForm) (fails_for : D → WriterState → List ℕ → CopyError → Type 0) (xs : List D)
+    (w : WriterState) (m : List ℕ) (e : CopyError) : Type 0 where
+  pub done : List D
+  pub next : D
+  pub left : List D
+  pub are : xs ≡ done ++ next ∷ left
+  pub state : WriterState
+  pub message : List ℕ
+  pub adds : AddsSet s form done w m state message
+  pub fails : fails_for next state message e
+
+-- So it is with records of a set.
+abbrev pub StopsInSet : Section → List RecordValue → WriterState → List ℕ → CopyError → Type 0
+StopsInSet s xs w m e =
+    (stop : StopsAmong s copied_form (FailsToAddCopy s) xs w m e) × AreASet (stop.done ++ stop.next ∷ [])
+
+-- Records are added set by set, each whole, up to the first that has no room: nothing of it is added, nor of those after it.
+-- Whether all are.
+pub data CopiesSets (s : Section) : List RecordValue → WriterState → List ℕ → WriterState → List ℕ → Bool → Type 0 where
+  none_left : (w : WriterState) (m : List ℕ) → CopiesSets s [] w m w m true
+  one_set : (set others : List RecordValue) (w v u : WriterState) (m n o : List ℕ) (all : Bool) → AreASet set → EndsBefore set others
+      → AddsSet s copied_form set w m v n → CopiesSets s others v n u o all → CopiesSets s (set ++ others) w m u o all
+  no_room : (xs : List RecordValue) (w : WriterState) (m n : List ℕ) → StopsInSet s xs w m (errors.Write NoRoom) → take w.end n ≡ take w.end m
+      → CopiesSets s xs w m w n false
+
+-- After some sets a record is not added, for another reason.
+pub data FailsSets (s : Section) (e : CopyError) : List RecordValue → WriterState → List ℕ → Type 0 where
+  after_set : (set others : List RecordValue) (w v : WriterState) (m n : List ℕ) → AreASet set → EndsBefore set others
+      → AddsSet s copied_form set w m v n → FailsSets s e others v n → FailsSets s e (set ++ others) w m
+  at_once : (xs : List RecordValue) (w : WriterState) (m : List ℕ) → e ≢ errors.Write NoRoom → StopsInSet s xs w m e → FailsSets s e xs w m
+
+-- ---- messages
+
+-- A record that a message has to have, after its other records: OPT (41), or a signature of the message, SIG (24) or TSIG (250).
+abbrev pub is_held : RecordValue → Bool
+is_held x = (type_code x.record_type == 41) || (type_code x.record_type == 24) || (type_code x.record_type == 250)
+
+abbrev pub held_in : List RecordValue → List RecordValue
+held_in xs = filter is_held xs
+
+-- the records of a section that are added set by set
+abbrev pub sets_of : Section → List RecordValue → List RecordValue
+sets_of Additionals xs = filter (λ x. not (is_held x)) xs
+sets_of section xs = xs
+
+-- how many octets a record has, beside those of its owner's pointers
+abbrev pub own_octets : RecordValue → ℕ
+own_octets x = encoded_size x.owner + 10 + x.len
+
+-- so many octets, and those of the records that a message has to have
+abbrev pub held_from : ℕ → List RecordValue → ℕ
+held_from n [] = n
+held_from n (x ∷ xs) = held_from (if is_held x then min (n + own_octets x) 18446744073709551615 else n) xs
+
+-- The message is a response to a query (QR is set, and the operation is 0), and has answers: its other records only go with these.
+abbrev pub has_answers : List RecordValue → Bool
+has_answers [] = false
+has_answers (x ∷ xs) = true
+
+abbrev pub is_answer : MessageValue → Bool
+is_answer m = (flags_of m.header.metadata / 2 ^ 11 == 16) && has_answers m.answers
+
+-- A record is missing that the message was to have (RFC 2181, section 9): of the answers, or, unless it only goes with answers, of a
+-- later section.
+abbrev pub is_missing : MessageValue → Bool → Bool → Bool → Bool
+is_missing m answers authorities additionals = not answers || (not (authorities && additionals) && not (is_answer m))
+
+-- A message begins with the header and the questions of another, and holds back the octets of the records that it has to have.
+pub record CopiesQuestions (x : MessageValue) (max_size : ℕ) (old : List ℕ) (w : WriterState) (m : List ℕ) : Type 0 where
+  pub first : WriterState
+  pub begun : List ℕ
+  pub enough : first_item ≤ max_size
+  pub id_fits : x.header.metadata.id < 2 ^ 16
+  pub flags_fit : flags_of x.header.metadata < 2 ^ 16
+  pub begins : BeginsMessage x.header.metadata.id (flags_of x.header.metadata) max_size old first begun
+  pub adds : AddsSet Queries query_form x.queries (record first { reserved = held_from 0 x.additionals }) begun w m
+
+-- Its records are added, but for those that it has to have: section by section, and set by set. Whether one is missing.
+pub record CopiesSections (x : MessageValue) (w : WriterState) (m : List ℕ) (v : WriterState) (n : List ℕ) (missing : Bool) : Type 0 where
+  pub all_answers : Bool
+  pub answered : WriterState
+  pub answered_by : List ℕ
+  pub answers : CopiesSets Answers x.answers w m answered answered_by all_answers
+  pub all_authorities : Bool
+  pub led : WriterState
+  pub led_by : List ℕ
+  pub authorities : CopiesSets Authorities x.authorities answered answered_by led led_by all_authorities
+  pub all_additionals : Bool
+  pub additionals : CopiesSets Additionals (sets_of Additionals x.additionals) led led_by v n all_additionals
+  pub missing_is : missing ≡ is_missing x all_answers all_authorities all_additionals
+
+-- The records that it has to have are added, in the octets that were held back.
+abbrev pub CopiesHeld : MessageValue → WriterState → List ℕ → WriterState → List ℕ → Type 0
+CopiesHeld x w m v n = AddsSet Additionals copied_form (held_in x.additionals) (record w { reserved = 0 }) m v n
+
+-- A message is written again, in at most so many octets. If a record is missing, TC is set.
+pub record CopiesMessage (x : MessageValue) (max_size : ℕ) (old : List ℕ) (w : WriterState) (new : List ℕ) : Type 0 where
+  pub asked : WriterState
+  pub asked_by : List ℕ
+  pub questions : CopiesQuestions x max_size old asked asked_by
+  pub filled : WriterState
+  pub filled_by : List ℕ
+  pub missing : Bool
+  pub sections : CopiesSections x asked asked_by filled filled_by missing
+  pub whole : List ℕ
+  pub held : CopiesHeld x filled filled_by w whole
+  pub new_is : new ≡ (if missing then cut_off whole else whole)
+
+-- ---- why a message is not written again
+
+-- A question is not added: it has no room.
+abbrev pub FailsToAddQuery : QueryValue → WriterState → List ℕ → CopyError → Type 0
+FailsToAddQuery q w m e =
+    (error : WriteError) × FailsToAdd Queries (λ limit b near hints. QuestionGoesPast slot_of limit b near hints q.name) w m error
+    × (e ≡ errors.Write error)
+
+pub record FailsQuestions (x : MessageValue) (max_size : ℕ) (old : List ℕ) (e : CopyError) : Type 0 where
+  pub first : WriterState
+  pub begun : List ℕ
+  pub begins : BeginsMessage x.header.metadata.id (flags_of x.header.metadata) max_size old first begun
+  pub stops : StopsAmong Queries query_form FailsToAddQuery x.queries (record first { reserved = held_from 0 x.additionals }) begun e
+
+-- A record of a section is not added, but for want of room.
+pub data FailsSections (x : MessageValue) (w : WriterState) (m : List ℕ) (e : CopyError) : Type 0 where
+  in_answers : FailsSets Answers e x.answers w m → FailsSections x w m e
+  in_authorities : (v : WriterState) (n : List ℕ) (all : Bool) → CopiesSets Answers x.answers w m v n all
+      → FailsSets Authorities e x.authorities v n → FailsSections x w m e
+  in_additionals : (v u : WriterState) (n o : List ℕ) (all more : Bool) → CopiesSets Answers x.answers w m v n all
+      → CopiesSets Authorities x.authorities v n u o more → FailsSets Additionals e (sets_of Additionals x.additionals) u o
+      → FailsSections x w m e
+
+-- A record that the message has to have is not added.
+abbrev pub FailsHeld : MessageValue → WriterState → List ℕ → CopyError → Type 0
+FailsHeld x w m e =
+    StopsAmong Additionals copied_form (FailsToAddCopy Additionals) (held_in x.additionals) (record w { reserved = 0 }) m e
+
+-- What it says by EDNS breaks a rule, or it has no room for its header, its questions or the records that it has to have, or the data
+-- of a record are none of its class and type, or memory ran out.
+abbrev pub FailsToCopyMessage : MessageValue → ℕ → List ℕ → CopyError → Type 0
+FailsToCopyMessage x max_size old e =
+    ((error : EdnsError) × FailsEdns x error × (e ≡ errors.Edns error))
+    ⊎ (((max_size < first_item) ⊎ (length old < first_item)) × (e ≡ errors.Write NoRoom))
+    ⊎ FailsQuestions x max_size old e
+    ⊎ ((w : WriterState) × (m : List ℕ) × CopiesQuestions x max_size old w m
+    × (FailsSections x w m e
+    ⊎ ((v : WriterState) × (n : List ℕ) × (missing : Bool) × CopiesSections x w m v n missing × FailsHeld x v n e)))

@@ -1,0 +1,502 @@
+//! Records and messages that were read, written again.
+ghost use Rattle.std.specs.Prelude.{◌≡◌, ◌∷◌, ◌<◌, ◌≤◌, ◌^◌, ◌↔◌, [], length, replicate, take, IfErr, IfOk, IfSome, IsTrue, MatchOption, OnErr, OnOk};
+ghost use Rattle.dnw_base.specs.Names.{AreLabels};
+ghost use Rattle.dnw_data.specs.Table.{fields_of};
+ghost use Rattle.dnw_record.specs.DataPieces.{IsData};
+ghost use Rattle.dnw_message_header.specs.Headers.{flags_of};
+ghost use Rattle.dnw_message_writer.specs.Copying.{AreOfOneSet, CopiesHeld, CopiesMessage, CopiesQuestions, CopiesSections, CopiesSets, FailsHeld, FailsQuestions, FailsSections, FailsSets, FailsToAddCopy, FailsToAddQuery, FailsToCopyMessage, StopsAmong, StopsInSet, copied_form, held_from, is_answer, is_held, is_missing, own_octets, query_form, sets_of};
+ghost use Rattle.dnw_message_writer.specs.Inside.CopiedSets.{AddsFirstSet, first_of};
+ghost use Rattle.dnw_message_writer.specs.Inside.Turns.{KeptCount};
+ghost use Rattle.dnw_message_writer.specs.Hints.{slot_of};
+ghost use Rattle.dnw_message_writer.specs.Items.{IsQuestion, QuestionGoesPast};
+ghost use Rattle.dnw_message_writer.specs.Listed.{DataGoPast, data_form};
+ghost use Rattle.dnw_message_writer.specs.Sets.{AddsSet};
+ghost use Rattle.dnw_message_writer.specs.States.{AddsItem, BeginsMessage, FailsToAdd};
+ghost use Rattle.dnw_message_writer.specs.declared.section.Section.TheVariants as Sections;
+
+use crate::data::pieces_of;
+use crate::hints::SLOTS;
+use crate::names::put_at;
+use crate::section::{Section, WriteError};
+use crate::set::{cut_off, two_at};
+use crate::standing::FIRST_ITEM;
+use crate::state::WriterState;
+use dnw_base::limits::MAX_NAME;
+use dnw_data::fields::FieldError;
+use dnw_message_read::edns::EdnsError;
+use dnw_message_read::items::{Queries, Records};
+use dnw_message_read::message::MessageRef;
+use dnw_name::name::Name;
+use dnw_name::name_ref::NameRef;
+use dnw_record::rdata::{RData, RDataError};
+use dnw_record::record_ref::{FIXED_SIZE, RecordRef};
+use std::alloc::Global;
+use thiserror::Error;
+
+/// The records that a message has to have: what it says by EDNS (RFC 6891), and signatures of the message (RFC 2931; RFC 8945).
+const OPT: u16 = 41;
+
+const SIG: u16 = 24;
+
+const TSIG: u16 = 250;
+
+/// The first five bits of a header's flags, QR and the operation, of a response to a query.
+const RESPONSE_TO_QUERY: u16 = 16;
+
+/// Why a record or a message is not written again.
+#[derive(Debug, Drop, Error)]
+pub enum CopyError {
+    /// The data of a record are no fields of its class and type.
+    #[error("data at offset {offset}: {error}")]
+    Data {
+        /// The offset in the message at which the data begin.
+        offset: usize,
+        /// The field, and what is wrong with it.
+        error: FieldError,
+    },
+    /// What the message says by EDNS breaks a rule.
+    #[error("{0}")]
+    Edns(EdnsError),
+    /// An item was not added.
+    #[error("{0}")]
+    Write(WriteError),
+    /// An allocation failed.
+    #[error("out of memory")]
+    Memory,
+}
+
+impl WriterState {
+    /// Creates a state of no message: it is for `begin`, `reply_to` or `copy`.
+    #[inline(always)]
+    pub fn new() -> Self
+        ensures { result ≡ record { end = 0; max_size = 0; reserved = 0; owner = 0; rank = 0; hints = replicate 512 0 } }
+    {
+        WriterState {
+            end: 0,
+            max_size: 0,
+            reserved: 0,
+            owner: 0,
+            rank: 0,
+            hints: [0; SLOTS],
+        }
+    }
+
+    /// Adds a record of another message to a section, or nothing of it. Names in its data are followed through their pointers, and
+    /// those that may be compressed are (RFC 3597, section 4).
+    ///
+    /// It fails with `Data` if its data are no fields of its class and type, and with `Memory` if an allocation fails.
+    pub fn record_of(
+        &mut self,
+        alloc: Global,
+        message: &mut [u8],
+        section: Section,
+        record: &RecordRef<'_>,
+    ) -> Result<(), CopyError>
+        ensures ok { OnOk result (AddsItem section (copied_form record.now) self.old message.old self.new message.new) }
+        ensures err { IfErr result (FailsToAddCopy section record.now self.old message.old) }
+        ensures same { OnErr result ((self.new ≡ self.old) × (take self.old.end message.new ≡ take self.old.end message.old)) }
+    {
+        let data = match RData::from_ref(alloc, record) {
+            Ok(data) => data,
+            Err(RDataError::Field(error)) => {
+                let offset = record.rdata_offset();
+                return Err(CopyError::Data { offset, error });
+            }
+            Err(RDataError::Memory) => return Err(CopyError::Memory),
+        };
+        let record_type = u16::from(record.record_type());
+        let class = u16::from(record.class());
+        let ttl = record.ttl();
+        let octets = data.octets();
+        let added = self.add_copy(
+            message,
+            section,
+            record.owner(),
+            record_type,
+            class,
+            ttl,
+            octets,
+        );
+        if let Err(error) = added {
+            return Err(CopyError::Write(error));
+        }
+        Ok(())
+    }
+
+    /// Adds a record with this owner and these data, or nothing of it.
+    fn add_copy(
+        &mut self,
+        message: &mut [u8],
+        section: Section,
+        owner: &NameRef<'_>,
+        record_type: u16,
+        class: u16,
+        ttl: u32,
+        octets: &[u8],
+    ) -> Result<(), WriteError>
+        requires { IsData (fields_of class record_type octets.now) octets.now }
+        ensures ok { OnOk result (AddsItem section (data_form owner.now record_type class ttl octets.now) self.old message.old self.new message.new) }
+        ensures err { IfErr result (FailsToAdd section (DataGoPast owner.now record_type class ttl octets.now) self.old message.old) }
+        ensures same { OnErr result ((self.new ≡ self.old) × (take self.old.end message.new ≡ take self.old.end message.old)) }
+        ensures fit { (record_type < 2 ^ 16) × (class < 2 ^ 16) × (ttl < 2 ^ 32) × AreLabels owner.now }
+    {
+        let Some(pieces) = pieces_of(class, record_type, octets) else {
+            unreachable!();
+        };
+        let mut room = [0; MAX_NAME];
+        let _len = owner.encoded_len();
+        self.record(
+            message,
+            section,
+            owner.wire_labels(&mut room),
+            record_type,
+            class,
+            ttl,
+            pieces.as_slice(),
+        )
+    }
+
+    /// Writes a message that was read again, with compression, in at most `max_size` octets: its header, its questions, and its
+    /// records, section by section and set by set.
+    ///
+    /// A set that has no room is left out whole, and so are the later ones of its section. If one is left out, TC is set (RFC 2181,
+    /// section 9), unless it only goes with the answers of a response. Octets are held back for the records that the message has to
+    /// have: an `OPT` record, and a signature of the message (`TSIG`, `SIG`). These come last, and are never left out.
+    ///
+    /// It fails with `Edns` if the message breaks a rule of EDNS, as `MessageRef::edns` reports it; with `Data` if the data of a record
+    /// are no fields of its class and type; and with `Write` if the header, the questions and the records that it has to have have no
+    /// room. If it fails, the state is unchanged, but the octets of the message may have changed.
+    pub fn copy(
+        &mut self,
+        alloc: Global,
+        message: &mut [u8],
+        source: &MessageRef<'_>,
+        max_size: usize,
+    ) -> Result<(), CopyError>
+        ensures ok { OnOk result (CopiesMessage source.now max_size message.old self.new message.new) }
+        ensures err { IfErr result (FailsToCopyMessage source.now max_size message.old) }
+        ensures same { OnErr result (self.new ≡ self.old) }
+    {
+        let saved = *self;
+        let copied = self.copy_items(alloc, message, source, max_size);
+        if copied.is_err() {
+            *self = saved;
+        }
+        copied
+    }
+
+    /// Writes a message again.
+    fn copy_items(
+        &mut self,
+        alloc: Global,
+        message: &mut [u8],
+        source: &MessageRef<'_>,
+        max_size: usize,
+    ) -> Result<(), CopyError>
+        ensures ok { OnOk result (CopiesMessage source.now max_size message.old self.new message.new) }
+        ensures err { IfErr result (FailsToCopyMessage source.now max_size message.old) }
+    {
+        match source.opt() {
+            Ok(_) => {}
+            Err(error) => return Err(CopyError::Edns(error)),
+        }
+        if max_size < FIRST_ITEM || message.len() < FIRST_ITEM {
+            return Err(CopyError::Write(WriteError::NoRoom));
+        }
+        match self.copy_questions(message, source, max_size) {
+            Ok(()) => {}
+            Err(error) => return Err(error),
+        }
+        let missing = match self.copy_sections(alloc, message, source) {
+            Ok(missing) => missing,
+            Err(error) => return Err(error),
+        };
+        match self.copy_held(alloc, message, source) {
+            Ok(()) => {}
+            Err(error) => return Err(error),
+        }
+        if missing {
+            cut_off(message);
+        }
+        Ok(())
+    }
+
+    /// Begins with the header and the questions of a message.
+    fn copy_questions(
+        &mut self,
+        message: &mut [u8],
+        source: &MessageRef<'_>,
+        max_size: usize,
+    ) -> Result<(), CopyError>
+        requires enough { 12 ≤ max_size }
+        requires room { 12 ≤ length message.old }
+        ensures ok { OnOk result (CopiesQuestions source.now max_size message.old self.new message.new) }
+        ensures err { IfErr result (FailsQuestions source.now max_size message.old) }
+    {
+        let id = source.header().metadata.id;
+        let flags = flags_of(source);
+        self.begin_copy(message, id, flags, max_size);
+        self.reserved = held_octets(source.additionals());
+        self.copy_queries(message, source.queries())
+    }
+
+    /// Begins a message in a buffer that has room for a header.
+    fn begin_copy(&mut self, message: &mut [u8], id: u16, flags: u16, max_size: usize)
+        requires { 12 ≤ length message.old }
+        ensures begins { BeginsMessage id flags max_size message.old self.new message.new }
+        ensures fit { (id < 2 ^ 16) × (flags < 2 ^ 16) }
+    {
+        self.begin(message, id, flags, max_size).unwrap();
+    }
+    /// Adds questions.
+    fn copy_queries(
+        &mut self,
+        message: &mut [u8],
+        mut queries: Queries<'_>,
+    ) -> Result<(), CopyError>
+        ensures ok { OnOk result (AddsSet Sections.Queries query_form queries.entry self.old message.old self.new message.new) }
+        ensures err { IfErr result (StopsAmong Sections.Queries query_form FailsToAddQuery queries.entry self.old message.old) }
+    {
+        'queries: while let Some(query) = queries.next() {
+            let query_type = u16::from(query.query_type());
+            let class = u16::from(query.query_class());
+            let added = self.add_query(message, query.name(), query_type, class);
+            if let Err(error) = added {
+                return Err(CopyError::Write(error));
+            }
+        }
+        Ok(())
+    }
+
+    /// Adds a question with this name, or nothing of it.
+    fn add_query(
+        &mut self,
+        message: &mut [u8],
+        name: &NameRef<'_>,
+        query_type: u16,
+        class: u16,
+    ) -> Result<(), WriteError>
+        ensures ok { OnOk result (AddsItem Sections.Queries (λ b near hints octets after. IsQuestion slot_of b near hints name.now query_type class octets after) self.old message.old self.new message.new) }
+        ensures err { IfErr result (FailsToAdd Sections.Queries (λ limit b near hints. QuestionGoesPast slot_of limit b near hints name.now) self.old message.old) }
+        ensures fit { (query_type < 2 ^ 16) × (class < 2 ^ 16) × AreLabels name.now }
+    {
+        let mut room = [0; MAX_NAME];
+        let _len = name.encoded_len();
+        self.question(message, name.wire_labels(&mut room), query_type, class)
+    }
+
+    /// Adds the records of a message, but for those that it has to have. Returns `true` if one is missing.
+    fn copy_sections(
+        &mut self,
+        alloc: Global,
+        message: &mut [u8],
+        source: &MessageRef<'_>,
+    ) -> Result<bool, CopyError>
+        ensures ok { IfOk result (CopiesSections source.now self.old message.old self.new message.new) }
+        ensures err { IfErr result (FailsSections source.now self.old message.old) }
+    {
+        let answers = match self.copy_sets(alloc, message, Section::Answers, source.answers()) {
+            Ok(all) => all,
+            Err(error) => return Err(error),
+        };
+        let authorities = match self.copy_sets(
+            alloc,
+            message,
+            Section::Authorities,
+            source.authorities(),
+        ) {
+            Ok(all) => all,
+            Err(error) => return Err(error),
+        };
+        let additionals = match self.copy_sets(
+            alloc,
+            message,
+            Section::Additionals,
+            source.additionals(),
+        ) {
+            Ok(all) => all,
+            Err(error) => return Err(error),
+        };
+        Ok(is_missing(source, answers, authorities, additionals))
+    }
+
+    /// Adds records to a section, set by set, up to the first set that has no room. Returns `true` if all are added.
+    fn copy_sets(
+        &mut self,
+        alloc: Global,
+        message: &mut [u8],
+        section: Section,
+        mut records: Records<'_>,
+    ) -> Result<bool, CopyError>
+        ensures ok { IfOk result (CopiesSets section (sets_of section records.entry) self.old message.old self.new message.new) }
+        ensures err { IfErr result (λ e. FailsSets section e (sets_of section records.entry) self.old message.old) }
+    {
+        let mut first = next_of(section, &mut records);
+        'sets: while let Some(record) = first {
+            match self.copy_set(alloc, message, section, &record, &mut records) {
+                Ok(next) => first = next,
+                Err(CopyError::Write(WriteError::NoRoom)) => return Ok(false),
+                Err(error) => return Err(error),
+            }
+        }
+        Ok(true)
+    }
+
+    /// Adds the records of a set, or nothing of them: the first, and those after it. Returns the record after the set.
+    fn copy_set<'m>(
+        &mut self,
+        alloc: Global,
+        message: &mut [u8],
+        section: Section,
+        first: &RecordRef<'m>,
+        records: &mut Records<'m>,
+    ) -> Result<Option<RecordRef<'m>>, CopyError>
+        ensures ok { IfOk result (λ next. AddsFirstSet section (first.now ∷ sets_of section records.old) (first_of next (sets_of section records.new)) self.old message.old self.new message.new) }
+        ensures err { IfErr result (StopsInSet section (first.now ∷ sets_of section records.old) self.old message.old) }
+        ensures same { OnErr result ((self.new ≡ self.old) × (take self.old.end message.new ≡ take self.old.end message.old)) }
+    {
+        let saved = *self;
+        let at = section.offset_of_count();
+        let count = two_at(message, at);
+        let added = self.add_set(alloc, message, section, first, records);
+        if added.is_err() {
+            *self = saved;
+            if saved.end >= FIRST_ITEM && message.len() >= FIRST_ITEM {
+                put_at(message, at, &count);
+            }
+        }
+        added
+    }
+
+    /// Adds the records of a set in turn, up to the first that fails.
+    fn add_set<'m>(
+        &mut self,
+        alloc: Global,
+        message: &mut [u8],
+        section: Section,
+        first: &RecordRef<'m>,
+        records: &mut Records<'m>,
+    ) -> Result<Option<RecordRef<'m>>, CopyError>
+        ensures ok { IfOk result (λ next. AddsFirstSet section (first.now ∷ sets_of section records.old) (first_of next (sets_of section records.new)) self.old message.old self.new message.new) }
+        ensures err { IfErr result (StopsInSet section (first.now ∷ sets_of section records.old) self.old message.old) }
+        ensures kept { KeptCount section (take self.old.end message.old) (take self.old.end message.new) }
+        ensures size { length message.new ≡ length message.old }
+    {
+        let owner = first.owner().to_name(alloc).unwrap();
+        let begun = self.record_of(alloc, message, section, first);
+        if let Err(error) = begun {
+            return Err(error);
+        }
+        'set: while let Some(record) = next_of(section, records) {
+            if !is_of_set(first, &owner, &record) {
+                return Ok(Some(record));
+            }
+            let added = self.record_of(alloc, message, section, &record);
+            if let Err(error) = added {
+                return Err(error);
+            }
+        }
+        Ok(None)
+    }
+
+    /// Adds the records that a message has to have, after all others.
+    fn copy_held(
+        &mut self,
+        alloc: Global,
+        message: &mut [u8],
+        source: &MessageRef<'_>,
+    ) -> Result<(), CopyError>
+        ensures ok { OnOk result (CopiesHeld source.now self.old message.old self.new message.new) }
+        ensures err { IfErr result (FailsHeld source.now self.old message.old) }
+    {
+        self.reserved = 0;
+        let mut records = source.additionals();
+        'records: while let Some(record) = records.next() {
+            if is_held(&record) {
+                let added = self.record_of(alloc, message, Section::Additionals, &record);
+                if let Err(error) = added {
+                    return Err(error);
+                }
+            }
+        }
+        Ok(())
+    }
+}
+
+/// Returns the next record of a section that is added set by set.
+fn next_of<'m>(section: Section, records: &mut Records<'m>) -> Option<RecordRef<'m>>
+    ensures next { MatchOption result (sets_of section records.old ≡ []) (λ x. sets_of section records.old ≡ x ∷ sets_of section records.new) }
+    ensures fewer { IfSome result (λ x. length records.new < length records.old) }
+{
+    if section != Section::Additionals {
+        return records.next();
+    }
+    'records: loop {
+        let record = records.next()?;
+        if !is_held(&record) {
+            return Some(record);
+        }
+    }
+}
+
+/// Returns `true` if a record is of the set of the first one, which has this owner.
+#[inline(always)]
+fn is_of_set(first: &RecordRef<'_>, owner: &Name, record: &RecordRef<'_>) -> bool
+    requires { owner.now.labels ≡ first.now.owner }
+    ensures { IsTrue result ↔ AreOfOneSet first.now record.now }
+{
+    u16::from(first.record_type()) == u16::from(record.record_type())
+        && u16::from(first.class()) == u16::from(record.class())
+        && record.owner().eq_name(owner)
+}
+
+/// Returns `true` for a record that a message has to have: `OPT`, `SIG`, `TSIG`.
+#[inline(always)]
+fn is_held(record: &RecordRef<'_>) -> bool
+    ensures { result ≡ is_held record.now }
+{
+    let code = u16::from(record.record_type());
+    code == OPT || code == SIG || code == TSIG
+}
+
+/// Returns how many octets the records have that a message has to have.
+fn held_octets(mut records: Records<'_>) -> usize
+    ensures { result ≡ held_from 0 records.entry }
+{
+    let mut held = 0usize;
+    'records: while let Some(record) = records.next() {
+        if is_held(&record) {
+            held = held.saturating_add(own_octets(&record));
+        }
+    }
+    held
+}
+
+/// Returns how many octets a record has, beside those that a pointer of its owner leads to.
+fn own_octets(record: &RecordRef<'_>) -> usize
+    ensures { result ≡ own_octets record.now }
+{
+    record.owner().encoded_len() + FIXED_SIZE + record.rdata().len()
+}
+
+/// Returns the flags of a message, with the reserved one clear.
+fn flags_of(source: &MessageRef<'_>) -> u16
+    ensures { result ≡ flags_of source.now.header.metadata }
+{
+    let octets = source.header().to_octets();
+    u16::from_be_bytes([octets[2], octets[3]])
+}
+
+/// Returns `true` if a record is missing that a message was to have.
+fn is_missing(source: &MessageRef<'_>, answers: bool, authorities: bool, additionals: bool) -> bool
+    ensures { result ≡ is_missing source.now answers authorities additionals }
+{
+    !answers || (!(authorities && additionals) && !is_answer(source))
+}
+
+/// Returns `true` for the response to a query, with answers.
+fn is_answer(source: &MessageRef<'_>) -> bool
+    ensures { result ≡ is_answer source.now }
+{
+    flags_of(source) / 2048 == RESPONSE_TO_QUERY && source.answers().next().is_some()
+}
