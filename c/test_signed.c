@@ -122,6 +122,10 @@ static void refuses_rrsigs(void)
     EXPECT(fails(list, SIZE(OF_A FIRST), 0, SIZE(OF_A FIRST)) == DNW_MESSAGE_CUT);
     EXPECT(fails(list, SIZE(OF_A FIRST), 0, SIZE(OF_A)) == DNW_NOT_RRSIG);
     EXPECT(fails(BYTES("\000\000\030\000\001" TTL "\000\000"), 0, 0) == DNW_NOT_RRSIG);
+    /* RRSIG records of the classes ANY and NONE may have no data (RFC 2136), and then cover nothing; those of IN may not */
+    EXPECT(fails(BYTES("\000\000\056\000\377" TTL "\000\000"), 0, 0) == DNW_NOT_RRSIG);
+    EXPECT(fails(BYTES("\000\000\056\000\376" TTL "\000\000"), 0, 0) == DNW_NOT_RRSIG);
+    EXPECT(fails(BYTES("\000\000\056\000\001" TTL "\000\000"), 0, 0) == DNW_MESSAGE_CUT);
     EXPECT(fails(BYTES("\100"), 0, 0) == DNW_RESERVED_OCTET);
     /* names, after which the octets of a record are not all there */
     make_message();

@@ -1,6 +1,7 @@
 -- Which records of a message the functions for C read, and why they read none.
-use Rattle.std.specs.Prelude.{◌≡◌, ◌<◌, ◌⊎◌, ℕ, List, [], ◌∷◌, length}
+use Rattle.std.specs.Prelude.{◌≡◌, ◌<◌, ◌⊎◌, ℕ, ◌+◌, List, [], ◌∷◌, length}
 use Rattle.dnw_base.specs.Decoder.{Decoder}
+use Rattle.dnw_base.specs.Limits.{max_pointers}
 use Rattle.dnw_base.specs.declared.error.DecodeError.{DecodeError}
 use Rattle.dnw_c_base.specs.Failures.{of_decode}
 use Rattle.dnw_c_base.specs.declared.failure.Failure.{Failure}
@@ -36,19 +37,39 @@ FailsToCopyRecord r failure =
 
 -- ---- one after another
 
--- Records follow one another from p to e.
-pub data AreRecords (message : List ℕ) : ℕ → List RecordValue → ℕ → Type 0 where
-  no_records : {p : ℕ} → AreRecords message p [] p
-  record_first : (p q e : ℕ) (r : RecordValue) (records : List RecordValue)
-      → RecordAt message p r q → AreRecords message q records e → AreRecords message p (r ∷ records) e
+-- A record goes from p to e. The pointers of its owner are taken from those that may be followed: so many are left.
+abbrev pub LimitedRecordAt : List ℕ → ℕ → ℕ → RecordValue → ℕ → ℕ → Type 0
+LimitedRecordAt message p most r e left = (at : RecordAt message p r e) × (left + at.pointers ≡ most)
 
--- There is no record at the cursor, or memory ran out.
-abbrev pub FailsToReadNext : Decoder → Failure → Type 0
-FailsToReadNext d failure = ((error : DecodeError) × FailsRecord d error × (failure ≡ of_decode error)) ⊎ (failure ≡ why.NoMemory)
+-- The decoder was at such a record, and is after it now.
+abbrev pub TakesNextRecord : Decoder → ℕ → RecordValue → Decoder → ℕ → Type 0
+TakesNextRecord before most r after left =
+    (e : ℕ) × LimitedRecordAt before.bytes before.index most r e left × (after ≡ record { bytes = before.bytes; index = e })
+
+-- There is no record at the cursor, or one whose owner follows more pointers than are left.
+abbrev pub IsNoNextRecord : Decoder → ℕ → Failure → Type 0
+IsNoNextRecord d left failure =
+    ((error : DecodeError) × FailsRecord d error × (failure ≡ of_decode error))
+    ⊎ ((r : RecordValue) × (e : ℕ) × (at : RecordAt d.bytes d.index r e) × (left < at.pointers) × (failure ≡ why.TooManyPointers))
+
+-- Records follow one another from p to e, and of the pointers that their owners may follow so many are left.
+pub data AreRecords (message : List ℕ) : ℕ → ℕ → List RecordValue → ℕ → ℕ → Type 0 where
+  no_records : {p left : ℕ} → AreRecords message p left [] p left
+  record_first : (p q e most left end : ℕ) (r : RecordValue) (records : List RecordValue)
+      → LimitedRecordAt message p most r q left → AreRecords message q left records e end → AreRecords message p most (r ∷ records) e end
+
+-- All octets from an offset on are these records, and their owners follow 65,536 pointers at most.
+abbrev pub AreLimitedRecords : List ℕ → ℕ → List RecordValue → Type 0
+AreLimitedRecords message start records = (left : ℕ) × AreRecords message start max_pointers records (length message) left
+
+-- There is no next record, or memory ran out.
+abbrev pub FailsToReadNext : Decoder → ℕ → Failure → Type 0
+FailsToReadNext d left failure = IsNoNextRecord d left failure ⊎ (failure ≡ why.NoMemory)
 
 -- The records do not go on to the end: the offset at which they begin is past it; or after some of them, before the end, there is
 -- none.
 abbrev pub FailsToRead : List ℕ → ℕ → Failure → Type 0
 FailsToRead message start failure =
     ((length message < start) × (failure ≡ why.MessageCut))
-    ⊎ ((records : List RecordValue) × (p : ℕ) × AreRecords message start records p × (p < length message) × FailsToReadNext (at_offset message p) failure)
+    ⊎ ((records : List RecordValue) × (p : ℕ) × (left : ℕ) × AreRecords message start max_pointers records p left × (p < length message)
+    × FailsToReadNext (at_offset message p) left failure)

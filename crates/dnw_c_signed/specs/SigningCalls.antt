@@ -8,12 +8,12 @@ use Rattle.dnw_c_base.specs.Failures.{of_decode}
 use Rattle.dnw_c_base.specs.Results.{Puts, Refuses}
 use Rattle.dnw_c_base.specs.declared.failure.Failure.{Failure}
 use Rattle.dnw_c_base.specs.declared.failure.Failure.TheVariants as why
-use Rattle.dnw_c_signed.specs.RecordCalls.{AreRecords, FailsRecordAt, FailsToRead, HasRecordAt}
+use Rattle.dnw_c_signed.specs.RecordCalls.{AreLimitedRecords, FailsRecordAt, FailsToRead, HasRecordAt}
 
 -- The octets are what the signature of the record at an offset covers of the records from another one up to the end.
 abbrev pub IsSignedAt : List ℕ → ℕ → ℕ → List ℕ → Type 0
 IsSignedAt message start at octets =
-    (s : RecordValue) × (records : List RecordValue) × HasRecordAt message at s × AreRecords message start records (length message)
+    (s : RecordValue) × (records : List RecordValue) × HasRecordAt message at s × AreLimitedRecords message start records
     × IsSigned s records octets
 
 -- why there are none: the records that an RRSIG covers are a set, so `NotInSet` does not come
@@ -22,6 +22,7 @@ of_canonical canonical.NoRecords = why.NotCovered
 of_canonical canonical.TooFewLabels = why.TooFewLabels
 of_canonical (canonical.NotInSet number) = why.Other
 of_canonical (canonical.DataTooLong number) = why.DataTooLong
+of_canonical (canonical.TooManyPointers number) = why.TooManyPointers
 of_canonical canonical.NotRrsig = why.NotRrsig
 of_canonical (canonical.RrsigField error) = of_decode error.cause
 of_canonical (canonical.Field number error) = of_decode error.cause
@@ -33,7 +34,7 @@ FailsToSignAt message start at failure =
     FailsRecordAt message at failure
     ⊎ FailsToRead message start failure
     ⊎ ((s : RecordValue) × (records : List RecordValue) × (error : CanonicalError) × HasRecordAt message at s
-    × AreRecords message start records (length message) × FailsToSign s records error × (failure ≡ of_canonical error))
+    × AreLimitedRecords message start records × FailsToSign s records error × (failure ≡ of_canonical error))
 
 -- ---- what is put
 

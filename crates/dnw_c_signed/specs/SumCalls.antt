@@ -1,12 +1,12 @@
--- What the functions for C get of the sums of DNSSEC, and why they get nothing.
-use Rattle.std.specs.Prelude.{◌≡◌, ◌<◌, ◌↔◌, ◌⊎◌, ℕ, Bool, IsTrue, List, length}
-use Rattle.dnw_name_read.specs.Buffers.{put}
-use Rattle.dnw_dnssec.specs.Covers.{NsecCovers}
+-- What the functions for C put of the sums of DNSSEC, and why they put nothing.
+use Rattle.std.specs.Prelude.{◌≡◌, ◌↔◌, ◌⊎◌, ℕ, Bool, IsTrue, List, length, Result}
+use Rattle.dnw_dnssec.specs.Covers.{Nsec3Covers, NsecCovers}
 use Rattle.dnw_dnssec.specs.Digests.{FailsDsDigest, IsDsDigest}
 use Rattle.dnw_dnssec.specs.HashedNames.{FailsToHash, MayHash, nsec3_hash, nsec3_label}
-use Rattle.dnw_dnssec.specs.KeyTags.{FailsKeyTag}
+use Rattle.dnw_dnssec.specs.KeyTags.{FailsKeyTag, HasKeyTag, key_tag}
 use Rattle.dnw_dnssec.specs.declared.error.DnssecError.{DnssecError}
 use Rattle.dnw_dnssec.specs.declared.error.DnssecError.TheVariants as dnssec
+use Rattle.dnw_c_base.specs.Results.{GivesOr, Puts, Refuses}
 use Rattle.dnw_c_base.specs.WireForms.{IsFormOf, IsNoForm}
 use Rattle.dnw_c_base.specs.declared.failure.Failure.{Failure}
 use Rattle.dnw_c_base.specs.declared.failure.Failure.TheVariants as why
@@ -24,25 +24,25 @@ of_dnssec dnssec.Memory = why.NoMemory
 abbrev pub FailsAs : (DnssecError → Type 0) → Failure → Type 0
 FailsAs Fails failure = (error : DnssecError) × Fails error × (failure ≡ of_dnssec error)
 
--- why there is no key tag
-abbrev pub FailsToTag : List ℕ → Failure → Type 0
-FailsToTag dnskey = FailsAs (FailsKeyTag dnskey)
+-- the key tag of the data of a DNSKEY, or why there is none
+abbrev pub TagsKey : List ℕ → Result ℕ Failure → Type 0
+TagsKey dnskey result = GivesOr (λ tag. HasKeyTag dnskey × (tag ≡ key_tag dnskey)) (FailsAs (FailsKeyTag dnskey)) result
 
 -- ---- digests of keys
 
 abbrev pub HasDigest : List ℕ → List ℕ → ℕ → List ℕ → Type 0
 HasDigest form dnskey digest_type own = (labels : List (List ℕ)) × IsFormOf form labels × IsDsDigest labels dnskey digest_type own
 
-abbrev pub PutsDigest : List ℕ → List ℕ → ℕ → List ℕ → List ℕ → ℕ → Type 0
-PutsDigest form dnskey digest_type old new len =
-    (own : List ℕ) × HasDigest form dnskey digest_type own × (new ≡ put old own) × (len ≡ length own)
-
--- The owner is no wire form; or it is, and there is no digest; or there is one, and it does not fit.
-abbrev pub FailsToDigest : List ℕ → List ℕ → ℕ → ℕ → Failure → Type 0
-FailsToDigest form dnskey digest_type size failure =
+-- The owner is no wire form; or it is, and there is no digest.
+abbrev pub FailsToDigest : List ℕ → List ℕ → ℕ → Failure → Type 0
+FailsToDigest form dnskey digest_type failure =
     IsNoForm form failure
     ⊎ ((labels : List (List ℕ)) × IsFormOf form labels × FailsAs (FailsDsDigest dnskey digest_type) failure)
-    ⊎ ((own : List ℕ) × HasDigest form dnskey digest_type own × (size < length own) × (failure ≡ why.NoRoom))
+
+abbrev pub PutsDigest : List ℕ → List ℕ → ℕ → List ℕ → List ℕ → Result ℕ Failure → Type 0
+PutsDigest form dnskey digest_type old new result =
+    ((own : List ℕ) × HasDigest form dnskey digest_type own × Puts own (length own) old new result)
+    ⊎ Refuses (FailsToDigest form dnskey digest_type) old new result
 
 -- ---- hashed names
 
@@ -50,31 +50,24 @@ abbrev pub HasHash : List ℕ → ℕ → ℕ → List ℕ → ℕ → List ℕ 
 HasHash form algorithm iterations salt most own =
     (labels : List (List ℕ)) × IsFormOf form labels × MayHash algorithm iterations most × (own ≡ nsec3_hash labels iterations salt)
 
-abbrev pub PutsHash : List ℕ → ℕ → ℕ → List ℕ → ℕ → List ℕ → List ℕ → ℕ → Type 0
-PutsHash form algorithm iterations salt most old new len =
-    (own : List ℕ) × HasHash form algorithm iterations salt most own × (new ≡ put old own) × (len ≡ length own)
-
 -- The name is no wire form; or it is, and is not hashed.
 abbrev pub FailsToHashForm : List ℕ → ℕ → ℕ → ℕ → Failure → Type 0
 FailsToHashForm form algorithm iterations most failure =
     IsNoForm form failure
     ⊎ ((labels : List (List ℕ)) × IsFormOf form labels × FailsAs (FailsToHash algorithm iterations most) failure)
 
--- There is no hash, or it does not fit.
-abbrev pub FailsToPutHash : List ℕ → ℕ → ℕ → List ℕ → ℕ → ℕ → Failure → Type 0
-FailsToPutHash form algorithm iterations salt most size failure =
-    FailsToHashForm form algorithm iterations most failure
-    ⊎ ((own : List ℕ) × HasHash form algorithm iterations salt most own × (size < length own) × (failure ≡ why.NoRoom))
+-- These octets of the hash of a name are put.
+abbrev pub PutsOfHash : (List ℕ → List ℕ) → List ℕ → ℕ → ℕ → List ℕ → ℕ → List ℕ → List ℕ → Result ℕ Failure → Type 0
+PutsOfHash octets form algorithm iterations salt most old new result =
+    ((own : List ℕ) × HasHash form algorithm iterations salt most own × Puts (octets own) (length (octets own)) old new result)
+    ⊎ Refuses (FailsToHashForm form algorithm iterations most) old new result
 
--- the same of the label of a hashed name
-abbrev pub PutsHashLabel : List ℕ → ℕ → ℕ → List ℕ → ℕ → List ℕ → List ℕ → ℕ → Type 0
-PutsHashLabel form algorithm iterations salt most old new len =
-    (own : List ℕ) × HasHash form algorithm iterations salt most own × (new ≡ put old (nsec3_label own)) × (len ≡ length (nsec3_label own))
+-- the hash itself, and the label of the name that it makes
+abbrev pub PutsHash : List ℕ → ℕ → ℕ → List ℕ → ℕ → List ℕ → List ℕ → Result ℕ Failure → Type 0
+PutsHash form algorithm iterations salt most old new result = PutsOfHash (λ own. own) form algorithm iterations salt most old new result
 
-abbrev pub FailsToPutLabel : List ℕ → ℕ → ℕ → List ℕ → ℕ → ℕ → Failure → Type 0
-FailsToPutLabel form algorithm iterations salt most size failure =
-    FailsToHashForm form algorithm iterations most failure
-    ⊎ ((own : List ℕ) × HasHash form algorithm iterations salt most own × (size < length (nsec3_label own)) × (failure ≡ why.NoRoom))
+abbrev pub PutsHashLabel : List ℕ → ℕ → ℕ → List ℕ → ℕ → List ℕ → List ℕ → Result ℕ Failure → Type 0
+PutsHashLabel form algorithm iterations salt most old new result = PutsOfHash nsec3_label form algorithm iterations salt most old new result
 
 -- ---- names that a record covers
 
@@ -90,3 +83,11 @@ FailsToCover owner next name failure =
     IsNoForm owner failure
     ⊎ ((a : List (List ℕ)) × IsFormOf owner a × IsNoForm next failure)
     ⊎ ((a : List (List ℕ)) × (b : List (List ℕ)) × IsFormOf owner a × IsFormOf next b × IsNoForm name failure)
+
+-- It is said whether an NSEC record covers a name, or why not.
+abbrev pub SaysIfCovered : List ℕ → List ℕ → List ℕ → Result Bool Failure → Type 0
+SaysIfCovered owner next name result = GivesOr (CoversName owner next name) (FailsToCover owner next name) result
+
+-- It is said whether an NSEC3 record covers a hash.
+abbrev pub SaysIfHashCovered : List ℕ → List ℕ → List ℕ → Result Bool Failure → Type 0
+SaysIfHashCovered own next hash result = GivesOr (λ covers. IsTrue covers ↔ Nsec3Covers own next hash) (λ _. ⊥) result

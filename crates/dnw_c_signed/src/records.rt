@@ -1,24 +1,29 @@
 //! Records of a message.
-ghost use Rattle.std.specs.Prelude.{◌≡◌, ◌≤◌, ◌∷◌, [], ◌++◌, length, IfOk, IfErr, OnOk};
+ghost use Rattle.std.specs.Prelude.{◌≡◌, ◌≤◌, ◌∷◌, [], ◌++◌, ℕ, List, length, IfOk, IfErr, OnOk};
+ghost use Rattle.dnw_name_read.specs.Reading.{NameAt};
 ghost use Rattle.dnw_record.specs.AnyRecords.{IsCopyOf};
-ghost use Rattle.dnw_record.specs.Records.{FailsRecord, RecordValue, TakesRecord};
-ghost use Rattle.dnw_c_signed.specs.RecordCalls.{AreRecords, FailsRecordAt, FailsToCopyRecord, FailsToRead, FailsToReadNext, HasRecordAt, at_offset, of_rdata};
+ghost use Rattle.dnw_record.specs.Records.{FailsRecord, RecordValue};
+ghost use Rattle.dnw_c_signed.specs.RecordCalls.{AreLimitedRecords, FailsRecordAt, FailsToCopyRecord, FailsToRead, FailsToReadNext, HasRecordAt};
+ghost use Rattle.dnw_c_signed.specs.RecordCalls.{IsNoNextRecord, TakesNextRecord, at_offset, of_rdata};
 
 use dnw_base::decoder::BinDecoder;
 use dnw_base::error::DecodeError;
+use dnw_base::limits::MAX_POINTERS;
 use dnw_c_base::failure::{Failure, of_decode};
+use dnw_name::name_ref::NameRef;
+use dnw_name_read::walk::ReadSteps;
 use dnw_record::rdata::RDataError;
 use dnw_record::record::Record;
 use dnw_record::record_ref::RecordRef;
 use std::alloc::Global;
 
-/// Returns the records from an offset up to the end of the octets.
+/// Returns the records from an offset up to the end of the octets. Their owners may follow 65,536 pointers in all.
 pub(crate) fn records_from(
     alloc: Global,
     message: &[u8],
     start: usize,
 ) -> Result<Vec<RecordRef<'_>>, Failure>
-    ensures ok { IfOk result (λ records. AreRecords message.now start records.items (length message.now)) }
+    ensures ok { IfOk result (λ records. AreLimitedRecords message.now start records.items) }
     ensures err { IfErr result (FailsToRead message.now start) }
 {
     if message.len() < start {
@@ -26,24 +31,56 @@ pub(crate) fn records_from(
     }
     let mut reader = BinDecoder::new(message);
     reader.skip(start).unwrap();
+    let mut left = MAX_POINTERS;
     let mut records = Vec::new(alloc);
     'records: while !reader.is_empty() {
-        push_next(&mut reader, &mut records)?;
+        push_next(&mut reader, &mut left, &mut records)?;
     }
     Ok(records)
 }
 
-/// Appends the record at the cursor.
+/// Appends the record at the cursor. The pointers of its owner are taken from those that are `left`.
 fn push_next<'r>(
     reader: &mut BinDecoder<'r>,
+    left: &mut usize,
     records: &mut Vec<RecordRef<'r>>,
 ) -> Result<(), Failure>
-    ensures ok { OnOk result ((r : RecordValue) × TakesRecord reader.old r reader.new × (records.new.items ≡ records.old.items ++ r ∷ [])) }
-    ensures err { IfErr result (FailsToReadNext reader.old) }
+    ensures ok { OnOk result ((r : RecordValue) × TakesNextRecord reader.old left.old r reader.new left.new × (records.new.items ≡ records.old.items ++ r ∷ [])) }
+    ensures err { IfErr result (FailsToReadNext reader.old left.old) }
 {
-    let item = RecordRef::read_next(reader)?;
+    let item = next_record(reader, left)?;
     records.push(item)?;
     Ok(())
+}
+
+/// Reads the record at the cursor. The pointers of its owner are taken from those that are `left`.
+pub(crate) fn next_record<'r>(
+    reader: &mut BinDecoder<'r>,
+    left: &mut usize,
+) -> Result<RecordRef<'r>, Failure>
+    ensures ok { IfOk result (λ r. TakesNextRecord reader.old left.old r reader.new left.new) }
+    ensures err { IfErr result (IsNoNextRecord reader.old left.old) }
+{
+    let followed = owner_pointers(reader.message(), reader.index())?;
+    let item = RecordRef::read_next(reader)?;
+    if followed > *left {
+        return Err(Failure::TooManyPointers);
+    }
+    *left -= followed;
+    Ok(item)
+}
+
+/// Returns how many pointers the owner of the record at an offset follows.
+fn owner_pointers(message: &[u8], start: usize) -> Result<usize, DecodeError>
+    requires { start ≤ length message.now }
+    ensures ok { IfOk result (λ k. (labels : List (List ℕ)) × (end : ℕ) × NameAt message.now start labels end k) }
+    ensures err { IfErr result (FailsRecord (at_offset message.now start)) }
+{
+    let mut steps = ReadSteps::default();
+    let mut reader = BinDecoder::new(message);
+    reader.skip(start).unwrap();
+    NameRef::read_counted(&mut reader, &mut steps)?;
+    Ok(steps.pointers)
 }
 
 /// Returns the record at an offset.

@@ -12,7 +12,8 @@ use dnw_signed::error::CanonicalError;
 use std::alloc::Global;
 
 /// Puts the octets that the signature of the RRSIG at an offset covers. The records are those from `start` up to the end of the
-/// octets, one after another.
+/// octets, one after another. Their owners may follow 65,536 pointers in all, and so may the names in the data of those that are
+/// covered.
 #[unsafe(no_mangle)]
 pub extern "C" fn dnw_signed_octets(
     alloc: Global,
@@ -64,6 +65,7 @@ fn of_canonical(error: &CanonicalError) -> Failure
         CanonicalError::TooFewLabels => Failure::TooFewLabels,
         CanonicalError::NotInSet { record: _ } => Failure::Other,
         CanonicalError::DataTooLong { record: _ } => Failure::DataTooLong,
+        CanonicalError::TooManyPointers { record: _ } => Failure::TooManyPointers,
         CanonicalError::NotRrsig => Failure::NotRrsig,
         CanonicalError::RrsigField(error) | CanonicalError::Field { record: _, error } => {
             of_decode(&error.cause)

@@ -1,18 +1,17 @@
 //! The sums of DNSSEC.
-ghost use Rattle.std.specs.Prelude.{◌≡◌, ◌≢◌, ◌↔◌, List, ℕ, length, IsTrue, IfOk, IfErr, OnErr};
+ghost use Rattle.std.specs.Prelude.{◌≡◌, IfOk, IfErr};
 ghost use Rattle.dnw_base.specs.Names.{NameValue};
-ghost use Rattle.dnw_dnssec.specs.Covers.{Nsec3Covers, NsecCovers};
-ghost use Rattle.dnw_dnssec.specs.KeyTags.{HasKeyTag, key_tag};
-ghost use Rattle.dnw_c_base.specs.Failures.{NumberOf};
+ghost use Rattle.dnw_c_base.specs.Results.{Returns};
 ghost use Rattle.dnw_c_base.specs.WireForms.{IsFormOf, IsNoForm};
-ghost use Rattle.dnw_c_signed.specs.SumCalls.{CoversName, FailsToCover, FailsToDigest, FailsToHashForm, FailsToPutHash, FailsToPutLabel, FailsToTag};
-ghost use Rattle.dnw_c_signed.specs.SumCalls.{HasHash, PutsDigest, PutsHash, PutsHashLabel, of_dnssec};
+ghost use Rattle.dnw_c_signed.specs.SumCalls.{CoversName, FailsToCover, FailsToDigest, FailsToHashForm, HasDigest, HasHash, PutsDigest, PutsHash};
+ghost use Rattle.dnw_c_signed.specs.SumCalls.{PutsHashLabel, SaysIfCovered, SaysIfHashCovered, TagsKey, of_dnssec};
 
 use dnw_c_base::buffer::put;
 use dnw_c_base::failure::Failure;
 use dnw_c_base::names::name_ref_at;
+use dnw_c_base::results::report;
 use dnw_dnssec::covers::{nsec_covers, nsec3_covers};
-use dnw_dnssec::ds::ds_digest;
+use dnw_dnssec::ds::{Digest, ds_digest};
 use dnw_dnssec::error::DnssecError;
 use dnw_dnssec::key_tag::key_tag;
 use dnw_dnssec::nsec3::{NSEC3_HASH_LENGTH, nsec3_hash, nsec3_label};
@@ -22,17 +21,9 @@ use std::alloc::Global;
 /// Puts the key tag of the data of a DNSKEY.
 #[unsafe(no_mangle)]
 pub extern "C" fn dnw_key_tag(dnskey: &[u8], tag: &mut u16) -> u32
-    ensures ok { result ≡ 0 → HasKeyTag dnskey.now × (tag.new ≡ key_tag dnskey.now) }
-    ensures err { result ≢ 0 → NumberOf (FailsToTag dnskey.now) result }
-    ensures same { result ≢ 0 → tag.new ≡ tag.old }
+    ensures { Returns (TagsKey dnskey.now) tag.old tag.new result }
 {
-    match key_tag(dnskey) {
-        Ok(own) => {
-            *tag = own;
-            0
-        }
-        Err(error) => of_dnssec(&error).number(),
-    }
+    report(tag_of(dnskey), tag)
 }
 
 /// Puts the digest of a key that a DS record has.
@@ -45,17 +36,9 @@ pub extern "C" fn dnw_ds_digest(
     digest: &mut [u8],
     len: &mut usize,
 ) -> u32
-    ensures ok { result ≡ 0 → PutsDigest owner.now dnskey.now digest_type digest.old digest.new len.new }
-    ensures err { result ≢ 0 → NumberOf (FailsToDigest owner.now dnskey.now digest_type (length digest.old)) result }
-    ensures same { result ≢ 0 → (digest.new ≡ digest.old) × (len.new ≡ len.old) }
+    ensures { Returns (PutsDigest owner.now dnskey.now digest_type digest.old digest.new) len.old len.new result }
 {
-    match put_digest(alloc, owner, dnskey, digest_type, digest) {
-        Ok(put) => {
-            *len = put;
-            0
-        }
-        Err(failure) => failure.number(),
-    }
+    report(put_digest(alloc, owner, dnskey, digest_type, digest), len)
 }
 
 /// Puts a name as NSEC3 hashes it.
@@ -70,17 +53,12 @@ pub extern "C" fn dnw_nsec3_hash(
     hash: &mut [u8],
     len: &mut usize,
 ) -> u32
-    ensures ok { result ≡ 0 → PutsHash name.now algorithm iterations salt.now most hash.old hash.new len.new }
-    ensures err { result ≢ 0 → NumberOf (FailsToPutHash name.now algorithm iterations salt.now most (length hash.old)) result }
-    ensures same { result ≢ 0 → (hash.new ≡ hash.old) × (len.new ≡ len.old) }
+    ensures { Returns (PutsHash name.now algorithm iterations salt.now most hash.old hash.new) len.old len.new result }
 {
-    match put_hash(alloc, name, algorithm, iterations, salt, most, hash) {
-        Ok(put) => {
-            *len = put;
-            0
-        }
-        Err(failure) => failure.number(),
-    }
+    report(
+        put_hash(alloc, name, algorithm, iterations, salt, most, hash),
+        len,
+    )
 }
 
 /// Puts the first label of the owner of the NSEC3 record that a name is hashed to.
@@ -95,17 +73,12 @@ pub extern "C" fn dnw_nsec3_label(
     label: &mut [u8],
     len: &mut usize,
 ) -> u32
-    ensures ok { result ≡ 0 → PutsHashLabel name.now algorithm iterations salt.now most label.old label.new len.new }
-    ensures err { result ≢ 0 → NumberOf (FailsToPutLabel name.now algorithm iterations salt.now most (length label.old)) result }
-    ensures same { result ≢ 0 → (label.new ≡ label.old) × (len.new ≡ len.old) }
+    ensures { Returns (PutsHashLabel name.now algorithm iterations salt.now most label.old label.new) len.old len.new result }
 {
-    match put_label(alloc, name, algorithm, iterations, salt, most, label) {
-        Ok(put) => {
-            *len = put;
-            0
-        }
-        Err(failure) => failure.number(),
-    }
+    report(
+        put_label(alloc, name, algorithm, iterations, salt, most, label),
+        len,
+    )
 }
 
 /// Puts whether an NSEC record covers a name.
@@ -117,27 +90,27 @@ pub extern "C" fn dnw_nsec_covers(
     name: &[u8],
     covers: &mut bool,
 ) -> u32
-    ensures ok { result ≡ 0 → CoversName owner.now next.now name.now covers.new }
-    ensures err { result ≢ 0 → NumberOf (FailsToCover owner.now next.now name.now) result }
-    ensures same { result ≢ 0 → covers.new ≡ covers.old }
+    ensures { Returns (SaysIfCovered owner.now next.now name.now) covers.old covers.new result }
 {
-    match covers_name(alloc, owner, next, name) {
-        Ok(answer) => {
-            *covers = answer;
-            0
-        }
-        Err(failure) => failure.number(),
-    }
+    report(covers_name(alloc, owner, next, name), covers)
 }
 
 /// Puts whether an NSEC3 record covers a hashed name.
 #[unsafe(no_mangle)]
 pub extern "C" fn dnw_nsec3_covers(own: &[u8], next: &[u8], hash: &[u8], covers: &mut bool) -> u32
-    ensures done { result ≡ 0 }
-    ensures covers { IsTrue covers.new ↔ Nsec3Covers own.now next.now hash.now }
+    ensures { Returns (SaysIfHashCovered own.now next.now hash.now) covers.old covers.new result }
 {
-    *covers = nsec3_covers(own, next, hash);
-    0
+    report(Ok(nsec3_covers(own, next, hash)), covers)
+}
+
+/// Returns the key tag of the data of a DNSKEY.
+fn tag_of(dnskey: &[u8]) -> Result<u16, Failure>
+    ensures { TagsKey dnskey.now result }
+{
+    match key_tag(dnskey) {
+        Ok(own) => Ok(own),
+        Err(error) => Err(of_dnssec(&error)),
+    }
 }
 
 /// Puts the digest of a key, and returns its length.
@@ -148,19 +121,28 @@ fn put_digest(
     digest_type: u8,
     digest: &mut [u8],
 ) -> Result<usize, Failure>
-    ensures ok { IfOk result (PutsDigest owner.now dnskey.now digest_type digest.old digest.new) }
-    ensures err { IfErr result (FailsToDigest owner.now dnskey.now digest_type (length digest.old)) }
-    ensures same { OnErr result (digest.new ≡ digest.old) }
+    ensures { PutsDigest owner.now dnskey.now digest_type digest.old digest.new result }
+{
+    let own = key_digest(alloc, owner, dnskey, digest_type)?;
+    put(digest, own.as_slice())
+}
+
+/// Returns the digest of a key.
+fn key_digest(
+    alloc: Global,
+    owner: &[u8],
+    dnskey: &[u8],
+    digest_type: u8,
+) -> Result<Digest, Failure>
+    ensures ok { IfOk result (λ own. HasDigest owner.now dnskey.now digest_type own.items) }
+    ensures err { IfErr result (FailsToDigest owner.now dnskey.now digest_type) }
 {
     let owner = match name_of(alloc, owner) {
         Ok(owner) => owner,
         Err(failure) => return Err(failure),
     };
     match ds_digest(&owner, dnskey, digest_type) {
-        Ok(own) => match put(digest, own.as_slice()) {
-            Ok(len) => Ok(len),
-            Err(failure) => Err(failure),
-        },
+        Ok(own) => Ok(own),
         Err(error) => Err(of_dnssec(&error)),
     }
 }
@@ -175,18 +157,10 @@ fn put_hash(
     most: u16,
     hash: &mut [u8],
 ) -> Result<usize, Failure>
-    ensures ok { IfOk result (PutsHash name.now algorithm iterations salt.now most hash.old hash.new) }
-    ensures err { IfErr result (FailsToPutHash name.now algorithm iterations salt.now most (length hash.old)) }
-    ensures same { OnErr result (hash.new ≡ hash.old) }
+    ensures { PutsHash name.now algorithm iterations salt.now most hash.old hash.new result }
 {
-    let own = match hash_of(alloc, name, algorithm, iterations, salt, most) {
-        Ok(own) => own,
-        Err(failure) => return Err(failure),
-    };
-    match put(hash, &own) {
-        Ok(len) => Ok(len),
-        Err(failure) => Err(failure),
-    }
+    let own = hash_of(alloc, name, algorithm, iterations, salt, most)?;
+    put(hash, &own)
 }
 
 /// Puts the label of a hashed name, and returns its length.
@@ -199,18 +173,10 @@ fn put_label(
     most: u16,
     label: &mut [u8],
 ) -> Result<usize, Failure>
-    ensures ok { IfOk result (PutsHashLabel name.now algorithm iterations salt.now most label.old label.new) }
-    ensures err { IfErr result (FailsToPutLabel name.now algorithm iterations salt.now most (length label.old)) }
-    ensures same { OnErr result (label.new ≡ label.old) }
+    ensures { PutsHashLabel name.now algorithm iterations salt.now most label.old label.new result }
 {
-    let own = match hash_of(alloc, name, algorithm, iterations, salt, most) {
-        Ok(own) => own,
-        Err(failure) => return Err(failure),
-    };
-    match put(label, &nsec3_label(&own)) {
-        Ok(len) => Ok(len),
-        Err(failure) => Err(failure),
-    }
+    let own = hash_of(alloc, name, algorithm, iterations, salt, most)?;
+    put(label, &nsec3_label(&own))
 }
 
 /// Returns the hash of the name with a wire form.

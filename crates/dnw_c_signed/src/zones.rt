@@ -1,24 +1,30 @@
 //! The digest of a zone.
-ghost use Rattle.std.specs.Prelude.{◌≡◌, ◌≢◌, [], ◌∷◌, ◌++◌, length, IfOk, IfErr, OnOk, OnErr};
-ghost use Rattle.dnw_record.specs.Records.{RecordValue, TakesRecord};
+ghost use Rattle.std.specs.Prelude.{◌≡◌, [], ◌∷◌, ◌++◌, ℕ, Some, IfOk, IfErr, OnOk};
+ghost use Rattle.dnw_record.specs.Records.{RecordValue};
 ghost use Rattle.dnw_record.specs.AnyRecords.{IsCopyOf};
 ghost use Rattle.dnw_record.specs.declared.record.Record.{Record};
-ghost use Rattle.dnw_c_base.specs.Failures.{NumberOf};
-ghost use Rattle.dnw_c_signed.specs.ZoneCalls.{AreRecordCopies, FailsToCopyAll, FailsToCopyNext, FailsToDigestZone, FailsToPutZone};
+ghost use Rattle.dnw_signed.specs.DataPointers.{TakesDataPointers};
+ghost use Rattle.dnw_c_base.specs.Results.{Returns};
+ghost use Rattle.dnw_c_signed.specs.RecordCalls.{TakesNextRecord};
+ghost use Rattle.dnw_c_signed.specs.ZoneCalls.{AreLimitedCopies, FailsToCopyAll, FailsToCopyNext, FailsToCopyTaken, FailsToDigestZone};
 ghost use Rattle.dnw_c_signed.specs.ZoneCalls.{HasZoneDigest, PutsZoneDigest};
 
-use crate::records::copy_of;
+use crate::records::{copy_of, next_record};
 use crate::sums::{name_of, of_dnssec};
 use dnw_base::decoder::BinDecoder;
+use dnw_base::limits::MAX_POINTERS;
 use dnw_c_base::buffer::put;
-use dnw_c_base::failure::{Failure, of_decode};
+use dnw_c_base::failure::Failure;
+use dnw_c_base::results::report;
 use dnw_dnssec::ds::Digest;
 use dnw_dnssec::zone_digest::zone_digest;
 use dnw_record::record::Record;
 use dnw_record::record_ref::RecordRef;
+use dnw_signed::pointers::pointers_left;
 use std::alloc::Global;
 
-/// Puts the digest of a zone, whose records are these octets, one after another.
+/// Puts the digest of a zone, whose records are these octets, one after another. Their owners and the names in their data may follow
+/// 65,536 pointers in all.
 #[unsafe(no_mangle)]
 pub extern "C" fn dnw_zone_digest(
     alloc: Global,
@@ -28,17 +34,9 @@ pub extern "C" fn dnw_zone_digest(
     digest: &mut [u8],
     len: &mut usize,
 ) -> u32
-    ensures ok { result ≡ 0 → PutsZoneDigest apex.now records.now algorithm digest.old digest.new len.new }
-    ensures err { result ≢ 0 → NumberOf (FailsToPutZone apex.now records.now algorithm (length digest.old)) result }
-    ensures same { result ≢ 0 → (digest.new ≡ digest.old) × (len.new ≡ len.old) }
+    ensures { Returns (PutsZoneDigest apex.now records.now algorithm digest.old digest.new) len.old len.new result }
 {
-    match put_zone(alloc, apex, records, algorithm, digest) {
-        Ok(put) => {
-            *len = put;
-            0
-        }
-        Err(failure) => failure.number(),
-    }
+    report(put_zone(alloc, apex, records, algorithm, digest), len)
 }
 
 /// Puts the digest of a zone, and returns its length.
@@ -49,18 +47,10 @@ fn put_zone(
     algorithm: u8,
     digest: &mut [u8],
 ) -> Result<usize, Failure>
-    ensures ok { IfOk result (PutsZoneDigest apex.now records.now algorithm digest.old digest.new) }
-    ensures err { IfErr result (FailsToPutZone apex.now records.now algorithm (length digest.old)) }
-    ensures same { OnErr result (digest.new ≡ digest.old) }
+    ensures { PutsZoneDigest apex.now records.now algorithm digest.old digest.new result }
 {
-    let own = match digest_of(alloc, apex, records, algorithm) {
-        Ok(own) => own,
-        Err(failure) => return Err(failure),
-    };
-    match put(digest, own.as_slice()) {
-        Ok(len) => Ok(len),
-        Err(failure) => Err(failure),
-    }
+    let own = digest_of(alloc, apex, records, algorithm)?;
+    put(digest, own.as_slice())
 }
 
 /// Returns the digest of a zone.
@@ -81,32 +71,34 @@ fn digest_of(alloc: Global, apex: &[u8], records: &[u8], algorithm: u8) -> Resul
 
 /// Returns copies of all records of these octets.
 fn copies_of(alloc: Global, records: &[u8]) -> Result<Vec<Record>, Failure>
-    ensures ok { IfOk result (λ copies. AreRecordCopies records.now 0 copies.items (length records.now)) }
+    ensures ok { IfOk result (λ copies. AreLimitedCopies records.now copies.items) }
     ensures err { IfErr result (FailsToCopyAll records.now) }
 {
     let mut reader = BinDecoder::new(records);
+    let mut left = MAX_POINTERS;
     let mut copies = Vec::new(alloc);
     'records: while !reader.is_empty() {
-        copy_next(alloc, &mut reader, &mut copies)?;
+        copy_next(alloc, &mut reader, &mut left, &mut copies)?;
     }
     Ok(copies)
 }
 
-/// Appends a copy of the record at the cursor.
+/// Appends a copy of the record at the cursor. The pointers of its names are taken from those that are `left`.
 fn copy_next(
     alloc: Global,
     reader: &mut BinDecoder<'_>,
+    left: &mut usize,
     copies: &mut Vec<Record>,
 ) -> Result<(), Failure>
-    ensures ok { OnOk result ((r : RecordValue) × (copy : Record) × TakesRecord reader.old r reader.new × IsCopyOf r copy
-        × (copies.new.items ≡ copies.old.items ++ copy ∷ [])) }
-    ensures err { IfErr result (FailsToCopyNext reader.old) }
+    ensures ok { OnOk result ((r : RecordValue) × (copy : Record) × (middle : ℕ) × TakesNextRecord reader.old left.old r reader.new middle
+        × TakesDataPointers r middle (Some left.new) × IsCopyOf r copy × (copies.new.items ≡ copies.old.items ++ copy ∷ [])) }
+    ensures err { IfErr result (FailsToCopyNext reader.old left.old) }
 {
-    let item = match RecordRef::read_next(reader) {
+    let item = match next_record(reader, left) {
         Ok(item) => item,
-        Err(error) => return Err(of_decode(&error)),
+        Err(failure) => return Err(failure),
     };
-    let copy = match copy_of(alloc, &item) {
+    let copy = match copy_within(alloc, &item, left) {
         Ok(copy) => copy,
         Err(failure) => return Err(failure),
     };
@@ -114,4 +106,19 @@ fn copy_next(
         return Err(Failure::NoMemory);
     }
     Ok(())
+}
+
+/// Returns a copy of a record. The pointers of the names in its data are taken from those that are `left`.
+fn copy_within(alloc: Global, item: &RecordRef<'_>, left: &mut usize) -> Result<Record, Failure>
+    ensures ok { IfOk result (λ copy. TakesDataPointers item.now left.old (Some left.new) × IsCopyOf item.now copy) }
+    ensures err { IfErr result (FailsToCopyTaken item.now left.old) }
+{
+    let Some(rest) = pointers_left(item, *left) else {
+        return Err(Failure::TooManyPointers);
+    };
+    *left = rest;
+    match copy_of(alloc, item) {
+        Ok(copy) => Ok(copy),
+        Err(failure) => Err(failure),
+    }
 }

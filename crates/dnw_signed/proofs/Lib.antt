@@ -4,6 +4,7 @@ pub mod SameSets
 pub mod Rrsigs
 pub mod RecordKeys
 pub mod Putting
+pub mod Followed
 pub mod Listing
 pub mod Selecting
 pub mod Going

@@ -1,17 +1,19 @@
 -- Which records an RRSIG covers (RFC 4035, section 5.3.1), and what its signature covers of them (RFC 4034, section 3.1.8.1).
-use Rattle.std.specs.Prelude.{◌≡◌, ◌≢◌, ◌≤◌, ◌<◌, ◌⊎◌, ℕ, List, [], ◌∷◌, ◌++◌, length, drop, get_or, slice_range}
+use Rattle.std.specs.Prelude.{◌≡◌, ◌≢◌, ◌≤◌, ◌<◌, ◌⊎◌, ℕ, Some, None, List, [], ◌∷◌, ◌++◌, length, drop, get_or, slice_range}
 use Rattle.std.specs.Int.{w16, w32, from_be_bytes}
 use Rattle.std.specs.List.{flat_map}
 use Rattle.dnw_base.specs.DnsClasses.{class_code}
-use Rattle.dnw_base.specs.Limits.{max_message}
+use Rattle.dnw_base.specs.Limits.{max_message, max_pointers}
 use Rattle.dnw_base.specs.Names.{AreLabels, lower, wire}
 use Rattle.dnw_base.specs.RecordTypes.{type_code}
 use Rattle.dnw_base.specs.declared.record_type.RecordType.TheVariants.{RRSIG}
 use Rattle.dnw_name_order.specs.Order.{IsZoneOf}
 use Rattle.dnw_record.specs.Records.{RecordValue}
 use Rattle.dnw_record.specs.DataCopies.{Copies, data_start, record_kinds}
+use Rattle.dnw_record.specs.declared.rdata.RDataError.{RDataError}
 use Rattle.dnw_record.specs.declared.rdata.RDataError.TheVariants as rdata
 use Rattle.dnw_signed.specs.CanonicalData.{FailsCanonical, IsCanonicalOf}
+use Rattle.dnw_signed.specs.DataPointers.{TakesDataPointers}
 use Rattle.dnw_signed.specs.RecordSets.{IsInOrder, head_octets, set_record}
 use Rattle.dnw_signed.specs.SignedFields.{IsSignedFields, before_signer}
 use Rattle.dnw_signed.specs.declared.error.CanonicalError.{CanonicalError}
@@ -61,27 +63,30 @@ pub record IsCovered (s : RecordValue) (fields : List ℕ) (r : RecordValue) : T
   pub kind : type_code r.record_type ≡ type_covered fields
   pub zone : SignsFor fields s.owner
 
--- Of a record that it covers there are the data in canonical form, whose length two octets can say, and of others there are none.
-abbrev pub Selects : RecordValue → List ℕ → RecordValue → List (List ℕ) → Type 0
-Selects s fields r [] = ¬ (IsCovered s fields r)
-Selects s fields r (octets ∷ []) = IsCovered s fields r × IsCanonicalOf r octets × (length octets ≤ max_message)
-Selects s fields r (octets ∷ other ∷ more) = ⊥
+-- Of a record that it covers there are the data in canonical form, whose length two octets can say, and their names take their
+-- pointers from those that may be followed. Of others there are none.
+abbrev pub Selects : RecordValue → List ℕ → RecordValue → ℕ → List (List ℕ) → ℕ → Type 0
+Selects s fields r most [] left = (¬ (IsCovered s fields r)) × (left ≡ most)
+Selects s fields r most (octets ∷ []) left =
+    IsCovered s fields r × TakesDataPointers r most (Some left) × IsCanonicalOf r octets × (length octets ≤ max_message)
+Selects s fields r most (octets ∷ other ∷ more) left = ⊥
 
--- Of these records it covers those with these data, in turn.
-pub data AreCovered (s : RecordValue) (fields : List ℕ) : List RecordValue → List (List ℕ) → Type 0 where
-  none_left : AreCovered s fields [] []
-  next_record : (r : RecordValue) (records : List RecordValue) (one all : List (List ℕ))
-      → Selects s fields r one → AreCovered s fields records all → AreCovered s fields (r ∷ records) (one ++ all)
+-- Of these records it covers those with these data, in turn. Of the pointers that the names in them may follow so many are left.
+pub data AreCovered (s : RecordValue) (fields : List ℕ) : List RecordValue → ℕ → List (List ℕ) → ℕ → Type 0 where
+  none_left : (left : ℕ) → AreCovered s fields [] left [] left
+  next_record : (r : RecordValue) (records : List RecordValue) (most left end : ℕ) (one all : List (List ℕ))
+      → Selects s fields r most one left → AreCovered s fields records left all end → AreCovered s fields (r ∷ records) most (one ++ all) end
 
 -- ---- what its signature covers
 
--- It covers some of the records. The octets are its own that are signed, and then those of the records: each once, in canonical
--- order of its data.
+-- It covers some of the records, and the names in their data follow 65,536 pointers at most. The octets are its own that are signed,
+-- and then those of the records: each once, in canonical order of its data.
 pub record IsSigned (s : RecordValue) (records : List RecordValue) (octets : List ℕ) : Type 0 where
   pub fields : List ℕ
   pub rrsig : IsRightRrsig s fields
   pub all : List (List ℕ)
-  pub covered : AreCovered s fields records all
+  pub left : ℕ
+  pub covered : AreCovered s fields records max_pointers all left
   pub some : all ≢ []
   pub sorted : List (List ℕ)
   pub in_order : IsInOrder all sorted
@@ -89,21 +94,30 @@ pub record IsSigned (s : RecordValue) (records : List RecordValue) (octets : Lis
 
 -- ---- failures
 
--- The record with this number is the first that is covered and has no such data, for a reason.
-pub record FirstFails (s : RecordValue) (fields : List ℕ) (records : List RecordValue) (number : ℕ) (reason : RecordValue → Type 0) : Type 0 where
+-- The record with this number is the first that is covered and has no such data, for a reason, if so many pointers are left.
+pub record FirstFails (s : RecordValue) (fields : List ℕ) (records : List RecordValue) (number : ℕ) (reason : RecordValue → ℕ → Type 0) : Type 0 where
   pub before : List RecordValue
   pub r : RecordValue
   pub after : List RecordValue
   pub split : records ≡ before ++ r ∷ after
   pub count : length before ≡ number
   pub all : List (List ℕ)
-  pub done : AreCovered s fields before all
+  pub left : ℕ
+  pub done : AreCovered s fields before max_pointers all left
   pub covered : IsCovered s fields r
-  pub fails : reason r
+  pub fails : reason r left
 
--- Two octets can't say how long the data are in canonical form.
-abbrev pub IsTooLong : RecordValue → Type 0
-IsTooLong r = (octets : List ℕ) × IsCanonicalOf r octets × (max_message < length octets)
+-- The names in the data follow more pointers than are left.
+abbrev pub LacksPointers : RecordValue → ℕ → Type 0
+LacksPointers r left = TakesDataPointers r left None
+
+-- They do not, but the data are no fields of their class and type, or memory ran out.
+abbrev pub LacksCanonical : RDataError → RecordValue → ℕ → Type 0
+LacksCanonical error r left = (end : ℕ) × TakesDataPointers r left (Some end) × FailsCanonical r error
+
+-- They do not, but two octets can't say how long the data are in canonical form.
+abbrev pub IsTooLong : RecordValue → ℕ → Type 0
+IsTooLong r left = (end : ℕ) × TakesDataPointers r left (Some end) × (octets : List ℕ) × IsCanonicalOf r octets × (max_message < length octets)
 
 -- Why the record is no RRSIG: it has another type, or its data are left out (RFC 2136, section 2.4); its data are none of one; or it
 -- counts too many labels; or memory ran out.
@@ -116,8 +130,9 @@ FailsRrsig s error = ⊥
 
 -- Why there is no set: the first record that it covers and that fails; or memory ran out.
 abbrev pub FailsCovered : RecordValue → List ℕ → List RecordValue → CanonicalError → Type 0
-FailsCovered s fields records (why.Field number error) = FirstFails s fields records number (λ r. FailsCanonical r (rdata.Field error))
+FailsCovered s fields records (why.Field number error) = FirstFails s fields records number (LacksCanonical (rdata.Field error))
 FailsCovered s fields records (why.DataTooLong number) = FirstFails s fields records number IsTooLong
+FailsCovered s fields records (why.TooManyPointers number) = FirstFails s fields records number LacksPointers
 FailsCovered s fields records why.Memory = Unit {0}
 FailsCovered s fields records error = ⊥
 
@@ -126,4 +141,4 @@ abbrev pub FailsToSign : RecordValue → List RecordValue → CanonicalError →
 FailsToSign s records error =
     FailsRrsig s error
     ⊎ ((fields : List ℕ) × IsRightRrsig s fields × FailsCovered s fields records error)
-    ⊎ ((fields : List ℕ) × IsRightRrsig s fields × AreCovered s fields records [] × (error ≡ why.NoRecords))
+    ⊎ ((fields : List ℕ) × IsRightRrsig s fields × AreCovered s fields records max_pointers [] max_pointers × (error ≡ why.NoRecords))

@@ -1,4 +1,5 @@
 pub mod CanonicalData
+pub mod DataPointers
 pub mod RecordSets
 pub mod SignedFields
 pub mod Covering

@@ -130,7 +130,7 @@ fn canonical_data(alloc: Global, records: &[Record]) -> Result<DataList, AllocEr
     let mut list = DataList::new(alloc);
     let mut left = records;
     'records: while let Some((item, others)) = left.split_first() {
-        match list.push_data(alloc, &item.data) {
+        match list.push_data(&item.data) {
             Ok(_) => left = others,
             Err(_) => return Err(AllocError),
         }

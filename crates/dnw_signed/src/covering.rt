@@ -1,6 +1,7 @@
 //! What a signature covers of the records of a message.
-ghost use Rattle.std.specs.Prelude.{◌≡◌, ◌≤◌, ◌↔◌, ◌++◌, ℕ, List, drop, length, IfOk, IfErr, OnOk, OnErr, IsTrue};
+ghost use Rattle.std.specs.Prelude.{◌≡◌, ◌≤◌, ◌↔◌, ◌++◌, ℕ, List, [], drop, length, IfOk, IfErr, OnOk, OnErr, IsTrue};
 ghost use Rattle.std.specs.List.{flat_map};
+ghost use Rattle.dnw_base.specs.Limits.{max_pointers};
 ghost use Rattle.dnw_name_form.specs.Inside.WireBytes.{IsWire};
 ghost use Rattle.dnw_signed.specs.Covering.{AreCovered, FailsCovered, FailsRrsig, FailsToSign, HasRrsigType, IsCovered, IsRrsigOf, IsSigned};
 ghost use Rattle.dnw_signed.specs.Covering.{Selects, SignsFor, label_count, original_ttl, type_covered};
@@ -14,8 +15,9 @@ use crate::canonical::{BEFORE_SIGNER, cut_signature};
 use crate::data_list::DataList;
 use crate::error::CanonicalError;
 use crate::fields::put_record_data;
+use crate::pointers::pointers_left;
 use crate::set::{append_set, head_of, make_set};
-use dnw_base::limits::MAX_NAME;
+use dnw_base::limits::{MAX_NAME, MAX_POINTERS};
 use dnw_base::record_type::RecordType;
 use dnw_name::name::Name;
 use dnw_name_form::wire_labels::WireLabels;
@@ -23,6 +25,9 @@ use dnw_name_order::order::is_zone_of;
 use dnw_record::rdata::RDataError;
 use dnw_record::record_ref::RecordRef;
 use std::alloc::{AllocError, Global};
+
+/// The octets of the length of data.
+const LENGTH: usize = 2;
 
 /// An RRSIG of a message.
 #[derive(Drop)]
@@ -45,8 +50,9 @@ pub(crate) struct Rrsig {
 ///
 /// It fails with `NotRrsig` if `rrsig` has another type, with `RrsigField` if its data are not those of an RRSIG, and with
 /// `TooFewLabels` if its owner has fewer labels than it counts; with `Field` and `DataTooLong` at the first record covered whose data
-/// are not the fields of its type, or are longer in canonical form than two octets can say; with `NoRecords` if it covers none; and
-/// with `Memory` if an allocation fails. Then nothing is appended.
+/// are not the fields of its type, or are longer in canonical form than two octets can say; with `TooManyPointers` at the first one
+/// whose names, with those before it, follow more than 65,536 compression pointers; with `NoRecords` if it covers none; and with
+/// `Memory` if an allocation fails. Then nothing is appended.
 pub fn signed_octets(
     alloc: Global,
     rrsig: &RecordRef<'_>,
@@ -103,7 +109,7 @@ fn fields_of(alloc: Global, rrsig: &RecordRef<'_>) -> Result<Vec<u8>, CanonicalE
     ensures err { IfErr result (FailsRrsig rrsig.now) }
 {
     let mut fields = Vec::with_capacity(alloc, rrsig.rdata().len() + MAX_NAME)?;
-    match put_record_data(alloc, rrsig, &mut fields) {
+    match put_record_data(rrsig, &mut fields) {
         Ok(()) => {}
         Err(RDataError::Field(error)) => return Err(CanonicalError::RrsigField(error)),
         Err(RDataError::Memory) => return Err(CanonicalError::Memory),
@@ -133,37 +139,44 @@ fn covered(
     records: &[RecordRef<'_>],
 ) -> Result<DataList, CanonicalError>
     requires { IsRrsigAs rrsig.now own.now }
-    ensures ok { IfOk result (λ list. HoldsData list × AreCovered rrsig.now own.now.fields.items records.now (data_of list)) }
+    ensures ok { IfOk result (λ list. HoldsData list × (left : ℕ)
+        × AreCovered rrsig.now own.now.fields.items records.now max_pointers (data_of list) left × (data_of list ≡ [] → left ≡ max_pointers)) }
     ensures err { IfErr result (FailsCovered rrsig.now own.now.fields.items records.now) }
 {
     let mut list = DataList::new(alloc);
+    let mut left = MAX_POINTERS;
     let mut number = 0;
     'records: for item in records {
-        select(alloc, rrsig, own, item, number, &mut list)?;
+        select(rrsig, own, item, number, &mut left, &mut list)?;
         number += 1;
     }
     Ok(list)
 }
 
-/// Appends the data of the record with this number to a list if the RRSIG covers it.
+/// Appends the data of the record with this number to a list if the RRSIG covers it, and takes the pointers that its names follow
+/// from those that are `left`.
 fn select(
-    alloc: Global,
     rrsig: &RecordRef<'_>,
     own: &Rrsig,
     item: &RecordRef<'_>,
     number: usize,
+    left: &mut usize,
     list: &mut DataList,
 ) -> Result<(), CanonicalError>
     requires rrsig { IsRrsigAs rrsig.now own.now }
     requires listed { HoldsData list.old }
-    ensures ok { OnOk result ((more : List (List ℕ)) × Selects rrsig.now own.now.fields.items item.now more
+    ensures ok { OnOk result ((more : List (List ℕ)) × Selects rrsig.now own.now.fields.items item.now left.old more left.new
         × HoldsData list.new × (data_of list.new ≡ data_of list.old ++ more)) }
-    ensures err { IfErr result (λ error. IsCovered rrsig.now own.now.fields.items item.now × FailsSelected item.now number error) }
+    ensures err { IfErr result (λ error. IsCovered rrsig.now own.now.fields.items item.now × FailsSelected item.now left.old number error) }
 {
     if !is_covered(rrsig, own, item) {
         return Ok(());
     }
-    match list.push_record(alloc, item) {
+    let Some(now) = pointers_left(item, *left) else {
+        return Err(CanonicalError::TooManyPointers { record: number });
+    };
+    *left = now;
+    match list.push_record(item) {
         Ok(true) => Ok(()),
         Ok(false) => Err(CanonicalError::DataTooLong { record: number }),
         Err(RDataError::Field(error)) => Err(CanonicalError::Field {
@@ -220,12 +233,23 @@ fn append_signed(
     ensures ok { OnOk result (out.new.items ≡ out.old.items ++ (fields.now ++ flat_map (set_record head.now) (all_octets all.now))) }
     ensures same { OnErr result (out.new.items ≡ out.old.items) }
 {
+    out.reserve(signed_size(fields, head, all))?;
     let before = out.len();
     let outcome = append_parts(fields, head, all, out);
     if outcome.is_err() {
         out.truncate(before);
     }
     outcome
+}
+
+/// Returns how many octets all that is signed takes.
+fn signed_size(fields: &[u8], head: &[u8], all: &[&[u8]]) -> usize {
+    let mut size = fields.len();
+    for item in all {
+        let own = item.len().saturating_add(LENGTH);
+        size = size.saturating_add(head.len()).saturating_add(own);
+    }
+    size
 }
 
 /// Appends all that is signed. If it fails, a part may be appended.

@@ -37,30 +37,26 @@ impl DataList {
     }
 
     /// Appends data. Returns `false` if two octets can't say how long they are; then the list is of no use.
-    pub(crate) fn push_data(&mut self, alloc: Global, data: &RData) -> Result<bool, RDataError>
+    pub(crate) fn push_data(&mut self, data: &RData) -> Result<bool, RDataError>
         requires { HoldsData self.old }
         ensures { IfOk result (λ fits. (more : List ℕ) × IsCanonical «data».now more × (length more ≡ length «data».now.octets)
             × TakesData fits self.old more self.new) }
     {
         let before = self.octets.len();
-        put_data(alloc, data, &mut self.octets)?;
+        put_data(data, &mut self.octets)?;
         let fits = self.end(before)?;
         Ok(fits)
     }
 
     /// Appends the data of a record of a message. Returns `false` if two octets can't say how long they are; then the list is
     /// of no use.
-    pub(crate) fn push_record(
-        &mut self,
-        alloc: Global,
-        item: &RecordRef<'_>,
-    ) -> Result<bool, RDataError>
+    pub(crate) fn push_record(&mut self, item: &RecordRef<'_>) -> Result<bool, RDataError>
         requires { HoldsData self.old }
         ensures ok { IfOk result (λ fits. (more : List ℕ) × IsCanonicalOf item.now more × TakesData fits self.old more self.new) }
         ensures err { IfErr result (FailsCanonical item.now) }
     {
         let before = self.octets.len();
-        put_record_data(alloc, item, &mut self.octets)?;
+        put_record_data(item, &mut self.octets)?;
         let fits = self.end(before)?;
         Ok(fits)
     }

@@ -39,6 +39,12 @@ pub enum CanonicalError {
         /// Why there is no such field.
         error: FieldError,
     },
+    /// The names in the data of a record, with those of the records before it, follow more than 65,536 compression pointers.
+    #[error("record {record}: too many compression pointers")]
+    TooManyPointers {
+        /// The number of the record, from 0.
+        record: usize,
+    },
     /// An allocation failed.
     #[error("out of memory")]
     Memory,

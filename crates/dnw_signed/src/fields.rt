@@ -1,6 +1,6 @@
 //! The fields of the data of records in canonical form.
 ghost use Rattle.std.specs.Prelude.{◌≡◌, ℕ, List, ◌++◌, length, IfOk, IfErr, OnOk};
-ghost use Rattle.dnw_base.specs.Names.{NameValue, wire};
+ghost use Rattle.dnw_base.specs.Names.{lower, wire};
 ghost use Rattle.dnw_record.specs.DataPieces.{DataPiece, name_piece, piece_octets};
 ghost use Rattle.dnw_record.specs.DataCopies.{FailsPiece, FailsToCopy, TakesNamePiece, TakesOwnPiece, TakesPiece};
 ghost use Rattle.dnw_record.specs.Inside.Copying.{IsNoName};
@@ -8,12 +8,14 @@ ghost use Rattle.dnw_signed.specs.CanonicalData.{FailsCanonical, IsCanonical, Is
 
 use dnw_base::decoder::BinDecoder;
 use dnw_base::error::DecodeError;
+use dnw_base::limits::MAX_NAME;
 use dnw_data::field::Field;
 use dnw_data::fields::FieldError;
 use dnw_data::kind::{Kind, NameForm};
 use dnw_data::table;
-use dnw_name::name::Name;
 use dnw_name::name_ref::NameRef;
+use dnw_name_form::octets::Octets;
+use dnw_name_form::wire_labels::WireLabels;
 use dnw_record::rdata::{RData, RDataError};
 use dnw_record::record_ref::RecordRef;
 use std::alloc::{AllocError, Global};
@@ -28,43 +30,34 @@ pub fn canonical_octets(alloc: Global, data: &RData) -> Result<Vec<u8>, AllocErr
 {
     let own = data.octets();
     let mut octets = Vec::with_capacity(alloc, own.len())?;
-    match put_data(alloc, data, &mut octets) {
+    match put_data(data, &mut octets) {
         Ok(()) => Ok(octets),
         Err(_) => Err(AllocError),
     }
 }
 
 /// Appends data in canonical form.
-pub(crate) fn put_data(alloc: Global, data: &RData, out: &mut Vec<u8>) -> Result<(), RDataError>
+pub(crate) fn put_data(data: &RData, out: &mut Vec<u8>) -> Result<(), RDataError>
     ensures { OnOk result ((more : List ℕ) × IsCanonical «data».now more × (length more ≡ length «data».now.octets)
         × (out.new.items ≡ out.old.items ++ more)) }
 {
     let octets = data.octets();
     let kinds = table::fields_of(data.class(), data.record_type(), octets);
-    put_fields(alloc, kinds, BinDecoder::new(octets), out)?;
+    put_fields(kinds, BinDecoder::new(octets), out)?;
     Ok(())
 }
 
 /// Appends the data of a record of a message in canonical form.
-pub(crate) fn put_record_data(
-    alloc: Global,
-    item: &RecordRef<'_>,
-    out: &mut Vec<u8>,
-) -> Result<(), RDataError>
+pub(crate) fn put_record_data(item: &RecordRef<'_>, out: &mut Vec<u8>) -> Result<(), RDataError>
     ensures ok { OnOk result ((more : List ℕ) × IsCanonicalOf item.now more
         × (out.new.items ≡ out.old.items ++ more)) }
     ensures err { IfErr result (FailsCanonical item.now) }
 {
-    put_fields(alloc, item.kinds(), item.data_decoder(), out)
+    put_fields(item.kinds(), item.data_decoder(), out)
 }
 
 /// Appends the fields of these kinds that are read from the cursor up to the end, in canonical form.
-fn put_fields(
-    alloc: Global,
-    kinds: &[Kind],
-    start: BinDecoder<'_>,
-    out: &mut Vec<u8>,
-) -> Result<(), RDataError>
+fn put_fields(kinds: &[Kind], start: BinDecoder<'_>, out: &mut Vec<u8>) -> Result<(), RDataError>
     ensures ok { OnOk result ((more : List ℕ) × ReadsCanonical kinds.now start.entry more × (out.new.items ≡ out.old.items ++ more)) }
     ensures err { IfErr result (FailsToCopy kinds.now start.entry) }
 {
@@ -73,7 +66,7 @@ fn put_fields(
     let mut left = kinds;
     'fields: while let Some((kind, others)) = left.split_first() {
         let field = kinds.len() - left.len();
-        put_field(alloc, *kind, field, &mut reader, out)?;
+        put_field(*kind, field, &mut reader, out)?;
         left = others;
     }
     if !reader.is_empty() {
@@ -89,7 +82,6 @@ fn put_fields(
 
 /// Appends the field of this kind and number that is read at the cursor.
 fn put_field(
-    alloc: Global,
     kind: Kind,
     field: usize,
     reader: &mut BinDecoder<'_>,
@@ -100,14 +92,13 @@ fn put_field(
     ensures err { IfErr result (FailsPiece kind field reader.old) }
 {
     match kind {
-        Kind::Name(form) => put_name(alloc, form, field, reader, out),
+        Kind::Name(form) => put_name(form, field, reader, out),
         _ => put_own(kind, field, reader, out),
     }
 }
 
 /// Appends the wire form of the name that is read at the cursor, in lower case if names of its form are lowered.
 fn put_name(
-    alloc: Global,
     form: NameForm,
     field: usize,
     reader: &mut BinDecoder<'_>,
@@ -121,20 +112,33 @@ fn put_name(
         Ok(name) => name,
         Err(cause) => return Err(RDataError::Field(FieldError { field, cause })),
     };
-    let own = canonical_name(alloc, form, &name);
-    out.extend_from_slice(own.as_wire())?;
+    append_canonical(form, name.wire_labels(&mut [0; MAX_NAME]), out)?;
     Ok(())
 }
 
-/// Returns a name of data in canonical form.
-fn canonical_name(alloc: Global, form: NameForm, name: &NameRef<'_>) -> Name
-    ensures { result.labels ≡ canonical_labels form name.now }
+/// Appends the wire form of a name of data in canonical form.
+fn append_canonical(
+    form: NameForm,
+    labels: WireLabels<'_>,
+    out: &mut Vec<u8>,
+) -> Result<(), AllocError>
+    ensures { OnOk result (out.new.items ≡ out.old.items ++ wire (canonical_labels form labels.entry)) }
 {
-    let own = name.to_name(alloc).unwrap();
     match form {
-        NameForm::Plain => own,
-        _ => own.to_lowercase().unwrap(),
+        NameForm::Plain => out.extend_from_slice(labels.as_wire()),
+        _ => append_lowered(labels, out),
     }
+}
+
+/// Appends the wire form of a name in lower case.
+pub(crate) fn append_lowered(labels: WireLabels<'_>, out: &mut Vec<u8>) -> Result<(), AllocError>
+    ensures { OnOk result (out.new.items ≡ out.old.items ++ wire (lower labels.entry)) }
+{
+    let mut own = Octets::from_slice(labels.as_wire());
+    // Length octets are no letters.
+    own.make_ascii_lowercase();
+    out.extend_from_slice(own.as_slice())?;
+    Ok(())
 }
 
 /// Appends the octets of the field that is read at the cursor and is no name.

@@ -9,5 +9,6 @@ mod data_list;
 pub mod error;
 pub mod fields;
 pub mod laws;
+pub mod pointers;
 pub mod record_key;
 mod set;

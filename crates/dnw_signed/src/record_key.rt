@@ -29,6 +29,6 @@ pub fn record_key(alloc: Global, item: &RecordRef<'_>) -> Result<Vec<u8>, RDataE
     key.extend_from_slice(&[0])?;
     key.extend_from_slice(&u16::to_be_bytes(u16::from(item.record_type())))?;
     key.extend_from_slice(&u16::to_be_bytes(u16::from(item.class())))?;
-    put_record_data(alloc, item, &mut key)?;
+    put_record_data(item, &mut key)?;
     Ok(key)
 }

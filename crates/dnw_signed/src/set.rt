@@ -6,6 +6,7 @@ ghost use Rattle.dnw_base.specs.Names.{lower, wire};
 ghost use Rattle.dnw_signed.specs.RecordSets.{IsInOrder, head_octets, set_record, signed_owner};
 ghost use Rattle.dnw_signed.specs.Inside.Going.{AreShort, all_octets};
 
+use crate::fields::append_lowered;
 use dnw_base::limits::MAX_NAME;
 use dnw_name::name::Name;
 use std::alloc::{AllocError, Global};
@@ -39,10 +40,10 @@ pub(crate) fn head_of(
 fn put_owner(name: &Name, labels: u8, head: &mut Vec<u8>) -> Result<(), AllocError>
     ensures { OnOk result (head.new.items ≡ head.old.items ++ wire (signed_owner (lower name.now.labels) labels)) }
 {
-    let owner = name.to_lowercase().unwrap();
-    if owner.wire_labels().len() <= labels as usize {
-        return head.extend_from_slice(owner.as_wire());
+    if name.wire_labels().len() <= labels as usize {
+        return append_lowered(name.wire_labels(), head);
     }
+    let owner = name.to_lowercase().unwrap();
     let last = owner.trim_to(labels as usize).unwrap();
     head.extend_from_slice(WILDCARD)?;
     head.extend_from_slice(last.as_wire())

@@ -6,7 +6,7 @@ use Rattle.dnw_c_signed.proofs.records.records_from.Goals as goal
 pub records-smaller : goal.records-smaller
 records-smaller c =
     let (r, takes, grown) = c.in_ok-push_next.ensures.ok in
-    let (onward, within) = takes_on takes in
+    let (onward, within) = takes_on c.records.left c.push_next.new.left takes in
     omega (arith, onward, within, ap length c.records.invariant.same)
 
 pub records-preserved : goal.records-preserved

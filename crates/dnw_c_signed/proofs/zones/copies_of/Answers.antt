@@ -9,14 +9,14 @@ records-init c = none_copied c.args.records.now c.new-reader.result c.new-copies
 
 pub records-smaller : goal.records-smaller
 records-smaller c =
-    let (r, copy, takes, like, grown) = c.in_ok-copy_next.ensures.ok in
-    let (onward, within) = takes_on takes in
+    let (r, copy, middle, takes, few, like, grown) = c.in_ok-copy_next.ensures.ok in
+    let (onward, within) = takes_on c.records.left middle takes in
     omega (arith, onward, within, ap length c.records.invariant.same)
 
 pub records-preserved : goal.records-preserved
 records-preserved c =
-    let (r, copy, takes, like, grown) = c.in_ok-copy_next.ensures.ok in
-    copied_more r copy c.copy_next.new.copies.items c.records.invariant takes like grown
+    let (r, copy, middle, takes, few, like, grown) = c.in_ok-copy_next.ensures.ok in
+    copied_more r copy c.copy_next.new.copies.items c.records.invariant takes few like grown
 
 pub returns-in_err-copy_next-clause-err : goal.returns-in_err-copy_next-clause-err
 returns-in_err-copy_next-clause-err c =

@@ -27,7 +27,7 @@ returns-clause-ok c =
     let items = rw (c.as_slice-4.ensures.value, c.as_slice-5.ensures.value, c.as_slice-6.ensures.value) at c.in_ok-append_signed.ensures.ok in
     let in_order = subst (λ xs. IsInOrder xs sorted) c.in_ok-all.ensures.data c.make_set.ensures.set in (
       fields ++ flat_map (set_record head) sorted,
-      signs c.args.rrsig.now c.args.records.now fields head (fields ++ flat_map (set_record head) sorted) all sorted s.right c.in_ok-list.ensures.ok.1
+      signs c.args.rrsig.now c.args.records.now fields head (fields ++ flat_map (set_record head) sorted) all sorted c.in_ok-list.ensures.ok.1 s.right c.in_ok-list.ensures.ok.2
           (λ none. let no : false ≡ true = sym c.if-is_empty.false ∙ c.is_empty.ensures.1 none in cc) in_order head_is refl,
       items,
     )

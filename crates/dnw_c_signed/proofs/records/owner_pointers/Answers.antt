@@ -1,0 +1,11 @@
+use Rattle.std.proofs.Common.{inl}
+use Rattle.std.proofs.lemmas.Result.{err_from_is_err_and}
+use Rattle.dnw_record.proofs.RecordReading.{started}
+use Rattle.dnw_c_signed.proofs.records.owner_pointers.Goals as goal
+
+pub returns-in_err-read_counted-clause-err : goal.returns-in_err-read_counted-clause-err
+returns-in_err-read_counted-clause-err c =
+    let p = err_from_is_err_and c.from_residual.result c.from_residual.ensures.1 in
+    let begins = started c.args.message.now c.args.start c.new-reader.result c.skip.result c.skip.new.self c.new-reader.ensures c.requires c.skip.ensures.takes in
+    let stops = rw begins at c.in_err-read_counted.ensures.err in
+    rw (p.1, p.2) (inl (_, _, stops))
