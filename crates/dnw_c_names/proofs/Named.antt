@@ -5,25 +5,25 @@ use Rattle.std.specs.List.{range_with_len}
 use Rattle.std.proofs.lemmas.List.{append-nil, append_assoc, length-map, length_push, map-append, map-id}
 use Rattle.std.proofs.lemmas.List.FromFn.{map-range_with_len_more}
 use Rattle.dnw_base.specs.Decoder.{Decoder}
-use Rattle.dnw_name_read.specs.Reading.{TakesName}
+use Rattle.dnw_base.specs.Limits.{max_pointers}
 use Rattle.dnw_name_order.specs.SortKeys.{sort_key}
-use Rattle.dnw_c_names.specs.NameLists.{at_first}
-use Rattle.dnw_c_names.specs.SortCalls.{FailsToName, HasNames, IsNoNextName, StopsNaming, none, more, here, later}
+use Rattle.dnw_c_names.specs.NameLists.{IsNoNextName, TakesNextName, at_first}
+use Rattle.dnw_c_names.specs.SortCalls.{FailsToName, HasNames, StopsNaming, none, more, here, later}
 use Rattle.dnw_c_names.specs.Inside.Keyed.{AreKeyed, key_of, number_of}
 use Rattle.dnw_c_base.specs.declared.failure.Failure.{Failure}
 use Rattle.dnw_c_base.specs.declared.failure.Failure.TheVariants.{NoMemory}
 
 -- So many names are read up to the decoder d, and these are the entries of their keys.
-pub record HasKeyed (list : List ℕ) (d : Decoder) (entries : List (Vec ℕ × ℕ)) : Type 0 where
+pub record HasKeyed (list : List ℕ) (d : Decoder) (left : ℕ) (entries : List (Vec ℕ × ℕ)) : Type 0 where
   pub done : List (List (List ℕ))
   pub same_list : d.bytes ≡ list
   pub within : d.index ≤ length d.bytes
   pub keyed : AreKeyed done entries
-  pub goes_on : (others : List (List (List ℕ))) → HasNames d others → HasNames (at_first list) (done ++ others)
-  pub stops_on : (failure : Failure) → StopsNaming d failure → StopsNaming (at_first list) failure
+  pub goes_on : (others : List (List (List ℕ))) → HasNames d left others → HasNames (at_first list) max_pointers (done ++ others)
+  pub stops_on : (failure : Failure) → StopsNaming d left failure → StopsNaming (at_first list) max_pointers failure
 
 -- none is read yet
-pub keyed_none : (list : List ℕ) → HasKeyed list (at_first list) []
+pub keyed_none : (list : List ℕ) → HasKeyed list (at_first list) max_pointers []
 keyed_none list = record {
   done = [];
   same_list = refl;
@@ -34,37 +34,37 @@ keyed_none list = record {
 }
 
 -- one more name
-pub keyed_more : {list : List ℕ} {d next : Decoder} {entries after : List (Vec ℕ × ℕ)} {labels : List (List ℕ)} {k : ℕ}
-    → HasKeyed list d entries → TakesName d next labels k
+pub keyed_more : {list : List ℕ} {d next : Decoder} {entries after : List (Vec ℕ × ℕ)} {labels : List (List ℕ)} {most left : ℕ}
+    → HasKeyed list d most entries → TakesNextName d most labels next left
     → ((names : List (List (List ℕ))) → AreKeyed names entries → AreKeyed (names ++ labels ∷ []) after)
-    → next.index ≤ length next.bytes → next.bytes ≡ d.bytes → HasKeyed list next after
-keyed_more {list} {d} {next} {labels = labels} {k = k} h takes adds within bytes = record {
+    → next.index ≤ length next.bytes → next.bytes ≡ d.bytes → HasKeyed list next left after
+keyed_more {list} {d} {next} {labels = labels} {most = most} {left = left} h takes adds within bytes = record {
   done = h.done ++ labels ∷ [];
   same_list = bytes ∙ h.same_list;
   within = within;
   keyed = adds h.done h.keyed;
   goes_on = λ others rest.
-      subst (HasNames (at_first list)) (sym (append_assoc h.done (labels ∷ []) others))
-      (h.goes_on (labels ∷ others) (more d next labels k others takes rest));
-  stops_on = λ failure stops. h.stops_on failure (later d next labels k failure takes stops);
+      subst (HasNames (at_first list) max_pointers) (sym (append_assoc h.done (labels ∷ []) others))
+      (h.goes_on (labels ∷ others) (more d next most left labels others takes rest));
+  stops_on = λ failure stops. h.stops_on failure (later d next most left labels failure takes stops);
 }
 
 -- none is left
-pub keyed_all : {list : List ℕ} {d : Decoder} {entries : List (Vec ℕ × ℕ)} (h : HasKeyed list d entries)
-    → d.index ≡ length d.bytes → HasNames (at_first list) h.done
-keyed_all {list} {d} h ends = subst (HasNames (at_first list)) (append-nil h.done) (h.goes_on [] (none d ends))
+pub keyed_all : {list : List ℕ} {d : Decoder} {left : ℕ} {entries : List (Vec ℕ × ℕ)} (h : HasKeyed list d left entries)
+    → d.index ≡ length d.bytes → HasNames (at_first list) max_pointers h.done
+keyed_all {list} {d} {left} h ends = subst (HasNames (at_first list) max_pointers) (append-nil h.done) (h.goes_on [] (none d left ends))
 
 -- one that is left is no name
-keyed_no_more : {list : List ℕ} {d : Decoder} {entries : List (Vec ℕ × ℕ)} {failure : Failure}
-    → HasKeyed list d entries → d.index ≢ length d.bytes → IsNoNextName d failure → StopsNaming (at_first list) failure
-keyed_no_more {d = d} {failure = failure} h left fails =
+keyed_no_more : {list : List ℕ} {d : Decoder} {most : ℕ} {entries : List (Vec ℕ × ℕ)} {failure : Failure}
+    → HasKeyed list d most entries → d.index ≢ length d.bytes → IsNoNextName d most failure → StopsNaming (at_first list) max_pointers failure
+keyed_no_more {d = d} {most = most} {failure = failure} h left fails =
     let within = h.within in
     let before : d.index < length d.bytes = omega (arith, left) in
-    h.stops_on failure (here d failure before fails)
+    h.stops_on failure (here d most failure before fails)
 
 -- one that is left is not pushed
-pub keyed_fails : {list : List ℕ} {d : Decoder} {entries : List (Vec ℕ × ℕ)} {failure : Failure}
-    → HasKeyed list d entries → d.index ≢ length d.bytes → IsNoNextName d failure ⊎ (failure ≡ NoMemory) → FailsToName list failure
+pub keyed_fails : {list : List ℕ} {d : Decoder} {most : ℕ} {entries : List (Vec ℕ × ℕ)} {failure : Failure}
+    → HasKeyed list d most entries → d.index ≢ length d.bytes → IsNoNextName d most failure ⊎ (failure ≡ NoMemory) → FailsToName list failure
 keyed_fails h left (inl unread) = inl (keyed_no_more h left unread)
 keyed_fails {list} {d} h left (inr memory) =
     let within = h.within in

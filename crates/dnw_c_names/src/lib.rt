@@ -8,6 +8,8 @@
 
 /// Names changed, by their wire forms.
 pub mod edits;
+/// Names of a list, read one after another.
+mod list;
 /// Names read, written, parsed and printed.
 pub mod names;
 /// Names compared, and in lower case.

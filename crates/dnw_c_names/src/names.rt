@@ -1,31 +1,29 @@
 //! Names read, written, parsed and printed.
 ghost use Rattle.std.specs.Prelude.{◌≡◌, ℕ, ◌<◌, ◌≤◌, List, length, Ok, IfOk, IfErr, OnOk};
-ghost use Rattle.dnw_base.specs.Limits.{max_name};
-ghost use Rattle.dnw_base.specs.Names.{NameValue, wire};
+ghost use Rattle.dnw_base.specs.Limits.{max_name, max_pointers};
+ghost use Rattle.dnw_base.specs.Names.{wire};
 ghost use Rattle.dnw_name_ascii.specs.NameText.{max_text};
 ghost use Rattle.dnw_name_text.specs.NameTexts.{text_of_name};
-ghost use Rattle.dnw_name.specs.Decodable.{TakesNameValue};
 ghost use Rattle.dnw_write.specs.Encoder.{Encoder};
 ghost use Rattle.dnw_write.specs.EncoderValue.{value, lender};
-ghost use Rattle.dnw_write.specs.EmittedName.{EmitsName};
 ghost use Rattle.dnw_c_base.specs.Failures.{HasText};
 ghost use Rattle.dnw_c_base.specs.Results.{PutsWithin, Returns};
 ghost use Rattle.dnw_c_names.specs.Buffers.{PutsIfFits};
 ghost use Rattle.dnw_c_names.specs.NameCalls.{ParsesName, PutsOfForm, ReadsName, absolute_text};
 ghost use Rattle.dnw_c_names.specs.NameEdits.{PutsName};
-ghost use Rattle.dnw_c_names.specs.NameLists.{FailsToCopyName, StopsWriting, WritesList, WritesNames, at_first, limited_to};
+ghost use Rattle.dnw_c_names.specs.NameLists.{FailsToCopyName, StopsWriting, TakesNextName, WritesList, WritesName, WritesNames, at_first, limited_to};
 
+use crate::list::next_name;
 use crate::text_faults::{of_rule, origin_labels};
 use crate::wire_form::labels_of;
 use arrayvec::ArrayString;
 use dnw_base::decoder::BinDecoder;
-use dnw_base::limits::MAX_NAME;
+use dnw_base::limits::{MAX_NAME, MAX_POINTERS};
 use dnw_c_base::buffer::put;
 use dnw_c_base::failure::{Failure, text_of};
 use dnw_c_base::names::{name_ref_at, put_name};
 use dnw_c_base::results::report;
 use dnw_name::name::Name;
-use dnw_name::name_ref::NameRef;
 use dnw_name_form::wire_labels::WireLabels;
 use dnw_name_text::printing::{MAX_TEXT, push_name};
 use dnw_name_text::reading::read;
@@ -111,7 +109,8 @@ pub extern "C" fn dnw_name_print(
     report(print(form, is_fqdn, text), len)
 }
 
-/// Puts a message of the names of a list, each compressed by those before it.
+/// Puts a message of the names of a list, each compressed by those before it. The names of the list may follow 65,536 pointers in
+/// all.
 #[unsafe(no_mangle)]
 pub extern "C" fn dnw_names_write(
     alloc: Global,
@@ -195,9 +194,9 @@ fn write(
 
 /// Returns the bytes of a message of a list's names, and their number.
 fn write_all(alloc: Global, names: &[u8], max_size: u16) -> Result<(Vec<u8>, usize), Failure>
-    ensures ok { IfOk result (λ r. (w : Encoder) × WritesNames (at_first names.now) (limited_to max_size) r.1 w
+    ensures ok { IfOk result (λ r. (w : Encoder) × WritesNames (at_first names.now) max_pointers (limited_to max_size) r.1 w
         × (r.0.items ≡ w.bytes)) }
-    ensures err { IfErr result (StopsWriting (at_first names.now) (limited_to max_size)) }
+    ensures err { IfErr result (StopsWriting (at_first names.now) max_pointers (limited_to max_size)) }
 {
     let mut bytes = Vec::new(alloc);
     let mut encoder = BinEncoder::new(&mut bytes);
@@ -210,30 +209,35 @@ fn write_all(alloc: Global, names: &[u8], max_size: u16) -> Result<(Vec<u8>, usi
 /// Writes the names of a list, and returns their number.
 fn write_names(names: &[u8], encoder: &mut BinEncoder<'_>) -> Result<usize, Failure>
     ensures ok { IfOk result (λ count.
-        WritesNames (at_first names.now) (value encoder.old) count (value encoder.new)) }
-    ensures err { IfErr result (StopsWriting (at_first names.now) (value encoder.old)) }
+        WritesNames (at_first names.now) max_pointers (value encoder.old) count (value encoder.new)) }
+    ensures err { IfErr result (StopsWriting (at_first names.now) max_pointers (value encoder.old)) }
     ensures lender { lender encoder.new ≡ lender encoder.old }
 {
     let mut decoder = BinDecoder::new(names);
+    let mut left = MAX_POINTERS;
     let mut count = 0;
     'list: while !decoder.is_empty() {
-        write_next(&mut decoder, encoder)?;
+        write_next(&mut decoder, &mut left, encoder)?;
         count += 1;
     }
     Ok(count)
 }
 
-/// Writes the name at the cursor of a list.
-fn write_next(decoder: &mut BinDecoder<'_>, encoder: &mut BinEncoder<'_>) -> Result<(), Failure>
-    ensures ok { OnOk result ((name : NameValue) × TakesNameValue decoder.old name decoder.new
-        × EmitsName name (value encoder.old) (Ok tt) (value encoder.new)) }
-    ensures err { IfErr result (FailsToCopyName decoder.old (value encoder.old)) }
+/// Writes the name at the cursor of a list. The pointers that it follows are taken from those that are `left`.
+fn write_next(
+    decoder: &mut BinDecoder<'_>,
+    left: &mut usize,
+    encoder: &mut BinEncoder<'_>,
+) -> Result<(), Failure>
+    ensures ok { OnOk result ((labels : List (List ℕ)) × TakesNextName decoder.old left.old labels decoder.new left.new
+        × WritesName labels (value encoder.old) (Ok tt) (value encoder.new)) }
+    ensures err { IfErr result (FailsToCopyName decoder.old left.old (value encoder.old)) }
     ensures onward { OnOk result (decoder.old.index < decoder.new.index) }
     ensures within { OnOk result (decoder.new.index ≤ length decoder.new.bytes) }
     ensures bytes { decoder.new.bytes ≡ decoder.old.bytes }
     ensures lender { lender encoder.new ≡ lender encoder.old }
 {
-    let name = NameRef::read(decoder)?;
+    let name = next_name(decoder, left)?;
     name.emit(encoder)?;
     Ok(())
 }

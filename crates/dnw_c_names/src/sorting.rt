@@ -1,23 +1,23 @@
 //! Lists of names, sorted.
 ghost use Rattle.std.specs.Prelude.{◌≡◌, ◌≤◌, ◌<◌, ◌⊎◌, ◌++◌, ◌∷◌, [], ℕ, List, length, map, IfOk, IfErr, OnOk};
-ghost use Rattle.dnw_name_read.specs.Reading.{TakesName};
+ghost use Rattle.dnw_base.specs.Limits.{max_pointers};
 ghost use Rattle.dnw_name_read.specs.Buffers.{put};
-ghost use Rattle.dnw_c_names.specs.NameLists.{at_first};
-ghost use Rattle.dnw_c_names.specs.SortCalls.{AreInOrder, FailsToName, HasNames, IsNoNextName, PutsOrder};
+ghost use Rattle.dnw_c_names.specs.NameLists.{IsNoNextName, TakesNextName, at_first};
+ghost use Rattle.dnw_c_names.specs.SortCalls.{AreInOrder, FailsToName, HasNames, PutsOrder};
 ghost use Rattle.dnw_c_names.specs.Inside.Keyed.{AreKeyed, number_of};
 ghost use Rattle.dnw_c_base.specs.Results.{ReturnsNumber};
 ghost use Rattle.dnw_c_base.specs.declared.failure.Failure.TheVariants.{NoMemory};
 
+use crate::list::next_name;
 use dnw_base::decoder::BinDecoder;
-use dnw_base::limits::MAX_NAME;
+use dnw_base::limits::{MAX_NAME, MAX_POINTERS};
 use dnw_c_base::failure::Failure;
 use dnw_c_base::results::report;
-use dnw_name::name_ref::NameRef;
 use dnw_name_form::wire_labels::WireLabels;
 use dnw_name_order::sort_key::{self, MAX_SORT_KEY_LENGTH};
 use std::alloc::{AllocError, Global};
 
-/// Puts the numbers of the names of a list, from 0, in canonical order of the names.
+/// Puts the numbers of the names of a list, from 0, in canonical order of the names. They may follow 65,536 pointers in all.
 #[unsafe(no_mangle)]
 pub extern "C" fn dnw_names_sort(alloc: Global, names: &[u8], order: &mut [usize]) -> u32
     ensures { ReturnsNumber (PutsOrder names.now order.old order.new) result }
@@ -39,31 +39,33 @@ fn sort(alloc: Global, names: &[u8], order: &mut [usize]) -> Result<(), Failure>
 
 /// Returns the sort keys of the names of a list, each with the number of its name.
 fn keyed(alloc: Global, names: &[u8]) -> Result<Vec<(Vec<u8>, usize)>, Failure>
-    ensures ok { IfOk result (λ entries. (all : List (List (List ℕ))) × HasNames (at_first names.now) all × AreKeyed all entries.items) }
+    ensures ok { IfOk result (λ entries. (all : List (List (List ℕ))) × HasNames (at_first names.now) max_pointers all × AreKeyed all entries.items) }
     ensures err { IfErr result (FailsToName names.now) }
 {
     let mut decoder = BinDecoder::new(names);
+    let mut left = MAX_POINTERS;
     let mut entries = Vec::new(alloc);
     'list: while !decoder.is_empty() {
-        push_next(alloc, &mut decoder, &mut entries)?;
+        push_next(alloc, &mut decoder, &mut left, &mut entries)?;
     }
     Ok(entries)
 }
 
-/// Pushes the sort key of the name at the cursor of a list.
+/// Pushes the sort key of the name at the cursor of a list. The pointers that it follows are taken from those that are `left`.
 fn push_next(
     alloc: Global,
     decoder: &mut BinDecoder<'_>,
+    left: &mut usize,
     entries: &mut Vec<(Vec<u8>, usize)>,
 ) -> Result<(), Failure>
-    ensures ok { OnOk result ((labels : List (List ℕ)) × (k : ℕ) × TakesName decoder.old decoder.new labels k
+    ensures ok { OnOk result ((labels : List (List ℕ)) × TakesNextName decoder.old left.old labels decoder.new left.new
         × ((names : List (List (List ℕ))) → AreKeyed names entries.old.items → AreKeyed (names ++ labels ∷ []) entries.new.items)) }
-    ensures err { IfErr result (λ failure. IsNoNextName decoder.old failure ⊎ (failure ≡ NoMemory)) }
+    ensures err { IfErr result (λ failure. IsNoNextName decoder.old left.old failure ⊎ (failure ≡ NoMemory)) }
     ensures onward { OnOk result (decoder.old.index < decoder.new.index) }
     ensures within { OnOk result (decoder.new.index ≤ length decoder.new.bytes) }
     ensures bytes { decoder.new.bytes ≡ decoder.old.bytes }
 {
-    let name = NameRef::read(decoder)?;
+    let name = next_name(decoder, left)?;
     let mut room = [0; MAX_NAME];
     push_key(alloc, name.wire_labels(&mut room), entries)?;
     Ok(())

@@ -21,7 +21,7 @@ list-smaller c =
 
 pub list-preserved : goal.list-preserved
 list-preserved c =
-    let (name, takes, emits) = c.in_ok-write_next.ensures.ok in
+    let (labels, takes, emits) = c.in_ok-write_next.ensures.ok in
     written_more c.list.invariant takes emits c.in_ok-write_next.ensures.onward c.in_ok-write_next.ensures.within
     c.write_next.ensures.bytes c.write_next.ensures.lender
 

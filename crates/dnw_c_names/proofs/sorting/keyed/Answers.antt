@@ -5,7 +5,7 @@ use Rattle.dnw_c_names.proofs.sorting.keyed.Goals as goal
 
 pub list-preserved : goal.list-preserved
 list-preserved c =
-    let (labels, k, takes, adds) = c.in_ok-push_next.ensures.ok in
+    let (labels, takes, adds) = c.in_ok-push_next.ensures.ok in
     keyed_more c.list.invariant takes adds c.in_ok-push_next.ensures.within c.push_next.ensures.bytes
 
 pub returns-in_err-push_next-clause-err : goal.returns-in_err-push_next-clause-err
