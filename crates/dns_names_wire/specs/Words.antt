@@ -156,6 +156,16 @@ pub use Rattle.dnw_zone_svcb.specs.ParamLaws.{IsParamValue, ParamsComeBack}
 pub use Rattle.dnw_zone_data.specs.DataTextLaws.{FieldAddressesComeBack, CountedComeBack, FieldIdentifiersComeBack, FieldNamesComeBack, NumbersComeBack, OctetsComeBack, SegmentsComeBack, StringsComeBack, TypesComeBack}
 pub use Rattle.dnw_zone_data.specs.DataTextLaws.{DataAreUnambiguous, DataComeBack, GenericComesBack, GenericIsParsed, ListsComeBack, PrintedDataAreSame, TextsAreParsed, IsFieldReadBack, FieldComesBack, FollowsField, IsReadType, IsDataOctets}
 pub use Rattle.dnw_zone_record.specs.RecordTextLaws.{LinesAreUnambiguous, LinesComeBack, PrintedLinesAreSame, line_head}
+-- Zone files, read and written.
+pub use Rattle.dnw_zone_file.specs.declared.context.Context.{Context}
+pub use Rattle.dnw_zone_file.specs.declared.zone_text.OwnedRecord.{OwnedRecord}
+pub use Rattle.dnw_zone_file.specs.declared.zone_text.ZoneTextError.{ZoneTextError}
+pub use Rattle.dnw_zone_file.specs.Contexts.{IsFirst, class_after, ttl_after, with_origin, with_record, with_ttl}
+pub use Rattle.dnw_zone_file.specs.Entries.{FailsEntry, IsEntry}
+pub use Rattle.dnw_zone_file.specs.Steps.{IsStep}
+pub use Rattle.dnw_zone_file.specs.ZoneTexts.{BeginsWithRecords, FailsZoneText, IsZoneText, LacksEntry, TakesEntry, records_of_entry}
+pub use Rattle.dnw_zone_file.specs.Written.{AppendsLine, AreOfType, IsSameRecord, written_line, written_head}
+pub use Rattle.dnw_zone_file.specs.WriterLaws.{HasDataOctets, IsWrittenRecord, LinesAreEntries, LinesAreReadBack}
 -- Whole messages: headers, sections and EDNS.
 pub use Rattle.dnw_message_header.specs.HeaderLaws.{HeaderFits, HeadersReadBack, HeadersWriteBack}
 pub use Rattle.dnw_message_header.specs.Headers.{TakesHeader, flag, flags_of, header_of, header_size, header_wire, is_set, metadata_of}
@@ -208,6 +218,7 @@ pub use Rattle.dnw_record.specs.AnyRecordFrames.{frame_rdata}
 -- records in canonical form
 pub use Rattle.dnw_signed.specs.declared.error.CanonicalError.{CanonicalError}
 pub use Rattle.dnw_signed.specs.CanonicalData.{IsCanonical, canonical_piece, canonical_pieces}
+pub use Rattle.dnw_signed.specs.DataPointers.{FieldFollows, IsNoField, TakesDataPointers, TakesPointers}
 pub use Rattle.dnw_signed.specs.RecordSets.{AreCanonical, FailsSetFrom, FailsSet, FirstOther, IsMember, IsOfSet, IsRecordSet, IsSet, IsInOrder}
 pub use Rattle.dnw_signed.specs.RecordSets.{set_head, set_record, signed_owner}
 pub use Rattle.dnw_signed.specs.SignedFields.{FailsSignedFields, IsRrsig, IsSignedFields, before_signer}
@@ -229,6 +240,10 @@ pub use Rattle.dnw_message_writer.specs.ReadItems.{OctetsAreRead, ReadMessagesHa
 pub use Rattle.dnw_message_writer.specs.SizeLaws.{QuestionsTakeNoMore, RecordsTakeNoMore, whole_pieces, whole_question, whole_record}
 pub use Rattle.dnw_message_writer.specs.CompressedNames.{Compresses, kept_hints, MayPointTo, pointer_octets, put_at, PutsForm, PutsPast, spelled}
 pub use Rattle.dnw_message_writer.specs.ContentLaws.{GivenRecordsAreAdded}
+pub use Rattle.dnw_message_writer.specs.Copying.{AreASet, AreOfOneSet, CopiesHeld, CopiesMessage, CopiesQuestions, CopiesSections, CopiesSets, CopyFits, CopyGoesPast, EndsBefore}
+pub use Rattle.dnw_message_writer.specs.Copying.{FailsHeld, FailsQuestions, FailsSections, FailsSets, FailsToAddCopy, FailsToAddQuery, FailsToCopyMessage, StopsAmong, StopsInSet}
+pub use Rattle.dnw_message_writer.specs.Copying.{copied_form, held_from, held_in, is_answer, is_held, is_missing, own_octets, query_form, sets_of}
+pub use Rattle.dnw_message_writer.specs.CopyLaws.{AreItemsOf, AreTheFirst, CopiesHold, IsCopiedQuestion, IsCopiedRecord}
 pub use Rattle.dnw_message_writer.specs.Data.{AreOfData}
 pub use Rattle.dnw_message_writer.specs.Edns.{AddsOpt, FailsToAddOpt, opt_data, opt_size, padding, ttl_of_edns}
 pub use Rattle.dnw_message_writer.specs.Hints.{slot_of}

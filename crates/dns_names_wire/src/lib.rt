@@ -53,6 +53,7 @@ pub mod canonical {
     pub use dnw_signed::error::CanonicalError;
     pub use dnw_signed::fields::canonical_octets;
     pub use dnw_signed::laws;
+    pub use dnw_signed::pointers::pointers_left;
     pub use dnw_signed::record_key::record_key;
 }
 
@@ -176,6 +177,7 @@ pub mod message {
 /// Messages written item by item into a buffer of the caller: without an allocation, and with names that are compressed by hints,
 /// each of which is checked by reading.
 pub mod message_writer {
+    pub use dnw_message_writer::copying::CopyError;
     pub use dnw_message_writer::data::{Pieces, pieces_of, whole_name};
     pub use dnw_message_writer::edns::{Edns, MAX_BLOCK};
     pub use dnw_message_writer::hints::SLOTS;
@@ -300,9 +302,11 @@ pub mod zone {
     pub use dnw_zone_file::context::Context;
     pub use dnw_zone_file::entry::{Entry, Include, ZoneRecord, entry_of};
     pub use dnw_zone_file::error::{ZoneError, ZoneRule};
+    pub use dnw_zone_file::laws;
     pub use dnw_zone_file::place::{TextPlace, place_of};
     pub use dnw_zone_file::step::{Found, Step, take_entry};
+    pub use dnw_zone_file::writer::append_record;
+    pub use dnw_zone_file::zone_text::{OwnedRecord, ZoneTextError, read_records};
     pub use dnw_zone_words::error::WordRule;
-    pub use dnw_zone_words::laws;
     pub use dnw_zone_words::scan::{Ending, scan};
 }

@@ -4,3 +4,7 @@ pub mod Heads
 pub mod Entries
 pub mod Steps
 pub mod Places
+pub mod ZoneTexts
+pub mod Written
+pub mod WriterLaws
+pub mod Inside

@@ -153,7 +153,7 @@ fn begins_with(text: &[u8], octet: u8) -> bool
 }
 
 /// Returns the owner of the last record.
-fn owner_before(context: &Context) -> Option<WireForm>
+pub(crate) fn owner_before(context: &Context) -> Option<WireForm>
     ensures { result ≡ context.now.owner }
 {
     match &context.owner {

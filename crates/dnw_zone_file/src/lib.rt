@@ -1,7 +1,8 @@
 //! Zone files, entry by entry (RFC 1035, section 5; RFC 2308, section 4): records, `$ORIGIN`, `$TTL` and `$INCLUDE`, with the place of
 //! each error.
 //!
-//! Read `specs/Entries.antt` first: what an entry is, after those before it. `specs/Steps.antt` has what a text begins with.
+//! Read `specs/Entries.antt` first: what an entry is, after those before it. `specs/Steps.antt` has what a text begins with,
+//! `specs/ZoneTexts.antt` what a whole text means, and `specs/Written.antt` what is written of a record.
 #![tactic(auto)]
 
 /// What earlier entries say for later ones.
@@ -18,3 +19,9 @@ pub mod head;
 pub mod step;
 /// Lines and columns of texts.
 pub mod place;
+/// Whole texts of zone files.
+pub mod zone_text;
+/// Records written as entries.
+pub mod writer;
+/// Records that are written are read as the same.
+pub mod laws;

@@ -10,3 +10,4 @@ pub mod TableNames
 pub mod TableOrder
 pub mod TablePush
 pub mod LabelsLeft
+mod CountedRecords

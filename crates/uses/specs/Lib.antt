@@ -9,4 +9,5 @@ pub mod Messages
 pub mod Tables
 pub mod Texts
 pub mod TableErrors
+pub mod ZoneFiles
 pub mod Inside

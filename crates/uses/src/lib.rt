@@ -19,3 +19,4 @@ pub mod scripts;
 pub mod table;
 pub mod texts;
 pub mod zone;
+pub mod zone_file;
