@@ -211,8 +211,8 @@ static void finds_tokens(size_t size)
     finds("a word of other letters", DNW_TOKEN_TEXT, 1 + 2 * size, 1);
 }
 
-/* Data of so many octets, so many records, and so many questions, as far as 16 bits count them. A copy has 65,535 octets at most,
-   and what has no room is left out. */
+/* Data of so many octets, so many records, and so many questions, as far as 16 bits count them. A copy has 65,535 octets at most:
+   records that have no room are left out, and questions have to be there. */
 static void packs(size_t size)
 {
     struct dnw_packed packed;
@@ -237,7 +237,7 @@ static void packs(size_t size)
     for (size_t n = 0; n < size; n++)
         put("\000\000\001\000\001", 5);
     fits = input_len <= LONGEST;
-    EXPECT(dnw_message_pack(input, input_len, LONGEST, output, sizeof output, &packed) == DNW_DONE);
+    EXPECT(dnw_message_pack(input, input_len, LONGEST, output, sizeof output, &packed) == (fits ? DNW_DONE : DNW_MESSAGE_TOO_LONG));
     EXPECT(!fits || packed.len == input_len);
 }
 
@@ -393,6 +393,83 @@ static void parses_data(size_t size)
     EXPECT(dnw_data_parse(1, DNW_TYPE_A, input, input_len, input, 0, output, sizeof output, &len) == DNW_DONE && len == 4);
 }
 
+static void finds_record_faults(size_t size)
+{
+    struct dnw_text_fault fault;
+    input_len = 0;
+    put(". 60 IN", 7);
+    fill(' ', size + 1);
+    put("A 192.0.2.1", 11);
+    EXPECT(dnw_record_text_fault(input, input_len, input, 0, &fault) == DNW_DONE && fault.reason == DNW_REASON_NONE);
+    put(" 0", 2);
+    EXPECT(dnw_record_text_fault(input, input_len, input, 0, &fault) == DNW_DONE && fault.reason == DNW_REASON_END);
+    EXPECT(fault.offset == input_len - 1 && fault.len == 1);
+}
+
+static void finds_data_faults(size_t size)
+{
+    struct dnw_text_fault fault;
+    input_len = 0;
+    fill(' ', size);
+    put("192.0.2", 7);
+    EXPECT(dnw_data_text_fault(1, DNW_TYPE_A, input, input_len, input, 0, &fault) == DNW_DONE && fault.reason == DNW_REASON_IPV4);
+    EXPECT(fault.offset == size && fault.len == 7);
+}
+
+static void prints_faults(size_t size)
+{
+    size_t len = 7;
+    struct dnw_text_fault fault = {size, size, size, DNW_REASON_END};
+    EXPECT(dnw_text_fault_print(&fault, output, sizeof output, &len) == DNW_DONE && len <= DNW_SENTENCE_SIZE && len > 40);
+}
+
+/* Takes the entry that is in the input. */
+static void takes(const char *what, uint32_t kind, size_t len)
+{
+    struct dnw_zone zone;
+    struct dnw_zone_entry entry;
+    (void)what;
+    EXPECT(dnw_zone_begin((const uint8_t *)"", 1, &zone) == DNW_DONE);
+    EXPECT(dnw_zone_next(input, input_len, false, &zone, output, sizeof output, &entry) == DNW_DONE);
+    EXPECT(entry.kind == kind && entry.len == len && entry.used == input_len && zone.offset == input_len);
+}
+
+/* Entries with so many octets, words and lines: a record, an error, an `$INCLUDE`, a comment, and a part of an entry. */
+static void reads_zones(size_t size)
+{
+    if (size <= LONGEST) {
+        input_len = 0;
+        put(". 60 NULL \\# ", 13);
+        char text[24];
+        put(text, (size_t)snprintf(text, sizeof text, "%zu", size));
+        for (size_t n = 0; n < size; n++)
+            put(" 41", 3);
+        put("\n", 1);
+        takes("data", DNW_ZONE_RECORD, 11 + size);
+        input_len = 0;
+        put("$INCLUDE \"", 10);
+        fill('f', size + (size == 0));
+        put("\"\n", 2);
+        takes("a file", DNW_ZONE_INCLUDE, 1 + size + (size == 0));
+    }
+    input_len = 0;
+    put(". 60 A (", 8);
+    fill('\n', size);
+    put("192.0.2.1 ; ", 12);
+    fill('c', size);
+    put("\n)\n", 3);
+    takes("lines", DNW_ZONE_RECORD, 15);
+    input_len = 0;
+    put(". 60 A ", 7);
+    fill('x', size);
+    put("\n", 1);
+    takes("an error", DNW_ZONE_ERROR, 0);
+    input_len = 0;
+    put(";", 1);
+    fill('c', size);
+    takes("a comment", DNW_ZONE_NOTHING, 0);
+}
+
 /* The data of an RRSIG of the root over NULL records, up to the signature. */
 #define RRSIG "\000\012\010\000\000\000\016\020\000\000\000\002\000\000\000\001\000\007\000"
 
@@ -467,6 +544,10 @@ static const struct row {
     {"dnw_record_print", prints_records},
     {"dnw_data_parse", parses_data},
     {"dnw_record_parse", parses_records},
+    {"dnw_record_text_fault", finds_record_faults},
+    {"dnw_data_text_fault", finds_data_faults},
+    {"dnw_text_fault_print", prints_faults},
+    {"dnw_zone_next", reads_zones},
     {"dnw_signed_octets", signs},
     {"dnw_record_sort_key", makes_keys},
     {"dnw_zone_digest", digests_zones},

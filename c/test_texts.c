@@ -106,6 +106,30 @@ static uint32_t fails(struct input input)
 #define NS_OF_COM COM "\000\002\000\001" TTL "\000\020\002ns" COM
 #define A_OF(owner, class, ttl) owner "\000\001\000" class ttl "\000\004\300\000\002\001"
 
+/* Where a line or data go wrong. */
+static bool goes_wrong(struct input input, size_t offset, size_t len, size_t field, uint32_t reason)
+{
+    const uint8_t *line = (const uint8_t *)input.text, *origin = (const uint8_t *)input.origin;
+    struct dnw_text_fault fault = {7, 7, 7, 7};
+    size_t put;
+    if (input.type == 0)
+        EXPECT(dnw_record_text_fault(line, strlen(input.text), origin, input.origin_len, &fault) == DNW_DONE);
+    else
+        EXPECT(dnw_data_text_fault(DNW_CLASS_IN, input.type, line, strlen(input.text), origin, input.origin_len, &fault) == DNW_DONE);
+    EXPECT((parse(input, sizeof text - 1, &put) == DNW_DONE) == (reason == DNW_REASON_NONE));
+    return fault.offset == offset && fault.len == len && fault.field == field && fault.reason == reason;
+}
+
+static bool says(struct dnw_text_fault fault, const char *sentence)
+{
+    size_t len = 7;
+    memset(text, '?', sizeof text);
+    if (*sentence != 0)
+        EXPECT(dnw_text_fault_print(&fault, text, strlen(sentence) - 1, &len) == DNW_NO_ROOM && len == 7 && text[0] == '?');
+    EXPECT(dnw_text_fault_print(&fault, text, strlen(sentence), &len) == DNW_DONE);
+    return len == strlen(sentence) && memcmp(text, sentence, len) == 0 && text[len] == '?';
+}
+
 /* What is printed above is the record again, with whole names. */
 static void parses_what_is_printed(void)
 {
@@ -152,7 +176,7 @@ static void refuses_records(void)
     EXPECT(fails(LINE("a. 300 IN A 192.0.2.256")) == DNW_BAD_DATA);
     EXPECT(fails(LINE("a. 300 IN A 192.0.2.1 0")) == DNW_BAD_DATA);
     EXPECT(fails(LINE("a. 300 IN NS ns")) == DNW_BAD_DATA);
-    EXPECT(fails(LINE("a. 300 IN A 192.0.2.1\377")) == DNW_NOT_UTF8);
+    EXPECT(fails(LINE("a. 300 IN A 192.0.2.1\377")) == DNW_BAD_DATA);
     EXPECT(fails(LINE("a. 300 IN TXT ( b\n c")) == DNW_UNCLOSED_LIST);
     EXPECT(fails(LINE("a. 300 IN TXT b )")) == DNW_ILLEGAL_CHARACTER);
     EXPECT(fails(LINE("a. 300 IN TXT ( b ( c ) )")) == DNW_ILLEGAL_CHARACTER);
@@ -195,7 +219,7 @@ static void refuses_data(void)
     EXPECT(fails(DATA(DNW_TYPE_A, "\\# 3 010203")) == DNW_BAD_DATA);
     EXPECT(fails(DATA(DNW_TYPE_MX, "\\# 1 00")) == DNW_BAD_DATA);
     EXPECT(fails(DATA(DNW_TYPE_A, "\\# 0")) == DNW_BAD_DATA);
-    EXPECT(fails(DATA(DNW_TYPE_TXT, "\303(")) == DNW_NOT_UTF8);
+    EXPECT(fails(DATA(DNW_TYPE_TXT, "\303(")) == DNW_BAD_DATA);
     EXPECT(fails(DATA_BELOW(DNW_TYPE_A, "192.0.2.1", "\100")) == DNW_RESERVED_OCTET);
     EXPECT(fails(DATA_BELOW(DNW_TYPE_A, "\377", "\000.")) == DNW_BYTES_LEFT);
     EXPECT(fails(DATA(DNW_TYPE_MX, "1 (")) == DNW_BAD_DATA);
@@ -204,6 +228,55 @@ static void refuses_data(void)
     EXPECT(fails(DATA(DNW_TYPE_TXT, "\"a\" ; comment")) == DNW_BAD_DATA);
     EXPECT(fails(DATA(DNW_TYPE_SOA, ". . 1h 2 3 4 5")) == DNW_BAD_DATA);
     EXPECT(fails(DATA(DNW_TYPE_SOA, ". . 1 2 3 4 1d1")) == DNW_BAD_DATA);
+}
+
+static void finds_faults(void)
+{
+    EXPECT(goes_wrong(LINE("a. 300 IN MX 1 b."), 0, 0, 0, DNW_REASON_NONE));
+    EXPECT(goes_wrong(DATA(DNW_TYPE_A, "192.0.2.1"), 0, 0, 0, DNW_REASON_NONE));
+    EXPECT(goes_wrong(LINE(""), 0, 0, 0, DNW_REASON_NO_OWNER));
+    EXPECT(goes_wrong(LINE("a..b. 300 IN A 192.0.2.1"), 0, 5, 0, DNW_REASON_NO_OWNER));
+    EXPECT(goes_wrong(LINE("a. A 192.0.2.1"), 3, 1, 0, DNW_REASON_NO_TIME_TO_LIVE));
+    EXPECT(goes_wrong(LINE("a. 300 IN BB 192.0.2.1"), 10, 2, 0, DNW_REASON_NO_TYPE));
+    EXPECT(goes_wrong(LINE("a. 300 IN"), 9, 0, 0, DNW_REASON_NO_TYPE));
+    EXPECT(goes_wrong(LINE("a. 300 IN MX 1 b"), 15, 1, 1, DNW_REASON_NAME));
+    EXPECT(goes_wrong(LINE("a. 300 IN MX ( ; 1\n 65536 b. )"), 20, 5, 0, DNW_REASON_U16));
+    EXPECT(goes_wrong(LINE("a. 300 IN A 192.0.2.1 ( 0 )"), 24, 1, 1, DNW_REASON_END));
+    EXPECT(goes_wrong(LINE("a. 300 IN A 192.0.2.1\377"), 12, 10, 0, DNW_REASON_IPV4));
+    EXPECT(goes_wrong(LINE("a. 300 IN A \\# 3 010203"), 17, 6, 1, DNW_REASON_DATA));
+    EXPECT(goes_wrong(LINE("a. 300 IN A \\# 4 010203"), 17, 6, 1, DNW_REASON_OCTETS));
+    EXPECT(goes_wrong(LINE("a. 300 IN TXT ( b\n c"), 20, 0, 0, DNW_REASON_UNCLOSED_PARENTHESIS));
+    EXPECT(goes_wrong(LINE("a. 300 IN TXT b )"), 16, 0, 0, DNW_REASON_UNOPENED_PARENTHESIS));
+    EXPECT(goes_wrong(LINE("a. 300 IN TXT ( b ( c ) )"), 18, 0, 0, DNW_REASON_NESTED_PARENTHESIS));
+    EXPECT(goes_wrong(LINE("a. 300 IN TXT \"b"), 16, 0, 0, DNW_REASON_UNCLOSED_QUOTE));
+    EXPECT(goes_wrong(LINE("a. 300 IN TXT b\\"), 16, 0, 0, DNW_REASON_UNFINISHED_ESCAPE));
+    EXPECT(goes_wrong(LINE("a. 300 IN TXT b\nb. 300 IN TXT c"), 15, 0, 0, DNW_REASON_MORE_ENTRIES));
+    EXPECT(goes_wrong(DATA(DNW_TYPE_SOA, ". . 1 2 3 4 1d1"), 12, 3, 6, DNW_REASON_PERIOD));
+    EXPECT(goes_wrong(DATA(DNW_TYPE_MX, "1 ("), 2, 0, 1, DNW_REASON_NAME));
+    EXPECT(goes_wrong(DATA_BELOW(DNW_TYPE_MX, "1 b c", COM), 4, 1, 2, DNW_REASON_END));
+    EXPECT(goes_wrong(DATA(65280, "00"), 0, 2, 0, DNW_REASON_GENERIC));
+    struct dnw_text_fault fault = {7, 7, 7, 7};
+    EXPECT(dnw_record_text_fault(BYTES("a. 1 A 1.2.3.4"), BYTES("\001"), &fault) == DNW_MESSAGE_CUT && fault.offset == 7);
+    EXPECT(dnw_data_text_fault(1, 1, BYTES("1.2.3.4"), BYTES("\0000"), &fault) == DNW_BYTES_LEFT && fault.reason == 7);
+}
+
+/* The sentences are the library's own, as its errors print them. */
+static void prints_faults(void)
+{
+    EXPECT(says((struct dnw_text_fault){15, 1, 1, DNW_REASON_NAME}, "at offset 15: wanted a name (field 1)"));
+    EXPECT(says((struct dnw_text_fault){0, 5, 3, DNW_REASON_NO_OWNER}, "at offset 0: wanted an owner"));
+    EXPECT(says((struct dnw_text_fault){9, 0, 0, DNW_REASON_WORDS_LEFT}, "at offset 9: more words are there"));
+    EXPECT(says((struct dnw_text_fault){1, 1, 1, DNW_REASON_NONE}, ""));
+    EXPECT(says((struct dnw_text_fault){1, 1, 1, DNW_REASON_WORDS_LEFT + 1}, ""));
+    EXPECT(says((struct dnw_text_fault){1, 1, 1, DNW_REASON_NAME - 1}, ""));
+    EXPECT(says((struct dnw_text_fault){1, 1, 1, DNW_REASON_END + 1}, ""));
+    for (uint32_t reason = 0; reason <= DNW_REASON_END; reason++) {
+        size_t len = 0;
+        struct dnw_text_fault fault = {SIZE_MAX, 0, SIZE_MAX, reason};
+        EXPECT(dnw_text_fault_print(&fault, text, DNW_SENTENCE_SIZE, &len) == DNW_DONE && len <= DNW_SENTENCE_SIZE);
+        bool is_none = reason == 0 || (reason > DNW_REASON_WORDS_LEFT && reason < DNW_REASON_NAME);
+        EXPECT((len == 0) == is_none);
+    }
 }
 
 /* Data have at most 65535 octets. */
@@ -216,6 +289,9 @@ static void refuses_long_data(void)
     memset(data, '?', sizeof data);
     EXPECT(dnw_data_parse(DNW_CLASS_IN, DNW_TYPE_TLSA, digits, 6 + 2 * 65533, BYTES(""), data, sizeof data, &len) == DNW_BAD_DATA);
     EXPECT(data[0] == '?' && len == 7);
+    struct dnw_text_fault fault;
+    EXPECT(dnw_data_text_fault(DNW_CLASS_IN, DNW_TYPE_TLSA, digits, 6 + 2 * 65533, BYTES(""), &fault) == DNW_DONE);
+    EXPECT(fault.reason == DNW_REASON_TOO_LONG && fault.offset == 0 && fault.len == 1);
     EXPECT(dnw_data_parse(DNW_CLASS_IN, DNW_TYPE_TLSA, digits, 6 + 2 * 65532, BYTES(""), data, 65534, &len) == DNW_NO_ROOM);
     EXPECT(dnw_data_parse(DNW_CLASS_IN, DNW_TYPE_TLSA, digits, 6 + 2 * 65532, BYTES(""), data, sizeof data, &len) == DNW_DONE);
     EXPECT(len == 65535 && data[2] == 0 && data[3] == 0xAA && data[65534] == 0xAA && data[65535] == '?');
@@ -229,6 +305,8 @@ int main(void)
     refuses_records();
     parses_data();
     refuses_data();
+    finds_faults();
+    prints_faults();
     refuses_long_data();
     return 0;
 }

@@ -77,6 +77,10 @@ static void call_texts(struct results *results)
     KEEP(dnw_types_write(codes, count, buffer, sizeof buffer, &len), buffer, len);
     KEEP(dnw_ttl_parse(BYTES("1w2d"), &seconds), &seconds, sizeof seconds);
     KEEP(dnw_token_next(BYTES("(a \"b\" ; c\n d)"), &lexer, buffer, sizeof buffer, &token), buffer, token.len);
+    struct dnw_zone state;
+    struct dnw_zone_entry entry;
+    KEEP(dnw_zone_begin(BYTES("\001a\000"), &state), "", 0);
+    KEEP(dnw_zone_next(BYTES("b 1 MX ( 1\n c )\n"), false, &state, buffer, sizeof buffer, &entry), buffer, entry.len);
 }
 
 static void call_messages(struct results *results)

@@ -26,11 +26,13 @@
 extern "C" {
 #endif
 
-/* Sizes that are always enough: for a wire form, a sort key, the text of a name, and the text of a type or a class. */
+/* Sizes that are always enough: for a wire form, a sort key, the text of a name, the text of a type or a class, and a
+   sentence about a text. */
 #define DNW_FORM_SIZE 255
 #define DNW_SORT_KEY_SIZE 504
 #define DNW_TEXT_SIZE 1004
 #define DNW_CODE_SIZE 10
+#define DNW_SENTENCE_SIZE 128
 
 /* The number of octets of an NSEC3 hash and of its label, and a size that is always enough for a digest. */
 #define DNW_NSEC3_HASH_SIZE 20
@@ -150,7 +152,8 @@ uint32_t dnw_name_print(const uint8_t *form, size_t form_len, bool is_fqdn, uint
 
 /* Writes the names of a list to a message, with compression, and stores the message. The list has one name after
    another, as in a message; they may be wire forms. It fails as dnw_name_read at the first element of the list that is
-   not a valid name, with DNW_MESSAGE_TOO_LONG at the first name that would go past `max_size` bytes, with
+   not a valid name, with DNW_TOO_MANY_POINTERS at the first name that, with those before it, follows more than 65536
+   compression pointers, with DNW_MESSAGE_TOO_LONG at the first name that would go past `max_size` bytes, with
    DNW_NO_MEMORY, and with DNW_NO_ROOM if the message has more than `out_size` bytes. */
 uint32_t dnw_names_write(const uint8_t *names, size_t names_len, uint16_t max_size, uint8_t *out, size_t out_size,
                          struct dnw_written_names *written);
@@ -273,17 +276,20 @@ struct dnw_packed {
     bool truncated;
 };
 
-/* Writes a whole message again, with its names compressed, in at most `max_size` octets, and stores it. A server sends
-   the copy if a response is longer than the receiver accepts. The copy has the header of the message, with its own
-   counts, and the questions and records that fit, in the same sections and order. All fit if they do without
-   compression. If a record of the Answer or Authority section does not fit, TC is set (RFC 2181, section 9). An OPT
-   record is never left out, since its octets are reserved, and is the last record. Names in the data of types of RFC
-   1035 are compressed too, and others are not (RFC 3597, section 4). Octets after the message are ignored.
+/* Writes a whole message again, with its names compressed, in at most `max_size` octets, and no more than the buffer has,
+   and stores it. A server sends the copy if a response is longer than the receiver accepts. The copy has the header of the
+   message, with its own counts, its questions, and its records, in the same sections and order. A set of records that has
+   no room is left out whole, and so are the later ones of its section (RFC 2181, section 5). If one is left out, TC is set
+   (RFC 2181, section 9), unless the message is a response with answers, and it is of a later section. An OPT record and a
+   signature of the message (SIG, TSIG) among the additional records are never left out, since octets are held back for
+   them, and come last. Names in the data of types of RFC 1035 are compressed too, and others are not (RFC 3597, section
+   4). Octets after the message are ignored.
 
    It fails as dnw_message_read with DNW_MAX_POINTERS if the message is not complete, and as dnw_edns_read if its EDNS
    is not valid. If the data of a record are not valid, it fails as dnw_field_next does at the first wrong field. It
-   fails with DNW_MESSAGE_TOO_LONG if the header and the OPT record have more than `max_size` octets; with DNW_NO_ROOM
-   if the copy has more than `packed_size`; and with DNW_NO_MEMORY. A buffer of `max_size` octets is always enough.
+   fails with DNW_NO_ROOM if the buffer has no room for a header; with DNW_MESSAGE_TOO_LONG if the header, the questions
+   and the records that are never left out have no room; and with DNW_NO_MEMORY. If it fails, octets of the buffer may
+   have changed.
 
    The pointers of names in record data do not count towards DNW_MAX_POINTERS. The slowest message that we know of, of
    65,528 octets with 3,808 names in data that follow 8,000 pointers each, takes an eighth of a second. */
@@ -434,9 +440,9 @@ uint32_t dnw_record_print(const uint8_t *message, size_t message_len, size_t sta
    quotes at its last quote; only strings may be in quotes. Parentheses and comments are no part of data here, but of
    dnw_record_parse.
 
-   If the origin is not a wire form, it fails as dnw_name_compare. Otherwise it fails with DNW_NOT_UTF8; with
-   DNW_BAD_DATA if the text is not data of the type, or has more than 65535 octets of data; with DNW_NO_ROOM if it has
-   more than `data_size`; and with DNW_NO_MEMORY. */
+   If the origin is not a wire form, it fails as dnw_name_compare. Otherwise it fails with DNW_BAD_DATA if the text is not
+   data of the type, or has more than 65535 octets of data; with DNW_NO_ROOM if it has more than `data_size`; and with
+   DNW_NO_MEMORY. dnw_data_text_fault reports where the text is wrong. */
 uint32_t dnw_data_parse(uint16_t record_class, uint16_t record_type, const uint8_t *text, size_t text_len, const uint8_t *origin,
                         size_t origin_len, uint8_t *data, size_t data_size, size_t *len);
 
@@ -451,15 +457,172 @@ uint32_t dnw_data_parse(uint16_t record_class, uint16_t record_type, const uint8
    origin is appended to the owner as to names in the data. The line that dnw_record_print prints is accepted if the
    data are valid for their type.
 
-   If the origin is not a wire form, it fails as dnw_name_compare. Otherwise it fails with DNW_NOT_UTF8; with
+   If the origin is not a wire form, it fails as dnw_name_compare. Otherwise it fails with
    DNW_UNCLOSED_LIST, DNW_UNCLOSED_QUOTE or DNW_TEXT_CUT if the text ends within parentheses, or a line within a quoted
    string or an escape; with DNW_ILLEGAL_CHARACTER at a parenthesis within parentheses, or one that closes none; with
    DNW_BAD_TEXT if the first word is not a name, or there is no word; with DNW_BAD_TIME if there is no TTL, or none
    after the class; with DNW_UNKNOWN_TEXT if there is no type; as dnw_data_parse for the data; with DNW_BAD_DATA if more
    than white space follows the entry; with DNW_NO_ROOM if the record has more than `record_size` octets; and with
-   DNW_NO_MEMORY. */
+   DNW_NO_MEMORY. dnw_record_text_fault reports where the text is wrong. */
 uint32_t dnw_record_parse(const uint8_t *text, size_t text_len, const uint8_t *origin, size_t origin_len, uint8_t *record,
                           size_t record_size, size_t *len);
+
+/* What is wrong with a text of a master file. From 32 on, a field of data is not as it should be, and this was wanted in
+   its place. */
+enum dnw_text_reason {
+    DNW_REASON_NONE = 0,                      /* nothing is wrong */
+    DNW_REASON_NESTED_PARENTHESIS = 1,        /* a parenthesis is opened within parentheses */
+    DNW_REASON_UNOPENED_PARENTHESIS = 2,      /* a parenthesis is closed that none opened */
+    DNW_REASON_UNCLOSED_PARENTHESIS = 3,      /* the text ends within parentheses */
+    DNW_REASON_UNCLOSED_QUOTE = 4,            /* a line ends within a quoted string */
+    DNW_REASON_UNFINISHED_ESCAPE = 5,         /* a line ends after a backslash */
+    DNW_REASON_MORE_ENTRIES = 6,              /* another entry is after the first */
+    DNW_REASON_NO_OWNER = 7,                  /* the text does not begin with a name */
+    DNW_REASON_NO_TIME_TO_LIVE = 8,           /* no time to live is there */
+    DNW_REASON_NO_TYPE = 9,                   /* no record type is there */
+    DNW_REASON_TOO_LONG = 10,                 /* the data have more than 65535 octets */
+    DNW_REASON_NO_OWNER_BEFORE = 11,          /* the first record of a zone file has no owner */
+    DNW_REASON_BAD_OWNER = 12,                /* the owner of a record of a zone file is no name */
+    DNW_REASON_NO_TIME_TO_LIVE_BEFORE = 13,   /* no time to live is there, nor was one before */
+    DNW_REASON_UNKNOWN_DIRECTIVE = 14,        /* an entry begins with `$`, and is none that is known */
+    DNW_REASON_GENERATE = 15,                 /* an entry is `$GENERATE` */
+    DNW_REASON_NO_NAME = 16,                  /* `$ORIGIN` has no name, or what `$INCLUDE` has is none */
+    DNW_REASON_NO_TIME = 17,                  /* `$TTL` has no time */
+    DNW_REASON_NO_FILE = 18,                  /* `$INCLUDE` has no file */
+    DNW_REASON_WORDS_LEFT = 19,               /* more is in an entry than it may have */
+    DNW_REASON_NAME = 32,                     /* a name; one without a dot at its end if there is an origin */
+    DNW_REASON_U8 = 33,                       /* a number of one octet, in decimal */
+    DNW_REASON_U16 = 34,                      /* a number of two octets, in decimal */
+    DNW_REASON_U32 = 35,                      /* a number of four octets, in decimal */
+    DNW_REASON_PERIOD = 36,                   /* a number of seconds, or numbers with units: `2h`, `1w2d` */
+    DNW_REASON_ALGORITHM = 37,                /* an algorithm of DNSSEC by its number or its mnemonic: `RSASHA256` */
+    DNW_REASON_CERTIFICATE_TYPE = 38,         /* a type of certificates by its number or its mnemonic: `PKIX` */
+    DNW_REASON_TIME = 39,                     /* a time: 14 digits as YYYYMMDDHHmmSS, or a number of seconds */
+    DNW_REASON_IPV4 = 40,                     /* an IPv4 address */
+    DNW_REASON_IPV6 = 41,                     /* an IPv6 address */
+    DNW_REASON_EUI48 = 42,                    /* an identifier of six octets */
+    DNW_REASON_EUI64 = 43,                    /* an identifier of eight octets */
+    DNW_REASON_TYPE_CODE = 44,                /* a record type */
+    DNW_REASON_CHARACTER_STRING = 45,         /* a character string */
+    DNW_REASON_TAG = 46,                      /* a tag: letters and digits */
+    DNW_REASON_SALT = 47,                     /* a salt in hexadecimal, or `-` for none */
+    DNW_REASON_HASH = 48,                     /* a hashed name in base 32 */
+    DNW_REASON_TEXT = 49,                     /* a text, written as a character string is */
+    DNW_REASON_HEXADECIMAL = 50,              /* octets up to the end, in hexadecimal */
+    DNW_REASON_BASE64 = 51,                   /* octets up to the end, in base 64 */
+    DNW_REASON_STRINGS = 52,                  /* character strings up to the end, one or more */
+    DNW_REASON_TYPES = 53,                    /* record types up to the end */
+    DNW_REASON_PARAMS = 54,                   /* service parameters up to the end, none of them twice */
+    DNW_REASON_GENERIC = 55,                  /* the form that any data have, which begins with `\#`: the type has no other */
+    DNW_REASON_SIZE = 56,                     /* the number of all octets, up to 65535 in decimal */
+    DNW_REASON_OCTETS = 57,                   /* as many octets in hexadecimal as the number before says */
+    DNW_REASON_DATA = 58,                     /* octets that are data of the type, without compression pointers */
+    DNW_REASON_END = 59                       /* nothing more */
+};
+
+/* Where a text goes wrong: at `offset`, in octets, where a word of `len` octets is (0 if none is: at the end, or at a
+   parenthesis). `reason` is one of enum dnw_text_reason; from 32 on, `field` is the number of the field of the data,
+   from 0 (of data in the form `\#`, 0 is the number of octets, and 1 the octets), else it is 0. */
+struct dnw_text_fault {
+    size_t offset;
+    size_t len;
+    size_t field;
+    uint32_t reason;
+};
+
+/* Stores where a text goes wrong that dnw_record_parse takes, with the same origin, or DNW_REASON_NONE and zeros if the
+   text is a record. The offset is that of the first word that is not as it should be, or of the end of the entry if a
+   word lacks; of a parenthesis, a line feed or the text's end that is against a rule; or of the end of the first entry
+   if another one follows. It fails as dnw_name_compare if the origin is not a wire form, and with DNW_NO_MEMORY. */
+uint32_t dnw_record_text_fault(const uint8_t *text, size_t text_len, const uint8_t *origin, size_t origin_len,
+                               struct dnw_text_fault *fault);
+
+/* Stores where a text goes wrong that dnw_data_parse takes, with the same class, type and origin, as
+   dnw_record_text_fault does. It fails as that does, and with DNW_NO_MEMORY. */
+uint32_t dnw_data_text_fault(uint16_t record_class, uint16_t record_type, const uint8_t *text, size_t text_len,
+                             const uint8_t *origin, size_t origin_len, struct dnw_text_fault *fault);
+
+/* Stores a sentence about a fault in `text`, and its length in `len`, as `at offset 14: wanted a name (field 1)`. It has
+   no octets if no reason has the number. It is ASCII, and has at most DNW_SENTENCE_SIZE octets. It fails with DNW_NO_ROOM
+   if it has more than `text_size`, and with DNW_NO_MEMORY. */
+uint32_t dnw_text_fault_print(const struct dnw_text_fault *fault, uint8_t *text, size_t text_size, size_t *len);
+
+/* The kinds of what dnw_zone_next stores. */
+enum dnw_zone_kind {
+    DNW_ZONE_END = 0,     /* the text is at its end */
+    DNW_ZONE_MORE = 1,    /* the text ends within an entry: call again with the same text and more after it */
+    DNW_ZONE_NOTHING = 2, /* a blank line, a comment, $ORIGIN or $TTL */
+    DNW_ZONE_RECORD = 3,
+    DNW_ZONE_INCLUDE = 4,
+    DNW_ZONE_ERROR = 5    /* an entry that is not valid: `fault` is where and why */
+};
+
+/* A size that is always enough for what dnw_zone_next stores in its buffer. */
+#define DNW_ZONE_OCTETS_SIZE 65800
+
+/* Up to where a zone file was read, and what its entries so far say for later ones. dnw_zone_begin and dnw_zone_include fill
+   it in, and a caller only reads it. It is plain data: it may be copied, and a copy put back, with the text after it, goes
+   back. Whatever it holds, no call does harm. */
+struct dnw_zone {
+    size_t offset;        /* the octets of the file that were read */
+    size_t line;          /* the line feeds among them */
+    size_t column;        /* the octets after the last line feed */
+    uint32_t default_ttl; /* of $TTL, unless `has_default_ttl` is 0 */
+    uint32_t last_ttl;    /* of the last record that has its own, unless `has_last_ttl` is 0 */
+    uint16_t record_class;
+    uint8_t has_default_ttl;
+    uint8_t has_last_ttl;
+    uint8_t origin_len;
+    uint8_t owner_len; /* 0 before the first record */
+    uint8_t origin[DNW_FORM_SIZE];
+    uint8_t owner[DNW_FORM_SIZE];
+};
+
+/* What a text begins with. What a kind has not is 0. */
+struct dnw_zone_entry {
+    uint32_t kind;               /* one of enum dnw_zone_kind */
+    size_t used;                 /* the octets of the text that it takes: the next one begins after them */
+    size_t offset;               /* where the entry is in the file, or what is wrong in it, from 0 */
+    size_t line;                 /* from 1 */
+    size_t column;               /* in octets, from 1 */
+    struct dnw_text_fault fault; /* of DNW_ZONE_ERROR; its offset is in the text */
+    size_t len;                  /* the octets that were stored in the buffer */
+    size_t name_len;             /* those at its start that are the owner, or the origin of $INCLUDE */
+    size_t data_len;             /* those at its end that are the data, or the name of the file */
+    uint32_t ttl;
+    uint16_t record_type;
+    uint16_t record_class;
+};
+
+/* Begins a zone file: stores what is known before its first entry. `origin` is the wire form of the zone's name. It does not
+   allocate. It fails as dnw_name_compare if the origin is not a wire form. */
+uint32_t dnw_zone_begin(const uint8_t *origin, size_t origin_len, struct dnw_zone *zone);
+
+/* Begins the file of an $INCLUDE: changes a copy of the state after that entry into the state before the first entry of the
+   file, whose origin this is. The owner, the TTLs and the class stay as they are. At the end of the file the caller goes on
+   with the state that was copied, so that what the file says ends with it (RFC 1035, section 5.1). It does not allocate. It
+   fails as dnw_name_compare if the origin is not a wire form, and with DNW_BAD_ITEM if the state is spoiled. */
+uint32_t dnw_zone_include(const uint8_t *origin, size_t origin_len, struct dnw_zone *zone);
+
+/* Takes the entry that a text begins with (RFC 1035, section 5.1; RFC 2308, section 4): stores what it is in `entry`, and
+   moves `zone` after it. It is called in a loop, each time with the text after the `used` octets, until the kind is
+   DNW_ZONE_END. The text may be a part of the file: if `more` is set, an entry that may go on after the text is
+   DNW_ZONE_MORE, and takes no octets. Then the caller reads more of the file after the same octets, as many as they are or
+   more, so that no octet is looked at more than a few times; the longest entry bounds the memory. With the last part `more`
+   is false.
+
+   For DNW_ZONE_RECORD the buffer has the record as dnw_record_parse stores it. A record without an owner has that of the
+   record before it, and one without a class the last class, or IN. The TTL is the record's own, or that of the last $TTL, or
+   the last one that a record has. For DNW_ZONE_INCLUDE the buffer has the wire form of the origin, and then the name of the
+   file, without quotes and escapes. It has an octet, and no zero octet, is UTF-8 but for its escapes, and is not null-
+   terminated; another name is DNW_REASON_NO_FILE. For DNW_ZONE_ERROR nothing is stored in the buffer, and `zone` is after
+   the line of the error: the next call goes on at the next entry, with what the entries before said. $GENERATE is an error.
+   dnw_text_fault_print has a sentence for `fault`.
+
+   It fails with DNW_BAD_ITEM if the state is spoiled, so that its origin or its owner is not a wire form; with DNW_NO_ROOM if
+   more than `octets_size` octets would be stored; and with DNW_NO_MEMORY. Then the same call may be made again. */
+uint32_t dnw_zone_next(const uint8_t *text, size_t text_len, bool more, struct dnw_zone *zone, uint8_t *octets,
+                       size_t octets_size, struct dnw_zone_entry *entry);
 
 /* Stores the octets that the signature of an RRSIG covers (RFC 4034, section 3.1.8.1), the bytes to verify or to sign,
    and their number in `len`.
@@ -478,10 +641,13 @@ uint32_t dnw_record_parse(const uint8_t *text, size_t text_len, const uint8_t *o
 
    It fails with DNW_MESSAGE_CUT if `rrsig` or `start` is after the end, and as dnw_record_read if a record at one of
    them, or after another record, is not valid, but never for the room of the owner; with DNW_NOT_RRSIG if the record at
-   `rrsig` is of another type; as dnw_field_next if the data of the RRSIG are not valid; with DNW_TOO_FEW_LABELS if the
+   `rrsig` is of another type, or has no data, which is right in the classes ANY and NONE (RFC 2136, section 2.5);
+   as dnw_field_next if the data of the RRSIG are not valid; with DNW_TOO_FEW_LABELS if the
    owner has fewer labels than it counts; at the first covered record, as dnw_field_next if its data are not valid, and
-   with DNW_DATA_TOO_LONG if they have more than 65535 octets once names are uncompressed; with DNW_NOT_COVERED if it
-   covers no record; with DNW_NO_ROOM if there are more than `octets_size` octets; and with DNW_NO_MEMORY. */
+   with DNW_DATA_TOO_LONG if they have more than 65535 octets once names are uncompressed; with DNW_TOO_MANY_POINTERS if
+   the owners of the records follow more than 65536 compression pointers in all, or the names in the data of those that
+   are covered; with DNW_NOT_COVERED if it covers no record; with DNW_NO_ROOM if there are more than `octets_size`
+   octets; and with DNW_NO_MEMORY. */
 uint32_t dnw_signed_octets(const uint8_t *message, size_t section_end, size_t start, size_t rrsig, uint8_t *octets,
                            size_t octets_size, size_t *len);
 
@@ -553,10 +719,11 @@ uint32_t dnw_nsec3_covers(const uint8_t *own, size_t own_len, const uint8_t *nex
    Hash algorithm 1 is SHA-384, and 2 is SHA-512.
 
    If the apex is not a wire form, it fails as dnw_name_compare. Otherwise it fails as dnw_record_read for the first
-   record that is not valid, but never for the room of the owner, and as dnw_field_next if its data are not valid; with
-   DNW_UNKNOWN_ALGORITHM for another hash algorithm; with DNW_DATA_TOO_LONG if a record has more than 65535 octets of
-   data once names are uncompressed; with DNW_NO_ROOM if the buffer is too short, but never if it has DNW_DIGEST_SIZE
-   bytes; and with DNW_NO_MEMORY. */
+   record that is not valid, but never for the room of the owner, and as dnw_field_next if its data are not valid;
+   with DNW_TOO_MANY_POINTERS at the first record whose owner and names in data, with those of the records before it,
+   follow more than 65536 compression pointers; with DNW_UNKNOWN_ALGORITHM for another hash algorithm; with
+   DNW_DATA_TOO_LONG if a record has more than 65535 octets of data once names are uncompressed; with DNW_NO_ROOM if
+   the buffer is too short, but never if it has DNW_DIGEST_SIZE bytes; and with DNW_NO_MEMORY. */
 uint32_t dnw_zone_digest(const uint8_t *apex, size_t apex_len, const uint8_t *records, size_t records_len, uint8_t algorithm,
                          uint8_t *digest, size_t digest_size, size_t *len);
 
@@ -741,7 +908,8 @@ uint32_t dnw_name_sort_key(const uint8_t *form, size_t form_len, uint8_t *key, s
 /* Sorts the names of a list. It stores their indexes in `order`, in canonical order of the names, ignoring ASCII case
    (RFC 4034, section 6.1). Equal names keep the order of the list. `order` has room for `order_len` numbers; those
    after the last index are unchanged. The list has one name after another, as for dnw_names_write. It fails as
-   dnw_name_read at the first element of the list that is not a valid name, with DNW_NO_ROOM if the list has more than
+   dnw_name_read at the first element of the list that is not a valid name, with DNW_TOO_MANY_POINTERS at the first name
+   that, with those before it, follows more than 65536 compression pointers, with DNW_NO_ROOM if the list has more than
    `order_len` names, and, unless the list is empty, with DNW_NO_MEMORY. */
 uint32_t dnw_names_sort(const uint8_t *names, size_t names_len, size_t *order, size_t order_len);
 

@@ -1,4 +1,4 @@
-mod Parsed
 pub mod TokenParts
 pub mod TokenSizes
 pub mod TokenTexts
+pub mod ZoneForms

@@ -1,5 +1,11 @@
 pub mod PrintCalls
 pub mod ParseCalls
+pub mod Reasons
+pub mod FaultCalls
 pub mod CodeCalls
 pub mod TokenCalls
 pub mod Inside
+pub mod ZonePlaces
+pub mod ZoneStates
+pub mod ZoneEntries
+pub mod ZoneFileCalls

@@ -1,19 +1,12 @@
 -- What the functions for C put of records and data that are texts, and why they put nothing (RFC 1035, section 5.1).
-use Rattle.std.specs.Prelude.{◌≡◌, ◌≢◌, ◌<◌, ◌⊎◌, ℕ, IsTrue, List, [], length, Option, Some, None, Result}
-use Rattle.std.specs.Str.{IsUtf8}
+use Rattle.std.specs.Prelude.{◌≡◌, ◌≢◌, ◌⊎◌, ℕ, IsTrue, List, [], length, Option, Some, None, Result}
 use Rattle.dnw_base.specs.Names.{NameValue}
-use Rattle.dnw_base.specs.DnsClasses.{class_code, class_of_code}
-use Rattle.dnw_base.specs.RecordTypes.{type_code, type_of_code}
+use Rattle.dnw_base.specs.DnsClasses.{class_of_code}
+use Rattle.dnw_base.specs.RecordTypes.{type_of_code}
 use Rattle.dnw_base.specs.declared.dns_class.DNSClass.{DNSClass}
 use Rattle.dnw_base.specs.declared.record_type.RecordType.{RecordType}
-use Rattle.dnw_data.specs.Table.{fields_of}
-use Rattle.dnw_zone_data.specs.DataTexts.{FailsText, IsTextOf}
-use Rattle.dnw_base.specs.Limits.{max_data}
-use Rattle.dnw_zone_data.specs.NumberForms.{number_forms}
 use Rattle.dnw_zone_record.specs.RecordEntries.{FailsRecordEntry, IsRecordEntry}
-use Rattle.dnw_zone_record.specs.RecordLines.{IsDataOf}
-use Rattle.dnw_zone_data.specs.declared.error.DataTextError.{DataTextError}
-use Rattle.dnw_zone_data.specs.declared.error.DataTextError.TheVariants.{Memory as DataMemory}
+use Rattle.dnw_zone_record.specs.RecordLines.{FailsDataOf, IsDataOf}
 use Rattle.dnw_zone_record.specs.declared.record_line.RecordLineError.{RecordLineError}
 use Rattle.dnw_zone_record.specs.declared.entry.RecordEntryError.{RecordEntryError}
 use Rattle.dnw_zone_record.specs.declared.entry.RecordEntryError.TheVariants as entries
@@ -36,26 +29,7 @@ IsOrigin form (Some name) = IsTrue name.is_fqdn × IsFormOf form name.labels
 abbrev pub IsNoOrigin : List ℕ → Failure → Type 0
 IsNoOrigin form failure = (form ≢ []) × IsNoForm form failure
 
--- ---- data
-
-abbrev pub of_data : DataTextError → Failure
-of_data DataMemory = why.NoMemory
-of_data error = why.BadData
-
--- The text is these data of a class and a type.
-abbrev pub HasParsedData : Option NameValue → DNSClass → RecordType → List ℕ → List ℕ → Type 0
-HasParsedData origin class kind text own = IsUtf8 text × IsDataOf origin class kind text own
-
--- It is none: not UTF-8, no data of the class and type, or too many octets, or memory ran out.
-abbrev pub LacksData : Option NameValue → DNSClass → RecordType → List ℕ → Failure → Type 0
-LacksData origin class kind text failure =
-    let fields = fields_of (class_code class) (type_code kind) in
-    let ways = number_forms (type_code kind) in
-    ((¬ (IsUtf8 text)) × (failure ≡ why.NotUtf8))
-    ⊎ ((error : DataTextError) × IsUtf8 text × FailsText origin ways fields (length text) text error × (failure ≡ of_data error))
-    ⊎ ((own : List ℕ) × IsUtf8 text × IsTextOf origin ways fields text own × (max_data < length own) × (failure ≡ why.BadData))
-
--- ---- records
+-- ---- failures
 
 abbrev pub of_line : RecordLineError → Failure
 of_line NoOwner = why.BadText
@@ -79,15 +53,16 @@ of_entry (entries.MoreEntries offset) = why.BadData
 of_entry (entries.Line error) = of_line error
 of_entry entries.Memory = why.NoMemory
 
--- The text is a record of these octets, maybe with comments and parentheses.
-abbrev pub HasParsedRecord : Option NameValue → List ℕ → List ℕ → Type 0
-HasParsedRecord origin text own = IsUtf8 text × IsRecordEntry origin text own
+-- ---- texts that are none
 
--- It is none: not UTF-8, or no record.
-abbrev pub LacksParsedRecord : Option NameValue → List ℕ → Failure → Type 0
-LacksParsedRecord origin text failure =
-    ((¬ (IsUtf8 text)) × (failure ≡ why.NotUtf8))
-    ⊎ ((error : RecordEntryError) × IsUtf8 text × FailsRecordEntry origin text error × (failure ≡ of_entry error))
+-- why a text is no data of a class and type
+abbrev pub LacksDataText : Option NameValue → DNSClass → RecordType → List ℕ → Failure → Type 0
+LacksDataText origin class kind text failure =
+    (error : RecordLineError) × FailsDataOf origin class kind (length text) text error × (failure ≡ of_line error)
+
+-- why a text is no record
+abbrev pub LacksRecordText : Option NameValue → List ℕ → Failure → Type 0
+LacksRecordText origin text failure = (error : RecordEntryError) × FailsRecordEntry origin text error × (failure ≡ of_entry error)
 
 -- ---- what is put
 
@@ -101,9 +76,9 @@ PutsParsed Has Lacks form old new result =
 -- The data of the class and type with these codes are put.
 abbrev pub PutsData : ℕ → ℕ → List ℕ → List ℕ → List ℕ → List ℕ → Result ℕ Failure → Type 0
 PutsData class code text form old new result =
-    PutsParsed (λ origin. HasParsedData origin (class_of_code class) (type_of_code code) text)
-    (λ origin. LacksData origin (class_of_code class) (type_of_code code) text) form old new result
+    PutsParsed (λ origin. IsDataOf origin (class_of_code class) (type_of_code code) text)
+    (λ origin. LacksDataText origin (class_of_code class) (type_of_code code) text) form old new result
 
 -- The record is put.
 abbrev pub PutsParsedRecord : List ℕ → List ℕ → List ℕ → List ℕ → Result ℕ Failure → Type 0
-PutsParsedRecord text form old new result = PutsParsed (λ origin. HasParsedRecord origin text) (λ origin. LacksParsedRecord origin text) form old new result
+PutsParsedRecord text form old new result = PutsParsed (λ origin. IsRecordEntry origin text) (λ origin. LacksRecordText origin text) form old new result

@@ -4,7 +4,7 @@
 //!
 //! A slice is passed as a pointer and then a length, and results are put into structs and buffers of the caller. Every input is
 //! tested, whatever the caller promises, and nothing is kept from one call to the next. Read `specs/PrintCalls.antt` first: what
-//! a call puts of a record; and then `specs/ParseCalls.antt`: what it puts of a text.
+//! a call puts of a record; and then `specs/ParseCalls.antt`: what it puts of a text, and `specs/FaultCalls.antt`: where a text goes wrong.
 #![tactic(auto)]
 
 /// Codes of types and classes, and serial numbers.
@@ -13,7 +13,19 @@ pub mod codes;
 pub mod parsing;
 /// Records as text.
 pub mod printing;
+/// What is wrong with texts, in numbers and sentences.
+pub mod reason;
+/// Where the texts of records and data go wrong.
+pub mod text_faults;
 /// The tokens of master files.
 pub mod tokens;
 /// Times to live.
 pub mod ttl;
+/// What C learns of the entries of zone files.
+pub mod zone_entry;
+/// Zone files, entry by entry.
+pub mod zone_file;
+/// Places in zone files.
+pub mod zone_place;
+/// What is known of a zone file that is read.
+pub mod zone_state;

@@ -3,23 +3,21 @@ ghost use Rattle.std.specs.Prelude.{◌≡◌, IfOk, IfErr};
 ghost use Rattle.dnw_base.specs.DnsClasses.{class_of_code};
 ghost use Rattle.dnw_base.specs.RecordTypes.{type_of_code};
 ghost use Rattle.dnw_c_base.specs.Results.{Returns};
-ghost use Rattle.dnw_c_zone.specs.ParseCalls.{HasParsedData, HasParsedRecord, IsNoOrigin, IsOrigin, LacksData, LacksParsedRecord, PutsData, PutsParsedRecord, of_data, of_entry, of_line, failure_of_rule};
+ghost use Rattle.dnw_zone_record.specs.RecordEntries.{IsRecordEntry};
+ghost use Rattle.dnw_zone_record.specs.RecordLines.{IsDataOf};
+ghost use Rattle.dnw_c_zone.specs.ParseCalls.{IsNoOrigin, IsOrigin, LacksDataText, LacksRecordText, PutsData, PutsParsedRecord, of_entry, of_line, failure_of_rule};
 
 use dnw_base::dns_class::DNSClass;
-use dnw_base::limits::MAX_DATA;
 use dnw_base::record_type::RecordType;
 use dnw_c_base::buffer::put;
 use dnw_c_base::failure::Failure;
 use dnw_c_base::names::name_ref_at;
 use dnw_c_base::results::report;
 use dnw_name::name::Name;
-use dnw_zone_data::data_text::parse;
-use dnw_zone_data::error::DataTextError;
 use dnw_zone_record::entry::{RecordEntryError, parse_entry};
-use dnw_zone_record::record_line::RecordLineError;
+use dnw_zone_record::record_line::{RecordLineError, data_of};
 use dnw_zone_words::error::WordRule;
 use std::alloc::Global;
-use std::str;
 
 /// Puts the octets of the data that a text is, for the class and the type with these codes. The origin is a wire form, or no octets for none.
 #[unsafe(no_mangle)]
@@ -64,7 +62,7 @@ fn put_data(
     ensures { PutsData class record_type text.now form.now octets.old octets.new result }
 {
     let origin = origin_of(alloc, form)?;
-    let own = data_of(alloc, class, record_type, text, &origin)?;
+    let own = own_data(alloc, class, record_type, text, &origin)?;
     put(octets, own.as_slice())
 }
 
@@ -78,7 +76,7 @@ fn put_record(alloc: Global, text: &[u8], form: &[u8], octets: &mut [u8]) -> Res
 }
 
 /// Returns the name that a wire form is, or none for no octets.
-fn origin_of(alloc: Global, form: &[u8]) -> Result<Option<Name>, Failure>
+pub(crate) fn origin_of(alloc: Global, form: &[u8]) -> Result<Option<Name>, Failure>
     ensures ok { IfOk result (IsOrigin form.now) }
     ensures err { IfErr result (IsNoOrigin form.now) }
 {
@@ -93,53 +91,32 @@ fn origin_of(alloc: Global, form: &[u8]) -> Result<Option<Name>, Failure>
 }
 
 /// Returns the octets of data of the class and the type with these codes.
-fn data_of(
+fn own_data(
     alloc: Global,
     class: u16,
     record_type: u16,
     text: &[u8],
     origin: &Option<Name>,
 ) -> Result<Vec<u8>, Failure>
-    ensures ok { IfOk result (λ own. HasParsedData origin.now (class_of_code class) (type_of_code record_type) text.now own.items) }
-    ensures err { IfErr result (LacksData origin.now (class_of_code class) (type_of_code record_type) text.now) }
+    ensures ok { IfOk result (λ own. IsDataOf origin.now (class_of_code class) (type_of_code record_type) text.now own.items) }
+    ensures err { IfErr result (LacksDataText origin.now (class_of_code class) (type_of_code record_type) text.now) }
 {
-    let Ok(text) = str::from_utf8(text) else {
-        return Err(Failure::NotUtf8);
-    };
     let class = DNSClass::from(class);
     let record_type = RecordType::from(record_type);
-    match parse(alloc, class, record_type, text, origin.as_ref()) {
-        Ok(own) if own.len() <= MAX_DATA => Ok(own),
-        Ok(_) => Err(Failure::BadData),
-        Err(error) => Err(of_data(&error)),
+    match data_of(alloc, class, record_type, text.len(), text, origin.as_ref()) {
+        Ok(own) => Ok(own),
+        Err(error) => Err(of_line(&error)),
     }
 }
 
 /// Returns the octets of a record.
 fn record_of(alloc: Global, text: &[u8], origin: &Option<Name>) -> Result<Vec<u8>, Failure>
-    ensures ok { IfOk result (λ own. HasParsedRecord origin.now text.now own.items) }
-    ensures err { IfErr result (LacksParsedRecord origin.now text.now) }
+    ensures ok { IfOk result (λ own. IsRecordEntry origin.now text.now own.items) }
+    ensures err { IfErr result (LacksRecordText origin.now text.now) }
 {
-    let Ok(text) = str::from_utf8(text) else {
-        return Err(Failure::NotUtf8);
-    };
-    match parse_entry(alloc, text.as_bytes(), origin.as_ref()) {
+    match parse_entry(alloc, text, origin.as_ref()) {
         Ok(own) => Ok(own),
         Err(error) => Err(of_entry(&error)),
-    }
-}
-
-/// Returns the failure that stands for why a text is no data.
-fn of_data(error: &DataTextError) -> Failure
-    ensures { result ≡ of_data error.now }
-{
-    match error {
-        DataTextError::Memory => Failure::NoMemory,
-        DataTextError::Wanted {
-            field: _,
-            offset: _,
-            wanted: _,
-        } => Failure::BadData,
     }
 }
 

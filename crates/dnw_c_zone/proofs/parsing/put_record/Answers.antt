@@ -1,7 +1,7 @@
 use Rattle.std.proofs.Common.{Option, length, inl, inr, subst}
 use Rattle.dnw_c_base.proofs.Exits.{refused}
 use Rattle.dnw_c_base.specs.Results.{Puts}
-use Rattle.dnw_c_zone.specs.ParseCalls.{IsNoOrigin, IsOrigin, LacksParsedRecord}
+use Rattle.dnw_c_zone.specs.ParseCalls.{IsNoOrigin, IsOrigin, LacksRecordText}
 use Rattle.dnw_base.specs.Names.{NameValue}
 use Rattle.dnw_c_zone.proofs.parsing.put_record.Goals as goal
 
@@ -12,7 +12,7 @@ returns-in_err-origin c =
 pub returns-in_err-own : goal.returns-in_err-own
 returns-in_err-own c =
     let exit = c.from_residual-in_err-own in
-    inr (inl (refused (λ failure. (origin : Option NameValue) × IsOrigin c.args.form.now origin × LacksParsedRecord origin c.args.text.now failure) c.args.octets.now exit.result _ exit.ensures.1
+    inr (inl (refused (λ failure. (origin : Option NameValue) × IsOrigin c.args.form.now origin × LacksRecordText origin c.args.text.now failure) c.args.octets.now exit.result _ exit.ensures.1
     (c.in_ok-origin.origin, c.in_ok-origin.ensures.ok, c.in_err-own.ensures.err)))
 
 pub returns : goal.returns

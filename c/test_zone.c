@@ -1,0 +1,355 @@
+/* Reads zone files through the functions of dns_names_wire.h for them: whole, in parts, with errors, and with states that are spoiled.
+   It prints nothing if all is well, and exits with 1 at the first result that is not the expected one. Expected values are worked by
+   hand from RFC 1035, section 5, and RFC 2308, section 4; the records of the first zone are those of `named-checkzone -D`. */
+#include "dns_names_wire.h"
+#include "expect.h"
+
+#define ROOT "\000"
+#define ISI "\003ISI\003EDU\000"
+#define ROOM 70000
+
+static uint8_t octets[DNW_ZONE_OCTETS_SIZE + 8], before[sizeof octets];
+static char lines[ROOM];
+static size_t lines_len;
+static const char *error_text; /* of the last call */
+static struct dnw_zone zone;
+static struct dnw_zone_entry entry;
+
+static void say(const char *bytes, size_t len)
+{
+    EXPECT(lines_len + len < sizeof lines);
+    memcpy(lines + lines_len, bytes, len);
+    lines_len += len;
+    lines[lines_len] = '\0';
+}
+
+static void say_text(const char *text)
+{
+    say(text, strlen(text));
+}
+
+static void say_number(size_t number)
+{
+    char text[24];
+    say(text, (size_t)snprintf(text, sizeof text, "%zu", number));
+}
+
+static void say_record(void)
+{
+    static uint8_t line[ROOM];
+    struct dnw_printed_record printed;
+    EXPECT(dnw_record_print(octets, entry.len, 0, line, sizeof line, &printed) == DNW_DONE && printed.end == entry.len);
+    struct dnw_record read;
+    uint8_t owner[DNW_FORM_SIZE];
+    EXPECT(dnw_record_read(octets, entry.len, 0, owner, sizeof owner, &read) == DNW_DONE && read.owner_len == entry.name_len);
+    EXPECT(read.data_len == entry.data_len && read.data_offset == entry.len - entry.data_len && read.ttl == entry.ttl);
+    EXPECT(read.record_type == entry.record_type && read.record_class == entry.record_class);
+    say((const char *)line, printed.len);
+}
+
+static void say_include(void)
+{
+    uint8_t name[DNW_TEXT_SIZE];
+    size_t len;
+    EXPECT(entry.name_len + entry.data_len == entry.len);
+    EXPECT(dnw_name_print(octets, entry.name_len, true, name, sizeof name, &len) == DNW_DONE);
+    say_text("$INCLUDE ");
+    say((const char *)octets + entry.name_len, entry.data_len);
+    say_text(" ");
+    say((const char *)name, len);
+}
+
+static void say_error(void)
+{
+    uint8_t text[DNW_SENTENCE_SIZE];
+    size_t len;
+    EXPECT(dnw_text_fault_print(&entry.fault, text, sizeof text, &len) == DNW_DONE);
+    const char *words = memchr(text, ':', len);
+    EXPECT(words != NULL);
+    say_text("error");
+    say(words, (size_t)((const char *)text + len - words));
+    say_text(" `");
+    say(error_text + entry.fault.offset, entry.fault.len);
+    say_text("`");
+}
+
+/* Takes the next entry into so many octets. A call that fails stores nothing, and one that stores nothing in the buffer leaves it. */
+static uint32_t next_in(const char *text, size_t len, bool more, size_t size)
+{
+    struct dnw_zone was = zone;
+    error_text = text;
+    memset(octets, 0xAA, sizeof octets);
+    memset(before, 0xAA, sizeof before);
+    memset(&entry, 0xAA, sizeof entry);
+    uint32_t answer = dnw_zone_next((const uint8_t *)text, len, more, &zone, octets, size, &entry);
+    if (answer != DNW_DONE) {
+        EXPECT(memcmp(&zone, &was, sizeof was) == 0 && memcmp(&entry, before, sizeof entry) == 0);
+        EXPECT(memcmp(octets, before, sizeof octets) == 0);
+    } else {
+        EXPECT(memcmp(octets + entry.len, before, sizeof octets - entry.len) == 0);
+        EXPECT(entry.used <= len && zone.offset == was.offset + entry.used);
+        EXPECT(entry.kind == DNW_ZONE_END || entry.kind == DNW_ZONE_MORE ? entry.used == 0 : entry.used > 0);
+        EXPECT((entry.kind == DNW_ZONE_RECORD || entry.kind == DNW_ZONE_INCLUDE) == (entry.len > 0));
+        EXPECT((entry.kind == DNW_ZONE_ERROR) == (entry.fault.reason > 0) && entry.fault.offset + entry.fault.len <= len);
+    }
+    return answer;
+}
+
+static void next(const char *text, size_t len, bool more)
+{
+    EXPECT(next_in(text, len, more, DNW_ZONE_OCTETS_SIZE) == DNW_DONE);
+}
+
+/* Says the entry that was taken, in a line with its place. Those that say nothing are left out. */
+static void say_entry(void)
+{
+    if (entry.kind <= DNW_ZONE_NOTHING)
+        return;
+    say_number(entry.line);
+    say_text(":");
+    say_number(entry.column);
+    say_text(" ");
+    entry.kind == DNW_ZONE_RECORD ? say_record() : entry.kind == DNW_ZONE_INCLUDE ? say_include() : say_error();
+    say_text("\n");
+}
+
+/* Reads what is left of a text of which the first octets come first, and then so many more each time that more are wanted. */
+static void read_parts(const char *text, size_t len, size_t first, size_t step)
+{
+    size_t at = 0, there = first < len ? first : len;
+    for (;;) {
+        next(text + at, there - at, there < len);
+        EXPECT(entry.kind != DNW_ZONE_MORE || there < len);
+        if (entry.kind == DNW_ZONE_END && there == len)
+            return;
+        if (entry.kind == DNW_ZONE_MORE)
+            there = there + step < len ? there + step : len;
+        say_entry();
+        at += entry.used;
+    }
+}
+
+static const char *reads(const char *origin, size_t origin_len, const char *text, size_t len, size_t first, size_t step)
+{
+    lines_len = 0;
+    lines[0] = '\0';
+    memset(&zone, 0xAA, sizeof zone);
+    EXPECT(dnw_zone_begin((const uint8_t *)origin, origin_len, &zone) == DNW_DONE);
+    read_parts(text, len, first, step);
+    EXPECT(zone.offset == len);
+    return lines;
+}
+
+/* The whole text gives these lines, and so do its parts, wherever it is cut, and octet by octet. */
+static void gives(const char *origin, size_t origin_len, const char *text, size_t len, const char *wanted)
+{
+    const char *said = reads(origin, origin_len, text, len, len, 1);
+    if (strcmp(said, wanted) != 0)
+        fprintf(stderr, "%s", said);
+    EXPECT(strcmp(said, wanted) == 0);
+    for (size_t cut = 0; cut <= len; cut++)
+        EXPECT(strcmp(reads(origin, origin_len, text, len, cut, len), wanted) == 0);
+    EXPECT(strcmp(reads(origin, origin_len, text, len, 1, 1), wanted) == 0);
+}
+
+#define GIVES(origin, text, wanted) gives(origin, sizeof(origin) - 1, text, sizeof(text) - 1, wanted)
+
+/* The example of RFC 1035, section 5.3, after a $TTL. */
+static void reads_the_example(void)
+{
+    GIVES(ISI,
+          "$TTL 1h\n"
+          "@   IN  SOA     VENERA      Action\\.domains (\n"
+          "                                 20     ; SERIAL\n"
+          "                                 7200   ; REFRESH\n"
+          "                                 600    ; RETRY\n"
+          "                                 3600000; EXPIRE\n"
+          "                                 60)    ; MINIMUM\n"
+          "\n"
+          "        NS      A.ISI.EDU.\n"
+          "        NS      VENERA\n"
+          "        MX      10      VENERA\n"
+          "\n"
+          "A       A       26.3.0.103\n"
+          "\n"
+          "VENERA  A       10.1.0.52\n"
+          "        A       128.9.0.32\n"
+          "\n"
+          "$INCLUDE <SUBSYS>ISI-MAILBOXES.TXT\n",
+          "2:1 ISI.EDU. 3600 IN SOA VENERA.ISI.EDU. Action\\.domains.ISI.EDU. 20 7200 600 3600000 60\n"
+          "9:1 ISI.EDU. 3600 IN NS A.ISI.EDU.\n"
+          "10:1 ISI.EDU. 3600 IN NS VENERA.ISI.EDU.\n"
+          "11:1 ISI.EDU. 3600 IN MX 10 VENERA.ISI.EDU.\n"
+          "13:1 A.ISI.EDU. 3600 IN A 26.3.0.103\n"
+          "15:1 VENERA.ISI.EDU. 3600 IN A 10.1.0.52\n"
+          "16:1 VENERA.ISI.EDU. 3600 IN A 128.9.0.32\n"
+          "18:1 $INCLUDE <SUBSYS>ISI-MAILBOXES.TXT ISI.EDU.\n");
+}
+
+/* What is left out comes from the entries before (RFC 1035, section 5.1; RFC 2308, section 4). */
+static void reads_what_is_left_out(void)
+{
+    GIVES(ISI, "a 5 IN A 1.2.3.4\n\tA 1.2.3.5\nb 7 A 1.2.3.6\nc A 1.2.3.7\n$TTL 9\nd A 1.2.3.8\ne IN 3 A 1.2.3.9\n  A 1.2.3.9",
+          "1:1 a.ISI.EDU. 5 IN A 1.2.3.4\n2:1 a.ISI.EDU. 5 IN A 1.2.3.5\n3:1 b.ISI.EDU. 7 IN A 1.2.3.6\n"
+          "4:1 c.ISI.EDU. 7 IN A 1.2.3.7\n6:1 d.ISI.EDU. 9 IN A 1.2.3.8\n7:1 e.ISI.EDU. 3 IN A 1.2.3.9\n"
+          "8:1 e.ISI.EDU. 9 IN A 1.2.3.9\n");
+    GIVES(ROOT, "$origin com.\n$ttl 1\nexample CH TXT \"a;b\" ; c\n$ORIGIN example\n@ TXT ( x\n ) y\nwww TXT \\\"\n",
+          "3:1 example.com. 1 CH TXT \"a;b\"\n5:1 example.com. 1 CH TXT \"x\" \"y\"\n7:1 www.example.com. 1 CH TXT \"\\\"\"\n");
+    GIVES(ROOT, "$TTL 1\n. NULL \\# 3 ( 00\n0102\n)\n. TYPE65280 \\# 0\n", "2:1 . 1 IN NULL \\# 3 000102\n5:1 . 1 IN TYPE65280 \\# 0\n");
+    GIVES(ROOT, "", "");
+    GIVES(ROOT, "\n ; c\n\t\n(\n)\n;", "");
+}
+
+/* After an error the next line is read, with what the entries before it said. */
+static void reads_on_after_errors(void)
+{
+    GIVES(ISI, " A 1.2.3.4\n", "1:2 error: no owner is there, nor in an entry before `A`\n");
+    GIVES(ISI, "a A 1.2.3.4\n", "1:3 error: no time to live is there, nor in an entry before `A`\n");
+    GIVES(ISI, "$TTL 1\na..b A 1.2.3.4\na IN A 1.2.3.256\n",
+          "2:1 error: the owner is no name `a..b`\n3:8 error: wanted an IPv4 address (field 0) `1.2.3.256`\n");
+    GIVES(ISI, "$TTL 1\na A 1.2.3.4\n MX 1 x y\n MX 65536 x\n NOTYPE 1\n TXT \"a\n A 1.2.3.5 ) x\n A (( 1\n A 1.2.3.6 \\\n A 1.2.3.7\n",
+          "2:1 a.ISI.EDU. 1 IN A 1.2.3.4\n3:9 error: wanted the end of the data (field 2) `y`\n"
+          "4:5 error: wanted a number of at most 65535 (field 0) `65536`\n5:2 error: wanted a record type `NOTYPE`\n"
+          "6:8 error: the line ends within a quoted string ``\n7:12 error: no parenthesis is open ``\n"
+          "8:5 error: a parenthesis is opened within parentheses ``\n9:13 error: the line ends after a backslash ``\n"
+          "10:1 a.ISI.EDU. 1 IN A 1.2.3.7\n");
+    GIVES(ISI, "$TTL\n$TTL x\n$TTL 1 2\n$ORIGIN\n$ORIGIN a..\n$ORIGIN a b\n$INCLUDE\n$INCLUDE f a b\n$INCLUDE f a..\n$FOO\n$generate 1-2 a A 1\n",
+          "1:5 error: no time is there ``\n2:6 error: no time is there `x`\n3:8 error: more words are there `2`\n"
+          "4:8 error: no name is there ``\n5:9 error: no name is there `a..`\n6:11 error: more words are there `b`\n"
+          "7:9 error: no file is there ``\n8:14 error: more words are there `b`\n9:12 error: no name is there `a..`\n"
+          "10:1 error: no entry has this name `$FOO`\n11:1 error: $GENERATE is not read `$generate`\n");
+    GIVES(ISI, "a 1 A ( 1.2.3.4\n ; )\n", "3:1 error: the text ends within parentheses ``\n");
+    GIVES(ISI, "a 1 TXT \\# 2 00\na 1 A \\# 3 000000\na 1 TXT \"x\\256\"\n",
+          "1:14 error: wanted as many octets in hexadecimal as the number says (field 1) `00`\n"
+          "2:12 error: wanted octets that are data of the type (field 1) `000000`\n"
+          "3:9 error: wanted character strings of at most 255 octets, one or more (field 0) `\"x\\256\"`\n");
+}
+
+/* Line ends: LF, CR before LF, and none at the end of the file. CR alone, NUL and other octets are as they are. */
+static void reads_odd_lines(void)
+{
+    GIVES(ISI, "$TTL 1\r\na A 1.2.3.4\r\n A ( 1.2.3.5\r\n )\r\n\r\n A 1.2.3.6",
+          "2:1 a.ISI.EDU. 1 IN A 1.2.3.4\n3:1 a.ISI.EDU. 1 IN A 1.2.3.5\n6:1 a.ISI.EDU. 1 IN A 1.2.3.6\n");
+    GIVES(ISI, "$TTL 1\n\000 A 1.2.3.4\n\377\001 A 1.2.3.4\n",
+          "2:1 \\000.ISI.EDU. 1 IN A 1.2.3.4\n3:1 \\255\\001.ISI.EDU. 1 IN A 1.2.3.4\n");
+}
+
+static void includes(void)
+{
+    GIVES(ISI, "$INCLUDE \"a b\" sub\n$include a\\;b x.y.\n$INCLUDE c;d\n$INCLUDE \"\"\n$INCLUDE \"a\\000b\"\n$INCLUDE \377\n$INCLUDE \\255\n"
+               "$INCLUDE \"a\\256\"\n",
+          "1:1 $INCLUDE a b sub.ISI.EDU.\n2:1 $INCLUDE a;b x.y.\n3:1 $INCLUDE c ISI.EDU.\n4:10 error: no file is there `\"\"`\n"
+          "5:10 error: no file is there `\"a\\000b\"`\n6:10 error: no file is there `\377`\n7:1 $INCLUDE \377 ISI.EDU.\n"
+          "8:10 error: no file is there `\"a\\256\"`\n");
+    static const char text[] = "$TTL 7\na A 1.2.3.4\n$INCLUDE f sub\n A 1.2.3.6\n", file[] = " A 1.2.3.5\nb A 1.2.3.7\n$TTL 8\n$ORIGIN c.\n@ TXT x\n";
+    struct dnw_zone outer;
+    lines_len = 0;
+    EXPECT(dnw_zone_begin(BYTES(ISI), &zone) == DNW_DONE);
+    for (size_t at = 0; entry.kind != DNW_ZONE_INCLUDE; at += entry.used)
+        next(text + at, sizeof text - 1 - at, false);
+    outer = zone;
+    EXPECT(dnw_zone_include(octets, entry.name_len, &zone) == DNW_DONE);
+    EXPECT(zone.offset == 0 && zone.line == 0 && zone.column == 0);
+    read_parts(file, sizeof file - 1, sizeof file - 1, 1);
+    EXPECT(strcmp(lines, "1:1 a.ISI.EDU. 7 IN A 1.2.3.5\n2:1 b.sub.ISI.EDU. 7 IN A 1.2.3.7\n5:1 c. 8 IN TXT \"x\"\n") == 0);
+    zone = outer;
+    lines_len = 0;
+    read_parts(text + zone.offset, sizeof text - 1 - zone.offset, 99, 1);
+    EXPECT(strcmp(lines, "4:1 a.ISI.EDU. 7 IN A 1.2.3.6\n") == 0);
+}
+
+/* Just as many octets as are stored are enough, and one less is not. The call can be made again. */
+static void lacks_room(void)
+{
+    static const char *const texts[] = {"$INCLUDE f\n", "a 1 A 1.2.3.4\n"};
+    for (size_t n = 0; n < 2; n++) {
+        size_t len = strlen(texts[n]), size = n == 0 ? 10 : 11 + 10 + 4;
+        EXPECT(dnw_zone_begin(BYTES(ISI), &zone) == DNW_DONE);
+        EXPECT(next_in(texts[n], len, false, 0) == DNW_NO_ROOM && next_in(texts[n], len, false, size - 1) == DNW_NO_ROOM);
+        EXPECT(next_in(texts[n], len, false, size) == DNW_DONE && entry.len == size);
+        EXPECT(next_in(texts[n] + len, 0, false, 0) == DNW_DONE && entry.kind == DNW_ZONE_END);
+    }
+}
+
+/* The state is plain data: a call fails or reads on, whatever it holds. */
+static void states_are_spoiled(void)
+{
+    static const char text[] = " A 1.2.3.4\n";
+    struct dnw_zone good;
+    EXPECT(dnw_zone_begin(BYTES(ISI), &zone) == DNW_DONE);
+    next("a 1 A 1.2.3.4\n", 14, false);
+    good = zone;
+    for (size_t at = 0; at < sizeof zone; at++)
+        for (unsigned octet = 0; octet < 256; octet += at < offsetof(struct dnw_zone, origin) ? 1 : 17) {
+            zone = good;
+            ((uint8_t *)&zone)[at] = (uint8_t)octet;
+            struct dnw_zone was = zone;
+            uint32_t answer = dnw_zone_next(BYTES(text), false, &zone, octets, sizeof octets, &entry);
+            EXPECT(answer == DNW_DONE || (answer == DNW_BAD_ITEM && memcmp(&zone, &was, sizeof was) == 0));
+            zone = was;
+            EXPECT(dnw_zone_include(BYTES(ISI), &zone) == answer);
+        }
+    zone = good;
+    zone.origin_len = 0;
+    EXPECT(next_in(text, sizeof text - 1, false, 100) == DNW_BAD_ITEM);
+    zone = good;
+    zone.owner[0] = 192;
+    EXPECT(next_in(text, sizeof text - 1, false, 100) == DNW_BAD_ITEM);
+    zone = good;
+    zone.owner_len -= 1;
+    EXPECT(next_in(text, sizeof text - 1, false, 100) == DNW_BAD_ITEM);
+    zone = good;
+    zone.offset = zone.line = zone.column = SIZE_MAX;
+    EXPECT(dnw_zone_next(BYTES(text), false, &zone, octets, sizeof octets, &entry) == DNW_DONE && entry.kind == DNW_ZONE_RECORD);
+    EXPECT(zone.offset == SIZE_MAX && zone.line == SIZE_MAX && zone.column == 0 && entry.line == SIZE_MAX && entry.column == SIZE_MAX);
+}
+
+static void refuses_origins(void)
+{
+    memset(&zone, 7, sizeof zone);
+    struct dnw_zone was = zone;
+    EXPECT(dnw_zone_begin(BYTES(""), &zone) == DNW_MESSAGE_CUT && dnw_zone_begin(BYTES("\001a"), &zone) == DNW_MESSAGE_CUT);
+    EXPECT(dnw_zone_begin(BYTES("\000\000"), &zone) == DNW_BYTES_LEFT && dnw_zone_begin(BYTES("\300\000"), &zone) == DNW_POINTER_NOT_BACK);
+    EXPECT(memcmp(&zone, &was, sizeof was) == 0);
+    EXPECT(dnw_zone_begin(BYTES(ISI), &zone) == DNW_DONE);
+    was = zone;
+    EXPECT(dnw_zone_include(BYTES(""), &zone) == DNW_MESSAGE_CUT && dnw_zone_include(BYTES("\100"), &zone) == DNW_RESERVED_OCTET);
+    EXPECT(memcmp(&zone, &was, sizeof was) == 0 && zone.record_class == DNW_CLASS_IN && zone.origin_len == 9 && zone.owner_len == 0);
+}
+
+/* A million parentheses, octets and lines take as many steps as they have lines, and as little memory. */
+static void reads_hostile_texts(void)
+{
+    static const char kinds[] = "(\")a \000\\;";
+    static char text[1 << 20];
+    for (size_t n = 0; n < sizeof kinds - 1; n++) {
+        memset(text, kinds[n], sizeof text);
+        EXPECT(dnw_zone_begin(BYTES(ROOT), &zone) == DNW_DONE);
+        next(text, sizeof text, true);
+        next(text, sizeof text, false);
+        EXPECT(entry.used == sizeof text);
+        next(text, 0, false);
+        EXPECT(entry.kind == DNW_ZONE_END && zone.offset == sizeof text && zone.column == sizeof text);
+    }
+    for (size_t kind = 0; kind < 2; kind++) {
+        memset(text, "\n\r"[kind], sizeof text);
+        EXPECT(dnw_zone_begin(BYTES(ROOT), &zone) == DNW_DONE);
+        for (size_t n = 0; n < sizeof text; n++)
+            EXPECT(dnw_zone_next((const uint8_t *)text + n, sizeof text - n, false, &zone, octets, 0, &entry) == DNW_DONE && entry.used == 1);
+        EXPECT(kind == 0 ? zone.line == sizeof text && zone.column == 0 : zone.line == 0 && zone.column == sizeof text);
+    }
+}
+
+int main(void)
+{
+    reads_the_example();
+    reads_what_is_left_out();
+    reads_on_after_errors();
+    reads_odd_lines();
+    includes();
+    lacks_room();
+    states_are_spoiled();
+    refuses_origins();
+    reads_hostile_texts();
+    return 0;
+}

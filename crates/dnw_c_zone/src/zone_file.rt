@@ -1,0 +1,108 @@
+//! Zone files, entry by entry, of which the caller keeps the state and has the text in parts.
+ghost use Rattle.std.specs.Prelude.{◌≡◌, IfOk, IfErr};
+ghost use Rattle.dnw_c_base.specs.Results.{Returns};
+ghost use Rattle.dnw_c_zone.specs.ZoneFileCalls.{BeginsZone, IncludesFile, IsGivenOrigin, LacksOrigin, TakesZoneEntry};
+
+use crate::parsing::origin_of;
+use crate::zone_entry::{ZoneEntry, put_found};
+use crate::zone_place::{FilePlace, moved};
+use crate::zone_state::{ZoneState, context_of, place_of_state, zone_state_of};
+use dnw_c_base::failure::Failure;
+use dnw_c_base::results::{report, report_both};
+use dnw_name::name::Name;
+use dnw_zone_file::context::Context;
+use dnw_zone_file::step::take_entry;
+use std::alloc::Global;
+
+/// The place before the first octet of a file.
+const START: FilePlace = FilePlace {
+    offset: 0,
+    line: 0,
+    column: 0,
+};
+
+/// Stores what is known before the first entry of a zone file. The origin is a wire form.
+#[unsafe(no_mangle)]
+pub extern "C" fn dnw_zone_begin(alloc: Global, origin: &[u8], zone: &mut ZoneState) -> u32
+    ensures { Returns (BeginsZone origin.now) zone.old zone.new result }
+{
+    report(begun(alloc, origin), zone)
+}
+
+/// Changes a state, which is that after an `$INCLUDE`, into that before the first entry of its file. The origin is a wire form.
+#[unsafe(no_mangle)]
+pub extern "C" fn dnw_zone_include(alloc: Global, origin: &[u8], zone: &mut ZoneState) -> u32
+    ensures { Returns (IncludesFile origin.now zone.old) zone.old zone.new result }
+{
+    report(included(alloc, origin, zone), zone)
+}
+
+/// Puts what a text begins with, after the entries that made the state, and moves past it. If there may be more of the text, an entry
+/// that is not whole is none.
+#[unsafe(no_mangle)]
+pub extern "C" fn dnw_zone_next(
+    alloc: Global,
+    text: &[u8],
+    more: bool,
+    zone: &mut ZoneState,
+    octets: &mut [u8],
+    entry: &mut ZoneEntry,
+) -> u32
+    ensures { Returns (TakesZoneEntry text.now more zone.old octets.old octets.new) (entry.old, zone.old) (entry.new, zone.new) result }
+{
+    report_both(next(alloc, text, more, zone, octets), entry, zone)
+}
+
+/// Returns the state before the first entry.
+fn begun(alloc: Global, origin: &[u8]) -> Result<ZoneState, Failure>
+    ensures { BeginsZone origin.now result }
+{
+    let origin = name_of(alloc, origin)?;
+    Ok(zone_state_of(&Context::new(origin), START))
+}
+
+/// Returns the state before the first entry of a file that is included after this one.
+fn included(alloc: Global, origin: &[u8], zone: &ZoneState) -> Result<ZoneState, Failure>
+    ensures { IncludesFile origin.now zone.now result }
+{
+    let origin = name_of(alloc, origin)?;
+    let Some(mut context) = context_of(alloc, zone) else {
+        return Err(Failure::BadItem);
+    };
+    context.origin = origin;
+    Ok(zone_state_of(&context, START))
+}
+
+/// Returns the name that a wire form is.
+fn name_of(alloc: Global, form: &[u8]) -> Result<Name, Failure>
+    ensures ok { IfOk result (IsGivenOrigin form.now) }
+    ensures err { IfErr result (LacksOrigin form.now) }
+{
+    match origin_of(alloc, form) {
+        Ok(Some(name)) => Ok(name),
+        Ok(None) => Err(Failure::MessageCut),
+        Err(failure) => Err(failure),
+    }
+}
+
+/// Puts what a text begins with. Returns what C learns of it, and the state after it.
+fn next(
+    alloc: Global,
+    text: &[u8],
+    more: bool,
+    zone: &ZoneState,
+    octets: &mut [u8],
+) -> Result<(ZoneEntry, ZoneState), Failure>
+    ensures { TakesZoneEntry text.now more zone.now octets.old octets.new result }
+{
+    let Some(mut context) = context_of(alloc, zone) else {
+        return Err(Failure::BadItem);
+    };
+    let at = place_of_state(zone);
+    let mut line = Vec::new(alloc);
+    let step = take_entry(alloc, &mut context, text, more, &mut line);
+    match put_found(alloc, at, text, &context, &step, octets) {
+        Ok(entry) => Ok((entry, zone_state_of(&context, moved(at, text, step.used)))),
+        Err(failure) => Err(failure),
+    }
+}

@@ -1,0 +1,182 @@
+//! What is known of a zone file that is read, as plain data of a caller.
+ghost use Rattle.std.specs.Prelude.{◌≡◌, ◌≤◌, length, take, IfSome, IfNone};
+ghost use Rattle.dnw_base.specs.Limits.{max_name};
+ghost use Rattle.dnw_base.specs.Names.{wire};
+ghost use Rattle.dnw_c_zone.specs.ZoneStates.{IsContextOf, LacksContext, has_number, in_room, labels_of_name, or_zero, owner_form, place_of_state, zone_state_of, time_of};
+
+use crate::parsing::origin_of;
+use crate::zone_place::FilePlace;
+use dnw_base::dns_class::DNSClass;
+use dnw_base::limits::MAX_NAME;
+use dnw_name::name::Name;
+use dnw_name_form::form::WireForm;
+use dnw_name_form::wire_labels::WireLabels;
+use dnw_zone_file::context::Context;
+use std::alloc::Global;
+
+/// What the entries of a zone file so far say for later ones, and how much of it was read: plain data without an invariant.
+///
+/// A state that was spoiled makes a call fail, or gives other names, times and places. It does no other harm.
+#[repr(C)]
+#[derive(Clone, Copy)]
+pub struct ZoneState {
+    /// The number of octets that were read.
+    pub offset: usize,
+    /// The number of line feeds among them.
+    pub line: usize,
+    /// The number of octets after the last line feed.
+    pub column: usize,
+    /// The time to live of the last `$TTL`.
+    pub default_ttl: u32,
+    /// The last time to live of a record that has one of its own.
+    pub last_ttl: u32,
+    /// The last class of a record that has one of its own, or else `IN`.
+    pub record_class: u16,
+    /// 0 if there is no `default_ttl`.
+    pub has_default_ttl: u8,
+    /// 0 if there is no `last_ttl`.
+    pub has_last_ttl: u8,
+    /// The number of octets of the origin.
+    pub origin_len: u8,
+    /// The number of octets of the owner of the last record, or 0 if there is none.
+    pub owner_len: u8,
+    /// The origin's wire form.
+    pub origin: [u8; MAX_NAME],
+    /// The wire form of the owner of the last record.
+    pub owner: [u8; MAX_NAME],
+}
+
+/// Returns the state at a place, after the entries that made the context.
+pub(crate) fn zone_state_of(context: &Context, at: FilePlace) -> ZoneState
+    ensures { result ≡ zone_state_of context.now at }
+{
+    let origin = origin_form(context);
+    let owner = owner_form(context);
+    ZoneState {
+        offset: at.offset,
+        line: at.line,
+        column: at.column,
+        default_ttl: or_zero(context.default_ttl),
+        last_ttl: or_zero(context.last_ttl),
+        record_class: context.class.code(),
+        has_default_ttl: has_number(context.default_ttl),
+        has_last_ttl: has_number(context.last_ttl),
+        origin_len: origin.len() as u8,
+        owner_len: owner.len() as u8,
+        origin: in_room(origin),
+        owner: in_room(owner),
+    }
+}
+
+/// Returns the place up to which a state has read.
+pub(crate) fn place_of_state(zone: &ZoneState) -> FilePlace
+    ensures { result ≡ place_of_state zone.now }
+{
+    FilePlace {
+        offset: zone.offset,
+        line: zone.line,
+        column: zone.column,
+    }
+}
+
+/// Returns what the entries so far say by a state, or `None` if its origin or owner is no wire form.
+pub(crate) fn context_of(alloc: Global, zone: &ZoneState) -> Option<Context>
+    ensures some { IfSome result (IsContextOf zone.now) }
+    ensures none { IfNone result (LacksContext zone.now) }
+{
+    let Ok(Some(origin)) = origin_of(alloc, front_of(&zone.origin, zone.origin_len)) else {
+        return None;
+    };
+    let Ok(owner) = origin_of(alloc, front_of(&zone.owner, zone.owner_len)) else {
+        return None;
+    };
+    Some(Context {
+        origin,
+        owner: form_of(alloc, &owner),
+        default_ttl: time_of(zone.has_default_ttl, zone.default_ttl),
+        last_ttl: time_of(zone.has_last_ttl, zone.last_ttl),
+        class: DNSClass::from(zone.record_class),
+    })
+}
+
+/// Returns the wire form of the origin.
+fn origin_form(context: &Context) -> &[u8]
+    ensures form { result.now ≡ wire context.now.origin.labels }
+    ensures few { length result.now ≤ max_name }
+{
+    bounded(context.origin.wire_labels())
+}
+
+/// Returns the wire form of the last owner, or no octets if there is none.
+pub(crate) fn owner_form(context: &Context) -> &[u8]
+    ensures form { result.now ≡ owner_form context.now.owner }
+    ensures few { length result.now ≤ max_name }
+{
+    match &context.owner {
+        Some(owner) => bounded(owner.labels()),
+        None => &[],
+    }
+}
+
+/// Returns the wire form of labels.
+#[tactic(auto, using(crate::proofs::ZoneForms::few_octets))]
+fn bounded(labels: WireLabels<'_>) -> &[u8]
+    ensures form { result.now ≡ wire labels.entry }
+    ensures few { length result.now ≤ max_name }
+{
+    labels.as_wire()
+}
+
+/// Returns octets at the front of room for a name, with zeros after them.
+fn in_room(octets: &[u8]) -> [u8; MAX_NAME]
+    requires { length octets.now ≤ max_name }
+    ensures { result ≡ in_room octets.now }
+{
+    let mut room = [0; MAX_NAME];
+    room[..octets.len()].copy_from_slice(octets);
+    room
+}
+
+/// Returns so many octets of room for a name.
+fn front_of(room: &[u8; MAX_NAME], len: u8) -> &[u8]
+    ensures { result.now ≡ take len room.now }
+{
+    &room[..usize::from(len)]
+}
+
+/// Returns a number, or 0 for none.
+fn or_zero(number: Option<u32>) -> u32
+    ensures { result ≡ or_zero number }
+{
+    match number {
+        Some(number) => number,
+        None => 0,
+    }
+}
+
+/// Returns 1 if there is a number, and else 0.
+fn has_number(number: Option<u32>) -> u8
+    ensures { result ≡ has_number number }
+{
+    match number {
+        Some(_) => 1,
+        None => 0,
+    }
+}
+
+/// Returns a number, or none if a flag is 0.
+fn time_of(flag: u8, number: u32) -> Option<u32>
+    ensures { result ≡ time_of flag number }
+{
+    if flag == 0 { None } else { Some(number) }
+}
+
+/// Returns the wire form of a name.
+fn form_of(alloc: Global, name: &Option<Name>) -> Option<WireForm>
+    ensures { result ≡ labels_of_name name.now }
+{
+    match name {
+        Some(name) => Some(WireForm::from_octets(alloc, name.wire_labels().as_wire())),
+        None => None,
+    }
+}
