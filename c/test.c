@@ -693,7 +693,12 @@ static void lacks_memory(void)
     EXPECT(lex(BYTES("(\001")) == DNW_CONTROL_CHARACTER && lex(BYTES("(a")) == DNW_NO_MEMORY);
     EXPECT(dnw_token_next(BYTES("a"), &lexer, buffer, sizeof buffer, &token) == DNW_NO_MEMORY && lexer.offset == 0);
     EXPECT(dnw_token_next(BYTES("$FOO"), &lexer, buffer, sizeof buffer, &token) == DNW_NO_MEMORY && token.kind == 99);
-    EXPECT(untouched());
+    struct dnw_zone zone;
+    struct dnw_zone_entry entry = {.kind = 99};
+    EXPECT(dnw_zone_begin(BYTES("\000"), &zone) == DNW_DONE && dnw_zone_include(BYTES("\001a\000"), &zone) == DNW_DONE);
+    EXPECT(dnw_zone_next(BYTES("b 1 A 192.0.2.1"), false, &zone, buffer, sizeof buffer, &entry) == DNW_NO_MEMORY);
+    EXPECT(untouched() && entry.kind == 99 && zone.offset == 0 && zone.owner_len == 0);
+    EXPECT(dnw_zone_next(BYTES(""), false, &zone, buffer, sizeof buffer, &entry) == DNW_DONE && entry.kind == DNW_ZONE_END);
     EXPECT(dnw_name_append(BYTES("\001a\000"), BYTES("\000"), buffer, sizeof buffer, &len) == DNW_DONE && len == 3);
     EXPECT(dnw_name_print(BYTES("\000"), false, buffer, 1, &len) == DNW_DONE && len == 1);
     struct dnw_record record;

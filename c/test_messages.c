@@ -214,52 +214,62 @@ static void refuses_fields(void)
 
 static uint8_t copy[512];
 
-/* Packs a message into so many bytes. What is not written is unchanged. */
+/* Packs a message into so many bytes. Nothing is stored if it fails. */
 static uint32_t pack(const uint8_t *octets, size_t len, uint16_t most, size_t size, struct dnw_packed *packed)
 {
     memset(copy, '?', sizeof copy);
     *packed = (struct dnw_packed){7, true};
     uint32_t answer = dnw_message_pack(octets, len, most, copy, size, packed);
     if (answer != DNW_DONE)
-        EXPECT(copy[0] == '?' && packed->len == 7 && packed->truncated);
+        EXPECT(packed->len == 7 && packed->truncated);
     else
-        EXPECT(packed->len <= most && copy[packed->len] == '?');
+        EXPECT(packed->len <= most && packed->len <= size && (size == sizeof copy || copy[size] == '?'));
     return answer;
 }
 
+/* The maximum is that of the call, or the size of the buffer. */
 static bool packs(const uint8_t *octets, size_t octets_len, uint16_t most, const char *wanted, size_t len, bool truncated)
 {
     struct dnw_packed packed;
-    EXPECT(pack(octets, octets_len, most, len - 1, &packed) == DNW_NO_ROOM);
-    EXPECT(pack(octets, octets_len, most, len, &packed) == DNW_DONE);
+    EXPECT(pack(octets, octets_len, 65535, most, &packed) == DNW_DONE);
+    EXPECT(packed.len == len && packed.truncated == truncated && memcmp(copy, wanted, len) == 0);
+    EXPECT(pack(octets, octets_len, most, sizeof copy, &packed) == DNW_DONE);
     return packed.len == len && packed.truncated == truncated && memcmp(copy, wanted, len) == 0;
 }
 
 #define HEAD(flags, counts) "\022\064" flags "\247" counts
 #define WWW_IN WWW "\000\001\000\001"
-#define GLUE_ALONE "\002ns\300\020\000\001\000\001" TTL "\000\004\300\000\002\001"
 #define WANTED(octets) octets, sizeof(octets) - 1
 #define TWO_MORE "\000\000\202\000\000\000\000\000\000\000\000\002"
 #define A_OF_A "\001a\000\000\001\000\001" TTL "\000\004abcd"
 #define RECORD(type, data) "\000\000" type "\000\001\000\000\000\000\000" data
 #define ANSWER(type, data) "\000\000\200\000\000\000\000\001\000\000\000\000" RECORD(type, data)
 
-/* A name needs the room that it has without compression, but for an octet. Of the 17 octets of the OPT record is none left. */
+/* Each set is there if it fits as it is written. The question and the 17 octets of the OPT record have to be there. */
 static void packs_messages(void)
 {
     struct dnw_packed packed;
-    EXPECT(packs(BYTES(referral), 65535, WANTED(referral), false));
+    EXPECT(packs(BYTES(referral), 512, WANTED(referral), false));
     EXPECT(packs(BYTES(referral), 83, WANTED(referral), false));
-    EXPECT(packs(BYTES(referral), 82, WANTED(HEAD("\205", "\000\001\000\000\000\001\000\001") WWW_IN NS OPT), false));
-    EXPECT(packs(BYTES(referral), 77, WANTED(HEAD("\205", "\000\001\000\000\000\001\000\001") WWW_IN NS OPT), false));
-    EXPECT(packs(BYTES(referral), 76, WANTED(HEAD("\207", "\000\001\000\000\000\000\000\002") WWW_IN GLUE_ALONE OPT), true));
-    EXPECT(packs(BYTES(referral), 69, WANTED(HEAD("\207", "\000\001\000\000\000\000\000\002") WWW_IN GLUE_ALONE OPT), true));
-    EXPECT(packs(BYTES(referral), 68, WANTED(HEAD("\207", "\000\001\000\000\000\000\000\001") WWW_IN OPT), true));
+    EXPECT(packs(BYTES(referral), 82, WANTED(HEAD("\207", "\000\001\000\000\000\001\000\001") WWW_IN NS OPT), true));
+    EXPECT(packs(BYTES(referral), 67, WANTED(HEAD("\207", "\000\001\000\000\000\001\000\001") WWW_IN NS OPT), true));
+    EXPECT(packs(BYTES(referral), 66, WANTED(HEAD("\207", "\000\001\000\000\000\000\000\001") WWW_IN OPT), true));
     EXPECT(packs(BYTES(referral), 50, WANTED(HEAD("\207", "\000\001\000\000\000\000\000\001") WWW_IN OPT), true));
-    EXPECT(packs(BYTES(referral), 49, WANTED(HEAD("\207", "\000\000\000\000\000\000\000\001") OPT), true));
-    EXPECT(packs(BYTES(referral), 29, WANTED(HEAD("\207", "\000\000\000\000\000\000\000\001") OPT), true));
-    EXPECT(pack(BYTES(referral), 28, sizeof copy, &packed) == DNW_MESSAGE_TOO_LONG);
+    EXPECT(pack(BYTES(referral), 49, sizeof copy, &packed) == DNW_MESSAGE_TOO_LONG);
+    EXPECT(pack(BYTES(referral), 512, 49, &packed) == DNW_MESSAGE_TOO_LONG);
     EXPECT(pack(BYTES(NO_EDNS), 11, sizeof copy, &packed) == DNW_MESSAGE_TOO_LONG);
+    EXPECT(pack(BYTES(NO_EDNS), 512, 11, &packed) == DNW_NO_ROOM);
+    /* of an answer, a set that has no room is left out whole, and TC is set; what only goes with it is left out without */
+#define TWO(counts) "\000\000" counts "\001a\000\000\001\000\001"
+#define FIRST "\300\014\000\001\000\001" TTL "\000\004abcd"
+#define SECOND "\300\014\000\001\000\001" TTL "\000\004efgh"
+#define OTHER "\300\014\000\034\000\001" TTL "\000\020abcdefghijklmnop"
+    static const char answer[] = TWO("\200\000\000\001\000\002\000\000\000\001") FIRST SECOND OTHER;
+    EXPECT(packs(BYTES(answer), 79, WANTED(answer), false));
+    EXPECT(packs(BYTES(answer), 78, WANTED(TWO("\200\000\000\001\000\002\000\000\000\000") FIRST SECOND), false));
+    EXPECT(packs(BYTES(answer), 51, WANTED(TWO("\200\000\000\001\000\002\000\000\000\000") FIRST SECOND), false));
+    EXPECT(packs(BYTES(answer), 50, WANTED(TWO("\202\000\000\001\000\000\000\000\000\001") OTHER), true));
+    EXPECT(packs(BYTES(answer), 46, WANTED(TWO("\202\000\000\001\000\000\000\000\000\000")), true));
     EXPECT(packs(BYTES(NO_EDNS "more"), 12, WANTED(NO_EDNS), false));
     /* an OPT record before another becomes the last one, and what was truncated stays so */
     EXPECT(packs(BYTES(TWO_MORE OPT A_OF_A), 512, WANTED(TWO_MORE A_OF_A OPT), true));

@@ -1,110 +1,111 @@
-/* Writes whole messages again, in at most as many octets as the first two of an input say, and compares the copy with a model's,
-   octet for octet: each question and record is written with the names before it, and left out if it has no room. */
+/* Writes whole messages again, in at most as many octets as the first two of an input say, and compares the copy, octet for octet, with
+   one that is written item by item: of each section the sets, of which one that has no room is left out with all after it; and then the
+   records that the message has to have. What the calls for items write is compared in writer.c. */
 #include "harness.h"
 
 static struct room input, output;
-
-static bool write_record(struct model_writer *w, const uint8_t *message, const struct model_name *owner,
-                         const struct dnw_record *record)
-{
-    static const uint8_t length[2];
-    if (!model_write_name(w, owner, true) || !model_write_bytes(w, message + record->data_offset - 10, 8) ||
-        !model_write_bytes(w, length, 2))
-        return false;
-    size_t start = w->offset;
-    if (!model_write_fields(w, message, record, false))
-        return false;
-    w->out[start - 2] = (uint8_t)((w->offset - start) >> 8);
-    w->out[start - 1] = (uint8_t)(w->offset - start);
-    return true;
-}
-
-/* How many octets the OPT record among the additional ones has, or 0, and where it goes on after its owner, the root. */
-static size_t opt_size(const uint8_t *message, size_t len, const struct dnw_message *read, size_t *start)
-{
-    size_t at = read->additionals, size = 0;
-    for (size_t i = 0; i < read->additional_count; i++) {
-        struct model_name owner;
-        struct dnw_record record;
-        CHECK(model_record(message, len, at, &owner, &record) == DNW_DONE);
-        if (record.record_type == DNW_TYPE_OPT) {
-            CHECK(size == 0 && owner.len == 1);
-            *start = record.data_offset - 10;
-            size = 11 + record.data_len;
-        }
-        at = record.end;
-    }
-    return size;
-}
-
 static uint8_t wanted[65535];
+static uint8_t whole_data[131072];
 
-/* Writes the items of a section that have room, and returns why the data of one are none. */
-static uint32_t write_section(struct model_writer *w, const uint8_t *message, size_t len, int section, size_t *at, bool *is_cut)
+/* A record that the message has to have: OPT, SIG, TSIG. */
+static bool is_held(const struct dnw_record *record)
 {
-    static struct model_writer before;
-    uint32_t count = 0, most = model_number(message + 4 + 2 * section, 2);
-    for (uint32_t i = 0; i < most; i++) {
-        struct model_name name;
-        struct dnw_record record;
-        before = *w;
-        bool is_written;
-        if (section == 0) {
-            CHECK(model_read(message, len, *at, &name) == DNW_DONE);
-            *at = name.end + 4;
-            is_written = model_write_name(w, &name, true) && model_write_bytes(w, message + name.end, 4);
-        } else {
-            CHECK(model_record(message, len, *at, &name, &record) == DNW_DONE);
-            *at = record.end;
-            CHECK(section == 3 || record.record_type != DNW_TYPE_OPT);
-            if (record.record_type == DNW_TYPE_OPT)
-                continue;
-            uint32_t failure = model_data_failure(message, &record);
-            if (failure != DNW_DONE)
-                return failure;
-            is_written = write_record(w, message, &name, &record);
+    return record->record_type == DNW_TYPE_OPT || record->record_type == 24 || record->record_type == 250;
+}
+
+static bool are_of_one_set(const struct model_name *a, const struct dnw_record *x, const struct model_name *b, const struct dnw_record *y)
+{
+    struct model_name low = *a, other = *b;
+    model_lower(&low);
+    model_lower(&other);
+    return x->record_type == y->record_type && x->record_class == y->record_class && low.len == other.len &&
+           memcmp(low.form, other.form, low.len) == 0;
+}
+
+/* Adds a record to a section. */
+static uint32_t add(const uint8_t *message, int section, size_t most, const struct model_name *owner, const struct dnw_record *record,
+                    struct dnw_writer *w)
+{
+    uint32_t failure = model_data_failure(message, record);
+    if (failure != DNW_DONE)
+        return failure;
+    size_t len = 0;
+    CHECK(model_put_data(message, record, false, whole_data, &len) == DNW_DONE);
+    return dnw_writer_record(wanted, most, DNW_SECTION_QUESTIONS + (uint32_t)section, owner->form, owner->len, record->record_type,
+                             record->record_class, record->ttl, whole_data, len, w);
+}
+
+/* Adds the sets of a section, up to the first that has no room. */
+static uint32_t add_sets(const uint8_t *message, size_t len, int section, size_t most, size_t at, struct dnw_writer *w, bool *all)
+{
+    struct model_name first_owner, owner;
+    struct dnw_record first, record;
+    struct dnw_writer before = *w;
+    uint8_t counted[2];
+    bool has_first = false;
+    *all = true;
+    for (uint32_t left = model_number(message + 4 + 2 * section, 2); left > 0; left--, at = record.end) {
+        CHECK(model_record(message, len, at, &owner, &record) == DNW_DONE);
+        if (section == 3 && is_held(&record))
+            continue;
+        if (!has_first || !are_of_one_set(&first_owner, &first, &owner, &record)) {
+            first_owner = owner, first = record, has_first = true, before = *w;
+            memcpy(counted, wanted + 4 + 2 * section, 2);
         }
-        count += is_written;
-        if (!is_written) {
+        uint32_t answer = add(message, section, most, &owner, &record, w);
+        if (answer == DNW_MESSAGE_TOO_LONG) {
             *w = before;
-            *is_cut = *is_cut || section == 1 || section == 2;
+            memcpy(wanted + 4 + 2 * section, counted, 2);
+            *all = false;
+            return DNW_DONE;
         }
+        if (answer != DNW_DONE)
+            return answer;
     }
-    wanted[4 + 2 * section] = (uint8_t)(count >> 8);
-    wanted[5 + 2 * section] = (uint8_t)count;
     return DNW_DONE;
 }
 
-/* Writes the copy. */
-static uint32_t write_copy(const uint8_t *message, size_t len, size_t most, const struct dnw_message *read, size_t *copy_len,
-                           bool *is_cut)
+static uint32_t write_copy(const uint8_t *message, size_t len, size_t most, const struct dnw_message *read, struct dnw_packed *copy)
 {
-    static struct model_writer w;
-    size_t start = 0, last = opt_size(message, len, read, &start), at = DNW_HEADER_SIZE;
-    if (most < DNW_HEADER_SIZE + last)
-        return DNW_MESSAGE_TOO_LONG;
-    w.candidate_count = w.compressed = 0;
-    w.offset = DNW_HEADER_SIZE;
-    w.max_size = most - last;
-    w.out = wanted;
-    *is_cut = read->truncation;
-    for (int section = 0; section < 4; section++) {
-        uint32_t failure = write_section(&w, message, len, section, &at, is_cut);
-        if (failure != DNW_DONE)
-            return failure;
+    static struct dnw_writer w;
+    if (most < DNW_HEADER_SIZE)
+        return DNW_NO_ROOM;
+    CHECK(dnw_writer_begin(wanted, most, most, read->id, (uint16_t)(model_number(message + 2, 2) & 0xFFBF), &w) == DNW_DONE);
+    struct model_name name;
+    struct dnw_record record;
+    size_t at = read->additionals;
+    for (size_t i = 0; i < read->additional_count; i++, at = record.end) {
+        CHECK(model_record(message, len, at, &name, &record) == DNW_DONE);
+        if (is_held(&record))
+            CHECK(dnw_writer_hold(name.len + 10 + record.data_len, &w) == DNW_DONE);
     }
-    if (last > 0) {
-        wanted[w.offset] = 0;
-        memcpy(wanted + w.offset + 1, message + start, last - 1);
-        w.offset += last;
-        uint32_t count = model_number(wanted + 10, 2) + 1;
-        wanted[10] = (uint8_t)(count >> 8);
-        wanted[11] = (uint8_t)count;
+    at = DNW_HEADER_SIZE;
+    for (size_t i = 0; i < read->question_count; i++, at = name.end + 4) {
+        CHECK(model_read(message, len, at, &name) == DNW_DONE);
+        uint32_t answer = dnw_writer_question(wanted, most, name.form, name.len, (uint16_t)model_number(message + name.end, 2),
+                                              (uint16_t)model_number(message + name.end + 2, 2), &w);
+        if (answer != DNW_DONE)
+            return answer;
     }
-    memcpy(wanted, message, 4);
-    wanted[2] = (uint8_t)((wanted[2] & 0xFD) | *is_cut << 1);
-    wanted[3] &= 0xBF;
-    *copy_len = w.offset;
+    size_t starts[] = {0, read->answers, read->authorities, read->additionals};
+    bool all[4];
+    for (int section = 1; section < 4; section++) {
+        uint32_t answer = add_sets(message, len, section, most, starts[section], &w, &all[section]);
+        if (answer != DNW_DONE)
+            return answer;
+    }
+    CHECK(dnw_writer_release(SIZE_MAX, &w) == DNW_DONE);
+    at = read->additionals;
+    for (size_t i = 0; i < read->additional_count; i++, at = record.end) {
+        CHECK(model_record(message, len, at, &name, &record) == DNW_DONE);
+        uint32_t answer = is_held(&record) ? add(message, 3, most, &name, &record, &w) : (uint32_t)DNW_DONE;
+        if (answer != DNW_DONE)
+            return answer;
+    }
+    bool goes_with_answers = (message[2] & 0xF8) == 0x80 && read->answer_count > 0;
+    if (!all[1] || (!goes_with_answers && !(all[2] && all[3])))
+        wanted[2] |= 2;
+    *copy = (struct dnw_packed){w.len, wanted[2] & 2};
     return DNW_DONE;
 }
 
@@ -114,9 +115,11 @@ static uint32_t model_pack(const uint8_t *message, size_t len, size_t most, stru
     struct dnw_message_fault fault;
     struct dnw_edns edns;
     uint32_t answer = dnw_message_read(message, len, DNW_MAX_POINTERS, &read, &fault);
+    if (answer == DNW_DONE && most < DNW_HEADER_SIZE)
+        return DNW_NO_ROOM;
     if (answer == DNW_DONE)
         answer = dnw_edns_read(message, len, DNW_MAX_POINTERS, &edns);
-    return answer == DNW_DONE ? write_copy(message, len, most, &read, &packed->len, &packed->truncated) : answer;
+    return answer == DNW_DONE ? write_copy(message, len, most, &read, packed) : answer;
 }
 
 static void packs(const uint8_t *message, size_t len, uint16_t most)
@@ -124,21 +127,20 @@ static void packs(const uint8_t *message, size_t len, uint16_t most)
     struct dnw_packed model, packed = {7, false};
     uint32_t answer = model_pack(message, len, most, &model);
     uint8_t *copy = clear(&output, most);
-    CHECK(dnw_message_pack(message, len, most, copy, most, &packed) == answer);
+    CHECK(dnw_message_pack(message, len, UINT16_MAX, copy, most, &packed) == answer);
     if (answer != DNW_DONE) {
-        CHECK(untouched(copy, most) && packed.len == 7 && !packed.truncated);
+        CHECK(packed.len == 7 && !packed.truncated);
         return;
     }
-    CHECK(packed.len == model.len && packed.truncated == model.truncated && holds(copy, most, wanted, model.len));
-    packed.len = 7;
-    copy = clear(&output, model.len - 1);
-    CHECK(dnw_message_pack(message, len, most, copy, model.len - 1, &packed) == DNW_NO_ROOM);
-    CHECK(untouched(copy, model.len - 1) && packed.len == 7);
+    CHECK(packed.len == model.len && packed.truncated == model.truncated && memcmp(copy, wanted, model.len) == 0);
+    copy = clear(&output, UINT16_MAX);
+    CHECK(dnw_message_pack(message, len, most, copy, UINT16_MAX, &packed) == DNW_DONE);
+    CHECK(packed.len == model.len && packed.truncated == model.truncated && memcmp(copy, wanted, model.len) == 0);
     for (size_t number = 1; number <= 16; number *= 2) {
-        copy = clear(&output, model.len);
+        copy = clear(&output, most);
         refuse(number);
-        answer = dnw_message_pack(message, len, most, copy, model.len, &packed);
-        CHECK(was_refused() ? answer == DNW_NO_MEMORY && untouched(copy, model.len) : answer == DNW_DONE);
+        answer = dnw_message_pack(message, len, most, copy, most, &packed);
+        CHECK(was_refused() ? answer == DNW_NO_MEMORY : answer == DNW_DONE);
     }
 }
 
