@@ -2,13 +2,14 @@
 
 from ctypes import byref, c_char, c_size_t
 from dataclasses import dataclass
+from functools import partial
 from ipaddress import IPv4Address, IPv6Address
 from typing import TYPE_CHECKING, Annotated, Any, Callable, ClassVar, Dict, Iterable, List, Optional, Tuple, Type, TypeVar, Union
 
 from . import _checks
 from ._checks import Bytes
 from ._codes import RecordType, code_of
-from ._errors import DataTooLong, check
+from ._errors import DataTooLong, check, check_fault, check_utf8
 from ._library import FORM_SIZE, NO_ROOM, PrintedRecord, library, taken
 from ._names import Name, whole_name, wire_of
 from ._table import ALONE_SIZE, FieldValue, Prefix, table_of
@@ -21,16 +22,17 @@ _MOST = FORM_SIZE + 10 + 65535
 _USUAL_SIZE = 512
 
 
-def parsed(parse: Callable[..., int], text: str, origin: Optional[Name]) -> bytes:
-    """Returns the octets that a function of the library stores for a text and an origin."""
+def parsed(parse: Callable[..., int], find: Callable[..., int], text: str, origin: Optional[Name]) -> bytes:
+    """Returns the octets that a function of the library stores for a text and an origin. The other finds where the text is wrong."""
     encoded, wire, size, length = _checks.text("text", text), b"", _USUAL_SIZE, c_size_t()
     if origin is not None:
         wire, _ = wire_of("origin", origin)
+    check_utf8(encoded)
     while True:
         room = (c_char * size)()
         number = parse(encoded, len(encoded), wire, len(wire), room, size, byref(length))
         if number != NO_ROOM or size == _MOST:
-            check(number)
+            check_fault(number, encoded, lambda fault: find(encoded, len(encoded), wire, len(wire), byref(fault)))
             return taken(room, length.value)
         size = _MOST
 
@@ -85,7 +87,8 @@ def data_from_text(record_type: "TypeLike", text: str, origin: Optional[Name] = 
     MX(preference=10, exchange=Name('mail.example.'))
     """
     code = code_of(RecordType, "record_type", record_type)
-    octets = parsed(lambda *arguments: int(library.dnw_data_parse(1, code, *arguments)), text, origin)
+    parse, find = (partial(function, 1, code) for function in (library.dnw_data_parse, library.dnw_data_text_fault))
+    octets = parsed(parse, find, text, origin)
     return data_from_wire(code, octets)
 
 

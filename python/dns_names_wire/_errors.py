@@ -2,9 +2,9 @@
 
 import enum
 from ctypes import byref, c_size_t
-from typing import Dict, Optional, Type
+from typing import Callable, Dict, Optional, Type
 
-from ._library import ErrorText, library, taken
+from ._library import ErrorText, SentenceText, TextFault, library, taken
 
 
 class TextRule(enum.IntEnum):
@@ -31,7 +31,8 @@ class DnsError(ValueError):
     if they do not apply:
 
     - `offset` is where the input is wrong: the octet of the message at which the name or record should begin, the
-      character of a master file after which no valid token is next, or the first wrong character of the text of a name.
+      character of a master file after which no valid token is next, or the first wrong character of the text of a name, or of
+      a word of the text of a record or of data.
     - `rule` is the `TextRule` that the text of a name breaks.
     - `section` is "header", "question", "answer", "authority" or "additional", and `item` is the index in that section
       of the first item that is wrong, if a whole message was read.
@@ -356,6 +357,19 @@ def check_text(number: int, text: bytes, origin: bytes) -> None:
     if broken == 0:
         return check(number)
     raise _CLASSES[number](error_text(number), len(text[: offset.value].decode(errors="ignore")), TextRule(broken))
+
+
+def check_fault(number: int, text: bytes, find: Callable[[TextFault], int]) -> None:
+    """As `check`, for the text of a record or of data: the exception has the offset, and what is wrong there. `find` is called to
+    store where the text goes wrong."""
+    fault = TextFault()
+    if number in (0, _NO_MEMORY) or find(fault) != 0 or fault.reason == 0:
+        return check(number)
+    fault.offset = len(text[: fault.offset].decode(errors="ignore"))
+    room, length = SentenceText(), c_size_t()
+    check(library.dnw_text_fault_print(byref(fault), room, len(room), byref(length)))
+    _, _, reason = taken(room, length.value).decode("ascii").partition(": ")
+    raise _CLASSES.get(number, DnsError)(reason, fault.offset)
 
 
 def check_utf8(text: bytes) -> None:

@@ -25,6 +25,8 @@ SortKey = c_char * SORT_KEY_SIZE
 Text = c_char * TEXT_SIZE
 CodeText = c_char * CODE_SIZE
 ErrorText = c_char * 64
+# The bytes of the longest sentence about a text.
+SentenceText = c_char * 128
 
 
 # Buffers of these sizes. Their types are kept, since making a type takes longer than a call.
@@ -90,6 +92,10 @@ class MessageFault(ctypes.Structure):
     _fields_ = [("section", c_uint32), ("item", c_uint16), ("offset", c_size_t)]
 
 
+class TextFault(ctypes.Structure):
+    _fields_ = [("offset", c_size_t), ("len", c_size_t), ("field", c_size_t), ("reason", c_uint32)]
+
+
 class Edns(ctypes.Structure):
     _fields_ = [
         ("is_present", c_bool),
@@ -123,6 +129,40 @@ class Packed(ctypes.Structure):
 
 class PrintedRecord(ctypes.Structure):
     _fields_ = [("len", c_size_t), ("end", c_size_t)]
+
+
+class Zone(ctypes.Structure):
+    _fields_ = [
+        ("offset", c_size_t),
+        ("line", c_size_t),
+        ("column", c_size_t),
+        ("default_ttl", c_uint32),
+        ("last_ttl", c_uint32),
+        ("record_class", c_uint16),
+        ("has_default_ttl", c_uint8),
+        ("has_last_ttl", c_uint8),
+        ("origin_len", c_uint8),
+        ("owner_len", c_uint8),
+        ("origin", c_uint8 * FORM_SIZE),
+        ("owner", c_uint8 * FORM_SIZE),
+    ]
+
+
+class ZoneEntry(ctypes.Structure):
+    _fields_ = [
+        ("kind", c_uint32),
+        ("used", c_size_t),
+        ("offset", c_size_t),
+        ("line", c_size_t),
+        ("column", c_size_t),
+        ("fault", TextFault),
+        ("len", c_size_t),
+        ("name_len", c_size_t),
+        ("data_len", c_size_t),
+        ("ttl", c_uint32),
+        ("record_type", c_uint16),
+        ("record_class", c_uint16),
+    ]
 
 
 class Net(ctypes.Structure):
@@ -160,6 +200,12 @@ _FUNCTIONS = {
     "dnw_message_pack": (*_READ, c_uint16, *_WRITTEN, POINTER(Packed)),
     "dnw_data_parse": (c_uint16, c_uint16, *_READ, *_READ, *_WRITTEN, POINTER(c_size_t)),
     "dnw_record_parse": (*_READ, *_READ, *_WRITTEN, POINTER(c_size_t)),
+    "dnw_record_text_fault": (*_READ, *_READ, POINTER(TextFault)),
+    "dnw_data_text_fault": (c_uint16, c_uint16, *_READ, *_READ, POINTER(TextFault)),
+    "dnw_text_fault_print": (POINTER(TextFault), *_WRITTEN, POINTER(c_size_t)),
+    "dnw_zone_begin": (*_READ, POINTER(Zone)),
+    "dnw_zone_include": (*_READ, POINTER(Zone)),
+    "dnw_zone_next": (*_READ, c_bool, POINTER(Zone), *_WRITTEN, POINTER(ZoneEntry)),
     "dnw_record_print": (*_READ, c_size_t, *_WRITTEN, POINTER(PrintedRecord)),
     "dnw_record_sort_key": (*_READ, c_size_t, *_WRITTEN, POINTER(c_size_t)),
     "dnw_signed_octets": (*_READ, c_size_t, c_size_t, *_WRITTEN, POINTER(c_size_t)),
@@ -234,7 +280,7 @@ def by_address(name: str, count: int) -> Any:
 
 
 # Which arguments of these functions are octets.
-_OCTETS = {"dnw_message_write": (0,), "dnw_writer_reply": (3,), "dnw_message_table": (0,), "dnw_name_sort_key": (0,)}
+_OCTETS = {"dnw_message_write": (0,), "dnw_writer_reply": (3,), "dnw_message_table": (0,), "dnw_name_sort_key": (0,), "dnw_zone_next": ()}
 
 
 class Room:

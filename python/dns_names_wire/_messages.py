@@ -13,7 +13,6 @@ from ._codes import OpCode, RecordClass, RecordType, ResponseCode, code_of
 from ._data import NameLike, TypeLike, put_pairs, take_pairs
 from ._errors import SECTIONS, DataTooLong, DnsError, check, check_item
 from ._library import (
-    NO_ROOM,
     ROOM_SIZE,
     MessageFault,
     Packed,
@@ -534,13 +533,9 @@ class _Read(Message):
 
     def to_wire(self, max_size: int = 512) -> bytes:
         most, wire, packed = _checks.number("max_size", max_size, _MOST), self._wire, Packed()
-        # A message may be longer than it was, by the names that it has whole then.
-        room = room_of(min(2 * len(wire), most))
-        number = library.dnw_message_pack(wire, len(wire), most, room, len(room), byref(packed))
-        if number == NO_ROOM:
-            room = room_of(most)
-            number = library.dnw_message_pack(wire, len(wire), most, room, len(room), byref(packed))
-        check(number)
+        # The room is a limit too: what has none in it is left out.
+        room = room_of(most)
+        check(library.dnw_message_pack(wire, len(wire), most, room, len(room), byref(packed)))
         return taken(room, packed.len)
 
 

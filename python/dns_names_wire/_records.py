@@ -98,7 +98,7 @@ class Record:
         >>> print(Record.from_text("www 1h IN CNAME @", origin=Name("example.")))
         www.example. 3600 IN CNAME example.
         """
-        return cls._made(parsed(library.dnw_record_parse, text, origin))
+        return cls._made(parsed(library.dnw_record_parse, library.dnw_record_text_fault, text, origin))
 
     def to_text(self) -> str:
         """Returns the line of a master file, as `str` does."""
@@ -315,6 +315,15 @@ def record_at(table: Table, at: int, start: int) -> Record:
     record._message, record._start, record._is_whole, record._table, record._at = table.message, start, False, table, at
     _, _, record._type, record._class, record._ttl, data_offset, length, _, _ = row
     record._data_offset, record._end, record._owner, record._data = data_offset, data_offset + length, None, None
+    return record
+
+
+def record_of(wire: bytes, owner: Name, record_type: int, record_class: int, ttl: int, data_offset: int) -> Record:
+    """Returns the record with this wire form, in which no name is compressed, of which these are the parts."""
+    record = Record.__new__(Record)
+    record._message, record._start, record._is_whole, record._table, record._at = wire, 0, True, None, 0
+    record._type, record._class, record._ttl = record_type, record_class, ttl
+    record._data_offset, record._end, record._owner, record._data = data_offset, len(wire), owner, None
     return record
 
 

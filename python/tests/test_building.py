@@ -227,29 +227,28 @@ class Records(unittest.TestCase):
         self.assertEqual(dnw.MX.from_text("10 @", origin=Name("a.")), dnw.MX(10, Name("a.")))
 
     def test_texts_that_are_no_records(self):
-        texts = {
-            dnw.BadText: "a label, a character or an escape of the text is not allowed",
-            dnw.BadTime: "the text is no time to live",
-            dnw.UnknownText: "the text names no record type and no class",
-            dnw.BadData: "not data of the record type",
-            dnw.NotUtf8: "the text is not UTF-8",
-        }
-        for line, error in [
-            ("", dnw.BadText),
-            ("a 1 IN A 192.0.2.1", dnw.BadText),
-            ("a. IN A 192.0.2.1", dnw.BadTime),
-            ("a. 4294967296 IN A 192.0.2.1", dnw.BadTime),
-            ("a. 1 IN NOTYPE 192.0.2.1", dnw.UnknownText),
-            ("a. 1 IN", dnw.UnknownText),
-            ("a. 1 IN A", dnw.BadData),
-            ("a. 1 IN A 192.0.2.1 1", dnw.BadData),
-            ("a. 1 IN MX 1 a", dnw.BadData),
-            ("a. 1 IN TYPE65280 01", dnw.BadData),
-            ("a. 1 IN TXT \ud800", dnw.NotUtf8),
+        for line, error, offset, reason in [
+            ("", dnw.BadText, 0, "wanted an owner"),
+            ("a 1 IN A 192.0.2.1", dnw.BadText, 0, "wanted an owner"),
+            ("a. IN A 192.0.2.1", dnw.BadTime, 3, "wanted a time to live"),
+            ("a. 4294967296 IN A 192.0.2.1", dnw.BadTime, 3, "wanted a time to live"),
+            ("a. 1 IN NOTYPE 192.0.2.1", dnw.UnknownText, 8, "wanted a record type"),
+            ("a. 1 IN", dnw.UnknownText, 7, "wanted a record type"),
+            ("a. 1 IN A", dnw.BadData, 9, "wanted an IPv4 address (field 0)"),
+            ("a. 1 IN A 192.0.2.1 1", dnw.BadData, 20, "wanted the end of the data (field 1)"),
+            ("a. 1 IN MX 1 a", dnw.BadData, 13, "wanted a name (field 1)"),
+            ("\u00e4. 1 IN MX 1 a", dnw.BadData, 13, "wanted a name (field 1)"),
+            ("a. 1 IN TYPE65280 01", dnw.BadData, 18, "wanted the form of any data, which begins with \\# (field 0)"),
+            ("a. 1 IN TXT ( b", dnw.UnclosedList, 15, "the text ends within parentheses"),
+            ("a. 1 IN TXT \ud800", dnw.NotUtf8, 12, "the text is not UTF-8"),
         ]:
             with self.assertRaises(error) as caught:
                 Record.from_text(line)
-            self.assertEqual(str(caught.exception), texts[error])
+            self.assertEqual((caught.exception.offset, caught.exception.reason), (offset, reason))
+            self.assertEqual(str(caught.exception), f"at offset {offset}: {reason}")
+        with self.assertRaises(dnw.BadData) as caught:
+            dnw.data_from_text(RecordType.MX, "10 a..b.")
+        self.assertEqual(str(caught.exception), "at offset 3: wanted a name (field 1)")
         self.assertRaises(dnw.BadData, dnw.data_from_text, 1, "192.0.2")
         self.assertRaises(dnw.BadData, dnw.A.from_text, "")
         self.assertRaises(dnw.MessageCut, dnw.A.from_wire, b"123")

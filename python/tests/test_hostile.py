@@ -221,6 +221,38 @@ class Buffers(unittest.TestCase):
         with self.assertRaises(ValueError):
             Message.from_wire(view)
 
+    def test_a_buffer_that_another_thread_resizes(self) -> None:
+        """A call sees it as it was at one time, or that it is in use."""
+        octets, is_done = bytearray(REPLY), threading.Event()
+        views = [memoryview(bytearray(REPLY)) for _ in range(300)]
+
+        def change() -> None:
+            while not is_done.is_set():
+                try:
+                    octets.clear()
+                    octets.extend(REPLY + b"\xff" * 70000)
+                    del octets[len(REPLY) :]
+                except BufferError:
+                    continue
+                if views:
+                    views.pop().release()
+
+        thread = threading.Thread(target=change)
+        thread.start()
+        read = 0
+        try:
+            while views or read < 100:
+                for own in (octets, views[0] if views else octets):
+                    try:
+                        self.assertEqual(Message.from_wire(own).answers[1].data, A("192.0.2.1"))
+                        read += 1
+                    except (DnsError, ValueError) as error:
+                        self.assertIn(type(error), (dnw.MessageCut, ValueError))
+                    Lies.outcome(Name.from_wire, own)
+        finally:
+            is_done.set()
+            thread.join()
+
     def test_a_writers_buffer_is_not_resized(self) -> None:
         buffer = bytearray(512)
         writer = MessageWriter(Header(id=7), buffer=buffer)

@@ -1,0 +1,243 @@
+"""Zone files, read record by record."""
+
+import ctypes
+import io
+import os
+import stat
+from ctypes import byref, c_char, c_size_t
+from typing import BinaryIO, Callable, Iterator, List, Optional, Tuple, Union
+
+from . import _checks
+from ._checks import Bytes
+from ._data import NameLike
+from ._errors import DnsError, check
+from ._library import SentenceText, Zone, ZoneEntry, by_address, library, taken
+from ._names import Name, whole_name
+from ._records import Record, record_of
+
+# The kinds of entries, by their numbers in `dns_names_wire.h`.
+_END, _MORE, _NOTHING, _RECORD, _INCLUDE, _ERROR = range(6)
+
+# The octets that are read at once, and the most that a record, or an entry of a file, may have.
+_WINDOW = 1 << 16
+_RECORD_SIZE = 65800
+_MOST = 1 << 24
+# How deep files include others, and how many octets of a line are shown before and after what is wrong.
+_DEPTH = 10
+_SHOWN = 500
+
+_next = by_address("dnw_zone_next", 7)
+
+Path = Union[str, "os.PathLike[str]"]
+
+
+class ZoneError(DnsError):
+    """An entry of a zone file is not valid. `str` shows where, and what is wrong, as compilers do.
+
+    `file` is the name of the file, `line` and `column` are the place in it, from 1, and `offset` is the same in octets, from 0.
+    `text` is the line, in which octets that are not printable ASCII are shown as `\\DDD`.
+
+    >>> from dns_names_wire import read_zone
+    >>> list(read_zone(b"a 60 A 192.0.2.256\\n", "example."))
+    Traceback (most recent call last):
+    dns_names_wire._zones.ZoneError: <bytes>:1:8: wanted an IPv4 address (field 0)
+    """
+
+    def __init__(
+        self, reason: str = "", offset: Optional[int] = None, file: str = "", line: int = 0, column: int = 0, text: str = ""
+    ) -> None:
+        super().__init__(reason, offset)
+        self.file, self.line, self.column, self.text = file, line, column, text
+
+    def __str__(self) -> str:
+        return f"{self.file}:{self.line}:{self.column}: {self.reason}"
+
+
+def _shown(octets: bytes) -> str:
+    """Returns octets as text, in which those that are not printable ASCII are escaped."""
+    return "".join(chr(octet) if 32 <= octet < 127 or octet == 9 else f"\\{octet:03}" for octet in octets)
+
+
+class _File:
+    """A file that is read, in parts that end where it is read up to: the next entry begins at `at`."""
+
+    def __init__(self, stream: BinaryIO, name: str, folder: Optional[str], zone: Zone) -> None:
+        self.stream, self.name, self.folder, self.zone = stream, name, folder, zone
+        self.window = (c_char * _WINDOW)()
+        self.at = self.there = 0
+        self.more = True
+
+    def read_on(self) -> None:
+        """Reads more of the file after what is left of the part, at least as many octets, or up to the file's end."""
+        left = self.there - self.at
+        window = self.window
+        if 2 * left > len(window):
+            window = (c_char * (2 * len(window)))()
+        octets = memoryview(window).cast("B")
+        octets[:left] = memoryview(self.window).cast("B")[self.at : self.there]
+        self.window, self.at, self.there = window, 0, left
+        while self.there < len(octets) and self.more:
+            read = self.stream.readinto(octets[self.there :])  # type: ignore[attr-defined]
+            self.there += read
+            self.more = read > 0
+
+    def error(self, reason: str, entry: ZoneEntry, place: int) -> ZoneError:
+        """Returns the error at an offset of the part that is there."""
+        place += self.at
+        octets = memoryview(self.window).cast("B")
+        before = octets[max(self.at, place - _SHOWN) : place].tobytes()
+        after = octets[place : min(self.there, place + _SHOWN)].tobytes()
+        text = before[before.rfind(b"\n") + 1 :] + after.partition(b"\n")[0].rstrip(b"\r")
+        return ZoneError(reason, entry.offset, self.name, entry.line, entry.column, _shown(text))
+
+    def identity(self) -> Optional[Tuple[int, int]]:
+        """Returns what tells the file from others, if it is one of the system's."""
+        try:
+            status = os.fstat(self.stream.fileno())
+        except (OSError, io.UnsupportedOperation):
+            return None
+        return status.st_dev, status.st_ino
+
+
+def _sentence(entry: ZoneEntry) -> str:
+    """Returns what is wrong by an entry, without its offset."""
+    room, length = SentenceText(), c_size_t()
+    check(library.dnw_text_fault_print(byref(entry.fault), room, len(room), byref(length)))
+    return taken(room, length.value).decode("ascii").partition(": ")[2]
+
+
+class _Reader:
+    """Reads the entries of a file and of those that it includes."""
+
+    def __init__(self, errors: Optional[Callable[[ZoneError], object]]) -> None:
+        self.errors = errors
+        self.files: List[_File] = []
+        self.entry, self.octets = ZoneEntry(), (c_char * _RECORD_SIZE)()
+        self.entry_at, self.octets_at = ctypes.addressof(self.entry), ctypes.addressof(self.octets)
+        self.owner: Optional[Name] = None
+
+    def close(self) -> None:
+        for file in self.files:
+            file.stream.close()
+
+    def take(self, file: _File) -> int:
+        """Takes the next entry of a file, and returns its kind. Its octets are not passed yet."""
+        entry = self.entry
+        while True:
+            start = ctypes.addressof(file.window) + file.at
+            arguments = start, file.there - file.at, file.more, ctypes.addressof(file.zone), self.octets_at, _RECORD_SIZE
+            check(_next(*arguments, self.entry_at))
+            if entry.kind != _MORE and (entry.kind != _END or not file.more):
+                return int(entry.kind)
+            if file.there - file.at >= _MOST:
+                self.report(file.error(f"an entry has more than {_MOST} octets", entry, 0))
+                return _END
+            file.read_on()
+
+    def records(self) -> Iterator[Record]:
+        """Yields the records of the files, up to the end of the first one."""
+        while self.files:
+            file, entry = self.files[-1], self.entry
+            kind = self.take(file)
+            if kind == _RECORD:
+                record = self.record()
+                file.at += entry.used
+                yield record
+            elif kind == _ERROR:
+                self.report(file.error(_sentence(entry), entry, entry.fault.offset))
+                file.at += entry.used
+            elif kind == _INCLUDE:
+                self.include(file)
+            elif kind == _END:
+                self.files.pop().stream.close()
+            else:
+                file.at += entry.used
+
+    def report(self, error: ZoneError) -> None:
+        """Raises an error, or shows it to who reads on."""
+        if self.errors is None:
+            raise error
+        self.errors(error)
+
+    def record(self) -> Record:
+        """Returns the record that was taken."""
+        entry = self.entry
+        wire, size = taken(self.octets, entry.len), entry.name_len
+        owner = self.owner
+        if owner is None or owner.wire != wire[:size]:
+            owner = self.owner = Name._of(wire[:size], True)
+        return record_of(wire, owner, entry.record_type, entry.record_class, entry.ttl, len(wire) - entry.data_len)
+
+    def include(self, file: _File) -> None:
+        """Opens the file of the `$INCLUDE` that was taken, whose entries come next."""
+        entry, octets = self.entry, taken(self.octets, self.entry.len)
+        wire, name = octets[: entry.name_len], os.fsdecode(octets[entry.name_len :])
+        used, fault = entry.used, file.error("", entry, 0)
+        try:
+            included = self.opened(file, name)
+        except (OSError, ValueError) as error:
+            fault.reason = str(error) if isinstance(error, ValueError) else f"{name!r} cannot be read: {error.strerror or error}"
+            self.report(fault)
+        else:
+            check(library.dnw_zone_include(wire, len(wire), byref(included.zone)))
+            self.files.append(included)
+        file.at += used
+
+    def opened(self, file: _File, name: str) -> _File:
+        """Opens a file that another one includes. It has a copy of its state."""
+        if file.folder is None:
+            raise ValueError("$INCLUDE is not followed here: no folder is given")
+        if len(self.files) >= _DEPTH:
+            raise ValueError(f"files include one another more than {_DEPTH} deep")
+        path = os.path.join(file.folder, name)
+        if not stat.S_ISREG(os.stat(path).st_mode):
+            raise ValueError(f"{name!r} is not a file")
+        included = _File(open(path, "rb", buffering=0), path, os.path.dirname(path), Zone.from_buffer_copy(file.zone))
+        if included.identity() in [it.identity() for it in self.files]:
+            included.stream.close()
+            raise ValueError(f"{name!r} includes itself")
+        return included
+
+
+def read_zone(
+    source: Union[Path, Bytes],
+    origin: NameLike,
+    *,
+    folder: Optional[Path] = None,
+    errors: Optional[Callable[[ZoneError], object]] = None,
+) -> Iterator[Record]:
+    """Returns an iterator over the records of a zone file (RFC 1035, section 5; RFC 2308, section 4), which is a path, or its octets.
+
+    The origin is the name of the zone, which completes names without a last dot. What an entry leaves out, the owner, the TTL or
+    the class, is that of an entry before it. A file is read in parts, so that its size makes no difference to the memory.
+
+    `$INCLUDE` is followed, up to ten files deep, and never into a file that is open already. Its file is looked for in the folder
+    of the file that includes it. Of octets, `folder` is that folder; without it, they include no file.
+
+    Raises `ZoneError` at the first entry that is not valid. With `errors`, that is called with each error instead, and reading
+    goes on at the next entry. Raises `OSError` if the file cannot be read.
+
+    >>> zone = b"$TTL 1h\\n@ NS ns\\nns A 192.0.2.1\\n   TXT ( hello\\n   world )\\n"
+    >>> for record in read_zone(zone, "example."):
+    ...     print(record)
+    example. 3600 IN NS ns.example.
+    ns.example. 3600 IN A 192.0.2.1
+    ns.example. 3600 IN TXT "hello" "world"
+    """
+    zone, wire = Zone(), whole_name("origin", origin).wire
+    check(library.dnw_zone_begin(wire, len(wire), byref(zone)))
+    if isinstance(source, (str, os.PathLike)):
+        path = os.fspath(source)
+        name, within, stream = path, os.path.dirname(path), open(path, "rb", buffering=0)  # type: Tuple[str, Optional[str], BinaryIO]
+    else:
+        name, within, stream = "<bytes>", None, io.BytesIO(_checks.octets("source", source))
+    return _records(_File(stream, name, within if folder is None else os.fspath(folder), zone), _Reader(errors))
+
+
+def _records(file: _File, reader: _Reader) -> Iterator[Record]:
+    """Yields the records of a file, and closes what is open in the end."""
+    reader.files.append(file)
+    try:
+        yield from reader.records()
+    finally:
+        reader.close()

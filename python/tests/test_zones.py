@@ -1,0 +1,255 @@
+"""Zone files: what RFC 1035, section 5, says of them, errors with their places, files that include others, and dnspython's records."""
+
+import os
+import pathlib
+import random
+import tempfile
+import tracemalloc
+import unittest
+
+import dns_names_wire as dnw
+from dns_names_wire import Name, Record, ZoneError, read_zone
+
+try:
+    import dns.exception
+    import dns.zone
+except ImportError:
+    dns = None
+
+ROOT = pathlib.Path(__file__).resolve().parents[2]
+
+
+def lines(*arguments, **named):
+    return [str(record) for record in read_zone(*arguments, **named)]
+
+
+def error_of(zone, **named):
+    try:
+        list(read_zone(zone, "o.", **named))
+    except ZoneError as error:
+        return error
+    raise AssertionError("no error")
+
+
+class Zones(unittest.TestCase):
+    def test_records(self):
+        zone = b"$TTL 1h\n@ IN SOA ns root (\n 1 2h 3 4 5 ) ; c\n NS ns\nns 5 A 192.0.2.1\n$ORIGIN sub\nx TXT \"a b\" c\\059\n"
+        self.assertEqual(
+            lines(zone, "example."),
+            [
+                "example. 3600 IN SOA ns.example. root.example. 1 7200 3 4 5",
+                "example. 3600 IN NS ns.example.",
+                "ns.example. 5 IN A 192.0.2.1",
+                'x.sub.example. 3600 IN TXT "a b" "c;"',
+            ],
+        )
+        record = list(read_zone(bytearray(zone), Name("example.")))[2]
+        self.assertEqual((record.owner, record.ttl, record.data), (Name("ns.example."), 5, dnw.A("192.0.2.1")))
+        self.assertEqual(record, Record("NS.example.", 60, dnw.A("192.0.2.1")))
+        self.assertEqual(record.to_wire().hex(), "026e73076578616d706c65000001000100000005" + "0004c0000201")
+        self.assertEqual(list(read_zone(b"", ".")), [])
+
+    def test_arguments(self):
+        self.assertRaises(TypeError, read_zone, 7, ".")
+        self.assertRaises(TypeError, read_zone, b"", 7)
+        self.assertRaises(ValueError, read_zone, b"", "relative")
+        self.assertRaises(FileNotFoundError, read_zone, "/nowhere/zone", ".")
+
+    def test_errors(self):
+        error = error_of(b"$TTL 1\na A 192.0.2.1\na MX x mail ; \xff\x1b\n")
+        self.assertEqual(str(error), "<bytes>:3:6: wanted a number of at most 65535 (field 0)")
+        self.assertEqual((error.file, error.line, error.column, error.offset), ("<bytes>", 3, 6, 26))
+        self.assertEqual(error.text, "a MX x mail ; \\255\\027")
+        self.assertIsInstance(error, dnw.DnsError)
+        self.assertEqual(error_of(b"a A 1.2.3.4").reason, "no time to live is there, nor in an entry before")
+        self.assertEqual(str(error_of(b"$TTL 1\n$GENERATE 1-2 a$ A 1.2.3.$\n")), "<bytes>:2:1: $GENERATE is not read")
+        long = error_of(b"a 1 TXT " + b"x" * 3000 + b" \\# " + b"y" * 3000)
+        self.assertEqual((long.column, len(long.text)), (9, 8 + 500))
+
+    def test_reading_on(self):
+        found = []
+        zone = b"x A 1.2.3.4\n$TTL 1\nb A 1.2.3\na A 1.2.3.4\n TXT \"\n$FOO\n A 1.2.3.5"
+        self.assertEqual(lines(zone, "o.", errors=found.append), ["a.o. 1 IN A 1.2.3.4", "a.o. 1 IN A 1.2.3.5"])
+        self.assertEqual([(error.line, error.column) for error in found], [(1, 3), (3, 5), (5, 7), (6, 1)])
+        self.assertRaises(ZeroDivisionError, lines, zone, "o.", errors=lambda error: 1 // 0)
+
+    def test_hostile_octets(self):
+        for zone, reason in {
+            b"(" * 10**6: "a parenthesis is opened within parentheses",
+            b"(" + b"\n" * 10**6: "the text ends within parentheses",
+            b")" * 10**6: "no parenthesis is open",
+            b'"' + b"a" * 10**6: "the line ends within a quoted string",
+            b"\\": "the line ends after a backslash",
+            b"\0" * 10**6: "the owner is no name",
+            b"\r" * 10: "wanted a record type",
+        }.items():
+            with self.subTest(zone[:9]):
+                found = []
+                self.assertEqual(lines(zone, "o.", errors=found.append), [])
+                self.assertEqual([error.reason for error in found][:1] or [reason], [reason])
+        self.assertRegex(str(error_of(b"(" + b"a " * 10**7)), "<bytes>:1:1: an entry has more than 16777216 octets")
+        found = []
+        self.assertEqual(lines(b"(" + b"a " * 10**7, "o.", errors=found.append), [])
+        self.assertEqual(len(found), 1)
+
+
+class Files(unittest.TestCase):
+    def setUp(self):
+        folder = tempfile.TemporaryDirectory()
+        self.addCleanup(folder.cleanup)
+        self.folder = folder.name
+
+    def write(self, name, octets):
+        path = os.path.join(self.folder, name)
+        os.makedirs(os.path.dirname(path), exist_ok=True)
+        with open(path, "wb") as file:
+            file.write(octets)
+        return path
+
+    def test_include(self):
+        path = self.write("zone", b"$TTL 7\na A 1.2.3.4\n$INCLUDE sub/f sub\n A 1.2.3.6\nlast A 1.2.3.7\n")
+        self.write("sub/f", b" A 1.2.3.5\nb A 1.2.3.8\n$TTL 8\n$INCLUDE g\n$ORIGIN c.\n")
+        self.write("sub/g", b"@ TXT x")
+        wanted = [
+            "a.o. 7 IN A 1.2.3.4", "a.o. 7 IN A 1.2.3.5", "b.sub.o. 7 IN A 1.2.3.8", 'sub.o. 8 IN TXT "x"',
+            "a.o. 7 IN A 1.2.3.6", "last.o. 7 IN A 1.2.3.7",
+        ]  # fmt: skip
+        self.assertEqual(lines(path, "o."), wanted)
+        self.assertEqual(lines(pathlib.Path(path), Name("o.")), wanted)
+        with open(path, "rb") as file:
+            octets = file.read()
+        self.assertEqual(lines(octets, "o.", folder=self.folder), wanted)
+        self.assertEqual(str(error_of(octets)), "<bytes>:3:1: $INCLUDE is not followed here: no folder is given")
+
+    def test_errors_in_files(self):
+        path = self.write("zone", b"\n\n$INCLUDE f\n")
+        inner = self.write("f", b"; a\n x\n")
+        error = error_of(path)
+        self.assertEqual((error.file, error.line, error.text), (inner, 2, " x"))
+        self.assertEqual(str(error), f"{inner}:2:2: no owner is there, nor in an entry before")
+        for name, reason in {
+            "none": "'none' cannot be read: No such file or directory", ".": "'.' is not a file", "/dev/zero": "'/dev/zero' is not a file",
+            "zone": "'zone' includes itself", "link": "'link' includes itself", '""': "no file is there", '"a\\000"': "no file is there",
+        }.items():  # fmt: skip
+            with self.subTest(name):
+                path = self.write("zone", b"$INCLUDE " + name.encode() + b"\n$TTL 1\na A 1.2.3.4\n")
+                if name == "link":
+                    os.symlink(path, os.path.join(self.folder, "link"))
+                found = []
+                self.assertEqual(lines(path, "o.", errors=found.append), ["a.o. 1 IN A 1.2.3.4"])
+                self.assertEqual([(error.reason, error.line) for error in found], [(reason, 1)])
+
+    def test_depth(self):
+        for n in range(12):
+            self.write(f"f{n}", b"$INCLUDE f%d\n%d 1 A 1.2.3.4\n" % (n + 1, n))
+        found = []
+        self.assertEqual(len(lines(os.path.join(self.folder, "f0"), "o.", errors=found.append)), 10)
+        self.assertEqual([str(it) for it in found], [f"{self.folder}/f9:1:1: files include one another more than 10 deep"])
+        # two files that include one another
+        self.write("a", b"$INCLUDE b\n")
+        self.write("b", b"$INCLUDE a\n")
+        self.assertEqual(error_of(os.path.join(self.folder, "a")).reason, "'a' includes itself")
+
+    def test_windows(self):
+        """Entries of every length, at every offset of the parts that are read."""
+        entries = [b"a%d 1 TXT (%s\n) ; %s\n" % (n, b" x" * (1 + n % 97), b"c" * (n * 31 % 999)) for n in range(3000)]
+        path = self.write("zone", b"".join(entries))
+        self.assertGreater(os.path.getsize(path), 20 << 16)
+        found = list(read_zone(path, "."))
+        self.assertEqual([len(record.raw_data) for record in found], [2 + n % 97 * 2 for n in range(3000)])
+
+    def test_memory(self):
+        path = self.write("zone", b"$TTL 1\n" + b"a A 192.0.2.1\n" * 200_000)
+        tracemalloc.start()
+        count = sum(1 for _ in read_zone(path, "example."))
+        _, peak = tracemalloc.get_traced_memory()
+        tracemalloc.stop()
+        self.assertEqual(count, 200_000)
+        self.assertLess(peak, 1 << 20)
+
+    def test_files_are_closed(self):
+        path = self.write("zone", b"a 1 A 1.2.3.4\nb 1 A 1.2.3.4\n")
+        zone = read_zone(path, "o.")
+        next(zone)
+        frame = zone.gi_frame.f_locals["file"]
+        zone.close()
+        self.assertTrue(frame.stream.closed)
+
+
+@unittest.skipIf(dns is None, "dnspython is not installed")
+class Dnspython(unittest.TestCase):
+    def theirs(self, octets, origin):
+        """The records that dnspython reads, in wire form."""
+        text = octets.decode("latin-1")
+        txn_zone = dns.zone.from_text(text, origin, relativize=False, check_origin=False, allow_include=False)
+        return self.sets(
+            ((name.to_wire().lower(), int(rdata.rdtype)), ttl, rdata.to_wire(origin=txn_zone.origin).lower())
+            for name, ttl, rdata in txn_zone.iterate_rdatas()
+        )
+
+    def ours(self, source, origin):
+        """The records that we read, in wire form."""
+        return self.sets(((it.owner.wire.lower(), int(it.record_type)), it.ttl, it.raw_data.lower()) for it in read_zone(source, origin))
+
+    def sets(self, records):
+        """The data of each set of records, and its least TTL, which dnspython gives to all of them."""
+        found = {}
+        for key, ttl, data in records:
+            least, datas = found.get(key, (ttl, set()))
+            found[key] = min(least, ttl), datas | {data}
+        return found
+
+    def test_files(self):
+        files = {"/usr/share/dns/root.hints": "."}
+        files.update({str(path): "localhost." for path in pathlib.Path("/etc/bind").glob("db.*")})
+        files.update({str(path): "example." for path in (ROOT / "diff/zones").glob("*.zone")})
+        files[str(ROOT / "diff/zones/signed.zone")] = "example.org."
+        compared = 0
+        for path, origin in sorted(files.items()):
+            with self.subTest(path):
+                if not os.path.isfile(path):
+                    continue
+                octets = pathlib.Path(path).read_bytes()
+                if b"$INCLUDE" in octets:
+                    continue
+                compared += 1
+                try:
+                    ours = self.ours(path, origin)
+                except ZoneError:
+                    # a string with the end of a line in it
+                    self.assertRaises(dns.exception.SyntaxError, self.theirs, octets, origin)
+                else:
+                    self.assertEqual(ours, self.theirs(octets, origin))
+        self.assertGreaterEqual(compared, 3)
+
+    def test_random_zones(self):
+        made = random.Random(1)
+        for number in range(200):
+            zone = self.random_zone(made)
+            with self.subTest(number):
+                self.assertEqual(self.ours(zone, "example."), self.theirs(zone, "example."))
+
+    def random_zone(self, made):
+        """A zone in which owners, TTLs and classes are left out, with parentheses, comments, escapes and directives."""
+        lines = ["$TTL %d" % made.randrange(1, 10**6), "@ IN SOA ns root ( 1", " 2 3 ; c", "4 5 )"]
+        for _ in range(made.randrange(1, 40)):
+            kind = made.randrange(12)
+            if kind == 0:
+                lines.append(made.choice(["", " ; (", "; \"", "$ORIGIN example.", "$TTL 1h30m"]))
+                continue
+            owner = made.choice(["", "", "@", "a", "b.c", "x\\.y", "\\065b", "*", "deep.er.example."])
+            head = made.choice(["", "IN", "7", "9 IN"])  # dnspython reads no TTL after a class
+            data = made.choice(
+                ["A 192.0.2.%d" % made.randrange(256), "MX ( 10\n mail )", "TXT \"a;b\" c\\\"d", "NS @", "CNAME x", "AAAA 2001:db8::%x" % made.randrange(999),
+                 "TYPE65280 \\# 2 ( 00\n ff )", "SRV 1 2 3 host.", "CAA 0 issue \"ca.example\"", "PTR deep\\046name.example."]
+            )  # fmt: skip
+            if "CNAME" in data:
+                owner = "c%d" % len(lines)
+            lines.append(f"{owner} {head} {data}{made.choice(['', ' ; comment', chr(9)])}")
+            if "CNAME" in data:
+                lines.append("@ TXT x")
+        return ("\n".join(lines) + made.choice(["", "\n"])).encode()
+
+
+if __name__ == "__main__":
+    unittest.main()
