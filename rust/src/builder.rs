@@ -1,7 +1,7 @@
 //! Messages that are built section by section.
 use crate::codes::{Class, RecordType};
-use crate::door::{self, HEADER_SIZE};
 use crate::error::{Error, ErrorKind, Section};
+use crate::ffi::{self, HEADER_SIZE};
 use crate::header::{Header, ResponseCode};
 use crate::message::{Edns, Message};
 use crate::name_ref::{pass_name, NameRef};
@@ -30,7 +30,7 @@ const BESIDE_ANSWERS: u8 = 0x20;
 /// The initial capacity, in octets.
 const USUAL_SIZE: usize = 512;
 /// The octets of the longest reply without records: a header and a question.
-const REPLY_SIZE: usize = HEADER_SIZE + door::FORM_SIZE + 4;
+const REPLY_SIZE: usize = HEADER_SIZE + ffi::FORM_SIZE + 4;
 /// The largest message that a reply accepts, in octets. It goes through most networks without fragmentation.
 const USUAL_PAYLOAD: u16 = 1232;
 /// DO, in the high octet of the low half of the TTL of an OPT record.
@@ -151,7 +151,7 @@ impl MessageBuilder {
     }
 
     fn begin_reply(&mut self, request: &Message<'_>) -> Result<(), Error> {
-        let (mut room, mut writer) = ([0; REPLY_SIZE], door::Writer::none());
+        let (mut room, mut writer) = ([0; REPLY_SIZE], ffi::Writer::none());
         let edns = writer.reply(&mut room, REPLY_SIZE, request.octets(), 0)?;
         let [i, d, high, low, ..] = room;
         self.header = Header::of_bits(u16::from_be_bytes([i, d]), u16::from_be_bytes([high, low]));
@@ -501,7 +501,7 @@ impl MessageBuilder {
         if let Some(error) = self.failure {
             return Err(error);
         }
-        door::write_list(self.list()?.as_slice(), max_size, (self.header.id, self.header.flag_bits()), message)
+        ffi::write_list(self.list()?.as_slice(), max_size, (self.header.id, self.header.flag_bits()), message)
     }
 
     /// Returns the whole list of items.

@@ -1,6 +1,6 @@
 //! Record types, classes and serial numbers.
-use crate::door::{self, CODE_SIZE};
 use crate::error::Error;
+use crate::ffi::{self, CODE_SIZE};
 use core::cmp::Ordering;
 use core::fmt;
 use core::ops::Add;
@@ -328,8 +328,8 @@ macro_rules! code {
     };
 }
 
-code!(RecordType, door::type_text, door::type_code);
-code!(Class, door::class_text, door::class_code);
+code!(RecordType, ffi::type_text, ffi::type_code);
+code!(Class, ffi::class_text, ffi::class_code);
 
 /// A serial number of a zone, which wraps to 0 after 4294967295 (RFC 1982).
 ///
@@ -366,7 +366,7 @@ impl From<SerialNumber> for u32 {
 
 impl PartialOrd for SerialNumber {
     fn partial_cmp(&self, other: &Self) -> Option<Ordering> {
-        door::serial_compare(self.0, other.0).ok().map(|order| order.cmp(&0))
+        ffi::serial_compare(self.0, other.0).ok().map(|order| order.cmp(&0))
     }
 }
 
@@ -374,6 +374,6 @@ impl Add for SerialNumber {
     type Output = Self;
 
     fn add(self, other: Self) -> Self {
-        SerialNumber(door::serial_add(self.0, other.0))
+        SerialNumber(ffi::serial_add(self.0, other.0))
     }
 }

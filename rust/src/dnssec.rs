@@ -3,8 +3,8 @@
 //! No signature is checked here: see [`Record::signed_octets`].
 //!
 //! [`Record::signed_octets`]: crate::Record::signed_octets
-use crate::door;
 use crate::error::Error;
+use crate::ffi;
 use crate::name::Name;
 use crate::record::Record;
 use alloc::string::String;
@@ -26,7 +26,7 @@ use alloc::vec::Vec;
 /// # Ok::<(), dns_names_wire::Error>(())
 /// ```
 pub fn key_tag(dnskey: &[u8]) -> Result<u16, Error> {
-    door::key_tag(dnskey)
+    ffi::key_tag(dnskey)
 }
 
 /// Returns the digest of a DNSKEY that a DS record has, by its owner and its data (RFC 4034, section 5.1.4). Digest type
@@ -44,8 +44,8 @@ pub fn key_tag(dnskey: &[u8]) -> Result<u16, Error> {
 /// # Ok::<(), dns_names_wire::Error>(())
 /// ```
 pub fn ds_digest(owner: &Name, dnskey: &[u8], digest_type: u8) -> Result<Vec<u8>, Error> {
-    let mut room = [0; door::DIGEST_SIZE];
-    let len = door::ds_digest(owner.as_wire(), dnskey, digest_type, &mut room)?;
+    let mut room = [0; ffi::DIGEST_SIZE];
+    let len = ffi::ds_digest(owner.as_wire(), dnskey, digest_type, &mut room)?;
     Ok(room[..len].to_vec())
 }
 
@@ -79,8 +79,8 @@ impl Nsec3Params<'_> {
     ///
     /// `UnknownAlgorithm` if the algorithm is not 1; or `TooManyIterations` if there are more than are allowed.
     pub fn hash(&self, name: &Name) -> Result<[u8; 20], Error> {
-        let mut hash = [0; door::HASH_SIZE];
-        door::nsec3_hash(name.as_wire(), self.parts(), &mut hash)?;
+        let mut hash = [0; ffi::HASH_SIZE];
+        ffi::nsec3_hash(name.as_wire(), self.parts(), &mut hash)?;
         Ok(hash)
     }
 
@@ -91,12 +91,12 @@ impl Nsec3Params<'_> {
     ///
     /// The errors of [`hash`](Nsec3Params::hash).
     pub fn label(&self, name: &Name) -> Result<String, Error> {
-        let mut label = [0; door::LABEL_SIZE];
-        door::nsec3_label(name.as_wire(), self.parts(), &mut label)?;
+        let mut label = [0; ffi::LABEL_SIZE];
+        ffi::nsec3_label(name.as_wire(), self.parts(), &mut label)?;
         Ok(label.iter().map(|&digit| char::from(digit)).collect())
     }
 
-    fn parts(&self) -> door::Hashing<'_> {
+    fn parts(&self) -> ffi::Hashing<'_> {
         (self.algorithm, self.iterations, self.salt, self.max_iterations)
     }
 }
@@ -117,7 +117,7 @@ impl Nsec3Params<'_> {
 /// ```
 pub fn nsec_covers(owner: &Name, next: &Name, name: &Name) -> bool {
     // All three are wire forms, so the call does not fail.
-    door::nsec_covers(owner.as_wire(), next.as_wire(), name.as_wire()).unwrap_or(false)
+    ffi::nsec_covers(owner.as_wire(), next.as_wire(), name.as_wire()).unwrap_or(false)
 }
 
 /// Returns `true` if the NSEC3 record with the hash `own` and the next hash `next` covers a hash: it comes between them,
@@ -130,7 +130,7 @@ pub fn nsec_covers(owner: &Name, next: &Name, name: &Name) -> bool {
 /// assert!(nsec3_covers(&[5; 20], &[2; 20], &[6; 20]));
 /// ```
 pub fn nsec3_covers(own: &[u8], next: &[u8], hash: &[u8]) -> bool {
-    door::nsec3_covers(own, next, hash)
+    ffi::nsec3_covers(own, next, hash)
 }
 
 /// Returns the digest of a zone that a ZONEMD record has, by the scheme SIMPLE (RFC 8976, section 3.3.1), from all its
@@ -163,7 +163,7 @@ where
     for record in records {
         record.into().put(&mut list)?;
     }
-    let mut room = [0; door::DIGEST_SIZE];
-    let len = door::zone_digest(apex.as_wire(), &list, algorithm, &mut room)?;
+    let mut room = [0; ffi::DIGEST_SIZE];
+    let len = ffi::zone_digest(apex.as_wire(), &list, algorithm, &mut room)?;
     Ok(room[..len].to_vec())
 }

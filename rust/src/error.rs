@@ -1,5 +1,5 @@
 //! Why a call fails.
-use crate::door;
+use crate::ffi;
 use core::fmt;
 
 /// Why a call fails, and where: [`kind`](Error::kind) and [`offset`](Error::offset). It is printed as a sentence.
@@ -23,6 +23,7 @@ pub struct Error {
 enum Place {
     Offset(usize),
     Text(TextFault),
+    Master(ffi::MasterFault),
     Item(Section, u16, usize),
 }
 
@@ -41,6 +42,14 @@ impl Error {
     /// Returns the same error at the fault of the text.
     pub(crate) fn at_fault(self, fault: TextFault) -> Self {
         Error { place: Some(Place::Text(fault)), ..self }
+    }
+
+    /// Returns the same error at the fault of a text of a master file, if there is one.
+    pub(crate) fn at_master_fault(self, fault: ffi::MasterFault) -> Self {
+        match fault.is_none() {
+            true => self,
+            false => Error { place: Some(Place::Master(fault)), ..self },
+        }
     }
 
     /// Returns the same error at an item of a message.
@@ -65,6 +74,7 @@ impl Error {
     ///   whose data have fewer octets than were to be skipped;
     /// - in a wire form, the end of its name, for `BytesLeft`;
     /// - in the text of a name, the first octet that is against the rule, or the end of the text;
+    /// - in the text of a record or of data, the first word that is not as it should be, or the end if one lacks;
     /// - in a master file, the offset after which no valid token is next.
     ///
     /// ```
@@ -73,11 +83,16 @@ impl Error {
     /// let error = Name::from_text("www.exa\\256mple.", None).unwrap_err();
     /// assert_eq!((error.offset(), error.rule()), (Some(10), Some(TextRule::BadEscape)));
     /// assert_eq!(error.to_string(), "at offset 10: an escape of the text is not three digits up to 255");
+    ///
+    /// let error = "a. 300 IN MX 1 b".parse::<dns_names_wire::RecordBuf>().unwrap_err();
+    /// assert_eq!(error.offset(), Some(15));
+    /// assert_eq!(error.to_string(), "at offset 15: wanted a name (field 1)");
     /// ```
     pub fn offset(self) -> Option<usize> {
         match self.place? {
             Place::Offset(offset) => Some(offset),
             Place::Text(fault) => Some(fault.offset),
+            Place::Master(fault) => Some(fault.offset),
             Place::Item(_, _, offset) => Some(offset),
         }
     }
@@ -392,8 +407,8 @@ impl fmt::Display for Section {
 
 /// Prints the C library's text for a number.
 fn show(number: u32, f: &mut fmt::Formatter<'_>) -> fmt::Result {
-    let mut room = [0; door::ERROR_TEXT_SIZE];
-    match door::error_text(number, &mut room) {
+    let mut room = [0; ffi::ERROR_TEXT_SIZE];
+    match ffi::error_text(number, &mut room) {
         "" => write!(f, "failure {number}"),
         text => f.pad(text),
     }
@@ -404,6 +419,10 @@ impl fmt::Display for Error {
         match self.place {
             Some(Place::Offset(offset)) => write!(f, "at offset {offset}: {}", self.kind),
             Some(Place::Text(fault)) => fmt::Display::fmt(&fault, f),
+            Some(Place::Master(fault)) => match ffi::fault_sentence(&fault, &mut [0; ffi::SENTENCE_SIZE]) {
+                "" => write!(f, "at offset {}: {}", fault.offset, self.kind),
+                sentence => f.pad(sentence),
+            },
             Some(Place::Item(section, item, offset)) => {
                 write!(f, "{section} {item}, at offset {offset}: {}", self.kind)
             }

@@ -1,7 +1,7 @@
 //! The fields of the data of records.
 use crate::codes::{Class, RecordType};
-use crate::door;
 use crate::error::{Error, ErrorKind};
+use crate::ffi;
 use crate::name_ref::NameRef;
 use crate::octets::{Octets, Sink};
 use crate::type_set::TypeSet;
@@ -107,19 +107,19 @@ pub struct Fields<'a> {
     start: usize,
     /// the codes of class and type
     form: (u16, u16),
-    next: door::Fields,
+    next: ffi::Fields,
     has_ended: bool,
 }
 
 impl<'a> Fields<'a> {
     pub(crate) fn new(message: &'a [u8], start: usize, class: Class, record_type: RecordType) -> Self {
         let form = (class.code(), record_type.code());
-        Fields { message, start, form, next: door::Fields { offset: start, number: 0 }, has_ended: false }
+        Fields { message, start, form, next: ffi::Fields { offset: start, number: 0 }, has_ended: false }
     }
 
     /// Reads the next field, if there is one.
     fn read(&mut self) -> Result<Option<Field<'a>>, Error> {
-        let field = door::next_field(self.message, self.start, self.form, &mut self.next)?;
+        let field = ffi::next_field(self.message, self.start, self.form, &mut self.next)?;
         let octets = &self.message[field.offset..field.offset + field.len];
         Ok(Some(match field.kind {
             0 => return Ok(None),
@@ -149,8 +149,8 @@ impl<'a> Fields<'a> {
 impl<'a> Fields<'a> {
     /// Reads the next field, and returns where it is.
     #[inline]
-    fn place(&mut self) -> Result<door::Field, Error> {
-        match door::next_field(self.message, self.start, self.form, &mut self.next)? {
+    fn place(&mut self) -> Result<ffi::Field, Error> {
+        match ffi::next_field(self.message, self.start, self.form, &mut self.next)? {
             field if field.kind != 0 => Ok(field),
             _ => Err(Error::from(ErrorKind::MessageCut).at_offset(self.next.offset)),
         }
@@ -270,7 +270,7 @@ impl<'a> Fields<'a> {
     /// is not only IN's, or the class is one of updates (RFC 2136, sections 2.4 and 2.5).
     pub(crate) fn are_as_in(&self) -> bool {
         let first = |class: Class| {
-            let field = door::next_field(self.message, self.start, (class.code(), self.form.1), &mut self.next.clone());
+            let field = ffi::next_field(self.message, self.start, (class.code(), self.form.1), &mut self.next.clone());
             field.map(|field| field.kind).map_err(Error::kind)
         };
         first(Class::from(self.form.0)) == first(Class::IN)

@@ -1,5 +1,5 @@
 //! What owned and borrowed names have in common: how their wire forms are printed, compared and hashed.
-use crate::door::{self, FORM_SIZE, TEXT_SIZE};
+use crate::ffi::{self, FORM_SIZE, TEXT_SIZE};
 use core::cmp::Ordering;
 use core::fmt;
 use core::hash::Hasher;
@@ -11,13 +11,13 @@ const VALID: &str = "the wire form of a name";
 #[inline]
 pub(crate) fn are_equal(left: &[u8], right: &[u8]) -> bool {
     // Equal names have wire forms of one length, and a form equals itself.
-    left.len() == right.len() && (left == right || door::equal(left, right).expect(VALID))
+    left.len() == right.len() && (left == right || ffi::equal(left, right).expect(VALID))
 }
 
 /// Compares the labels in canonical order.
 #[inline]
 pub(crate) fn compare(left: &[u8], right: &[u8]) -> Ordering {
-    door::compare(left, right).expect(VALID).cmp(&0)
+    ffi::compare(left, right).expect(VALID).cmp(&0)
 }
 
 pub(crate) fn hash<H: Hasher>(form: &[u8], is_fqdn: bool, state: &mut H) {
@@ -31,11 +31,11 @@ pub(crate) fn hash<H: Hasher>(form: &[u8], is_fqdn: bool, state: &mut H) {
 }
 
 pub(crate) fn show(form: &[u8], is_fqdn: bool, f: &mut fmt::Formatter<'_>) -> fmt::Result {
-    f.pad(door::print(form, is_fqdn, &mut [0; TEXT_SIZE]).map_err(|_| fmt::Error)?)
+    f.pad(ffi::print(form, is_fqdn, &mut [0; TEXT_SIZE]).map_err(|_| fmt::Error)?)
 }
 
 pub(crate) fn show_debug(form: &[u8], is_fqdn: bool, f: &mut fmt::Formatter<'_>) -> fmt::Result {
     let mut room = [0; TEXT_SIZE];
-    let text = door::print(form, is_fqdn, &mut room).map_err(|_| fmt::Error)?;
+    let text = ffi::print(form, is_fqdn, &mut room).map_err(|_| fmt::Error)?;
     f.debug_tuple("Name").field(&text).finish()
 }

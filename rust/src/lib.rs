@@ -28,6 +28,7 @@
 //! | build queries and replies, section by section, and write them within a size | [`MessageBuilder`] |
 //! | write messages item by item into a buffer, without an allocation | [`MessageWriter`] |
 //! | make records from data by type, or parse them from lines of master files | [`RecordBuf`] |
+//! | read zone files, with the place of each error | [`ZoneReader`]; with `std`, `ZoneFile`, which follows `$INCLUDE`, and `ZoneStream` |
 //! | keep data by type, and sets of records | [`owned`], [`RecordSet`] |
 //! | verify signatures, or make them | [`Record::signed_octets`] |
 //! | make key tags and digests of keys and zones, hash names, and check denials | [`dnssec`] |
@@ -39,7 +40,7 @@
 //! makes a call panic.
 //!
 //! The feature `std` is on by default. Without it, the crate needs Rust 1.81, `core`, `alloc` and the system's C
-//! library, and does not make a `std::io::Error`.
+//! library, does not make a `std::io::Error`, and has no `ZoneFile` and no `ZoneStream`.
 //!
 //! `build.rs` takes the archive from the folder that the environment variable `DNW_LIB_DIR` names, or from `lib` in
 //! this crate. In a checkout of the repository it builds the archive, if the Rattle toolchain is there.
@@ -51,7 +52,7 @@ extern crate alloc;
 
 #[allow(unsafe_code)]
 #[cfg_attr(not(feature = "std"), allow(dead_code))]
-mod door;
+mod ffi;
 
 #[cfg(not(feature = "std"))]
 use core::net::{IpAddr, Ipv4Addr, Ipv6Addr};
@@ -78,6 +79,7 @@ mod record_set;
 mod ttl;
 mod type_set;
 mod writer;
+mod zone;
 
 pub use builder::MessageBuilder;
 pub use codes::{Class, RecordType, SerialNumber};
@@ -95,6 +97,9 @@ pub use record_set::RecordSet;
 pub use ttl::parse_ttl;
 pub use type_set::TypeSet;
 pub use writer::{MessageWriter, Need};
+pub use zone::{ZoneError, ZoneInclude, ZoneItem, ZoneReader};
+#[cfg(feature = "std")]
+pub use zone::{ZoneFile, ZoneStream};
 
 /// Makes the program in the README a test.
 #[cfg(doctest)]

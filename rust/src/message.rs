@@ -1,7 +1,7 @@
 //! Whole messages, which are checked once.
 use crate::codes::{Class, RecordType};
-use crate::door::{self, HEADER_SIZE};
 use crate::error::Error;
+use crate::ffi::{self, HEADER_SIZE};
 use crate::field::Pairs;
 use crate::header::{Header, ResponseCode};
 use crate::name_ref::{pass_name, NameRef};
@@ -39,7 +39,7 @@ const COUNTS_SIZE: usize = 8;
 pub struct Message<'a> {
     octets: &'a [u8],
     max_pointers: usize,
-    read: door::Message,
+    read: ffi::Message,
 }
 
 impl<'a> Message<'a> {
@@ -77,7 +77,7 @@ impl<'a> Message<'a> {
     /// assert_eq!(Message::read_limited(octets, 0).unwrap_err().kind(), ErrorKind::TooManyPointers);
     /// ```
     pub fn read_limited(octets: &'a [u8], max_pointers: usize) -> Result<Self, Error> {
-        let read = door::read_message(octets, max_pointers)?;
+        let read = ffi::read_message(octets, max_pointers)?;
         Ok(Message { octets, max_pointers, read })
     }
 
@@ -188,7 +188,7 @@ impl<'a> Message<'a> {
     }
 
     /// Returns the EDNS fields and the offset of the options, or `None` if there is no OPT record.
-    fn read_edns(&self) -> Result<Option<(door::Edns, usize)>, Error> {
+    fn read_edns(&self) -> Result<Option<(ffi::Edns, usize)>, Error> {
         let is_opt = |record: &Record| record.record_type() == RecordType::OPT;
         let is_outside = self.answers().chain(self.authorities()).any(|record| is_opt(&record));
         let mut records = self.additionals().filter(is_opt);
@@ -196,7 +196,7 @@ impl<'a> Message<'a> {
             (None, _) if !is_outside => return Ok(None),
             (Some(opt), None) if !is_outside && self.octets.get(opt.owner().start()) == Some(&0) => opt,
             _ => {
-                let read = door::read_edns(self.octets, self.max_pointers)?;
+                let read = ffi::read_edns(self.octets, self.max_pointers)?;
                 return Ok(Some((read.clone(), read.options_offset)));
             }
         };
@@ -205,7 +205,7 @@ impl<'a> Message<'a> {
         alone.extend_from_slice(&self.octets[..HEADER_SIZE]);
         alone[HEADER_SIZE - COUNTS_SIZE..].copy_from_slice(&[0, 0, 0, 0, 0, 0, 0, 1]);
         alone.extend_from_slice(&self.octets[start..opt.end()]);
-        let read = door::read_edns(&alone, self.max_pointers)?;
+        let read = ffi::read_edns(&alone, self.max_pointers)?;
         Ok(Some((read, opt.data_offset())))
     }
 
@@ -240,19 +240,20 @@ impl<'a> Message<'a> {
     /// ```
     pub fn is_reply_to(&self, request: &Message<'_>) -> bool {
         // Both messages are complete, so the call does not fail.
-        door::is_reply_to(request.octets(), self.octets()).unwrap_or(false)
+        ffi::is_reply_to(request.octets(), self.octets()).unwrap_or(false)
     }
 
-    /// Returns the message written again: compressed, in at most `max_size` octets, with the OPT record last. Questions
-    /// and records that do not fit are left out. TC is set if a record of the Answer or Authority section is left out
-    /// (RFC 2181, section 9).
+    /// Returns the message written again: compressed, and in at most `max_size` octets. A set of records that has no room
+    /// is left out whole, and so are the later ones of its section (RFC 2181, section 5). If one is left out, TC is set
+    /// (RFC 2181, section 9), unless it only goes with the answers of a response. The OPT record and a signature of the
+    /// message (SIG, TSIG) are never left out, and come last.
     ///
     /// # Errors
     ///
     /// The errors of [`edns`](Message::edns); those of [`Record::fields`] if the data of a record are not valid;
-    /// `MessageTooLong` if the header and the OPT record have more than `max_size` octets; `TooManyPointers` if the
-    /// names follow more than 65,536 compression pointers, which [`read_limited`](Message::read_limited) may have
-    /// allowed; or `NoMemory`.
+    /// `MessageTooLong` if the header, the questions and the records that are never left out have more than `max_size`
+    /// octets; `TooManyPointers` if the names follow more than 65,536 compression pointers, which
+    /// [`read_limited`](Message::read_limited) may have allowed; or `NoMemory`.
     ///
     /// ```
     /// let octets = b"\0\0\x84\0\0\x01\0\x01\0\0\0\0\x01b\0\0\x05\0\x01\x01b\0\0\x05\0\x01\0\0\0\0\0\x05\x01a\x01b\0";
@@ -263,7 +264,8 @@ impl<'a> Message<'a> {
     /// ```
     pub fn to_wire(&self, max_size: u16) -> Result<Vec<u8>, Error> {
         let mut packed = Vec::new();
-        door::pack(self.octets(), max_size, &mut packed)?;
+        ffi::pack(self.octets(), max_size, &mut packed)?;
+        packed.shrink_to_fit();
         Ok(packed)
     }
 

@@ -1,6 +1,6 @@
 //! Names that own their wire form.
-use crate::door::{self, FORM_SIZE, SORT_KEY_SIZE};
 use crate::error::{Error, ErrorKind, TextFault};
+use crate::ffi::{self, FORM_SIZE, SORT_KEY_SIZE};
 use crate::form;
 use crate::labels::Labels;
 use crate::IpAddr;
@@ -106,8 +106,8 @@ impl Name {
     /// ```
     pub fn from_ip(address: IpAddr) -> Self {
         let name = match address {
-            IpAddr::V4(address) => Name::made(true, |form| door::reverse_name(&address.octets(), form)),
-            IpAddr::V6(address) => Name::made(true, |form| door::reverse_name(&address.octets(), form)),
+            IpAddr::V4(address) => Name::made(true, |form| ffi::reverse_name(&address.octets(), form)),
+            IpAddr::V6(address) => Name::made(true, |form| ffi::reverse_name(&address.octets(), form)),
         };
         name.expect("an address of 4 or 16 bytes")
     }
@@ -133,7 +133,7 @@ impl Name {
     #[inline]
     pub fn read(message: &[u8], start: usize) -> Result<(Self, usize), Error> {
         let mut form = [0; FORM_SIZE];
-        let read = door::read(message, start, &mut form)?;
+        let read = ffi::read(message, start, &mut form)?;
         Ok((Name::of_form(&form, read.len, true), read.end))
     }
 
@@ -208,7 +208,7 @@ impl Name {
     #[inline]
     pub fn from_text(text: &str, origin: Option<&Name>) -> Result<Self, Error> {
         let mut form = [0; FORM_SIZE];
-        let parsed = door::parse(text, origin.map_or(&[], |name| name.as_wire()), &mut form)?;
+        let parsed = ffi::parse(text, origin.map_or(&[], |name| name.as_wire()), &mut form)?;
         Ok(Name::of_form(&form, parsed.len, parsed.is_fqdn))
     }
 
@@ -221,7 +221,7 @@ impl Name {
     /// assert_eq!(Name::text_fault("a..bc"), Some(TextFault { offset: 2, rule: TextRule::EmptyLabel }));
     /// ```
     pub fn text_fault(text: &str) -> Option<TextFault> {
-        door::text_fault(text, &[])
+        ffi::text_fault(text, &[])
     }
 
     /// Returns the fully qualified name with these labels, each of any 1 to 63 octets.
@@ -356,7 +356,7 @@ impl Name {
     /// # Ok::<(), dns_names_wire::Error>(())
     /// ```
     pub fn zone_of(&self, name: &Name) -> bool {
-        door::in_zone(name.as_wire(), self.as_wire()).expect(VALID)
+        ffi::in_zone(name.as_wire(), self.as_wire()).expect(VALID)
     }
 
     /// Returns whether the labels are equal, ignoring case and whether the names are fully qualified.
@@ -387,7 +387,7 @@ impl Name {
     /// ```
     pub fn sort_key(&self) -> Vec<u8> {
         let mut room = [0; SORT_KEY_SIZE];
-        let len = door::sort_key(self.as_wire(), &mut room).expect(VALID);
+        let len = ffi::sort_key(self.as_wire(), &mut room).expect(VALID);
         room[..len].to_vec()
     }
 
@@ -400,7 +400,7 @@ impl Name {
     /// # Ok::<(), dns_names_wire::Error>(())
     /// ```
     pub fn to_lowercase(&self) -> Name {
-        Name::made(self.is_fqdn(), |form| door::to_lowercase(self.as_wire(), form)).expect(VALID)
+        Name::made(self.is_fqdn(), |form| ffi::to_lowercase(self.as_wire(), form)).expect(VALID)
     }
 
     /// Returns the name with the labels of another name after its own. It is fully qualified if the other is.
@@ -417,7 +417,7 @@ impl Name {
     /// # Ok::<(), dns_names_wire::Error>(())
     /// ```
     pub fn append(&self, suffix: &Name) -> Result<Name, Error> {
-        Name::made(suffix.is_fqdn(), |form| door::append(self.as_wire(), suffix.as_wire(), form))
+        Name::made(suffix.is_fqdn(), |form| ffi::append(self.as_wire(), suffix.as_wire(), form))
     }
 
     /// Returns the name with a label, of any octets, before its own labels.
@@ -433,7 +433,7 @@ impl Name {
     /// # Ok::<(), dns_names_wire::Error>(())
     /// ```
     pub fn prepend_label(&self, label: &[u8]) -> Result<Name, Error> {
-        Name::made(self.is_fqdn(), |form| door::prepend_label(label, self.as_wire(), form))
+        Name::made(self.is_fqdn(), |form| ffi::prepend_label(label, self.as_wire(), form))
     }
 
     /// Returns the name with only the last `labels` labels, or the whole name if it has fewer.
@@ -444,7 +444,7 @@ impl Name {
     /// # Ok::<(), dns_names_wire::Error>(())
     /// ```
     pub fn trim_to(&self, labels: usize) -> Name {
-        Name::made(self.is_fqdn(), |form| door::trim(self.as_wire(), labels, form)).expect(VALID)
+        Name::made(self.is_fqdn(), |form| ffi::trim(self.as_wire(), labels, form)).expect(VALID)
     }
 
     /// Returns the name without its first label: its parent. A name without labels is unchanged.
@@ -469,7 +469,7 @@ impl Name {
     /// # Ok::<(), dns_names_wire::Error>(())
     /// ```
     pub fn to_wildcard(&self) -> Name {
-        Name::made(self.is_fqdn(), |form| door::to_wildcard(self.as_wire(), form)).expect(VALID)
+        Name::made(self.is_fqdn(), |form| ffi::to_wildcard(self.as_wire(), form)).expect(VALID)
     }
 
     /// Returns the net of a reverse name: its address and the length of its prefix in bits. For the reverse name of an
@@ -492,7 +492,7 @@ impl Name {
             return Err(ErrorKind::NotReverse.into());
         }
         let mut room = [0; 16];
-        let net = door::reverse_parse(self.as_wire(), &mut room)?;
+        let net = ffi::reverse_parse(self.as_wire(), &mut room)?;
         match <[u8; 4]>::try_from(&room[..net.len]) {
             Ok(octets) => Ok((octets.into(), net.prefix_len)),
             Err(_) => Ok((room.into(), net.prefix_len)),
@@ -518,7 +518,7 @@ pub fn sort_names(names: &mut [Name]) {
         forms.extend_from_slice(name.as_wire());
     }
     let mut order = alloc::vec![0; names.len()];
-    if door::names_sort(&forms, &mut order).is_err() {
+    if ffi::names_sort(&forms, &mut order).is_err() {
         // It ran out of memory: the names are valid, and there is room for the numbers.
         return names.sort();
     }

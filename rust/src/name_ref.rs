@@ -1,6 +1,6 @@
 //! Names that are borrowed from a message.
-use crate::door::{self, FORM_SIZE};
 use crate::error::Error;
+use crate::ffi::{self, FORM_SIZE};
 use crate::form;
 use crate::labels::Labels;
 use crate::name::Name;
@@ -46,7 +46,7 @@ impl<'a> NameRef<'a> {
     /// # Ok::<(), Error>(())
     /// ```
     pub fn read(message: &'a [u8], start: usize) -> Result<Self, Error> {
-        let read = door::read(message, start, &mut [0; FORM_SIZE])?;
+        let read = ffi::read(message, start, &mut [0; FORM_SIZE])?;
         Ok(NameRef { message, start, end: read.end })
     }
 
@@ -64,7 +64,7 @@ impl<'a> NameRef<'a> {
             Some((end, false)) => use_form(&self.message[self.start..end]),
             _ => {
                 let mut form = [0; FORM_SIZE];
-                let read = door::read(self.message, self.start, &mut form).expect("a name that was read before");
+                let read = ffi::read(self.message, self.start, &mut form).expect("a name that was read before");
                 use_form(&form[..read.len])
             }
         }

@@ -1,7 +1,7 @@
 //! The records of messages.
 use crate::codes::{Class, RecordType};
-use crate::door::{self, FORM_SIZE};
 use crate::error::{Error, ErrorKind};
+use crate::ffi::{self, FORM_SIZE};
 use crate::field::Fields;
 use crate::name::Name;
 use crate::name_ref::{pass_name, NameRef};
@@ -58,7 +58,7 @@ impl<'a> Record<'a> {
     /// # Ok::<(), Error>(())
     /// ```
     pub fn read(message: &'a [u8], start: usize) -> Result<Self, Error> {
-        let read = door::read_record(message, start, &mut [0; FORM_SIZE])?;
+        let read = ffi::read_record(message, start, &mut [0; FORM_SIZE])?;
         let owner = NameRef::checked(message, start, read.data_offset - FIXED_SIZE);
         let (record_type, class) = (read.record_type, read.record_class);
         Ok(Record { owner, record_type, class, ttl: read.ttl, end: read.end })
@@ -220,7 +220,7 @@ impl<'a> Record<'a> {
         let cut = || Error::from(ErrorKind::MessageCut).at_offset(self.end);
         let left = (self.end - self.data_offset()).checked_sub(octets).ok_or_else(cut)?;
         let mut form = [0; FORM_SIZE];
-        let len = door::data_name(self.message(), self.data_offset() + octets, left, &mut form)?;
+        let len = ffi::data_name(self.message(), self.data_offset() + octets, left, &mut form)?;
         Ok(Name::of_form(&form, len, true))
     }
 
@@ -291,7 +291,7 @@ impl<'a> Record<'a> {
                 record.put(&mut list)?;
             }
         }
-        door::signed_octets(&list, start)
+        ffi::signed_octets(&list, start)
     }
 
     /// Returns the sort key of the record. Keys compare as bytes as records do in canonical order (RFC 4034, section 6):
@@ -309,7 +309,7 @@ impl<'a> Record<'a> {
     /// # Ok::<(), dns_names_wire::Error>(())
     /// ```
     pub fn sort_key(&self) -> Result<Vec<u8>, Error> {
-        door::record_sort_key(self.message(), self.owner.start(), self.raw_data().len())
+        ffi::record_sort_key(self.message(), self.owner.start(), self.raw_data().len())
     }
 
     /// Returns what records compare and hash by: the sort key, or, if the data are not the fields of their type, the
@@ -338,12 +338,12 @@ impl<'a> Record<'a> {
 
     /// Stores the octets of the data, with each name in its wire form, and returns their number.
     pub(crate) fn store_data(&self, room: &mut [u8]) -> Result<usize, Error> {
-        door::store_record_data(&self.message()[..self.end], self.owner.start(), room)
+        ffi::store_record_data(&self.message()[..self.end], self.owner.start(), room)
     }
 
     /// Appends the octets of the data, with each name in its wire form.
     pub(crate) fn put_data(&self, octets: &mut Vec<u8>) -> Result<(), Error> {
-        door::record_data(&self.message()[..self.end], self.owner.start(), octets)
+        ffi::record_data(&self.message()[..self.end], self.owner.start(), octets)
     }
 
     /// Returns the offset after the record, where the next one begins.
@@ -409,7 +409,7 @@ impl Hash for Record<'_> {
 impl fmt::Display for Record<'_> {
     fn fmt(&self, f: &mut fmt::Formatter<'_>) -> fmt::Result {
         let mut line = Vec::new();
-        let line = door::print_record(self.message(), self.owner.start(), &mut line).map_err(|_| fmt::Error)?;
+        let line = ffi::print_record(self.message(), self.owner.start(), &mut line).map_err(|_| fmt::Error)?;
         // No owner, TTL, class or type has a space in its text.
         line.splitn(TEXT_PARTS, ' ').enumerate().try_for_each(|(number, text)| match number {
             0 => f.write_str(text),

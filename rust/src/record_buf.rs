@@ -1,7 +1,7 @@
 //! Records that own their octets.
 use crate::codes::{Class, RecordType};
-use crate::door;
 use crate::error::{Error, ErrorKind};
+use crate::ffi;
 use crate::name::Name;
 use crate::name_ref::NameRef;
 use crate::rdata::RData;
@@ -59,6 +59,11 @@ impl RecordBuf {
         let fixed =
             put_record(&mut octets, owner.into(), (data.record_type(), Class::IN, ttl), |octets| data.put(octets))?;
         Ok(RecordBuf { octets, fixed })
+    }
+
+    /// Returns the record with these octets, whose owner has so many of them.
+    pub(crate) fn from_whole(octets: &[u8], owner_len: usize) -> Self {
+        RecordBuf { octets: octets.to_vec(), fixed: owner_len }
     }
 
     /// Returns a record with these octets as its data. Names in them must not be compressed. They are not checked.
@@ -139,14 +144,14 @@ impl RecordBuf {
         origin: Option<&Name>,
     ) -> Result<Self, Error> {
         let (mut octets, origin) = (Vec::new(), origin.map_or(&[][..], Name::as_wire));
-        let put = |octets: &mut Vec<u8>| door::parse_data((Class::IN.code(), record_type.code()), text, origin, octets);
+        let put = |octets: &mut Vec<u8>| ffi::parse_data((Class::IN.code(), record_type.code()), text, origin, octets);
         let fixed = put_record(&mut octets, owner.into(), (record_type, Class::IN, ttl), put)?;
         Ok(RecordBuf { octets, fixed })
     }
 
     fn parse(line: &str, origin: &[u8]) -> Result<Self, Error> {
         let mut octets = Vec::new();
-        door::parse_record(line, origin, &mut octets)?;
+        ffi::parse_record(line, origin, &mut octets)?;
         let fixed = Name::root().read_from(&octets, 0)?;
         Ok(RecordBuf { octets, fixed })
     }
@@ -306,7 +311,7 @@ pub(crate) fn data_text(data: &RData<'_>) -> Result<String, Error> {
     let (mut octets, mut line) = (Vec::new(), Vec::new());
     let root = Name::root();
     put_record(&mut octets, (&root).into(), (data.record_type(), Class::IN, 0), |octets| data.put(octets))?;
-    let line = door::print_record(&octets, 0, &mut line)?;
+    let line = ffi::print_record(&octets, 0, &mut line)?;
     // No owner, TTL, class or type has a space in its text.
     Ok(line.splitn(TEXT_PARTS, ' ').nth(TEXT_PARTS - 1).unwrap_or_default().into())
 }

@@ -1,7 +1,7 @@
 //! Sets of record types, read from and written to bitmaps.
 use crate::codes::RecordType;
-use crate::door;
 use crate::error::Error;
+use crate::ffi;
 use alloc::string::{String, ToString};
 use alloc::vec::{self, Vec};
 use core::fmt;
@@ -55,7 +55,7 @@ impl TypeSet {
         // Each bit that is set is a code.
         let most = bitmap.iter().map(|octet| octet.count_ones() as usize).sum();
         let mut codes = alloc::vec![0; most];
-        let count = door::types_read(bitmap, &mut codes)?;
+        let count = ffi::types_read(bitmap, &mut codes)?;
         Ok(TypeSet { types: codes[..count].iter().copied().map(RecordType::from).collect() })
     }
 
@@ -76,7 +76,7 @@ impl TypeSet {
         // A window has at most 34 octets, and there is one for each first octet of a code.
         let windows = codes.windows(2).filter(|pair| pair[0] >> 8 != pair[1] >> 8).count() + 1;
         let mut bitmap = alloc::vec![0; 34 * windows];
-        let len = door::types_write(&codes, &mut bitmap)?;
+        let len = ffi::types_write(&codes, &mut bitmap)?;
         bitmap.truncate(len);
         Ok(bitmap)
     }

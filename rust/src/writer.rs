@@ -1,7 +1,7 @@
 //! Messages that are written item by item, into a buffer of the caller.
 use crate::codes::{Class, RecordType};
-use crate::door;
 use crate::error::{Error, ErrorKind, Section};
+use crate::ffi;
 use crate::header::{Header, ResponseCode};
 use crate::message::{Edns, Message};
 use crate::name_ref::NameRef;
@@ -57,7 +57,7 @@ pub enum Need {
 /// ```
 pub struct MessageWriter<'m> {
     message: &'m mut [u8],
-    state: door::Writer,
+    state: ffi::Writer,
     /// the response code
     code: u16,
     /// the octets that are held back for an OPT record
@@ -81,7 +81,7 @@ impl<'m> MessageWriter<'m> {
     /// ```
     pub fn new(message: &'m mut [u8], max_size: usize, header: &Header) -> Result<Self, Error> {
         let mut writer =
-            MessageWriter { message, state: door::Writer::none(), code: header.response_code.into(), held: 0 };
+            MessageWriter { message, state: ffi::Writer::none(), code: header.response_code.into(), held: 0 };
         writer.state.begin(writer.message, max_size, (header.id, header.flag_bits()))?;
         Ok(writer)
     }
@@ -120,13 +120,13 @@ impl<'m> MessageWriter<'m> {
         request: &[u8],
         header: &Header,
     ) -> Result<(Self, Option<Edns<'static>>), Error> {
-        let mut writer = MessageWriter { message, state: door::Writer::none(), code: 0, held: 0 };
+        let mut writer = MessageWriter { message, state: ffi::Writer::none(), code: 0, held: 0 };
         let asked = writer.state.reply(writer.message, max_size, request, header.flag_bits())?;
         writer.code = asked.response_code;
         if !asked.is_present {
             return Ok((writer, None));
         }
-        writer.held = door::EDNS_SIZE;
+        writer.held = ffi::EDNS_SIZE;
         let (max_payload, version, dnssec_ok) = (asked.max_payload, asked.version, asked.dnssec_ok);
         Ok((writer, Some(Edns { max_payload, version, dnssec_ok, options: &[] })))
     }

@@ -369,30 +369,29 @@ fn records_are_parsed_and_shown() {
 
 #[test]
 fn texts_that_are_no_records() {
-    let texts = [
-        (ErrorKind::BadText, "a label, a character or an escape of the text is not allowed"),
-        (ErrorKind::BadTime, "the text is no time to live"),
-        (ErrorKind::UnknownText, "the text names no record type and no class"),
-        (ErrorKind::BadData, "not data of the record type"),
-    ];
-    for (line, number) in [
-        ("", 0),
-        ("a 1 IN A 192.0.2.1", 0),
-        ("a. IN A 192.0.2.1", 1),
-        ("a. 4294967296 IN A 192.0.2.1", 1),
-        ("a. 1 IN NOTYPE 192.0.2.1", 2),
-        ("a. 1 IN", 2),
-        ("a. 1 IN A", 3),
-        ("a. 1 IN A 192.0.2.1 1", 3),
-        ("a. 1 IN MX 65536 a.", 3),
-        ("a. 1 IN MX 1 a", 3),
-        ("a. 1 IN TYPE65280 01", 3),
+    let (owner, time, data) = (ErrorKind::BadText, ErrorKind::BadTime, ErrorKind::BadData);
+    for (line, kind, offset, sentence) in [
+        ("", owner, 0, "wanted an owner"),
+        ("a 1 IN A 192.0.2.1", owner, 0, "wanted an owner"),
+        ("a. IN A 192.0.2.1", time, 3, "wanted a time to live"),
+        ("a. 4294967296 IN A 192.0.2.1", time, 3, "wanted a time to live"),
+        ("a. 1 IN NOTYPE 192.0.2.1", ErrorKind::UnknownText, 8, "wanted a record type"),
+        ("a. 1 IN", ErrorKind::UnknownText, 7, "wanted a record type"),
+        ("a. 1 IN A", data, 9, "wanted an IPv4 address (field 0)"),
+        ("a. 1 IN A 192.0.2.1 1", data, 20, "wanted the end of the data (field 1)"),
+        ("a. 1 IN MX 65536 a.", data, 11, "wanted a number of at most 65535 (field 0)"),
+        ("a. 1 IN MX 1 a", data, 13, "wanted a name (field 1)"),
+        ("a. 1 IN MX ( 1 ; a.\n a )", data, 21, "wanted a name (field 1)"),
+        ("a. 1 IN TYPE65280 01", data, 18, "wanted the form of any data, which begins with \\# (field 0)"),
+        ("a. 1 IN A ( 192.0.2.1", ErrorKind::UnclosedList, 21, "the text ends within parentheses"),
     ] {
         let error = line.parse::<RecordBuf>().unwrap_err();
-        assert_eq!((error.kind(), error.to_string().as_str()), texts[number], "{line}");
+        assert_eq!((error.kind(), error.offset()), (kind, Some(offset)), "{line}");
+        assert_eq!(error.to_string(), format!("at offset {offset}: {sentence}"));
     }
     let error = RecordBuf::from_data_text(&Name::root(), 0, RecordType::A, "192.0.2", None).unwrap_err();
     assert_eq!((error.kind(), error.number()), (ErrorKind::BadData, 35));
+    assert_eq!(error.to_string(), "at offset 0: wanted an IPv4 address (field 0)");
     // Data of 65535 octets, and of one more
     let generic = |len: usize| format!(". 1 IN TYPE65280 \\# {len} {}", "00".repeat(len));
     assert_eq!(record(&generic(65535)).raw_data().len(), 65535);

@@ -21,22 +21,16 @@ pub(crate) fn read_edns(message: &[u8], max_pointers: usize) -> Result<Edns, Err
 /// set.
 pub(crate) fn pack(message: &[u8], max_size: u16, packed: &mut Vec<u8>) -> Result<bool, Error> {
     packed.clear();
-    // A message without compression is not longer when it is packed.
-    packed.reserve(message.len().min(max_size.into()));
-    loop {
-        let (mut result, room) = (Packed::default(), packed.spare_capacity_mut());
-        let (first, size) = (room.as_mut_ptr().cast(), room.len());
-        // SAFETY: pointers with their lengths, see the module; and the room is not read.
-        let number = unsafe { dnw_message_pack(message.as_ptr(), message.len(), max_size, first, size, &mut result) };
-        if number == NO_ROOM && size < max_size.into() {
-            packed.reserve(max_size.into());
-            continue;
-        }
-        outcome(number, ())?;
-        // SAFETY: these bytes of the room were written.
-        unsafe { packed.set_len(result.len) };
-        return Ok(result.truncated);
-    }
+    // The buffer is a limit too: what has no room in it is left out.
+    packed.reserve(max_size.into());
+    let (mut result, room) = (Packed::default(), packed.spare_capacity_mut());
+    let (first, size) = (room.as_mut_ptr().cast(), room.len());
+    // SAFETY: pointers with their lengths, see the module; and the room is not read.
+    let number = unsafe { dnw_message_pack(message.as_ptr(), message.len(), max_size, first, size, &mut result) };
+    outcome(number, ())?;
+    // SAFETY: these bytes of the room were written.
+    unsafe { packed.set_len(result.len) };
+    Ok(result.truncated)
 }
 
 /// Returns whether a message is a reply to a request.

@@ -73,6 +73,12 @@ pub(crate) fn parse_data(form: (u16, u16), text: &str, origin: &[u8], octets: &m
     append_put(octets, DATA_SIZE, |room, size, len| unsafe {
         dnw_data_parse(class, record_type, text, text_len, name, name_len, room, size, len)
     })
+    .map_err(|error| {
+        let mut fault = MasterFault::default();
+        // SAFETY: pointers with their lengths, see the module, and one to a struct of this type.
+        unsafe { dnw_data_text_fault(class, record_type, text, text_len, name, name_len, &mut fault) };
+        error.at_master_fault(fault)
+    })
 }
 
 /// Parses the line of a record, and appends the octets. An empty origin means no origin.
@@ -82,6 +88,20 @@ pub(crate) fn parse_record(line: &str, origin: &[u8], octets: &mut Vec<u8>) -> R
     append_put(octets, FORM_SIZE + 10 + DATA_SIZE, |room, size, len| unsafe {
         dnw_record_parse(text, text_len, name, name_len, room, size, len)
     })
+    .map_err(|error| {
+        let mut fault = MasterFault::default();
+        // SAFETY: pointers with their lengths, see the module, and one to a struct of this type.
+        unsafe { dnw_record_text_fault(text, text_len, name, name_len, &mut fault) };
+        error.at_master_fault(fault)
+    })
+}
+
+/// Stores the sentence about a fault, and returns it. It is empty if memory ran out.
+pub(crate) fn fault_sentence<'a>(fault: &MasterFault, text: &'a mut [u8; SENTENCE_SIZE]) -> &'a str {
+    let mut len = 0;
+    // SAFETY: a pointer to a struct of this type, and one with its length, see the module.
+    unsafe { dnw_text_fault_print(fault, text.as_mut_ptr(), SENTENCE_SIZE, &mut len) };
+    ascii(&text[..len])
 }
 
 /// Returns the sort key of the record at an offset of a message, whose data are as many octets.

@@ -12,6 +12,7 @@ mod messages;
 mod names;
 mod records;
 mod writer;
+mod zones;
 
 pub(crate) use codes::*;
 pub(crate) use dnssec::*;
@@ -19,6 +20,7 @@ pub(crate) use messages::*;
 pub(crate) use names::*;
 pub(crate) use records::*;
 pub(crate) use writer::*;
+pub(crate) use zones::*;
 
 /// The octets of the longest wire form (RFC 1035, section 2.3.4).
 pub(crate) const FORM_SIZE: usize = 255;
@@ -46,6 +48,8 @@ pub(crate) const HEADER_SIZE: usize = 12;
 pub(crate) const EDNS_SIZE: usize = 11;
 /// The bytes of the longest text of an error.
 pub(crate) const ERROR_TEXT_SIZE: usize = 64;
+/// `DNW_SENTENCE_SIZE`
+pub(crate) const SENTENCE_SIZE: usize = 128;
 
 /// `struct dnw_read_name`
 #[repr(C)]
@@ -98,6 +102,23 @@ pub(crate) struct Message {
     pub(crate) authorities: usize,
     pub(crate) additionals: usize,
     pub(crate) end: usize,
+}
+
+/// `struct dnw_text_fault`
+#[repr(C)]
+#[derive(Clone, Copy, Debug, Default, PartialEq, Eq, Hash)]
+pub(crate) struct MasterFault {
+    pub(crate) offset: usize,
+    len: usize,
+    field: usize,
+    reason: u32,
+}
+
+impl MasterFault {
+    /// Returns `true` if nothing is wrong.
+    pub(crate) fn is_none(&self) -> bool {
+        self.reason == 0
+    }
 }
 
 /// `struct dnw_message_fault`
@@ -386,6 +407,34 @@ extern "C" {
         record_size: usize,
         len: *mut usize,
     ) -> u32;
+    fn dnw_record_text_fault(
+        text: *const u8,
+        text_len: usize,
+        origin: *const u8,
+        origin_len: usize,
+        fault: *mut MasterFault,
+    ) -> u32;
+    fn dnw_data_text_fault(
+        record_class: u16,
+        record_type: u16,
+        text: *const u8,
+        text_len: usize,
+        origin: *const u8,
+        origin_len: usize,
+        fault: *mut MasterFault,
+    ) -> u32;
+    fn dnw_zone_begin(origin: *const u8, origin_len: usize, zone: *mut Zone) -> u32;
+    fn dnw_zone_include(origin: *const u8, origin_len: usize, zone: *mut Zone) -> u32;
+    fn dnw_zone_next(
+        text: *const u8,
+        text_len: usize,
+        more: bool,
+        zone: *mut Zone,
+        octets: *mut u8,
+        octets_size: usize,
+        entry: *mut ZoneEntry,
+    ) -> u32;
+    fn dnw_text_fault_print(fault: *const MasterFault, text: *mut u8, text_size: usize, len: *mut usize) -> u32;
     fn dnw_signed_octets(
         message: *const u8,
         section_end: usize,

@@ -1,0 +1,108 @@
+//! Zone files.
+use super::*;
+use alloc::string::String;
+
+/// `DNW_ZONE_END` and the other numbers of `enum dnw_zone_kind`.
+pub(crate) const ZONE_END: u32 = 0;
+pub(crate) const ZONE_MORE: u32 = 1;
+pub(crate) const ZONE_NOTHING: u32 = 2;
+pub(crate) const ZONE_RECORD: u32 = 3;
+pub(crate) const ZONE_INCLUDE: u32 = 4;
+/// `DNW_ZONE_OCTETS_SIZE`
+pub(crate) const ZONE_OCTETS_SIZE: usize = 65800;
+
+/// `struct dnw_zone`
+#[repr(C)]
+#[derive(Clone)]
+pub(crate) struct Zone {
+    offset: usize,
+    line: usize,
+    column: usize,
+    default_ttl: u32,
+    last_ttl: u32,
+    record_class: u16,
+    has_default_ttl: u8,
+    has_last_ttl: u8,
+    origin_len: u8,
+    owner_len: u8,
+    origin: [u8; FORM_SIZE],
+    owner: [u8; FORM_SIZE],
+}
+
+impl Zone {
+    /// Returns the offset of the next entry in the file, its line and its column.
+    pub(crate) fn place(&self) -> (usize, usize, usize) {
+        (self.offset, self.line.saturating_add(1), self.column.saturating_add(1))
+    }
+}
+
+/// `struct dnw_zone_entry`
+#[repr(C)]
+#[derive(Clone, Default)]
+pub(crate) struct ZoneEntry {
+    pub(crate) kind: u32,
+    pub(crate) used: usize,
+    pub(crate) offset: usize,
+    pub(crate) line: usize,
+    pub(crate) column: usize,
+    pub(crate) fault: MasterFault,
+    pub(crate) len: usize,
+    pub(crate) name_len: usize,
+    pub(crate) data_len: usize,
+    pub(crate) ttl: u32,
+    pub(crate) record_type: u16,
+    pub(crate) record_class: u16,
+}
+
+/// Returns the state before the first entry of a zone file, whose origin is this wire form.
+pub(crate) fn begin_zone(origin: &[u8]) -> Result<Zone, Error> {
+    let mut zone = Zone {
+        offset: 0,
+        line: 0,
+        column: 0,
+        default_ttl: 0,
+        last_ttl: 0,
+        record_class: 0,
+        has_default_ttl: 0,
+        has_last_ttl: 0,
+        origin_len: 0,
+        owner_len: 0,
+        origin: [0; FORM_SIZE],
+        owner: [0; FORM_SIZE],
+    };
+    // SAFETY: a pointer with its length, see the module, and a pointer to a struct of this type.
+    let number = unsafe { dnw_zone_begin(origin.as_ptr(), origin.len(), &mut zone) };
+    outcome(number, zone)
+}
+
+/// Returns the state before the first entry of a file that is included in a state, whose origin is this wire form.
+pub(crate) fn include_zone(mut zone: Zone, origin: &[u8]) -> Result<Zone, Error> {
+    // SAFETY: as above.
+    let number = unsafe { dnw_zone_include(origin.as_ptr(), origin.len(), &mut zone) };
+    outcome(number, zone)
+}
+
+/// Takes the next entry of a text. Its octets are stored in a room of `ZONE_OCTETS_SIZE`.
+#[inline]
+pub(crate) fn next_entry(
+    text: &[u8],
+    more: bool,
+    zone: &mut Zone,
+    room: &mut [u8],
+    entry: &mut ZoneEntry,
+) -> Result<(), Error> {
+    let (first, size) = (room.as_mut_ptr(), room.len());
+    // SAFETY: pointers with their lengths, see the module, and pointers to structs of these types.
+    let number = unsafe { dnw_zone_next(text.as_ptr(), text.len(), more, zone, first, size, entry) };
+    outcome(number, ())
+}
+
+/// Returns what is wrong in words, without the place.
+pub(crate) fn fault_reason(fault: &MasterFault) -> String {
+    let mut room = [0; SENTENCE_SIZE];
+    let sentence = fault_sentence(fault, &mut room);
+    match sentence.split_once(": ") {
+        Some((_, reason)) => reason.into(),
+        None => "the entry is not valid".into(),
+    }
+}

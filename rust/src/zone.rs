@@ -1,0 +1,255 @@
+//! Zone files, read entry by entry (RFC 1035, section 5; RFC 2308, section 4).
+use crate::ffi;
+use crate::name::Name;
+use crate::name_ref::NameRef;
+use crate::record_buf::RecordBuf;
+use alloc::string::{String, ToString};
+use alloc::vec;
+use alloc::vec::Vec;
+use core::fmt;
+use core::iter::FusedIterator;
+
+mod error;
+#[cfg(feature = "std")]
+mod file;
+#[cfg(feature = "std")]
+mod stream;
+
+pub use error::ZoneError;
+#[cfg(feature = "std")]
+pub use file::ZoneFile;
+#[cfg(feature = "std")]
+pub use stream::ZoneStream;
+
+/// The entries of a zone file that is in memory: an iterator over its records and its `$INCLUDE`s.
+///
+/// What an entry leaves out, its owner, TTL or class, is that of an entry before it. `$ORIGIN` and `$TTL` change what the
+/// entries after them mean, and are no items of their own. `$GENERATE` is an error.
+///
+/// After an entry that is not valid, the iterator goes on at the next one. It ends after the last entry, or if memory runs
+/// out.
+///
+/// `ZoneFile` opens a file and follows `$INCLUDE`, and `ZoneStream` reads from any `std::io::Read`. Both need the feature
+/// `std`.
+///
+/// ```
+/// use dns_names_wire::{ZoneItem, ZoneReader};
+///
+/// let text = b"$TTL 1h\n@ NS ns\nns A 192.0.2.256\n   TXT ( hello ; the first\n   world )\n";
+/// let (mut records, mut errors) = (Vec::new(), Vec::new());
+/// for item in ZoneReader::new(text, &"example.".parse()?) {
+///     match item {
+///         Ok(ZoneItem::Record(record)) => records.push(record),
+///         Ok(ZoneItem::Include(_)) => unreachable!("the text has no $INCLUDE"),
+///         Err(error) => errors.push(error.to_string()),
+///     }
+/// }
+/// assert_eq!(records, ["example. 3600 IN NS ns.example.".parse()?, "example. 3600 IN TXT hello world".parse()?]);
+/// assert_eq!(errors, ["3:6: wanted an IPv4 address (field 0)"]);
+/// # Ok::<(), dns_names_wire::Error>(())
+/// ```
+#[derive(Clone)]
+pub struct ZoneReader<'a> {
+    /// What is left of the text.
+    text: &'a [u8],
+    entries: Entries,
+}
+
+impl<'a> ZoneReader<'a> {
+    /// Returns an iterator over the entries of a zone file. The origin is the name of the zone: it is appended to names
+    /// without a last dot, until an `$ORIGIN` changes it.
+    pub fn new(text: &'a [u8], origin: &Name) -> Self {
+        ZoneReader { text, entries: Entries::new(origin) }
+    }
+
+    /// Returns an iterator over the entries of the file that the last item, an `$INCLUDE`, names. Its first entry may leave
+    /// out what an entry may leave out here. This iterator goes on as if the file were not there (RFC 1035, section 5.1).
+    ///
+    /// ```
+    /// use dns_names_wire::{Name, RecordBuf, ZoneError, ZoneItem, ZoneReader};
+    ///
+    /// /// Appends the records of a text, and those of the files that it includes, which are all this one.
+    /// fn read(zone: &mut ZoneReader<'_>, records: &mut Vec<RecordBuf>) -> Result<(), ZoneError> {
+    ///     while let Some(item) = zone.next().transpose()? {
+    ///         match item {
+    ///             ZoneItem::Record(record) => records.push(record),
+    ///             ZoneItem::Include(it) => read(&mut zone.include(b"mail A 192.0.2.25\n", it.origin()), records)?,
+    ///         }
+    ///     }
+    ///     Ok(())
+    /// }
+    ///
+    /// let text = b"$TTL 1h\nwww A 192.0.2.1\n$INCLUDE mail.zone sub\n  AAAA 2001:db8::1\n";
+    /// let (mut zone, mut records) = (ZoneReader::new(text, &"example.".parse()?), Vec::new());
+    /// read(&mut zone, &mut records)?;
+    /// let owners: Vec<String> = records.iter().map(|record| record.owner().to_string()).collect();
+    /// assert_eq!(owners, ["www.example.", "mail.sub.example.", "www.example."]);
+    /// # Ok::<(), Box<dyn std::error::Error>>(())
+    /// ```
+    pub fn include<'t>(&self, text: &'t [u8], origin: &Name) -> ZoneReader<'t> {
+        ZoneReader { text, entries: self.entries.include(origin) }
+    }
+}
+
+impl Iterator for ZoneReader<'_> {
+    type Item = Result<ZoneItem, ZoneError>;
+
+    fn next(&mut self) -> Option<Self::Item> {
+        if self.text.is_empty() {
+            return None;
+        }
+        let (used, taken) = self.entries.take(self.text, false);
+        let (before, left) = self.text.split_at(used);
+        self.text = left;
+        match taken {
+            Taken::Item => Some(self.entries.item(before)),
+            Taken::End | Taken::Part => None,
+            Taken::Failure(error) => {
+                self.text = &[];
+                Some(Err(error))
+            }
+        }
+    }
+}
+
+impl FusedIterator for ZoneReader<'_> {}
+
+impl fmt::Debug for ZoneReader<'_> {
+    fn fmt(&self, f: &mut fmt::Formatter<'_>) -> fmt::Result {
+        f.debug_struct("ZoneReader").field("left", &self.text.len()).finish_non_exhaustive()
+    }
+}
+
+/// What an entry of a zone file says: a record, or that another file should be read.
+#[derive(Clone, Debug, PartialEq, Eq)]
+pub enum ZoneItem {
+    /// A record. What its entry leaves out is filled in.
+    Record(RecordBuf),
+    /// An `$INCLUDE`.
+    Include(ZoneInclude),
+}
+
+/// An `$INCLUDE` of a zone file (RFC 1035, section 5.1): the entries of a file should be read next.
+///
+/// ```
+/// use dns_names_wire::{ZoneItem, ZoneReader};
+///
+/// let mut zone = ZoneReader::new(b"$INCLUDE \"a file\" sub ; c\n", &"example.".parse()?);
+/// match zone.next().transpose()? {
+///     Some(ZoneItem::Include(include)) => {
+///         assert_eq!(include.file(), b"a file");
+///         assert_eq!(include.origin().to_string(), "sub.example.");
+///     }
+///     other => panic!("{other:?}"),
+/// }
+/// # Ok::<(), Box<dyn std::error::Error>>(())
+/// ```
+#[derive(Clone, PartialEq, Eq)]
+pub struct ZoneInclude {
+    file: Vec<u8>,
+    origin: Name,
+}
+
+impl ZoneInclude {
+    /// Returns the name of the file, without quotes and escapes. It has at least one octet, and none is zero.
+    pub fn file(&self) -> &[u8] {
+        &self.file
+    }
+
+    /// Returns the name of the file, as a path.
+    #[cfg(feature = "std")]
+    pub fn path(&self) -> &std::path::Path {
+        use std::os::unix::ffi::OsStrExt;
+        std::ffi::OsStr::from_bytes(&self.file).as_ref()
+    }
+
+    /// Returns the origin of the file: that of the entry, or else that of the file that the entry is in.
+    pub fn origin(&self) -> &Name {
+        &self.origin
+    }
+}
+
+impl fmt::Debug for ZoneInclude {
+    fn fmt(&self, f: &mut fmt::Formatter<'_>) -> fmt::Result {
+        let file = error::shown(&self.file);
+        f.debug_struct("ZoneInclude").field("file", &file).field("origin", &self.origin).finish()
+    }
+}
+
+/// What the entries so far say for later ones, and the last entry with its octets.
+#[derive(Clone)]
+struct Entries {
+    zone: ffi::Zone,
+    entry: ffi::ZoneEntry,
+    octets: Vec<u8>,
+}
+
+/// What was taken from a text.
+enum Taken {
+    /// Nothing: the text is at its end.
+    End,
+    /// Nothing: the text ends within an entry.
+    Part,
+    /// An entry that has an item, or that is not valid.
+    Item,
+    /// Nothing, and no more can be taken.
+    Failure(ZoneError),
+}
+
+impl Entries {
+    fn new(origin: &Name) -> Self {
+        Entries::with_state(ffi::begin_zone(origin.as_wire()).expect("a name has a wire form"))
+    }
+
+    /// Returns the entries of a file that is included after the last one.
+    fn include(&self, origin: &Name) -> Self {
+        let zone = ffi::include_zone(self.zone.clone(), origin.as_wire());
+        Entries::with_state(zone.expect("a name has a wire form, and so have those of the state"))
+    }
+
+    fn with_state(zone: ffi::Zone) -> Self {
+        Entries { zone, entry: ffi::ZoneEntry::default(), octets: vec![0; ffi::ZONE_OCTETS_SIZE] }
+    }
+
+    /// Takes the first entry that has an item or is not valid, and those before it. Returns how many octets they have.
+    fn take(&mut self, text: &[u8], more: bool) -> (usize, Taken) {
+        let mut used = 0;
+        loop {
+            let left = &text[used..];
+            if let Err(error) = ffi::next_entry(left, more, &mut self.zone, &mut self.octets, &mut self.entry) {
+                return (used, Taken::Failure(self.error_ahead(left, error.to_string()).caused_by(error)));
+            }
+            used += self.entry.used;
+            match self.entry.kind {
+                ffi::ZONE_END => return (used, Taken::End),
+                ffi::ZONE_MORE => return (used, Taken::Part),
+                ffi::ZONE_NOTHING => {}
+                _ => return (used, Taken::Item),
+            }
+        }
+    }
+
+    /// Returns the item of the entry that was taken, or why it is not valid. The text ends where the entry does.
+    fn item(&self, text: &[u8]) -> Result<ZoneItem, ZoneError> {
+        let (entry, octets) = (&self.entry, &self.octets[..self.entry.len]);
+        match entry.kind {
+            ffi::ZONE_RECORD => Ok(ZoneItem::Record(RecordBuf::from_whole(octets, entry.name_len))),
+            ffi::ZONE_INCLUDE => {
+                let origin = NameRef::checked(octets, 0, entry.name_len).to_name();
+                Ok(ZoneItem::Include(ZoneInclude { file: octets[entry.name_len..].to_vec(), origin }))
+            }
+            _ => Err(self.error(text, entry.fault.offset, ffi::fault_reason(&entry.fault))),
+        }
+    }
+
+    /// Returns an error at the place of the last entry, which is at an offset of it. The text ends where the entry does.
+    fn error(&self, text: &[u8], offset: usize, sentence: String) -> ZoneError {
+        let place = (self.entry.offset, self.entry.line, self.entry.column);
+        ZoneError::new(place, &text[text.len() - self.entry.used..], offset, sentence)
+    }
+
+    /// Returns an error after the last entry, where this text is.
+    fn error_ahead(&self, text: &[u8], sentence: String) -> ZoneError {
+        ZoneError::new(self.zone.place(), text, 0, sentence)
+    }
+}

@@ -1,0 +1,338 @@
+//! Zone files: their records, the places of what is not valid, and files that include others. Each file in the folder `zones`
+//! says where its records come from.
+use dns_names_wire::{Name, RecordBuf, ZoneError, ZoneItem, ZoneReader};
+
+/// The text and the records of a zone of all kinds of entries.
+const EXAMPLE: &[u8] = include_bytes!("zones/example.zone");
+const INCLUDED: &[u8] = include_bytes!("zones/included.zone");
+const RECORDS: &str = include_str!("zones/example.records");
+
+/// A zone with errors in it, in the lines in which `named-checkzone` of BIND 9.18 reports errors if each is the only one.
+const WRONG: &[u8] = b"$TTL 1h
+@ SOA ns root 1 2 3 4 5
+ NS ns
+ns A 192.0.2.256
+ A 192.0.2.1 x
+www NOTYPE 1
+www A 192.0.2.2
+ TXT \"never closed
+$FOO
+a..b A 192.0.2.3
+ AAAA 2001:db8::1
+";
+
+fn name(text: &str) -> Name {
+    text.parse().unwrap()
+}
+
+fn hex(octets: &[u8]) -> String {
+    octets.iter().map(|octet| format!("{octet:02x}")).collect()
+}
+
+/// The records of `example.zone` in hexadecimal, in order.
+fn wanted() -> Vec<&'static str> {
+    RECORDS.lines().filter(|line| !line.starts_with('#')).collect()
+}
+
+/// A record in a line, or an error.
+fn line(record: Result<RecordBuf, ZoneError>) -> String {
+    record.map_or_else(|error| error.to_string(), |record| record.to_string().replace('\t', " "))
+}
+
+/// An item in a line, or an error.
+fn item(item: Result<ZoneItem, ZoneError>) -> String {
+    match item {
+        Ok(ZoneItem::Include(it)) => format!("$INCLUDE {} {}", String::from_utf8_lossy(it.file()), it.origin()),
+        Ok(ZoneItem::Record(record)) => line(Ok(record)),
+        Err(error) => error.to_string(),
+    }
+}
+
+fn items(text: &[u8]) -> Vec<String> {
+    ZoneReader::new(text, &name("o.")).map(item).collect()
+}
+
+/// Appends the records of a zone whose files are all `included.zone`.
+fn read_all(mut zone: ZoneReader<'_>, records: &mut Vec<String>) {
+    while let Some(item) = zone.next() {
+        match item.unwrap() {
+            ZoneItem::Record(record) => records.push(hex(record.as_wire())),
+            ZoneItem::Include(it) => {
+                assert_eq!(it.file(), b"included.zone");
+                read_all(zone.include(INCLUDED, it.origin()), records);
+            }
+        }
+    }
+}
+
+#[test]
+fn records_are_those_of_other_implementations() {
+    let mut records = Vec::new();
+    read_all(ZoneReader::new(EXAMPLE, &name("example.")), &mut records);
+    assert_eq!(records, wanted());
+    // The ends of lines may have a carriage return.
+    let text = String::from_utf8(EXAMPLE.to_vec()).unwrap().replace('\n', "\r\n");
+    records.clear();
+    read_all(ZoneReader::new(text.as_bytes(), &name("example.")), &mut records);
+    assert_eq!(records, wanted());
+}
+
+#[test]
+fn texts_without_records() {
+    for text in ["", "\n", ";", "; c\n\n ; c\n", "(\n)", " \t ", "$TTL 1", "$ORIGIN a.\n"] {
+        assert!(items(text.as_bytes()).is_empty(), "{text:?}");
+    }
+}
+
+#[test]
+fn errors_have_places_and_reading_goes_on() {
+    let lines: Vec<String> = items(WRONG).into_iter().map(|it| it.split(": ").next().unwrap().into()).collect();
+    let read = ["o. 3600 IN SOA ns.o. root.o. 1 2 3 4 5", "o. 3600 IN NS ns.o."];
+    let wrong = ["4:6", "5:14", "6:5"];
+    assert_eq!(lines[..5], [&read[..], &wrong[..]].concat());
+    assert_eq!(lines[5..], ["www.o. 3600 IN A 192.0.2.2", "8:19", "9:1", "10:1", "www.o. 3600 IN AAAA 2001:db8::1"]);
+    let errors: Vec<ZoneError> = ZoneReader::new(WRONG, &name("o.")).filter_map(Result::err).collect();
+    assert_eq!((errors[0].line(), errors[0].column(), errors[0].offset()), (4, 6, 44));
+    assert_eq!((errors[0].sentence(), errors[0].text()), ("wanted an IPv4 address (field 0)", "ns A 192.0.2.256"));
+    assert_eq!(errors[3].text(), " TXT \"never closed");
+    assert_eq!(format!("{:?}", errors[0]), "ZoneError(4:6: wanted an IPv4 address (field 0))");
+}
+
+#[test]
+fn lines_of_errors_are_shown_as_ascii() {
+    let text = |text: &[u8]| ZoneReader::new(text, &name("o.")).next().unwrap().unwrap_err().text().to_string();
+    assert_eq!(text(b"\xFF\x1B\tA\t1 ; \xC3\xA9\r\nnext"), "\\255\\027\tA\t1 ; \\195\\169");
+    assert_eq!(text(b"a 1 A ( ; c\n 192.0.2\n) ; d\n"), " 192.0.2");
+    let long = [&b"a A 1 ;"[..], &[b'x'; 9999]].concat();
+    assert_eq!(text(&long).len(), "a ".len() + 500);
+}
+
+#[test]
+fn hostile_texts() {
+    for octet in [b'(', b')', b'"', 0, b'\r', b'\\', b'\n', b'a', b'$', 255] {
+        assert!(items(&vec![octet; 1 << 20]).len() <= 1, "{octet}");
+    }
+    let lines = items(&b"$FOO\n".repeat(20_000));
+    assert_eq!((lines.len(), lines[19_999].starts_with("20000:1: ")), (20_000, true));
+}
+
+#[cfg(feature = "std")]
+mod files {
+    use super::*;
+    use dns_names_wire::{ZoneFile, ZoneStream};
+    use std::error::Error as _;
+    use std::fs;
+    use std::io::{self, Read};
+    use std::path::{Path, PathBuf};
+
+    /// A reader that returns a few octets at a time, and then fails if it should.
+    struct Slow<'a>(&'a [u8], usize, Option<io::ErrorKind>);
+
+    impl Read for Slow<'_> {
+        fn read(&mut self, room: &mut [u8]) -> io::Result<usize> {
+            let len = self.1.min(self.0.len()).min(room.len());
+            match self.2 {
+                Some(kind) if len == 0 => return Err(kind.into()),
+                _ => {}
+            }
+            room[..len].copy_from_slice(&self.0[..len]);
+            self.0 = &self.0[len..];
+            Ok(len)
+        }
+    }
+
+    #[test]
+    fn parts_give_the_same() {
+        for text in [EXAMPLE, INCLUDED, WRONG, b"", b"\n", b"a 1 A 192.0.2.1"] {
+            let whole: Vec<_> = ZoneReader::new(text, &name("o.")).map(item).collect();
+            for size in 1..text.len() + 2 {
+                let parts: Vec<_> = ZoneStream::new(Slow(text, size, None), &name("o.")).map(item).collect();
+                assert_eq!(parts, whole);
+            }
+            let places = |error: ZoneError| (error.offset(), error.text().to_string());
+            let whole = ZoneReader::new(text, &name("o.")).filter_map(Result::err).map(places);
+            let parts = ZoneStream::new(Slow(text, 1, None), &name("o.")).filter_map(Result::err).map(places);
+            assert!(whole.eq(parts));
+        }
+    }
+
+    #[test]
+    fn long_files_are_read_in_parts() {
+        let mut text = Vec::new();
+        for n in 0..3000 {
+            let (words, comment) = (" x".repeat(1 + n % 97), "c".repeat(n * 31 % 999));
+            text.extend(format!("a{n} 1 TXT ({words}\n) ; {comment}\n").bytes());
+        }
+        text.extend(format!("long 1 TXT ({} x )\n", " ; a comment\n".repeat(1 << 15)).bytes());
+        let sizes: Vec<usize> = ZoneStream::new(&text[..], &name("."))
+            .map(|item| match item.unwrap() {
+                ZoneItem::Record(record) => record.raw_data().len(),
+                ZoneItem::Include(_) => 0,
+            })
+            .collect();
+        let wanted: Vec<usize> = (0..3000).map(|n| 2 + n % 97 * 2).chain([2]).collect();
+        assert_eq!(sizes, wanted);
+    }
+
+    #[test]
+    fn readers_that_fail() {
+        let text = b"a 1 A 192.0.2.1\nb 1 A 192";
+        for size in [1, 7, 16, 99] {
+            let mut zone = ZoneStream::new(Slow(text, size, Some(io::ErrorKind::BrokenPipe)), &name("o."));
+            assert_eq!(item(zone.next().unwrap()), "a.o. 1 IN A 192.0.2.1");
+            let error = zone.next().unwrap().unwrap_err();
+            assert_eq!((error.line(), error.column(), error.text()), (2, 1, "b 1 A 192"));
+            let source = error.source().unwrap().downcast_ref::<io::Error>().unwrap();
+            assert_eq!(source.kind(), io::ErrorKind::BrokenPipe);
+            assert_eq!(error.to_string(), format!("2:1: the file cannot be read: {source}"));
+            assert_eq!(io::Error::from(error).kind(), io::ErrorKind::BrokenPipe);
+            assert!(zone.next().is_none() && zone.next().is_none());
+        }
+        // An interrupted call is made again.
+        let interrupted = Slow(b"", 1, Some(io::ErrorKind::Interrupted));
+        let text = interrupted.take(0).chain(&text[..16]);
+        assert_eq!(ZoneStream::new(text, &name("o.")).map(item).collect::<Vec<_>>(), ["a.o. 1 IN A 192.0.2.1"]);
+    }
+
+    #[test]
+    fn entries_that_never_end() {
+        let mut zone = ZoneStream::new(io::repeat(b'('), &name("o."));
+        assert!(zone.next().unwrap().is_err());
+        let mut zone = ZoneStream::new(io::repeat(b'x'), &name("o."));
+        let most = ZoneStream::<io::Repeat>::MAX_ENTRY;
+        let error = zone.next().unwrap().unwrap_err();
+        assert_eq!(error.to_string(), format!("1:1: an entry has more than {most} octets"));
+        assert!(zone.next().is_none());
+        // As long as an entry may be, and one octet more
+        for (len, is_ok) in [(most, true), (most + 1, false)] {
+            let mut text = b"a 1 A 192.0.2.1 ;".to_vec();
+            text.resize(len - 1, b'x');
+            text.extend(*b"\nb 1 A 192.0.2.2");
+            let items: Vec<bool> = ZoneStream::new(&text[..], &name("o.")).map(|item| item.is_ok()).collect();
+            assert_eq!(items, if is_ok { vec![true, true] } else { vec![false] });
+        }
+    }
+
+    #[test]
+    fn files_in_streams_include_others() {
+        let mut outer = ZoneStream::new(&b"$TTL 7\na A 192.0.2.1\n$INCLUDE f sub\n A 192.0.2.3\n"[..], &name("o."));
+        assert_eq!(item(outer.next().unwrap()), "a.o. 7 IN A 192.0.2.1");
+        let include = match outer.next().unwrap().unwrap() {
+            ZoneItem::Include(include) => include,
+            ZoneItem::Record(record) => panic!("{record}"),
+        };
+        assert_eq!((include.path(), include.origin()), (Path::new("f"), &name("sub.o.")));
+        assert_eq!(format!("{include:?}"), r#"ZoneInclude { file: "f", origin: Name("sub.o.") }"#);
+        let inner = outer.include(&b" A 192.0.2.2\nb A 192.0.2.4\n$TTL 8\n"[..], include.origin());
+        let inner: Vec<String> = inner.map(item).collect();
+        assert_eq!(inner, ["a.o. 7 IN A 192.0.2.2", "b.sub.o. 7 IN A 192.0.2.4"]);
+        assert_eq!(outer.map(item).collect::<Vec<_>>(), ["a.o. 7 IN A 192.0.2.3"]);
+    }
+
+    /// A folder for a test, which is removed after it.
+    struct Folder(PathBuf);
+
+    impl Folder {
+        fn new(test: &str) -> Self {
+            let path = std::env::temp_dir().join(format!("dnw-zones-{test}-{}", std::process::id()));
+            fs::create_dir_all(path.join("sub")).unwrap();
+            Folder(path)
+        }
+
+        fn write(&self, file: &str, text: &str) -> PathBuf {
+            let path = self.0.join(file);
+            fs::write(&path, text).unwrap();
+            path
+        }
+    }
+
+    impl Drop for Folder {
+        fn drop(&mut self) {
+            let _ = fs::remove_dir_all(&self.0);
+        }
+    }
+
+    fn records_of(path: &Path) -> Vec<String> {
+        ZoneFile::open(path, &name("o.")).unwrap().map(line).collect()
+    }
+
+    #[test]
+    fn records_of_files_are_those_of_other_implementations() {
+        let path = Path::new(env!("CARGO_MANIFEST_DIR")).join("tests/zones/example.zone");
+        let records = ZoneFile::open(path, &name("example.")).unwrap().map(|record| hex(record.unwrap().as_wire()));
+        assert!(records.eq(wanted().iter().copied()));
+        assert_eq!(ZoneFile::open("none", &name("o.")).unwrap_err().kind(), io::ErrorKind::NotFound);
+    }
+
+    #[test]
+    fn files_are_looked_for_in_the_folder_of_the_file_or_another() {
+        let folder = Folder::new("folder");
+        let zone = folder.write("zone", "$TTL 7\n$INCLUDE sub/f\n");
+        folder.write("sub/f", "$INCLUDE g\n");
+        folder.write("sub/g", "sub TXT x");
+        folder.write("g", "top TXT x");
+        assert_eq!(records_of(&zone), ["sub.o. 7 IN TXT \"x\""]);
+        let from = |folder: &Path| ZoneFile::open(&zone, &name("o.")).unwrap().include_from(folder);
+        assert_eq!(from(&folder.0).map(line).collect::<Vec<_>>(), ["top.o. 7 IN TXT \"x\""]);
+        assert_eq!(from(&folder.0.join("sub")).filter_map(Result::err).count(), 1);
+        let zone = folder.write("absolute", &format!("$TTL 7\n$INCLUDE \"{}\"", folder.0.join("g").display()));
+        assert_eq!(records_of(&zone), ["top.o. 7 IN TXT \"x\""]);
+    }
+
+    #[test]
+    fn errors_of_files_have_their_path() {
+        let folder = Folder::new("errors");
+        let zone = folder.write("zone", "$TTL 1\n\n  $INCLUDE x\n$INCLUDE sub/f\nb A 192.0.2.1\n");
+        let inner = folder.write("sub/f", "; c\na A 192.0.2\n");
+        let errors: Vec<_> = ZoneFile::open(&zone, &name("o.")).unwrap().filter_map(Result::err).collect();
+        assert_eq!((errors[0].path(), errors[0].line()), (Some(&*zone), 3));
+        let at = (errors[1].path().unwrap(), errors[1].line(), errors[1].column(), errors[1].text());
+        assert_eq!(at, (&*inner, 2, 5, "a A 192.0.2"));
+        let wanted = format!("{}:2:5: wanted an IPv4 address (field 0)", inner.display());
+        assert_eq!(errors[1].to_string(), wanted);
+        assert!(errors[1].source().is_none());
+    }
+
+    #[test]
+    fn files_that_cannot_be_included() {
+        let folder = Folder::new("refuse");
+        let text = "$INCLUDE none\n$INCLUDE sub\n$INCLUDE /dev/zero\n ; c\n$INCLUDE ./zone\n$TTL 1\na A 192.0.2.1\n";
+        let zone = folder.write("zone", text);
+        let path = zone.display();
+        let wanted = [
+            format!("{path}:1:1: \"none\" cannot be read: No such file or directory (os error 2)"),
+            format!("{path}:2:1: \"sub\" is not a file"),
+            format!("{path}:3:1: \"/dev/zero\" is not a file"),
+            format!("{path}:5:1: \"./zone\" includes itself"),
+            "a.o. 1 IN A 192.0.2.1".to_string(),
+        ];
+        assert_eq!(records_of(&zone), wanted);
+        let error = ZoneFile::open(&zone, &name("o.")).unwrap().next().unwrap().unwrap_err();
+        assert_eq!(error.text(), "$INCLUDE none");
+        let source = error.source().unwrap().downcast_ref::<io::Error>().unwrap();
+        assert_eq!(source.kind(), io::ErrorKind::NotFound);
+    }
+
+    #[test]
+    fn files_include_one_another_up_to_a_depth() {
+        let folder = Folder::new("depth");
+        let last = ZoneFile::MAX_DEPTH;
+        for n in 0..=last {
+            folder.write(&format!("f{n}"), &format!("f{n} 1 A 192.0.2.1\n$INCLUDE f{}\n", n + 1));
+        }
+        let (first, deepest) = (folder.0.join("f0"), folder.0.join(format!("f{}", last - 1)));
+        let records = records_of(&first);
+        assert_eq!(records[..last], (0..last).map(|n| format!("f{n}.o. 1 IN A 192.0.2.1")).collect::<Vec<_>>());
+        assert_eq!(
+            records[last..],
+            [format!("{}:2:1: files include one another more than {last} deep", deepest.display())]
+        );
+        // A file that includes one that includes it
+        folder.write("f1", "$INCLUDE f0\n");
+        assert_eq!(records_of(&first)[1], format!("{}:1:1: \"f0\" includes itself", folder.0.join("f1").display()));
+        // Nothing forbids to include a file twice.
+        folder.write("f1", "x 1 A 192.0.2.1\n");
+        let twice = folder.write("twice", "$INCLUDE f1\n$INCLUDE f1\n");
+        assert_eq!(records_of(&twice), ["x.o. 1 IN A 192.0.2.1"; 2]);
+    }
+}
