@@ -4,7 +4,7 @@ mod messages;
 mod sums;
 mod zones;
 
-use dns_names_wire::data_text::RecordLineError;
+use dns_names_wire::data_text::RecordEntryError;
 use dns_names_wire::dnssec::DnssecError;
 use dns_names_wire::message::{EdnsError, MessageError};
 use dns_names_wire::name_text::NameTextError;
@@ -45,9 +45,9 @@ enum Refusal {
         /// What is wrong.
         error: EdnsError,
     },
-    /// A line is no record.
+    /// A text is no record.
     #[error("refused: {0}")]
-    Line(RecordLineError),
+    Entry(RecordEntryError),
     /// The data of a record are not those of its type.
     #[error("refused: {0}")]
     Data(RDataError),
@@ -89,9 +89,9 @@ impl From<DecodeError> for Refusal {
     }
 }
 
-impl From<RecordLineError> for Refusal {
-    fn from(e: RecordLineError) -> Self {
-        Refusal::Line(e)
+impl From<RecordEntryError> for Refusal {
+    fn from(e: RecordEntryError) -> Self {
+        Refusal::Entry(e)
     }
 }
 

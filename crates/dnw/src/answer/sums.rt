@@ -1,15 +1,14 @@
-//! The sums that DNSSEC makes, over records as lines of master files.
+//! The sums that DNSSEC makes, over records as entries of master files and over zone files.
 
-use super::{Refusal, octets};
+use super::{Refusal, octets, zones};
 use dns_names_wire::binary::BinDecodable;
-use dns_names_wire::data_text::{parse_record, record_text};
+use dns_names_wire::data_text::{parse_entry, record_text};
 use dns_names_wire::dnssec::{ds_digest, key_tag, nsec3_hash, nsec3_label, zone_digest};
 use dns_names_wire::name::Name;
 use dns_names_wire::rdata::Record;
 use dns_names_wire::record::RecordRef;
 use dns_names_wire::record_type::RecordType;
 use std::alloc::Global;
-use std::str;
 
 /// The digest type of a DS record that every validator knows: SHA-256 (RFC 8624, section 3.3).
 const SHA256: u8 = 2;
@@ -19,7 +18,7 @@ const SHA1: u8 = 1;
 
 /// Returns the key tag of a DNSKEY record (RFC 4034, appendix B).
 pub(super) fn tag(alloc: Global, line: &str) -> Result<String, Refusal> {
-    let octets = parse_record(alloc, line, None)?;
+    let octets = parse_entry(alloc, line.as_bytes(), None)?;
     let key = RecordRef::from_bytes(alloc, octets.as_slice())?;
     let tag = key_tag(key.rdata())?;
     Ok(format!(in alloc; "{tag}")?)
@@ -27,7 +26,7 @@ pub(super) fn tag(alloc: Global, line: &str) -> Result<String, Refusal> {
 
 /// Returns the DS record of a DNSKEY record (RFC 4034, section 5).
 pub(super) fn ds(alloc: Global, line: &str) -> Result<String, Refusal> {
-    let octets = parse_record(alloc, line, None)?;
+    let octets = parse_entry(alloc, line.as_bytes(), None)?;
     let key = RecordRef::from_bytes(alloc, octets.as_slice())?;
     let owner = key.owner().to_name(alloc)?;
     let tag = key_tag(key.rdata())?;
@@ -67,8 +66,8 @@ pub(super) fn nsec3(
     Ok(text)
 }
 
-/// Returns the digest that a ZONEMD record of a zone has (RFC 8976), by the hash algorithm, in hexadecimal digits. The zone has a
-/// line for each record.
+/// Returns the digest that a ZONEMD record of a zone has (RFC 8976), by the hash algorithm, in hexadecimal digits. The zone is a
+/// zone file, whose names without a dot at their end are below the apex.
 pub(super) fn digest(
     alloc: Global,
     apex: &str,
@@ -78,23 +77,19 @@ pub(super) fn digest(
     let Ok(algorithm) = algorithm.parse::<u8>() else {
         return Err(Refusal::Usage);
     };
-    let Ok(zone) = str::from_utf8(zone) else {
-        return Err(Refusal::Usage);
-    };
+    let lines = zones::listing(alloc, apex, zone)?;
     let apex = Name::from_text(alloc, apex, None)?;
     let mut records = Vec::new(alloc);
-    for line in zone.lines() {
-        if !line.is_empty() {
-            records.push(record_of(alloc, line, &apex)?)?;
-        }
+    for line in lines.lines() {
+        records.push(record_of(alloc, line)?)?;
     }
     let digest = zone_digest(alloc, &apex, records.as_slice(), algorithm)?;
     Ok(hex::encode(alloc, digest.as_slice())?)
 }
 
 /// Returns the record of a line.
-fn record_of(alloc: Global, line: &str, apex: &Name) -> Result<Record, Refusal> {
-    let octets = parse_record(alloc, line, Some(apex))?;
+fn record_of(alloc: Global, line: &str) -> Result<Record, Refusal> {
+    let octets = parse_entry(alloc, line.as_bytes(), None)?;
     let record = RecordRef::from_bytes(alloc, octets.as_slice())?;
     Ok(Record::from_ref(alloc, &record)?)
 }
