@@ -39,7 +39,7 @@ static size_t put_records(const uint8_t *name, size_t name_len, uint16_t type, s
    there is no response. */
 static size_t respond(const uint8_t *request, size_t len, bool is_udp, uint8_t *response)
 {
-    uint8_t name[DNW_FORM_SIZE], opt[] = {0, 0, DNW_TYPE_OPT, PAYLOAD >> 8, PAYLOAD & 255, 0, 0, 0, 0, 0, 0};
+    uint8_t opt[] = {0, 0, DNW_TYPE_OPT, PAYLOAD >> 8, PAYLOAD & 255, 0, 0, 0, 0, 0, 0};
     struct dnw_message read;
     struct dnw_message_fault fault;
     struct dnw_edns edns = {.max_payload = 512};
@@ -50,11 +50,16 @@ static size_t respond(const uint8_t *request, size_t len, bool is_udp, uint8_t *
         return 0;
     bool is_broken = dnw_edns_read(request, len, DNW_MAX_POINTERS, &edns) != DNW_DONE || read.question_count != 1;
     int code = is_broken ? FORMERR : edns.version > 0 ? BADVERS : read.op_code != 0 ? NOTIMP : REFUSED;
-    size_t at = read.question_count == 1 ? read.answers : DNW_HEADER_SIZE;
-    memcpy(plain, request, at); /* the header and the question, whose name cannot be compressed */
+    size_t at = DNW_HEADER_SIZE;
+    memcpy(plain, request, at);
     memcpy(plain + 4, (uint8_t[8]){0, read.question_count == 1}, 8);
+    if (read.question_count == 1) { /* its name whole, since a pointer can lead into the header, which changes */
+        dnw_name_read(request, len, at, plain + at, DNW_FORM_SIZE, &asked);
+        memcpy(plain + at + asked.len, request + asked.end, 4);
+        at += asked.len + 4;
+    }
     if (code == REFUSED && plain[at - 2] == 0 && plain[at - 1] == DNW_CLASS_IN) {
-        dnw_name_read(request, len, DNW_HEADER_SIZE, name, sizeof name, &asked);
+        const uint8_t *name = plain + DNW_HEADER_SIZE;
         dnw_name_read(zone, zone_len, 0, owner, sizeof owner, &origin);
         dnw_name_in_zone(name, asked.len, zone, origin.len, &is_ours);
         code = is_ours ? NXDOMAIN : REFUSED;

@@ -21,7 +21,7 @@ enum step { LITERAL, LABELS, POINTER, RECORD, MARK, QUESTION, KINDS };
 static uint8_t made[MOST], output[ROOM];
 static uint32_t codes[ROOM / 4];
 static struct dnw_row rows[MOST];
-static size_t made_len, size, mark, last_record, open_data, first_data, records, questions;
+static size_t made_len, size, mark, last_record, open_data, first_data, records, questions, items;
 static const char *folder;
 static unsigned dumps;
 static uint64_t state;
@@ -118,6 +118,19 @@ static uint32_t token_next(void)
     return dnw_token_next(IN, &lexer, OUT, &token);
 }
 static uint32_t record_parse(void) { return dnw_record_parse(IN, made, 0, OUT, &len); }
+/* A file, entry by entry. */
+static uint32_t zone_next(void)
+{
+    struct dnw_zone zone;
+    struct dnw_zone_entry entry = {.used = 0};
+    uint32_t failure = dnw_zone_begin((const uint8_t *)"", 1, &zone);
+    for (size_t at = 0; failure == DNW_DONE; at += entry.used) {
+        failure = dnw_zone_next(made + at, made_len - at, false, &zone, OUT, &entry);
+        if (entry.kind == DNW_ZONE_END)
+            break;
+    }
+    return failure;
+}
 static uint32_t message_write(void) { return dnw_message_write(IN, 65535, 0, 0, OUT, &packed); }
 static uint32_t name_print(void) { return dnw_name_print(IN, true, OUT, &len); }
 static uint32_t name_compare(void) { return dnw_name_compare(IN, IN, &order); }
@@ -144,13 +157,47 @@ static void spoil(void)
         writer.hints[n] = (uint16_t)(mark + 2 * n < made_len ? mark + 2 * n : mark);
     writer.owner = (uint16_t)mark;
 }
-#define LONG_NAME "\077aaaaaaaaaaaaaaaaaaaaaaaaaaaaaaaaaaaaaaaaaaaaaaaaaaaaaaaaaaaaaaa\001a\001a\001a\001a\001a\001a\001a\001a\001a\001a\001a\001a"
+/* The longest names: of 127 labels, and one of their suffixes. */
+#define OWNER long_name, sizeof long_name
+#define SHORTER long_name + 2, sizeof long_name - 2
+static uint8_t long_name[DNW_FORM_SIZE];
+static uint32_t writer_question(void)
+{
+    spoil();
+    return dnw_writer_question(output, 65535, OWNER, DNW_TYPE_NS, 1, &writer);
+}
 static uint32_t writer_record(void)
 {
     spoil();
-    return dnw_writer_record(output, 65535, DNW_SECTION_ADDITIONALS, (const uint8_t *)LONG_NAME, sizeof LONG_NAME, DNW_TYPE_NS, 1, 0,
-                             (const uint8_t *)LONG_NAME, sizeof LONG_NAME, &writer);
+    return dnw_writer_record(output, 65535, DNW_SECTION_ADDITIONALS, OWNER, DNW_TYPE_NS, 1, 0, SHORTER, &writer);
 }
+static uint32_t writer_last(void)
+{
+    spoil();
+    return dnw_writer_last(output, 65535, 0, OWNER, DNW_TYPE_NS, 1, 0, SHORTER, &writer);
+}
+/* Six records of a set, whose data are long names. */
+static uint32_t writer_set(void)
+{
+    static uint8_t set[6 * (2 + DNW_FORM_SIZE)];
+    for (size_t n = 0; n < 6; n++) {
+        uint8_t *own = set + n * (2 + DNW_FORM_SIZE);
+        own[1] = DNW_FORM_SIZE;
+        memcpy(own + 2, long_name, DNW_FORM_SIZE);
+        own[DNW_FORM_SIZE] = (uint8_t)('b' + n);
+    }
+    spoil();
+    return dnw_writer_set(output, 65535, DNW_SECTION_ADDITIONALS, true, OWNER, DNW_TYPE_NS, 1, 0, set, sizeof set, &writer);
+}
+static uint32_t writer_edns(void)
+{
+    spoil();
+    return dnw_writer_edns(output, 65535, 0, 1232, 0, 0, false, OWNER, 468, &writer);
+}
+static uint32_t writer_reply(void) { return dnw_writer_reply(output, sizeof output, 65535, IN, 0, &writer, &edns); }
+static uint32_t record_data_name(void) { return dnw_record_data_name(IN, mark, made_len - mark, OUT, &len); }
+static uint32_t name_prepend(void) { return dnw_name_prepend_label((const uint8_t *)"a", 1, IN, OUT, &len); }
+static uint32_t nsec3_covers(void) { return dnw_nsec3_covers(IN, IN, IN, &is_it); }
 
 /* Data of any type: two octets of type, and the text. */
 static uint32_t data_parse(void)
@@ -179,7 +226,7 @@ static const struct piece {
 static const uint16_t types[] = {DNW_TYPE_NULL, DNW_TYPE_NS, DNW_TYPE_SOA, DNW_TYPE_MX, DNW_TYPE_RP, DNW_TYPE_HIP, DNW_TYPE_TXT, DNW_TYPE_NSEC,
                                  DNW_TYPE_SVCB, DNW_TYPE_APL, DNW_TYPE_OPT, DNW_TYPE_PX, DNW_TYPE_NAPTR, DNW_TYPE_RRSIG, 65280, DNW_TYPE_A};
 
-enum domain { TEXT, WIRE, FORM, NAMES, RECORDS, SIGNED, MESSAGE };
+enum domain { TEXT, WIRE, FORM, LIST, NAMES, RECORDS, SIGNED, MESSAGE };
 static const struct call {
     const char *function;
     uint32_t (*run)(void);
@@ -191,7 +238,10 @@ static const struct call {
              {"dnw_record_data", record_data, MESSAGE}, {"dnw_record_print", record_print, MESSAGE},
              {"dnw_record_sort_key", record_sort_key, MESSAGE}, {"dnw_field_next", field_next, MESSAGE},
              {"dnw_signed_octets", signed_octets, SIGNED}, {"dnw_zone_digest", zone_digest, RECORDS},
-             {"dnw_writer_record", writer_record, MESSAGE}, {"dnw_message_write", message_write, WIRE},
+             {"dnw_writer_question", writer_question, MESSAGE}, {"dnw_writer_record", writer_record, MESSAGE},
+             {"dnw_writer_set", writer_set, MESSAGE}, {"dnw_writer_last", writer_last, MESSAGE},
+             {"dnw_writer_edns", writer_edns, MESSAGE}, {"dnw_writer_reply", writer_reply, MESSAGE},
+             {"dnw_record_data_name", record_data_name, MESSAGE}, {"dnw_message_write", message_write, LIST},
              {"dnw_names_write", names_write, NAMES}, {"dnw_names_sort", names_sort, NAMES},
              {"dnw_types_read", types_read, WIRE}, {"dnw_types_write", types_write, WIRE},
              {"dnw_key_tag", key_tag, WIRE}, {"dnw_ds_digest", ds_digest, WIRE}, {"dnw_nsec3_hash", nsec3_hash, WIRE},
@@ -199,10 +249,10 @@ static const struct call {
              {"dnw_name_in_zone", name_in_zone, FORM}, {"dnw_name_to_lowercase", name_lower, FORM},
              {"dnw_name_sort_key", name_sort_key, FORM}, {"dnw_name_append", name_append, FORM}, {"dnw_name_trim", name_trim, FORM},
              {"dnw_name_to_wildcard", name_wildcard, FORM}, {"dnw_reverse_parse", reverse_parse, FORM},
-             {"dnw_nsec_covers", nsec_covers, FORM},
+             {"dnw_nsec_covers", nsec_covers, FORM}, {"dnw_name_prepend_label", name_prepend, FORM}, {"dnw_nsec3_covers", nsec3_covers, WIRE},
              {"dnw_ttl_parse", ttl_parse, TEXT}, {"dnw_type_parse", type_parse, TEXT}, {"dnw_class_parse", class_parse, TEXT},
              {"dnw_name_parse", name_parse, TEXT}, {"dnw_name_text_fault", name_text_fault, TEXT}, {"dnw_token_next", token_next, TEXT},
-             {"dnw_record_parse", record_parse, TEXT}, {"dnw_data_parse", data_parse, TEXT}};
+             {"dnw_record_parse", record_parse, TEXT}, {"dnw_zone_next", zone_next, TEXT}, {"dnw_data_parse", data_parse, TEXT}};
 
 /* The data of the record that is open end here. */
 static void close_record(void)
@@ -255,9 +305,32 @@ static bool put_question(size_t a, size_t b)
     return true;
 }
 
+/* Puts an item of a list: a record of a name with so many labels, of which the last, the first, each or none differs from item to item. */
+static bool put_item(size_t a, size_t b)
+{
+    uint8_t item[2 * DNW_FORM_SIZE + 11] = {DNW_LIST_ADDITIONAL};
+    size_t labels = 1 + a % 127, most = 254 / labels - 1, each = b % 3 == 0 ? 1 : 1 + b % (most < 63 ? most : 63), end = 1;
+    for (size_t n = 0; n < labels; n++, end += 1 + each) {
+        bool differs = b % 4 == 3 || (b % 4 == 2 && n == 0) || (b % 4 == 1 && n + 1 == labels);
+        item[end] = (uint8_t)each;
+        memset(item + end + 1, differs ? (int)(items % 256) : 'a', each);
+    }
+    items++;
+    size_t form = end++;
+    memcpy(item + end, a % 2 == 0 ? "\000\001\000\001\000\000\000\000\000\004" : "\000\002\000\001\000\000\000\000\000", 10);
+    end += 10;
+    if (a % 2 == 0)
+        return put(item, end + 4);
+    item[end - 1] = (uint8_t)form;
+    memcpy(item + end, item + 1, form);
+    return put(item, end + form);
+}
+
 static bool take(enum domain domain, const int *step)
 {
     size_t kind = (size_t)step[0] % KINDS, a = (size_t)step[2], b = (size_t)step[3];
+    if (domain == LIST)
+        return put_item(a, b);
     if (domain == TEXT) {
         const char *text = texts[a % (sizeof texts / sizeof texts[0])];
         return put(text, strlen(text));
@@ -295,7 +368,7 @@ static void make_form(void)
 static void make(enum domain domain, const int *genes)
 {
     static const uint8_t rrsig[] = "\000\000\056\000\001\000\000\000\000\000\023\000\012\010\000\000\000\000\000\000\000\000\000\000\000\000\000\000\000";
-    made_len = mark = last_record = open_data = first_data = records = questions = 0;
+    made_len = mark = last_record = open_data = first_data = records = questions = items = 0;
     memset(made, 0, 12);
     if (domain == MESSAGE)
         made_len = mark = last_record = 12;
@@ -471,6 +544,8 @@ int main(int argc, char **argv)
     if (argc < 6)
         return 2;
     folder = argv[1];
+    for (size_t n = 0; n + 1 < sizeof long_name; n += 2)
+        memcpy(long_name + n, "\001a", 2);
     for (int word = 5; word < argc; word++)
         for (size_t n = 0; n < sizeof calls / sizeof calls[0]; n++)
             if (strcmp(argv[word], calls[n].function) == 0 || strcmp(argv[word], "all") == 0) {

@@ -1,16 +1,16 @@
-"""Compares how texts of data are read with dnspython and BIND: `data_texts.py LIBRARY [TEXTS [SEED [TYPE..]]]`.
+"""Compares how texts of data are read with dnspython, BIND, Knot and NSD: `data_texts.py LIBRARY SCANNER [TEXTS [SEED [TYPE..]]]`.
 
-For each type, texts by chance: the fields of an example, with white space, quotes, escapes, units and mnemonics as a reader of master
-files may meet them, and each once more with one octet changed. Ours and dnspython read them: the same octets, or both refuse. Where
-they differ, `named-rrchecker` is asked too, and ours must be as one of the two, or DIFFERENCES says why not. It is asked for some of the
-others as well. How often each came is printed.
-"""
+For each type, texts by chance: the fields of an example, with white space, quotes, escapes, units, comments, parentheses and mnemonics as a
+reader of master files may meet them, and each once more with one octet changed. Ours, dnspython and Knot's scanner read them, which SCANNER
+is: the same octets, or all refuse. Where they differ, `named-rrchecker` and `nsd-checkzone` are asked too, and ours must be as two of the four,
+or DIFFERENCES says why not. They are asked for some of the others as well. How often each came is printed."""
 
 import collections
 import ctypes
 import random
 import subprocess
 import sys
+import tempfile
 
 import dns.exception
 import dns.name
@@ -67,8 +67,31 @@ EXAMPLES = {
     "L32": ["10 10.1.2.0"],
     **MORE,
 }
-# Why ours differs from both: what the octets were, by ours, dnspython and BIND, None for those that refuse.
-DIFFERENCES = {}
+# Why ours is as fewer than two of them: of which type and text, by the octets of ours and of each, None for those that refuse.
+DIFFERENCES = {
+    "read: SIG and KEY in the forms of RRSIG and DNSKEY, as BIND alone (RFC 4034, sections 2.2 and 3.2)": lambda kind, text, own, said: (
+        kind in ("SIG", "KEY") and own is not None and own == said["BIND"]
+    ),
+    "read: X25 of any character string, where servers want digits (RFC 1183, section 3.1)": lambda kind, text, own, said: kind == "X25" and own,
+    "read: a digest of another length than its type's, which validators reject (RFC 4034, section 5.1.3)": lambda kind, text, own, said: (
+        kind in ("DS", "CDS", "ZONEMD", "SSHFP") and own is not None and len(own) > 8
+    ),
+    "read: `*` as type 255, which is its mnemonic as a query type (RFC 1035, section 3.2.3)": lambda kind, text, own, said: (
+        kind in ("NSEC", "NSEC3", "CSYNC", "RRSIG", "SIG") and "*" in text and own is not None
+    ),
+    "read: no octets, where servers want some; data may have none, and are printed so": lambda kind, text, own, said: (
+        own is not None and kind in ("TLSA", "SMIMEA", "RRSIG", "SIG", "DNSKEY", "CDNSKEY", "KEY", "CERT", "OPENPGPKEY", "DS", "CDS", "SSHFP")
+    ),
+    "read: a hashed name of another length than SHA-1's, whose length octet says it (RFC 5155, section 3.3)": lambda kind, text, own, said: (
+        kind == "NSEC3" and own is not None
+    ),
+    "read: a service parameter with escapes, which no server undoes (RFC 9460, section 2.1)": lambda kind, text, own, said: (
+        kind in ("SVCB", "HTTPS") and "\\" in text and own
+    ),
+    "refused: an identifier with an escape, of which BIND leaves digits out (RFC 7043, section 3.2)": lambda kind, text, own, said: (
+        kind in ("EUI48", "EUI64") and "\\" in text and not own
+    ),
+}
 
 
 def changed(text):
@@ -80,6 +103,14 @@ def changed(text):
 def spaced(text):
     """A text with more white space, of which some is at its ends."""
     return random.choice(["", " ", "\t"]) + text.replace(" ", random.choice([" ", "  ", " \t "])) + random.choice(["", "", " "])
+
+
+def grouped(text):
+    """A text in parentheses, maybe over lines and with a comment."""
+    words = text.split(" ")
+    at = random.randrange(len(words))
+    between = random.choice([" ", "\n\t", " ; a comment ) \"\n "])
+    return " ".join(words[:at]) + " (" + " ".join(words[at : at + 1]) + between + " ".join(words[at + 1 :]) + random.choice([")", " )", " ) ; end"])
 
 
 def escaped(text):
@@ -95,7 +126,7 @@ def texts(kind, count):
     """So many texts for a type, half of them changed."""
     for _ in range(count // 2):
         text = random.choice(EXAMPLES[kind])
-        for change in random.sample([spaced, escaped, str.lower, str.upper, lambda it: it], k=random.choice([0, 1, 2])):
+        for change in random.sample([spaced, escaped, grouped, str.lower, str.upper], k=random.choice([0, 1, 2])):
             text = change(text)
         yield text
         yield changed(text)
@@ -117,59 +148,57 @@ def by_bind(kind, text):
     return "".join(words[1:]).lower()
 
 
-def for_the_scanner(text):
-    """Whether a comment or a parenthesis is in a text, which is no part of it."""
-    is_quoted, at = False, 0
-    while at < len(text):
-        if text[at] == "\\":
-            at += 1
-        elif text[at] == '"':
-            is_quoted = not is_quoted
-        elif text[at] in ";()" and not is_quoted:
-            return True
-        at += 1
-    return False
+def by_knot(scanner, kind, text):
+    zone, data = f". 60 IN {kind} {text}\n".encode(), ctypes.create_string_buffer(65536)
+    length = scanner.scanned(zone, ctypes.c_size_t(len(zone)), data)
+    return None if length < 0 else data.raw[:length].hex()
+
+
+def by_nsd(kind, text):
+    """What NSD prints of a zone with the record, read by dnspython."""
+    with tempfile.NamedTemporaryFile("w", suffix=".zone") as file:
+        file.write(f"@ 60 IN SOA a. b. 1 2 3 4 5\n@ 60 IN NS a.\nx 60 IN {kind} {text}\n")
+        file.flush()
+        ran = subprocess.run(["nsd-checkzone", "-p", ".", file.name], capture_output=True)
+    lines = [line.split("\t", 4) for line in ran.stdout.decode("latin-1").split("\n") if line.startswith("x.\t")]
+    if ran.returncode or len(lines) != 1 or len(lines[0]) != 5:
+        return None
+    return by_dnspython(kind, lines[0][4]) or "what dnspython does not read"
 
 
 def by_ours(library, kind, text):
-    given, data, length = text.encode(), ctypes.create_string_buffer(65535), ctypes.c_size_t()
-    failed = library.dnw_data_parse(
-        1, dns.rdatatype.from_text(kind), given, ctypes.c_size_t(len(given)), b"\0", ctypes.c_size_t(1), data, ctypes.c_size_t(65535), ctypes.byref(length)
+    line, record, length = f". 60 IN {kind} {text}\n".encode(), ctypes.create_string_buffer(65800), ctypes.c_size_t()
+    failed = library.dnw_record_parse(
+        line, ctypes.c_size_t(len(line)), b"\0", ctypes.c_size_t(1), record, ctypes.c_size_t(65800), ctypes.byref(length)
     )
-    return None if failed else data.raw[: length.value].hex()
+    return None if failed else record.raw[11 : length.value].hex()
 
 
-def judged(kind, text, own, found):
+def judged(scanner, kind, text, own, found):
     """Counts what came of a text; returns why ours is wrong, if it is."""
-    other = by_dnspython(kind, text)
-    if own == other:
-        if random.random() > 0.05 or by_bind(kind, text) == own:
-            found["read alike" if own is not None else "refused by all"] += 1
-            return None
-        found["read as dnspython does, and not BIND"] += 1
+    said = {"dnspython": by_dnspython(kind, text), "Knot": by_knot(scanner, kind, text)}
+    alike = [who for who, what in said.items() if what == own]
+    if len(alike) == 2 and random.random() > 0.05:
+        found["read alike by ours, dnspython and Knot" if own is not None else "refused by ours, dnspython and Knot"] += 1
         return None
-    bind = by_bind(kind, text)
-    if own == bind:
-        found["read as BIND does, and not dnspython"] += 1
-        return None
-    known = [said for said, holds in DIFFERENCES.items() if holds(kind, text, own, other, bind)]
-    if known:
-        found[known[0]] += 1
-        return None
-    return f"{kind} {text}: ours {own}, dnspython {other}, BIND {bind}"
+    said.update({"BIND": by_bind(kind, text), "NSD": by_nsd(kind, text)})
+    alike = [who for who, what in said.items() if what == own]
+    known = [why for why, holds in DIFFERENCES.items() if len(alike) < 2 and holds(kind, text, own, said)]
+    if len(alike) < 2 and not known:
+        return f"{kind} {text}: ours {own}, {said}"
+    does = "read" if own is not None else "refused"
+    found[known[0] if known else f"{does} as {', '.join(alike)}" + (", all" if len(alike) == 4 else "")] += 1
+    return None
 
 
 def main():
-    library = ctypes.CDLL(sys.argv[1])
-    count = int(sys.argv[2]) if len(sys.argv) > 2 else 1000
-    random.seed(int(sys.argv[3]) if len(sys.argv) > 3 else 1035)
+    library, scanner = ctypes.CDLL(sys.argv[1]), ctypes.CDLL(sys.argv[2])
+    count = int(sys.argv[3]) if len(sys.argv) > 3 else 1000
+    random.seed(int(sys.argv[4]) if len(sys.argv) > 4 else 1035)
     found, wrong = collections.Counter(), []
-    for kind in sys.argv[4:] or EXAMPLES:
+    for kind in sys.argv[5:] or EXAMPLES:
         for text in texts(kind, count):
-            if for_the_scanner(text):
-                found["with a comment or a parenthesis, left out"] += 1
-                continue
-            why = judged(kind, text, by_ours(library, kind, text), found)
+            why = judged(scanner, kind, text, by_ours(library, kind, text), found)
             if why:
                 wrong.append(why)
     for said, times in sorted(found.items()):

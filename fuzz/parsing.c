@@ -12,17 +12,68 @@ static bool is_white(uint8_t c)
     return c == ' ' || c == '\t' || c == '\r' || c == '\n';
 }
 
-/* The word at the front of a text, up to white space that is neither in quotes nor after a backslash. */
+/* Puts the first entry of a text into a line: a space for what is of comments and parentheses, and for the ends of lines in these. Nothing
+   but white space may be after it. */
+static uint32_t model_entry(struct part text, uint8_t *line, size_t *len)
+{
+    bool is_quoted = false, is_escaped = false, is_comment = false, is_grouped = false;
+    size_t at = 0;
+    for (; at < text.len; at++) {
+        uint8_t c = text.bytes[at];
+        bool is_end = c == '\n' || c == '\r', is_kept = !is_comment;
+        if (is_comment) {
+            if (c == '\n' && !is_grouped)
+                break;
+            is_comment = c != '\n';
+        } else if (is_escaped) {
+            if (is_end && !is_quoted)
+                return DNW_TEXT_CUT;
+            is_escaped = false;
+        } else if (is_quoted) {
+            if (c == '\n')
+                return DNW_UNCLOSED_QUOTE;
+            is_quoted = c != '"';
+            is_escaped = c == '\\';
+        } else if (is_end && !is_grouped) {
+            break;
+        } else if (c == '(' || c == ')') {
+            if (is_grouped == (c == '('))
+                return DNW_ILLEGAL_CHARACTER;
+            is_grouped = c == '(';
+            is_kept = false;
+        } else {
+            is_comment = c == ';';
+            is_quoted = c == '"';
+            is_escaped = c == '\\';
+            is_kept = !is_end && !is_comment;
+        }
+        line[at] = is_kept ? c : ' ';
+    }
+    *len = at;
+    if (at == text.len && (is_quoted || is_escaped))
+        return is_quoted ? DNW_UNCLOSED_QUOTE : DNW_TEXT_CUT;
+    if (at == text.len && is_grouped)
+        return DNW_UNCLOSED_LIST;
+    for (; at < text.len; at++)
+        if (!is_white(text.bytes[at]))
+            return DNW_BAD_DATA;
+    return DNW_DONE;
+}
+
+/* The word at the front of a line: in quotes, or up to white space or a quote that is not after a backslash. */
 static struct part cut_word(struct part *text)
 {
     struct part word = {text->bytes, 0};
-    bool is_quoted = false, is_escaped = false;
+    bool is_quoted = text->len > 0 && text->bytes[0] == '"', is_escaped = false;
+    word.len = is_quoted ? 1 : 0;
     for (; word.len < text->len; word.len++) {
         uint8_t c = word.bytes[word.len];
-        if (!is_quoted && !is_escaped && is_white(c))
+        if (!is_escaped && c == '"' && is_quoted) {
+            word.len++;
             break;
-        if (c == '"' && !is_escaped)
-            is_quoted = !is_quoted;
+        }
+        if (!is_escaped && !is_quoted && (is_white(c) || c == '"'))
+            break;
         is_escaped = c == '\\' && !is_escaped;
     }
     text->bytes += word.len;
@@ -45,13 +96,24 @@ static void put_number(uint8_t *out, uint32_t number, size_t count)
         out[i] = (uint8_t)(number >> 8 * (count - 1 - i));
 }
 
+/* A time to live: what dnw_ttl_parse takes, but no number without a unit after others. */
+static bool is_ttl(struct part word, uint32_t *ttl)
+{
+    bool has_units = false;
+    for (size_t at = 0; at < word.len; at++)
+        has_units |= word.bytes[at] > '9';
+    if (has_units && word.bytes[word.len - 1] <= '9')
+        return false;
+    return dnw_ttl_parse(word.bytes, word.len, ttl) == DNW_DONE;
+}
+
 /* What is between the owner and the data: type, class and time to live, as a record has them. */
 static uint32_t head_of(struct part *text, uint8_t head[8], uint16_t *type)
 {
     uint32_t ttl;
     uint16_t class = DNW_CLASS_IN;
     struct part word = next_word(text);
-    bool is_first = dnw_ttl_parse(word.bytes, word.len, &ttl) == DNW_DONE;
+    bool is_first = is_ttl(word, &ttl);
     struct part before = *text;
     if (is_first) {
         word = next_word(text);
@@ -61,7 +123,7 @@ static uint32_t head_of(struct part *text, uint8_t head[8], uint16_t *type)
         if (dnw_class_parse(word.bytes, word.len, &class) != DNW_DONE)
             return DNW_BAD_TIME;
         word = next_word(text);
-        if (dnw_ttl_parse(word.bytes, word.len, &ttl) != DNW_DONE)
+        if (!is_ttl(word, &ttl))
             return DNW_BAD_TIME;
     }
     word = next_word(text);
@@ -83,8 +145,12 @@ static uint32_t model_line(struct part text, struct part origin, size_t *len)
     uint32_t failure = origin.len == 0 ? DNW_DONE : model_form(origin.bytes, origin.len, &name);
     if (failure != DNW_DONE)
         return failure;
-    if (!model_is_utf8(text.bytes, text.len))
-        return DNW_NOT_UTF8;
+    static uint8_t line[MOST];
+    size_t line_len;
+    failure = model_entry(text, line, &line_len);
+    if (failure != DNW_DONE)
+        return failure;
+    text = (struct part){line, line_len};
     struct part word = cut_word(&text);
     failure = dnw_data_parse(DNW_CLASS_IN, DNW_TYPE_CNAME, word.bytes, word.len, origin.bytes, origin.len, wanted, DNW_FORM_SIZE, len);
     if (failure != DNW_DONE || word.len == 0)
@@ -93,7 +159,8 @@ static uint32_t model_line(struct part text, struct part origin, size_t *len)
     if (failure != DNW_DONE)
         return failure;
     size_t data_len;
-    failure = dnw_data_parse(DNW_CLASS_IN, type, text.bytes, text.len, origin.bytes, origin.len, wanted + *len + 10, DATA, &data_len);
+    uint16_t class = (uint16_t)model_number(wanted + *len + 2, 2);
+    failure = dnw_data_parse(class, type, text.bytes, text.len, origin.bytes, origin.len, wanted + *len + 10, DATA, &data_len);
     if (failure != DNW_DONE)
         return failure;
     put_number(wanted + *len + 8, (uint32_t)data_len, 2);
@@ -112,14 +179,30 @@ static void comes_back(const uint8_t *record, size_t len)
     CHECK(again_len == len && memcmp(again, record, len) == 0);
 }
 
+/* A fault is within the text, and has a sentence; there is none exactly if the text was accepted. */
+static void is_fault_of(struct dnw_text_fault fault, struct part text, bool is_right)
+{
+    uint8_t sentence[DNW_SENTENCE_SIZE];
+    size_t len = 0;
+    CHECK((fault.reason == DNW_REASON_NONE) == is_right);
+    CHECK(fault.offset <= text.len && fault.len <= text.len - fault.offset);
+    CHECK(fault.reason >= DNW_REASON_NAME || fault.field == 0);
+    CHECK(dnw_text_fault_print(&fault, sentence, sizeof sentence, &len) == DNW_DONE && (len == 0) == is_right);
+}
+
 static void parses_line(struct part text, struct part origin)
 {
-    if (text.len >= 2 && text.bytes[0] == '\\' && text.bytes[1] == '#')
+    if (text.len > MOST || (text.len >= 2 && text.bytes[0] == '\\' && text.bytes[1] == '#'))
         return;
     size_t model_len, len = 7;
     uint32_t answer = model_line(text, origin, &model_len);
     uint8_t *record = clear(&output, MOST);
     CHECK(dnw_record_parse(text.bytes, text.len, origin.bytes, origin.len, record, MOST, &len) == answer);
+    struct dnw_text_fault fault;
+    if (dnw_record_text_fault(text.bytes, text.len, origin.bytes, origin.len, &fault) == DNW_DONE)
+        is_fault_of(fault, text, answer == DNW_DONE);
+    else
+        CHECK(origin.len > 0 && answer != DNW_DONE);
     if (answer != DNW_DONE) {
         CHECK(untouched(record, MOST) && len == 7);
         return;
@@ -162,9 +245,11 @@ static void parses_data(uint16_t type, struct part text, struct part origin)
     uint32_t answer = dnw_data_parse(DNW_CLASS_IN, type, text.bytes, text.len, origin.bytes, origin.len, data, MOST, &len);
     struct model_name name;
     uint32_t failure = origin.len == 0 ? DNW_DONE : model_form(origin.bytes, origin.len, &name);
-    if (failure == DNW_DONE && !model_is_utf8(text.bytes, text.len))
-        failure = DNW_NOT_UTF8;
     CHECK(failure != DNW_DONE ? answer == failure : answer == DNW_DONE || answer == DNW_BAD_DATA);
+    struct dnw_text_fault fault;
+    CHECK(dnw_data_text_fault(DNW_CLASS_IN, type, text.bytes, text.len, origin.bytes, origin.len, &fault) == failure);
+    if (failure == DNW_DONE)
+        is_fault_of(fault, text, answer == DNW_DONE);
     if (answer != DNW_DONE) {
         CHECK(untouched(data, MOST) && len == 7);
         return;

@@ -145,6 +145,16 @@ static bool is_base64(uint16_t type)
            type == 61;
 }
 
+/* The types whose data are printed as octets, though their fields have texts, since many servers know none (docs/DATA.md). */
+static bool is_little_known(uint16_t type)
+{
+    static const uint16_t types[] = {19, 20, 23, 27, 49, 56, 57, 58, 66, 67, 68, 105, 107, 258, 261, 262, 263, 32768, 32769};
+    for (size_t i = 0; i < sizeof types / sizeof *types; i++)
+        if (type == types[i])
+            return true;
+    return false;
+}
+
 /* The model leaves open how these are printed: lists of types and parameters, EUI48 and EUI64, and CAA. */
 static bool is_open(uint16_t type)
 {
@@ -218,7 +228,8 @@ static void add_data(const uint8_t *message, const struct dnw_record *record)
     }
     are_fields = failure == DNW_DONE;
     /* some fields have no text here, and then the data have none of their own */
-    bool has_text = strpbrk(row, "bVYwLGRHANCX") == NULL && (strcmp(row, "o") != 0 || is_base64(record->record_type));
+    bool has_text = strpbrk(row, "bVYwLGRHANCX") == NULL && (strcmp(row, "o") != 0 || is_base64(record->record_type)) &&
+                    !is_little_known(record->record_type);
     /* a text without a word is that of data that are left out, and not that of no octets in base 64 */
     if (!are_fields || !has_text || (row[0] != 0 && line.len == line_len)) {
         line.len = line_len;

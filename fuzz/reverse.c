@@ -5,7 +5,7 @@
 
 static struct room names, results, addresses;
 
-enum { IPV4 = 4, IPV6 = 16, TEXTS = 64, FAILURES = DNW_OUTSIDE_ADDITIONALS + 1 };
+enum { IPV4 = 4, IPV6 = 16, TEXTS = 64, FAILURES = DNW_BAD_FAMILY + 1 };
 
 /* How many bits a label of a reverse name stands for. */
 static size_t bits_of(size_t len)

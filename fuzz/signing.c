@@ -144,6 +144,9 @@ static uint32_t model_signed(const uint8_t *message, size_t end, size_t start, s
     failure = model_put_data(message, &rrsig, true, octets, &put);
     if (failure != DNW_DONE)
         return failure;
+    /* no data are data of every type in the classes ANY and NONE (RFC 2136) */
+    if (put == 0)
+        return DNW_NOT_RRSIG;
     CHECK(model_read(message, rrsig.end, rrsig.data_offset + 18, &signer) == DNW_DONE);
     size_t fields = 18 + signer.len;
     memcpy(wanted, octets, fields);

@@ -220,16 +220,29 @@ static uint32_t next(struct reader *r, struct model_token *token, bool at_line_s
     return is_line_end(c) ? line_end(r, token) : entry(r, token, c, bytes);
 }
 
+/* Where the longest UTF-8 from an offset on ends. */
+static size_t utf8_end(const uint8_t *text, size_t len, size_t at)
+{
+    for (size_t n = 1; n <= 4 && at + n <= len;)
+        if (model_is_utf8(text + at, n))
+            at += n, n = 1;
+        else
+            n++;
+    return at;
+}
+
+/* The next token: of the UTF-8 before octets that are not, if these make no difference. */
 static uint32_t next_token(const uint8_t *text, size_t len, struct dnw_lexer at, struct model_token *token)
 {
     static uint8_t bytes[80000];
-    struct reader r = {text, len, at.offset < len ? at.offset : len};
+    size_t start = at.offset < len ? at.offset : len, end = utf8_end(text, len, start);
+    struct reader r = {text, end, start};
     *token = (struct model_token){.bytes = bytes};
-    if (!model_is_utf8(text + r.at, len - r.at))
-        return DNW_NOT_UTF8;
     uint32_t failure = next(&r, token, at.at_line_start);
     token->after.offset = r.at;
-    return failure;
+    if (end == len || failure == DNW_ILLEGAL_CHARACTER || failure == DNW_CONTROL_CHARACTER)
+        return failure;
+    return failure == DNW_DONE && token->kind != DNW_TOKEN_END && r.at < end ? DNW_DONE : DNW_NOT_UTF8;
 }
 
 /* Takes the next token into a buffer of a size, and compares it with one. */

@@ -19,31 +19,31 @@ use std::alloc::Global;
 use std::test::Fail;
 
 /// Sizes of data and of texts, so that the longest data are still those of a record with other fields.
-const SIZES: [usize; 13] = [
+pub(crate) const SIZES: [usize; 13] = [
     1, 127, 128, 255, 256, 511, 512, 1_023, 1_024, 4_095, 4_096, 8_193, 65_500,
 ];
 
 /// Numbers of records and of words.
-const COUNTS: [usize; 11] = [1, 16, 17, 127, 128, 255, 256, 511, 512, 1_024, 4_097];
+pub(crate) const COUNTS: [usize; 11] = [1, 16, 17, 127, 128, 255, 256, 511, 512, 1_024, 4_097];
 
 /// The data of an RRSIG over NULL records of the root, up to the signature, which is empty.
 const RRSIG: &[u8] =
     b"\x00\x0a\x08\x00\x00\x00\x0e\x10\x00\x00\x00\x02\x00\x00\x00\x01\x00\x07\x00";
 
 /// Returns so many octets, each `x`.
-fn octets(alloc: Global, len: usize) -> Result<Vec<u8>, Fail> {
+pub(crate) fn octets(alloc: Global, len: usize) -> Result<Vec<u8>, Fail> {
     let mut bytes = Vec::new(alloc);
     bytes.resize(len, b'x')?;
     Ok(bytes)
 }
 
 /// Returns a text of so many `x`.
-fn text(alloc: Global, len: usize) -> Result<String, Fail> {
+pub(crate) fn text(alloc: Global, len: usize) -> Result<String, Fail> {
     Ok("x".repeat(alloc, len)?)
 }
 
 /// Returns the octets of a record of the root.
-fn record_octets(alloc: Global, record_type: u16, own: &[u8]) -> Result<Vec<u8>, Fail> {
+pub(crate) fn record_octets(alloc: Global, record_type: u16, own: &[u8]) -> Result<Vec<u8>, Fail> {
     let mut bytes = Vec::new(alloc);
     bytes.push(0)?;
     bytes.extend_from_slice(&record_type.to_be_bytes())?;

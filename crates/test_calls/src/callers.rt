@@ -18,6 +18,7 @@ use uses::reply::write_reply;
 use uses::reverse::net_of;
 use uses::scripts::append_record;
 use uses::zone::first_in_zone;
+use uses::zone_file::count_of;
 
 #[test]
 fn names_of_a_reply(rt: HostRuntime) -> Result<(), Fail> {
@@ -190,5 +191,14 @@ fn a_bitmap_lists_its_types(rt: HostRuntime) -> Result<(), Fail> {
         let listed = lists_type(alloc, &mut decoder, Restrict::new(8), record_type);
         assert_eq!(rt; listed.map_err(|_| "a bitmap")?, wanted);
     }
+    Ok(())
+}
+
+#[test]
+fn records_of_a_zone_file_are_counted(rt: HostRuntime) -> Result<(), Fail> {
+    let alloc = rt.alloc();
+    let text = b"@ 60 SOA a b 1 2 3 4 5\n  NS ns\nns A 192.0.2.1 ; one\n   A ( 192.0.2.2\n)\n";
+    let origin = Name::from_ascii(alloc, "example.")?;
+    assert_eq!(rt; count_of(alloc, origin, text.as_slice(), RecordType::A)?, 2);
     Ok(())
 }

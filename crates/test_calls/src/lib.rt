@@ -8,6 +8,8 @@
 #[cfg(test)]
 mod ample;
 #[cfg(test)]
+mod ample_texts;
+#[cfg(test)]
 mod borrowed;
 #[cfg(test)]
 mod callers;
@@ -15,6 +17,8 @@ mod callers;
 mod closures;
 #[cfg(test)]
 mod conversions;
+#[cfg(test)]
+mod copies;
 #[cfg(test)]
 mod data_texts;
 #[cfg(test)]

@@ -1,6 +1,8 @@
 //! What signatures cover of the records of a message. The octets are worked out by hand from RFC 4034, sections 3.1.8.1 and 6.
 
-use dns_names_wire::canonical::{CanonicalError, canonical_octets, record_key, signed_octets};
+use dns_names_wire::canonical::{
+    CanonicalError, canonical_octets, pointers_left, record_key, signed_octets,
+};
 use dns_names_wire::decoder::BinDecoder;
 use dns_names_wire::dns_class::DNSClass;
 use dns_names_wire::rdata::RData;
@@ -51,6 +53,18 @@ fn a_signature_covers_records_of_a_message(rt: HostRuntime) -> Result<(), Fail> 
     let outcome = signed_octets(alloc, &all[1], all, &mut out);
     assert!(rt; matches!(outcome, Err(CanonicalError::NotRrsig)));
     assert!(rt; out.len() == 1 + SIGNED.len());
+    Ok(())
+}
+
+#[test]
+fn pointers_of_data_are_counted(rt: HostRuntime) -> Result<(), Fail> {
+    let found = records(rt.alloc())?;
+    let all = found.as_slice();
+    // The name of an RRSIG is whole, and that of an MX record is a pointer.
+    assert!(rt; pointers_left(&all[0], 0) == Some(0));
+    assert!(rt; pointers_left(&all[1], 3) == Some(2));
+    assert!(rt; pointers_left(&all[1], 1) == Some(0));
+    assert!(rt; pointers_left(&all[1], 0).is_none());
     Ok(())
 }
 

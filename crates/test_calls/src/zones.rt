@@ -1,10 +1,12 @@
 //! Zone files: what the entries of a text are, in one window or cut at every octet. What they are, BIND, NSD and dnspython say.
 
+use dns_names_wire::binary::BinDecodable;
 use dns_names_wire::data_text::{RecordEntryError, parse_entry, parse_record};
 use dns_names_wire::name::Name;
+use dns_names_wire::record::RecordRef;
 use dns_names_wire::zone::{
-    Context, Ending, Entry, Found, WordRule, ZoneError, ZoneRule, entry_of, place_of, scan,
-    take_entry,
+    Context, Ending, Entry, Found, WordRule, ZoneError, ZoneRule, ZoneTextError, append_record,
+    entry_of, place_of, read_records, scan, take_entry,
 };
 use std::alloc::Global;
 use std::test::Fail;
@@ -102,5 +104,67 @@ fn a_fault_has_its_place(rt: HostRuntime) -> Result<(), Fail> {
     let place = place_of(b"ab\ncd\nef", 7);
     assert_eq!(rt; place.line, 2);
     assert_eq!(rt; place.column, 1);
+    Ok(())
+}
+
+#[test]
+fn a_text_is_a_list_of_records(rt: HostRuntime) -> Result<(), Fail> {
+    let alloc = rt.alloc();
+    let records = read_records(alloc, Name::from_ascii(alloc, "example.")?, ZONE)?;
+    assert_eq!(rt; records.len(), 4);
+    assert_eq!(rt; records[0].body.ttl, 60);
+    assert_eq!(rt; records[1].owner.as_bytes(), b"\x07example\x00".as_slice());
+    assert_eq!(rt;
+        records[2].owner.as_bytes(),
+        b"\x01b\x07example\x00".as_slice()
+    );
+    assert_eq!(rt; records[2].body.ttl, 7200);
+    assert_eq!(rt; records[2].body.wire.as_slice(), b"\x03a;b\x01c".as_slice());
+    Ok(())
+}
+
+#[test]
+fn the_first_entry_that_is_none_has_its_offset(rt: HostRuntime) -> Result<(), Fail> {
+    let alloc = rt.alloc();
+    let origin = Name::from_ascii(alloc, "example.")?;
+    assert!(rt;
+        matches!(
+            read_records(alloc, origin, b"a 1 A 192.0.2.1\nb A 192.0.2.1\nc )"),
+            Err(ZoneTextError::NoEntry {
+                offset: 30,
+                error: ZoneError::Wrong {
+                    offset: 2,
+                    rule: ZoneRule::Words(WordRule::UnopenedParenthesis)
+                },
+            })
+        )
+    );
+    let origin = Name::from_ascii(alloc, "example.")?;
+    assert!(rt;
+        matches!(
+            read_records(alloc, origin, b"\n$INCLUDE other"),
+            Err(ZoneTextError::HasInclude { offset: 1 })
+        )
+    );
+    Ok(())
+}
+
+#[test]
+fn what_is_written_is_read(rt: HostRuntime) -> Result<(), Fail> {
+    let alloc = rt.alloc();
+    // The owner `$;.`, and a string of a quote and a line feed.
+    let octets = b"\x02$;\x00\x00\x10\x00\x01\x00\x00\x00\x3c\x00\x03\x02\"\n";
+    let record = RecordRef::from_bytes(alloc, octets.as_slice())?;
+    let mut text = Vec::new(alloc);
+    append_record(alloc, &record, &mut text)?;
+    append_record(alloc, &record, &mut text)?;
+    assert_eq!(rt;
+        text.as_slice(),
+        b"\\$\\;. 60 IN TXT \"\\\"\\010\"\n\\$\\;. 60 IN TXT \"\\\"\\010\"\n".as_slice()
+    );
+    let records = read_records(alloc, Name::from_ascii(alloc, "example.")?, text.as_slice())?;
+    assert_eq!(rt; records.len(), 2);
+    assert_eq!(rt; records[1].owner.as_bytes(), b"\x02$;\x00".as_slice());
+    assert_eq!(rt; records[1].body.wire.as_slice(), b"\x02\"\n".as_slice());
     Ok(())
 }

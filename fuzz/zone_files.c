@@ -1,0 +1,185 @@
+/* Reads the input as a zone file: whole, in parts that are cut where its first octets say, and octet by octet. The entries are the
+   same, each at its place, and take as many octets as there are; records are read by dnw_record_read, and printed and parsed as
+   themselves. A state that is spoiled makes a call fail, or read on, and nothing outside the buffers is touched. Without room or
+   memory nothing is stored. */
+#include "harness.h"
+
+static struct room input, part, octets, fault;
+
+enum { SIZE = DNW_ZONE_OCTETS_SIZE };
+
+/* Entries, each as the octets that it was put as. */
+struct entries {
+    uint8_t bytes[1 << 20];
+    size_t len;
+    size_t count;
+};
+
+static struct entries whole, other;
+
+static void add(struct entries *to, const void *bytes, size_t len)
+{
+    if (to->len + len <= sizeof to->bytes) {
+        memcpy(to->bytes + to->len, bytes, len);
+        to->len += len;
+    }
+}
+
+static void add_entry(struct entries *to, const struct dnw_zone_entry *entry, const uint8_t *bytes)
+{
+    const size_t fields[] = {entry->kind, entry->used, entry->offset, entry->line, entry->column, entry->fault.offset,
+                             entry->fault.len, entry->fault.field, entry->fault.reason, entry->len, entry->name_len,
+                             entry->data_len, entry->ttl, entry->record_type, entry->record_class};
+    add(to, fields, sizeof fields);
+    add(to, bytes, entry->len);
+    to->count += 1;
+}
+
+/* The place of an offset, from 1, counted from the start of the file. */
+static void check_place(const uint8_t *text, size_t at, const struct dnw_zone_entry *entry)
+{
+    size_t line = 1, column = 1;
+    CHECK(at == entry->offset);
+    for (size_t i = 0; i < at; i++) {
+        line += text[i] == '\n';
+        column = text[i] == '\n' ? 1 : column + 1;
+    }
+    CHECK(entry->line == line && entry->column == column);
+}
+
+static void check_record(const uint8_t *bytes, const struct dnw_zone_entry *entry)
+{
+    static uint8_t line[1 << 19], again[SIZE];
+    uint8_t owner[DNW_FORM_SIZE];
+    struct dnw_record record;
+    struct dnw_printed_record printed;
+    size_t len;
+    CHECK(dnw_record_read(bytes, entry->len, 0, owner, sizeof owner, &record) == DNW_DONE);
+    CHECK(record.owner_len == entry->name_len && record.record_type == entry->record_type && record.ttl == entry->ttl);
+    CHECK(record.record_class == entry->record_class && record.end == entry->len && record.data_len == entry->data_len);
+    CHECK(dnw_record_print(bytes, entry->len, 0, line, sizeof line, &printed) == DNW_DONE);
+    CHECK(dnw_record_parse(line, printed.len, line, 0, again, sizeof again, &len) == DNW_DONE);
+    CHECK(len == entry->len && memcmp(again, bytes, len) == 0);
+}
+
+static void check_fault(const struct dnw_zone_entry *entry)
+{
+    uint8_t *text = clear(&fault, DNW_SENTENCE_SIZE);
+    size_t len;
+    CHECK(dnw_text_fault_print(&entry->fault, text, DNW_SENTENCE_SIZE, &len) == DNW_DONE);
+    CHECK(len > 0 && holds(text, DNW_SENTENCE_SIZE, text, len));
+}
+
+/* Takes an entry into a buffer of a size. What fails stores nothing. */
+static uint32_t take(const uint8_t *text, size_t len, bool more, struct dnw_zone *zone, uint8_t *bytes, size_t size,
+                     struct dnw_zone_entry *entry)
+{
+    struct dnw_zone was = *zone;
+    struct dnw_zone_entry before;
+    memset(entry, 7, sizeof *entry);
+    before = *entry;
+    uint32_t answer = dnw_zone_next(text, len, more, zone, bytes, size, entry);
+    if (answer != DNW_DONE) {
+        CHECK(memcmp(zone, &was, sizeof was) == 0 && memcmp(entry, &before, sizeof before) == 0 && untouched(bytes, size));
+    } else {
+        CHECK(holds(bytes, size, bytes, entry->len) && entry->used <= len && entry->kind <= DNW_ZONE_ERROR);
+        CHECK(entry->fault.offset + entry->fault.len <= len);
+    }
+    return answer;
+}
+
+/* The same call with less room, or without an allocation, stores nothing, and just enough room is enough. */
+static void take_in_other_ways(const uint8_t *text, size_t len, const struct dnw_zone *before, const struct dnw_zone_entry *entry)
+{
+    struct dnw_zone_entry again;
+    for (size_t number = 1; number <= 3; number++) {
+        struct dnw_zone zone = *before;
+        uint8_t *bytes = clear(&octets, SIZE);
+        refuse(number);
+        uint32_t answer = take(text, len, false, &zone, bytes, SIZE, &again);
+        CHECK(answer == DNW_DONE || (was_refused() && answer == DNW_NO_MEMORY));
+    }
+    was_refused();
+    struct dnw_zone zone = *before;
+    CHECK(take(text, len, false, &zone, clear(&octets, entry->len), entry->len, &again) == DNW_DONE && again.len == entry->len);
+    zone = *before;
+    if (entry->len > 0)
+        CHECK(take(text, len, false, &zone, clear(&octets, entry->len - 1), entry->len - 1, &again) == DNW_NO_ROOM);
+}
+
+/* Reads a text of which the first octets come first, and so many more each time that more are wanted. */
+static void read(const uint8_t *text, size_t len, size_t first, size_t step, struct entries *to)
+{
+    static const uint8_t origin[] = "\001o\000";
+    struct dnw_zone zone;
+    size_t at = 0, there = first < len ? first : len;
+    to->len = to->count = 0;
+    CHECK(dnw_zone_begin(origin, sizeof origin - 1, &zone) == DNW_DONE);
+    for (;;) {
+        struct dnw_zone before = zone;
+        struct dnw_zone_entry entry;
+        const uint8_t *left = put_at_end(&part, text + at, there - at);
+        uint8_t *bytes = clear(&octets, SIZE);
+        CHECK(take(left, there - at, there < len, &zone, bytes, SIZE, &entry) == DNW_DONE);
+        CHECK(zone.offset == at + entry.used);
+        if (entry.kind == DNW_ZONE_MORE) {
+            CHECK(there < len && entry.used == 0 && memcmp(&zone, &before, sizeof zone) == 0);
+            there = len - there > step ? there + step : len;
+            continue;
+        }
+        if (entry.kind == DNW_ZONE_END) {
+            CHECK(there == len && at == len && entry.used == 0);
+            return;
+        }
+        CHECK(entry.used > 0);
+        add_entry(to, &entry, bytes);
+        check_place(text, at + entry.fault.offset, &entry);
+        if (entry.kind == DNW_ZONE_RECORD)
+            check_record(bytes, &entry);
+        if (entry.kind == DNW_ZONE_ERROR)
+            check_fault(&entry);
+        if (to == &whole)
+            take_in_other_ways(left, there - at, &before, &entry);
+        at += entry.used;
+    }
+}
+
+static void read_the_same(const uint8_t *text, size_t len, size_t first, size_t step)
+{
+    read(text, len, first, step, &other);
+    CHECK(other.count == whole.count && other.len == whole.len && memcmp(other.bytes, whole.bytes, whole.len) == 0);
+}
+
+/* A state of any octets. */
+static void read_spoiled(const uint8_t *data, size_t size)
+{
+    struct dnw_zone zone, file;
+    struct dnw_zone_entry entry;
+    memset(&zone, 0, sizeof zone);
+    memcpy(&zone, data, size < sizeof zone ? size : sizeof zone);
+    for (size_t calls = 0; calls < 8; calls++) {
+        file = zone;
+        uint32_t answer = dnw_zone_include(data, size < 3 ? size : 3, &file);
+        CHECK(answer == DNW_DONE || memcmp(&file, &zone, sizeof zone) == 0);
+        answer = take(data, size, calls % 2, &zone, clear(&octets, SIZE), SIZE, &entry);
+        CHECK(answer == DNW_DONE || answer == DNW_BAD_ITEM);
+        zone.owner_len = calls < 4 ? 0 : zone.owner_len;
+        if (answer != DNW_DONE && calls == 0)
+            zone.origin_len = 1, zone.origin[0] = 0;
+    }
+}
+
+int LLVMFuzzerTestOneInput(const uint8_t *data, size_t size)
+{
+    const uint8_t *text = put_at_end(&input, data, size);
+    read(text, size, size, 1, &whole);
+    read_the_same(text, size, 1, 1);
+    read_the_same(text, size, size / 2, size);
+    if (size > 1) {
+        read_the_same(text, size, data[0] * size / 256, 1 + data[1] % 16);
+        read_the_same(text, size, data[size - 1] * size / 256, size);
+    }
+    read_spoiled(text, size);
+    CHECK(memcmp(text, data, size) == 0);
+    return 0;
+}
