@@ -1,10 +1,9 @@
 /* rows ROW COUNT: does what a row counts so many times, over inputs that are made before. It prints a sum of the results, so that
    none is left out. bench/counts/run counts its instructions: for a row that begins with a number, those of each of so many. */
 #include "dns_names_wire.h"
+#include "inputs.h"
 
-#include <stdio.h>
 #include <stdlib.h>
-#include <string.h>
 
 static uint64_t sum;
 
@@ -13,43 +12,6 @@ static void must(uint32_t failure)
     if (failure != DNW_DONE) {
         fprintf(stderr, "rows: failure %u\n", (unsigned)failure);
         exit(1);
-    }
-}
-
-/* A response of example.org to a query for its mail exchange, with names that are compressed. */
-static const uint8_t RESPONSE[] =
-    "\x12\x34\x84\x00\x00\x01\x00\x02\x00\x01\x00\x02\x07" "example\x03org\x00\x00\x0f\x00\x01"
-    "\xc0\x0c\x00\x0f\x00\x01\x00\x00\x0e\x10\x00\x09\x00\x0a\x04mail\xc0\x0c"
-    "\xc0\x0c\x00\x0f\x00\x01\x00\x00\x0e\x10\x00\x0a\x00\x14\x05mail2\xc0\x0c"
-    "\xc0\x0c\x00\x02\x00\x01\x00\x00\x0e\x10\x00\x05\x02ns\xc0\x0c"
-    "\xc0\x2b\x00\x01\x00\x01\x00\x00\x0e\x10\x00\x04\xc0\x00\x02\x01"
-    "\x00\x00\x29\x04\xd0\x00\x00\x00\x00\x00\x00";
-#define RESPONSE_LEN (sizeof RESPONSE - 1)
-
-static const uint8_t NAME[] = "\x03www\x07" "example\x03org";
-#define NAME_LEN sizeof NAME
-
-static const uint8_t NAMES[] = "\x03www\x07" "example\x03org\x00\x04mail\x07" "example\x03org\x00\x02ns\x07" "example\x03org\x00\x03ns2\x07" "example\x03org";
-
-/* Where its records begin, and the first one with an address. */
-enum { RECORDS = 29, MAIL = 50 };
-
-/* A hundred names of a zone, one after another, in the order of their numbers. */
-static uint8_t hundred[100 * 17];
-
-/* The address of a host, after the RRSIG that covers it, without compression. */
-static const uint8_t SIGNED[] =
-    "\x01h\x07" "example\x00\x00\x2e\x00\x01\x00\x00\x00\x3c\x00\x1e"
-    "\x00\x01\x0d\x02\x00\x00\x0e\x10\x00\x00\x00\x02\x00\x00\x00\x01\x00\x07\x07" "example\x00sig"
-    "\x01h\x07" "example\x00\x00\x01\x00\x01\x00\x00\x00\x3c\x00\x04\xc0\x00\x02\x01";
-
-static void begin(void)
-{
-    for (int i = 0; i < 100; i++) {
-        uint8_t name[18];
-        sprintf((char *)name, "\5h%04d\7example\1a", i * 37 % 100);
-        memcpy(hundred + 17 * i, name, 16);
-        hundred[17 * i + 16] = 0;
     }
 }
 
@@ -117,6 +79,41 @@ static void fields_walk(void)
     }
 }
 
+/* The octets of the data of a record, with names whole. */
+static uint64_t whole_data(const struct dnw_record *record)
+{
+    struct dnw_fields fields = {record->data_offset, 0};
+    struct dnw_field field;
+    uint8_t form[DNW_FORM_SIZE];
+    struct dnw_read_name read;
+    uint64_t octets = 0;
+    for (;;) {
+        must(dnw_field_next(RESPONSE, record->end, record->data_offset, record->record_class, record->record_type, &fields, &field));
+        if (field.kind == DNW_FIELD_END)
+            return octets;
+        if (field.kind == DNW_FIELD_NAME)
+            must(dnw_name_read(RESPONSE, record->end, field.offset, form, sizeof form, &read));
+        octets += field.kind == DNW_FIELD_NAME ? read.len : field.len;
+    }
+}
+
+/* A whole message is checked, and each record read, with its names whole. */
+static void message_walk(void)
+{
+    struct dnw_message read;
+    struct dnw_message_fault fault;
+    must(dnw_message_read(RESPONSE, RESPONSE_LEN, DNW_MAX_POINTERS, &read, &fault));
+    size_t at = read.answers;
+    for (int left = read.answer_count + read.authority_count + read.additional_count; left > 0; left--) {
+        uint8_t owner[DNW_FORM_SIZE];
+        struct dnw_record record;
+        must(dnw_record_read(RESPONSE, RESPONSE_LEN, at, owner, sizeof owner, &record));
+        if (record.record_type != DNW_TYPE_OPT)
+            sum += record.owner_len + record.record_type + record.ttl + whole_data(&record);
+        at = record.end;
+    }
+}
+
 static void message_pack(void)
 {
     uint8_t packed[512];
@@ -157,8 +154,8 @@ int main(int argc, char **argv)
         void (*does)(void);
     } rows[] = {
         {"name-read", name_read}, {"name-parse", name_parse}, {"name-print", name_print}, {"4-names-write", names_write},
-        {"100-names-sort", names_sort}, {"message-read", message_read}, {"fields-walk", fields_walk}, {"message-pack", message_pack},
-        {"record-print", record_print}, {"signed-one", signed_one}, {"types-read", types_read},
+        {"100-names-sort", names_sort}, {"message-read", message_read}, {"fields-walk", fields_walk}, {"message-walk", message_walk},
+        {"message-pack", message_pack}, {"record-print", record_print}, {"signed-one", signed_one}, {"types-read", types_read},
     };
     if (argc != 3) {
         for (size_t i = 0; i < sizeof rows / sizeof rows[0]; i++)

@@ -1,5 +1,5 @@
 //! What is measured: the same inputs in every run, from a generator with a fixed seed.
-#[path = "families.rs"] // `doors` has this file by its path
+#[path = "families.rs"] // `bindings` has this file by its path
 mod families;
 
 #[derive(Clone, Copy)]

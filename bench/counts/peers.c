@@ -1,0 +1,220 @@
+/* peers LIBRARY ROW COUNT: does what the row of rows.c does so many times, by libknot or by ldns, over the same inputs, and prints a sum
+   of the results: that of rows.c, but where texts and compression differ. Without words, it prints the libraries and their rows. libknot gets its memory
+   from a pool that is used again, as in its servers. */
+#include <ldns/ldns.h>
+#include <libknot/libknot.h>
+#include <stdlib.h>
+
+#include "inputs.h"
+
+static uint64_t sum;
+static uint8_t pool[1 << 20];
+static size_t used;
+
+static void must(bool is_right)
+{
+    if (!is_right) {
+        fprintf(stderr, "peers: a call failed\n");
+        exit(1);
+    }
+}
+
+static void *take(void *of, size_t size)
+{
+    void *room = pool + used;
+    (void)of;
+    used += (size + 15) & ~(size_t)15;
+    must(used <= sizeof pool);
+    return room;
+}
+
+static knot_mm_t memory = {NULL, take, NULL};
+
+static void knot_name_read(void)
+{
+    uint8_t form[KNOT_DNAME_MAXLEN];
+    must(knot_dname_wire_check(RESPONSE + MAIL - 7, RESPONSE + RESPONSE_LEN, RESPONSE) > 0);
+    sum += (uint64_t)knot_dname_unpack(form, RESPONSE + MAIL - 7, sizeof form, RESPONSE);
+}
+
+static void knot_name_parse(void)
+{
+    uint8_t form[KNOT_DNAME_MAXLEN];
+    must(knot_dname_from_str(form, "www.example.org.", sizeof form) != NULL);
+    sum += knot_dname_size(form);
+}
+
+static void knot_name_print(void)
+{
+    char text[KNOT_DNAME_TXT_MAXLEN + 1];
+    must(knot_dname_to_str(text, NAME, sizeof text) != NULL);
+    sum += strlen(text);
+}
+
+static int knot_order(const void *left, const void *right)
+{
+    return knot_dname_cmp(*(uint8_t *const *)left, *(uint8_t *const *)right);
+}
+
+static void knot_sort(void)
+{
+    const uint8_t *names[100];
+    for (size_t i = 0; i < 100; i++)
+        names[i] = hundred + 17 * i;
+    qsort(names, 100, sizeof names[0], knot_order);
+    sum += (uint64_t)(names[7] - hundred) / 17;
+}
+
+static knot_pkt_t *knot_parsed(void)
+{
+    used = 0;
+    knot_pkt_t *packet = knot_pkt_new((void *)RESPONSE, RESPONSE_LEN, &memory);
+    must(knot_pkt_parse(packet, 0) == KNOT_EOK);
+    return packet;
+}
+
+static void knot_walk(void)
+{
+    const knot_pkt_t *packet = knot_parsed();
+    for (uint16_t i = 0; i < packet->rrset_count; i++) {
+        const knot_rrset_t *set = &packet->rr[i];
+        if (set->type == KNOT_RRTYPE_OPT)
+            continue;
+        knot_rdata_t *data = set->rrs.rdata;
+        for (uint16_t n = 0; n < set->rrs.count; n++, data = knot_rdataset_next(data))
+            sum += knot_dname_size(set->owner) + set->type + set->ttl + data->len;
+    }
+}
+
+static void knot_pack(void)
+{
+    knot_pkt_t *packet = knot_parsed(), *made = knot_pkt_new(NULL, 512, &memory);
+    memcpy(made->wire, RESPONSE, 4);
+    must(knot_pkt_put_question(made, knot_pkt_qname(packet), knot_pkt_qclass(packet), knot_pkt_qtype(packet)) == KNOT_EOK);
+    for (knot_section_t section = KNOT_ANSWER; section <= KNOT_ADDITIONAL; section++) {
+        knot_pkt_begin(made, section);
+        const knot_pktsection_t *own = knot_pkt_section(packet, section);
+        for (uint16_t i = 0; i < own->count; i++)
+            must(knot_pkt_put(made, KNOT_COMPR_HINT_NONE, knot_pkt_rr(own, i), 0) == KNOT_EOK);
+    }
+    sum += made->size;
+}
+
+static void knot_print(void)
+{
+    static char *text;
+    static size_t size;
+    size_t at = RECORDS;
+    knot_rrset_t set;
+    used = 0;
+    must(knot_rrset_rr_from_wire(RESPONSE, &at, RESPONSE_LEN, &set, &memory, true) == KNOT_EOK);
+    if (text == NULL)
+        text = malloc(size = 4096);
+    must(knot_rrset_txt_dump(&set, &text, &size, &KNOT_DUMP_STYLE_DEFAULT) > 0);
+    sum += strlen(text);
+}
+
+static void ldns_name_read(void)
+{
+    ldns_rdf *name;
+    size_t at = MAIL - 7;
+    must(ldns_wire2dname(&name, RESPONSE, RESPONSE_LEN, &at) == LDNS_STATUS_OK);
+    sum += ldns_rdf_size(name);
+    ldns_rdf_deep_free(name);
+}
+
+static void ldns_name_parse(void)
+{
+    ldns_rdf *name = ldns_dname_new_frm_str("www.example.org.");
+    sum += ldns_rdf_size(name);
+    ldns_rdf_deep_free(name);
+}
+
+static void ldns_name_print(void)
+{
+    ldns_rdf name = {NAME_LEN, LDNS_RDF_TYPE_DNAME, (void *)NAME};
+    char *text = ldns_rdf2str(&name);
+    sum += strlen(text);
+    free(text);
+}
+
+static int ldns_order(const void *left, const void *right)
+{
+    return ldns_dname_compare(*(ldns_rdf *const *)left, *(ldns_rdf *const *)right);
+}
+
+static void ldns_sort(void)
+{
+    ldns_rdf names[100], *order[100];
+    for (size_t i = 0; i < 100; i++) {
+        names[i] = (ldns_rdf){17, LDNS_RDF_TYPE_DNAME, hundred + 17 * i};
+        order[i] = &names[i];
+    }
+    qsort(order, 100, sizeof order[0], ldns_order);
+    sum += (uint64_t)(order[7] - names);
+}
+
+static ldns_pkt *ldns_parsed(void)
+{
+    ldns_pkt *packet;
+    must(ldns_wire2pkt(&packet, RESPONSE, RESPONSE_LEN) == LDNS_STATUS_OK);
+    return packet;
+}
+
+static void ldns_walk(void)
+{
+    ldns_pkt *packet = ldns_parsed();
+    ldns_rr_list *sections[] = {ldns_pkt_answer(packet), ldns_pkt_authority(packet), ldns_pkt_additional(packet)};
+    for (size_t s = 0; s < 3; s++)
+        for (size_t i = 0; i < ldns_rr_list_rr_count(sections[s]); i++) {
+            ldns_rr *record = ldns_rr_list_rr(sections[s], i);
+            sum += ldns_rdf_size(ldns_rr_owner(record)) + ldns_rr_get_type(record) + ldns_rr_ttl(record);
+            for (size_t n = 0; n < ldns_rr_rd_count(record); n++)
+                sum += ldns_rdf_size(ldns_rr_rdf(record, n));
+        }
+    ldns_pkt_free(packet);
+}
+
+static void ldns_pack(void)
+{
+    ldns_pkt *packet = ldns_parsed();
+    uint8_t *made;
+    size_t len;
+    must(ldns_pkt2wire(&made, packet, &len) == LDNS_STATUS_OK);
+    sum += len;
+    free(made);
+    ldns_pkt_free(packet);
+}
+
+static void ldns_print(void)
+{
+    ldns_rr *record;
+    size_t at = RECORDS;
+    must(ldns_wire2rr(&record, RESPONSE, RESPONSE_LEN, &at, LDNS_SECTION_ANSWER) == LDNS_STATUS_OK);
+    char *text = ldns_rr2str(record);
+    sum += strlen(text);
+    free(text);
+    ldns_rr_free(record);
+}
+
+int main(int argc, char **argv)
+{
+    static const struct {
+        const char *name;
+        void (*knot)(void), (*ldns)(void);
+    } rows[] = {
+        {"name-read", knot_name_read, ldns_name_read}, {"name-parse", knot_name_parse, ldns_name_parse},
+        {"name-print", knot_name_print, ldns_name_print}, {"100-names-sort", knot_sort, ldns_sort},
+        {"message-walk", knot_walk, ldns_walk}, {"message-pack", knot_pack, ldns_pack}, {"record-print", knot_print, ldns_print},
+    };
+    begin();
+    for (size_t i = 0; i < sizeof rows / sizeof rows[0]; i++)
+        if (argc != 4)
+            printf("libknot %s\nldns %s\n", rows[i].name, rows[i].name);
+        else if (strcmp(argv[2], rows[i].name) == 0)
+            for (long left = atol(argv[3]); left > 0; left--)
+                (strcmp(argv[1], "libknot") == 0 ? rows[i].knot : rows[i].ldns)();
+    if (argc == 4)
+        printf("%llu\n", (unsigned long long)sum);
+    return argc == 4 ? 0 : 2;
+}
