@@ -100,13 +100,3 @@ pub use Rattle.dnw_message_read.specs.Edns
 pub use Rattle.dnw_message_read.specs.MessageLaws
 pub use Rattle.dnw_message_read.specs.Messages
 pub use Rattle.dnw_message_read.specs.Queries
-pub use Rattle.dnw_message_write.specs.Copies as MessageCopies
-pub use Rattle.dnw_message_write.specs.Drafts
-pub use Rattle.dnw_message_write.specs.QueryFrames
-pub use Rattle.dnw_message_write.specs.ReadBack
-pub use Rattle.dnw_message_write.specs.ReadRecords
-pub use Rattle.dnw_message_write.specs.WireEdns
-pub use Rattle.dnw_message_write.specs.WireQueries
-pub use Rattle.dnw_message_write.specs.WriterLaws
-pub use Rattle.dnw_message_write.specs.Writers
-pub use Rattle.dnw_message_write.specs.Written

@@ -185,20 +185,6 @@ pub use Rattle.dnw_message_options.specs.Reading.{IsName, NoName, OptionOutcome,
 pub use Rattle.dnw_message_options.specs.Rules.{IsOptionFields, bits_after, code_of, has_no_name, may_be_server, may_be_version, most_bits, network_fault, octets_for, option_octets, value_fault}
 pub use Rattle.dnw_message_options.specs.Values.{OptionFields, VersionValue, seen_option, seen_version}
 -- Whole messages that are written.
-pub use Rattle.dnw_message_write.specs.Drafts.{Added, Adds, AddsAll, AddsEntry, AddsLast, AddsMany, AddsSet, Begins, Closes, Draft, Ends, counted_one, counted_by, cuts, is_open}
-pub use Rattle.dnw_message_write.specs.QueryFrames.{frame_query}
-pub use Rattle.dnw_message_write.specs.Together.{EmitsInTurn, EmitsTogether, records_size}
-pub use Rattle.dnw_message_write.specs.WireQueries.{EmitsQuery, EmitsQueryFields, QueryFits}
-pub use Rattle.dnw_message_write.specs.ReadBack.{IsReadAs, QueryIsRead}
-pub use Rattle.dnw_message_write.specs.ReadRecords.{RecordIsRead, RecordIsThere}
-pub use Rattle.dnw_message_write.specs.WriterLaws.{EdnsComesBack, MessagesAreWritten, MessagesEndWith, MessagesHaveEdns, ReadingNeverFails, WrittenMessagesAreRead}
-pub use Rattle.dnw_message_write.specs.Writers.{BeginsWith, Finishes, draft, last_of, lent}
-pub use Rattle.dnw_message_write.specs.Replies.{BeginsReply}
-pub use Rattle.dnw_message_write.specs.Written.{Contents, Written, WrittenWith, contents_from, counts_of, ending_with, header_for, most_pointers, nothing}
-pub use Rattle.dnw_message_write.specs.Copies.{AddsCopies, AddsItems, FailsCopies, FailsCopy, FailsCopyOf, IsAmong, IsCopied, IsEntryOf, IsLastOf, IsSettled}
-pub use Rattle.dnw_message_write.specs.Copies.{FailsToBegin, WrittenBefore, last_size, plain_in, query_entry}
-pub use Rattle.dnw_message_write.specs.WireEdns.{IsNoOpt, IsOptOf, OptionFits, edns_ttl, edns_value, option_wire, options_wire}
-pub use Rattle.dnw_message_write.specs.declared.writer.Entry.{Entry}
 pub use Rattle.dnw_message_header.specs.declared.header.HeaderCounts.{HeaderCounts}
 pub use Rattle.dnw_message_header.specs.declared.header.Metadata.{Metadata}
 -- the data of records of any type, and records that are written from them
@@ -257,4 +243,5 @@ pub use Rattle.dnw_message_writer.specs.Sections.{offset_of_count, rank}
 pub use Rattle.dnw_message_writer.specs.Sets.{cut_off, CutsOff, FailsToAddSet}
 pub use Rattle.dnw_message_writer.specs.SizeLaws.{HintsAtLabels, HintsBegin, IsNearNext, NearOwnersTakeTwo, QuestionsAreNear, RecordsAreNear}
 pub use Rattle.dnw_message_writer.specs.States.{added, AddsItem, AddsLastItem, BeginsMessage, FailsToAdd, IsLimit, IsOfMessage, ItemForm, released, room_of}
+pub use Rattle.dnw_message_writer.specs.declared.section.Section.TheVariants.{Additionals, Answers, Authorities, Queries}
 pub use Rattle.dnw_message_writer.specs.declared.state.WriterState.{WriterState}

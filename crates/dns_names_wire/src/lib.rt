@@ -155,7 +155,7 @@ pub mod lower_name {
     pub use dnw_name_lower::lower_name::LowerName;
 }
 
-/// Whole messages, which are checked once and read without a copy, and written item by item: headers, sections and EDNS.
+/// Whole messages, which are checked once and read without a copy: headers, sections and EDNS.
 pub mod message {
     pub use dnw_message_header::header::{Header, HeaderCounts, MessageType, Metadata};
     pub use dnw_message_header::op_code::OpCode;
@@ -166,12 +166,6 @@ pub mod message {
     pub use dnw_message_read::laws;
     pub use dnw_message_read::message::{MessageRef, SectionOffsets};
     pub use dnw_message_read::query::QueryRef;
-    pub use dnw_message_write::edns::{WireEdns, WireOption};
-    pub use dnw_message_write::laws::{
-        edns_comes_back, messages_are_written, messages_end_with, written_messages_are_read,
-    };
-    pub use dnw_message_write::query::WireQuery;
-    pub use dnw_message_write::writer::{AddError, CopyError, Entry, MessageWriter, copy, write};
 }
 
 /// Messages written item by item into a buffer of the caller: without an allocation, and with names that are compressed by hints,

@@ -7,6 +7,7 @@ mod zones;
 use dns_names_wire::data_text::RecordEntryError;
 use dns_names_wire::dnssec::DnssecError;
 use dns_names_wire::message::{EdnsError, MessageError};
+use dns_names_wire::message_writer::WriteError;
 use dns_names_wire::name_text::NameTextError;
 use dns_names_wire::rdata::RDataError;
 use dns_names_wire::{DecodeError, ProtoError};
@@ -45,6 +46,9 @@ enum Refusal {
         /// What is wrong.
         error: EdnsError,
     },
+    /// A message has no room for an item.
+    #[error("refused: {0}")]
+    Write(WriteError),
     /// A text is no record.
     #[error("refused: {0}")]
     Entry(RecordEntryError),
@@ -86,6 +90,12 @@ impl From<MessageError> for Refusal {
 impl From<DecodeError> for Refusal {
     fn from(e: DecodeError) -> Self {
         Refusal::Decode(e)
+    }
+}
+
+impl From<WriteError> for Refusal {
+    fn from(e: WriteError) -> Self {
+        Refusal::Write(e)
     }
 }
 

@@ -58,7 +58,7 @@ impl Metadata {
     /// Returns the metadata with which the response to a request begins: the id, the operation, RD and CD are those of the
     /// request (RFC 1035, section 4.1.1, and RFC 4035, section 3.2.2), and what the server says is not set.
     ///
-    /// A response repeats the question too: see `WireQuery::from_message`.
+    /// A response repeats the question too.
     pub fn response_from_request(request: &Metadata) -> Self
         ensures { result ≡ response_to request.now }
     {

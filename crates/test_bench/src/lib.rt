@@ -357,12 +357,12 @@ pub extern "C" fn dnw_read_fields(alloc: Global, msg: &[u8], count: u64) -> u64
 pub extern "C" fn dnw_write_message(alloc: Global, msg: &[u8], max_size: u16, count: u64) -> u64
     ensures idle { count ≡ 0 → result ≡ 0 }
 {
-    let Some(parts) = messages::parts_of(alloc, msg) else {
+    let Some(mut parts) = messages::parts_of(alloc, msg) else {
         return 0;
     };
     let mut sum = 0u64;
     for _round in 0..count {
-        sum = sum.wrapping_add(messages::write_parts(alloc, &parts, max_size));
+        sum = sum.wrapping_add(messages::write_parts(&mut parts, max_size));
     }
     sum
 }

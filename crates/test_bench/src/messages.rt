@@ -1,12 +1,10 @@
 //! Whole messages, read and written.
 
 use crate::FAILURE;
-use dns_names_wire::error::ProtoError;
 use dns_names_wire::fields::{Field, Fields, Items};
-use dns_names_wire::message::{
-    AddError, Header, MessageError, MessageRef, MessageWriter, Metadata, QueryRef, Records,
-    WireQuery,
-};
+use dns_names_wire::message::{Header, MessageError, MessageRef, QueryRef, Records};
+use dns_names_wire::message_writer::{DataError, Section, WriteError, WriterState};
+use dns_names_wire::name::Name;
 use dns_names_wire::name_ref::NameRef;
 use dns_names_wire::rdata::Record;
 use dns_names_wire::record::RecordRef;
@@ -166,14 +164,24 @@ fn octets_size(octets: &[u8]) -> u64 {
     }
 }
 
+/// A question of a message.
+#[derive(Drop)]
+struct Question {
+    name: Name,
+    query_type: u16,
+    class: u16,
+}
+
 /// What a message is written of.
 #[derive(Drop)]
 pub(crate) struct Parts {
-    metadata: Metadata,
-    queries: Vec<WireQuery>,
+    id: u16,
+    flags: u16,
+    queries: Vec<Question>,
     answers: Vec<Record>,
     authorities: Vec<Record>,
     additionals: Vec<Record>,
+    room: Vec<u8>,
 }
 
 /// Copies what a message has. Returns `None` if the octets are none, or if the data of a record are no fields of its type.
@@ -183,19 +191,31 @@ pub(crate) fn parts_of(alloc: Global, msg: &[u8]) -> Option<Parts> {
     };
     let mut queries = Vec::new(alloc);
     for query in message.queries() {
-        let Ok(query) = WireQuery::from_message(alloc, &query) else {
+        let Ok(name) = query.name().to_name(alloc) else {
             return None;
         };
-        if queries.push(query).is_err() {
+        let question = Question {
+            name,
+            query_type: query.query_type().code(),
+            class: query.query_class().code(),
+        };
+        if queries.push(question).is_err() {
             return None;
         }
     }
+    let head = message.header().to_octets();
+    let mut room = Vec::new(alloc);
+    if room.resize(65535, 0).is_err() {
+        return None;
+    }
     Some(Parts {
-        metadata: message.header().metadata,
+        id: message.header().metadata.id,
+        flags: u16::from_be_bytes([head[2], head[3]]),
         queries,
         answers: copies_of(alloc, message.answers())?,
         authorities: copies_of(alloc, message.authorities())?,
         additionals: copies_of(alloc, message.additionals())?,
+        room,
     })
 }
 
@@ -213,35 +233,72 @@ fn copies_of(alloc: Global, records: Records<'_>) -> Option<Vec<Record>> {
 }
 
 /// Writes a message of at most so many octets: its length.
-pub(crate) fn write_parts(alloc: Global, parts: &Parts, max_size: u16) -> u64 {
-    let mut buffer = Vec::new(alloc);
-    let Ok(mut writer) = MessageWriter::new(&mut buffer, parts.metadata, max_size) else {
+pub(crate) fn write_parts(parts: &mut Parts, max_size: u16) -> u64 {
+    let room = parts.room.as_mut_slice();
+    let mut writer = WriterState::new();
+    if writer
+        .begin(room, parts.id, parts.flags, usize::from(max_size))
+        .is_err()
+    {
         return FAILURE;
-    };
+    }
     let mut failed = 0u64;
     for query in parts.queries.as_slice() {
-        failed = failed.wrapping_add(failure(&writer.add_query(query)));
+        let added = writer.question(
+            room,
+            query.name.wire_labels(),
+            query.query_type,
+            query.class,
+        );
+        failed = failed.wrapping_add(match added {
+            Ok(()) | Err(WriteError::NoRoom) => 0,
+            Err(_) => FAILURE,
+        });
     }
-    for record in parts.answers.as_slice() {
-        failed = failed.wrapping_add(failure(&writer.add_answer(record)));
-    }
-    for record in parts.authorities.as_slice() {
-        failed = failed.wrapping_add(failure(&writer.add_authority(record)));
-    }
-    for record in parts.additionals.as_slice() {
-        failed = failed.wrapping_add(failure(&writer.add_additional(record)));
-    }
-    match writer.finish() {
-        Ok(octets) => failed.wrapping_add(octets.len() as u64),
-        Err(_) => FAILURE,
-    }
+    failed = failed
+        .wrapping_add(write_records(
+            &mut writer,
+            room,
+            Section::Answers,
+            parts.answers.as_slice(),
+        ))
+        .wrapping_add(write_records(
+            &mut writer,
+            room,
+            Section::Authorities,
+            parts.authorities.as_slice(),
+        ))
+        .wrapping_add(write_records(
+            &mut writer,
+            room,
+            Section::Additionals,
+            parts.additionals.as_slice(),
+        ));
+    failed.wrapping_add(writer.end as u64)
 }
 
-/// Returns what an item adds that was not written for another reason than want of space.
-#[inline]
-fn failure(outcome: &Result<(), AddError>) -> u64 {
-    match outcome {
-        Ok(()) | Err(AddError::Proto(ProtoError::MaxBufferSizeExceeded(_))) => 0,
-        Err(_) => FAILURE,
+/// Writes records. Returns what those add that were not written for another reason than want of space.
+fn write_records(
+    writer: &mut WriterState,
+    room: &mut [u8],
+    section: Section,
+    records: &[Record],
+) -> u64 {
+    let mut failed = 0u64;
+    for record in records {
+        let added = writer.record_data(
+            room,
+            section,
+            record.name.wire_labels(),
+            record.data.record_type().code(),
+            record.data.class().code(),
+            record.ttl,
+            record.data.octets(),
+        );
+        failed = failed.wrapping_add(match added {
+            Ok(()) | Err(DataError::Write(WriteError::NoRoom)) => 0,
+            Err(_) => FAILURE,
+        });
     }
+    failed
 }

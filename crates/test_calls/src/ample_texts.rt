@@ -6,11 +6,9 @@ use dns_names_wire::data_text::{data_text, parse, parse_entry};
 use dns_names_wire::decoder::BinDecoder;
 use dns_names_wire::dns_class::DNSClass;
 use dns_names_wire::encoder::BinEncoder;
-use dns_names_wire::message::{
-    Entry, MessageRef, MessageType, Metadata, OpCode, ResponseCode, copy, write,
-};
+use dns_names_wire::message::MessageRef;
+use dns_names_wire::message_writer::{Section, WriterState};
 use dns_names_wire::name::Name;
-use dns_names_wire::rdata::{RData, Record};
 use dns_names_wire::record::RecordRef;
 use dns_names_wire::record_type::RecordType;
 use dns_names_wire::zone::{Context, entry_of, scan};
@@ -139,64 +137,49 @@ fn entries_of_zone_files_may_have_any_size(rt: HostRuntime) -> Result<(), Fail> 
     Ok(())
 }
 
-const METADATA: Metadata = Metadata {
-    id: 7,
-    message_type: MessageType::Response,
-    op_code: OpCode::Query,
-    authoritative: true,
-    truncation: false,
-    recursion_desired: false,
-    recursion_available: false,
-    authentic_data: false,
-    checking_disabled: false,
-    response_code: ResponseCode::NoError,
-};
-
-/// Returns a record of the root with so many octets of data.
-fn null(alloc: Global, len: usize) -> Result<Record, Fail> {
+/// Returns a response with so many answers, which are NULL records of the root with so many octets of data.
+fn response(alloc: Global, count: usize, len: usize) -> Result<Vec<u8>, Fail> {
     let own = octets(alloc, len)?;
-    let Ok(data) = RData::new(alloc, DNSClass::IN, RecordType::NULL, own.as_slice()) else {
-        return Err(Fail::from("data"));
-    };
-    Ok(Record {
-        name: Name::root(alloc),
-        ttl: 60,
-        data,
-    })
+    let record = record_octets(alloc, 10, own.as_slice())?;
+    let answers = u16::try_from(count).map_err(|_| "a count")?;
+    let mut head = Vec::new(alloc);
+    head.extend_from_slice(b"\x00\x07\x84\x00\x00\x00")?;
+    head.extend_from_slice(&answers.to_be_bytes())?;
+    head.extend_from_slice(&[0; 4])?;
+    repeated(alloc, head.as_slice(), record.as_slice(), count)
+}
+
+/// Returns whether such a response is written again as it is: whole, and record by record.
+fn is_copied(alloc: Global, octets: &[u8]) -> Result<bool, Fail> {
+    let message = MessageRef::read(octets)?;
+    let mut room = Vec::new(alloc);
+    room.resize(65_535, 0)?;
+    let mut writer = WriterState::new();
+    writer.copy(alloc, room.as_mut_slice(), &message, 65_535)?;
+    let is_whole = writer.end == octets.len() && room.as_slice().starts_with(octets);
+    writer.begin(room.as_mut_slice(), 7, 0x8400, 65_535)?;
+    for record in message.answers() {
+        writer.record_of(alloc, room.as_mut_slice(), Section::Answers, &record)?;
+    }
+    Ok(is_whole && writer.end == octets.len() && room.as_slice().starts_with(octets))
 }
 
 #[test]
-fn a_message_may_have_many_records(rt: HostRuntime) -> Result<(), Fail> {
+fn a_message_of_many_records_is_copied(rt: HostRuntime) -> Result<(), Fail> {
     let alloc = rt.alloc();
     for count in COUNTS {
-        let mut entries = Vec::new(alloc);
-        for _ in 0..count {
-            entries.push(Entry::Answer(null(alloc, 4)?))?;
-        }
-        let mut bytes = Vec::new(alloc);
-        let outcomes = write(alloc, &mut bytes, METADATA, 65_535, entries.as_slice())?;
-        assert_eq!(rt; outcomes.len(), count);
-        assert!(rt; outcomes.iter().all(|outcome| outcome.is_ok()));
-        // The header, and of each record the owner, type, class, time to live, length and data.
-        assert_eq!(rt; bytes.len(), count.saturating_mul(15).saturating_add(12));
+        let bytes = response(alloc, count, 4)?;
+        assert!(rt; is_copied(alloc, bytes.as_slice())?);
     }
     Ok(())
 }
 
 #[test]
-fn a_message_of_any_size_is_written_and_copied(rt: HostRuntime) -> Result<(), Fail> {
+fn a_message_of_any_size_is_copied(rt: HostRuntime) -> Result<(), Fail> {
     let alloc = rt.alloc();
     for len in SIZES {
-        let entries = [Entry::Answer(null(alloc, len)?)];
-        let mut bytes = Vec::new(alloc);
-        let outcomes = write(alloc, &mut bytes, METADATA, 65_535, &entries)?;
-        assert!(rt; outcomes.iter().all(|outcome| outcome.is_ok()));
-        let Ok(message) = MessageRef::read(bytes.as_slice()) else {
-            return Err(Fail::from("a message"));
-        };
-        let mut copied = Vec::new(alloc);
-        assert!(rt; copy(alloc, &mut copied, &message, 65_535).is_ok());
-        assert_eq!(rt; copied.as_slice(), bytes.as_slice());
+        let bytes = response(alloc, 1, len)?;
+        assert!(rt; is_copied(alloc, bytes.as_slice())?);
         let mut encoded = Vec::new(alloc);
         BinEncoder::new(&mut encoded).emit_vec(bytes.as_slice())?;
         assert_eq!(rt; encoded.len(), bytes.len());

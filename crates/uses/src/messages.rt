@@ -1,31 +1,49 @@
 //! Writes a message, and reads it.
-ghost use Rattle.std.specs.Prelude.{◌≡◌, [], IfOk};
-ghost use Rattle.dns_names_wire.specs.Words.{Added, Written, contents_from, counts_of, nothing};
-ghost use Rattle.uses.specs.Messages.{HasCounts};
+ghost use Rattle.std.specs.Prelude.{IfOk};
+ghost use Rattle.uses.specs.Messages.{IsOneAnswer};
 
-use dns_names_wire::ProtoResult;
-use dns_names_wire::message::{
-    Entry, HeaderCounts, MessageRef, Metadata, laws, write, written_messages_are_read,
-};
-use std::alloc::Global;
+use dns_names_wire::Name;
+use dns_names_wire::message::{HeaderCounts, MessageRef};
+use dns_names_wire::message_writer::{Piece, Section, WriteError, WriterState, laws};
 
 /// The most bytes of a message over UDP without EDNS (RFC 1035, section 4.2.1).
-const MAX_MESSAGE: u16 = 512;
+const MAX_MESSAGE: usize = 512;
 
-/// Writes a message of these items, as many as fit, reads it, and returns how many items each section has: those that were
-/// accepted. A message that was written is always read.
+/// The flags of a response of an authority: QR and AA (RFC 1035, section 4.1.1).
+const RESPONSE: u16 = 0x8400;
+
+/// The type A, the class IN, and an hour.
+const A: u16 = 1;
+
+const IN: u16 = 1;
+
+const HOUR: u32 = 3600;
+
+/// Writes the response that a name has an address, reads it, and returns how many items each section has. A message that was written
+/// is always read.
 pub fn write_and_read(
-    alloc: Global,
-    buffer: &mut Vec<u8>,
-    metadata: Metadata,
-    entries: &[Entry],
-) -> ProtoResult<HeaderCounts>
-    requires { buffer.old.items ≡ [] }
-    ensures { IfOk result (HasCounts metadata entries.now buffer.new.items) }
+    message: &mut [u8],
+    id: u16,
+    name: &Name,
+    address: &[u8; 4],
+) -> Result<HeaderCounts, WriteError>
+    ensures { IfOk result IsOneAnswer }
 {
-    laws::one_message();
-    written_messages_are_read();
-    write(alloc, buffer, metadata, MAX_MESSAGE, entries)?;
-    let message = MessageRef::read(buffer).unwrap();
-    Ok(message.header().counts)
+    laws::messages_hold_their_items();
+    laws::held_items_are_read();
+    let mut writer = WriterState::new();
+    writer.begin(message, id, RESPONSE, MAX_MESSAGE)?;
+    writer.question(message, name.wire_labels(), A, IN)?;
+    let data = [Piece::Octets(address)];
+    writer.record(
+        message,
+        Section::Answers,
+        name.wire_labels(),
+        A,
+        IN,
+        HOUR,
+        &data,
+    )?;
+    let read = MessageRef::read(message).unwrap();
+    Ok(read.header().counts)
 }

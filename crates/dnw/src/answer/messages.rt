@@ -6,19 +6,22 @@ use dns_names_wire::dns_class::DNSClass;
 use dns_names_wire::edns_options::OptionData;
 use dns_names_wire::error::DecodeError;
 use dns_names_wire::message::{
-    AddError, EdnsError, EdnsRef, Entry, MessageRef, MessageType, Metadata, OpCode, Records,
-    ResponseCode, Section, WireEdns, WireQuery, write,
+    EdnsError, EdnsRef, MessageRef, MessageType, Metadata, OpCode, Records, ResponseCode, Section,
 };
+use dns_names_wire::message_writer::{Edns, WriterState};
 use dns_names_wire::name::Name;
 use dns_names_wire::record::RecordRef;
 use dns_names_wire::record_type::RecordType;
 use std::alloc::Global;
 
 /// The greatest query: a header, the longest name, a type and a class, and an `OPT` record without options.
-const MAX_QUERY: u16 = 12 + 255 + 4 + 11;
+const MAX_QUERY: usize = 12 + 255 + 4 + 11;
+
+/// The flags of a query that asks for recursion: RD (RFC 1035, section 4.1.1).
+const ASKING: u16 = 0x0100;
 
 /// What a query says by EDNS: the size of a response that passes most links in one piece (DNS flag day 2020), and no option.
-const EDNS: WireEdns<'static> = WireEdns {
+const EDNS: Edns<'static> = Edns {
     max_payload: 1232,
     rcode_high: 0,
     version: 0,
@@ -246,36 +249,13 @@ pub(super) fn query(
         return Err(Refusal::Usage);
     };
     let name = Name::from_text(alloc, name, None)?;
-    let mut entries = Vec::new(alloc);
-    entries.push(Entry::Query(WireQuery {
-        name,
-        query_type,
-        query_class: DNSClass::IN,
-    }))?;
+    let mut message = [0; MAX_QUERY];
+    let mut writer = WriterState::new();
+    writer.begin(&mut message, 0, ASKING, MAX_QUERY)?;
+    let code = query_type.code();
+    writer.question(&mut message, name.wire_labels(), code, DNSClass::IN.code())?;
     if has_edns {
-        entries.push(Entry::Additional(EDNS.to_record(alloc)?))?;
+        writer.edns(&mut message, 0, &EDNS, 0)?;
     }
-    let mut octets = Vec::new(alloc);
-    for outcome in write(alloc, &mut octets, asking(), MAX_QUERY, entries.as_slice())? {
-        if let Err(AddError::Proto(error)) = outcome {
-            return Err(Refusal::Proto(error));
-        }
-    }
-    Ok(hex::encode(alloc, octets.as_slice())?)
-}
-
-/// The header of a query.
-fn asking() -> Metadata {
-    Metadata {
-        id: 0,
-        message_type: MessageType::Query,
-        op_code: OpCode::Query,
-        authoritative: false,
-        truncation: false,
-        recursion_desired: true,
-        recursion_available: false,
-        authentic_data: false,
-        checking_disabled: false,
-        response_code: ResponseCode::NoError,
-    }
+    Ok(hex::encode(alloc, &message[..writer.end.min(MAX_QUERY)])?)
 }
