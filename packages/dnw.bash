@@ -2,13 +2,18 @@
 _dnw() {
     local word=${COMP_WORDS[COMP_CWORD]} words=
     case ${COMP_WORDS[1]},$COMP_CWORD in
-        *,1) words='message query key-tag ds nsec3 zone-digest' ;;
+        *,1) words='message query key-tag ds nsec3 zone-digest zone --help' ;;
         message,2 | nsec3,4 | zone-digest,4) words=- ;;
         query,3)
             words='A AAAA CAA CDNSKEY CDS CNAME DNSKEY DS HINFO HTTPS LOC MX NAPTR NS NSEC NSEC3 NSEC3PARAM OPENPGPKEY PTR RRSIG SMIMEA
                 SOA SRV SSHFP SVCB TLSA TXT URI ZONEMD ANY AXFR IXFR'
             ;;
         query,4) words=--edns ;;
+        zone,2)
+            mapfile -t COMPREPLY < <(compgen -f -- "$word")
+            return
+            ;;
+        zone,3) words=--origin ;;
     esac
     mapfile -t COMPREPLY < <(compgen -W "$words" -- "$word")
 }

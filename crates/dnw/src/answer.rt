@@ -13,19 +13,49 @@ use dns_names_wire::rdata::RDataError;
 use dns_names_wire::{DecodeError, ProtoError};
 use hex::FromHexError;
 use std::alloc::{AllocError, AllocFailed, Global};
-use std::io;
 use std::io::{Read, Write};
+use std::rt::Files;
+use std::{fs, io};
 use thiserror::Error;
+
+/// What `--help` shows.
+const HELP: &str = "\
+Shows DNS messages, makes queries, lists zone files, and computes the sums of DNSSEC.
+
+usage: dnw message HEX | -                     shows a message, from digits or standard input
+       dnw query NAME TYPE [--edns]            makes a query, as hexadecimal digits
+       dnw key-tag RECORD                      computes the key tag of a DNSKEY record
+       dnw ds RECORD                           makes the DS record of a DNSKEY record
+       dnw nsec3 NAME ITERATIONS SALT          hashes a name for NSEC3
+       dnw zone-digest APEX ALGORITHM -        computes the digest of a zone file
+       dnw zone FILE --origin NAME             lists the records of a zone file, or its errors
+       dnw --help                              shows this text
+
+A zone file is shown as one line a record, with nothing left out. If an entry is wrong, all errors
+are shown instead, as FILE:LINE:COLUMN, with the line and a mark. The FILE - is standard input.
+
+Exit status: 0 after an answer, 1 if what was given is refused, 2 if the words ask for nothing.
+
+Examples: dnw zone /etc/bind/db.local --origin localhost.
+          dnw query example.com. MX | dnw message -";
 
 /// Why there is no answer.
 #[derive(Debug, Drop, Error)]
 enum Refusal {
     /// The words ask for nothing that the program does.
-    #[error("usage: dnw message HEX | message - | query NAME TYPE [--edns] | key-tag RECORD | ds RECORD | nsec3 NAME ITERATIONS SALT | zone-digest APEX ALGORITHM - | zone ORIGIN -")]
+    #[error("usage: dnw message HEX | message - | query NAME TYPE [--edns] | key-tag RECORD | ds RECORD | nsec3 NAME ITERATIONS SALT | zone-digest APEX ALGORITHM - | zone FILE --origin NAME")]
     Usage,
     /// Standard input could not be read.
     #[error("refused: standard input: {0}")]
     Input(io::Error),
+    /// A file could not be opened or read.
+    #[error("refused: {file}: {error}")]
+    File {
+        /// The file.
+        file: String,
+        /// What is wrong.
+        error: io::Error,
+    },
     /// A name was refused, or memory ran out.
     #[error("refused: {0}")]
     Proto(ProtoError),
@@ -58,7 +88,7 @@ enum Refusal {
     /// There is no sum.
     #[error("refused: {0}")]
     Sum(DnssecError),
-    /// A zone has entries that are none: the lines that say where and why, and the records of the others.
+    /// A zone file has entries that are none: the lines that say where, and why.
     #[error("{0}")]
     Zone(String),
 }
@@ -131,13 +161,13 @@ impl From<AllocError> for Refusal {
 
 /// Writes the answer to the words, the program's own name not among them, and returns the exit status: 0 for an
 /// answer, 1 for a refusal, 2 for words that ask for nothing. It fails if the answer cannot be written.
-pub fn answer<I: Read, W: Write>(
-    alloc: Global,
+pub fn answer<E: Files + AllocGlobal, I: Read, W: Write>(
+    env: &E,
     words: &[String],
     input: &mut I,
     out: &mut W,
 ) -> io::Result<u8> {
-    match reply(alloc, words, input) {
+    match reply(env, words, input) {
         Ok(text) => {
             writeln!(out, "{text}")?;
             Ok(0)
@@ -152,7 +182,12 @@ pub fn answer<I: Read, W: Write>(
     }
 }
 
-fn reply<I: Read>(alloc: Global, words: &[String], input: &mut I) -> Result<String, Refusal> {
+fn reply<E: Files + AllocGlobal, I: Read>(
+    env: &E,
+    words: &[String],
+    input: &mut I,
+) -> Result<String, Refusal> {
+    let alloc = env.alloc();
     match words {
         [command, dash] if command.as_str() == "message" && dash.as_str() == "-" => {
             messages::listing(alloc, given(alloc, input)?.as_slice())
@@ -176,15 +211,45 @@ fn reply<I: Read>(alloc: Global, words: &[String], input: &mut I) -> Result<Stri
             if command.as_str() == "zone-digest" && dash.as_str() == "-" => {
             let mut zone = Vec::new(alloc);
             input.read_to_end(&mut zone)?;
-            sums::digest(alloc, apex.as_str(), algorithm.as_str(), zone.as_slice())
+            sums::digest(env, alloc, apex.as_str(), algorithm.as_str(), zone)
         }
-        [command, origin, dash] if command.as_str() == "zone" && dash.as_str() == "-" => {
-            let mut zone = Vec::new(alloc);
-            input.read_to_end(&mut zone)?;
-            zones::listing(alloc, origin.as_str(), zone.as_slice())
+        [command, file, option, origin]
+            if command.as_str() == "zone" && option.as_str() == "--origin" => {
+            let zone = contents(env, alloc, file.as_str(), input)?;
+            zones::listing(env, alloc, file.as_str(), origin.as_str(), zone)
+        }
+        [option] if option.as_str() == "--help" || option.as_str() == "-h" => {
+            Ok(String::from_str(alloc, HELP)?)
         }
         _ => Err(Refusal::Usage),
     }
+}
+
+/// All octets of a file, or of standard input if the file is `-`.
+fn contents<E: Files, I: Read>(
+    env: &E,
+    alloc: Global,
+    file: &str,
+    input: &mut I,
+) -> Result<Vec<u8>, Refusal> {
+    let mut octets = Vec::new(alloc);
+    if file == "-" {
+        input.read_to_end(&mut octets)?;
+        return Ok(octets);
+    }
+    match read_file(env, file, &mut octets) {
+        Ok(()) => Ok(octets),
+        Err(error) => Err(Refusal::File {
+            file: String::from_str(alloc, file)?,
+            error,
+        }),
+    }
+}
+
+/// Appends all octets of a file.
+fn read_file<E: Files>(env: &E, file: &str, octets: &mut Vec<u8>) -> io::Result<()> {
+    fs::open(env, file)?.read_to_end(octets)?;
+    Ok(())
 }
 
 /// Octets from standard input. If all of it is hexadecimal digits, spaces and ends of lines, the digits are the octets; else it

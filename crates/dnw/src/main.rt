@@ -1,4 +1,4 @@
-//! `dnw` shows whole messages, and makes queries.
+//! `dnw` shows whole messages, makes queries, lists zone files, and computes the sums of DNSSEC.
 #![tactic(auto)]
 
 mod answer;
@@ -6,7 +6,7 @@ mod answer;
 use answer::answer;
 use std::io::{Read, Write};
 use std::process::ExitCode;
-use std::rt::Env;
+use std::rt::{Env, Files};
 use std::{env, io};
 
 /// The words after the program's name. It fails with `InvalidData` if one of them is not UTF-8.
@@ -18,15 +18,15 @@ fn words<E: Env + AllocGlobal>(env: &E) -> io::Result<Vec<String>> {
     Ok(words)
 }
 
-fn run<E: Env + AllocGlobal, I: Read, W: Write>(
+fn run<E: Env + Files + AllocGlobal, I: Read, W: Write>(
     env: &E,
     input: &mut I,
     out: &mut W,
 ) -> io::Result<u8> {
     match words(env) {
-        Ok(words) => answer(env.alloc(), words.as_slice(), input, out),
+        Ok(words) => answer(env, words.as_slice(), input, out),
         // Words that are not text ask for nothing that the program does, as no words do.
-        Err(e) if e.kind() == io::ErrorKind::InvalidData => answer(env.alloc(), &[], input, out),
+        Err(e) if e.kind() == io::ErrorKind::InvalidData => answer(env, &[], input, out),
         Err(e) => Err(e),
     }
 }

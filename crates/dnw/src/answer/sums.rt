@@ -9,6 +9,7 @@ use dns_names_wire::rdata::Record;
 use dns_names_wire::record::RecordRef;
 use dns_names_wire::record_type::RecordType;
 use std::alloc::Global;
+use std::rt::Files;
 
 /// The digest type of a DS record that every validator knows: SHA-256 (RFC 8624, section 3.3).
 const SHA256: u8 = 2;
@@ -68,16 +69,17 @@ pub(super) fn nsec3(
 
 /// Returns the digest that a ZONEMD record of a zone has (RFC 8976), by the hash algorithm, in hexadecimal digits. The zone is a
 /// zone file, whose names without a dot at their end are below the apex.
-pub(super) fn digest(
+pub(super) fn digest<E: Files>(
+    env: &E,
     alloc: Global,
     apex: &str,
     algorithm: &str,
-    zone: &[u8],
+    zone: Vec<u8>,
 ) -> Result<String, Refusal> {
     let Ok(algorithm) = algorithm.parse::<u8>() else {
         return Err(Refusal::Usage);
     };
-    let lines = zones::listing(alloc, apex, zone)?;
+    let lines = zones::listing(env, alloc, "-", apex, zone)?;
     let apex = Name::from_text(alloc, apex, None)?;
     let mut records = Vec::new(alloc);
     for line in lines.lines() {

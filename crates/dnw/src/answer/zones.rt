@@ -1,52 +1,170 @@
 //! Zone files, as lines of their records.
 
+mod faults;
+mod includes;
+
 use super::Refusal;
+use dns_names_wire::ProtoError;
 use dns_names_wire::binary::BinDecodable;
 use dns_names_wire::data_text::{DataTextError, RecordLineError, record_text};
 use dns_names_wire::name::Name;
 use dns_names_wire::record::RecordRef;
-use dns_names_wire::zone::{Context, Entry, Found, ZoneError, ZoneRecord, place_of, take_entry};
+use dns_names_wire::zone::{
+    Context, Entry, Found, Include, TextPlace, ZoneError, ZoneRecord, take_entry,
+};
+use faults::Fault;
 use std::alloc::Global;
+use std::rt::Files;
 
-/// Returns the records of a zone, one a line, with a line for each error, as compilers show them. If there is an error, all of it is
-/// a refusal.
-pub(super) fn listing(alloc: Global, origin: &str, zone: &[u8]) -> Result<String, Refusal> {
-    let mut context = Context::new(Name::from_text(alloc, origin, None)?);
+/// A zone file, and how far it is read.
+#[derive(Drop)]
+struct Source {
+    /// The file, as its errors name it.
+    name: String,
+    /// All octets of the file.
+    text: Vec<u8>,
+    /// The number of octets that are read.
+    used: usize,
+    /// The place of the next octet.
+    place: TextPlace,
+    /// What the entries that are read say for the next one.
+    context: Context,
+}
+
+impl Source {
+    /// Creates a file of which nothing is read.
+    fn new(name: String, text: Vec<u8>, context: Context) -> Self {
+        Source {
+            name,
+            text,
+            used: 0,
+            place: TextPlace { line: 0, column: 0 },
+            context,
+        }
+    }
+}
+
+/// The lines of the records, and of the errors, so far.
+#[derive(Drop)]
+struct Lines {
+    records: String,
+    errors: String,
+}
+
+/// What comes next.
+#[derive(Drop)]
+enum Next {
+    /// The next entry of the same file.
+    Entry,
+    /// The entries of an included file.
+    Source(Source),
+    /// What is after the `$INCLUDE` of the file, which ends.
+    End,
+}
+
+/// Returns the records of a zone file, and of the files that it includes, one a line. If there is an error, the lines of all errors
+/// are a refusal, as compilers show them.
+pub(super) fn listing<E: Files>(
+    env: &E,
+    alloc: Global,
+    file: &str,
+    origin: &str,
+    text: Vec<u8>,
+) -> Result<String, Refusal> {
+    let context = Context::new(Name::from_text(alloc, origin, None)?);
+    let mut sources = Vec::new(alloc);
+    sources.push(Source::new(String::from_str(alloc, file)?, text, context))?;
+    let mut lines = Lines {
+        records: String::new(alloc),
+        errors: String::new(alloc),
+    };
     let mut line = Vec::new(alloc);
-    let mut lines = String::new(alloc);
-    let mut has_errors = false;
-    let mut left = zone;
-    // Each entry takes an octet or more.
-    for _ in 0..zone.len().saturating_add(1) {
-        let start = zone.len().saturating_sub(left.len());
-        let step = take_entry(alloc, &mut context, left, false, &mut line);
-        let used = step.used;
-        match &step.found {
-            Ok(Found::Entry(Entry::Record(found))) => {
-                put_record(alloc, &context, found, &mut lines)?;
-            }
-            Ok(Found::Entry(Entry::Include(_))) => {
-                let place = place_of(zone, start);
-                writeln!(
-                    lines,
-                    "{}: $INCLUDE is not followed",
-                    place.line.saturating_add(1)
-                )?;
-                has_errors = true;
-            }
-            Ok(Found::Entry(Entry::Nothing)) => {}
-            Ok(_) => break,
-            Err(error) => {
-                put_error(zone, start, error, &mut lines)?;
-                has_errors = true;
+    for _ in 0..u64::MAX {
+        let depth = sources.len();
+        let Some(source) = sources.last_mut() else {
+            break;
+        };
+        match entry(env, alloc, source, depth, &mut line, &mut lines)? {
+            Next::Entry => {}
+            Next::Source(included) => sources.push(included)?,
+            Next::End => {
+                sources.pop();
             }
         }
-        left = &left[used..];
     }
-    if has_errors {
-        return Err(Refusal::Zone(lines));
+    if lines.errors.is_empty() {
+        Ok(lines.records)
+    } else {
+        Err(Refusal::Zone(lines.errors))
     }
-    Ok(lines)
+}
+
+/// Reads the next entry of a file, appends its line or lines, and returns what comes next. So many files are open.
+fn entry<E: Files>(
+    env: &E,
+    alloc: Global,
+    source: &mut Source,
+    depth: usize,
+    line: &mut Vec<u8>,
+    lines: &mut Lines,
+) -> Result<Next, Refusal> {
+    let text = source
+        .text
+        .as_slice()
+        .get(source.used..)
+        .unwrap_or_default();
+    let step = take_entry(alloc, &mut source.context, text, false, line);
+    let fault = Fault {
+        file: source.name.as_str(),
+        text,
+        start: source.place,
+    };
+    let next = match &step.found {
+        Ok(Found::Entry(Entry::Record(found))) => {
+            put_record(alloc, &source.context, found, &mut lines.records)?;
+            Next::Entry
+        }
+        Ok(Found::Entry(Entry::Include(include))) => {
+            included(
+                env,
+                alloc,
+                &fault,
+                &source.context,
+                include,
+                depth,
+                &mut lines.errors,
+            )?
+        }
+        Ok(Found::Entry(Entry::Nothing)) => Next::Entry,
+        Ok(_) => Next::End,
+        Err(error) => {
+            put_error(alloc, &fault, error, &mut lines.errors)?;
+            Next::Entry
+        }
+    };
+    source.place = faults::moved(source.place, text, step.used);
+    source.used = source.used.saturating_add(step.used);
+    Ok(next)
+}
+
+/// Opens the file of an `$INCLUDE`, or appends why it cannot be read.
+fn included<E: Files>(
+    env: &E,
+    alloc: Global,
+    fault: &Fault,
+    context: &Context,
+    include: &Include,
+    depth: usize,
+    errors: &mut String,
+) -> Result<Next, Refusal> {
+    match includes::open(env, alloc, fault.file, fault.text, context, include, depth) {
+        Ok(source) => Ok(Next::Source(source)),
+        Err(error) => {
+            let reason = format!(in alloc; "{error}")?;
+            fault.put(include.file, reason.as_str(), errors)?;
+            Ok(Next::Entry)
+        }
+    }
 }
 
 /// Appends the line of a record.
@@ -74,34 +192,35 @@ fn put_record(
     Ok(())
 }
 
-/// Appends the line and column of an error of the entry at an offset, and what it is.
+/// Appends why an entry is none. It fails if memory ran out while it was read.
 fn put_error(
-    zone: &[u8],
-    start: usize,
+    alloc: Global,
+    fault: &Fault,
     error: &ZoneError,
-    lines: &mut String,
+    errors: &mut String,
 ) -> Result<(), Refusal> {
-    let place = place_of(zone, start.saturating_add(offset_of(error)));
-    let line = place.line.saturating_add(1);
-    let column = place.column.saturating_add(1);
-    writeln!(lines, "{line}:{column}: {error}")?;
-    Ok(())
-}
-
-/// The offset of an error in its entry.
-fn offset_of(error: &ZoneError) -> usize {
-    match error {
-        ZoneError::Wrong { offset, rule: _ } => *offset,
-        ZoneError::Data(RecordLineError::TooLong { offset }) => *offset,
+    let (offset, reason) = match error {
+        ZoneError::Memory | ZoneError::Data(RecordLineError::Data(DataTextError::Memory)) => {
+            return Err(Refusal::Proto(ProtoError::Memory));
+        }
+        ZoneError::Wrong { offset, rule } => (*offset, format!(in alloc; "{rule}")?),
+        ZoneError::Data(RecordLineError::TooLong { offset }) => (
+            *offset,
+            format!(in alloc; "wanted data of at most 65535 octets")?,
+        ),
         ZoneError::Data(
             RecordLineError::Data(
                 DataTextError::Wanted {
-                    field: _,
+                    field,
                     offset,
-                    wanted: _,
+                    wanted,
                 },
             ),
-        ) => *offset,
-        _ => 0,
-    }
+        ) => (
+            *offset,
+            format!(in alloc; "wanted {wanted} (field {field})")?,
+        ),
+        ZoneError::Data(other) => (0, format!(in alloc; "{other}")?),
+    };
+    fault.put(offset, reason.as_str(), errors)
 }
