@@ -1,10 +1,12 @@
 """What was refused, so that it need not be tried again: `.ci/refused` has a line for each edit, with its name, a key, and how it was refused.
 
-A key is a sum over all that a refusal rests on: the edit; the code, specs and proofs of its crate; the specs and contracts of the
-crates below, also what the crate's line in crates.txt says; the toolchain; and the version of this tool."""
+A key is a sum over all that a refusal rests on: the edit; the code, specs and proofs of its crate; the contracts of the crates below;
+the specs and proofs there that these and the crate import, and what those import; what the crate's line in crates.txt says; the
+toolchain; and the version of this tool."""
 
 import functools
 import hashlib
+import re
 import subprocess
 import threading
 
@@ -36,20 +38,37 @@ def toolchain():
 
 
 @functools.lru_cache(maxsize=None)
-def shown_by(crate):
-    """The sum of what a crate shows to those above it: its specs, and its contracts."""
-    texts = sorted(texts_of(crate).items())
-    return sum_of(*(part for path, text in texts if path.startswith("specs/") for part in (path, text)),
-                  *(part for path, text in texts if path.startswith("src/") for part in (path, contracts_of(text))))
+def contracts(crate):
+    """The contracts of a crate's files of code, by their paths in the repository."""
+    return {f"crates/{crate}/{path}": contracts_of(text) for path, text in texts_of(crate).items() if path.startswith("src/")}
+
+
+@functools.lru_cache(maxsize=None)
+def imported_by(text):
+    """The files of specs and proofs that a text imports."""
+    found = re.findall(r"\bRattle\.(\w+)\.((?:specs|proofs)(?:\.\w+)*)", text)
+    files = {f"crates/{crate}/{module.replace('.', '/')}.antt" for crate, module in found}
+    return {file for file in files if (ROOT / file).is_file()}
+
+
+def reached_from(texts):
+    """The files of specs and proofs that texts import, and what these import, and so on."""
+    found, new = {}, set().union(*map(imported_by, texts))
+    while new:
+        found.update((file, (ROOT / file).read_text(encoding="utf-8")) for file in new)
+        new = set().union(*(imported_by(found[file]) for file in new)) - set(found)
+    return found
 
 
 @functools.lru_cache(maxsize=None)
 def rests_on(crate):
     """The sum of all that the refusals of a crate's edits rest on, but the edits."""
-    crates = listed()
-    own = [part for pair in sorted(texts_of(crate).items()) for part in pair]
-    lower = [part for it in sorted(below(crate, crates)) for part in (it, shown_by(it))]
-    return sum_of(str(VERSION), toolchain(), crate, *sorted(crates[crate]), sum_of(*own), sum_of(*lower))
+    crates, own, lower = listed(), texts_of(crate), {}
+    for it in below(crate, crates):
+        lower.update(contracts(it))
+    lower.update(reached_from((*own.values(), *lower.values())))
+    parts = [part for texts in (own, lower) for pair in sorted(texts.items()) for part in pair]
+    return sum_of(str(VERSION), toolchain(), crate, *sorted(crates[crate]), *parts)
 
 
 def key_of(edit):

@@ -156,8 +156,12 @@ def is_same_code(old, new):
     return all(one == it or one in bound and it in other for one, it in pairs)
 
 
+IMPORT = re.compile(r"^(?:ghost )?use ([^;{]*)(?:\{([^}]*)\})?;\n?", re.M)
+
+
 def contracts_of(text):
-    """The text of a file without comments, private functions and the bodies of the others: what a crate above may rest on."""
+    """The text of a file without comments, private functions and the bodies of the others: what a crate above may rest on. Of
+    imports it has those that are named in what is left."""
     lines = text.split("\n")
     for function in functions_of("", text):
         is_private = not re.search(r"\btrait\b|\bfor\b", function.head) and not re.match(r" *pub ", lines[function.first])
@@ -165,4 +169,13 @@ def contracts_of(text):
             lines[function.top : function.last + 1] = [""] * (function.last + 1 - function.top)
         elif function.body < function.last:
             lines[function.body : function.last + 1] = [""] * (function.last + 1 - function.body)
-    return "\n".join(line.rstrip() for line in lines if line.strip() and not re.match(r" *//", line))
+    shown = "\n".join(line.rstrip() for line in lines if line.strip() and not re.match(r" *//", line))
+    rest = IMPORT.sub("", shown)
+    imports = [(path, name) for path, names in IMPORT.findall(shown) for name in re.findall(r"[^\s,][^,]*", names or path)]
+    return "".join(f"use {path} {name}\n" for path, name in imports if is_named(name, rest)) + rest
+
+
+def is_named(name, text):
+    """Whether a text has an imported name, or the one that it is given there. Operators are taken to be there."""
+    word = re.split(r"::|\.| as ", name.strip())[-1].strip()
+    return not re.fullmatch(r"\w+", word) or re.search(rf"\b{word}\b", text) is not None
