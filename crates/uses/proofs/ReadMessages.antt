@@ -4,6 +4,7 @@ use Rattle.std.specs.Result.{IsOk}
 use Rattle.dns_names_wire.specs.Words.{AddedItems, AddedQuestion, AddedRecord, AddsItem, Answers, AreLabels, BeginsMessage, BegunMessagesAreEmpty, HoldsItems, IsQuestion, IsRecord, Queries}
 use Rattle.dns_names_wire.specs.Words.{QuestionsAreAdded, RecordsAreAdded, WriterState, fields_of_record, no_items, slot_of, with_question, with_records}
 use Rattle.dns_names_wire.specs.declared.message_writer.Piece.TheVariants.{Octets}
+use Rattle.uses.specs.Messages.{response}
 
 -- what can't fail did not
 pub is_ok : {A E : Type 0} (fails : E → Type 0) → ((error : E) → fails error → ⊥) → (r : Result A E) → IfErr r fails → IsOk r
@@ -14,23 +15,17 @@ is_ok fails never (Err error) h = absurd (never error h)
 pub ok_holds : {A E : Type 0} (holds : A → Type 0) (r : Result A E) (x : A) → r ≡ Ok x → IfOk r holds → holds x
 ok_holds {A} {E} holds r x is h = subst (λ (o : Result A E). IfOk o holds) is h
 
--- the question for the addresses of a name, and the answer that it has this one, for an hour
-abbrev pub response : List (List ℕ) → List (List ℕ) → Bor (List ℕ) → AddedItems
-response name owner address =
-    with_records Answers (record { owner = owner; record_type = 1; class = 1; ttl = 3600; pieces = Octets address ∷ [] } ∷ [])
-    (with_question (record { name = name; query_type = 1; class = 1 }) no_items)
-
 -- A message that these calls write holds them. The buffer keeps its length, which has room for the header, as an item was added.
-pub response_is_held : BegunMessagesAreEmpty → QuestionsAreAdded → RecordsAreAdded → (id : ℕ) (name owner : List (List ℕ)) (address : Bor (List ℕ))
-    (old begun asked made : List ℕ) (w v u : WriterState) → id < 2 ^ 16 → length begun ≡ length old → AreLabels name → AreLabels owner
+pub response_is_held : BegunMessagesAreEmpty → QuestionsAreAdded → RecordsAreAdded → (id : ℕ) (name asked_name owner : List (List ℕ)) (address : Bor (List ℕ))
+    (old begun asked made : List ℕ) (w v u : WriterState) → id < 2 ^ 16 → length begun ≡ length old → asked_name ≡ name → owner ≡ name → AreLabels name
     → BeginsMessage id 33792 512 old w begun
-    → AddsItem Queries (λ b near hints octets after. IsQuestion slot_of b near hints name 1 1 octets after) w begun v asked
+    → AddsItem Queries (λ b near hints octets after. IsQuestion slot_of b near hints asked_name 1 1 octets after) w begun v asked
     → AddsItem Answers (λ b near hints octets after. IsRecord slot_of b near hints owner (fields_of_record 1 1 3600) (Octets address ∷ []) octets after) v asked u made
-    → HoldsItems id 33792 (response name owner address) u made
-response_is_held empty question answer id name owner address old begun asked made w v u fits same name_labels owner_labels begins asks answers =
+    → HoldsItems id 33792 (response name address) u made
+response_is_held empty question answer id name .name .name address old begun asked made w v u fits same refl refl labels begins asks answers =
     let (octets, hints, form, limit, room, new_is, after_is) = asks in
     let q : AddedQuestion = record { name = name; query_type = 1; class = 1 } in
-    let r : AddedRecord = record { owner = owner; record_type = 1; class = 1; ttl = 3600; pieces = Octets address ∷ [] } in
+    let r : AddedRecord = record { owner = name; record_type = 1; class = 1; ttl = 3600; pieces = Octets address ∷ [] } in
     let none = empty id 33792 512 old begun w fits (search rules) (omega (arith, same, limit.message.there)) begins in
-    let one = question slot_of id 33792 no_items q w v begun asked none (search rules) name_labels asks in
-    answer slot_of id 33792 (with_question q no_items) Answers r v u asked made one (search rules) (search rules) owner_labels (search rules) answers
+    let one = question slot_of id 33792 no_items q w v begun asked none (search rules) labels asks in
+    answer slot_of id 33792 (with_question q no_items) Answers r v u asked made one (search rules) (search rules) labels (search rules) answers

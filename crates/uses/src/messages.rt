@@ -1,6 +1,6 @@
 //! Writes a message, and reads it.
 ghost use Rattle.std.specs.Prelude.{IfOk};
-ghost use Rattle.uses.specs.Messages.{IsOneAnswer};
+ghost use Rattle.uses.specs.Messages.{IsResponse};
 
 use dns_names_wire::Name;
 use dns_names_wire::message::{HeaderCounts, MessageRef};
@@ -19,15 +19,15 @@ const IN: u16 = 1;
 
 const HOUR: u32 = 3600;
 
-/// Writes the response that a name has an address, reads it, and returns how many items each section has. A message that was written
-/// is always read.
+/// Writes the response that a name has an address, reads it, and returns how many items each section has. What is read is what was
+/// written: the header, the question and the answer.
 pub fn write_and_read(
     message: &mut [u8],
     id: u16,
     name: &Name,
     address: &[u8; 4],
 ) -> Result<HeaderCounts, WriteError>
-    ensures { IfOk result IsOneAnswer }
+    ensures { IfOk result (IsResponse id name.now.labels address message.new) }
 {
     laws::messages_hold_their_items();
     laws::held_items_are_read();
