@@ -1,8 +1,8 @@
 -- A message that was written is read.
 use Rattle.std.proofs.Common.{◌≡◌, ℕ, ◌<◌, ◌^◌, List, [], ◌∷◌, length, Result, Ok, Err, IfOk, IfErr, Bor, refl, subst, rules, arith}
 use Rattle.std.specs.Result.{IsOk}
-use Rattle.dns_names_wire.specs.Words.{AddedItems, AddedQuestion, AddedRecord, AddsItem, Answers, AreLabels, BeginsMessage, BegunMessagesAreEmpty, HoldsItems, IsQuestion, IsRecord, Queries}
-use Rattle.dns_names_wire.specs.Words.{QuestionsAreAdded, RecordsAreAdded, WriterState, fields_of_record, no_items, slot_of, with_question, with_records}
+use Rattle.dns_names_wire.specs.Words.{AddedQuestion, AddedRecord, AddsItem, Answers, AreLabels, BeginsMessage, BegunMessagesAreEmpty, HoldsItems, IsQuestion, IsRecord, Queries}
+use Rattle.dns_names_wire.specs.Words.{QuestionsAreAdded, RecordsAreAdded, WriterState, fields_of_record, no_items, slot_of, with_question}
 use Rattle.dns_names_wire.specs.declared.message_writer.Piece.TheVariants.{Octets}
 use Rattle.uses.specs.Messages.{response}
 
@@ -22,10 +22,14 @@ pub response_is_held : BegunMessagesAreEmpty → QuestionsAreAdded → RecordsAr
     → AddsItem Queries (λ b near hints octets after. IsQuestion slot_of b near hints asked_name 1 1 octets after) w begun v asked
     → AddsItem Answers (λ b near hints octets after. IsRecord slot_of b near hints owner (fields_of_record 1 1 3600) (Octets address ∷ []) octets after) v asked u made
     → HoldsItems id 33792 (response name address) u made
-response_is_held empty question answer id name .name .name address old begun asked made w v u fits same refl refl labels begins asks answers =
-    let (octets, hints, form, limit, room, new_is, after_is) = asks in
+response_is_held empty question answer id name asked_name owner address old begun asked made w v u fits same asked_is owner_is labels begins asks answers =
+    let asks_it = subst (λ (n : List (List ℕ)). AddsItem Queries (λ b near hints octets after. IsQuestion slot_of b near hints n 1 1 octets after) w begun v asked)
+    asked_is asks in
+    let answers_it = subst (λ (n : List (List ℕ)). AddsItem Answers (λ b near hints octets after.
+    IsRecord slot_of b near hints n (fields_of_record 1 1 3600) (Octets address ∷ []) octets after) v asked u made) owner_is answers in
+    let (octets, hints, form, limit, room, new_is, after_is) = asks_it in
     let q : AddedQuestion = record { name = name; query_type = 1; class = 1 } in
     let r : AddedRecord = record { owner = name; record_type = 1; class = 1; ttl = 3600; pieces = Octets address ∷ [] } in
     let none = empty id 33792 512 old begun w fits (search rules) (omega (arith, same, limit.message.there)) begins in
-    let one = question slot_of id 33792 no_items q w v begun asked none (search rules) labels asks in
-    answer slot_of id 33792 (with_question q no_items) Answers r v u asked made one (search rules) (search rules) labels (search rules) answers
+    let one = question slot_of id 33792 no_items q w v begun asked none (search rules) labels asks_it in
+    answer slot_of id 33792 (with_question q no_items) Answers r v u asked made one (search rules) (search rules) labels (search rules) answers_it

@@ -27,7 +27,7 @@ pub fn write_and_read(
     name: &Name,
     address: &[u8; 4],
 ) -> Result<HeaderCounts, WriteError>
-    ensures { IfOk result (IsResponse id name.now.labels address message.new) }
+    ensures { IfOk result (IsResponse id name.now.labels address.entry message.new) }
 {
     laws::messages_hold_their_items();
     laws::held_items_are_read();

@@ -1,6 +1,6 @@
 -- What was written is read, and is this response.
-use Rattle.std.proofs.Common.{◌≤◌, ℕ, ap, refl, sym, subst, rules}
-use Rattle.dns_names_wire.specs.Words.{AreLabels, FailsMessage, MessageAt, MessageValue, max_pointers}
+use Rattle.std.proofs.Common.{◌≤◌, ℕ, ap, refl, rules}
+use Rattle.dns_names_wire.specs.Words.{FailsMessage, MessageAt, MessageValue, max_pointers}
 use Rattle.dns_names_wire.specs.declared.message.Header.{Header}
 use Rattle.uses.specs.Messages.{response}
 use Rattle.uses.proofs.ReadMessages.{is_ok, ok_holds, response_is_held}
