@@ -24,9 +24,10 @@ use dnw_c_base::failure::{Failure, text_of};
 use dnw_c_base::names::{name_ref_at, put_name};
 use dnw_c_base::results::report;
 use dnw_name::name::Name;
+use dnw_name_form::form::WireForm;
 use dnw_name_form::wire_labels::WireLabels;
 use dnw_name_text::printing::{MAX_TEXT, push_name};
-use dnw_name_text::reading::read;
+use dnw_name_text::reading::read_into;
 use dnw_write::binary::BinEncodable;
 use dnw_write::encoder::BinEncoder;
 use std::alloc::Global;
@@ -158,13 +159,11 @@ fn parse(alloc: Global, text: &[u8], origin: &[u8], form: &mut [u8]) -> Result<P
     ensures { ParsesName text.now origin.now form.old form.new result }
 {
     let labels = origin_labels(origin)?;
-    match read(alloc, text, labels) {
-        Ok(name) => {
-            let len = put_wire(form, name.form.labels())?;
-            Ok(ParsedName {
-                len,
-                is_fqdn: name.is_fqdn,
-            })
+    let mut name = WireForm::new(alloc);
+    match read_into(&mut name, text, labels) {
+        Ok(is_fqdn) => {
+            let len = put_wire(form, name.labels())?;
+            Ok(ParsedName { len, is_fqdn })
         }
         Err(error) => Err(of_rule(error.rule)),
     }

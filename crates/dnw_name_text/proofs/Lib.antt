@@ -1,3 +1,4 @@
 pub mod Joining
 pub mod TextSizes
 pub mod NamesBack
+pub mod PlainRuns

@@ -1,2 +1,3 @@
 -- What no public clause cites: what the parts of a call return.
 pub mod Labels
+pub mod Plain

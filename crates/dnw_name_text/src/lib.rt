@@ -10,6 +10,7 @@
 pub mod error;
 /// What is printed of a name is read as the same name.
 pub mod laws;
+mod plain;
 /// Names printed.
 pub mod printing;
 /// Names read.

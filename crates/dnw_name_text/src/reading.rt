@@ -1,11 +1,14 @@
 //! Names in texts (RFC 1035, section 5.1).
-ghost use Rattle.std.specs.Prelude.{◌≡◌, ℕ, ◌≤◌, List, [], length};
+ghost use Rattle.std.specs.Prelude.{◌≡◌, ◌≢◌, ℕ, ◌+◌, ◌^◌, ◌<◌, ◌≤◌, List, [], length, Ok, Err, IfOk, IfErr};
 ghost use Rattle.dnw_base.specs.Limits.{max_label};
 ghost use Rattle.dnw_name_text.specs.declared.reading.Escape.TheVariants.{Outside};
-ghost use Rattle.dnw_name_text.specs.Inside.Labels.{IsEscape, IsTextElement, PushesLabel, Completes};
-ghost use Rattle.dnw_name_text.specs.NameReading.{element, ended, labels_from, labels_of_text, name_of_text};
+ghost use Rattle.dnw_name_text.specs.Inside.Labels.{IsEscape, IsTextElement, BeginsPlain, MakesLabels, MakesName, MakesStep};
+ghost use Rattle.dnw_name_form.specs.Edits.{with_labels};
+ghost use Rattle.dnw_name_form.specs.LabelText.{dot, backslash};
+ghost use Rattle.dnw_name_text.specs.NameReading.{element, ended, labels_from, labels_of_text, name_of_text, one_label_more, or_too_long};
 
 use crate::error::{NameTextError, NameTextRule};
+use crate::plain::is_own;
 use arrayvec::ArrayVec;
 use dnw_base::limits::MAX_LABEL;
 use dnw_name_ascii::text::Parsed;
@@ -39,6 +42,14 @@ pub(crate) enum Element {
     Fault,
 }
 
+/// What reading a label comes to.
+enum Step<'t> {
+    /// The label had a dot after it. At this offset are the others.
+    Next(usize, &'t [u8]),
+    /// The text ended: whether in a dot.
+    End(bool),
+}
+
 /// Reads the name that a text gives, or returns where and why it gives none. It does not allocate.
 ///
 /// A name with a dot at its end is fully qualified. Any other one is completed by the labels of an origin, and is fully qualified then;
@@ -50,54 +61,140 @@ pub fn read(
 ) -> Result<Parsed, NameTextError>
     ensures { result ≡ name_of_text origin.entry text.now }
 {
-    let (form, is_fqdn) = read_whole(alloc, text)?;
-    let Some(labels) = origin else {
-        return Ok(Parsed { form, is_fqdn });
-    };
-    if is_fqdn {
-        return Ok(Parsed { form, is_fqdn });
-    }
-    let form = complete(form, labels, text.len())?;
-    Ok(Parsed {
-        form,
-        is_fqdn: true,
-    })
+    let mut form = WireForm::new(alloc);
+    let is_fqdn = read_into(&mut form, text, origin)?;
+    Ok(Parsed { form, is_fqdn })
 }
 
-/// Returns the labels of a text with those of an origin, or that the name is too long at the text's end.
-fn complete(
-    mut form: WireForm,
-    labels: WireLabels<'_>,
-    end: usize,
-) -> Result<WireForm, NameTextError>
-    ensures { Completes end form labels.entry result }
+/// Reads the name that a text gives into a form without labels, as `read`, and returns whether the name is fully qualified. So the
+/// form is not moved. After an error it has some of the labels.
+pub fn read_into(
+    form: &mut WireForm,
+    text: &[u8],
+    origin: Option<WireLabels<'_>>,
+) -> Result<bool, NameTextError>
+    requires { form.old ≡ [] }
+    ensures ok { IfOk result (λ is_fqdn. name_of_text origin.entry text.now ≡ Ok (record { is_fqdn = is_fqdn; labels = form.new })) }
+    ensures err { IfErr result (λ error. name_of_text origin.entry text.now ≡ Err error) }
+{
+    let is_fqdn = read_whole(form, text)?;
+    let Some(labels) = origin else {
+        return Ok(is_fqdn);
+    };
+    if is_fqdn {
+        return Ok(true);
+    }
+    complete(form, labels, text.len())?;
+    Ok(true)
+}
+
+/// Adds the labels of an origin, or reports that the name is too long at the text's end.
+fn complete(form: &mut WireForm, labels: WireLabels<'_>, end: usize) -> Result<(), NameTextError>
+    ensures { MakesLabels (or_too_long end (with_labels form.old labels.entry)) result form.new }
 {
     match form.append(labels) {
-        Ok(()) => Ok(form),
+        Ok(()) => Ok(()),
         Err(_) => Err(breaks(end, NameTextRule::NameTooLong)),
     }
 }
 
-/// Returns the labels of a text, and whether the name is fully qualified.
-fn read_whole(alloc: Global, text: &[u8]) -> Result<(WireForm, bool), NameTextError>
-    ensures { result ≡ labels_of_text text.now }
+/// Adds the labels of a text, and returns whether the name is fully qualified.
+fn read_whole(form: &mut WireForm, text: &[u8]) -> Result<bool, NameTextError>
+    requires { form.old ≡ [] }
+    ensures { MakesName (labels_of_text text.now) result form.new }
 {
     match text {
         [] => Err(breaks(0, NameTextRule::EmptyLabel)),
-        [b'.'] => Ok((WireForm::new(alloc), true)),
-        [b'@'] => Ok((WireForm::new(alloc), false)),
-        _ => read_labels(alloc, text),
+        [b'.'] => Ok(true),
+        [b'@'] => Ok(false),
+        _ => read_labels(form, text),
     }
 }
 
-/// Returns the labels of a text, and whether a dot is after the last one.
-fn read_labels(alloc: Global, text: &[u8]) -> Result<(WireForm, bool), NameTextError>
-    ensures { result ≡ labels_from 0 [] [] Outside text.now }
+/// Adds the labels of a text, and returns whether a dot is after the last one. Those whose octets stand for themselves are added whole.
+fn read_labels(form: &mut WireForm, text: &[u8]) -> Result<bool, NameTextError>
+    requires { form.old ≡ [] }
+    ensures { MakesName (labels_from 0 [] [] Outside text.now) result form.new }
 {
-    let mut form = WireForm::new(alloc);
+    let mut start = 0;
+    let mut rest = text;
+    'labels: loop {
+        let len = plain_len(rest);
+        let (label, others) = rest.split_at(len);
+        let Some((next, more)) = others.split_first() else {
+            return finish(form, label, Escape::Outside, start + len);
+        };
+        if *next == b'.' {
+            push_label(form, label, start + len)?;
+            start += len + 1;
+            rest = more;
+        } else {
+            match read_octets(form, rest, start, len)? {
+                Step::Next(at, more) => {
+                    start = at;
+                    rest = more;
+                }
+                Step::End(is_fqdn) => return Ok(is_fqdn),
+            }
+        }
+    }
+}
+
+/// Returns the number of octets that stand for themselves, 63 at most, that a text begins with.
+#[inline(always)]
+#[tactic(auto, using(crate::proofs::PlainRuns::plain_more))]
+fn plain_len(text: &[u8]) -> usize
+    ensures few { result ≤ length text.now }
+    ensures short { result ≤ max_label }
+    ensures plain { BeginsPlain text.now result }
+{
+    let most = text.len().min(MAX_LABEL);
+    let mut len = 0;
+    // Four octets a round take less than one.
+    'fours: while most - len >= 4 {
+        if !is_own(text[len]) {
+            return len;
+        }
+        if !is_own(text[len + 1]) {
+            return len + 1;
+        }
+        if !is_own(text[len + 2]) {
+            return len + 2;
+        }
+        if !is_own(text[len + 3]) {
+            return len + 3;
+        }
+        len += 4;
+    }
+    while len < most && is_own(text[len]) {
+        len += 1;
+    }
+    len
+}
+
+/// Adds the label that a text begins with, octet by octet after those that stand for themselves.
+#[inline(never)]
+fn read_octets<'t>(
+    form: &mut WireForm,
+    text: &'t [u8],
+    start: usize,
+    len: usize,
+) -> Result<Step<'t>, NameTextError>
+    requires room { start + length text.now < 2 ^ 63 }
+    requires few { len ≤ length text.now }
+    requires short { len ≤ max_label }
+    requires plain { BeginsPlain text.now len }
+    ensures { MakesStep start text.now form.old result form.new }
+{
     let mut label = ArrayVec::<u8, MAX_LABEL>::new();
+    let (own, others) = text.split_at(len);
+    let mut at = start + len;
+    if label.try_extend_from_slice(own).is_err() {
+        return Err(breaks(at, NameTextRule::LabelTooLong));
+    }
     let mut escape = Escape::Outside;
-    for (at, c) in text.iter().enumerate() {
+    let mut rest = others;
+    'octets: while let Some((c, more)) = rest.split_first() {
         match element_of(escape, *c) {
             Element::Octet(octet) => {
                 if label.try_push(octet).is_err() {
@@ -106,41 +203,45 @@ fn read_labels(alloc: Global, text: &[u8]) -> Result<(WireForm, bool), NameTextE
                 escape = Escape::Outside;
             }
             Element::Dot => {
-                push_label(&mut form, label.as_slice(), at)?;
-                label.clear();
-                escape = Escape::Outside;
+                push_label(form, label.as_slice(), at)?;
+                return Ok(Step::Next(at + 1, more));
             }
             Element::Within(next) => escape = next,
             Element::Fault => return Err(breaks(at, NameTextRule::BadEscape)),
         }
+        at += 1;
+        rest = more;
     }
-    finish(form, label.as_slice(), escape, text.len())
+    let is_fqdn = finish(form, label.as_slice(), escape, at)?;
+    Ok(Step::End(is_fqdn))
 }
 
-/// Returns the labels with the last one, and whether a dot is after it.
+/// Adds the last label, and returns whether a dot is after it: it is if there are no octets.
+#[inline(always)]
 fn finish(
-    mut form: WireForm,
+    form: &mut WireForm,
     label: &[u8],
     escape: Escape,
     end: usize,
-) -> Result<(WireForm, bool), NameTextError>
+) -> Result<bool, NameTextError>
     requires { length label.now ≤ max_label }
-    ensures { result ≡ ended end form label.now escape }
+    ensures { MakesName (ended end form.old label.now escape) result form.new }
 {
     match escape {
-        Escape::Outside if label.is_empty() => Ok((form, true)),
+        Escape::Outside if label.is_empty() => Ok(true),
         Escape::Outside => {
-            push_label(&mut form, label, end)?;
-            Ok((form, false))
+            push_label(form, label, end)?;
+            Ok(false)
         }
         _ => Err(breaks(end, NameTextRule::UnfinishedEscape)),
     }
 }
 
 /// Adds a label that ends before this offset.
+#[inline(always)]
 fn push_label(form: &mut WireForm, label: &[u8], at: usize) -> Result<(), NameTextError>
     requires { length label.now ≤ max_label }
-    ensures { PushesLabel at form.old label.now result form.new }
+    ensures { MakesLabels (one_label_more at form.old label.now) result form.new }
 {
     if label.is_empty() {
         return Err(breaks(at, NameTextRule::EmptyLabel));

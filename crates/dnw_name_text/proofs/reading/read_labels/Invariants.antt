@@ -1,10 +1,14 @@
-use Rattle.std.proofs.Common.{◌≡◌, [], drop}
+use Rattle.std.proofs.Common.{◌≡◌, ◌+◌, [], length}
 use Rattle.dnw_name_text.specs.declared.reading.Escape.TheVariants.{Outside}
 use Rattle.dnw_name_text.specs.NameReading.{labels_from}
-use Rattle.dnw_name_text.specs.Inside.Labels.{IsEscape}
 use Rattle.dnw_name_text.proofs.reading.read_labels.Given as goal
 
 -- what is left, after the labels so far, gives what all gives
-abbrev pub invariant-loop-at : goal.invariant-loop-at
-invariant-loop-at l =
-    (labels_from l.at l.form l.label.items l.escape (drop l.at l.text) ≡ labels_from 0 [] [] Outside l.text) × IsEscape l.escape
+abbrev pub invariant-labels : goal.invariant-labels
+invariant-labels l = record {
+  gives : labels_from l.start l.form [] Outside l.rest ≡ labels_from 0 [] [] Outside l.text;
+  size : l.start + length l.rest ≡ length l.text;
+}
+
+abbrev pub decreases-labels : goal.decreases-labels
+decreases-labels l = length l.rest
