@@ -689,6 +689,7 @@ static void lacks_memory(void)
     EXPECT(dnw_types_read(BYTES("\000\001\100"), codes, 1, &len) == DNW_NO_MEMORY && len == 0 && codes[0] == 9);
     code = 1;
     EXPECT(dnw_types_write(&code, 1, buffer, sizeof buffer, &len) == DNW_NO_MEMORY && len == 0);
+    EXPECT(dnw_option_print(3, BYTES("a"), buffer, sizeof buffer, &len) == DNW_NO_MEMORY && len == 0);
     EXPECT(lex(BYTES("\r")) == DNW_TEXT_CUT && lex(BYTES(")")) == DNW_ILLEGAL_CHARACTER && lex(BYTES("$")) == DNW_UNKNOWN_ENTRY);
     EXPECT(lex(BYTES("(\001")) == DNW_CONTROL_CHARACTER && lex(BYTES("(a")) == DNW_NO_MEMORY);
     EXPECT(dnw_token_next(BYTES("a"), &lexer, buffer, sizeof buffer, &token) == DNW_NO_MEMORY && lexer.offset == 0);

@@ -4,29 +4,13 @@
 
    test_ample [FUNCTION..] tests those functions alone. c/ample_rows fails if the table below has no row for one. */
 #include "dns_names_wire.h"
-#include "expect.h"
+#include "input.h"
 
 /* Octets, items or names: 0, 1, and both sides of each number that a body could take for a limit. */
 static const size_t sizes[] = {0,    1,    126,  127,  128,  254,   255,   256,   257,   510,   511,  512, 513,
                                1023, 1024, 1025, 4095, 4096, 4097, 65534, 65535, 65536, 65537};
 
-enum { SIZES = sizeof sizes / sizeof sizes[0], MOST = 65537, ROOM = 1 << 22, HEADER = 12, LONGEST = 65535 };
-
-static uint8_t input[ROOM], output[ROOM];
-static size_t input_len;
-
-static void put(const void *bytes, size_t len)
-{
-    EXPECT(input_len + len <= sizeof input);
-    memcpy(input + input_len, bytes, len);
-    input_len += len;
-}
-
-static void put_word(size_t word)
-{
-    const uint8_t octets[2] = {(uint8_t)(word >> 8), (uint8_t)word};
-    put(octets, 2);
-}
+enum { SIZES = sizeof sizes / sizeof sizes[0], MOST = 65537, HEADER = 12, LONGEST = 65535 };
 
 static void fill(uint8_t octet, size_t len)
 {
@@ -423,6 +407,17 @@ static void prints_faults(size_t size)
     EXPECT(dnw_text_fault_print(&fault, output, sizeof output, &len) == DNW_DONE && len <= DNW_SENTENCE_SIZE && len > 40);
 }
 
+static void prints_options(size_t size)
+{
+    size_t len = 7;
+    input_len = 0;
+    fill('x', size);
+    EXPECT(dnw_option_print(3, input, size, output, sizeof output, &len) == DNW_DONE && len == 5 + (size == 0 ? 0 : 4 * size + 5));
+    EXPECT(dnw_option_print(12, input, size, output, sizeof output, &len) == DNW_DONE && memcmp(output, "PAD:", 4) == 0);
+    memcpy(input, "\0\1", 2);
+    EXPECT(dnw_option_print(15, input, size, output, sizeof output, &len) == DNW_DONE && len >= (size < 2 ? 7 : size));
+}
+
 /* Takes the entry that is in the input. */
 static void takes(const char *what, uint32_t kind, size_t len)
 {
@@ -540,6 +535,7 @@ static const struct row {
 } rows[] = {
     {"dnw_names_write", writes_names},
     {"dnw_message_pack", packs},
+    {"dnw_option_print", prints_options},
     {"dnw_record_data", reads_data},
     {"dnw_record_print", prints_records},
     {"dnw_data_parse", parses_data},

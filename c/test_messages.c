@@ -105,6 +105,41 @@ static void reads_edns(void)
     EXPECT(edns.options_offset == 0 && edns.options_len == 0);
 }
 
+/* An option is shown so, if there is room for the text, and then also in a buffer of just that size. */
+static void is_shown(uint16_t code, const uint8_t *data, size_t data_len, const char *shown)
+{
+    uint8_t text[256] = {'?'};
+    size_t size = strlen(shown), len = 7;
+    EXPECT(dnw_option_print(code, data, data_len, text, size - 1, &len) == DNW_NO_ROOM && len == 7 && text[0] == '?');
+    EXPECT(dnw_option_print(code, data, data_len, text, size, &len) == DNW_DONE);
+    EXPECT(len == size && memcmp(text, shown, size) == 0 && text[size] == 0);
+    EXPECT(len <= 4 * data_len + 128);
+}
+
+/* Lines of dig 9.18, but for the cookies, after which it says whether they are its own. */
+static void prints_options(void)
+{
+    is_shown(3, BYTES(""), "NSID:");
+    is_shown(3, BYTES("ns1\n"), "NSID: 6e 73 31 0a (\"ns1.\")");
+    is_shown(8, BYTES("\000\001\030\000\300\000\002"), "CLIENT-SUBNET: 192.0.2.0/24/0");
+    is_shown(8, BYTES("\000\002\040\060\040\001\015\270"), "CLIENT-SUBNET: 2001:db8::/32/48");
+    is_shown(8, BYTES("\000\000\000\000"), "CLIENT-SUBNET: 0/0/0");
+    is_shown(8, BYTES("\000\003\010\000\001"), "OPT=8: 00 03 08 00 01 (\".....\")");
+    is_shown(8, BYTES("\000\001\041\000\300\000\002\000\000"), "OPT=8: 00 01 21 00 c0 00 02 00 00 (\"..!......\")");
+    is_shown(9, BYTES(""), "EXPIRE:");
+    is_shown(9, BYTES("\000\011\072\203"), "EXPIRE: 604803 (1 week 3 seconds)");
+    is_shown(9, BYTES("\000\000\000\000"), "EXPIRE: 0 (0 seconds)");
+    is_shown(10, BYTES("\001\002\003\004\005\006\007\010"), "COOKIE: 0102030405060708");
+    is_shown(11, BYTES("\000\017"), "TCP KEEPALIVE: 1.5 secs");
+    is_shown(12, BYTES("\000\000"), "PAD: (2 bytes)");
+    is_shown(15, BYTES("\000\006bad"), "EDE: 6 (DNSSEC Bogus): (bad)");
+    is_shown(15, BYTES("\000\006\303\251\302\205\007"), "EDE: 6 (DNSSEC Bogus): (\303\251..)");
+    is_shown(15, BYTES("\000\377"), "EDE: 255");
+    is_shown(15, BYTES("\000\006\377"), "OPT=15: 00 06 ff (\"...\")");
+    is_shown(18, BYTES("\001a\000"), "OPT=18: 01 61 00 (\".a.\")");
+    is_shown(65535, BYTES("a"), "OPT=65535: 61 (\"a\")");
+}
+
 /* Reads the next field of data. If that fails, what would be written is unchanged. */
 static uint32_t next_field(const uint8_t *octets, size_t len, uint16_t type, struct dnw_fields *fields, struct dnw_field *field)
 {
@@ -335,6 +370,7 @@ int main(void)
     reads_messages();
     refuses_messages();
     reads_edns();
+    prints_options();
     reads_fields();
     refuses_fields();
     packs_messages();

@@ -4,27 +4,11 @@
 #include <time.h>
 
 #include "dns_names_wire.h"
-#include "expect.h"
+#include "input.h"
 
-enum { MOST = 65536, ROOM = 1 << 20 };
+enum { MOST = 65536, MEGABYTE = 1 << 20, MOST_NAMES = MEGABYTE };
 
-static uint8_t list[ROOM];
-static size_t list_len;
-static uint8_t output[ROOM];
-static size_t order[ROOM];
-
-static void put(const void *bytes, size_t len)
-{
-    EXPECT(list_len + len <= sizeof list);
-    memcpy(list + list_len, bytes, len);
-    list_len += len;
-}
-
-static void put_word(size_t word)
-{
-    const uint8_t octets[2] = {(uint8_t)(word >> 8), (uint8_t)word};
-    put(octets, 2);
-}
+static size_t order[MOST_NAMES];
 
 /* A pointer to an offset (RFC 1035, section 4.1.4). */
 static void put_pointer(size_t offset)
@@ -38,7 +22,7 @@ static void put_chain(size_t count)
 {
     size_t before = 0;
     for (size_t n = 0; n < count; n++) {
-        size_t here = list_len;
+        size_t here = input_len;
         put_pointer(before);
         before = here;
     }
@@ -47,7 +31,7 @@ static void put_chain(size_t count)
 /* The root, and then names that are pointers. They follow 1 + 2 + .. + 361 pointers, which are 65,341, and `more` in the last name. */
 static void begin_names(size_t more)
 {
-    list_len = 0;
+    input_len = 0;
     put("", 1);
     put_chain(361);
     put_pointer(1 + 2 * (more - 2));
@@ -57,14 +41,14 @@ static void counts_pointers_of_names(void)
 {
     struct dnw_written_names written;
     begin_names(MOST - 65341);
-    EXPECT(dnw_names_sort(list, list_len, order, ROOM) == DNW_DONE && order[0] == 0 && order[362] == 362);
-    EXPECT(dnw_names_write(list, list_len, 65535, output, ROOM, &written) == DNW_DONE && written.count == 363);
+    EXPECT(dnw_names_sort(input, input_len, order, MOST_NAMES) == DNW_DONE && order[0] == 0 && order[362] == 362);
+    EXPECT(dnw_names_write(input, input_len, 65535, output, ROOM, &written) == DNW_DONE && written.count == 363);
     begin_names(MOST - 65341 + 1);
     order[0] = 7;
     written.count = 7;
     output[0] = 7;
-    EXPECT(dnw_names_sort(list, list_len, order, ROOM) == DNW_TOO_MANY_POINTERS && order[0] == 7);
-    EXPECT(dnw_names_write(list, list_len, 65535, output, ROOM, &written) == DNW_TOO_MANY_POINTERS && written.count == 7);
+    EXPECT(dnw_names_sort(input, input_len, order, MOST_NAMES) == DNW_TOO_MANY_POINTERS && order[0] == 7);
+    EXPECT(dnw_names_write(input, input_len, 65535, output, ROOM, &written) == DNW_TOO_MANY_POINTERS && written.count == 7);
     EXPECT(output[0] == 7);
 }
 
@@ -80,14 +64,14 @@ static void put_fields(uint16_t record_type, size_t data_len)
 static size_t begin_records(void)
 {
     static const char fields[] = "\000\002\015\000\000\000\016\020\356\153\050\000\145\123\361\000\000\007\000sig";
-    list_len = 0;
+    input_len = 0;
     put("", 1);
     put_fields(DNW_TYPE_RRSIG, sizeof fields - 1);
     put(fields, sizeof fields - 1);
     put("", 1);
     put_fields(DNW_TYPE_NULL, 2 * 511);
     put_chain(511);
-    return list_len - 2;
+    return input_len - 2;
 }
 
 /* So many NS records of the root. Owners and data each follow 512 pointers, or none. */
@@ -111,7 +95,7 @@ static uint32_t signs(size_t count, bool of_owner, bool of_data)
     size_t len = 7;
     size_t chain = begin_records();
     put_servers(count, chain, of_owner, of_data);
-    uint32_t answer = dnw_signed_octets(list, list_len, 0, 0, output, ROOM, &len);
+    uint32_t answer = dnw_signed_octets(input, input_len, 0, 0, output, ROOM, &len);
     EXPECT(answer == DNW_DONE ? len == 19 + 12 : len == 7);
     return answer;
 }
@@ -121,7 +105,7 @@ static uint32_t digests(size_t count, bool of_owner, bool of_data)
     size_t len = 7;
     size_t chain = begin_records();
     put_servers(count, chain, of_owner, of_data);
-    uint32_t answer = dnw_zone_digest(BYTES("\000"), list, list_len, 1, output, ROOM, &len);
+    uint32_t answer = dnw_zone_digest(BYTES("\000"), input, input_len, 1, output, ROOM, &len);
     EXPECT(len == (answer == DNW_DONE ? 48 : 7));
     return answer;
 }
@@ -155,15 +139,15 @@ static void counts_in_order(void)
         put_pointer(chain);
         put("\000\000\000\001\000\000\000\002\000\000\000\003\000\000\000\004\000\000\000\005", 20);
     }
-    EXPECT(dnw_zone_digest(BYTES("\000"), list, list_len, 1, output, ROOM, &len) == DNW_DONE);
+    EXPECT(dnw_zone_digest(BYTES("\000"), input, input_len, 1, output, ROOM, &len) == DNW_DONE);
     put_servers(1, chain, false, true);
-    EXPECT(dnw_zone_digest(BYTES("\000"), list, list_len, 1, output, ROOM, &len) == DNW_TOO_MANY_POINTERS);
+    EXPECT(dnw_zone_digest(BYTES("\000"), input, input_len, 1, output, ROOM, &len) == DNW_TOO_MANY_POINTERS);
     /* the data of the next record are no SOA's, so its second name is not read */
-    list_len -= 1 + 10 + 2;
+    input_len -= 1 + 10 + 2;
     put("", 1);
     put_fields(DNW_TYPE_SOA, 2);
     put("\100\000", 2);
-    EXPECT(dnw_zone_digest(BYTES("\000"), list, list_len, 1, output, ROOM, &len) == DNW_RESERVED_OCTET);
+    EXPECT(dnw_zone_digest(BYTES("\000"), input, input_len, 1, output, ROOM, &len) == DNW_RESERVED_OCTET);
 }
 
 static double seconds_since(clock_t start)
@@ -177,21 +161,21 @@ static void refuses_a_megabyte_at_once(void)
     struct dnw_written_names written;
     size_t len = 7;
     clock_t start = clock();
-    list_len = 0;
+    input_len = 0;
     put("", 1);
     put_chain(8191);
-    while (list_len + 2 <= ROOM)
+    while (input_len + 2 <= MEGABYTE)
         put_pointer(1 + 2 * 8190);
-    EXPECT(dnw_names_sort(list, list_len, order, ROOM) == DNW_TOO_MANY_POINTERS);
-    EXPECT(dnw_names_write(list, list_len, 65535, output, ROOM, &written) == DNW_TOO_MANY_POINTERS);
+    EXPECT(dnw_names_sort(input, input_len, order, MOST_NAMES) == DNW_TOO_MANY_POINTERS);
+    EXPECT(dnw_names_write(input, input_len, 65535, output, ROOM, &written) == DNW_TOO_MANY_POINTERS);
     begin_records();
-    list_len -= 2 * 511 + 11;
+    input_len -= 2 * 511 + 11;
     put("", 1);
     put_fields(DNW_TYPE_NULL, 2 * 8000);
     put_chain(8000);
-    put_servers((ROOM - list_len) / 14, list_len - 2, true, true);
-    EXPECT(dnw_signed_octets(list, list_len, 0, 0, output, ROOM, &len) == DNW_TOO_MANY_POINTERS);
-    EXPECT(dnw_zone_digest(BYTES("\000"), list, list_len, 1, output, ROOM, &len) == DNW_TOO_MANY_POINTERS);
+    put_servers((MEGABYTE - input_len) / 14, input_len - 2, true, true);
+    EXPECT(dnw_signed_octets(input, input_len, 0, 0, output, ROOM, &len) == DNW_TOO_MANY_POINTERS);
+    EXPECT(dnw_zone_digest(BYTES("\000"), input, input_len, 1, output, ROOM, &len) == DNW_TOO_MANY_POINTERS);
     EXPECT(seconds_since(start) < 5);
 }
 

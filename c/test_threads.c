@@ -95,6 +95,7 @@ static void call_messages(struct results *results)
     KEEP(dnw_message_table(BYTES(response), 99, rows, 32, buffer, sizeof buffer, &table), buffer, table.names_len);
     KEEP(dnw_message_pack(BYTES(response), 512, buffer, sizeof buffer, &packed), buffer, packed.len);
     KEEP(dnw_edns_read(BYTES(response), 99, &edns), &edns.max_payload, sizeof edns.max_payload);
+    KEEP(dnw_option_print(15, BYTES("\000\006bad"), buffer, sizeof buffer, &len), buffer, len);
     KEEP(dnw_record_data(BYTES(response), 21, buffer, sizeof buffer, &len), buffer, len);
     KEEP(dnw_writer_begin(buffer, sizeof buffer, 512, 7, 0, &writer), "", 0);
     KEEP(dnw_writer_question(buffer, sizeof buffer, BYTES("\001a\000"), 1, 1, &writer), "", 0);

@@ -16,9 +16,10 @@
 #include <string.h>
 #include <sys/socket.h>
 #include <sys/time.h>
-#include <unistd.h>
 
-enum { MOST_QUERIES = 4096, MOST = 65535, BATCH = 32, QUERY_MOST = 1500, MAY_GROW = 64 };
+#include "soaking.h"
+
+enum { MOST_QUERIES = 4096, MOST = 65535, BATCH = 32, QUERY_MOST = 1500 };
 
 struct octets {
     uint8_t *octets;
@@ -34,16 +35,6 @@ static void fail(const char *why)
 {
     fprintf(stderr, "asking: %s, after %llu queries\n", why, sent);
     exit(1);
-}
-
-/* Numbers by chance, the same in each run (xorshift64*). */
-static uint64_t chance(uint64_t below)
-{
-    static uint64_t state = 88172645463325252;
-    state ^= state >> 12;
-    state ^= state << 25;
-    state ^= state >> 27;
-    return (state * 2685821657736338717u >> 33) % below;
 }
 
 static struct octets copy(const uint8_t *octets, size_t len)
@@ -132,18 +123,6 @@ static void ask_once(void)
         send_query(query, put_query(queries[n], 0, query));
         replies[n] = copy(reply, receive(reply));
     }
-}
-
-static size_t resident(const char *pid)
-{
-    char path[64];
-    unsigned long pages = 0;
-    snprintf(path, sizeof path, "/proc/%s/statm", pid);
-    FILE *file = fopen(path, "r");
-    if (file == NULL || fscanf(file, "%*u %lu", &pages) != 1)
-        fail("the server is gone");
-    fclose(file);
-    return pages * (size_t)sysconf(_SC_PAGESIZE) / 1024;
 }
 
 static void put_hexadecimal(FILE *output, const uint8_t *octets, size_t len, char end)
@@ -237,6 +216,8 @@ int main(int argc, char **argv)
         if (sent * 10 / count == tenths)
             continue;
         size_t now = resident(argv[2]);
+        if (now == 0)
+            fail("the server is gone");
         at_tenth = tenths++ == 0 ? now : at_tenth;
         most = now > most ? now : most;
     }

@@ -82,6 +82,7 @@ static uint32_t message_table(void)
 static uint32_t is_reply_to(void) { return dnw_is_reply_to(IN, IN, &is_it); }
 static uint32_t record_read(void) { return dnw_record_read(IN, last_record, OUT, &record); }
 static uint32_t record_data(void) { return dnw_record_data(IN, last_record, OUT, &len); }
+static uint32_t option_print(void) { return dnw_option_print(3, IN, OUT, &len); }
 static uint32_t record_print(void) { return dnw_record_print(IN, last_record, OUT, &printed); }
 static uint32_t record_sort_key(void) { return dnw_record_sort_key(IN, last_record, OUT, &len); }
 static uint32_t field_next(void)
@@ -233,6 +234,7 @@ static const struct call {
     enum domain domain;
 } calls[] = {{"dnw_name_read", name_read, MESSAGE}, {"dnw_name_read_text", name_read_text, MESSAGE},
              {"dnw_message_read", message_read, MESSAGE}, {"dnw_edns_read", edns_read, MESSAGE},
+             {"dnw_option_print", option_print, WIRE},
              {"dnw_message_pack", message_pack, MESSAGE}, {"dnw_message_table", message_table, MESSAGE},
              {"dnw_is_reply_to", is_reply_to, MESSAGE}, {"dnw_record_read", record_read, MESSAGE},
              {"dnw_record_data", record_data, MESSAGE}, {"dnw_record_print", record_print, MESSAGE},

@@ -4,9 +4,8 @@
    after a tenth of the messages the process may grow by 64 KiB at most. After each 2,000 messages, names are read all over
    one of 65,535 octets. */
 #define _DEFAULT_SOURCE
-#include <unistd.h>
-
 #include "harness.h"
+#include "soaking.h"
 
 enum { NAMES_MAX = 24, LIST_MAX = NAMES_MAX * DNW_FORM_SIZE };
 
@@ -18,16 +17,6 @@ void __real_free(void *block);
 void *__wrap_malloc(size_t size);
 void *__wrap_realloc(void *block, size_t size);
 void __wrap_free(void *block);
-
-/* Numbers by chance, the same in each run (xorshift64*). */
-static uint64_t chance(uint64_t below)
-{
-    static uint64_t state = 88172645463325252;
-    state ^= state >> 12;
-    state ^= state << 25;
-    state ^= state >> 27;
-    return (state * 2685821657736338717u >> 33) % below;
-}
 
 static bool in_call, refused;
 
@@ -216,31 +205,22 @@ static void check_long_message(void)
     }
 }
 
-/* The memory of the process that is there, in KiB (the second number of /proc/self/statm, in pages). */
-static long resident(void)
-{
-    long pages = 0;
-    FILE *file = fopen("/proc/self/statm", "r");
-    CHECK(file != NULL && fscanf(file, "%*d %ld", &pages) == 1);
-    fclose(file);
-    return pages * (sysconf(_SC_PAGESIZE) / 1024);
-}
-
 int main(int argc, char **argv)
 {
-    long messages = argc > 1 ? atol(argv[1]) : 1000000, first = resident();
+    long messages = argc > 1 ? atol(argv[1]) : 1000000;
+    size_t first = resident("self");
     for (long i = 1; i <= messages; i++) {
         check_message();
         if (i % 2000 == 0)
             check_long_message();
         if (i == messages / 10)
-            first = resident();
+            first = resident("self");
     }
-    long last = resident();
+    size_t last = resident("self");
     printf("soak: %ld messages, %zu calls, %zu allocations refused, at most %zu blocks at once, none left\n", messages,
            calls, refusals, most_blocks);
-    printf("soak: %ld KiB resident after a tenth of the messages, %ld KiB at the end\n", first, last);
+    printf("soak: %zu KiB resident after a tenth of the messages, %zu KiB at the end\n", first, last);
     fflush(stdout);
-    CHECK(last <= first + 64);
+    CHECK(first > 0 && last <= first + MAY_GROW);
     return 0;
 }

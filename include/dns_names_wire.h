@@ -270,6 +270,16 @@ struct dnw_edns {
    and otherwise with DNW_CUT_OPTION if its data end within an option. */
 uint32_t dnw_edns_read(const uint8_t *message, size_t message_len, size_t max_pointers, struct dnw_edns *edns);
 
+/* Stores an option with this code and this data as dig of BIND 9.18 shows it, without the `; ` before it, and the length of
+   the text in `text_len`: `CLIENT-SUBNET: 192.0.2.0/24/0`, `EDE: 15 (Blocked): (why)`. NSID, client subnet, expire, cookie,
+   TCP keepalive, padding and extended errors have a text of their own; the name of an error is that of IANA's registry. Any
+   other option, and one whose data break a rule of its format, is its code, its octets in hexadecimal and these as
+   characters: `OPT=65001: 61 0a ("a.")`. The text is UTF-8 without control characters, and ASCII but for the text of an
+   error. It fails with DNW_NO_ROOM if the text has more than `text_size` octets; 4 * `data_len` + 128 are always enough.
+   Otherwise it fails with DNW_NO_MEMORY. */
+uint32_t dnw_option_print(uint16_t code, const uint8_t *data, size_t data_len, uint8_t *text, size_t text_size,
+                          size_t *text_len);
+
 /* `len` octets of a message were stored in the buffer. `truncated` is the TC bit of its header. */
 struct dnw_packed {
     size_t len;

@@ -183,6 +183,7 @@ _FUNCTIONS = {
     "dnw_message_read": (*_READ, c_size_t, POINTER(Message), POINTER(MessageFault)),
     "dnw_is_reply_to": (*_READ, *_READ, POINTER(c_bool)),
     "dnw_edns_read": (*_READ, c_size_t, POINTER(Edns)),
+    "dnw_option_print": (c_uint16, *_READ, *_WRITTEN, POINTER(c_size_t)),
     "dnw_message_table": (*_READ, c_size_t, *_WRITTEN, *_WRITTEN, POINTER(Table)),
     "dnw_record_data": (*_READ, c_size_t, *_WRITTEN, POINTER(c_size_t)),
     "dnw_message_write": (*_READ, c_size_t, c_uint16, c_uint16, *_WRITTEN, POINTER(Packed)),

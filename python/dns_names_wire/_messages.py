@@ -27,6 +27,7 @@ from ._library import (
 from ._library import Edns as ReadEdns
 from ._library import Message as Read
 from ._names import Name, whole_name
+from ._options import EdnsOption
 from ._records import Record, record_at
 from ._sets import RRset, rrsets
 from ._table import Table, read_table
@@ -137,18 +138,30 @@ class Question:
 class Edns:
     """The EDNS fields of a message (RFC 6891, section 6.1).
 
-    `max_payload` is the size of the largest message that the sender accepts, at least 512 octets. The options are pairs
-    of a code and its octets.
+    `max_payload` is the size of the largest message that the sender accepts, at least 512 octets. The options may be given as
+    pairs of a code and its octets.
+
+    >>> Edns(options=[(3, b"")]).options
+    (EdnsOption(code=3, octets=b''),)
     """
 
     max_payload: int = 1232
     version: int = 0
     dnssec_ok: bool = False
-    options: Tuple[Tuple[int, bytes], ...] = ()
+    options: Tuple[EdnsOption, ...] = ()
+
+    if TYPE_CHECKING:
+        def __init__(
+            self, max_payload: int = 1232, version: int = 0, dnssec_ok: bool = False, options: Iterable[Tuple[int, Bytes]] = ()
+        ) -> None: ...
+
+    def __post_init__(self) -> None:
+        if self.options != ():
+            self.__dict__["options"] = tuple(EdnsOption(*pair) for pair in take_pairs("options", self.options))
 
     def _record(self, code: int) -> bytes:
         """Returns the OPT record (RFC 6891, section 6.1.2), with the high bits of a response code."""
-        options = put_pairs(take_pairs("options", self.options)) if self.options else b""
+        options = put_pairs(self.options)
         if len(options) > _MOST:
             raise DataTooLong()
         payload, version = _checks.number("max_payload", self.max_payload, _MOST), _checks.number("version", self.version, 255)
@@ -744,7 +757,7 @@ def _lines(message: Message) -> Iterator[str]:
     if edns is not None:
         yield from ("", ";; OPT PSEUDOSECTION:")
         yield f"; EDNS: version: {edns.version}, flags:{' do' * edns.dnssec_ok}; udp: {edns.max_payload}"
-        yield from (_option_line(code, value) for code, value in edns.options)
+        yield from (f"; {option}" for option in edns.options)
     titles = _UPDATE_TITLES if header.op_code == OpCode.UPDATE else _TITLES
     if message.questions:
         yield from ("", f";; {titles[0]} SECTION:", *(f";{question}" for question in message.questions))
@@ -752,12 +765,6 @@ def _lines(message: Message) -> Iterator[str]:
         shown = [str(record) for record in records if edns is None or record.record_type != RecordType.OPT]
         if shown:
             yield from ("", f";; {title} SECTION:", *shown)
-
-
-def _option_line(code: int, value: bytes) -> str:
-    """Returns the line of an option, as `dig` prints one that it has no name for."""
-    text = "".join(chr(octet) if 32 <= octet < 127 else "." for octet in value)
-    return f"; OPT={code}: {value.hex(' ')} (\"{text}\")" if value else f"; OPT={code}:"
 
 
 @lru_cache(maxsize=1024)

@@ -4,7 +4,7 @@ from ctypes import byref, c_char
 from typing import Iterable, Optional, Tuple
 
 from . import _checks
-from ._data import put_pairs, take_pairs
+from ._data import put_pairs
 from ._errors import DuplicateEdns, check
 from ._library import Writer, library
 from ._library import Edns as ReadEdns
@@ -166,7 +166,7 @@ class MessageWriter:
         if self._has_edns:
             check(DuplicateEdns.number)
         own = edns or self._owed_edns or Edns()
-        options = put_pairs(take_pairs("options", own.options))
+        options = put_pairs(own.options)
         numbers = (
             _checks.number("max_payload", own.max_payload, _MOST), self._code >> 4,
             _checks.number("version", own.version, 255), bool(own.dnssec_ok),

@@ -253,13 +253,23 @@ class Replies(unittest.TestCase):
 
 
 class Texts(unittest.TestCase):
+    def test_options(self) -> None:
+        option = dnw.EdnsOption(3, b"ab")
+        self.assertEqual((str(option), option, option.code, option.octets), ('NSID: 61 62 ("ab")', (3, b"ab"), 3, b"ab"))
+        self.assertEqual(Edns(options=[(3, b"ab")]).options, (option,))
+        self.assertEqual(Message.from_wire(Message.build(edns=Edns(options=[option])).to_wire()).edns, Edns(options=(option,)))
+        self.assertEqual(len(str(dnw.EdnsOption(65535, bytes(65535)))), 4 * 65535 + 15)
+        for code, octets, error in [(65536, b"", ValueError), (-1, b"", ValueError), ("3", b"", TypeError), (3, "", TypeError)]:
+            self.assertRaises(error, str, dnw.EdnsOption(code, octets))  # type: ignore[arg-type]
+
     def test_a_message_is_shown_as_dig_shows_it(self) -> None:
         """Lines of dig 9.18, with spaces for tabs."""
-        options = ((65001, b"ab\0"), (65002, b""))
+        options = ((65001, b"ab\0"), (65002, b""), (8, b"\0\1\x18\0\xc0\0\2"), (15, b"\0\6" + "\u00e9\x1b".encode()), (10, b"a"))
         query = Message.query("a.", 1, id=7, edns=Edns(1232, options=options))
         lines = str(query).splitlines()
         shown = ["; EDNS: version: 0, flags:; udp: 1232", '; OPT=65001: 61 62 00 ("ab.")', "; OPT=65002:"]
-        self.assertEqual(lines[lines.index(";; OPT PSEUDOSECTION:") + 1 :][:3], shown)
+        shown += ["; CLIENT-SUBNET: 192.0.2.0/24/0", "; EDE: 6 (DNSSEC Bogus): (\u00e9.)", '; OPT=10: 61 ("a")']
+        self.assertEqual(lines[lines.index(";; OPT PSEUDOSECTION:") + 1 :][:6], shown)
         gone, added = Record("a.", 0, Unknown("A", b""), RecordClass.NONE), Record("a.", 60, A("192.0.2.1"))
         header = dnw.Header(7, op_code=dnw.OpCode.UPDATE)
         self.assertEqual(

@@ -79,7 +79,7 @@ class WholeMessages(unittest.TestCase):
                 "",
                 ";; OPT PSEUDOSECTION:",
                 "; EDNS: version: 0, flags: do; udp: 1232",
-                '; OPT=10: 01 02 03 04 05 06 07 08 ("........")',
+                "; COOKIE: 0102030405060708",
                 "",
                 ";; QUESTION SECTION:",
                 ";www.example.com. IN A",

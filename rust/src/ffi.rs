@@ -255,6 +255,14 @@ extern "C" {
         fault: *mut MessageFault,
     ) -> u32;
     fn dnw_edns_read(message: *const u8, message_len: usize, max_pointers: usize, edns: *mut Edns) -> u32;
+    fn dnw_option_print(
+        code: u16,
+        data: *const u8,
+        data_len: usize,
+        text: *mut u8,
+        text_size: usize,
+        text_len: *mut usize,
+    ) -> u32;
     fn dnw_message_pack(
         message: *const u8,
         message_len: usize,

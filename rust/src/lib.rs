@@ -62,6 +62,7 @@ use std::net::{IpAddr, Ipv4Addr, Ipv6Addr};
 mod builder;
 mod codes;
 pub mod dnssec;
+mod edns_option;
 mod error;
 mod field;
 mod form;
@@ -83,6 +84,7 @@ mod zone;
 
 pub use builder::MessageBuilder;
 pub use codes::{Class, RecordType, SerialNumber};
+pub use edns_option::EdnsOption;
 pub use error::{Error, ErrorKind, Section, TextFault, TextRule};
 pub use field::{Field, Fields, Pairs, Prefix, Prefixes, Texts, WholeNames};
 pub use header::{Header, OpCode, ResponseCode};

@@ -1,5 +1,6 @@
 //! Whole messages, which are checked once.
 use crate::codes::{Class, RecordType};
+use crate::edns_option::EdnsOption;
 use crate::error::Error;
 use crate::ffi::{self, HEADER_SIZE};
 use crate::field::Pairs;
@@ -291,7 +292,7 @@ impl<'a> Message<'a> {
     }
 }
 
-/// Prints the message as `dig` does: the header, the EDNS fields, the questions, and the records of each section.
+/// Prints the message as `dig` does: the header, the EDNS fields and options, the questions, and the records of each section.
 ///
 /// ```
 /// use dns_names_wire::Message;
@@ -323,6 +324,7 @@ impl fmt::Display for Message<'_> {
             writeln!(f, "\n;; OPT PSEUDOSECTION:")?;
             let flags = if edns.dnssec_ok { " do" } else { "" };
             writeln!(f, "; EDNS: version: {}, flags:{flags}; udp: {}", edns.version, edns.max_payload)?;
+            edns.options().try_for_each(|option| writeln!(f, "; {}", EdnsOption::from(option)))?;
         }
         if header.question_count > 0 {
             writeln!(f, "\n;; QUESTION SECTION:")?;
@@ -489,7 +491,7 @@ impl<'a> Edns<'a> {
         Edns { options: options.left(), ..self }
     }
 
-    /// Returns the options, each a code and its octets.
+    /// Returns the options, each a code and its octets. [`EdnsOption`] prints one.
     ///
     /// ```
     /// let message = dns_names_wire::Message::read(b"\0\0\0\0\0\0\0\0\0\0\0\x01\0\0\x29\x02\0\0\0\0\0\0\0")?;

@@ -2,8 +2,8 @@
 //! 1035, section 4.1, and RFC 6891, section 6.1.
 use dns_names_wire::rdata::{CAA, DS, MX, NSEC3, RRSIG, SOA, SRV, SVCB, TLSA};
 use dns_names_wire::{
-    Error, ErrorKind, Field, Message, Name, NameRef, OpCode, Pairs, RData, Record, RecordType, ResponseCode, Section,
-    Texts, TypeSet,
+    EdnsOption, Error, ErrorKind, Field, Message, Name, NameRef, OpCode, Pairs, RData, Record, RecordType,
+    ResponseCode, Section, Texts, TypeSet,
 };
 
 /// A response with thirteen records, each of another type, and an OPT record.
@@ -56,7 +56,9 @@ fn a_response_is_read() {
     assert!(message.authorities().all(|record| record.ttl() == 3600));
     // two lines of the header; EDNS, one question, nine answers and four authorities, each after an empty line and a
     // title
-    assert_eq!(message.to_string().lines().count(), 2 + 3 + 3 + 11 + 6);
+    let text = message.to_string();
+    assert_eq!(text.lines().count(), 2 + 4 + 3 + 11 + 6);
+    assert_eq!(text.lines().nth(5), Some("; COOKIE: 0102030405060708"));
     assert_eq!((message.octets(), message.trailing().len()), (&response[..], 0));
     let edns = message.edns().unwrap().unwrap();
     assert_eq!((edns.max_payload, edns.version, edns.dnssec_ok), (1232, 0, true));
@@ -288,6 +290,14 @@ fn a_message_is_shown_with_edns_or_with_what_is_none() {
         Message::read(&one).unwrap().to_string(),
         lines("BADVERS", 1) + ";; OPT PSEUDOSECTION:\n; EDNS: version: 0, flags: do; udp: 1232\n"
     );
+    let options = b"\0\0\x29\x04\xD0\0\0\0\0\0\x15\0\x0F\0\x05\0\x06\xC3\xA9\x1B\0\x08\0\x04\0\0\0\0\xFF\xFF\0\0";
+    assert_eq!(
+        Message::read(&[&head[..], &[1], options].concat()).unwrap().to_string(),
+        lines("NOERROR", 1)
+            + ";; OPT PSEUDOSECTION:\n; EDNS: version: 0, flags:; udp: 1232\n"
+            + "; EDE: 6 (DNSSEC Bogus): (\u{E9}.)\n; CLIENT-SUBNET: 0/0/0\n; OPT=65535:\n"
+    );
+    assert_eq!(EdnsOption { code: u16::MAX, octets: &[0; 65535] }.to_string().len(), 4 * 65535 + 15);
     let two = [&head[..], &[2], opt, opt].concat();
     let line = ".\t16809984\tCLASS1232\tOPT\t\\# 0\n";
     assert_eq!(

@@ -1,4 +1,5 @@
 pub mod EdnsCalls
+pub mod OptionCalls
 pub mod FieldCalls
 pub mod ListCalls
 pub mod MessageCalls

@@ -16,6 +16,8 @@ pub mod fields;
 mod listed;
 /// Whole messages.
 pub mod message;
+/// EDNS options as text.
+pub mod options;
 /// Names that are given by their wire forms.
 pub mod owners;
 /// Messages that are written whole, and if they are truncated.

@@ -7,6 +7,7 @@ use Rattle.dnw_message_options.specs.declared.code.OptionCode.{OptionCode}
 use Rattle.dnw_message_options.specs.declared.code.OptionCode.TheVariants as codes
 use Rattle.dnw_message_options.specs.declared.error.OptionError.{OptionError}
 use Rattle.dnw_message_options.specs.declared.error.OptionError.TheVariants.{Length, Name, Text}
+use Rattle.dnw_message_options.specs.Codes.{option_of_code}
 use Rattle.dnw_message_options.specs.Rules.{value_fault}
 use Rattle.dnw_message_options.specs.Values.{OptionFields, nsid, client_subnet, expire, cookie, tcp_keepalive, padding, chain, extended_error, report_channel, zone_version, unknown}
 
@@ -83,3 +84,9 @@ ReadsOption codes.ExtendedError octets result = result ≡ error_of octets
 ReadsOption codes.ReportChannel octets result = ReadsNameOption report_channel octets result
 ReadsOption codes.ZoneVersion octets result = result ≡ version_of octets
 ReadsOption (codes.Unknown code) octets result = result ≡ Ok (unknown code octets)
+
+-- What an option says, or its code and its octets if they break a rule.
+abbrev pub ReadsAnyOption : ℕ → List ℕ → OptionFields → Type 0
+ReadsAnyOption code octets value =
+    ReadsOption (option_of_code code) octets (Ok value)
+    ⊎ ((error : OptionError) × ReadsOption (option_of_code code) octets (Err error) × (value ≡ unknown code octets))

@@ -7,7 +7,7 @@ ghost use Rattle.dnw_message_options.specs.declared.error.OptionError.{OptionErr
 ghost use Rattle.dnw_message_options.specs.Codes.{option_code, option_of_code};
 ghost use Rattle.dnw_message_options.specs.Values.{seen_option};
 ghost use Rattle.dnw_message_options.specs.Rules.{IsOptionFields, bits_after, code_of, has_no_name, may_be_server, may_be_version, most_bits, network_fault, option_octets, value_fault};
-ghost use Rattle.dnw_message_options.specs.Reading.{IsName, NoName, ReadsOption, ReadsChainOption, cookie_of, error_of, expire_of, keepalive_of, subnet_of, version_of};
+ghost use Rattle.dnw_message_options.specs.Reading.{IsName, NoName, ReadsAnyOption, ReadsOption, ReadsChainOption, cookie_of, error_of, expire_of, keepalive_of, subnet_of, version_of};
 
 use crate::code::OptionCode;
 use crate::error::OptionError;
@@ -105,6 +105,17 @@ impl<'m> OptionData<'m> {
             OptionCode::ReportChannel => Ok(OptionData::ReportChannel(read_name(octets)?)),
             OptionCode::ZoneVersion => read_version(octets),
             OptionCode::Unknown(code) => Ok(OptionData::Unknown { code, octets }),
+        }
+    }
+
+    /// Reads what the octets of an option with this code say, as `read` does, or keeps the code and the octets as `Unknown` if they
+    /// break a rule: what is shown of any option.
+    pub fn read_any(code: u16, octets: &'m [u8]) -> Self
+        ensures { ReadsAnyOption code octets.now (seen_option result) }
+    {
+        match OptionData::read(code, octets) {
+            Ok(option) => option,
+            Err(_) => OptionData::Unknown { code, octets },
         }
     }
 

@@ -48,11 +48,12 @@ pub(crate) struct Rrsig {
 /// counts, the wildcard that made it for its owner (RFC 4035, section 5.3.2). The records stand in canonical order of their data,
 /// and each once (RFC 4034, section 6.3).
 ///
-/// It fails with `NotRrsig` if `rrsig` has another type, with `RrsigField` if its data are not those of an RRSIG, and with
-/// `TooFewLabels` if its owner has fewer labels than it counts; with `Field` and `DataTooLong` at the first record covered whose data
-/// are not the fields of its type, or are longer in canonical form than two octets can say; with `TooManyPointers` at the first one
-/// whose names, with those before it, follow more than 65,536 compression pointers; with `NoRecords` if it covers none; and with
-/// `Memory` if an allocation fails. Then nothing is appended.
+/// It fails with `NotRrsig` if `rrsig` has another type, or no data, as one of class ANY or NONE may have none (RFC 2136, section
+/// 2.4); with `RrsigField` if its data are not those of an RRSIG, and with `TooFewLabels` if its owner has fewer labels than it
+/// counts; with `Field` and `DataTooLong` at the first record covered whose data are not the fields of its type, or are longer in
+/// canonical form than two octets can say; with `TooManyPointers` at the first one whose names, with those before it, follow more
+/// than 65,536 compression pointers; with `NoRecords` if it covers none; and with `Memory` if an allocation fails. Then nothing is
+/// appended.
 pub fn signed_octets(
     alloc: Global,
     rrsig: &RecordRef<'_>,

@@ -17,6 +17,20 @@ pub(crate) fn read_edns(message: &[u8], max_pointers: usize) -> Result<Edns, Err
     outcome(number, edns)
 }
 
+/// Appends the text of an option, which is UTF-8.
+pub(crate) fn print_option(code: u16, octets: &[u8], text: &mut Vec<u8>) -> Result<(), Error> {
+    let (first, len) = (octets.as_ptr(), octets.len());
+    // SAFETY: pointers with their lengths, see the module; and the room is not read.
+    append_put(text, option_text_size(len), |room, size, text_len| unsafe {
+        dnw_option_print(code, first, len, room, size, text_len)
+    })
+}
+
+/// The bytes that are always enough for the text of an option with so many octets.
+fn option_text_size(len: usize) -> usize {
+    4 * len + 128
+}
+
 /// Replaces `packed` with a whole message, compressed and in at most `max_size` octets. Returns whether its TC bit is
 /// set.
 pub(crate) fn pack(message: &[u8], max_size: u16, packed: &mut Vec<u8>) -> Result<bool, Error> {

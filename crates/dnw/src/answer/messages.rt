@@ -91,11 +91,7 @@ fn push_edns(alloc: Global, text: &mut String, edns: &EdnsRef<'_>) -> Result<(),
         "\n;; OPT PSEUDOSECTION:\n; EDNS: version: {version}, flags:{flags}; udp: {payload}"
     )?.as_str())?;
     for option in edns.options() {
-        let (code, octets) = (option.code(), option.octets());
-        let shown = match OptionData::read(code, octets) {
-            Ok(option) => option,
-            Err(_) => OptionData::Unknown { code, octets },
-        };
+        let shown = OptionData::read_any(option.code(), option.octets());
         text.push_str(format!(in alloc; "\n; {shown}")?.as_str())?;
     }
     Ok(())
