@@ -152,6 +152,18 @@ static void parses_records(void)
     EXPECT(gives(LINE("a. 60 IN TXT ( \"v=DKIM1; k=rsa; \" ; the key\n \"p=ab\" )"),
                  OCTETS("\001a\000\000\020\000\001\000\000\000\074\000\026\020v=DKIM1; k=rsa; \004p=ab")));
     EXPECT(gives(LINE("a. 60 IN MX 1 a.;b\n"), OCTETS("\001a\000\000\017\000\001\000\000\000\074\000\005\000\001\001a\000")));
+    /* strings are binary (RFC 1035, section 3.3): an octet stands for itself, in quotes or not */
+    EXPECT(gives(LINE(". 0 IN TXT \"\351\" \200"), OCTETS("\000\000\020\000\001\000\000\000\000\000\004\001\351\001\200")));
+    EXPECT(gives(DATA(DNW_TYPE_CAA, "0 a \351"), OCTETS("\000\001a\351")));
+    EXPECT(gives(DATA(DNW_TYPE_SVCB, "1 . key9=\"\351\""), OCTETS("\000\001\000\000\011\000\001\351")));
+    /* the keys that `mandatory` lists are there (RFC 9460, section 8), and `*` is no type and no class of a record (RFC 1035,
+       sections 3.2.3 and 3.2.5) */
+    EXPECT(gives(DATA(DNW_TYPE_SVCB, "1 . key9 mandatory=key9"), OCTETS("\000\001\000\000\000\000\002\000\011\000\011\000\000")));
+    EXPECT(fails(DATA(DNW_TYPE_SVCB, "1 . mandatory=key9")) == DNW_BAD_DATA);
+    EXPECT(fails(DATA(DNW_TYPE_SVCB, "1 . key0=\"\\000\\011\"")) == DNW_BAD_DATA);
+    EXPECT(fails(DATA(DNW_TYPE_NSEC, ". *")) == DNW_BAD_DATA);
+    EXPECT(fails(LINE(". 0 IN * \\# 0")) == DNW_UNKNOWN_TEXT);
+    EXPECT(fails(LINE(". 0 * A 192.0.2.1")) == DNW_UNKNOWN_TEXT);
     /* what a server is asked to add for any class */
     EXPECT(gives(LINE(". 0 ANY ANY \\# 0"), OCTETS("\000\000\377\000\377\000\000\000\000\000\000")));
 }

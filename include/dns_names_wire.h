@@ -447,8 +447,9 @@ uint32_t dnw_record_print(const uint8_t *message, size_t message_len, size_t sta
    is appended to names without a last dot, and `@` is that name; if `origin_len` is 0 there is no origin, and such
    names are rejected. The times of SOA take units, as `1h30m`, and algorithms of DNSSEC and types of CERT are numbers or
    IANA's mnemonics, as `RSASHA256`. A word ends before white space, a quote, a parenthesis or a semicolon, and one in
-   quotes at its last quote; only strings may be in quotes. Parentheses and comments are no part of data here, but of
-   dnw_record_parse.
+   quotes at its last quote; only strings may be in quotes. Strings and the values of service parameters may have any
+   octets as they are, also above 127. `*` is no type. If service parameters have `mandatory`, the keys that it lists have
+   to be there (RFC 9460, section 8). Parentheses and comments are no part of data here, but of dnw_record_parse.
 
    If the origin is not a wire form, it fails as dnw_name_compare. Otherwise it fails with DNW_BAD_DATA if the text is not
    data of the type, or has more than 65535 octets of data; with DNW_NO_ROOM if it has more than `data_size`; and with
@@ -463,7 +464,7 @@ uint32_t dnw_data_parse(uint16_t record_class, uint16_t record_type, const uint8
    The text is one entry: comments are left out, and in parentheses the end of a line is white space. It has the owner,
    the TTL as dnw_ttl_parse takes it (but a last number without a unit may not follow others, as in `1d1`), the class,
    the type and the data as dnw_data_parse takes them, with white space between them. The class may be before the TTL,
-   or be left out for IN. The owner, the TTL and the type must be there, since nothing is kept of earlier lines. The
+   or be left out for IN; `*` is no class and no type. The owner, the TTL and the type must be there, since nothing is kept of earlier lines. The
    origin is appended to the owner as to names in the data. The line that dnw_record_print prints is accepted if the
    data are valid for their type.
 

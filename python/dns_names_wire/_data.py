@@ -22,12 +22,13 @@ _MOST = FORM_SIZE + 10 + 65535
 _USUAL_SIZE = 512
 
 
-def parsed(parse: Callable[..., int], find: Callable[..., int], text: str, origin: Optional[Name]) -> bytes:
+def parsed(parse: Callable[..., int], find: Callable[..., int], text: Union[str, bytes], origin: Optional[Name]) -> bytes:
     """Returns the octets that a function of the library stores for a text and an origin. The other finds where the text is wrong."""
-    encoded, wire, size, length = _checks.text("text", text), b"", _USUAL_SIZE, c_size_t()
+    encoded, wire, size, length = text if isinstance(text, bytes) else _checks.text("text", text), b"", _USUAL_SIZE, c_size_t()
     if origin is not None:
         wire, _ = wire_of("origin", origin)
-    check_utf8(encoded)
+    if not isinstance(text, bytes):
+        check_utf8(encoded)
     while True:
         room = (c_char * size)()
         number = parse(encoded, len(encoded), wire, len(wire), room, size, byref(length))
@@ -78,8 +79,9 @@ def data_of(record_type: int, kinds: Tuple[int, ...], values: List[FieldValue], 
     return made
 
 
-def data_from_text(record_type: "TypeLike", text: str, origin: Optional[Name] = None) -> "Data":
+def data_from_text(record_type: "TypeLike", text: Union[str, bytes], origin: Optional[Name] = None) -> "Data":
     """Parses data of a type in class IN from their text in master files. The origin is appended to names without a last dot.
+    A string may have any octets as they are, so the text may be octets too; a `str` is taken in UTF-8.
 
     Raises `BadData` if the text is not data of the type.
 
@@ -187,7 +189,7 @@ class Data:
         return cls._own(data_from_wire(cls._own_code(), octets))
 
     @classmethod
-    def from_text(cls: Type[_Own], text: str, origin: Optional[Name] = None) -> _Own:
+    def from_text(cls: Type[_Own], text: Union[str, bytes], origin: Optional[Name] = None) -> _Own:
         """Parses the data from their text in master files. The origin is appended to names without a last dot. Raises
         `BadData`.
 

@@ -2,7 +2,7 @@
 
 import struct
 from ctypes import byref, c_size_t
-from typing import Iterable, Iterator, List, Optional, Tuple
+from typing import Iterable, Iterator, List, Optional, Tuple, Union
 
 from . import _checks
 from ._checks import Bytes
@@ -85,11 +85,12 @@ class Record:
         return record
 
     @classmethod
-    def from_text(cls, text: str, origin: Optional[Name] = None) -> "Record":
+    def from_text(cls, text: Union[str, bytes], origin: Optional[Name] = None) -> "Record":
         """Parses a line of a master file (RFC 1035, section 5.1): the owner, the TTL, the class, the type and the data.
         The class may be before the TTL, or be left out for IN. The origin is appended to names without a last dot, and
         `@` is the origin; without an origin such names are rejected. The text may have comments, and parentheses in
-        which the end of a line is white space.
+        which the end of a line is white space. A string may have any octets as they are, so the text may be octets too; a
+        `str` is taken in UTF-8.
 
         Raises `BadText` if the first word is not a name, `BadTime` if there is no TTL, `UnknownText` if there is no
         type, and `BadData` if the rest is not data of the type; and `UnclosedList`, `UnclosedQuote`, `TextCut` or

@@ -224,6 +224,28 @@ class Records(unittest.TestCase):
         self.assertEqual(str(Record.from_text("@ 1 NS @", Name("a."))), "a. 1 IN NS a.")
         self.assertEqual(dnw.MX.from_text("10 @", origin=Name("a.")), dnw.MX(10, Name("a.")))
 
+    def test_strings_of_any_octets(self):
+        # RFC 1035, section 3.3: strings are binary; so BIND, NSD and ldns.
+        for text in [b'"\xe9" \x80', b"\xe9 \x80", b'"\\233" \\128']:
+            self.assertEqual(Record.from_text(b"a. 60 TXT " + text).to_wire()[13:], b"\x01\xe9\x01\x80")
+            self.assertEqual(dnw.data_from_text("TXT", text), dnw.TXT.from_text(text))
+        self.assertEqual(dnw.data_from_text("TXT", "\u00e9"), dnw.data_from_text("TXT", b"\xc3\xa9"))
+        self.assertEqual(dnw.data_from_text("SVCB", b"1 . key9=\xe9"), dnw.SVCB(1, ".", [(9, b"\xe9")]))
+
+    def test_keys_that_are_mandatory(self):
+        # RFC 9460, section 8
+        data = dnw.data_from_text("SVCB", "1 . alpn=h2 mandatory=alpn")
+        self.assertEqual(data, dnw.SVCB(1, ".", [(0, b"\0\1"), (1, b"\2h2")]))
+        for text in ["1 . mandatory=alpn", "1 . mandatory=alpn port=1", '1 . key0="\\000\\001"', "1 . key0 alpn=h2"]:
+            self.assertRaises(dnw.BadData, dnw.data_from_text, "SVCB", text)
+        wrong = Record("a.", 60, dnw.SVCB(1, ".", [(0, b"\0\1")]))
+        self.assertEqual(str(wrong), "a. 60 IN SVCB \\# 9 000100000000020001")
+        self.assertEqual(Record.from_text(str(wrong)), wrong)
+
+    def test_an_asterisk_is_no_type_and_no_class(self):
+        for line in ["a. 60 * A 192.0.2.1", "a. 60 IN * \\# 0", "a. 60 NSEC b. *", "a. 60 NSEC b. A *"]:
+            self.assertRaises(dnw.DnsError, Record.from_text, line)
+
     def test_texts_that_are_no_records(self):
         for line, error, offset, reason in [
             ("", dnw.BadText, 0, "wanted an owner"),
@@ -254,7 +276,7 @@ class Records(unittest.TestCase):
         self.assertRaises(dnw.BadData, dnw.data_from_text, 1, "192.0.2")
         self.assertRaises(dnw.BadData, dnw.A.from_text, "")
         self.assertRaises(dnw.MessageCut, dnw.A.from_wire, b"123")
-        for call in [lambda: Record.from_text(b"a."), lambda: Record.from_text("a. 1 A 1.2.3.4", "a.")]:
+        for call in [lambda: Record.from_text(1), lambda: Record.from_text("a. 1 A 1.2.3.4", "a.")]:
             self.assertRaises(TypeError, call)
         for code in [-1, 65536]:
             self.assertRaises(ValueError, dnw.data_from_text, code, "")

@@ -97,7 +97,8 @@ impl RecordBuf {
 
     /// Parses a line of a master file (RFC 1035, section 5.1): the owner, the TTL, the class, the type and the data.
     /// The class may be before the TTL, or be left out for IN. The origin is appended to names without a last dot, and
-    /// `@` is the origin. The text may have comments, and parentheses in which the end of a line is white space.
+    /// `@` is the origin. The text may have comments, and parentheses in which the end of a line is white space. A string may
+    /// have any octets as they are, so the line may be octets that are no UTF-8.
     ///
     /// `str::parse` does the same without an origin, and rejects such names.
     ///
@@ -116,8 +117,8 @@ impl RecordBuf {
     /// assert_eq!(error.kind(), ErrorKind::BadData);
     /// # Ok::<(), dns_names_wire::Error>(())
     /// ```
-    pub fn from_text(line: &str, origin: &Name) -> Result<Self, Error> {
-        RecordBuf::parse(line, origin.as_wire())
+    pub fn from_text(line: impl AsRef<[u8]>, origin: &Name) -> Result<Self, Error> {
+        RecordBuf::parse(line.as_ref(), origin.as_wire())
     }
 
     /// Returns a record of class IN, with data parsed from their text in master files. The origin is appended to names
@@ -140,16 +141,16 @@ impl RecordBuf {
         owner: impl Into<NameRef<'n>>,
         ttl: u32,
         record_type: RecordType,
-        text: &str,
+        text: impl AsRef<[u8]>,
         origin: Option<&Name>,
     ) -> Result<Self, Error> {
         let (mut octets, origin) = (Vec::new(), origin.map_or(&[][..], Name::as_wire));
-        let put = |octets: &mut Vec<u8>| ffi::parse_data((Class::IN.code(), record_type.code()), text, origin, octets);
+        let put = |octets: &mut Vec<u8>| ffi::parse_data((Class::IN.code(), record_type.code()), text.as_ref(), origin, octets);
         let fixed = put_record(&mut octets, owner.into(), (record_type, Class::IN, ttl), put)?;
         Ok(RecordBuf { octets, fixed })
     }
 
-    fn parse(line: &str, origin: &[u8]) -> Result<Self, Error> {
+    fn parse(line: &[u8], origin: &[u8]) -> Result<Self, Error> {
         let mut octets = Vec::new();
         ffi::parse_record(line, origin, &mut octets)?;
         let fixed = Name::root().read_from(&octets, 0)?;
@@ -363,7 +364,7 @@ impl FromStr for RecordBuf {
     type Err = Error;
 
     fn from_str(line: &str) -> Result<Self, Error> {
-        RecordBuf::parse(line, &[])
+        RecordBuf::parse(line.as_bytes(), &[])
     }
 }
 

@@ -367,6 +367,29 @@ fn records_are_parsed_and_shown() {
     );
 }
 
+/// RFC 1035, section 3.3: strings are binary.
+#[test]
+fn strings_of_any_octets() {
+    for text in [&b"\"\xe9\" \x80"[..], b"\xe9 \x80", b"\"\\233\" \\128"] {
+        let line = [b"a. 60 TXT ", text].concat();
+        let whole = RecordBuf::from_text(&line, &Name::root()).unwrap();
+        assert_eq!(whole.raw_data(), b"\x01\xe9\x01\x80");
+        let of_text = RecordBuf::from_data_text(&name("a."), 60, RecordType::TXT, text, None);
+        assert_eq!(of_text.unwrap(), whole);
+    }
+}
+
+/// RFC 9460, section 8; and `*` is no type (RFC 1035, section 3.2.3).
+#[test]
+fn keys_that_are_mandatory() {
+    assert_eq!(record("a. 1 SVCB 1 . mandatory=alpn alpn=h2").raw_data(), octets("0001 00 0000 0002 0001 0001 0003 026832"));
+    for line in ["a. 1 SVCB 1 . mandatory=alpn", "a. 1 SVCB 1 . key0=\"\\000\\001\"", "a. 1 NSEC b. *", "a. 1 * A 192.0.2.1"] {
+        assert!(line.parse::<RecordBuf>().is_err(), "{line}");
+    }
+    let wrong = record("a. 1 SVCB \\# 9 000100000000020001");
+    assert_eq!(record(&wrong.to_string()), wrong);
+}
+
 #[test]
 fn texts_that_are_no_records() {
     let (owner, time, data) = (ErrorKind::BadText, ErrorKind::BadTime, ErrorKind::BadData);

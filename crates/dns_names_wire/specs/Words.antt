@@ -151,6 +151,7 @@ pub use Rattle.dnw_zone_data.specs.declared.error.DataTextError.TheVariants.{Mem
 -- Service parameters as text.
 pub use Rattle.dnw_zone_svcb.specs.Params.{ParamValue, in_key_order, params_wire}
 pub use Rattle.dnw_zone_svcb.specs.ParamTexts.{param_text, params_text}
+pub use Rattle.dnw_zone_svcb.specs.Mandatory.{keeps_mandatory}
 pub use Rattle.dnw_zone_svcb.specs.ParamWords.{IsParam}
 pub use Rattle.dnw_zone_svcb.specs.ParamLaws.{IsParamValue, ParamsComeBack}
 pub use Rattle.dnw_zone_data.specs.DataTextLaws.{FieldAddressesComeBack, CountedComeBack, FieldIdentifiersComeBack, FieldNamesComeBack, NumbersComeBack, OctetsComeBack, SegmentsComeBack, StringsComeBack, TypesComeBack}

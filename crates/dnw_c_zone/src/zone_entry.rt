@@ -206,7 +206,7 @@ fn file_of(alloc: Global, word: &[u8]) -> Result<Option<Vec<u8>>, Failure>
         return Ok(None);
     };
     let mut name = Vec::new(alloc);
-    match parse_text(text, &mut name) {
+    match parse_text(text.as_bytes(), &mut name) {
         Ok(()) => Ok(if is_file_name(name.as_slice()) {
             Some(name)
         } else {

@@ -1,6 +1,6 @@
 -- What is printed of a field is read as that field, whatever is after it.
 use Rattle.std.proofs.Common.{◌≡◌, ◌≢◌, ℕ, suc, ◌+◌, ◌/◌, ◌%◌, ◌<◌, ◌≤◌, true, false, ◌&&◌, List, [], ◌∷◌, ◌++◌, zero, length, codes, slice_index, refl, sym, ap, ◌∙◌, subst, arith, decimal, append_assoc, append-nil, length-append, inl, inr}
-use Rattle.std.specs.Prelude.{nat_le, nat_lt, flat_map, Option, Some}
+use Rattle.std.specs.Prelude.{Bool, not, nat_le, nat_lt, flat_map, Option, Some}
 use Rattle.std.specs.Net.Addr.{ipv4_octets, IsIpv4Addr}
 use Rattle.std.specs.Net.Text.{dotted_text, ipv4_text}
 use Rattle.std.specs.declared.net.Ipv4Addr.{Ipv4Addr}
@@ -28,15 +28,14 @@ use Rattle.dnw_data.specs.declared.kind.ListKind.TheVariants as lists
 use Rattle.dnw_base.specs.Names.{label_wire}
 use Rattle.dnw_zone_values.specs.Numbers.{max_u8, max_u16, max_u32}
 use Rattle.dnw_zone_values.specs.Octets.{IsOctets, IsSalt, hex_text, salt_text}
-use Rattle.dnw_zone_values.specs.Strings.{quote, backslash, IsString, IsText, octet_text, string_text}
+use Rattle.dnw_zone_values.specs.Strings.{quote, backslash, IsString, IsStringText, IsText, octet_text, string_text}
 use Rattle.dnw_zone_values.specs.Base32.{IsHash, is_base32, base32_text}
 use Rattle.dnw_zone_values.proofs.Identifiers.{hash}
 use Rattle.dnw_zone_values.proofs.ComeBack.{numbers, salt}
 use Rattle.dnw_zone_values.proofs.StringText.{string, text}
-use Rattle.dnw_zone_svcb.proofs.ParamTextsBack.{string_utf8}
 use Rattle.dnw_zone_data.specs.declared.number_form.NumberForm.{NumberForm}
-use Rattle.dnw_zone_data.specs.Words.{is_end, quoted_len, word_len, word, after_word, after_spaces}
-use Rattle.dnw_zone_data.specs.Parsing.{takes_all, IsWord, IsStringWord, AreStringWords, AreTexts, ReadsField}
+use Rattle.dnw_zone_data.specs.Words.{is_asterisk, is_end, quoted_len, word_len, word, after_word, after_spaces}
+use Rattle.dnw_zone_data.specs.Parsing.{takes_all, IsWord, AreStringWords, AreTexts, ReadsField}
 use Rattle.dnw_zone_data.specs.Printing.{strings_text}
 use Rattle.dnw_zone_data.specs.DataTextLaws.{IsReadType, IsFieldReadBack, FieldComesBack}
 use Rattle.dnw_zone_data.specs.Generic.{generic_mark, hex_part}
@@ -108,7 +107,7 @@ pub tag_back : (tag : List ℕ) → FieldComesBack (Counted Tag) (counted tag)
 tag_back tag origin way printed rest print end =
     let (is, e) = print in
     let plain = letters_plain tag is.2 in
-    plain_by origin way (Counted Tag) printed tag rest (counted tag) refl e plain is.0 end.1 (tag, plain_utf8 tag plain, (refl, is), refl)
+    plain_by origin way (Counted Tag) printed tag rest (counted tag) refl e plain is.0 end.1 (tag, (plain_utf8 tag plain, (refl, is)), refl)
 
 salt_plain : (own : List ℕ) → IsOctets own → all_plain (salt_text own) ≡ true
 salt_plain [] h = refl
@@ -122,7 +121,7 @@ pub salt_back : (own : List ℕ) → IsSalt own → FieldComesBack (Counted Hex)
 salt_back own is origin way printed rest print end =
     let w = salt_text own in
     let plain = salt_plain own is.0 in
-    plain_by origin way (Counted Hex) printed w rest (counted own) refl print plain (salt_some own) end.1 (own, plain_utf8 w plain, (salt own is).0, refl)
+    plain_by origin way (Counted Hex) printed w rest (counted own) refl print plain (salt_some own) end.1 (own, (plain_utf8 w plain, (salt own is).0), refl)
 
 name_plain : (record_type : RecordType) → all_plain (type_name record_type) ≡ true
 name_plain (rr.Unknown code) = refl
@@ -132,6 +131,18 @@ pub type_plain : (record_type : RecordType) → type_code record_type < 65536 �
 type_plain record_type h =
     let number = plain_append (codes "TYPE") (decimal (type_code record_type)) refl (decimal_plain (type_code record_type) (omega (arith, h))) in
     text_by all_plain name_plain refl record_type number
+
+name_other : (record_type : RecordType) → not (is_asterisk (type_name record_type)) ≡ true
+name_other (rr.Unknown code) = refl
+name_other record_type = refl
+
+not_true : (b : Bool) → not b ≡ true → b ≡ false
+not_true true e = absurd cc
+not_true false e = refl
+
+-- no type is printed as `*`
+pub type_other : (record_type : RecordType) → is_asterisk (type_text record_type) ≡ false
+type_other record_type = not_true (is_asterisk (type_text record_type)) (text_by (λ w. not (is_asterisk w)) name_other refl record_type refl)
 
 name_some : (record_type : RecordType) → nat_lt 0 (length (type_name record_type)) ≡ true
 name_some (rr.Unknown code) = refl
@@ -147,7 +158,7 @@ pub type_back : (record_type : RecordType) → IsReadType record_type → FieldC
 type_back record_type is origin way printed rest print end =
     let w = type_text record_type in
     let plain = type_plain record_type is.0 in
-    plain_by origin way TypeCode printed w rest (type_code_of record_type) refl print plain (type_some record_type) end.1 (record_type, plain_utf8 w plain, types_come_back record_type is.0 ∙ ap Some is.1, refl)
+    plain_by origin way TypeCode printed w rest (type_code_of record_type) refl print plain (type_some record_type) end.1 (record_type, (plain_utf8 w plain, types_come_back record_type is.0 ∙ ap Some is.1, type_other record_type), refl)
 
 pub longer : (x y : List ℕ) → all_plain x ≡ true → 0 < length x → all_plain y ≡ true → (all_plain (x ++ y) ≡ true) × (0 < length (x ++ y))
 longer x y p some q = (plain_append x y p q, omega (arith, some, length-append x y))
@@ -196,7 +207,7 @@ hash_back own is origin way printed rest print end =
     let w = base32_text own in
     let spells = (hash own is).0 in
     let plain = hash_plain w spells.0 in
-    plain_by origin way (Counted Base32Hex) printed w rest (counted own) refl print.1 plain (hash_some own is.1) end.1 (own, plain_utf8 w plain, spells, refl)
+    plain_by origin way (Counted Base32Hex) printed w rest (counted own) refl print.1 plain (hash_some own is.1) end.1 (own, (plain_utf8 w plain, spells), refl)
 
 -- ---- all words
 
@@ -266,13 +277,13 @@ pub string_back : (own : List ℕ) → IsString own → FieldComesBack (Counted 
 string_back own is origin way printed rest print end =
     let w = string_text own in
     by_word origin way (Counted Text) printed w rest (counted own) refl print refl (string_word own rest is.0 end.1) (string_after own rest is.0 end.1)
-    (own, string_utf8 own is.0, (string own is).0, refl) (λ e. cc)
+    (own, (string own is).0, refl) (λ e. cc)
 
 pub text_back : (own : List ℕ) → IsText own → FieldComesBack (Octets Text) (octets own)
 text_back own is origin way printed rest print end =
     let w = string_text own in
     by_word origin way (Octets Text) printed w rest (octets own) refl print refl (string_word own rest is.0 end.1) (string_after own rest is.0 end.1)
-    (own, string_utf8 own is.0, (text own is).0, refl) (λ e. cc)
+    (own, (text own is).0, refl) (λ e. cc)
 
 -- ---- strings up to the end
 
@@ -295,11 +306,11 @@ strings_words (s ∷ strings) h =
     let parts = octets_parts s (flat_map label_wire strings) (λ i. h (suc i)) in
     let rest = strings_text strings in
     let end = strings_end strings in
-    let is : IsStringWord (string_text s) s = (string_utf8 s parts.0, (string s (parts.0, omega (arith, few))).0) in
+    let is : IsStringText (string_text s) s = (string s (parts.0, omega (arith, few))).0 in
     let whole = string_word s rest parts.0 end in
     let left = string_after s rest parts.0 end in
     let words : AreStringWords (32 ∷ string_text s ++ rest) (s ∷ strings) =
-    ((λ none. let no : quote ∷ _ ≡ [] = none in cc), subst (λ (w : List ℕ). IsStringWord w s) (sym whole) is, subst (λ (xs : List ℕ). AreStringWords xs strings) (sym left) (strings_words strings parts.1)) in
+    ((λ none. let no : quote ∷ _ ≡ [] = none in cc), subst (λ (w : List ℕ). IsStringText w s) (sym whole) is, subst (λ (xs : List ℕ). AreStringWords xs strings) (sym left) (strings_words strings parts.1)) in
     words
 
 quoted_other : (s : List ℕ) → string_text s ≢ generic_mark

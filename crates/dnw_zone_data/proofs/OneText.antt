@@ -24,14 +24,13 @@ use Rattle.dnw_zone_values.specs.Strings.{IsTextWithin}
 use Rattle.dnw_zone_values.specs.Times.{IsDateText, IsTimeText}
 use Rattle.dnw_zone_values.proofs.ComeBack.{base64}
 use Rattle.dnw_zone_svcb.specs.Params.{ParamValue, in_key_order, params_wire}
-use Rattle.dnw_zone_svcb.proofs.Steps.{one_word as one-param}
+use Rattle.dnw_zone_data.proofs.ParamWalks.{one_params}
 use Rattle.dnw_data.specs.FieldWires.{field_wire}
 use Rattle.dnw_zone_data.specs.declared.number_form.NumberForm.{NumberForm}
 use Rattle.dnw_zone_data.specs.declared.number_form.NumberForm.TheVariants.{Decimal, Period, Algorithm, CertificateType}
 use Rattle.dnw_zone_data.specs.NumberForms.{first_form, number_forms, other_forms, IsNumberIn}
-use Rattle.dnw_zone_data.specs.ParamLists.{AreParamWords}
 use Rattle.dnw_zone_data.specs.TypeLists.{AreTypeWords}
-use Rattle.dnw_zone_data.specs.Words.{after_param, after_spaces, after_word, param_word, without_spaces, word}
+use Rattle.dnw_zone_data.specs.Words.{after_spaces, after_word, without_spaces, word}
 use Rattle.dnw_zone_data.specs.DataTexts.{IsPlainData, IsTextOf, text_kinds}
 use Rattle.dnw_zone_data.specs.Generic.{IsGeneric}
 use Rattle.dnw_zone_data.specs.DataTextLaws.{DataAreUnambiguous, PrintedDataAreSame}
@@ -59,9 +58,9 @@ one_salt text a b (inr x) (inr y) = one_hex text a b x.0 y.0
 
 one_spelled : (shown : Shown) (text a b : List ℕ) → SpellsShown shown text a → SpellsShown shown text b → a ≡ b
 one_spelled Text text a b x y = one_within 255 text a b x y
-one_spelled Tag text a b x y = sym x.0 ∙ y.0
-one_spelled Hex text a b x y = one_salt text a b x y
-one_spelled Base32Hex text a b x y = same_Some a b (sym x.1 ∙ y.1)
+one_spelled Tag text a b x y = sym x.1.0 ∙ y.1.0
+one_spelled Hex text a b x y = one_salt text a b x.1 y.1
+one_spelled Base32Hex text a b x y = same_Some a b (sym x.1.1 ∙ y.1.1)
 one_spelled Base64 text a b x y = absurd x
 one_spelled Other text a b x y = absurd x
 
@@ -99,11 +98,11 @@ one_word_lem : (origin : Option NameValue) (way : NumberForm) (kind : Kind) (tex
 one_word_lem origin way (kinds.Name form) text v w x y = x.2 ∙ ap name (same_Some x.0 y.0 (sym x.1 ∙ y.1)) ∙ sym y.2
 one_word_lem origin way kinds.Ipv4 text v w x y = x.3 ∙ ap (λ (a : Ipv4Addr). ipv4 (ipv4_octets a)) (IsIpv4Text_unique text x.0 y.0 x.2 y.2) ∙ sym y.3
 one_word_lem origin way kinds.Ipv6 text v w x y = x.3 ∙ ap (λ (a : Ipv6Addr). ipv6 (ipv6_segments a)) (IsIpv6Text_unique text x.0 y.0 x.2 y.2) ∙ sym y.3
-one_word_lem origin way kinds.TypeCode text v w x y = x.3 ∙ ap type_code (same_Some x.0 y.0 (sym x.2 ∙ y.2)) ∙ sym y.3
+one_word_lem origin way kinds.TypeCode text v w x y = x.2 ∙ ap type_code (same_Some x.0 y.0 (sym x.1.1 ∙ y.1.1)) ∙ sym y.2
 one_word_lem origin way kinds.U48 text v w x y = one_identifier 6 eui48 text v w x y
 one_word_lem origin way kinds.U64 text v w x y = one_identifier 8 eui64 text v w x y
-one_word_lem origin way (kinds.Counted shown) text v w x y = x.3 ∙ ap counted (one_spelled shown text x.0 y.0 x.2 y.2) ∙ sym y.3
-one_word_lem origin way (kinds.Octets Text) text v w x y = x.3 ∙ ap octets (one_within 65535 text x.0 y.0 x.2 y.2) ∙ sym y.3
+one_word_lem origin way (kinds.Counted shown) text v w x y = x.2 ∙ ap counted (one_spelled shown text x.0 y.0 x.1 y.1) ∙ sym y.2
+one_word_lem origin way (kinds.Octets Text) text v w x y = x.2 ∙ ap octets (one_within 65535 text x.0 y.0 x.1 y.1) ∙ sym y.2
 one_word_lem origin way (kinds.Octets shown) text v w x y = absurd x
 one_word_lem origin way kinds.U8 text v w x y = one_number way 255 u8 text v w x y
 one_word_lem origin way kinds.U16 text v w x y = one_number way 65535 u16 text v w x y
@@ -123,7 +122,7 @@ one_strings left [] [] x y = refl
 one_strings left [] (t ∷ b) x y = absurd (y.0 x)
 one_strings left (s ∷ a) [] x y = absurd (x.0 y)
 one_strings left (s ∷ a) (t ∷ b) x y =
-    ap (λ (own : List ℕ). own ∷ a) (one_within 255 (word (after_spaces left)) s t x.1.1 y.1.1) ∙ ap (λ (rest : List (List ℕ)). t ∷ rest) (one_strings (after_word (after_spaces left)) a b x.2 y.2)
+    ap (λ (own : List ℕ). own ∷ a) (one_within 255 (word (after_spaces left)) s t x.1 y.1) ∙ ap (λ (rest : List (List ℕ)). t ∷ rest) (one_strings (after_word (after_spaces left)) a b x.2 y.2)
 
 one_types : (left : List ℕ) (a b : List RecordType) → AreTypeWords left a → AreTypeWords left b → a ≡ b
 one_types left [] [] x y = refl
@@ -131,13 +130,6 @@ one_types left [] (t ∷ b) x y = absurd (y.0 x)
 one_types left (s ∷ a) [] x y = absurd (x.0 y)
 one_types left (s ∷ a) (t ∷ b) x y =
     ap (λ (record_type : RecordType). record_type ∷ a) (same_Some s t (sym x.1.1 ∙ y.1.1)) ∙ ap (λ (rest : List RecordType). t ∷ rest) (one_types (after_word (after_spaces left)) a b x.2 y.2)
-
-one_params : (left : List ℕ) (a b : List ParamValue) → AreParamWords left a → AreParamWords left b → a ≡ b
-one_params left [] [] x y = refl
-one_params left [] (q ∷ b) x y = absurd (y.0 x)
-one_params left (p ∷ a) [] x y = absurd (x.0 y)
-one_params left (p ∷ a) (q ∷ b) x y =
-    ap (λ (one : ParamValue). one ∷ a) (one-param (param_word (after_spaces left)) p q x.1 y.1) ∙ ap (λ (rest : List ParamValue). q ∷ rest) (one_params (after_param (after_spaces left)) a b x.2 y.2)
 
 types_fit : (v : FieldValue) (own : List ℕ) → v ≡ types (items lists.Types own) → IsOctets (field_wire v) → IsOctets own
 types_fit v own e h = subst (λ (z : FieldValue). IsOctets (field_wire z)) e h
@@ -152,7 +144,7 @@ one_list (kinds.List lists.Texts) left v w hv hw x y =
 one_list (kinds.List lists.Types) left v w hv hw (a, own, words, are, e) (b, other, others, also, f) =
     let same = one_types left a b words others in
     e ∙ ap (λ (xs : List ℕ). types (items lists.Types xs)) (one_bitmap b own other (types_fit v own e hv) (types_fit w other f hw) (rw same at are) also) ∙ sym f
-one_list (kinds.List lists.Params) left v w hv hw (a, own, words, is, e) (b, other, others, also, f) =
+one_list (kinds.List lists.Params) left v w hv hw (a, own, words, is, keeps, e) (b, other, others, also, kept, f) =
     let same : own ≡ other = same_Some own other (sym is ∙ ap (in_key_order []) (one_params left a b words others) ∙ also) in
     e ∙ ap (λ (ps : List ParamValue). params (items lists.Params (params_wire ps))) same ∙ sym f
 one_list kind left v w hv hw x y = absurd x

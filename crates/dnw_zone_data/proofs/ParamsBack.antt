@@ -12,9 +12,10 @@ use Rattle.dnw_data.specs.Lists.{fault_within, list_fault}
 use Rattle.dnw_data.specs.Values.{params, items}
 use Rattle.dnw_zone_values.specs.Octets.{IsOctets}
 use Rattle.dnw_zone_values.specs.Strings.{quote, string_text}
-use Rattle.dnw_zone_svcb.specs.ParamKeys.{generic_key, named_key}
+use Rattle.dnw_zone_svcb.specs.ParamKeys.{named_key}
 use Rattle.dnw_zone_svcb.specs.ParamLaws.{IsParamValue}
 use Rattle.dnw_zone_svcb.specs.Params.{ParamValue, param_wire, params_wire, in_key_order}
+use Rattle.dnw_zone_svcb.specs.Mandatory.{keeps_mandatory}
 use Rattle.dnw_zone_svcb.specs.ParamTexts.{param_text, params_within}
 use Rattle.dnw_zone_svcb.specs.ParamWords.{IsParam, is_equals, key_part}
 use Rattle.dnw_zone_svcb.specs.Inside.Steps.{AreBelow}
@@ -200,9 +201,9 @@ pub params_back : (own : List ℕ) → IsOctets own → list_fault lists.Params 
 unfolding list_fault
 params_back own h fine origin way printed rest print end =
     let none : rest ≡ [] = end.0 refl in
-    let (ps, wire, e, up) = printed_are (length own) (length own) 0 own printed h (omega arith) fine print in
+    let (ps, wire, e, up) = printed_are (length own) (length own) 0 own printed h (omega arith) fine print.1 in
     let text = flat_map spaced ps in
     let words = params_words 0 ps up in
     let is : AreParams (after_spaces text) (params (items lists.Params own)) =
-    (ps, ps, from_start text ps words, sorted 0 [] ps tt up, ap (λ (xs : List ℕ). params (items lists.Params xs)) wire) in
+    (ps, ps, from_start text ps words, sorted 0 [] ps tt up, ap keeps_mandatory (sym wire) ∙ print.0, ap (λ (xs : List ℕ). params (items lists.Params xs)) wire) in
     rw (none, e, append-nil) ((is, refl), params_no_mark text ps words, params_end ps)

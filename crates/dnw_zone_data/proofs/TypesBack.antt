@@ -6,8 +6,7 @@ use Rattle.std.specs.List.Sorted.{IsStrictlySortedBy}
 use Rattle.std.proofs.lemmas.Bool.{and_parts, cases_Bool, eqb-false, leb-true, ne_eqb}
 use Rattle.std.proofs.lemmas.List.{take_all, take-append-drop, length-take-le}
 use Rattle.dnw_base.specs.declared.record_type.RecordType.{RecordType}
-use Rattle.dnw_base.specs.declared.record_type.RecordType.TheVariants as rr
-use Rattle.dnw_base.specs.RecordTypes.{named_types, registered_type, type_cmp, type_code, type_of_code, type_of_text, type_text}
+use Rattle.dnw_base.specs.RecordTypes.{registered_type, type_cmp, type_code, type_of_code, type_of_text, type_text}
 use Rattle.dnw_base.proofs.PrintedTypes.{types_come_back}
 use Rattle.dnw_data.specs.declared.kind.Kind.TheVariants.{List as ListOf}
 use Rattle.dnw_data.specs.declared.kind.ListKind.TheVariants as lists
@@ -25,7 +24,7 @@ use Rattle.dnw_zone_data.specs.DataTextLaws.{FieldComesBack}
 use Rattle.dnw_data.proofs.Codes.{code_back}
 use Rattle.dnw_zone_data.proofs.Items.{item_first, starts_twice}
 use Rattle.dnw_zone_data.proofs.Plain.{plain_starts, plain_word, plain_after, plain_utf8}
-use Rattle.dnw_zone_data.proofs.FieldsBack.{type_plain, type_some}
+use Rattle.dnw_zone_data.proofs.FieldsBack.{type_plain, type_some, type_other}
 
 -- ---- the windows of a bitmap
 
@@ -136,7 +135,7 @@ types_words least (code ∷ codes) h =
     let rest = codes_text codes in
     let few : type_code kind < 65536 = omega (arith, code_back code, h.1) in
     let plain = type_plain kind few in
-    let is : IsTypeWord w kind = (plain_utf8 w plain, types_come_back kind few ∙ ap (λ (c : ℕ). Some (type_of_code c)) (code_back code)) in
+    let is : IsTypeWord w kind = (plain_utf8 w plain, types_come_back kind few ∙ ap (λ (c : ℕ). Some (type_of_code c)) (code_back code), type_other kind) in
     let end = types_end codes in
     rw (plain_starts w rest plain (type_some kind), plain_word w rest plain end, plain_after w rest plain end)
     ((λ none. omega (arith, type_some kind, ap length none, length-append w rest)), is, types_words (code + 1) codes h.2)

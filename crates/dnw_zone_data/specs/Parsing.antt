@@ -7,15 +7,13 @@ use Rattle.std.specs.declared.net.Ipv4Addr.{Ipv4Addr}
 use Rattle.std.specs.declared.net.Ipv6Addr.{Ipv6Addr}
 use Rattle.std.specs.Str.{IsUtf8}
 use Rattle.dnw_base.specs.Names.{NameValue, label_wire}
-use Rattle.dnw_base.specs.declared.record_type.RecordType.{RecordType}
-use Rattle.dnw_base.specs.RecordTypes.{type_of_text}
 use Rattle.dnw_data.specs.declared.kind.Kind.{Kind}
 use Rattle.dnw_data.specs.declared.kind.Kind.TheVariants as kinds
 use Rattle.dnw_data.specs.declared.kind.ListKind.{ListKind}
 use Rattle.dnw_data.specs.declared.kind.ListKind.TheVariants as lists
 use Rattle.dnw_data.specs.declared.kind.Shown.{Shown}
 use Rattle.dnw_data.specs.declared.kind.Shown.TheVariants.{Text, Tag, Hex, Base32Hex, Base64, Other}
-use Rattle.dnw_data.specs.Values.{FieldValue, name, u8, u16, u32, u48, u64, ipv4, ipv6, type_code, time, counted, octets, texts, items}
+use Rattle.dnw_data.specs.Values.{FieldValue, name, u8, u16, u32, u48, u64, ipv4, ipv6, time, counted, octets, texts, items}
 use Rattle.dnw_zone_values.specs.Numbers.{max_u8, max_u16, max_u32}
 use Rattle.dnw_zone_values.specs.Octets.{IsHexText, IsBase64Text, IsSaltText}
 use Rattle.dnw_zone_values.specs.Strings.{IsStringText, IsLongText}
@@ -30,7 +28,7 @@ use Rattle.dnw_zone_data.specs.NumberForms.{first_form, other_forms, IsNumberIn}
 use Rattle.dnw_zone_data.specs.Words.{after_spaces, word, after_word, without_spaces}
 use Rattle.dnw_zone_data.specs.Faults.{fault, wanted_of}
 use Rattle.dnw_zone_data.specs.NameReading.{named_at}
-use Rattle.dnw_zone_data.specs.TypeLists.{AreTypes}
+use Rattle.dnw_zone_data.specs.TypeLists.{AreTypes, IsTypeField}
 use Rattle.dnw_zone_data.specs.ParamLists.{AreParams}
 
 -- ---- the fields of words
@@ -41,7 +39,7 @@ IsNumber way max field text value = (n : ℕ) × IsUtf8 text × IsNumberIn way m
 
 -- octets in a spelling
 abbrev pub AreOctetsOf : (List ℕ → List ℕ → Type 0) → (List ℕ → FieldValue) → List ℕ → FieldValue → Type 0
-AreOctetsOf SpellsShown field text value = (own : List ℕ) × IsUtf8 text × SpellsShown text own × (value ≡ field own)
+AreOctetsOf Spells field text value = (own : List ℕ) × Spells text own × (value ≡ field own)
 
 -- a word is a name, completed by the origin
 abbrev pub IsNameField : Option NameValue → List ℕ → FieldValue → Type 0
@@ -66,12 +64,12 @@ eui48 own = u48 (from_be_bytes w64 (0 ∷ 0 ∷ own))
 abbrev pub eui64 : List ℕ → FieldValue
 eui64 own = u64 (from_be_bytes w64 own)
 
--- a word writes octets that have a length octet before them
+-- a word writes octets that have a length octet before them; a string may have any octets as they are
 abbrev pub SpellsShown : Shown → List ℕ → List ℕ → Type 0
 SpellsShown Text text own = IsStringText text own
-SpellsShown Tag text own = IsTagText text own
-SpellsShown Hex text own = IsSaltText text own
-SpellsShown Base32Hex text own = IsHashText text own
+SpellsShown Tag text own = IsUtf8 text × IsTagText text own
+SpellsShown Hex text own = IsUtf8 text × IsSaltText text own
+SpellsShown Base32Hex text own = IsUtf8 text × IsHashText text own
 SpellsShown shown text own = ⊥
 
 -- a word is octets up to the end, written as a string is
@@ -84,22 +82,18 @@ abbrev pub IsWord : Option NameValue → NumberForm → Kind → List ℕ → Fi
 IsWord origin way (kinds.Name form) text value = IsNameField origin text value
 IsWord origin way kinds.Ipv4 text value = (a : Ipv4Addr) × IsUtf8 text × IsIpv4Text text a × (value ≡ ipv4 (ipv4_octets a))
 IsWord origin way kinds.Ipv6 text value = (a : Ipv6Addr) × IsUtf8 text × IsIpv6Text text a × (value ≡ ipv6 (ipv6_segments a))
-IsWord origin way kinds.TypeCode text value = (code : RecordType) × IsUtf8 text × (type_of_text text ≡ Some code) × (value ≡ type_code code)
+IsWord origin way kinds.TypeCode text value = IsTypeField text value
 IsWord origin way kinds.U48 text value = IsIdentifierField 6 eui48 text value
 IsWord origin way kinds.U64 text value = IsIdentifierField 8 eui64 text value
 IsWord origin way (kinds.Counted shown) text value = AreOctetsOf (SpellsShown shown) counted text value
 IsWord origin way (kinds.Octets shown) text value = IsOctetsOf shown text value
 IsWord origin way kind text value = IsNumberOf way kind text value
 
--- a word is this string
-abbrev pub IsStringWord : List ℕ → List ℕ → Type 0
-IsStringWord text own = IsUtf8 text × IsStringText text own
-
 -- the words of a text are these strings
 abbrev pub AreStringWords : List ℕ → List (List ℕ) → Type 0
 AreStringWords left [] = after_spaces left ≡ []
 AreStringWords left (string ∷ strings) =
-    (after_spaces left ≢ []) × IsStringWord (word (after_spaces left)) string
+    (after_spaces left ≢ []) × IsStringText (word (after_spaces left)) string
     × AreStringWords (after_word (after_spaces left)) strings
 
 -- one string or more

@@ -1,14 +1,14 @@
 -- Lists of record types (RFC 4034, section 4.2; RFC 5155, section 3.3; RFC 7477, section 2.1.2): the names of types, in any order
 -- when they are parsed, and in the order of their codes when they are printed.
-use Rattle.std.specs.Prelude.{ℕ, zero, suc, ◌≡◌, ◌≢◌, ◌-◌, ◌*◌, ◌==◌, ◌&&◌, Bool, not, nat_le, if◌then◌else◌, List, [], ◌∷◌, ◌++◌, length, take, drop, slice_index, flat_map, Option, Some, None, option_map}
+use Rattle.std.specs.Prelude.{ℕ, zero, suc, ◌≡◌, ◌≢◌, ◌-◌, ◌*◌, ◌==◌, ◌&&◌, Bool, false, not, nat_le, if◌then◌else◌, List, [], ◌∷◌, ◌++◌, length, take, drop, slice_index, flat_map, Option, Some, None, option_map}
 use Rattle.std.specs.Str.{IsUtf8}
 use Rattle.dnw_base.specs.declared.record_type.RecordType.{RecordType}
 use Rattle.dnw_base.specs.RecordTypes.{type_text, type_of_code, type_of_text}
 use Rattle.dnw_data.specs.declared.kind.ListKind.TheVariants as lists
-use Rattle.dnw_data.specs.Values.{FieldValue, types, items}
+use Rattle.dnw_data.specs.Values.{FieldValue, type_code, types, items}
 use Rattle.dnw_data.specs.TypeSets.{IsSetOf, Encodes, set_codes, octets_codes, window_size}
 use Rattle.dnw_base.specs.Limits.{max_window}
-use Rattle.dnw_zone_data.specs.Words.{after_spaces, word, after_word}
+use Rattle.dnw_zone_data.specs.Words.{after_spaces, word, after_word, is_asterisk}
 
 -- ---- printing
 
@@ -41,7 +41,11 @@ PrintsTypes own text = (codes : List ℕ) × (codes_within (length own) own ≡ 
 
 -- a word is this type
 abbrev pub IsTypeWord : List ℕ → RecordType → Type 0
-IsTypeWord text kind = IsUtf8 text × (type_of_text text ≡ Some kind)
+IsTypeWord text kind = IsUtf8 text × (type_of_text text ≡ Some kind) × (is_asterisk text ≡ false)
+
+-- a word is a type, as the field that it makes
+abbrev pub IsTypeField : List ℕ → FieldValue → Type 0
+IsTypeField text value = (code : RecordType) × IsTypeWord text code × (value ≡ type_code code)
 
 -- the words of a text are these types
 abbrev pub AreTypeWords : List ℕ → List RecordType → Type 0

@@ -50,6 +50,11 @@ word text = take (word_len text) text
 abbrev pub after_word : List ℕ → List ℕ
 after_word text = drop (word_len text) text
 
+-- `*` asks for all types, or all classes: a QTYPE and a QCLASS, and no type or class of a record (RFC 1035, sections 3.2.3 and 3.2.5)
+abbrev pub is_asterisk : List ℕ → Bool
+is_asterisk (c ∷ []) = c == 42
+is_asterisk text = false
+
 -- ---- service parameters
 
 -- A service parameter is a key up to the first `=`, and a word after that (RFC 9460, section 2.1).

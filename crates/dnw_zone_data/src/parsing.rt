@@ -13,10 +13,9 @@ use crate::error::{DataTextError, Wanted, wanted_of};
 use crate::name::read_name;
 use crate::number_form::{NumberForm, next_form, u8_in, u16_in, u32_in};
 use crate::params::parse_params;
-use crate::spelling::{base64_of, hex_of, pairs_of, spelled, string_of_word, text_of};
-use crate::types::parse_types;
+use crate::spelling::{base64_of, hex_of, pairs_of, spelled, string_of, text_of};
+use crate::types::{parse_type, parse_types};
 use crate::words::{after_spaces, split_word, without_spaces};
-use dnw_base::record_type::RecordType;
 use dnw_data::kind::{Kind, ListKind, Shown};
 use dnw_name::name::Name;
 use dnw_zone_values::address::{parse_ipv4, parse_ipv6};
@@ -180,7 +179,7 @@ fn parse_texts(alloc: Global, text: &[u8], out: &mut Vec<u8>) -> Result<bool, Al
     }
     'strings: while !left.is_empty() {
         let (word, rest) = split_word(left);
-        let Some(own) = string_of_word(alloc, word)? else {
+        let Some(own) = string_of(alloc, word)? else {
             return Ok(false);
         };
         let octets = own.as_slice();
@@ -215,6 +214,12 @@ fn parse_word(
     if let Kind::Name(_) = kind {
         return parse_name(alloc, word, origin, out);
     }
+    if let Kind::Counted(shown) = kind {
+        return parse_counted(alloc, shown, word, out);
+    }
+    if let Kind::Octets(shown) = kind {
+        return parse_octets(alloc, shown, word, out);
+    }
     let Ok(text) = str::from_utf8(word) else {
         return Ok(false);
     };
@@ -231,16 +236,9 @@ fn parse_word(
             };
             out.extend_from_slice(&address.octets())?;
         }
-        Kind::TypeCode => {
-            let Some(code) = RecordType::from_text(text) else {
-                return Ok(false);
-            };
-            out.extend_from_slice(&u16::from(code).to_be_bytes())?;
-        }
+        Kind::TypeCode => return parse_type(word, out),
         Kind::U48 => return parse_eui48(alloc, text, out),
         Kind::U64 => return parse_eui64(alloc, text, out),
-        Kind::Counted(shown) => return parse_counted(alloc, shown, text, out),
-        Kind::Octets(shown) => return parse_octets(alloc, shown, text, out),
         _ => return parse_number(form, kind, text, out),
     }
     Ok(true)
@@ -323,16 +321,16 @@ fn parse_eui64(alloc: Global, text: &str, out: &mut Vec<u8>) -> Result<bool, All
     Ok(true)
 }
 
-/// Appends a length octet and the octets that a text writes. Returns `false` if it writes none.
+/// Appends a length octet and the octets that a word writes. Returns `false` if it writes none.
 fn parse_counted(
     alloc: Global,
     shown: Shown,
-    text: &str,
+    word: &[u8],
     out: &mut Vec<u8>,
 ) -> Result<bool, AllocError>
-    ensures { IfOk result (AppendsOne (AreOctetsOf (SpellsShown shown) counted text.now) out.old.items out.new.items) }
+    ensures { IfOk result (AppendsOne (AreOctetsOf (SpellsShown shown) counted word.now) out.old.items out.new.items) }
 {
-    let Some(own) = spelled(alloc, shown, text)? else {
+    let Some(own) = spelled(alloc, shown, word)? else {
         return Ok(false);
     };
     let octets = own.as_slice();
@@ -345,22 +343,22 @@ fn parse_counted(
 fn parse_octets(
     alloc: Global,
     shown: Shown,
-    text: &str,
+    word: &[u8],
     out: &mut Vec<u8>,
 ) -> Result<bool, AllocError>
-    ensures { IfOk result (AppendsOne (IsOctetsOf shown text.now) out.old.items out.new.items) }
+    ensures { IfOk result (AppendsOne (IsOctetsOf shown word.now) out.old.items out.new.items) }
 {
     match shown {
-        Shown::Text => parse_text(alloc, text, out),
+        Shown::Text => parse_text(alloc, word, out),
         Shown::Tag | Shown::Hex | Shown::Base32Hex | Shown::Base64 | Shown::Other => Ok(false),
     }
 }
 
 /// Appends the octets of a text of any length. Returns `false` if the text is none.
-fn parse_text(alloc: Global, text: &str, out: &mut Vec<u8>) -> Result<bool, AllocError>
-    ensures { IfOk result (AppendsOne (AreOctetsOf IsLongText octets text.now) out.old.items out.new.items) }
+fn parse_text(alloc: Global, word: &[u8], out: &mut Vec<u8>) -> Result<bool, AllocError>
+    ensures { IfOk result (AppendsOne (AreOctetsOf IsLongText octets word.now) out.old.items out.new.items) }
 {
-    let Some(own) = text_of(alloc, text)? else {
+    let Some(own) = text_of(alloc, word)? else {
         return Ok(false);
     };
     out.extend_from_slice(own.as_slice())?;

@@ -8,11 +8,11 @@ ghost use Rattle.dnw_zone_data.specs.Printing.{Prints, PrintsU16, PrintsU48, Pri
 ghost use Rattle.dnw_zone_data.specs.Appending.{Appended, AppendedInPart};
 
 use crate::name::write_name;
+use crate::params::write_param_list;
 use crate::types::write_types;
 use dnw_data::field::Field;
 use dnw_data::fields::Fields;
 use dnw_data::kind::{Kind, Shown};
-use dnw_zone_svcb::printing::write_params;
 use dnw_zone_values::base32::Base32Hex;
 use dnw_zone_values::octets::{Base64, Hexadecimal, Salt};
 use dnw_zone_values::pairs::Pairs;
@@ -89,7 +89,7 @@ fn write_field(
         Field::Octets(octets) => return write_octets(kind, octets, out),
         Field::Texts(items) => return write_strings(items.as_bytes(), out),
         Field::Types(items) => return write_types(items.as_bytes(), out),
-        Field::Params(items) => return write_params(alloc, items.as_bytes(), out),
+        Field::Params(items) => return write_param_list(alloc, items.as_bytes(), out),
         Field::Prefixes(_) | Field::Names(_) | Field::LongCounted(_) | Field::Shaped(_) => {
             return Ok(false);
         }

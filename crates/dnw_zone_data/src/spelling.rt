@@ -1,11 +1,12 @@
 //! The octets that texts write.
 ghost use Rattle.std.specs.Prelude.{◌≡◌, ◌≤◌, ℕ, List, length, IfOk, IfSome, MatchOption};
+ghost use Rattle.std.specs.Str.{IsUtf8};
 ghost use Rattle.dnw_zone_values.specs.Octets.{IsHexText, IsBase64Text, IsSaltText};
 ghost use Rattle.dnw_zone_values.specs.Strings.{IsStringText, IsLongText};
 ghost use Rattle.dnw_zone_values.specs.Tags.{IsTagText};
 ghost use Rattle.dnw_zone_values.specs.Base32.{IsHashText};
 ghost use Rattle.dnw_zone_values.specs.Pairs.{IsPairsText};
-ghost use Rattle.dnw_zone_data.specs.Parsing.{IsStringWord, SpellsShown};
+ghost use Rattle.dnw_zone_data.specs.Parsing.{SpellsShown};
 
 use dnw_data::kind::Shown;
 use dnw_zone_values::base32::parse_hash;
@@ -17,52 +18,45 @@ use dnw_zone_values::tag::parse_tag;
 use std::alloc::{AllocError, Global};
 use std::str;
 
-/// Returns the octets that a text writes, if any.
+/// Returns the octets that a word writes, if any.
 pub(crate) fn spelled(
     alloc: Global,
     shown: Shown,
-    text: &str,
+    word: &[u8],
 ) -> Result<Option<Vec<u8>>, AllocError>
-    ensures is { IfOk result (λ x. MatchOption x ((own : List ℕ) → ¬ (SpellsShown shown text.now own)) (λ own. SpellsShown shown text.now own.items)) }
+    ensures is { IfOk result (λ x. MatchOption x ((own : List ℕ) → ¬ (SpellsShown shown word.now own)) (λ own. SpellsShown shown word.now own.items)) }
     ensures few { IfOk result (λ x. IfSome x (λ own. length own.items ≤ 255)) }
 {
     match shown {
-        Shown::Text => string_of(alloc, text),
-        Shown::Tag => tag_of(alloc, text),
-        Shown::Hex => salt_of(alloc, text),
-        Shown::Base32Hex => hash_of(alloc, text),
+        Shown::Text => string_of(alloc, word),
+        Shown::Tag => tag_of(alloc, word),
+        Shown::Hex => salt_of(alloc, word),
+        Shown::Base32Hex => hash_of(alloc, word),
         Shown::Base64 | Shown::Other => Ok(None),
     }
 }
 
-/// Returns the octets of a word that is a string.
-pub(crate) fn string_of_word(alloc: Global, word: &[u8]) -> Result<Option<Vec<u8>>, AllocError>
-    ensures is { IfOk result (λ x. MatchOption x ((own : List ℕ) → ¬ (IsStringWord word.now own)) (λ own. IsStringWord word.now own.items)) }
+/// Returns the octets of a string, if the word is one.
+pub(crate) fn string_of(alloc: Global, word: &[u8]) -> Result<Option<Vec<u8>>, AllocError>
+    ensures is { IfOk result (λ x. MatchOption x ((own : List ℕ) → ¬ (IsStringText word.now own)) (λ own. IsStringText word.now own.items)) }
     ensures few { IfOk result (λ x. IfSome x (λ own. length own.items ≤ 255)) }
 {
-    let Ok(text) = str::from_utf8(word) else {
-        return Ok(None);
-    };
-    string_of(alloc, text)
-}
-
-/// Returns the octets of a string, if the text is one.
-fn string_of(alloc: Global, text: &str) -> Result<Option<Vec<u8>>, AllocError>
-    ensures { IfOk result (λ x. MatchOption x ((own : List ℕ) → ¬ (IsStringText text.now own)) (λ own. IsStringText text.now own.items)) }
-{
     let mut own = Vec::new(alloc);
-    match parse_string(text, &mut own) {
+    match parse_string(word, &mut own) {
         Ok(()) => Ok(Some(own)),
         Err(FieldTextError::Memory) => Err(AllocError),
         Err(_) => Ok(None),
     }
 }
 
-/// Returns the octets of a tag, if the text is one.
-fn tag_of(alloc: Global, text: &str) -> Result<Option<Vec<u8>>, AllocError>
-    ensures is { IfOk result (λ x. MatchOption x ((own : List ℕ) → ¬ (IsTagText text.now own)) (λ own. IsTagText text.now own.items)) }
+/// Returns the octets of a tag, if the word is one.
+fn tag_of(alloc: Global, word: &[u8]) -> Result<Option<Vec<u8>>, AllocError>
+    ensures is { IfOk result (λ x. MatchOption x ((own : List ℕ) → ¬ (IsUtf8 word.now × IsTagText word.now own)) (λ own. IsUtf8 word.now × IsTagText word.now own.items)) }
     ensures few { IfOk result (λ x. IfSome x (λ own. length own.items ≤ 255)) }
 {
+    let Ok(text) = str::from_utf8(word) else {
+        return Ok(None);
+    };
     let mut own = Vec::new(alloc);
     match parse_tag(text, &mut own) {
         Ok(()) => Ok(Some(own)),
@@ -71,11 +65,14 @@ fn tag_of(alloc: Global, text: &str) -> Result<Option<Vec<u8>>, AllocError>
     }
 }
 
-/// Returns the octets of a salt, if the text is one.
-fn salt_of(alloc: Global, text: &str) -> Result<Option<Vec<u8>>, AllocError>
-    ensures is { IfOk result (λ x. MatchOption x ((own : List ℕ) → ¬ (IsSaltText text.now own)) (λ own. IsSaltText text.now own.items)) }
+/// Returns the octets of a salt, if the word is one.
+fn salt_of(alloc: Global, word: &[u8]) -> Result<Option<Vec<u8>>, AllocError>
+    ensures is { IfOk result (λ x. MatchOption x ((own : List ℕ) → ¬ (IsUtf8 word.now × IsSaltText word.now own)) (λ own. IsUtf8 word.now × IsSaltText word.now own.items)) }
     ensures few { IfOk result (λ x. IfSome x (λ own. length own.items ≤ 255)) }
 {
+    let Ok(text) = str::from_utf8(word) else {
+        return Ok(None);
+    };
     let mut own = Vec::new(alloc);
     match parse_salt(text, &mut own) {
         Ok(()) => Ok(Some(own)),
@@ -84,11 +81,14 @@ fn salt_of(alloc: Global, text: &str) -> Result<Option<Vec<u8>>, AllocError>
     }
 }
 
-/// Returns the octets of a hashed name, if the text is one.
-fn hash_of(alloc: Global, text: &str) -> Result<Option<Vec<u8>>, AllocError>
-    ensures is { IfOk result (λ x. MatchOption x ((own : List ℕ) → ¬ (IsHashText text.now own)) (λ own. IsHashText text.now own.items)) }
+/// Returns the octets of a hashed name, if the word is one.
+fn hash_of(alloc: Global, word: &[u8]) -> Result<Option<Vec<u8>>, AllocError>
+    ensures is { IfOk result (λ x. MatchOption x ((own : List ℕ) → ¬ (IsUtf8 word.now × IsHashText word.now own)) (λ own. IsUtf8 word.now × IsHashText word.now own.items)) }
     ensures few { IfOk result (λ x. IfSome x (λ own. length own.items ≤ 255)) }
 {
+    let Ok(text) = str::from_utf8(word) else {
+        return Ok(None);
+    };
     let mut own = Vec::new(alloc);
     match parse_hash(text, &mut own) {
         Ok(()) => Ok(Some(own)),
@@ -97,12 +97,12 @@ fn hash_of(alloc: Global, text: &str) -> Result<Option<Vec<u8>>, AllocError>
     }
 }
 
-/// Returns the octets of a text of any length, if the text is one.
-pub(crate) fn text_of(alloc: Global, text: &str) -> Result<Option<Vec<u8>>, AllocError>
-    ensures { IfOk result (λ x. MatchOption x ((own : List ℕ) → ¬ (IsLongText text.now own)) (λ own. IsLongText text.now own.items)) }
+/// Returns the octets of a text of any length, if the word is one.
+pub(crate) fn text_of(alloc: Global, word: &[u8]) -> Result<Option<Vec<u8>>, AllocError>
+    ensures { IfOk result (λ x. MatchOption x ((own : List ℕ) → ¬ (IsLongText word.now own)) (λ own. IsLongText word.now own.items)) }
 {
     let mut own = Vec::new(alloc);
-    match parse_text(text, &mut own) {
+    match parse_text(word, &mut own) {
         Ok(()) => Ok(Some(own)),
         Err(FieldTextError::Memory) => Err(AllocError),
         Err(_) => Ok(None),

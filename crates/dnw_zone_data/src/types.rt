@@ -2,10 +2,10 @@
 ghost use Rattle.std.specs.Prelude.{◌≡◌, ◌≤◌, ◌<◌, ◌+◌, ◌*◌, ◌++◌, ℕ, List, length, IfOk, MatchOption, string_bytes};
 ghost use Rattle.dnw_base.specs.declared.record_type.RecordType.{RecordType};
 ghost use Rattle.dnw_data.specs.TypeSets.{bit_codes, octet_codes, octets_codes};
-ghost use Rattle.dnw_zone_data.specs.TypeLists.{codes_text, is_window, PrintsTypes, IsTypeWord, AreTypeWords, AreBitmap, AreTypes};
+ghost use Rattle.dnw_zone_data.specs.TypeLists.{codes_text, is_window, PrintsTypes, IsTypeField, IsTypeWord, AreTypeWords, AreBitmap, AreTypes};
 ghost use Rattle.dnw_zone_data.specs.Appending.{Appended, AppendedInPart, AppendsOne};
 
-use crate::words::{after_spaces, split_word};
+use crate::words::{after_spaces, is_asterisk, split_word};
 use dnw_base::limits::MAX_WINDOW;
 use dnw_base::record_type::RecordType;
 use dnw_data::record_type_set::RecordTypeSet;
@@ -136,10 +136,24 @@ fn types_of_words(alloc: Global, text: &[u8]) -> Result<Option<Vec<RecordType>>,
     Ok(Some(listed))
 }
 
-/// Returns the type that a word is.
+/// Appends the code of the type that a word is. Returns `false` if it is none.
+pub(crate) fn parse_type(word: &[u8], out: &mut Vec<u8>) -> Result<bool, AllocError>
+    ensures { IfOk result (AppendsOne (IsTypeField word.now) out.old.items out.new.items) }
+{
+    let Some(code) = type_of_word(word) else {
+        return Ok(false);
+    };
+    out.extend_from_slice(&u16::from(code).to_be_bytes())?;
+    Ok(true)
+}
+
+/// Returns the type that a word is. `*` is none: it asks for all types.
 fn type_of_word(word: &[u8]) -> Option<RecordType>
     ensures { MatchOption result ((record_type : RecordType) → ¬ (IsTypeWord word.now record_type)) (IsTypeWord word.now) }
 {
+    if is_asterisk(word) {
+        return None;
+    }
     let text = str::from_utf8(word).ok()?;
     RecordType::from_text(text)
 }

@@ -2,7 +2,7 @@
 ghost use Rattle.std.specs.Prelude.{◌≡◌, ◌≤◌, ◌+◌, ◌==◌, ◌&&◌, not, length, false, IfOk};
 ghost use Rattle.std.specs.List.{filter};
 ghost use Rattle.dnw_zone_values.specs.Strings.{quote};
-ghost use Rattle.dnw_zone_data.specs.Words.{after_param, after_spaces, after_word, begins_with_quote, is_word_end, escaped_after, is_no_space, is_space, param_len, param_word, plain_len, quoted_len, word, word_len};
+ghost use Rattle.dnw_zone_data.specs.Words.{after_param, after_spaces, after_word, begins_with_quote, is_asterisk, is_word_end, escaped_after, is_no_space, is_space, param_len, param_word, plain_len, quoted_len, word, word_len};
 
 use std::alloc::{AllocError, Global};
 
@@ -145,6 +145,16 @@ fn escaped_after(escaped: bool, c: u8) -> bool
     ensures { result ≡ escaped_after escaped c }
 {
     !escaped && c == b'\\'
+}
+
+/// Returns `true` if a word is `*`, which asks for all types or classes, and is none.
+pub fn is_asterisk(word: &[u8]) -> bool
+    ensures { result ≡ is_asterisk word.now }
+{
+    match word {
+        [c] => *c == b'*',
+        _ => false,
+    }
 }
 
 /// Returns the characters of a text that are no white space.

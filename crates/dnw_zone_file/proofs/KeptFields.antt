@@ -266,7 +266,7 @@ field_kept (kinds.List lists.Types) d value after text h takes print =
     (λ p. let (codes, listed, e) = p in
     subst (λ (t : List ℕ). Keeps Words t Words) (sym e) (types_kept _ _ codes (own_fit (kinds.List lists.Types) d h) listed))
 field_kept (kinds.List lists.Params) d value after text h takes print =
-    by_value (kinds.List lists.Params) value _ text takes.2 print (λ p. params_kept _ _ text (own_fit (kinds.List lists.Params) d h) p)
+    by_value (kinds.List lists.Params) value _ text takes.2 print (λ p. params_kept _ _ text (own_fit (kinds.List lists.Params) d h) p.1)
 
 fields_kept : (kinds : List Kind) (d : Decoder) (text : List ℕ) → AreBytes d.bytes → PrintsFields kinds d text → Keeps Words text Words
 fields_kept [] d text h (end, none) = subst (λ (t : List ℕ). Keeps Words t Words) (sym none) (keeps_none Words)

@@ -19,7 +19,7 @@ use Rattle.dnw_base.specs.Names.{NameValue}
 use Rattle.dnw_record.specs.Records.{RecordAt, RecordValue, fixed_at, number_at, record_of}
 use Rattle.dnw_zone_data.specs.NameReading.{named_at}
 use Rattle.dnw_zone_data.specs.Words.{is_end, is_space, word, after_word}
-use Rattle.dnw_zone_data.proofs.FieldsBack.{type_plain, type_some}
+use Rattle.dnw_zone_data.proofs.FieldsBack.{type_other, type_plain, type_some}
 use Rattle.dnw_zone_data.proofs.NamesBack.{name_len}
 use Rattle.dnw_zone_svcb.proofs.ParamTextsBack.{drop_fit, take_fit}
 use Rattle.dnw_zone_data.proofs.NumberFormsBack.{period}
@@ -31,7 +31,7 @@ use Rattle.dnw_zone_file.specs.declared.entry.ZoneRecord.{ZoneRecord}
 use Rattle.dnw_zone_file.specs.Contexts.{with_record}
 use Rattle.dnw_zone_file.specs.Entries.{begins_with, line_kind, owner_at, IsEntry, IsOwned, IsRecordData, IsZoneRecord}
 use Rattle.dnw_zone_file.specs.Heads.{IsZoneHead}
-use Rattle.dnw_zone_record.proofs.LinesBack.{IsReadRecord, line_rest, record_read, split}
+use Rattle.dnw_zone_record.proofs.LinesBack.{class_other, IsReadRecord, line_rest, record_read, split}
 use Rattle.dnw_zone_record.specs.RecordLines.{record_line, spaced, next_word, after_next_word, IsTtlWord, IsClassWord, IsTypeWord, IsDataOf}
 use Rattle.dnw_zone_values.specs.Octets.{IsOctets}
 use Rattle.dnw_zone_words.specs.declared.scan.Place.TheVariants.{Words}
@@ -110,10 +110,10 @@ zone_head r text fits =
     subst (λ (w : List ℕ). IsTtlWord w r.ttl) (sym ttl.0) (plain_utf8 (decimal r.ttl) (decimal_plain r.ttl few), period r.ttl fits.ttl_few) in
     let is_class : IsClassWord (next_word rest2) r.class =
     subst (λ (w : List ℕ). IsClassWord w r.class) (sym name.0)
-    (plain_utf8 (class_text r.class) shape.0, classes_come_back r.class fits.class_few ∙ ap Some fits.same_class) in
+    (plain_utf8 (class_text r.class) shape.0, classes_come_back r.class fits.class_few ∙ ap Some fits.same_class, class_other r.class) in
     let is_type : IsTypeWord (next_word rest3) r.record_type =
     subst (λ (w : List ℕ). IsTypeWord w r.record_type) (sym last.0)
-    (plain_utf8 (type_text r.record_type) plain, types_come_back r.record_type fits.type_few ∙ ap Some fits.same_type) in
+    (plain_utf8 (type_text r.record_type) plain, types_come_back r.record_type fits.type_few ∙ ap Some fits.same_type, type_other r.record_type) in
     (rest3, (Some r.ttl, rest2, rest3, (is_ttl, sym ttl.1), (is_class, sym name.1), (refl, refl)), is_type, sym last.1)
 
 -- ---- the owner

@@ -1,5 +1,5 @@
 -- Records that are printed as lines are parsed as the same records.
-use Rattle.std.proofs.Common.{◌≡◌, ◌≤◌, ◌<◌, ◌^◌, ◌+◌, ◌-◌, ◌*◌, ◌/◌, ◌%◌, ℕ, true, List, [], ◌∷◌, ◌++◌, length, drop, codes, decimal, refl, sym, ap, ◌∙◌, subst, arith, append_assoc, append-nil, length-append, inl, inr}
+use Rattle.std.proofs.Common.{◌≡◌, ◌≤◌, ◌<◌, ◌^◌, ◌+◌, ◌-◌, ◌*◌, ◌/◌, ◌%◌, ℕ, true, false, List, [], ◌∷◌, ◌++◌, length, drop, codes, decimal, refl, sym, ap, ◌∙◌, subst, arith, append_assoc, append-nil, length-append, inl, inr}
 use Rattle.std.specs.Prelude.{Option, Some, None, option_map, slice_range}
 use Rattle.std.specs.Char.{is_ascii_digit}
 use Rattle.std.specs.List.{AllByRecursion}
@@ -24,7 +24,7 @@ use Rattle.dnw_zone_svcb.proofs.ParamTextsBack.{drop_fit, take_fit}
 use Rattle.dnw_name_text.specs.NameTexts.{full_name_text}
 use Rattle.dnw_zone_data.specs.declared.number_form.NumberForm.{NumberForm}
 use Rattle.dnw_zone_data.specs.NumberForms.{number_forms}
-use Rattle.dnw_zone_data.specs.Words.{is_end, word, after_word}
+use Rattle.dnw_zone_data.specs.Words.{is_asterisk, is_end, word, after_word}
 use Rattle.dnw_base.specs.Limits.{max_data}
 use Rattle.dnw_zone_data.specs.DataTexts.{IsTextOf, text_kinds}
 use Rattle.dnw_zone_data.specs.NameReading.{named_at}
@@ -33,7 +33,7 @@ use Rattle.dnw_zone_record.specs.RecordLines.{record_line, spaced, next_word, af
 use Rattle.dnw_zone_record.specs.RecordTextLaws.{line_head, LinesComeBack}
 use Rattle.dnw_zone_data.proofs.DataBack.{back, same_start}
 use Rattle.dnw_zone_data.proofs.FieldValues.{labels_fit}
-use Rattle.dnw_zone_data.proofs.FieldsBack.{type_plain, type_some}
+use Rattle.dnw_zone_data.proofs.FieldsBack.{type_other, type_plain, type_some}
 use Rattle.dnw_zone_data.proofs.NamesBack.{name_is, name_len}
 use Rattle.dnw_zone_data.proofs.NumberFormsBack.{period}
 use Rattle.dnw_zone_data.proofs.Plain.{all_plain, decimal_plain, plain_after, plain_append, plain_starts, plain_utf8, plain_word}
@@ -61,6 +61,12 @@ class_plain (OPT size) h =
 class_plain (Unknown code) h =
     (plain_append (codes "CLASS") (decimal code) refl (decimal_plain code (omega (arith, h))), omega (arith, length-append (codes "CLASS") (decimal code)))
 class_plain class h = (refl, omega arith)
+
+-- no class is printed as `*`
+pub class_other : (class : DNSClass) → is_asterisk (class_text class) ≡ false
+class_other (OPT size) = refl
+class_other (Unknown code) = refl
+class_other class = refl
 
 -- ---- lines
 
@@ -128,10 +134,10 @@ head_back r text is =
     let is_ttl : IsTtlWord (next_word (32 ∷ decimal r.ttl ++ rest2)) r.ttl = subst (λ (w : List ℕ). IsTtlWord w r.ttl) (sym ttl.0) (ttl_word r.ttl is.ttl_few) in
     let is_class : IsClassWord (next_word rest2) r.class =
     subst (λ (w : List ℕ). IsClassWord w r.class) (sym name.0)
-    (plain_utf8 (class_text r.class) shape.0, classes_come_back r.class low ∙ ap (λ (n : ℕ). Some (class_of_code n)) number ∙ ap Some (sym is.class_is)) in
+    (plain_utf8 (class_text r.class) shape.0, classes_come_back r.class low ∙ ap (λ (n : ℕ). Some (class_of_code n)) number ∙ ap Some (sym is.class_is), class_other r.class) in
     let is_type : IsTypeWord (next_word rest3) r.record_type =
     subst (λ (w : List ℕ). IsTypeWord w r.record_type) (sym last.0)
-    (plain_utf8 (type_text r.record_type) plain, types_come_back r.record_type small ∙ ap (λ (n : ℕ). Some (type_of_code n)) code ∙ ap Some (sym is.type_is)) in
+    (plain_utf8 (type_text r.record_type) plain, types_come_back r.record_type small ∙ ap (λ (n : ℕ). Some (type_of_code n)) code ∙ ap Some (sym is.type_is), type_other r.record_type) in
     let has_class : HasClassNext (after_next_word (32 ∷ decimal r.ttl ++ rest2)) r.class rest3 =
     subst (λ (left : List ℕ). HasClassNext left r.class rest3) (sym ttl.1) (inl (is_class, sym name.1)) in
     (rest3, inl (is_ttl, has_class), is_type, sym last.1)

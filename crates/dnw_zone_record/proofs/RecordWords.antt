@@ -1,9 +1,10 @@
 -- Words that are no times to live, and no types.
-use Rattle.std.proofs.Common.{◌≡◌, ℕ, List, Result, Ok, Err, IfErr, inr, refl, ap, ◌∙◌, subst}
+use Rattle.std.proofs.Common.{◌≡◌, ℕ, List, Bor, Result, Ok, Err, IfOk, IfErr, inr, refl, sym, ap, ◌∙◌, subst}
 use Rattle.dnw_base.specs.declared.dns_class.DNSClass.{DNSClass}
+use Rattle.dnw_zone_record.specs.declared.record_line.LineHead.{LineHead}
 use Rattle.dnw_zone_record.specs.declared.record_line.RecordLineError.{RecordLineError}
 use Rattle.dnw_zone_record.specs.declared.record_line.RecordLineError.TheVariants.{NoType}
-use Rattle.dnw_zone_record.specs.RecordLines.{FailsHead, HasTtlAndClass, IsClassWord, IsTtlWord, LacksTtlAfterClass, LacksTypeWord, after_next_word, next_offset, next_word}
+use Rattle.dnw_zone_record.specs.RecordLines.{FailsHead, HasTtlAndClass, IsClassWord, IsHead, IsTtlWord, IsTypeWord, LacksTtlAfterClass, LacksTypeWord, after_next_word, next_offset, next_word}
 
 -- a class, and a word after it that is no time to live
 pub lacks_after : (left first rest second : List ℕ) (class : DNSClass) → first ≡ next_word left → rest ≡ after_next_word left → second ≡ next_word rest
@@ -16,3 +17,15 @@ pub type_missing : {A : Type 0} (len : ℕ) (text left : List ℕ) (ttl : ℕ) (
     → IfErr r (λ e. (e ≡ NoType (next_offset len left)) × LacksTypeWord left) → IfErr r (FailsHead len text)
 type_missing len text left ttl class (Ok x) has h = tt
 type_missing len text left ttl class (Err e) has h = inr (next_offset len left, (ttl, class, left, has, h.1, refl), h.0)
+
+-- a time to live, a class, and a type after them
+pub head_there : (text left : List ℕ) (ttl : ℕ) (class : DNSClass) (r : Result (LineHead × Bor (List ℕ)) RecordLineError) → HasTtlAndClass text ttl class left
+    → IfOk r (λ x. (x.0.ttl ≡ ttl) × (x.0.class ≡ class) × IsTypeWord (next_word left) x.0.record_type × (x.1.now ≡ after_next_word left))
+    → IfOk r (λ x. IsHead text x.0 x.1.now)
+head_there text left ttl class (Err e) has h = h
+head_there text left ttl class (Ok x) has (t, k, is, rest) = (
+  left,
+  subst (λ (n : ℕ). HasTtlAndClass text n x.0.class left) (sym t) (subst (λ (d : DNSClass). HasTtlAndClass text ttl d left) (sym k) has),
+  is,
+  rest,
+)

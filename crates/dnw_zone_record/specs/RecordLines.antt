@@ -1,6 +1,6 @@
 -- Records as lines of master files (RFC 1035, section 5.1): the owner, a time to live and maybe a class in either order, the
 -- type and the data. Parentheses and comments are no part of a line, nor is anything of a line before it.
-use Rattle.std.specs.Prelude.{◌≡◌, ◌<◌, ◌≤◌, ◌⊎◌, ℕ, ◌-◌, decimal, List, [], ◌∷◌, ◌++◌, length, Option, Some, None}
+use Rattle.std.specs.Prelude.{◌≡◌, ◌<◌, ◌≤◌, ◌⊎◌, ℕ, ◌-◌, false, decimal, List, [], ◌∷◌, ◌++◌, length, Option, Some, None}
 use Rattle.std.specs.Int.{w16, w32, to_be_bytes}
 use Rattle.std.specs.Str.{IsUtf8}
 use Rattle.dnw_base.specs.Names.{NameValue, wire}
@@ -20,7 +20,7 @@ use Rattle.dnw_base.specs.Limits.{max_data}
 use Rattle.dnw_zone_data.specs.NameReading.{named_at}
 use Rattle.dnw_zone_data.specs.NumberForms.{number_forms, IsPeriod}
 use Rattle.dnw_name_text.specs.NameTexts.{full_name_text}
-use Rattle.dnw_zone_data.specs.Words.{after_spaces, after_word, word}
+use Rattle.dnw_zone_data.specs.Words.{after_spaces, after_word, is_asterisk, word}
 
 -- ---- printing
 
@@ -49,11 +49,11 @@ IsTtlWord text n = IsUtf8 text × IsPeriod text n
 
 -- a word is a class
 abbrev pub IsClassWord : List ℕ → DNSClass → Type 0
-IsClassWord text class = IsUtf8 text × (class_of_text text ≡ Some class)
+IsClassWord text class = IsUtf8 text × (class_of_text text ≡ Some class) × (is_asterisk text ≡ false)
 
 -- a word is a record type
 abbrev pub IsTypeWord : List ℕ → RecordType → Type 0
-IsTypeWord text kind = IsUtf8 text × (type_of_text text ≡ Some kind)
+IsTypeWord text kind = IsUtf8 text × (type_of_text text ≡ Some kind) × (is_asterisk text ≡ false)
 
 abbrev pub LacksTtlWord : List ℕ → Type 0
 LacksTtlWord left = (n : ℕ) → ¬ (IsTtlWord (next_word left) n)

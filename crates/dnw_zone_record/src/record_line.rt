@@ -17,7 +17,7 @@ use dnw_zone_data::data_text::{data_text, parse_in_line};
 use dnw_zone_data::error::DataTextError;
 use dnw_zone_data::name::{read_name, write_name};
 use dnw_zone_data::number_form::period_seconds;
-use dnw_zone_data::words::{after_spaces, split_word};
+use dnw_zone_data::words::{after_spaces, is_asterisk, split_word};
 use std::alloc::{AllocError, Global};
 use std::str;
 use thiserror::Error;
@@ -262,18 +262,24 @@ pub fn ttl_of(word: &[u8]) -> Option<u32>
     period_seconds(text)
 }
 
-/// Returns the class that a word is.
+/// Returns the class that a word is. `*` is none: it asks for all classes.
 pub fn class_of(word: &[u8]) -> Option<DNSClass>
     ensures { MatchOption result ((class : DNSClass) → ¬ (IsClassWord word.now class)) (IsClassWord word.now) }
 {
+    if is_asterisk(word) {
+        return None;
+    }
     let text = str::from_utf8(word).ok()?;
     DNSClass::from_text(text)
 }
 
-/// Returns the record type that a word is.
+/// Returns the record type that a word is. `*` is none: it asks for all types.
 pub fn type_of(word: &[u8]) -> Option<RecordType>
     ensures { MatchOption result ((record_type : RecordType) → ¬ (IsTypeWord word.now record_type)) (IsTypeWord word.now) }
 {
+    if is_asterisk(word) {
+        return None;
+    }
     let text = str::from_utf8(word).ok()?;
     RecordType::from_text(text)
 }

@@ -1,6 +1,6 @@
 -- What is printed of a service parameter is that parameter.
 use Rattle.std.proofs.Common.{◌≡◌, ◌⊎◌, ℕ, zero, suc, ◌+◌, ◌*◌, ◌/◌, ◌%◌, ◌^◌, ◌<◌, ◌≤◌, Bool, true, false, not, ◌&&◌, ◌==◌, List, [], ◌∷◌, ◌++◌, length, take, drop, get_or, slice_index, codes, decimal, refl, sym, ap, ◌∙◌, subst, arith, All, append_assoc, append-nil, length-append, inl, inr}
-use Rattle.std.specs.Prelude.{bytes_eq, nat_le, nat_lt, flat_map, Option, Some, None, option_map, replicate}
+use Rattle.std.specs.Prelude.{bytes_eq, nat_le, nat_lt, Option, Some, None, option_map, replicate}
 use Rattle.std.specs.Int.{w16, from_be_bytes, to_be_bytes}
 use Rattle.std.specs.List.{list_all, position_or_len}
 use Rattle.std.specs.Str.{IsUtf8, IsAscii}
@@ -22,7 +22,7 @@ use Rattle.base64.specs.Rfc4648.{encode_symbols, padding_len}
 use Rattle.dnw_zone_values.specs.Numbers.{max_u16}
 use Rattle.dnw_zone_values.specs.Octets.{IsOctets, base64_text}
 use Rattle.dnw_zone_values.proofs.ComeBack.{numbers}
-use Rattle.dnw_zone_values.specs.Strings.{quote, backslash, octet_text, Plain, octets_from, string_octets, with_octet, string_text, IsText}
+use Rattle.dnw_zone_values.specs.Strings.{Plain, octets_from, string_octets, with_octet, string_text, IsText}
 use Rattle.dnw_zone_values.proofs.StringText.{text}
 use Rattle.dnw_zone_svcb.specs.declared.keys.Form.{Form}
 use Rattle.dnw_zone_svcb.specs.declared.keys.Form.TheVariants as forms
@@ -32,7 +32,7 @@ use Rattle.dnw_zone_svcb.specs.ParamKeys.{form_of, generic_key, key_name, key_te
 use Rattle.dnw_zone_svcb.specs.CommaLists.{is_escaped, items_from, items_of, item_octet, item_text}
 use Rattle.dnw_zone_svcb.specs.ParamValues.{after_comma, octets_of_item, is_item, text_of_item, items_within, list_text, is_ascending, IsItem, IsListText}
 use Rattle.dnw_zone_svcb.specs.ParamTexts.{any_part, own_part, own_text, param_text, part_of}
-use Rattle.dnw_zone_svcb.specs.Params.{ParamValue, with_param, in_key_order}
+use Rattle.dnw_zone_svcb.specs.Params.{ParamValue, in_key_order}
 use Rattle.dnw_zone_svcb.specs.ParamWords.{is_equals, key_part, value_part, keys_of, keys_wire, IsValueText, IsOwnValue, IsParam, IsParamOf}
 use Rattle.dnw_zone_svcb.specs.ParamLaws.{IsParamValue, ParamsComeBack}
 use Rattle.dnw_zone_svcb.specs.Inside.Steps.{AreBelow}
@@ -542,42 +542,6 @@ own_back forms.Ech (o ∷ octets) t h e =
 own_back forms.Ipv6 octets t h e = list_back Ipv6 octets t h tt e
 own_back forms.Any octets t h e = absurd cc
 
--- ---- texts in quotes
-
-small : (o : ℕ) → (nat_le 32 o && nat_le o 126) ≡ true → o < 128
-small o h = grind arith
-
-octet_ascii : (o : ℕ) (xs : List ℕ) → o < 256 → IsAscii xs → IsAscii (octet_text o ++ xs)
-octet_ascii o xs fits rest = elim (cases_eq o quote) [
-  | inl e ↦ rw e (IsAscii-cons 92 (34 ∷ xs) (omega arith) (IsAscii-cons 34 xs (omega arith) rest))
-  | inr no_quote ↦ elim (cases_eq o backslash) [
-    | inl e ↦ rw e (IsAscii-cons 92 (92 ∷ xs) (omega arith) (IsAscii-cons 92 xs (omega arith) rest))
-    | inr plain ↦
-        let a = ne_eqb o quote no_quote in
-        let b = ne_eqb o backslash plain in
-        elim (cases_Bool (nat_le 32 o && nat_le o 126)) [
-          | inl printable ↦ let few : o < 128 = small o printable in rw (a, b, printable) (IsAscii-cons o xs few rest)
-          | inr other ↦
-              let x = 48 + o / 100 in
-              let y = 48 + o / 10 % 10 in
-              let z = 48 + o % 10 in
-              rw (a, b, other)
-              (IsAscii-cons 92 (x ∷ y ∷ z ∷ xs) (omega arith) (IsAscii-cons x (y ∷ z ∷ xs) (omega arith) (IsAscii-cons y (z ∷ xs) (omega arith) (IsAscii-cons z xs (omega arith) rest))))
-        ]
-  ]
-]
-
-octets_ascii : (own xs : List ℕ) → IsOctets own → IsAscii xs → IsAscii (flat_map octet_text own ++ xs)
-octets_ascii [] xs h rest = rest
-octets_ascii (o ∷ own) xs h rest =
-    rw (append_assoc (octet_text o) (flat_map octet_text own) xs) (octet_ascii o (flat_map octet_text own ++ xs) (h 0) (octets_ascii own xs (λ i. h (suc i)) rest))
-
-string_ascii : (own : List ℕ) → IsOctets own → IsAscii (string_text own)
-string_ascii own h = IsAscii-cons 34 _ (omega arith) (octets_ascii own (quote ∷ []) h (IsAscii-cons 34 [] (omega arith) IsAscii-nil))
-
-pub string_utf8 : (own : List ℕ) → IsOctets own → IsUtf8 (string_text own)
-string_utf8 own h = IsUtf8-from_ascii (string_text own) (string_ascii own h)
-
 -- ---- parameters
 
 below_octet : (c : ℕ) → nat_lt c 256 ≡ true → c < 256
@@ -588,15 +552,9 @@ fine_octets [] h i = omega arith
 fine_octets (c ∷ t) h zero = below_octet c (and_parts (nat_lt c 256) (list_all (is_fine Protocols) t) h).0
 fine_octets (c ∷ t) h (suc i) = fine_octets t (and_parts (nat_lt c 256) (list_all (is_fine Protocols) t) h).1 i
 
-ascii_after : (k xs : List ℕ) → all_key k ≡ true → IsAscii xs → IsAscii (k ++ xs)
-ascii_after [] xs h rest = rest
-ascii_after (c ∷ k) xs h rest =
-    let parts = and_parts (is_key c) (all_key k) h in
-    IsAscii-cons c (k ++ xs) (bare_below c (bare_of c parts.0)) (ascii_after k xs parts.1 rest)
-
-any_ascii : (own : List ℕ) → IsOctets own → IsAscii (any_part own)
-any_ascii [] h = IsAscii-nil
-any_ascii (o ∷ own) h = IsAscii-cons 61 (string_text (o ∷ own)) (omega arith) (string_ascii (o ∷ own) h)
+key_ascii : (k : List ℕ) → all_key k ≡ true → IsAscii k
+key_ascii [] h = IsAscii-nil
+key_ascii (c ∷ k) h = let parts = and_parts (is_key c) (all_key k) h in IsAscii-cons c k (bare_below c (bare_of c parts.0)) (key_ascii k parts.1)
 
 text_some : (form : Form) (t own : List ℕ) → (form ≡ forms.Nothing → ⊥) → IsOwnValue form t own → 1 ≤ length t
 text_some form [] own other is = absurd (value_some form own other is)
@@ -626,14 +584,14 @@ shaped_after k part key (front, back, e, shape, inr (own, name, fit, is, begins,
 
 -- the text is this key, and the value writes these
 abbrev IsWritten : List ℕ → List ℕ → List ℕ → Type 0
-IsWritten k part t = ((key_part (k ++ part) ≡ k) × IsValueText (value_part (k ++ part)) t) × IsAscii part × IsShaped part
+IsWritten k part t = ((key_part (k ++ part) ≡ k) × IsValueText (value_part (k ++ part)) t) × IsShaped part
 
 open_written : (k t : List ℕ) → all_key k ≡ true → all_open t ≡ true → 1 ≤ length t → length t ≤ 65535 → IsWritten k (61 ∷ t) t
 open_written k t key shape some few =
-    (open_value k t key shape some few, IsAscii-cons 61 t (omega arith) (open_ascii t shape), (61 ∷ t, [], sym (append-nil (61 ∷ t)), shape, inl refl))
+    (open_value k t key shape some few, (61 ∷ t, [], sym (append-nil (61 ∷ t)), shape, inl refl))
 
 any_written : (k own : List ℕ) → all_key k ≡ true → IsText own → IsWritten k (any_part own) own
-any_written k own key is = (any_value k own key is, any_ascii own is.0, any_shaped own is.0)
+any_written k own key is = (any_value k own key is, any_shaped own is.0)
 
 form_written : (form : Form) (k t own : List ℕ) → all_key k ≡ true → IsOwnValue form t own → list_all (fine_of form) t ≡ true → length t ≤ 65535 → IsWritten k (own_part form t) t
 form_written forms.Mandatory k t own key is fine few = open_written k t key fine (text_some forms.Mandatory t own (λ e. cc) is) few
@@ -652,8 +610,8 @@ IsShapedParam w p = IsParam w p × IsShaped w
 -- a word of a key and a value is a parameter
 word_is : (k part value : List ℕ) (p : ParamValue) → all_key k ≡ true → IsWritten k part value → IsParamOf k value p → IsShapedParam (k ++ part) p
 word_is k part value p key written is = (
-  (value, IsUtf8-from_ascii (k ++ part) (ascii_after k part key written.1), written.0.1, subst (λ (w : List ℕ). IsParamOf w value p) (sym written.0.0) is),
-  shaped_after k part key written.2,
+  (value, subst IsUtf8 (sym written.0.0) (IsUtf8-from_ascii k (key_ascii k key)), written.0.1, subst (λ (w : List ℕ). IsParamOf w value p) (sym written.0.0) is),
+  shaped_after k part key written.1,
 )
 
 generic_back : (p : ParamValue) → IsParamValue p → IsShapedParam (generic_key p.key ++ any_part p.octets) p

@@ -1,6 +1,6 @@
 -- Keys, parameters and items, one after another.
 use Rattle.std.proofs.Common.{◌≡◌, ◌<◌, ◌≤◌, ℕ, zero, suc, ◌+◌, Bool, true, false, List, [], ◌∷◌, ◌++◌, codes, length, take, drop, refl, ◌==◌, sym, ap, ◌∙◌, subst, arith, append_assoc, append-nil, length-append, length-drop, slice_index, inl, inr, decimal}
-use Rattle.std.specs.List.{insert}
+use Rattle.std.specs.List.{position_or_len}
 use Rattle.std.specs.String.Boundary.{IsSplitPoint}
 use Rattle.std.specs.Net.Grammar.{IsColonHex, IsDotted, IsGroups}
 use Rattle.std.specs.Prelude.{Option, Some, None, option_map, nat_le, nat_lt}
@@ -9,7 +9,7 @@ use Rattle.std.specs.Net.Addr.{ipv4_octets, ipv6_segments, octets_of}
 use Rattle.std.specs.declared.net.Ipv6Addr.{Ipv6Addr}
 use Rattle.std.proofs.NetLemmas.Theorems.{IsIpv4Text_unique, IsIpv6Text_unique}
 use Rattle.std.proofs.lemmas.List.{length-take-le, take_at}
-use Rattle.std.proofs.lemmas.Bool.{le-leb, ne_eqb}
+use Rattle.std.proofs.lemmas.Bool.{le-leb, lt-ltb}
 use Rattle.dnw_zone_values.specs.Numbers.{max_u16, IsNumberText}
 use Rattle.dnw_zone_values.specs.Octets.{IsBase64Text}
 use Rattle.dnw_zone_values.proofs.ComeBack.{numbers, base64}
@@ -22,9 +22,9 @@ use Rattle.dnw_zone_svcb.specs.declared.lists.ListValue.TheVariants.{Keys, Proto
 use Rattle.dnw_zone_svcb.specs.ParamKeys.{form_of, generic_key, named_key, IsKey}
 use Rattle.dnw_zone_svcb.specs.CommaLists.{comma, items_of}
 use Rattle.dnw_zone_svcb.specs.ParamValues.{is_ascending, octets_of_item, is_item, text_of_item, items_within, IsItem, AreItems, IsListText}
-use Rattle.dnw_zone_svcb.specs.Params.{ParamValue, with_param, and_then, in_key_order}
+use Rattle.dnw_zone_svcb.specs.Params.{ParamValue, in_key_order}
 use Rattle.dnw_zone_svcb.specs.ParamTexts.{param_text, params_within, params_text}
-use Rattle.dnw_zone_svcb.specs.ParamWords.{key_part, value_part, keys_of, keys_wire, HasValue, IsOwnValue, IsValueText, IsParam, IsParamOf}
+use Rattle.dnw_zone_svcb.specs.ParamWords.{is_equals, key_part, value_part, keys_of, keys_wire, HasValue, IsOwnValue, IsValueText, IsParam, IsParamOf}
 use Rattle.dnw_zone_svcb.specs.Inside.Steps.{after_these, TakesListItem, IsSpaced, AppendsSpaced}
 
 -- ---- keys
@@ -62,20 +62,14 @@ ascending_end least [] empty few e = sym e
 ascending_end least (a ∷ []) empty few e = sym e
 ascending_end least (a ∷ b ∷ left) empty few e = absurd (omega (arith, few))
 
-pub key_more : (keys more : List ParamValue) (key a b : ℕ) (left rest : List ℕ) (whole : Option (List ParamValue)) → left ≡ a ∷ b ∷ rest
-    → key ≡ from_be_bytes w16 (a ∷ b ∷ []) → with_param (record { key = key; octets = [] }) keys ≡ Some more → in_key_order keys (keys_of left) ≡ whole
-    → in_key_order more (keys_of rest) ≡ whole
-key_more keys more key a b left rest whole e k with so_far = rw (e, sym k, with) at so_far
+pub key_more : (key a b : ℕ) (left rest : List ℕ) → left ≡ a ∷ b ∷ rest → key ≡ from_be_bytes w16 (a ∷ b ∷ [])
+    → keys_of left ≡ record { key = key; octets = [] } ∷ keys_of rest
+key_more key a b left rest e k = rw (e, sym k) refl
 
-pub key_twice : (keys : List ParamValue) (key a b : ℕ) (left rest : List ℕ) (whole : Option (List ParamValue)) → left ≡ a ∷ b ∷ rest
-    → key ≡ from_be_bytes w16 (a ∷ b ∷ []) → with_param (record { key = key; octets = [] }) keys ≡ None → in_key_order keys (keys_of left) ≡ whole
-    → whole ≡ None
-key_twice keys key a b left rest whole e k none so_far = sym (rw (e, sym k, none) at so_far)
-
-pub keys_end : (keys : List ParamValue) (left : List ℕ) → length left < 2 → in_key_order keys (keys_of left) ≡ Some keys
-keys_end keys [] few = refl
-keys_end keys (a ∷ []) few = refl
-keys_end keys (a ∷ b ∷ left) few = absurd (omega (arith, few))
+pub keys_end : (left : List ℕ) → length left < 2 → keys_of left ≡ []
+keys_end [] few = refl
+keys_end (a ∷ []) few = refl
+keys_end (a ∷ b ∷ left) few = absurd (omega (arith, few))
 
 -- ---- lists
 
@@ -149,45 +143,6 @@ items_more list all (o ∷ left) own rest found new (suc n) so_far few whole fro
     let step : items_within (suc n) list (o ∷ left) ≡ after_these (comma ∷ text_of_item list own) (items_within n list rest) = rw (is, front, back) refl in
     let size : length (o ∷ left) ≡ length own + length rest = ap length whole ∙ length-append own rest in
     (n, omega (arith, few, size, front, length-take-le (octets_of_item list (o ∷ left)) (o ∷ left) fits, ap length front, some), so_far ∙ ap (after_these found) step ∙ after_all found (comma ∷ text_of_item list own) (items_within n list rest) ∙ ap (λ (xs : List ℕ). after_these xs (items_within n list rest)) (sym e))
-
--- ---- where a parameter belongs
-
-pub not_before : (a b : ℕ) → b ≤ a → nat_lt a b ≡ false
-not_before a b h = grind arith
-
-pub place_more : (key : ℕ) (octets : List ℕ) (done left rest : List ParamValue) (q : ParamValue) (whole : Option (List ParamValue)) → left ≡ q ∷ rest
-    → (key ≡ q.key → ⊥) → q.key ≤ key → whole ≡ after_these done (with_param (record { key = key; octets = octets }) left)
-    → whole ≡ after_these (done ++ q ∷ []) (with_param (record { key = key; octets = octets }) rest)
-place_more key octets done left rest q whole e not_it below so_far =
-    let other : (key == q.key) ≡ false = ne_eqb key q.key not_it in
-    let later : nat_lt key q.key ≡ false = not_before key q.key below in
-    let step : with_param (record { key = key; octets = octets }) left ≡ after_these (q ∷ []) (with_param (record { key = key; octets = octets }) rest) = rw (e, other, later) refl in
-    so_far ∙ ap (after_these done) step ∙ after_all done (q ∷ []) (with_param (record { key = key; octets = octets }) rest)
-
-pub place_taken : (key : ℕ) (octets : List ℕ) (done left rest : List ParamValue) (q : ParamValue) (whole : Option (List ParamValue)) → left ≡ q ∷ rest
-    → (key == q.key) ≡ true → whole ≡ after_these done (with_param (record { key = key; octets = octets }) left) → whole ≡ None
-place_taken key octets done left rest q whole e same so_far =
-    let step : with_param (record { key = key; octets = octets }) left ≡ None = rw (e, same) refl in so_far ∙ ap (after_these done) step
-
-pub insert_at : (done left : List ParamValue) (p : ParamValue) → insert (done ++ left) (length done) p ≡ done ++ p ∷ left
-insert_at [] left p = refl
-insert_at (d ∷ done) left p = ap (λ (xs : List ParamValue). d ∷ xs) (insert_at done left p)
-
-pub place_before : (key : ℕ) (octets : List ℕ) (all done left rest : List ParamValue) (q : ParamValue) (i : ℕ) → all ≡ done ++ left → i ≡ length done → left ≡ q ∷ rest
-    → (key == q.key) ≡ false → nat_lt key q.key ≡ true → with_param (record { key = key; octets = octets }) all ≡ after_these done (with_param (record { key = key; octets = octets }) left)
-    → with_param (record { key = key; octets = octets }) all ≡ Some (insert all i (record { key = key; octets = octets }))
-place_before key octets all done left rest q i parts at e other before so_far =
-    let p : ParamValue = record { key = key; octets = octets } in
-    let step : with_param p left ≡ Some (p ∷ left) = rw (e, other, before) refl in
-    so_far ∙ ap (after_these done) step ∙ ap Some (sym (insert_at done left p)) ∙ rw (parts, at) refl
-
-pub place_end : (key : ℕ) (octets : List ℕ) (all done left : List ParamValue) (i : ℕ) → all ≡ done ++ left → i ≡ length done → left ≡ []
-    → with_param (record { key = key; octets = octets }) all ≡ after_these done (with_param (record { key = key; octets = octets }) left)
-    → with_param (record { key = key; octets = octets }) all ≡ Some (insert all i (record { key = key; octets = octets }))
-place_end key octets all done left i parts at e so_far =
-    let p : ParamValue = record { key = key; octets = octets } in
-    let step : with_param p left ≡ Some (p ∷ left) = rw e refl in
-    so_far ∙ ap (after_these done) step ∙ ap Some (sym (insert_at done left p)) ∙ rw (parts, at) refl
 
 -- ---- a text is one value at most
 
@@ -347,30 +302,20 @@ word_some [] p is = elim is.3 [
 ]
 word_some (c ∷ word) p is = omega arith
 
--- ---- one parameter more
+-- ---- the parts of a word
 
-and_then_some : {A : Type 0} (x : Option A) → and_then x (λ y. Some y) ≡ x
-and_then_some None = refl
-and_then_some (Some y) = refl
+next_of : (n : ℕ) (xs value : List ℕ) (x : ℕ) → drop n xs ≡ x ∷ value → (n < length xs) × (drop (n + 1) xs ≡ value)
+next_of zero [] value x e = absurd cc
+next_of zero (y ∷ xs) value x e = (omega arith, cc)
+next_of (suc n) [] value x e = absurd cc
+next_of (suc n) (y ∷ xs) value x e =
+    let more = next_of n xs value x e in
+    let one : suc n + 1 ≡ suc (n + 1) = omega arith in
+    (omega (arith, more.0), ap (λ (k : ℕ). drop k (y ∷ xs)) one ∙ more.1)
 
-rest_sorted : (x : Option (List ParamValue)) (ps : List ParamValue) (p : ParamValue)
-    → ((done : List ParamValue) → in_key_order done (ps ++ p ∷ []) ≡ and_then (in_key_order done ps) (with_param p))
-    → and_then x (λ more. in_key_order more (ps ++ p ∷ [])) ≡ and_then (and_then x (λ more. in_key_order more ps)) (with_param p)
-rest_sorted None ps p h = refl
-rest_sorted (Some done) ps p h = h done
-
-sorted_more : (done ps : List ParamValue) (p : ParamValue) → in_key_order done (ps ++ p ∷ []) ≡ and_then (in_key_order done ps) (with_param p)
-sorted_more done [] p = and_then_some (with_param p done)
-sorted_more done (q ∷ ps) p = rest_sorted (with_param q done) ps p (λ more. sorted_more more ps p)
-
-pub one_sorted : (ps own : List ParamValue) (p : ParamValue) → in_key_order [] ps ≡ Some own → in_key_order [] (ps ++ p ∷ []) ≡ with_param p own
-one_sorted ps own p e = sorted_more [] ps p ∙ ap (λ x. and_then x (with_param p)) e
-
-none_sorted : (x : Option (List ParamValue)) (ps rest : List ParamValue) → ((done : List ParamValue) → in_key_order done ps ≡ None → in_key_order done (ps ++ rest) ≡ None)
-    → and_then x (λ more. in_key_order more ps) ≡ None → and_then x (λ more. in_key_order more (ps ++ rest)) ≡ None
-none_sorted None ps rest h e = refl
-none_sorted (Some done) ps rest h e = h done e
-
-pub not_sorted : (done ps rest : List ParamValue) → in_key_order done ps ≡ None → in_key_order done (ps ++ rest) ≡ None
-not_sorted done [] rest e = let no : Some done ≡ None = e in absurd cc
-not_sorted done (q ∷ ps) rest e = none_sorted (with_param q done) ps rest (λ more. not_sorted more ps rest) e
+-- the value is what is after the key and one character more
+pub value_after : (word value rest : List ℕ) (x n : ℕ) → n ≡ position_or_len is_equals word → rest ≡ drop n word → rest ≡ x ∷ value → Some value ≡ value_part word
+value_after word value rest x n at cut first =
+    let more = next_of n word value x (sym cut ∙ first) in
+    let within : nat_lt (position_or_len is_equals word) (length word) ≡ true = lt-ltb (position_or_len is_equals word) (length word) (omega (arith, at, more.0)) in
+    rw within (ap Some (sym more.1 ∙ ap (λ (k : ℕ). drop (k + 1) word) at))

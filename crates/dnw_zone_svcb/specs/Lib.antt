@@ -4,5 +4,6 @@ pub mod Params
 pub mod ParamValues
 pub mod ParamTexts
 pub mod ParamWords
+pub mod Mandatory
 pub mod ParamLaws
 pub mod Inside

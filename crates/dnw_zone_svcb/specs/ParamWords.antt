@@ -65,6 +65,6 @@ IsParamOf key value p =
     ((named_key key ≡ Some p.key) × IsOwnValue (form_of p.key) value p.octets × (length p.octets ≤ max_value))
     ⊎ (IsGenericKey key p.key × (p.octets ≡ value))
 
--- the word is this parameter
+-- the word is this parameter; its value may have any octets as they are (RFC 9460, appendix A: `OCTET`)
 abbrev pub IsParam : List ℕ → ParamValue → Type 0
-IsParam word p = (value : List ℕ) × IsUtf8 word × IsValueText (value_part word) value × IsParamOf (key_part word) value p
+IsParam word p = (value : List ℕ) × IsUtf8 (key_part word) × IsValueText (value_part word) value × IsParamOf (key_part word) value p

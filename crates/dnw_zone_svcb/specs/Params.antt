@@ -1,5 +1,5 @@
 -- Service parameters, and their octets in the order of their keys (RFC 9460, section 2.2).
-use Rattle.std.specs.Prelude.{ℕ, ◌+◌, ◌≤◌, ⊤, ◌==◌, nat_lt, if◌then◌else◌, List, [], ◌∷◌, ◌++◌, length, flat_map, Option, Some, None, option_map}
+use Rattle.std.specs.Prelude.{ℕ, ◌≡◌, ◌+◌, ◌≤◌, ⊤, Bool, true, false, ◌==◌, nat_lt, if◌then◌else◌, List, [], ◌∷◌, ◌++◌, length, flat_map, Option, Some, None, option_map}
 use Rattle.std.specs.Int.{w16, to_be_bytes}
 
 -- A parameter: its key, and the octets of its value.
@@ -26,6 +26,11 @@ and_then (Some x) f = f x
 abbrev pub in_key_order : List ParamValue → List ParamValue → Option (List ParamValue)
 in_key_order done [] = Some done
 in_key_order done (p ∷ ps) = and_then (with_param p done) (λ more. in_key_order more ps)
+
+-- Parameters are put in the order of their keys, or a key is there twice.
+abbrev pub Sorts : List ParamValue → List ParamValue → Bool → Type 0
+Sorts old new true = in_key_order [] old ≡ Some new
+Sorts old new false = in_key_order [] old ≡ None
 
 -- The key of each parameter is above that of the one before it, and none is below the least (RFC 9460, section 2.2).
 abbrev pub AreAscending : ℕ → List ParamValue → Type 0

@@ -7,6 +7,7 @@ mod items;
 mod keys;
 pub mod laws;
 mod lists;
+pub mod mandatory;
 pub mod param;
 pub mod printing;
 mod values;

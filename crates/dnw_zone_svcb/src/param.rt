@@ -1,8 +1,7 @@
 //! Parameters in the order of their keys (RFC 9460, section 2.2).
-ghost use Rattle.std.specs.Prelude.{◌≡◌, ◌≢◌, ◌≤◌, ◌++◌, ℕ, List, true, None, Some, IfOk, IfErr, OnErr, IfSome, MatchOption, length};
-ghost use Rattle.std.specs.List.{insert};
-ghost use Rattle.dnw_zone_svcb.specs.Params.{with_param, params_wire, AreAscending};
-ghost use Rattle.dnw_zone_svcb.specs.Inside.Steps.{AreBelow, Inserts};
+ghost use Rattle.std.specs.Prelude.{◌≡◌, ◌≤◌, ◌++◌, IfOk, OnErr, length};
+ghost use Rattle.dnw_zone_svcb.specs.Params.{params_wire, Sorts};
+ghost use Rattle.dnw_zone_svcb.specs.Inside.Steps.{ascend};
 
 use std::alloc::AllocError;
 use std::marker::Model;
@@ -30,57 +29,35 @@ impl Model for Param {
     ghost invariant = { λ p. length p.octets.items ≤ 65535 };
 }
 
-/// Puts a parameter before the first with a greater key, among those in the order of their keys. Returns `false` if its key is there;
-/// nothing is changed then. A key above all others is compared with the last one alone.
-///
-/// It fails only if its key is not there and it runs out of memory, and nothing is changed then.
-pub fn insert_param(param: Param, params: &mut Vec<Param>) -> Result<bool, AllocError>
-    requires { AreAscending 0 params.old.items }
-    ensures ok { IfOk result (Inserts param params.old.items params.new.items) }
-    ensures err { IfErr result (λ _. (with_param param params.old.items ≢ None) × (params.new.items ≡ params.old.items)) }
+/// Puts parameters in the order of their keys, in a number of steps that is n log n. Returns `false` if a key is there twice; they may
+/// have moved then.
+pub fn sort_params(params: &mut Vec<Param>) -> bool
+    ensures { Sorts params.old.items params.new.items result }
 {
-    let Some(index) = place_of(param.key, params.as_slice()) else {
-        return Ok(false);
-    };
-    params.insert(index, param)?;
-    Ok(true)
+    if are_ascending(params.as_slice()) {
+        return true;
+    }
+    params
+        .as_mut_slice()
+        .sort_unstable_by_key(|param| param.key);
+    are_ascending(params.as_slice())
 }
 
-/// Returns where a parameter with a key belongs, or `None` if the key is there.
-#[tactic(auto, using(crate::proofs::Ascending::place_last))]
-fn place_of(key: u16, params: &[Param]) -> Option<usize>
-    requires { AreAscending 0 params.now }
-    ensures place { MatchOption result ((octets : List ℕ) → with_param (record { key = key; octets = octets }) params.now ≡ None)
-        (λ i. (octets : List ℕ) → with_param (record { key = key; octets = octets }) params.now ≡ Some (insert params.now i (record { key = key; octets = octets }))) }
-    ensures within { IfSome result (λ i. i ≤ length params.now) }
+/// Returns `true` if each key is above the one before it.
+fn are_ascending(params: &[Param]) -> bool
+    ensures { result ≡ ascend 0 params.now }
 {
-    if is_above_all(key, params) {
-        return Some(params.len());
-    }
-    let mut index = 0;
+    let mut least = 0u32;
     let mut left = params;
     while let Some((first, rest)) = left.split_first() {
-        if key == first.key {
-            return None;
+        let key = u32::from(first.key);
+        if key < least {
+            return false;
         }
-        if key < first.key {
-            return Some(index);
-        }
-        index += 1;
+        least = key + 1;
         left = rest;
     }
-    Some(index)
-}
-
-/// Returns `true` if a key is above all others, or if there are none.
-fn is_above_all(key: u16, params: &[Param]) -> bool
-    requires { AreAscending 0 params.now }
-    ensures { result ≡ true → AreBelow key params.now }
-{
-    match params.last() {
-        Some(last) => last.key < key,
-        None => true,
-    }
+    true
 }
 
 /// Appends the octets of parameters. It fails only if there are some and it runs out of memory.

@@ -6,7 +6,7 @@ ghost use Rattle.dnw_zone_svcb.specs.ParamWords.{keys_of, keys_wire, AreMandator
 
 use crate::keys::Form;
 use crate::lists::{ListValue, is_ascending, list_text, parse_list, split_u16};
-use crate::param::{Param, insert_param};
+use crate::param::{Param, sort_params};
 use dnw_zone_values::error::FieldTextError;
 use dnw_zone_values::number::parse_u16;
 use dnw_zone_values::octets::{Base64, parse_base64};
@@ -96,15 +96,25 @@ fn mandatory_of(alloc: Global, value: &[u8]) -> Result<Option<Vec<u8>>, AllocErr
 fn sorted_keys(alloc: Global, octets: &[u8]) -> Result<Option<Vec<Param>>, AllocError>
     ensures { IfOk result (λ x. MatchOption x (in_key_order [] (keys_of octets.now) ≡ None) (λ keys. in_key_order [] (keys_of octets.now) ≡ Some keys.items)) }
 {
+    let mut keys = keys_of(alloc, octets)?;
+    if sort_params(&mut keys) {
+        Ok(Some(keys))
+    } else {
+        Ok(None)
+    }
+}
+
+/// Returns keys, of which each is two octets.
+fn keys_of(alloc: Global, octets: &[u8]) -> Result<Vec<Param>, AllocError>
+    ensures { IfOk result (λ keys. keys.items ≡ keys_of octets.now) }
+{
     let mut keys = Vec::new(alloc);
     let mut left = octets;
     while let Some((key, rest)) = split_u16(left) {
-        if !insert_param(key_alone(alloc, key), &mut keys)? {
-            return Ok(None);
-        }
+        keys.push(key_alone(alloc, key))?;
         left = rest;
     }
-    Ok(Some(keys))
+    Ok(keys)
 }
 
 /// Returns a parameter that has a key alone.

@@ -1,5 +1,6 @@
 -- Character strings as text (RFC 1035, section 5.1): a string is written in quotes, or as it is if it has no white space;
--- `\DDD` with three decimal digits stands for that octet, and `\` and any other character for that character.
+-- `\DDD` with three decimal digits stands for that octet, and `\` and any other character for that character. A string is binary
+-- (RFC 1035, section 3.3): any other octet, also one above 127, stands for itself.
 use Rattle.std.specs.Prelude.{◌≡◌, ◌≤◌, ℕ, ◌+◌, ◌-◌, ◌*◌, ◌/◌, ◌%◌, Bool, true, false, ◌&&◌, ◌||◌, ◌==◌, nat_le, nat_lt, if◌then◌else◌, List, [], ◌∷◌, ◌++◌, length, flat_map, Option, Some, None, option_map}
 use Rattle.std.specs.Char.{is_ascii_digit}
 use Rattle.dnw_zone_values.specs.Octets.{IsOctets}

@@ -66,16 +66,17 @@ pub fn write_escape<W: fmt::Write>(f: &mut fmt::Formatter<W>, octet: u8) -> fmt:
 }
 
 /// Appends the octets of a character string, which is in quotes or not. `\DDD` with three decimal digits stands for
-/// that octet, and a backslash and any other character for that character.
+/// that octet, and a backslash and any other character for that character. Any octet may be there as it is, also one above
+/// 127.
 ///
 /// Fails with `CharacterString` if the text is no such string, or one of more than 255 octets, and with `Memory`;
 /// `octets` is then unchanged.
 ///
 /// ```
-/// parse_string("\"a \\\"b\\\"\"", &mut octets)?; // b"a \"b\""
-/// parse_string("a\\032b", &mut octets)?; // b"a b"
+/// parse_string(b"\"a \\\"b\\\"\"", &mut octets)?; // b"a \"b\""
+/// parse_string(b"a\\032b", &mut octets)?; // b"a b"
 /// ```
-pub fn parse_string(text: &str, octets: &mut Vec<u8>) -> Result<(), FieldTextError>
+pub fn parse_string(text: &[u8], octets: &mut Vec<u8>) -> Result<(), FieldTextError>
     ensures { Appends StringWanted IsStringText text.now octets.old.items octets.new.items result }
 {
     append_text(text, MAX_STRING, FieldTextError::CharacterString, octets)
@@ -85,7 +86,7 @@ pub fn parse_string(text: &str, octets: &mut Vec<u8>) -> Result<(), FieldTextErr
 /// a CAA record (RFC 8659, section 4.1.1) or the target of a URI record (RFC 7553, section 4.4).
 ///
 /// Fails with `Text` if the text is something else, and with `Memory`; `octets` is then unchanged.
-pub fn parse_text(text: &str, octets: &mut Vec<u8>) -> Result<(), FieldTextError>
+pub fn parse_text(text: &[u8], octets: &mut Vec<u8>) -> Result<(), FieldTextError>
     ensures { Appends TextWanted IsLongText text.now octets.old.items octets.new.items result }
 {
     append_text(text, MAX_TEXT, FieldTextError::Text, octets)
@@ -93,7 +94,7 @@ pub fn parse_text(text: &str, octets: &mut Vec<u8>) -> Result<(), FieldTextError
 
 /// Appends the octets of a text, if there are at most so many. Fails with `wanted` if there are not.
 fn append_text(
-    text: &str,
+    text: &[u8],
     max: usize,
     wanted: FieldTextError,
     octets: &mut Vec<u8>,
@@ -101,7 +102,7 @@ fn append_text(
     ensures { Appends wanted (IsTextWithin max) text.now octets.old.items octets.new.items result }
 {
     let start = octets.len();
-    match push_text(text.as_bytes(), max, octets) {
+    match push_text(text, max, octets) {
         Ok(true) => Ok(()),
         Ok(false) => {
             octets.truncate(start);

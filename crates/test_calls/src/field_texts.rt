@@ -140,14 +140,14 @@ fn tags_and_values_are_parsed(rt: HostRuntime) -> Result<(), Fail> {
     }
     let long = "v".repeat(alloc, 65535)?;
     let mut value = Vec::new(alloc);
-    parse_text(long.as_str(), &mut value)?;
+    parse_text(long.as_bytes(), &mut value)?;
     assert_eq!(rt; value.len(), 65535);
     let longer = "v".repeat(alloc, 65536)?;
     assert_eq!(rt;
-        parse_text(longer.as_str(), &mut value),
+        parse_text(longer.as_bytes(), &mut value),
         Err(FieldTextError::Text)
     );
-    assert_eq!(rt; parse_string("vv\"", &mut value), Ok(()));
+    assert_eq!(rt; parse_string(b"vv\"", &mut value), Ok(()));
     assert_eq!(rt; value.len(), 65538);
     Ok(())
 }
@@ -174,11 +174,11 @@ fn texts_that_are_no_octets_leave_the_vector_unchanged(rt: HostRuntime) -> Resul
     );
     assert_eq!(rt; parse_salt("", &mut octets), Err(FieldTextError::Salt));
     assert_eq!(rt;
-        parse_string("\"a\"b", &mut octets),
+        parse_string(b"\"a\"b", &mut octets),
         Err(FieldTextError::CharacterString)
     );
     assert_eq!(rt;
-        parse_string("a\\256", &mut octets),
+        parse_string(b"a\\256", &mut octets),
         Err(FieldTextError::CharacterString)
     );
     assert_eq!(rt; octets.as_slice(), [7].as_slice());
@@ -239,12 +239,17 @@ fn strings_are_printed_and_parsed(rt: HostRuntime) -> Result<(), Fail> {
             text
         );
         let mut parsed = Vec::new(rt.alloc());
-        parse_string(text, &mut parsed)?;
+        parse_string(text.as_bytes(), &mut parsed)?;
         assert_eq!(rt; parsed.as_slice(), octets);
     }
     let mut parsed = Vec::new(rt.alloc());
-    parse_string("bare\\032\\x", &mut parsed)?;
+    parse_string(b"bare\\032\\x", &mut parsed)?;
     assert_eq!(rt; parsed.as_slice(), b"bare x".as_slice());
+    for text in [[34, 233, 128, 34].as_slice(), [233, 128].as_slice()] {
+        let mut parsed = Vec::new(rt.alloc());
+        parse_string(text, &mut parsed)?;
+        assert_eq!(rt; parsed.as_slice(), [233, 128].as_slice());
+    }
     Ok(())
 }
 

@@ -66,7 +66,7 @@ pub(crate) fn print_record<'a>(message: &[u8], start: usize, text: &'a mut Vec<u
 }
 
 /// Parses the text of data of a class and a type, and appends the octets. An empty origin means no origin.
-pub(crate) fn parse_data(form: (u16, u16), text: &str, origin: &[u8], octets: &mut Vec<u8>) -> Result<(), Error> {
+pub(crate) fn parse_data(form: (u16, u16), text: &[u8], origin: &[u8], octets: &mut Vec<u8>) -> Result<(), Error> {
     let (class, record_type) = form;
     let (text, text_len, name, name_len) = (text.as_ptr(), text.len(), origin.as_ptr(), origin.len());
     // SAFETY: pointers with their lengths, see the module; and the room is not read.
@@ -82,7 +82,7 @@ pub(crate) fn parse_data(form: (u16, u16), text: &str, origin: &[u8], octets: &m
 }
 
 /// Parses the line of a record, and appends the octets. An empty origin means no origin.
-pub(crate) fn parse_record(line: &str, origin: &[u8], octets: &mut Vec<u8>) -> Result<(), Error> {
+pub(crate) fn parse_record(line: &[u8], origin: &[u8], octets: &mut Vec<u8>) -> Result<(), Error> {
     let (text, text_len, name, name_len) = (line.as_ptr(), line.len(), origin.as_ptr(), origin.len());
     // SAFETY: pointers with their lengths, see the module; and the room is not read.
     append_put(octets, FORM_SIZE + 10 + DATA_SIZE, |room, size, len| unsafe {

@@ -1,9 +1,9 @@
 -- Items of a list, one after another.
-use Rattle.std.specs.Prelude.{ℕ, ◌≡◌, ◌<◌, Bool, true, false, ⊤, List, [], ◌∷◌, ◌++◌, length, Option, Some, None, option_map}
+use Rattle.std.specs.Prelude.{ℕ, ◌≡◌, ◌<◌, ◌+◌, ◌&&◌, nat_le, Bool, true, false, ⊤, List, [], ◌∷◌, ◌++◌, length, Option, Some, None, option_map}
 use Rattle.dnw_zone_svcb.specs.declared.items.After.{After}
 use Rattle.dnw_zone_svcb.specs.declared.items.After.TheVariants.{End, Items, Fault}
 use Rattle.dnw_zone_svcb.specs.CommaLists.{items_of}
-use Rattle.dnw_zone_svcb.specs.Params.{ParamValue, with_param}
+use Rattle.dnw_zone_svcb.specs.Params.{ParamValue}
 
 -- The first item of a text, and what is after it.
 abbrev pub TakesListItem : List ℕ → List ℕ → After → Type 0
@@ -22,10 +22,10 @@ abbrev pub AreBelow : ℕ → List ParamValue → Type 0
 AreBelow n [] = ⊤
 AreBelow n (q ∷ qs) = (q.key < n) × AreBelow n qs
 
--- The parameter is put where it belongs, or its key is there.
-abbrev pub Inserts : ParamValue → List ParamValue → List ParamValue → Bool → Type 0
-Inserts p old new true = with_param p old ≡ Some new
-Inserts p old new false = (with_param p old ≡ None) × (new ≡ old)
+-- each key is above the one before it, and none is below the least
+abbrev pub ascend : ℕ → List ParamValue → Bool
+ascend least [] = true
+ascend least (p ∷ ps) = nat_le least p.key && ascend (p.key + 1) ps
 
 -- The text is appended, or there is none and nothing is appended.
 abbrev pub WritesValue : Option (List ℕ) → List ℕ → List ℕ → Bool → Type 0

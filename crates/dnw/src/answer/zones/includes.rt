@@ -84,7 +84,7 @@ fn name_of(alloc: Global, file: &str, word: &[u8]) -> Result<String, IncludeErro
         return Err(IncludeError::NoName);
     };
     let mut octets = Vec::new(alloc);
-    match parse_text(text, &mut octets) {
+    match parse_text(text.as_bytes(), &mut octets) {
         Ok(()) => {}
         Err(FieldTextError::Memory) => return Err(IncludeError::Memory),
         Err(_) => return Err(IncludeError::NoName),

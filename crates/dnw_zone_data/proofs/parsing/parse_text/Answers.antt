@@ -6,4 +6,4 @@ pub returns : goal.returns
 returns c =
     let own : List ℕ = c.in-Some.own.items in
     let is = rw c.in-Some.is at c.in_ok-own.ensures in
-    (octets own, (own, c.utf8.text, is, refl), c.in_ok-extend_from_slice.ensures.items ∙ ap (λ (xs : List ℕ). c.args.out.now.items ++ xs) c.as_slice.ensures.value)
+    (octets own, (own, is, refl), c.in_ok-extend_from_slice.ensures.items ∙ ap (λ (xs : List ℕ). c.args.out.now.items ++ xs) c.as_slice.ensures.value)

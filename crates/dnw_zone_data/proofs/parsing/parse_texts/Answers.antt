@@ -2,7 +2,7 @@ use Rattle.std.proofs.Common.{◌≡◌, List, ℕ, [], ◌∷◌, ◌++◌, len
 use Rattle.dnw_base.specs.Names.{label_wire}
 use Rattle.std.specs.Prelude.{flat_map}
 use Rattle.dnw_zone_data.specs.Words.{after_spaces, word}
-use Rattle.dnw_zone_data.specs.Parsing.{IsStringWord}
+use Rattle.dnw_zone_values.specs.Strings.{IsStringText}
 use Rattle.dnw_zone_data.specs.Inside.StringWords.{LeadTo}
 use Rattle.dnw_zone_data.proofs.Strings.{last}
 use Rattle.dnw_zone_data.proofs.Rests.{lead_more, no_texts, all_texts}
@@ -14,8 +14,8 @@ pub returns-in_default : goal.returns-in_default
 returns-in_default c =
     let left : List ℕ = c.strings.left.now in
     let no-string = rw c.in_default.is at c.in_ok-own.ensures.is in
-    let no-word : (own : List ℕ) → ¬ (IsStringWord (word left) own) =
-    λ own is. no-string own (subst (λ (w : List ℕ). IsStringWord w own) (sym c.split_word.ensures.word) is) in
+    let no-word : (own : List ℕ) → ¬ (IsStringText (word left) own) =
+    λ own is. no-string own (subst (λ (w : List ℕ). IsStringText w own) (sym c.split_word.ensures.word) is) in
     no_texts c.args.text.now c.strings.invariant.0 left c.strings.invariant.1 (not_empty left _ c.is_empty-in-strings.ensures c.strings-test.true) no-word
 
 pub strings-preserved : goal.strings-preserved
@@ -26,7 +26,7 @@ strings-preserved c =
     let old : List ℕ = c.args.out.now.items in
     let so_far : List ℕ = c.strings.out.items in
     let string = rw c.in-Some.is at c.in_ok-own.ensures.is in
-    let is = subst (λ (xs : List ℕ). IsStringWord (word left) xs) (sym c.as_slice-octets.ensures.value) (subst (λ (w : List ℕ). IsStringWord w c.in-Some.own.items) c.split_word.ensures.word string) in
+    let is = subst (λ (xs : List ℕ). IsStringText (word left) xs) (sym c.as_slice-octets.ensures.value) (subst (λ (w : List ℕ). IsStringText w c.in-Some.own.items) c.split_word.ensures.word string) in
     let lead = lead_more c.args.text.now done left own c.strings.invariant.1 (not_empty left _ c.is_empty-in-strings.ensures c.strings-test.true) is in
     let rest = c.after_spaces-left-in-strings.ensures.rest ∙ ap after_spaces c.split_word.ensures.rest in
     let wire : so_far ++ label_wire own ≡ old ++ flat_map label_wire (done ++ own ∷ []) =

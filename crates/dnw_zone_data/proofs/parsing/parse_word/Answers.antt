@@ -1,10 +1,8 @@
 use Rattle.std.proofs.Common.{List, ℕ, ◌++◌, IfOk, refl, sym, ap, ◌∙◌, subst}
 use Rattle.std.specs.Net.Addr.{ipv4_octets, ipv6_segments}
 use Rattle.std.specs.Net.Grammar.{IsIpv4Text, IsIpv6Text}
-use Rattle.dnw_base.specs.RecordTypes.{type_of_text}
-use Rattle.dnw_data.specs.Values.{ipv4, ipv6, type_code, counted}
-use Rattle.dnw_zone_data.specs.Parsing.{AreOctetsOf, SpellsShown, IsOctetsOf, IsNumberOf, IsIdentifierField, eui48, eui64}
-use Rattle.std.specs.Int.{w16, to_be_bytes}
+use Rattle.dnw_data.specs.Values.{ipv4, ipv6}
+use Rattle.dnw_zone_data.specs.Parsing.{IsNumberOf, IsIdentifierField, eui48, eui64}
 use Rattle.std.specs.Option.{option_copied}
 use Rattle.dnw_zone_data.proofs.NumberKinds.{as_number}
 use Rattle.dnw_zone_data.specs.Appending.{AppendsOne}
@@ -12,6 +10,12 @@ use Rattle.dnw_zone_data.proofs.parsing.parse_word.Goals as goal
 
 pub returns-in-Name : goal.returns-in-Name
 returns-in-Name c = rw c.in-Name.is c.parse_name.ensures
+
+pub returns-in-Counted : goal.returns-in-Counted
+returns-in-Counted c = rw c.in-Counted.is c.parse_counted.ensures
+
+pub returns-in-TypeCode : goal.returns-in-TypeCode
+returns-in-TypeCode c = rw c.in-TypeCode.is c.parse_type.ensures
 
 pub returns-in_default-parse_ipv4 : goal.returns-in_default-parse_ipv4
 returns-in_default-parse_ipv4 c =
@@ -31,21 +35,11 @@ returns-in-U64 c =
     let Is : List ℕ → Type 0 = λ t. IfOk c.parse_eui64.result (AppendsOne (IsIdentifierField 8 eui64 t) c.args.out.now.items c.parse_eui64.new.out.items) in
     rw c.in-U64.is (subst Is c.in-Ok.ensures.cases.0 c.parse_eui64.ensures)
 
-pub returns-in-Counted : goal.returns-in-Counted
-returns-in-Counted c =
-    let Is : List ℕ → Type 0 = λ t. IfOk c.parse_counted.result (AppendsOne (AreOctetsOf (SpellsShown c.in-Counted.shown) counted t) c.args.out.now.items c.parse_counted.new.out.items) in
-    rw c.in-Counted.is (subst Is c.in-Ok.ensures.cases.0 c.parse_counted.ensures)
-
-pub returns-in-Octets : goal.returns-in-Octets
-returns-in-Octets c =
-    let Is : List ℕ → Type 0 = λ t. IfOk c.parse_octets.result (AppendsOne (IsOctetsOf c.in-Octets.shown t) c.args.out.now.items c.parse_octets.new.out.items) in
-    rw c.in-Octets.is (subst Is c.in-Ok.ensures.cases.0 c.parse_octets.ensures)
-
-pub returns-in_default-kind : goal.returns-in_default-kind
-returns-in_default-kind c =
+pub returns-in_default-kind-3 : goal.returns-in_default-kind-3
+returns-in_default-kind-3 c =
     let Is : List ℕ → Type 0 = λ t. IfOk c.parse_number.result (AppendsOne (IsNumberOf c.args.form c.args.kind t) c.args.out.now.items c.parse_number.new.out.items) in
-    let no = c.in_default-kind in
-    as_number (option_copied c.args.origin) c.args.form c.args.kind c.args.word.now c.args.out.now.items c.parse_number.new.out.items c.parse_number.result c.in_default.not-Name no.not-Ipv4 no.not-Ipv6 no.not-TypeCode no.not-U48 no.not-U64 no.not-Counted no.not-Octets (subst Is c.in-Ok.ensures.cases.0 c.parse_number.ensures)
+    let no = c.in_default-kind-3 in
+    as_number (option_copied c.args.origin) c.args.form c.args.kind c.args.word.now c.args.out.now.items c.parse_number.new.out.items c.parse_number.result c.in_default.not-Name no.not-Ipv4 no.not-Ipv6 no.not-TypeCode no.not-U48 no.not-U64 c.in_default-kind.not-Counted c.in_default-kind-2.not-Octets (subst Is c.in-Ok.ensures.cases.0 c.parse_number.ensures)
 
 pub returns-in_ok-extend_from_slice-in-Ipv4 : goal.returns-in_ok-extend_from_slice-in-Ipv4
 returns-in_ok-extend_from_slice-in-Ipv4 c =
@@ -58,9 +52,3 @@ returns-in_ok-extend_from_slice-in-Ipv6 c =
     let a = c.in-Ok-parse_ipv6.address in
     let same = c.in-Ok.ensures.cases in
     rw c.in-Ipv6.is (ipv6 (ipv6_segments a), (a, same.1, subst (λ (t : List ℕ). IsIpv6Text t a) same.0 c.in-Ok-parse_ipv6.ensures, refl), c.in_ok-extend_from_slice-in-Ipv6.ensures.items ∙ ap (λ (xs : List ℕ). c.args.out.now.items ++ xs) c.octets-in-Ipv6.ensures)
-
-pub returns-in_ok-extend_from_slice-in-TypeCode : goal.returns-in_ok-extend_from_slice-in-TypeCode
-returns-in_ok-extend_from_slice-in-TypeCode c =
-    let code = c.in-Some.code in
-    let same = c.in-Ok.ensures.cases in
-    rw c.in-TypeCode.is (type_code code, (code, same.1, ap type_of_text (sym same.0) ∙ sym c.in-Some.ensures, refl), c.in_ok-extend_from_slice-in-TypeCode.ensures.items ∙ ap (λ (xs : List ℕ). c.args.out.now.items ++ xs) (c.to_be_bytes.ensures ∙ ap (to_be_bytes w16) c.from.ensures))

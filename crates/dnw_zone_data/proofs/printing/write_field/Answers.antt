@@ -4,7 +4,6 @@ use Rattle.dnw_zone_data.specs.Printing.{PrintsStrings}
 use Rattle.dnw_zone_data.specs.Appending.{Appended}
 use Rattle.dnw_zone_data.specs.TypeLists.{PrintsTypes}
 use Rattle.dnw_zone_data.specs.ParamLists.{PrintsParams}
-use Rattle.dnw_zone_data.proofs.ParamWalks.{writes_params}
 use Rattle.dnw_zone_data.proofs.printing.write_field.Goals as goal
 
 pub returns-in-Texts : goal.returns-in-Texts
@@ -19,7 +18,5 @@ returns-in-Types c =
 
 pub returns-in-Params : goal.returns-in-Params
 returns-in-Params c =
-    let own : List ℕ = c.as_bytes-in-Params.result.now in
-    let done = writes_params own (string_bytes c.args.out.now) (string_bytes c.write_params.new.out) c.write_params.result c.write_params.ensures.ok in
-    let Is : List ℕ → Type 0 = λ xs. IfOk c.write_params.result (Appended (PrintsParams xs) (string_bytes c.args.out.now) (string_bytes c.write_params.new.out)) in
-    rw c.in-Params.is (subst Is c.as_bytes-in-Params.ensures.octets done)
+    let Is : List ℕ → Type 0 = λ own. IfOk c.write_param_list.result (Appended (PrintsParams own) (string_bytes c.args.out.now) (string_bytes c.write_param_list.new.out)) in
+    rw c.in-Params.is (subst Is c.as_bytes-in-Params.ensures.octets c.write_param_list.ensures)
