@@ -1,4 +1,4 @@
-/* Reads zone files through the functions of dns_names_wire.h for them: whole, in parts, with errors, and with states that are spoiled.
+/* Reads and writes zone files through the functions of dns_names_wire.h for them: whole, in parts, with errors, and with states that are spoiled.
    It prints nothing if all is well, and exits with 1 at the first result that is not the expected one. Expected values are worked by
    hand from RFC 1035, section 5, and RFC 2308, section 4; the records of the first zone are those of `named-checkzone -D`. */
 #include "dns_names_wire.h"
@@ -317,6 +317,57 @@ static void refuses_origins(void)
     EXPECT(memcmp(&zone, &was, sizeof was) == 0 && zone.record_class == DNW_CLASS_IN && zone.origin_len == 9 && zone.owner_len == 0);
 }
 
+/* What is written after the same entries leaves out what they say, and the state is the reader's. */
+static void writes_lines(void)
+{
+    static const char text[] = "$ORIGIN example.\n$TTL 60\n@ IN TXT \"a\"\n 5 IN TXT \"b\"\nx.y IN A 192.0.2.1\nY.EXAMPLE. CH TXT \"c\"\n"
+                               "xexample. IN A 192.0.2.1\n\\@ IN ANY \\# 0\n. IN A 192.0.2.1\n";
+    struct dnw_zone written;
+    struct dnw_printed_record printed;
+    uint8_t out[sizeof text];
+    size_t len, at = 0, read = 0;
+    EXPECT(dnw_zone_begin(BYTES(ROOT), &written) == DNW_DONE && dnw_zone_begin(BYTES(ROOT), &zone) == DNW_DONE);
+    EXPECT(dnw_zone_put_origin(BYTES("\007example\000"), &written, out, sizeof out, &len) == DNW_DONE && len == 17);
+    at += len;
+    EXPECT(dnw_zone_put_ttl(60, &written, out + at, 8, &len) == DNW_DONE && len == 8);
+    at += len;
+    for (;;) {
+        EXPECT(dnw_zone_next((const uint8_t *)text + read, sizeof text - 1 - read, false, &zone, octets, sizeof octets, &entry) == DNW_DONE);
+        EXPECT(entry.kind != DNW_ZONE_ERROR);
+        read += entry.used;
+        if (entry.kind == DNW_ZONE_END)
+            break;
+        if (entry.kind == DNW_ZONE_NOTHING)
+            continue;
+        EXPECT(dnw_zone_put_record(octets, entry.len, 0, &written, out + at, sizeof out - at, &printed) == DNW_DONE);
+        EXPECT(printed.len == entry.used && printed.end == entry.len);
+        at += printed.len;
+        EXPECT(memcmp(&written, &zone, sizeof zone) == 0);
+    }
+    EXPECT(at == sizeof text - 1 && memcmp(out, text, at) == 0);
+}
+
+static void writes_nothing(void)
+{
+    static const uint8_t record[] = "\001a\000\000\001\000\001\000\000\000\074\000\004\300\000\002\001";
+    uint8_t out[32] = {7}, old[32] = {7};
+    struct dnw_printed_record printed = {7, 7};
+    size_t len = 7;
+    EXPECT(dnw_zone_begin(BYTES(ROOT), &zone) == DNW_DONE);
+    struct dnw_zone was = zone;
+    EXPECT(dnw_zone_put_ttl(60, &zone, out, 7, &len) == DNW_NO_ROOM && dnw_zone_put_origin(BYTES(ISI), &zone, out, 16, &len) == DNW_NO_ROOM);
+    EXPECT(dnw_zone_put_origin(BYTES(""), &zone, out, sizeof out, &len) == DNW_MESSAGE_CUT);
+    EXPECT(dnw_zone_put_origin(BYTES("\001a"), &zone, out, sizeof out, &len) == DNW_MESSAGE_CUT);
+    EXPECT(dnw_zone_put_record(record, sizeof record - 1, 0, &zone, out, 20, &printed) == DNW_NO_ROOM);
+    EXPECT(dnw_zone_put_record(record, sizeof record - 1, sizeof record, &zone, out, sizeof out, &printed) == DNW_MESSAGE_CUT);
+    EXPECT(dnw_zone_put_record(record, sizeof record - 2, 0, &zone, out, sizeof out, &printed) == DNW_MESSAGE_CUT);
+    zone.origin[0] = was.origin[0] = 192;
+    EXPECT(dnw_zone_put_record(record, sizeof record - 1, 0, &zone, out, sizeof out, &printed) == DNW_BAD_ITEM);
+    EXPECT(dnw_zone_put_ttl(60, &zone, out, sizeof out, &len) == DNW_BAD_ITEM);
+    EXPECT(dnw_zone_put_origin(BYTES(ISI), &zone, out, sizeof out, &len) == DNW_BAD_ITEM);
+    EXPECT(memcmp(&zone, &was, sizeof was) == 0 && memcmp(out, old, sizeof old) == 0 && len == 7 && printed.len == 7 && printed.end == 7);
+}
+
 /* A million parentheses, octets and lines take as many steps as they have lines, and as little memory. */
 static void reads_hostile_texts(void)
 {
@@ -350,6 +401,8 @@ int main(void)
     lacks_room();
     states_are_spoiled();
     refuses_origins();
+    writes_lines();
+    writes_nothing();
     reads_hostile_texts();
     return 0;
 }

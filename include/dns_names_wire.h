@@ -571,8 +571,8 @@ enum dnw_zone_kind {
 /* A size that is always enough for what dnw_zone_next stores in its buffer. */
 #define DNW_ZONE_OCTETS_SIZE 65800
 
-/* Up to where a zone file was read, and what its entries so far say for later ones. dnw_zone_begin and dnw_zone_include fill
-   it in, and a caller only reads it. It is plain data: it may be copied, and a copy put back, with the text after it, goes
+/* Up to where a zone file was read or written, and what its entries so far say for later ones. dnw_zone_begin and
+   dnw_zone_include fill it in, and a caller only reads it. It is plain data: it may be copied, and a copy put back, with the text after it, goes
    back. Whatever it holds, no call does harm. */
 struct dnw_zone {
     size_t offset;        /* the octets of the file that were read */
@@ -634,6 +634,30 @@ uint32_t dnw_zone_include(const uint8_t *origin, size_t origin_len, struct dnw_z
    more than `octets_size` octets would be stored; and with DNW_NO_MEMORY. Then the same call may be made again. */
 uint32_t dnw_zone_next(const uint8_t *text, size_t text_len, bool more, struct dnw_zone *zone, uint8_t *octets,
                        size_t octets_size, struct dnw_zone_entry *entry);
+
+/* Stores the record at offset `start` of a message as a line of a zone file, with the end of the line, and moves `zone` after
+   it. What the entries before say is left out (RFC 1035, section 5.1; RFC 2308, section 4): the owner if it is that of the
+   record before, the last labels of another owner if they are those of the origin, and the TTL if it is that of the last
+   $TTL. Capitals count: an owner that differs in them alone is written. The class, the type and the data are there in full.
+
+   `zone` is the state of who reads the text: dnw_zone_begin fills it in, and after each call it is as dnw_zone_next leaves
+   it after the same octets. So what is stored is read as the same record, if its data are valid for their type. If the
+   origin is the root, names are in full, so that the text says the same with any origin.
+
+   It fails as dnw_record_print does; and with DNW_BAD_ITEM if the state is spoiled. Then the same call may be made again:
+   nothing is stored. */
+uint32_t dnw_zone_put_record(const uint8_t *message, size_t message_len, size_t start, struct dnw_zone *zone, uint8_t *text,
+                             size_t text_size, struct dnw_printed_record *printed);
+
+/* Stores the line of an $ORIGIN (RFC 1035, section 5.1), with the name in full and the end of the line, and its length in
+   `len`, and moves `zone` after it. `origin` is a wire form. A file that begins with it says the same with any origin. It
+   fails as dnw_zone_begin, with DNW_BAD_ITEM if the state is spoiled, with DNW_NO_ROOM, and with DNW_NO_MEMORY. */
+uint32_t dnw_zone_put_origin(const uint8_t *origin, size_t origin_len, struct dnw_zone *zone, uint8_t *text, size_t text_size,
+                             size_t *len);
+
+/* Stores the line of a $TTL (RFC 2308, section 4), in seconds, with the end of the line, and its length in `len`, and moves
+   `zone` after it. It fails with DNW_BAD_ITEM if the state is spoiled, with DNW_NO_ROOM, and with DNW_NO_MEMORY. */
+uint32_t dnw_zone_put_ttl(uint32_t ttl, struct dnw_zone *zone, uint8_t *text, size_t text_size, size_t *len);
 
 /* Stores the octets that the signature of an RRSIG covers (RFC 4034, section 3.1.8.1), the bytes to verify or to sign,
    and their number in `len`.

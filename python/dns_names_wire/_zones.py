@@ -1,17 +1,17 @@
-"""Zone files, read record by record."""
+"""Zone files, read and written record by record."""
 
 import ctypes
 import io
 import os
 import stat
 from ctypes import byref, c_char, c_size_t
-from typing import BinaryIO, Callable, Iterator, List, Optional, Tuple, Union
+from typing import Any, BinaryIO, Callable, Iterable, Iterator, List, Optional, Tuple, Union
 
 from . import _checks
 from ._checks import Bytes
 from ._data import NameLike
 from ._errors import DnsError, check
-from ._library import SentenceText, Zone, ZoneEntry, by_address, library, taken
+from ._library import NO_ROOM, PrintedRecord, SentenceText, Zone, ZoneEntry, by_address, library, taken
 from ._names import Name, whole_name
 from ._records import Record, record_of
 
@@ -22,6 +22,8 @@ _END, _MORE, _NOTHING, _RECORD, _INCLUDE, _ERROR = range(6)
 _WINDOW = 1 << 16
 _RECORD_SIZE = 65800
 _MOST = 1 << 24
+# The octets of a line that is written, at first: more than `$ORIGIN` and a name have.
+_LINE_SIZE = 2048
 # How deep files include others, and how many octets of a line are shown before and after what is wrong.
 _DEPTH = 10
 _SHOWN = 500
@@ -241,3 +243,48 @@ def _records(file: _File, reader: _Reader) -> Iterator[Record]:
         yield from reader.records()
     finally:
         reader.close()
+
+
+def zone_lines(records: Iterable[Record], origin: NameLike, ttl: Optional[int] = None) -> Iterator[str]:
+    """Yields the lines of a zone file with these records (RFC 1035, section 5.1; RFC 2308, section 4), each with the end of
+    its line, as `file.writelines` takes them. The first one is the `$ORIGIN`, and with `ttl` the second one is a `$TTL`.
+
+    What the lines before a record say is left out of its line: its owner if it is that of the record before, the last labels of
+    another owner if they are those of the origin, and its TTL if it is that of the `$TTL`. Capitals count. The class, the type
+    and the data are written in full. `read_zone` reads the same records.
+
+    Raises `ValueError` if the origin is relative or the TTL is out of range, and `TypeError` if an item is not a `Record`.
+
+    >>> zone = [Record.from_text(line) for line in ("a. 60 NS ns.a.", "ns.a. 60 A 192.0.2.1", "ns.a. 5 A 192.0.2.2")]
+    >>> print(*zone_lines(zone, "a.", 60), sep="", end="")
+    $ORIGIN a.
+    $TTL 60
+    @ IN NS ns.a.
+    ns IN A 192.0.2.1
+     5 IN A 192.0.2.2
+    """
+    zone, wire = Zone(), whole_name("origin", origin).wire
+    seconds = None if ttl is None else _checks.number("ttl", ttl, 2**32 - 1)
+    check(library.dnw_zone_begin(wire, len(wire), byref(zone)))
+    return _lines(records, wire, seconds, zone)
+
+
+def _lines(records: Iterable[Record], origin: bytes, ttl: Optional[int], zone: Zone) -> Iterator[str]:
+    """Yields the lines of a zone file whose state this is."""
+    room, length, printed = (c_char * _LINE_SIZE)(), c_size_t(), PrintedRecord()
+    check(library.dnw_zone_put_origin(origin, len(origin), byref(zone), room, len(room), byref(length)))
+    yield taken(room, length.value).decode("ascii")
+    if ttl is not None:
+        check(library.dnw_zone_put_ttl(ttl, byref(zone), room, len(room), byref(length)))
+        yield taken(room, length.value).decode("ascii")
+    for record in records:
+        if not isinstance(record, Record):
+            raise _checks.wrong_type("records", "a Record is", record)
+        message, start = record._message, record._start
+        arguments: Tuple[Any, ...] = message, len(message), start, byref(zone)
+        number = library.dnw_zone_put_record(*arguments, room, len(room), byref(printed))
+        while number == NO_ROOM:
+            room = (c_char * (4 * len(room)))()
+            number = library.dnw_zone_put_record(*arguments, room, len(room), byref(printed))
+        check(number, start)
+        yield taken(room, printed.len).decode("ascii")

@@ -8,7 +8,7 @@ import tracemalloc
 import unittest
 
 import dns_names_wire as dnw
-from dns_names_wire import Name, Record, ZoneError, read_zone
+from dns_names_wire import Name, Record, ZoneError, read_zone, zone_lines
 
 try:
     import dns.exception
@@ -48,6 +48,30 @@ class Zones(unittest.TestCase):
         self.assertEqual(record, Record("NS.example.", 60, dnw.A("192.0.2.1")))
         self.assertEqual(record.to_wire().hex(), "026e73076578616d706c65000001000100000005" + "0004c0000201")
         self.assertEqual(list(read_zone(b"", ".")), [])
+
+    def test_lines(self):
+        zone = b"$TTL 1h\n@ SOA ns root 1 2 3 4 5\n NS ns\nns A 192.0.2.1\nNS 5 A 192.0.2.2\na\\.b.c TXT x\nexample.o. A 192.0.2.3\n"
+        records = list(read_zone(zone, "example."))
+        written = "".join(zone_lines(records, "example.", 3600))
+        self.assertEqual(
+            written,
+            "$ORIGIN example.\n$TTL 3600\n@ IN SOA ns.example. root.example. 1 2 3 4 5\n IN NS ns.example.\nns IN A 192.0.2.1\n"
+            'NS 5 IN A 192.0.2.2\na\\.b.c IN TXT "x"\nexample.o. IN A 192.0.2.3\n',
+        )
+        self.assertEqual([it.to_wire() for it in read_zone(written.encode(), "other.")], [it.to_wire() for it in records])
+        self.assertEqual("".join(zone_lines(records[3:4], ".")), "$ORIGIN .\nNS.example. 5 IN A 192.0.2.2\n")
+        large = Record("a.", 1, dnw.TXT([b"x"] * 30000))
+        self.assertEqual(list(zone_lines([large], "a."))[1], "@ 1 IN TXT" + ' "x"' * 30000 + "\n")
+        self.assertRaises(ValueError, zone_lines, [], "relative")
+        self.assertRaises(ValueError, zone_lines, [], "a.", 2**32)
+        self.assertRaises(TypeError, list, zone_lines(["a. 1 IN A 192.0.2.1"], "a."))
+
+    @unittest.skipIf(dns is None, "dnspython is not there")
+    def test_dnspython_reads_lines(self):
+        records = list(read_zone(b"@ 60 SOA ns root 1 2 3 4 5\n@ 60 NS ns\nns 60 A 192.0.2.1\nx.ns 5 MX 1 @\n", "o."))
+        theirs = dns.zone.from_text("".join(zone_lines(records, "o.", 60)), "o.", relativize=False)
+        found = sorted(f"{name} {ttl} IN {dns.rdatatype.to_text(data.rdtype)} {data}" for name, ttl, data in theirs.iterate_rdatas())
+        self.assertEqual(found, sorted(map(str, records)))
 
     def test_arguments(self):
         self.assertRaises(TypeError, read_zone, 7, ".")

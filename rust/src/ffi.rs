@@ -442,6 +442,24 @@ extern "C" {
         octets_size: usize,
         entry: *mut ZoneEntry,
     ) -> u32;
+    fn dnw_zone_put_record(
+        message: *const u8,
+        message_len: usize,
+        start: usize,
+        zone: *mut Zone,
+        text: *mut u8,
+        text_size: usize,
+        printed: *mut PrintedRecord,
+    ) -> u32;
+    fn dnw_zone_put_origin(
+        origin: *const u8,
+        origin_len: usize,
+        zone: *mut Zone,
+        text: *mut u8,
+        text_size: usize,
+        len: *mut usize,
+    ) -> u32;
+    fn dnw_zone_put_ttl(ttl: u32, zone: *mut Zone, text: *mut u8, text_size: usize, len: *mut usize) -> u32;
     fn dnw_text_fault_print(fault: *const MasterFault, text: *mut u8, text_size: usize, len: *mut usize) -> u32;
     fn dnw_signed_octets(
         message: *const u8,

@@ -29,6 +29,7 @@
 //! | write messages item by item into a buffer, without an allocation | [`MessageWriter`] |
 //! | make records from data by type, or parse them from lines of master files | [`RecordBuf`] |
 //! | read zone files, with the place of each error | [`ZoneReader`]; with `std`, `ZoneFile`, which follows `$INCLUDE`, and `ZoneStream` |
+//! | write zone files | [`ZoneWriter`] |
 //! | keep data by type, and sets of records | [`owned`], [`RecordSet`] |
 //! | verify signatures, or make them | [`Record::signed_octets`] |
 //! | make key tags and digests of keys and zones, hash names, and check denials | [`dnssec`] |
@@ -99,7 +100,7 @@ pub use record_set::RecordSet;
 pub use ttl::parse_ttl;
 pub use type_set::TypeSet;
 pub use writer::{MessageWriter, Need};
-pub use zone::{ZoneError, ZoneInclude, ZoneItem, ZoneReader};
+pub use zone::{ZoneError, ZoneInclude, ZoneItem, ZoneReader, ZoneWriter};
 #[cfg(feature = "std")]
 pub use zone::{ZoneFile, ZoneStream};
 

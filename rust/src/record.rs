@@ -64,6 +64,11 @@ impl<'a> Record<'a> {
         Ok(Record { owner, record_type, class, ttl: read.ttl, end: read.end })
     }
 
+    /// Returns the message, and the offset of the record there.
+    pub(crate) fn place(&self) -> (&'a [u8], usize) {
+        (self.message(), self.owner.start())
+    }
+
     /// Returns the record at an offset of a message that was checked as a whole.
     #[inline]
     pub(crate) fn checked(message: &'a [u8], start: usize) -> Option<Self> {

@@ -14,12 +14,14 @@ mod error;
 mod file;
 #[cfg(feature = "std")]
 mod stream;
+mod writer;
 
 pub use error::ZoneError;
 #[cfg(feature = "std")]
 pub use file::ZoneFile;
 #[cfg(feature = "std")]
 pub use stream::ZoneStream;
+pub use writer::ZoneWriter;
 
 /// The entries of a zone file that is in memory: an iterator over its records and its `$INCLUDE`s.
 ///

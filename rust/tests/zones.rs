@@ -1,6 +1,6 @@
 //! Zone files: their records, the places of what is not valid, and files that include others. Each file in the folder `zones`
 //! says where its records come from.
-use dns_names_wire::{Name, RecordBuf, ZoneError, ZoneItem, ZoneReader};
+use dns_names_wire::{Name, RecordBuf, ZoneError, ZoneItem, ZoneReader, ZoneWriter};
 
 /// The text and the records of a zone of all kinds of entries.
 const EXAMPLE: &[u8] = include_bytes!("zones/example.zone");
@@ -335,4 +335,28 @@ mod files {
         let twice = folder.write("twice", "$INCLUDE f1\n$INCLUDE f1\n");
         assert_eq!(records_of(&twice), ["x.o. 1 IN A 192.0.2.1"; 2]);
     }
+}
+
+#[test]
+fn what_is_written_is_read() {
+    let mut records = Vec::new();
+    read_all(ZoneReader::new(EXAMPLE, &name("example.")), &mut records);
+    let mut writer = ZoneWriter::new(&name("example.")).unwrap();
+    writer.push_ttl(3600).unwrap();
+    let octets = |hex: &String| -> Vec<u8> {
+        (0..hex.len() / 2).map(|at| u8::from_str_radix(&hex[2 * at..2 * at + 2], 16).unwrap()).collect()
+    };
+    for record in &records {
+        let octets = octets(record);
+        writer.push(dns_names_wire::Record::read(&octets, 0).unwrap()).unwrap();
+    }
+    let text = writer.take_text();
+    assert!(text.starts_with("$ORIGIN example.\n$TTL 3600\n@ IN SOA ns1.example. host\\.master.example. "), "{text}");
+    assert!(text.contains("\n IN NS ns1.example.\n IN NS ns2.example.\n"), "{text}");
+    let mut again = Vec::new();
+    read_all(ZoneReader::new(text.as_bytes(), &name("other.")), &mut again);
+    assert_eq!(again, records);
+    let large = format!("a. 60 IN TXT{}", " x".repeat(30000)).parse::<RecordBuf>().unwrap();
+    writer.push(&large).unwrap();
+    assert_eq!(writer.text(), format!("a. 60 IN TXT{}\n", " \"x\"".repeat(30000)));
 }

@@ -167,6 +167,8 @@ pub use Rattle.dnw_zone_file.specs.Steps.{IsStep}
 pub use Rattle.dnw_zone_file.specs.ZoneTexts.{BeginsWithRecords, FailsZoneText, IsZoneText, LacksEntry, TakesEntry, records_of_entry}
 pub use Rattle.dnw_zone_file.specs.Written.{AppendsLine, AreOfType, IsSameRecord, written_line, written_head}
 pub use Rattle.dnw_zone_file.specs.WriterLaws.{HasDataOctets, IsWrittenRecord, LinesAreEntries, LinesAreReadBack}
+pub use Rattle.dnw_zone_file.specs.ShortLines.{AppendsOrigin, AppendsShort, AppendsTtl, IsBefore, IsShortName, IsShortOwner, IsShortText, origin_line, short_head, short_line, short_rest, short_ttl, ttl_line}
+pub use Rattle.dnw_zone_file.specs.WriterLaws.{IsWrittenZone, NothingIsWritten, OriginsAreAdded, OriginsAreEntries, ZoneRecordsAreAdded, ShortLinesAreEntries, ShortLinesAreReadBack, TtlsAreAdded, TtlsAreEntries, WrittenTextsAreRecords}
 -- Whole messages: headers, sections and EDNS.
 pub use Rattle.dnw_message_header.specs.HeaderLaws.{HeaderFits, HeadersReadBack, HeadersWriteBack}
 pub use Rattle.dnw_message_header.specs.Headers.{TakesHeader, flag, flags_of, header_of, header_size, header_wire, is_set, metadata_of}

@@ -298,6 +298,7 @@ pub mod zone {
     pub use dnw_zone_file::error::{ZoneError, ZoneRule};
     pub use dnw_zone_file::laws;
     pub use dnw_zone_file::place::{TextPlace, place_of};
+    pub use dnw_zone_file::short_line::{append_origin, append_short_record, append_ttl};
     pub use dnw_zone_file::step::{Found, Step, take_entry};
     pub use dnw_zone_file::writer::append_record;
     pub use dnw_zone_file::zone_text::{OwnedRecord, ZoneTextError, read_records};

@@ -9,3 +9,4 @@ pub mod ZonePlaces
 pub mod ZoneStates
 pub mod ZoneEntries
 pub mod ZoneFileCalls
+pub mod ZoneWriting

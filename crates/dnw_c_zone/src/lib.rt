@@ -29,3 +29,5 @@ pub mod zone_file;
 pub mod zone_place;
 /// What is known of a zone file that is read.
 pub mod zone_state;
+/// Zone files that are written.
+pub mod zone_writing;

@@ -52,7 +52,7 @@ fn print(
 }
 
 /// Returns the record at an offset, and the offset after it.
-fn record_at(message: &[u8], start: usize) -> Result<(RecordRef<'_>, usize), Failure>
+pub(crate) fn record_at(message: &[u8], start: usize) -> Result<(RecordRef<'_>, usize), Failure>
     ensures ok { IfOk result (λ r. RecordAt message.now start r.0 r.1) }
     ensures err { IfErr result (HasNoRecordAt message.now start) }
 {

@@ -74,7 +74,7 @@ fn included(alloc: Global, origin: &[u8], zone: &ZoneState) -> Result<ZoneState,
 }
 
 /// Returns the name that a wire form is.
-fn name_of(alloc: Global, form: &[u8]) -> Result<Name, Failure>
+pub(crate) fn name_of(alloc: Global, form: &[u8]) -> Result<Name, Failure>
     ensures ok { IfOk result (IsGivenOrigin form.now) }
     ensures err { IfErr result (LacksOrigin form.now) }
 {

@@ -120,7 +120,7 @@ octet_of_name o fits = elim (cases_Bool (is_special o)) [
   ]
 ]
 
-keeps_label : (label : List ℕ) → IsOctets label → Keeps Words (label_octets label) Words
+pub keeps_label : (label : List ℕ) → IsOctets label → Keeps Words (label_octets label) Words
 keeps_label [] h = keeps_none Words
 keeps_label (o ∷ label) h =
     keeps_both (name_octet o) (label_octets label) Words Words Words (octet_of_name o (h 0)) (keeps_label label (λ i. h (suc i)))

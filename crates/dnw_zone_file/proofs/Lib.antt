@@ -3,6 +3,9 @@ pub mod OneMore
 pub mod Kept
 pub mod KeptFields
 pub mod WrittenLines
-pub mod LinesRead
 pub mod OneHead
-pub mod ReadBack
+pub mod AnyLines
+pub mod LinesRead
+pub mod ShortNames
+pub mod ShortLinesRead
+pub mod WrittenTexts

@@ -24,31 +24,27 @@ use Rattle.dnw_zone_data.proofs.NamesBack.{name_len}
 use Rattle.dnw_zone_svcb.proofs.ParamTextsBack.{drop_fit, take_fit}
 use Rattle.dnw_zone_data.proofs.NumberFormsBack.{period}
 use Rattle.dnw_zone_data.proofs.Plain.{all_plain, decimal_plain, plain_after, plain_append, plain_starts, plain_utf8, plain_word}
-use Rattle.dnw_zone_file.specs.declared.context.Context.{Context}
-use Rattle.dnw_zone_file.specs.declared.entry.Entry.TheVariants.{Record as RecordEntry}
 use Rattle.dnw_zone_file.specs.declared.entry.LineKind.TheVariants.{OwnerFirst}
-use Rattle.dnw_zone_file.specs.declared.entry.ZoneRecord.{ZoneRecord}
-use Rattle.dnw_zone_file.specs.Contexts.{with_record}
-use Rattle.dnw_zone_file.specs.Entries.{begins_with, line_kind, owner_at, IsEntry, IsOwned, IsRecordData, IsZoneRecord}
+use Rattle.dnw_zone_file.specs.Entries.{begins_with, line_kind, owner_at}
 use Rattle.dnw_zone_file.specs.Heads.{IsZoneHead}
 use Rattle.dnw_zone_record.proofs.LinesBack.{class_other, IsReadRecord, line_rest, record_read, split}
-use Rattle.dnw_zone_record.specs.RecordLines.{record_line, spaced, next_word, after_next_word, IsTtlWord, IsClassWord, IsTypeWord, IsDataOf}
+use Rattle.dnw_zone_record.specs.RecordLines.{record_line, spaced, next_word, after_next_word, IsTtlWord, IsClassWord, IsTypeWord}
 use Rattle.dnw_zone_values.specs.Octets.{IsOctets}
 use Rattle.dnw_zone_words.specs.declared.scan.Place.TheVariants.{Words}
-use Rattle.dnw_zone_file.specs.Written.{IsSameRecord, written_head}
+use Rattle.dnw_zone_file.specs.Written.{written_head}
 use Rattle.dnw_zone_file.proofs.Kept.{Keeps, keeps_both, keeps_name, keeps_plain, keeps_spaced}
 
 -- ---- words
 
-abbrev IsNext : List ℕ → List ℕ → Type 0
+abbrev pub IsNext : List ℕ → List ℕ → Type 0
 IsNext w rest = (next_word (32 ∷ w ++ rest) ≡ w) × (after_next_word (32 ∷ w ++ rest) ≡ rest)
 
-plain_next : (w rest : List ℕ) → all_plain w ≡ true → 0 < length w → is_end rest ≡ true → IsNext w rest
+pub plain_next : (w rest : List ℕ) → all_plain w ≡ true → 0 < length w → is_end rest ≡ true → IsNext w rest
 plain_next w rest plain some end =
     let start = plain_starts w rest plain some in
     (ap word start ∙ plain_word w rest plain end, ap after_word start ∙ plain_after w rest plain end)
 
-class_plain : (class : DNSClass) → class_code class < 65536 → (all_plain (class_text class) ≡ true) × (0 < length (class_text class))
+pub class_plain : (class : DNSClass) → class_code class < 65536 → (all_plain (class_text class) ≡ true) × (0 < length (class_text class))
 class_plain (OPT size) h =
     let code = class_code (OPT size) in
     (plain_append (codes "CLASS") (decimal code) refl (decimal_plain code (omega (arith, h))), omega (arith, length-append (codes "CLASS") (decimal code)))
@@ -56,7 +52,7 @@ class_plain (Unknown code) h =
     (plain_append (codes "CLASS") (decimal code) refl (decimal_plain code (omega (arith, h))), omega (arith, length-append (codes "CLASS") (decimal code)))
 class_plain class h = (refl, omega arith)
 
-spaced_end : (text : List ℕ) → is_end (spaced text) ≡ true
+pub spaced_end : (text : List ℕ) → is_end (spaced text) ≡ true
 spaced_end [] = refl
 spaced_end (c ∷ cs) = refl
 
@@ -119,11 +115,11 @@ zone_head r text fits =
 -- ---- the owner
 
 -- the first octet of an owner is no white space, no quote and no `$`
-abbrev begins_owner : List ℕ → Bool
+abbrev pub begins_owner : List ℕ → Bool
 begins_owner [] = false
 begins_owner (c ∷ cs) = nat_le 35 c && not (c == 36) || (c == 33)
 
-octet_begins : (o : ℕ) (xs : List ℕ) → begins_owner (name_octet o ++ xs) ≡ true
+pub octet_begins : (o : ℕ) (xs : List ℕ) → begins_owner (name_octet o ++ xs) ≡ true
 octet_begins o xs = elim (cases_Bool (is_special o)) [
   | inl special ↦ rw special refl
   | inr other ↦ elim (cases_Bool (nat_le 33 o && nat_le o 126)) [
@@ -132,14 +128,14 @@ octet_begins o xs = elim (cases_Bool (is_special o)) [
   ]
 ]
 
-owner_begins : (labels : List (List ℕ)) (rest : List ℕ) → AllByRecursion IsLabel labels → begins_owner (full_name_text labels ++ rest) ≡ true
+pub owner_begins : (labels : List (List ℕ)) (rest : List ℕ) → AllByRecursion IsLabel labels → begins_owner (full_name_text labels ++ rest) ≡ true
 owner_begins [] rest are = refl
 owner_begins ([] ∷ labels) rest are = absurd (omega (arith, are.0.not_empty))
 owner_begins ((o ∷ label) ∷ labels) rest are =
     let seam : full_name_text ((o ∷ label) ∷ labels) ++ rest ≡ name_octet o ++ (label_octets label ++ (46 ∷ (labels_text labels ++ rest))) = simp append_assoc in
     ap begins_owner seam ∙ octet_begins o _
 
-kind_of : (line : List ℕ) → begins_owner line ≡ true → line_kind line ≡ OwnerFirst
+pub kind_of : (line : List ℕ) → begins_owner line ≡ true → line_kind line ≡ OwnerFirst
 kind_of [] h = absurd cc
 kind_of (c ∷ cs) h =
     let space : is_space c ≡ false = grind arith in
@@ -149,7 +145,7 @@ kind_of (c ∷ cs) h =
     let some : (suc (length cs) == 0) ≡ false = ne_eqb (suc (length cs)) 0 (omega arith) in
     rw (space, some, blank, tab, dollar) refl
 
-no_quote : (text : List ℕ) → begins_owner text ≡ true → begins_with 34 text ≡ false
+pub no_quote : (text : List ℕ) → begins_owner text ≡ true → begins_with 34 text ≡ false
 no_quote [] h = refl
 no_quote (c ∷ cs) h = grind arith
 
@@ -172,23 +168,6 @@ owner_is origin r text is =
     no_quote (full_name_text r.owner) (ap begins_owner (sym (append-nil (full_name_text r.owner))) ∙ owner_begins r.owner [] is.labels.each) in
     let unquoted : begins_with 34 (word (record_line r text)) ≡ false = ap (begins_with 34) first ∙ begins in
     ap (λ (b : Bool). if b then None else named_at (Some origin) (word (record_line r text))) unquoted ∙ parts.named
-
--- the line with these data is the record
-pub entry_is : (before : Context) (r : RecordValue) (text own : List ℕ) (found : ZoneRecord) → IsReadRecord r → IsPrinted r
-    → IsDataOf (Some before.origin) r.class r.record_type (spaced text) own → IsSameRecord r own found
-    → IsEntry before (record_line r text) (RecordEntry found) (with_record before r.owner (written_head r))
-entry_is before r text own found is fits data_is same =
-    let line = record_line r text in
-    let parts = split (Some before.origin) r text is in
-    let head = written_head r in
-    let moved : IsDataOf (Some before.origin) found.class found.record_type (spaced text) found.wire.items =
-    rw (same.0, same.1, same.3) data_is in
-    let data_of : IsRecordData before (line_rest r text) head found =
-    (spaced text, zone_head r text fits, ap Some (sym same.2), same.1, same.0, moved) in
-    let record_is : IsZoneRecord before r.owner (line_rest r text) (RecordEntry found) (with_record before r.owner head) = (head, found, data_of, refl, refl) in
-    let owned : IsOwned (Some r.owner) before (after_word line) (RecordEntry found) (with_record before r.owner head) =
-    subst (λ (left : List ℕ). IsOwned (Some r.owner) before left (RecordEntry found) (with_record before r.owner head)) (sym parts.left) record_is in
-    (OwnerFirst, word line, after_word line, sym (owner_first r text is), refl, refl, (Some r.owner, sym (owner_is before.origin r text is), owned))
 
 -- the line stays as it is
 pub line_kept : (r : RecordValue) (text : List ℕ) → IsReadRecord r → IsPrinted r → Keeps Words (spaced text) Words → Keeps Words (record_line r text) Words

@@ -1,7 +1,7 @@
 -- What an entry of a zone file is, after the entries before it (RFC 1035, section 5.1; RFC 2308, section 4). It is given by its line,
 -- in which words are parted by spaces; comments and parentheses are spaces there. An entry that begins with a space has the owner of
 -- the record before it.
-use Rattle.std.specs.Prelude.{◌≡◌, ◌≢◌, ◌⊎◌, ◌-◌, ◌==◌, ◌||◌, Bool, true, false, ℕ, List, [], ◌∷◌, length, if◌then◌else◌, Option, Some, None, Ok}
+use Rattle.std.specs.Prelude.{◌≡◌, ◌≢◌, ◌⊎◌, ◌-◌, ◌==◌, ◌||◌, Bool, false, ℕ, List, [], ◌∷◌, length, if◌then◌else◌, Option, Some, None, Ok}
 use Rattle.std.specs.Str.{IsUtf8}
 use Rattle.dnw_base.specs.Names.{NameValue}
 use Rattle.dnw_base.specs.declared.dns_class.DNSClass.{DNSClass}

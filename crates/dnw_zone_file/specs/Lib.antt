@@ -6,5 +6,6 @@ pub mod Steps
 pub mod Places
 pub mod ZoneTexts
 pub mod Written
+pub mod ShortLines
 pub mod WriterLaws
 pub mod Inside

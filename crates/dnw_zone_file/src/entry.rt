@@ -194,7 +194,7 @@ fn record_of(
 }
 
 /// Keeps what a record says for later ones.
-fn note(context: &mut Context, owner: WireForm, head: Head)
+pub(crate) fn note(context: &mut Context, owner: WireForm, head: Head)
     ensures { context.new ≡ with_record context.old owner head }
 {
     context.owner = Some(owner);

@@ -23,5 +23,7 @@ pub mod place;
 pub mod zone_text;
 /// Records written as entries.
 pub mod writer;
+/// Records written after others, whose owners and times to live are left out.
+pub mod short_line;
 /// Records that are written are read as the same.
 pub mod laws;

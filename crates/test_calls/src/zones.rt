@@ -5,8 +5,9 @@ use dns_names_wire::data_text::{RecordEntryError, parse_entry, parse_record};
 use dns_names_wire::name::Name;
 use dns_names_wire::record::RecordRef;
 use dns_names_wire::zone::{
-    Context, Ending, Entry, Found, WordRule, ZoneError, ZoneRule, ZoneTextError, append_record,
-    entry_of, place_of, read_records, scan, take_entry,
+    Context, Ending, Entry, Found, WordRule, ZoneError, ZoneRule, ZoneTextError, append_origin,
+    append_record, append_short_record, append_ttl, entry_of, place_of, read_records, scan,
+    take_entry,
 };
 use std::alloc::Global;
 use std::test::Fail;
@@ -166,5 +167,58 @@ fn what_is_written_is_read(rt: HostRuntime) -> Result<(), Fail> {
     assert_eq!(rt; records.len(), 2);
     assert_eq!(rt; records[1].owner.as_bytes(), b"\x02$;\x00".as_slice());
     assert_eq!(rt; records[1].body.wire.as_slice(), b"\x02\"\n".as_slice());
+    Ok(())
+}
+
+/// Appends a record that a line is, in the form of `parse_record`.
+fn put_short(
+    alloc: Global,
+    context: &mut Context,
+    line: &str,
+    text: &mut Vec<u8>,
+) -> Result<(), Fail> {
+    let octets = parse_record(alloc, line, None)?;
+    let record = RecordRef::from_bytes(alloc, octets.as_slice())?;
+    append_short_record(alloc, context, &record, text)?;
+    Ok(())
+}
+
+#[test]
+fn what_is_written_after_others_is_read(rt: HostRuntime) -> Result<(), Fail> {
+    let alloc = rt.alloc();
+    let origin = Name::from_ascii(alloc, "example.")?;
+    let mut context = Context::new(Name::root(alloc));
+    let mut text = Vec::new(alloc);
+    put_short(alloc, &mut context, "b.example. 5 IN NS ns.example.", &mut text)?;
+    append_origin(alloc, &mut context, &origin, &mut text)?;
+    append_ttl(alloc, &mut context, 60, &mut text)?;
+    put_short(alloc, &mut context, "example. 60 IN TXT a", &mut text)?;
+    put_short(alloc, &mut context, "example. 5 IN TXT b", &mut text)?;
+    put_short(alloc, &mut context, "a\\.b.c.example. 60 CH TXT c", &mut text)?;
+    put_short(alloc, &mut context, "c.EXAMPLE. 60 IN A 192.0.2.1", &mut text)?;
+    put_short(alloc, &mut context, "C.EXAMPLE. 60 IN TYPE255 \\# 0", &mut text)?;
+    put_short(alloc, &mut context, "xexample. 60 IN A 192.0.2.1", &mut text)?;
+    put_short(alloc, &mut context, "\\@.example. 60 IN A 192.0.2.1", &mut text)?;
+    put_short(alloc, &mut context, ". 60 IN A 192.0.2.1", &mut text)?;
+    let wanted = b"b.example. 5 IN NS ns.example.\n$ORIGIN example.\n$TTL 60\n@ IN TXT \"a\"\n 5 IN TXT \"b\"\na\\.b.c CH TXT \"c\"\nc.EXAMPLE. IN A 192.0.2.1\nC.EXAMPLE. IN ANY \\# 0\nxexample. IN A 192.0.2.1\n\\@ IN A 192.0.2.1\n. IN A 192.0.2.1\n";
+    assert_eq!(rt; text.as_slice(), wanted.as_slice());
+    let read = read_records(alloc, Name::from_ascii(alloc, "other.")?, text.as_slice())?;
+    let mut again = Vec::new(alloc);
+    let mut state = Context::new(Name::root(alloc));
+    for found in &read {
+        let mut octets = Vec::from_slice(alloc, found.owner.as_bytes())?;
+        octets.extend_from_slice(&found.body.record_type.code().to_be_bytes())?;
+        octets.extend_from_slice(&found.body.class.code().to_be_bytes())?;
+        octets.extend_from_slice(&found.body.ttl.to_be_bytes())?;
+        octets.extend_from_slice(&[0, found.body.wire.len() as u8])?;
+        octets.extend_from_slice(found.body.wire.as_slice())?;
+        let record = RecordRef::from_bytes(alloc, octets.as_slice())?;
+        if again.len() == 31 {
+            append_origin(alloc, &mut state, &origin, &mut again)?;
+            append_ttl(alloc, &mut state, 60, &mut again)?;
+        }
+        append_short_record(alloc, &mut state, &record, &mut again)?;
+    }
+    assert_eq!(rt; again.as_slice(), wanted.as_slice());
     Ok(())
 }

@@ -10,6 +10,8 @@ pub(crate) const ZONE_RECORD: u32 = 3;
 pub(crate) const ZONE_INCLUDE: u32 = 4;
 /// `DNW_ZONE_OCTETS_SIZE`
 pub(crate) const ZONE_OCTETS_SIZE: usize = 65800;
+/// More octets than `$ORIGIN` and a name have.
+const ZONE_LINE_SIZE: usize = 1100;
 
 /// `struct dnw_zone`
 #[repr(C)]
@@ -95,6 +97,42 @@ pub(crate) fn next_entry(
     // SAFETY: pointers with their lengths, see the module, and pointers to structs of these types.
     let number = unsafe { dnw_zone_next(text.as_ptr(), text.len(), more, zone, first, size, entry) };
     outcome(number, ())
+}
+
+/// Appends a record of a message to a zone file, as a line after the entries of the state, and moves the state after it.
+pub(crate) fn put_zone_record(message: &[u8], start: usize, zone: &mut Zone, text: &mut Vec<u8>) -> Result<(), Error> {
+    text.reserve(USUAL_SIZE);
+    loop {
+        let (mut printed, before, room) = (PrintedRecord::default(), text.len(), text.spare_capacity_mut());
+        let (first, size) = (room.as_mut_ptr().cast(), room.len());
+        // SAFETY: pointers with their lengths, see the module, and pointers to structs of these types; and the room is not read.
+        let number =
+            unsafe { dnw_zone_put_record(message.as_ptr(), message.len(), start, zone, first, size, &mut printed) };
+        if number == NO_ROOM {
+            text.reserve(2 * size);
+            continue;
+        }
+        outcome(number, ())?;
+        // SAFETY: these bytes of the room were written.
+        unsafe { text.set_len(before + printed.len) };
+        return Ok(());
+    }
+}
+
+/// Appends an `$ORIGIN` to a zone file, and moves the state after it.
+pub(crate) fn put_zone_origin(origin: &[u8], zone: &mut Zone, text: &mut Vec<u8>) -> Result<(), Error> {
+    let (zone, first, size): (*mut Zone, _, _) = (zone, origin.as_ptr(), origin.len());
+    // SAFETY: as above.
+    append_put(text, ZONE_LINE_SIZE, |room, most, len| unsafe {
+        dnw_zone_put_origin(first, size, zone, room, most, len)
+    })
+}
+
+/// Appends a `$TTL` to a zone file, and moves the state after it.
+pub(crate) fn put_zone_ttl(ttl: u32, zone: &mut Zone, text: &mut Vec<u8>) -> Result<(), Error> {
+    let zone: *mut Zone = zone;
+    // SAFETY: as above.
+    append_put(text, ZONE_LINE_SIZE, |room, most, len| unsafe { dnw_zone_put_ttl(ttl, zone, room, most, len) })
 }
 
 /// Returns what is wrong in words, without the place.

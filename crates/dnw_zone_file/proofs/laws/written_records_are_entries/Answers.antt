@@ -1,5 +1,4 @@
-use Rattle.dnw_zone_file.proofs.LinesRead.{lines_are_entries}
-use Rattle.dnw_zone_file.proofs.ReadBack.{lines_are_read_back}
+use Rattle.dnw_zone_file.proofs.LinesRead.{lines_are_entries, lines_are_read_back}
 use Rattle.dnw_zone_file.proofs.laws.written_records_are_entries.Goals as goal
 
 pub returns-clause-entries : goal.returns-clause-entries
