@@ -325,6 +325,31 @@ static void begins_replies(void)
     EXPECT(reply(BYTES(ASKS("\001\000", "\000\001\000\000\000\000\000\000") QUESTION), 33, 0, &edns) == DNW_DONE);
 }
 
+static uint32_t query(size_t max_size, bool recursion_desired, const uint8_t *name, size_t len, uint16_t max_payload)
+{
+    memset(message, 0x5A, ROOM);
+    return dnw_writer_query(message, ROOM, max_size, 0xABCD, recursion_desired, name, len, 15, 1, max_payload, &writer);
+}
+
+/* A query has RD as it is asked for, its question, and the size that it says. */
+static void begins_queries(void)
+{
+    EXPECT(query(ROOM, true, BYTES(WWW), 0) == DNW_DONE);
+    expect_message(BYTES(ASKS("\001\000", "\000\001\000\000\000\000\000\000") QUESTION));
+    EXPECT(query(44, false, BYTES(WWW), 1232) == DNW_DONE);
+    expect_message(BYTES(ASKS("\000\000", "\000\001\000\000\000\000\000\001") QUESTION SAYS("\000", "\000")));
+    EXPECT(query(ROOM, true, BYTES(ROOT), 1) == DNW_DONE && message[20] == 2 && message[21] == 0 && writer.max_size == ROOM);
+    EXPECT(query(ROOM, true, BYTES(ROOT), 513) == DNW_DONE && message[20] == 2 && message[21] == 1);
+    /* no room for the OPT record, the question and the header, and no name */
+    const struct dnw_writer before = writer;
+    EXPECT(query(43, true, BYTES(WWW), 1232) == DNW_MESSAGE_TOO_LONG);
+    EXPECT(query(32, true, BYTES(WWW), 0) == DNW_MESSAGE_TOO_LONG);
+    EXPECT(dnw_writer_query(message, 11, ROOM, 0, true, BYTES(ROOT), 1, 1, 0, &writer) == DNW_MESSAGE_TOO_LONG);
+    EXPECT(query(ROOM, true, BYTES(WWW "\000"), 0) == DNW_BYTES_LEFT);
+    EXPECT(query(ROOM, true, BYTES("\003www"), 0) != DNW_DONE);
+    EXPECT(memcmp(&before, &writer, sizeof before) == 0);
+}
+
 /* What a caller may have spoiled: calls fail, or names are written whole, and nothing else happens. */
 static void takes_any_writer(void)
 {
@@ -490,6 +515,7 @@ int main(void)
     adds_sets();
     puts_edns();
     begins_replies();
+    begins_queries();
     takes_any_writer();
     ends_at_65535_octets();
     writes_lists();

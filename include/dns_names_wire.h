@@ -778,8 +778,9 @@ enum dnw_flag {
 #define DNW_EDNS_SIZE 11
 
 /* The state of a message that is written item by item. The message is the first `len` octets of its buffer.
-   dnw_writer_begin and dnw_writer_reply fill it in, and a caller only reads `len`, and may lower `max_size`. It is plain
-   data: it may be copied, and a copy put back, with the octets of the message, takes back what was written since. */
+   dnw_writer_begin, dnw_writer_query and dnw_writer_reply fill it in, and a caller only reads `len`, and may lower
+   `max_size`. It is plain data: it may be copied, and a copy put back, with the octets of the message, takes back what was
+   written since. */
 struct dnw_writer {
     size_t len;
     size_t max_size; /* the most octets that the message may have */
@@ -822,6 +823,15 @@ uint32_t dnw_writer_begin(uint8_t *message, size_t message_size, size_t max_size
    header or the question does not fit. Then the buffer may hold anything. It does not allocate. */
 uint32_t dnw_writer_reply(uint8_t *message, size_t message_size, size_t max_size, const uint8_t *request,
                           size_t request_len, uint16_t flags, struct dnw_writer *writer, struct dnw_edns *edns);
+
+/* Begins a query: its id, RD if `recursion_desired` is set, and a question, the wire form of a name, a type and a class. If
+   `max_payload` is not 0, an OPT record says that the sender accepts messages of so many octets, or of 512 if it is less
+   (RFC 6891, section 6.2.5); a caller who has more to say by EDNS gives 0, and adds it by dnw_writer_edns. The id should be
+   random (RFC 5452, section 9.2). `dnw_writer_query` fails as dnw_name_compare if the name is not a wire form, and with
+   DNW_MESSAGE_TOO_LONG if the header, the question or the OPT record does not fit. Then the buffer may hold anything. */
+uint32_t dnw_writer_query(uint8_t *message, size_t message_size, size_t max_size, uint16_t id, bool recursion_desired,
+                          const uint8_t *name, size_t name_len, uint16_t query_type, uint16_t record_class,
+                          uint16_t max_payload, struct dnw_writer *writer);
 
 /* Adds a question: the wire form of its name, its type and its class. It fails as dnw_name_compare if the name is not a
    wire form, and otherwise by the rules above. */

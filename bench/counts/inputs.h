@@ -30,6 +30,38 @@ static const uint8_t SIGNED[] =
     "\x00\x01\x0d\x02\x00\x00\x0e\x10\x00\x00\x00\x02\x00\x00\x00\x01\x00\x07\x07" "example\x00sig"
     "\x01h\x07" "example\x00\x00\x01\x00\x01\x00\x00\x00\x3c\x00\x04\xc0\x00\x02\x01";
 
+/* Queries for addresses with EDNS and DO: of a host, of a name below a zone that is delegated, and of a name that is not there. */
+#define ASKS(name) "\x12\x34\x01\x10\x00\x01\x00\x00\x00\x00\x00\x01" name "\x00\x00\x01\x00\x01\x00\x00\x29\x04\xd0\x00\x00\x80\x00\x00\x00"
+#define ZONE "\x07" "example\x03org"
+static const uint8_t QUERY_HOST[] = ASKS("\x03www" ZONE), QUERY_CHILD[] = ASKS("\x03www\x05" "child" ZONE), QUERY_NONE[] = ASKS("\x04none\x03www" ZONE);
+
+/* A record of a response: its section by its number in dns_names_wire.h, its owner and its data in their wire forms, and its type. */
+struct given {
+    uint16_t section, type;
+    const uint8_t *owner, *data;
+    size_t owner_len, data_len;
+};
+#define GIVEN(section, type, owner, data) {section, type, (const uint8_t *)owner, (const uint8_t *)data, sizeof owner, sizeof data - 1}
+#define CHILD "\x05" "child" ZONE
+#define SERVER(letter) "\x01" letter "\x02ns" CHILD
+#define ADDRESSES(letter) GIVEN(4, 1, SERVER(letter), "\xc0\x00\x02\x01"), GIVEN(4, 28, SERVER(letter), "\x20\x01\x0d\xb8\0\0\0\0\0\0\0\0\0\0\0\x01")
+#define OCTETS_64 "0123456789012345678901234567890123456789012345678901234567890123"
+#define SIG(type) "\x00" type "\x0d\x03\x00\x00\x0e\x10\x65\x00\x00\x00\x64\x00\x00\x00\x12\x34" ZONE "\x00" OCTETS_64
+#define HASHED(letter) "\x20" letter "abcdefghijklmnopqrstuv012345678" ZONE
+#define DENIAL(letter) GIVEN(3, 50, HASHED(letter), "\x01\x00\x00\x00\x00\x14" "01234567890123456789\x00\x07\x22\x01\x80\x00\x00\x02\x90"), \
+    GIVEN(3, 46, HASHED(letter), SIG("\x32"))
+
+static const struct given ANSWER[] = {GIVEN(2, 1, "\x03www" ZONE, "\xc0\x00\x02\x01")};
+static const struct given REFERRAL[] = {
+    GIVEN(3, 2, CHILD, SERVER("a") "\0"), GIVEN(3, 2, CHILD, SERVER("b") "\0"), GIVEN(3, 2, CHILD, SERVER("c") "\0"), GIVEN(3, 2, CHILD, SERVER("d") "\0"),
+    ADDRESSES("a"), ADDRESSES("b"), ADDRESSES("c"), ADDRESSES("d"),
+};
+static const struct given NXDOMAIN[] = {
+    GIVEN(3, 6, ZONE, "\x03ns1" ZONE "\0\x0ahostmaster" ZONE "\0\x78\xa3\xf1\x75\x00\x00\x1c\x20\x00\x00\x0e\x10\x00\x12\x75\x00\x00\x00\x0e\x10"),
+    GIVEN(3, 46, ZONE, SIG("\x06")), DENIAL("0"), DENIAL("g"), DENIAL("p"),
+};
+#define COUNT(list) (sizeof list / sizeof list[0])
+
 static void begin(void)
 {
     for (int i = 0; i < 100; i++) {

@@ -100,6 +100,67 @@ static void knot_pack(void)
     sum += made->size;
 }
 
+/* The sets of a response, made before: successive records of one owner and type. */
+struct sets {
+    knot_rrset_t all[16];
+    uint16_t sections[16];
+    size_t count;
+};
+static struct sets answer, referral, nxdomain;
+
+static void make_sets(struct sets *sets, const struct given *records, size_t count)
+{
+    for (const struct given *it = records; it < records + count; it++) {
+        knot_rrset_t *last = sets->count > 0 ? &sets->all[sets->count - 1] : NULL;
+        if (last == NULL || last->type != it->type || !knot_dname_is_equal(last->owner, it->owner)) {
+            last = &sets->all[sets->count];
+            sets->sections[sets->count++] = it->section;
+            knot_rrset_init(last, (knot_dname_t *)it->owner, it->type, 1, 3600);
+        }
+        must(knot_rrset_add_rdata(last, it->data, (uint16_t)it->data_len, NULL) == KNOT_EOK);
+    }
+}
+
+static void knot_respond(const uint8_t *asked, size_t len, bool is_authoritative, uint8_t code, const struct sets *sets)
+{
+    used = 0;
+    knot_pkt_t *query = knot_pkt_new((void *)asked, (uint16_t)len, &memory), *made = knot_pkt_new(NULL, 1232, &memory);
+    must(knot_pkt_parse(query, 0) == KNOT_EOK);
+    must(knot_pkt_init_response(made, query) == KNOT_EOK);
+    if (is_authoritative)
+        knot_wire_set_aa(made->wire);
+    knot_wire_set_rcode(made->wire, code);
+    unsigned section = KNOT_ANSWER;
+    for (size_t i = 0; i < sets->count; i++) {
+        for (; section + 2 < sets->sections[i]; section++)
+            knot_pkt_begin(made, section + 1);
+        must(knot_pkt_put(made, KNOT_COMPR_HINT_NONE, &sets->all[i], 0) == KNOT_EOK);
+    }
+    for (; section < KNOT_ADDITIONAL; section++)
+        knot_pkt_begin(made, section + 1);
+    knot_rrset_t opt;
+    must(knot_edns_init(&opt, 1232, 0, 0, &memory) == KNOT_EOK);
+    if (knot_pkt_has_dnssec(query))
+        knot_edns_set_do(&opt);
+    must(knot_pkt_put(made, KNOT_COMPR_HINT_NONE, &opt, 0) == KNOT_EOK);
+    sum += made->size;
+}
+
+static void knot_answer(void)
+{
+    knot_respond(QUERY_HOST, sizeof QUERY_HOST - 1, true, 0, &answer);
+}
+
+static void knot_referral(void)
+{
+    knot_respond(QUERY_CHILD, sizeof QUERY_CHILD - 1, false, 0, &referral);
+}
+
+static void knot_nxdomain(void)
+{
+    knot_respond(QUERY_NONE, sizeof QUERY_NONE - 1, true, 3, &nxdomain);
+}
+
 static void knot_print(void)
 {
     static char *text;
@@ -205,12 +266,16 @@ int main(int argc, char **argv)
     } rows[] = {
         {"name-read", knot_name_read, ldns_name_read}, {"name-parse", knot_name_parse, ldns_name_parse},
         {"name-print", knot_name_print, ldns_name_print}, {"100-names-sort", knot_sort, ldns_sort},
-        {"message-walk", knot_walk, ldns_walk}, {"message-pack", knot_pack, ldns_pack}, {"record-print", knot_print, ldns_print},
+        {"message-walk", knot_walk, ldns_walk}, {"message-pack", knot_pack, ldns_pack}, {"answer-write", knot_answer, NULL},
+        {"referral-write", knot_referral, NULL}, {"nxdomain-write", knot_nxdomain, NULL}, {"record-print", knot_print, ldns_print},
     };
     begin();
+    make_sets(&answer, ANSWER, COUNT(ANSWER));
+    make_sets(&referral, REFERRAL, COUNT(REFERRAL));
+    make_sets(&nxdomain, NXDOMAIN, COUNT(NXDOMAIN));
     for (size_t i = 0; i < sizeof rows / sizeof rows[0]; i++)
         if (argc != 4)
-            printf("libknot %s\nldns %s\n", rows[i].name, rows[i].name);
+            printf(rows[i].ldns == NULL ? "libknot %s\n" : "libknot %s\nldns %s\n", rows[i].name, rows[i].name);
         else if (strcmp(argv[2], rows[i].name) == 0)
             for (long left = atol(argv[3]); left > 0; left--)
                 (strcmp(argv[1], "libknot") == 0 ? rows[i].knot : rows[i].ldns)();

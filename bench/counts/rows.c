@@ -122,6 +122,34 @@ static void message_pack(void)
     sum += result.len;
 }
 
+/* A query is read, and a response with these records written item by item. */
+static void respond(const uint8_t *query, size_t len, uint16_t flags, const struct given *records, size_t count)
+{
+    uint8_t out[1232];
+    struct dnw_writer writer;
+    struct dnw_edns edns;
+    must(dnw_writer_reply(out, sizeof out, sizeof out, query, len, flags, &writer, &edns));
+    for (const struct given *it = records; it < records + count; it++)
+        must(dnw_writer_record(out, sizeof out, it->section, it->owner, it->owner_len, it->type, 1, 3600, it->data, it->data_len, &writer));
+    must(dnw_writer_edns(out, sizeof out, DNW_EDNS_SIZE, 1232, 0, 0, edns.dnssec_ok, NULL, 0, 0, &writer));
+    sum += writer.len;
+}
+
+static void answer_write(void)
+{
+    respond(QUERY_HOST, sizeof QUERY_HOST - 1, DNW_FLAG_AUTHORITATIVE, ANSWER, COUNT(ANSWER));
+}
+
+static void referral_write(void)
+{
+    respond(QUERY_CHILD, sizeof QUERY_CHILD - 1, 0, REFERRAL, COUNT(REFERRAL));
+}
+
+static void nxdomain_write(void)
+{
+    respond(QUERY_NONE, sizeof QUERY_NONE - 1, DNW_FLAG_AUTHORITATIVE | 3, NXDOMAIN, COUNT(NXDOMAIN));
+}
+
 static void record_print(void)
 {
     uint8_t text[256];
@@ -155,7 +183,8 @@ int main(int argc, char **argv)
     } rows[] = {
         {"name-read", name_read}, {"name-parse", name_parse}, {"name-print", name_print}, {"4-names-write", names_write},
         {"100-names-sort", names_sort}, {"message-read", message_read}, {"fields-walk", fields_walk}, {"message-walk", message_walk},
-        {"message-pack", message_pack}, {"record-print", record_print}, {"signed-one", signed_one}, {"types-read", types_read},
+        {"message-pack", message_pack}, {"answer-write", answer_write}, {"referral-write", referral_write}, {"nxdomain-write", nxdomain_write},
+        {"record-print", record_print}, {"signed-one", signed_one}, {"types-read", types_read},
     };
     if (argc != 3) {
         for (size_t i = 0; i < sizeof rows / sizeof rows[0]; i++)

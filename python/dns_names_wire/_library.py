@@ -188,6 +188,9 @@ _FUNCTIONS = {
     "dnw_record_data": (*_READ, c_size_t, *_WRITTEN, POINTER(c_size_t)),
     "dnw_message_write": (*_READ, c_size_t, c_uint16, c_uint16, *_WRITTEN, POINTER(Packed)),
     "dnw_writer_begin": (*_WRITTEN, c_size_t, c_uint16, c_uint16, POINTER(Writer)),
+    "dnw_writer_query": (
+        *_WRITTEN, c_size_t, c_uint16, c_bool, *_READ, c_uint16, c_uint16, c_uint16, POINTER(Writer),
+    ),  # fmt: skip
     "dnw_writer_reply": (*_WRITTEN, c_size_t, *_READ, c_uint16, POINTER(Writer), POINTER(Edns)),
     "dnw_writer_question": (*_WRITTEN, *_READ, c_uint16, c_uint16, POINTER(Writer)),
     "dnw_writer_record": (*_WRITTEN, c_uint32, *_READ, c_uint16, c_uint16, c_uint32, *_READ, POINTER(Writer)),
@@ -284,7 +287,10 @@ def by_address(name: str, count: int) -> Any:
 
 
 # Which arguments of these functions are octets.
-_OCTETS = {"dnw_message_write": (0,), "dnw_writer_reply": (3,), "dnw_message_table": (0,), "dnw_name_sort_key": (0,), "dnw_zone_next": ()}
+_OCTETS = {
+    "dnw_message_write": (0,), "dnw_writer_query": (5,), "dnw_writer_reply": (3,), "dnw_message_table": (0,),
+    "dnw_name_sort_key": (0,), "dnw_zone_next": (),
+}  # fmt: skip
 
 
 class Room:

@@ -50,6 +50,7 @@ _MOST = 65535
 _MAX_POINTERS = 65536
 _MOST_ITEMS = ROOM_SIZE - _HEADER_SIZE
 _message_write = by_address("dnw_message_write", 8)
+_writer_query = by_address("dnw_writer_query", 11)
 _writer_reply = by_address("dnw_writer_reply", 8)
 _MOST_POINTERS = 2**64 - 1
 
@@ -288,9 +289,25 @@ class Message:
         >>> Message.query("a.", RecordType.NS, id=7).to_wire().hex()
         '00070100000100000000000001610000020001'
         """
-        number = secrets.randbelow(_MOST + 1) if id is None else id
-        question = Question(name, record_type, record_class)
-        return cls.build(Header(id=number, recursion_desired=recursion_desired), [question], edns=edns)
+        number = secrets.randbelow(_MOST + 1) if id is None else _checks.number("id", id, _MOST)
+        question, flag = Question(name, record_type, record_class), bool(recursion_desired)
+        wire, codes = question.name.wire, (question.question_type, question.question_class)
+        try:
+            room = take_free()
+        except IndexError:
+            room = Room()
+        failure = _writer_query(
+            room.octets_at, ROOM_SIZE, _MOST, number, flag, wire, len(wire), *codes, 0, room.writer_at
+        )  # fmt: skip
+        if failure:
+            check(failure)
+        head: Any = room.octets[: room.writer.len]
+        give_back(room)
+        made = _new_made(_Made)
+        made._head, made._asked, made._questions = _head_of(head), b"\0" + head[12:], (question,)
+        made._opt = None if edns is None else edns._record(0)
+        made._answers = made._authorities = made._glue = made._others = ()
+        return made
 
     def reply(
         self,

@@ -61,6 +61,38 @@ class MessageWriter:
         self._code, self._has_edns = 0, False
 
     @classmethod
+    def query(
+        cls,
+        question: Question,
+        max_size: int = _MOST,
+        buffer: Optional[bytearray] = None,
+        *,
+        id: int,
+        recursion_desired: bool = True,
+        payload: Optional[int] = None,
+    ) -> "MessageWriter":
+        """Begins a query with this question. A `payload` adds an OPT record, which says that the sender accepts messages of so
+        many octets, or of 512 if it is less; without it `edns` may say more. The `id` should be random (RFC 5452, section
+        9.2).
+
+        >>> from dns_names_wire import Question
+        >>> MessageWriter.query(Question("a.", "NS"), id=7).finish().hex()
+        '00070100000100000000000001610000020001'
+        """
+        if not isinstance(question, Question):
+            raise _checks.wrong_type("question", "a Question is", question)
+        writer = cls.__new__(cls)
+        writer._set(max_size, buffer)
+        wire, codes = question.name.wire, (question.question_type, question.question_class)
+        size = 0 if payload is None else max(1, _checks.number("payload", payload, _MOST))
+        number, room, most = _checks.number("id", id, _MOST), writer._room, writer._max_size
+        check(library.dnw_writer_query(
+            room, len(room), most, number, bool(recursion_desired), wire, len(wire), *codes, size, byref(writer._state)
+        ))  # fmt: skip
+        writer._has_edns = payload is not None
+        return writer
+
+    @classmethod
     def reply(
         cls,
         request: Message,

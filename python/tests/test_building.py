@@ -65,6 +65,22 @@ def query():
 
 
 class Messages(unittest.TestCase):
+    def test_a_query_is_written_item_by_item(self):
+        question = Question("www.example.com.", "A")
+        self.assertEqual(dnw.MessageWriter.query(question, id=0x1234, payload=1232).finish(), QUERY)
+        plain = dnw.MessageWriter.query(question, id=1, recursion_desired=False)
+        self.assertEqual(plain.finish(), Message.query("www.example.com.", "A", id=1, recursion_desired=False).to_wire())
+        small = dnw.MessageWriter.query(question, id=1, payload=0)
+        self.assertEqual(Message.from_wire(small.finish()).edns.max_payload, 512)
+        with self.assertRaises(dnw.DuplicateEdns):
+            small.edns()
+        with self.assertRaises(dnw.MessageTooLong):
+            dnw.MessageWriter.query(question, 43, id=1, payload=1232)
+        with self.assertRaises(TypeError):
+            dnw.MessageWriter.query("a. A", id=1)
+        with self.assertRaises(ValueError):
+            dnw.MessageWriter.query(question, id=65536)
+
     def test_a_query_and_its_reply_are_written(self):
         request = query()
         self.assertEqual(request.to_wire(), QUERY)

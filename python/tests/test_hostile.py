@@ -15,7 +15,7 @@ from dns_names_wire import MX, NS, A, DnsError, Header, Message, MessageWriter, 
 REPLY = bytes.fromhex(
     "000781800001000200000000"
     "03777777076578616d706c650000010001"
-    "c00c000500010000003c00060366746fc010"
+    "c00c000500010000003c000603776562c010"
     "c029000100010000003c0004c0000201"
 )
 
@@ -322,7 +322,7 @@ class InBetween(unittest.TestCase):
     def check_all(self) -> None:
         message = Message.from_wire(REPLY)
         self.assertEqual(message.answers[1].data, A("192.0.2.1"))
-        self.assertEqual(str(message.answers[0]), "www.example. 60 IN CNAME fto.example.")
+        self.assertEqual(str(message.answers[0]), "www.example. 60 IN CNAME web.example.")
         self.assertEqual(Message.build(message.header, message.questions, message.answers).to_wire(), REPLY)
         self.assertEqual(Record.from_text("a. 60 IN MX 1 b.").data.to_wire(), b"\0\1\1b\0")
         self.assertEqual(sorted([Name("b."), Name("a.")]), [Name("a."), Name("b.")])

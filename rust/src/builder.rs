@@ -120,8 +120,13 @@ impl MessageBuilder {
     /// # Ok::<(), dns_names_wire::Error>(())
     /// ```
     pub fn query<'n>(id: u16, name: impl Into<NameRef<'n>>, record_type: RecordType) -> Self {
-        let mut query = MessageBuilder::new(Header { id, recursion_desired: true, ..Header::default() });
-        query.question(name, record_type, Class::IN);
+        let mut query = MessageBuilder::new(Header::default());
+        let (mut room, mut writer) = ([0; REPLY_SIZE], ffi::Writer::none());
+        let form = (record_type.code(), Class::IN.code());
+        match name.into().with_form(|name| writer.query(&mut room, REPLY_SIZE, (id, true), name, form, 0)) {
+            Ok(()) => query.begin_as(&room[..writer.len]),
+            Err(error) => query.failure = Some(error),
+        }
         query
     }
 
@@ -153,20 +158,25 @@ impl MessageBuilder {
     fn begin_reply(&mut self, request: &Message<'_>) -> Result<(), Error> {
         let (mut room, mut writer) = ([0; REPLY_SIZE], ffi::Writer::none());
         let edns = writer.reply(&mut room, REPLY_SIZE, request.octets(), 0)?;
-        let [i, d, high, low, ..] = room;
-        self.header = Header::of_bits(u16::from_be_bytes([i, d]), u16::from_be_bytes([high, low]));
+        self.begin_as(&room[..writer.len]);
         self.header.response_code = edns.response_code.into();
-        // The reply has one question or none, so its name is whole.
-        if writer.len > HEADER_SIZE {
-            self.items.push(QUESTIONS);
-            self.items.extend_from_slice(&room[HEADER_SIZE..writer.len]);
-            self.added(QUESTIONS, 0);
-        }
         if edns.is_present {
             let (max_payload, version, dnssec_ok) = (USUAL_PAYLOAD, 0, edns.dnssec_ok);
             self.edns = Some(Opt { max_payload, version, dnssec_ok, options: Vec::new() });
         }
         Ok(())
+    }
+
+    /// Takes the header and the question of a message that has begun: one or none, whose name is whole.
+    fn begin_as(&mut self, begun: &[u8]) {
+        if let &[i, d, high, low, ..] = begun {
+            self.header = Header::of_bits(u16::from_be_bytes([i, d]), u16::from_be_bytes([high, low]));
+        }
+        if begun.len() > HEADER_SIZE {
+            self.items.push(QUESTIONS);
+            self.items.extend_from_slice(&begun[HEADER_SIZE..]);
+            self.added(QUESTIONS, 0);
+        }
     }
 
     /// Returns the header. Its counts are not used.

@@ -313,6 +313,19 @@ extern "C" {
         flags: u16,
         writer: *mut Writer,
     ) -> u32;
+    fn dnw_writer_query(
+        message: *mut u8,
+        message_size: usize,
+        max_size: usize,
+        id: u16,
+        recursion_desired: bool,
+        name: *const u8,
+        name_len: usize,
+        query_type: u16,
+        record_class: u16,
+        max_payload: u16,
+        writer: *mut Writer,
+    ) -> u32;
     fn dnw_writer_reply(
         message: *mut u8,
         message_size: usize,

@@ -86,6 +86,41 @@ impl<'m> MessageWriter<'m> {
         Ok(writer)
     }
 
+    /// Begins a query for records of a name, of class IN, with RD set, in at most `max_size` octets. If `max_payload` is
+    /// given, an OPT record says that the sender accepts messages of so many octets, or of 512 if it is less (RFC 6891,
+    /// section 6.2.5). With `None`, [`edns`](MessageWriter::edns) may say more.
+    ///
+    /// The id should be random, so that a stranger cannot guess it (RFC 5452, section 9.2).
+    ///
+    /// # Errors
+    ///
+    /// `MessageTooLong` if there is no room for the header, the question or the OPT record.
+    ///
+    /// ```
+    /// use dns_names_wire::{Message, MessageWriter, Name, RecordType};
+    ///
+    /// let mut room = [0; 512];
+    /// let writer = MessageWriter::query(&mut room, 512, 7, &Name::root(), RecordType::NS, Some(1232))?;
+    /// let octets = writer.finish();
+    /// assert!(octets.starts_with(b"\0\x07\x01\0\0\x01\0\0\0\0\0\x01\0\0\x02\0\x01"));
+    /// assert_eq!(Message::read(octets)?.edns()?.unwrap().max_payload, 1232);
+    /// # Ok::<(), dns_names_wire::Error>(())
+    /// ```
+    pub fn query<'n>(
+        message: &'m mut [u8],
+        max_size: usize,
+        id: u16,
+        name: impl Into<NameRef<'n>>,
+        record_type: RecordType,
+        max_payload: Option<u16>,
+    ) -> Result<Self, Error> {
+        let mut writer = MessageWriter { message, state: ffi::Writer::none(), code: 0, held: 0 };
+        let (form, size) = ((record_type.code(), Class::IN.code()), max_payload.map_or(0, |size| size.max(1)));
+        let (state, room) = (&mut writer.state, &mut *writer.message);
+        name.into().with_form(|name| state.query(room, max_size, (id, true), name, form, size))?;
+        Ok(writer)
+    }
+
     /// Begins the reply to a request, in at most `max_size` octets.
     ///
     /// It has the id, the operation code, RD, CD and the question of the request (RFC 1035, section 4.1.1; RFC 4035,

@@ -195,6 +195,20 @@ fn replies_are_begun() {
 
 /// Padding fills the message to a multiple of the block if there is room (RFC 7830; RFC 8467).
 #[test]
+fn queries_say_what_they_ask_and_what_they_accept() {
+    let (name, mut room): (Name, _) = ("www.example.com.".parse().unwrap(), [0; 512]);
+    let query = MessageWriter::query(&mut room, 512, 0x1234, &name, RecordType::A, Some(1232)).unwrap();
+    let mut built = MessageBuilder::query(0x1234, &name, RecordType::A);
+    assert_eq!(query.finish(), built.edns(&Edns::new(1232)).finish(512).unwrap());
+    let query = MessageWriter::query(&mut room, 512, 0x1234, &name, RecordType::A, None).unwrap();
+    assert_eq!(query.finish(), MessageBuilder::query(0x1234, &name, RecordType::A).finish(512).unwrap());
+    let query = MessageWriter::query(&mut room, 512, 0x1234, &name, RecordType::A, Some(0)).unwrap();
+    assert_eq!(Message::read(query.finish()).unwrap().edns().unwrap().unwrap().max_payload, 512);
+    let error = MessageWriter::query(&mut room, 43, 0x1234, &name, RecordType::A, Some(1232)).map(drop).unwrap_err();
+    assert_eq!(error.kind(), ErrorKind::MessageTooLong);
+}
+
+#[test]
 fn messages_are_padded() {
     for (max_size, block, len) in [(512, 128, 128), (512, 1, 27), (127, 128, 23), (26, 128, 23), (512, 0, 23)] {
         let mut room = [0; 512];

@@ -241,6 +241,7 @@ pub use Rattle.dnw_message_writer.specs.Items.{fields_of_record, IsNear, IsOwner
 pub use Rattle.dnw_message_writer.specs.Listed.{data_form, FailsListed, FailsToAddData, ListsData}
 pub use Rattle.dnw_message_writer.specs.NameLaws.{CompressedNamesTakeNoMore, KeepsSettled, WrittenNamesAreRead}
 pub use Rattle.dnw_message_writer.specs.Pieces.{ArePieces, GoesPast, IsPiece}
+pub use Rattle.dnw_message_writer.specs.Queries.{AddsSize, BeginsQuery, FailsToAddSize, FailsToQuery, query_flags}
 pub use Rattle.dnw_message_writer.specs.ReadItems.{GivenDataComeBack}
 pub use Rattle.dnw_message_writer.specs.Replies.{AsksOf, BeginsReplyTo, FailsToReply, reply_code, reply_flags}
 pub use Rattle.dnw_message_writer.specs.Sections.{offset_of_count, rank}

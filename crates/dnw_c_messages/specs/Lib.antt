@@ -6,6 +6,7 @@ pub mod MessageCalls
 pub mod PackCalls
 pub mod Packed
 pub mod RecordCalls
+pub mod BegunQueries
 pub mod BegunReplies
 pub mod SetCalls
 pub mod TypeLists

@@ -24,6 +24,8 @@ pub mod owners;
 pub mod packed;
 /// Messages, written again.
 pub mod packing;
+/// Queries, as they begin.
+pub mod querying;
 /// The records of messages.
 pub mod records;
 /// Whether messages reply to requests.

@@ -107,10 +107,10 @@ pub(crate) fn read_record<'l>(decoder: &mut BinDecoder<'l>) -> Result<RecordRef<
 }
 
 /// Returns how many octets a record has, if its names are whole.
-pub(crate) fn whole_item(record: &RecordRef<'_>) -> usize
-    ensures { result ≡ whole_item record.now }
+pub(crate) fn whole_item(item: &RecordRef<'_>) -> usize
+    ensures { result ≡ whole_item item.now }
 {
-    record.owner().encoded_len() + FIXED_SIZE + record.rdata().len()
+    item.owner().encoded_len() + FIXED_SIZE + item.rdata().len()
 }
 
 /// Returns how many octets are held back, with those of an item if it is one of the last.

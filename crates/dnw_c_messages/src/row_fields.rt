@@ -22,28 +22,28 @@ use dnw_name_read::walk::ReadSteps;
 /// Puts rows of the fields of these kinds, which are read from the cursor up to the end, and of a fault if they do not end there.
 pub(crate) fn list_fields(
     kinds: &[Kind],
-    mut data: BinDecoder<'_>,
+    mut reader: BinDecoder<'_>,
     rows: &mut [TableRow],
     names: &mut [u8],
     at: &mut Listed,
 ) -> Result<(), Failure>
     requires { Fits (sheet rows.old names.old at.old) }
-    ensures ok { OnOk result ((b : List ℕ) (p : ℕ) → Goes b (fields kinds.now data.entry ∷ []) p (sheet rows.old names.old at.old) [] p
+    ensures ok { OnOk result ((b : List ℕ) (p : ℕ) → Goes b (fields kinds.now reader.entry ∷ []) p (sheet rows.old names.old at.old) [] p
         (sheet rows.new names.new at.new)) }
-    ensures err { IfErr result (λ failure. (b : List ℕ) (p : ℕ) → HaltsOn b (fields kinds.now data.entry ∷ []) p
+    ensures err { IfErr result (λ failure. (b : List ℕ) (p : ℕ) → HaltsOn b (fields kinds.now reader.entry ∷ []) p
         (sheet rows.old names.old at.old) failure) }
 {
     let mut left = kinds;
     'fields: while let Some((kind, others)) = left.split_first() {
-        if !list_field(*kind, &mut data, rows, names, at)? {
+        if !list_field(*kind, &mut reader, rows, names, at)? {
             return Ok(());
         }
         left = others;
     }
-    if data.is_empty() {
+    if reader.is_empty() {
         return Ok(());
     }
-    list_fault(Failure::WrongDataLength, &data, rows, at)
+    list_fault(Failure::WrongDataLength, &reader, rows, at)
 }
 
 /// Puts rows of the field of this kind that is read at the cursor, and of its entries if it is a list. Returns `false` if there is none,

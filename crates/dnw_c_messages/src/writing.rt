@@ -260,19 +260,19 @@ fn add_records(
 /// Adds a record of a list to a section.
 fn add_listed(
     section: Section,
-    record: &RecordRef<'_>,
+    item: &RecordRef<'_>,
     message: &mut [u8],
     writer: &mut WriterState,
 ) -> Result<(), Failure>
-    ensures ok { OnOk result (AddsListed section record.now writer.old message.old writer.new message.new) }
-    ensures err { IfErr result (FailsToAddListed section record.now writer.old message.old) }
+    ensures ok { OnOk result (AddsListed section item.now writer.old message.old writer.new message.new) }
+    ensures err { IfErr result (FailsToAddListed section item.now writer.old message.old) }
     ensures same { OnErr result (StaysAsItWas writer.old message.old writer.new message.new) }
 {
     let mut room = [0; MAX_NAME];
-    let owner = record.owner().wire_labels(&mut room);
-    let record_type = u16::from(record.record_type());
-    let class = u16::from(record.class());
-    let Some(pieces) = pieces_of(class, record_type, record.rdata()) else {
+    let owner = item.owner().wire_labels(&mut room);
+    let record_type = u16::from(item.record_type());
+    let class = u16::from(item.class());
+    let Some(pieces) = pieces_of(class, record_type, item.rdata()) else {
         return Err(Failure::BadData);
     };
     let pieces = pieces.as_slice();
@@ -282,7 +282,7 @@ fn add_listed(
         owner,
         record_type,
         class,
-        record.ttl(),
+        item.ttl(),
         pieces,
     ) {
         Ok(()) => Ok(()),

@@ -8,7 +8,6 @@ pub mod Fitting
 pub mod GivenData
 pub mod GivenRecords
 pub mod Going
-pub mod Hashes
 pub mod Laying
 pub mod Listing
 pub mod Opts

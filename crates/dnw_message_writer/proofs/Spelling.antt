@@ -17,10 +17,6 @@ module _ (name : List ℕ) (passed : ℕ) (all ls : List (List ℕ)) (l : List �
   pub passed_after : take (passed + (length l + 1)) name ≡ take passed name ++ label_wire l
   passed_after = take-add passed (length l + 1) name ∙ ap (λ x. take passed name ++ x) (ap (take (length l + 1)) here ∙ take_at (label_wire l) (wire ls) (length l + 1) (omega arith))
 
--- the wire form of the labels after the first
-pub form_after : (form : List ℕ) (all ls : List (List ℕ)) (l : List ℕ) → all ≡ l ∷ ls → form ≡ wire all → drop (length l + 1) form ≡ wire ls
-form_after form all ls l split is = rw (is, split, wire_cons l ls) (drop_at (label_wire l) (wire ls) (length l + 1) (omega arith))
-
 pub size_after : (passed size : ℕ) (all ls : List (List ℕ)) (l : List ℕ) → all ≡ l ∷ ls → passed + encoded_size all ≡ size
     → passed + (length l + 1) + encoded_size ls ≡ size
 size_after passed size all ls l split is = omega (arith, is, ap encoded_size split, encoded_size_cons l ls)

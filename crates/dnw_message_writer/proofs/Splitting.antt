@@ -22,7 +22,7 @@ use Rattle.dnw_record.specs.DataCopies.{alone}
 use Rattle.dnw_record.specs.Inside.Copying.{IsNoName}
 use Rattle.dnw_record.proofs.Pieces.{behind, name_again}
 use Rattle.dnw_message_writer.specs.Data.{AreOfData, AreOfFields, StartsNoName, are_to_compress, is_to_compress, names_among, names_to_compress, whole_octets}
-use Rattle.dnw_message_writer.specs.Inside.Splitting.{HasField, HasNoField, most_pieces}
+use Rattle.dnw_message_writer.specs.Inside.Splitting.{HasField, HasNoField, IsPlain, most_pieces}
 use Rattle.dnw_message_writer.specs.declared.pieces.Piece.{Piece}
 
 -- ---- the first field
@@ -78,6 +78,18 @@ has_no_own kind octets e other (inr (enough, wrong)) = λ piece rest split p.
     let same : own_at kind (alone octets) ≡ piece_octets piece =
     ap (λ k. take k octets) many ∙ (ap (take (length (piece_octets piece))) split ∙ take_at (piece_octets piece) rest (length (piece_octets piece)) refl) in
     none-some e (sym (ap (own_fault kind) same ∙ right) ∙ wrong)
+
+-- a field that may be any octets of its size
+pub plain_field : (kind : Kind) (octets : List ℕ) (n : ℕ) → IsNoName kind → (n ≡ own_size kind octets) × IsPlain kind → n ≤ length octets
+    → HasField kind octets (take n octets)
+plain_field kind octets n other (n_is, plain) enough =
+    let own = take n octets in
+    let size : length own ≡ n = length-take-le n octets enough in
+    let whole : own ++ drop n octets ≡ octets = take-append-drop n octets in
+    let split : octets ≡ own ++ drop (length own) octets = sym (ap (λ k. own ++ drop k octets) size ∙ whole) in
+    let piece : IsPieceOf kind (octets_piece own) (drop (length own) octets) =
+    own_piece kind own (drop (length own) octets) other (size ∙ (n_is ∙ ap (own_size kind) split)) (plain own) in
+    (octets_piece own, refl, split, piece)
 
 -- in one way
 same_rest : (kind : Kind) (p q : DataPiece) (rest others octets : List ℕ) → octets ≡ piece_octets p ++ rest → octets ≡ piece_octets q ++ others

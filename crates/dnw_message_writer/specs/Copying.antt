@@ -198,7 +198,7 @@ pub record FailsQuestions (x : MessageValue) (max_size : ℕ) (old : List ℕ) (
   pub begins : BeginsMessage x.header.metadata.id (flags_of x.header.metadata) max_size old first begun
   pub stops : StopsAmong Queries query_form FailsToAddQuery x.queries (record first { reserved = held_from 0 x.additionals }) begun e
 
--- A record of a section is not added, but for want of room.
+-- A record of a section is not added, for another reason than room.
 pub data FailsSections (x : MessageValue) (w : WriterState) (m : List ℕ) (e : CopyError) : Type 0 where
   in_answers : FailsSets Answers e x.answers w m → FailsSections x w m e
   in_authorities : (v : WriterState) (n : List ℕ) (all : Bool) → CopiesSets Answers x.answers w m v n all

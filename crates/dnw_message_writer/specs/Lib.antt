@@ -11,6 +11,7 @@ pub mod Items
 pub mod Listed
 pub mod NameLaws
 pub mod Pieces
+pub mod Queries
 pub mod ReadItems
 pub mod Replies
 pub mod Sections

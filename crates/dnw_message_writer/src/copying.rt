@@ -22,6 +22,7 @@ use crate::set::{cut_off, two_at};
 use crate::standing::FIRST_ITEM;
 use crate::state::WriterState;
 use dnw_base::limits::MAX_NAME;
+use dnw_base::record_type::RecordType;
 use dnw_data::fields::FieldError;
 use dnw_message_read::edns::EdnsError;
 use dnw_message_read::items::{Queries, Records};
@@ -32,13 +33,6 @@ use dnw_record::rdata::{RData, RDataError};
 use dnw_record::record_ref::{FIXED_SIZE, RecordRef};
 use std::alloc::Global;
 use thiserror::Error;
-
-/// The records that a message has to have: what it says by EDNS (RFC 6891), and signatures of the message (RFC 2931; RFC 8945).
-const OPT: u16 = 41;
-
-const SIG: u16 = 24;
-
-const TSIG: u16 = 250;
 
 /// The first five bits of a header's flags, QR and the operation, of a response to a query.
 const RESPONSE_TO_QUERY: u16 = 16;
@@ -90,28 +84,28 @@ impl WriterState {
         alloc: Global,
         message: &mut [u8],
         section: Section,
-        record: &RecordRef<'_>,
+        item: &RecordRef<'_>,
     ) -> Result<(), CopyError>
-        ensures ok { OnOk result (AddsItem section (copied_form record.now) self.old message.old self.new message.new) }
-        ensures err { IfErr result (FailsToAddCopy section record.now self.old message.old) }
+        ensures ok { OnOk result (AddsItem section (copied_form item.now) self.old message.old self.new message.new) }
+        ensures err { IfErr result (FailsToAddCopy section item.now self.old message.old) }
         ensures same { OnErr result ((self.new ≡ self.old) × (take self.old.end message.new ≡ take self.old.end message.old)) }
     {
-        let data = match RData::from_ref(alloc, record) {
+        let data = match RData::from_ref(alloc, item) {
             Ok(data) => data,
             Err(RDataError::Field(error)) => {
-                let offset = record.rdata_offset();
+                let offset = item.rdata_offset();
                 return Err(CopyError::Data { offset, error });
             }
             Err(RDataError::Memory) => return Err(CopyError::Memory),
         };
-        let record_type = u16::from(record.record_type());
-        let class = u16::from(record.class());
-        let ttl = record.ttl();
+        let record_type = u16::from(item.record_type());
+        let class = u16::from(item.class());
+        let ttl = item.ttl();
         let octets = data.octets();
         let added = self.add_copy(
             message,
             section,
-            record.owner(),
+            item.owner(),
             record_type,
             class,
             ttl,
@@ -248,6 +242,7 @@ impl WriterState {
     {
         self.begin(message, id, flags, max_size).unwrap();
     }
+
     /// Adds questions.
     fn copy_queries(
         &mut self,
@@ -441,22 +436,25 @@ fn next_of<'m>(section: Section, records: &mut Records<'m>) -> Option<RecordRef<
 
 /// Returns `true` if a record is of the set of the first one, which has this owner.
 #[inline(always)]
-fn is_of_set(first: &RecordRef<'_>, owner: &Name, record: &RecordRef<'_>) -> bool
+fn is_of_set(first: &RecordRef<'_>, owner: &Name, item: &RecordRef<'_>) -> bool
     requires { owner.now.labels ≡ first.now.owner }
-    ensures { IsTrue result ↔ AreOfOneSet first.now record.now }
+    ensures { IsTrue result ↔ AreOfOneSet first.now item.now }
 {
-    u16::from(first.record_type()) == u16::from(record.record_type())
-        && u16::from(first.class()) == u16::from(record.class())
-        && record.owner().eq_name(owner)
+    u16::from(first.record_type()) == u16::from(item.record_type())
+        && u16::from(first.class()) == u16::from(item.class())
+        && item.owner().eq_name(owner)
 }
 
-/// Returns `true` for a record that a message has to have: `OPT`, `SIG`, `TSIG`.
+/// Returns `true` for a record that a message has to have: what it says by EDNS (RFC 6891), and a signature of the message (RFC 2931;
+/// RFC 8945).
 #[inline(always)]
-fn is_held(record: &RecordRef<'_>) -> bool
-    ensures { result ≡ is_held record.now }
+fn is_held(item: &RecordRef<'_>) -> bool
+    ensures { result ≡ is_held item.now }
 {
-    let code = u16::from(record.record_type());
-    code == OPT || code == SIG || code == TSIG
+    let code = u16::from(item.record_type());
+    code == RecordType::OPT.code()
+        || code == RecordType::SIG.code()
+        || code == RecordType::TSIG.code()
 }
 
 /// Returns how many octets the records have that a message has to have.
@@ -473,10 +471,10 @@ fn held_octets(mut records: Records<'_>) -> usize
 }
 
 /// Returns how many octets a record has, beside those that a pointer of its owner leads to.
-fn own_octets(record: &RecordRef<'_>) -> usize
-    ensures { result ≡ own_octets record.now }
+fn own_octets(item: &RecordRef<'_>) -> usize
+    ensures { result ≡ own_octets item.now }
 {
-    record.owner().encoded_len() + FIXED_SIZE + record.rdata().len()
+    item.owner().encoded_len() + FIXED_SIZE + item.rdata().len()
 }
 
 /// Returns the flags of a message, with the reserved one clear.

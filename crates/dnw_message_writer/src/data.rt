@@ -2,8 +2,9 @@
 ghost use Rattle.std.specs.Prelude.{◌≡◌, ◌↔◌, ◌+◌, ◌<◌, ◌≤◌, ◌∷◌, ◌++◌, [], List, length, drop, take, IfSome, IfNone, IsTrue, true, false};
 ghost use Rattle.dnw_base.specs.Names.{AreLabels, wire};
 ghost use Rattle.dnw_data.specs.Table.{fields_of};
+ghost use Rattle.dnw_data.specs.Values.{counted_size, own_size};
 ghost use Rattle.dnw_message_writer.specs.Data.{AreOfData, StartsNoName, are_to_compress, is_to_compress};
-ghost use Rattle.dnw_message_writer.specs.Inside.Splitting.{HasField, HasNoField, most_pieces};
+ghost use Rattle.dnw_message_writer.specs.Inside.Splitting.{HasField, HasNoField, IsPlain, most_pieces};
 ghost use Rattle.dnw_message_writer.specs.declared.pieces.Piece.{Piece};
 ghost use Rattle.dnw_record.specs.DataPieces.{IsData};
 ghost use Rattle.dnw_record.specs.Inside.Copying.{IsNoName};
@@ -168,6 +169,51 @@ fn first_field(kind: Kind, octets: &[u8]) -> Option<&[u8]>
 
 /// Returns the octets of the field of this kind, no name, that the octets begin with.
 fn own_field(kind: Kind, octets: &[u8]) -> Option<&[u8]>
+    requires { IsNoName kind }
+    ensures some { IfSome result (λ own. HasField kind octets.now own.now) }
+    ensures none { IfNone result (HasNoField kind octets.now) }
+{
+    let Some(size) = plain_size(kind, octets) else {
+        return checked_field(kind, octets);
+    };
+    if octets.len() < size {
+        return None;
+    }
+    Some(&octets[..size])
+}
+
+/// Returns how many octets the field of this kind takes, if it may be any octets of that size.
+#[inline(always)]
+fn plain_size(kind: Kind, octets: &[u8]) -> Option<usize>
+    ensures { IfSome result (λ size. (size ≡ own_size kind octets.now) × IsPlain kind) }
+{
+    match kind {
+        Kind::U8 => Some(1),
+        Kind::U16 | Kind::TypeCode | Kind::ChaosAddress => Some(2),
+        Kind::U32 | Kind::Ipv4 | Kind::Time => Some(4),
+        Kind::U48 | Kind::LongTime => Some(6),
+        Kind::U64 | Kind::Locator => Some(8),
+        Kind::Ipv6 => Some(16),
+        Kind::Octets(_) => Some(octets.len()),
+        Kind::Counted(_) => Some(counted_size(octets)),
+        _ => None,
+    }
+}
+
+/// Returns the size of a length octet and what it counts.
+#[inline(always)]
+fn counted_size(octets: &[u8]) -> usize
+    ensures { result ≡ counted_size octets.now }
+{
+    match octets.first() {
+        Some(len) => 1 + *len as usize,
+        None => 1,
+    }
+}
+
+/// Returns the octets of the field of this kind, whose octets are checked, that the octets begin with.
+#[inline(never)]
+fn checked_field(kind: Kind, octets: &[u8]) -> Option<&[u8]>
     requires { IsNoName kind }
     ensures some { IfSome result (λ own. HasField kind octets.now own.now) }
     ensures none { IfNone result (HasNoField kind octets.now) }

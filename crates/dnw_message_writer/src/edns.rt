@@ -8,10 +8,8 @@ ghost use Rattle.dnw_message_writer.specs.declared.section.Section.TheVariants a
 use crate::pieces::Piece;
 use crate::section::{Section, WriteError};
 use crate::state::WriterState;
+use dnw_base::record_type::RecordType;
 use dnw_name_form::wire_labels::WireLabels;
-
-/// The type `OPT` (RFC 6891, section 6.1.1).
-const OPT: u16 = 41;
 
 /// The code of the option `Padding` (RFC 7830, section 3).
 const PADDING: u8 = 12;
@@ -94,7 +92,7 @@ impl WriterState {
     }
 
     /// Adds an `OPT` record of this class and time to live, whose data stand in three pieces.
-    fn opt_record<'p>(
+    pub(crate) fn opt_record<'p>(
         &mut self,
         message: &mut [u8],
         class: u16,
@@ -111,7 +109,7 @@ impl WriterState {
             message,
             Section::Additionals,
             root(),
-            OPT,
+            RecordType::OPT.code(),
             class,
             ttl,
             &[

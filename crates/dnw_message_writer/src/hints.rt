@@ -1,18 +1,65 @@
 //! Where suffixes of names may stand in a message: a table that is only ever believed after reading.
-ghost use Rattle.std.specs.Prelude.{◌≡◌, ◌≤◌, ◌<◌, ◌+◌, ◌-◌, ◌*◌, ◌%◌, ◌^◌, length, drop};
-ghost use Rattle.dnw_message_writer.specs.Hints.{hash_of, mixed, slot_of_hash};
+ghost use Rattle.std.specs.Prelude.{◌≡◌, ◌≤◌, ◌<◌, ◌+◌, ◌/◌, length};
+ghost use Rattle.dnw_message_writer.specs.Hints.{eight_at, eights_from, hash_of, mixed, mixed_eight, slot_of_form};
 
 /// How many hints there are. Each is an offset of the message, or 0 if there is none.
 pub const SLOTS: usize = 512;
 
-/// By this number a hash is multiplied for each octet.
+/// The hash of a short form is multiplied by this number for each octet.
 const FACTOR: u32 = 2_654_435_761;
-/// Times `FACTOR` this is 1, modulo 2^32.
-const INVERSE: u32 = 244_002_641;
 
-/// Returns the hash of octets: from the last to the first, so that it goes over to that of a suffix in one step an octet.
+/// The hash of a long form is multiplied by this number for each eight octets.
+const LONG_FACTOR: u64 = 11_400_714_819_323_198_485;
+
+/// Returns the slot for the wire form of a suffix.
 #[inline(always)]
-pub(crate) fn hash_of(octets: &[u8]) -> u32
+pub(crate) fn slot_of(form: &[u8]) -> usize
+    ensures slot { result ≡ slot_of_form form.now }
+    ensures there { result < 512 }
+{
+    if form.len() < 8 {
+        return (hash_of(form) >> 23) as usize;
+    }
+    let last = eight_at(form, form.len() - 8);
+    (mixed_eight(hash_of_eights(form), last) >> 55) as usize
+}
+
+/// Returns the hash of the octets of a long form, eight at a time, but for those of the last eight that are left then.
+#[inline(always)]
+fn hash_of_eights(form: &[u8]) -> u64
+    ensures { result ≡ eights_from (length form.now / 8) 0 form.now (length form.now) }
+{
+    let count = form.len() / 8;
+    let mut hash = form.len() as u64;
+    let mut index = 0;
+    'eights: while index < count {
+        hash = mixed_eight(hash, eight_at(form, 8 * index));
+        index += 1;
+    }
+    hash
+}
+
+/// Returns the number that eight octets are.
+#[inline(always)]
+fn eight_at(octets: &[u8], at: usize) -> u64
+    requires { at + 8 ≤ length octets.now }
+    ensures { result ≡ eight_at octets.now at }
+{
+    let eight = &octets[at..at + 8];
+    u64::from_be_bytes(*eight.first_chunk::<8>().unwrap())
+}
+
+/// Returns the hash of a long form with eight more octets.
+#[inline(always)]
+fn mixed_eight(hash: u64, eight: u64) -> u64
+    ensures { result ≡ mixed_eight hash eight }
+{
+    hash.wrapping_add(eight).wrapping_mul(LONG_FACTOR)
+}
+
+/// Returns the hash of a short form, from its last octet to its first.
+#[inline(always)]
+fn hash_of(octets: &[u8]) -> u32
     ensures { result ≡ hash_of octets.now }
 {
     let mut hash = 0;
@@ -24,43 +71,10 @@ pub(crate) fn hash_of(octets: &[u8]) -> u32
     hash
 }
 
-/// Returns the hash of octets without the first ones.
-#[inline(always)]
-pub(crate) fn hash_after(hash: u32, octets: &[u8], count: usize) -> u32
-    requires count { count ≤ length octets.now }
-    requires hash { hash ≡ hash_of octets.now }
-    ensures { result ≡ hash_of (drop count octets.now) }
-{
-    let mut left = hash;
-    let mut index = 0;
-    'octets: while index < count {
-        left = unmixed(left, octets[index]);
-        index += 1;
-    }
-    left
-}
-
 /// Returns the hash with one more octet before the others.
 #[inline(always)]
 fn mixed(hash: u32, octet: u8) -> u32
     ensures { result ≡ mixed hash octet }
 {
     hash.wrapping_mul(FACTOR).wrapping_add(u32::from(octet))
-}
-
-/// Returns the hash without the first octet.
-#[inline(always)]
-fn unmixed(hash: u32, octet: u8) -> u32
-    ensures { result ≡ (hash + (2 ^ 32 - octet)) % 2 ^ 32 * 244002641 % 2 ^ 32 }
-{
-    hash.wrapping_sub(u32::from(octet)).wrapping_mul(INVERSE)
-}
-
-/// Returns the slot for a hash.
-#[inline(always)]
-pub(crate) fn slot_of(hash: u32) -> usize
-    ensures slot { result ≡ slot_of_hash hash }
-    ensures there { result < 512 }
-{
-    (hash >> 23) as usize
 }

@@ -38,6 +38,7 @@ pub(crate) fn put_question(
 
 /// Writes a record at `at`, where the message ends so far, up to `limit` at most, and returns where it ends. If there is no room,
 /// it returns `None`, and the message is unchanged up to `at`.
+#[inline(always)]
 pub(crate) fn put_record(
     message: &mut [u8],
     at: usize,

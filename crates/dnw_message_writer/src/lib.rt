@@ -13,6 +13,7 @@ pub mod laws;
 pub mod listed;
 pub mod names;
 pub mod pieces;
+pub mod query;
 pub mod reply;
 pub mod section;
 pub mod set;

@@ -50,13 +50,13 @@ impl WriterState {
         record_type: u16,
         class: u16,
         ttl: u32,
-        data: &[u8],
+        octets: &[u8],
     ) -> Result<(), DataError>
-        ensures ok { OnOk result (AddsItem section (data_form owner.entry record_type class ttl data.now) self.old message.old self.new message.new) }
-        ensures err { IfErr result (FailsToAddData section owner.entry record_type class ttl data.now self.old message.old) }
+        ensures ok { OnOk result (AddsItem section (data_form owner.entry record_type class ttl octets.now) self.old message.old self.new message.new) }
+        ensures err { IfErr result (FailsToAddData section owner.entry record_type class ttl octets.now self.old message.old) }
         ensures same { OnErr result ((self.new ≡ self.old) × (take self.old.end message.new ≡ take self.old.end message.old)) }
     {
-        let Some(pieces) = pieces_of(class, record_type, data) else {
+        let Some(pieces) = pieces_of(class, record_type, octets) else {
             return Err(DataError::Data);
         };
         self.record(

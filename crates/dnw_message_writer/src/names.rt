@@ -4,7 +4,7 @@ ghost use Rattle.dnw_base.specs.Names.{encoded_size};
 ghost use Rattle.dnw_message_writer.specs.CompressedNames.{Compresses, MayPointTo, PutsForm, PutsPast, kept_hints, put_at, pointer_octets, spelled};
 ghost use Rattle.dnw_message_writer.specs.Hints.{slot_of};
 
-use crate::hints::{SLOTS, hash_after, hash_of, slot_of};
+use crate::hints::{SLOTS, slot_of};
 use crate::standing::{FIRST_ITEM, stands_at};
 use dnw_base::limits::POINTER_BITS;
 use dnw_name_form::wire_labels::WireLabels;
@@ -54,10 +54,8 @@ fn spell(message: &[u8], gap: usize, hints: &mut [u16; SLOTS], labels: WireLabel
     ensures front { result.front ≤ encoded_size labels.entry }
     ensures reached { IfSome result.pointer (λ target. target < 16384) }
 {
-    let name = labels.as_wire();
     let at = message.len();
     let mut rest = labels;
-    let mut hash = hash_of(name);
     let mut front = 0;
     'suffixes: loop {
         let suffix = rest.clone();
@@ -68,7 +66,7 @@ fn spell(message: &[u8], gap: usize, hints: &mut [u16; SLOTS], labels: WireLabel
                 pointer: None,
             };
         };
-        let slot = slot_of(hash);
+        let slot = slot_of(form);
         let hint = hints[slot];
         if is_usable(message, gap, hint, suffix) {
             return Spelling {
@@ -77,9 +75,7 @@ fn spell(message: &[u8], gap: usize, hints: &mut [u16; SLOTS], labels: WireLabel
             };
         }
         keep(hints, slot, at, at + front);
-        let size = label.len() + 1;
-        hash = hash_after(hash, form, size);
-        front += size;
+        front += label.len() + 1;
     }
 }
 

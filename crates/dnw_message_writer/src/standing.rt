@@ -56,17 +56,24 @@ pub fn stands_at(message: &[u8], gap: usize, start: usize, labels: WireLabels<'_
     }
 }
 
-/// Returns `true` if the next octets of the segment are these, and are settled: a wire form that stands in one piece.
+/// Returns `true` if a segment begins with these octets, and they are settled: a wire form that stands in one piece.
 #[inline(always)]
 fn is_whole(message: &[u8], gap: usize, spot: Spot, octets: &[u8]) -> bool
     requires gap { gap ≤ length message.now }
     requires limit { spot.limit ≤ length message.now }
     ensures { IsTrue result → IsThere message.now gap spot octets.now × (spot.position + length octets.now ≤ spot.limit) }
 {
-    if !is_there(message, gap, spot, octets) {
+    let size = octets.len();
+    if spot.position != spot.segment || spot.position >= spot.limit {
         return false;
     }
-    octets.len() <= spot.limit - spot.position
+    if size == 0 || size > spot.limit - spot.position {
+        return false;
+    }
+    // Mostly other octets show at their ends.
+    octets[0] == message[spot.position]
+        && octets[size - 1] == message[spot.position + size - 1]
+        && is_there(message, gap, spot, octets)
 }
 
 /// Follows the pointer that is next, if there is one that leads back.
@@ -94,11 +101,12 @@ fn leads_back(message: &[u8], gap: usize, spot: Spot) -> bool
     requires limit { spot.limit ≤ length message.now }
     ensures { IsTrue result ↔ LeadsBack message.now gap spot }
 {
-    if spot.position >= spot.limit || !is_settled(message, gap, spot.position, 2) {
+    if spot.position >= spot.limit || message[spot.position] < POINTER_BITS {
+        // Mostly a label is next.
         return false;
     }
-    let high = message[spot.position];
-    high >= POINTER_BITS && pointer_target(high, message[spot.position + 1]) < spot.segment
+    is_settled(message, gap, spot.position, 2)
+        && pointer_target(message[spot.position], message[spot.position + 1]) < spot.segment
 }
 
 /// Returns `true` if the next octets are these, and are settled.

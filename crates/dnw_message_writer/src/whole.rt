@@ -66,6 +66,29 @@ pub(crate) fn add_record(
     if whole <= limit - at && fit_whole(limit - at - whole, pieces) {
         return put_record(message, at, limit, near, hints, owner, fields, pieces);
     }
+    add_close_record(message, at, limit, near, hints, owner, fields, pieces)
+}
+
+/// Writes a record that may not fit, as `add_record` does.
+#[inline(never)]
+fn add_close_record(
+    message: &mut [u8],
+    at: usize,
+    limit: usize,
+    near: u16,
+    hints: &mut [u16; SLOTS],
+    owner: WireLabels<'_>,
+    fields: &[u8; 10],
+    pieces: &[Piece<'_>],
+) -> Option<usize>
+    requires at { at ≤ limit }
+    requires limit { limit ≤ length message.old }
+    requires small { limit ≤ max_message }
+    ensures some { IfSome result (λ end. PutsForm (λ octets. IsRecord slot_of (take at message.old) near hints.old owner.entry fields.now pieces.now octets hints.new) message.old at message.new end × (end ≤ limit)) }
+    ensures none { IfNone result (RecordGoesPast slot_of limit (take at message.old) near hints.old owner.entry fields.now pieces.now × (hints.new ≡ hints.old)) }
+    ensures before { take at message.new ≡ take at message.old }
+    ensures size { length message.new ≡ length message.old }
+{
     let saved = *hints;
     let end = put_record(message, at, limit, near, hints, owner, fields, pieces);
     if end.is_none() {

@@ -230,6 +230,36 @@ fn what_is_no_request_has_no_reply(rt: HostRuntime) {
 }
 
 #[test]
+fn a_query_has_its_question_and_a_size(rt: HostRuntime) {
+    let mut buffer = [7; 100];
+    let mut state = no_message();
+    let name = whole_name(b"\x01a\x00").unwrap();
+    let plain = state.query(&mut buffer, 0xabcd, false, name.clone(), 1, 1, None, 512);
+    assert!(rt; plain.is_ok() && state.end == 19);
+    assert!(rt;
+        &buffer[..19]
+            == b"\xab\xcd\x00\x00\x00\x01\x00\x00\x00\x00\x00\x00\x01a\x00\x00\x01\x00\x01".as_slice()
+    );
+    let sized = state.query(
+        &mut buffer,
+        0xabcd,
+        true,
+        name.clone(),
+        1,
+        1,
+        Some(1232),
+        30,
+    );
+    assert!(rt; sized.is_ok() && state.end == 30);
+    assert!(rt; &buffer[2..4] == b"\x01\x00".as_slice());
+    assert!(rt; &buffer[19..30] == b"\x00\x00\x29\x04\xd0\x00\x00\x00\x00\x00\x00".as_slice());
+    let full = state.query(&mut buffer, 1, true, name.clone(), 1, 1, Some(1232), 29);
+    assert!(rt; full == Err(WriteError::NoRoom) && state.end == 30 && state.max_size == 30);
+    let short = state.query(&mut buffer[..11], 1, true, name, 1, 1, None, 512);
+    assert!(rt; short == Err(WriteError::NoRoom) && state.end == 30);
+}
+
+#[test]
 fn names_of_the_first_types_are_pieces(rt: HostRuntime) {
     let mail = pieces_of(1, 15, b"\x00\x0a\x02mx\x00").unwrap();
     assert!(rt;

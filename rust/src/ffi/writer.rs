@@ -17,6 +17,26 @@ impl Writer {
         outcome(unsafe { dnw_writer_begin(room, size, max_size, id, flags, self) }, ())
     }
 
+    /// Begins a query with an id, RD or not, and a question, of a type and a class. An OPT record says `max_payload`, if it
+    /// is not 0.
+    pub(crate) fn query(
+        &mut self,
+        message: &mut [u8],
+        max_size: usize,
+        (id, recursion_desired): (u16, bool),
+        name: &[u8],
+        (record_type, class): (u16, u16),
+        max_payload: u16,
+    ) -> Result<(), Error> {
+        let (room, size, rd) = (message.as_mut_ptr(), message.len(), recursion_desired);
+        let (first, len) = (name.as_ptr(), name.len());
+        // SAFETY: pointers with their lengths, see the module, and one to a struct of this type.
+        let number = unsafe {
+            dnw_writer_query(room, size, max_size, id, rd, first, len, record_type, class, max_payload, self)
+        };
+        outcome(number, ())
+    }
+
     /// Begins the reply to a request, with flags, and returns what the request says by EDNS, with the reply's code.
     pub(crate) fn reply(
         &mut self,

@@ -1,6 +1,7 @@
 -- Data that are taken apart, field by field.
-use Rattle.std.specs.Prelude.{◌≡◌, ℕ, ◌+◌, if◌then◌else◌, List, [], ◌∷◌, ◌++◌, drop, length}
+use Rattle.std.specs.Prelude.{◌≡◌, ℕ, ◌+◌, None, if◌then◌else◌, List, [], ◌∷◌, ◌++◌, drop, length}
 use Rattle.dnw_data.specs.declared.kind.Kind.{Kind}
+use Rattle.dnw_data.specs.Values.{own_fault}
 use Rattle.dnw_record.specs.DataPieces.{DataPiece, IsPieceOf, piece_octets}
 use Rattle.dnw_message_writer.specs.Data.{are_to_compress}
 
@@ -12,6 +13,10 @@ HasField kind octets own =
 -- They begin with none.
 abbrev pub HasNoField : Kind → List ℕ → Type 0
 HasNoField kind octets = (piece : DataPiece) (rest : List ℕ) → octets ≡ piece_octets piece ++ rest → IsPieceOf kind piece rest → ⊥
+
+-- A field of this kind, no name, may be any octets of its size.
+abbrev pub IsPlain : Kind → Type 0
+IsPlain kind = (own : List ℕ) → own_fault kind own ≡ None
 
 -- no data with fields of these kinds have more pieces
 abbrev pub most_pieces : List Kind → ℕ

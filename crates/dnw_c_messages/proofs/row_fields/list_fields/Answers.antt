@@ -40,19 +40,19 @@ fields-preserved c =
 pub returns-then-is_empty-clause-ok : goal.returns-then-is_empty-clause-ok
 returns-then-is_empty-clause-ok c =
     λ b p. goes_both (c.fields.invariant.goes b p)
-    (ended c.fields.data (sheet c.fields.rows c.fields.names c.fields.at) c.fields.left.now (nil_from_length c.fields.left.now c.in_default.ensures.cases) (c.is_empty.ensures.0 c.if-is_empty.true)
+    (ended c.fields.reader (sheet c.fields.rows c.fields.names c.fields.at) c.fields.left.now (nil_from_length c.fields.left.now c.in_default.ensures.cases) (c.is_empty.ensures.0 c.if-is_empty.true)
     c.fields.invariant.fits b p)
 
 pub returns-clause-ok : goal.returns-clause-ok
 returns-clause-ok c =
     on_ok_weaker c.list_fault.result
     (λ puts b p. goes_both (c.fields.invariant.goes b p)
-    (left_goes c.fields.data c.fields.rows c.list_fault.new.rows c.fields.names c.fields.at c.list_fault.new.at c.fields.left.now (nil_from_length c.fields.left.now c.in_default.ensures.cases)
+    (left_goes c.fields.reader c.fields.rows c.list_fault.new.rows c.fields.names c.fields.at c.list_fault.new.at c.fields.left.now (nil_from_length c.fields.left.now c.in_default.ensures.cases)
     (λ end. false≢true (sym c.if-is_empty.false ∙ c.is_empty.ensures.1 end)) c.fields.invariant.fits puts b p)) c.list_fault.ensures.ok
 
 pub returns-clause-err : goal.returns-clause-err
 returns-clause-err c =
     IfErr-weaker c.list_fault.result _ _
     (λ failure none b p. goes_halts (c.fields.invariant.goes b p)
-    (left_halts c.fields.data c.fields.rows c.fields.names c.fields.at failure c.fields.left.now (nil_from_length c.fields.left.now c.in_default.ensures.cases)
+    (left_halts c.fields.reader c.fields.rows c.fields.names c.fields.at failure c.fields.left.now (nil_from_length c.fields.left.now c.in_default.ensures.cases)
     (λ end. false≢true (sym c.if-is_empty.false ∙ c.is_empty.ensures.1 end)) none b p)) c.list_fault.ensures.err

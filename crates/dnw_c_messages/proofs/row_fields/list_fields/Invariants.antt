@@ -6,7 +6,7 @@ use Rattle.dnw_c_messages.proofs.row_fields.list_fields.Given as goal
 abbrev pub invariant-fields : goal.invariant-fields
 invariant-fields l = record {
   fits : Fits (sheet l.rows l.names l.at);
-  goes : (b : List ℕ) (p : ℕ) → Goes b (fields l.kinds l.fn.data ∷ []) p (sheet l.fn.rows l.fn.names l.fn.at) (fields l.left l.data ∷ []) p
+  goes : (b : List ℕ) (p : ℕ) → Goes b (fields l.kinds l.fn.reader ∷ []) p (sheet l.fn.rows l.fn.names l.fn.at) (fields l.left l.reader ∷ []) p
       (sheet l.rows l.names l.at);
 }
 

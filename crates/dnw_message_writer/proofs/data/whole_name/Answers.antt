@@ -1,8 +1,7 @@
-use Rattle.std.proofs.Common.{◌≡◌, ◌+◌, ◌++◌, List, ℕ, length, take, drop, refl, sym, ap, ◌∙◌, subst, arith}
+use Rattle.std.proofs.Common.{◌≡◌, ◌++◌, List, ℕ, length, drop, refl, sym, ap, ◌∙◌, subst, arith}
 use Rattle.dnw_base.specs.Names.{AreLabels, wire}
-use Rattle.dnw_name_form.specs.Inside.WireBytes.{labels_of}
 use Rattle.dnw_name_form.proofs.Wires.{labels_of_form}
-use Rattle.dnw_message_writer.proofs.WholeNames.{passing_end, passing_fault, passing_next, passing_none, passing_out}
+use Rattle.dnw_message_writer.proofs.WholeNames.{passing_end, passing_fault, passing_next}
 use Rattle.dnw_message_writer.proofs.data.whole_name.Goals as goal
 
 pub new-requires : goal.new-requires

@@ -1,5 +1,4 @@
-use Rattle.std.proofs.Common.{[], refl, ◌∙◌, arith}
-use Rattle.dnw_base.specs.Names.{AreLabels}
+use Rattle.std.proofs.Common.{[], ◌∙◌, arith}
 use Rattle.dnw_name_form.proofs.Wires.{IsWire_wire, labels_of_wire}
 use Rattle.dnw_message_writer.proofs.edns.root.Goals as goal
 

@@ -1,7 +1,7 @@
 use Rattle.std.proofs.Common.{◌+◌, ◌≡◌, ◌++◌, length, slice_index, refl, ap, ◌∙◌, append_assoc, arith, rules}
 use Rattle.dnw_base.specs.Names.{encoded_size, label_wire, wire}
-use Rattle.dnw_message_writer.proofs.Spelling.{form_after, left_after, passed_after, size_after, spells}
-use Rattle.dnw_message_writer.specs.Hints.{hash_of, slot_of, slot_of_hash}
+use Rattle.dnw_message_writer.proofs.Spelling.{left_after, passed_after, size_after, spells}
+use Rattle.dnw_message_writer.specs.Hints.{slot_of, slot_of_form}
 use Rattle.dnw_message_writer.specs.CompressedNames.{MayPointTo}
 use Rattle.dnw_message_writer.proofs.names.spell.Goals as goal
 
@@ -14,13 +14,13 @@ suffixes-preserved c =
     let ls = c.next.new.self in
     let l = c.in-Some.label.now in
     let at = length c.args.message.now + passed in
-    let slot_is : c.slot_of-slot.result ≡ slot_of all = c.slot_of-slot.ensures.slot ∙ ap slot_of_hash c.suffixes.invariant.hash_is in
+    let form_is : c.as_wire-form.result.now ≡ wire all = search rules in
+    let slot_is : c.slot_of-slot.result ≡ slot_of all = c.slot_of-slot.ensures.slot ∙ ap slot_of_form form_is in
     let kept_is = rw slot_is at c.keep.ensures in
     let moved : at + (length l + 1) ≡ length c.args.message.now + (passed + (length l + 1)) = omega arith in
     let not : MayPointTo c.args.message.now c.args.gap (slice_index c.suffixes.hints (slot_of all)) all → ⊥ =
     λ usable. let no = c.if-is_usable.ensures.1 (rw (slot_is, c.clone-suffix.ensures.same) usable) in cc in
     record {
-      hash_is = c.hash_after-hash.ensures ∙ ap hash_of (form_after c.as_wire-form.result.now all ls l split (search rules));
       left = left_after name passed all ls l split c.suffixes.invariant.left;
       size = size_after passed (encoded_size c.args.labels) all ls l split c.suffixes.invariant.size;
       goes_on = λ octets after more.

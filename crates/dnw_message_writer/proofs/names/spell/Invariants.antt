@@ -1,12 +1,11 @@
 use Rattle.std.proofs.Common.{◌≡◌, ◌+◌, ◌++◌, List, ℕ, length, take, drop}
 use Rattle.dnw_base.specs.Names.{encoded_size, wire}
 use Rattle.dnw_message_writer.specs.CompressedNames.{Compresses}
-use Rattle.dnw_message_writer.specs.Hints.{hash_of, slot_of}
+use Rattle.dnw_message_writer.specs.Hints.{slot_of}
 use Rattle.dnw_message_writer.proofs.names.spell.Given as goal
 
 abbrev pub invariant-suffixes : goal.invariant-suffixes
 invariant-suffixes l = record {
-  hash_is : l.hash ≡ hash_of (wire l.rest);
   left : drop l.front (wire l.fn.labels) ≡ wire l.rest;
   size : l.front + encoded_size l.rest ≡ encoded_size l.fn.labels;
   goes_on : (octets after : List ℕ)

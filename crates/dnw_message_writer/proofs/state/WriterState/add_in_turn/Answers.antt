@@ -1,4 +1,4 @@
-use Rattle.std.proofs.Common.{◌≡◌, ◌+◌, length, drop, take, arith, rules}
+use Rattle.std.proofs.Common.{◌≡◌, ◌+◌, length, drop}
 use Rattle.dnw_message_writer.proofs.Going.{left_from}
 use Rattle.dnw_message_writer.proofs.Turning.{kept_past, turned_on, turned_past}
 use Rattle.dnw_message_writer.proofs.state.WriterState.add_in_turn.Goals as goal

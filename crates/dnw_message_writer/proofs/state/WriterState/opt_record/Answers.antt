@@ -19,7 +19,7 @@ returns-clause-ok c =
     on_ok_as c.record.result
     (adds_as Additionals _ (data_form [] 41 c.args.class c.args.ttl d) c.args.self.now c.args.message.now c.record.new.self c.record.new.message
     (λ b near hints octets after is. (xs, of, is)))
-    (rw c.root.ensures at c.record.ensures.ok)
+    (rw (c.root.ensures, c.code.ensures) at c.record.ensures.ok)
 
 pub returns-clause-err : goal.returns-clause-err
 returns-clause-err c =
@@ -29,4 +29,4 @@ returns-clause-err c =
     let of : AreOfData (fields_of c.args.class 41 d) d xs = opt_pieces c.args.class d xs whole (λ at. refl) in
     if_err_as c.record.result _ _
     (λ e. fails_as Additionals _ (DataGoPast [] 41 c.args.class c.args.ttl d) c.args.self.now c.args.message.now e (λ limit b near hints goes. (xs, of, goes)))
-    (rw c.root.ensures at c.record.ensures.err)
+    (rw (c.root.ensures, c.code.ensures) at c.record.ensures.err)

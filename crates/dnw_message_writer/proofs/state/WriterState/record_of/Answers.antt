@@ -7,7 +7,7 @@ use Rattle.dnw_message_writer.proofs.state.WriterState.record_of.Goals as goal
 
 pub returns-in-Err-clause-err : goal.returns-in-Err-clause-err
 returns-in-Err-clause-err c =
-    let x = c.args.record.now in
+    let x = c.args.item.now in
     let code : c.from-record_type.result ≡ type_code x.record_type = c.from-record_type.ensures ∙ ap type_code c.record_type.ensures in
     let class : c.from-class.result ≡ class_code x.class = c.from-class.ensures ∙ ap class_code c.class.ensures in
     let copies : Copies (record_kinds x) (data_start x) c.octets-octets.result.now = rw c.octets-octets.ensures.octets c.in-Ok.ensures.ok.2 in
@@ -16,7 +16,7 @@ returns-in-Err-clause-err c =
 
 pub returns-clause-ok : goal.returns-clause-ok
 returns-clause-ok c =
-    let x = c.args.record.now in
+    let x = c.args.item.now in
     let code : c.from-record_type.result ≡ type_code x.record_type = c.from-record_type.ensures ∙ ap type_code c.record_type.ensures in
     let class : c.from-class.result ≡ class_code x.class = c.from-class.ensures ∙ ap class_code c.class.ensures in
     let copies : Copies (record_kinds x) (data_start x) c.octets-octets.result.now = rw c.octets-octets.ensures.octets c.in-Ok.ensures.ok.2 in
