@@ -182,12 +182,12 @@ pub use Rattle.dnw_message_read.specs.Messages.{FailsHere, FailsItem, FailsMessa
 pub use Rattle.dnw_message_read.specs.Messages.{QueryValue, SectionAt, SectionsBegin, no_header, part, question_rest, record_rest, rest_of}
 pub use Rattle.dnw_message_read.specs.Queries.{FailsQuery, TakesQuery}
 -- EDNS options, typed.
-pub use Rattle.dnw_message_options.specs.Codes.{named_options, option_code, option_of_code}
-pub use Rattle.dnw_message_options.specs.OptionLaws.{OneOption, OptionsComeBack}
-pub use Rattle.dnw_message_options.specs.Reading.{IsName, NoName, OptionOutcome, ReadsAnyOption, ReadsChainOption, ReadsNameOption, ReadsOption, checked, cookie_of, error_of, expire_of, keepalive_of, subnet_of, version_of}
-pub use Rattle.dnw_message_options.specs.Texts.{address_text, count_text, error_name, error_text, extra_text, gap, is_shown_family, named_text, network_text, octets_text, option_text, padding_text, octet_digits, digits_text, period_text, printable_text, segment_at, shown_char, shown_text, unnamed_text}
-pub use Rattle.dnw_message_options.specs.Rules.{IsOptionFields, bits_after, code_of, has_no_name, may_be_server, may_be_version, most_bits, network_fault, octets_for, option_octets, value_fault}
-pub use Rattle.dnw_message_options.specs.Values.{OptionFields, VersionValue, seen_option, seen_version}
+pub use Rattle.dnw_message_read.specs.Codes.{named_options, option_code, option_of_code}
+pub use Rattle.dnw_message_read.specs.OptionLaws.{OneOption, OptionsComeBack}
+pub use Rattle.dnw_message_read.specs.Reading.{IsName, NoName, OptionOutcome, ReadsAnyOption, ReadsChainOption, ReadsNameOption, ReadsOption, checked, cookie_of, error_of, expire_of, keepalive_of, subnet_of, version_of}
+pub use Rattle.dnw_message_read.specs.Texts.{address_text, count_text, error_name, error_text, extra_text, gap, is_shown_family, named_text, network_text, octets_text, option_text, padding_text, octet_digits, digits_text, period_text, printable_text, segment_at, shown_char, shown_text, unnamed_text}
+pub use Rattle.dnw_message_read.specs.Rules.{IsOptionFields, bits_after, code_of, has_no_name, may_be_server, may_be_version, most_bits, network_fault, octets_for, option_octets, value_fault}
+pub use Rattle.dnw_message_read.specs.Values.{OptionFields, VersionValue, seen_option, seen_version}
 -- Whole messages that are written.
 pub use Rattle.dnw_message_header.specs.declared.header.HeaderCounts.{HeaderCounts}
 pub use Rattle.dnw_message_header.specs.declared.header.Metadata.{Metadata}
@@ -214,13 +214,13 @@ pub use Rattle.dnw_signed.specs.RecordSets.{set_head, set_record, signed_owner}
 pub use Rattle.dnw_signed.specs.SignedFields.{FailsSignedFields, IsRrsig, IsSignedFields, before_signer}
 pub use Rattle.dnw_signed.specs.CanonicalLaws.{AreAmong, DependsOnSet, IsLike, IsLikeData, KeepsInAnyOrder}
 -- sums of DNSSEC
-pub use Rattle.dnw_dnssec.specs.declared.error.DnssecError.{DnssecError}
-pub use Rattle.dnw_dnssec.specs.KeyTags.{FailsKeyTag, HasKeyTag, IsDnskey, algorithm_of, key_tag, modulus_tag, sum_tag, word_sum}
-pub use Rattle.dnw_dnssec.specs.Digests.{FailsDsDigest, IsDsDigest, ds_hash, ds_input}
-pub use Rattle.dnw_dnssec.specs.HashedNames.{FailsToHash, MayHash, iterated_hash, nsec3_hash, nsec3_label}
-pub use Rattle.dnw_dnssec.specs.Covers.{Nsec3Covers, NsecCovers}
-pub use Rattle.dnw_dnssec.specs.ZoneDigests.{AreZoneOctets, FailsZoneDigest, FirstTooLong, HasShortData, IsZoneDigest, IsZoneHash, IsZoneOrder, IsCanonicalRecord, CanonicalRecord}
-pub use Rattle.dnw_dnssec.specs.ZoneDigests.{is_digested, is_duplicate, is_of_zonemd, place_cmp, zone_cmp, zone_hash, zone_record}
+pub use Rattle.dnw_signed.specs.declared.error.DnssecError.{DnssecError}
+pub use Rattle.dnw_signed.specs.KeyTags.{FailsKeyTag, HasKeyTag, IsDnskey, algorithm_of, key_tag, modulus_tag, sum_tag, word_sum}
+pub use Rattle.dnw_signed.specs.Digests.{FailsDsDigest, IsDsDigest, ds_hash, ds_input}
+pub use Rattle.dnw_signed.specs.HashedNames.{FailsToHash, MayHash, iterated_hash, nsec3_hash, nsec3_label}
+pub use Rattle.dnw_signed.specs.Covers.{Nsec3Covers, NsecCovers}
+pub use Rattle.dnw_signed.specs.ZoneDigests.{AreZoneOctets, FailsZoneDigest, FirstTooLong, HasShortData, IsZoneDigest, IsZoneHash, IsZoneOrder, IsCanonicalRecord, CanonicalRecord}
+pub use Rattle.dnw_signed.specs.ZoneDigests.{is_digested, is_duplicate, is_of_zonemd, place_cmp, zone_cmp, zone_hash, zone_record}
 -- Messages that are written item by item into a buffer, and what is read of them.
 pub use Rattle.dnw_message_writer.specs.Contents.{AddedItems, AddedQuestion, AddedRecord, HoldsItems, KeepsItems, PieceStands, PiecesStand, QuestionFits, ReadsAsQuestion, ReadsAsRecord, RecordFits}
 pub use Rattle.dnw_message_writer.specs.Contents.{cut_flags, fields_before, items_of_section, most_followed, no_items, with_data, with_question, with_records}

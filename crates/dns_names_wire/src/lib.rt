@@ -72,10 +72,10 @@ pub mod data_text {
 
 /// EDNS options, typed: read from their octets, written and shown, and what follows from their definitions.
 pub mod edns_options {
-    pub use dnw_message_options::code::OptionCode;
-    pub use dnw_message_options::error::OptionError;
-    pub use dnw_message_options::laws;
-    pub use dnw_message_options::option::{OptionData, ZoneVersion};
+    pub use dnw_message_read::code::OptionCode;
+    pub use dnw_message_read::option::{OptionData, ZoneVersion};
+    pub use dnw_message_read::option_error::OptionError;
+    pub use dnw_message_read::option_laws as laws;
 }
 
 /// A cursor over the bytes of a message.
@@ -90,12 +90,12 @@ pub mod dns_class {
 
 /// The sums that DNSSEC makes: key tags, digests of keys and of zones, hashed names, and which names a record covers.
 pub mod dnssec {
-    pub use dnw_dnssec::covers::{nsec_covers, nsec3_covers};
-    pub use dnw_dnssec::ds::{Digest, MAX_DIGEST_LENGTH, ds_digest};
-    pub use dnw_dnssec::error::DnssecError;
-    pub use dnw_dnssec::key_tag::key_tag;
-    pub use dnw_dnssec::nsec3::{NSEC3_HASH_LENGTH, NSEC3_LABEL_LENGTH, nsec3_hash, nsec3_label};
-    pub use dnw_dnssec::zone_digest::zone_digest;
+    pub use dnw_signed::covers::{nsec_covers, nsec3_covers};
+    pub use dnw_signed::ds::{Digest, MAX_DIGEST_LENGTH, ds_digest};
+    pub use dnw_signed::error::DnssecError;
+    pub use dnw_signed::key_tag::key_tag;
+    pub use dnw_signed::nsec3::{NSEC3_HASH_LENGTH, NSEC3_LABEL_LENGTH, nsec3_hash, nsec3_label};
+    pub use dnw_signed::zone_digest::zone_digest;
 }
 
 /// Writing messages of a bounded size, and what follows from the definitions of writing.
@@ -302,6 +302,6 @@ pub mod zone {
     pub use dnw_zone_file::step::{Found, Step, take_entry};
     pub use dnw_zone_file::writer::append_record;
     pub use dnw_zone_file::zone_text::{OwnedRecord, ZoneTextError, read_records};
-    pub use dnw_zone_words::error::WordRule;
-    pub use dnw_zone_words::scan::{Ending, scan};
+    pub use dnw_zone_record::scan::{Ending, scan};
+    pub use dnw_zone_record::word_error::WordRule;
 }

@@ -1,8 +1,8 @@
 -- What the functions for C put of an EDNS option.
 use Rattle.std.specs.Prelude.{◌≡◌, ◌⊎◌, ℕ, List, length, Result}
-use Rattle.dnw_message_options.specs.Reading.{ReadsAnyOption}
-use Rattle.dnw_message_options.specs.Texts.{option_text}
-use Rattle.dnw_message_options.specs.Values.{OptionFields}
+use Rattle.dnw_message_read.specs.Reading.{ReadsAnyOption}
+use Rattle.dnw_message_read.specs.Texts.{option_text}
+use Rattle.dnw_message_read.specs.Values.{OptionFields}
 use Rattle.dnw_c_base.specs.Results.{Puts, Refuses}
 use Rattle.dnw_c_base.specs.declared.failure.Failure.{Failure}
 use Rattle.dnw_c_base.specs.declared.failure.Failure.TheVariants.{NoMemory}

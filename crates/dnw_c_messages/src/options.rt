@@ -5,7 +5,7 @@ ghost use Rattle.dnw_c_messages.specs.OptionCalls.{PutsOption};
 use dnw_c_base::buffer::put;
 use dnw_c_base::failure::Failure;
 use dnw_c_base::results::report;
-use dnw_message_options::option::OptionData;
+use dnw_message_read::option::OptionData;
 use std::alloc::Global;
 
 /// Puts an option with this code and these octets as `dig` shows it.

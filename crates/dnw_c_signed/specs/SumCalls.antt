@@ -1,11 +1,11 @@
 -- What the functions for C put of the sums of DNSSEC, and why they put nothing.
 use Rattle.std.specs.Prelude.{◌≡◌, ◌↔◌, ◌⊎◌, ℕ, Bool, IsTrue, List, length, Result}
-use Rattle.dnw_dnssec.specs.Covers.{Nsec3Covers, NsecCovers}
-use Rattle.dnw_dnssec.specs.Digests.{FailsDsDigest, IsDsDigest}
-use Rattle.dnw_dnssec.specs.HashedNames.{FailsToHash, MayHash, nsec3_hash, nsec3_label}
-use Rattle.dnw_dnssec.specs.KeyTags.{FailsKeyTag, HasKeyTag, key_tag}
-use Rattle.dnw_dnssec.specs.declared.error.DnssecError.{DnssecError}
-use Rattle.dnw_dnssec.specs.declared.error.DnssecError.TheVariants as dnssec
+use Rattle.dnw_signed.specs.Covers.{Nsec3Covers, NsecCovers}
+use Rattle.dnw_signed.specs.Digests.{FailsDsDigest, IsDsDigest}
+use Rattle.dnw_signed.specs.HashedNames.{FailsToHash, MayHash, nsec3_hash, nsec3_label}
+use Rattle.dnw_signed.specs.KeyTags.{FailsKeyTag, HasKeyTag, key_tag}
+use Rattle.dnw_signed.specs.declared.error.DnssecError.{DnssecError}
+use Rattle.dnw_signed.specs.declared.error.DnssecError.TheVariants as dnssec
 use Rattle.dnw_c_base.specs.Results.{GivesOr, Puts, Refuses}
 use Rattle.dnw_c_base.specs.WireForms.{IsFormOf, IsNoForm}
 use Rattle.dnw_c_base.specs.declared.failure.Failure.{Failure}

@@ -10,12 +10,12 @@ use dnw_c_base::buffer::put;
 use dnw_c_base::failure::Failure;
 use dnw_c_base::names::name_ref_at;
 use dnw_c_base::results::report;
-use dnw_dnssec::covers::{nsec_covers, nsec3_covers};
-use dnw_dnssec::ds::{Digest, ds_digest};
-use dnw_dnssec::error::DnssecError;
-use dnw_dnssec::key_tag::key_tag;
-use dnw_dnssec::nsec3::{NSEC3_HASH_LENGTH, nsec3_hash, nsec3_label};
 use dnw_name::name::Name;
+use dnw_signed::covers::{nsec_covers, nsec3_covers};
+use dnw_signed::ds::{Digest, ds_digest};
+use dnw_signed::error::DnssecError;
+use dnw_signed::key_tag::key_tag;
+use dnw_signed::nsec3::{NSEC3_HASH_LENGTH, nsec3_hash, nsec3_label};
 use std::alloc::Global;
 
 /// Puts the key tag of the data of a DNSKEY.

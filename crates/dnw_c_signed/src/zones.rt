@@ -16,11 +16,11 @@ use dnw_base::limits::MAX_POINTERS;
 use dnw_c_base::buffer::put;
 use dnw_c_base::failure::Failure;
 use dnw_c_base::results::report;
-use dnw_dnssec::ds::Digest;
-use dnw_dnssec::zone_digest::zone_digest;
 use dnw_record::record::Record;
 use dnw_record::record_ref::RecordRef;
+use dnw_signed::ds::Digest;
 use dnw_signed::pointers::pointers_left;
+use dnw_signed::zone_digest::zone_digest;
 use std::alloc::Global;
 
 /// Puts the digest of a zone, whose records are these octets, one after another. Their owners and the names in their data may follow

@@ -3,8 +3,8 @@ use Rattle.std.specs.Prelude.{◌≡◌, ◌⊎◌, ℕ, List, drop, length, Opt
 use Rattle.dnw_base.specs.Names.{NameValue}
 use Rattle.dnw_base.specs.DnsClasses.{class_of_code}
 use Rattle.dnw_base.specs.RecordTypes.{type_of_code}
-use Rattle.dnw_zone_words.specs.declared.error.WordRule.{WordRule}
-use Rattle.dnw_zone_words.specs.declared.error.WordRule.TheVariants as rules
+use Rattle.dnw_zone_record.specs.declared.word_error.WordRule.{WordRule}
+use Rattle.dnw_zone_record.specs.declared.word_error.WordRule.TheVariants as rules
 use Rattle.dnw_zone_data.specs.Words.{word}
 use Rattle.dnw_zone_data.specs.declared.error.Wanted.{Wanted}
 use Rattle.dnw_zone_data.specs.declared.error.Wanted.TheVariants as wanted

@@ -10,8 +10,8 @@ use Rattle.dnw_zone_record.specs.RecordLines.{FailsDataOf, IsDataOf}
 use Rattle.dnw_zone_record.specs.declared.record_line.RecordLineError.{RecordLineError}
 use Rattle.dnw_zone_record.specs.declared.entry.RecordEntryError.{RecordEntryError}
 use Rattle.dnw_zone_record.specs.declared.entry.RecordEntryError.TheVariants as entries
-use Rattle.dnw_zone_words.specs.declared.error.WordRule.{WordRule}
-use Rattle.dnw_zone_words.specs.declared.error.WordRule.TheVariants.{NestedParenthesis, UnopenedParenthesis, UnclosedParenthesis, UnclosedQuote, UnfinishedEscape}
+use Rattle.dnw_zone_record.specs.declared.word_error.WordRule.{WordRule}
+use Rattle.dnw_zone_record.specs.declared.word_error.WordRule.TheVariants.{NestedParenthesis, UnopenedParenthesis, UnclosedParenthesis, UnclosedQuote, UnfinishedEscape}
 use Rattle.dnw_zone_record.specs.declared.record_line.RecordLineError.TheVariants.{NoOwner, NoTimeToLive, NoType, Data, TooLong, Memory}
 use Rattle.dnw_c_base.specs.Results.{Puts, Refuses}
 use Rattle.dnw_c_base.specs.WireForms.{IsFormOf, IsNoForm}

@@ -16,7 +16,7 @@ use dnw_c_base::results::report;
 use dnw_name::name::Name;
 use dnw_zone_record::entry::{RecordEntryError, parse_entry};
 use dnw_zone_record::record_line::{RecordLineError, data_of};
-use dnw_zone_words::error::WordRule;
+use dnw_zone_record::word_error::WordRule;
 use std::alloc::Global;
 
 /// Puts the octets of the data that a text is, for the class and the type with these codes. The origin is a wire form, or no octets for none.

@@ -15,7 +15,7 @@ use dnw_zone_data::error::{DataTextError, Wanted};
 use dnw_zone_data::words::split_word;
 use dnw_zone_record::entry::{RecordEntryError, parse_entry};
 use dnw_zone_record::record_line::{RecordLineError, data_of};
-use dnw_zone_words::error::WordRule;
+use dnw_zone_record::word_error::WordRule;
 use std::alloc::Global;
 
 /// Where a text goes wrong: the offset, the number of octets of the word there, the number of the field of data, and the number

@@ -4,3 +4,7 @@ pub mod Lending
 pub mod OneMessage
 pub mod Extension
 pub mod OptCodes
+pub mod Names
+pub mod Texts
+pub mod Octets
+pub mod Back

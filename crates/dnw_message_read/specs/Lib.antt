@@ -2,4 +2,10 @@ pub mod Edns
 pub mod Messages
 pub mod MessageLaws
 pub mod Queries
+pub mod Codes
+pub mod Values
+pub mod Rules
+pub mod Reading
+pub mod Texts
+pub mod OptionLaws
 pub mod Inside

@@ -1,6 +1,8 @@
-//! Whole messages (RFC 1035, section 4): their sections, which are read without a copy, and what they say by EDNS.
+//! Whole messages (RFC 1035, section 4): their sections, which are read without a copy, and what they say by EDNS; and EDNS options,
+//! typed (IANA's registry "DNS EDNS0 Option Codes (OPT)").
 //!
-//! It stands on headers, names and records. Read `specs/Messages.antt` first: what a message is.
+//! It stands on headers, names and records. Read `specs/Messages.antt` first: what a message is. Of options,
+//! `specs/Rules.antt` says what each may say, and the octets that say it.
 //!
 //! A message that is read:
 //!
@@ -18,10 +20,15 @@
 //! ```
 #![tactic(auto)]
 
+pub mod code;
 pub mod edns;
 pub mod error;
 pub mod items;
 pub mod laws;
 pub mod message;
+pub mod option;
+pub mod option_error;
+pub mod option_laws;
 mod passing;
 pub mod query;
+mod text;

@@ -8,3 +8,4 @@ pub mod Followed
 pub mod Listing
 pub mod Selecting
 pub mod Going
+pub mod Zones

@@ -3,3 +3,4 @@ pub mod Listing
 pub mod Going
 pub mod Putting
 pub mod Selecting
+pub mod Measuring

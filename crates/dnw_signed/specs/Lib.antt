@@ -5,4 +5,9 @@ pub mod SignedFields
 pub mod Covering
 pub mod CanonicalLaws
 pub mod RecordKeys
+pub mod KeyTags
+pub mod Digests
+pub mod HashedNames
+pub mod Covers
+pub mod ZoneDigests
 pub mod Inside

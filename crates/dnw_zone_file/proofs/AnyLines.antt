@@ -39,10 +39,10 @@ use Rattle.dnw_zone_file.proofs.KeptFields.{data_kept}
 use Rattle.dnw_zone_file.proofs.OneHead.{one_head}
 use Rattle.dnw_zone_record.specs.RecordLines.{spaced, IsDataOf}
 use Rattle.dnw_zone_values.specs.Octets.{IsOctets}
-use Rattle.dnw_zone_words.specs.declared.scan.Ending.{Ending}
-use Rattle.dnw_zone_words.specs.declared.scan.Ending.TheVariants.{Line}
-use Rattle.dnw_zone_words.specs.declared.scan.Place.TheVariants.{Words}
-use Rattle.dnw_zone_words.specs.Lines.{line_of}
+use Rattle.dnw_zone_record.specs.declared.scan.Ending.{Ending}
+use Rattle.dnw_zone_record.specs.declared.scan.Ending.TheVariants.{Line}
+use Rattle.dnw_zone_record.specs.declared.scan.Place.TheVariants.{Words}
+use Rattle.dnw_zone_record.specs.Lines.{line_of}
 
 -- The line is the record's, with this after the owner: the head, and the text of the data.
 pub record IsLine (before : Context) (r : RecordValue) (line left text : List ℕ) (head : Head) : Type 0 where

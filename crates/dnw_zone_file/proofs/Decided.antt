@@ -1,9 +1,9 @@
 -- A whole text that is not empty begins with an entry, or with an error.
 use Rattle.std.proofs.Common.{◌≡◌, ◌≢◌, ℕ, false, List, [], refl, sym, subst, inl, inr}
 use Rattle.std.specs.Prelude.{⊤, Option, Some, None, Result, Ok, Err}
-use Rattle.dnw_zone_words.specs.declared.error.WordRule.{WordRule}
-use Rattle.dnw_zone_words.specs.declared.scan.Ending.{Ending}
-use Rattle.dnw_zone_words.specs.declared.scan.Ending.TheVariants.{Line, Text, Cut, Wrong as WrongWords}
+use Rattle.dnw_zone_record.specs.declared.word_error.WordRule.{WordRule}
+use Rattle.dnw_zone_record.specs.declared.scan.Ending.{Ending}
+use Rattle.dnw_zone_record.specs.declared.scan.Ending.TheVariants.{Line, Text, Cut, Wrong as WrongWords}
 use Rattle.dnw_zone_file.specs.declared.context.Context.{Context}
 use Rattle.dnw_zone_file.specs.declared.entry.Entry.{Entry}
 use Rattle.dnw_zone_file.specs.declared.error.ZoneError.{ZoneError}

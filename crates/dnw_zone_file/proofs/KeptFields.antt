@@ -44,7 +44,7 @@ use Rattle.dnw_zone_data.proofs.FieldsBack.{dotted, first, type_plain}
 use Rattle.dnw_zone_data.proofs.Plain.{all_plain, decimal_plain, hex_plain, is_plain, plain_by_tests}
 use Rattle.dnw_zone_data.proofs.WordsBack.{eight_fit, six_fit}
 use Rattle.dnw_zone_record.specs.RecordLines.{spaced}
-use Rattle.dnw_zone_words.specs.declared.scan.Place.TheVariants.{Words, Escaped}
+use Rattle.dnw_zone_record.specs.declared.scan.Place.TheVariants.{Words, Escaped}
 use Rattle.dnw_zone_file.proofs.Kept.{Keeps, keeps_both, keeps_name, keeps_none, keeps_plain, keeps_spaced, keeps_string, keeps_then}
 
 -- ---- plain words

@@ -44,7 +44,7 @@ use Rattle.dnw_zone_lexer.specs.Times.{time_seconds}
 use Rattle.dnw_zone_record.specs.RecordLines.{spaced, after_next_word, next_word, IsClassWord, IsTtlWord, IsTypeWord, LacksTtlWord}
 use Rattle.dnw_zone_record.proofs.LinesBack.{IsReadRecord}
 use Rattle.dnw_zone_values.specs.Octets.{IsOctets}
-use Rattle.dnw_zone_words.specs.declared.scan.Place.TheVariants.{Words}
+use Rattle.dnw_zone_record.specs.declared.scan.Place.TheVariants.{Words}
 
 -- ---- no name of a class or a type is a time
 

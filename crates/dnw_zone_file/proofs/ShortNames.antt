@@ -26,7 +26,7 @@ use Rattle.dnw_zone_file.specs.ShortLines.{IsShortName}
 use Rattle.dnw_zone_file.proofs.Kept.{Keeps, keeps_both, keeps_label, keeps_name, keeps_none, keeps_octet, keeps_then}
 use Rattle.dnw_zone_file.proofs.WrittenLines.{begins_owner, no_quote, octet_begins, owner_begins}
 use Rattle.dnw_zone_values.specs.Octets.{IsOctets}
-use Rattle.dnw_zone_words.specs.declared.scan.Place.TheVariants.{Words}
+use Rattle.dnw_zone_record.specs.declared.scan.Place.TheVariants.{Words}
 
 -- The text is one word, which is read with the origin as the name with these labels.
 pub record IsOwnerWord (origin : NameValue) (labels : List (List ℕ)) (w : List ℕ) : Type 0 where

@@ -30,7 +30,7 @@ use Rattle.dnw_zone_file.specs.Heads.{IsZoneHead}
 use Rattle.dnw_zone_record.proofs.LinesBack.{class_other, IsReadRecord, line_rest, record_read, split}
 use Rattle.dnw_zone_record.specs.RecordLines.{record_line, spaced, next_word, after_next_word, IsTtlWord, IsClassWord, IsTypeWord}
 use Rattle.dnw_zone_values.specs.Octets.{IsOctets}
-use Rattle.dnw_zone_words.specs.declared.scan.Place.TheVariants.{Words}
+use Rattle.dnw_zone_record.specs.declared.scan.Place.TheVariants.{Words}
 use Rattle.dnw_zone_file.specs.Written.{written_head}
 use Rattle.dnw_zone_file.proofs.Kept.{Keeps, keeps_both, keeps_name, keeps_plain, keeps_spaced}
 

@@ -1,10 +1,10 @@
 -- What the text of a zone file begins with, after the entries before it: an entry, which goes up to the end of its line, or why it is
 -- none, or nothing. Of a text that may go on, an entry that is not whole is none yet.
 use Rattle.std.specs.Prelude.{◌≡◌, ◌≢◌, ◌<◌, ◌⊎◌, ◌+◌, ◌==◌, ⊤, Bool, true, false, ℕ, List, [], ◌∷◌, drop, length, if◌then◌else◌, Option, Some, None, Ok, Err, IfOk}
-use Rattle.dnw_zone_words.specs.Lines.{line_of}
-use Rattle.dnw_zone_words.specs.declared.error.WordRule.{WordRule}
-use Rattle.dnw_zone_words.specs.declared.scan.Ending.{Ending}
-use Rattle.dnw_zone_words.specs.declared.scan.Ending.TheVariants.{Line, Text, Cut, Wrong as WrongWords}
+use Rattle.dnw_zone_record.specs.Lines.{line_of}
+use Rattle.dnw_zone_record.specs.declared.word_error.WordRule.{WordRule}
+use Rattle.dnw_zone_record.specs.declared.scan.Ending.{Ending}
+use Rattle.dnw_zone_record.specs.declared.scan.Ending.TheVariants.{Line, Text, Cut, Wrong as WrongWords}
 use Rattle.dnw_zone_file.specs.declared.context.Context.{Context}
 use Rattle.dnw_zone_file.specs.declared.entry.Entry.{Entry}
 use Rattle.dnw_zone_file.specs.declared.error.ZoneError.{ZoneError}

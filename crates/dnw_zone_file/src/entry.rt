@@ -70,7 +70,7 @@ pub enum LineKind {
     OwnerFirst,
 }
 
-/// Returns what an entry is, of which this is the line that `dnw_zone_words` scans, after the entries that made the context. What it
+/// Returns what an entry is, of which this is the line that `dnw_zone_record` scans, after the entries that made the context. What it
 /// says for later ones goes into the context, which is unchanged if it fails.
 pub fn entry_of(alloc: Global, context: &mut Context, line: &[u8]) -> Result<Entry, ZoneError>
     ensures ok { IfOk result (λ entry. IsEntry context.old line.now entry context.new) }

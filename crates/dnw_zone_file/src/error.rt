@@ -1,6 +1,6 @@
 //! Why an entry of a zone file is none, and where.
 use dnw_zone_record::record_line::RecordLineError;
-use dnw_zone_words::error::WordRule;
+use dnw_zone_record::word_error::WordRule;
 use thiserror::Error;
 
 /// A rule for the entries of zone files (RFC 1035, section 5.1).

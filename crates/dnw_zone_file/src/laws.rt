@@ -3,7 +3,7 @@
 //! The functions do nothing. Each is there for its clauses. That of lines is passed on.
 ghost use Rattle.dnw_zone_file.specs.WriterLaws.{LinesAreEntries, LinesAreReadBack, NothingIsWritten, OriginsAreAdded, OriginsAreEntries, ZoneRecordsAreAdded, ShortLinesAreEntries, ShortLinesAreReadBack, TtlsAreAdded, TtlsAreEntries, WrittenTextsAreRecords};
 
-pub use dnw_zone_words::laws::windows_agree;
+pub use dnw_zone_record::word_laws::windows_agree;
 
 /// A record that is written begins a text whose first entry is that record, and no other.
 pub fn written_records_are_entries()

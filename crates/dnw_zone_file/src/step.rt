@@ -1,13 +1,13 @@
 //! Entries of a text, one after the other.
 ghost use Rattle.std.specs.Prelude.{◌≡◌, ◌≤◌, ◌<◌, length, IfSome};
-ghost use Rattle.dnw_zone_words.specs.declared.scan.Ending.TheVariants.{Line, Text};
+ghost use Rattle.dnw_zone_record.specs.declared.scan.Ending.TheVariants.{Line, Text};
 ghost use Rattle.dnw_zone_file.specs.Steps.{IsStepAt, IsEntryFound, IsStep, Moves, after_feed, more_step, words_step};
 
 use crate::context::Context;
 use crate::entry::{Entry, entry_of};
 use crate::error::{ZoneError, ZoneRule};
-use dnw_zone_words::error::WordRule;
-use dnw_zone_words::scan::{Ending, scan};
+use dnw_zone_record::scan::{Ending, scan};
+use dnw_zone_record::word_error::WordRule;
 use std::alloc::Global;
 
 /// What a text begins with.

@@ -2,3 +2,5 @@ pub mod LinesBack
 pub mod OneLine
 mod RecordWords
 pub mod EntryLines
+pub mod Runs
+pub mod Windows

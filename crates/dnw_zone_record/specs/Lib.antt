@@ -1,3 +1,5 @@
 pub mod RecordLines
 pub mod RecordEntries
 pub mod RecordTextLaws
+pub mod Lines
+pub mod LineLaws

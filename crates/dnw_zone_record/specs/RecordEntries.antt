@@ -2,9 +2,9 @@
 -- may be after the entry, and nothing else.
 use Rattle.std.specs.Prelude.{◌≡◌, ◌⊎◌, ◌==◌, ℕ, ⊤, Bool, true, false, List, drop, length, Option}
 use Rattle.dnw_base.specs.Names.{NameValue}
-use Rattle.dnw_zone_words.specs.Lines.{line_of}
-use Rattle.dnw_zone_words.specs.declared.scan.Ending.{Ending}
-use Rattle.dnw_zone_words.specs.declared.scan.Ending.TheVariants.{Line as AtLine, Text as AtText, Cut, Wrong}
+use Rattle.dnw_zone_record.specs.Lines.{line_of}
+use Rattle.dnw_zone_record.specs.declared.scan.Ending.{Ending}
+use Rattle.dnw_zone_record.specs.declared.scan.Ending.TheVariants.{Line as AtLine, Text as AtText, Cut, Wrong}
 use Rattle.dnw_zone_data.specs.Words.{after_spaces}
 use Rattle.dnw_zone_record.specs.RecordLines.{FailsRecordLine, IsRecordLine}
 use Rattle.dnw_zone_record.specs.declared.record_line.RecordLineError.{RecordLineError}

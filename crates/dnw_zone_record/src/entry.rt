@@ -7,10 +7,10 @@ ghost use Rattle.dnw_zone_record.specs.RecordEntries.{FailsRecordEntry, IsRecord
 ghost use Rattle.dnw_zone_record.specs.RecordLines.{FailsRecordLine, IsRecordLine};
 
 use crate::record_line::{RecordLineError, record_of};
+use crate::scan::{Ending, scan};
+use crate::word_error::WordRule;
 use dnw_name::name::Name;
 use dnw_zone_data::words::{after_spaces, split_word};
-use dnw_zone_words::error::WordRule;
-use dnw_zone_words::scan::{Ending, scan};
 use std::alloc::Global;
 use thiserror::Error;
 

@@ -189,18 +189,49 @@ fn what_is_written_after_others_is_read(rt: HostRuntime) -> Result<(), Fail> {
     let origin = Name::from_ascii(alloc, "example.")?;
     let mut context = Context::new(Name::root(alloc));
     let mut text = Vec::new(alloc);
-    put_short(alloc, &mut context, "b.example. 5 IN NS ns.example.", &mut text)?;
+    put_short(
+        alloc,
+        &mut context,
+        "b.example. 5 IN NS ns.example.",
+        &mut text,
+    )?;
     append_origin(alloc, &mut context, &origin, &mut text)?;
     append_ttl(alloc, &mut context, 60, &mut text)?;
     put_short(alloc, &mut context, "example. 60 IN TXT a", &mut text)?;
     put_short(alloc, &mut context, "example. 5 IN TXT b", &mut text)?;
-    put_short(alloc, &mut context, "a\\.b.c.example. 60 CH TXT c", &mut text)?;
-    put_short(alloc, &mut context, "c.EXAMPLE. 60 IN A 192.0.2.1", &mut text)?;
-    put_short(alloc, &mut context, "C.EXAMPLE. 60 IN TYPE255 \\# 0", &mut text)?;
-    put_short(alloc, &mut context, "xexample. 60 IN A 192.0.2.1", &mut text)?;
-    put_short(alloc, &mut context, "\\@.example. 60 IN A 192.0.2.1", &mut text)?;
+    put_short(
+        alloc,
+        &mut context,
+        "a\\.b.c.example. 60 CH TXT c",
+        &mut text,
+    )?;
+    put_short(
+        alloc,
+        &mut context,
+        "c.EXAMPLE. 60 IN A 192.0.2.1",
+        &mut text,
+    )?;
+    put_short(
+        alloc,
+        &mut context,
+        "C.EXAMPLE. 60 IN TYPE255 \\# 0",
+        &mut text,
+    )?;
+    put_short(
+        alloc,
+        &mut context,
+        "xexample. 60 IN A 192.0.2.1",
+        &mut text,
+    )?;
+    put_short(
+        alloc,
+        &mut context,
+        "\\@.example. 60 IN A 192.0.2.1",
+        &mut text,
+    )?;
     put_short(alloc, &mut context, ". 60 IN A 192.0.2.1", &mut text)?;
-    let wanted = b"b.example. 5 IN NS ns.example.\n$ORIGIN example.\n$TTL 60\n@ IN TXT \"a\"\n 5 IN TXT \"b\"\na\\.b.c CH TXT \"c\"\nc.EXAMPLE. IN A 192.0.2.1\nC.EXAMPLE. IN ANY \\# 0\nxexample. IN A 192.0.2.1\n\\@ IN A 192.0.2.1\n. IN A 192.0.2.1\n";
+    let wanted =
+        b"b.example. 5 IN NS ns.example.\n$ORIGIN example.\n$TTL 60\n@ IN TXT \"a\"\n 5 IN TXT \"b\"\na\\.b.c CH TXT \"c\"\nc.EXAMPLE. IN A 192.0.2.1\nC.EXAMPLE. IN ANY \\# 0\nxexample. IN A 192.0.2.1\n\\@ IN A 192.0.2.1\n. IN A 192.0.2.1\n";
     assert_eq!(rt; text.as_slice(), wanted.as_slice());
     let read = read_records(alloc, Name::from_ascii(alloc, "other.")?, text.as_slice())?;
     let mut again = Vec::new(alloc);

@@ -1,7 +1,0 @@
-use Rattle.std.proofs.Common.{◌≡◌}
-use Rattle.dnw_base.specs.Names.{lower, wire}
-use Rattle.dnw_dnssec.specs.HashedNames.{iterated_hash}
-use Rattle.dnw_dnssec.proofs.nsec3.nsec3_hash.Given as goal
-
-abbrev pub invariant-iterations : goal.invariant-iterations
-invariant-iterations l = l.hash ≡ iterated_hash l.salt (wire (lower l.name.labels)) l.i

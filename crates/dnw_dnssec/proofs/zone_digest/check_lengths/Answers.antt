@@ -1,5 +1,0 @@
-use Rattle.std.proofs.Common.{[], refl}
-use Rattle.dnw_dnssec.proofs.zone_digest.check_lengths.Goals as goal
-
-pub records-init : goal.records-init
-records-init c = record { done = []; split = refl; fit = tt }

@@ -1,7 +1,0 @@
-use Rattle.std.proofs.Common.{take}
-use Rattle.std.specs.List.{flat_map}
-use Rattle.dnw_dnssec.specs.ZoneDigests.{zone_record}
-use Rattle.dnw_dnssec.proofs.zone_digest.hash_of_records.Given as goal
-
-abbrev pub invariant-records : goal.invariant-records
-invariant-records g l = g.H.Digest.holds l.hasher (flat_map zone_record (take l.item-index l.zone))

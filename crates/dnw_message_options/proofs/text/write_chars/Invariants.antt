@@ -1,8 +1,0 @@
-use Rattle.std.specs.Prelude.{encode_utf8, flat_map}
-use Rattle.std.specs.Fmt.{HasWritten, IsPlainFormatter}
-use Rattle.dnw_message_options.specs.Texts.{shown_char}
-use Rattle.dnw_message_options.proofs.text.write_chars.Given as goal
-
-abbrev pub invariant-loop-c : goal.invariant-loop-c
-invariant-loop-c g l =
-    IsPlainFormatter l.fn.f → HasWritten g.W.Write.write_str_gives l.fn.f (flat_map (λ c. encode_utf8 (shown_char c)) l.yielded) l.f

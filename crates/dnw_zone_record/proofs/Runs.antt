@@ -1,0 +1,47 @@
+-- Octets that are kept with no change of place are the line's next ones, all at once.
+use Rattle.std.proofs.Common.{◌≡◌, ℕ, Bool, true, false, List, [], ◌∷◌, ◌++◌, length, take, drop, refl, sym, ap, ◌∙◌, append_assoc, arith}
+use Rattle.std.proofs.lemmas.Bool.Decides.{nat_tests}
+use Rattle.std.proofs.lemmas.List.{append-nil}
+use Rattle.dnw_zone_record.specs.declared.scan.Place.{Place}
+use Rattle.dnw_zone_record.specs.declared.scan.Place.TheVariants.{Words, Escaped, Quoted, QuotedEscaped, Comment}
+use Rattle.dnw_zone_record.specs.declared.scan.Octet.TheVariants.{Kept}
+use Rattle.dnw_zone_record.specs.Lines.{end_at, is_kept, kept_len, line_from, on_octet, added_octet}
+
+pub kept_octet : (place : Place) (grouped : Bool) (c : ℕ) → is_kept place c ≡ true → on_octet place grouped c ≡ Kept place
+kept_octet Words grouped c is = rw is refl
+kept_octet Quoted grouped c is = grind (arith, nat_tests)
+kept_octet Escaped grouped c is = grind (arith)
+kept_octet QuotedEscaped grouped c is = grind (arith)
+kept_octet Comment grouped c is = grind (arith)
+
+-- one octet more
+run_step : (place : Place) (so : List ℕ) (grouped : Bool) (c : ℕ) (cs : List ℕ) (kept : Bool) → is_kept place c ≡ kept
+    → line_from (so ++ c ∷ []) place grouped cs ≡ line_from ((so ++ c ∷ []) ++ take (kept_len place cs) cs) place grouped (drop (kept_len place cs) cs)
+    → line_from so place grouped (c ∷ cs)
+    ≡ line_from (so ++ take (kept_len place (c ∷ cs)) (c ∷ cs)) place grouped (drop (kept_len place (c ∷ cs)) (c ∷ cs))
+run_step place so grouped c cs false is later = rw is (ap (λ (x : List ℕ). line_from x place grouped (c ∷ cs)) (sym (append-nil so)))
+run_step place so grouped c cs true is later =
+    rw is
+    (ap (λ octet. added_octet octet c (λ o next. line_from (so ++ o ∷ []) next grouped cs)
+    (λ next within. line_from (so ++ 32 ∷ []) next within cs) (λ ending. (so, ending))) (kept_octet place grouped c is)
+    ∙ later
+    ∙ ap (λ (x : List ℕ). line_from x place grouped (drop (kept_len place cs) cs)) (append_assoc so (c ∷ []) (take (kept_len place cs) cs)))
+
+pub kept_run : (place : Place) (so : List ℕ) (grouped : Bool) (text : List ℕ)
+    → line_from so place grouped text ≡ line_from (so ++ take (kept_len place text) text) place grouped (drop (kept_len place text) text)
+kept_run place so grouped [] = ap (λ (x : List ℕ). (x, end_at place grouped)) (sym (append-nil so))
+kept_run place so grouped (c ∷ cs) = run_step place so grouped c cs (is_kept place c) refl (kept_run place (so ++ c ∷ []) grouped cs)
+
+no_octets : (xs : List ℕ) → length xs ≡ 0 → xs ≡ []
+no_octets [] none = refl
+no_octets (x ∷ xs) none = grind (arith)
+
+-- a text that ends after such octets
+pub ended_run : (place : Place) (so line : List ℕ) (grouped : Bool) (text run rest : List ℕ) → run ≡ take (kept_len place text) text
+    → rest ≡ drop (kept_len place text) text → line ≡ so ++ run → length rest ≡ 0 → line_from so place grouped text ≡ (line, end_at place grouped)
+ended_run place so line grouped text run rest is-run is-rest is-line none =
+    let left : drop (kept_len place text) text ≡ [] = sym is-rest ∙ no_octets rest none in
+    let all : so ++ take (kept_len place text) text ≡ line = ap (λ (x : List ℕ). so ++ x) (sym is-run) ∙ sym is-line in
+    kept_run place so grouped text
+    ∙ ap (λ (x : List ℕ). line_from (so ++ take (kept_len place text) text) place grouped x) left
+    ∙ ap (λ (x : List ℕ). (x, end_at place grouped)) all

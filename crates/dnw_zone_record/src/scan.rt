@@ -1,0 +1,216 @@
+//! Entries of master files.
+ghost use Rattle.std.specs.Prelude.{◌≡◌, ◌≢◌, ◌+◌, ◌≤◌, ◌<◌, length, take, drop, IfOk};
+ghost use Rattle.dnw_zone_record.specs.declared.scan.Ending.TheVariants.{Line, Text};
+ghost use Rattle.dnw_zone_record.specs.Lines.{end_at, is_kept, is_plain_octet, is_quoted, kept_len, at_line_end, line_of, of_quoted, of_special, on_octet};
+
+use crate::word_error::WordRule;
+use std::alloc::AllocError;
+
+/// Where an octet of an entry is.
+#[derive(Clone, Copy)]
+pub enum Place {
+    /// In a word without quotes, or between words.
+    Words,
+    /// After a backslash in a word without quotes.
+    Escaped,
+    /// In a quoted string.
+    Quoted,
+    /// After a backslash in a quoted string.
+    QuotedEscaped,
+    /// In a comment.
+    Comment,
+}
+
+/// What an octet is.
+#[derive(Clone, Copy)]
+pub enum Octet {
+    /// A part of a word, or white space. The next one is at this place.
+    Kept(Place),
+    /// A parenthesis, a part of a comment, or the end of a line in parentheses. The next one is at this place, in parentheses or not.
+    Blank(Place, bool),
+    /// The end of the entry.
+    End,
+    /// Against a rule.
+    Wrong(WordRule),
+}
+
+/// How the line of an entry ends.
+#[derive(Debug, Clone, Copy, PartialEq, Eq)]
+pub enum Ending {
+    /// The octet after it ends the line: a carriage return or a line feed.
+    Line,
+    /// The text ends.
+    Text,
+    /// The text ends against a rule, which more text might be in keeping with.
+    Cut(WordRule),
+    /// The octet after it is against a rule.
+    Wrong(WordRule),
+}
+
+/// Finds the entry that a text begins with, and puts it in place of a line: as many octets as the text has before the entry's end, the
+/// same where they are of words or white space, and spaces where they are parentheses, comments or the ends of lines. Quotes and
+/// escapes are left as they are. So an offset in the line is the offset in the text.
+///
+/// An entry ends at a carriage return or line feed outside quotes and parentheses, and a comment at a line feed.
+#[tactic(auto, using(crate::proofs::Runs::kept_run))]
+pub fn scan(text: &[u8], line: &mut Vec<u8>) -> Result<Ending, AllocError>
+    ensures line { IfOk result (λ ending. line_of text.now ≡ (line.new.items, ending)) }
+    ensures within { IfOk result (λ ending. length line.new.items ≤ length text.now) }
+    ensures ended { IfOk result (λ ending. ending ≡ Line → length line.new.items < length text.now) }
+    ensures all { IfOk result (λ ending. ending ≡ Text → length line.new.items ≡ length text.now) }
+{
+    line.clear();
+    let mut place = Place::Words;
+    let mut grouped = false;
+    let mut left = text;
+    loop {
+        let (run, others) = split_kept(place, left);
+        line.extend_from_slice(run)?;
+        let Some((c, rest)) = others.split_first() else {
+            return Ok(end_of(place, grouped));
+        };
+        match octet_of(place, grouped, *c) {
+            Octet::Kept(next) => {
+                line.push(*c)?;
+                place = next;
+            }
+            Octet::Blank(next, within) => {
+                line.push(b' ')?;
+                place = next;
+                grouped = within;
+            }
+            Octet::End => return Ok(Ending::Line),
+            Octet::Wrong(rule) => return Ok(Ending::Wrong(rule)),
+        }
+        left = rest;
+    }
+}
+
+/// Splits a text after the octets that it begins with and that are kept with no change of place.
+fn split_kept(place: Place, text: &[u8]) -> (&[u8], &[u8])
+    ensures run { result.0.now ≡ take (kept_len place text.now) text.now }
+    ensures others { result.1.now ≡ drop (kept_len place text.now) text.now }
+    ensures whole { length result.0.now + length result.1.now ≡ length text.now }
+{
+    let mut left = text;
+    while let Some((first, rest)) = left.split_first() {
+        if !is_kept(place, *first) {
+            break;
+        }
+        left = rest;
+    }
+    text.split_at(text.len() - left.len())
+}
+
+/// Returns `true` if an octet at a place is kept, and leaves the next one there.
+fn is_kept(place: Place, c: u8) -> bool
+    ensures { result ≡ is_kept place c }
+{
+    match place {
+        Place::Words => is_plain_octet(c),
+        Place::Quoted => is_quoted(c),
+        _ => false,
+    }
+}
+
+/// Returns how the line ends if the text ends here.
+fn end_of(place: Place, grouped: bool) -> Ending
+    ensures is { result ≡ end_at place grouped }
+    ensures text { result ≢ Line }
+{
+    match place {
+        Place::Escaped => Ending::Cut(WordRule::UnfinishedEscape),
+        Place::Quoted | Place::QuotedEscaped => Ending::Cut(WordRule::UnclosedQuote),
+        Place::Words | Place::Comment => {
+            if grouped {
+                Ending::Cut(WordRule::UnclosedParenthesis)
+            } else {
+                Ending::Text
+            }
+        }
+    }
+}
+
+/// Returns what an octet is at a place, in parentheses or not.
+fn octet_of(place: Place, grouped: bool, c: u8) -> Octet
+    ensures { result ≡ on_octet place grouped c }
+{
+    match place {
+        Place::Words => {
+            if is_plain_octet(c) {
+                Octet::Kept(Place::Words)
+            } else {
+                of_special(grouped, c)
+            }
+        }
+        Place::Escaped => {
+            if c == b'\n' || c == b'\r' {
+                Octet::Wrong(WordRule::UnfinishedEscape)
+            } else {
+                Octet::Kept(Place::Words)
+            }
+        }
+        Place::Quoted => of_quoted(c),
+        Place::QuotedEscaped => Octet::Kept(Place::Quoted),
+        Place::Comment => {
+            if c == b'\n' {
+                at_line_end(grouped)
+            } else {
+                Octet::Blank(Place::Comment, grouped)
+            }
+        }
+    }
+}
+
+/// Returns `true` if an octet outside of quotes, escapes and comments is a part of a word or white space, and nothing more.
+fn is_plain_octet(c: u8) -> bool
+    ensures { result ≡ is_plain_octet c }
+{
+    !matches!(c, b'\n' | b'\r' | b'"' | b'(' | b')' | b';' | b'\\')
+}
+
+/// Returns what an octet that is not plain is outside of quotes, escapes and comments.
+fn of_special(grouped: bool, c: u8) -> Octet
+    ensures { result ≡ of_special grouped c }
+{
+    match c {
+        b'\n' | b'\r' => at_line_end(grouped),
+        b';' => Octet::Blank(Place::Comment, grouped),
+        b'"' => Octet::Kept(Place::Quoted),
+        b'\\' => Octet::Kept(Place::Escaped),
+        b'(' if grouped => Octet::Wrong(WordRule::NestedParenthesis),
+        b'(' => Octet::Blank(Place::Words, true),
+        _ if grouped => Octet::Blank(Place::Words, false),
+        _ => Octet::Wrong(WordRule::UnopenedParenthesis),
+    }
+}
+
+/// Returns `true` if an octet in a quoted string is nothing more than a part of it.
+fn is_quoted(c: u8) -> bool
+    ensures { result ≡ is_quoted c }
+{
+    !matches!(c, b'\n' | b'"' | b'\\')
+}
+
+/// Returns what an octet is in a quoted string.
+fn of_quoted(c: u8) -> Octet
+    ensures { result ≡ of_quoted c }
+{
+    match c {
+        b'\n' => Octet::Wrong(WordRule::UnclosedQuote),
+        b'"' => Octet::Kept(Place::Words),
+        b'\\' => Octet::Kept(Place::QuotedEscaped),
+        _ => Octet::Kept(Place::Quoted),
+    }
+}
+
+/// Returns what the end of a line is.
+fn at_line_end(grouped: bool) -> Octet
+    ensures { result ≡ at_line_end grouped }
+{
+    if grouped {
+        Octet::Blank(Place::Words, true)
+    } else {
+        Octet::End
+    }
+}
