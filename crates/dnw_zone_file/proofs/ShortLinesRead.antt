@@ -21,7 +21,7 @@ use Rattle.dnw_name_text.specs.NameTexts.{full_name_text}
 use Rattle.dnw_name_text.proofs.NamesBack.{full_names}
 use Rattle.dnw_record.specs.Records.{RecordValue}
 use Rattle.dnw_zone_data.specs.Words.{after_spaces, after_word, is_end, is_space, word, word_len}
-use Rattle.dnw_zone_data.proofs.FieldsBack.{type_plain, type_some}
+use Rattle.dnw_zone_data.proofs.FieldsBack.{type_other, type_plain, type_some}
 use Rattle.dnw_zone_data.proofs.NumberFormsBack.{period}
 use Rattle.dnw_zone_data.proofs.Plain.{all_plain, decimal_plain, plain_after, plain_starts, plain_utf8, plain_word}
 use Rattle.dnw_zone_file.specs.declared.context.Context.{Context}
@@ -42,7 +42,7 @@ use Rattle.dnw_zone_file.proofs.ShortNames.{IsOwnerWord, all_octets, full_word, 
 use Rattle.dnw_zone_file.proofs.WrittenLines.{IsPrinted, begins_owner, class_plain, kind_of, no_quote, plain_next, spaced_end, zone_head}
 use Rattle.dnw_zone_lexer.specs.Times.{time_seconds}
 use Rattle.dnw_zone_record.specs.RecordLines.{spaced, after_next_word, next_word, IsClassWord, IsTtlWord, IsTypeWord, LacksTtlWord}
-use Rattle.dnw_zone_record.proofs.LinesBack.{IsReadRecord}
+use Rattle.dnw_zone_record.proofs.LinesBack.{class_other, IsReadRecord}
 use Rattle.dnw_zone_values.specs.Octets.{IsOctets}
 use Rattle.dnw_zone_record.specs.declared.scan.Place.TheVariants.{Words}
 
@@ -90,10 +90,10 @@ classed_head r text fits =
     let also : LacksTtlWord rest3 = λ n is. no_time (type_text r.record_type) n (type_letter r.record_type) (subst (λ (w : List ℕ). IsTtlWord w n) last.0 is) in
     let is_class : IsClassWord (next_word rest2) r.class =
     subst (λ (w : List ℕ). IsClassWord w r.class) (sym name.0)
-    (plain_utf8 (class_text r.class) shape.0, classes_come_back r.class fits.class_few ∙ ap Some fits.same_class) in
+    (plain_utf8 (class_text r.class) shape.0, classes_come_back r.class fits.class_few ∙ ap Some fits.same_class, class_other r.class) in
     let is_type : IsTypeWord (next_word rest3) r.record_type =
     subst (λ (w : List ℕ). IsTypeWord w r.record_type) (sym last.0)
-    (plain_utf8 (type_text r.record_type) plain, types_come_back r.record_type fits.type_few ∙ ap Some fits.same_type) in
+    (plain_utf8 (type_text r.record_type) plain, types_come_back r.record_type fits.type_few ∙ ap Some fits.same_type, type_other r.record_type) in
     (rest3, (None, rest2, rest3, (lacks, refl), (is_class, sym name.1), (also, refl)), is_type, sym last.1)
 
 -- the time to live is written, or it is the one that is known
