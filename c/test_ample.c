@@ -465,6 +465,53 @@ static void reads_zones(size_t size)
     takes("a comment", DNW_ZONE_NOTHING, 0);
 }
 
+/* A record with so many octets of data is put with its owner, and again without it. */
+static void puts_records(size_t size)
+{
+    static uint8_t text[ROOM];
+    struct dnw_printed_record printed;
+    struct dnw_zone zone;
+    char head[64];
+    if (size > LONGEST)
+        return;
+    EXPECT(dnw_zone_begin((const uint8_t *)"\001a", 3, &zone) == DNW_DONE);
+    input_len = 0;
+    put_head(65280, size);
+    fill(0xab, size);
+    size_t wanted = (size_t)snprintf(head, sizeof head, ". 60 IN TYPE65280 \\# %zu\n", size) + (size > 0 ? 1 + 2 * size : 0);
+    EXPECT(dnw_zone_put_record(input, input_len, 0, &zone, text, sizeof text, &printed) == DNW_DONE && printed.len == wanted);
+    EXPECT(dnw_zone_put_record(input, input_len, 0, &zone, text, sizeof text, &printed) == DNW_DONE && printed.len == wanted - 1);
+}
+
+/* An $ORIGIN of so many labels. */
+static void puts_origins(size_t size)
+{
+    struct dnw_zone zone;
+    size_t len = 7;
+    if (size > 127)
+        return;
+    EXPECT(dnw_zone_begin((const uint8_t *)"", 1, &zone) == DNW_DONE);
+    input_len = 0;
+    for (size_t n = 0; n < size; n++)
+        put("\001a", 2);
+    put("", 1);
+    EXPECT(dnw_zone_put_origin(input, input_len, &zone, output, sizeof output, &len) == DNW_DONE);
+    EXPECT(len == 9 + (size > 0 ? 2 * size : 1));
+}
+
+/* A $TTL of so many seconds, and of as many times 65535. */
+static void puts_times(size_t size)
+{
+    for (uint32_t factor = 1; factor <= 65535; factor += 65534) {
+        struct dnw_zone zone;
+        char line[32];
+        size_t len = 7, wanted = (size_t)snprintf(line, sizeof line, "$TTL %u\n", (unsigned)((uint32_t)size * factor));
+        EXPECT(dnw_zone_begin((const uint8_t *)"", 1, &zone) == DNW_DONE);
+        EXPECT(dnw_zone_put_ttl((uint32_t)size * factor, &zone, output, sizeof output, &len) == DNW_DONE);
+        EXPECT(len == wanted && memcmp(output, line, len) == 0);
+    }
+}
+
 /* The data of an RRSIG of the root over NULL records, up to the signature. */
 #define RRSIG "\000\012\010\000\000\000\016\020\000\000\000\002\000\000\000\001\000\007\000"
 
@@ -544,6 +591,9 @@ static const struct row {
     {"dnw_data_text_fault", finds_data_faults},
     {"dnw_text_fault_print", prints_faults},
     {"dnw_zone_next", reads_zones},
+    {"dnw_zone_put_record", puts_records},
+    {"dnw_zone_put_origin", puts_origins},
+    {"dnw_zone_put_ttl", puts_times},
     {"dnw_signed_octets", signs},
     {"dnw_record_sort_key", makes_keys},
     {"dnw_zone_digest", digests_zones},

@@ -644,8 +644,8 @@ uint32_t dnw_zone_next(const uint8_t *text, size_t text_len, bool more, struct d
    it after the same octets. So what is stored is read as the same record, if its data are valid for their type. If the
    origin is the root, names are in full, so that the text says the same with any origin.
 
-   It fails as dnw_record_print does; and with DNW_BAD_ITEM if the state is spoiled. Then the same call may be made again:
-   nothing is stored. */
+   It fails as dnw_record_print does, also with DNW_NO_ROOM and DNW_NO_MEMORY; and with DNW_BAD_ITEM if the state is spoiled.
+   Then nothing is stored, and the same call may be made again. */
 uint32_t dnw_zone_put_record(const uint8_t *message, size_t message_len, size_t start, struct dnw_zone *zone, uint8_t *text,
                              size_t text_size, struct dnw_printed_record *printed);
 
