@@ -14,6 +14,13 @@ _dnw() {
             return
             ;;
         zone,3) words=--origin ;;
+        zone,5) words='--sort --relative --wire' ;;
+        zone,6)
+            case ${COMP_WORDS[5]} in
+                --sort) words='--relative --wire' ;;
+                --relative | --wire) words=--sort ;;
+            esac
+            ;;
     esac
     mapfile -t COMPREPLY < <(compgen -W "$words" -- "$word")
 }

@@ -28,22 +28,28 @@ usage: dnw message HEX | -                     shows a message, from digits or s
        dnw ds RECORD                           makes the DS record of a DNSKEY record
        dnw nsec3 NAME ITERATIONS SALT          hashes a name for NSEC3
        dnw zone-digest APEX ALGORITHM -        computes the digest of a zone file
-       dnw zone FILE --origin NAME             lists the records of a zone file, or its errors
+       dnw zone FILE --origin NAME [OPTION..]  lists the records of a zone file, or its errors
        dnw --help                              shows this text
 
 A zone file is shown as one line a record, with nothing left out. If an entry is wrong, all errors
 are shown instead, as FILE:LINE:COLUMN, with the line and a mark. The FILE - is standard input.
+  --sort      canonical order: by owner, type and data (RFC 4034, section 6)
+  --relative  a zone file, which leaves out what its $ORIGIN, $TTL and the last owner say
+  --wire      one line a record: its wire form without compression (RFC 1035, section 4.1.3), in
+              hexadecimal digits. After a header that counts them, they are a message (see below).
 
 Exit status: 0 after an answer, 1 if what was given is refused, 2 if the words ask for nothing.
 
 Examples: dnw zone /etc/bind/db.local --origin localhost.
-          dnw query example.com. MX | dnw message -";
+          dnw query example.com. MX | dnw message -
+          (echo 0000 8400 0000 0001 0000 0000; dnw zone FILE --origin NAME --wire | head -n 1) |
+              dnw message -";
 
 /// Why there is no answer.
 #[derive(Debug, Drop, Error)]
 enum Refusal {
     /// The words ask for nothing that the program does.
-    #[error("usage: dnw message HEX | message - | query NAME TYPE [--edns] | key-tag RECORD | ds RECORD | nsec3 NAME ITERATIONS SALT | zone-digest APEX ALGORITHM - | zone FILE --origin NAME")]
+    #[error("usage: dnw message HEX | message - | query NAME TYPE [--edns] | key-tag RECORD | ds RECORD | nsec3 NAME ITERATIONS SALT | zone-digest APEX ALGORITHM - | zone FILE --origin NAME [--sort] [--relative | --wire]")]
     Usage,
     /// Standard input could not be read.
     #[error("refused: standard input: {0}")]
@@ -213,16 +219,36 @@ fn reply<E: Files + AllocGlobal, I: Read>(
             input.read_to_end(&mut zone)?;
             sums::digest(env, alloc, apex.as_str(), algorithm.as_str(), zone)
         }
-        [command, file, option, origin]
+        [command, file, option, origin, options @ ..]
             if command.as_str() == "zone" && option.as_str() == "--origin" => {
+            let wanted = wanted_of(options)?;
             let zone = contents(env, alloc, file.as_str(), input)?;
-            zones::listing(env, alloc, file.as_str(), origin.as_str(), zone)
+            zones::listing(env, alloc, file.as_str(), origin.as_str(), wanted, zone)
         }
         [option] if option.as_str() == "--help" || option.as_str() == "-h" => {
             Ok(String::from_str(alloc, HELP)?)
         }
         _ => Err(Refusal::Usage),
     }
+}
+
+/// What the words after the origin of a zone ask for. Each is there at most once, and of `--relative` and `--wire` only one.
+fn wanted_of(options: &[String]) -> Result<zones::Wanted, Refusal> {
+    let mut wanted = zones::Wanted {
+        form: zones::Form::Lines,
+        is_sorted: false,
+    };
+    for option in options {
+        match option.as_str() {
+            "--sort" if !wanted.is_sorted => wanted.is_sorted = true,
+            "--relative" if wanted.form == zones::Form::Lines => {
+                wanted.form = zones::Form::Relative;
+            }
+            "--wire" if wanted.form == zones::Form::Lines => wanted.form = zones::Form::Wire,
+            _ => return Err(Refusal::Usage),
+        }
+    }
+    Ok(wanted)
 }
 
 /// All octets of a file, or of standard input if the file is `-`.

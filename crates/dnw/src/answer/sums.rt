@@ -79,7 +79,11 @@ pub(super) fn digest<E: Files>(
     let Ok(algorithm) = algorithm.parse::<u8>() else {
         return Err(Refusal::Usage);
     };
-    let lines = zones::listing(env, alloc, "-", apex, zone)?;
+    let wanted = zones::Wanted {
+        form: zones::Form::Lines,
+        is_sorted: false,
+    };
+    let lines = zones::listing(env, alloc, "-", apex, wanted, zone)?;
     let apex = Name::from_text(alloc, apex, None)?;
     let mut records = Vec::new(alloc);
     for line in lines.lines() {

@@ -2,17 +2,18 @@
 
 mod faults;
 mod includes;
+mod shown;
 
 use super::Refusal;
 use dns_names_wire::ProtoError;
-use dns_names_wire::binary::BinDecodable;
-use dns_names_wire::data_text::{DataTextError, RecordLineError, record_text};
+use dns_names_wire::data_text::{DataTextError, RecordLineError};
 use dns_names_wire::name::Name;
-use dns_names_wire::record::RecordRef;
 use dns_names_wire::zone::{
     Context, Entry, Found, Include, TextPlace, ZoneError, ZoneRecord, take_entry,
 };
 use faults::Fault;
+use shown::Shown;
+pub(super) use shown::{Form, Wanted};
 use std::alloc::Global;
 use std::rt::Files;
 
@@ -44,10 +45,10 @@ impl Source {
     }
 }
 
-/// The lines of the records, and of the errors, so far.
+/// The records, and the lines of the errors, so far.
 #[derive(Drop)]
 struct Lines {
-    records: String,
+    records: Shown,
     errors: String,
 }
 
@@ -62,20 +63,23 @@ enum Next {
     End,
 }
 
-/// Returns the records of a zone file, and of the files that it includes, one a line. If there is an error, the lines of all errors
-/// are a refusal, as compilers show them.
+/// Returns the records of a zone file, and of the files that it includes, as they are wanted. If there is an error, the lines of all
+/// errors are a refusal, as compilers show them.
 pub(super) fn listing<E: Files>(
     env: &E,
     alloc: Global,
     file: &str,
     origin: &str,
+    wanted: Wanted,
     text: Vec<u8>,
 ) -> Result<String, Refusal> {
-    let context = Context::new(Name::from_text(alloc, origin, None)?);
+    let origin = Name::from_text(alloc, origin, None)?;
+    let shown = Shown::new(alloc, wanted, Context::new(origin.copied()));
+    let context = Context::new(origin);
     let mut sources = Vec::new(alloc);
     sources.push(Source::new(String::from_str(alloc, file)?, text, context))?;
     let mut lines = Lines {
-        records: String::new(alloc),
+        records: shown,
         errors: String::new(alloc),
     };
     let mut line = Vec::new(alloc);
@@ -93,7 +97,7 @@ pub(super) fn listing<E: Files>(
         }
     }
     if lines.errors.is_empty() {
-        Ok(lines.records)
+        lines.records.finish(alloc)
     } else {
         Err(Refusal::Zone(lines.errors))
     }
@@ -121,7 +125,7 @@ fn entry<E: Files>(
     };
     let next = match &step.found {
         Ok(Found::Entry(Entry::Record(found))) => {
-            put_record(alloc, &source.context, found, &mut lines.records)?;
+            add_record(alloc, &source.context, found, &mut lines.records)?;
             Next::Entry
         }
         Ok(Found::Entry(Entry::Include(include))) => {
@@ -167,12 +171,12 @@ fn included<E: Files>(
     }
 }
 
-/// Appends the line of a record.
-fn put_record(
+/// Adds a record.
+fn add_record(
     alloc: Global,
     context: &Context,
     found: &ZoneRecord,
-    lines: &mut String,
+    records: &mut Shown,
 ) -> Result<(), Refusal> {
     let Some(owner) = &context.owner else {
         return Ok(());
@@ -186,10 +190,7 @@ fn put_record(
     octets.extend_from_slice(&found.ttl.to_be_bytes())?;
     octets.extend_from_slice(&len.to_be_bytes())?;
     octets.extend_from_slice(found.wire.as_slice())?;
-    let shown = RecordRef::from_bytes(alloc, octets.as_slice())?;
-    let text = record_text(alloc, &shown)?;
-    writeln!(lines, "{text}")?;
-    Ok(())
+    records.add(alloc, octets)
 }
 
 /// Appends why an entry is none. It fails if memory ran out while it was read.
