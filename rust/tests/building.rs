@@ -346,7 +346,7 @@ fn records_are_parsed_and_shown() {
         assert_eq!(again.with_class(parsed.class()), parsed);
         assert_eq!(Record::from(&parsed).raw_data(), parsed.raw_data());
         // Relative names, with the origin
-        assert_eq!(RecordBuf::from_text(&line.replace(".example.", ""), &zone).unwrap(), parsed, "{line}");
+        assert_eq!(RecordBuf::from_text(line.replace(".example.", ""), &zone).unwrap(), parsed, "{line}");
         let [owner, ttl, class, kind, text]: [&str; 5] = line.splitn(5, ' ').collect::<Vec<_>>().try_into().unwrap();
         let of_text = RecordBuf::from_data_text(&name(owner), ttl.parse().unwrap(), kind.parse().unwrap(), text, None);
         assert_eq!(of_text.unwrap().with_class(class.parse().unwrap()), parsed);
