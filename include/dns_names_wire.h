@@ -417,6 +417,7 @@ uint32_t dnw_message_table(const uint8_t *message, size_t message_len, size_t ma
                            uint8_t *names, size_t names_size, struct dnw_table *table);
 
 /* Stores the data of the record at offset `start` of a message, with every name in its wire form, and their length in `len`.
+   They may be more than 65535, which no record can have, if long data had compressed names.
    It fails as dnw_record_read if no record is there, as dnw_field_next at the first field that is wrong, with DNW_NO_ROOM if
    the data have more than `data_size` octets, and with DNW_NO_MEMORY. */
 uint32_t dnw_record_data(const uint8_t *message, size_t message_len, size_t start, uint8_t *data, size_t data_size, size_t *len);
