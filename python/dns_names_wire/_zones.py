@@ -251,7 +251,7 @@ def zone_lines(records: Iterable[Record], origin: NameLike, ttl: Optional[int] =
 
     What the lines before a record say is left out of its line: its owner if it is that of the record before, the last labels of
     another owner if they are those of the origin, and its TTL if it is that of the `$TTL`. Capitals count. The class, the type
-    and the data are written in full. `read_zone` reads the same records.
+    and the data are written in full. `read_zone` reads the same records if their data are valid for their types.
 
     Raises `ValueError` if the origin is relative or the TTL is out of range, and `TypeError` if an item is not a `Record`.
 

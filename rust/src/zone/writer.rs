@@ -11,8 +11,8 @@ use core::{fmt, mem, str};
 ///
 /// What the entries before a record say is left out of its line: its owner if it is that of the record before, the last labels
 /// of another owner if they are those of the origin, and its TTL if it is that of the last `$TTL`. Capitals count. The class,
-/// the type and the data are written in full. [`ZoneReader`](crate::ZoneReader) reads the same records, with any origin, since
-/// the text begins with an `$ORIGIN`.
+/// the type and the data are written in full. [`ZoneReader`](crate::ZoneReader) reads the same records if their data are valid
+/// for their types, with any origin, since the text begins with an `$ORIGIN`.
 ///
 /// ```
 /// use dns_names_wire::{RecordBuf, ZoneReader, ZoneWriter};
