@@ -1,7 +1,10 @@
 -- Messages that are written and read.
-use Rattle.std.specs.Prelude.{ℕ, List, [], ◌∷◌, ◌≡◌}
+use Rattle.std.specs.Prelude.{ℕ, List, [], ◌∷◌, ◌≡◌, ◌<◌, ◌⊎◌, length}
 use Rattle.std.specs.Borrow.{Bor}
-use Rattle.dns_names_wire.specs.Words.{AddedItems, Answers, HasItems, HeaderCounts, MessageAt, MessageValue, no_items, with_question, with_records}
+use Rattle.dns_names_wire.specs.Words.{AddedItems, AddsItem, Answers, BeginsMessage, FailsToAdd, HasItems, HeaderCounts, IsQuestion, MessageAt, MessageValue, Queries, QuestionGoesPast}
+use Rattle.dns_names_wire.specs.Words.{RecordGoesPast, WriterState, fields_of_record, no_items, slot_of, with_question, with_records}
+use Rattle.dns_names_wire.specs.declared.message_writer.WriteError.{WriteError}
+use Rattle.dns_names_wire.specs.declared.message_writer.WriteError.TheVariants.{NoRoom}
 use Rattle.dns_names_wire.specs.declared.message_writer.Piece.TheVariants.{Octets}
 
 -- The question for the addresses of a name, and the answer that it has this one, for an hour.
@@ -14,3 +17,14 @@ response name address =
 abbrev pub IsResponse : ℕ → List (List ℕ) → Bor (List ℕ) → List ℕ → HeaderCounts → Type 0
 IsResponse id name address octets counts =
     (x : MessageValue) × (k : ℕ) × MessageAt octets x k × HasItems id 33792 (response name address) x × (counts ≡ x.header.counts)
+
+-- There is no room for the header, for the question, or for the answer, in the octets of a message over UDP or of the buffer.
+abbrev pub FailsResponse : ℕ → List (List ℕ) → Bor (List ℕ) → List ℕ → WriteError → Type 0
+FailsResponse id name address old error =
+    ((error ≡ NoRoom) × (length old < 12))
+    ⊎ ((w : WriterState) × (begun : List ℕ) × BeginsMessage id 33792 512 old w begun
+    × (FailsToAdd Queries (λ limit b near hints. QuestionGoesPast slot_of limit b near hints name) w begun error
+    ⊎ ((v : WriterState) × (asked : List ℕ)
+    × AddsItem Queries (λ b near hints octets after. IsQuestion slot_of b near hints name 1 1 octets after) w begun v asked
+    × FailsToAdd Answers (λ limit b near hints.
+    RecordGoesPast slot_of limit b near hints name (fields_of_record 1 1 3600) (Octets address ∷ [])) v asked error)))

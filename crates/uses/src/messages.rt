@@ -1,6 +1,6 @@
 //! Writes a message, and reads it.
-ghost use Rattle.std.specs.Prelude.{IfOk};
-ghost use Rattle.uses.specs.Messages.{IsResponse};
+ghost use Rattle.std.specs.Prelude.{IfErr, IfOk};
+ghost use Rattle.uses.specs.Messages.{FailsResponse, IsResponse};
 
 use dns_names_wire::Name;
 use dns_names_wire::message::{HeaderCounts, MessageRef};
@@ -27,7 +27,8 @@ pub fn write_and_read(
     name: &Name,
     address: &[u8; 4],
 ) -> Result<HeaderCounts, WriteError>
-    ensures { IfOk result (IsResponse id name.now.labels address.entry message.new) }
+    ensures ok { IfOk result (IsResponse id name.now.labels address.entry message.new) }
+    ensures err { IfErr result (FailsResponse id name.now.labels address.entry message.old) }
 {
     laws::messages_hold_their_items();
     laws::held_items_are_read();
